@@ -512,8 +512,8 @@ class Tree:
         self.objects[birth] = Object(birth, type_name)
         return self.objects[birth]
 
-    def initialise(self, type_name):
-        """Gives the next birth, and notes the initialisers of a type."""
+    def initialize(self, type_name):
+        """Gives the next birth, and notes the initializers of a type."""
         self.births += 1
         for name in reversed(noted_types(type_name)):
             self.note("init", self.births, name)
@@ -562,9 +562,9 @@ class Tree:
     def end_if_free(self, birth):
         """Ends an object that nothing holds."""
         if self.references(birth) == 0:
-            self.finalise(birth)
+            self.finalize(birth)
 
-    def finalise(self, birth):
+    def finalize(self, birth):
         """Ends an object."""
         ending = self.objects[birth]
         for slot in list(ending.slots):
@@ -917,7 +917,7 @@ class DeviceTree(ResetTree):
         bus = self.bus_for(driver, bus_path)
         types = [driver] + [it.type for it in properties_of(driver) if it.kind is Kind.CHILD]
         self.judge_count(len(types))
-        parts = [(self.initialise(it), it) for it in types]
+        parts = [(self.initialize(it), it) for it in types]
         try:
             values = self.settings(driver, arguments)
             self.judge_place(driver, bus, values)
@@ -980,7 +980,7 @@ class DeviceTree(ResetTree):
     # removing
 
     def unrealize(self, birth):
-        """Unrealizes a device, behind all that is below it."""
+        """Unrealizes a device, after all that is below it."""
         device = self.objects[birth]
         for bus in self.buses(device):
             for kid in self.kids(bus):
@@ -998,7 +998,7 @@ class DeviceTree(ResetTree):
         self.pending = [it for it in self.pending if it != birth]
 
     def take_out(self, birth):
-        """Takes an unrealized device out of its container and off its bus, behind all that is below it."""
+        """Takes an unrealized device out of its container and off its bus, after all that is below it."""
         device = self.objects[birth]
         self.pins.append(birth)
         for bus in self.buses(device):
@@ -1050,7 +1050,7 @@ class DeviceTree(ResetTree):
         self.tell_of_device("DEVICE_UNPLUG_GUEST_ERROR", self.objects[birth])
 
     def reset_machine(self, by_guest):
-        """Resets the machine, behind all removals that are pending."""
+        """Resets the machine, after all removals that are pending."""
         while self.pending:
             self.detach(self.pending[0])
         self.reset(MACHINE)
@@ -1121,7 +1121,7 @@ class Board(DeviceTree):
         if self.objects[USERS_OBJECTS].slot(name):
             raise Refused(Code.ID_TAKEN)
         self.judge_count(1)
-        birth = self.initialise(type_name)
+        birth = self.initialize(type_name)
         try:
             values = self.settings(type_name, arguments)
         except Refused:
@@ -1163,7 +1163,7 @@ class Board(DeviceTree):
             raise Refused(Code.PROPERTY_NOT_FOUND)
         return holder, slot
 
-    def behind(self, holder, slot):
+    def after(self, holder, slot):
         """The slot that an alias stands for, with its object; any other slot itself."""
         if slot.kind is not Kind.ALIAS:
             return holder, slot
@@ -1178,14 +1178,14 @@ class Board(DeviceTree):
 
     def type_shown(self, holder, slot):
         """How the type of a property is shown."""
-        _, real = self.behind(holder, slot)
+        _, real = self.after(holder, slot)
         if real.kind is Kind.PLAIN:
             return real.type.name
         return f"child<{real.type}>" if real.kind is Kind.CHILD else f"link<{real.type}>"
 
     def read(self, path, name):
         """What a property reads as."""
-        holder, slot = self.behind(*self.slot_at(path, name))
+        holder, slot = self.after(*self.slot_at(path, name))
         if holder.type == "clock" and slot.name == "period":
             return self.period(holder)
         if slot.kind is Kind.PLAIN:
@@ -1199,7 +1199,7 @@ class Board(DeviceTree):
         holder, slot = self.slot_at(path, name)
         if slot.access not in GIVEN_BY_SETTING:
             raise Refused(Code.NOT_WRITABLE)
-        holder, slot = self.behind(holder, slot)
+        holder, slot = self.after(holder, slot)
         if slot.kind is not Kind.PLAIN:
             before, slot.target = slot.target, self.link_target(value, slot.type)
             if slot.kind is Kind.STRONG and before is not None:

@@ -3,7 +3,7 @@
 the notes, the notices and the claims to those before. It prints nothing where all is well.
 
 Each row of ATTEMPTS, TIMERS, UARTS and DIMMS is refused with its code on a board of its own. Any two rows of ATTEMPTS of different
-stages, with the arguments of both, are refused with the code of the earlier one. Behind a refusal an add under the same id and in the same slot is
+stages, with the arguments of both, are refused with the code of the earlier one. After a refusal an add under the same id and in the same slot is
 done, which the claims of the refused one would bar. The program is built by `rt ci`, or by `rt run` in
 crates/compose_program.
 """
@@ -142,7 +142,7 @@ DIMMS = [
 
 
 def replies(commands):
-    """What each command is answered: an object with `return` or `error`, behind the negotiation; events are left out."""
+    """What each command is answered: an object with `return` or `error`, after the negotiation; events are left out."""
     text = "".join(commands).encode()
     chunks = [text[at : at + 65536] for at in range(0, len(text), 65536)]
     entries = b"".join(b"bytes 0.000000 0 %d\n%s\n" % (len(chunk), chunk) for chunk in chunks)
@@ -159,7 +159,7 @@ def code_of(reply):
 
 
 def tree(commands):
-    """The paths of all objects in the tree behind some commands, and the properties of each."""
+    """The paths of all objects in the tree after some commands, and the properties of each."""
     found = {}
     ahead = ["/"]
     while ahead:
@@ -182,7 +182,7 @@ def looks(paths):
 
 
 def births_of(commands):
-    """How many objects were made, and how many notes there are, behind some commands."""
+    """How many objects were made, and how many notes there are, after some commands."""
     total = replies([*commands, command("x-query-notes", **{"from": 0})])[-1]["return"]["total"]
     made = 0
     for at in range(0, total, 256):

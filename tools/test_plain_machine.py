@@ -20,7 +20,7 @@ import subprocess
 import sys
 
 sys.dont_write_bytecode = True
-import plain_machine  # behind the line above, so that nothing is left in tools/
+import plain_machine  # after the line above, so that nothing is left in tools/
 
 TOP = pathlib.Path(__file__).resolve().parent.parent
 PROGRAM = TOP / "crates" / "compose_program" / "out" / "compose_program"
@@ -146,7 +146,7 @@ class Maker:
         return self.draw.random() < share
 
     def input(self, line):
-        """Puts an input behind the others, unless the run has ended."""
+        """Puts an input after the others, unless the run has ended."""
         if not self.machine.has_ended:
             self.lines.append(line)
             self.machine.input(line)
@@ -403,7 +403,7 @@ class Maker:
         self.command("system_reset")
 
     def pause(self):
-        """Stops the machine, and has it go on, mostly behind something else."""
+        """Stops the machine, and has it go on, mostly after something else."""
         self.command("stop")
         if self.chance(0.7):
             self.say()

@@ -133,7 +133,7 @@ def main():
         ("another word", ["frobnicate"], cycle, 2, b"", USAGE),
         ("a word too many", ["replay", "replay"], cycle, 2, b"", USAGE),
         ("a whole stream", ["replay"], cycle, 0, transcript, b""),
-        ("a bad place behind it", ["replay"], cycle + b"shut 0.000000\n", 3, transcript, bad),
+        ("a bad place after it", ["replay"], cycle + b"shut 0.000000\n", 3, transcript, bad),
         ("no stream", ["replay"], b"", 3, b"", b"compose: bad record at byte 0\n"),
         ("the types", ["types"], cycle, 0, TYPES, b""),
         ("types and a word too many", ["types", "--help"], b"", 2, b"", USAGE),

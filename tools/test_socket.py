@@ -121,7 +121,7 @@ def test_pieces(path):
         server.ends_well()
 
 
-def test_one_behind_the_other(path):
+def test_one_after_the_other(path):
     """The second client waits for the first, and finds the board as that one left it."""
     with Server(path, 2) as server, Client(path) as first, Client(path) as second:
         first.negotiates()
@@ -170,7 +170,7 @@ def test_a_client_that_never_reads(path):
         server.ends_well()
 
 
-def test_a_socket_file_left_behind(path):
+def test_a_socket_file_left_after(path):
     """A server that was killed leaves its socket file, which the next one replaces."""
     with Server(path, 1) as server, Client(path) as client:
         client.reads(GREETING)
@@ -217,7 +217,7 @@ def test_quit(path):
 
 
 def test_a_hundred(path):
-    """A hundred connections, one behind the other."""
+    """A hundred connections, one after the other."""
     with Server(path, 100) as server:
         for count in range(100):
             with Client(path) as client:

@@ -15,7 +15,7 @@ use Rattle.qo_record.proofs.DemoLemmas.{demos_are_read}
 use Rattle.qo_record.proofs.ReadingLemmas.{some_is}
 use Rattle.qo_record.specs.Demo.{demo_bytes, demo_inputs}
 use Rattle.qo_record.specs.Record.{stream_inputs}
-use Rattle.compose.proofs.DefinedLemmas.{NoneRefused, defined_run}
+use Rattle.compose.proofs.MemoryLemmas.{NoneRefused, defined_run}
 use Rattle.compose.specs.Demo.{Lacks, demo_transcript, refused_line, refused_reply}
 use Rattle.compose.specs.Replay.{Replayed}
 use Rattle.compose.specs.declared.statuses.Status.{Status}
@@ -25,25 +25,25 @@ use Rattle.compose.specs.declared.statuses.Status.TheVariants.{Done}
 
 record HasCode (text : List ℕ) : Type 0 where
   before : List ℕ
-  behind : List ℕ
-  parts : text ≡ before ++ (refused_reply ++ behind)
+  after : List ℕ
+  parts : text ≡ before ++ (refused_reply ++ after)
 
 refused_parts : (id : Option (List ℕ)) → HasCode (error_reply id E99)
 unfolding error_reply
 refused_parts id =
     record {
       before = codes "{\"error\":{\"class\":\"GenericError\",";
-      behind = ((codes "out of memory\"}" ++ id_member id (codes ",") []) ++ codes "}") ++ line_end;
+      after = ((codes "out of memory\"}" ++ id_member id (codes ",") []) ++ codes "}") ++ line_end;
       parts = refl;
     }
 
-regrouped : (lane before code behind rest : List ℕ) → (lane ++ 32 ∷ (before ++ (code ++ behind))) ++ rest ≡ (lane ++ 32 ∷ before) ++ (code ++ (behind ++ rest))
-regrouped lane before code behind rest = simp append_assoc
+regrouped : (lane before code after rest : List ℕ) → (lane ++ 32 ∷ (before ++ (code ++ after))) ++ rest ≡ (lane ++ 32 ∷ before) ++ (code ++ (after ++ rest))
+regrouped lane before code after rest = simp append_assoc
 
--- what stands nowhere in a transcript stands nowhere behind its first line
+-- what stands nowhere in a transcript stands nowhere after its first line
 further : (part : List ℕ) (m : Message) (outs : List Message) → Lacks part (transcript (m ∷ outs)) → Lacks part (transcript outs)
-further part m outs lacks before behind e =
-    lacks (line m.0 m.1 ++ before) behind (ap (λ (l : List ℕ). line m.0 m.1 ++ l) e ∙ sym (append_assoc (line m.0 m.1) before (part ++ behind)))
+further part m outs lacks before after e =
+    lacks (line m.0 m.1 ++ before) after (ap (λ (l : List ℕ). line m.0 m.1 ++ l) e ∙ sym (append_assoc (line m.0 m.1) before (part ++ after)))
 
 pub none_refused : (outs : List Message) → Lacks refused_reply (transcript outs) → Lacks refused_line (transcript outs) → NoneRefused outs
 none_refused [] replied told = tt
@@ -51,9 +51,9 @@ none_refused (m ∷ outs) replied told = (
   (
     λ id is.
         let h = refused_parts id in
-        replied (lane_text m.0 ++ 32 ∷ h.before) (h.behind ++ transcript outs)
+        replied (lane_text m.0 ++ 32 ∷ h.before) (h.after ++ transcript outs)
         (ap (λ (text : List ℕ). (lane_text m.0 ++ 32 ∷ text) ++ transcript outs) (is ∙ h.parts)
-        ∙ regrouped (lane_text m.0) h.before refused_reply h.behind (transcript outs)),
+        ∙ regrouped (lane_text m.0) h.before refused_reply h.after (transcript outs)),
     λ is. told [] (10 ∷ transcript outs) (ap (λ (x : Message). line x.0 x.1 ++ transcript outs) is),
   ),
   none_refused outs (further refused_reply m outs replied) (further refused_line m outs told),
@@ -61,15 +61,15 @@ none_refused (m ∷ outs) replied told = (
 
 -- What is not found stands nowhere.
 pub lacks_by : (part bytes : List ℕ) → Nowhere (OccursAt bytes part) 0 (length bytes + 1) → Lacks part bytes
-lacks_by part bytes none before behind parts =
-    let size : length bytes ≡ length before + (length part + length behind) =
-    ap (length {A = ℕ}) parts ∙ length-append before (part ++ behind) ∙ ap (λ (n : ℕ). length before + n) (length-append part behind) in
+lacks_by part bytes none before after parts =
+    let size : length bytes ≡ length before + (length part + length after) =
+    ap (length {A = ℕ}) parts ∙ length-append before (part ++ after) ∙ ap (λ (n : ℕ). length before + n) (length-append part after) in
     none (length before) (omega arith) (omega arith)
     (record {
       fits = omega arith;
       reads =
-          λ j within. ap (λ (l : List ℕ). slice_index l (length before + j)) parts ∙ get_or-append-add before (part ++ behind) j 0
-          ∙ get_or-append part behind 0 j within;
+          λ j within. ap (λ (l : List ℕ). slice_index l (length before + j)) parts ∙ get_or-append-add before (part ++ after) j 0
+          ∙ get_or-append part after 0 j within;
     })
 
 pub not_found : (part bytes : List ℕ) (place : Option ℕ) (found : Bool) → found ≡ is_some place → FindsNeedle bytes part 0 place →
@@ -85,7 +85,8 @@ kept_is bytes kept taken left seed steps place is few ran replied told =
     let d = ran.did in
     let put : kept ≡ transcript (outs_of opening d.0) = some_is d.1.put in
     let read : stream_inputs bytes ≡ demo_inputs seed steps = ap stream_inputs is ∙ (demos_are_read seed steps few).0 in
-    let none = none_refused (outs_of opening d.0) (subst (λ (l : List ℕ). Lacks refused_reply l) put replied) (subst (λ (l : List ℕ). Lacks refused_line l) put told) in
+    let none = none_refused (outs_of opening d.0) (subst (λ (l : List ℕ). Lacks refused_reply l) put replied)
+    (subst (λ (l : List ℕ). Lacks refused_line l) put told) in
     put
     ∙ ap transcript
     (defined_run d.0 (demo_inputs seed steps) d.2.0 d.1.last d.1.lost (sym read ∙ d.2.1) (λ over. (d.2.2 over).0) none)

@@ -1,5 +1,5 @@
 pub mod ComplaintLemmas
-pub mod DefinedLemmas
+pub mod MemoryLemmas
 pub mod DemoLemmas
 pub mod ReplayLemmas
 pub mod TypeLemmas

@@ -17,8 +17,8 @@ use Rattle.qo_machine.specs.declared.running.Ending.TheVariants as ending
 use Rattle.qo_record.proofs.CoverLemmas.{covered, given_first, given_whole, taken_is, took_inputs}
 use Rattle.qo_record.proofs.ReadingLemmas.{none_some}
 use Rattle.qo_record.specs.Record.{bad_place, stream_inputs}
-use Rattle.qo_record.specs.Replays.{Gave, Progress, Replaying, Went, bad_ahead, inputs_ahead, inputs_from, told_place, unread}
-use Rattle.compose.specs.Replay.{DidReplay, IsCut, NoneLost, OpenReplay, Replayed, TakePart, TakeToBad, TakeToEnd, TakeToLimit, place_of, status_of}
+use Rattle.qo_record.specs.Replays.{Gave, Progress, Replaying, Went, bad_ahead, inputs_ahead, inputs_from, capped_offset, unread}
+use Rattle.compose.specs.Replay.{DidReplay, IsCut, NoneLost, OpenReplay, Replayed, TakePart, TakeToBad, TakeToEnd, TakeToLimit, offset_of, status_of}
 use Rattle.compose.specs.declared.statuses.Status.{Status}
 use Rattle.compose.specs.declared.statuses.Status.TheVariants.{Memory}
 
@@ -89,7 +89,7 @@ taken_all a b xs took = took ∙ ap (λ (l : List Input). option_map (λ (r : Li
 
 -- What is told of the record.
 
-no_place : (n : Option ℕ) → option_map told_place n ≡ None → n ≡ None
+no_place : (n : Option ℕ) → option_map capped_offset n ≡ None → n ≡ None
 no_place None h = refl
 no_place (Some n) h = absurd (none_some (sym h))
 
@@ -166,7 +166,7 @@ cut_run p lo ln ho hn bytes given og ng few read h =
 did : (e : Ending) (p : Progress) (lo ln ho hn : Option (List ℕ)) (bytes : List ℕ) (given : List Input) (og ng : Lane → Option (List ℕ)) →
     length p.held < 65700 → Read p lo ln bytes given →
     RunMeets e 1000000000 (told (inputs_ahead unread lo) ho og (λ n. 0)) (told (inputs_ahead p ln) hn ng (λ n. 0)) (bad_ahead unread lo) →
-    DidReplay (status_of e) lo (bytes ++ p.held) ho hn (place_of e)
+    DidReplay (status_of e) lo (bytes ++ p.held) ho hn (offset_of e)
 did ending.Done p lo ln ho hn bytes given og ng few read h = (
   h.0,
   record { last = h.2; few = h.3; lost = none_lost h.0 h.1.losses; put = h.1.sent },
@@ -199,7 +199,7 @@ did ending.Memory p lo ln ho hn bytes given og ng few read h = cut_run p lo ln h
 pub replayed : (e : Ending) (q p : Progress) (lo ln ho hn : Option (List ℕ)) (og ng : Lane → Option (List ℕ)) →
     q ≡ unread → length p.held < 65700 → Went q p lo ln →
     RunMeets e 1000000000 (told (inputs_ahead q lo) ho og (λ n. 0)) (told (inputs_ahead p ln) hn ng (λ n. 0)) (bad_ahead q lo) →
-    (taken : List ℕ) × Replayed (status_of e) lo ln ho hn taken (place_of e)
+    (taken : List ℕ) × Replayed (status_of e) lo ln ho hn taken (offset_of e)
 replayed e q p lo ln ho hn og ng fresh few went meets =
     let w : Went unread p lo ln = subst (λ (r : Progress). Went r p lo ln) fresh went in
     let m = subst (λ (r : Progress). RunMeets e 1000000000 (told (inputs_ahead r lo) ho og (λ n. 0)) (told (inputs_ahead p ln) hn ng (λ n. 0))
@@ -230,7 +230,7 @@ not_made left held =
 -- the same of a hub that was made and given up
 pub hub_replayed : {S K : Type 0} (left : S → Option (List ℕ)) (held : K → Option (List ℕ)) (e : Ending) (status : Status) (place : ℕ) →
     (hub new : Replaying S K) (source source_new : S) (sink sink_new : K) (og ng : Lane → Option (List ℕ)) →
-    hub ≡ record { source = source; sink = sink; read = unread } → status ≡ status_of e → place ≡ place_of e →
+    hub ≡ record { source = source; sink = sink; read = unread } → status ≡ status_of e → place ≡ offset_of e →
     source_new ≡ new.source → sink_new ≡ new.sink → length new.read.held < 65700 → Went hub.read new.read (left hub.source) (left new.source) →
     RunMeets e 1000000000 (told (inputs_ahead hub.read (left hub.source)) (held hub.sink) og (λ n. 0))
     (told (inputs_ahead new.read (left new.source)) (held new.sink) ng (λ n. 0)) (bad_ahead hub.read (left hub.source)) →

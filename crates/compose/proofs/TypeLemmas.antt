@@ -6,7 +6,7 @@ use Rattle.std.proofs.lemmas.List.Concat.{flat_map-append}
 use Rattle.std.proofs.lemmas.List.Elements.{filter_map-append}
 use Rattle.std.specs.List.{join_by, join_with_byte}
 use Rattle.qo_values.specs.declared.kinds.TypeId.{TypeId}
-use Rattle.qo_model.specs.Types.{TypeRow, names_text, row_of, type_line, types}
+use Rattle.qo_model.specs.Types.{TypeInfo, names_text, info_of, type_line, types}
 use Rattle.qo_types.specs.Rows.{listed}
 use Rattle.qo_values.specs.declared.kinds.TypeId.TheVariants.{Object, Container, Machine, Device, SlotDevice, SlotUart, SlotTimer, SlotBridge}
 use Rattle.qo_values.specs.declared.kinds.TypeId.TheVariants.{MemDimm, Bus, SlotBus, MemBus, Clock, MemoryBackend, MemoryBackendRam, Tag}
@@ -29,28 +29,28 @@ names_joined [] some = absurd (omega (arith, some))
 names_joined (x ∷ xs) some = joined x xs
 
 -- the lines of some rows, and of some types
-abbrev row_lines : List TypeRow → List ℕ
+abbrev row_lines : List TypeInfo → List ℕ
 row_lines rows = flat_map type_line rows
 
 abbrev lines : List TypeId → List ℕ
-lines ids = row_lines (filter_map row_of ids)
+lines ids = row_lines (filter_map info_of ids)
 
 lines_append : (xs ys : List TypeId) → lines (xs ++ ys) ≡ lines xs ++ lines ys
 lines_append xs ys =
-    ap row_lines (filter_map-append row_of xs ys)
-    ∙ flat_map-append type_line (filter_map row_of xs) (filter_map row_of ys)
+    ap row_lines (filter_map-append info_of xs ys)
+    ∙ flat_map-append type_line (filter_map info_of xs) (filter_map info_of ys)
 
 -- a line more
-pub lines_more : (ids : List TypeId) (i : ℕ) (d : TypeId) (before behind : List ℕ) →
-    i < length ids → before ≡ lines (take i ids) → behind ≡ before ++ lines (get_or ids i d ∷ []) →
-    behind ≡ lines (take (i + 1) ids)
-lines_more ids i d before behind within is more =
+pub lines_more : (ids : List TypeId) (i : ℕ) (d : TypeId) (before after : List ℕ) →
+    i < length ids → before ≡ lines (take i ids) → after ≡ before ++ lines (get_or ids i d ∷ []) →
+    after ≡ lines (take (i + 1) ids)
+lines_more ids i d before after within is more =
     more
     ∙ ap (λ (l : List ℕ). l ++ lines (get_or ids i d ∷ [])) is
     ∙ sym (ap lines (take_more ids i d within) ∙ lines_append (take i ids) (get_or ids i d ∷ []))
 
 -- the types that are of `object` are all types
-pub all_are_objects : filter_map row_of (listed (codes "object") true) ≡ types
+pub all_are_objects : filter_map info_of (listed (codes "object") true) ≡ types
 unfolding types
 all_are_objects = refl
 
@@ -62,7 +62,7 @@ all_lines_put bytes (Ok text) ids listed_ids same all is = is ∙ ap lines (same
 all_lines_put bytes (Err e) ids listed_ids same all is = is
 
 -- the line of a type is that of its row
-pub line_is : (t : TypeId) → line_told t ++ 10 ∷ [] ≡ flat_map type_line (filter_map row_of (t ∷ []))
+pub line_is : (t : TypeId) → line_told t ++ 10 ∷ [] ≡ flat_map type_line (filter_map info_of (t ∷ []))
 unfolding types
 line_is Object = refl
 line_is Container = refl
@@ -81,13 +81,13 @@ line_is MemoryBackend = refl
 line_is MemoryBackendRam = refl
 line_is Tag = refl
 
--- a line and its end, behind what there is
-pub line_added : {E : Type 0} (t : TypeId) (r : Result Unit E) (old line text mid behind : List ℕ) →
-    line ≡ line_told t → text ≡ line → mid ≡ old ++ text → behind ≡ (if is_ok r then mid ++ 10 ∷ [] else mid) →
-    OnOk r (behind ≡ old ++ flat_map type_line (filter_map row_of (t ∷ [])))
-line_added t (Ok u) old line text mid behind is same put pushed =
+-- a line and its end, after what there is
+pub line_added : {E : Type 0} (t : TypeId) (r : Result Unit E) (old line text mid after : List ℕ) →
+    line ≡ line_told t → text ≡ line → mid ≡ old ++ text → after ≡ (if is_ok r then mid ++ 10 ∷ [] else mid) →
+    OnOk r (after ≡ old ++ flat_map type_line (filter_map info_of (t ∷ [])))
+line_added t (Ok u) old line text mid after is same put pushed =
     pushed
     ∙ ap (λ (l : List ℕ). l ++ 10 ∷ []) (put ∙ ap (λ (l : List ℕ). old ++ l) (same ∙ is))
     ∙ append_assoc old (line_told t) (10 ∷ [])
     ∙ ap (λ (l : List ℕ). old ++ l) (line_is t)
-line_added t (Err e) old line text mid behind is same put pushed = tt
+line_added t (Err e) old line text mid after is same put pushed = tt

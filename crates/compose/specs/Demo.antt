@@ -10,7 +10,7 @@ use Rattle.qo_causes.specs.declared.inputs.Input.{Input}
 use Rattle.qo_machine.specs.Machine.{opening}
 use Rattle.qo_machine.specs.Runs.{Turn, outs_of, transcript}
 use Rattle.qo_record.specs.Demo.{demo_inputs}
-use Rattle.qo_record.specs.Reading.{behind}
+use Rattle.qo_record.specs.Reading.{after_front}
 use Rattle.qo_requests.specs.Messages.{value_of}
 use Rattle.compose.specs.declared.counts.Kind.{Kind}
 use Rattle.compose.specs.declared.counts.Kind.TheVariants.{Reply, Error, Event, Answer, Other}
@@ -46,7 +46,7 @@ kind_to_session None = Other
 kind_to_session (Some text) = kind_of_message (value_of text)
 
 abbrev pub kind_of : List ℕ → Kind
-kind_of line = if is_some (behind (codes "g ") line) then Answer else kind_to_session (behind (codes "0 ") line)
+kind_of line = if is_some (after_front (codes "g ") line) then Answer else kind_to_session (after_front (codes "0 ") line)
 
 -- the lines of a transcript: what stands between its LFs
 abbrev pub lines : List ℕ → List (List ℕ)
@@ -90,7 +90,7 @@ ToldDemo InputLimit seed steps held_old held_new = ⊥
 
 -- some bytes stand nowhere among others (for proofs alone)
 abbrev pub Lacks : List ℕ → List ℕ → Type 0
-Lacks part bytes = (before behind : List ℕ) → bytes ≡ before ++ (part ++ behind) → ⊥
+Lacks part bytes = (before after_front : List ℕ) → bytes ≡ before ++ (part ++ after_front) → ⊥
 
 -- what a reply has that is refused for want of memory, and the line of such an answer to the guest (for proofs alone)
 abbrev pub refused_reply : List ℕ

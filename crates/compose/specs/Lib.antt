@@ -1,7 +1,7 @@
 pub mod Demo
 pub mod Exits
 pub mod Replay
-pub mod Serve
+pub mod Service
 pub mod Types
 pub mod Views
 pub mod Words

@@ -38,7 +38,8 @@ pub record CutReplay (held_old held_new : Option (List ℕ)) (turns : List Turn)
   pub going : (state_after opening turns).ended ≡ false
   pub few : length turns + length (option_to_list last) ≤ INPUTS_MAX
   pub lost : NoneLost turns
-  pub put : (held : Option (List ℕ)) × (held ≡ append_known held_old (transcript (outs_of opening turns))) × AppendsPrefix held held_new (transcript (last_outs (state_after opening turns) last))
+  pub put : (held : Option (List ℕ)) × (held ≡ append_known held_old (transcript (outs_of opening turns)))
+      × AppendsPrefix held held_new (transcript (last_outs (state_after opening turns) last))
 
 -- some inputs begin with others
 abbrev pub BeginsWith : List Input → List Input → Type 0
@@ -82,9 +83,9 @@ status_of ending.NextFailed = ReadFault
 status_of ending.SendFailed = WriteFault
 status_of ending.Limit = InputLimit
 
-abbrev pub place_of : Ending → ℕ
-place_of (ending.Bad n) = n
-place_of e = 0
+abbrev pub offset_of : Ending → ℕ
+offset_of (ending.Bad n) = n
+offset_of e = 0
 
 -- what was done with a record, if the source tells it, of which these bytes were taken, by the status; this is the place that is told
 abbrev pub DidReplay : Status → Option (List ℕ) → List ℕ → Option (List ℕ) → Option (List ℕ) → ℕ → Type 0

@@ -1,7 +1,7 @@
--- The words behind the program's name.
+-- The words after the program's name.
 use Rattle.std.specs.Prelude.{ℕ, ◌-◌, ◌^◌, ◌==◌, Bool, true, false, if◌then◌else◌, List, [], ◌∷◌, length, Option, Some, None, codes}
 use Rattle.std.specs.Str.{bytes_eq}
-use Rattle.qo_record.specs.Reading.{◌>>=◌, behind, next_of, or_else}
+use Rattle.qo_record.specs.Reading.{◌>>=◌, after_front, next_of, or_else}
 
 -- what the program is asked to do; a socket has a path and a number of connections, a demo a seed and a number of steps
 pub data Order : Type 0 where
@@ -27,19 +27,19 @@ abbrev pub is_value : List ℕ → Bool
 is_value [] = false
 is_value (b ∷ bytes) = if b == 45 then false else true
 
--- a text as a value, and the words behind it
+-- a text as a value, and the words after it
 abbrev pub value_then : List ℕ → List (List ℕ) → Option (List ℕ × List (List ℕ))
 value_then text words = if is_value text then Some (text, words) else None
 
--- the value of an option at the front of the words, which is the next word or follows `=`, and the words behind it
+-- the value of an option at the front of the words, which is the next word or follows `=`, and the words after it
 abbrev pub option_at : List ℕ → List (List ℕ) → Option (List ℕ × List (List ℕ))
 option_at name [] = None
-option_at name (word ∷ []) = behind name word >>= λ more. (behind (codes "=") more >>= λ text. value_then text [])
+option_at name (word ∷ []) = after_front name word >>= λ more. (after_front (codes "=") more >>= λ text. value_then text [])
 option_at name (word ∷ next ∷ words) =
     if bytes_eq word name then value_then next words
-    else (behind name word >>= λ more. (behind (codes "=") more >>= λ text. value_then text (next ∷ words)))
+    else (after_front name word >>= λ more. (after_front (codes "=") more >>= λ text. value_then text (next ∷ words)))
 
--- the values of two options, in this order, with nothing behind them
+-- the values of two options, in this order, with nothing after them
 abbrev pub both : List ℕ → List ℕ → List (List ℕ) → Option (List ℕ × List ℕ)
 both first second words =
     option_at first words >>= λ x. (option_at second x.1 >>= λ y. (if length y.1 == 0 then Some (x.0, y.0) else None))

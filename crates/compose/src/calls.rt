@@ -5,7 +5,7 @@ ghost use Rattle.qo_causes.specs.Cause.{Rose};
 ghost use Rattle.qo_machine.specs.Runs.{told};
 ghost use Rattle.compose.specs.Demo.{ToldDemo};
 ghost use Rattle.compose.specs.Replay.{Complained, Replayed, line_of};
-ghost use Rattle.compose.specs.Serve.{Served, asks_hub};
+ghost use Rattle.compose.specs.Service.{Served, asks_hub};
 ghost use Rattle.compose.specs.Types.{ToldTypes};
 ghost use Rattle.compose.specs.Words.{demo as a_demo, order, replay as a_replay, serve as a_serve, types as a_types};
 
@@ -19,7 +19,7 @@ use crate::words::{Order, order_in};
 use qo_causes::{Hub, Sink, Source};
 use std::alloc::Global;
 
-/// Runs `compose` on its words, the words behind the program's name.
+/// Runs `compose` on its words, the words after the program's name.
 ///
 /// `replay` runs the recorded stream of `source` on a new machine, entry by entry as it comes, and puts each message
 /// into `sink` at once. `serve` lets the hub begin at a path with so many connections, and runs a new machine over it.

@@ -3,7 +3,7 @@
 ghost use Rattle.std.specs.Prelude.{◌≡◌, ◌∷◌, [], ◌++◌, codes, decimal, length, map, option_map, option_to_list, IfOk, OnOk};
 ghost use Rattle.std.specs.Option.{option_copied};
 ghost use Rattle.serde_json.specs.View.{view};
-ghost use Rattle.qo_record.specs.Reading.{behind};
+ghost use Rattle.qo_record.specs.Reading.{after_front};
 ghost use Rattle.qo_requests.specs.Messages.{value_of};
 ghost use Rattle.compose.specs.Demo.{count_line, count_of, has, is, kind_of, kind_of_message, kind_of_value, lines, summary, summary_of};
 
@@ -79,9 +79,9 @@ fn kind_of_text(alloc: Global, text: &[u8]) -> Result<Kind, AllocError>
     }
 }
 
-/// The bytes behind a front.
-fn behind<'a>(front: &[u8], bytes: &'a [u8]) -> Option<&'a [u8]>
-    ensures { option_copied result ≡ behind front.now bytes.now }
+/// The bytes after a front.
+fn after_front<'a>(front: &[u8], bytes: &'a [u8]) -> Option<&'a [u8]>
+    ensures { option_copied result ≡ after_front front.now bytes.now }
 {
     bytes.strip_prefix(front)
 }
@@ -90,10 +90,10 @@ fn behind<'a>(front: &[u8], bytes: &'a [u8]) -> Option<&'a [u8]>
 fn kind_of(alloc: Global, line: &[u8]) -> Result<Kind, AllocError>
     ensures { IfOk result (λ kind. kind ≡ kind_of line.now) }
 {
-    if behind(b"g ", line).is_some() {
+    if after_front(b"g ", line).is_some() {
         return Ok(Kind::Answer);
     }
-    match behind(b"0 ", line) {
+    match after_front(b"0 ", line) {
         Some(text) => kind_of_text(alloc, text),
         None => Ok(Kind::Other),
     }

@@ -2,7 +2,7 @@
 
 ghost use Rattle.std.specs.Prelude.{◌≡◌, ◌≢◌, ℕ, List};
 ghost use Rattle.qo_causes.specs.Cause.{Rose};
-ghost use Rattle.compose.specs.Replay.{Replayed, place_of, status_of};
+ghost use Rattle.compose.specs.Replay.{Replayed, offset_of, status_of};
 
 use crate::statuses::{Ran, Status};
 use qo_causes::{Sink, Source};
@@ -26,8 +26,8 @@ fn status_of(ending: Ending) -> Status
 }
 
 /// The bad place of a run that ended so, or 0.
-pub(crate) fn place_of(ending: Ending) -> u64
-    ensures { result ≡ place_of ending }
+pub(crate) fn offset_of(ending: Ending) -> u64
+    ensures { result ≡ offset_of ending }
 {
     match ending {
         Ending::Bad(place) => place,
@@ -53,7 +53,7 @@ pub(crate) fn replay<S: Source, K: Sink>(alloc: Global, source: S, sink: K) -> (
                 source,
                 sink,
             };
-            (ran, place_of(ending))
+            (ran, offset_of(ending))
         }
         Err(Unmade { source, sink }) => {
             let ran = Ran {

@@ -3,9 +3,9 @@
 ghost use Rattle.std.specs.Prelude.{◌≡◌, ◌≢◌, ◌≤◌, ◌⊎◌};
 ghost use Rattle.qo_causes.specs.Cause.{Rose};
 ghost use Rattle.qo_machine.specs.Runs.{told};
-ghost use Rattle.compose.specs.Serve.{Served, serve_status};
+ghost use Rattle.compose.specs.Service.{Served, serve_status};
 
-use crate::replays::place_of;
+use crate::replays::offset_of;
 use crate::statuses::Status;
 use qo_causes::{Failed, Hub};
 use qo_machine::{Ending, run};
@@ -46,5 +46,5 @@ pub(crate) fn serve<H: Hub>(
         return (Status::HubFault, 0);
     }
     let ending = run(alloc, hub, INPUTS_MAX);
-    (serve_status(ending), place_of(ending))
+    (serve_status(ending), offset_of(ending))
 }

@@ -3,7 +3,7 @@
 ghost use Rattle.std.specs.Prelude.{◌≡◌, ◌≢◌, ◌≤◌, ◌++◌, [], ◌∷◌, IfOk, OnOk, flat_map, filter_map, map, string_bytes};
 ghost use Rattle.qo_causes.specs.Cause.{Rose};
 ghost use Rattle.qo_model.specs.RowNames.{interface_name};
-ghost use Rattle.qo_model.specs.Types.{names_text, row_of, type_line};
+ghost use Rattle.qo_model.specs.Types.{names_text, info_of, type_line};
 ghost use Rattle.compose.specs.Types.{ToldTypes, line_told, type_lines};
 
 use crate::statuses::Status;
@@ -55,7 +55,7 @@ fn line_of(alloc: Global, t: TypeId) -> Result<String, AllocError>
 
 /// Adds the line of a type.
 fn add_line(alloc: Global, lines: &mut String, t: TypeId) -> Result<(), AllocError>
-    ensures { OnOk result (string_bytes lines.new ≡ string_bytes lines.old ++ flat_map type_line (filter_map row_of (t ∷ []))) }
+    ensures { OnOk result (string_bytes lines.new ≡ string_bytes lines.old ++ flat_map type_line (filter_map info_of (t ∷ []))) }
 {
     let line = line_of(alloc, t)?;
     lines.push_str(line.as_str())?;
@@ -64,7 +64,7 @@ fn add_line(alloc: Global, lines: &mut String, t: TypeId) -> Result<(), AllocErr
 
 /// The lines of some types.
 fn lines_of(alloc: Global, types: &[TypeId]) -> Result<String, AllocError>
-    ensures { IfOk result (λ text. string_bytes text ≡ flat_map type_line (filter_map row_of types.now)) }
+    ensures { IfOk result (λ text. string_bytes text ≡ flat_map type_line (filter_map info_of types.now)) }
 {
     let mut lines = String::new(alloc);
     for t in types {

@@ -1,7 +1,7 @@
-//! The words behind the program's name.
+//! The words after the program's name.
 
 ghost use Rattle.std.specs.Prelude.{◌≡◌, ◌≤◌, IfSome, map, option_map, string_bytes};
-ghost use Rattle.qo_record.specs.Reading.{behind, next_of};
+ghost use Rattle.qo_record.specs.Reading.{after_front, next_of};
 ghost use Rattle.compose.specs.Views.{order_of};
 ghost use Rattle.compose.specs.Words.{alone, both, demo_in, digits_on, is_value, number, option_at, options, order, serve_in, value_then};
 
@@ -24,9 +24,9 @@ pub(crate) enum Order<'a> {
     Types,
 }
 
-/// The text behind a front.
-fn behind<'a>(front: &str, text: &'a str) -> Option<&'a str>
-    ensures { option_map (λ x. x.now) result ≡ behind front.now text.now }
+/// The text after a front.
+fn after_front<'a>(front: &str, text: &'a str) -> Option<&'a str>
+    ensures { option_map (λ x. x.now) result ≡ after_front front.now text.now }
 {
     text.strip_prefix(front)
 }
@@ -79,7 +79,7 @@ fn is_value(text: &str) -> bool
     }
 }
 
-/// A text as a value, and the words behind it.
+/// A text as a value, and the words after it.
 fn value_then<'a>(text: &'a str, words: &'a [String]) -> Option<(&'a str, &'a [String])>
     ensures { option_map (λ x. (x.0.now, map string_bytes x.1.now)) result ≡ value_then text.now (map string_bytes words.now) }
 {
@@ -90,20 +90,20 @@ fn value_then<'a>(text: &'a str, words: &'a [String]) -> Option<(&'a str, &'a [S
     }
 }
 
-/// The value of an option at the front of the words, and the words behind it.
+/// The value of an option at the front of the words, and the words after it.
 fn option_at<'a>(name: &str, words: &'a [String]) -> Option<(&'a str, &'a [String])>
     ensures { option_map (λ x. (x.0.now, map string_bytes x.1.now)) result ≡ option_at name.now (map string_bytes words.now) }
 {
     let (word, rest) = words.split_first()?;
-    if let [next, behind_next @ ..] = rest {
+    if let [next, after_next @ ..] = rest {
         if word.as_str() == name {
-            return value_then(next.as_str(), behind_next);
+            return value_then(next.as_str(), after_next);
         }
     }
-    value_then(behind("=", behind(name, word.as_str())?)?, rest)
+    value_then(after_front("=", after_front(name, word.as_str())?)?, rest)
 }
 
-/// The values of two options, in this order, with nothing behind them.
+/// The values of two options, in this order, with nothing after them.
 fn both<'a>(first: &str, second: &str, words: &'a [String]) -> Option<(&'a str, &'a str)>
     ensures { option_map (λ x. (x.0.now, x.1.now)) result ≡ both first.now second.now (map string_bytes words.now) }
 {
@@ -127,7 +127,7 @@ fn options<'a>(first: &str, second: &str, words: &'a [String]) -> Option<(&'a st
     Some((one, other))
 }
 
-/// The order of the words behind `serve`.
+/// The order of the words after `serve`.
 fn serve_in(words: &[String]) -> Option<Order<'_>>
     ensures { option_map order_of result ≡ serve_in (map string_bytes words.now) }
 {
@@ -139,7 +139,7 @@ fn serve_in(words: &[String]) -> Option<Order<'_>>
     Some(Order::Serve { path, connections })
 }
 
-/// The order of the words behind `demo`.
+/// The order of the words after `demo`.
 fn demo_in(words: &[String]) -> Option<Order<'_>>
     ensures { option_map order_of result ≡ demo_in (map string_bytes words.now) }
 {

@@ -16,10 +16,10 @@ use Rattle.qo_model.specs.Paths.{is_of}
 use Rattle.qo_model.specs.Plug.{dimms, is_dimm, range_in, ranges_of}
 use Rattle.qo_model.specs.Types.{is_a}
 use Rattle.qo_object.specs.Content.{Content}
-use Rattle.qo_object.specs.Shown.{shown}
+use Rattle.qo_object.specs.BoardObject.{shown}
 use Rattle.qo_heap.specs.Objects.{Objects, content_of}
 use Rattle.qo_heap.specs.Board.{Shows}
-use Rattle.qo_heap.proofs.ShowsReads.{shows-record}
+use Rattle.qo_heap.proofs.BoardReads.{shows-record}
 use Rattle.qo_paths.proofs.EndLemmas.{given-drop, given-past}
 use Rattle.qo_backends.specs.Dimms.{dimm_in, ranges_at}
 use Rattle.qo_backends.proofs.RecordLemmas.{record-there}
@@ -69,7 +69,7 @@ dimms-all b = dimms-given b b.records
 pub dimms-past : (b : Board) (place : ℕ) → length b.records ≤ place → dimms_from b place ≡ []
 dimms-past b place past = given-past (dimm_in b) b.records place past
 
--- the DIMM at a place and those behind it
+-- the DIMM at a place and those after it
 abbrev pub dimm_of : Board → ℕ → Option ℕ
 dimm_of b place = option_and_then (dimm_in b) (slice_get b.records place)
 

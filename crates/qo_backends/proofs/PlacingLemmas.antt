@@ -7,7 +7,7 @@ use Rattle.std.proofs.lemmas.Bool.{cases_lt, eqb-true}
 use Rattle.std.proofs.lemmas.Bool.Decides.{nat_tests}
 use Rattle.qo_values.specs.declared.ranges.Range.{Range}
 use Rattle.qo_values.specs.declared.limits.TheConstants.{DIMM_ALIGN}
-use Rattle.qo_values.specs.Placing.{fits_at, is_in_window, overlap, overlaps_any, place_of, range_at, window_start, window_end, window_size}
+use Rattle.qo_values.specs.Placing.{fits_at, is_in_window, overlap, overlaps_any, free_address, range_at, window_start, window_end, window_size}
 use Rattle.qo_heap.proofs.HeapLemmas.{is_some-find}
 use Rattle.qo_claims.proofs.LeastLemmas.{least-found, least-none}
 
@@ -60,7 +60,7 @@ pub record Reached (ranges : List Range) (size at : ℕ) : Type 0 where
 pub reached-first : (ranges : List Range) (size : ℕ) → Reached ranges size window_start
 reached-first ranges size = record { even = refl; above = omega arith; none = λ lower from below. absurd (omega arith) }
 
--- from an address at which a range is overlapped, nothing fits up to the next multiple behind that range
+-- from an address at which a range is overlapped, nothing fits up to the next multiple after that range
 module _ (ranges : List Range) (size at : ℕ) (r : Range) (found : find (overlap (range_at at size)) ranges ≡ Some r) where
   meets : (lower : ℕ) → at ≤ lower → lower < r.at + r.size → overlap (range_at lower size) r ≡ true
   meets lower from below =
@@ -91,27 +91,27 @@ module _ (ranges : List Range) (size at : ℕ) (r : Range) (found : find (overla
       record {
         even = even;
         above = omega (arith, so.above);
-        none = λ lower from below. ⊎_elim (λ before. so.none lower from before) (λ behind. none-up next least lower behind below) (cases_lt lower at);
+        none = λ lower from below. ⊎_elim (λ before. so.none lower from before) (λ after. none-up next least lower after below) (cases_lt lower at);
       }
 
   -- where that multiple is past the last address there is no place
   pub place-past : Reached ranges size at → ((lower : ℕ) → r.at + r.size ≤ lower → lower % DIMM_ALIGN ≡ 0 → 2 ^ 64 ≤ lower)
-      → place_of ranges size DIMM_ALIGN ≡ None
+      → free_address ranges size DIMM_ALIGN ≡ None
   place-past so least =
       least-none (fits_at ranges size DIMM_ALIGN) window_start window_size
-      (λ lower from below. ⊎_elim (λ before. so.none lower from before) (λ behind. none-up (2 ^ 64) least lower behind (omega arith)) (cases_lt lower at))
+      (λ lower from below. ⊎_elim (λ before. so.none lower from before) (λ after. none-up (2 ^ 64) least lower after (omega arith)) (cases_lt lower at))
 
 -- the place is reached
 pub place-found : (ranges : List Range) (size at : ℕ) → Reached ranges size at → at < window_end → at + size ≤ window_end
-    → find (overlap (range_at at size)) ranges ≡ None → place_of ranges size DIMM_ALIGN ≡ Some at
+    → find (overlap (range_at at size)) ranges ≡ None → free_address ranges size DIMM_ALIGN ≡ Some at
 place-found ranges size at so within fits none =
     least-found (fits_at ranges size DIMM_ALIGN) window_start window_size at so.above (omega arith)
     (fitting ranges size at so.even so.above fits (sym (is_some-find (overlap (range_at at size)) ranges) ∙ ap is_some none)) so.none
 
 -- or the window's end
 pub place-out : (ranges : List Range) (size at : ℕ) → Reached ranges size at → (at < window_end → window_end < at + size)
-    → place_of ranges size DIMM_ALIGN ≡ None
+    → free_address ranges size DIMM_ALIGN ≡ None
 place-out ranges size at so out =
     least-none (fits_at ranges size DIMM_ALIGN) window_start window_size
     (λ lower from below. ⊎_elim (λ before. so.none lower from before)
-    (λ behind. outside ranges size lower (let past : window_end < at + size = out (omega arith) in omega arith)) (cases_lt lower at))
+    (λ after. outside ranges size lower (let past : window_end < at + size = out (omega arith) in omega arith)) (cases_lt lower at))

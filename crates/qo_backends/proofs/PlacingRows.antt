@@ -16,7 +16,7 @@ empty-inside = refl
 empty-first : overlap (range_at 0 0) (range_at 0 16) ≡ false
 empty-first = refl
 
--- the window has its last byte and none behind it
+-- the window has its last byte and none after it
 last-byte : is_in_window (range_at (window_end - 16) 16) ≡ true
 last-byte = refl
 
@@ -26,10 +26,10 @@ past-last = refl
 before-first : is_in_window (range_at (window_start - 1) 1) ≡ false
 before-first = refl
 
--- the least place is behind what lies at the start, in a gap that is large enough
-behind : least (fits_at (range_at window_start 16 ∷ []) 8 16) window_start 40 ≡ Some (window_start + 16)
+-- the least place is after what lies at the start, in a gap that is large enough
+after : least (fits_at (range_at window_start 16 ∷ []) 8 16) window_start 40 ≡ Some (window_start + 16)
 unfolding least
-behind = refl
+after = refl
 
 small-gap : least (fits_at (range_at window_start 8 ∷ range_at (window_start + 24) 8 ∷ []) 16 8) window_start 48 ≡ Some (window_start + 8)
 unfolding least

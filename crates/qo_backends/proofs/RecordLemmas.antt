@@ -8,12 +8,12 @@ use Rattle.std.specs.Option.{option_map_or}
 use Rattle.qo_slots.specs.declared.keys.Key.{Key}
 use Rattle.qo_table.specs.Rows.{IsLive}
 use Rattle.qo_object.specs.Content.{Content}
-use Rattle.qo_object.specs.Shown.{shown}
+use Rattle.qo_object.specs.BoardObject.{shown}
 use Rattle.qo_model.specs.Board as board
 use Rattle.qo_heap.specs.Objects.{IsHeap, Objects, content_of}
 use Rattle.qo_heap.specs.Board.{Shows, record_of}
 use Rattle.qo_heap.proofs.PlacesLemmas.{at-key, object-at-place, past-last}
-use Rattle.qo_heap.proofs.ShowsReads.{shows-live_key, shows-record}
+use Rattle.qo_heap.proofs.BoardReads.{shows-live_key, shows-record}
 
 -- the record of an object that is there
 pub record-there : (b : board.Board) (v : Objects) → Shows b v → (key : Key) → IsLive v.rows key

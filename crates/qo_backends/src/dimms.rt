@@ -8,7 +8,7 @@ ghost use Rattle.qo_model.specs.Board.{Board, record_of};
 ghost use Rattle.qo_model.specs.Devices.{is_realized};
 ghost use Rattle.qo_model.specs.Paths.{is_of};
 ghost use Rattle.qo_model.specs.Plug.{dimms, has_backend, range_for, range_in, ranges_of, size_of};
-ghost use Rattle.qo_object.specs.Shown.{birth_of};
+ghost use Rattle.qo_object.specs.BoardObject.{birth_of};
 ghost use Rattle.qo_table.specs.Rows.{IsLive};
 ghost use Rattle.qo_heap.specs.Board.{Shows};
 ghost use Rattle.qo_backends.specs.Dimms.{dimm_in, ranges_at};

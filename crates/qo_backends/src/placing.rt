@@ -1,7 +1,7 @@
 //! Where a range of addresses goes beside others, which may lie anywhere and in any order.
 
 ghost use Rattle.std.specs.Prelude.{◌≡◌, ◌+◌, ◌≤◌, ◌^◌, ◌%◌, ℕ, find, IfSome, IfNone};
-ghost use Rattle.qo_values.specs.Placing.{is_in_window, overlap, overlaps_any, place_of};
+ghost use Rattle.qo_values.specs.Placing.{is_in_window, overlap, overlaps_any, free_address};
 ghost use Rattle.qo_values.specs.declared.limits.TheConstants.{DIMM_ALIGN};
 
 use qo_claims::{end, overlap};
@@ -10,7 +10,7 @@ use qo_values::{DIMM_ALIGN, Range};
 /// The first address of the window.
 const WINDOW_START: u64 = 0x1_0000_0000;
 
-/// The first address behind the window.
+/// The first address after the window.
 const WINDOW_END: u64 = 0x11_0000_0000;
 
 /// Whether a range lies in the window.
@@ -39,8 +39,8 @@ fn first_overlapped(range: Range, ranges: &[Range]) -> Option<Range>
     None
 }
 
-/// The least multiple of `DIMM_ALIGN` behind a range; `None` where it is past the last address.
-fn behind(range: Range) -> Option<u64>
+/// The least multiple of `DIMM_ALIGN` after a range; `None` where it is past the last address.
+fn after(range: Range) -> Option<u64>
     ensures multiple { IfSome result (λ at. at % DIMM_ALIGN ≡ 0) }
     ensures above { IfSome result (λ at. range.at + range.size ≤ at) }
     ensures least { IfSome result (λ at. (lower : ℕ) → range.at + range.size ≤ lower → lower % DIMM_ALIGN ≡ 0 → at ≤ lower) }
@@ -53,13 +53,13 @@ fn behind(range: Range) -> Option<u64>
 /// The least multiple of `DIMM_ALIGN` in the window at which `size` bytes fit beside the ranges; `None`
 /// exactly where there is none. It takes no memory.
 pub(crate) fn place(ranges: &[Range], size: u64) -> Option<u64>
-    ensures { result ≡ place_of ranges.now size DIMM_ALIGN }
+    ensures { result ≡ free_address ranges.now size DIMM_ALIGN }
 {
     let mut at = WINDOW_START;
     // No multiple below `at` holds them, and each that overlaps a range up to its end does neither.
     while at < WINDOW_END && size <= WINDOW_END - at {
         match first_overlapped(Range { at, size }, ranges) {
-            Some(range) => at = behind(range)?,
+            Some(range) => at = after(range)?,
             None => return Some(at),
         }
     }

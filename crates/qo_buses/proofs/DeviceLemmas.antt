@@ -28,30 +28,30 @@ pub id-past : (rows : List (Key × Content)) (place : ℕ) (id : List ℕ) → N
     → false ≡ option_map_or (λ (row : Key × Content). has_id id (record_of row)) (slice_get rows place) false
 id-past rows place id e = rw (past-last rows place (sym e)) refl
 
--- whether any behind a place has it
-abbrev pub any_behind : List ℕ → List (Key × Content) → ℕ → Bool
-any_behind id rows place = list_any (λ (row : Key × Content). has_id id (record_of row)) (drop place rows)
+-- whether any after a place has it
+abbrev pub any_after : List ℕ → List (Key × Content) → ℕ → Bool
+any_after id rows place = list_any (λ (row : Key × Content). has_id id (record_of row)) (drop place rows)
 
 any-drop : (id : List ℕ) (rows : List (Key × Content)) (place : ℕ)
-    → any_behind id rows place ≡
-    (option_map_or (λ (row : Key × Content). has_id id (record_of row)) (slice_get rows place) false || any_behind id rows (suc place))
+    → any_after id rows place ≡
+    (option_map_or (λ (row : Key × Content). has_id id (record_of row)) (slice_get rows place) false || any_after id rows (suc place))
 any-drop id [] zero = refl
 any-drop id [] (suc place) = refl
 any-drop id (row ∷ rows) zero = refl
 any-drop id (row ∷ rows) (suc place) = any-drop id rows place
 
 pub any-here : (id : List ℕ) (rows : List (Key × Content)) (place : ℕ)
-    → option_map_or (λ (row : Key × Content). has_id id (record_of row)) (slice_get rows place) false ≡ true → any_behind id rows place ≡ true
-any-here id rows place is = any-drop id rows place ∙ ap (λ (t : Bool). t || any_behind id rows (suc place)) is
+    → option_map_or (λ (row : Key × Content). has_id id (record_of row)) (slice_get rows place) false ≡ true → any_after id rows place ≡ true
+any-here id rows place is = any-drop id rows place ∙ ap (λ (t : Bool). t || any_after id rows (suc place)) is
 
 pub any-next : (id : List ℕ) (rows : List (Key × Content)) (place : ℕ)
     → option_map_or (λ (row : Key × Content). has_id id (record_of row)) (slice_get rows place) false ≡ false
-    → any_behind id rows place ≡ any_behind id rows (place + 1)
+    → any_after id rows place ≡ any_after id rows (place + 1)
 any-next id rows place is =
     let more : suc place ≡ place + 1 = omega arith in
-    any-drop id rows place ∙ ap (λ (t : Bool). t || any_behind id rows (suc place)) is ∙ ap (any_behind id rows) more
+    any-drop id rows place ∙ ap (λ (t : Bool). t || any_after id rows (suc place)) is ∙ ap (any_after id rows) more
 
-pub any-past : (id : List ℕ) (rows : List (Key × Content)) (place : ℕ) → length rows ≤ place → any_behind id rows place ≡ false
+pub any-past : (id : List ℕ) (rows : List (Key × Content)) (place : ℕ) → length rows ≤ place → any_after id rows place ≡ false
 any-past id [] zero past = refl
 any-past id [] (suc place) past = refl
 any-past id (row ∷ rows) zero past = absurd (omega arith)
@@ -62,5 +62,5 @@ any-rows : (id : List ℕ) (rows : List (Key × Content))
 any-rows id [] = refl
 any-rows id (row ∷ rows) = ap (λ (t : Bool). has_id id (record_of row) || t) (any-rows id rows)
 
-pub any-all : (b : board.Board) (v : Objects) → Shows b v → (id : List ℕ) → any_behind id v.rows 0 ≡ device_named b id
+pub any-all : (b : board.Board) (v : Objects) → Shows b v → (id : List ℕ) → any_after id v.rows 0 ≡ device_named b id
 any-all b v s id = sym (ap (list_any (has_id id)) s.records ∙ any-rows id v.rows)

@@ -6,7 +6,7 @@ use Rattle.std.specs.List.{cons_option, list_any}
 use Rattle.std.specs.Option.{option_and_then, option_map_or}
 use Rattle.std.specs.Str.{bytes_eq}
 use Rattle.qo_values.specs.Placing.{least}
-use Rattle.qo_object.specs.Shown.{shown_slots}
+use Rattle.qo_object.specs.BoardObject.{shown_slots}
 use Rattle.qo_object.specs.Slots.{Named, target_of}
 use Rattle.qo_model.specs.Board as board
 use Rattle.qo_model.specs.Devices.{buses_of, first_bus, kid_name}
@@ -22,10 +22,10 @@ use Rattle.qo_slots.specs.declared.keys.Key.{Key}
 use Rattle.qo_table.specs.Rows.{IsLive}
 use Rattle.qo_object.specs.Content.{Content}
 use Rattle.qo_heap.specs.Objects.{IsHeap, Objects, content_of, slots_of}
-use Rattle.qo_heap.proofs.ShowsLive.{named-live}
+use Rattle.qo_heap.proofs.BoardObjects.{named-live}
 use Rattle.qo_heap.specs.Board.{Shows}
 use Rattle.qo_heap.proofs.HeapLemmas.{is_some-find}
-use Rattle.qo_heap.proofs.ShowsReads.{shows-slots}
+use Rattle.qo_heap.proofs.BoardReads.{shows-slots}
 
 -- a search that is past the last
 pub found-past : {X : Type 0} (p : X → Bool) (xs : List X) (i : ℕ) → slice_get xs i ≡ None → find p (drop i xs) ≡ None

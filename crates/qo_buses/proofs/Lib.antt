@@ -1,6 +1,6 @@
 pub mod DeviceLemmas
 pub mod KidLemmas
-pub mod LeaveLemmas
+pub mod LeavingLemmas
 pub mod LinkLemmas
 pub mod NameLemmas
 pub mod SlotLemmas

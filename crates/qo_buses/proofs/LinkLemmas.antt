@@ -13,12 +13,12 @@ use Rattle.qo_table.specs.Rows.{IsLive, Rises, births, edit, object_at}
 use Rattle.qo_object.specs.declared.slots.Slot.{Slot}
 use Rattle.qo_object.specs.declared.slots.Slot.TheVariants.{Link}
 use Rattle.qo_object.specs.Content.{Content, empty_link_at, pointed_at, set_at}
-use Rattle.qo_object.specs.Shown.{shown, shown_slot, shown_slots}
+use Rattle.qo_object.specs.BoardObject.{shown, shown_slot, shown_slots}
 use Rattle.qo_object.specs.Slots.{Named, changed_at, is_empty_link, pointed, slot_in}
 use Rattle.qo_model.specs.Board as board
 use Rattle.qo_model.specs.Changes.{with_changed}
 use Rattle.qo_model.specs.Changes as changes
-use Rattle.qo_model.specs.Objects.{place_from}
+use Rattle.qo_model.specs.Objects.{index_from}
 use Rattle.qo_model.specs.Paths.{is_of, only_of}
 use Rattle.qo_model.specs.Plug.{fitted, link_named}
 use Rattle.qo_model.specs.Release.{edited}
@@ -30,12 +30,12 @@ use Rattle.qo_heap.specs.Board.{Shows, pins_in, record_of}
 use Rattle.qo_heap.proofs.BookLemmas.{book-edit}
 use Rattle.qo_heap.proofs.HeapLemmas.{live-edit}
 use Rattle.qo_heap.proofs.PlacesLemmas.{position-find}
-use Rattle.qo_heap.proofs.ShowsChanges.{shows-pointed, shows-set}
-use Rattle.qo_heap.proofs.ShowsLive.{live-content}
-use Rattle.qo_heap.proofs.ShowsReads.{records_of}
+use Rattle.qo_heap.proofs.BoardChanges.{shows-pointed, shows-set}
+use Rattle.qo_heap.proofs.BoardObjects.{live-content}
+use Rattle.qo_heap.proofs.BoardReads.{records_of}
 use Rattle.qo_life.specs.Life.{Goes, with_log}
 use Rattle.qo_life.proofs.TreeLemmas.{edit-bodies, goes-none, goes-same, heap-with_log, live-before_edit}
-use Rattle.qo_buses.proofs.LeaveLemmas.{named-place, shows-place_from}
+use Rattle.qo_buses.proofs.LeavingLemmas.{named-place, shows-index_from}
 use Rattle.qo_buses.proofs.WayLemmas.{of-is}
 
 -- one object edited: it alone has its birth
@@ -96,10 +96,10 @@ kept-shown g (suc i) (t ∷ slots) s at same = ap (λ (ss : List (List ℕ × bo
 
 module _ (b : board.Board) (v : Objects) (s : Shows b v) (good : IsHeap v) (n : ℕ) (name : List ℕ) where
   -- no slot of the name
-  pub link-unnamed : (m : ℕ) → place_from (is_named name) 0 (board.slots_at b n) ≡ None → link_named n name m b ≡ b
+  pub link-unnamed : (m : ℕ) → index_from (is_named name) 0 (board.slots_at b n) ≡ None → link_named n name m b ≡ b
   link-unnamed m none = rw (link_named, none) refl
 
-  module _ (i : ℕ) (at : place_from (is_named name) 0 (board.slots_at b n) ≡ Some i) (c : Content) (there : content_of v n ≡ Some c) where
+  module _ (i : ℕ) (at : index_from (is_named name) 0 (board.slots_at b n) ≡ Some i) (c : Content) (there : content_of v n ≡ Some c) where
     -- a slot that stays
     pub shows-unlinked : (m : ℕ) (what : Slot) → slot_in c.slots i ≡ Some what → fitted b m (shown_slot what) ≡ shown_slot what
         → Shows (link_named n name m b) v
@@ -175,8 +175,8 @@ pins-edited n f same (row ∷ rows) = go (eqb row.0.birth n) refl (pins-edited n
 
 module _ (v : Objects) (good : IsHeap v) (o : Key) (live : IsLive v.rows o) (name : List ℕ) where
   place-of : (b : board.Board) (log : Log) → Shows b (with_log log v) → (i : Option ℕ)
-      → i ≡ position (λ (t : Named). bytes_eq name t.0) (slots_of v o.birth) → place_from (is_named name) 0 (board.slots_at b o.birth) ≡ i
-  place-of b log s i e = shows-place_from (is_named name) b (with_log log v) s o.birth ∙ named-place name (slots_of v o.birth) ∙ sym e
+      → i ≡ position (λ (t : Named). bytes_eq name t.0) (slots_of v o.birth) → index_from (is_named name) 0 (board.slots_at b o.birth) ≡ i
+  place-of b log s i e = shows-index_from (is_named name) b (with_log log v) s o.birth ∙ named-place name (slots_of v o.birth) ∙ sym e
 
   pub goes-unnamed : (m : ℕ) → None ≡ position (λ (t : Named). bytes_eq name t.0) (slots_of v o.birth) → Goes (link_named o.birth name m) v v
   goes-unnamed m e =
@@ -247,7 +247,7 @@ module _ (v : Objects) (good : IsHeap v) (o : Key) (live : IsLive v.rows o) (nam
   pub goes-unset : (val : Val) → None ≡ position (λ (t : Named). bytes_eq name t.0) (slots_of v o.birth) → Goes (set_named o.birth name val) v v
   goes-unset val e =
       goes-same (λ b. b) (set_named o.birth name val) v v (goes-none v)
-      (λ b log s. let at : place_from (is_named name) 0 (board.slots_at b o.birth) ≡ None = place-of b log s None e in rw (set_named, at) refl)
+      (λ b log s. let at : index_from (is_named name) 0 (board.slots_at b o.birth) ≡ None = place-of b log s None e in rw (set_named, at) refl)
 
   pub goes-set : (val : Val) (i : ℕ) → Some i ≡ position (λ (t : Named). bytes_eq name t.0) (slots_of v o.birth)
       → Goes (set_named o.birth name val) v (with_edit o.birth (set_at val i) v)
@@ -257,7 +257,7 @@ module _ (v : Objects) (good : IsHeap v) (o : Key) (live : IsLive v.rows o) (nam
         more = [];
         log = refl;
         shown = λ b log s.
-            let at : place_from (is_named name) 0 (board.slots_at b o.birth) ≡ Some i = place-of b log s (Some i) e in
+            let at : index_from (is_named name) 0 (board.slots_at b o.birth) ≡ Some i = place-of b log s (Some i) e in
             rw (set_named, at) (shows-set b (with_log log v) s o.birth i val);
         names = live-before_edit o.birth (set_at val i) v.rows;
         bodies = edit-bodies v o.birth (set_at val i) (λ d. refl);

@@ -5,14 +5,14 @@ use Rattle.std.specs.Str.{bytes_eq}
 use Rattle.qo_slots.specs.declared.keys.Key.{Key}
 use Rattle.qo_object.specs.declared.slots.Slot.{Slot}
 use Rattle.qo_object.specs.Content.{Content}
-use Rattle.qo_object.specs.Shown.{shown_slot, shown_slots}
+use Rattle.qo_object.specs.BoardObject.{shown_slot, shown_slots}
 use Rattle.qo_object.specs.Slots.{Named, target_of}
-use Rattle.qo_object.proofs.ShownLemmas.{slice_get-shown}
+use Rattle.qo_object.proofs.BoardObjectLemmas.{slice_get-shown}
 use Rattle.qo_model.specs.Board as board
 use Rattle.qo_model.specs.Devices.{first_bus, found_at, kid_at, kid_name, strong_in}
 use Rattle.qo_heap.specs.Objects.{Objects, content_of, slots_of}
 use Rattle.qo_heap.specs.Board.{Shows}
-use Rattle.qo_heap.proofs.ShowsReads.{shows-slot_named, shows-slots}
+use Rattle.qo_heap.proofs.BoardReads.{shows-slot_named, shows-slots}
 
 -- what is read of the slot of a name
 module _ {X : Type 0} (f : board.Slot → Option X) where

@@ -9,11 +9,11 @@ use Rattle.qo_model.specs.Depth.{among, by_depth}
 use Rattle.qo_model.specs.Devices.{bridge_of, bus_above, bus_of, depth_of, depth_turn, going_turn, is_going}
 use Rattle.qo_model.specs.Paths.{is_of}
 use Rattle.qo_model.specs.Types.{is_a}
-use Rattle.qo_object.specs.Shown.{birth_of}
+use Rattle.qo_object.specs.BoardObject.{birth_of}
 use Rattle.qo_slots.specs.declared.keys.Key.{Key}
 use Rattle.qo_heap.specs.Objects.{Objects, content_of, parent_of}
 use Rattle.qo_heap.specs.Board.{Shows}
-use Rattle.qo_heap.proofs.ShowsReads.{shows-kind, shows-parent, shows-size}
+use Rattle.qo_heap.proofs.BoardReads.{shows-kind, shows-parent, shows-size}
 use Rattle.qo_paths.proofs.DepthSteps.{left_at, depth-all, depth-turn, depth-none}
 use Rattle.std.specs.Prelude.{if◌then◌else◌, option_map}
 use Rattle.std.specs.List.{list_any}

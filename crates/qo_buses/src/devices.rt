@@ -3,9 +3,9 @@
 ghost use Rattle.std.specs.Prelude.{◌≡◌, false, IfSome, slice_get};
 ghost use Rattle.std.specs.Option.{option_map_or};
 ghost use Rattle.qo_model.specs.Board.{Board};
-ghost use Rattle.qo_model.specs.Devices.{bus_of, clock_of, device_named, has_id, is_realized, is_true, place_on};
+ghost use Rattle.qo_model.specs.Devices.{bus_of, clock_of, device_named, has_id, is_realized, is_true, bus_slot_of};
 ghost use Rattle.qo_model.specs.Paths.{is_of};
-ghost use Rattle.qo_object.specs.Shown.{birth_of};
+ghost use Rattle.qo_object.specs.BoardObject.{birth_of};
 ghost use Rattle.qo_table.specs.Rows.{IsLive};
 ghost use Rattle.qo_heap.specs.Board.{Shows, record_of};
 
@@ -54,9 +54,9 @@ pub fn bus_of<L: Ledger>(heap: &Heap, dev: Oid, steps: &mut Steps<L>) -> Option<
 }
 
 /// The slot of its bus that a device is in.
-pub fn place_on<L: Ledger>(heap: &Heap, dev: Oid, steps: &mut Steps<L>) -> Option<u64>
+pub fn bus_slot_of<L: Ledger>(heap: &Heap, dev: Oid, steps: &mut Steps<L>) -> Option<u64>
     requires { IsLive heap.now.rows dev }
-    ensures { (b : Board) → Shows b heap.now → result ≡ place_on b dev.birth }
+    ensures { (b : Board) → Shows b heap.now → result ≡ bus_slot_of b dev.birth }
 {
     number_at(heap, dev, "slot", steps)
 }

@@ -20,7 +20,7 @@ use qo_values::TypeId;
 use std::alloc::AllocError;
 use std::sync::ledger::Ledger;
 
-/// Adds the strong link of a bus to a device that joins it, under a name (of `kid_name`), behind its
+/// Adds the strong link of a bus to a device that joins it, under a name (of `kid_name`), after its
 /// slots. The error is want of memory, or that the bus has a slot of that name; it leaves the heap as
 /// it was.
 pub fn join_bus<L: Ledger>(

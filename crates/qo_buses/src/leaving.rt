@@ -2,9 +2,9 @@
 
 ghost use Rattle.std.specs.Prelude.{◌≡◌, true, Some, IfSome, option_map};
 ghost use Rattle.qo_model.specs.Board.{Board};
-ghost use Rattle.qo_model.specs.Objects.{place_from};
-ghost use Rattle.qo_model.specs.Unplug.{is_bus_slot, is_child_slot, is_named, left_bus, left_parent, let_go_where, names_kid, take_slot, take_where};
-ghost use Rattle.qo_object.specs.Shown.{shown_slot, shown_slots};
+ghost use Rattle.qo_model.specs.Objects.{index_from};
+ghost use Rattle.qo_model.specs.Unplug.{is_bus_child, is_child_slot, is_named, left_bus, left_parent, let_go_where, names_kid, take_slot, take_where};
+ghost use Rattle.qo_object.specs.BoardObject.{shown_slot, shown_slots};
 ghost use Rattle.qo_object.specs.Slots.{is_strong, slot_in};
 ghost use Rattle.qo_table.specs.Rows.{IsLive};
 ghost use Rattle.qo_heap.specs.Board.{Shows};
@@ -31,7 +31,7 @@ fn links_to(name: &str, what: &Slot, birth: u64) -> bool
 /// The place of the first strong link of an object to that of a birth; `None` where it has none.
 fn place_linked<L: Ledger>(heap: &Heap, o: Oid, birth: u64, steps: &mut Steps<L>) -> Option<usize>
     requires { IsLive heap.now.rows o }
-    ensures place { result ≡ place_from (names_kid birth) 0 (shown_slots (slots_of heap.now o.birth)) }
+    ensures place { result ≡ index_from (names_kid birth) 0 (shown_slots (slots_of heap.now o.birth)) }
     ensures strong { IfSome result (λ at. option_map is_strong (slot_in (slots_of heap.now o.birth) at) ≡ Some true) }
 {
     let mut at = 0;
@@ -44,7 +44,7 @@ fn place_linked<L: Ledger>(heap: &Heap, o: Oid, birth: u64, steps: &mut Steps<L>
     None
 }
 
-/// Lets the strong link of an object at a place go and removes it, and finalises what it held where
+/// Lets the strong link of an object at a place go and removes it, and finalizes what it held where
 /// nothing refers to that any more.
 fn take_link<L: Ledger>(heap: &mut Heap, o: Oid, at: usize, steps: &mut Steps<L>)
     requires live { IsLive heap.old.rows o }
@@ -82,7 +82,7 @@ fn let_go_named<L: Ledger>(heap: &mut Heap, birth: u64, name: &str, steps: &mut 
 }
 
 /// A device leaves its bus: the link of the bus to it is let go and removed, and then its own link to
-/// the bus is let go; what nothing refers to any more is finalised. A device that is on no bus stays.
+/// the bus is let go; what nothing refers to any more is finalized. A device that is on no bus stays.
 pub fn leave<L: Ledger>(heap: &mut Heap, dev: Oid, steps: &mut Steps<L>)
     requires { IsLive heap.old.rows dev }
     ensures release { (b : Board) → Shows b heap.old → Shows (left_bus dev.birth b) heap.new }
@@ -111,7 +111,7 @@ fn let_go_child<L: Ledger>(heap: &mut Heap, birth: u64, child: u64, steps: &mut 
 }
 
 /// A device leaves the container of devices that it is in: the child slot is let go, and what nothing
-/// refers to any more is finalised. A device that is in none stays.
+/// refers to any more is finalized. A device that is in none stays.
 pub fn leave_parent<L: Ledger>(heap: &mut Heap, dev: Oid, steps: &mut Steps<L>)
     ensures release { (b : Board) → Shows b heap.old → Shows (left_parent dev.birth b) heap.new }
     ensures goes { Goes (left_parent dev.birth) heap.old heap.new }
@@ -122,8 +122,8 @@ pub fn leave_parent<L: Ledger>(heap: &mut Heap, dev: Oid, steps: &mut Steps<L>)
 }
 
 /// Whether a slot has the object of a birth as a child, and is not the clock's.
-fn is_bus_slot(name: &str, what: &Slot, birth: u64) -> bool
-    ensures { result ≡ is_bus_slot birth (name.now, shown_slot what.now) }
+fn is_bus_child(name: &str, what: &Slot, birth: u64) -> bool
+    ensures { result ≡ is_bus_child birth (name.now, shown_slot what.now) }
 {
     match what {
         Slot::Child(child) => child.birth == birth && name != "clk",
@@ -134,11 +134,11 @@ fn is_bus_slot(name: &str, what: &Slot, birth: u64) -> bool
 /// The place of the slot of a bus of an object; `None` where it has none.
 fn place_of_bus<L: Ledger>(heap: &Heap, o: Oid, birth: u64, steps: &mut Steps<L>) -> Option<usize>
     requires { IsLive heap.now.rows o }
-    ensures { result ≡ place_from (is_bus_slot birth) 0 (shown_slots (slots_of heap.now o.birth)) }
+    ensures { result ≡ index_from (is_bus_child birth) 0 (shown_slots (slots_of heap.now o.birth)) }
 {
     let mut at = 0;
     while let Some(view) = heap.slot_at(o, at, steps) {
-        if is_bus_slot(view.name, view.what, birth) {
+        if is_bus_child(view.name, view.what, birth) {
             return Some(at);
         }
         at += 1;
@@ -146,11 +146,11 @@ fn place_of_bus<L: Ledger>(heap: &Heap, o: Oid, birth: u64, steps: &mut Steps<L>
     None
 }
 
-/// Lets the bus of a birth of a device go, and finalises it where nothing refers to it any more; where
+/// Lets the bus of a birth of a device go, and finalizes it where nothing refers to it any more; where
 /// the device has no such bus, all stays.
 pub fn let_go_bus<L: Ledger>(heap: &mut Heap, dev: Oid, bus: u64, steps: &mut Steps<L>)
     requires { IsLive heap.old.rows dev }
-    ensures goes { Goes (let_go_where (is_bus_slot bus) dev.birth) heap.old heap.new }
+    ensures goes { Goes (let_go_where (is_bus_child bus) dev.birth) heap.old heap.new }
     ensures names { KeepsNames heap.old heap.new }
 {
     if let Some(at) = place_of_bus(heap, dev, bus, steps) {

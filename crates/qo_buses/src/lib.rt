@@ -14,7 +14,7 @@ mod writing;
 
 pub use addresses::by_address;
 pub use buses::{bridge_of, bus_above, bus_in_slot, depth, first_bus, is_going};
-pub use devices::{bus_of, clock_of, device_named, is_of, is_realized, place_on};
+pub use devices::{bus_of, bus_slot_of, clock_of, device_named, is_of, is_realized};
 pub use joining::{join_bus, point_bus};
 pub use kids::{first_kid, has_kid_slot, kid_at, kid_in_slot, least_free};
 pub use leaving::{leave, leave_parent, let_go_bus};

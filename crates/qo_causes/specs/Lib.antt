@@ -2,5 +2,5 @@ pub mod Bytes
 pub mod Cause
 pub mod Edge
 pub mod Hub
-pub mod InMemory
+pub mod MemoryStreams
 pub mod Script

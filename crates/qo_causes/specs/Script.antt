@@ -2,7 +2,7 @@
 use Rattle.std.specs.Prelude.{ℕ, ◌+◌, ◌&&◌, ◌||◌, nat_le, nat_lt, Bool, if◌then◌else◌, List, [], ◌∷◌, ◌++◌, length, replicate, slice_index_or, slice_set, is_some, Option, Some, None, Result, Ok, Err}
 use Rattle.qo_causes.specs.Cause.{counted, fault}
 use Rattle.qo_causes.specs.Hub.{is_end}
-use Rattle.qo_causes.specs.InMemory.{faults_after, is_listed}
+use Rattle.qo_causes.specs.MemoryStreams.{faults_after, is_listed}
 use Rattle.qo_causes.specs.declared.faults.Failed.{Failed}
 use Rattle.qo_causes.specs.declared.hubs.Lane.{Lane}
 use Rattle.qo_causes.specs.declared.hubs.Lane.TheVariants.{Session, Guest}
@@ -71,10 +71,10 @@ abbrev pub first_input : List Input → Input
 first_input [] = record { at = record { seconds = 0; micros = 0 }; what = End }
 first_input (i ∷ inputs) = i
 
--- the inputs behind the first; nothing is behind an end
-abbrev pub behind_first : List Input → List Input
-behind_first [] = []
-behind_first (i ∷ inputs) = if is_end i.what then [] else inputs
+-- the inputs after the first; nothing is after an end
+abbrev pub after_first : List Input → List Input
+after_first [] = []
+after_first (i ∷ inputs) = if is_end i.what then [] else inputs
 
 -- what `next` answers, and the hub after it
 abbrev pub next_fails : ScriptState → Bool
@@ -86,7 +86,7 @@ next_answer s = if next_fails s then Err NextFailed else Ok (first_input s.input
 abbrev pub after_next : ScriptState → ScriptState
 after_next s =
     record s {
-      inputs = if next_fails s then s.inputs else behind_first s.inputs;
+      inputs = if next_fails s then s.inputs else after_first s.inputs;
       next_calls = counted s.next_calls;
       next_faults = faults_after (next_fails s) s.next_faults;
     }

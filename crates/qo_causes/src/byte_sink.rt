@@ -2,7 +2,7 @@
 ghost use Rattle.std.specs.Prelude.{◌≡◌, ◌≤◌, [], length, IfOk, Some};
 ghost use Rattle.qo_causes.specs.Bytes.{Puts};
 ghost use Rattle.qo_causes.specs.Cause.{HasCause, PutQuiet, StuckRose};
-ghost use Rattle.qo_causes.specs.InMemory.{after_put, put_answer};
+ghost use Rattle.qo_causes.specs.MemoryStreams.{after_put, put_answer};
 
 use crate::faults::Failed;
 use crate::sinks::Sink;
@@ -24,7 +24,7 @@ pub struct ByteSink {
 
 impl Model for ByteSink {
     ghost use Rattle.std.specs.Prelude.{◌≤◌, length, vec_capacity};
-    ghost use Rattle.qo_causes.specs.InMemory.{SinkState};
+    ghost use Rattle.qo_causes.specs.MemoryStreams.{SinkState};
 
     ghost Value = { SinkState };
 

@@ -2,7 +2,7 @@
 ghost use Rattle.std.specs.Prelude.{◌≡◌, ◌≤◌, ◌++◌, length, take, drop, IfOk, OnErr, OnOk, Some};
 ghost use Rattle.qo_causes.specs.Bytes.{Takes};
 ghost use Rattle.qo_causes.specs.Cause.{HasCause};
-ghost use Rattle.qo_causes.specs.InMemory.{after_take, take_answer};
+ghost use Rattle.qo_causes.specs.MemoryStreams.{after_take, take_answer};
 
 use crate::faults::Failed;
 use crate::sources::Source;
@@ -24,7 +24,7 @@ pub struct ByteSource {
 
 impl Model for ByteSource {
     ghost use Rattle.std.specs.Prelude.{◌≤◌, length, drop};
-    ghost use Rattle.qo_causes.specs.InMemory.{SourceState};
+    ghost use Rattle.qo_causes.specs.MemoryStreams.{SourceState};
 
     ghost Value = { SourceState };
 

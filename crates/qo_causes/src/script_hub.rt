@@ -2,7 +2,7 @@
 ghost use Rattle.std.specs.Prelude.{◌≡◌, ◌≤◌, ◌<◌, ℕ, None, Some, Err, IfOk, if◌then◌else◌, option_map, replicate, slice_index_or};
 ghost use Rattle.qo_causes.specs.Cause.{HasCause, counted};
 ghost use Rattle.qo_causes.specs.Hub.{Loses, is_gone};
-ghost use Rattle.qo_causes.specs.Script.{after_begin, after_next, after_send, before_end, begin_answer, behind_first, empty_shelf, first_input, has_room, next_answer, script_of, send_answer, shelf_of, with_added, with_fault, with_loss};
+ghost use Rattle.qo_causes.specs.Script.{after_begin, after_next, after_send, before_end, begin_answer, after_first, empty_shelf, first_input, has_room, next_answer, script_of, send_answer, shelf_of, with_added, with_fault, with_loss};
 
 use crate::faults::Failed;
 use crate::hubs::{Hub, Lane, NextError, SendError};
@@ -95,7 +95,7 @@ fn the_end() -> Input
 /// Takes the first input, or the end where none is left. Nothing is left behind an end.
 fn take_first(inputs: &mut VecDeque<Input>) -> Input
     ensures first { result ≡ first_input inputs.old.items }
-    ensures left { inputs.new.items ≡ behind_first inputs.old.items }
+    ensures left { inputs.new.items ≡ after_first inputs.old.items }
 {
     let Some(input) = inputs.pop_front() else {
         return the_end();
@@ -240,7 +240,7 @@ impl Hub for ScriptHub {
         Ok(())
     }
 
-    /// Gives the first input that is left, and where none is left the end, with the moment 0.000000. Behind an
+    /// Gives the first input that is left, and where none is left the end, with the moment 0.000000. After an
     /// end among the inputs nothing is left. It fails exactly where its number is listed. It takes no memory.
     fn next(&mut self) -> Result<Input, NextError>
         ensures next_count { self.old.next_faults ≤ self.new.next_faults }

@@ -4,12 +4,14 @@ use Rattle.std.proofs.lemmas.Bool.{cases_lt}
 use Rattle.qo_values.specs.Placing.{least}
 
 -- one that passes, and below which none does, is the least
-pub least-found : (test : ℕ → Bool) (first more at : ℕ) → first ≤ at → at < first + more → test at ≡ true → ((lower : ℕ) → first ≤ lower → lower < at → test lower ≡ false) → least test first more ≡ Some at
+pub least-found : (test : ℕ → Bool) (first more at : ℕ) → first ≤ at → at < first + more → test at ≡ true
+    → ((lower : ℕ) → first ≤ lower → lower < at → test lower ≡ false) → least test first more ≡ Some at
 unfolding least
 least-found test first zero at from below passes lower = absurd (omega arith)
 least-found test first (suc more) at from below passes lower =
     ⊎_elim
-    (λ past. rw (lower first (omega arith) past) (least-found test (first + 1) more at (omega arith) (omega arith) passes (λ n from' below'. lower n (omega arith) below')))
+    (λ past. rw (lower first (omega arith) past)
+    (least-found test (first + 1) more at (omega arith) (omega arith) passes (λ n from' below'. lower n (omega arith) below')))
     (λ up. let same : first ≡ at = omega arith in rw same (rw passes refl))
     (cases_lt first at)
 
@@ -26,7 +28,8 @@ unfolding least
 least-passes test first zero at found = cc
 least-passes test first (suc more) at found = by (test first) refl found (least-passes test (first + 1) more at)
   where
-    by : (b : Bool) → test first ≡ b → (if b then Some first else least test (first + 1) more) ≡ Some at → (least test (first + 1) more ≡ Some at → test at ≡ true) → test at ≡ true
+    by : (b : Bool) → test first ≡ b
+        → (if b then Some first else least test (first + 1) more) ≡ Some at → (least test (first + 1) more ≡ Some at → test at ≡ true) → test at ≡ true
     by true is same later = let here : first ≡ at = cc in rw (← here) is
     by false is same later = later same
 

@@ -1,5 +1,5 @@
-pub mod Back
-pub mod Laid
+pub mod ReturnedClaims
+pub mod DisjointRanges
 pub mod LeastLemmas
 pub mod Multiples
 pub mod SetLemmas

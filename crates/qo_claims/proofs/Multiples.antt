@@ -41,6 +41,7 @@ least-multiple from align at lower some next above exact = ⊎_elim less (λ mos
 
     less : lower < at → at ≤ lower
     less low =
-        let quotients : lower / align < at / align = ⊎_elim (λ more. more) (λ most. let at-most = overtaken most in absurd (omega arith)) (cases_lt (lower / align) (at / align)) in
+        let quotients : lower / align < at / align = ⊎_elim (λ more. more) (λ most. let at-most = overtaken most in
+        absurd (omega arith)) (cases_lt (lower / align) (at / align)) in
         let apart : (lower / align + 1) * align ≤ at / align * align = mul-le-mul_right align (omega arith) in
         absurd (omega (arith, next.below, next.multiple, div-add-mod' lower align, div-add-mod' at align))

@@ -18,6 +18,7 @@ module _ {A B : Type 0} (f : A → B) (test : B → Bool) where
   remove_key-map [] = refl
   remove_key-map (x ∷ xs) = by (test (f x)) (remove_key-map xs)
     where
-      by : (b : Bool) → remove_key test (map f xs) ≡ map f (remove_key (λ y. test (f y)) xs) → cond b (map f xs) (f x ∷ remove_key test (map f xs)) ≡ map f (cond b xs (x ∷ remove_key (λ y. test (f y)) xs))
+      by : (b : Bool) → remove_key test (map f xs) ≡ map f (remove_key (λ y. test (f y)) xs)
+          → cond b (map f xs) (f x ∷ remove_key test (map f xs)) ≡ map f (cond b xs (x ∷ remove_key (λ y. test (f y)) xs))
       by true rest = refl
       by false rest = ap (λ ys. f x ∷ ys) rest

@@ -5,7 +5,7 @@ use Rattle.std.proofs.lemmas.Bool.{cases_lt}
 use Rattle.std.proofs.Math.Seq.{drop-cons}
 use Rattle.std.proofs.Math.ListN.{drop_of_length-le}
 use Rattle.qo_values.specs.declared.ranges.Range.{Range}
-use Rattle.qo_values.specs.Placing.{window_start, window_size, window_end, is_in_window, range_at, overlap, overlaps_any, LieApartFrom, LieApart, fits_at, place_of}
+use Rattle.qo_values.specs.Placing.{window_start, window_size, window_end, is_in_window, range_at, overlap, overlaps_any, LieApartFrom, LieApart, fits_at, free_address}
 use Rattle.qo_claims.specs.Gaps.{IsFirstFit}
 use Rattle.qo_claims.proofs.LeastLemmas.{least-found, least-none}
 
@@ -13,7 +13,7 @@ use Rattle.qo_claims.proofs.LeastLemmas.{least-found, least-none}
 pub record Searched (all left : List Range) (size align from : ℕ) : Type 0 where
   pub start : window_start ≤ from
   pub apart : LieApartFrom from left
-  pub behind : (at : ℕ) → from ≤ at → overlaps_any (range_at at size) all ≡ overlaps_any (range_at at size) left
+  pub after : (at : ℕ) → from ≤ at → overlaps_any (range_at at size) all ≡ overlaps_any (range_at at size) left
   pub below : (at : ℕ) → at < from → fits_at all size align at ≡ false
 
 -- a window that ranges from an address on lie in ends no earlier
@@ -34,47 +34,52 @@ pub searched-none : (all : List Range) (size align : ℕ) → LieApart all → S
 searched-none all size align apart = record {
   start = omega arith;
   apart = apart;
-  behind = λ at from. refl;
+  after = λ at from. refl;
   below = λ at short. grind (arith, nat_tests);
 }
 
 -- no lower multiple from that address on, so nothing lower fits
-pub unfit-below : (all left : List Range) (size align from at lower : ℕ) → Searched all left size align from → ((n : ℕ) → from ≤ n → n % align ≡ 0 → at ≤ n) → lower < at → fits_at all size align lower ≡ false
+pub unfit-below : (all left : List Range) (size align from at lower : ℕ) → Searched all left size align from → ((n : ℕ) → from ≤ n → n % align ≡ 0 → at ≤ n)
+    → lower < at → fits_at all size align lower ≡ false
 unfit-below all left size align from at lower searched least low = ⊎_elim (λ below. searched.below lower below) from-there (cases_lt lower from)
   where
     from-there : from ≤ lower → fits_at all size align lower ≡ false
-    from-there above = ⊎_elim (λ more. grind (arith, nat_tests)) (λ none. let at-most = least lower above (omega arith) in absurd (omega arith)) (cases_lt 0 (lower % align))
+    from-there above =
+        ⊎_elim (λ more. grind (arith, nat_tests)) (λ none. let at-most = least lower above (omega arith) in absurd (omega arith)) (cases_lt 0 (lower % align))
 
 -- nothing fits where a range is in the way
 pub overlapping-unfit : (all : List Range) (size align at : ℕ) → overlaps_any (range_at at size) all ≡ true → fits_at all size align at ≡ false
 overlapping-unfit all size align at any = rw any (grind (arith, nat_tests))
 
 -- past a range before which nothing fits
-pub searched-more : (all left : List Range) (r : Range) (size align from : ℕ) → Searched all (r ∷ left) size align from → IsFirstFit from r.at size align None → Searched all left size align (r.at + r.size)
+pub searched-more : (all left : List Range) (r : Range) (size align from : ℕ) → Searched all (r ∷ left) size align from → IsFirstFit from r.at size align None
+    → Searched all left size align (r.at + r.size)
 searched-more all left r size align from searched none = record {
   start = omega (arith, searched.start, searched.apart.0);
   apart = searched.apart.1;
-  behind = λ at past.
+  after = λ at past.
       let outside : overlap (range_at at size) r ≡ false = grind (arith, nat_tests) in
-      rw (searched.behind at (omega (arith, searched.apart.0)), outside) refl;
+      rw (searched.after at (omega (arith, searched.apart.0)), outside) refl;
   below = λ at short. ⊎_elim (λ low. searched.below at low) (high at short) (cases_lt at from);
 }
   where
     hit : (at : ℕ) → at < r.at + r.size → from ≤ at → r.at < at + size → fits_at all size align at ≡ false
     hit at short above beyond =
         let over : overlap (range_at at size) r ≡ true = grind (arith, nat_tests) in
-        let any : overlaps_any (range_at at size) all ≡ true = rw (searched.behind at above) (rw over refl) in
+        let any : overlaps_any (range_at at size) all ≡ true = rw (searched.after at above) (rw over refl) in
         overlapping-unfit all size align at any
 
     high : (at : ℕ) → at < r.at + r.size → from ≤ at → fits_at all size align at ≡ false
     high at short above = ⊎_elim (λ more. grind (arith, nat_tests)) (λ none'. hit at short above (none at above (omega arith))) (cases_lt 0 (at % align))
 
 -- an address where it fits is a multiple, in the window and beside all ranges; and the other way round
-pub fits-at : (all : List Range) (size align at : ℕ) → at % align ≡ 0 → window_start ≤ at → at + size ≤ window_end → overlaps_any (range_at at size) all ≡ false → fits_at all size align at ≡ true
+pub fits-at : (all : List Range) (size align at : ℕ) → at % align ≡ 0 → window_start ≤ at → at + size ≤ window_end → overlaps_any (range_at at size) all ≡ false
+    → fits_at all size align at ≡ true
 fits-at all size align at multiple above below free = rw (multiple, free) (grind (arith, nat_tests))
 
 -- what fits before the next range is the place
-pub searched-found : (all left : List Range) (r : Range) (size align from at : ℕ) → 1 ≤ size → Searched all (r ∷ left) size align from → IsFirstFit from r.at size align (Some at) → place_of all size align ≡ Some at
+pub searched-found : (all left : List Range) (r : Range) (size align from at : ℕ) → 1 ≤ size → Searched all (r ∷ left) size align from
+    → IsFirstFit from r.at size align (Some at) → free_address all size align ≡ Some at
 searched-found all left r size align from at some searched first =
     let later = apart-end (r.at + r.size) left searched.apart.1 in
     let rest = before-apart (r.at + r.size) left (range_at at size) searched.apart.1 (omega (arith, first.2)) in
@@ -83,19 +88,21 @@ searched-found all left r size align from at some searched first =
     least-found (fits_at all size align) window_start window_size at
     (omega (arith, searched.start, first.0))
     (omega (arith, first.2))
-    (fits-at all size align at first.1 (omega (arith, searched.start, first.0)) (omega (arith, first.2)) (rw (searched.behind at first.0) free))
+    (fits-at all size align at first.1 (omega (arith, searched.start, first.0)) (omega (arith, first.2)) (rw (searched.after at first.0) free))
     (λ lower above low. unfit-below all (r ∷ left) size align from at lower searched first.3 low)
 
--- behind the last range, what fits before the window's end is the place
-pub searched-last : (all : List Range) (size align from : ℕ) (found : Option ℕ) → 1 ≤ size → Searched all [] size align from → IsFirstFit from window_end size align found → place_of all size align ≡ found
+-- after the last range, what fits before the window's end is the place
+pub searched-last : (all : List Range) (size align from : ℕ) (found : Option ℕ) → 1 ≤ size → Searched all [] size align from
+    → IsFirstFit from window_end size align found → free_address all size align ≡ found
 searched-last all size align from None some searched first =
     least-none (fits_at all size align) window_start window_size (λ at above below.
-    ⊎_elim (λ low. searched.below at low) (λ high. ⊎_elim (λ more. grind (arith, nat_tests)) (λ none. let past = first at high (omega arith) in grind (arith, nat_tests)) (cases_lt 0 (at % align))) (cases_lt at from))
+    ⊎_elim (λ low. searched.below at low) (λ high. ⊎_elim (λ more. grind (arith, nat_tests)) (λ none. let past = first at high (omega arith) in
+    grind (arith, nat_tests)) (cases_lt 0 (at % align))) (cases_lt at from))
 searched-last all size align from (Some at) some searched first =
     least-found (fits_at all size align) window_start window_size at
     (omega (arith, searched.start, first.0))
     (omega (arith, first.2))
-    (fits-at all size align at first.1 (omega (arith, searched.start, first.0)) first.2 (searched.behind at first.0))
+    (fits-at all size align at first.1 (omega (arith, searched.start, first.0)) first.2 (searched.after at first.0))
     (λ lower above low. unfit-below all [] size align from at lower searched first.3 low)
 
 -- a range's end is within the window's
@@ -103,15 +110,17 @@ pub next-end : (all left : List Range) (r : Range) (size align from : ℕ) → S
 next-end all left r size align from searched = apart-end (r.at + r.size) left searched.apart.1
 
 -- the next of the ranges that are left
-pub searched-next : (all : List Range) (i size align from : ℕ) (default : Range) → i < length all → Searched all (drop i all) size align from → Searched all (get_or all i default ∷ drop (suc i) all) size align from
+pub searched-next : (all : List Range) (i size align from : ℕ) (default : Range) → i < length all → Searched all (drop i all) size align from
+    → Searched all (get_or all i default ∷ drop (suc i) all) size align from
 searched-next all i size align from default within searched = rw (← drop-cons all i default within) searched
 
--- behind the last range none is left
+-- after the last range none is left
 pub searched-all : (all : List Range) (i size align from : ℕ) → length all ≤ i → Searched all (drop i all) size align from → Searched all [] size align from
 searched-all all i size align from past searched = rw (drop_of_length-le all past) at searched
 
 -- what fits lies in the window and overlaps none
-pub fits-free : (all : List Range) (size align at : ℕ) → fits_at all size align at ≡ true → (is_in_window (range_at at size) ≡ true) × (overlaps_any (range_at at size) all ≡ false)
+pub fits-free : (all : List Range) (size align at : ℕ) → fits_at all size align at ≡ true
+    → (is_in_window (range_at at size) ≡ true) × (overlaps_any (range_at at size) all ≡ false)
 fits-free all size align at fits = by (eqb (at % align) 0) (is_in_window (range_at at size)) (overlaps_any (range_at at size) all) fits
   where
     by : (a b c : Bool) → (a && b && not c) ≡ true → (b ≡ true) × (c ≡ false)

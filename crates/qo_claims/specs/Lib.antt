@@ -1,5 +1,5 @@
 pub mod Answers
 pub mod Gaps
-pub mod Held
+pub mod Book
 pub mod Laws
 pub mod Lists

@@ -48,18 +48,18 @@ impl Births {
         Ok(())
     }
 
-    /// Claims a birth; `Held` where it is held. An error claims nothing.
+    /// Claims a birth; `Taken` where it is taken. An error claims nothing.
     pub fn take(&mut self, birth: u64) -> Result<u64, ClaimError>
         ensures { Took (birth_answer birth self.old) (λ birth. self.old ++ birth ∷ []) self.old self.new result }
     {
         if self.has(birth) {
-            return Err(ClaimError::Held);
+            return Err(ClaimError::Taken);
         }
         self.add(birth)?;
         Ok(birth)
     }
 
-    /// Ends the claim on a birth, where it is held. It takes no memory.
+    /// Ends the claim on a birth, where it is taken. It takes no memory.
     pub fn give_back(&mut self, birth: u64)
         ensures { self.new ≡ without_birth birth self.old }
     {

@@ -1,7 +1,7 @@
 //! Claims, and the book of them.
 
 ghost use Rattle.std.specs.Prelude.{◌≡◌};
-ghost use Rattle.qo_claims.specs.Held.{at_of};
+ghost use Rattle.qo_claims.specs.Book.{at_of};
 
 use crate::births::Births;
 use crate::errors::ClaimError;
@@ -77,9 +77,9 @@ impl Model for Kept {
 }
 
 impl Model for Claims {
-    ghost use Rattle.qo_claims.specs.Held.{Held};
+    ghost use Rattle.qo_claims.specs.Book.{ClaimsTaken};
 
-    ghost Value = { Held };
+    ghost Value = { ClaimsTaken };
 
     ghost view = { λ c. record {
       devices = c.devices;
@@ -111,7 +111,7 @@ pub fn keep(claim: Claim) -> Kept
 }
 
 impl Claim {
-    ghost use Rattle.qo_claims.specs.Held.{at_of};
+    ghost use Rattle.qo_claims.specs.Book.{at_of};
 
     /// The slot or the address that is claimed, and 0 for any other claim. It takes no memory.
     pub fn at(&self) -> u64
@@ -122,7 +122,7 @@ impl Claim {
 }
 
 impl Kept {
-    ghost use Rattle.qo_claims.specs.Held.{at_of, size_of};
+    ghost use Rattle.qo_claims.specs.Book.{at_of, size_of};
 
     /// The slot or the address that is claimed, and 0 for any other claim. It takes no memory.
     pub fn at(&self) -> u64
@@ -147,11 +147,11 @@ impl Claims {
     ghost use Rattle.qo_claims.specs.declared.claims.Claimed.TheVariants as on;
     ghost use Rattle.qo_claims.specs.Answers.{Took, on_whole};
     ghost use Rattle.qo_claims.specs.Lists.{id_answer, birth_answer, slot_answer, range_answer};
-    ghost use Rattle.qo_claims.specs.Held.{nothing_held, ids_of, id_claim, with_claim, without_claim};
+    ghost use Rattle.qo_claims.specs.Book.{nothing_taken, ids_of, id_claim, with_claim, without_claim};
 
     /// A book in which nothing is held. It takes memory only by the calls `take_..`.
     pub fn new(alloc: Global) -> Claims
-        ensures { result ≡ nothing_held }
+        ensures { result ≡ nothing_taken }
     {
         Claims {
             devices: Ids::new(alloc),
@@ -163,7 +163,7 @@ impl Claims {
         }
     }
 
-    /// Claims an id in a space; `Held` exactly where it is held. An error leaves all as it was.
+    /// Claims an id in a space; `Taken` exactly where it is taken. An error leaves all as it was.
     pub fn take_id(&mut self, space: Space, id: &Id) -> Result<Claim, ClaimError>
         ensures { Took (on_whole (id_claim space) (id_answer id.now (ids_of space self.old))) (λ claim. with_claim claim self.old) self.old self.new result }
     {
@@ -175,7 +175,7 @@ impl Claims {
     }
 
     /// Claims a slot of a bus: the named one, or the least that is free. `Range` exactly where the
-    /// named one is not below `BUS_SLOTS`, `Held` exactly where it is held, `Full` exactly where none
+    /// named one is not below `BUS_SLOTS`, `Taken` exactly where it is taken, `Full` exactly where none
     /// is named and all are held. An error leaves all as it was.
     pub fn take_slot(&mut self, bus: u64, slot: Option<u8>) -> Result<Claim, ClaimError>
         ensures { Took (on_whole on.Slot (slot_answer bus slot self.old.slots)) (λ claim. with_claim claim self.old) self.old self.new result }
@@ -186,7 +186,7 @@ impl Claims {
         })
     }
 
-    /// Claims the ring of an id; `Held` exactly where it is held. An error leaves all as it was.
+    /// Claims the ring of an id; `Taken` exactly where it is taken. An error leaves all as it was.
     pub fn take_ring(&mut self, id: &Id) -> Result<Claim, ClaimError>
         ensures { Took (on_whole on.Ring (id_answer id.now self.old.rings)) (λ claim. with_claim claim self.old) self.old self.new result }
     {
@@ -196,7 +196,7 @@ impl Claims {
         })
     }
 
-    /// Claims the memory backend of a birth; `Held` exactly where it is held. An error leaves all as
+    /// Claims the memory backend of a birth; `Taken` exactly where it is taken. An error leaves all as
     /// it was.
     pub fn take_backend(&mut self, birth: u64) -> Result<Claim, ClaimError>
         ensures { Took (on_whole on.Backend (birth_answer birth self.old.backends)) (λ claim. with_claim claim self.old) self.old self.new result }
@@ -208,7 +208,7 @@ impl Claims {
     }
 
     /// Claims a range of `size` bytes: at the named address, or at its place, a multiple of `DIMM_ALIGN`.
-    /// `Range` exactly where the named one leaves the window, `Held` exactly where it overlaps one
+    /// `Range` exactly where the named one leaves the window, `Taken` exactly where it overlaps one
     /// that is held, `Full` exactly where none is named and there is no place. An error leaves all as
     /// it was.
     pub fn take_range(&mut self, at: Option<u64>, size: u64) -> Result<Claim, ClaimError>
@@ -221,7 +221,7 @@ impl Claims {
         })
     }
 
-    /// Ends a claim, where it is held. It takes no memory.
+    /// Ends a claim, where it is taken. It takes no memory.
     pub fn give_back(&mut self, claim: Claim)
         ensures { self.new ≡ without_claim claim self.old }
     {
@@ -229,7 +229,7 @@ impl Claims {
         self.end(what);
     }
 
-    /// Ends a kept claim, where it is held. It takes no memory.
+    /// Ends a kept claim, where it is taken. It takes no memory.
     pub fn free(&mut self, kept: Kept)
         ensures { self.new ≡ without_claim kept self.old }
     {

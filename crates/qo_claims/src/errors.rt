@@ -11,7 +11,7 @@ pub enum ClaimError {
     Range,
     /// It is held already; of a range, that one held overlaps it.
     #[error("held already")]
-    Held,
+    Taken,
     /// All slots of the bus are held, or no gap in the window is large enough.
     #[error("nothing free")]
     Full,

@@ -49,12 +49,12 @@ impl Ids {
         Ok(())
     }
 
-    /// Claims an id; `Held` where it is held. An error claims nothing.
+    /// Claims an id; `Taken` where it is taken. An error claims nothing.
     pub fn take(&mut self, id: &str) -> Result<Text, ClaimError>
         ensures { Took (id_answer id.now self.old) (λ id. self.old ++ id ∷ []) self.old self.new result }
     {
         if self.has(id) {
-            return Err(ClaimError::Held);
+            return Err(ClaimError::Taken);
         }
         let alloc = *self.set.allocator();
         let claimed = Text::from_string(String::from_str(alloc, id)?);
@@ -62,7 +62,7 @@ impl Ids {
         Ok(claimed)
     }
 
-    /// Ends the claim on an id, where it is held. It takes no memory.
+    /// Ends the claim on an id, where it is taken. It takes no memory.
     pub fn give_back(&mut self, id: &str)
         ensures { self.new ≡ without_id id.now self.old }
     {

@@ -1,7 +1,7 @@
 //! The place of a range that names no address.
 
 ghost use Rattle.std.specs.Prelude.{◌≡◌, ◌≤◌};
-ghost use Rattle.qo_values.specs.Placing.{LieApart, place_of};
+ghost use Rattle.qo_values.specs.Placing.{LieApart, free_address};
 ghost use Rattle.qo_claims.specs.Gaps.{IsFirstFit};
 
 use qo_values::Range;
@@ -9,7 +9,7 @@ use qo_values::Range;
 /// The first address of the window.
 pub const WINDOW_START: u64 = 0x1_0000_0000;
 
-/// The first address behind the window.
+/// The first address after the window.
 pub const WINDOW_END: u64 = 0x11_0000_0000;
 
 /// The least multiple of `align` from `from` on at which `size` bytes end by `end`.
@@ -32,7 +32,7 @@ pub fn place(ranges: &[Range], size: u64, align: u64) -> Option<u64>
     requires apart { LieApart ranges.now }
     requires some { 1 ≤ size }
     requires aligned { 1 ≤ align }
-    ensures { result ≡ place_of ranges.now size align }
+    ensures { result ≡ free_address ranges.now size align }
 {
     let mut from = WINDOW_START;
     for range in ranges {

@@ -29,7 +29,7 @@ impl Model for Ranges {
     ghost invariant = { λ r. LieApart r.list.items };
 }
 
-/// The first number behind a range, which may be past the last address.
+/// The first number after a range, which may be past the last address.
 pub fn end(range: Range) -> u128
     ensures { result ≡ range.at + range.size }
 {
@@ -43,19 +43,19 @@ pub fn overlap(first: Range, second: Range) -> bool
     u128::from(first.at) < end(second) && u128::from(second.at) < end(first)
 }
 
-/// The index of the first range behind an address, where there is one.
-fn first_behind(ranges: &[Range], at: u64) -> Option<usize>
+/// The index of the first range after an address, where there is one.
+fn first_after(ranges: &[Range], at: u64) -> Option<usize>
     ensures { result ≡ position (λ held. nat_lt at held.at) ranges.now }
 {
     ranges.iter().position(|held| at < held.at)
 }
 
 /// The index at which a range of an address goes.
-fn index_behind(ranges: &[Range], at: u64) -> usize
+fn index_after(ranges: &[Range], at: u64) -> usize
     ensures index { result ≡ position_or_len (λ held. nat_lt at held.at) ranges.now }
     ensures within { result ≤ length ranges.now }
 {
-    first_behind(ranges, at).unwrap_or(ranges.len())
+    first_after(ranges, at).unwrap_or(ranges.len())
 }
 
 /// The index of a range, where it is there.
@@ -105,7 +105,7 @@ impl Ranges {
             return Err(ClaimError::Range);
         }
         if self.overlaps_any(named) {
-            return Err(ClaimError::Held);
+            return Err(ClaimError::Taken);
         }
         Ok(named)
     }
@@ -118,7 +118,7 @@ impl Ranges {
         ensures added { OnOk result (self.new ≡ with_range range self.old) }
         ensures err { OnErr result (self.new ≡ self.old) }
     {
-        let index = index_behind(&self.list, range.at);
+        let index = index_after(&self.list, range.at);
         self.list.insert(index, range)?;
         Ok(())
     }
@@ -133,7 +133,7 @@ impl Ranges {
         Ok(chosen)
     }
 
-    /// Ends the claim on a range, where it is held. It takes no memory.
+    /// Ends the claim on a range, where it is taken. It takes no memory.
     pub fn give_back(&mut self, range: Range)
         ensures { self.new ≡ without_range range self.old }
     {

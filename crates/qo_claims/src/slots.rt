@@ -33,7 +33,7 @@ impl Model for Slots {
 impl Slots {
     ghost use Rattle.std.specs.Prelude.{◌≡◌, [], ◌∷◌, ◌++◌, false, IfOk, OnOk, OnErr};
     ghost use Rattle.qo_claims.specs.Answers.{Took};
-    ghost use Rattle.qo_claims.specs.Lists.{has_slot, without_slot, slot_at, least_free, slot_answer};
+    ghost use Rattle.qo_claims.specs.Lists.{has_bus_slot, without_bus_slot, bus_slot, least_free, slot_answer};
 
     pub fn new(alloc: Global) -> Slots
         ensures { result ≡ [] }
@@ -44,7 +44,7 @@ impl Slots {
     }
 
     fn has(&self, slot: &BusSlot) -> bool
-        ensures { result ≡ has_slot slot.now self.now }
+        ensures { result ≡ has_bus_slot slot.now self.now }
     {
         self.set.contains(slot)
     }
@@ -63,7 +63,7 @@ impl Slots {
 
     /// Adds a slot that is not held. An error adds nothing.
     fn add(&mut self, slot: BusSlot) -> Result<(), AllocError>
-        requires { has_slot slot self.old ≡ false }
+        requires { has_bus_slot slot self.old ≡ false }
         ensures added { OnOk result (self.new ≡ self.old ++ slot ∷ []) }
         ensures err { OnErr result (self.new ≡ self.old) }
     {
@@ -74,7 +74,7 @@ impl Slots {
     /// The slot to claim: the one that is named, or the least free.
     fn choose(&self, bus: u64, slot: Option<u8>) -> Result<BusSlot, ClaimError>
         ensures answer { result ≡ slot_answer bus slot self.now }
-        ensures free { IfOk result (λ slot. has_slot slot self.now ≡ false) }
+        ensures free { IfOk result (λ slot. has_bus_slot slot self.now ≡ false) }
     {
         let Some(slot) = slot else {
             return match self.least_free(bus) {
@@ -87,7 +87,7 @@ impl Slots {
             return Err(ClaimError::Range);
         }
         if self.has(&named) {
-            return Err(ClaimError::Held);
+            return Err(ClaimError::Taken);
         }
         Ok(named)
     }
@@ -101,9 +101,9 @@ impl Slots {
         Ok(chosen)
     }
 
-    /// Ends the claim on a slot, where it is held. It takes no memory.
+    /// Ends the claim on a slot, where it is taken. It takes no memory.
     pub fn give_back(&mut self, slot: &BusSlot)
-        ensures { self.new ≡ without_slot slot.now self.old }
+        ensures { self.new ≡ without_bus_slot slot.now self.old }
     {
         self.set.shift_remove(slot);
     }

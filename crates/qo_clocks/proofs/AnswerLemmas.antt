@@ -12,7 +12,7 @@ use Rattle.qo_model.specs.ClockChanges.{clock_scaled, clock_set}
 use Rattle.qo_model.specs.Clocks.{ClocksFit, clock_written, clocks_below, overflows, period, scaled_by, source_of}
 use Rattle.qo_model.specs.Unplug.{set_named}
 use Rattle.qo_model.proofs.ClockFitLemmas.{fits-new}
-use Rattle.qo_object.specs.Shown.{birth_of}
+use Rattle.qo_object.specs.BoardObject.{birth_of}
 use Rattle.qo_object.specs.Slots.{with_val}
 use Rattle.qo_heap.specs.Acts.{Acts}
 use Rattle.qo_heap.specs.Board.{Shows}
@@ -27,12 +27,12 @@ use Rattle.qo_clocks.specs.Writes.{Answers, all_fit, with_period, with_scale, wr
 use Rattle.qo_clocks.proofs.FitLemmas.{fits-acts}
 use Rattle.qo_clocks.proofs.NumberLemmas.{both-child, both-divides, both-written, child-before, full-depth, own-before, own-child, own-div, own-written, shows-both, shows-own_written}
 use Rattle.qo_clocks.proofs.ReadLemmas.{shows-source}
-use Rattle.qo_clocks.proofs.WrittenLemmas.{answer-done, answer-over, none-over}
+use Rattle.qo_clocks.proofs.WriteLemmas.{answer-done, answer-over, none-over}
 
--- the heap with a number written, and what is called back behind it
+-- the heap with a number written, and what is called back after it
 
-pub acts-behind : (v w x : Objects) → w ≡ v → Acts w x → Acts v x
-acts-behind v w x e acts = subst (λ (y : Objects). Acts y x) e acts
+pub acts-after : (v w x : Objects) → w ≡ v → Acts w x → Acts v x
+acts-after v w x e acts = subst (λ (y : Objects). Acts y x) e acts
 
 pub spread-alike : (v w : Objects) (levels c p q a : ℕ) → v ≡ w → p ≡ q → spread_on v levels c p a ≡ spread_on w levels c q a
 spread-alike v w levels c p q a e f = ap₂ (λ (y : Objects) (k : ℕ). spread_on y levels c k a) e f

@@ -1,4 +1,4 @@
--- Worked rows of clocks that are written, in a tree three deep: the system clock, the clock of a UART behind it, and that of a timer behind this one.
+-- Worked rows of clocks that are written, in a tree three deep: the system clock, the clock of a UART after it, and that of a timer after this one.
 use Rattle.std.proofs.Common.{◌≡◌, refl, ℕ, ◌^◌, ◌-◌, List, [], ◌∷◌, map, drop, codes, Option, Some, None, Result, Ok, Err}
 use Rattle.qo_values.specs.Placing.{least}
 use Rattle.qo_values.specs.declared.codes.Code.{Code}
@@ -9,7 +9,7 @@ use Rattle.qo_model.specs.ClockChanges.{clock_scaled, clock_set}
 use Rattle.qo_model.specs.Clocks.{acted, clocks_below, period}
 use Rattle.qo_model.specs.Devices.{depth_of, is_going}
 use Rattle.qo_model.specs.Opening.{opening_board}
-use Rattle.qo_model.specs.Paths.{attached, steps_to}
+use Rattle.qo_model.specs.Paths.{attached, path_down_to}
 use Rattle.qo_model.specs.Plug.{plug, with_source}
 use Rattle.qo_model.specs.Release.{drop_slot, finish, let_go, pin, unpin}
 use Rattle.qo_model.specs.Reset.{plugged, post}
@@ -17,7 +17,7 @@ use Rattle.qo_model.specs.Types.{types}
 use Rattle.qo_model.specs.Unplug.{unseen_named}
 use Rattle.qo_model.proofs.RowTerms.{told, wanted, then_set, then_scaled}
 
--- what was noted behind the sixteenth note, as its word and its birth; and the periods of the three clocks, or the code of a refusal
+-- what was noted after the sixteenth note, as its word and its birth; and the periods of the three clocks, or the code of a refusal
 abbrev noted : Result Board Code → List (List ℕ × ℕ)
 noted (Ok b) = map told (drop 16 b.notes)
 noted (Err code) = []
@@ -37,7 +37,8 @@ abbrev rounded : Result Board Code
 rounded = then_scaled 10 3 1 (then_scaled 5 1 3 (clock_set three 5 10))
 
 rounded-periods : periods rounded ≡ (10 ∷ 3 ∷ 9 ∷ [], None)
-unfolding types opening_board steps_to attached drop_slot finish let_go pin unpin add set acted period clocks_below depth_of is_going plug plugged post least
+unfolding types opening_board path_down_to attached drop_slot finish let_go pin unpin add set acted period clocks_below depth_of is_going plug plugged post
+    least
 rounded-periods = refl
 
 -- the UART before the timer, the first two times; then the timer alone
@@ -45,26 +46,32 @@ rounded-notes : noted rounded ≡
     (codes "pre", 9) ∷ (codes "update", 9) ∷ (codes "pre", 11) ∷ (codes "update", 11)
     ∷ (codes "pre", 9) ∷ (codes "update", 9) ∷ (codes "pre", 11) ∷ (codes "update", 11)
     ∷ (codes "pre", 11) ∷ (codes "update", 11) ∷ []
-unfolding types opening_board steps_to attached drop_slot finish let_go pin unpin add set acted period clocks_below depth_of is_going plug plugged post least
+unfolding types opening_board path_down_to attached drop_slot finish let_go pin unpin add set acted period clocks_below depth_of is_going plug plugged post
+    least
 rounded-notes = refl
 
 -- what only the last clock cannot have, and that it can have half of it
 last-over : periods (then_scaled 10 2 1 (clock_set three 5 (2 ^ 63))) ≡ ([], Some E47)
-unfolding types opening_board steps_to attached drop_slot finish let_go pin unpin add set acted period clocks_below depth_of is_going plug plugged post least
+unfolding types opening_board path_down_to attached drop_slot finish let_go pin unpin add set acted period clocks_below depth_of is_going plug plugged post
+    least
 last-over = refl
 
 last-fits : periods (then_scaled 10 2 1 (clock_set three 5 (2 ^ 63 - 1))) ≡ ((2 ^ 63 - 1) ∷ (2 ^ 63 - 1) ∷ (2 ^ 64 - 2) ∷ [], None)
-unfolding types opening_board steps_to attached drop_slot finish let_go pin unpin add set acted period clocks_below depth_of is_going plug plugged post least
+unfolding types opening_board path_down_to attached drop_slot finish let_go pin unpin add set acted period clocks_below depth_of is_going plug plugged post
+    least
 last-fits = refl
 
 over-below : periods (then_set 5 (2 ^ 63) (clock_scaled three 10 2 1)) ≡ ([], Some E47)
-unfolding types opening_board steps_to attached drop_slot finish let_go pin unpin add set acted period clocks_below depth_of is_going plug plugged post least
+unfolding types opening_board path_down_to attached drop_slot finish let_go pin unpin add set acted period clocks_below depth_of is_going plug plugged post
+    least
 over-below = refl
 
 sourced : periods (clock_set three 12 1) ≡ ([], Some E45)
-unfolding types opening_board steps_to attached drop_slot finish let_go pin unpin add set acted period clocks_below depth_of is_going plug plugged post least
+unfolding types opening_board path_down_to attached drop_slot finish let_go pin unpin add set acted period clocks_below depth_of is_going plug plugged post
+    least
 sourced = refl
 
 undivided : periods (clock_scaled three 12 1 0) ≡ ([], Some E46)
-unfolding types opening_board steps_to attached drop_slot finish let_go pin unpin add set acted period clocks_below depth_of is_going plug plugged post least
+unfolding types opening_board path_down_to attached drop_slot finish let_go pin unpin add set acted period clocks_below depth_of is_going plug plugged post
+    least
 undivided = refl

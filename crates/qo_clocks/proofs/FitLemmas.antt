@@ -4,12 +4,12 @@ use Rattle.qo_model.specs.Board.{Board}
 use Rattle.qo_model.specs.Clocks.{ClocksFit, child_period, div_of, mul_of, own_period, period, scaled_by, source_of}
 use Rattle.qo_model.specs.Depth.{by_depth}
 use Rattle.qo_model.specs.Paths.{births}
-use Rattle.qo_object.specs.Shown.{birth_of}
+use Rattle.qo_object.specs.BoardObject.{birth_of}
 use Rattle.qo_heap.specs.Acts.{Acts}
 use Rattle.qo_heap.specs.Board.{Shows}
 use Rattle.qo_heap.specs.Objects.{Objects}
 use Rattle.qo_heap.proofs.ActsReads.{acts-slots}
-use Rattle.qo_heap.proofs.ShowsReads.{shows-births}
+use Rattle.qo_heap.proofs.BoardReads.{shows-births}
 use Rattle.qo_clocks.specs.Reads.{div_on, mul_on, own_on, source_on}
 use Rattle.qo_clocks.proofs.ReadLemmas.{shows-div, shows-mul, shows-own, shows-source}
 use Rattle.qo_clocks.proofs.SpreadLemmas.{acts-births}

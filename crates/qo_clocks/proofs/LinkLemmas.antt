@@ -14,7 +14,7 @@ use Rattle.qo_slots.specs.declared.keys.Key.{Key}
 use Rattle.qo_table.specs.Rows.{IsLive, edit}
 use Rattle.qo_model.specs.Board as board
 use Rattle.qo_model.specs.Changes as changes
-use Rattle.qo_model.specs.Objects.{place_from}
+use Rattle.qo_model.specs.Objects.{index_from}
 use Rattle.qo_model.specs.Paths.{is_of}
 use Rattle.qo_model.specs.Plug.{fitted, link_named}
 use Rattle.qo_model.specs.Release as release
@@ -23,15 +23,15 @@ use Rattle.qo_model.specs.Unplug.{disconnected, is_named, set_named, unseen, uns
 use Rattle.qo_object.specs.declared.slots.Slot.{Slot}
 use Rattle.qo_object.specs.declared.slots.Slot.TheVariants.{Plain, Child, Link, Alias}
 use Rattle.qo_object.specs.Content.{Content, dropped_at, empty_link_at, pointed_at}
-use Rattle.qo_object.specs.Shown.{shown, shown_slot, shown_slots}
+use Rattle.qo_object.specs.BoardObject.{shown, shown_slot, shown_slots}
 use Rattle.qo_object.specs.Slots.{Named, changed_at, is_empty_link, let_go_at, pointed, with_val}
 use Rattle.qo_heap.specs.Board.{Shows}
 use Rattle.qo_heap.specs.Objects.{IsHeap, Objects, content_of, slots_of, with_edit}
 use Rattle.qo_heap.proofs.HeapLemmas.{edit-is, live-edit}
-use Rattle.qo_heap.proofs.ShowsChanges.{shows-set}
-use Rattle.qo_heap.proofs.ShowsEdits.{shows-edit}
-use Rattle.qo_heap.proofs.ShowsReads.{shows-kind, shows-slots}
-use Rattle.qo_clocks.specs.Links.{accepts, changed_named, fitted_on, is_of_on, is_weak, place_on, unseen_on, with_slot_changed}
+use Rattle.qo_heap.proofs.BoardChanges.{shows-set}
+use Rattle.qo_heap.proofs.BoardEdits.{shows-edit}
+use Rattle.qo_heap.proofs.BoardReads.{shows-kind, shows-slots}
+use Rattle.qo_clocks.specs.Links.{accepts, changed_named, fitted_on, is_of_on, is_weak, index_on, unseen_on, with_slot_changed}
 
 -- the place of a slot of a name
 
@@ -39,13 +39,13 @@ abbrev place : List ℕ → List Named → ℕ
 place name slots = position_or_len (λ (s : Named). bytes_eq name s.0) slots
 
 place-shown : (name : List ℕ) (k : ℕ) (slots : List Named)
-    → place_from (is_named name) k (shown_slots slots) ≡ cond (nat_lt (place name slots) (length slots)) (Some (k + place name slots)) None
+    → index_from (is_named name) k (shown_slots slots) ≡ cond (nat_lt (place name slots) (length slots)) (Some (k + place name slots)) None
 place-shown name k [] = refl
 place-shown name k (s ∷ slots) = rw (nat_list_eq_equiv.symm s.0 name) (go (bytes_eq name s.0) (place-shown name (suc k) slots))
   where
     go : (t : Bool)
-        → place_from (is_named name) (suc k) (shown_slots slots) ≡ cond (nat_lt (place name slots) (length slots)) (Some (suc k + place name slots)) None
-        → cond t (Some k) (place_from (is_named name) (suc k) (shown_slots slots))
+        → index_from (is_named name) (suc k) (shown_slots slots) ≡ cond (nat_lt (place name slots) (length slots)) (Some (suc k + place name slots)) None
+        → cond t (Some k) (index_from (is_named name) (suc k) (shown_slots slots))
         ≡ cond (nat_lt (cond (not t) (1 + place name slots) 0) (length (s ∷ slots))) (Some (k + cond (not t) (1 + place name slots) 0)) None
     go true rest =
         let same : k ≡ k + 0 = omega arith in
@@ -58,10 +58,10 @@ place-shown name k (s ∷ slots) = rw (nat_list_eq_equiv.symm s.0 name) (go (byt
         ∙ ap (λ (b : Bool). cond b (Some (suc k + place name slots)) None) test
         ∙ ap (λ (i : ℕ). cond (nat_lt (1 + place name slots) (length (s ∷ slots))) (Some i) None) at
 
-place-on : (b : board.Board) (v : Objects) → Shows b v → (n : ℕ) (name : List ℕ) → place_from (is_named name) 0 (board.slots_at b n) ≡ place_on v n name
+place-on : (b : board.Board) (v : Objects) → Shows b v → (n : ℕ) (name : List ℕ) → index_from (is_named name) 0 (board.slots_at b n) ≡ index_on v n name
 place-on b v s n name =
     let from : 0 + place name (slots_of v n) ≡ place name (slots_of v n) = omega arith in
-    ap (place_from (is_named name) 0) (shows-slots b v s n)
+    ap (index_from (is_named name) 0) (shows-slots b v s n)
     ∙ place-shown name 0 (slots_of v n)
     ∙ ap (λ (i : ℕ). cond (nat_lt (place name (slots_of v n)) (length (slots_of v n))) (Some i) None) from
 
@@ -69,8 +69,8 @@ place-on b v s n name =
 
 pub shows-named : (n : ℕ) (name : List ℕ) (f : Slot → Slot) (b : board.Board) (v : Objects) → Shows b v → (h : ℕ → board.Board)
     → ((i : ℕ) → Shows (h i) (with_edit n (with_slot_changed f i) v))
-    → Shows (elim (place_from (is_named name) 0 (board.slots_at b n)) [ None ↦ b | Some i ↦ h i ]) (changed_named n name f v)
-shows-named n name f b v s h each = rw (place-on b v s n name) (go (place_on v n name))
+    → Shows (elim (index_from (is_named name) 0 (board.slots_at b n)) [ None ↦ b | Some i ↦ h i ]) (changed_named n name f v)
+shows-named n name f b v s h each = rw (place-on b v s n name) (go (index_on v n name))
   where
     go : (o : Option ℕ) → Shows (elim o [ None ↦ b | Some i ↦ h i ]) (elim o [ None ↦ v | Some i ↦ with_edit n (with_slot_changed f i) v ])
     go None = s
@@ -146,7 +146,7 @@ shows-disconnected b v s n =
     shows-set_named c w unlinked n (codes "period") (val.Uint 0)
 
 pub live-changed : (n : ℕ) (name : List ℕ) (f : Slot → Slot) (v : Objects) (key : Key) → IsLive v.rows key → IsLive (changed_named n name f v).rows key
-live-changed n name f v key live = go (place_on v n name)
+live-changed n name f v key live = go (index_on v n name)
   where
     go : (o : Option ℕ) → IsLive (elim o as (λ _. Objects) [ None ↦ v | Some i ↦ with_edit n (with_slot_changed f i) v ]).rows key
     go None = live
@@ -201,7 +201,7 @@ edit-keeps v good n i x e f alike =
     (λ c q. ap (λ (slots : List Named). with_slots slots c) (slot-alike f (λ (s : Slot). s) i c.slots x q alike ∙ changed-none i c.slots))
     ∙ ap (λ (rows : List (Key × Content)). record v { rows = rows }) (edit-none n v.rows))
 
-named-at : (n : ℕ) (name : List ℕ) (f : Slot → Slot) (v : Objects) (i : ℕ) → place_on v n name ≡ Some i
+named-at : (n : ℕ) (name : List ℕ) (f : Slot → Slot) (v : Objects) (i : ℕ) → index_on v n name ≡ Some i
     → with_edit n (with_slot_changed f i) v ≡ changed_named n name f v
 named-at n name f v i e = sym (ap (λ (o : Option ℕ). elim o as (λ _. Objects) [ None ↦ v | Some j ↦ with_edit n (with_slot_changed f j) v ]) e)
 
@@ -221,12 +221,12 @@ refused-stays v key (Link ty strong None) e = rw e refl
 refused-stays v key (Link ty strong (Some k)) e = refl
 refused-stays v key (Alias k name) e = refl
 
-pub connects : (v : Objects) → IsHeap v → (n : ℕ) (name : List ℕ) (key : Key) (i : ℕ) (x : Named) → place_on v n name ≡ Some i
+pub connects : (v : Objects) → IsHeap v → (n : ℕ) (name : List ℕ) (key : Key) (i : ℕ) (x : Named) → index_on v n name ≡ Some i
     → slice_get (slots_of v n) i ≡ Some x → accepts v key x.1 ≡ true → with_edit n (pointed_at key i) v ≡ changed_named n name (fitted_on v key) v
 connects v good n name key i x at e fits =
     edit-slot v good n i x e (pointed key) (fitted_on v key) (pointed-fits v key x.1 fits) ∙ named-at n name (fitted_on v key) v i at
 
-pub connects-not : (v : Objects) → IsHeap v → (n : ℕ) (name : List ℕ) (key : Key) (i : ℕ) (x : Named) → place_on v n name ≡ Some i
+pub connects-not : (v : Objects) → IsHeap v → (n : ℕ) (name : List ℕ) (key : Key) (i : ℕ) (x : Named) → index_on v n name ≡ Some i
     → slice_get (slots_of v n) i ≡ Some x → accepts v key x.1 ≡ false → v ≡ changed_named n name (fitted_on v key) v
 connects-not v good n name key i x at e fits =
     edit-keeps v good n i x e (fitted_on v key) (refused-stays v key x.1 fits) ∙ named-at n name (fitted_on v key) v i at
@@ -271,13 +271,13 @@ unweak-stays (Link ty true target) e = refl
 unweak-stays (Link ty false target) e = cc
 unweak-stays (Alias k name) e = refl
 
-pub unlinks : (v : Objects) → IsHeap v → (n : ℕ) (name : List ℕ) (i : ℕ) (x : Named) → place_on v n name ≡ Some i
+pub unlinks : (v : Objects) → IsHeap v → (n : ℕ) (name : List ℕ) (i : ℕ) (x : Named) → index_on v n name ≡ Some i
     → slice_get (slots_of v n) i ≡ Some x → is_weak x.1 ≡ true → with_edit n (dropped_at i) v ≡ changed_named n name unseen_on v
 unlinks v good n name i x at e weak =
     edit-alike v good n i x e (dropped_at i) (with_slot_changed unseen_on i)
     (λ c q. ap (λ (slots : List Named). with_slots slots c) (dropped-weak i c.slots x q weak))
     ∙ named-at n name unseen_on v i at
 
-pub unlinks-not : (v : Objects) → IsHeap v → (n : ℕ) (name : List ℕ) (i : ℕ) (x : Named) → place_on v n name ≡ Some i
+pub unlinks-not : (v : Objects) → IsHeap v → (n : ℕ) (name : List ℕ) (i : ℕ) (x : Named) → index_on v n name ≡ Some i
     → slice_get (slots_of v n) i ≡ Some x → is_weak x.1 ≡ false → v ≡ changed_named n name unseen_on v
 unlinks-not v good n name i x at e weak = edit-keeps v good n i x e unseen_on (unweak-stays x.1 weak) ∙ named-at n name unseen_on v i at

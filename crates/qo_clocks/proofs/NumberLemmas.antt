@@ -16,11 +16,11 @@ use Rattle.qo_model.proofs.ClockFitLemmas.{IsWritten}
 use Rattle.qo_model.proofs.PeriodLemmas.{period-own}
 use Rattle.qo_object.specs.declared.slots.Slot.{Slot}
 use Rattle.qo_object.specs.declared.slots.Slot.TheVariants.{Plain, Child, Link, Alias}
-use Rattle.qo_object.specs.Shown.{birth_of, shown_slot}
+use Rattle.qo_object.specs.BoardObject.{birth_of, shown_slot}
 use Rattle.qo_object.specs.Slots as slots
 use Rattle.qo_heap.specs.Board.{Shows}
 use Rattle.qo_heap.specs.Objects.{Objects}
-use Rattle.qo_heap.proofs.ShowsReads.{shows-births, shows-slot_named}
+use Rattle.qo_heap.proofs.BoardReads.{shows-births, shows-slot_named}
 use Rattle.qo_clocks.specs.Links.{changed_named}
 use Rattle.qo_clocks.specs.Periods.{scaled_on, wide_on}
 use Rattle.qo_clocks.specs.Reads.{own_on, slot_on, source_on}
@@ -28,9 +28,9 @@ use Rattle.qo_clocks.specs.Writes.{is_plain, with_period, with_scale, written_on
 use Rattle.qo_clocks.proofs.LinkLemmas.{shows-set_named}
 use Rattle.qo_clocks.proofs.PeriodLemmas.{cut-low}
 use Rattle.qo_clocks.proofs.ReadLemmas.{shows-own, shows-source}
-use Rattle.qo_clocks.proofs.RoundLemmas.{period-kept}
-use Rattle.qo_clocks.proofs.SetLemmas.{births-set, slot-elsewhere, slot-other, slot-own}
-use Rattle.qo_clocks.proofs.WrittenLemmas.{shows-wide}
+use Rattle.qo_clocks.proofs.CycleLemmas.{period-kept}
+use Rattle.qo_clocks.proofs.SettingLemmas.{births-set, slot-elsewhere, slot-other, slot-own}
+use Rattle.qo_clocks.proofs.WriteLemmas.{shows-wide}
 
 -- a number in a slot, and that in a slot that it is written to
 

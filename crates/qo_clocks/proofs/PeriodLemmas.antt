@@ -9,10 +9,10 @@ use Rattle.qo_model.specs.Clocks.{ClocksFit, device_period, div_of, mul_of, own_
 use Rattle.qo_model.specs.Depth.{by_depth}
 use Rattle.qo_model.specs.Paths as paths
 use Rattle.qo_model.proofs.PeriodLemmas.{scaled-zero}
-use Rattle.qo_object.specs.Shown.{birth_of}
+use Rattle.qo_object.specs.BoardObject.{birth_of}
 use Rattle.qo_heap.specs.Board.{Shows}
 use Rattle.qo_heap.specs.Objects.{Objects}
-use Rattle.qo_heap.proofs.ShowsReads.{shows-births}
+use Rattle.qo_heap.proofs.BoardReads.{shows-births}
 use Rattle.qo_clocks.specs.Periods.{fitting, period_on, period_turn_on, scaled_on}
 use Rattle.qo_clocks.specs.Reads.{clock_on, div_on, mul_on, own_on, source_on}
 use Rattle.qo_clocks.proofs.ReadLemmas.{shows-clock, shows-div, shows-mul, shows-own, shows-source}

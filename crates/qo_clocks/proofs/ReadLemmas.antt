@@ -14,12 +14,12 @@ use Rattle.qo_model.specs.Devices.{child_named, clock_of, number_at, number_in, 
 use Rattle.qo_object.specs.declared.slots.Slot.{Slot}
 use Rattle.qo_object.specs.declared.slots.Slot.TheVariants.{Plain, Child, Link, Alias}
 use Rattle.qo_object.specs.Content.{Content}
-use Rattle.qo_object.specs.Shown.{birth_of, shown_slot}
+use Rattle.qo_object.specs.BoardObject.{birth_of, shown_slot}
 use Rattle.qo_object.specs.Slots.{Named, target_of}
 use Rattle.qo_heap.specs.Board.{Shows}
 use Rattle.qo_heap.specs.Objects.{IsHeap, Objects, content_of}
 use Rattle.qo_heap.proofs.HeapLemmas.{linked-at, targets_in}
-use Rattle.qo_heap.proofs.ShowsReads.{shows-slot_named}
+use Rattle.qo_heap.proofs.BoardReads.{shows-slot_named}
 use Rattle.qo_clocks.specs.Reads.{child_in, clock_on, div_on, mul_on, number_in_slot, number_on, own_on, slot_on, source_on, weak_target}
 
 -- what a slot that is found names is there

@@ -13,18 +13,18 @@ use Rattle.qo_table.specs.Rows.{IsLive, births, object_at}
 use Rattle.qo_model.specs.declared.notes.Deed.TheVariants.{Did}
 use Rattle.qo_model.specs.Depth.{by_depth}
 use Rattle.qo_object.specs.Content.{Content, is_parent}
-use Rattle.qo_object.specs.Shown.{birth_of}
+use Rattle.qo_object.specs.BoardObject.{birth_of}
 use Rattle.qo_heap.specs.Acts.{Acts, stilled}
 use Rattle.qo_heap.specs.Objects.{Objects, content_of, parent_of}
-use Rattle.qo_heap.specs.Timely.{AllTimely, Timely}
+use Rattle.qo_heap.specs.Moments.{AllTimely, Timely}
 use Rattle.qo_heap.proofs.ActsLemmas.{acts-act, acts-live, acts-none, acts-then}
 use Rattle.qo_heap.proofs.ActsReads.{acts-slots}
-use Rattle.qo_heap.proofs.TimelyLemmas.{acts-timely}
-use Rattle.qo_clocks.specs.Below.{fed_in, goes_by}
+use Rattle.qo_heap.proofs.MomentLemmas.{acts-timely}
+use Rattle.qo_clocks.specs.Subtree.{fed_in, goes_by}
 use Rattle.qo_clocks.specs.Periods.{scaled_on}
 use Rattle.qo_clocks.specs.Reads.{source_on}
 use Rattle.qo_clocks.specs.Spread.{Change, acted_on, all_called_on, called_on, change_at, changes_on, spread_on, spread_to}
-use Rattle.qo_clocks.proofs.BelowLemmas.{at_place, fed-more, take-all}
+use Rattle.qo_clocks.proofs.SubtreeLemmas.{at_place, fed-more, take-all}
 
 -- a timer may act
 

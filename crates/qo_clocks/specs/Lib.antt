@@ -1,4 +1,4 @@
-pub mod Below
+pub mod Subtree
 pub mod Links
 pub mod Periods
 pub mod Reads

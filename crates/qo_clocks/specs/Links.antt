@@ -38,8 +38,8 @@ unseen_on s = s
 abbrev pub with_slot_changed : (Slot → Slot) → ℕ → Content → Content
 with_slot_changed change i c = record c { slots = changed_at change i c.slots }
 
-abbrev pub place_on : Objects → ℕ → List ℕ → Option ℕ
-place_on v n name = position (λ (s : List ℕ × Slot). bytes_eq name s.0) (slots_of v n)
+abbrev pub index_on : Objects → ℕ → List ℕ → Option ℕ
+index_on v n name = position (λ (s : List ℕ × Slot). bytes_eq name s.0) (slots_of v n)
 
 abbrev pub changed_named : ℕ → List ℕ → (Slot → Slot) → Objects → Objects
-changed_named n name change v = elim (place_on v n name) [ None ↦ v | Some i ↦ with_edit n (with_slot_changed change i) v ]
+changed_named n name change v = elim (index_on v n name) [ None ↦ v | Some i ↦ with_edit n (with_slot_changed change i) v ]

@@ -7,7 +7,7 @@ use Rattle.qo_model.specs.declared.notes.Deed.TheVariants.{Did}
 use Rattle.qo_model.specs.Depth.{by_depth}
 use Rattle.qo_object.specs.Content.{acted_at}
 use Rattle.qo_heap.specs.Objects.{Objects, parent_of, with_edit, with_note}
-use Rattle.qo_clocks.specs.Below.{fed_in}
+use Rattle.qo_clocks.specs.Subtree.{fed_in}
 use Rattle.qo_clocks.specs.Periods.{scaled_on}
 
 -- an act at the heap's time

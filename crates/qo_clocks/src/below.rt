@@ -3,7 +3,7 @@
 
 ghost use Rattle.std.specs.Prelude.{◌≡◌, option_and_then, option_map, slice_get, IfSome};
 ghost use Rattle.qo_table.specs.Rows.{IsLive};
-ghost use Rattle.qo_clocks.specs.Below.{fed_at, overflows_on};
+ghost use Rattle.qo_clocks.specs.Subtree.{fed_at, overflows_on};
 
 use crate::periods::child_period;
 use crate::reads::source_of;

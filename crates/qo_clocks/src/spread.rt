@@ -2,7 +2,7 @@
 //! (docs/devel/clocks.rst, "Clock callbacks" and "Changing a clock period"). No call takes memory.
 
 ghost use Rattle.std.specs.Prelude.{◌≡◌};
-ghost use Rattle.qo_heap.specs.Timely.{Timely};
+ghost use Rattle.qo_heap.specs.Moments.{Timely};
 ghost use Rattle.qo_clocks.specs.Spread.{called_on, spread_on};
 
 use crate::below::fed_at;

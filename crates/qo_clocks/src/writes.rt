@@ -12,7 +12,7 @@ ghost use Rattle.qo_table.specs.Rows.{IsLive};
 ghost use Rattle.qo_heap.specs.Acts.{Acts};
 ghost use Rattle.qo_heap.specs.Board.{Shows};
 ghost use Rattle.qo_heap.specs.Book.{IsBook};
-ghost use Rattle.qo_heap.specs.Timely.{Timely};
+ghost use Rattle.qo_heap.specs.Moments.{Timely};
 ghost use Rattle.qo_clocks.specs.Writes.{Answers, all_fit, with_period, with_scale, written_on};
 
 use crate::below::overflows;
@@ -64,12 +64,12 @@ fn all_fit<L: Ledger>(
 /// Gives a clock a period, in units of 2^-32 ns (docs/devel/clocks.rst, "Changing a clock period").
 /// The clocks below are gone through, each before those that go by it, and those that go by one clock
 /// in the order of births: where a clock's period changes, the object that is its parent is called
-/// back, with the old period before the change and with the new one behind it.
+/// back, with the old period before the change and with the new one after it.
 ///
 /// `HasSource` exactly where the clock goes by another; else `Overflow` exactly where the period for
 /// the clocks that go by it, or by one below it, would be more than 2^64 - 1. An error leaves all as
 /// it was. All this where every such period fits so far and no clock divides by 0, which is then so
-/// behind the call too. It takes no memory.
+/// after the call too. It takes no memory.
 ///
 /// What is called back may be a timer, which reads the time, so no timer may have had a moment after
 /// the heap's time.
@@ -112,7 +112,7 @@ pub fn set<L: Ledger>(
 ///
 /// `DividerZero` exactly where the divider is 0; else `Overflow` exactly where the period for the
 /// clocks that go by it, or by one below it, would be more than 2^64 - 1. An error leaves all as it
-/// was. As with `set`, every such period fits before and behind the call, and no timer may have had a
+/// was. As with `set`, every such period fits before and after the call, and no timer may have had a
 /// moment after the heap's time. It takes no memory.
 pub fn set_mul_div<L: Ledger>(
     heap: &mut Heap,

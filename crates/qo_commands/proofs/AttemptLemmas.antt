@@ -1,4 +1,4 @@
--- What the boards behind attempts that were cut are.
+-- What the boards after attempts that were cut are.
 use Rattle.std.proofs.Common.{◌≡◌, ◌==◌, refl, ℕ, Bool, true, false, List, Option, None, Some, ◌&&◌, nat_le, if◌then◌else◌}
 use Rattle.std.specs.Option.{option_map_or}
 use Rattle.qo_values.specs.declared.codes.Code.{Code}
@@ -6,8 +6,8 @@ use Rattle.qo_values.specs.declared.kinds.TypeId.{TypeId}
 use Rattle.qo_model.specs.Board.{Board}
 use Rattle.qo_model.specs.Objects.{Given, attempted_as, barred_by, with_attempt}
 use Rattle.qo_model.specs.Plug.{Wanted, barred_early, cut_attempt, objects_in, type_barred}
-use Rattle.qo_model.specs.Types.{TypeRow, row_named}
-use Rattle.qo_plug.specs.Added.{wanted}
+use Rattle.qo_model.specs.Types.{TypeInfo, type_named}
+use Rattle.qo_plug.specs.Admission.{wanted}
 use Rattle.qo_plug.specs.Cuts.{cut_as, cut_of, cut_open}
 use Rattle.qo_requests.specs.declared.calls.Addition.TheVariants.{ObjectAdd, DeviceAdd}
 use Rattle.qo_requests.specs.declared.calls.Call.{Call}
@@ -28,22 +28,24 @@ attempted-by P b (call.Change (Add (DeviceAdd driver id bus props))) i joined no
 -- a device's attempt that was cut
 cut-by : (P : Board → Type 0) (b : Board) (a : Wanted) (i : ℕ) (joined : Bool) → P b → ((t : TypeId) → P (cut_of b t i joined)) → P (cut_as b a i joined)
 unfolding cut_as
-cut-by P b a i joined none cut = by (type_barred a.driver) (row_named a.driver)
+cut-by P b a i joined none cut = by (type_barred a.driver) (type_named a.driver)
   where
-    free : (row : TypeRow) (bar : Option (ℕ × Code)) → P (elim bar as (λ o. Board) [ None ↦ cut_of b row.id i joined | Some found ↦ b ])
+    free : (row : TypeInfo) (bar : Option (ℕ × Code)) → P (elim bar as (λ o. Board) [ None ↦ cut_of b row.id i joined | Some found ↦ b ])
     free row None = cut row.id
     free row (Some found) = none
 
-    by : (bar : Option Code) (row : Option TypeRow) → P (elim bar as (λ o. Board) [ Some code ↦ b | None ↦ option_map_or (λ (row : TypeRow). cut_open b a row i joined) row b ])
+    by : (bar : Option Code) (row : Option TypeInfo)
+        → P (elim bar as (λ o. Board) [ Some code ↦ b | None ↦ option_map_or (λ (row : TypeInfo). cut_open b a row i joined) row b ])
     by (Some code) row = none
     by None None = none
     by None (Some row) = free row (barred_early b row.id a)
 
 -- a user's object's
 object-by : (P : Board → Type 0) (b : Board) (driver id : List ℕ) → P b → ((t : TypeId) → P (with_attempt b t)) → P (attempted_as b driver id)
-object-by P b driver id none made = by (barred_by b driver id) (row_named driver)
+object-by P b driver id none made = by (barred_by b driver id) (type_named driver)
   where
-    by : (bar : Option Code) (row : Option TypeRow) → P (elim bar as (λ o. Board) [ Some code ↦ b | None ↦ option_map_or (λ (row : TypeRow). with_attempt b row.id) row b ])
+    by : (bar : Option Code) (row : Option TypeInfo)
+        → P (elim bar as (λ o. Board) [ Some code ↦ b | None ↦ option_map_or (λ (row : TypeInfo). with_attempt b row.id) row b ])
     by (Some code) row = none
     by None None = none
     by None (Some row) = made row.id
@@ -52,7 +54,8 @@ object-by P b driver id none made = by (barred_by b driver id) (row_named driver
 pub attempted-all : (P : Board → Type 0) (b : Board) (r : Call) (i : ℕ) (joined : Bool) → P b → ((t : TypeId) → P (with_attempt b t))
     → ((t : TypeId) → P (cut_attempt b t i joined)) → P (attempted b r i joined)
 attempted-all P b r i joined none made cut =
-    attempted-by P b r i joined none (λ driver id props. one driver id (i == 1)) (λ driver id bus props. cut-by P b (wanted driver id bus props) i joined none some)
+    attempted-by P b r i joined none (λ driver id props. one driver id (i == 1))
+    (λ driver id bus props. cut-by P b (wanted driver id bus props) i joined none some)
   where
     one : (driver id : List ℕ) (t : Bool) → P (if t then attempted_as b driver id else b)
     one driver id true = object-by P b driver id none made

@@ -9,7 +9,7 @@ use Rattle.qo_lane.specs.Hearing as hearing
 use Rattle.qo_lane.specs.declared.hearing.Heard.{Heard}
 use Rattle.qo_model.specs.Hotplug.{reset_whole}
 use Rattle.qo_model.specs.Plug.{Wanted, plug}
-use Rattle.qo_plug.specs.Added.{wanted}
+use Rattle.qo_plug.specs.Admission.{wanted}
 use Rattle.qo_plug.specs.declared.adding.Added as device
 use Rattle.qo_plug.specs.declared.refusals.AddRefusal.{AddRefusal}
 use Rattle.qo_plug.specs.declared.refusals.AddRefusal.TheVariants.{Refused as Barred}
@@ -19,7 +19,7 @@ use Rattle.qo_realize.specs.Answers.{Adds, IsAnswered, Plugs, Writes}
 use Rattle.qo_realize.specs.Answers as board
 use Rattle.qo_realize.specs.Chardevs.{Reading, ReadsRing}
 use Rattle.qo_realize.specs.Parts.{Parts}
-use Rattle.qo_realize.specs.Stands.{Stands}
+use Rattle.qo_realize.specs.Representation.{Stands}
 use Rattle.qo_realize.specs.Time.{Advances, switches, with_running}
 use Rattle.qo_replies.specs.declared.events.Event.{Event}
 use Rattle.qo_requests.specs.declared.calls.Addition.TheVariants.{DeviceAdd, ObjectAdd}
@@ -34,7 +34,8 @@ pub came-as : (is was : Done) (d : outcome.Done) (p : Parts) → is ≡ was → 
 came-as is was d p same came = subst (λ (x : Done). Came x d p) (sym same) came
 
 -- something was returned, or a code refused it, and this board stands
-came-value : (c : Board) (value : Data) (d : outcome.Done) (p : Parts) → Stands c p → ((x : Board) → done_of x d ≡ returned x value) → Came (returned c value) d p
+came-value : (c : Board) (value : Data) (d : outcome.Done) (p : Parts) → Stands c p → ((x : Board) → done_of x d ≡ returned x value)
+    → Came (returned c value) d p
 came-value c value d p now so = (now, so c)
 
 came-err : (c : Board) (code : Code) (d : outcome.Done) (p : Parts) → Stands c p → ((x : Board) → done_of x d ≡ refused_with x code)

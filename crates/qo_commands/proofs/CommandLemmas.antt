@@ -7,11 +7,11 @@ use Rattle.qo_model.specs.Board.{Board}
 use Rattle.qo_model.specs.Listing.{listing}
 use Rattle.qo_model.specs.declared.notes.Note.{Note}
 use Rattle.qo_values.specs.declared.codes.Code.{Code}
-use Rattle.qo_values.specs.Plain.{data_of as val_data}
+use Rattle.qo_values.specs.PlainValues.{data_of as val_data}
 use Rattle.qo_values.specs.declared.properties.Val.{Val}
 use Rattle.qo_values.specs.declared.properties.Val.TheVariants as val
 use Rattle.qo_values.specs.declared.kinds.TypeId.{TypeId}
-use Rattle.qo_model.specs.Types.{TypeRow}
+use Rattle.qo_model.specs.Types.{TypeInfo}
 use Rattle.qo_model.specs.declared.detached.Detached.{Detached}
 use Rattle.qo_requests.specs.declared.commands.Command.{Command}
 use Rattle.std.specs.Str.{chars}
@@ -42,7 +42,7 @@ pub detached_no_float : (ds : List Detached) → items_have_float (items_of (map
 detached_no_float [] = refl
 detached_no_float (d ∷ ds) = detached_no_float ds
 
-pub types_no_float : (rows : List TypeRow) → items_have_float (items_of (map type_data rows)) ≡ false
+pub types_no_float : (rows : List TypeInfo) → items_have_float (items_of (map type_data rows)) ≡ false
 types_no_float [] = refl
 types_no_float (r ∷ rs) = by r.is_abstract r.parent (types_no_float rs)
   where

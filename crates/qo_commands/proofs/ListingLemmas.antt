@@ -11,15 +11,15 @@ use Rattle.qo_values.specs.declared.kinds.TypeId.TheVariants.{Object, Container,
 use Rattle.qo_values.specs.declared.kinds.TypeId.TheVariants.{SlotBus, MemBus, Clock, MemoryBackend, MemoryBackendRam, Tag}
 use Rattle.qo_model.specs.Board.{Board}
 use Rattle.qo_model.specs.Objects.{may_add}
-use Rattle.qo_model.specs.Types.{TypeRow, is_a, parent_of, row_of, slots_of, types}
+use Rattle.qo_model.specs.Types.{TypeInfo, is_a, parent_of, info_of, slots_of, types}
 use Rattle.qo_types.specs.Rows.{is_abstract}
 use Rattle.qo_model.specs.declared.properties.Property.{Property}
 use Rattle.qo_model.specs.RowNames.{property_name}
-use Rattle.qo_commands.specs.Commands.{adding_properties, device_properties, is_for_adding, kind_word, property_data, property_words, refused_with, returned, type_data}
+use Rattle.qo_commands.specs.Commands.{adding_properties, device_properties, is_for_adding, role_word, property_data, property_words, refused_with, returned, type_data}
 use Rattle.qo_commands.specs.Views.{row_data, words_for_adding}
 
 -- the row of a type, by the parts that are told
-pub row_told : (t : TypeId) → option_map type_data (row_of t) ≡ Some (row_data t (is_abstract t) (parent_of t))
+pub row_told : (t : TypeId) → option_map type_data (info_of t) ≡ Some (row_data t (is_abstract t) (parent_of t))
 unfolding types
 row_told Object = refl
 row_told Container = refl
@@ -39,43 +39,49 @@ row_told MemoryBackendRam = refl
 row_told Tag = refl
 
 -- a type more
-pub types-more : (ids : List TypeId) (i : ℕ) (d : TypeId) (before behind : List Data) → i < length ids → before ≡ map type_data (filter_map row_of (take i ids)) → behind ≡ before ++ map type_data (filter_map row_of (get_or ids i d ∷ [])) → behind ≡ map type_data (filter_map row_of (take (i + 1) ids))
-types-more ids i d before behind within is more =
+pub types-more : (ids : List TypeId) (i : ℕ) (d : TypeId) (before after : List Data) → i < length ids → before ≡ map type_data (filter_map info_of (take i ids))
+    → after ≡ before ++ map type_data (filter_map info_of (get_or ids i d ∷ [])) → after ≡ map type_data (filter_map info_of (take (i + 1) ids))
+types-more ids i d before after within is more =
     let t = get_or ids i d in
     more
-    ∙ ap (λ (l : List Data). l ++ map type_data (filter_map row_of (t ∷ []))) is
-    ∙ sym (ap (λ (l : List TypeId). map type_data (filter_map row_of l)) (take_more ids i d within) ∙ ap (λ (l : List TypeRow). map type_data l) (filter_map-append row_of (take i ids) (t ∷ [])) ∙ map-append type_data (filter_map row_of (take i ids)) (filter_map row_of (t ∷ [])))
+    ∙ ap (λ (l : List Data). l ++ map type_data (filter_map info_of (t ∷ []))) is
+    ∙ sym (ap (λ (l : List TypeId). map type_data (filter_map info_of l)) (take_more ids i d within) ∙ ap (λ (l : List TypeInfo). map type_data l)
+    (filter_map-append info_of (take i ids) (t ∷ [])) ∙ map-append type_data (filter_map info_of (take i ids)) (filter_map info_of (t ∷ [])))
 
-pub types-all : (ids : List TypeId) (i : ℕ) → i ≤ length ids → length ids ≤ i → map type_data (filter_map row_of (take i ids)) ≡ map type_data (filter_map row_of ids)
-types-all ids i low high = ap (λ (l : List TypeId). map type_data (filter_map row_of l)) (take_all i ids high)
+pub types-all : (ids : List TypeId) (i : ℕ) → i ≤ length ids → length ids ≤ i
+    → map type_data (filter_map info_of (take i ids)) ≡ map type_data (filter_map info_of ids)
+types-all ids i low high = ap (λ (l : List TypeId). map type_data (filter_map info_of l)) (take_all i ids high)
 
 -- the properties that are written by the adding command, one after another
 pub words-all : (rows : List Property) → flat_map words_for_adding rows ≡ map property_words (filter is_for_adding rows)
 words-all [] = refl
 words-all (p ∷ rows) = by (is_for_adding p) (words-all rows)
   where
-    by : (b : Bool) → flat_map words_for_adding rows ≡ map property_words (filter is_for_adding rows) → (if b then property_words p ∷ [] else []) ++ flat_map words_for_adding rows ≡ map property_words (cond b (p ∷ filter is_for_adding rows) (filter is_for_adding rows))
+    by : (b : Bool) → flat_map words_for_adding rows ≡ map property_words (filter is_for_adding rows) → (if b then property_words p ∷ [] else [])
+        ++ flat_map words_for_adding rows ≡ map property_words (cond b (p ∷ filter is_for_adding rows) (filter is_for_adding rows))
     by true rest = ap (λ (l : List (List ℕ × List ℕ)). property_words p ∷ l) rest
     by false rest = rest
 
 -- the properties of a named type, by its number
-pub device-listed : (b : Board) (row : Option TypeRow) (t : TypeId) → Some t ≡ option_map (λ (r : TypeRow). r.id) row → is_a t (codes "device") ≡ true → returned b (array (items_of (map property_data (adding_properties t)))) ≡ device_properties b row
+pub device-listed : (b : Board) (row : Option TypeInfo) (t : TypeId) → Some t ≡ option_map (λ (r : TypeInfo). r.id) row → is_a t (codes "device") ≡ true
+    → returned b (array (items_of (map property_data (adding_properties t)))) ≡ device_properties b row
 device-listed b None t is of = cc
 device-listed b (Some row) t is of = let same : t ≡ row.id = cc is in rw (← same, of) refl
 
-pub device-other : (b : Board) (row : Option TypeRow) (t : TypeId) → Some t ≡ option_map (λ (r : TypeRow). r.id) row → is_a t (codes "device") ≡ false → refused_with b E22 ≡ device_properties b row
+pub device-other : (b : Board) (row : Option TypeInfo) (t : TypeId) → Some t ≡ option_map (λ (r : TypeInfo). r.id) row → is_a t (codes "device") ≡ false
+    → refused_with b E22 ≡ device_properties b row
 device-other b None t is of = cc
 device-other b (Some row) t is of = let same : t ≡ row.id = cc is in rw (← same, of) refl
 
-pub device-none : (b : Board) (row : Option TypeRow) → None ≡ option_map (λ (r : TypeRow). r.id) row → refused_with b E20 ≡ device_properties b row
+pub device-none : (b : Board) (row : Option TypeInfo) → None ≡ option_map (λ (r : TypeInfo). r.id) row → refused_with b E20 ≡ device_properties b row
 device-none b None is = refl
 device-none b (Some row) is = cc
 
 -- a property more
-pub rows-more : (rows slots : List Property) → rows ≡ slots → (i : ℕ) (d : Property) (before behind : List Data) → i < length rows
-    → before ≡ map property_data (flat_map words_for_adding (take i slots)) → behind ≡ before ++ map property_data (words_for_adding (get_or rows i d))
-    → behind ≡ map property_data (flat_map words_for_adding (take (i + 1) slots))
-rows-more rows slots same i d before behind within is more =
+pub rows-more : (rows slots : List Property) → rows ≡ slots → (i : ℕ) (d : Property) (before after : List Data) → i < length rows
+    → before ≡ map property_data (flat_map words_for_adding (take i slots)) → after ≡ before ++ map property_data (words_for_adding (get_or rows i d))
+    → after ≡ map property_data (flat_map words_for_adding (take (i + 1) slots))
+rows-more rows slots same i d before after within is more =
     let p = get_or rows i d in
     more
     ∙ ap (λ (l : List Data). l ++ map property_data (words_for_adding p))
@@ -99,9 +105,9 @@ rows-all rows t same i high =
     ∙ ap (λ (l : List (List ℕ × List ℕ)). map property_data l) (words-all (slots_of t))
 
 -- a property is told of where the adding command writes it
-pub row-pushed : (p : Property) (text : List ℕ) (before behind : List Data) → may_add p.mark ≡ true → text ≡ kind_word p.kind
-    → behind ≡ before ++ property_data (property_name p.name, text) ∷ [] → behind ≡ before ++ map property_data (words_for_adding p)
-row-pushed p text before behind may is more = rw (may, ← is) more
+pub row-pushed : (p : Property) (text : List ℕ) (before after : List Data) → may_add p.mark ≡ true → text ≡ role_word p.role
+    → after ≡ before ++ property_data (property_name p.name, text) ∷ [] → after ≡ before ++ map property_data (words_for_adding p)
+row-pushed p text before after may is more = rw (may, ← is) more
 
 -- one more of a list's front, and all of it
 module _ {X : Type 0} where

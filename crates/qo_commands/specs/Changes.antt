@@ -3,12 +3,12 @@ use Rattle.std.specs.Prelude.{◌≡◌, ◌==◌, ℕ, Bool, if◌then◌else�
 use Rattle.qo_values.specs.declared.codes.Code.{Code}
 use Rattle.qo_model.specs.Board.{Board}
 use Rattle.qo_model.specs.Objects.{attempted_as}
-use Rattle.qo_plug.specs.Added.{wanted}
+use Rattle.qo_plug.specs.Admission.{wanted}
 use Rattle.qo_plug.specs.Cuts.{cut_as}
 use Rattle.qo_properties.specs.declared.refusals.Refusal.{Refusal}
 use Rattle.qo_properties.specs.declared.refusals.Refusal.TheVariants.{Refused, Memory}
 use Rattle.qo_realize.specs.Parts.{Parts}
-use Rattle.qo_realize.specs.Stands.{Stands}
+use Rattle.qo_realize.specs.Representation.{Stands}
 use Rattle.qo_requests.specs.declared.calls.Addition.TheVariants.{ObjectAdd, DeviceAdd}
 use Rattle.qo_requests.specs.declared.calls.Call.{Call}
 use Rattle.qo_requests.specs.declared.calls.Call.TheVariants as call

@@ -13,21 +13,21 @@ use Rattle.qo_lane.specs.Hearing.{Outcome, heard}
 use Rattle.qo_model.specs.Board.{Board, DeviceEvent}
 use Rattle.qo_model.specs.Hotplug.{asked, reset_whole}
 use Rattle.qo_model.specs.Plug.{Plugged, plug}
-use Rattle.qo_plug.specs.Added.{wanted}
-use Rattle.qo_values.specs.Plain.{data_of}
+use Rattle.qo_plug.specs.Admission.{wanted}
+use Rattle.qo_values.specs.PlainValues.{data_of}
 use Rattle.qo_model.specs.Listing.{around, value_word}
 use Rattle.qo_model.specs.NoteReplies.{first_from, given_from}
 use Rattle.qo_model.specs.Notes.{note_text, total_of}
 use Rattle.qo_model.specs.Objects.{Changed, may_add, object_add, sever}
 use Rattle.qo_model.specs.declared.notes.Note.{Note}
 use Rattle.qo_model.specs.Access.{listing_at, read, write_at}
-use Rattle.qo_model.specs.Detachment.{detached_told}
+use Rattle.qo_model.specs.Detachment.{detached_listed}
 use Rattle.qo_model.specs.declared.detached.Detached.{Detached}
-use Rattle.qo_model.specs.Types.{TypeRow, is_a, row_named, row_of, slots_of}
+use Rattle.qo_model.specs.Types.{TypeInfo, is_a, type_named, info_of, slots_of}
 use Rattle.qo_model.specs.RowNames.{property_name}
 use Rattle.qo_model.specs.declared.properties.Property.{Property}
-use Rattle.qo_model.specs.declared.properties.RowKind.{RowKind}
-use Rattle.qo_model.specs.declared.properties.RowKind.TheVariants as row
+use Rattle.qo_model.specs.declared.properties.PropertyRole.{PropertyRole}
+use Rattle.qo_model.specs.declared.properties.PropertyRole.TheVariants as row
 use Rattle.qo_types.specs.Rows.{listed as listed_types}
 pub use Rattle.qo_replies.specs.Properties.{properties_data, property_data}
 use Rattle.qo_realize.specs.Chardevs.{Reading, chardev_added, chardev_removed, ringbuf_read, ringbuf_written}
@@ -82,7 +82,7 @@ wrote b (Err code) = refused_with b code
 abbrev pub changed : Changed → Done
 changed change = elim change.refusal [ None ↦ returned change.board empty | Some code ↦ refused_with change.board code ]
 
--- a device is added, or the code that refuses it, behind an attempt if there was one
+-- a device is added, or the code that refuses it, after an attempt if there was one
 abbrev pub plugged : Plugged → Done
 plugged add = elim add.refusal [ None ↦ returned add.board empty | Some refusal ↦ refused_with add.board refusal.1 ]
 
@@ -121,15 +121,15 @@ timed change = elim change.refusal [ None ↦ returned change.board (time_data c
 abbrev pub note_data : Note → Data
 note_data note = string (note_text note)
 
-abbrev pub notes_told : ℕ → List Note → ℕ → Data
-notes_told first notes total =
+abbrev pub notes_reply : ℕ → List Note → ℕ → Data
+notes_reply first notes total =
     object
     (member (codes "first") (number (unsigned first))
     (member (codes "notes") (array (items_of (map note_data notes)))
     (member (codes "total") (number (unsigned total)) no_members)))
 
 abbrev pub notes_data : ℕ → List Note → Data
-notes_data from notes = notes_told (first_from from notes) (given_from from notes) (total_of notes)
+notes_data from notes = notes_reply (first_from from notes) (given_from from notes) (total_of notes)
 
 -- an object without a parent, as it is told
 abbrev pub detached_data : Detached → Data
@@ -148,18 +148,18 @@ abbrev pub with_parent : Option TypeId → Members
 with_parent None = no_members
 with_parent (Some parent) = member (codes "parent") (string (type_name parent)) no_members
 
-abbrev pub named_type : TypeRow → Members
+abbrev pub named_type : TypeInfo → Members
 named_type row = member (codes "name") (string (type_name row.id)) (with_parent row.parent)
 
-abbrev pub type_members : TypeRow → Members
+abbrev pub type_members : TypeInfo → Members
 type_members row = if row.is_abstract then member (codes "abstract") (boolean true) (named_type row) else named_type row
 
-abbrev pub type_data : TypeRow → Data
+abbrev pub type_data : TypeInfo → Data
 type_data row = object (type_members row)
 
 -- the rows of the types of a name, abstract ones only where asked, in row order
-abbrev pub types_of : List ℕ → Bool → List TypeRow
-types_of name with_abstract = filter_map row_of (listed_types name with_abstract)
+abbrev pub types_of : List ℕ → Bool → List TypeInfo
+types_of name with_abstract = filter_map info_of (listed_types name with_abstract)
 
 -- whether the adding command writes a property
 abbrev pub is_for_adding : Property → Bool
@@ -169,22 +169,22 @@ is_for_adding row = may_add row.mark
 abbrev pub link_word : TypeId → List ℕ
 link_word t = around (codes "link") t
 
-abbrev pub kind_word : RowKind → List ℕ
-kind_word (row.Plain type first) = value_word type
-kind_word (row.Link t holds) = link_word t
-kind_word (row.Child t) = around (codes "child") t
-kind_word (row.Alias owner of) = []
+abbrev pub role_word : PropertyRole → List ℕ
+role_word (row.Plain type first) = value_word type
+role_word (row.Link t holds) = link_word t
+role_word (row.Child t) = around (codes "child") t
+role_word (row.Alias owner of) = []
 
 -- a property by its name and type text
 abbrev pub property_words : Property → List ℕ × List ℕ
-property_words p = (property_name p.name, kind_word p.kind)
+property_words p = (property_name p.name, role_word p.role)
 
 -- the properties of a type of devices that the adding command writes, in row order
 abbrev pub adding_properties : TypeId → List (List ℕ × List ℕ)
 adding_properties t = map property_words (filter is_for_adding (slots_of t))
 
 -- the properties of a named type, which must be one of devices
-abbrev pub device_properties : Board → Option TypeRow → Done
+abbrev pub device_properties : Board → Option TypeInfo → Done
 device_properties b None = refused_with b E20
 device_properties b (Some row) =
     if is_a row.id (codes "device") then returned b (array (items_of (map property_data (adding_properties row.id)))) else refused_with b E22
@@ -204,9 +204,9 @@ queried b (QomList path) = answered b properties_data (listing_at b path)
 queried b (QomGet path property) = answered b data_of (read b path property)
 queried b (QomListTypes implements with_abstract) =
     returned b (array (items_of (map type_data (types_of (unwrap_or implements (codes "object")) (unwrap_or with_abstract false)))))
-queried b (DeviceListProperties typename) = device_properties b (row_named typename)
+queried b (DeviceListProperties typename) = device_properties b (type_named typename)
 queried b (XQueryNotes from) = returned b (notes_data from b.notes)
-queried b XQueryDetached = returned b (array (items_of (map detached_data (detached_told b))))
+queried b XQueryDetached = returned b (array (items_of (map detached_data (detached_listed b))))
 queried b QueryVersion = returned b version_data
 queried b QueryCommands = returned b (array (items_of (map command_data commands)))
 queried b QueryStatus = returned b (status_data b.running)

@@ -9,7 +9,7 @@ ghost use Rattle.qo_commands.specs.Changes.{Alters, Came, Changes};
 ghost use Rattle.qo_commands.specs.Commands.{altered, empty, told};
 ghost use Rattle.qo_commands.specs.Views.{done_of};
 ghost use Rattle.qo_lane.specs.Hearing.{outcome_of};
-ghost use Rattle.qo_realize.specs.Stands.{Stands};
+ghost use Rattle.qo_realize.specs.Representation.{Stands};
 
 use crate::commands::{Body, Done, done_by, outcome_of, refused, returned};
 use crate::rings::{add_ring, read_ring, remove_ring, write_ring};

@@ -8,7 +8,7 @@ ghost use Rattle.qo_replies.specs.declared.events.Event.TheVariants as event;
 ghost use Rattle.qo_values.specs.declared.codes.Code.{Code};
 ghost use Rattle.qo_commands.specs.Changes.{ComesTo, by_answer};
 ghost use Rattle.qo_commands.specs.Commands.{empty, queried, refused_with, returned};
-ghost use Rattle.qo_realize.specs.Stands.{Stands};
+ghost use Rattle.qo_realize.specs.Representation.{Stands};
 ghost use Rattle.qo_commands.specs.Views.{body_data, done_of};
 
 use crate::built::commands;

@@ -4,8 +4,8 @@ ghost use Rattle.std.specs.Prelude.{◌≡◌, ◌++◌, [], ◌∷◌, map, IfO
 ghost use Rattle.serde_json.specs.Data.{array};
 ghost use Rattle.serde_json.specs.View.{items_of, view};
 ghost use Rattle.qo_model.specs.Board.{Board as Tree};
-ghost use Rattle.qo_model.specs.Detachment.{detached_told};
-ghost use Rattle.qo_realize.specs.Stands.{Stands};
+ghost use Rattle.qo_model.specs.Detachment.{detached_listed};
+ghost use Rattle.qo_realize.specs.Representation.{Stands};
 ghost use Rattle.qo_commands.specs.Commands.{detached_data, returned};
 ghost use Rattle.qo_commands.specs.Views.{done_of};
 
@@ -50,7 +50,7 @@ pub(crate) fn query_detached<L: Ledger>(
     board: &Board,
     steps: &mut Steps<L>,
 ) -> Result<Done, AllocError>
-    ensures { (b : Tree) → Stands b board.now → IfOk result (λ d. done_of b d ≡ returned b (array (items_of (map detached_data (detached_told b))))) }
+    ensures { (b : Tree) → Stands b board.now → IfOk result (λ d. done_of b d ≡ returned b (array (items_of (map detached_data (detached_listed b))))) }
 {
     let objects = board.detached(alloc, steps)?;
     let value = detached_list(alloc, &objects)?;

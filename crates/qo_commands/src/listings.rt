@@ -4,7 +4,7 @@ ghost use Rattle.std.specs.Prelude.{◌≡◌, [], IfOk, OnOk};
 ghost use Rattle.qo_model.specs.Access.{listing_at};
 ghost use Rattle.qo_model.specs.Board.{Board as Tree};
 ghost use Rattle.qo_model.specs.Listing.{listing};
-ghost use Rattle.qo_realize.specs.Stands.{Stands};
+ghost use Rattle.qo_realize.specs.Representation.{Stands};
 ghost use Rattle.qo_replies.specs.Json.{json};
 ghost use Rattle.qo_replies.specs.Properties.{HasWritten, properties_data};
 ghost use Rattle.qo_table.specs.Rows.{IsLive};

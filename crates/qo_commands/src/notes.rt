@@ -4,8 +4,8 @@ ghost use Rattle.std.specs.Prelude.{◌≡◌, ◌++◌, [], ◌∷◌, ℕ, map
 ghost use Rattle.serde_json.specs.Data.{array, member, no_members, number, object, unsigned};
 ghost use Rattle.serde_json.specs.View.{items_of, view};
 ghost use Rattle.qo_model.specs.Board.{Board as Tree};
-ghost use Rattle.qo_realize.specs.Stands.{Stands};
-ghost use Rattle.qo_commands.specs.Commands.{note_data, notes_data, notes_told, returned};
+ghost use Rattle.qo_realize.specs.Representation.{Stands};
+ghost use Rattle.qo_commands.specs.Commands.{note_data, notes_data, notes_reply, returned};
 ghost use Rattle.qo_commands.specs.Views.{done_of};
 
 use crate::commands::{Done, returned_value};
@@ -43,7 +43,7 @@ fn note_list(alloc: Global, notes: &[Note]) -> Result<Value, AllocError>
 
 /// The number of the first note that is told, the notes, and how many there were.
 fn told(alloc: Global, first: u64, notes: &[Note], total: u64) -> Result<Value, AllocError>
-    ensures { IfOk result (λ v. view v ≡ notes_told first notes.now total) }
+    ensures { IfOk result (λ v. view v ≡ notes_reply first notes.now total) }
 {
     let notes = note_list(alloc, notes)?;
     json!(in alloc; {"first": first, "notes": notes, "total": total})

@@ -4,7 +4,7 @@ ghost use Rattle.qo_model.specs.Board.{Board as Tree};
 ghost use Rattle.qo_requests.specs.declared.calls.Alteration.TheVariants as alteration;
 ghost use Rattle.qo_commands.specs.Changes.{Alters, Came};
 ghost use Rattle.qo_commands.specs.Commands.{altered};
-ghost use Rattle.qo_realize.specs.Stands.{Stands};
+ghost use Rattle.qo_realize.specs.Representation.{Stands};
 
 use crate::commands::{Body, Done, done_by, outcome_of, refused, returned};
 use qo_heap::Steps;
@@ -50,7 +50,7 @@ pub(crate) fn read_ring(
     }
 }
 
-/// Puts the bytes that a text gives in a form behind those of the ring of an id.
+/// Puts the bytes that a text gives in a form after those of the ring of an id.
 pub(crate) fn write_ring(
     board: &mut Board,
     id: &str,

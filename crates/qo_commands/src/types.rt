@@ -7,12 +7,12 @@ ghost use Rattle.serde_json.specs.View.{items_of, view};
 ghost use Rattle.qo_values.specs.TypeTexts.{around};
 ghost use Rattle.qo_model.specs.Board.{Board as Tree};
 ghost use Rattle.qo_model.specs.Objects.{may_add};
-ghost use Rattle.qo_model.specs.Types.{row_named, row_of};
-ghost use Rattle.qo_commands.specs.Commands.{adding_properties, device_properties, kind_word, property_data, returned, type_data, types_of};
+ghost use Rattle.qo_model.specs.Types.{type_named, info_of};
+ghost use Rattle.qo_commands.specs.Commands.{adding_properties, device_properties, role_word, property_data, returned, type_data, types_of};
 ghost use Rattle.qo_commands.specs.Views.{done_of, row_data, words_for_adding};
 
 use crate::commands::{Done, refused, returned_value};
-use qo_model::{Mark, Property, RowKind};
+use qo_model::{Mark, Property, PropertyRole};
 use qo_types::TypeTable;
 use qo_values::{Code, Text, TypeId};
 use serde_json::{Value, json};
@@ -41,7 +41,7 @@ fn row_value(
 /// A type, as `qom-list-types` tells of it.
 #[tactic(auto, using(crate::proofs::ListingLemmas::row_told))]
 fn type_value(alloc: Global, t: TypeId) -> Result<Value, AllocError>
-    ensures { IfOk result (λ v. Some (view v) ≡ option_map type_data (row_of t)) }
+    ensures { IfOk result (λ v. Some (view v) ≡ option_map type_data (info_of t)) }
 {
     let types = TypeTable::board();
     row_value(alloc, t, types.is_abstract(t), types.parent(t))
@@ -49,7 +49,7 @@ fn type_value(alloc: Global, t: TypeId) -> Result<Value, AllocError>
 
 /// Adds a type to a list.
 fn push_type(alloc: Global, values: &mut Vec<Value>, t: TypeId) -> Result<(), AllocError>
-    ensures { OnOk result (map view values.new.items ≡ map view values.old.items ++ map type_data (filter_map row_of (t ∷ []))) }
+    ensures { OnOk result (map view values.new.items ≡ map view values.old.items ++ map type_data (filter_map info_of (t ∷ []))) }
 {
     let value = type_value(alloc, t)?;
     values.push(value)?;
@@ -58,7 +58,7 @@ fn push_type(alloc: Global, values: &mut Vec<Value>, t: TypeId) -> Result<(), Al
 
 /// Types as a list.
 fn type_listing(alloc: Global, types: &[TypeId]) -> Result<Value, AllocError>
-    ensures { IfOk result (λ v. view v ≡ array (items_of (map type_data (filter_map row_of types.now)))) }
+    ensures { IfOk result (λ v. view v ≡ array (items_of (map type_data (filter_map info_of types.now)))) }
 {
     let mut values = Vec::new(alloc);
     for t in types {
@@ -109,14 +109,14 @@ fn around(alloc: Global, word: &str, kind: TypeId) -> Result<String, AllocError>
 
 /// The type text of a property with a row; that of an alias is the text of what it passes on to,
 /// and is empty here.
-fn kind_text(alloc: Global, kind: &RowKind) -> Result<String, AllocError>
-    ensures { IfOk result (λ text. string_bytes text ≡ kind_word kind.now) }
+fn role_text(alloc: Global, kind: &PropertyRole) -> Result<String, AllocError>
+    ensures { IfOk result (λ text. string_bytes text ≡ role_word kind.now) }
 {
     match kind {
-        RowKind::Plain(ty, _) => String::from_str(alloc, ty.word()),
-        RowKind::Child(ty) => around(alloc, "child", *ty),
-        RowKind::Link { ty, .. } => around(alloc, "link", *ty),
-        RowKind::Alias { .. } => Ok(String::new(alloc)),
+        PropertyRole::Plain(ty, _) => String::from_str(alloc, ty.word()),
+        PropertyRole::Child(ty) => around(alloc, "child", *ty),
+        PropertyRole::Link { ty, .. } => around(alloc, "link", *ty),
+        PropertyRole::Alias { .. } => Ok(String::new(alloc)),
     }
 }
 
@@ -139,7 +139,7 @@ fn push_row(alloc: Global, values: &mut Vec<Value>, row: &Property) -> Result<()
     if !is_for_adding(row.mark) {
         return Ok(());
     }
-    let text = kind_text(alloc, &row.kind)?;
+    let text = role_text(alloc, &row.role)?;
     let value = property_value(alloc, row.name.as_str(), &text)?;
     values.push(value)?;
     Ok(())
@@ -159,7 +159,7 @@ fn row_listing(alloc: Global, t: TypeId) -> Result<Value, AllocError>
 
 /// The properties of a named type of devices that the adding command writes.
 pub(crate) fn list_properties(alloc: Global, typename: &str) -> Result<Done, AllocError>
-    ensures { (b : Tree) → IfOk result (λ d. done_of b d ≡ device_properties b (row_named typename.now)) }
+    ensures { (b : Tree) → IfOk result (λ d. done_of b d ≡ device_properties b (type_named typename.now)) }
 {
     let types = TypeTable::board();
     let Some(t) = types.find(typename) else {

@@ -1,10 +1,10 @@
 //! The values of properties: `qom-get`.
 
 ghost use Rattle.std.specs.Prelude.{◌≡◌, IfOk};
-ghost use Rattle.qo_values.specs.Plain.{data_of};
+ghost use Rattle.qo_values.specs.PlainValues.{data_of};
 ghost use Rattle.qo_model.specs.Board.{Board as Tree};
 ghost use Rattle.qo_model.specs.Access.{read};
-ghost use Rattle.qo_realize.specs.Stands.{Stands};
+ghost use Rattle.qo_realize.specs.Representation.{Stands};
 ghost use Rattle.qo_commands.specs.Commands.{answered};
 ghost use Rattle.qo_commands.specs.Views.{done_of};
 

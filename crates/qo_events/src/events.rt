@@ -15,7 +15,7 @@ pub struct Events {
 impl Model for Events {
     ghost use Rattle.std.specs.Prelude.{◌+◌, ◌-◌, ◌≤◌};
     ghost use Rattle.std.specs.Vec.{vec_len, vec_capacity};
-    ghost use Rattle.qo_events.specs.Waiting.{Waiting};
+    ghost use Rattle.qo_events.specs.Queue.{Waiting};
 
     ghost Value = { Waiting };
 
@@ -30,7 +30,7 @@ impl Model for Events {
 
 impl Events {
     ghost use Rattle.std.specs.Prelude.{◌≡◌, ◌≤◌, ◌+◌, IsOk, OnOk, OnErr, length};
-    ghost use Rattle.qo_events.specs.Waiting.{none_waiting, promised, kept, added, told};
+    ghost use Rattle.qo_events.specs.Queue.{none_waiting, promised, kept, added, told};
 
     /// No events, and no place for any. It takes no memory.
     pub fn new(alloc: Global) -> Events
@@ -65,7 +65,7 @@ impl Events {
         self.promised += 1;
     }
 
-    /// Adds an event behind the others, in a place that was promised. It takes no memory.
+    /// Adds an event after the others, in a place that was promised. It takes no memory.
     pub fn keep(&mut self, event: DeviceEvent)
         requires { 1 ≤ self.old.promised }
         ensures { self.new ≡ kept event self.old }
@@ -74,7 +74,7 @@ impl Events {
         self.list.push_reserved(event);
     }
 
-    /// Adds an event behind the others, in a place that is not promised. The error is want of
+    /// Adds an event after the others, in a place that is not promised. The error is want of
     /// memory, and leaves all as it was.
     pub fn add(&mut self, event: DeviceEvent) -> Result<(), AllocError>
         ensures added { OnOk result (self.new ≡ record (added event self.old) { spare = self.new.spare }) }

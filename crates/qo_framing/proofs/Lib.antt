@@ -1,5 +1,5 @@
 pub mod Scans
-pub mod Unfinished
+pub mod UnfinishedObjects
 pub mod Cuts
 pub mod Steps
 pub mod Feeding

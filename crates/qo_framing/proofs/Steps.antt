@@ -7,24 +7,24 @@ use Rattle.std.proofs.Math.Seq.{take-append-add, drop-append-add, drop-append_se
 use Rattle.qo_framing.proofs.Cuts.{Shrinks, weight, first_shrinks, cuts_by_parts}
 use Rattle.qo_framing.proofs.Scans.{end_here, no_end_here, later_twice}
 use Rattle.qo_framing.specs.Classes.{is_passed, ends_skipping}
-use Rattle.qo_framing.specs.Cut.{Cut, Framing, Part, between, inside, skipping, stops, goes_on, behind_skipping, between_part, cut, cut_of_part, first_part, followed, held, item_of, object_part, skipping_part, trimmed}
-use Rattle.qo_framing.specs.Fronts.{End, end_behind, ending, later}
+use Rattle.qo_framing.specs.Cut.{Cut, Framing, Part, between, inside, skipping, stops, goes_on, after_skipping, between_part, cut, cut_of_part, first_part, followed, held, item_of, object_part, skipping_part, trimmed}
+use Rattle.qo_framing.specs.Fronts.{End, end_after, ending, later}
 use Rattle.qo_framing.specs.Laws.{CutsAnywhere}
 use Rattle.qo_framing.specs.declared.items.Item.{Item}
 use Rattle.qo_framing.specs.declared.items.Item.TheVariants as item
 use Rattle.qo_framing.specs.declared.scanner.Ending.{Ending}
 use Rattle.qo_framing.specs.declared.scanner.Ending.TheVariants.{Whole, Broken, TooLong, TooDeep}
 
--- an item or none, and the state behind a byte
+-- an item or none, and the state after a byte
 pub record One : Type 0 where
   pub item : Option Item
   pub state : Framing
 
--- where skipping stands behind a byte
+-- where skipping stands after a byte
 abbrev pub skip : ℕ → Framing
 skip b = if ends_skipping b then between else skipping
 
--- the state behind the byte that ended an object: where the stream skips, that byte is skipped
+-- the state after the byte that ended an object: where the stream skips, that byte is skipped
 abbrev pub after : Ending → ℕ → Framing
 after Whole b = between
 after Broken b = between
@@ -71,21 +71,28 @@ abbrev pub whole_steps : Framing → List ℕ → Cut
 whole_steps state bytes = steps (base state) (held state ++ bytes)
 
 -- skipping
-skipping_steps : (bytes : List ℕ) → cut_of_part (skipping_part (behind_skipping bytes)) whole_steps ≡ steps skipping bytes
+skipping_steps : (bytes : List ℕ) → cut_of_part (skipping_part (after_skipping bytes)) whole_steps ≡ steps skipping bytes
 skipping_steps [] = refl
 skipping_steps (b ∷ bytes) = by_end (ends_skipping b) refl (skipping_steps bytes)
   where
-    by_end : (ends : Bool) → ends_skipping b ≡ ends → cut_of_part (skipping_part (behind_skipping bytes)) whole_steps ≡ steps skipping bytes → cut_of_part (skipping_part (behind_skipping (b ∷ bytes))) whole_steps ≡ steps skipping (b ∷ bytes)
+    by_end : (ends : Bool) → ends_skipping b ≡ ends → cut_of_part (skipping_part (after_skipping bytes)) whole_steps ≡ steps skipping bytes
+        → cut_of_part (skipping_part (after_skipping (b ∷ bytes))) whole_steps ≡ steps skipping (b ∷ bytes)
     by_end true e further = rw e refl
     by_end false e further = rw e further
 
 -- an object
-object_none : (bytes front : List ℕ) (b : ℕ) (found : Option End) → (cut_of_part (object_part ((front ++ b ∷ []) ++ bytes) (later (length (front ++ b ∷ [])) found)) whole_steps ≡ steps (inside (front ++ b ∷ [])) bytes) → cut_of_part (object_part (front ++ b ∷ bytes) (later (length front) (later 1 found))) whole_steps ≡ steps (inside (front ++ b ∷ [])) bytes
+object_none : (bytes front : List ℕ) (b : ℕ) (found : Option End)
+    → (cut_of_part (object_part ((front ++ b ∷ []) ++ bytes) (later (length (front ++ b ∷ [])) found)) whole_steps ≡ steps (inside (front ++ b ∷ [])) bytes)
+    → cut_of_part (object_part (front ++ b ∷ bytes) (later (length front) (later 1 found))) whole_steps ≡ steps (inside (front ++ b ∷ [])) bytes
 object_none bytes front b found further =
-    ap (λ (f : Option End). cut_of_part (object_part (front ++ b ∷ bytes) f) whole_steps) (later_twice (length front) 1 found ∙ ap (λ (n : ℕ). later n found) (sym (length-append front (b ∷ []))))
-    ∙ (ap (λ (l : List ℕ). cut_of_part (object_part l (later (length (front ++ b ∷ [])) found)) whole_steps) (sym (append_assoc front (b ∷ []) bytes)) ∙ further)
+    ap (λ (f : Option End). cut_of_part (object_part (front ++ b ∷ bytes) f) whole_steps)
+    (later_twice (length front) 1 found ∙ ap (λ (n : ℕ). later n found) (sym (length-append front (b ∷ []))))
+    ∙ (ap (λ (l : List ℕ). cut_of_part (object_part l (later (length (front ++ b ∷ [])) found)) whole_steps) (sym (append_assoc front (b ∷ []) bytes))
+    ∙ further)
 
-object_some : (bytes front : List ℕ) (b : ℕ) (how : Ending) → cut_of_part (object_part (front ++ b ∷ bytes) (Some (record { how = how; count = length front + 1 }))) whole_steps ≡ followed (item_of how (front ++ b ∷ []) ∷ []) (steps (after how b) bytes)
+object_some : (bytes front : List ℕ) (b : ℕ) (how : Ending)
+    → cut_of_part (object_part (front ++ b ∷ bytes) (Some (record { how = how; count = length front + 1 }))) whole_steps
+    ≡ followed (item_of how (front ++ b ∷ []) ∷ []) (steps (after how b) bytes)
 object_some bytes front b how = by_how how
   where
     taken : take (length front + 1) (front ++ b ∷ bytes) ≡ front ++ b ∷ []
@@ -97,7 +104,8 @@ object_some bytes front b how = by_how how
     left_with : drop (length front + 1 - 1) (front ++ b ∷ bytes) ≡ b ∷ bytes
     left_with = ap (λ (n : ℕ). drop n (front ++ b ∷ bytes)) (omega arith) ∙ drop-append_seam front (b ∷ bytes)
 
-    by_how : (how : Ending) → cut_of_part (object_part (front ++ b ∷ bytes) (Some (record { how = how; count = length front + 1 }))) whole_steps ≡ followed (item_of how (front ++ b ∷ []) ∷ []) (steps (after how b) bytes)
+    by_how : (how : Ending) → cut_of_part (object_part (front ++ b ∷ bytes) (Some (record { how = how; count = length front + 1 }))) whole_steps
+        ≡ followed (item_of how (front ++ b ∷ []) ∷ []) (steps (after how b) bytes)
     by_how Whole =
         ap (λ (l : List ℕ). followed (item.Object l ∷ []) (steps between (drop (length front + 1) (front ++ b ∷ bytes)))) taken
         ∙ ap (λ (l : List ℕ). followed (item.Object (front ++ b ∷ []) ∷ []) (steps between l)) left
@@ -105,14 +113,21 @@ object_some bytes front b how = by_how how
     by_how TooLong = ap (λ (l : List ℕ). followed (item.TooLong ∷ []) (steps skipping l)) left_with
     by_how TooDeep = ap (λ (l : List ℕ). followed (item.TooDeep ∷ []) (steps skipping l)) left_with
 
-object_steps : (bytes front : List ℕ) → cut_of_part (object_part (front ++ bytes) (later (length front) (end_behind (reverse front) bytes))) whole_steps ≡ steps (inside front) bytes
+object_steps : (bytes front : List ℕ)
+    → cut_of_part (object_part (front ++ bytes) (later (length front) (end_after (reverse front) bytes))) whole_steps ≡ steps (inside front) bytes
 object_steps [] front = ap (λ (l : List ℕ). record { items = []; state = inside l }) (append-nil front)
 object_steps (b ∷ bytes) front = by_ending (ending (b ∷ reverse front)) refl (object_steps bytes (front ++ b ∷ []))
   where
-    by_ending : (how : Option Ending) → ending (b ∷ reverse front) ≡ how → (cut_of_part (object_part ((front ++ b ∷ []) ++ bytes) (later (length (front ++ b ∷ [])) (end_behind (reverse (front ++ b ∷ [])) bytes))) whole_steps ≡ steps (inside (front ++ b ∷ [])) bytes) → cut_of_part (object_part (front ++ b ∷ bytes) (later (length front) (end_behind (reverse front) (b ∷ bytes)))) whole_steps ≡ steps (inside front) (b ∷ bytes)
+    by_ending : (how : Option Ending) → ending (b ∷ reverse front) ≡ how
+        → (cut_of_part (object_part ((front ++ b ∷ []) ++ bytes) (later (length (front ++ b ∷ [])) (end_after (reverse (front ++ b ∷ [])) bytes))) whole_steps
+        ≡ steps (inside (front ++ b ∷ [])) bytes)
+        → cut_of_part (object_part (front ++ b ∷ bytes) (later (length front) (end_after (reverse front) (b ∷ bytes)))) whole_steps
+        ≡ steps (inside front) (b ∷ bytes)
     by_ending None is further =
         ap (λ (f : Option End). cut_of_part (object_part (front ++ b ∷ bytes) (later (length front) f)) whole_steps) (no_end_here (reverse front) b bytes is)
-        ∙ (object_none bytes front b (end_behind (b ∷ reverse front) bytes) (subst (λ (l : List ℕ). cut_of_part (object_part ((front ++ b ∷ []) ++ bytes) (later (length (front ++ b ∷ [])) (end_behind l bytes))) whole_steps ≡ steps (inside (front ++ b ∷ [])) bytes) (reverse-append front (b ∷ [])) further)
+        ∙ (object_none bytes front b (end_after (b ∷ reverse front) bytes)
+        (subst (λ (l : List ℕ). cut_of_part (object_part ((front ++ b ∷ []) ++ bytes) (later (length (front ++ b ∷ [])) (end_after l bytes))) whole_steps
+        ≡ steps (inside (front ++ b ∷ [])) bytes) (reverse-append front (b ∷ [])) further)
         ∙ ap (λ (h : Option Ending). followed (option_to_list (inside_step front b h).item) (steps (inside_step front b h).state bytes)) (sym is))
     by_ending (Some how) is further =
         ap (λ (f : Option End). cut_of_part (object_part (front ++ b ∷ bytes) (later (length front) f)) whole_steps) (end_here (reverse front) b bytes how is)
@@ -124,11 +139,13 @@ brace_steps : (b : ℕ) (bytes : List ℕ) → b ≡ 123 → cut_of_part (betwee
 brace_steps b bytes is =
     subst (λ (x : ℕ). cut_of_part (between_part (x ∷ bytes)) whole_steps ≡ steps between (x ∷ bytes)) (sym is) (object_steps bytes (123 ∷ []))
 
-junk_steps : (b : ℕ) (bytes : List ℕ) → is_passed b ≡ false → (b == 123) ≡ false → cut_of_part (between_part (b ∷ bytes)) whole_steps ≡ steps between (b ∷ bytes)
+junk_steps : (b : ℕ) (bytes : List ℕ) → is_passed b ≡ false → (b == 123) ≡ false
+    → cut_of_part (between_part (b ∷ bytes)) whole_steps ≡ steps between (b ∷ bytes)
 junk_steps b bytes plain no_brace =
     let stays : ends_skipping b ≡ false = grind (arith, nat_tests) in
     let one : step between b ≡ record { item = Some item.Junk; state = skipping } = rw (plain, no_brace) refl in
-    ap (λ (v : Bool). cut_of_part (if v then object_part (b ∷ bytes) (end_behind [] (b ∷ bytes)) else goes_on (Some item.Junk) skipping (b ∷ bytes)) whole_steps) no_brace
+    ap (λ (v : Bool).
+    cut_of_part (if v then object_part (b ∷ bytes) (end_after [] (b ∷ bytes)) else goes_on (Some item.Junk) skipping (b ∷ bytes)) whole_steps) no_brace
     ∙ (ap (λ (v : Bool). followed (item.Junk ∷ []) (steps (if v then between else skipping) bytes)) stays
     ∙ sym (ap (λ (o : One). followed (option_to_list o.item) (steps o.state bytes)) one))
 
@@ -136,10 +153,12 @@ between_steps : (bytes : List ℕ) → cut_of_part (between_part (trimmed bytes)
 between_steps [] = refl
 between_steps (b ∷ bytes) = by_class (is_passed b) (b == 123) refl refl (between_steps bytes)
   where
-    by_class : (passed brace : Bool) → is_passed b ≡ passed → (b == 123) ≡ brace → cut_of_part (between_part (trimmed bytes)) whole_steps ≡ steps between bytes → cut_of_part (between_part (trimmed (b ∷ bytes))) whole_steps ≡ steps between (b ∷ bytes)
+    by_class : (passed brace : Bool) → is_passed b ≡ passed → (b == 123) ≡ brace → cut_of_part (between_part (trimmed bytes)) whole_steps ≡ steps between bytes
+        → cut_of_part (between_part (trimmed (b ∷ bytes))) whole_steps ≡ steps between (b ∷ bytes)
     by_class true brace is_passed_over is_brace further = rw is_passed_over further
     by_class false true plain is_brace further =
-        ap (λ (v : Bool). cut_of_part (between_part (if v then trimmed bytes else b ∷ bytes)) whole_steps) plain ∙ brace_steps b bytes (grind (arith, nat_tests))
+        ap (λ (v : Bool). cut_of_part (between_part (if v then trimmed bytes else b ∷ bytes)) whole_steps) plain
+        ∙ brace_steps b bytes (grind (arith, nat_tests))
     by_class false false plain no_brace further =
         ap (λ (v : Bool). cut_of_part (between_part (if v then trimmed bytes else b ∷ bytes)) whole_steps) plain ∙ junk_steps b bytes plain no_brace
 
@@ -149,7 +168,8 @@ first_steps between bytes = between_steps bytes
 first_steps (inside front) bytes = between_steps (front ++ bytes)
 first_steps skipping bytes = skipping_steps bytes
 
-parts_steps : (part : Part) (n : ℕ) → Shrinks n part → ((state : Framing) (bytes : List ℕ) → weight state bytes < n → cut state bytes ≡ whole_steps state bytes) → cut_of_part part cut ≡ cut_of_part part whole_steps
+parts_steps : (part : Part) (n : ℕ) → Shrinks n part → ((state : Framing) (bytes : List ℕ) → weight state bytes < n → cut state bytes ≡ whole_steps state bytes)
+    → cut_of_part part cut ≡ cut_of_part part whole_steps
 parts_steps (stops state) n h further = refl
 parts_steps (goes_on item state rest) n h further = ap (followed (option_to_list item)) (further state rest h)
 
@@ -157,7 +177,8 @@ cut_steps_within : (n : ℕ) (state : Framing) (bytes : List ℕ) → weight sta
 cut_steps_within zero state bytes few = absurd (omega arith)
 cut_steps_within (suc n) state bytes few =
     cuts_by_parts state bytes
-    ∙ (parts_steps (first_part state bytes) (weight state bytes) (first_shrinks state bytes) (λ t rest h. cut_steps_within n t rest (omega arith)) ∙ first_steps state bytes)
+    ∙ (parts_steps (first_part state bytes) (weight state bytes) (first_shrinks state bytes) (λ t rest h. cut_steps_within n t rest (omega arith))
+    ∙ first_steps state bytes)
 
 -- the cut is that byte by byte
 pub cut_is_steps : (state : Framing) (bytes : List ℕ) → cut state bytes ≡ whole_steps state bytes
@@ -180,7 +201,8 @@ after_settled Broken b = refl
 after_settled TooLong b = skip_settled b
 after_settled TooDeep b = skip_settled b
 
-inside_settled : (front : List ℕ) (b : ℕ) → IsSettled (inside front) → (how : Option Ending) → ending (b ∷ reverse front) ≡ how → IsSettled (inside_step front b how).state
+inside_settled : (front : List ℕ) (b : ℕ) → IsSettled (inside front) → (how : Option Ending) → ending (b ∷ reverse front) ≡ how
+    → IsSettled (inside_step front b how).state
 inside_settled front b held_so (Some how) is = after_settled how b
 inside_settled front b held_so None is =
     steps_more front (b ∷ []) between
@@ -190,7 +212,8 @@ inside_settled front b held_so None is =
 step_settled : (state : Framing) (b : ℕ) → IsSettled state → IsSettled (step state b).state
 step_settled between b h = by_class (is_passed b) (b == 123)
   where
-    by_class : (passed brace : Bool) → IsSettled (if◌then◌else◌ {A = One} passed (record { item = None; state = between }) (if◌then◌else◌ {A = One} brace (record { item = None; state = inside (123 ∷ []) }) (record { item = Some item.Junk; state = skipping }))).state
+    by_class : (passed brace : Bool) → IsSettled (if◌then◌else◌ {A = One} passed (record { item = None; state = between })
+        (if◌then◌else◌ {A = One} brace (record { item = None; state = inside (123 ∷ []) }) (record { item = Some item.Junk; state = skipping }))).state
     by_class true brace = refl
     by_class false true = refl
     by_class false false = refl
@@ -215,7 +238,8 @@ whole_more : (state : Framing) (a b : List ℕ) → whole_steps state (a ++ b) �
 whole_more state a b =
     ap (steps (base state)) (sym (append_assoc (held state) a b))
     ∙ (steps_more (held state ++ a) b (base state)
-    ∙ ap (followed (whole_steps state a).items) (sym (settled_steps (whole_steps state a).state b (steps_settled (held state ++ a) (base state) (base_settled state)))))
+    ∙ ap (followed (whole_steps state a).items)
+    (sym (settled_steps (whole_steps state a).state b (steps_settled (held state ++ a) (base state) (base_settled state)))))
 
 pub cuts_anywhere : CutsAnywhere
 cuts_anywhere state a b =

@@ -1,7 +1,7 @@
 -- The cut of a byte stream into items (QMP specification 2.3, Issuing Commands, and 2.6; the limits and the skipping of junk are the profile's own).
 use Rattle.std.specs.Prelude.{ℕ, zero, suc, ◌+◌, ◌-◌, ◌*◌, ◌==◌, if◌then◌else◌, List, [], ◌∷◌, ◌++◌, length, take, drop, Option, Some, None, option_to_list}
 use Rattle.qo_framing.specs.Classes.{is_passed, ends_skipping}
-use Rattle.qo_framing.specs.Fronts.{End, end_behind}
+use Rattle.qo_framing.specs.Fronts.{End, end_after}
 use Rattle.qo_framing.specs.declared.items.Item.{Item}
 use Rattle.qo_framing.specs.declared.items.Item.TheVariants as item
 use Rattle.qo_framing.specs.declared.scanner.Ending.{Ending}
@@ -13,7 +13,7 @@ pub data Framing : Type 0 where
   inside : List ℕ → Framing
   skipping : Framing
 
--- the items of a stretch of bytes, and where the stream stands behind it
+-- the items of a stretch of bytes, and where the stream stands after it
 pub record Cut : Type 0 where
   pub items : List Item
   pub state : Framing
@@ -36,38 +36,38 @@ item_of TooLong bytes = item.TooLong
 item_of TooDeep bytes = item.TooDeep
 
 -- where the stream stands then
-abbrev pub state_behind : Ending → Framing
-state_behind Whole = between
-state_behind Broken = between
-state_behind TooLong = skipping
-state_behind TooDeep = skipping
+abbrev pub framing_after : Ending → Framing
+framing_after Whole = between
+framing_after Broken = between
+framing_after TooLong = skipping
+framing_after TooDeep = skipping
 
 -- and what is left: the byte at which skipping begins is itself left
-abbrev pub left_behind : Ending → ℕ → List ℕ → List ℕ
-left_behind Whole n bytes = drop n bytes
-left_behind Broken n bytes = drop n bytes
-left_behind TooLong n bytes = drop (n - 1) bytes
-left_behind TooDeep n bytes = drop (n - 1) bytes
+abbrev pub left_after : Ending → ℕ → List ℕ → List ℕ
+left_after Whole n bytes = drop n bytes
+left_after Broken n bytes = drop n bytes
+left_after TooLong n bytes = drop (n - 1) bytes
+left_after TooDeep n bytes = drop (n - 1) bytes
 
 -- bytes that begin an object lead to its end, if it has one
 abbrev pub object_part : List ℕ → Option End → Part
 object_part bytes None = stops (inside bytes)
 object_part bytes (Some e) =
-    goes_on (Some (item_of e.how (take e.count bytes))) (state_behind e.how) (left_behind e.how e.count bytes)
+    goes_on (Some (item_of e.how (take e.count bytes))) (framing_after e.how) (left_after e.how e.count bytes)
 
 -- an object begins with {; any other byte is junk, and the stream skips from there
 abbrev pub between_part : List ℕ → Part
 between_part [] = stops between
 between_part (b ∷ bytes) =
-    if b == 123 then object_part (b ∷ bytes) (end_behind [] (b ∷ bytes))
+    if b == 123 then object_part (b ∷ bytes) (end_after [] (b ∷ bytes))
     else goes_on (Some item.Junk) skipping (b ∷ bytes)
 
--- the bytes behind the first that ends the skipping
-abbrev pub behind_skipping : List ℕ → Option (List ℕ)
-behind_skipping [] = None
-behind_skipping (b ∷ bytes) = if ends_skipping b then Some bytes else behind_skipping bytes
+-- the bytes after the first that ends the skipping
+abbrev pub after_skipping : List ℕ → Option (List ℕ)
+after_skipping [] = None
+after_skipping (b ∷ bytes) = if ends_skipping b then Some bytes else after_skipping bytes
 
--- behind it the stream is between objects
+-- after it the stream is between objects
 abbrev pub skipping_part : Option (List ℕ) → Part
 skipping_part None = stops skipping
 skipping_part (Some rest) = goes_on None between rest
@@ -76,7 +76,7 @@ skipping_part (Some rest) = goes_on None between rest
 abbrev pub first_part : Framing → List ℕ → Part
 first_part between bytes = between_part (trimmed bytes)
 first_part (inside front) bytes = between_part (trimmed (front ++ bytes))
-first_part skipping bytes = skipping_part (behind_skipping bytes)
+first_part skipping bytes = skipping_part (after_skipping bytes)
 
 -- items, and then those of a cut
 abbrev pub followed : List Item → Cut → Cut

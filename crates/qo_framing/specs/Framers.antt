@@ -11,7 +11,7 @@ framing Between bytes = between
 framing (Inside scanner) bytes = inside bytes
 framing Skipping bytes = skipping
 
--- the bytes kept of an unfinished object are such, and its scanner stands behind them
+-- the bytes kept of an unfinished object are such, and its scanner stands after them
 abbrev pub IsFramer : Mode → List ℕ → Type 0
 IsFramer Between bytes = ⊤
 IsFramer (Inside scanner) bytes = IsUnfinished bytes scanner

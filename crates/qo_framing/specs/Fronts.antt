@@ -10,7 +10,7 @@ abbrev pub backslashes : List ℕ → ℕ
 backslashes [] = 0
 backslashes (b ∷ before) = if b == 92 then backslashes before + 1 else 0
 
--- whether the next byte stands in a string: a quote outside strings opens one, and the first later quote behind an even number of backslashes closes it
+-- whether the next byte stands in a string: a quote outside strings opens one, and the first later quote after an even number of backslashes closes it
 abbrev pub in_string : List ℕ → Bool
 in_string [] = false
 in_string (b ∷ before) = if b == 34 then not (in_string before && backslashes before % 2 == 0) else in_string before
@@ -24,7 +24,8 @@ outside (b ∷ before) = if in_string before then outside before else b ∷ outs
 abbrev pub depth : List ℕ → ℕ
 depth front = count_by is_opening (outside front) - count_by is_closing (outside front)
 
--- how an object ends with the last byte of a front, if it does: it is broken off by a reset byte, has a byte more than MESSAGE_MAX, opens a depth above NESTING_MAX, or is back at depth 0
+-- how an object ends with the last byte of a front, if it does: it is broken off by a reset byte, has a byte more than MESSAGE_MAX, opens a depth above
+-- NESTING_MAX, or is back at depth 0
 abbrev pub ending : List ℕ → Option Ending
 ending [] = None
 ending (b ∷ before) =
@@ -48,7 +49,7 @@ abbrev pub here_or_later : Option Ending → Option End → Option End
 here_or_later (Some how) found = Some (record { how = how; count = 1 })
 here_or_later None found = later 1 found
 
--- the end of an object by the fewest bytes behind a front
-abbrev pub end_behind : List ℕ → List ℕ → Option End
-end_behind before [] = None
-end_behind before (b ∷ bytes) = here_or_later (ending (b ∷ before)) (end_behind (b ∷ before) bytes)
+-- the end of an object by the fewest bytes after a front
+abbrev pub end_after : List ℕ → List ℕ → Option End
+end_after before [] = None
+end_after before (b ∷ bytes) = here_or_later (ending (b ∷ before)) (end_after (b ∷ before) bytes)

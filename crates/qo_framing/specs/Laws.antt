@@ -1,6 +1,6 @@
 -- What holds of the cut.
 use Rattle.std.specs.Prelude.{◌≡◌, ℕ, ◌<◌, ◌≤◌, List, [], ◌++◌, length, reverse, take, Some, None}
-use Rattle.qo_framing.specs.Fronts.{End, ending, end_behind}
+use Rattle.qo_framing.specs.Fronts.{End, ending, end_after}
 use Rattle.qo_framing.specs.Cut.{Framing, cut, cut_of_part, first_part, followed}
 
 -- the cut is that of the first part and then of the rest, however many parts there are
@@ -20,4 +20,5 @@ pub record EndsFirst (bytes : List ℕ) (e : End) : Type 0 where
 
 -- the end of an object is the first; and where there is none, no front of the bytes ends one
 abbrev pub EndsAreFirst : Type 0
-EndsAreFirst = (bytes : List ℕ) → ((e : End) → end_behind [] bytes ≡ Some e → EndsFirst bytes e) × (end_behind [] bytes ≡ None → (n : ℕ) → ending (reverse (take n bytes)) ≡ None)
+EndsAreFirst = (bytes : List ℕ)
+    → ((e : End) → end_after [] bytes ≡ Some e → EndsFirst bytes e) × (end_after [] bytes ≡ None → (n : ℕ) → ending (reverse (take n bytes)) ≡ None)

@@ -2,8 +2,8 @@
 use Rattle.std.specs.Prelude.{◌≡◌, ℕ, ◌≤◌, List, [], ◌∷◌, length, reverse, None, ⊤}
 use Rattle.qo_values.specs.declared.limits.TheConstants.{MESSAGE_MAX}
 use Rattle.qo_framing.specs.Cut.{Cut, Framing, Part, between, inside, skipping, stops, goes_on}
-use Rattle.qo_framing.specs.Fronts.{end_behind}
-use Rattle.qo_framing.specs.Scanning.{IsBehind}
+use Rattle.qo_framing.specs.Fronts.{end_after}
+use Rattle.qo_framing.specs.Scanning.{IsAfter}
 use Rattle.qo_framing.specs.declared.items.Item.{Item}
 use Rattle.qo_framing.specs.declared.scanner.Scanner.{Scanner}
 use Rattle.qo_framing.specs.declared.parts.Gap.{Gap}
@@ -27,12 +27,12 @@ abbrev pub part_view : CodePart → Part
 part_view (Stops stop) = stops (state_at stop)
 part_view (GoesOn item gap rest) = goes_on item (state_of gap) rest.now
 
--- bytes are an object that has not ended, and the scanner stands behind them
+-- bytes are an object that has not ended, and the scanner stands after them
 pub record IsUnfinished (bytes : List ℕ) (s : Scanner) : Type 0 where
   pub begins : List ℕ
   pub brace : bytes ≡ 123 ∷ begins
-  pub unended : end_behind [] bytes ≡ None
-  pub scanned : IsBehind (reverse bytes) s
+  pub unended : end_after [] bytes ≡ None
+  pub scanned : IsAfter (reverse bytes) s
   pub size : length bytes ≤ MESSAGE_MAX
 
 -- where a stream stops inside an object, its scanner is known

@@ -48,7 +48,7 @@ fn is_plain(byte: u8) -> bool
 }
 
 /// The place of the first byte from `at` on that means something, or the end.
-pub(crate) fn behind_plain(bytes: &[u8], at: usize) -> usize
+pub(crate) fn after_plain(bytes: &[u8], at: usize) -> usize
     requires { at ≤ length bytes.now }
     ensures least { at ≤ result }
     ensures most { result ≤ length bytes.now }

@@ -2,8 +2,8 @@
 
 ghost use Rattle.std.specs.Prelude.{◌≡◌, ◌+◌, ◌<◌, ◌≤◌, [], ◌∷◌, ◌++◌, IfOk, OnOk, length, option_copied, option_to_list, take};
 ghost use Rattle.qo_values.specs.declared.limits.TheConstants.{MESSAGE_MAX};
-ghost use Rattle.qo_framing.specs.Cut.{behind_skipping, between_part, cut, first_part, followed, item_of, left_behind, object_part, skipping_part, state_behind};
-ghost use Rattle.qo_framing.specs.Fronts.{end_behind};
+ghost use Rattle.qo_framing.specs.Cut.{after_skipping, between_part, cut, first_part, followed, item_of, left_after, object_part, skipping_part, framing_after};
+ghost use Rattle.qo_framing.specs.Fronts.{end_after};
 ghost use Rattle.qo_framing.specs.Parts.{cut_to, part_view, state_of, ScansPart, ScansStop};
 
 use crate::bytes::{ends_skipping, trimmed};
@@ -39,9 +39,9 @@ pub(crate) enum Part<'a> {
     GoesOn(Option<Item>, Gap, &'a [u8]),
 }
 
-/// The bytes behind the first one that ends the skipping.
-fn behind_skipping(bytes: &[u8]) -> Option<&[u8]>
-    ensures { option_copied result ≡ behind_skipping bytes.now }
+/// The bytes after the first one that ends the skipping.
+fn after_skipping(bytes: &[u8]) -> Option<&[u8]>
+    ensures { option_copied result ≡ after_skipping bytes.now }
 {
     let mut left = bytes;
     while let [byte, rest @ ..] = left {
@@ -88,8 +88,8 @@ pub(crate) fn item_of(
 pub(crate) fn rest_of(ending: Ending, count: usize, bytes: &[u8]) -> (Gap, &[u8])
     requires some { 0 < count }
     requires within { count ≤ length bytes.now }
-    ensures state { state_of result.0 ≡ state_behind ending }
-    ensures left { result.1.now ≡ left_behind ending count bytes.now }
+    ensures state { state_of result.0 ≡ framing_after ending }
+    ensures left { result.1.now ≡ left_after ending count bytes.now }
 {
     match ending {
         Ending::Whole | Ending::Broken => (Gap::Between, &bytes[count..]),
@@ -99,19 +99,19 @@ pub(crate) fn rest_of(ending: Ending, count: usize, bytes: &[u8]) -> (Gap, &[u8]
 
 /// The first part of a stream that skips.
 fn skipping_part(bytes: &[u8]) -> Part<'_>
-    ensures part { part_view result ≡ skipping_part (behind_skipping bytes.now) }
+    ensures part { part_view result ≡ skipping_part (after_skipping bytes.now) }
     ensures scanned { ScansPart result }
 {
-    match behind_skipping(bytes) {
+    match after_skipping(bytes) {
         None => Part::Stops(Stop::In(Gap::Skipping)),
         Some(rest) => Part::GoesOn(None, Gap::Between, rest),
     }
 }
 
-/// The first part of bytes that begin an object, whose bytes behind the brace are `inner`.
+/// The first part of bytes that begin an object, whose bytes after the brace are `inner`.
 fn object_part<'a>(alloc: Global, bytes: &'a [u8], inner: &[u8]) -> Result<Part<'a>, AllocError>
     requires { bytes.now ≡ 123 ∷ inner.now }
-    ensures part { IfOk result (λ p. part_view p ≡ object_part bytes.now (end_behind [] bytes.now)) }
+    ensures part { IfOk result (λ p. part_view p ≡ object_part bytes.now (end_after [] bytes.now)) }
     ensures scanned { IfOk result ScansPart }
 {
     match scan(Scanner::begun(), 1, inner) {
@@ -158,7 +158,7 @@ pub(crate) fn push_some(items: &mut Vec<Item>, item: Option<Item>) -> Result<(),
     }
 }
 
-/// Adds the items of bytes, and answers where the stream stops behind them.
+/// Adds the items of bytes, and answers where the stream stops after them.
 pub(crate) fn add_items<'a>(
     alloc: Global,
     gap: Gap,

@@ -1,9 +1,9 @@
 //! The scanner of an object: where its next byte stands, and how the object ends.
 
 ghost use Rattle.std.specs.Prelude.{◌≡◌, ◌+◌, ◌-◌, ◌≤◌, List, [], ◌∷◌, ℕ, length};
-ghost use Rattle.qo_framing.specs.Scanning.{closed, moved, one_too_many, opened, step_of, CountsWithin, HasScanned, IsBehind, OpenWithin, Scans};
+ghost use Rattle.qo_framing.specs.Scanning.{closed, moved, one_too_many, opened, step_of, CountsWithin, HasScanned, IsAfter, OpenWithin, Scans};
 
-use crate::bytes::{behind_plain, is_reset};
+use crate::bytes::{after_plain, is_reset};
 use qo_values::{MESSAGE_MAX, NESTING_MAX};
 
 /// How an object ends.
@@ -21,12 +21,12 @@ pub(crate) enum Ending {
 
 /// Where a byte stands.
 #[derive(Clone, Copy, Debug)]
-pub(crate) enum Place {
+pub(crate) enum StringState {
     /// Outside strings.
     Outside,
     /// In a string.
     InString,
-    /// In a string, behind a backslash that hides it.
+    /// In a string, after a backslash that hides it.
     Escaped,
 }
 
@@ -36,7 +36,7 @@ pub(crate) struct Scanner {
     /// How many brackets are open.
     depth: u64,
     /// Where the next byte stands.
-    place: Place,
+    place: StringState,
 }
 
 /// What one byte does.
@@ -56,18 +56,18 @@ pub(crate) enum Scanned {
 }
 
 impl Scanner {
-    /// The scanner behind an opening brace.
+    /// The scanner after an opening brace.
     pub(crate) fn begun() -> Scanner
-        ensures { IsBehind (123 ∷ []) result }
+        ensures { IsAfter (123 ∷ []) result }
     {
         Scanner {
             depth: 1,
-            place: Place::Outside,
+            place: StringState::Outside,
         }
     }
 
     /// The scanner in another place.
-    fn moved(self, place: Place) -> Step
+    fn moved(self, place: StringState) -> Step
         ensures { result ≡ moved self place }
     {
         Step::Goes(Scanner {
@@ -110,14 +110,14 @@ impl Scanner {
             return Step::Ends(Ending::Broken);
         }
         match self.place {
-            Place::Escaped => self.moved(Place::InString),
-            Place::InString => match byte {
-                b'"' => self.moved(Place::Outside),
-                b'\\' => self.moved(Place::Escaped),
+            StringState::Escaped => self.moved(StringState::InString),
+            StringState::InString => match byte {
+                b'"' => self.moved(StringState::Outside),
+                b'\\' => self.moved(StringState::Escaped),
                 _ => Step::Goes(self),
             },
-            Place::Outside => match byte {
-                b'"' => self.moved(Place::InString),
+            StringState::Outside => match byte {
+                b'"' => self.moved(StringState::InString),
                 b'{' | b'[' => self.opened(),
                 b'}' | b']' => self.closed(),
                 _ => Step::Goes(self),
@@ -134,15 +134,15 @@ impl Scanner {
             → HasScanned front bytes.now at self → HasScanned front bytes.now result self }
     {
         match self.place {
-            Place::Escaped => at,
-            Place::InString | Place::Outside => behind_plain(bytes, at),
+            StringState::Escaped => at,
+            StringState::InString | StringState::Outside => after_plain(bytes, at),
         }
     }
 }
 
 /// Scans bytes of which none is one too many.
 fn scan_all(scanner: Scanner, bytes: &[u8]) -> Scanned
-    ensures found { (front : List ℕ) → IsBehind front scanner → length front + length bytes.now ≤ MESSAGE_MAX
+    ensures found { (front : List ℕ) → IsAfter front scanner → length front + length bytes.now ≤ MESSAGE_MAX
         → Scans front bytes.now result }
     ensures count { CountsWithin bytes.now result }
 {
@@ -178,7 +178,7 @@ fn one_too_many(byte: u8) -> Ending
 /// Scans bytes of an object that has so many already.
 pub(crate) fn scan(scanner: Scanner, so_far: usize, bytes: &[u8]) -> Scanned
     requires { so_far ≤ MESSAGE_MAX }
-    ensures found { (front : List ℕ) → IsBehind front scanner → length front ≡ so_far
+    ensures found { (front : List ℕ) → IsAfter front scanner → length front ≡ so_far
         → Scans front bytes.now result }
     ensures count { CountsWithin bytes.now result }
     ensures open { OpenWithin (MESSAGE_MAX - so_far) bytes.now result }

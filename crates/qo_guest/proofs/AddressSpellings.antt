@@ -44,7 +44,8 @@ IsFree-append separator [] ys front back = back
 IsFree-append separator (x ∷ xs) ys front back = (front.0, IsFree-append separator xs ys front.1 back)
 
 -- words without separators, joined, are cut into the words
-pub pieces-join : (separator : ℕ) (first : List ℕ) (others : List (List ℕ)) → AllByRecursion (IsFree separator) (first ∷ others) → pieces separator (join_with_byte separator (first ∷ others)) ≡ first ∷ others
+pub pieces-join : (separator : ℕ) (first : List ℕ) (others : List (List ℕ)) → AllByRecursion (IsFree separator) (first ∷ others)
+    → pieces separator (join_with_byte separator (first ∷ others)) ≡ first ∷ others
 pieces-join separator first [] free = slice_split_none (λ byte. byte == separator) first (each_of (IsOther separator) first free.0)
 pieces-join separator first (next ∷ others) free =
     let here : (separator == separator) ≡ true = grind (arith, nat_tests) in
@@ -74,9 +75,10 @@ numbers_taken (word ∷ words) ns e =
     let first = then_some (number_of word) (λ n. option_and_then (λ more. Some (n ∷ more)) (numbers_of words)) ns e in
     let rest = then_some (numbers_of words) (λ more. Some (first.0 ∷ more)) ns first.2 in
     let here = number_taken word first.0 first.1 in
-    let behind = numbers_taken words rest.0 rest.1 in
+    let after = numbers_taken words rest.0 rest.1 in
     let all : first.0 ∷ rest.0 ≡ ns = let whole = rest.2 in cc in
-    subst (λ (xs : List ℕ). AllByRecursion (λ n. n ≤ 255) xs × (word ∷ words ≡ map decimal xs)) all ((here.0, behind.0), (let a = here.1 in let b = behind.1 in cc))
+    subst (λ (xs : List ℕ). AllByRecursion (λ n. n ≤ 255) xs × (word ∷ words ≡ map decimal xs)) all
+    ((here.0, after.0), (let a = here.1 in let b = after.1 in cc))
 
 -- the digits of numbers are words that are the numbers
 numbers_given : (ns : List ℕ) → AllByRecursion (λ n. n ≤ 255) ns → numbers_of (map decimal ns) ≡ Some ns
@@ -94,7 +96,8 @@ steps_taken word steps e =
     let long : length (pieces 46 word) ≡ suc (length first.1) = ap length first.2 in
     let within = leb-true (length read.0) 9 few.0 in
     let whole : word ≡ steps_text read.0 = sym (join_with_byte-slice_split 46 word) ∙ ap (join_with_byte 46) numbers.1 in
-    subst (λ (xs : List ℕ). IsSteps xs × (word ≡ steps_text xs)) few.1 (record { some = omega arith; few = within; slots = each_of (λ slot. slot ≤ 255) read.0 numbers.0 }, whole)
+    subst (λ (xs : List ℕ). IsSteps xs × (word ≡ steps_text xs)) few.1
+    (record { some = omega arith; few = within; slots = each_of (λ slot. slot ≤ 255) read.0 numbers.0 }, whole)
 
 -- no dot in the words of slots
 all_free : (ns : List ℕ) → AllByRecursion (λ n. n ≤ 255) ns → AllByRecursion (IsFree 46) (map decimal ns)
@@ -134,7 +137,8 @@ pub address_taken : (word : List ℕ) (at : Addr) → address_of word ≡ Some a
 address_taken [] at e = cc
 address_taken (byte ∷ bytes) at e = go (byte == 109) refl e
   where
-    go : (b : Bool) → (byte == 109) ≡ b → cond b (option_and_then (λ n. Some (Mem n)) (number_of bytes)) (option_and_then (λ steps. Some (Slots steps)) (steps_of (byte ∷ bytes))) ≡ Some at → IsAddress at × (byte ∷ bytes ≡ address_text at)
+    go : (b : Bool) → (byte == 109) ≡ b → cond b (option_and_then (λ n. Some (Mem n)) (number_of bytes))
+        (option_and_then (λ steps. Some (Slots steps)) (steps_of (byte ∷ bytes))) ≡ Some at → IsAddress at × (byte ∷ bytes ≡ address_text at)
     go true m e =
         let read = then_some (number_of bytes) (λ n. Some (Mem n)) at e in
         let number = number_taken bytes read.0 read.1 in

@@ -62,7 +62,9 @@ with_hex-append : (xs ys : List ℕ) (m : ℕ) → with_hex m (xs ++ ys) ≡ opt
 with_hex-append [] ys m = refl
 with_hex-append (x ∷ xs) ys m = go (λ k. with_hex-append xs ys k) (hex_digit x)
   where
-    go : ((k : ℕ) → with_hex k (xs ++ ys) ≡ option_and_then (λ j. with_hex j ys) (with_hex k xs)) → (o : Option ℕ) → option_and_then (λ digit. with_hex (m * 16 + digit) (xs ++ ys)) o ≡ option_and_then (λ k. with_hex k ys) (option_and_then (λ digit. with_hex (m * 16 + digit) xs) o)
+    go : ((k : ℕ) → with_hex k (xs ++ ys) ≡ option_and_then (λ j. with_hex j ys) (with_hex k xs)) → (o : Option ℕ)
+        → option_and_then (λ digit. with_hex (m * 16 + digit) (xs ++ ys)) o
+        ≡ option_and_then (λ k. with_hex k ys) (option_and_then (λ digit. with_hex (m * 16 + digit) xs) o)
     go rest None = refl
     go rest (Some k) = rest (m * 16 + k)
 

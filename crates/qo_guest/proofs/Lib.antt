@@ -1,9 +1,9 @@
 pub mod AddressSpellings
-pub mod Dotted
+pub mod DottedSlots
 pub mod Hex
 pub mod HexSpellings
 pub mod LineSpellings
 pub mod Numbers
-pub mod Padded8
+pub mod HexPadding
 pub mod Splits
 pub mod Steps

@@ -38,38 +38,43 @@ lone_taken verb act e =
     let reset : Option GuestAct = cond (bytes_eq verb (codes "reset")) (Some Reset) (cond (bytes_eq verb (codes "shutdown")) (Some Shutdown) None) in
     ⊎_elim (λ poll. subst (λ (a : GuestAct). Spells verb a) poll.1 (word_is verb (codes "poll") poll.0))
     (λ others. ⊎_elim (λ reset. subst (λ (a : GuestAct). Spells verb a) reset.1 (word_is verb (codes "reset") reset.0))
-    (λ last. let shutdown = guard_some (bytes_eq verb (codes "shutdown")) Shutdown act last in subst (λ (a : GuestAct). Spells verb a) shutdown.1 (word_is verb (codes "shutdown") shutdown.0))
+    (λ last. let shutdown = guard_some (bytes_eq verb (codes "shutdown")) Shutdown act last in
+    subst (λ (a : GuestAct). Spells verb a) shutdown.1 (word_is verb (codes "shutdown") shutdown.0))
     (chosen (bytes_eq verb (codes "reset")) Reset (cond (bytes_eq verb (codes "shutdown")) (Some Shutdown) None) act others))
     (chosen (bytes_eq verb (codes "poll")) Poll reset act e)
 
 pending_taken : (verb : List ℕ) (at : Addr) (act : GuestAct) → IsAddress at → pending_act verb at ≡ Some act → Spells (verb ++ 32 ∷ address_text at) act
 pending_taken verb at act is e =
-    let behind : List ℕ → List ℕ = λ word. word ++ 32 ∷ address_text at in
-    ⊎_elim (λ ack. subst (λ (a : GuestAct). Spells (behind verb) a) ack.1 (is, ap behind (word_is verb (codes "ack") ack.0)))
+    let after : List ℕ → List ℕ = λ word. word ++ 32 ∷ address_text at in
+    ⊎_elim (λ ack. subst (λ (a : GuestAct). Spells (after verb) a) ack.1 (is, ap after (word_is verb (codes "ack") ack.0)))
     (λ last. let nack = guard_some (bytes_eq verb (codes "nack")) (Nack at) act last in
-    subst (λ (a : GuestAct). Spells (behind verb) a) nack.1 (is, ap behind (word_is verb (codes "nack") nack.0)))
+    subst (λ (a : GuestAct). Spells (after verb) a) nack.1 (is, ap after (word_is verb (codes "nack") nack.0)))
     (chosen (bytes_eq verb (codes "ack")) (Ack at) (cond (bytes_eq verb (codes "nack")) (Some (Nack at)) None) act e)
 
-register_taken : (verb : List ℕ) (at : Addr) (register : ℕ) (words : List (List ℕ)) (act : GuestAct) → IsAddress at → register ≤ 255 → register_act verb at register words ≡ Some act → Spells (line_of (verb ∷ address_text at ∷ decimal register ∷ words)) act
+register_taken : (verb : List ℕ) (at : Addr) (register : ℕ) (words : List (List ℕ)) (act : GuestAct) → IsAddress at → register ≤ 255
+    → register_act verb at register words ≡ Some act → Spells (line_of (verb ∷ address_text at ∷ decimal register ∷ words)) act
 register_taken verb at register [] act is few e =
     let read = guard_some (bytes_eq verb (codes "read")) (Read at register) act e in
-    let behind : List ℕ → List ℕ = λ word. word ++ 32 ∷ (address_text at ++ 32 ∷ decimal register) in
-    subst (λ (a : GuestAct). Spells (behind verb) a) read.1 (is, few, ap behind (word_is verb (codes "read") read.0))
+    let after : List ℕ → List ℕ = λ word. word ++ 32 ∷ (address_text at ++ 32 ∷ decimal register) in
+    subst (λ (a : GuestAct). Spells (after verb) a) read.1 (is, few, ap after (word_is verb (codes "read") read.0))
 register_taken verb at register (word ∷ []) act is few e =
     let write = guard_then (bytes_eq verb (codes "write")) (option_and_then (λ value. Some (Write at register value)) (value_of word)) act e in
     let read = then_some (value_of word) (λ value. Some (Write at register value)) act write.1 in
     let value = value_taken word read.0 read.1 in
     let same : Write at register read.0 ≡ act = let whole = read.2 in cc in
     let line : List ℕ → List ℕ → List ℕ = λ front back. front ++ 32 ∷ (address_text at ++ (32 ∷ (decimal register ++ 32 ∷ back))) in
-    subst (λ (a : GuestAct). Spells (line verb word) a) same (value.0, is, few, value.1, ap (λ (front : List ℕ). line front word) (word_is verb (codes "write") write.0) ∙ ap (line (codes "write")) value.2)
+    subst (λ (a : GuestAct). Spells (line verb word) a) same
+    (value.0, is, few, value.1, ap (λ (front : List ℕ). line front word) (word_is verb (codes "write") write.0) ∙ ap (line (codes "write")) value.2)
 register_taken verb at register (word ∷ next ∷ words) act is few e = cc
 
-aimed_taken : (verb : List ℕ) (at : Addr) (words : List (List ℕ)) (act : GuestAct) → IsAddress at → aimed_act verb at words ≡ Some act → Spells (line_of (verb ∷ address_text at ∷ words)) act
+aimed_taken : (verb : List ℕ) (at : Addr) (words : List (List ℕ)) (act : GuestAct) → IsAddress at → aimed_act verb at words ≡ Some act
+    → Spells (line_of (verb ∷ address_text at ∷ words)) act
 aimed_taken verb at [] act is e = pending_taken verb at act is e
 aimed_taken verb at (word ∷ words) act is e =
     let read = then_some (number_of word) (λ register. register_act verb at register words) act e in
     let number = number_taken word read.0 read.1 in
-    subst (λ (w : List ℕ). Spells (line_of (verb ∷ address_text at ∷ w ∷ words)) act) (sym number.1) (register_taken verb at read.0 words act is number.0 read.2)
+    subst (λ (w : List ℕ). Spells (line_of (verb ∷ address_text at ∷ w ∷ words)) act) (sym number.1)
+    (register_taken verb at read.0 words act is number.0 read.2)
 
 -- the words of an act spell it
 act_taken : (words : List (List ℕ)) (act : GuestAct) → act_of words ≡ Some act → Spells (line_of words) act
@@ -92,7 +97,8 @@ digits-IsFree [] all = tt
 digits-IsFree (byte ∷ digits) all = let digit = all.0 in ((let other : IsOther 32 byte = grind (arith, nat_tests) in other), digits-IsFree digits all.1)
 
 -- a line of two words or more
-aimed_given : (verb : List ℕ) (at : Addr) (words : List (List ℕ)) → IsFree 32 verb → IsAddress at → AllByRecursion (IsFree 32) words → act_of (pieces 32 (line_of (verb ∷ address_text at ∷ words))) ≡ aimed_act verb at words
+aimed_given : (verb : List ℕ) (at : Addr) (words : List (List ℕ)) → IsFree 32 verb → IsAddress at → AllByRecursion (IsFree 32) words
+    → act_of (pieces 32 (line_of (verb ∷ address_text at ∷ words))) ≡ aimed_act verb at words
 aimed_given verb at words free is others =
     let cut = pieces-join 32 verb (address_text at ∷ words) (free, (address-IsFree at is, others)) in
     rw (cut, address_given at is) refl
@@ -108,7 +114,8 @@ act_given line (Read at register) h =
 act_given line (Write at register value) h =
     let number = number_given register h.2 in
     let read = value_given h.0 value h.3 in
-    rw h.4 (aimed_given (codes "write") at (decimal register ∷ (codes "0x" ++ h.0) ∷ []) (search rules) h.1 (decimal-IsFree 32 register (omega arith) h.2, ((refl, (refl, digits-IsFree h.0 h.3.all)), tt)) ∙ rw (number, read) refl)
+    rw h.4 (aimed_given (codes "write") at (decimal register ∷ (codes "0x" ++ h.0) ∷ []) (search rules) h.1
+    (decimal-IsFree 32 register (omega arith) h.2, ((refl, (refl, digits-IsFree h.0 h.3.all)), tt)) ∙ rw (number, read) refl)
 act_given line Reset h = rw h refl
 act_given line Shutdown h = rw h refl
 

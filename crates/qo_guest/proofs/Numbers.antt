@@ -44,8 +44,10 @@ digits_taken (byte ∷ ds) m n some few e =
     let next = decimal_step more (omega (arith, t.sum)) (omega (arith, t.fits)) in
     let front : more / 10 ≡ m = omega (arith, t.sum, t.low, t.high) in
     let last : 48 + more % 10 ≡ byte = omega (arith, t.sum, t.low, t.high) in
-    let rest = digits_taken ds more n (omega (arith, t.sum)) t.fits step.2 in
-    (rest.0, ap (λ (xs : List ℕ). xs) (sym (append_assoc (decimal m) (byte ∷ []) ds)) ∙ ap (λ (xs : List ℕ). xs ++ ds) (sym (rw (front, last) at next)) ∙ rest.1)
+    let rest = digits_taken ds more n (omega (arith, t.sum)) t.fits step.2 in (
+      rest.0,
+      ap (λ (xs : List ℕ). xs) (sym (append_assoc (decimal m) (byte ∷ []) ds)) ∙ ap (λ (xs : List ℕ). xs ++ ds) (sym (rw (front, last) at next)) ∙ rest.1,
+    )
 
 -- a value under a test that must fail
 pub guard_none : {A : Type 0} (b : Bool) (o : Option A) (y : A) → cond b None o ≡ Some y → (b ≡ false) × (o ≡ Some y)
@@ -76,7 +78,8 @@ with_digits-append : (xs ys : List ℕ) (m : ℕ) → with_digits m (xs ++ ys) �
 with_digits-append [] ys m = refl
 with_digits-append (x ∷ xs) ys m = go (λ k. with_digits-append xs ys k) (with_digit m x)
   where
-    go : ((k : ℕ) → with_digits k (xs ++ ys) ≡ option_and_then (λ j. with_digits j ys) (with_digits k xs)) → (o : Option ℕ) → option_and_then (λ more. with_digits more (xs ++ ys)) o ≡ option_and_then (λ k. with_digits k ys) (option_and_then (λ more. with_digits more xs) o)
+    go : ((k : ℕ) → with_digits k (xs ++ ys) ≡ option_and_then (λ j. with_digits j ys) (with_digits k xs)) → (o : Option ℕ)
+        → option_and_then (λ more. with_digits more (xs ++ ys)) o ≡ option_and_then (λ k. with_digits k ys) (option_and_then (λ more. with_digits more xs) o)
     go rest None = refl
     go rest (Some k) = rest k
 

@@ -1,6 +1,6 @@
 pub mod Addresses
 pub mod Answers
 pub mod Lines
-pub mod Padded
+pub mod Padding
 pub mod Pieces
 pub mod Spellings

@@ -28,7 +28,7 @@ register_act verb at register (word ∷ []) =
     else None
 register_act verb at register _ = None
 
--- the act of a verb with an address, and what words stand behind it
+-- the act of a verb with an address, and what words stand after it
 abbrev pub aimed_act : List ℕ → Addr → List (List ℕ) → Option GuestAct
 aimed_act verb at [] = pending_act verb at
 aimed_act verb at (word ∷ words) = option_and_then (λ register. register_act verb at register words) (number_of word)

@@ -19,7 +19,7 @@ pub struct Steps9 {
 
 impl Model for Steps9 {
     ghost use Rattle.std.specs.Prelude.{List, ℕ, length, take};
-    ghost use Rattle.qo_guest.specs.Padded.{IsPadded, padded_steps, padded_again};
+    ghost use Rattle.qo_guest.specs.Padding.{IsPadded, padded_steps, padded_again};
 
     ghost Value = { List ℕ };
 

@@ -3,7 +3,7 @@
 ghost use Rattle.std.specs.Prelude.{◌≡◌, [], ◌∷◌, option_copied};
 ghost use Rattle.std.specs.Result.{result_ok};
 ghost use Rattle.qo_guest.specs.Addresses.{pieces};
-ghost use Rattle.qo_guest.specs.Pieces.{pieces_behind};
+ghost use Rattle.qo_guest.specs.Pieces.{pieces_after};
 ghost use Rattle.qo_guest.specs.Lines.{lone_act, pending_act, register_act, aimed_act, act_of, guest_line};
 
 use crate::addresses::Addr;
@@ -69,11 +69,11 @@ fn write_act(verb: &[u8], at: Addr, register: u8, word: &[u8]) -> Option<GuestAc
 }
 
 /// The act of a verb with an address and a register.
-fn register_act(verb: &[u8], at: Addr, register: u8, behind: Option<&[u8]>) -> Option<GuestAct>
+fn register_act(verb: &[u8], at: Addr, register: u8, after: Option<&[u8]>) -> Option<GuestAct>
     ensures { result
-        ≡ register_act verb.now at register (pieces_behind 32 (option_copied behind.entry)) }
+        ≡ register_act verb.now at register (pieces_after 32 (option_copied after.entry)) }
 {
-    let Some(rest) = behind else {
+    let Some(rest) = after else {
         return match verb {
             b"read" => Some(GuestAct::Read(at, register)),
             _ => None,
@@ -86,26 +86,26 @@ fn register_act(verb: &[u8], at: Addr, register: u8, behind: Option<&[u8]>) -> O
 }
 
 /// The act of a verb with an address.
-fn aimed_act(verb: &[u8], at: Addr, behind: Option<&[u8]>) -> Option<GuestAct>
-    ensures { result ≡ aimed_act verb.now at (pieces_behind 32 (option_copied behind.entry)) }
+fn aimed_act(verb: &[u8], at: Addr, after: Option<&[u8]>) -> Option<GuestAct>
+    ensures { result ≡ aimed_act verb.now at (pieces_after 32 (option_copied after.entry)) }
 {
-    let Some(rest) = behind else {
+    let Some(rest) = after else {
         return pending_act(verb, at);
     };
-    let (word, behind) = split_piece(rest, b' ');
-    register_act(verb, at, read_number(word)?, behind)
+    let (word, after) = split_piece(rest, b' ');
+    register_act(verb, at, read_number(word)?, after)
 }
 
 /// The act that the words of a line are.
 fn read_act(line: &[u8]) -> Option<GuestAct>
     ensures { result ≡ act_of (pieces 32 line.now) }
 {
-    let (verb, behind) = split_piece(line, b' ');
-    let Some(rest) = behind else {
+    let (verb, after) = split_piece(line, b' ');
+    let Some(rest) = after else {
         return lone_act(verb);
     };
-    let (word, behind) = split_piece(rest, b' ');
-    aimed_act(verb, read_address(word)?, behind)
+    let (word, after) = split_piece(rest, b' ');
+    aimed_act(verb, read_address(word)?, after)
 }
 
 /// The act that a line is; `GuestBad` exactly where it is none. It takes no memory. The line is

@@ -2,7 +2,7 @@
 
 ghost use Rattle.std.specs.Prelude.{◌≡◌, ◌∷◌, ◌≤◌, ◌<◌, ◌==◌, length, position, IfSome, option_copied};
 ghost use Rattle.qo_guest.specs.Addresses.{pieces, with_digit, with_digits, number_of, steps_of, address_of, hex_digit, with_hex, value_of};
-ghost use Rattle.qo_guest.specs.Pieces.{pieces_behind};
+ghost use Rattle.qo_guest.specs.Pieces.{pieces_after};
 
 use crate::addresses::{Addr, STEPS_MAX, Steps9};
 
@@ -16,10 +16,10 @@ fn separator_at(bytes: &[u8], separator: u8) -> Option<usize>
     bytes.iter().position(|byte| *byte == separator)
 }
 
-/// What stands before the first separator, and what stands behind it, where there is one.
+/// What stands before the first separator, and what stands after it, where there is one.
 pub fn split_piece(bytes: &[u8], separator: u8) -> (&[u8], Option<&[u8]>)
     ensures pieces { pieces separator bytes.now
-        ≡ result.0.now ∷ pieces_behind separator (option_copied result.1) }
+        ≡ result.0.now ∷ pieces_after separator (option_copied result.1) }
     ensures shorter { IfSome result.1 (λ rest. length rest.now < length bytes.now) }
 {
     match separator_at(bytes, separator) {
@@ -62,16 +62,16 @@ pub fn read_number(word: &[u8]) -> Option<u8>
 fn read_steps(word: &[u8]) -> Option<Steps9>
     ensures { result ≡ steps_of word.now }
 {
-    let (first, mut behind) = split_piece(word, b'.');
+    let (first, mut after) = split_piece(word, b'.');
     let mut steps = Steps9::one(read_number(first)?);
-    while let Some(rest) = behind {
-        let (next, behind_next) = split_piece(rest, b'.');
+    while let Some(rest) = after {
+        let (next, after_next) = split_piece(rest, b'.');
         let slot = read_number(next)?;
         if steps.as_slice().len() == STEPS_MAX {
             return None;
         }
         steps.push(slot);
-        behind = behind_next;
+        after = after_next;
     }
     Some(steps)
 }

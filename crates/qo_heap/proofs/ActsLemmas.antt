@@ -81,14 +81,21 @@ pub acts-none : (v : Objects) → Acts v v
 acts-none v = record { rows = refl; born = refl; claims = refl; events = refl; time = refl }
 
 pub acts-then : (v w x : Objects) → Acts v w → Acts w x → Acts v x
-acts-then v w x first next = record { rows = next.rows ∙ first.rows; born = next.born ∙ first.born; claims = next.claims ∙ first.claims; events = next.events ∙ first.events; time = next.time ∙ first.time }
+acts-then v w x first next = record {
+  rows = next.rows ∙ first.rows;
+  born = next.born ∙ first.born;
+  claims = next.claims ∙ first.claims;
+  events = next.events ∙ first.events;
+  time = next.time ∙ first.time;
+}
 
 -- who is there stays
 live-still : (rows : List (Key × Content)) (key : Key) → IsLive (map stilled rows) key ≡ IsLive rows key
 live-still [] key = refl
 live-still (row ∷ rows) key = go (eqb row.0.birth key.birth) refl (live-still rows key)
   where
-    go : (t : Bool) → eqb row.0.birth key.birth ≡ t → IsLive (map stilled rows) key ≡ IsLive rows key → IsLive (map stilled (row ∷ rows)) key ≡ IsLive (row ∷ rows) key
+    go : (t : Bool) → eqb row.0.birth key.birth ≡ t → IsLive (map stilled rows) key ≡ IsLive rows key
+        → IsLive (map stilled (row ∷ rows)) key ≡ IsLive (row ∷ rows) key
     go true e rest = rw e refl
     go false e rest = rw e rest
 

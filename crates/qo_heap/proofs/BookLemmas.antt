@@ -6,12 +6,12 @@ use Rattle.std.proofs.lemmas.Bool.{and_parts, eqb-true}
 use Rattle.std.proofs.lemmas.List.Sums.{sum_by-append, sum_by-cons}
 use Rattle.std.proofs.lemmas.Slice.Eq.{bytes_eq-Decides}
 use Rattle.qo_values.specs.declared.ranges.Range.{Range}
-use Rattle.qo_claims.specs.Held.{Held, with_claim, without_claim}
+use Rattle.qo_claims.specs.Book.{ClaimsTaken, with_claim, without_claim}
 use Rattle.qo_claims.specs.Lists.{slot_eq, range_eq, with_range}
 use Rattle.qo_claims.specs.declared.claims.Claimed.{Claimed}
 use Rattle.qo_claims.specs.declared.claims.Claimed.TheVariants as on
 use Rattle.qo_claims.specs.declared.slots.BusSlot.{BusSlot}
-use Rattle.qo_claims.proofs.Back.{eqb-same, slot_eq-same, range_eq-same}
+use Rattle.qo_claims.proofs.ReturnedClaims.{eqb-same, slot_eq-same, range_eq-same}
 use Rattle.qo_kinds.proofs.BodyLemmas.{fresh-bare}
 use Rattle.qo_kinds.specs.Bodies.{body_of, kept_of}
 use Rattle.qo_kinds.specs.declared.bodies.Body.{Body}
@@ -29,14 +29,21 @@ module _ {K : Type 0} (eq : K → K → Bool) (same : (a b : K) → eq a b ≡ t
   taken a b [] there = absurd (omega (arith, there))
   taken a b (k ∷ ks) there = go (eq a k) refl (taken a b ks)
     where
-      go : (t : Bool) → eq a k ≡ t → (0 < count_by (eq a) ks → cond (eq b a) 1 0 + count_by (eq b) (remove_key (eq a) ks) ≡ count_by (eq b) ks) → cond (eq b a) 1 0 + count_by (eq b) (cond t ks (k ∷ remove_key (eq a) ks)) ≡ count_by (eq b) (k ∷ ks)
+      go : (t : Bool) → eq a k ≡ t → (0 < count_by (eq a) ks → cond (eq b a) 1 0 + count_by (eq b) (remove_key (eq a) ks) ≡ count_by (eq b) ks)
+          → cond (eq b a) 1 0 + count_by (eq b) (cond t ks (k ∷ remove_key (eq a) ks)) ≡ count_by (eq b) (k ∷ ks)
       go true e rest =
           let is : cond {A = ℕ} (eq b a) 1 0 ≡ cond (eq b k) 1 0 = ap (λ (x : K). cond {A = ℕ} (eq b x) 1 0) (same a k e) in
           omega (arith, is, sum_by-cons (λ (x : K). cond {A = ℕ} (eq b x) 1 0) k ks)
       go false e rest =
           let none : cond {A = ℕ} (eq a k) 1 0 ≡ 0 = rw e refl in
-          let more : cond (eq b a) 1 0 + count_by (eq b) (remove_key (eq a) ks) ≡ count_by (eq b) ks = rest (omega (arith, there, none, sum_by-cons (λ (x : K). cond {A = ℕ} (eq a x) 1 0) k ks)) in
-          omega (arith, more, sum_by-cons (λ (x : K). cond {A = ℕ} (eq b x) 1 0) k ks, sum_by-cons (λ (x : K). cond {A = ℕ} (eq b x) 1 0) k (remove_key (eq a) ks))
+          let more : cond (eq b a) 1 0 + count_by (eq b) (remove_key (eq a) ks) ≡ count_by (eq b) ks =
+          rest (omega (arith, there, none, sum_by-cons (λ (x : K). cond {A = ℕ} (eq a x) 1 0) k ks)) in
+          omega (
+            arith,
+            more,
+            sum_by-cons (λ (x : K). cond {A = ℕ} (eq b x) 1 0) k ks,
+            sum_by-cons (λ (x : K). cond {A = ℕ} (eq b x) 1 0) k (remove_key (eq a) ks),
+          )
 
 bytes-same : (a b : List ℕ) → bytes_eq a b ≡ true → a ≡ b
 bytes-same a b e = (bytes_eq-Decides a b).0 e
@@ -56,7 +63,7 @@ range-same a b e =
     rw (at, size) refl
 
 -- one claim ends that is held
-counted-without : (x y : Claimed) (h : Held) → 0 < counted x h → cond (claim_eq y x) 1 0 + counted y (without_claim x h) ≡ counted y h
+counted-without : (x y : Claimed) (h : ClaimsTaken) → 0 < counted x h → cond (claim_eq y x) 1 0 + counted y (without_claim x h) ≡ counted y h
 counted-without (on.Device a) (on.Device b) h there = taken bytes_eq bytes-same a b h.devices there
 counted-without (on.Device a) (on.RingId b) h there = omega arith
 counted-without (on.Device a) (on.Slot b) h there = omega arith
@@ -103,14 +110,16 @@ claim-self (on.Backend a) = eqb-same a
 claim-self (on.Range a) = range_eq-same a
 
 -- a claim that is perhaps there ends
-one-without : (o : Option Claimed) (h : Held) → ((x : Claimed) → one x o ≤ counted x h) → (x : Claimed) → one x o + counted x (without_one o h) ≡ counted x h
+one-without : (o : Option Claimed) (h : ClaimsTaken) → ((x : Claimed) → one x o ≤ counted x h) → (x : Claimed)
+    → one x o + counted x (without_one o h) ≡ counted x h
 one-without None h there x = omega arith
 one-without (Some y) h there x =
     let self : cond {A = ℕ} (claim_eq y y) 1 0 ≡ 1 = rw (claim-self y) refl in
     counted-without y x h (omega (arith, self, there y))
 
 -- those of a body end
-pub kept-without : (k : KeptSet) (h : Held) → ((x : Claimed) → kept_times x k ≤ counted x h) → (x : Claimed) → kept_times x k + counted x (without_kept k h) ≡ counted x h
+pub kept-without : (k : KeptSet) (h : ClaimsTaken) → ((x : Claimed) → kept_times x k ≤ counted x h) → (x : Claimed)
+    → kept_times x k + counted x (without_kept k h) ≡ counted x h
 kept-without k h there x =
     let h1 = without_one k.slot h in
     let h2 = without_one k.ring h1 in
@@ -118,12 +127,14 @@ kept-without k h there x =
     let a : (y : Claimed) → one y k.slot + counted y h1 ≡ counted y h = one-without k.slot h (λ y. omega (arith, there y)) in
     let b : (y : Claimed) → one y k.ring + counted y h2 ≡ counted y h1 = one-without k.ring h1 (λ y. omega (arith, there y, a y)) in
     let c : (y : Claimed) → one y k.backend + counted y h3 ≡ counted y h2 = one-without k.backend h2 (λ y. omega (arith, there y, a y, b y)) in
-    let d : (y : Claimed) → one y k.range + counted y (without_one k.range h3) ≡ counted y h3 = one-without k.range h3 (λ y. omega (arith, there y, a y, b y, c y)) in
+    let d : (y : Claimed) → one y k.range + counted y (without_one k.range h3) ≡ counted y h3 =
+    one-without k.range h3 (λ y. omega (arith, there y, a y, b y, c y)) in
     omega (arith, a x, b x, c x, d x)
 
 -- a sum over rows without the one of a birth, whose weak links are emptied
 module _ (f : Key × Content → ℕ) (n : ℕ) (plain : (row : Key × Content) → f (forgets n row) ≡ f row) where
-  sum-above : (above last : ℕ) (rows : List (Key × Content)) → n ≤ above → Rises above (births rows) last → sum_by f (map (forgets n) (without n rows)) ≡ sum_by f rows
+  sum-above : (above last : ℕ) (rows : List (Key × Content)) → n ≤ above → Rises above (births rows) last
+      → sum_by f (map (forgets n) (without n rows)) ≡ sum_by f rows
   sum-above above last [] le rises = refl
   sum-above above last (row ∷ rows) le rises =
       let up : above < row.0.birth = rises.0 in
@@ -131,11 +142,15 @@ module _ (f : Key × Content → ℕ) (n : ℕ) (plain : (row : Key × Content) 
       let rest : sum_by f (map (forgets n) (without n rows)) ≡ sum_by f rows = sum-above row.0.birth last rows (omega arith) rises.1 in
       rw other (omega (arith, rest, plain row, sum_by-cons f row rows, sum_by-cons f (forgets n row) (map (forgets n) (without n rows))))
 
-  pub sum-ended : (above last : ℕ) (rows : List (Key × Content)) → Rises above (births rows) last → (c : Content) → object_at rows n ≡ Some c → ((key : Key) → f (key, c) ≡ f (record { index = 0; birth = 0 }, c)) → sum_by f rows ≡ f (record { index = 0; birth = 0 }, c) + sum_by f (map (forgets n) (without n rows))
+  pub sum-ended : (above last : ℕ) (rows : List (Key × Content)) → Rises above (births rows) last
+      → (c : Content) → object_at rows n ≡ Some c → ((key : Key) → f (key, c) ≡ f (record { index = 0; birth = 0 }, c))
+      → sum_by f rows ≡ f (record { index = 0; birth = 0 }, c) + sum_by f (map (forgets n) (without n rows))
   sum-ended above last [] rises c there flat = absurd (cc there)
   sum-ended above last (row ∷ rows) rises c there flat = go (eqb row.0.birth n) refl (sum-ended row.0.birth last rows rises.1 c)
     where
-      go : (t : Bool) → eqb row.0.birth n ≡ t → (object_at rows n ≡ Some c → ((key : Key) → f (key, c) ≡ f (record { index = 0; birth = 0 }, c)) → sum_by f rows ≡ f (record { index = 0; birth = 0 }, c) + sum_by f (map (forgets n) (without n rows))) → sum_by f (row ∷ rows) ≡ f (record { index = 0; birth = 0 }, c) + sum_by f (map (forgets n) (without n (row ∷ rows)))
+      go : (t : Bool) → eqb row.0.birth n ≡ t → (object_at rows n ≡ Some c → ((key : Key) → f (key, c) ≡ f (record { index = 0; birth = 0 }, c))
+          → sum_by f rows ≡ f (record { index = 0; birth = 0 }, c) + sum_by f (map (forgets n) (without n rows)))
+          → sum_by f (row ∷ rows) ≡ f (record { index = 0; birth = 0 }, c) + sum_by f (map (forgets n) (without n (row ∷ rows)))
       go true e later =
           let same : row.0.birth ≡ n = eqb-true row.0.birth n e in
           let here : row.1 ≡ c = cc (rw e at there) in
@@ -150,13 +165,16 @@ module _ (f : Key × Content → ℕ) (n : ℕ) (plain : (row : Key × Content) 
 pub book-ended : (out : List Claimed) (v : Objects) → IsHeap v → (n : ℕ) (c : Content) → content_of v n ≡ Some c → IsBook out v → IsBook out (ended n c v)
 book-ended out v good n c there book x =
     let device : Option Claimed = option_map on.Device c.device_id in
-    let parts : (y : Claimed) → sum_by (owned y) v.rows ≡ (kept_times y (kept_of c.body) + one y device) + sum_by (owned y) (map (forgets n) (without n v.rows)) = (λ y. sum-ended (owned y) n (λ row. refl) 0 v.born v.rows good.rising c there (λ key. refl)) in
-    let body : (y : Claimed) → kept_times y (kept_of c.body) + counted y (without_kept (kept_of c.body) v.claims) ≡ counted y v.claims = kept-without (kept_of c.body) v.claims (λ y. omega (arith, book y, parts y)) in
+    let parts : (y : Claimed) → sum_by (owned y) v.rows ≡ (kept_times y (kept_of c.body) + one y device) + sum_by (owned y)
+    (map (forgets n) (without n v.rows)) = (λ y. sum-ended (owned y) n (λ row. refl) 0 v.born v.rows good.rising c there (λ key. refl)) in
+    let body : (y : Claimed) → kept_times y (kept_of c.body) + counted y (without_kept (kept_of c.body) v.claims) ≡ counted y v.claims =
+    kept-without (kept_of c.body) v.claims (λ y. omega (arith, book y, parts y)) in
     let left = one-without device (without_kept (kept_of c.body) v.claims) (λ y. omega (arith, book y, parts y, body y)) x in
     omega (arith, left, body x, book x, parts x)
 
 -- an object is changed, and keeps what it keeps
-pub sum-edit : (f : Key × Content → ℕ) (n : ℕ) (change : Content → Content) → ((row : Key × Content) → f (row.0, change row.1) ≡ f row) → (rows : List (Key × Content)) → sum_by f (edit n change rows) ≡ sum_by f rows
+pub sum-edit : (f : Key × Content → ℕ) (n : ℕ) (change : Content → Content) → ((row : Key × Content) → f (row.0, change row.1) ≡ f row)
+    → (rows : List (Key × Content)) → sum_by f (edit n change rows) ≡ sum_by f rows
 sum-edit f n change same [] = refl
 sum-edit f n change same (row ∷ rows) =
     let here = go (eqb row.0.birth n) in
@@ -171,7 +189,9 @@ sum-edit f n change same (row ∷ rows) =
 abbrev owned_by : Claimed → Body × Option (List ℕ) → ℕ
 owned_by x p = kept_times x (kept_of p.0) + one x (option_map on.Device p.1)
 
-pub book-edit : (out : List Claimed) (v : Objects) (n : ℕ) (change : Content → Content) → ((c : Content) → ◌≡◌ {A = Body × Option (List ℕ)} ((change c).body, (change c).device_id) (c.body, c.device_id)) → IsBook out v → IsBook out (with_edit n change v)
+pub book-edit : (out : List Claimed) (v : Objects) (n : ℕ) (change : Content → Content)
+    → ((c : Content) → ◌≡◌ {A = Body × Option (List ℕ)} ((change c).body, (change c).device_id) (c.body, c.device_id)) → IsBook out v
+    → IsBook out (with_edit n change v)
 book-edit out v n change same book x =
     let sums : sum_by (owned x) (edit n change v.rows) ≡ sum_by (owned x) v.rows = sum-edit (owned x) n change (λ row. ap (owned_by x) (same row.1)) v.rows in
     omega (arith, book x, sums)
@@ -186,16 +206,22 @@ module _ (f : Key × Content → ℕ) (n : ℕ) (change : Content → Content) w
       let rest : sum_by f (edit n change rows) ≡ sum_by f rows = sum-higher row.0.birth last rows (omega arith) rises.1 in
       rw other (omega (arith, rest, sum_by-cons f row rows, sum_by-cons f row (edit n change rows)))
 
-  pub sum-changed : (above last : ℕ) (rows : List (Key × Content)) → Rises above (births rows) last → (c : Content) → object_at rows n ≡ Some c → ((key : Key) (d : Content) → f (key, d) ≡ f (record { index = 0; birth = 0 }, d)) → sum_by f (edit n change rows) + f (record { index = 0; birth = 0 }, c) ≡ sum_by f rows + f (record { index = 0; birth = 0 }, change c)
+  pub sum-changed : (above last : ℕ) (rows : List (Key × Content)) → Rises above (births rows) last → (c : Content) → object_at rows n ≡ Some c
+      → ((key : Key) (d : Content) → f (key, d) ≡ f (record { index = 0; birth = 0 }, d))
+      → sum_by f (edit n change rows) + f (record { index = 0; birth = 0 }, c) ≡ sum_by f rows + f (record { index = 0; birth = 0 }, change c)
   sum-changed above last [] rises c there flat = absurd (cc there)
   sum-changed above last (row ∷ rows) rises c there flat = go (eqb row.0.birth n) refl (sum-changed row.0.birth last rows rises.1 c)
     where
-      go : (t : Bool) → eqb row.0.birth n ≡ t → (object_at rows n ≡ Some c → ((key : Key) (d : Content) → f (key, d) ≡ f (record { index = 0; birth = 0 }, d)) → sum_by f (edit n change rows) + f (record { index = 0; birth = 0 }, c) ≡ sum_by f rows + f (record { index = 0; birth = 0 }, change c)) → sum_by f (edit n change (row ∷ rows)) + f (record { index = 0; birth = 0 }, c) ≡ sum_by f (row ∷ rows) + f (record { index = 0; birth = 0 }, change c)
+      go : (t : Bool) → eqb row.0.birth n ≡ t → (object_at rows n ≡ Some c → ((key : Key) (d : Content) → f (key, d) ≡ f (record { index = 0; birth = 0 }, d))
+          → sum_by f (edit n change rows) + f (record { index = 0; birth = 0 }, c) ≡ sum_by f rows + f (record { index = 0; birth = 0 }, change c))
+          → sum_by f (edit n change (row ∷ rows)) + f (record { index = 0; birth = 0 }, c)
+          ≡ sum_by f (row ∷ rows) + f (record { index = 0; birth = 0 }, change c)
       go true e later =
           let same : row.0.birth ≡ n = eqb-true row.0.birth n e in
           let here : row.1 ≡ c = cc (rw e at there) in
           let old : f row ≡ f (record { index = 0; birth = 0 }, c) = ap (λ (d : Content). f (row.0, d)) here ∙ flat row.0 c in
-          let new : f (row.0, change row.1) ≡ f (record { index = 0; birth = 0 }, change c) = ap (λ (d : Content). f (row.0, change d)) here ∙ flat row.0 (change c) in
+          let new : f (row.0, change row.1) ≡ f (record { index = 0; birth = 0 }, change c) =
+          ap (λ (d : Content). f (row.0, change d)) here ∙ flat row.0 (change c) in
           let rest : sum_by f (edit n change rows) ≡ sum_by f rows = sum-higher row.0.birth last rows (omega arith) rises.1 in
           rw e (omega (arith, old, new, rest, sum_by-cons f row rows, sum_by-cons f (row.0, change row.1) (edit n change rows)))
       go false e later =
@@ -203,19 +229,26 @@ module _ (f : Key × Content → ℕ) (n : ℕ) (change : Content → Content) w
           rw e (omega (arith, rest, sum_by-cons f row rows, sum_by-cons f row (edit n change rows)))
 
 -- an object takes claims that were out: it keeps each of them once more
-pub book-put : (xs out : List Claimed) (v : Objects) → IsHeap v → (n : ℕ) (change : Content → Content) (c : Content) → content_of v n ≡ Some c → ((x : Claimed) → owned x (record { index = 0; birth = 0 }, change c) ≡ count_by (claim_eq x) xs + owned x (record { index = 0; birth = 0 }, c)) → IsBook (xs ++ out) v → IsBook out (with_edit n change v)
+pub book-put : (xs out : List Claimed) (v : Objects) → IsHeap v → (n : ℕ) (change : Content → Content) (c : Content) → content_of v n ≡ Some c
+    → ((x : Claimed) → owned x (record { index = 0; birth = 0 }, change c) ≡ count_by (claim_eq x) xs + owned x (record { index = 0; birth = 0 }, c))
+    → IsBook (xs ++ out) v → IsBook out (with_edit n change v)
 book-put xs out v good n change c there more book x =
-    let sums : sum_by (owned x) (edit n change v.rows) + owned x (record { index = 0; birth = 0 }, c) ≡ sum_by (owned x) v.rows + owned x (record { index = 0; birth = 0 }, change c) = sum-changed (owned x) n change 0 v.born v.rows good.rising c there (λ key d. refl) in
+    let sums : sum_by (owned x) (edit n change v.rows) + owned x (record { index = 0; birth = 0 }, c) ≡ sum_by (owned x) v.rows
+    + owned x (record { index = 0; birth = 0 }, change c) = sum-changed (owned x) n change 0 v.born v.rows good.rising c there (λ key d. refl) in
     omega (arith, book x, sums, more x, sum_by-append (λ (y : Claimed). cond {A = ℕ} (claim_eq x y) 1 0) xs out)
 
 -- an object gives claims out: it keeps each of them once less
-pub book-out : (xs out : List Claimed) (v : Objects) → IsHeap v → (n : ℕ) (change : Content → Content) (c : Content) → content_of v n ≡ Some c → ((x : Claimed) → owned x (record { index = 0; birth = 0 }, c) ≡ count_by (claim_eq x) xs + owned x (record { index = 0; birth = 0 }, change c)) → IsBook out v → IsBook (xs ++ out) (with_edit n change v)
+pub book-out : (xs out : List Claimed) (v : Objects) → IsHeap v → (n : ℕ) (change : Content → Content) (c : Content) → content_of v n ≡ Some c
+    → ((x : Claimed) → owned x (record { index = 0; birth = 0 }, c) ≡ count_by (claim_eq x) xs + owned x (record { index = 0; birth = 0 }, change c))
+    → IsBook out v → IsBook (xs ++ out) (with_edit n change v)
 book-out xs out v good n change c there less book x =
-    let sums : sum_by (owned x) (edit n change v.rows) + owned x (record { index = 0; birth = 0 }, c) ≡ sum_by (owned x) v.rows + owned x (record { index = 0; birth = 0 }, change c) = sum-changed (owned x) n change 0 v.born v.rows good.rising c there (λ key d. refl) in
+    let sums : sum_by (owned x) (edit n change v.rows) + owned x (record { index = 0; birth = 0 }, c) ≡ sum_by (owned x) v.rows
+    + owned x (record { index = 0; birth = 0 }, change c) = sum-changed (owned x) n change 0 v.born v.rows good.rising c there (λ key d. refl) in
     omega (arith, book x, sums, less x, sum_by-append (λ (y : Claimed). cond {A = ℕ} (claim_eq x y) 1 0) xs out)
 
 -- an object is made: it keeps no claim
-pub book-made : (out : List Claimed) (v : Objects) (key : Key) (kind : TypeId) (born : ℕ) → IsBook out v → IsBook out (record v { rows = v.rows ++ (key, fresh kind) ∷ []; born = born })
+pub book-made : (out : List Claimed) (v : Objects) (key : Key) (kind : TypeId) (born : ℕ) → IsBook out v
+    → IsBook out (record v { rows = v.rows ++ (key, fresh kind) ∷ []; born = born })
 book-made out v key kind born book x =
     let none : kept_times x (kept_of (body_of kind)) ≡ 0 = ap (kept_times x) (fresh-bare kind) in
     omega (arith, book x, none, sum_by-append (owned x) v.rows ((key, fresh kind) ∷ []), sum_by-cons (owned x) (key, fresh kind) [])
@@ -230,12 +263,18 @@ range-more : (a b : Range) (rs : List Range) → count_by (range_eq b) (with_ran
 range-more a b [] = omega (arith, sum_by-cons (λ (x : Range). cond {A = ℕ} (range_eq b x) 1 0) a [])
 range-more a b (r ∷ rs) = go (nat_lt a.at r.at) (range-more a b rs)
   where
-    go : (t : Bool) → count_by (range_eq b) (with_range a rs) ≡ cond (range_eq b a) 1 0 + count_by (range_eq b) rs → count_by (range_eq b) (cond t (a ∷ r ∷ rs) (r ∷ with_range a rs)) ≡ cond (range_eq b a) 1 0 + count_by (range_eq b) (r ∷ rs)
+    go : (t : Bool) → count_by (range_eq b) (with_range a rs) ≡ cond (range_eq b a) 1 0 + count_by (range_eq b) rs
+        → count_by (range_eq b) (cond t (a ∷ r ∷ rs) (r ∷ with_range a rs)) ≡ cond (range_eq b a) 1 0 + count_by (range_eq b) (r ∷ rs)
     go true rest = omega (arith, sum_by-cons (λ (x : Range). cond {A = ℕ} (range_eq b x) 1 0) a (r ∷ rs))
-    go false rest = omega (arith, rest, sum_by-cons (λ (x : Range). cond {A = ℕ} (range_eq b x) 1 0) r rs, sum_by-cons (λ (x : Range). cond {A = ℕ} (range_eq b x) 1 0) r (with_range a rs))
+    go false rest = omega (
+      arith,
+      rest,
+      sum_by-cons (λ (x : Range). cond {A = ℕ} (range_eq b x) 1 0) r rs,
+      sum_by-cons (λ (x : Range). cond {A = ℕ} (range_eq b x) 1 0) r (with_range a rs),
+    )
 
 -- one claim more is held
-counted-with : (x y : Claimed) (h : Held) → counted y (with_claim x h) ≡ cond (claim_eq y x) 1 0 + counted y h
+counted-with : (x y : Claimed) (h : ClaimsTaken) → counted y (with_claim x h) ≡ cond (claim_eq y x) 1 0 + counted y h
 counted-with (on.Device a) (on.Device b) h = one-more bytes_eq a b h.devices
 counted-with (on.Device a) (on.RingId b) h = omega arith
 counted-with (on.Device a) (on.Slot b) h = omega arith
@@ -281,6 +320,7 @@ book-taken x out v book y = omega (arith, book y, counted-with x y v.claims, sum
 pub book-given : (x : Claimed) (out : List Claimed) (v : Objects) → IsBook (x ∷ out) v → IsBook out (record v { claims = without_claim x v.claims })
 book-given x out v book y =
     let self : cond {A = ℕ} (claim_eq x x) 1 0 ≡ 1 = rw (claim-self x) refl in
-    let split : (z : Claimed) → count_by (claim_eq z) (x ∷ out) ≡ cond (claim_eq z x) 1 0 + count_by (claim_eq z) out = λ z. sum_by-cons (λ (w : Claimed). cond {A = ℕ} (claim_eq z w) 1 0) x out in
+    let split : (z : Claimed) → count_by (claim_eq z) (x ∷ out) ≡ cond (claim_eq z x) 1 0 + count_by (claim_eq z) out =
+    λ z. sum_by-cons (λ (w : Claimed). cond {A = ℕ} (claim_eq z w) 1 0) x out in
     let less = counted-without x y v.claims (omega (arith, self, book x, split x)) in
     omega (arith, less, book y, split y)

@@ -11,10 +11,10 @@ use Rattle.std.specs.Str.{bytes_eq}
 use Rattle.qo_object.specs.Slots.{has_name, target_of, changed_at, let_go_at, pointed, with_val}
 use Rattle.qo_object.specs.Content.{Content, is_parent, with_path, with_slot, dropped_at, pointed_at, set_at, cut_at}
 use Rattle.qo_table.specs.Rows.{IsLive, births, edited, edit, is_at, object_at}
-use Rattle.qo_table.proofs.FoundLemmas.{found-live}
+use Rattle.qo_table.proofs.SearchLemmas.{found-live}
 use Rattle.qo_table.proofs.RowsLemmas.{edit-as}
 use Rattle.qo_heap.specs.Objects.{HasPlaces, IsHeap, Objects, content_of, has_path, parent_of, targets, with_edit}
-use Rattle.qo_events.specs.Waiting.{Waiting, promised}
+use Rattle.qo_events.specs.Queue.{Waiting, promised}
 use Rattle.qo_heap.proofs.BookLemmas.{sum-changed, sum-edit}
 
 module _ {T : Type 0} (n : ℕ) (f : T → T) where
@@ -62,7 +62,8 @@ module _ (P : Key → Type 0) where
   holds-cons (Some key) keys here rest = (here, rest)
 
   -- targets of a slot that was changed, let go, added, removed
-  pub targets-changed : (g : Slot → Slot) → ((s : Slot) → Holds P (target_of s) → Holds P (target_of (g s))) → (i : ℕ) (slots : List (List ℕ × Slot)) → AllByRecursion P (targets_in slots) → AllByRecursion P (targets_in (changed_at g i slots))
+  pub targets-changed : (g : Slot → Slot) → ((s : Slot) → Holds P (target_of s) → Holds P (target_of (g s))) → (i : ℕ) (slots : List (List ℕ × Slot))
+      → AllByRecursion P (targets_in slots) → AllByRecursion P (targets_in (changed_at g i slots))
   targets-changed g keeps i [] all = all
   targets-changed g keeps zero (s ∷ slots) all =
       let (here, rest) = holds-first (target_of s.1) (targets_in slots) all in
@@ -93,7 +94,8 @@ module _ (P : Key → Type 0) where
       let (here, rest) = holds-first (target_of s.1) (targets_in slots) all in
       holds-cons (target_of s.1) (targets_in (remove slots i)) here (targets-removed i slots rest)
 
-  pub targets-added : (name : List ℕ) (slot : Slot) (slots : List (List ℕ × Slot)) → AllByRecursion P (targets_in slots) → Holds P (target_of slot) → AllByRecursion P (targets_in (slots ++ (name, slot) ∷ []))
+  pub targets-added : (name : List ℕ) (slot : Slot) (slots : List (List ℕ × Slot)) → AllByRecursion P (targets_in slots) → Holds P (target_of slot)
+      → AllByRecursion P (targets_in (slots ++ (name, slot) ∷ []))
   targets-added name slot [] all new = holds-cons (target_of slot) [] new tt
   targets-added name slot (s ∷ slots) all new =
       let (here, rest) = holds-first (target_of s.1) (targets_in slots) all in
@@ -132,7 +134,8 @@ linked-at-by by (row ∷ rows) linked n c there = go (eqb row.0.birth n) refl (l
 pub linked-at : (v : Objects) → IsHeap v → (n : ℕ) (c : Content) → content_of v n ≡ Some c → AllByRecursion (IsLive v.rows) (targets c)
 linked-at v good n c there = linked-at-by v.rows v.rows good.linked n c there
 
-linked-edit-by : (by rows : List (Key × Content)) (n : ℕ) (d : Content) → LinkedBy by rows → AllByRecursion (IsLive by) (targets d) → LinkedBy by (edit n (λ _. d) rows)
+linked-edit-by : (by rows : List (Key × Content)) (n : ℕ) (d : Content) → LinkedBy by rows → AllByRecursion (IsLive by) (targets d)
+    → LinkedBy by (edit n (λ _. d) rows)
 linked-edit-by by [] n d linked new = tt
 linked-edit-by by (row ∷ rows) n d linked new = (go (eqb row.0.birth n) refl, linked-edit-by by rows n d linked.1 new)
   where
@@ -141,20 +144,23 @@ linked-edit-by by (row ∷ rows) n d linked new = (go (eqb row.0.birth n) refl, 
     go false is = rw is linked.0
 
 -- a heap whose object was changed to one that names objects which are there
-pub heap-edited : (v : Objects) → IsHeap v → (n : ℕ) (d : Content) → AllByRecursion (IsLive v.rows) (targets d) → IsHeap (record v { rows = edit n (λ _. d) v.rows })
+pub heap-edited : (v : Objects) → IsHeap v → (n : ℕ) (d : Content) → AllByRecursion (IsLive v.rows) (targets d)
+    → IsHeap (record v { rows = edit n (λ _. d) v.rows })
 heap-edited v good n d new =
     record {
       rising = rw (births-edit n (λ _. d) v.rows) good.rising;
       few = rw (length-edit n (λ _. d) v.rows) good.few;
       linked =
-          all-weaker (λ (row : Key × Content). AllByRecursion (IsLive v.rows) (targets row.1)) (λ (row : Key × Content). AllByRecursion (IsLive (edit n (λ _. d) v.rows)) (targets row.1))
+          all-weaker (λ (row : Key × Content). AllByRecursion (IsLive v.rows) (targets row.1))
+          (λ (row : Key × Content). AllByRecursion (IsLive (edit n (λ _. d) v.rows)) (targets row.1))
           (λ row all. all-weaker (IsLive v.rows) (IsLive (edit n (λ _. d) v.rows)) (λ key live. live-edit n (λ _. d) v.rows key live) (targets row.1) all)
           (edit n (λ _. d) v.rows)
           (linked-edit-by v.rows v.rows n d good.linked new);
     }
 
 -- the object that was written is the edit of what was there
-pub edit-is : (v : Objects) → IsHeap v → (n : ℕ) (f : Content → Content) (c d : Content) → content_of v n ≡ Some c → d ≡ f c → record v { rows = edit n (λ _. d) v.rows } ≡ with_edit n f v
+pub edit-is : (v : Objects) → IsHeap v → (n : ℕ) (f : Content → Content) (c d : Content) → content_of v n ≡ Some c → d ≡ f c
+    → record v { rows = edit n (λ _. d) v.rows } ≡ with_edit n f v
 edit-is v good n f c d there is = ap (λ (rows : List (Key × Content)). record v { rows = rows }) (edit-as n f c d 0 v.born v.rows good.rising there is)
 
 -- the targets of an object of the heap that was edited
@@ -173,7 +179,8 @@ set-there v val i c all = targets-changed (IsLive v.rows) (with_val val) (valued
 pub cut-there : (v : Objects) (i : ℕ) (c : Content) → AreThere v c → AreThere v (cut_at i c)
 cut-there v i c all = targets-removed (IsLive v.rows) i c.slots all
 
-pub added-there : (v : Objects) (name : List ℕ) (slot : Slot) (c : Content) → Holds (IsLive v.rows) (target_of slot) → AreThere v c → AreThere v (with_slot name slot c)
+pub added-there : (v : Objects) (name : List ℕ) (slot : Slot) (c : Content) → Holds (IsLive v.rows) (target_of slot) → AreThere v c
+    → AreThere v (with_slot name slot c)
 added-there v name slot c new all = targets-added (IsLive v.rows) name slot c.slots all new
 
 -- a heap whose object was changed by an edit that names what is there
@@ -182,10 +189,13 @@ pub record Edited (v : Objects) (n : ℕ) (f : Content → Content) (d : Content
   pub now : record v { rows = edit n (λ _. d) v.rows } ≡ with_edit n f v
 
 -- an edit that keeps the path keeps the number of paths
-paths-edit : (n : ℕ) (f : Content → Content) → ((x : Content) → is_some (f x).kept_path ≡ is_some x.kept_path) → (rows : List (Key × Content)) → count_by has_path (edit n f rows) ≡ count_by has_path rows
-paths-edit n f same rows = sum-edit (λ (row : Key × Content). cond {A = ℕ} (has_path row) 1 0) n f (λ row. ap (λ (b : Bool). cond {A = ℕ} b 1 0) (same row.1)) rows
+paths-edit : (n : ℕ) (f : Content → Content) → ((x : Content) → is_some (f x).kept_path ≡ is_some x.kept_path) → (rows : List (Key × Content))
+    → count_by has_path (edit n f rows) ≡ count_by has_path rows
+paths-edit n f same rows =
+    sum-edit (λ (row : Key × Content). cond {A = ℕ} (has_path row) 1 0) n f (λ row. ap (λ (b : Bool). cond {A = ℕ} b 1 0) (same row.1)) rows
 
-pub edited-heap : (v : Objects) → IsHeap v × HasPlaces v → (n : ℕ) (f : Content → Content) (c d : Content) → content_of v n ≡ Some c → d ≡ f c → ((x : Content) → AreThere v x → AreThere v (f x)) → ((x : Content) → is_some (f x).kept_path ≡ is_some x.kept_path) → Edited v n f d
+pub edited-heap : (v : Objects) → IsHeap v × HasPlaces v → (n : ℕ) (f : Content → Content) (c d : Content) → content_of v n ≡ Some c → d ≡ f c
+    → ((x : Content) → AreThere v x → AreThere v (f x)) → ((x : Content) → is_some (f x).kept_path ≡ is_some x.kept_path) → Edited v n f d
 edited-heap v good n f c d there is keeps paths =
     let now = edit-is v good.0 n f c d there is in
     record {
@@ -197,10 +207,12 @@ edited-heap v good n f c d there is keeps paths =
     }
 
 -- a path is kept where none was: there is one more
-pub path-kept : (v : Objects) → IsHeap v → (n : ℕ) (path : List ℕ) (c : Content) → content_of v n ≡ Some c → c.kept_path ≡ None → count_by has_path (edit n (with_path path) v.rows) ≡ count_by has_path v.rows + 1
+pub path-kept : (v : Objects) → IsHeap v → (n : ℕ) (path : List ℕ) (c : Content) → content_of v n ≡ Some c → c.kept_path ≡ None
+    → count_by has_path (edit n (with_path path) v.rows) ≡ count_by has_path v.rows + 1
 path-kept v good n path c there none =
     let f : Key × Content → ℕ = λ row. cond {A = ℕ} (has_path row) 1 0 in
-    let sums : sum_by f (edit n (with_path path) v.rows) + f (record { index = 0; birth = 0 }, c) ≡ sum_by f v.rows + f (record { index = 0; birth = 0 }, with_path path c) = sum-changed f n (with_path path) 0 v.born v.rows good.rising c there (λ key d. refl) in
+    let sums : sum_by f (edit n (with_path path) v.rows) + f (record { index = 0; birth = 0 }, c) ≡ sum_by f v.rows
+    + f (record { index = 0; birth = 0 }, with_path path c) = sum-changed f n (with_path path) 0 v.born v.rows good.rising c there (λ key d. refl) in
     let was : f (record { index = 0; birth = 0 }, c) ≡ 0 = ap (λ (o : Option (List ℕ)). cond {A = ℕ} (is_some o) 1 0) none in
     omega (arith, sums, was)
 
@@ -209,14 +221,16 @@ pub record KeptPath (v : Objects) (n : ℕ) (path : List ℕ) (d : Content) (w :
   pub good : IsHeap (record v { rows = edit n (λ _. d) v.rows; events = w }) × HasPlaces (record v { rows = edit n (λ _. d) v.rows; events = w })
   pub now : record v { rows = edit n (λ _. d) v.rows; events = w } ≡ record (with_edit n (with_path path) v) { events = promised v.events }
 
-pub path-heap : (v : Objects) → IsHeap v × HasPlaces v → (n : ℕ) (path : List ℕ) (c d : Content) → content_of v n ≡ Some c → d ≡ with_path path c → c.kept_path ≡ None → (w : Waiting) → w ≡ promised v.events → KeptPath v n path d w
+pub path-heap : (v : Objects) → IsHeap v × HasPlaces v → (n : ℕ) (path : List ℕ) (c d : Content) → content_of v n ≡ Some c → d ≡ with_path path c
+    → c.kept_path ≡ None → (w : Waiting) → w ≡ promised v.events → KeptPath v n path d w
 path-heap v good n path c d there is none w place =
     let rows : edit n (λ _. d) v.rows ≡ edit n (with_path path) v.rows = edit-as n (with_path path) c d 0 v.born v.rows good.0.rising there is in
     let same = heap-edited v good.0 n d (subst (λ (x : Content). AreThere v x) (sym is) (linked-at v good.0 n c there)) in
     record {
       good = (
         record { rising = same.rising; few = same.few; linked = same.linked },
-        ap (λ (x : Waiting). x.promised) place ∙ ap (λ (k : ℕ). k + 1) good.1 ∙ sym (path-kept v good.0 n path c there none) ∙ ap (λ (l : List (Key × Content)). count_by has_path l) (sym rows),
+        ap (λ (x : Waiting). x.promised) place ∙ ap (λ (k : ℕ). k + 1) good.1 ∙ sym (path-kept v good.0 n path c there none)
+            ∙ ap (λ (l : List (Key × Content)). count_by has_path l) (sym rows),
       );
       now = λ j. record v { rows = rows j; events = place j };
     }
@@ -257,7 +271,8 @@ if-some P None h = tt
 if-some P (Some key) h = h
 
 -- a slot was found by name exactly where there is one of that name
-pub found-named : {X : Type 0} (f : X → List ℕ × Slot) (o : Option X) (slots : List (List ℕ × Slot)) (name : List ℕ) (b : Bool) → option_map f o ≡ find (λ (s : List ℕ × Slot). bytes_eq name s.0) slots → is_some o ≡ b → has_name name slots ≡ b
+pub found-named : {X : Type 0} (f : X → List ℕ × Slot) (o : Option X) (slots : List (List ℕ × Slot)) (name : List ℕ) (b : Bool)
+    → option_map f o ≡ find (λ (s : List ℕ × Slot). bytes_eq name s.0) slots → is_some o ≡ b → has_name name slots ≡ b
 found-named {X = X} f o slots name b there is =
     sym (is_some-find (λ (s : List ℕ × Slot). bytes_eq name s.0) slots) ∙ ap (λ (x : Option (List ℕ × Slot)). is_some x) (sym there) ∙ go o ∙ is
   where

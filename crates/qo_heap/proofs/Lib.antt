@@ -2,14 +2,14 @@ pub mod ActsLemmas
 pub mod ActsReads
 pub mod BookLemmas
 pub mod EndLemmas
-pub mod FoundLemmas
+pub mod SearchLemmas
 pub mod HeapLemmas
-mod HeldLemmas
+mod ReferenceLemmas
 pub mod PlacesLemmas
-pub mod ShowsActs
-pub mod ShowsChanges
-pub mod ShowsEdits
-pub mod ShowsEnds
-pub mod ShowsLive
-pub mod ShowsReads
-pub mod TimelyLemmas
+pub mod BoardActs
+pub mod BoardChanges
+pub mod BoardEdits
+pub mod BoardEnds
+pub mod BoardObjects
+pub mod BoardReads
+pub mod MomentLemmas

@@ -11,7 +11,7 @@ use Rattle.qo_table.specs.Rows.{IsLive, Rises, births, edit, row_at, object_at}
 use Rattle.qo_heap.specs.Places.{changed_at, first_changed, sum_first}
 
 module _ {X : Type 0} where
-  -- a loop over places that has come to the last is behind all
+  -- a loop over places that has come to the last is after all
   pub all-walked : (place size : ℕ) (xs : List X) → place ≤ size → size ≤ place → size ≡ length xs → place ≡ length xs
   all-walked place size xs low high same = omega arith
 
@@ -50,7 +50,7 @@ module _ {X : Type 0} where
   sum_first-all h [] = refl
   sum_first-all h (x ∷ xs) = omega (arith, sum_by-cons h x xs, sum_first-all h xs)
 
-  -- a search goes on behind a member that does not pass
+  -- a search goes on after a member that does not pass
   pub find-drop : (p : X → Bool) (i : ℕ) (xs : List X) → option_map_or p (slice_get xs i) false ≡ false → find p (drop i xs) ≡ find p (drop (suc i) xs)
   find-drop p i [] none = drop-nil i
     where
@@ -107,13 +107,15 @@ module _ {X : Type 0} where
       go false lt is = cc
 
 -- what a view that is there says of itself
-pub some-at : {V W : Type 0} (f : V → W) (h : V → ℕ) (o : Option V) (w : W) (i : ℕ) → option_map f o ≡ Some w → IfSome o (λ v. h v ≡ i) → option_map h o ≡ Some i
+pub some-at : {V W : Type 0} (f : V → W) (h : V → ℕ) (o : Option V) (w : W) (i : ℕ) → option_map f o ≡ Some w → IfSome o (λ v. h v ≡ i)
+    → option_map h o ≡ Some i
 some-at f h None w i there at = cc
 some-at f h (Some v) w i there at = ap Some at
 
 module _ {T : Type 0} where
   -- along rising births a later row has a higher birth
-  later-above : (above last : ℕ) (rows : List (Key × T)) (i : ℕ) (row : Key × T) → Rises above (births rows) last → slice_get rows i ≡ Some row → above < row.0.birth
+  later-above : (above last : ℕ) (rows : List (Key × T)) (i : ℕ) (row : Key × T) → Rises above (births rows) last → slice_get rows i ≡ Some row
+      → above < row.0.birth
   later-above above last [] i row rises there = cc
   later-above above last (r ∷ rows) zero row rises there =
       let same : r ≡ row = cc there in subst (λ (x : Key × T). above < x.0.birth) same rises.0
@@ -123,7 +125,8 @@ module _ {T : Type 0} where
       omega arith
 
   -- the row at a place is that of its birth, and its name is live
-  pub row-at-place : (above last : ℕ) (rows : List (Key × T)) (i : ℕ) (row : Key × T) → Rises above (births rows) last → slice_get rows i ≡ Some row → row_at rows row.0.birth ≡ Some row
+  pub row-at-place : (above last : ℕ) (rows : List (Key × T)) (i : ℕ) (row : Key × T) → Rises above (births rows) last → slice_get rows i ≡ Some row
+      → row_at rows row.0.birth ≡ Some row
   row-at-place above last [] i row rises there = cc
   row-at-place above last (r ∷ rows) zero row rises there =
       let same : r ≡ row = cc there in
@@ -134,7 +137,8 @@ module _ {T : Type 0} where
       let other : eqb r.0.birth row.0.birth ≡ false = grind arith in
       rw other (row-at-place r.0.birth last rows i row rises.1 there)
 
-  pub live-at-place : (above last : ℕ) (rows : List (Key × T)) (i : ℕ) (row : Key × T) → Rises above (births rows) last → slice_get rows i ≡ Some row → IsLive rows row.0
+  pub live-at-place : (above last : ℕ) (rows : List (Key × T)) (i : ℕ) (row : Key × T) → Rises above (births rows) last → slice_get rows i ≡ Some row
+      → IsLive rows row.0
   live-at-place above last rows i row rises there = rw (row-at-place above last rows i row rises there) refl
 
   -- an edit by the birth of the row at a place is an edit at the place
@@ -145,7 +149,8 @@ module _ {T : Type 0} where
       let other : eqb row.0.birth n ≡ false = grind arith in
       rw other (ap (λ (l : List (Key × T)). row ∷ l) (edit-high n f row.0.birth last rows (omega arith) rises.1))
 
-  pub edit-at-place : (f : T → T) (w : T) (above last : ℕ) (rows : List (Key × T)) (i : ℕ) (row : Key × T) → Rises above (births rows) last → slice_get rows i ≡ Some row → w ≡ f row.1 → edit row.0.birth (λ _. w) rows ≡ changed_at (λ (r : Key × T). (r.0, f r.1)) i rows
+  pub edit-at-place : (f : T → T) (w : T) (above last : ℕ) (rows : List (Key × T)) (i : ℕ) (row : Key × T) → Rises above (births rows) last
+      → slice_get rows i ≡ Some row → w ≡ f row.1 → edit row.0.birth (λ _. w) rows ≡ changed_at (λ (r : Key × T). (r.0, f r.1)) i rows
   edit-at-place f w above last [] i row rises there is = cc
   edit-at-place f w above last (r ∷ rows) zero row rises there is =
       let same : r ≡ row = cc there in
@@ -157,7 +162,8 @@ module _ {T : Type 0} where
       rw other (ap (λ (l : List (Key × T)). r ∷ l) (edit-at-place f w r.0.birth last rows i row rises.1 there is))
 
   -- the row whose name stands at a place
-  pub at-key : (rows : List (Key × T)) (i : ℕ) (key : Key) → option_map (λ (row : Key × T). row.0) (slice_get rows i) ≡ Some key → (v : T) × (slice_get rows i ≡ Some (key, v))
+  pub at-key : (rows : List (Key × T)) (i : ℕ) (key : Key) → option_map (λ (row : Key × T). row.0) (slice_get rows i) ≡ Some key
+      → (v : T) × (slice_get rows i ≡ Some (key, v))
   at-key rows i key e = go (slice_get rows i) e
     where
       go : (o : Option (Key × T)) → option_map (λ (row : Key × T). row.0) o ≡ Some key → (v : T) × (o ≡ Some (key, v))
@@ -172,17 +178,20 @@ module _ {T : Type 0} where
   past-last rows i none = no-key (slice_get rows i) none
 
   -- what stands at a place with its name, by its birth
-  pub object-at-place : (last : ℕ) (rows : List (Key × T)) (i : ℕ) (key : Key) (v : T) → Rises 0 (births rows) last → slice_get rows i ≡ Some (key, v) → object_at rows key.birth ≡ Some v
+  pub object-at-place : (last : ℕ) (rows : List (Key × T)) (i : ℕ) (key : Key) (v : T) → Rises 0 (births rows) last → slice_get rows i ≡ Some (key, v)
+      → object_at rows key.birth ≡ Some v
   object-at-place last rows i key v rises there = rw (row-at-place 0 last rows i (key, v) rises there) refl
 
   -- the object read by the name at a place is the one at the place
-  pub read-at-place : (last : ℕ) (rows : List (Key × T)) (i : ℕ) (key : Key) (w : T) → Rises 0 (births rows) last → option_map (λ (row : Key × T). row.0) (slice_get rows i) ≡ Some key → object_at rows key.birth ≡ Some w → slice_get rows i ≡ Some (key, w)
+  pub read-at-place : (last : ℕ) (rows : List (Key × T)) (i : ℕ) (key : Key) (w : T) → Rises 0 (births rows) last
+      → option_map (λ (row : Key × T). row.0) (slice_get rows i) ≡ Some key → object_at rows key.birth ≡ Some w → slice_get rows i ≡ Some (key, w)
   read-at-place last rows i key w rises named read =
       let (v, there) = at-key rows i key named in
       let same : v ≡ w = cc (object-at-place last rows i key v rises there, read) in
       rw (← same) there
 
-  pub key-live : (last : ℕ) (rows : List (Key × T)) (i : ℕ) (key : Key) → Rises 0 (births rows) last → option_map (λ (row : Key × T). row.0) (slice_get rows i) ≡ Some key → IsLive rows key
+  pub key-live : (last : ℕ) (rows : List (Key × T)) (i : ℕ) (key : Key) → Rises 0 (births rows) last
+      → option_map (λ (row : Key × T). row.0) (slice_get rows i) ≡ Some key → IsLive rows key
   key-live last rows i key rises named =
       let (v, there) = at-key rows i key named in
       live-at-place 0 last rows i (key, v) rises there

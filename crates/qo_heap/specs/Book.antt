@@ -2,7 +2,7 @@
 use Rattle.std.specs.Prelude.{◌≡◌, ℕ, ◌+◌, Bool, false, ◌==◌, if◌then◌else◌, List, count_by, sum_by, Option, option_map}
 use Rattle.std.specs.Option.{option_map_or}
 use Rattle.std.specs.Str.{bytes_eq}
-use Rattle.qo_claims.specs.Held.{Held}
+use Rattle.qo_claims.specs.Book.{ClaimsTaken}
 use Rattle.qo_claims.specs.Lists.{slot_eq, range_eq}
 use Rattle.qo_claims.specs.declared.claims.Claimed.{Claimed}
 use Rattle.qo_claims.specs.declared.claims.Claimed.TheVariants as on
@@ -23,7 +23,7 @@ claim_eq (on.Range a) (on.Range b) = range_eq a b
 claim_eq _ _ = false
 
 -- how often it is held
-abbrev pub counted : Claimed → Held → ℕ
+abbrev pub counted : Claimed → ClaimsTaken → ℕ
 counted (on.Device a) h = count_by (bytes_eq a) h.devices
 counted (on.RingId a) h = count_by (bytes_eq a) h.ring_ids
 counted (on.Slot a) h = count_by (slot_eq a) h.slots

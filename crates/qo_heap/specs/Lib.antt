@@ -2,7 +2,7 @@ pub mod Acts
 pub mod Board
 pub mod Book
 pub mod Errors
-pub mod Lends
+pub mod Loans
 pub mod Objects
 pub mod Places
-pub mod Timely
+pub mod Moments

@@ -4,17 +4,17 @@ use Rattle.std.specs.List.{AllByRecursion}
 use Rattle.std.specs.Option.{option_map_or}
 use Rattle.qo_values.specs.declared.kinds.TypeId.{TypeId}
 use Rattle.qo_values.specs.declared.limits.TheConstants.{LIVE_OBJECTS_MAX}
-use Rattle.qo_claims.specs.Held.{Held, nothing_held, without_claim}
+use Rattle.qo_claims.specs.Book.{ClaimsTaken, nothing_taken, without_claim}
 use Rattle.qo_claims.specs.declared.claims.Claimed.{Claimed}
 use Rattle.qo_claims.specs.declared.claims.Claimed.TheVariants as on
-use Rattle.qo_events.specs.Waiting.{Waiting, none_waiting, added, kept}
+use Rattle.qo_events.specs.Queue.{Waiting, none_waiting, added, kept}
 use Rattle.qo_kinds.specs.Bodies.{kept_of}
 use Rattle.qo_kinds.specs.declared.kept.KeptSet.{KeptSet}
 use Rattle.qo_slots.specs.declared.keys.Key.{Key}
 use Rattle.qo_object.specs.declared.slots.Slot.{Slot}
 use Rattle.qo_object.specs.Slots.{target_of}
 use Rattle.qo_object.specs.Content.{Content, forgotten, holding, is_parent}
-use Rattle.qo_object.specs.Shown.{shown}
+use Rattle.qo_object.specs.BoardObject.{shown}
 use Rattle.qo_model.specs.Board.{DeviceEvent}
 use Rattle.qo_model.specs.declared.notes.Deed.TheVariants.{Final}
 use Rattle.qo_model.specs.declared.notes.Note.{Note}
@@ -29,13 +29,13 @@ pub record Objects : Type 0 where
   pub rows : List (Key × Content)
   pub born : ℕ
   pub log : Log
-  pub claims : Held
+  pub claims : ClaimsTaken
   pub events : Waiting
   pub time : ℕ
 
 -- a heap without objects
 abbrev pub no_objects_made : Objects
-no_objects_made = record { rows = []; born = 0; log = empty_log; claims = nothing_held; events = none_waiting; time = 0 }
+no_objects_made = record { rows = []; born = 0; log = empty_log; claims = nothing_taken; events = none_waiting; time = 0 }
 
 -- the heap with one object changed
 abbrev pub with_edit : ℕ → (Content → Content) → Objects → Objects
@@ -73,15 +73,15 @@ abbrev pub forgets : ℕ → Key × Content → Key × Content
 forgets n row = (row.0, forgotten n row.1)
 
 -- all that is held, without one claim, if there is one, and without those of a body
-abbrev pub without_one : Option Claimed → Held → Held
+abbrev pub without_one : Option Claimed → ClaimsTaken → ClaimsTaken
 without_one None h = h
 without_one (Some claim) h = without_claim claim h
 
-abbrev pub without_kept : KeptSet → Held → Held
+abbrev pub without_kept : KeptSet → ClaimsTaken → ClaimsTaken
 without_kept k h = without_one k.range (without_one k.backend (without_one k.ring (without_one k.slot h)))
 
 -- and without that on the id of a device, if it has one
-abbrev pub without_device : Option (List ℕ) → Held → Held
+abbrev pub without_device : Option (List ℕ) → ClaimsTaken → ClaimsTaken
 without_device id h = without_one (option_map on.Device id) h
 
 -- what waits, with an event for which a place was promised, and with an event more, if there is one

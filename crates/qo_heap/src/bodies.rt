@@ -16,7 +16,7 @@ impl Heap {
     ghost use Rattle.qo_model.specs.declared.notes.Deed.TheVariants.{Did};
     ghost use Rattle.qo_object.specs.Content.{acted_at};
     ghost use Rattle.qo_table.specs.Rows.{IsLive};
-    ghost use Rattle.qo_heap.specs.Lends.{lends_claims, lends_body};
+    ghost use Rattle.qo_heap.specs.Loans.{lends_claims, lends_body};
     ghost use Rattle.qo_heap.specs.Objects.{content_of, with_edit, with_note};
 
     /// The virtual time. It takes no memory.

@@ -48,7 +48,7 @@ fn refusal_of(object: &Object, alloc: Global) -> Result<Option<DeviceEvent>, All
 impl Heap {
     ghost use Rattle.std.specs.Prelude.{◌+◌, ◌≤◌, IsOk, None, OnOk, OnErr, Some, option_map, option_and_then};
     ghost use Rattle.qo_claims.specs.declared.claims.Claimed.TheVariants as on;
-    ghost use Rattle.qo_events.specs.Waiting.{promised, told};
+    ghost use Rattle.qo_events.specs.Queue.{promised, told};
     ghost use Rattle.qo_object.specs.Content.{with_id, with_path};
     ghost use Rattle.qo_table.specs.Rows.{IsLive};
     ghost use Rattle.qo_heap.specs.Objects.{content_of, with_edit, with_event};

@@ -2,7 +2,7 @@
 //! told of it.
 
 ghost use Rattle.std.specs.Prelude.{◌≡◌, ◌≤◌, if◌then◌else◌, true, [], ◌∷◌, IfSome, map, option_map};
-ghost use Rattle.qo_model.specs.Types.{has_finaliser};
+ghost use Rattle.qo_model.specs.Types.{has_finalizer};
 ghost use Rattle.qo_model.specs.declared.notes.Deed.TheVariants.{Final};
 ghost use Rattle.qo_notes.specs.Log.{noted_all};
 ghost use Rattle.qo_heap.specs.Objects.{final_notes, forgets, with_kept_event, without_device, without_kept, without_one};
@@ -43,11 +43,11 @@ pub fn forget_all<L: Ledger>(table: &mut ObjectTable<Object>, birth: u64, steps:
     }
 }
 
-/// Adds the final note of an object for a type, where this has a finaliser.
+/// Adds the final note of an object for a type, where this has a finalizer.
 fn note_final(log: &mut NoteLog, birth: u64, of: TypeId)
-    ensures { log.new ≡ noted_all (if has_finaliser of then record { birth = birth; deed = Final of } ∷ [] else []) log.old }
+    ensures { log.new ≡ noted_all (if has_finalizer of then record { birth = birth; deed = Final of } ∷ [] else []) log.old }
 {
-    if TypeTable::board().has_finaliser(of) {
+    if TypeTable::board().has_finalizer(of) {
         log.add(Note {
             birth,
             deed: Deed::Final(of),

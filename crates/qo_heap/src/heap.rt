@@ -62,7 +62,7 @@ impl Heap {
     ghost use Rattle.qo_model.specs.declared.notes.Deed.TheVariants.{Did};
     ghost use Rattle.qo_heap.specs.Board.{Shows};
     ghost use Rattle.qo_model.specs.Board.{Board};
-    ghost use Rattle.qo_object.specs.Content.{fresh, held_count};
+    ghost use Rattle.qo_object.specs.Content.{fresh, reference_count};
     ghost use Rattle.qo_table.specs.Rows.{IsLive};
     ghost use Rattle.qo_heap.specs.Objects.{IsHeap, content_of, ended, no_objects_made, refs_of, with_note};
     ghost use Rattle.qo_heap.specs.declared.errors.MakeError.TheVariants.{Limit, Memory as NoMemory};
@@ -119,7 +119,7 @@ impl Heap {
         }
     }
 
-    /// Notes that the initialiser of a type ran on an object. It takes no memory.
+    /// Notes that the initializer of a type ran on an object. It takes no memory.
     pub fn init(&mut self, o: Oid, of: TypeId)
         requires live { IsLive self.old.rows o }
         ensures { self.new ≡ with_note (record { birth = o.birth; deed = Did (Init of) }) self.old }
@@ -136,7 +136,7 @@ impl Heap {
     pub fn finish<L: Ledger>(&mut self, o: Oid, steps: &mut Steps<L>)
         requires live { IsLive self.old.rows o }
         requires free { refs_of self.old o.birth ≡ 0 }
-        requires bare { option_map held_count (content_of self.old o.birth) ≡ Some 0 }
+        requires bare { option_map reference_count (content_of self.old o.birth) ≡ Some 0 }
         ensures { option_map (λ c. ended o.birth c self.old) (content_of self.old o.birth) ≡ Some self.new }
     {
         let Remains {

@@ -1,6 +1,6 @@
 //! The objects of the tree, each under a name that is never given twice, with the log of notes: how
 //! objects are made, read, changed and ended (docs/devel/qom.rst, "The QEMU Object Model"). Nothing
-//! is finalised here: `qo_life` does this over these calls.
+//! is finalized here: `qo_life` does this over these calls.
 #![tactic(auto)]
 
 mod bodies;

@@ -1,5 +1,5 @@
 //! Changing the slots and the pins of an object of the heap. None of these calls takes memory, and
-//! none finalises.
+//! none finalizes.
 
 use crate::heap::Heap;
 use qo_object::Oid;

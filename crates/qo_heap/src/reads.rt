@@ -64,7 +64,7 @@ fn is_holder_at<L: Ledger>(
     }
 }
 
-/// Whether an object holds the object of a birth; no further one is looked at behind the first that does.
+/// Whether an object holds the object of a birth; no further one is looked at after the first that does.
 fn is_held_in<L: Ledger>(table: &ObjectTable<Object>, birth: u64, steps: &mut Steps<L>) -> bool
     ensures { result ≡ list_any (λ row. is_holder birth row.1) table.now.rows }
 {

@@ -18,7 +18,7 @@ impl Heap {
     ghost use Rattle.qo_heap.specs.Objects.{parent_of, slots_of, with_edit};
     ghost use Rattle.qo_heap.specs.declared.errors.SlotError.TheVariants.{Duplicate, HasParent, Memory};
 
-    /// Adds a slot to an object, behind the others. What it names must be there.
+    /// Adds a slot to an object, after the others. What it names must be there.
     fn add<L: Ledger>(
         &mut self,
         o: Oid,
@@ -133,12 +133,7 @@ impl Heap {
 
     /// Gives an object these slots, whose names differ, in the place of its own. What they name must
     /// be there. It takes no memory.
-    pub fn furnish<L: Ledger>(
-        &mut self,
-        o: Oid,
-        slots: Vec<(SlotName, Slot)>,
-        steps: &mut Steps<L>,
-    )
+    pub fn furnish<L: Ledger>(&mut self, o: Oid, slots: Vec<(SlotName, Slot)>, steps: &mut Steps<L>)
         requires live { IsLive self.old.rows o }
         requires targets { AllByRecursion (IsLive self.old.rows) (filter_map (λ s. target_of s.1) slots.items) }
         requires differ { IsDistinct bytes_eq (names_of slots.items) }

@@ -5,7 +5,7 @@ ghost use Rattle.std.specs.List.{list_any};
 ghost use Rattle.std.specs.Vec.{vec_len, vec_capacity};
 ghost use Rattle.qo_model.specs.Depth.{among};
 ghost use Rattle.qo_model.specs.Unplug.{without_all};
-ghost use Rattle.qo_hotplug.specs.Asked.{births};
+ghost use Rattle.qo_hotplug.specs.Hotplug.{births};
 
 use crate::errors::{AskError, NotPending, NoticesFull};
 use crate::notices::Notice;
@@ -33,7 +33,7 @@ impl Model for Hotplug {
     ghost use Rattle.std.specs.Prelude.{◌≤◌};
     ghost use Rattle.std.specs.Vec.{vec_len, vec_capacity};
     ghost use Rattle.qo_values.specs.declared.limits.TheConstants.{LIVE_OBJECTS_MAX, NOTICES_MAX};
-    ghost use Rattle.qo_hotplug.specs.Asked.{Asked, births};
+    ghost use Rattle.qo_hotplug.specs.Hotplug.{Asked, births};
 
     ghost Value = { Asked };
 
@@ -78,7 +78,7 @@ fn is_among(devices: &[Oid], device: Oid) -> bool
 impl Hotplug {
     ghost use Rattle.std.specs.Prelude.{◌<◌, ◌⊎◌, ◌↔◌, true, None, Some, IfOk, IfErr, OnOk, OnErr, IsErr, is_ok, option_map, slice_get, length};
     ghost use Rattle.qo_values.specs.declared.limits.TheConstants.{LIVE_OBJECTS_MAX, NOTICES_MAX};
-    ghost use Rattle.qo_hotplug.specs.Asked.{nothing_asked, told, asked, ask_refusal, refused, gone, first_notice, behind_first};
+    ghost use Rattle.qo_hotplug.specs.Hotplug.{nothing_asked, told, asked, ask_refusal, refused, gone, first_notice, after_first};
 
     /// Nothing is pending and nothing waits. All room is taken here; no other call takes memory.
     pub fn new(alloc: Global) -> Result<Hotplug, AllocError>
@@ -153,7 +153,7 @@ impl Hotplug {
     /// memory.
     pub fn poll(&mut self) -> Option<Notice>
         ensures first { result ≡ first_notice self.old }
-        ensures rest { self.new ≡ behind_first self.old }
+        ensures rest { self.new ≡ after_first self.old }
     {
         if self.notices.is_empty() {
             return None;

@@ -11,7 +11,7 @@ use Rattle.json.specs.Json.{if_last}
 use Rattle.json.specs.Lex.{tokens}
 use Rattle.serde_json.specs.Data.{Data, number, array, object, Num, Items, item, Members, no_members, member, put}
 use Rattle.serde_json.specs.Read.{of_json, of_items, of_members, number_of, max_depth, read}
-use Rattle.qo_json.specs.Ordered.{names_of, NamesRise, IsOrdered, AreOrdered, HaveOrder}
+use Rattle.qo_json.specs.Order.{names_of, NamesRise, IsOrdered, AreOrdered, HaveOrder}
 
 -- how two names compare
 abbrev order : List ℕ → List ℕ → Ordering

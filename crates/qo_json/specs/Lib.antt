@@ -1,3 +1,3 @@
-pub mod Ordered
+pub mod Order
 pub mod Places
 pub mod View

@@ -5,7 +5,7 @@ ghost use Rattle.json.specs.Json.{value, items, members};
 ghost use Rattle.json.specs.Lex.{tokens};
 ghost use Rattle.serde_json.specs.Data.{no_members};
 ghost use Rattle.serde_json.specs.Read.{of_json, of_items, of_members, converted, read};
-ghost use Rattle.qo_json.specs.Ordered.{IsOrdered};
+ghost use Rattle.qo_json.specs.Order.{IsOrdered};
 ghost use Rattle.qo_json.specs.View.{view, items_view, members_view};
 
 use crate::errors::JsonError;

@@ -62,7 +62,7 @@ with_registers (dimm d) (Dimm old k) = Dimm d k
 with_registers (bridge b) (Bridge raised holds k) = Bridge b.raised b.holds k
 with_registers r body = body
 
--- a body behind an act at a moment
+-- a body after an act at a moment
 abbrev pub acted : Act → ℕ → ℕ → Body → Body
 acted act now period b = with_registers (body_act act now period (registers_of b)) b
 

@@ -1,2 +1,2 @@
-pub mod HearLemmas
+pub mod HearingLemmas
 pub mod LineLemmas

@@ -1,18 +1,19 @@
 -- Lines, byte by byte.
 use Rattle.std.proofs.Common.{◌≡◌, ◌<◌, ◌+◌, refl, ap, sym, ◌∙◌, ℕ, ◌==◌, Bool, true, false, List, [], ◌∷◌, ◌++◌, length, take, if◌then◌else◌, slice_index_or}
 use Rattle.std.proofs.lemmas.List.{take_more}
-use Rattle.qo_lane.specs.Lines.{Lines, LinesCutAnywhere, behind_line, kept_with, lines_of, lines_on}
+use Rattle.qo_lane.specs.Lines.{Lines, LinesCutAnywhere, after_line, kept_with, lines_of, lines_on}
 
 -- the lines of a byte and more, by whether it is a line feed
 abbrev next : Bool → List ℕ → ℕ → List ℕ → Lines
-next t kept byte bytes = if t then behind_line kept (lines_of [] bytes) else lines_of (kept_with kept byte) bytes
+next t kept byte bytes = if t then after_line kept (lines_of [] bytes) else lines_of (kept_with kept byte) bytes
 
 pub lines-cut : LinesCutAnywhere
 lines-cut kept [] b = refl
 lines-cut kept (byte ∷ a) b = by (lines-cut [] a b) (lines-cut (kept_with kept byte) a b) (byte == 10)
   where
-    by : lines_of [] (a ++ b) ≡ lines_on (lines_of [] a) b → lines_of (kept_with kept byte) (a ++ b) ≡ lines_on (lines_of (kept_with kept byte) a) b → (t : Bool) → next t kept byte (a ++ b) ≡ lines_on (next t kept byte a) b
-    by ends goes true = ap (behind_line kept) ends
+    by : lines_of [] (a ++ b) ≡ lines_on (lines_of [] a) b → lines_of (kept_with kept byte) (a ++ b) ≡ lines_on (lines_of (kept_with kept byte) a) b
+        → (t : Bool) → next t kept byte (a ++ b) ≡ lines_on (next t kept byte a) b
+    by ends goes true = ap (after_line kept) ends
     by ends goes false = goes
 
 abbrev pub lines_now : List (List ℕ) → List ℕ → Lines

@@ -14,10 +14,10 @@ use Rattle.qo_replies.specs.declared.events.Event.TheVariants.{Reset, Shutdown}
 use Rattle.qo_realize.specs.Guest.{address_of, first_notice, polled}
 use Rattle.qo_realize.specs.Parts.{Parts}
 use Rattle.qo_realize.specs.Registers.{guest_read, guest_written}
-use Rattle.qo_realize.specs.Stands.{Stands}
+use Rattle.qo_realize.specs.Representation.{Stands}
 use Rattle.qo_lane.specs.declared.hearing.Heard.{Heard}
 
--- what a line comes to: its answer, the board behind it, its own events, and whether it ends the run
+-- what a line comes to: its answer, the board after it, its own events, and whether it ends the run
 pub record Outcome : Type 0 where
   pub answer : GuestAnswer
   pub board : Board
@@ -34,7 +34,7 @@ fine b = answered b Fine
 
 -- of a device whose removal is pending
 abbrev pub if_pending : Board → ℕ → Board → Outcome
-if_pending b d behind = if among b.pending d then fine behind else answered b NoPending
+if_pending b d after = if among b.pending d then fine after else answered b NoPending
 
 -- the guest lets a device go, or refuses to
 abbrev pub acked : Board → Option ℕ → Outcome
@@ -46,27 +46,27 @@ nacked b None = answered b NoDevice
 nacked b (Some d) = if_pending b d (refused b d)
 
 -- what the guest is told by a notice
-abbrev pub told_by : Board → Option Notice → GuestAnswer
-told_by b None = NoNotice
-told_by b (Some notice) = if notice.plug then Plug (address_of b notice.birth) else Unplug (address_of b notice.birth)
+abbrev pub notice_answer : Board → Option Notice → GuestAnswer
+notice_answer b None = NoNotice
+notice_answer b (Some notice) = if notice.plug then Plug (address_of b notice.birth) else Unplug (address_of b notice.birth)
 
 -- it takes the notice that has waited longest
 abbrev pub polled_by : Board → Outcome
-polled_by b = answered (polled b) (told_by b (first_notice b))
+polled_by b = answered (polled b) (notice_answer b (first_notice b))
 
 -- it reads a register of a device
-abbrev pub value_told : Option ℕ → GuestAnswer
-value_told None = NoRegister
-value_told (Some value) = Value value
+abbrev pub value_answer : Option ℕ → GuestAnswer
+value_answer None = NoRegister
+value_answer (Some value) = Value value
 
 abbrev pub read_by : Board → ℕ → Option ℕ → Outcome
 read_by b reg None = answered b NoDevice
-read_by b reg (Some d) = answered b (value_told (guest_read b d reg))
+read_by b reg (Some d) = answered b (value_answer (guest_read b d reg))
 
 -- or writes one
 abbrev pub if_written : Board → Option Board → Outcome
 if_written b None = answered b NoRegister
-if_written b (Some behind) = fine behind
+if_written b (Some after) = fine after
 
 abbrev pub written_by : Board → ℕ → ℕ → Option ℕ → Outcome
 written_by b reg value None = answered b NoDevice
@@ -98,7 +98,7 @@ heard_act b (Some act) = if b.running then acted b act else answered b NoStopped
 unfoldable pub heard : Board → List ℕ → Outcome
 heard b line = heard_act b (guest_line line)
 
--- the outcome that the code tells, where this board stands behind it
+-- the outcome that the code tells, where this board stands after it
 abbrev pub outcome_of : Board → Heard → Outcome
 outcome_of b h = record { answer = h.answer; board = b; events = option_to_list h.event; ends = h.ends }
 

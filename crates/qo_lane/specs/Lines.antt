@@ -3,7 +3,7 @@ use Rattle.std.specs.Prelude.{◌≡◌, ℕ, ◌+◌, ◌==◌, nat_lt, List, [
 use Rattle.std.specs.Io.BufRead.{strip_last}
 use Rattle.qo_values.specs.declared.limits.TheConstants.{GUEST_LINE_MAX}
 
--- the lines that end in some bytes, each without its line feed, and the front of an unfinished line behind them
+-- the lines that end in some bytes, each without its line feed, and the front of an unfinished line after them
 pub record Lines : Type 0 where
   pub lines : List (List ℕ)
   pub rest : List ℕ
@@ -12,14 +12,14 @@ pub record Lines : Type 0 where
 abbrev pub kept_with : List ℕ → ℕ → List ℕ
 kept_with kept byte = if nat_lt (length kept) (GUEST_LINE_MAX + 2) then kept ++ byte ∷ [] else kept
 
-abbrev pub behind_line : List ℕ → Lines → Lines
-behind_line line l = record { lines = line ∷ l.lines; rest = l.rest }
+abbrev pub after_line : List ℕ → Lines → Lines
+after_line line l = record { lines = line ∷ l.lines; rest = l.rest }
 
--- of a kept front and bytes behind it; a line ends at a line feed
+-- of a kept front and bytes after it; a line ends at a line feed
 abbrev pub lines_of : List ℕ → List ℕ → Lines
 lines_of kept [] = record { lines = []; rest = kept }
 lines_of kept (byte ∷ bytes) =
-    if byte == 10 then behind_line kept (lines_of [] bytes) else lines_of (kept_with kept byte) bytes
+    if byte == 10 then after_line kept (lines_of [] bytes) else lines_of (kept_with kept byte) bytes
 
 -- some lines, and then those of further bytes
 abbrev pub lines_on : Lines → List ℕ → Lines

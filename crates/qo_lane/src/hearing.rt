@@ -4,9 +4,9 @@ ghost use Rattle.std.specs.Prelude.{◌≡◌, false, IfOk, None, OnErr, option_
 ghost use Rattle.std.specs.Result.{result_ok};
 ghost use Rattle.qo_guest.specs.Lines.{guest_line};
 ghost use Rattle.qo_model.specs.Board.{Board as Tree};
-ghost use Rattle.qo_realize.specs.Stands.{Stands};
+ghost use Rattle.qo_realize.specs.Representation.{Stands};
 ghost use Rattle.qo_buses.specs.Addresses.{addressed};
-ghost use Rattle.qo_lane.specs.Hearing.{Came, acked, acted, heard, nacked, outcome_of, polled_by, read_by, reset_by, shut_down, told_by, value_told, written_by};
+ghost use Rattle.qo_lane.specs.Hearing.{Came, acked, acted, heard, nacked, outcome_of, polled_by, read_by, reset_by, shut_down, notice_answer, value_answer, written_by};
 
 use qo_guest::{Addr, GuestAct, GuestAnswer, read_line};
 use qo_heap::Steps;
@@ -74,8 +74,12 @@ fn nack<L: Ledger>(
 }
 
 /// What the guest is told by a notice, if there is one.
-fn told_by<L: Ledger>(board: &Board, notice: Option<&Notice>, steps: &mut Steps<L>) -> GuestAnswer
-    ensures { (b : Tree) → Stands b board.now → result ≡ told_by b (option_map (λ n. n.now) notice.entry) }
+fn notice_answer<L: Ledger>(
+    board: &Board,
+    notice: Option<&Notice>,
+    steps: &mut Steps<L>,
+) -> GuestAnswer
+    ensures { (b : Tree) → Stands b board.now → result ≡ notice_answer b (option_map (λ n. n.now) notice.entry) }
 {
     let Some(notice) = notice else {
         return GuestAnswer::NoNotice;
@@ -93,12 +97,12 @@ fn poll<L: Ledger>(board: &mut Board, steps: &mut Steps<L>) -> Heard
     ensures { (b : Tree) → Stands b board.old → Came (polled_by b) result board.new }
 {
     let notice = board.poll();
-    answered(told_by(board, notice.as_ref(), steps))
+    answered(notice_answer(board, notice.as_ref(), steps))
 }
 
 /// What the guest is told that a register reads.
-fn value_told(value: Option<u32>) -> GuestAnswer
-    ensures { result ≡ value_told value }
+fn value_answer(value: Option<u32>) -> GuestAnswer
+    ensures { result ≡ value_answer value }
 {
     match value {
         Some(value) => GuestAnswer::Value(value),
@@ -113,7 +117,7 @@ fn read<L: Ledger>(board: &Board, at: &Addr, reg: u8, steps: &mut Steps<L>) -> H
     let Some(dev) = board.guest_find(at, steps) else {
         return answered(GuestAnswer::NoDevice);
     };
-    answered(value_told(board.guest_read(dev, reg, steps)))
+    answered(value_answer(board.guest_read(dev, reg, steps)))
 }
 
 /// The guest writes to a register of the device at an address. It takes no memory.
@@ -183,7 +187,7 @@ fn act<L: Ledger>(
 /// What one line of the guest does, without its line end, and what it is answered: `no line` where it
 /// is none, `no stopped` where the machine does not run, `no device` where none is at its address, `no
 /// pending` where no removal of that one is pending, and `no register` where that one has none of its
-/// number. Events on devices wait on the board behind it. The error is want of memory, and leaves the
+/// number. Events on devices wait on the board after it. The error is want of memory, and leaves the
 /// board as it was.
 pub fn hear<L: Ledger>(
     board: &mut Board,

@@ -13,7 +13,7 @@ const LINE_FEED: u8 = 10;
 /// One carriage return before it is no part of the line.
 const CARRIAGE_RETURN: u8 = 13;
 
-/// Of a line no more bytes are kept: they tell that it is too long, even behind a carriage return.
+/// Of a line no more bytes are kept: they tell that it is too long, even after a carriage return.
 const KEPT_MAX: usize = GUEST_LINE_MAX as usize + 2;
 
 /// Adds a byte to the front of an unfinished line, or ends that line.
@@ -34,8 +34,8 @@ fn add_byte(
     Ok(())
 }
 
-/// The lines that end in a piece of bytes, behind the front that was kept of an unfinished one, each
-/// without its line feed. The front behind the piece is kept in its place, and of a line longer than
+/// The lines that end in a piece of bytes, after the front that was kept of an unfinished one, each
+/// without its line feed. The front after the piece is kept in its place, and of a line longer than
 /// `GUEST_LINE_MAX` only so much that it is known for one. After an error the kept front is no matter.
 pub fn cut_lines(alloc: Global, kept: &mut Vec<u8>, piece: &[u8]) -> Result<Vec<Chars>, AllocError>
     ensures lines { IfOk result (λ lines. lines.items ≡ (lines_of kept.old.items piece.now).lines) }

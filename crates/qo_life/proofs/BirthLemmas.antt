@@ -3,7 +3,7 @@ use Rattle.std.proofs.Common.{◌≡◌, refl, ap, sym, ◌∙◌, ℕ, ◌+◌,
 use Rattle.std.proofs.lemmas.List.{append-nil, map-append, reverse-append, drop_more, drop_all}
 use Rattle.qo_values.specs.declared.kinds.TypeId.{TypeId}
 use Rattle.qo_model.specs.declared.notes.Note.{Note}
-use Rattle.qo_model.specs.Types.{has_finaliser}
+use Rattle.qo_model.specs.Types.{has_finalizer}
 use Rattle.qo_notes.specs.Log.{Log, noted_all}
 use Rattle.qo_notes.proofs.Logs.{parts_lem}
 use Rattle.qo_heap.specs.Objects.{Objects, with_note}
@@ -11,17 +11,18 @@ use Rattle.qo_life.specs.Life.{init_note, with_notes}
 
 -- the init notes for some types, the last first
 abbrev pub inits_in : ℕ → List TypeId → List Note
-inits_in n ts = map (init_note n) (reverse (filter has_finaliser ts))
+inits_in n ts = map (init_note n) (reverse (filter has_finalizer ts))
 
 -- the note of one type
 abbrev pub one_init : ℕ → TypeId → List Note
-one_init n t = cond (has_finaliser t) (init_note n t ∷ []) []
+one_init n t = cond (has_finalizer t) (init_note n t ∷ []) []
 
 inits_in-more : (n : ℕ) (t : TypeId) (ts : List TypeId) → inits_in n (t ∷ ts) ≡ inits_in n ts ++ one_init n t
-inits_in-more n t ts = go (has_finaliser t)
+inits_in-more n t ts = go (has_finalizer t)
   where
-    go : (b : Bool) → map (init_note n) (reverse (cond b (t ∷ filter has_finaliser ts) (filter has_finaliser ts))) ≡ inits_in n ts ++ cond b (init_note n t ∷ []) []
-    go true = ap (map (init_note n)) (reverse-append (t ∷ []) (filter has_finaliser ts)) ∙ map-append (init_note n) (reverse (filter has_finaliser ts)) (t ∷ [])
+    go : (b : Bool)
+        → map (init_note n) (reverse (cond b (t ∷ filter has_finalizer ts) (filter has_finalizer ts))) ≡ inits_in n ts ++ cond b (init_note n t ∷ []) []
+    go true = ap (map (init_note n)) (reverse-append (t ∷ []) (filter has_finalizer ts)) ∙ map-append (init_note n) (reverse (filter has_finalizer ts)) (t ∷ [])
     go false = sym (append-nil (inits_in n ts))
 
 -- no note more
@@ -34,20 +35,23 @@ pub with_notes-one : (note : Note) (v : Objects) → with_note note v ≡ with_n
 unfolding noted_all
 with_notes-one note v = refl
 
--- the note of a type that has an initialiser, and of one that has none
-pub note-had : (n : ℕ) (t : TypeId) (v w : Objects) → has_finaliser t ≡ true → w ≡ with_note (init_note n t) v → w ≡ with_notes (one_init n t) v
+-- the note of a type that has an initializer, and of one that has none
+pub note-had : (n : ℕ) (t : TypeId) (v w : Objects) → has_finalizer t ≡ true → w ≡ with_note (init_note n t) v → w ≡ with_notes (one_init n t) v
 note-had n t v w has is = is ∙ with_notes-one (init_note n t) v ∙ ap (λ (b : Bool). with_notes (cond b (init_note n t ∷ []) []) v) (sym has)
 
-pub note-none : (n : ℕ) (t : TypeId) (v : Objects) → has_finaliser t ≡ false → v ≡ with_notes (one_init n t) v
+pub note-none : (n : ℕ) (t : TypeId) (v : Objects) → has_finalizer t ≡ false → v ≡ with_notes (one_init n t) v
 note-none n t v none = sym (with_notes-none v) ∙ ap (λ (b : Bool). with_notes (cond b (init_note n t ∷ []) []) v) (sym none)
 
 -- the notes of the types from a place on, and of the one before it
-pub inits-step : (n : ℕ) (ts : List TypeId) (left : ℕ) (d : TypeId) (first before behind : Objects) → left < length ts → before ≡ with_notes (inits_in n (drop (left + 1) ts)) first → behind ≡ with_notes (one_init n (get_or ts left d)) before → behind ≡ with_notes (inits_in n (drop left ts)) first
-inits-step n ts left d first before behind within is more =
+pub inits-step : (n : ℕ) (ts : List TypeId) (left : ℕ) (d : TypeId) (first before after : Objects) → left < length ts
+    → before ≡ with_notes (inits_in n (drop (left + 1) ts)) first → after ≡ with_notes (one_init n (get_or ts left d)) before
+    → after ≡ with_notes (inits_in n (drop left ts)) first
+inits-step n ts left d first before after within is more =
     more
     ∙ ap (λ (v : Objects). with_notes (one_init n (get_or ts left d)) v) is
     ∙ ap (λ (log : Log). record first { log = log }) (sym (parts_lem (inits_in n (drop (left + 1) ts)) (one_init n (get_or ts left d)) first.log))
-    ∙ ap (λ (ns : List Note). with_notes ns first) (sym (ap (inits_in n) (drop_more ts left d within) ∙ inits_in-more n (get_or ts left d) (drop (left + 1) ts)))
+    ∙ ap (λ (ns : List Note). with_notes ns first)
+    (sym (ap (inits_in n) (drop_more ts left d within) ∙ inits_in-more n (get_or ts left d) (drop (left + 1) ts)))
 
 -- at the start none
 pub inits-first : (n : ℕ) (ts : List TypeId) (left : ℕ) (v : Objects) → left ≡ length ts → v ≡ with_notes (inits_in n (drop left ts)) v

@@ -7,11 +7,11 @@ use Rattle.std.proofs.lemmas.Option.{same_Some}
 use Rattle.std.proofs.lemmas.List.Sums.{sum_by-cons}
 use Rattle.qo_model.specs.Board.{Board, Record, Slot, plain, child, strong, weak, alias, record_of, is_live, slots_at, slot_at, held}
 use Rattle.qo_model.specs.References.{refs}
-use Rattle.qo_model.specs.Release.{edited, emptied, without_hold, with_dropped, drop_slot, next_place, forgotten_in, forgotten, finish, let_go}
-use Rattle.qo_model.specs.ReleaseKeeps.{KeepsRelease}
+use Rattle.qo_model.specs.Release.{edited, emptied, without_hold, with_dropped, drop_slot, next_index, forgotten_in, forgotten, finish, let_go}
+use Rattle.qo_model.specs.ReleaseInduction.{KeepsRelease}
 use Rattle.qo_model.proofs.EditLemmas.{held-forgotten}
 use Rattle.qo_model.proofs.StepLemmas.{drop-record, drop-live, drop-refs, finish-record, finish-live, finish-refs, unheld-apart}
-use Rattle.qo_model.proofs.ReleaseKeepsLemmas.{after_keeps}
+use Rattle.qo_model.proofs.ReleaseInductionLemmas.{after_keeps}
 
 -- what stands in a slot at a place
 abbrev pub at_place : List (List ℕ × Slot) → ℕ → Option Slot
@@ -27,7 +27,7 @@ pub record Stays (x i : ℕ) (b : Board) : Type 0 where
   pub free : refs b x ≡ 0
   pub bare : IsBareTo (slots_at b x) i
 
--- slots behind an end
+-- slots after an end
 
 module _ (n : ℕ) where
   abbrev forgotten_slots : List (List ℕ × Slot) → List (List ℕ × Slot)
@@ -41,7 +41,8 @@ module _ (n : ℕ) where
   finish-slots : (b : Board) (x : ℕ) → (x == n) ≡ false → slots_at (finish b n) x ≡ forgotten_slots (slots_at b x)
   finish-slots b x apart = ap (λ (o : Option Record). option_map_or (λ (r : Record). r.slots) o []) (finish-record b n x apart) ∙ go (record_of b x)
     where
-      go : (o : Option Record) → option_map_or (λ (r : Record). r.slots) (option_map (forgotten n) o) [] ≡ forgotten_slots (option_map_or (λ (r : Record). r.slots) o [])
+      go : (o : Option Record)
+          → option_map_or (λ (r : Record). r.slots) (option_map (forgotten n) o) [] ≡ forgotten_slots (option_map_or (λ (r : Record). r.slots) o [])
       go None = refl
       go (Some r) = refl
 
@@ -56,7 +57,7 @@ module _ (n : ℕ) where
           let same : forgotten_in n t ≡ s = same_Some (forgotten_in n t) s (ap (option_map (forgotten_in n)) (sym p) ∙ sym (at-forgotten slots j) ∙ e) in
           ap held (sym same) ∙ held-forgotten n t ∙ bare j below t p
 
--- slots behind a slot let go
+-- slots after a slot let go
 
 found-birth : (x : ℕ) (rs : List Record) (r : Record) → find (λ (y : Record). y.birth == x) rs ≡ Some r → r.birth ≡ x
 found-birth x [] r e = cc
@@ -71,7 +72,8 @@ found-birth x (y ∷ rs) r e = go (y.birth == x) refl (found-birth x rs r)
 drop-other : (b : Board) (n i x : ℕ) → (x == n) ≡ false → slots_at (drop_slot b n i) x ≡ slots_at b x
 drop-other b n i x apart = ap (λ (o : Option Record). option_map_or (λ (r : Record). r.slots) o []) (drop-record b n i x) ∙ go (record_of b x) refl
   where
-    go : (o : Option Record) → record_of b x ≡ o → option_map_or (λ (r : Record). r.slots) (option_map (edited n (with_dropped i)) o) [] ≡ option_map_or (λ (r : Record). r.slots) o []
+    go : (o : Option Record) → record_of b x ≡ o
+        → option_map_or (λ (r : Record). r.slots) (option_map (edited n (with_dropped i)) o) [] ≡ option_map_or (λ (r : Record). r.slots) o []
     go None p = refl
     go (Some r) p =
         let other : (r.birth == n) ≡ false = rw (found-birth x b.records r p) apart in
@@ -80,7 +82,8 @@ drop-other b n i x apart = ap (λ (o : Option Record). option_map_or (λ (r : Re
 drop-own : (b : Board) (n i : ℕ) → slots_at (drop_slot b n i) n ≡ without_hold i (slots_at b n)
 drop-own b n i = ap (λ (o : Option Record). option_map_or (λ (r : Record). r.slots) o []) (drop-record b n i n) ∙ go (record_of b n) refl
   where
-    go : (o : Option Record) → record_of b n ≡ o → option_map_or (λ (r : Record). r.slots) (option_map (edited n (with_dropped i)) o) [] ≡ without_hold i (option_map_or (λ (r : Record). r.slots) o [])
+    go : (o : Option Record) → record_of b n ≡ o
+        → option_map_or (λ (r : Record). r.slots) (option_map (edited n (with_dropped i)) o) [] ≡ without_hold i (option_map_or (λ (r : Record). r.slots) o [])
     go None p = refl
     go (Some r) p =
         let same : (r.birth == n) ≡ true = eq-eqb r.birth n (found-birth n b.records r p) in
@@ -101,7 +104,8 @@ bare-before (t ∷ slots) zero bare j below s e = absurd (omega arith)
 bare-before (t ∷ slots) (suc i) bare zero below s e = bare zero below s e
 bare-before (t ∷ slots) (suc i) bare (suc j) below s e = bare-before slots i (λ k less. bare (suc k) (omega arith)) j (omega arith) s e
 
-bare-here : (slots : List (List ℕ × Slot)) (i : ℕ) (s left : Slot) → at_place slots i ≡ Some s → emptied s ≡ Some left → at_place (without_hold i slots) i ≡ Some left
+bare-here : (slots : List (List ℕ × Slot)) (i : ℕ) (s left : Slot) → at_place slots i ≡ Some s → emptied s ≡ Some left
+    → at_place (without_hold i slots) i ≡ Some left
 bare-here [] i s left e q = cc
 bare-here (t ∷ slots) zero s left e q =
     let same : t.1 ≡ s = same_Some t.1 s e in
@@ -109,7 +113,8 @@ bare-here (t ∷ slots) zero s left e q =
     rw (without_hold, here) refl
 bare-here (t ∷ slots) (suc i) s left e q = bare-here slots i s left e q
 
-bare-more : (slots : List (List ℕ × Slot)) (i : ℕ) (s left : Slot) → IsBareTo slots i → at_place slots i ≡ Some s → emptied s ≡ Some left → IsBareTo (without_hold i slots) (suc i)
+bare-more : (slots : List (List ℕ × Slot)) (i : ℕ) (s left : Slot) → IsBareTo slots i → at_place slots i ≡ Some s → emptied s ≡ Some left
+    → IsBareTo (without_hold i slots) (suc i)
 bare-more slots i s left bare e q j below t p = go (j == i) refl
   where
     go : (b : Bool) → (j == i) ≡ b → held t ≡ None
@@ -119,7 +124,7 @@ bare-more slots i s left bare e q j below t p = go (j == i) refl
         ap held (sym same) ∙ left-bare s left q
     go false is = bare-before slots i bare j (grind arith) t p
 
-bare-next : (slots : List (List ℕ × Slot)) (i : ℕ) (s : Slot) → IsBareTo slots i → at_place slots i ≡ Some s → IsBareTo (without_hold i slots) (next_place s i)
+bare-next : (slots : List (List ℕ × Slot)) (i : ℕ) (s : Slot) → IsBareTo slots i → at_place slots i ≡ Some s → IsBareTo (without_hold i slots) (next_index s i)
 bare-next slots i (plain v) bare e = bare-more slots i (plain v) (plain v) bare e refl
 bare-next slots i (child m) bare e = bare-before slots i bare
 bare-next slots i (strong t target) bare e = bare-more slots i (strong t target) (strong t None) bare e refl
@@ -139,12 +144,13 @@ stays-other x i b n k apart stays =
       bare = bare-as (slots_at b x) (slots_at (drop_slot b n k) x) i (drop-other b n k x apart) stays.bare;
     }
 
-stays-own : (n i : ℕ) (b : Board) (s : Slot) → slot_at b n i ≡ Some s → Stays n i b → Stays n (next_place s i) (drop_slot b n i)
+stays-own : (n i : ℕ) (b : Board) (s : Slot) → slot_at b n i ≡ Some s → Stays n i b → Stays n (next_index s i) (drop_slot b n i)
 stays-own n i b s e stays =
     record {
       live = drop-live b n i n ∙ stays.live;
       free = omega (arith, drop-refs b n i n, stays.free);
-      bare = bare-as (without_hold i (slots_at b n)) (slots_at (drop_slot b n i) n) (next_place s i) (drop-own b n i) (bare-next (slots_at b n) i s stays.bare e);
+      bare =
+          bare-as (without_hold i (slots_at b n)) (slots_at (drop_slot b n i) n) (next_index s i) (drop-own b n i) (bare-next (slots_at b n) i s stays.bare e);
     }
 
 stays-finish : (x i : ℕ) (b : Board) (n : ℕ) → (x == n) ≡ false → Stays x i b → Stays x i (finish b n)
@@ -178,17 +184,24 @@ module _ (x i : ℕ) where
       }
 
 -- a slot of its own let go leaves it, and what is left before the next place holds nothing
-pub let_go-stays : (n i : ℕ) (b : Board) (s : Slot) → slot_at b n i ≡ Some s → Stays n i b → Stays n (next_place s i) (let_go b n i)
+pub let_go-stays : (n i : ℕ) (b : Board) (s : Slot) → slot_at b n i ≡ Some s → Stays n i b → Stays n (next_index s i) (let_go b n i)
 unfolding let_go
 let_go-stays n i b s e stays =
-    let own : Stays n (next_place s i) (drop_slot b n i) = stays-own n i b s e stays in
-    rw (let_go, e) (after_keeps (Others n (next_place s i)) (others-keep n (next_place s i)) (drop_slot b n i) (held s) [] (λ m h free. (own, (held-other n (next_place s i) b n i m s stays.free e h, tt))) (λ held_on. (own, tt))).0
+    let own : Stays n (next_index s i) (drop_slot b n i) = stays-own n i b s e stays in
+    rw (let_go, e) (after_keeps (Others n (next_index s i)) (others-keep n (next_index s i)) (drop_slot b n i) (held s) []
+    (λ m h free. (own, (held-other n (next_index s i) b n i m s stays.free e h, tt))) (λ held_on. (own, tt))).0
 
 -- where the slots before a place hold nothing and none stands there, none holds anything
-pub none-held : (slots : List (List ℕ × Slot)) (i : ℕ) → IsBareTo slots i → at_place slots i ≡ None → count_by (λ (s : List ℕ × Slot). is_some (held s.1)) slots ≡ 0
+pub none-held : (slots : List (List ℕ × Slot)) (i : ℕ) → IsBareTo slots i → at_place slots i ≡ None
+    → count_by (λ (s : List ℕ × Slot). is_some (held s.1)) slots ≡ 0
 none-held [] i bare e = refl
 none-held (t ∷ slots) zero bare e = cc
 none-held (t ∷ slots) (suc i) bare e =
     let here : held t.1 ≡ None = bare zero (omega arith) t.1 refl in
     let one : cond {A = ℕ} (is_some (held t.1)) 1 0 ≡ 0 = rw here refl in
-    omega (arith, sum_by-cons (λ (s : List ℕ × Slot). cond {A = ℕ} (is_some (held s.1)) 1 0) t slots, one, none-held slots i (λ j less. bare (suc j) (omega arith)) e)
+    omega (
+      arith,
+      sum_by-cons (λ (s : List ℕ × Slot). cond {A = ℕ} (is_some (held s.1)) 1 0) t slots,
+      one,
+      none-held slots i (λ j less. bare (suc j) (omega arith)) e,
+    )

@@ -5,9 +5,9 @@ use Rattle.std.proofs.lemmas.Bool.{eqb-true}
 use Rattle.std.proofs.lemmas.List.Sums.{sum_by-cons}
 use Rattle.qo_model.specs.Board.{Board, is_live}
 use Rattle.qo_model.specs.References.{refs}
-use Rattle.qo_model.specs.Release.{after, drop_slot, finalise, finish}
-use Rattle.qo_model.specs.ReleaseKeeps.{KeepsRelease}
-use Rattle.qo_model.proofs.ReleaseKeepsLemmas.{after_keeps}
+use Rattle.qo_model.specs.Release.{after, drop_slot, finalize, finish}
+use Rattle.qo_model.specs.ReleaseInduction.{KeepsRelease}
+use Rattle.qo_model.proofs.ReleaseInductionLemmas.{after_keeps}
 use Rattle.qo_model.proofs.StepLemmas.{drop-live, finish-live}
 
 pub record IsHeld (x : ℕ) (b : Board) : Type 0 where
@@ -55,5 +55,5 @@ module _ (x : ℕ) where
         kept = λ b n j work s p e held_on. (held-drop b n j p.0, (p.1.0, p.1.1));
       }
 
-  pub held-after : (b : Board) (o : Option ℕ) → IsHeld x b → IsHeld x (after finalise b o)
+  pub held-after : (b : Board) (o : Option ℕ) → IsHeld x b → IsHeld x (after finalize b o)
   held-after b o h = (after_keeps Others others-keep b o [] (λ m e free. (h, (held-apart b m h free, tt))) (λ held_on. (h, tt))).0

@@ -1,6 +1,6 @@
 pub mod BirthLemmas
 pub mod BoardLemmas
-pub mod GoesLemmas
+pub mod ReleaseLemmas
 pub mod HeldLemmas
-pub mod MadeLemmas
+pub mod NewObjectLemmas
 pub mod TreeLemmas

@@ -1,4 +1,4 @@
--- The steps of a heap as steps of a board: alone, one behind another, and as seen on the tree of the heap.
+-- The steps of a heap as steps of a board: alone, one after another, and as seen on the tree of the heap.
 use Rattle.std.proofs.Common.{◌≡◌, refl, ap, sym, subst, ◌∙◌, ℕ, ◌<◌, Bool, true, false, eqb, List, [], ◌∷◌, ◌++◌, map, Option, Some, None, is_some, option_map, IsSomeAnd}
 use Rattle.std.proofs.lemmas.Bool.{eqb-true}
 use Rattle.std.proofs.lemmas.Option.{same_Some}
@@ -13,11 +13,11 @@ use Rattle.qo_object.specs.Content.{Content, dropped_at, forgotten}
 use Rattle.qo_object.specs.Content as content
 use Rattle.qo_heap.specs.Board.{Shows, record_of, pins_in}
 use Rattle.qo_heap.specs.Objects.{IsHeap, Objects, content_of, ended, final_notes, forgets, pins_of, refs_of, with_edit}
-use Rattle.qo_heap.proofs.ShowsEdits.{shows-drop_slot, shows-without_pin}
-use Rattle.qo_object.specs.Shown.{shown}
+use Rattle.qo_heap.proofs.BoardEdits.{shows-drop_slot, shows-without_pin}
+use Rattle.qo_object.specs.BoardObject.{shown}
 use Rattle.qo_heap.proofs.EndLemmas.{kept-spare}
-use Rattle.qo_heap.proofs.ShowsEnds.{shows-ended}
-use Rattle.qo_heap.proofs.ShowsLive.{content-edited, content-gone, content-left, content-other}
+use Rattle.qo_heap.proofs.BoardEnds.{shows-ended}
+use Rattle.qo_heap.proofs.BoardObjects.{content-edited, content-gone, content-left, content-other}
 use Rattle.qo_heap.proofs.BookLemmas.{book-edit, book-ended}
 use Rattle.qo_life.specs.Life.{Goes, KeepsNames, with_log}
 
@@ -53,16 +53,26 @@ shows-notes b c log v s t = record { records = s.records; born = s.born; pins = 
 pub heap-with_log : (v : Objects) (log : Log) → IsHeap v → IsHeap (with_log log v)
 heap-with_log v log good = record { rising = good.rising; few = good.few; linked = good.linked }
 
--- the tree behind a step
-pub tree-behind : (step : Board → Board) (v w : Objects) → Goes step v w → tree_with (step (tree v)).records (step (tree v)).born (step (tree v)).pins (step (tree v)).events (step (tree v)).now ≡ tree w
-tree-behind step v w g =
+-- the tree after a step
+pub tree-after : (step : Board → Board) (v w : Objects) → Goes step v w
+    → tree_with (step (tree v)).records (step (tree v)).born (step (tree v)).pins (step (tree v)).events (step (tree v)).now ≡ tree w
+tree-after step v w g =
     let s = g.shown (tree v) empty_log (tree-shows v) in
     λ j. tree_with (s.records j) (s.born j) (s.pins j) (s.events j) (s.now j)
 
--- no step, a step that is another on all boards of the heap, and a step behind a step
+-- no step, a step that is another on all boards of the heap, and a step after a step
 pub goes-none : (v : Objects) → Goes (λ b. b) v v
 unfolding noted_all
-goes-none v = record { more = []; log = refl; shown = λ b log s. s; names = λ key live. live; bodies = λ n c there. ap (option_map (λ (d : Content). d.body)) there; book = λ out h. h; time = refl; spare = refl }
+goes-none v = record {
+  more = [];
+  log = refl;
+  shown = λ b log s. s;
+  names = λ key live. live;
+  bodies = λ n c there. ap (option_map (λ (d : Content). d.body)) there;
+  book = λ out h. h;
+  time = refl;
+  spare = refl;
+}
 
 pub goes-same : (f g : Board → Board) (v w : Objects) → Goes f v w → ((b : Board) (log : Log) → Shows b (with_log log v) → g b ≡ f b) → Goes g v w
 goes-same f g v w go is =
@@ -82,7 +92,8 @@ goes-then f g v u w first then =
     record {
       more = first.more ++ then.more;
       log = then.log ∙ ap (noted_all then.more) first.log ∙ sym (parts_lem first.more then.more v.log);
-      shown = λ b log s. subst (λ (l : Log). Shows (g (f b)) (with_log l w)) (sym (parts_lem first.more then.more log)) (then.shown (f b) (noted_all first.more log) (first.shown b log s));
+      shown = λ b log s. subst (λ (l : Log). Shows (g (f b)) (with_log l w)) (sym (parts_lem first.more then.more log))
+          (then.shown (f b) (noted_all first.more log) (first.shown b log s));
       names = λ key live. first.names key (then.names key live);
       bodies = λ n c there. both n c (content_of u n) refl (then.bodies n c there);
       book = λ out h. then.book out (first.book out h);
@@ -110,7 +121,7 @@ module _ {A : Type 0} (g : Content → A) (n : ℕ) (f : Content → Content) (s
           (ap (option_map g) (content-edited v n f) ∙ two (content_of v n))
       go false p = ap (option_map g) (content-other v n m f p)
 
--- who is there has the body that it had, behind an edit of slots or pins, and behind an end
+-- who is there has the body that it had, after an edit of slots or pins, and after an end
 pub edit-bodies : (v : Objects) (n : ℕ) (f : Content → Content) → ((c : Content) → (f c).body ≡ c.body) → (m : ℕ) (d : Content)
     → content_of (with_edit n f v) m ≡ Some d → option_map (λ (c : Content). c.body) (content_of v m) ≡ Some d.body
 edit-bodies v n f same m d there = sym (read-content (λ (c : Content). c.body) n f same v m) ∙ ap (option_map (λ (c : Content). c.body)) there
@@ -129,23 +140,25 @@ end-bodies v n x m d there = go (eqb m n) refl
         (let clash : None ≡ Some d = sym (ap (λ (k : ℕ). content_of (ended n x v) k) (eqb-true m n p) ∙ content-gone v n x) ∙ there in cc)
     go false p = left (content_of v m) (sym (content-left v n m x p) ∙ there)
 
--- who is there behind an edit was there before it
+-- who is there after an edit was there before it
 pub live-before_edit : (n : ℕ) (f : Content → Content) (rows : List (Key × Content)) (key : Key) → IsLive (edit n f rows) key → IsLive rows key
 live-before_edit n f [] key live = live
 live-before_edit n f (row ∷ rows) key live = by (eqb row.0.birth n) refl (eqb row.0.birth key.birth) refl (live-before_edit n f rows key)
   where
-    by : (a : Bool) → eqb row.0.birth n ≡ a → (b : Bool) → eqb row.0.birth key.birth ≡ b → (IsLive (edit n f rows) key → IsLive rows key) → IsLive (row ∷ rows) key
+    by : (a : Bool) → eqb row.0.birth n ≡ a → (b : Bool) → eqb row.0.birth key.birth ≡ b → (IsLive (edit n f rows) key → IsLive rows key)
+        → IsLive (row ∷ rows) key
     by true p true q rest = let here : row.0.index ≡ key.index = rw (p, q) at live in rw q here
     by true p false q rest = let later : IsLive (edit n f rows) key = rw (p, q) at live in rw q (rest later)
     by false p true q rest = let here : row.0.index ≡ key.index = rw (p, q) at live in rw q here
     by false p false q rest = let later : IsLive (edit n f rows) key = rw (p, q) at live in rw q (rest later)
 
--- and who is there behind an end, before it
+-- and who is there after an end, before it
 none-left : (n : ℕ) (rows : List (Key × Content)) (key : Key) → eqb key.birth n ≡ true → row_at (map (forgets n) (without n rows)) key.birth ≡ None
 none-left n [] key is = refl
 none-left n (row ∷ rows) key is = by (eqb row.0.birth n) refl (none-left n rows key is)
   where
-    by : (a : Bool) → eqb row.0.birth n ≡ a → row_at (map (forgets n) (without n rows)) key.birth ≡ None → row_at (map (forgets n) (without n (row ∷ rows))) key.birth ≡ None
+    by : (a : Bool) → eqb row.0.birth n ≡ a → row_at (map (forgets n) (without n rows)) key.birth ≡ None
+        → row_at (map (forgets n) (without n (row ∷ rows))) key.birth ≡ None
     by true p rest = rw p rest
     by false p rest =
         let other : eqb row.0.birth key.birth ≡ false = rw (eqb-true key.birth n is) p in
@@ -155,7 +168,8 @@ live-before_end : (n : ℕ) (rows : List (Key × Content)) (key : Key) → IsLiv
 live-before_end n [] key live = live
 live-before_end n (row ∷ rows) key live = by (eqb row.0.birth n) refl (eqb row.0.birth key.birth) refl (live-before_end n rows key)
   where
-    by : (a : Bool) → eqb row.0.birth n ≡ a → (b : Bool) → eqb row.0.birth key.birth ≡ b → (IsLive (map (forgets n) (without n rows)) key → IsLive rows key) → IsLive (row ∷ rows) key
+    by : (a : Bool) → eqb row.0.birth n ≡ a → (b : Bool) → eqb row.0.birth key.birth ≡ b → (IsLive (map (forgets n) (without n rows)) key → IsLive rows key)
+        → IsLive (row ∷ rows) key
     by true p true q rest =
         let later : IsLive (map (forgets n) (without n rows)) key = rw p at live in
         let same : eqb key.birth n ≡ true = rw (← eqb-true row.0.birth key.birth q) p in

@@ -17,7 +17,7 @@ use Rattle.qo_heap.specs.Board.{Shows}
 use Rattle.qo_heap.specs.Book.{IsBook}
 use Rattle.qo_heap.specs.Objects.{Objects, content_of}
 
--- the note of the initialiser of a type, and those of a new object of a type, base first
+-- the note of the initializer of a type, and those of a new object of a type, base first
 abbrev pub init_note : ℕ → TypeId → Note
 init_note n t = record { birth = n; deed = Did (Init t) }
 
@@ -31,7 +31,7 @@ with_notes notes v = record v { log = noted_all notes v.log }
 abbrev pub with_log : Log → Objects → Objects
 with_log log v = record v { log = log }
 
--- the place of the slot behind one that was let go: behind a child slot the next has the same place
+-- the place of the slot after one that was let go: after a child slot the next has the same place
 abbrev pub next_at : ℕ → Slot → ℕ
 next_at at (Child key) = at
 next_at at _ = suc at

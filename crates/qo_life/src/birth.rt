@@ -3,7 +3,7 @@
 ghost use Rattle.std.specs.Prelude.{◌≡◌, ◌+◌, ◌<◌, [], ◌∷◌, ◌++◌, length, IfOk, OnErr, Err, if◌then◌else◌};
 ghost use Rattle.qo_values.specs.declared.kinds.TypeId.{TypeId};
 ghost use Rattle.qo_values.specs.declared.limits.TheConstants.{LIVE_OBJECTS_MAX};
-ghost use Rattle.qo_model.specs.Types.{has_finaliser};
+ghost use Rattle.qo_model.specs.Types.{has_finalizer};
 ghost use Rattle.qo_notes.specs.Log.{noted_all};
 ghost use Rattle.qo_object.specs.Content.{fresh};
 ghost use Rattle.qo_table.specs.Rows.{IsLive};
@@ -16,17 +16,17 @@ use qo_values::TypeId;
 use std::alloc::Global;
 use std::sync::ledger::Ledger;
 
-/// Notes that the initialiser of a type ran on an object, where the type has one.
+/// Notes that the initializer of a type ran on an object, where the type has one.
 fn note_init(heap: &mut Heap, o: Oid, of: TypeId)
     requires { IsLive heap.old.rows o }
-    ensures { heap.new ≡ with_notes (if has_finaliser of then init_note o.birth of ∷ [] else []) heap.old }
+    ensures { heap.new ≡ with_notes (if has_finalizer of then init_note o.birth of ∷ [] else []) heap.old }
 {
-    if TypeTable::board().has_finaliser(of) {
+    if TypeTable::board().has_finalizer(of) {
         heap.init(o, of);
     }
 }
 
-/// Notes the initialisers of an object of a type, base first.
+/// Notes the initializers of an object of a type, base first.
 fn note_inits(heap: &mut Heap, o: Oid, kind: TypeId)
     requires { IsLive heap.old.rows o }
     ensures { heap.new ≡ with_notes (init_notes o.birth kind) heap.old }
@@ -40,7 +40,7 @@ fn note_inits(heap: &mut Heap, o: Oid, kind: TypeId)
 }
 
 /// Makes an object of a type, without slots and pinned once, of the next birth, and notes its
-/// initialisers, base first (docs/devel/qom.rst, "The QEMU Object Model": `instance_init`). `Limit`
+/// initializers, base first (docs/devel/qom.rst, "The QEMU Object Model": `instance_init`). `Limit`
 /// comes exactly at `LIVE_OBJECTS_MAX` live objects. An error leaves the heap as it was.
 pub fn create<L: Ledger>(
     heap: &mut Heap,

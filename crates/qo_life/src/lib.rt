@@ -1,5 +1,5 @@
 //! The life of the objects of the tree, from birth to release: how they are made, with their
-//! initialisers base first, and how they are released, with what nothing refers to any more
+//! initializers base first, and how they are released, with what nothing refers to any more
 //! (docs/devel/qom.rst, "The QEMU Object Model").
 #![tactic(auto)]
 

@@ -2,8 +2,8 @@
 
 ghost use Rattle.std.specs.Prelude.{◌≡◌, ◌<◌, IfSome, None, option_map};
 ghost use Rattle.qo_model.specs.Board.{Board};
-ghost use Rattle.qo_model.specs.Release.{after, finalise, let_go, unpin};
-ghost use Rattle.qo_object.specs.Shown.{birth_of};
+ghost use Rattle.qo_model.specs.Release.{after, finalize, let_go, unpin};
+ghost use Rattle.qo_object.specs.BoardObject.{birth_of};
 ghost use Rattle.qo_object.specs.Slots.{held, slot_in};
 ghost use Rattle.qo_table.specs.Rows.{IsLive};
 ghost use Rattle.qo_heap.specs.Board.{Shows};
@@ -18,7 +18,7 @@ use std::sync::ledger::Ledger;
 struct Turn {
     /// The object that the slot held.
     held: Option<Oid>,
-    /// The place of the slot behind it, once it was let go.
+    /// The place of the slot after it, once it was let go.
     next: usize,
 }
 
@@ -45,18 +45,18 @@ fn turn_at<L: Ledger>(heap: &Heap, o: Oid, at: usize, steps: &mut Steps<L>) -> O
 #[cycle(ending)]
 fn end_unheld<L: Ledger>(heap: &mut Heap, held: Option<Oid>, steps: &mut Steps<L>)
     requires { IfSome held (IsLive heap.old.rows) }
-    ensures { Goes (λ b. after finalise b (birth_of held)) heap.old heap.new }
+    ensures { Goes (λ b. after finalize b (birth_of held)) heap.old heap.new }
 {
     heap.facts();
     if let Some(o) = held {
         if !heap.is_held(o, steps) {
-            finalise(heap, o, steps);
+            finalize(heap, o, steps);
         }
     }
 }
 
 /// Lets the slot of an object at a place go, with what it held, and answers the place of the slot
-/// behind it; `None` exactly past the last.
+/// after it; `None` exactly past the last.
 #[cycle(ending)]
 fn let_go_at<L: Ledger>(heap: &mut Heap, o: Oid, at: usize, steps: &mut Steps<L>) -> Option<usize>
     requires { IsLive heap.old.rows o }
@@ -73,10 +73,10 @@ fn let_go_at<L: Ledger>(heap: &mut Heap, o: Oid, at: usize, steps: &mut Steps<L>
 
 /// Ends an object to which nothing refers: lets its slots go, in order, and removes it.
 #[cycle(ending)]
-fn finalise<L: Ledger>(heap: &mut Heap, o: Oid, steps: &mut Steps<L>)
+fn finalize<L: Ledger>(heap: &mut Heap, o: Oid, steps: &mut Steps<L>)
     requires live { IsLive heap.old.rows o }
     requires free { refs_of heap.old o.birth ≡ 0 }
-    ensures { Goes (λ b. finalise b o.birth) heap.old heap.new }
+    ensures { Goes (λ b. finalize b o.birth) heap.old heap.new }
 {
     heap.facts();
     let mut at = 0;
@@ -88,7 +88,7 @@ fn finalise<L: Ledger>(heap: &mut Heap, o: Oid, steps: &mut Steps<L>)
 }
 
 /// Lets the slot of an object at a place go: a child slot is removed, a link is left without a
-/// target, and what it held is finalised where nothing refers to it any more (docs/devel/qom.rst,
+/// target, and what it held is finalized where nothing refers to it any more (docs/devel/qom.rst,
 /// "The QEMU Object Model": `object_unref`, `object_finalize`). A plain slot, an alias and a place
 /// past the last stay.
 pub fn let_go<L: Ledger>(heap: &mut Heap, owner: Oid, at: usize, steps: &mut Steps<L>)
@@ -100,7 +100,7 @@ pub fn let_go<L: Ledger>(heap: &mut Heap, owner: Oid, at: usize, steps: &mut Ste
     let_go_at(heap, owner, at, steps);
 }
 
-/// Takes a pin from an object, which is finalised where nothing refers to it any more
+/// Takes a pin from an object, which is finalized where nothing refers to it any more
 /// (docs/devel/qom.rst, "The QEMU Object Model": `object_unref`).
 pub fn drop_pin<L: Ledger>(heap: &mut Heap, o: Oid, steps: &mut Steps<L>)
     requires live { IsLive heap.old.rows o }
@@ -114,12 +114,12 @@ pub fn drop_pin<L: Ledger>(heap: &mut Heap, o: Oid, steps: &mut Steps<L>)
     end_unheld(heap, Some(o), steps);
 }
 
-/// Ends a hold that was taken away: the object that was held is finalised where nothing refers to it
+/// Ends a hold that was taken away: the object that was held is finalized where nothing refers to it
 /// any more (docs/devel/qom.rst, "The QEMU Object Model": `object_unref`).
 pub fn drop_hold<L: Ledger>(heap: &mut Heap, held: Option<Oid>, steps: &mut Steps<L>)
     requires { IfSome held (IsLive heap.old.rows) }
-    ensures release { (b : Board) → Shows b heap.old → Shows (after finalise b (birth_of held)) heap.new }
-    ensures goes { Goes (λ b. after finalise b (birth_of held)) heap.old heap.new }
+    ensures release { (b : Board) → Shows b heap.old → Shows (after finalize b (birth_of held)) heap.new }
+    ensures goes { Goes (λ b. after finalize b (birth_of held)) heap.old heap.new }
     ensures names { KeepsNames heap.old heap.new }
 {
     end_unheld(heap, held, steps);

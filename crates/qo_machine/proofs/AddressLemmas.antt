@@ -18,10 +18,10 @@ use Rattle.qo_model.specs.Plug.{notice_barred}
 use Rattle.qo_model.specs.SoundGraph.{graph_of}
 use Rattle.qo_model.proofs.TreeLemmas.{frame_lem}
 use Rattle.qo_realize.specs.Guest.{polled}
-use Rattle.qo_sound.proofs.LiveLemmas.{IsThere, kids-there}
+use Rattle.qo_sound.proofs.PresenceLemmas.{IsThere, kids-there}
 use Rattle.qo_sound.proofs.ViewLemmas.{rest-from_sound}
 use Rattle.qo_sound_devices.proofs.PlacesLemmas.{of-live}
-use Rattle.qo_sound.specs.Kept.{SoundTree}
+use Rattle.qo_sound.specs.TreeKept.{SoundTree}
 
 -- what the first slot of a name comes to, where all that slots come to passes
 first-came : (P : ℕ → Type 0) (f : Slot → Option ℕ) (p : List ℕ × Slot → Bool) (slots : List (List ℕ × Slot)) (m : ℕ)
@@ -40,7 +40,8 @@ first-came P f p (s ∷ slots) m all e = go (λ rest found. first-came P f p slo
         let both : P k × AllByRecursion P (filter_map (λ (s : List ℕ × Slot). f s.1) slots) = rw q at all in
         let same : k ≡ m = same_Some k m (rw (is, q) at e) in rw (sym same) both.0
 
-    go : (AllByRecursion P (filter_map (λ (s : List ℕ × Slot). f s.1) slots) → option_and_then f (option_map (λ (s : List ℕ × Slot). s.1) (find p slots)) ≡ Some m → P m)
+    go : (AllByRecursion P (filter_map (λ (s : List ℕ × Slot). f s.1) slots)
+        → option_and_then f (option_map (λ (s : List ℕ × Slot). s.1) (find p slots)) ≡ Some m → P m)
         → (o : Option ℕ) → f s.1 ≡ o → (u : Bool) → p s ≡ u → P m
     go again o q true is = here o q is
     go again o q false is = again (later o q) (rw is at e)

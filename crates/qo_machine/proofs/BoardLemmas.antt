@@ -20,9 +20,9 @@ use Rattle.qo_model.specs.Plug.{cut_attempt}
 use Rattle.qo_model.specs.Reset.{pulse}
 use Rattle.qo_realize.specs.Chardevs.{with_rings}
 use Rattle.qo_realize.specs.Guest.{polled}
-use Rattle.qo_realize.specs.Registers.{behind_effect, guest_written, pushed, registers_at, registers_written}
+use Rattle.qo_realize.specs.Registers.{after_effect, guest_written, pushed, registers_at, registers_written}
 use Rattle.qo_realize.specs.Time.{at_time, with_running}
-use Rattle.qo_realize.proofs.SoundLemmas.{registers-timely}
+use Rattle.qo_realize.proofs.GoodBoardLemmas.{registers-timely}
 use Rattle.qo_sound_bounds.specs.SoundSegments.{IsSegmented, SoundSegments}
 use Rattle.qo_sound_bounds.proofs.BoundsLemmas.{bounds_kept_lem}
 use Rattle.qo_sound_bounds.proofs.SegmentsLawLemmas.{segments_kept_lem}
@@ -30,16 +30,16 @@ use Rattle.qo_sound_bounds.proofs.SourcesLawLemmas.{sources_kept_lem}
 use Rattle.qo_sound_claims.specs.SoundBackends.{SoundBackends}
 use Rattle.qo_sound_claims.proofs.LawLemmas.{claims_kept_lem}
 use Rattle.qo_sound_clocks.specs.ClockRuns.{SoundRun}
-use Rattle.qo_sound_clocks.specs.RegistersKept.{registers_set}
+use Rattle.qo_sound_clocks.specs.RegisterWrites.{registers_set}
 use Rattle.qo_sound_devices.specs.SoundLists.{IsOn}
 use Rattle.qo_sound_devices.proofs.PlugLemmas.{among-all}
 use Rattle.qo_sound_owners.proofs.LawLemmas.{owners_kept_lem}
 use Rattle.qo_sound_shapes.specs.SoundShape.{is_like}
 use Rattle.qo_sound_shapes.proofs.LawLemmas.{shapes_kept_lem}
 use Rattle.qo_machine.specs.SoundBoard.{SoundBoard}
-use Rattle.qo_machine.specs.Machine.{Answers, BreaksOff, IsIn, Message, Seen, State, opening, state_at, step}
+use Rattle.qo_machine.specs.Machine.{Answers, BreaksOff, IsIn, Message, Seen, State, opening, state_with, step}
 use Rattle.qo_machine.proofs.ClocksLemmas.{opening_run, pulsed_run, registers_run, ringed_run, run_by, run_free, run_kept}
-use Rattle.qo_machine.proofs.KeepLemmas.{KeepsBoard, KeepsCommands, broken_keeps, keeps_commands, step_keeps}
+use Rattle.qo_machine.proofs.PreservationLemmas.{KeepsBoard, KeepsCommands, broken_keeps, keeps_commands, step_keeps}
 use Rattle.qo_machine.proofs.MachineLemmas.{in_at}
 use Rattle.qo_machine.proofs.RingLemmas.{added_backends, gained_backends, read_backends, registers_backends, removed_backends}
 
@@ -114,7 +114,7 @@ registers_board b d reg value registers e is h =
       bounds = bounds_kept_lem.registers b d registers h.bounds;
     }
 
--- a pulse, and a byte that goes behind those of a ring
+-- a pulse, and a byte that goes after those of a ring
 pulsed_board : (b : Board) (m : ℕ) → SoundBoard b → SoundBoard (pulse b m)
 pulsed_board b m h =
     record {
@@ -130,7 +130,7 @@ pulsed_board b m h =
 pushed_board : (b : Board) (n : ℕ) (id : List ℕ) → SoundBoard b → SoundBoard (pushed n b id)
 pushed_board b n id h = ringed b (pushed n b id).rings (gained_backends b id (n ∷ []) h.backends) h
 
-effect_board : (b : Board) (d : ℕ) (e : Effect) → SoundBoard b → SoundBoard (behind_effect d e b)
+effect_board : (b : Board) (d : ℕ) (e : Effect) → SoundBoard b → SoundBoard (after_effect d e b)
 effect_board b d effect.nothing h = h
 effect_board b d (effect.byte n) h = by (claimed_ring b d)
   where
@@ -149,8 +149,8 @@ written_board b d reg value c is h = by (registers_written b d reg value) refl
     by : (o : Option (Registers × Effect)) → registers_written b d reg value ≡ o → SoundBoard c
     by None e = absurd (let clash : None ≡ Some c = rw (guest_written, e) at is in cc)
     by (Some w) e =
-        let its : Some (behind_effect d w.1 (registers_set b d w.0)) ≡ Some c = rw (guest_written, e) at is in
-        subst SoundBoard (same_Some (behind_effect d w.1 (registers_set b d w.0)) c its)
+        let its : Some (after_effect d w.1 (registers_set b d w.0)) ≡ Some c = rw (guest_written, e) at is in
+        subst SoundBoard (same_Some (after_effect d w.1 (registers_set b d w.0)) c its)
         (effect_board (registers_set b d w.0) d w.1 (registers_board b d reg value w.0 w.1 e h))
 
 board_kept : KeepsBoard SoundBoard
@@ -294,4 +294,4 @@ stepped_board old new i outs answered s at sound t there =
 pub broken_board : (s : State) (i : Input) (m : Seen) → SoundBoard s.board → BreaksOff s i m → (t : State) → IsIn t m → SoundBoard t.board
 broken_board s i m sound p t there =
     let q = broken_keeps SoundBoard board_commands s i m p sound in
-    board_by (state_at q.0 m) t m (in_at q.0 m q.1) there q.2
+    board_by (state_with q.0 m) t m (in_at q.0 m q.1) there q.2

@@ -26,12 +26,12 @@ use Rattle.qo_sessions.specs.declared.modes.Mode.{Mode}
 use Rattle.qo_sessions.specs.declared.modes.Mode.TheVariants.{Closed, Negotiating, Commanding}
 use Rattle.qo_values.specs.declared.codes.Code.TheVariants.{E99}
 use Rattle.qo_values.specs.declared.limits.TheConstants.{SESSIONS}
-use Rattle.qo_machine.proofs.MachineLemmas.{behind_twice, serve_on_by, step_ended, step_on, stopped_by, with_same}
+use Rattle.qo_machine.proofs.MachineLemmas.{after_twice, serve_on_by, step_ended, step_on, stopped_by, with_same}
 use Rattle.qo_machine.proofs.RunLemmas.{outs_more, state_more}
 use Rattle.qo_commands.specs.Changes.{attempted}
 use Rattle.qo_commands.specs.Commands.{empty, event_of, perform, without_events}
 use Rattle.qo_machine.specs.Laws.{ChunksAreFree, CutAnywhere, Matches, in_one, in_two, quiet}
-use Rattle.qo_machine.specs.Machine.{Choice, Made, Message, State, Stepped, answer_line, answered, behind, behind_command, by_item, by_line, defined, refused, event_outs, first, guest_told, is_commanding, item_step, line_step, made_by, mode_of, numbers_below, opening, others, reply, serve, serve_by, serve_lines, serve_unless, session_of, step, taken, those_commanding, told_of, unchanged, with_board, with_line, with_session}
+use Rattle.qo_machine.specs.Machine.{Choice, Made, Message, State, Stepped, answer_line, answered, preceded, after_command, by_item, by_line, defined, refused, event_outs, first, guest_told, is_commanding, item_step, line_step, made_by, mode_of, numbers_below, opening, others, reply, serve, serve_by, serve_lines, serve_unless, session_of, step, taken, those_commanding, event_messages, unchanged, with_board, with_line, with_session}
 use Rattle.qo_machine.specs.Runs.{Turn, closed_where, outs_of, state_after}
 
 -- Where the stream of one session stands.
@@ -96,14 +96,15 @@ negotiated_same n f s =
 those_same : (ms : List ℕ) (n : ℕ) (f : Framing) (s : State) → those_commanding (reframed n f s) ms ≡ those_commanding s ms
 those_same [] n f s = refl
 those_same (m ∷ ms) n f s =
-    ap (λ (mode : Mode). if is_commanding mode then m ∷ those_commanding (reframed n f s) ms else those_commanding (reframed n f s) ms) (mode_kept s.sessions n m f)
+    ap (λ (mode : Mode). if is_commanding mode then m ∷ those_commanding (reframed n f s) ms else those_commanding (reframed n f s) ms)
+    (mode_kept s.sessions n m f)
     ∙ ap (λ (rest : List ℕ). if is_commanding (mode_of s m) then m ∷ rest else rest) (those_same ms n f s)
 
 events_same : (at : Moment) (n : ℕ) (f : Framing) (s : State) (es : List Event) → event_outs at (reframed n f s) es ≡ event_outs at s es
 events_same at n f s es =
-    ap (λ (ms : List ℕ). flat_map (λ (event : Event). told_of event at ms) es) (those_same (numbers_below SESSIONS) n f s)
+    ap (λ (ms : List ℕ). flat_map (λ (event : Event). event_messages event at ms) es) (those_same (numbers_below SESSIONS) n f s)
 
--- the one state behind the end, and the other before it
+-- the one state after the end, and the other before it
 abbrev keep : Bool → State → State → State
 keep true s t = s
 keep false s t = t
@@ -143,10 +144,10 @@ still_step n f r = step_by_put (reframed n f) r
 still_on : (n : ℕ) (f : Framing) (s : State) (e : Bool) → s.ended ≡ e → still n f s ≡ keep e s (reframed n f s)
 still_on n f s e is = still_on_by (reframed n f) s e is
 
-behind_same : (e : Bool) (n : ℕ) (f : Framing) (s : State) (b : Board) → s.ended ≡ false
-    → behind_command e (with_board (reframed n f s) b) ≡ still n f (behind_command e (with_board s b))
-behind_same true n f s b going = refl
-behind_same false n f s b going = sym (still_on n f (with_board s b) false going)
+after_same : (e : Bool) (n : ℕ) (f : Framing) (s : State) (b : Board) → s.ended ≡ false
+    → after_command e (with_board (reframed n f s) b) ≡ still n f (after_command e (with_board s b))
+after_same true n f s b going = refl
+after_same false n f s b going = sym (still_on n f (with_board s b) false going)
 
 made_still : (choice : Choice) (at : Moment) (n : ℕ) (f : Framing) (s : State) (what : SessionAct) → s.ended ≡ false
     → made_by choice at n (reframed n f s) what ≡ still_made n f (made_by choice at n s what)
@@ -163,19 +164,23 @@ made_still defined at n f s (Negotiated id) going =
 made_still defined at n f s (Do command id) going =
     let d = perform s.board command in
     ap
-    (λ (outs : List Message). record { outs = outs ++ (to_session n, reply id d.result) ∷ []; state = behind_command d.ends (with_board (reframed n f s) d.board) })
+    (λ (outs : List Message). record {
+      outs = outs ++ (to_session n, reply id d.result) ∷ [];
+      state = after_command d.ends (with_board (reframed n f s) d.board);
+    })
     (events_same at n f s d.events)
     ∙ ap
     (λ (t : State). record { outs = event_outs at s d.events ++ (to_session n, reply id d.result) ∷ []; state = t })
-    (behind_same d.ends n f s d.board going)
+    (after_same d.ends n f s d.board going)
 
 item_still : (choice : Choice) (at : Moment) (n : ℕ) (f : Framing) (s : State) (item : Item) → s.ended ≡ false
     → item_step choice at n (reframed n f s) item ≡ still_made n f (item_step choice at n s item)
 unfolding item_step
 item_still choice at n f s item going =
-    ap (λ (mode : Mode). made_by choice at n (reframed n f s) (act mode item)) (mode_kept s.sessions n n f) ∙ made_still choice at n f s (act (mode_of s n) item) going
+    ap (λ (mode : Mode). made_by choice at n (reframed n f s) (act mode item)) (mode_kept s.sessions n n f) ∙ made_still choice
+    at n f s (act (mode_of s n) item) going
 
--- behind the end nothing is served, and the state is as it was
+-- after the end nothing is served, and the state is as it was
 stopped_still : {X : Type 0} (f : Choice → State → X → Made) (put : State → State) (xs : List X) (s : State) (cs : List Choice) → s.ended ≡ true
     → step_by_put put (serve_by f xs s cs) ≡ unchanged s cs
 stopped_still f put xs s cs over =
@@ -198,8 +203,8 @@ serve_still_by f put same commutes [] s cs going = ap (λ (t : State). unchanged
 serve_still_by f put same commutes (x ∷ xs) s cs going =
     let m = f (first cs) s x in
     serve_on_by f (put s) x xs cs (same s ∙ going)
-    ∙ ap (λ (y : Made). behind y.outs (serve_by f xs y.state (others cs))) (commutes (first cs) s x going)
-    ∙ ap (behind m.outs) (from_still f put xs m.state (others cs) (serve_still_by f put same commutes xs m.state (others cs)))
+    ∙ ap (λ (y : Made). preceded y.outs (serve_by f xs y.state (others cs))) (commutes (first cs) s x going)
+    ∙ ap (preceded m.outs) (from_still f put xs m.state (others cs) (serve_still_by f put same commutes xs m.state (others cs)))
     ∙ ap (step_by_put put) (sym (serve_on_by f s x xs cs going))
 
 serve_still : (items : List Item) (at : Moment) (n : ℕ) (f : Framing) (s : State) (cs : List Choice) → s.ended ≡ false
@@ -210,7 +215,7 @@ serve_still items at n f s cs going =
 -- Some, and then more.
 
 abbrev then_serve : {X : Type 0} → (Choice → State → X → Made) → List X → Stepped → Stepped
-then_serve f xs r = behind r.outs (serve_by f xs r.state r.rest)
+then_serve f xs r = preceded r.outs (serve_by f xs r.state r.rest)
 
 serve_more : {X : Type 0} (f : Choice → State → X → Made) (xs ys : List X) (s : State) (cs : List Choice)
     → serve_by f (xs ++ ys) s cs ≡ then_serve f ys (serve_by f xs s cs)
@@ -223,11 +228,11 @@ serve_more f (x ∷ xs) ys s cs =
         → serve_by f ((x ∷ xs) ++ ys) s cs ≡ then_serve f ys (serve_by f (x ∷ xs) s cs)
     go true over further =
         stopped_by f ((x ∷ xs) ++ ys) s cs over
-        ∙ sym (ap (then_serve f ys) (stopped_by f (x ∷ xs) s cs over) ∙ ap (behind []) (stopped_by f ys s cs over))
+        ∙ sym (ap (then_serve f ys) (stopped_by f (x ∷ xs) s cs over) ∙ ap (preceded []) (stopped_by f ys s cs over))
     go false going further =
         let m = f (first cs) s x in
         let r = serve_by f xs m.state (others cs) in
-        serve_on_by f s x (xs ++ ys) cs going ∙ ap (behind m.outs) further ∙ behind_twice m.outs r.outs (serve_by f ys r.state r.rest)
+        serve_on_by f s x (xs ++ ys) cs going ∙ ap (preceded m.outs) further ∙ after_twice m.outs r.outs (serve_by f ys r.state r.rest)
         ∙ ap (then_serve f ys) (sym (serve_on_by f s x xs cs going))
 
 -- with other choices left
@@ -250,7 +255,7 @@ serve_uses f (x ∷ xs) s cs =
     go false going further = (
       first cs ∷ further.0,
       λ ds.
-          serve_on_by f s x xs (first cs ∷ further.0 ++ ds) going ∙ ap (behind (f (first cs) s x).outs) (further.1 ds)
+          serve_on_by f s x xs (first cs ∷ further.0 ++ ds) going ∙ ap (preceded (f (first cs) s x).outs) (further.1 ds)
           ∙ ap (with_rest ds) (sym (serve_on_by f s x xs cs going)),
     )
 
@@ -269,7 +274,7 @@ negotiated_open [] n h = h
 negotiated_open (s ∷ ss) zero h = refl
 negotiated_open (s ∷ ss) (suc n) h = negotiated_open ss n h
 
-command_lives : (e : Bool) (n : ℕ) (s : State) (b : Board) → lives n s ≡ true → lives n (behind_command e (with_board s b)) ≡ true
+command_lives : (e : Bool) (n : ℕ) (s : State) (b : Board) → lives n s ≡ true → lives n (after_command e (with_board s b)) ≡ true
 command_lives true n s b h = refl
 command_lives false n s b h = h
 
@@ -296,7 +301,7 @@ serve_lives : (items : List Item) (at : Moment) (n : ℕ) (s : State) (cs : List
 serve_lives [] at n s cs h = h
 serve_lives (i ∷ is) at n s cs h =
     let m = item_step (first cs) at n s i in
-    unless_lives s.ended n (unchanged s cs) (behind m.outs (serve at n is m.state (others cs))) h
+    unless_lives s.ended n (unchanged s cs) (preceded m.outs (serve at n is m.state (others cs))) h
     (serve_lives is at n m.state (others cs) (item_lives (first cs) at n s i h))
 
 -- One step.
@@ -305,7 +310,7 @@ abbrev input : Moment → What → Input
 input at what = record { at = at; what = what }
 
 abbrev then_step : Input → Stepped → Stepped
-then_step i r = behind r.outs (step r.state i r.rest)
+then_step i r = preceded r.outs (step r.state i r.rest)
 
 -- a closed session takes no bytes, and an open one all
 fed_none : (mode : Mode) (x : sessions.State) (bytes : List ℕ) → is_open mode ≡ false → fed_in mode x bytes ≡ record { items = []; session = x }
@@ -366,7 +371,7 @@ InTwo piece s at a b cs =
 -- bytes come as their first piece and then the second, where each of these changes nothing
 nothing_two : (s : State) (i j k : Input) (cs : List Choice) → step s i cs ≡ unchanged s cs → step s j cs ≡ unchanged s cs → step s k cs ≡ unchanged s cs
     → step s i cs ≡ then_step k (step s j cs)
-nothing_two s i j k cs p q r = p ∙ sym (ap (then_step k) q ∙ ap (behind []) r)
+nothing_two s i j k cs p q r = p ∙ sym (ap (then_step k) q ∙ ap (preceded []) r)
 
 -- and where the session is open
 open_two : (s : State) (at : Moment) (n : ℕ) (a b : List ℕ) (cs : List Choice) → s.ended ≡ false → nat_lt n SESSIONS ≡ true → is_open (mode_of s n) ≡ true
@@ -381,7 +386,7 @@ open_two s at n a b cs going below takes =
     ∙ ap (λ (x : Cut). serve at n x.items (reframed n x.state s) cs) (cuts_anywhere f a b)
     ∙ serve_still (c.items ++ d.items) at n d.state s cs going
     ∙ ap (still_step n d.state) (serve_more (by_item at n) c.items d.items s cs)
-    ∙ ap (behind r.outs) (sym (step_still r.state at n c.state b r.rest below (serve_lives c.items at n s cs here)))
+    ∙ ap (preceded r.outs) (sym (step_still r.state at n c.state b r.rest below (serve_lives c.items at n s cs here)))
     ∙ ap (then_step (input at (Bytes n b))) (sym (step_open s at n a cs going below takes ∙ serve_still c.items at n c.state s cs going))
 
 bytes_two : (n : ℕ) (s : State) (at : Moment) (a b : List ℕ) (cs : List Choice) → InTwo (Bytes n) s at a b cs
@@ -439,7 +444,7 @@ abbrev lined : List ℕ → State → State
 lined line s = with_line s line
 
 answered_still : (e : Bool) (line : List ℕ) (s : State) (b : Board) → s.ended ≡ false
-    → behind_command e (with_board (lined line s) b) ≡ still_by (lined line) (behind_command e (with_board s b))
+    → after_command e (with_board (lined line s) b) ≡ still_by (lined line) (after_command e (with_board s b))
 answered_still true line s b going = refl
 answered_still false line s b going = sym (still_on_by (lined line) (with_board s b) false going)
 
@@ -489,7 +494,7 @@ going_two s at a b cs going =
     ∙ ap (λ (l : Lines). serve_lines at l.lines (lined l.rest s) cs) (lines-cut s.guest_line a b)
     ∙ lines_still at d.rest (c.lines ++ d.lines) s cs going
     ∙ ap (step_by_put (lined d.rest)) (serve_more (by_line at) c.lines d.lines s cs)
-    ∙ ap (behind r.outs) (sym (guest_still r.state at c.rest b r.rest))
+    ∙ ap (preceded r.outs) (sym (guest_still r.state at c.rest b r.rest))
     ∙ ap (then_step (input at (Guest b))) (sym (guest_on s at a cs going ∙ lines_still at c.rest c.lines s cs going))
 
 guest_two : (s : State) (at : Moment) (a b : List ℕ) (cs : List Choice) → InTwo Guest s at a b cs
@@ -514,7 +519,7 @@ guest_uses s at bytes cs = by_end s.ended refl
 -- one step, by its choices, comes to what two come to
 abbrev AsTwo : (List ℕ → What) → State → Moment → List ℕ → List ℕ → List Choice → List Choice → List Choice → Type 0
 AsTwo piece s at a b choices one two =
-    step s (input at (piece (a ++ b))) choices ≡ behind (step s (input at (piece a)) one).outs
+    step s (input at (piece (a ++ b))) choices ≡ preceded (step s (input at (piece a)) one).outs
     (step (step s (input at (piece a)) one).state (input at (piece b)) two)
 
 outs_same : (piece : List ℕ → What) (s : State) (at : Moment) (a b : List ℕ) (choices one two : List Choice) (later : List Turn)

@@ -16,22 +16,22 @@ use Rattle.qo_model.specs.Objects.{with_attempt}
 use Rattle.qo_realize.specs.Chardevs.{with_rings}
 use Rattle.qo_realize.specs.Guest.{polled}
 use Rattle.qo_realize.specs.Registers.{registers_at, registers_written}
-use Rattle.qo_realize.specs.Stands.{StandsForGood}
+use Rattle.qo_realize.specs.Representation.{StandsForGood}
 use Rattle.qo_realize.specs.Time.{at_time, with_running}
-use Rattle.qo_realize.specs.Good.{Good}
-use Rattle.qo_realize.proofs.SoundLemmas.{registers-timely}
-use Rattle.qo_realize.proofs.WrittenLemmas.{written-all}
+use Rattle.qo_realize.specs.GoodBoard.{Good}
+use Rattle.qo_realize.proofs.GoodBoardLemmas.{registers-timely}
+use Rattle.qo_realize.proofs.RegisterWriteLemmas.{written-all}
 use Rattle.qo_sound_clocks.specs.ClockRuns.{SoundRun}
-use Rattle.qo_sound_clocks.specs.RegistersKept.{registers_set}
-use Rattle.qo_sound_clocks.proofs.KeepLemmas.{writes_keep_lem}
+use Rattle.qo_sound_clocks.specs.RegisterWrites.{registers_set}
+use Rattle.qo_sound_clocks.proofs.WriteLawLemmas.{writes_keep_lem}
 use Rattle.qo_sound_clocks.proofs.LawLemmas.{clocks_kept_lem}
 use Rattle.qo_sound_clocks.proofs.NumbersLemmas.{numbers_kept_lem}
 use Rattle.qo_sound_clocks.proofs.RegisterLemmas.{registers_kept_lem}
 use Rattle.qo_sound_clocks.proofs.TimesLemmas.{times_kept_lem}
 use Rattle.qo_machine.proofs.DevicesLemmas.{devices_free, devices_kept, ringed-devices}
-use Rattle.qo_machine.proofs.KeepLemmas.{any-rings, KeepsBoard, KeepsCommands, broken_keeps, keeps_commands, step_keeps}
+use Rattle.qo_machine.proofs.PreservationLemmas.{any-rings, KeepsBoard, KeepsCommands, broken_keeps, keeps_commands, step_keeps}
 use Rattle.qo_machine.proofs.MachineLemmas.{in_at}
-use Rattle.qo_machine.specs.Machine.{Answers, BreaksOff, IsIn, Message, Seen, State, opening, state_at, step}
+use Rattle.qo_machine.specs.Machine.{Answers, BreaksOff, IsIn, Message, Seen, State, opening, state_with, step}
 use Rattle.qo_sound_devices.specs.SoundDevices.{SoundDevices}
 use Rattle.qo_sound_devices.proofs.DevicesLawLemmas.{devices_kept_lem}
 
@@ -193,12 +193,12 @@ started_run (Err e) h = tt
 pub stepped_run : (old new : Seen) (i : Input) (outs : List Message) → StandsForGood old.board → ((s : State) → IsIn s old → Answers s i outs new)
     → (t : State) → IsIn t new → SoundRun t.board
 stepped_run old new i outs (b, stands, good) answered t there =
-    let p = answered (state_at b old) (in_at b old stands) in
-    run_by (step (state_at b old) i p.0).state t new p.2 there (step_keeps SoundRun run_commands (state_at b old) i p.0 (good_run b good))
+    let p = answered (state_with b old) (in_at b old stands) in
+    run_by (step (state_with b old) i p.0).state t new p.2 there (step_keeps SoundRun run_commands (state_with b old) i p.0 (good_run b good))
 
 -- a step that was broken off
 pub broken_run : (old new : Seen) (i : Input) → StandsForGood old.board → ((s : State) → IsIn s old → BreaksOff s i new)
     → (t : State) → IsIn t new → SoundRun t.board
 broken_run old new i (b, stands, good) broken t there =
-    let q = broken_keeps SoundRun run_commands (state_at b old) i new (broken (state_at b old) (in_at b old stands)) (good_run b good) in
-    run_by (state_at q.0 new) t new (in_at q.0 new q.1) there q.2
+    let q = broken_keeps SoundRun run_commands (state_with b old) i new (broken (state_with b old) (in_at b old stands)) (good_run b good) in
+    run_by (state_with q.0 new) t new (in_at q.0 new q.1) there q.2

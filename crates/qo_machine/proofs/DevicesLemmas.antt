@@ -5,13 +5,13 @@ use Rattle.qo_model.specs.Board.{Board, Ring}
 use Rattle.qo_model.specs.Clocks.{div_of, mul_of}
 use Rattle.qo_realize.specs.Chardevs.{with_rings}
 use Rattle.qo_realize.specs.Time.{at_time, with_running}
-use Rattle.qo_realize.proofs.SoundLemmas.{completed-devices, polled-devices}
-use Rattle.qo_realize.proofs.WrittenLemmas.{written-all}
+use Rattle.qo_realize.proofs.GoodBoardLemmas.{completed-devices, polled-devices}
+use Rattle.qo_realize.proofs.RegisterWriteLemmas.{written-all}
 use Rattle.qo_sound_devices.specs.SoundDevices.{SoundDevices}
 use Rattle.qo_sound_devices.proofs.DevicesLawLemmas.{devices_kept_lem}
-use Rattle.qo_sound_clocks.proofs.KeepLemmas.{writes_keep_lem}
+use Rattle.qo_sound_clocks.proofs.WriteLawLemmas.{writes_keep_lem}
 use Rattle.qo_sound_clocks.proofs.RegisterLemmas.{registers_kept_lem}
-use Rattle.qo_machine.proofs.KeepLemmas.{any-rings, KeepsBoard, KeepsCommands, keeps_commands}
+use Rattle.qo_machine.proofs.PreservationLemmas.{any-rings, KeepsBoard, KeepsCommands, keeps_commands}
 
 -- rings are no matter to them
 pub ringed-devices : (b : Board) (rings : List Ring) → SoundDevices b → SoundDevices (with_rings rings b)

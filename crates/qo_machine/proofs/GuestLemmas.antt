@@ -7,47 +7,47 @@ use Rattle.qo_guest.specs.declared.answers.GuestAnswer.TheVariants.{NoMemory}
 use Rattle.qo_lane.specs.Hearing.{Outcome, heard}
 use Rattle.qo_lane.specs.Lines.{lines_of, without_return}
 use Rattle.qo_model.specs.Board.{Board}
-use Rattle.qo_realize.specs.Stands.{Stands}
+use Rattle.qo_realize.specs.Representation.{Stands}
 use Rattle.qo_replies.specs.declared.events.Event.{Event}
 use Rattle.qo_commands.specs.Commands.{event_of, without_events}
 use Rattle.qo_machine.specs.declared.machines.Replied.{Replied}
-use Rattle.qo_machine.proofs.LeftLemmas.{front_one_by}
+use Rattle.qo_machine.proofs.MemoryLemmas.{front_one_by}
 use Rattle.qo_machine.proofs.MachineLemmas.{by_board, if_ok, in_at, serve_all_by, serves_one_by}
-use Rattle.qo_machine.specs.Machine.{Choice, IsIn, Made, Message, Seen, State, answer_line, behind_command, by_line, defined, event_outs, input_step, line_step, refused, state_at, with_board, with_line}
+use Rattle.qo_machine.specs.Machine.{Choice, IsIn, Made, Message, Seen, State, answer_line, after_command, by_line, defined, event_outs, input_step, line_step, refused, state_with, with_board, with_line}
 use Rattle.qo_machine.specs.Serving.{CameTo, LinesFront, LinesTo, ServesBy, Tells}
 
 -- what a machine does of a line: it hears it, tells of it, and concludes
-abbrev behind_line : State → Outcome → State
-behind_line s o = behind_command o.ends (with_board s (without_events o.board))
+abbrev after_line : State → Outcome → State
+after_line s o = after_command o.ends (with_board s (without_events o.board))
 
--- the state that it is in behind it
+-- the state that it is in after it
 line_in : (m mid drained to : Seen) (line : List ℕ) (r : Replied)
-    → ((b : Board) → Stands b m.board → CameTo (heard b line) r mid.board) → ((b : Board) → state_at b mid ≡ state_at b m)
-    → ((b : Board) → Stands b mid.board → Stands (without_events b) drained.board) → ((b : Board) → state_at b drained ≡ state_at b mid)
-    → ((b : Board) → state_at b to ≡ behind_command r.ends (state_at b drained)) → to.board ≡ drained.board
-    → (b : Board) → Stands b m.board → IsIn (behind_line (state_at b m) (heard b line)) to
+    → ((b : Board) → Stands b m.board → CameTo (heard b line) r mid.board) → ((b : Board) → state_with b mid ≡ state_with b m)
+    → ((b : Board) → Stands b mid.board → Stands (without_events b) drained.board) → ((b : Board) → state_with b drained ≡ state_with b mid)
+    → ((b : Board) → state_with b to ≡ after_command r.ends (state_with b drained)) → to.board ≡ drained.board
+    → (b : Board) → Stands b m.board → IsIn (after_line (state_with b m) (heard b line)) to
 line_in m mid drained to line r came still empties stays move same b stands =
     let p = came b stands in
     let x : Board = without_events (heard b line).board in
     subst (λ (y : State). IsIn y to)
-    (move x ∙ ap (behind_command r.ends) (stays x ∙ still x)
-    ∙ ap (λ (e : Bool). behind_command e (with_board (state_at b m) x)) p.ends)
+    (move x ∙ ap (after_command r.ends) (stays x ∙ still x)
+    ∙ ap (λ (e : Bool). after_command e (with_board (state_with b m) x)) p.ends)
     (in_at x to (subst (Stands x) (sym same) (empties (heard b line).board p.stands)))
 
 -- what a line makes by what is done of it
 line_is : (at : Moment) (s : State) (line : List ℕ) (outs : List Message)
     → (event_outs at s (map event_of (heard s.board (without_return line)).board.events ++ (heard s.board (without_return line)).events)
     ++ (guest, answer_line (heard s.board (without_return line)).answer) ∷ []) ≡ outs
-    → line_step defined at s line ≡ record { outs = outs; state = behind_line s (heard s.board (without_return line)) }
+    → line_step defined at s line ≡ record { outs = outs; state = after_line s (heard s.board (without_return line)) }
 unfolding line_step
 line_is at s line outs is =
-    ap (λ (o : List Message). record { outs = o; state = behind_line s (heard s.board (without_return line)) }) is
+    ap (λ (o : List Message). record { outs = o; state = after_line s (heard s.board (without_return line)) }) is
 
 pub line_served : (at : Moment) (m mid drained to : Seen) (line : List ℕ) (r : Replied) (front : List Message) → m.ended ≡ false
-    → ((b : Board) → Stands b m.board → CameTo (heard b (without_return line)) r mid.board) → ((b : Board) → state_at b mid ≡ state_at b m)
+    → ((b : Board) → Stands b m.board → CameTo (heard b (without_return line)) r mid.board) → ((b : Board) → state_with b mid ≡ state_with b m)
     → Tells at guest mid r front
-    → ((b : Board) → Stands b mid.board → Stands (without_events b) drained.board) → ((b : Board) → state_at b drained ≡ state_at b mid)
-    → ((b : Board) → state_at b to ≡ behind_command r.ends (state_at b drained)) → to.board ≡ drained.board
+    → ((b : Board) → Stands b mid.board → Stands (without_events b) drained.board) → ((b : Board) → state_with b drained ≡ state_with b mid)
+    → ((b : Board) → state_with b to ≡ after_command r.ends (state_with b drained)) → to.board ≡ drained.board
     → (s : State) → IsIn s m → LinesTo at s (line ∷ []) front to
 line_served at m mid drained to line r front going came still tells empties stays move same s here =
     by_board (λ (x : State). LinesTo at x (line ∷ []) front to) m
@@ -56,27 +56,27 @@ line_served at m mid drained to line r front going came still tells empties stay
     let o : Outcome = heard b (without_return line) in
     let waited : List Event = map event_of o.board.events in
     let is : tells.0 ≡ answer_line o.answer = rw tells.1 at p.replied in (
-      behind_line (state_at b m) o,
+      after_line (state_with b m) o,
       line_in m mid drained to (without_return line) r came still empties stays move same b stands,
-      serves_one_by (by_line at) (state_at b m) (behind_line (state_at b m) o) line defined front going
-          (line_is at (state_at b m) line front
-          (ap (λ (es : List Event). event_outs at (state_at b m) (waited ++ es) ++ (guest, answer_line o.answer) ∷ []) (sym p.events)
+      serves_one_by (by_line at) (state_with b m) (after_line (state_with b m) o) line defined front going
+          (line_is at (state_with b m) line front
+          (ap (λ (es : List Event). event_outs at (state_with b m) (waited ++ es) ++ (guest, answer_line o.answer) ∷ []) (sym p.events)
           ∙ ap (λ (x : State). event_outs at x (waited ++ option_to_list r.event) ++ (guest, answer_line o.answer) ∷ []) (sym (still b))
-          ∙ ap (λ (bytes : List ℕ). event_outs at (state_at b mid) (waited ++ option_to_list r.event) ++ (guest, bytes) ∷ []) (sym is)
+          ∙ ap (λ (bytes : List ℕ). event_outs at (state_with b mid) (waited ++ option_to_list r.event) ++ (guest, bytes) ∷ []) (sym is)
           ∙ sym (tells.2 o.board p.stands))),
     )) s here
 
 -- where memory ran out for its messages
 pub line_left : (at : Moment) (m mid drained to : Seen) (line : List ℕ) (r : Replied) → m.ended ≡ false
-    → ((b : Board) → Stands b m.board → CameTo (heard b (without_return line)) r mid.board) → ((b : Board) → state_at b mid ≡ state_at b m)
-    → ((b : Board) → Stands b mid.board → Stands (without_events b) drained.board) → ((b : Board) → state_at b drained ≡ state_at b mid)
-    → ((b : Board) → state_at b to ≡ behind_command r.ends (state_at b drained)) → to.board ≡ drained.board
+    → ((b : Board) → Stands b m.board → CameTo (heard b (without_return line)) r mid.board) → ((b : Board) → state_with b mid ≡ state_with b m)
+    → ((b : Board) → Stands b mid.board → Stands (without_events b) drained.board) → ((b : Board) → state_with b drained ≡ state_with b mid)
+    → ((b : Board) → state_with b to ≡ after_command r.ends (state_with b drained)) → to.board ≡ drained.board
     → (s : State) → IsIn s m → LinesFront at s (line ∷ []) to
 line_left at m mid drained to line r going came still empties stays move same s here =
     by_board (λ (x : State). LinesFront at x (line ∷ []) to) m
     (λ b stands.
-    front_one_by (by_line at) (state_at b m) line defined to going
-    (subst (λ (x : State). IsIn x to) (sym (ap (λ (d : Made). d.state) (line_is at (state_at b m) line _ refl)))
+    front_one_by (by_line at) (state_with b m) line defined to going
+    (subst (λ (x : State). IsIn x to) (sym (ap (λ (d : Made). d.state) (line_is at (state_with b m) line _ refl)))
     (line_in m mid drained to (without_return line) r came still empties stays move same b stands))) s here
 
 -- a line that is refused for want of memory
@@ -87,23 +87,24 @@ refused_is at s line text is =
     ap (λ (t : List ℕ). record { outs = (guest, t) ∷ []; state = s }) (sym is)
 
 pub line_refused : (at : Moment) (m to : Seen) (line text : List ℕ) → m.ended ≡ false → text ≡ answer_line NoMemory → to.board ≡ m.board
-    → ((b : Board) → state_at b to ≡ state_at b m)
+    → ((b : Board) → state_with b to ≡ state_with b m)
     → (s : State) → IsIn s m → LinesTo at s (line ∷ []) ((guest, text) ∷ []) to
 line_refused at m to line text going is same move s here =
     by_board (λ (x : State). LinesTo at x (line ∷ []) ((guest, text) ∷ []) to) m
     (λ b stands. (
-      state_at b m,
+      state_with b m,
       subst (λ (x : State). IsIn x to) (move b) (in_at b to (subst (Stands b) (sym same) stands)),
-      serves_one_by (by_line at) (state_at b m) (state_at b m) line (refused 0 false) ((guest, text) ∷ []) going (refused_is at (state_at b m) line text is),
+      serves_one_by (by_line at) (state_with b m) (state_with b m) line (refused 0 false) ((guest, text) ∷ []) going
+          (refused_is at (state_with b m) line text is),
     )) s here
 
-pub line_refused_left : (at : Moment) (m to : Seen) (line : List ℕ) → m.ended ≡ false → to.board ≡ m.board → ((b : Board) → state_at b to ≡ state_at b m)
+pub line_refused_left : (at : Moment) (m to : Seen) (line : List ℕ) → m.ended ≡ false → to.board ≡ m.board → ((b : Board) → state_with b to ≡ state_with b m)
     → (s : State) → IsIn s m → LinesFront at s (line ∷ []) to
 line_refused_left at m to line going same move s here =
     by_board (λ (x : State). LinesFront at x (line ∷ []) to) m
     (λ b stands.
-    front_one_by (by_line at) (state_at b m) line (refused 0 false) to going
-    (subst (λ (x : State). IsIn x to) (sym (ap (λ (d : Made). d.state) (refused_is at (state_at b m) line (answer_line NoMemory) refl)))
+    front_one_by (by_line at) (state_with b m) line (refused 0 false) to going
+    (subst (λ (x : State). IsIn x to) (sym (ap (λ (d : Made). d.state) (refused_is at (state_with b m) line (answer_line NoMemory) refl)))
     (subst (λ (x : State). IsIn x to) (move b) (in_at b to (subst (Stands b) (sym same) stands))))) s here
 
 -- all lines that end in some bytes
@@ -118,15 +119,17 @@ lines_taken at s m bytes lines outs is p =
 
 pub served_lines : {E : Type 0} (r : Result (List Message) E) (at : Moment) (m mid to : Seen) (bytes : List ℕ) (lines : List (List ℕ))
     → lines ≡ (lines_of m.guest_line bytes).lines
-    → ((b : Board) → state_at b mid ≡ with_line (state_at b m) (lines_of m.guest_line bytes).rest) → mid.board ≡ m.board
+    → ((b : Board) → state_with b mid ≡ with_line (state_with b m) (lines_of m.guest_line bytes).rest) → mid.board ≡ m.board
     → IfOk r (λ outs. (s : State) → IsIn s mid → LinesTo at s lines outs to) → (s : State) → IsIn s m
-    → IfOk r (λ outs. (choices : List Choice) × (t : State) × IsIn t to × (input_step s at (Guest bytes) choices ≡ record { outs = outs; state = t; rest = [] }))
+    → IfOk r
+    (λ outs. (choices : List Choice) × (t : State) × IsIn t to × (input_step s at (Guest bytes) choices ≡ record { outs = outs; state = t; rest = [] }))
 served_lines r at m mid to bytes lines cuts move same served s here =
     by_board
-    (λ (x : State). IfOk r (λ outs. (choices : List Choice) × (t : State) × IsIn t to × (input_step x at (Guest bytes) choices ≡ record { outs = outs; state = t; rest = [] }))) m
+    (λ (x : State). IfOk r
+    (λ outs. (choices : List Choice) × (t : State) × IsIn t to × (input_step x at (Guest bytes) choices ≡ record { outs = outs; state = t; rest = [] }))) m
     (λ b stands.
     if_ok r
     (λ outs h.
-    lines_taken at (state_at b m) to bytes lines outs cuts
-    (h (with_line (state_at b m) (lines_of m.guest_line bytes).rest)
+    lines_taken at (state_with b m) to bytes lines outs cuts
+    (h (with_line (state_with b m) (lines_of m.guest_line bytes).rest)
     (subst (λ (x : State). IsIn x mid) (move b) (in_at b mid (subst (Stands b) (sym same) stands))))) served) s here

@@ -6,7 +6,7 @@ use Rattle.qo_model.specs.Clocks.{div_of, mul_of}
 use Rattle.qo_realize.specs.Chardevs.{with_rings}
 use Rattle.qo_realize.specs.Guest.{polled}
 use Rattle.qo_realize.specs.Time.{at_time, with_running}
-use Rattle.qo_realize.proofs.WrittenLemmas.{written-all}
+use Rattle.qo_realize.proofs.RegisterWriteLemmas.{written-all}
 use Rattle.qo_sound_bounds.specs.SoundHolds.{SoundHolds}
 use Rattle.qo_sound_bounds.proofs.HoldsLemmas.{holds_kept_lem}
 use Rattle.qo_sound_phases.specs.PhaseRuns.{SoundResets}
@@ -16,7 +16,7 @@ use Rattle.qo_sound_devices.proofs.PlugLemmas.{among-all}
 use Rattle.qo_machine.specs.Laws.{KeptInRuns, PhasesInRuns, SoundHeld}
 use Rattle.qo_machine.specs.Machine.{opening}
 use Rattle.qo_machine.specs.Runs.{Turn, state_after}
-use Rattle.qo_machine.proofs.KeepLemmas.{KeepsBoard, KeepsCommands, keeps_commands, run_keeps, step_keeps}
+use Rattle.qo_machine.proofs.PreservationLemmas.{KeepsBoard, KeepsCommands, keeps_commands, run_keeps, step_keeps}
 use Rattle.qo_machine.proofs.PhaseLemmas.{opening_resets, phases_commands, phases_free, phases_kept}
 
 -- what changes no object and no hold

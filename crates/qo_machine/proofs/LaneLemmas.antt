@@ -21,10 +21,10 @@ use Rattle.qo_lane.specs.Hearing.{heard}
 use Rattle.qo_lane.specs.Lines.{lines_of, without_return}
 use Rattle.qo_model.specs.Board.{Board}
 use Rattle.qo_model.specs.Opening.{opening_board}
-use Rattle.qo_realize.specs.Stands.{Stands}
+use Rattle.qo_realize.specs.Representation.{Stands}
 use Rattle.qo_machine.specs.Serving.{Tells}
 use Rattle.qo_machine.specs.declared.machines.Replied.{Replied}
-use Rattle.qo_machine.specs.Machine.{Choice, Made, Message, Seen, State, Stepped, behind, beside, by_item, by_line, commanding, defined, refused, event_outs, first, input_step, is_commanding, item_step, line_step, made_by, mode_of, numbers_below, opened, others, serve, serve_by, serve_unless, session_of, state_at, taken, those_commanding, told_of, unchanged, with_line, with_session}
+use Rattle.qo_machine.specs.Machine.{Choice, Made, Message, Seen, State, Stepped, preceded, beside, by_item, by_line, commanding, defined, refused, event_outs, first, input_step, is_commanding, item_step, line_step, made_by, mode_of, numbers_below, opened, others, serve, serve_by, serve_unless, session_of, state_with, taken, those_commanding, event_messages, unchanged, with_line, with_session}
 use Rattle.qo_machine.specs.Sending.{AreToLanes, IsLane}
 
 lanes_more : (a b : List Message) → AreToLanes a → AreToLanes b → AreToLanes (a ++ b)
@@ -32,21 +32,23 @@ lanes_more [] b p q = q
 lanes_more (m ∷ a) b p q = (p.0, lanes_more a b p.1 q)
 
 one_told : (s : State) (e : Event) (at : Moment) (n : ℕ) (t : Bool) → n < SESSIONS → is_commanding (mode_of s n) ≡ t
-    → AreToLanes (told_of e at (if t then n ∷ [] else []))
+    → AreToLanes (event_messages e at (if t then n ∷ [] else []))
 one_told s e at n true below is = (below, tt)
 one_told s e at n false below is = tt
 
-all_told : (k : ℕ) (s : State) (e : Event) (at : Moment) → k ≤ SESSIONS → AreToLanes (told_of e at (those_commanding s (numbers_below k)))
+all_told : (k : ℕ) (s : State) (e : Event) (at : Moment) → k ≤ SESSIONS → AreToLanes (event_messages e at (those_commanding s (numbers_below k)))
 all_told zero s e at few = tt
 all_told (suc k) s e at few =
     subst AreToLanes (sym (told_more s e at (numbers_below k) (k ∷ [])))
-    (lanes_more (told_of e at (those_commanding s (numbers_below k))) (told_of e at (those_commanding s (k ∷ []))) (all_told k s e at (omega arith))
+    (lanes_more (event_messages e at (those_commanding s (numbers_below k))) (event_messages e at (those_commanding s (k ∷ [])))
+    (all_told k s e at (omega arith))
     (one_told s e at k (is_commanding (mode_of s k)) (omega arith) refl))
 
 events_told : (es : List Event) (s : State) (at : Moment) → AreToLanes (event_outs at s es)
 events_told [] s at = tt
 events_told (e ∷ es) s at =
-    lanes_more (told_of e at (those_commanding s (numbers_below SESSIONS))) (event_outs at s es) (all_told SESSIONS s e at (omega arith)) (events_told es s at)
+    lanes_more (event_messages e at (those_commanding s (numbers_below SESSIONS))) (event_outs at s es) (all_told SESSIONS s e at (omega arith))
+    (events_told es s at)
 
 made_lanes : (choice : Choice) (at : Moment) (n : ℕ) (s : State) (what : SessionAct) → n < SESSIONS → AreToLanes (made_by choice at n s what).outs
 made_lanes defined at n s (Answer code id) below = (below, tt)
@@ -69,7 +71,7 @@ serve_lanes_by : {X : Type 0} (f : Choice → State → X → Made) → ((choice
     → (xs : List X) (s : State) (cs : List Choice) → AreToLanes (serve_by f xs s cs).outs
 serve_lanes_by f each [] s cs = tt
 serve_lanes_by f each (x ∷ xs) s cs =
-    unless_lanes s.ended (unchanged s cs) (behind (f (first cs) s x).outs (serve_by f xs (f (first cs) s x).state (others cs))) tt
+    unless_lanes s.ended (unchanged s cs) (preceded (f (first cs) s x).outs (serve_by f xs (f (first cs) s x).state (others cs))) tt
     (lanes_more (f (first cs) s x).outs (serve_by f xs (f (first cs) s x).state (others cs)).outs (each (first cs) s x)
     (serve_lanes_by f each xs (f (first cs) s x).state (others cs)))
 
@@ -112,7 +114,7 @@ input_lanes s at w cs = what_lanes w
     what_lanes (Step ns) = tt
     what_lanes End = tt
 
--- no message, one, and one behind some
+-- no message, one, and one after some
 pub no_lanes : (outs : List Message) → outs ≡ [] → AreToLanes outs
 no_lanes outs none = subst AreToLanes (sym none) tt
 
@@ -129,7 +131,7 @@ more_lanes a front b is p q = subst AreToLanes (sym is) (lanes_more a front p q)
 
 -- the messages that tell of what waited, of a command's own events, and its reply
 pub reply_sent : (at : Moment) (lane : Lane) (m mid : Seen) (r : Replied) (start told both outs : List Message) (waiting own : List Event) (text : List ℕ)
-    → IsLane lane → ((b : Board) → state_at b mid ≡ state_at b m) → ((b : Board) → Stands b m.board → waiting ≡ map event_of b.events)
+    → IsLane lane → ((b : Board) → state_with b mid ≡ state_with b m) → ((b : Board) → Stands b m.board → waiting ≡ map event_of b.events)
     → told ≡ start ++ event_outs at (beside m) waiting → both ≡ told ++ event_outs at (beside mid) own → own ≡ option_to_list r.event
     → r.text ≡ Ok text → outs ≡ both ++ (lane, text) ∷ []
     → (front : List Message) × (outs ≡ start ++ front) × AreToLanes front × Tells at lane m r front
@@ -142,11 +144,11 @@ reply_sent at lane m mid r start told both outs waiting own text below still wai
     adds ∙ ap (λ (l : List Event). told ++ event_outs at (beside mid) l) owns
     ∙ ap (λ (s : State). told ++ event_outs at s es) (still opening_board) in
     let joined : one ++ two ≡ event_outs at (beside m) (waiting ++ es) =
-    sym (flat_map-append (λ (event : Event). told_of event at (commanding (beside m))) waiting es) in
+    sym (flat_map-append (λ (event : Event). event_messages event at (commanding (beside m))) waiting es) in
     let front : List Message = event_outs at (beside m) (waiting ++ es) ++ last in (
       front,
       ends ∙ ap (λ (l : List Message). l ++ last) (second ∙ ap (λ (l : List Message). l ++ two) tells ∙ append_assoc start one two)
           ∙ append_assoc start (one ++ two) last ∙ ap (λ (l : List Message). start ++ (l ++ last)) joined,
       told_lanes (waiting ++ es) (beside m) at lane text (event_outs at (beside m) (waiting ++ es)) front refl refl below,
-      (text, has, λ b stands. ap (λ (l : List Event). event_outs at (state_at b m) (l ++ es) ++ last) (waits b stands)),
+      (text, has, λ b stands. ap (λ (l : List Event). event_outs at (state_with b m) (l ++ es) ++ last) (waits b stands)),
     )

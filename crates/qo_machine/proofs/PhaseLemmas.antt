@@ -18,19 +18,19 @@ use Rattle.qo_model.specs.Paths.{attached, is_of}
 use Rattle.qo_model.specs.Reset.{pulse}
 use Rattle.qo_realize.specs.Chardevs.{with_rings}
 use Rattle.qo_realize.specs.Guest.{polled}
-use Rattle.qo_realize.specs.Registers.{behind_effect, guest_written, pushed, registers_written}
+use Rattle.qo_realize.specs.Registers.{after_effect, guest_written, pushed, registers_written}
 use Rattle.qo_realize.specs.Time.{at_time, with_running}
 use Rattle.qo_sound_devices.specs.SoundLists.{IsOn}
 use Rattle.qo_sound_devices.specs.SoundPlaces.{stands}
 use Rattle.qo_sound_devices.proofs.DevicesLawLemmas.{devices_kept_lem}
 use Rattle.qo_sound_devices.proofs.PlugLemmas.{among-all}
-use Rattle.qo_sound_clocks.specs.RegistersKept.{registers_set}
+use Rattle.qo_sound_clocks.specs.RegisterWrites.{registers_set}
 use Rattle.qo_sound_clocks.proofs.RegisterLemmas.{registers_kept_lem}
 use Rattle.qo_sound_phases.specs.PhaseRuns.{SoundResets}
 use Rattle.qo_sound_phases.specs.PhasesKept.{may_reset}
 use Rattle.qo_sound_phases.proofs.LawLemmas.{phases_kept_lem, phases_say_lem}
 use Rattle.qo_machine.proofs.DevicesLemmas.{devices_free, devices_kept, ringed-devices}
-use Rattle.qo_machine.proofs.KeepLemmas.{any-rings, KeepsBoard, KeepsCommands, keeps_commands}
+use Rattle.qo_machine.proofs.PreservationLemmas.{any-rings, KeepsBoard, KeepsCommands, keeps_commands}
 use Rattle.qo_machine.specs.Machine.{opening}
 
 -- the device at an address stands in its place
@@ -49,7 +49,7 @@ module _ (b : Board) (d : ℕ) (there : stands b d ≡ true) (h : SoundResets b)
   registers-so registers =
       record { devices = registers_kept_lem.devices b d registers h.devices; phases = phases_kept_lem.registers b d registers h.phases }
 
-  effect-so : (registers : Registers) (e : Effect) → SoundResets (behind_effect d e (registers_set b d registers))
+  effect-so : (registers : Registers) (e : Effect) → SoundResets (after_effect d e (registers_set b d registers))
   effect-so registers nothing = registers-so registers
   effect-so registers (byte n) = by (claimed_ring set d)
     where
@@ -82,8 +82,8 @@ module _ (b : Board) (d : ℕ) (there : stands b d ≡ true) (h : SoundResets b)
       go : (o : Option (Registers × Effect)) → registers_written b d reg value ≡ o → SoundResets c
       go None e = absurd (let clash : None ≡ Some c = rw (guest_written, e) at is in cc)
       go (Some w) e =
-          let its : Some (behind_effect d w.1 (registers_set b d w.0)) ≡ Some c = rw (guest_written, e) at is in
-          subst SoundResets (same_Some (behind_effect d w.1 (registers_set b d w.0)) c its) (effect-so w.0 w.1)
+          let its : Some (after_effect d w.1 (registers_set b d w.0)) ≡ Some c = rw (guest_written, e) at is in
+          subst SoundResets (same_Some (after_effect d w.1 (registers_set b d w.0)) c its) (effect-so w.0 w.1)
 
 -- who is attached and may be held in reset
 may-so : (b : Board) (n : ℕ) → is_of b (codes "resettable") n ≡ true → attached b n ≡ true → may_reset b n ≡ true

@@ -20,7 +20,7 @@ use Rattle.qo_sound_claims.specs.ClaimsKept.{ring_frame}
 use Rattle.qo_sound_claims.specs.SoundBackends.{SoundBackends}
 use Rattle.qo_sound_claims.specs.SoundRings.{IsGoodRing}
 use Rattle.qo_sound_claims.proofs.LawLemmas.{claims_kept_lem}
-use Rattle.qo_sound_clocks.specs.RegistersKept.{registers_set}
+use Rattle.qo_sound_clocks.specs.RegisterWrites.{registers_set}
 use Rattle.qo_sound_devices.specs.SoundDevices.{SoundDevices}
 
 -- a change of the bytes of one that leaves its size

@@ -23,7 +23,8 @@ use Rattle.qo_sessions.specs.Sessions.{State as Session, closed}
 
 -- one flag more
 pub closed_more : (i : ℕ) (lost : List Bool) (sessions : List Session) → i < length lost → i < length sessions
-    → closed_where (take (i + 1) lost) sessions ≡ (if slice_index_or lost i false then slice_set (closed_where (take i lost) sessions) i closed else closed_where (take i lost) sessions)
+    → closed_where (take (i + 1) lost) sessions
+    ≡ (if slice_index_or lost i false then slice_set (closed_where (take i lost) sessions) i closed else closed_where (take i lost) sessions)
 unfolding closed_where
 closed_more i lost sessions below within = rw add-one (go i lost sessions below within)
   where
@@ -36,7 +37,8 @@ closed_more i lost sessions below within = rw add-one (go i lost sessions below 
     tail false mode set kept = refl
 
     go : (k : ℕ) (ls : List Bool) (ss : List Session) → k < length ls → k < length ss
-        → closed_where (take (suc k) ls) ss ≡ (if slice_index_or ls k false then slice_set (closed_where (take k ls) ss) k closed else closed_where (take k ls) ss)
+        → closed_where (take (suc k) ls) ss
+        ≡ (if slice_index_or ls k false then slice_set (closed_where (take k ls) ss) k closed else closed_where (take k ls) ss)
     go k [] ss b w = absurd (omega arith)
     go k (f ∷ ls) [] b w = absurd (omega arith)
     go zero (f ∷ ls) (s ∷ ss) b w = head f s ss
@@ -53,12 +55,14 @@ state_more (t ∷ ts) us s = state_more ts us (after s t)
 pub outs_more : (ts us : List Turn) (s : State) → outs_of s (ts ++ us) ≡ outs_of s ts ++ outs_of (state_after s ts) us
 outs_more [] us s = refl
 outs_more (t ∷ ts) us s =
-    ap (λ (outs : List Message). outs_at s t ++ outs) (outs_more ts us (after s t)) ∙ sym (append_assoc (outs_at s t) (outs_of (after s t) ts) (outs_of (state_after (after s t) ts) us))
+    ap (λ (outs : List Message). outs_at s t ++ outs) (outs_more ts us (after s t))
+    ∙ sym (append_assoc (outs_at s t) (outs_of (after s t) ts) (outs_of (state_after (after s t) ts) us))
 
 lane_more : (ts us : List Turn) (l : Lane) (s : State) → lane_of l s (ts ++ us) ≡ lane_of l s ts ++ lane_of l (state_after s ts) us
 lane_more [] us l s = refl
 lane_more (t ∷ ts) us l s =
-    ap (λ (bytes : List ℕ). lane_at l s t ++ bytes) (lane_more ts us l (after s t)) ∙ sym (append_assoc (lane_at l s t) (lane_of l (after s t) ts) (lane_of l (state_after (after s t) ts) us))
+    ap (λ (bytes : List ℕ). lane_at l s t ++ bytes) (lane_more ts us l (after s t))
+    ∙ sym (append_assoc (lane_at l s t) (lane_of l (after s t) ts) (lane_of l (state_after (after s t) ts) us))
 
 risen_more : (ts us : List Turn) (n count : ℕ) → risen_by n count (ts ++ us) ≡ risen_by n (risen_by n count ts) us
 risen_more [] us n count = refl
@@ -336,7 +340,7 @@ has_end_last (u ∷ ts) t s going over = go (is_end u.input.what) refl over (has
     go true is any rest = absurd (true≢false (sym (stays_ended ts (after s u) (end_ends s u is)) ∙ going))
     go false is any rest = rest any
 
--- a turn behind fewer than a limit
+-- a turn after fewer than a limit
 within : (ts : List Turn) (t : Turn) (count limit : ℕ) → length ts ≡ count → count < limit → length (ts ++ t ∷ []) ≤ limit
 within ts t count limit is few = rw (length-append ts (t ∷ [])) (omega (arith, is))
 

@@ -58,7 +58,8 @@ failed_at true false cut n old mid new bytes more kept within few is sent =
 failed_at false same cut n old mid new bytes more kept within few is sent = (
   length bytes + n,
   omega (arith, length-append bytes (if same then more else [])),
-  sent ∙ ap (λ (m : Option (List ℕ)). append_known m (take n (if same then more else []))) is ∙ append_known_twice old bytes (take n (if same then more else []))
+  sent ∙ ap (λ (m : Option (List ℕ)). append_known m (take n (if same then more else []))) is
+      ∙ append_known_twice old bytes (take n (if same then more else []))
       ∙ ap (append_known old) (sym (take-append-add bytes (if same then more else []) n)),
 )
 
@@ -212,8 +213,8 @@ sent_gone start mi ni ms ns mg ng ml nl outs m k lost flag lane below inputs sen
     }
 
 -- whole bytes, and then a front of more
-pub front_behind : (old mid new : Option (List ℕ)) (xs ys : List ℕ) → mid ≡ append_known old xs → AppendsPrefix mid new ys → AppendsPrefix old new (xs ++ ys)
-front_behind old mid new xs ys whole p = (
+pub front_after : (old mid new : Option (List ℕ)) (xs ys : List ℕ) → mid ≡ append_known old xs → AppendsPrefix mid new ys → AppendsPrefix old new (xs ++ ys)
+front_after old mid new xs ys whole p = (
   length xs + p.0,
   omega (arith, p.1, length-append xs ys),
   p.2 ∙ ap (λ (m : Option (List ℕ)). append_known m (take p.0 ys)) whole ∙ append_known_twice old xs (take p.0 ys)
@@ -232,7 +233,7 @@ pub front_failed : (start : Told) (mi ni : Option (List Input)) (ms ns : Option 
 front_failed start mi ni ms ns mg ng ml nl outs m lost flag inputs sent got losses h =
     record {
       inputs = inputs ∙ h.inputs;
-      sent = rw (transcript_more outs m) (front_behind start.sent ms ns (transcript outs) (line m.0 m.1) h.sent sent);
+      sent = rw (transcript_more outs m) (front_after start.sent ms ns (transcript outs) (line m.0 m.1) h.sent sent);
       lanes = λ l.
           rw (lane_bytes_more l outs m)
           (failed_at (is_lost lost l) (same_lane l m.0) (h.lanes.0 l) ((got l).0) (start.got l) (mg l) (ng l) (lane_bytes l outs) m.1

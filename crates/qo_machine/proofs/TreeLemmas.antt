@@ -7,15 +7,15 @@ use Rattle.qo_model.proofs.TreeLemmas.{frame_lem}
 use Rattle.qo_model.specs.Board.{Board, Ring}
 use Rattle.qo_model.specs.Clocks.{div_of, mul_of}
 use Rattle.qo_model.specs.Reset.{held, pulse}
-use Rattle.qo_model.specs.Sound.{IsSound}
+use Rattle.qo_model.specs.Soundness.{IsSound}
 use Rattle.qo_model.specs.SoundGraph.{graph_of}
 use Rattle.qo_commands.proofs.AttemptLemmas.{attempted-all}
 use Rattle.qo_commands.specs.Commands.{without_events}
 use Rattle.qo_realize.specs.Chardevs.{with_rings}
 use Rattle.qo_realize.specs.Time.{at_time, with_running}
-use Rattle.qo_realize.proofs.WrittenLemmas.{written-all}
-use Rattle.qo_sound.proofs.KeptLemmas.{sound_kept_lem}
-use Rattle.qo_sound.specs.Kept.{SoundTree}
+use Rattle.qo_realize.proofs.RegisterWriteLemmas.{written-all}
+use Rattle.qo_sound.proofs.TreeKeptLemmas.{sound_kept_lem}
+use Rattle.qo_sound.specs.TreeKept.{SoundTree}
 use Rattle.qo_sound_devices.specs.SoundDevices.{SoundDevices}
 use Rattle.qo_sound_devices.proofs.DevicesLawLemmas.{devices_kept_lem}
 use Rattle.qo_sound_clocks.specs.ClockRuns.{SoundRun}
@@ -24,14 +24,14 @@ use Rattle.qo_machine.proofs.AddressLemmas.{asked-tree, polled-tree, refused-tre
 use Rattle.qo_machine.proofs.BoardLemmas.{board_commands, opening_sound_board}
 use Rattle.qo_machine.proofs.ClocksLemmas.{opening_run, run_commands}
 use Rattle.qo_machine.proofs.DevicesLemmas.{devices_commands}
-use Rattle.qo_sound_clocks.proofs.KeepLemmas.{writes_keep_lem}
-use Rattle.qo_machine.proofs.KeepLemmas.{any-rings, KeepsBoard, KeepsCommands, advanced-all, broken_keeps, keeps_commands, run_keeps, step_keeps}
+use Rattle.qo_sound_clocks.proofs.WriteLawLemmas.{writes_keep_lem}
+use Rattle.qo_machine.proofs.PreservationLemmas.{any-rings, KeepsBoard, KeepsCommands, advanced-all, broken_keeps, keeps_commands, run_keeps, step_keeps}
 use Rattle.qo_machine.proofs.MachineLemmas.{in_at}
-use Rattle.qo_machine.proofs.SoundLemmas.{sound_by}
+use Rattle.qo_machine.proofs.SoundnessLemmas.{sound_by}
 use Rattle.qo_machine.specs.SoundBoard.{SoundBoard}
 use Rattle.qo_machine.specs.Laws.{HeldInRuns, KeptInRuns, SoundInRuns}
 use Rattle.qo_machine.specs.Runs.{state_after}
-use Rattle.qo_machine.specs.Machine.{Answers, BreaksOff, IsIn, Message, Seen, State, opening, state_at, step}
+use Rattle.qo_machine.specs.Machine.{Answers, BreaksOff, IsIn, Message, Seen, State, opening, state_with, step}
 
 -- the time and whether it goes on are no matter to the tree, nor are the rings
 timed-tree : (b : Board) (now : ℕ) → SoundTree b → SoundTree (at_time now b)
@@ -85,7 +85,7 @@ tree_free b h = (frame_lem.graph b (without_events b) refl h.0, frame_lem.aliase
 tree_commands : KeepsCommands SoundTree
 tree_commands = keeps_commands SoundTree tree_kept tree_free
 
--- behind each command no event waits
+-- after each command no event waits
 abbrev IsDrained : Board → Type 0
 IsDrained b = b.events ≡ []
 
@@ -140,4 +140,4 @@ whole_commands =
 pub broken_sound : (s : State) (i : Input) (m : Seen) → IsSound s.board → BreaksOff s i m → (t : State) → IsIn t m → IsSound t.board
 broken_sound s i m sound p t there =
     let q = broken_keeps IsWhole whole_commands s i m p ((sound.graph, sound.aliases), sound.events.none) in
-    sound_by (state_at q.0 m) t m (in_at q.0 m q.1) there (sound_of q.0 q.2.0 q.2.1)
+    sound_by (state_with q.0 m) t m (in_at q.0 m q.1) there (sound_of q.0 q.2.0 q.2.1)

@@ -11,7 +11,7 @@ use Rattle.qo_model.specs.Board.{Board, is_live}
 use Rattle.qo_model.specs.FinalNotes.{FinalOnce, NotesInOrder}
 use Rattle.qo_model.specs.Holders.{HeldFrom}
 use Rattle.qo_model.specs.Paths.{attached}
-use Rattle.qo_sound.specs.Kept.{SoundTree}
+use Rattle.qo_sound.specs.TreeKept.{SoundTree}
 use Rattle.qo_sound_devices.specs.SoundDevices.{SoundDevices}
 use Rattle.qo_sound_bounds.specs.SoundHolds.{SoundHolds}
 use Rattle.qo_sound_clocks.specs.ClockRuns.{SoundRun}
@@ -67,23 +67,25 @@ quiet at what choices = record { input = record { at = at; what = what }; choice
 
 -- of a run, one piece that comes whole, or in two at the same moment
 abbrev pub in_one : (List ℕ → What) → List Turn → List Turn → Moment → List ℕ → List Choice → List Turn
-in_one piece before behind at bytes choices = before ++ quiet at (piece bytes) choices ∷ behind
+in_one piece before after at bytes choices = before ++ quiet at (piece bytes) choices ∷ after
 
 abbrev pub in_two : (List ℕ → What) → List Turn → List Turn → Moment → List ℕ → List ℕ → List Choice → List Choice → List Turn
-in_two piece before behind at a b first second = before ++ quiet at (piece a) first ∷ quiet at (piece b) second ∷ behind
+in_two piece before after at a b first second = before ++ quiet at (piece a) first ∷ quiet at (piece b) second ∷ after
 
 -- whichever way such a piece comes, there is a run of the other way that sends the same
 abbrev pub CutAnywhere : (List ℕ → What) → Type 0
-CutAnywhere piece = (before behind : List Turn) (at : Moment) (a b : List ℕ) →
-    ((choices : List Choice) → (first second : List Choice) × Matches (in_one piece before behind at (a ++ b) choices)
-    (in_two piece before behind at a b first second))
-    × ((first second : List Choice) → (choices : List Choice) × Matches (in_one piece before behind at (a ++ b) choices) (in_two piece before behind at a b first second))
+CutAnywhere piece = (before after : List Turn) (at : Moment) (a b : List ℕ) →
+    ((choices : List Choice) → (first second : List Choice) × Matches (in_one piece before after at (a ++ b) choices)
+    (in_two piece before after at a b first second))
+    × ((first second : List Choice)
+    → (choices : List Choice) × Matches (in_one piece before after at (a ++ b) choices) (in_two piece before after at a b first second))
 
 -- bytes of a session, and of the guest, may be cut anywhere
 abbrev pub ChunksAreFree : Type 0
 ChunksAreFree = ((n : ℕ) → CutAnywhere (Bytes n)) × CutAnywhere Guest
 
--- over every run the notes are in order, with the births and types of the objects, and each birth has its final notes at most once, derived first, and no note behind them
+-- over every run the notes are in order, with the births and types of the objects, and each birth has its final notes at most once, derived first, and no note
+-- after them
 abbrev pub FinalOnceInRuns : Type 0
 FinalOnceInRuns =
     (turns : List Turn) → NotesInOrder (state_after opening turns).board × ((n : ℕ) → FinalOnce n (state_after opening turns).board.notes)
@@ -93,7 +95,8 @@ pub record KeptInRuns (P : Board → Type 0) : Type 0 where
   pub step : (s : State) (input : Input) (choices : List Choice) → P s.board → P (step s input choices).state.board
   pub run : (turns : List Turn) → P (state_after opening turns).board
 
--- that the tree of the board is sound; with it the places of devices and the lists that name devices; and with these its clocks and their numbers, and that no timer is ahead of the time
+-- that the tree of the board is sound; with it the places of devices and the lists that name devices; and with these its clocks and their numbers, and that no
+-- timer is ahead of the time
 pub record SoundInRuns : Type 0 where
   pub tree : KeptInRuns SoundTree
   pub devices : KeptInRuns SoundDevices
@@ -105,7 +108,8 @@ pub record SoundInRuns : Type 0 where
 abbrev pub SoundHeld : Board → Type 0
 SoundHeld b = SoundResets b × SoundHolds b
 
--- over every run the phases of resets that are noted of each birth are in turn: the beginning of enter, hold, exit, repeated; and who is attached and may be held in reset is held by its notes where a hold is on it or above it, and nowhere else; and there are not too many holds
+-- over every run the phases of resets that are noted of each birth are in turn: the beginning of enter, hold, exit, repeated; and who is attached and may be
+-- held in reset is held by its notes where a hold is on it or above it, and nowhere else; and there are not too many holds
 pub record PhasesInRuns : Type 0 where
   pub kept : KeptInRuns SoundResets
   pub few : KeptInRuns SoundHeld

@@ -30,7 +30,7 @@ use Rattle.qo_sessions.specs.declared.acts.SessionAct.TheVariants.{Answer, Negot
 use Rattle.qo_sessions.specs.declared.modes.Mode.{Mode}
 use Rattle.qo_sessions.specs.declared.modes.Mode.TheVariants.{Commanding, Closed}
 use Rattle.qo_realize.specs.Parts.{Parts}
-use Rattle.qo_realize.specs.Stands.{Stands}
+use Rattle.qo_realize.specs.Representation.{Stands}
 use Rattle.qo_realize.specs.Time.{advanced}
 use Rattle.qo_commands.specs.Changes.{attempted}
 use Rattle.qo_commands.specs.Commands.{Done, empty, event_of, perform, without_events}
@@ -50,7 +50,8 @@ pub record State : Type 0 where
 abbrev pub opening : State
 opening = record { board = opening_board; sessions = replicate SESSIONS closed; guest_line = []; ended = false }
 
--- how an item is served: as it is defined; or, where it is a command, refused for want of memory, behind an attempt that had made so many objects, the last of them joined to the tree or not. A line of the guest is served as it is defined, or refused. A missing choice is `defined`.
+-- how an item is served: as it is defined; or, where it is a command, refused for want of memory, after an attempt that had made so many objects, the last of
+-- them joined to the tree or not. A line of the guest is served as it is defined, or refused. A missing choice is `defined`.
 pub data Choice : Type 0 where
   defined : Choice
   refused : ℕ → Bool → Choice
@@ -63,7 +64,7 @@ abbrev pub others : List Choice → List Choice
 others [] = []
 others (c ∷ cs) = cs
 
--- what is sent, the state behind it, and the choices that are left
+-- what is sent, the state after it, and the choices that are left
 pub record Stepped : Type 0 where
   pub outs : List Message
   pub state : State
@@ -74,8 +75,8 @@ abbrev pub unchanged : State → List Choice → Stepped
 unchanged s choices = record { outs = []; state = s; rest = choices }
 
 -- some messages, and then those of a step
-abbrev pub behind : List Message → Stepped → Stepped
-behind outs r = record { outs = outs ++ r.outs; state = r.state; rest = r.rest }
+abbrev pub preceded : List Message → Stepped → Stepped
+preceded outs r = record { outs = outs ++ r.outs; state = r.state; rest = r.rest }
 
 -- a session by its number, and its mode
 abbrev pub session_of : State → ℕ → sessions.State
@@ -115,19 +116,19 @@ abbrev pub commanding : State → List ℕ
 commanding s = those_commanding s (numbers_below SESSIONS)
 
 -- an event, to each of some sessions
-abbrev pub told_of : Event → Moment → List ℕ → List Message
-told_of event at numbers = map (λ (n : ℕ). (to_session n, event_line at event)) numbers
+abbrev pub event_messages : Event → Moment → List ℕ → List Message
+event_messages event at numbers = map (λ (n : ℕ). (to_session n, event_line at event)) numbers
 
 -- event by event, to each session that has negotiated
 abbrev pub event_outs : Moment → State → List Event → List Message
-event_outs at s events = flat_map (λ (event : Event). told_of event at (commanding s)) events
+event_outs at s events = flat_map (λ (event : Event). event_messages event at (commanding s)) events
 
 -- the reply with what a command returned, or with the code that refused it
 abbrev pub reply : Option (List ℕ) → Result Data Code → List ℕ
 reply id (Ok value) = return_reply id value
 reply id (Err code) = error_reply id code
 
--- what one item makes, or one line: messages, and the state behind it
+-- what one item makes, or one line: messages, and the state after it
 pub record Made : Type 0 where
   pub outs : List Message
   pub state : State
@@ -135,15 +136,15 @@ pub record Made : Type 0 where
 abbrev pub answered : State → ℕ → List ℕ → Made
 answered s n text = record { outs = (to_session n, text) ∷ []; state = s }
 
--- the board behind a command; it may end the run
-abbrev pub behind_command : Bool → State → State
-behind_command true s = finished s
-behind_command false s = s
+-- the board after a command; it may end the run
+abbrev pub after_command : Bool → State → State
+after_command true s = finished s
+after_command false s = s
 
 -- a command was done: its events go first, then its reply
 abbrev pub done : Moment → ℕ → State → Option (List ℕ) → Done → Made
 done at n s id d =
-    record { outs = event_outs at s d.events ++ (to_session n, reply id d.result) ∷ []; state = behind_command d.ends (with_board s d.board) }
+    record { outs = event_outs at s d.events ++ (to_session n, reply id d.result) ∷ []; state = after_command d.ends (with_board s d.board) }
 
 -- what an item of a session makes, by what it comes to
 abbrev pub made : Moment → ℕ → State → SessionAct → Made
@@ -170,7 +171,10 @@ guest_told s answer = record { outs = (guest, answer_line answer) ∷ []; state 
 -- what a line of the guest does was done: the events that wait go first, then its own, then its answer
 abbrev pub line_done : Moment → State → Outcome → Made
 line_done at s o =
-    record { outs = event_outs at s (map event_of o.board.events ++ o.events) ++ (guest, answer_line o.answer) ∷ []; state = behind_command o.ends (with_board s (without_events o.board)) }
+    record {
+      outs = event_outs at s (map event_of o.board.events ++ o.events) ++ (guest, answer_line o.answer) ∷ [];
+      state = after_command o.ends (with_board s (without_events o.board));
+    }
 
 -- one that is refused for want of memory changes nothing
 abbrev pub line_made : Choice → Moment → State → List ℕ → Made
@@ -190,7 +194,7 @@ abbrev pub serve_by : {X : Type 0} → (Choice → State → X → Made) → Lis
 serve_by f [] s choices = unchanged s choices
 serve_by f (x ∷ xs) s choices =
     serve_unless s.ended (unchanged s choices)
-    (behind (f (first choices) s x).outs (serve_by f xs (f (first choices) s x).state (others choices)))
+    (preceded (f (first choices) s x).outs (serve_by f xs (f (first choices) s x).state (others choices)))
 
 -- the items of a session, and the lines of the guest
 abbrev pub by_item : Moment → ℕ → Choice → State → Item → Made
@@ -231,7 +235,7 @@ input_step s at (Guest bytes) choices = guest_taken at s bytes choices
 input_step s at (Step ns) choices = unchanged (with_board s (advanced s.board ns).board) choices
 input_step s at End choices = unchanged (finished s) choices
 
--- one step of the machine; behind the end of the run nothing is served
+-- one step of the machine; after the end of the run nothing is served
 unfoldable pub step : State → Input → List Choice → Stepped
 step s input choices = serve_unless s.ended (unchanged s choices) (input_step s input.at input.what choices)
 
@@ -244,17 +248,17 @@ pub record Seen : Type 0 where
   pub spent : Bool
 
 -- the state of a machine that stands at a board
-abbrev pub state_at : Board → Seen → State
-state_at b m = record { board = b; sessions = m.sessions; guest_line = m.guest_line; ended = m.ended }
+abbrev pub state_with : Board → Seen → State
+state_with b m = record { board = b; sessions = m.sessions; guest_line = m.guest_line; ended = m.ended }
 
 -- the same but for the board, for which the opening one stands: what is read of sessions alone is the same on every board
 abbrev pub beside : Seen → State
-beside m = state_at opening_board m
+beside m = state_with opening_board m
 
 -- a machine is in a state: it stands at the state's board, and the rest is its own
 pub record IsIn (s : State) (m : Seen) : Type 0 where
   pub stands : Stands s.board m.board
-  pub rest : s ≡ state_at s.board m
+  pub rest : s ≡ state_with s.board m
 
 -- by some choices, a step from a state sends this, and a machine is then in the state that it leads to
 abbrev pub Answers : State → Input → List Message → Seen → Type 0

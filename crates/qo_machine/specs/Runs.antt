@@ -34,14 +34,14 @@ abbrev pub close_lost : List Bool → State → State
 close_lost lost s =
     record { board = s.board; sessions = closed_where lost s.sessions; guest_line = s.guest_line; ended = s.ended }
 
--- what a turn sends, and the state behind it
+-- what a turn sends, and the state after it
 abbrev pub outs_at : State → Turn → List Message
 outs_at s t = (step s t.input t.choices).outs
 
 abbrev pub after : State → Turn → State
 after s t = close_lost t.lost ((step s t.input t.choices).state)
 
--- the state behind some turns, and all that they send
+-- the state after some turns, and all that they send
 abbrev pub state_after : State → List Turn → State
 state_after s [] = s
 state_after s (t ∷ ts) = state_after (after s t) ts
@@ -135,7 +135,7 @@ pub record Cut (from : State) (old new : Told) (last : Option Turn) : Type 0 whe
   pub lanes : (l : Lane) → AppendsPrefix (old.got l) (new.got l) (lane_bytes l (last_outs from last))
   pub losses : (n : ℕ) → old.losses n ≤ new.losses n
 
--- whole turns, behind which the run has not ended
+-- whole turns, after which the run has not ended
 abbrev pub OpenRun : Told → Told → List Turn → Type 0
 OpenRun old new turns = Turns opening old new turns × ((state_after opening turns).ended ≡ false)
 
@@ -145,13 +145,13 @@ EndsAtLast turns =
     (before : List Turn) × (last : Turn) × (turns ≡ before ++ last ∷ []) × ((state_after opening before).ended ≡ false)
     × ((state_after opening turns).ended ≡ true)
 
--- whole turns, behind which the run has not ended, and then one that was cut, if any; at most so many
+-- whole turns, after which the run has not ended, and then one that was cut, if any; at most so many
 abbrev pub CutRun : ℕ → Told → Told → Type 0
 CutRun limit old new =
     (mid : Told) × (turns : List Turn) × (last : Option Turn) × OpenRun old mid turns × Cut (state_after opening turns) mid new last
     × (length turns + length (option_to_list last) ≤ limit)
 
--- what one turn did by its answer, from a state; a machine is then in the state behind it; the hub has this bad place
+-- what one turn did by its answer, from a state; a machine is then in the state after it; the hub has this bad place
 abbrev pub TurnMeets : State → Seen → Told → Told → Option (Option ℕ) → Result (Unit {0}) Ending → Type 0
 TurnMeets from to old new bad (Ok u) =
     (t : Turn) × Turns from old new (t ∷ []) × IsIn (after from t) to × (is_end t.input.what ≡ true → AtEnd new.inputs bad None)

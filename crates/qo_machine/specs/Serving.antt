@@ -1,4 +1,4 @@
--- Items and lines served one after another, whatever choices and whatever items or lines come behind.
+-- Items and lines served one after another, whatever choices and whatever items or lines come after.
 use Rattle.std.specs.Prelude.{◌≡◌, ℕ, List, [], ◌∷◌, ◌++◌, map, Option, option_to_list, Ok, IfOk, ◌⊎◌}
 use Rattle.qo_causes.specs.declared.hubs.Lane.{Lane}
 use Rattle.qo_causes.specs.declared.inputs.Moment.{Moment}
@@ -12,8 +12,8 @@ use Rattle.qo_lane.specs.Hearing.{Outcome}
 use Rattle.qo_model.specs.Board.{Board}
 use Rattle.qo_commands.specs.Commands.{event_of, performed}
 use Rattle.qo_realize.specs.Parts.{Parts}
-use Rattle.qo_realize.specs.Stands.{Stands}
-use Rattle.qo_machine.specs.Machine.{Choice, IsIn, Made, Message, Seen, State, answer_line, behind, by_item, by_line, event_outs, made_by, reply, serve_by, session_of, state_at, with_session}
+use Rattle.qo_realize.specs.Representation.{Stands}
+use Rattle.qo_machine.specs.Machine.{Choice, IsIn, Made, Message, Seen, State, answer_line, preceded, by_item, by_line, event_outs, made_by, reply, serve_by, session_of, state_with, with_session}
 use Rattle.qo_machine.specs.declared.machines.Replied.{Replied}
 
 -- the state when it is known what an item comes to
@@ -31,7 +31,7 @@ CommandServed at n s command id outs m =
 abbrev pub ServesBy : {X : Type 0} → (Choice → State → X → Made) → State → List X → List Message → State → Type 0
 ServesBy {X = X} f s xs outs t =
     (choices : List Choice) × ((further : List X) (rest : List Choice)
-    → serve_by f (xs ++ further) s (choices ++ rest) ≡ behind outs (serve_by f further t rest))
+    → serve_by f (xs ++ further) s (choices ++ rest) ≡ preceded outs (serve_by f further t rest))
 
 -- by some choices they send this, and a machine is then in the state that they lead to
 abbrev pub ServesToBy : {X : Type 0} → (Choice → State → X → Made) → State → List X → List Message → Seen → Type 0
@@ -81,4 +81,4 @@ pub record CameTo (o : Outcome) (r : Replied) (v : Parts) : Type 0 where
 abbrev pub Tells : Moment → Lane → Seen → Replied → List Message → Type 0
 Tells at lane m r front =
     (text : List ℕ) × (r.text ≡ Ok text)
-    × ((b : Board) → Stands b m.board → front ≡ event_outs at (state_at b m) (map event_of b.events ++ option_to_list r.event) ++ (lane, text) ∷ [])
+    × ((b : Board) → Stands b m.board → front ≡ event_outs at (state_with b m) (map event_of b.events ++ option_to_list r.event) ++ (lane, text) ∷ [])

@@ -10,7 +10,8 @@ use Rattle.qo_sound_shapes.specs.SoundShape.{SoundShape}
 
 -- all groups of facts but those on the events, none of which waits, and on the notes of phases
 pub record SoundBoard (b : Board) : Type 0 where
-  -- the tree is sound, devices stand in their places, and the lists that name devices name those; and so are the clocks with their numbers, and the moments of timers
+  -- the tree is sound, devices stand in their places, and the lists that name devices name those; and so are the clocks with their numbers, and the moments of
+  -- timers
   pub run : SoundRun b
   -- each object is shaped as its type says
   pub shape : SoundShape b

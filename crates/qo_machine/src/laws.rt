@@ -16,7 +16,7 @@ pub fn law_chunks()
 {}
 
 /// Over every run from the opening each object has its final notes at most once, those of its type derived
-/// first, and no note behind them.
+/// first, and no note after them.
 pub fn law_final_once()
     ensures { FinalOnceInRuns }
 {}

@@ -95,16 +95,16 @@ impl Model for Machine {
 impl Machine {
     ghost use Rattle.std.specs.Prelude.{true, false, IsErr, OnErr, OnOk};
     ghost use Rattle.qo_model.specs.Board.{Board as Tree};
-    ghost use Rattle.qo_model.specs.Sound.{IsSound};
+    ghost use Rattle.qo_model.specs.Soundness.{IsSound};
     ghost use Rattle.qo_sound_clocks.specs.ClockRuns.{SoundRun};
     ghost use Rattle.qo_sessions.specs.Acts.{act};
     ghost use Rattle.qo_sessions.specs.Sessions.{fed};
     ghost use Rattle.qo_commands.specs.Changes.{Left};
     ghost use Rattle.qo_requests.specs.declared.calls.Call.TheVariants as call;
     ghost use Rattle.qo_commands.specs.Commands.{without_events};
-    ghost use Rattle.qo_realize.specs.Stands.{Stands};
+    ghost use Rattle.qo_realize.specs.Representation.{Stands};
     ghost use Rattle.qo_realize.specs.Time.{advanced};
-    ghost use Rattle.qo_machine.specs.Machine.{Answers, BreaksOff, IsIn, State, behind_command, beside, finished, input_step, mode_of, opening, session_of, state_at, with_line, with_session};
+    ghost use Rattle.qo_machine.specs.Machine.{Answers, BreaksOff, IsIn, State, after_command, beside, finished, input_step, mode_of, opening, session_of, state_with, with_line, with_session};
     ghost use Rattle.qo_machine.specs.Runs.{close_lost};
     ghost use Rattle.qo_machine.specs.Sending.{AreToLanes};
     ghost use Rattle.qo_machine.specs.SoundBoard.{SoundBoard};
@@ -153,13 +153,13 @@ impl Machine {
     /// nothing, but that `object-add` and `device_add` may have made and ended objects. It answers `AllocError` where
     /// memory runs out otherwise, and from then on always: the run has then ended, and all sessions
     /// are closed. The board is then one that a front of the input's items leads to; it stays sound.
-    /// Behind each step devices stand in their places, the lists that name devices name those that do,
+    /// After each step devices stand in their places, the lists that name devices name those that do,
     /// clocks with their numbers are sound, and no timer is ahead of the virtual time. A machine that has
     /// come from `start` by steps stands at a board that is sound as a whole.
     pub fn step(&mut self, alloc: Global, input: &Input) -> Result<Outs, AllocError>
         ensures answered { (s : State) → IsIn s self.old → IfOk result (λ outs. Answers s input.now outs self.new) }
         ensures lanes { IfOk result AreToLanes }
-        ensures closes { OnErr result ((b : Tree) → state_at b self.new ≡ finished (state_at b self.old)) }
+        ensures closes { OnErr result ((b : Tree) → state_with b self.new ≡ finished (state_with b self.old)) }
         ensures lasts { OnOk result (self.new.spent ≡ false) }
         ensures spends { OnErr result (self.new.spent ≡ true) }
         ensures spent { self.old.spent ≡ true → IsErr result }
@@ -248,7 +248,7 @@ impl Machine {
 
     /// A session opens, and is greeted.
     fn open(&mut self, alloc: Global, session: u8) -> Result<Outs, AllocError>
-        ensures answered { (b : Tree) (at : Moment) → IfOk result (λ outs. input_step (state_at b self.old) at (What.Open session) [] ≡ record { outs = outs; state = state_at b self.new; rest = [] }) }
+        ensures answered { (b : Tree) (at : Moment) → IfOk result (λ outs. input_step (state_with b self.old) at (What.Open session) [] ≡ record { outs = outs; state = state_with b self.new; rest = [] }) }
         ensures lanes { IfOk result AreToLanes }
         ensures board { self.new.board ≡ self.old.board }
         ensures lasts { self.new.spent ≡ self.old.spent }
@@ -265,7 +265,7 @@ impl Machine {
 
     /// A session is shut: what is unfinished of it is dropped. It takes no memory.
     fn shut(&mut self, session: u8)
-        ensures answered { (b : Tree) (at : Moment) → input_step (state_at b self.old) at (What.Shut session) [] ≡ record { outs = []; state = state_at b self.new; rest = [] } }
+        ensures answered { (b : Tree) (at : Moment) → input_step (state_with b self.old) at (What.Shut session) [] ≡ record { outs = []; state = state_with b self.new; rest = [] } }
         ensures board { self.new.board ≡ self.old.board }
         ensures lasts { self.new.spent ≡ self.old.spent }
     {
@@ -298,8 +298,8 @@ impl Machine {
     /// The items that bytes of a session complete.
     fn feed(&mut self, alloc: Global, session: u8, bytes: &[u8]) -> Result<Vec<Item>, AllocError>
         requires { session < SESSIONS }
-        ensures items { (b : Tree) → IfOk result (λ items. items.items ≡ (fed (session_of (state_at b self.old) session) bytes.now).items) }
-        ensures state { (b : Tree) → IfOk result (λ items. state_at b self.new ≡ with_session (state_at b self.old) session (fed (session_of (state_at b self.old) session) bytes.now).session) }
+        ensures items { (b : Tree) → IfOk result (λ items. items.items ≡ (fed (session_of (state_with b self.old) session) bytes.now).items) }
+        ensures state { (b : Tree) → IfOk result (λ items. state_with b self.new ≡ with_session (state_with b self.old) session (fed (session_of (state_with b self.old) session) bytes.now).session) }
         ensures board { self.new.board ≡ self.old.board }
         ensures lasts { self.new.spent ≡ self.old.spent }
     {
@@ -326,7 +326,7 @@ impl Machine {
     /// The lines of the guest that end in some bytes; the front of the unfinished one is kept.
     fn cut(&mut self, alloc: Global, bytes: &[u8]) -> Result<Vec<Chars>, AllocError>
         ensures lines { IfOk result (λ lines. lines.items ≡ (lines_of self.old.guest_line bytes.now).lines) }
-        ensures state { (b : Tree) → OnOk result (state_at b self.new ≡ with_line (state_at b self.old) (lines_of self.old.guest_line bytes.now).rest) }
+        ensures state { (b : Tree) → OnOk result (state_with b self.new ≡ with_line (state_with b self.old) (lines_of self.old.guest_line bytes.now).rest) }
         ensures board { self.new.board ≡ self.old.board }
         ensures lasts { self.new.spent ≡ self.old.spent }
     {
@@ -343,7 +343,7 @@ impl Machine {
     ) -> Result<Replied, AllocError>
         ensures came { (b : Tree) → Stands b self.old.board → IfOk result (λ r. CameTo (heard b line.now) r self.new.board) }
         ensures kept { OnErr result (self.new.board ≡ self.old.board) }
-        ensures rest { (b : Tree) → state_at b self.new ≡ state_at b self.old }
+        ensures rest { (b : Tree) → state_with b self.new ≡ state_with b self.old }
         ensures lasts { self.new.spent ≡ self.old.spent }
     {
         let heard = hear(&mut self.board, line, alloc, steps)?;
@@ -358,7 +358,7 @@ impl Machine {
     /// takes no memory.
     fn go_on(&mut self, ns: u64)
         ensures board { (b : Tree) → Stands b self.old.board → Stands (advanced b ns).board self.new.board }
-        ensures rest { (b : Tree) → state_at b self.new ≡ state_at b self.old }
+        ensures rest { (b : Tree) → state_with b self.new ≡ state_with b self.old }
         ensures lasts { self.new.spent ≡ self.old.spent }
     {
         let _time = self.board.advance(ns);
@@ -380,9 +380,9 @@ impl Machine {
         item: &Item,
     ) -> Result<SessionAct, AllocError>
         requires { session < SESSIONS }
-        ensures act { (b : Tree) → IfOk result (λ what. what ≡ act (mode_of (state_at b self.old) session) item.now) }
-        ensures state { (b : Tree) → IfOk result (λ what. state_at b self.new ≡ moved (state_at b self.old) session what) }
-        ensures kept { (b : Tree) → OnErr result (state_at b self.new ≡ state_at b self.old) }
+        ensures act { (b : Tree) → IfOk result (λ what. what ≡ act (mode_of (state_with b self.old) session) item.now) }
+        ensures state { (b : Tree) → IfOk result (λ what. state_with b self.new ≡ moved (state_with b self.old) session what) }
+        ensures kept { (b : Tree) → OnErr result (state_with b self.new ≡ state_with b self.old) }
         ensures board { self.new.board ≡ self.old.board }
         ensures lasts { self.new.spent ≡ self.old.spent }
     {
@@ -420,7 +420,7 @@ impl Machine {
     ) -> Result<Replied, AllocError>
         ensures came { (b : Tree) → Stands b self.old.board → IfOk result (λ r. Came b (call.Change change.now) (option_map (λ id. id.now) id.entry) r self.new.board) }
         ensures kept { (b : Tree) → Stands b self.old.board → OnErr result (Left b (call.Change change.now) self.new.board) }
-        ensures rest { (b : Tree) → state_at b self.new ≡ state_at b self.old }
+        ensures rest { (b : Tree) → state_with b self.new ≡ state_with b self.old }
         ensures lasts { self.new.spent ≡ self.old.spent }
     {
         let empty = return_written(alloc, id, EMPTY)?;
@@ -445,7 +445,7 @@ impl Machine {
     ) -> Result<Replied, AllocError>
         ensures came { (b : Tree) → Stands b self.old.board → IfOk result (λ r. Came b command.now (option_map (λ id. id.now) id.entry) r self.new.board) }
         ensures kept { (b : Tree) → Stands b self.old.board → OnErr result (Left b command.now self.new.board) }
-        ensures rest { (b : Tree) → state_at b self.new ≡ state_at b self.old }
+        ensures rest { (b : Tree) → state_with b self.new ≡ state_with b self.old }
         ensures lasts { self.new.spent ≡ self.old.spent }
     {
         match command {
@@ -464,7 +464,7 @@ impl Machine {
     /// Lets the events on devices that wait on the board go, as they were told. It takes no memory.
     pub(crate) fn forget_waiting(&mut self)
         ensures board { (b : Tree) → Stands b self.old.board → Stands (without_events b) self.new.board }
-        ensures rest { (b : Tree) → state_at b self.new ≡ state_at b self.old }
+        ensures rest { (b : Tree) → state_with b self.new ≡ state_with b self.old }
         ensures lasts { self.new.spent ≡ self.old.spent }
     {
         self.board.clear_events();
@@ -472,7 +472,7 @@ impl Machine {
 
     /// The run ends where a command ends it. It takes no memory.
     pub(crate) fn conclude(&mut self, ends: bool)
-        ensures state { (b : Tree) → state_at b self.new ≡ behind_command ends (state_at b self.old) }
+        ensures state { (b : Tree) → state_with b self.new ≡ after_command ends (state_with b self.old) }
         ensures board { self.new.board ≡ self.old.board }
         ensures lasts { self.new.spent ≡ self.old.spent }
     {
@@ -483,7 +483,7 @@ impl Machine {
 
     /// The run ends: all sessions are closed. It takes no memory.
     fn finish(&mut self)
-        ensures done { (b : Tree) → state_at b self.new ≡ finished (state_at b self.old) }
+        ensures done { (b : Tree) → state_with b self.new ≡ finished (state_with b self.old) }
         ensures board { self.new.board ≡ self.old.board }
         ensures lasts { self.new.spent ≡ self.old.spent }
     {

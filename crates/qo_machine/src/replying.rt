@@ -6,7 +6,7 @@ ghost use Rattle.qo_commands.specs.Commands.{empty as nothing};
 ghost use Rattle.qo_commands.specs.Views.{body_data, data_of, has_float_in};
 ghost use Rattle.qo_machine.specs.Machine.{answer_line, reply};
 ghost use Rattle.qo_model.specs.Board.{Board as Tree};
-ghost use Rattle.qo_realize.specs.Stands.{Stands};
+ghost use Rattle.qo_realize.specs.Representation.{Stands};
 ghost use Rattle.qo_replies.specs.Replies.{return_reply};
 
 use qo_commands::{Body, answer_written, listing_text, time_written};

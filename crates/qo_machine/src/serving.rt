@@ -1,4 +1,4 @@
-//! Serving the items of a session and the lines of the guest: each makes exactly one reply, behind its events.
+//! Serving the items of a session and the lines of the guest: each makes exactly one reply, after its events.
 
 ghost use Rattle.std.specs.Prelude.{◌≡◌, ◌<◌, [], ◌∷◌, ◌++◌, List, map, option_map, option_to_list, IfOk, OnErr, OnOk};
 ghost use Rattle.qo_causes.specs.declared.hubs.Lane.TheVariants as LaneView;
@@ -6,9 +6,9 @@ ghost use Rattle.qo_guest.specs.declared.answers.GuestAnswer.TheVariants.{NoMemo
 ghost use Rattle.qo_replies.specs.Replies.{error_reply};
 ghost use Rattle.qo_values.specs.declared.codes.Code.TheVariants.{E99};
 ghost use Rattle.qo_model.specs.Board.{Board as Tree};
-ghost use Rattle.qo_realize.specs.Stands.{Stands};
+ghost use Rattle.qo_realize.specs.Representation.{Stands};
 ghost use Rattle.qo_commands.specs.Commands.{event_of, without_events};
-ghost use Rattle.qo_machine.specs.Machine.{IsIn, Message, State, answer_line, beside, commanding, event_outs, state_at, those_commanding, told_of};
+ghost use Rattle.qo_machine.specs.Machine.{IsIn, Message, State, answer_line, beside, commanding, event_outs, state_with, those_commanding, event_messages};
 ghost use Rattle.qo_values.specs.declared.limits.TheConstants.{SESSIONS};
 ghost use Rattle.qo_machine.specs.Sending.{AreToLanes, IsLane};
 ghost use Rattle.qo_machine.specs.Serving.{CommandLeft, CommandServed, LinesFront, LinesTo, ServesFront, ServesTo, Tells};
@@ -16,7 +16,7 @@ ghost use Rattle.qo_machine.specs.Serving.{CommandLeft, CommandServed, LinesFron
 use crate::machines::{Machine, Replied};
 use crate::outs::Outs;
 use crate::replying::{EMPTY, guest_text};
-use crate::telling::Told;
+use crate::telling::Emitted;
 use qo_causes::{Lane, Moment};
 use qo_events::DeviceEvent;
 use qo_framing::Item;
@@ -79,7 +79,7 @@ impl Sending {
     }
 
     /// One session is told of an event, if it commands.
-    fn tell_one<E: Told>(
+    fn tell_one<E: Emitted>(
         &mut self,
         machine: &Machine,
         session: u8,
@@ -87,7 +87,7 @@ impl Sending {
     ) -> Result<(), AllocError>
         requires { session < SESSIONS }
         ensures moment { self.new.at ≡ self.old.at }
-        ensures told { OnOk result (self.new.outs ≡ self.old.outs ++ told_of (E.event event.now) self.old.at (those_commanding (beside machine.now) (session ∷ []))) }
+        ensures told { OnOk result (self.new.outs ≡ self.old.outs ++ event_messages (E.event event.now) self.old.at (those_commanding (beside machine.now) (session ∷ []))) }
     {
         if machine.mode(session) == Mode::Commanding {
             let line = event.line(self.alloc, self.at)?;
@@ -97,9 +97,9 @@ impl Sending {
     }
 
     /// Each session that commands is told of an event.
-    fn tell<E: Told>(&mut self, machine: &Machine, event: &E) -> Result<(), AllocError>
+    fn tell<E: Emitted>(&mut self, machine: &Machine, event: &E) -> Result<(), AllocError>
         ensures moment { self.new.at ≡ self.old.at }
-        ensures told { OnOk result (self.new.outs ≡ self.old.outs ++ told_of (E.event event.now) self.old.at (commanding (beside machine.now))) }
+        ensures told { OnOk result (self.new.outs ≡ self.old.outs ++ event_messages (E.event event.now) self.old.at (commanding (beside machine.now))) }
     {
         for session in 0..SESSIONS {
             self.tell_one(machine, session, event)?;
@@ -160,7 +160,7 @@ fn send_reply(
     requires { IsLane lane }
     ensures sent { OnOk result ((front : List Message) × (sending.new.outs ≡ sending.old.outs ++ front) × AreToLanes front × Tells sending.old.at lane machine.old reply front) }
     ensures board { (b : Tree) → Stands b machine.old.board → Stands (without_events b) machine.new.board }
-    ensures rest { (b : Tree) → state_at b machine.new ≡ state_at b machine.old }
+    ensures rest { (b : Tree) → state_with b machine.new ≡ state_with b machine.old }
     ensures lasts { machine.new.spent ≡ machine.old.spent }
     ensures moment { sending.new.at ≡ sending.old.at }
 {

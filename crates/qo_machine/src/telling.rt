@@ -12,7 +12,7 @@ use qo_values::Chars;
 use std::alloc::{AllocError, Global};
 
 /// What sessions are told of: the event of a command or a line, or one on a device that waited on the board.
-pub(crate) trait Told {
+pub(crate) trait Emitted {
     // The event.
     ghost event: { Self → declared.Event };
 
@@ -21,7 +21,7 @@ pub(crate) trait Told {
         ensures { IfOk result (λ line. line ≡ event_line at (event self.now)) };
 }
 
-impl Told for Event {
+impl Emitted for Event {
     ghost event = { λ e. e };
 
     fn line(&self, alloc: Global, at: Moment) -> Result<Chars, AllocError> {
@@ -29,7 +29,7 @@ impl Told for Event {
     }
 }
 
-impl Told for DeviceEvent {
+impl Emitted for DeviceEvent {
     ghost event = { λ e. event_of e };
 
     fn line(&self, alloc: Global, at: Moment) -> Result<Chars, AllocError> {

@@ -13,7 +13,7 @@ use Rattle.std.proofs.lemmas.Option.{same_Some}
 use Rattle.qo_model.specs.declared.notes.Note.{Note}
 use Rattle.qo_model.specs.Board.{Board, Record, Slot, DeviceEvent, plain, child, strong, weak, alias, record_of, slots_at, slot_at, held, target_of}
 use Rattle.qo_model.specs.References.{refs, refs_in, holds_it}
-use Rattle.qo_model.specs.Release.{after, deleted_event, drop_slot, edited, emptied, final_notes, finalise, finish, forgotten, forgotten_in, next_place, with_dropped, without_hold}
+use Rattle.qo_model.specs.Release.{after, deleted_event, drop_slot, edited, emptied, final_notes, finalize, finish, forgotten, forgotten_in, next_index, with_dropped, without_hold}
 use Rattle.qo_model.proofs.ReleaseLemmas.{end_of, end_of-first, end_of-none, end_of-some}
 use Rattle.qo_model.proofs.ReleaseRulesLemmas.{after-free}
 use Rattle.qo_model.proofs.StepLemmas.{drop-record, found_at, found-edited}
@@ -171,17 +171,17 @@ bare-end (s ∷ ss) c m pre is bare = step (λ c' pre' e. bare-end ss c' m pre' 
     Rest : Type 0
     Rest = (c' : Board) (pre' : List (List ℕ × Slot)) → slots_at c' m ≡ pre' ++ ss → end_of c' m (length pre') ≡ finish c' m
 
-    go : Rest → (x left : Slot) → s.1 ≡ x → held x ≡ None → emptied x ≡ Some left → next_place x (length pre) ≡ suc (length pre)
+    go : Rest → (x left : Slot) → s.1 ≡ x → held x ≡ None → emptied x ≡ Some left → next_index x (length pre) ≡ suc (length pre)
         → end_of c m (length pre) ≡ finish c m
     go rest x left e none leaves next =
         let c' : Board = drop_slot c m (length pre) in
         let pre' : List (List ℕ × Slot) = pre ++ (s.0, left) ∷ [] in
         let slots : slots_at c' m ≡ pre' ++ ss = drop-own c m (length pre) ∙ ap (without_hold (length pre)) is ∙ drop-here pre ss s left (ap emptied e ∙ leaves)
         ∙ sym (append_assoc pre ((s.0, left) ∷ []) ss) in
-        let place : next_place s.1 (length pre) ≡ length pre' = ap (λ (y : Slot). next_place y (length pre)) e ∙ next ∙ sym (length-more pre (s.0, left)) in
-        let after_it : after finalise c' (held s.1) ≡ c' = ap (after finalise c') (ap held e ∙ none) in
+        let place : next_index s.1 (length pre) ≡ length pre' = ap (λ (y : Slot). next_index y (length pre)) e ∙ next ∙ sym (length-more pre (s.0, left)) in
+        let after_it : after finalize c' (held s.1) ≡ c' = ap (after finalize c') (ap held e ∙ none) in
         end_of-some c m (length pre) s.1 at
-        ∙ ap (λ (x : Board). end_of x m (next_place s.1 (length pre))) after_it
+        ∙ ap (λ (x : Board). end_of x m (next_index s.1 (length pre))) after_it
         ∙ ap (λ (i : ℕ). end_of c' m i) place
         ∙ rest c' pre' slots
         ∙ finish-drop c m (length pre)
@@ -509,7 +509,7 @@ module _ (b : Board) (d : Record) (olds : AllByRecursion (LowRecord d.birth) b.r
 
   -- a slot that holds nothing
   past-slot : (s : List ℕ × Slot) (ss : List (List ℕ × Slot)) (left : Slot) → Ends ss → held s.1 ≡ None → emptied s.1 ≡ Some left
-      → target_of left ≡ None → ((i : ℕ) → next_place s.1 i ≡ suc i) → (lo : ℕ) (ls : List Record) (pre : List (List ℕ × Slot)) (notes : List Note)
+      → target_of left ≡ None → ((i : ℕ) → next_index s.1 i ≡ suc i) → (lo : ℕ) (ls : List Record) (pre : List (List ℕ × Slot)) (notes : List Note)
       → n ≤ lo → AreQuiet pre → AreKids n n ls → IsStar n lo ss ls
       → end_of (star b d (pre ++ s ∷ ss) ls notes) n (length pre) ≡ record b { notes = notes ++ flat_map final_notes ls ++ final_notes d }
   past-slot s ss left ends none leaves quiet_left next lo ls pre notes low quiet kids is =
@@ -518,7 +518,7 @@ module _ (b : Board) (d : Record) (olds : AllByRecursion (LowRecord d.birth) b.r
       let dropped : drop_slot c n (length pre) ≡ star b d (pre' ++ ss) ls notes =
       star-drop (pre ++ s ∷ ss) (pre' ++ ss) ls notes (length pre) kids (drop-here pre ss s left leaves ∙ sym (append_assoc pre ((s.0, left) ∷ []) ss)) in
       end_of-some c n (length pre) s.1 (at-first s ss ls pre notes)
-      ∙ ap (λ (o : Option ℕ). end_of (after finalise (drop_slot c n (length pre)) o) n (next_place s.1 (length pre))) none
+      ∙ ap (λ (o : Option ℕ). end_of (after finalize (drop_slot c n (length pre)) o) n (next_index s.1 (length pre))) none
       ∙ (λ j. end_of (dropped j) n ((next (length pre) ∙ sym (length-more pre (s.0, left))) j))
       ∙ ends lo ls pre' notes low (quiet-more pre (s.0, left) quiet_left quiet) is
 
@@ -544,13 +544,13 @@ module _ (b : Board) (d : Record) (olds : AllByRecursion (LowRecord d.birth) b.r
       let itself : (k.birth == k.birth) ≡ true = eq-eqb k.birth k.birth refl in
       let there : record_of c' k.birth ≡ Some k = star-found (pre ++ ss) (k ∷ ls) notes k.birth (omega arith) ∙ rw (apart, itself) refl in
       let slots : slots_at c' k.birth ≡ k.slots = ap (λ (o : Option Record). option_map_or (λ (r : Record). r.slots) o []) there in
-      let gone : finalise c' k.birth ≡ finish c' k.birth = end_of-first c' k.birth ∙ bare-end k.slots c' k.birth [] slots (bare-empty n k.slots bare.slots) in
+      let gone : finalize c' k.birth ≡ finish c' k.birth = end_of-first c' k.birth ∙ bare-end k.slots c' k.birth [] slots (bare-empty n k.slots bare.slots) in
       let stays : map (λ (x : List ℕ × Slot). (x.0, forgotten_in k.birth x.1)) (pre ++ ss) ≡ pre ++ ss =
       map-append (λ (x : List ℕ × Slot). (x.0, forgotten_in k.birth x.1)) pre ss
       ∙ (λ j. slots-forgotten n k.birth (omega arith) pre (quiet-low n pre quiet) j ++ star-forgotten n k.birth k.birth ss ls (omega arith) star_left j)
       in
       end_of-some c n (length pre) (child m) (at-first s ss (k ∷ ls) pre notes)
-      ∙ (λ j. end_of (after finalise (dropped j) (Some (sym born j))) n (length pre))
+      ∙ (λ j. end_of (after finalize (dropped j) (Some (sym born j))) n (length pre))
       ∙ ap (λ (x : Board). end_of x n (length pre)) (after-free c' k.birth free ∙ gone ∙ kid-ends (pre ++ ss) k ls notes above bare.no_path stays kids)
       ∙ ends k.birth ls pre (notes ++ final_notes k) (omega arith) quiet star_left
       ∙ ap (λ (ns : List Note). record b { notes = ns ++ final_notes d }) (append_assoc notes (final_notes k) (flat_map final_notes ls))
@@ -576,5 +576,5 @@ module _ (b : Board) (d : Record) (olds : AllByRecursion (LowRecord d.birth) b.r
 
   -- a device that comes free ends, with its further objects before it, in slot order, and all else is as before
   pub attempt-ends : (ss : List (List ℕ × Slot)) (ls : List Record) (notes : List Note) → IsStar n n ss ls
-      → finalise (star b d ss ls notes) n ≡ record b { notes = notes ++ flat_map final_notes ls ++ final_notes d }
+      → finalize (star b d ss ls notes) n ≡ record b { notes = notes ++ flat_map final_notes ls ++ final_notes d }
   attempt-ends ss ls notes is = end_of-first (star b d ss ls notes) n ∙ ends-all ss n ls [] notes (omega arith) tt is

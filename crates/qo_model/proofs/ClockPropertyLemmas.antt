@@ -17,14 +17,14 @@ use Rattle.qo_model.specs.declared.properties.Mark.TheVariants as mark
 use Rattle.qo_model.specs.declared.properties.Property.{Property}
 use Rattle.qo_model.specs.declared.properties.PropertyName.{PropertyName}
 use Rattle.qo_model.specs.declared.properties.PropertyName.TheVariants as prop
-use Rattle.qo_model.specs.declared.properties.RowKind.{RowKind}
-use Rattle.qo_model.specs.declared.properties.RowKind.TheVariants as row
+use Rattle.qo_model.specs.declared.properties.PropertyRole.{PropertyRole}
+use Rattle.qo_model.specs.declared.properties.PropertyRole.TheVariants as row
 use Rattle.qo_model.specs.Access.{write_at}
 use Rattle.qo_model.specs.Board.{Board, Slot, kind_of, slot_named, plain, child, strong, weak, alias}
 use Rattle.qo_model.specs.ClockChanges.{clock_scaled, clock_set}
-use Rattle.qo_model.specs.ClockProperties.{clock_property_written, in_slot, is_set, kind_written, led_by, led_to, number_written, only_set, own_property, set_property, set_row, typed_written}
+use Rattle.qo_model.specs.ClockProperties.{clock_property_written, in_slot, is_set, role_written, led_by, led_to, number_written, only_set, own_property, set_property, set_row, typed_written}
 use Rattle.qo_model.specs.Clocks.{div_of, mul_of}
-use Rattle.qo_model.specs.Properties.{object_at, row_of_property, write}
+use Rattle.qo_model.specs.Properties.{object_at, property_named, write}
 use Rattle.qo_model.specs.RowNames.{property_name}
 use Rattle.qo_model.specs.Types.{slots_of, types}
 
@@ -35,12 +35,12 @@ Fits prop.Div n = n < 2 ^ 32
 Fits name n = n < 2 ^ 64
 
 -- the type of the property takes no more
-abbrev FitsKind : PropertyName → RowKind → Type 0
+abbrev FitsKind : PropertyName → PropertyRole → Type 0
 FitsKind name (row.Plain t first) = (n : ℕ) → admits t (val.Uint n) ≡ true → Fits name n
 FitsKind name kind = Unit {0}
 
 abbrev FitsMark : Property → Mark → Type 0
-FitsMark p mark.Set = FitsKind p.name p.kind
+FitsMark p mark.Set = FitsKind p.name p.role
 FitsMark p m = Unit {0}
 
 abbrev FitsRow : Property → Type 0
@@ -94,7 +94,7 @@ found {X} P p (y ∷ ys) x (own, rest) e = go (p y) (found P p ys x rest) e
     go false more q = more q
 
 abbrev FitsProperty : Property → Type 0
-FitsProperty p = FitsKind p.name p.kind
+FitsProperty p = FitsKind p.name p.role
 
 only-fits : (q p : Property) → FitsRow q → only_set q ≡ Some p → FitsProperty p
 only-fits q p fits e = go q.mark fits e
@@ -108,13 +108,13 @@ only-fits q p fits e = go q.mark fits e
 row-fits : (b : Board) (n : ℕ) (name : List ℕ) (p : Property) → set_row b n name ≡ Some p → FitsProperty p
 row-fits b n name p e = of (kind_of b n) e
   where
-    by : (t : TypeId) (o : Option Property) → row_of_property t name ≡ o → option_and_then only_set o ≡ Some p → FitsProperty p
+    by : (t : TypeId) (o : Option Property) → property_named t name ≡ o → option_and_then only_set o ≡ Some p → FitsProperty p
     by t None is q = cc
     by t (Some row) is q = only-fits row p (found FitsRow (λ (x : Property). bytes_eq (property_name x.name) name) (slots_of t) row (rows-fit t) is) q
 
-    of : (k : Option TypeId) → option_and_then (λ t. option_and_then only_set (row_of_property t name)) k ≡ Some p → FitsProperty p
+    of : (k : Option TypeId) → option_and_then (λ t. option_and_then only_set (property_named t name)) k ≡ Some p → FitsProperty p
     of None q = cc
-    of (Some t) q = by t (row_of_property t name) refl q
+    of (Some t) q = by t (property_named t name) refl q
 
 slot-fits : (n : ℕ) (s : Slot) (o : Option Property) (q : ℕ × Property) → in_slot n s o ≡ Ok q → ((p : Property) → o ≡ Some p → FitsProperty p)
     → FitsProperty q.1
@@ -143,7 +143,7 @@ led-fits b n name q e = go (slot_named b n name) e
     go (Some (weak t target)) is = own-fits b n name q is
     go (Some (alias m of)) is = own-fits b m of q is
 
--- what is so behind each of these is so behind `qom-set`
+-- what is so after each of these is so after `qom-set`
 module _
     (P : Type 0) (b d : Board)
     (wrote : (n : ℕ) (name : List ℕ) (v : Val) → write b n name v ≡ Ok d → P)
@@ -168,7 +168,7 @@ module _
   typed-cases c name t (val.Text x) fits e = cc
   typed-cases c name t val.Nothing fits e = cc
 
-  kind-cases : (c : ℕ) (name : PropertyName) (kind : RowKind) (v : Val) → FitsKind name kind → kind_written b c name kind v ≡ Ok d → P
+  kind-cases : (c : ℕ) (name : PropertyName) (kind : PropertyRole) (v : Val) → FitsKind name kind → role_written b c name kind v ≡ Ok d → P
   kind-cases c name (row.Plain t first) v fits e = typed-cases c name t v fits e
   kind-cases c name (row.Child t) v fits e = cc
   kind-cases c name (row.Link t holds) v fits e = cc
@@ -178,7 +178,7 @@ module _
   set-cases n name v e = go (is_some (set_row b n name)) e
     where
       by : (r : Result (ℕ × Property) Code) → led_to b n name ≡ r → clock_property_written b v r ≡ Ok d → P
-      by (Ok p) is q = kind-cases p.0 p.1.name p.1.kind v (led-fits b n name p is) q
+      by (Ok p) is q = kind-cases p.0 p.1.name p.1.role v (led-fits b n name p is) q
       by (Err code) is q = cc
 
       go : (t : Bool) → cond t (clock_property_written b v (led_to b n name)) (write b n name v) ≡ Ok d → P

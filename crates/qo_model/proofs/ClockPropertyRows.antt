@@ -1,4 +1,4 @@
--- Worked rows of the numbers of clocks, read and written as properties: those of the system clock, and of a UART behind it.
+-- Worked rows of the numbers of clocks, read and written as properties: those of the system clock, and of a UART after it.
 use Rattle.std.proofs.Common.{◌≡◌, refl, ℕ, ◌^◌, ◌-◌, true, List, [], ◌∷◌, map, drop, codes, Option, Some, None, Ok, Err}
 use Rattle.qo_values.specs.Placing.{least}
 use Rattle.qo_values.specs.declared.codes.Code.{Code}
@@ -11,7 +11,7 @@ use Rattle.qo_model.specs.ClockProperties.{set_property}
 use Rattle.qo_model.specs.Clocks.{acted, clocks_below, period}
 use Rattle.qo_model.specs.Devices.{depth_of, is_going}
 use Rattle.qo_model.specs.Opening.{opening_board}
-use Rattle.qo_model.specs.Paths.{attached, steps_to}
+use Rattle.qo_model.specs.Paths.{attached, path_down_to}
 use Rattle.qo_model.specs.Plug.{plug}
 use Rattle.qo_model.specs.Properties.{value_of}
 use Rattle.qo_model.specs.Release.{drop_slot, finish, let_go, pin, unpin}
@@ -29,7 +29,7 @@ written name n b = elim (set_property b 5 name (val.Uint n)) [ Ok c ↦ c | Err 
 abbrev refusal : ℕ → List ℕ → Val → Board → Option Code
 refusal n name v b = elim (set_property b n name v) [ Ok c ↦ None | Err code ↦ Some code ]
 
--- what is noted behind the UART's own notes, as word and birth; and what is read of its clock's period, by either name
+-- what is noted after the UART's own notes, as word and birth; and what is read of its clock's period, by either name
 abbrev noted : Board → List (List ℕ × ℕ)
 noted b = map told (drop 8 b.notes)
 
@@ -52,7 +52,8 @@ refusals :
     ∷ refusal 5 (codes "period") (val.Uint 1) uart
     ∷ []
     ≡ Some E17 ∷ Some E18 ∷ Some E18 ∷ Some E19 ∷ Some E19 ∷ Some E19 ∷ Some E19 ∷ Some E45 ∷ Some E45 ∷ Some E46 ∷ Some E47 ∷ None ∷ []
-unfolding types opening_board steps_to attached drop_slot finish let_go pin unpin add set acted period clocks_below depth_of is_going plug plugged post least
+unfolding types opening_board path_down_to attached drop_slot finish let_go pin unpin add set acted period clocks_below depth_of is_going plug plugged post
+    least
 refusals = refl
 
 -- the greatest period, nothing of it, a third of it that is nothing too, all of it, and less of it, which is nothing again
@@ -71,11 +72,13 @@ reads-all : reads most ∷ reads stopped ∷ reads slow ∷ reads (written (code
     ∷ (Some (val.Uint 1) ∷ Some (val.Uint 1) ∷ [])
     ∷ (Some (val.Uint 1) ∷ Some (val.Uint 1) ∷ [])
     ∷ []
-unfolding types opening_board steps_to attached drop_slot finish let_go pin unpin add set acted period clocks_below depth_of is_going plug plugged post least
+unfolding types opening_board path_down_to attached drop_slot finish let_go pin unpin add set acted period clocks_below depth_of is_going plug plugged post
+    least
 reads-all = refl
 
 -- the UART is called back where its period changes, and only there
 noted-all : noted (written (codes "period") 2 slow) ≡
     (codes "pre", 9) ∷ (codes "update", 9) ∷ (codes "pre", 9) ∷ (codes "update", 9) ∷ (codes "pre", 9) ∷ (codes "update", 9) ∷ []
-unfolding types opening_board steps_to attached drop_slot finish let_go pin unpin add set acted period clocks_below depth_of is_going plug plugged post least
+unfolding types opening_board path_down_to attached drop_slot finish let_go pin unpin add set acted period clocks_below depth_of is_going plug plugged post
+    least
 noted-all = refl

@@ -5,30 +5,31 @@ use Rattle.qo_values.specs.declared.births.TheConstants.{OBJECTS_BIRTH}
 use Rattle.qo_values.specs.declared.kinds.TypeId.{TypeId}
 use Rattle.qo_model.specs.Board.{Board, Slot, plain, child, strong, weak, alias, is_live, slot_at, slots_at}
 use Rattle.qo_values.specs.declared.codes.Code.{Code}
-use Rattle.qo_model.specs.Types.{TypeRow, row_named}
-use Rattle.qo_model.specs.Objects.{Given, added_as, added_by, barred, object_add, refusal_of, is_object_named, object_del, place_from, sever, severed_from}
+use Rattle.qo_model.specs.Types.{TypeInfo, type_named}
+use Rattle.qo_model.specs.Objects.{Given, added_as, added_by, barred, object_add, refusal_of, is_object_named, object_del, index_from, sever, severed_from}
 use Rattle.qo_model.specs.Paths.{attached}
 use Rattle.qo_model.specs.Release.{let_go, pin, unpin}
 
 module _ (P : Board → Type 0) where
   pub addition-comes : (b : Board) (driver id : List ℕ) (props : List Given) → P b
-      → ((row : TypeRow) → barred b row id ≡ None → (refusal : Option Code) → refusal_of b row.id props ≡ refusal → P (added_as b row.id id props refusal).board)
+      → ((row : TypeInfo) → barred b row id ≡ None → (refusal : Option Code) → refusal_of b row.id props ≡ refusal
+      → P (added_as b row.id id props refusal).board)
       → P (object_add b driver id props).board
-  addition-comes b driver id props none comes = go (row_named driver) refl
+  addition-comes b driver id props none comes = go (type_named driver) refl
     where
-      by : (row : TypeRow) (o : Option Code) → barred b row id ≡ o → P (added_by b row id props o).board
+      by : (row : TypeInfo) (o : Option Code) → barred b row id ≡ o → P (added_by b row id props o).board
       by row (Some code) e = none
       by row None e = comes row e (refusal_of b row.id props) refl
 
-      go : (row : Option TypeRow) → row_named driver ≡ row → P (object_add b driver id props).board
+      go : (row : Option TypeInfo) → type_named driver ≡ row → P (object_add b driver id props).board
       go None p = rw (object_add, p) none
       go (Some row) p = rw (object_add, p) (by row (barred b row id) refl)
 
   pub deletion-comes : (b : Board) (id : List ℕ) → P b
-      → ((i : ℕ) → place_from (is_object_named id) 0 (slots_at b OBJECTS_BIRTH) ≡ Some i → P (let_go b OBJECTS_BIRTH i)) → P (object_del b id).board
-  deletion-comes b id none gone = go (place_from (is_object_named id) 0 (slots_at b OBJECTS_BIRTH)) refl
+      → ((i : ℕ) → index_from (is_object_named id) 0 (slots_at b OBJECTS_BIRTH) ≡ Some i → P (let_go b OBJECTS_BIRTH i)) → P (object_del b id).board
+  deletion-comes b id none gone = go (index_from (is_object_named id) 0 (slots_at b OBJECTS_BIRTH)) refl
     where
-      go : (place : Option ℕ) → place_from (is_object_named id) 0 (slots_at b OBJECTS_BIRTH) ≡ place → P (object_del b id).board
+      go : (place : Option ℕ) → index_from (is_object_named id) 0 (slots_at b OBJECTS_BIRTH) ≡ place → P (object_del b id).board
       go None p = rw (object_del, p) none
       go (Some i) p = rw (object_del, p) (gone i p)
 

@@ -11,7 +11,7 @@ pub one-less : (n : ℕ) → (n ≡ 0 → ⊥) → n ≡ suc (n - 1)
 one-less zero not_zero = absurd (not_zero refl)
 one-less (suc n) not_zero = omega arith
 
--- one step more behind others
+-- one step more after others
 pub Leads-push : {next : ℕ → List ℕ} {n m k : ℕ} → Leads next n m → leads next m k ≡ true → Leads next n k
 Leads-push (one e) s = more e (one s)
 Leads-push (more e l) s = more e (Leads-push l s)
@@ -80,7 +80,7 @@ module _ (next : ℕ → List ℕ) (all : List ℕ) (tree : IsTree next all) whe
       omega arith
 
 module _ {A : Type 0} (next : ℕ → List ℕ) (turn : (ℕ → A) → ℕ → A) (base : ℕ → A) (all : List ℕ) (local : IsLocal next turn) (tree : IsTree next all) where
-  -- behind d passed objects a depth that leaves room for the others is enough
+  -- after d passed objects a depth that leaves room for the others is enough
   enough : (depth : ℕ) (m : ℕ) (passed : List ℕ) → IsWay next all tree passed m → length all ≤ length passed + depth
       → by_depth turn base depth m ≡ by_depth turn base (suc depth) m
   enough zero m passed w room = absurd (let long : length passed + 1 ≤ length all = way-length next all tree m passed w in omega arith)

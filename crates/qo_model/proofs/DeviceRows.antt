@@ -15,9 +15,9 @@ use Rattle.std.specs.Option.{option_map_or}
 use Rattle.qo_values.specs.Kinds.{type_name}
 use Rattle.qo_model.specs.Objects.{Given, object_add}
 use Rattle.qo_model.specs.Opening.{opening_board}
-use Rattle.qo_model.specs.Paths.{attached, births, steps_to}
+use Rattle.qo_model.specs.Paths.{attached, births, path_down_to}
 use Rattle.qo_model.specs.Plug.{Wanted, Plugged, plug}
-use Rattle.qo_model.specs.Release.{drop_slot, finish, finalise, finalise_within, let_go, pin, unpin}
+use Rattle.qo_model.specs.Release.{drop_slot, finish, finalize, finalize_within, let_go, pin, unpin}
 use Rattle.qo_model.specs.Reset.{held, plugged, post, pulse, released}
 use Rattle.qo_model.specs.Types.{types}
 use Rattle.qo_model.specs.Unplug.{apart_within, detach, unrealize}
@@ -42,7 +42,7 @@ one-notes : map told one.notes
     ≡ (codes "init", 9, codes "device") ∷ (codes "init", 9, codes "slot-device") ∷ (codes "init", 9, codes "slot-bridge") ∷ (codes "init", 10, codes "clock")
     ∷ (codes "init", 11, codes "bus") ∷ (codes "init", 11, codes "slot-bus") ∷ (codes "realize", 9, []) ∷ (codes "realize", 11, []) ∷ (codes "enter", 11, [])
     ∷ (codes "enter", 9, []) ∷ (codes "hold", 11, []) ∷ (codes "hold", 9, []) ∷ (codes "exit", 11, []) ∷ (codes "exit", 9, []) ∷ []
-unfolding types opening_board steps_to attached drop_slot finish finalise finalise_within let_go pin unpin add set cut acted period clocks_below depth_of
+unfolding types opening_board path_down_to attached drop_slot finish finalize finalize_within let_go pin unpin add set cut acted period clocks_below depth_of
     is_going plug plugged post held released pulse least
 one-notes = refl
 
@@ -51,7 +51,7 @@ abbrev taken : Plugged
 taken = plug one (with ((codes "slot", val.Uint 0) ∷ []) (wanted (codes "slot-bridge") (codes "c")))
 
 taken-code : taken.refusal ≡ Some (5, E29)
-unfolding types opening_board steps_to attached drop_slot finish finalise finalise_within let_go pin unpin add set cut acted period clocks_below depth_of
+unfolding types opening_board path_down_to attached drop_slot finish finalize finalize_within let_go pin unpin add set cut acted period clocks_below depth_of
     is_going plug plugged post held released pulse least
 taken-code = refl
 
@@ -59,7 +59,7 @@ taken-notes : map told (drop 14 taken.board.notes) ≡ (codes "init", 12, codes 
     ∷ (codes "init", 12, codes "slot-bridge") ∷ (codes "init", 13, codes "clock") ∷ (codes "init", 14, codes "bus") ∷ (codes "init", 14, codes "slot-bus")
     ∷ (codes "final", 13, codes "clock") ∷ (codes "final", 14, codes "slot-bus") ∷ (codes "final", 14, codes "bus") ∷ (codes "final", 12, codes "slot-bridge")
     ∷ (codes "final", 12, codes "slot-device") ∷ (codes "final", 12, codes "device") ∷ []
-unfolding types opening_board steps_to attached drop_slot finish finalise finalise_within let_go pin unpin add set cut acted period clocks_below depth_of
+unfolding types opening_board path_down_to attached drop_slot finish finalize finalize_within let_go pin unpin add set cut acted period clocks_below depth_of
     is_going plug plugged post held released pulse least
 taken-notes = refl
 
@@ -68,7 +68,7 @@ abbrev two : Board
 two = (plug one (on (codes "br/bus.0") (wanted (codes "slot-bridge") (codes "nb")))).board
 
 two-births : births two ≡ 1 ∷ 2 ∷ 3 ∷ 4 ∷ 5 ∷ 6 ∷ 7 ∷ 8 ∷ 9 ∷ 10 ∷ 11 ∷ 12 ∷ 13 ∷ 14 ∷ []
-unfolding types opening_board steps_to attached drop_slot finish finalise finalise_within let_go pin unpin add set cut acted period clocks_below depth_of
+unfolding types opening_board path_down_to attached drop_slot finish finalize finalize_within let_go pin unpin add set cut acted period clocks_below depth_of
     is_going plug plugged post held released pulse least
 two-births = refl
 
@@ -77,17 +77,17 @@ removed-notes : map told (drop 28 (detach two 9).notes) ≡ (codes "unrealize", 
     ∷ (codes "final", 12, codes "slot-bridge") ∷ (codes "final", 12, codes "slot-device") ∷ (codes "final", 12, codes "device")
     ∷ (codes "final", 11, codes "slot-bus") ∷ (codes "final", 11, codes "bus") ∷ (codes "final", 10, codes "clock") ∷ (codes "final", 9, codes "slot-bridge")
     ∷ (codes "final", 9, codes "slot-device") ∷ (codes "final", 9, codes "device") ∷ []
-unfolding types opening_board steps_to attached drop_slot finish finalise finalise_within let_go pin unpin add set cut acted period clocks_below depth_of
+unfolding types opening_board path_down_to attached drop_slot finish finalize finalize_within let_go pin unpin add set cut acted period clocks_below depth_of
     is_going plug plugged post held released pulse least unrealize apart_within detach
 removed-notes = refl
 
 removed-events : map (λ (e : DeviceEvent). e.path) (detach two 9).events ≡ codes "/machine/peripheral/nb" ∷ codes "/machine/peripheral/br" ∷ []
-unfolding types opening_board steps_to attached drop_slot finish finalise finalise_within let_go pin unpin add set cut acted period clocks_below depth_of
+unfolding types opening_board path_down_to attached drop_slot finish finalize finalize_within let_go pin unpin add set cut acted period clocks_below depth_of
     is_going plug plugged post held released pulse least unrealize apart_within detach
 removed-events = refl
 
 removed-rest : (detach two 9).records ≡ opening_board.records
-unfolding types opening_board steps_to attached drop_slot finish finalise finalise_within let_go pin unpin add set cut acted period clocks_below depth_of
+unfolding types opening_board path_down_to attached drop_slot finish finalize finalize_within let_go pin unpin add set cut acted period clocks_below depth_of
     is_going plug plugged post held released pulse least unrealize apart_within detach
 removed-rest = refl
 
@@ -101,7 +101,7 @@ eight = deeper (codes "b8") (codes "b7/bus.0") (deeper (codes "b7") (codes "b6/b
     (deeper (codes "b3") (codes "b2/bus.0") (deeper (codes "b2") (codes "b1/bus.0") (plug opening_board (wanted (codes "slot-bridge") (codes "b1"))).board))))))
 
 ninth : (plug eight (on (codes "b8/bus.0") (wanted (codes "slot-bridge") (codes "b9")))).refusal ≡ Some (5, E42)
-unfolding types opening_board steps_to attached drop_slot finish finalise finalise_within let_go pin unpin add set cut acted period clocks_below depth_of
+unfolding types opening_board path_down_to attached drop_slot finish finalize finalize_within let_go pin unpin add set cut acted period clocks_below depth_of
     is_going plug plugged post held released pulse least unrealize apart_within detach
 ninth = refl
 
@@ -126,7 +126,7 @@ refused-codes : map code_of
     ∷ with ((codes "chardev", val.Text (codes "no")) ∷ []) (wanted (codes "slot-uart") (codes "a"))
     ∷ []) ≡ Some (1, E20) ∷ Some (1, E21) ∷ Some (1, E22) ∷ Some (2, E23) ∷ Some (2, E24) ∷ Some (2, E24) ∷ Some (3, E26) ∷ Some (3, E25) ∷ Some (4, E17)
     ∷ Some (4, E18) ∷ Some (4, E19) ∷ Some (5, E28) ∷ Some (5, E38) ∷ Some (6, E36) ∷ []
-unfolding types opening_board steps_to attached drop_slot finish finalise finalise_within let_go pin unpin add set cut acted period clocks_below depth_of
+unfolding types opening_board path_down_to attached drop_slot finish finalize finalize_within let_go pin unpin add set cut acted period clocks_below depth_of
     is_going plug plugged post held released pulse least unrealize apart_within detach
 refused-codes = refl
 
@@ -140,11 +140,11 @@ held-notes : map told (drop 14 (released (released (held timed 2) 9) 2).notes) �
     ∷ (codes "realize", 12, []) ∷ (codes "enter", 12, []) ∷ (codes "hold", 12, [])
     ∷ (codes "enter", 6, []) ∷ (codes "enter", 7, []) ∷ (codes "enter", 2, []) ∷ (codes "hold", 6, []) ∷ (codes "hold", 7, []) ∷ (codes "hold", 2, [])
     ∷ (codes "exit", 12, []) ∷ (codes "exit", 11, []) ∷ (codes "exit", 9, []) ∷ (codes "exit", 6, []) ∷ (codes "exit", 7, []) ∷ (codes "exit", 2, []) ∷ []
-unfolding types opening_board steps_to attached drop_slot finish finalise finalise_within let_go pin unpin add set cut acted period clocks_below depth_of
+unfolding types opening_board path_down_to attached drop_slot finish finalize finalize_within let_go pin unpin add set cut acted period clocks_below depth_of
     is_going plug plugged post held released pulse least unrealize apart_within detach
 held-notes = refl
 
--- the system clock is written: the notes behind the first eight, or the code that refuses it
+-- the system clock is written: the notes after the first eight, or the code that refuses it
 abbrev uart : Board
 uart = (plug opening_board (wanted (codes "slot-uart") (codes "u"))).board
 
@@ -153,28 +153,28 @@ notes_or_code (Ok b) = (map told (drop 8 b.notes), None)
 notes_or_code (Err code) = ([], Some code)
 
 clock-notes : notes_or_code (clock_set uart 5 (2 ^ 64 - 1)) ≡ ((codes "pre", 9, []) ∷ (codes "update", 9, []) ∷ [], None)
-unfolding types opening_board steps_to attached drop_slot finish finalise finalise_within let_go pin unpin add set cut acted period clocks_below depth_of
+unfolding types opening_board path_down_to attached drop_slot finish finalize finalize_within let_go pin unpin add set cut acted period clocks_below depth_of
     is_going plug plugged post held released pulse least unrealize apart_within detach
 clock-notes = refl
 
 clock-over : notes_or_code (then_scaled 5 2 1 (clock_set uart 5 (2 ^ 64 - 1))) ≡ ([], Some E47)
-unfolding types opening_board steps_to attached drop_slot finish finalise finalise_within let_go pin unpin add set cut acted period clocks_below depth_of
+unfolding types opening_board path_down_to attached drop_slot finish finalize finalize_within let_go pin unpin add set cut acted period clocks_below depth_of
     is_going plug plugged post held released pulse least unrealize apart_within detach
 clock-over = refl
 
 -- nobody is called back where no period changes
 clock-stopped : notes_or_code (then_set 5 3 (then_scaled 5 0 2 (clock_scaled uart 5 0 1))) ≡ ((codes "pre", 9, []) ∷ (codes "update", 9, []) ∷ [], None)
-unfolding types opening_board steps_to attached drop_slot finish finalise finalise_within let_go pin unpin add set cut acted period clocks_below depth_of
+unfolding types opening_board path_down_to attached drop_slot finish finalize finalize_within let_go pin unpin add set cut acted period clocks_below depth_of
     is_going plug plugged post held released pulse least unrealize apart_within detach
 clock-stopped = refl
 
 clock-sourced : notes_or_code (clock_set uart 10 1) ≡ ([], Some E45)
-unfolding types opening_board steps_to attached drop_slot finish finalise finalise_within let_go pin unpin add set cut acted period clocks_below depth_of
+unfolding types opening_board path_down_to attached drop_slot finish finalize finalize_within let_go pin unpin add set cut acted period clocks_below depth_of
     is_going plug plugged post held released pulse least unrealize apart_within detach
 clock-sourced = refl
 
 clock-undivided : notes_or_code (clock_scaled uart 5 1 0) ≡ ([], Some E46)
-unfolding types opening_board steps_to attached drop_slot finish finalise finalise_within let_go pin unpin add set cut acted period clocks_below depth_of
+unfolding types opening_board path_down_to attached drop_slot finish finalize finalize_within let_go pin unpin add set cut acted period clocks_below depth_of
     is_going plug plugged post held released pulse least unrealize apart_within detach
 clock-undivided = refl
 
@@ -186,12 +186,12 @@ abbrev dimm_given : Wanted
 dimm_given = with ((codes "addr", val.Uint 4294967296) ∷ (codes "memdev", val.Text (codes "/objects/m1")) ∷ []) (wanted (codes "mem-dimm") (codes "d"))
 
 dimm-added : (plug backed dimm_given).refusal ≡ None
-unfolding types opening_board steps_to attached drop_slot finish finalise finalise_within let_go pin unpin add set cut acted period clocks_below depth_of
+unfolding types opening_board path_down_to attached drop_slot finish finalize finalize_within let_go pin unpin add set cut acted period clocks_below depth_of
     is_going plug plugged post held released pulse least
 dimm-added = refl
 
 dimm-slots : map (λ (s : List ℕ × Slot). s.1) (drop 6 (slots_at (plug backed dimm_given).board 10))
     ≡ strong MemoryBackend (Some 9) ∷ plain (val.Uint 4294967296) ∷ []
-unfolding types opening_board steps_to attached drop_slot finish finalise finalise_within let_go pin unpin add set cut acted period clocks_below depth_of
+unfolding types opening_board path_down_to attached drop_slot finish finalize finalize_within let_go pin unpin add set cut acted period clocks_below depth_of
     is_going plug plugged post held released pulse least
 dimm-slots = refl

@@ -1,4 +1,4 @@
--- A device that was made, property by property, as one record with its further objects behind it; and that it leaves exactly its notes where it is given up.
+-- A device that was made, property by property, as one record with its further objects after it; and that it leaves exactly its notes where it is given up.
 use Rattle.std.proofs.Common.{◌≡◌, refl, ap, ap₂, sym, subst, ◌∙◌, ℕ, suc, ◌+◌, ◌<◌, ◌≤◌, true, false, ◌==◌, List, [], ◌∷◌, ◌++◌, map, filter_map, length, append_assoc, append-nil, Option, Some, None, option_map, arith}
 use Rattle.std.specs.Prelude.{drop, take}
 use Rattle.std.specs.List.{AllByRecursion, flat_map}
@@ -12,13 +12,13 @@ use Rattle.qo_model.specs.Changes.{add, fresh, with_added}
 use Rattle.qo_model.specs.FinalNotes.{ending}
 use Rattle.qo_model.specs.Objects.{init_notes}
 use Rattle.qo_model.specs.Opening.{first_slot, first_value, fresh_record, fresh_slots}
-use Rattle.qo_model.specs.Plug.{aliased, begun_notes, born_from, cut_attempt, cut_order, device_last, drafted, ended_notes, further_in, owned, plug_attempt, row_made, rows_made, types_in, with_ended, with_kid, with_new}
-use Rattle.qo_model.specs.Release.{edited, final_notes, finalise}
+use Rattle.qo_model.specs.Plug.{aliased, begun_notes, born_from, cut_attempt, cut_order, device_last, drafted, ended_notes, further_in, owned, plug_attempt, property_made, properties_made, types_in, with_ended, with_kid, with_new}
+use Rattle.qo_model.specs.Release.{edited, final_notes, finalize}
 use Rattle.qo_model.specs.Types.{slots_of}
 use Rattle.qo_model.specs.RowNames.{property_name}
 use Rattle.qo_model.specs.declared.properties.Property.{Property}
-use Rattle.qo_model.specs.declared.properties.RowKind.{RowKind}
-use Rattle.qo_model.specs.declared.properties.RowKind.TheVariants as row
+use Rattle.qo_model.specs.declared.properties.PropertyRole.{PropertyRole}
+use Rattle.qo_model.specs.declared.properties.PropertyRole.TheVariants as row
 use Rattle.qo_model.proofs.AttemptLemmas.{BareKid, BareSlot, IsStar, LowRecord, LowSlot, attempt-ends, kids-unheld, pins-apart, records-edited, records-unheld, star-kids, star-unheld}
 use Rattle.qo_model.specs.References.{refs, refs_in}
 use Rattle.std.proofs.lemmas.List.Sums.{sum_by-cons, sum_by-append}
@@ -97,24 +97,24 @@ kids-low j m (k ∷ ks) le = (omega (arith, le), kids-low j (suc m) ks (omega (a
 -- a new further object names nothing
 bare-slots : (n : ℕ) (t : TypeId) (ps : List Property)
     → AllByRecursion (λ (s : List ℕ × Slot). BareSlot n s.1)
-    (filter_map (λ (p : Property). option_map (λ (s : Slot). (property_name p.name, s)) (first_slot (λ _. None) t (property_name p.name) p.kind)) ps)
+    (filter_map (λ (p : Property). option_map (λ (s : Slot). (property_name p.name, s)) (first_slot (λ _. None) t (property_name p.name) p.role)) ps)
 bare-slots n t [] = tt
-bare-slots n t (p ∷ ps) = go (first_slot (λ _. None) t (property_name p.name) p.kind) refl (bare-slots n t ps)
+bare-slots n t (p ∷ ps) = go (first_slot (λ _. None) t (property_name p.name) p.role) refl (bare-slots n t ps)
   where
-    bare : (kind : RowKind) (s : Slot) → first_slot (λ _. None) t (property_name p.name) kind ≡ Some s → BareSlot n s
+    bare : (kind : PropertyRole) (s : Slot) → first_slot (λ _. None) t (property_name p.name) kind ≡ Some s → BareSlot n s
     bare (row.Plain type first) s e = subst (BareSlot n) (same_Some (plain (first_value t first)) s e) (record { empty = refl; low = tt })
     bare (row.Link target true) s e = subst (BareSlot n) (same_Some (strong target None) s e) (record { empty = refl; low = tt })
     bare (row.Link target false) s e = subst (BareSlot n) (same_Some (weak target None) s e) (record { empty = refl; low = tt })
     bare (row.Child type) s e = absurd (let clash : None ≡ Some s = e in cc)
     bare (row.Alias owner property) s e = absurd (let clash : None ≡ Some s = e in cc)
 
-    go : (o : Option Slot) → first_slot (λ _. None) t (property_name p.name) p.kind ≡ o
+    go : (o : Option Slot) → first_slot (λ _. None) t (property_name p.name) p.role ≡ o
         → AllByRecursion (λ (s : List ℕ × Slot). BareSlot n s.1)
-        (filter_map (λ (q : Property). option_map (λ (s : Slot). (property_name q.name, s)) (first_slot (λ _. None) t (property_name q.name) q.kind)) ps)
+        (filter_map (λ (q : Property). option_map (λ (s : Slot). (property_name q.name, s)) (first_slot (λ _. None) t (property_name q.name) q.role)) ps)
         → AllByRecursion (λ (s : List ℕ × Slot). BareSlot n s.1)
-        (filter_map (λ (q : Property). option_map (λ (s : Slot). (property_name q.name, s)) (first_slot (λ _. None) t (property_name q.name) q.kind)) (p ∷ ps))
+        (filter_map (λ (q : Property). option_map (λ (s : Slot). (property_name q.name, s)) (first_slot (λ _. None) t (property_name q.name) q.role)) (p ∷ ps))
     go None e rest = rw e rest
-    go (Some s) e rest = rw e (bare p.kind s e, rest)
+    go (Some s) e rest = rw e (bare p.role s e, rest)
 
 bare-fresh : (n m : ℕ) (t : TypeId) → BareKid n (fresh_record m t)
 bare-fresh n m t = record { slots = bare-slots n t (slots_of t); no_path = refl }
@@ -194,26 +194,27 @@ module _ (b : Board) (n : ℕ) (t : TypeId) (low : AllByRecursion (LowRecord n) 
   draft-alias name property (Some m) ks c h = draft-slot name (alias m property) ks c (λ lo. tt) h
 
   -- property by property
-  pub draft-rows : (ps : List Property) (ks : List TypeId) (c : Board) → IsDraft b n t ks c → IsDraft b n t (ks ++ kinds_in ps) (rows_made n t ps c)
+  pub draft-rows : (ps : List Property) (ks : List TypeId) (c : Board) → IsDraft b n t ks c → IsDraft b n t (ks ++ kinds_in ps) (properties_made n t ps c)
   draft-rows [] ks c h = subst (λ (x : List TypeId). IsDraft b n t x c) (sym (append-nil ks)) h
-  draft-rows (p ∷ ps) ks c h = go p.kind refl (draft-rows ps)
+  draft-rows (p ∷ ps) ks c h = go p.role refl (draft-rows ps)
     where
       Rest : Type 0
-      Rest = (x : List TypeId) (e : Board) → IsDraft b n t x e → IsDraft b n t (x ++ kinds_in ps) (rows_made n t ps e)
+      Rest = (x : List TypeId) (e : Board) → IsDraft b n t x e → IsDraft b n t (x ++ kinds_in ps) (properties_made n t ps e)
 
-      go : (kind : RowKind) → p.kind ≡ kind → ((x : List TypeId) (e : Board) → IsDraft b n t x e → IsDraft b n t (x ++ kinds_in ps) (rows_made n t ps e))
-          → IsDraft b n t (ks ++ kinds_in (p ∷ ps)) (rows_made n t (p ∷ ps) c)
+      go : (kind : PropertyRole) → p.role ≡ kind
+          → ((x : List TypeId) (e : Board) → IsDraft b n t x e → IsDraft b n t (x ++ kinds_in ps) (properties_made n t ps e))
+          → IsDraft b n t (ks ++ kinds_in (p ∷ ps)) (properties_made n t (p ∷ ps) c)
       go (row.Plain type first) e rest =
-          rw e (rest ks (row_made n t (property_name p.name) (row.Plain type first) c)
+          rw e (rest ks (property_made n t (property_name p.name) (row.Plain type first) c)
           (draft-slot (property_name p.name) (plain (first_value t first)) ks c (λ lo. tt) h))
       go (row.Link target true) e rest =
-          rw e (rest ks (row_made n t (property_name p.name) (row.Link target true) c)
+          rw e (rest ks (property_made n t (property_name p.name) (row.Link target true) c)
           (draft-slot (property_name p.name) (strong target None) ks c (λ lo. tt) h))
       go (row.Link target false) e rest =
-          rw e (rest ks (row_made n t (property_name p.name) (row.Link target false) c)
+          rw e (rest ks (property_made n t (property_name p.name) (row.Link target false) c)
           (draft-slot (property_name p.name) (weak target None) ks c (λ lo. (tt, tt)) h))
       go (row.Child type) e rest =
-          rw e (subst (λ (x : List TypeId). IsDraft b n t x (rows_made n t ps (with_kid n (property_name p.name) type c)))
+          rw e (subst (λ (x : List TypeId). IsDraft b n t x (properties_made n t ps (with_kid n (property_name p.name) type c)))
           (append_assoc ks (type ∷ []) (kinds_in ps))
           (rest (ks ++ type ∷ []) (with_kid n (property_name p.name) type c) (draft-kid (property_name p.name) type ks c h)))
       go (row.Alias owner of) e rest =
@@ -251,9 +252,9 @@ born-length m (k ∷ ks) = ap suc (born-length (suc m) ks)
 -- a draft that comes free
 pub draft-ends : (b : Board) (t : TypeId) (ks : List TypeId) (c : Board) → AllByRecursion (LowRecord (b.born + 1)) b.records
     → AllByRecursion (λ p. p < b.born + 1) b.pins → IsDraft b (b.born + 1) t ks c
-    → finalise c (b.born + 1) ≡ with_ended b (born_from (b.born + 1) (t ∷ ks)) [] (device_last (born_from (b.born + 1) (t ∷ ks)))
+    → finalize c (b.born + 1) ≡ with_ended b (born_from (b.born + 1) (t ∷ ks)) [] (device_last (born_from (b.born + 1) (t ∷ ks)))
 draft-ends b t ks c low pins h =
-    ap (λ (x : Board). finalise x (b.born + 1)) h.shape
+    ap (λ (x : Board). finalize x (b.born + 1)) h.shape
     ∙ attempt-ends (record b { born = b.born + 1 + length ks }) (fresh (b.born + 1) t) low pins refl h.slots (kids_from (suc (b.born + 1)) ks)
     (b.notes ++ begun_notes (born_from (b.born + 1) (t ∷ ks))) h.star_is
     ∙ (λ i. record b { born = born i; notes = notes i })
@@ -279,7 +280,7 @@ add-suc k = omega arith
 
 -- all properties: an attempt that was refused
 pub drafted-ends : (b : Board) (t : TypeId) (m stage : ℕ) → AllByRecursion (LowRecord (b.born + 1)) b.records → AllByRecursion (λ p. p < b.born + 1) b.pins
-    → (stage == 8) ≡ false → finalise (drafted b t) (b.born + 1) ≡ plug_attempt b t m stage
+    → (stage == 8) ≡ false → finalize (drafted b t) (b.born + 1) ≡ plug_attempt b t m stage
 drafted-ends b t m stage low pins early =
     draft-ends b t (kinds_in (slots_of t)) (drafted b t) low pins
     (draft-rows b (b.born + 1) t low (slots_of t) [] (with_new (fresh (b.born + 1) t) b) (draft-begun b t))
@@ -302,9 +303,9 @@ take-born m (k ∷ ks) js = ap (λ (os : List (ℕ × TypeId)). (m, k) ∷ os) (
 
 pub drafted-cut : (b : Board) (t : TypeId) (ps qs : List Property) → slots_of t ≡ ps ++ qs → AllByRecursion (LowRecord (b.born + 1)) b.records
     → AllByRecursion (λ p. p < b.born + 1) b.pins
-    → finalise (rows_made (b.born + 1) t ps (with_new (fresh (b.born + 1) t) b)) (b.born + 1) ≡ cut_attempt b t (suc (length (kinds_in ps))) true
+    → finalize (properties_made (b.born + 1) t ps (with_new (fresh (b.born + 1) t) b)) (b.born + 1) ≡ cut_attempt b t (suc (length (kinds_in ps))) true
 drafted-cut b t ps qs split low pins =
-    draft-ends b t (kinds_in ps) (rows_made (b.born + 1) t ps (with_new (fresh (b.born + 1) t) b)) low pins
+    draft-ends b t (kinds_in ps) (properties_made (b.born + 1) t ps (with_new (fresh (b.born + 1) t) b)) low pins
     (draft-rows b (b.born + 1) t low ps [] (with_new (fresh (b.born + 1) t) b) (draft-begun b t))
     ∙ ap (λ (os : List (ℕ × TypeId)). with_ended b os [] (device_last os)) objects
   where
@@ -407,10 +408,10 @@ draft-low b t ks c low h =
     born : c.born ≡ b.born + 1 + length ks
     born = ap (λ (x : Board). x.born) h.shape
 
--- an object that was made behind others that do not name it, and that holds nothing, leaves its notes
+-- an object that was made after others that do not name it, and that holds nothing, leaves its notes
 pub kid-ends : (k : TypeId) (ss : List (List ℕ × Slot)) (c : Board) → AllByRecursion (LowRecord (c.born + 1)) c.records
     → AllByRecursion (λ p. p < c.born + 1) c.pins → IsStar (c.born + 1) (c.born + 1) ss []
-    → finalise (with_new (record (fresh (c.born + 1) k) { slots = ss }) c) (c.born + 1)
+    → finalize (with_new (record (fresh (c.born + 1) k) { slots = ss }) c) (c.born + 1)
     ≡ record c { born = c.born + 1; notes = c.notes ++ init_notes (c.born + 1) k ++ ending (c.born + 1) k }
 kid-ends k ss c low pins star_is =
     attempt-ends (record c { born = c.born + 1 }) (fresh (c.born + 1) k) low pins refl ss [] (c.notes ++ init_notes (c.born + 1) k) star_is
@@ -435,10 +436,10 @@ kid-free k ss c low pins star_is =
 -- and then the device with those that were joined
 pub unjoined-ends : (b : Board) (t : TypeId) (ks : List TypeId) (k : TypeId) (c : Board) → AllByRecursion (LowRecord (b.born + 1)) b.records
     → AllByRecursion (λ p. p < b.born + 1) b.pins → IsDraft b (b.born + 1) t ks c
-    → finalise (record c { born = c.born + 1; notes = c.notes ++ init_notes (c.born + 1) k ++ ending (c.born + 1) k }) (b.born + 1)
+    → finalize (record c { born = c.born + 1; notes = c.notes ++ init_notes (c.born + 1) k ++ ending (c.born + 1) k }) (b.born + 1)
     ≡ with_ended b (born_from (b.born + 1) (t ∷ ks ++ k ∷ [])) [] ((b.born + 1 + length ks + 1, k) ∷ device_last (born_from (b.born + 1) (t ∷ ks)))
 unjoined-ends b t ks k c low pins h =
-    ap (λ (x : Board). finalise (record x { born = x.born + 1; notes = x.notes ++ init_notes (x.born + 1) k ++ ending (x.born + 1) k }) (b.born + 1)) h.shape
+    ap (λ (x : Board). finalize (record x { born = x.born + 1; notes = x.notes ++ init_notes (x.born + 1) k ++ ending (x.born + 1) k }) (b.born + 1)) h.shape
     ∙ attempt-ends (record b { born = j }) (fresh (b.born + 1) t) low pins refl h.slots (kids_from (suc (b.born + 1)) ks)
     (front ++ init_notes j k ++ ending j k) h.star_is
     ∙ (λ i. record b { born = born i; notes = notes i })
@@ -483,7 +484,7 @@ drop-born m j (x ∷ ks) k e = drop-born (suc m) j ks k (omega (arith, e))
 
 -- an attempt that was cut where a further object was made and not joined
 pub unjoined-cut : (b : Board) (t : TypeId) (ps : List Property) (p : Property) (k : TypeId) (qs : List Property) → slots_of t ≡ ps ++ p ∷ qs
-    → p.kind ≡ row.Child k → with_ended b (born_from (b.born + 1) (t ∷ kinds_in ps ++ k ∷ [])) []
+    → p.role ≡ row.Child k → with_ended b (born_from (b.born + 1) (t ∷ kinds_in ps ++ k ∷ [])) []
     ((b.born + 1 + length (kinds_in ps) + 1, k) ∷ device_last (born_from (b.born + 1) (t ∷ kinds_in ps)))
     ≡ cut_attempt b t (suc (suc (length (kinds_in ps)))) false
 unjoined-cut b t ps p k qs split is = ap₂ (λ (os es : List (ℕ × TypeId)). with_ended b os [] es) objects order

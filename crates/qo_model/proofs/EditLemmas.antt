@@ -58,7 +58,7 @@ sum-without_hold f zero (x ∷ slots) s e =
     go (Some left) p = rw (without_hold, p, left_of) (omega (arith, sum_by-cons f (x.0, left) slots, sum_by-cons f x slots))
 sum-without_hold f (suc i) (x ∷ slots) s e = omega (arith, sum-without_hold f i slots s e, sum_by-cons f x (without_hold i slots), sum_by-cons f x slots)
 
--- behind the last slot nothing is let go
+-- after the last slot nothing is let go
 pub without_hold-past : (i : ℕ) (slots : List (List ℕ × Slot)) → slice_get slots i ≡ None → without_hold i slots ≡ slots
 without_hold-past i [] e = refl
 without_hold-past zero (x ∷ slots) e = cc

@@ -7,7 +7,7 @@ use Rattle.qo_values.specs.declared.properties.Val.{Val}
 use Rattle.qo_model.specs.Board.{Board, Slot, slot_at, slots_at, held}
 use Rattle.qo_model.specs.Changes.{point, set, with_changed, with_val, pointed}
 use Rattle.qo_model.specs.FinalNotes.{NotesInOrder}
-use Rattle.qo_model.specs.FinalNotesRuns.{Change, added, deleted, wrote, severed, behind_write, changed}
+use Rattle.qo_model.specs.FinalNotesRuns.{Change, added, deleted, wrote, severed, after_write, changed}
 use Rattle.qo_model.specs.Objects.{Given, added_as, object_add, object_del, sever, severed_from}
 use Rattle.qo_model.specs.Properties.{pointed_at, relinked, write}
 use Rattle.qo_model.specs.Release.{drop_slot, pin, put_in_order, with_dropped}
@@ -51,7 +51,7 @@ relinked-keeps b n i target o = go (slot_at b n i) refl
     go (Some s) p =
         rw (relinked, p) (after-keeps (pointed_at target n i (drop_slot b n i)) (held s) (pointed-keeps (drop_slot b n i) n i target (drop-keeps b n i o)))
 
-pub write-keeps : (b : Board) (n : ℕ) (name : List ℕ) (v : Val) → NotesInOrder b → NotesInOrder (behind_write b (write b n name v))
+pub write-keeps : (b : Board) (n : ℕ) (name : List ℕ) (v : Val) → NotesInOrder b → NotesInOrder (after_write b (write b n name v))
 write-keeps b n name v o = write-comes NotesInOrder b o n name v (λ i t p kind e may. record {
   value = λ old at type first is fits. set-keeps b n i v o;
   link = λ u s left link leaves at to holds is path target told. relinked-keeps b n i target o;

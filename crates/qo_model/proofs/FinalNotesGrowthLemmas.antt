@@ -37,14 +37,14 @@ noted-other : (m x : ℕ) → (m == x) ≡ false → (deed : TypeId → Deed) (t
 noted-other m x e deed [] = refl
 noted-other m x e deed (t ∷ ts) = rw e (noted-other m x e deed ts)
 
--- notes behind others, seen from their object and from another
-behind-own : (m : ℕ) (deed : TypeId → Deed) (ts : List TypeId) (notes : List Note) → notes_on m (notes ++ noted m deed ts) ≡ notes_on m notes ++ noted m deed ts
-behind-own m deed ts notes =
+-- notes after others, seen from their object and from another
+after-own : (m : ℕ) (deed : TypeId → Deed) (ts : List TypeId) (notes : List Note) → notes_on m (notes ++ noted m deed ts) ≡ notes_on m notes ++ noted m deed ts
+after-own m deed ts notes =
     filter-append (λ (x : Note). x.birth == m) notes (noted m deed ts) ∙ ap (λ (xs : List Note). notes_on m notes ++ xs) (noted-own m deed ts)
 
-behind-other : (m x : ℕ) → (m == x) ≡ false → (deed : TypeId → Deed) (ts : List TypeId) (notes : List Note)
+after-other : (m x : ℕ) → (m == x) ≡ false → (deed : TypeId → Deed) (ts : List TypeId) (notes : List Note)
     → notes_on x (notes ++ noted m deed ts) ≡ notes_on x notes
-behind-other m x e deed ts notes =
+after-other m x e deed ts notes =
     filter-append (λ (y : Note). y.birth == x) notes (noted m deed ts)
     ∙ ap (λ (xs : List Note). notes_on x notes ++ xs) (noted-other m x e deed ts)
     ∙ append-nil (notes_on x notes)
@@ -172,7 +172,7 @@ next-begins b t o =
     let opened : 8 ≤ b.born = o.opened in
     let later : leb (b.born + 1) 8 ≡ false = grind arith in
     rw (beginning, later)
-    (behind-own (b.born + 1) (λ k. Did (Init k)) (inits t) b.notes ∙ ap (λ (xs : List Note). xs ++ init_notes (b.born + 1) t) (next-unnoted b o))
+    (after-own (b.born + 1) (λ k. Did (Init k)) (inits t) b.notes ∙ ap (λ (xs : List Note). xs ++ init_notes (b.born + 1) t) (next-unnoted b o))
 
 -- an attempt that is given up
 pub attempt-grows : (b : Board) (t : TypeId) → NotesInOrder b → Grown b (with_attempt b t) t true
@@ -181,20 +181,20 @@ attempt-grows b t o =
       born = refl;
       others = λ x e. refl;
       unnoted = λ x e.
-          behind-other (b.born + 1) x e Final (finals t) (b.notes ++ init_notes (b.born + 1) t)
-          ∙ behind-other (b.born + 1) x e (λ k. Did (Init k)) (inits t) b.notes;
+          after-other (b.born + 1) x e Final (finals t) (b.notes ++ init_notes (b.born + 1) t)
+          ∙ after-other (b.born + 1) x e (λ k. Did (Init k)) (inits t) b.notes;
       kind = next-absent b o (kind_of b (b.born + 1)) refl;
       story =
           record {
             between = [];
             neither = refl;
             in_order =
-                behind-own (b.born + 1) Final (finals t) (b.notes ++ init_notes (b.born + 1) t)
+                after-own (b.born + 1) Final (finals t) (b.notes ++ init_notes (b.born + 1) t)
                 ∙ ap (λ (xs : List Note). xs ++ ending (b.born + 1) t) (next-begins b t o ∙ sym (append-nil (beginning (b.born + 1) t)));
           };
     }
 
--- the type of a birth among records, one of which is behind the others
+-- the type of a birth among records, one of which is after the others
 or-none : (o : Option Record) → option_or o None ≡ o
 or-none None = refl
 or-none (Some r) = refl
@@ -215,7 +215,7 @@ object-grows b t id props o =
     record {
       born = refl;
       others = λ x e. ap (option_map (λ (r : Record). r.kind)) (last-other named new x e) ∙ named-kind x;
-      unnoted = λ x e. behind-other (b.born + 1) x e (λ k. Did (Init k)) (inits t) b.notes;
+      unnoted = λ x e. after-other (b.born + 1) x e (λ k. Did (Init k)) (inits t) b.notes;
       kind = ap (option_map (λ (r : Record). r.kind))
           (last-own named new (unmapped (found_at (b.born + 1) named) (named-kind (b.born + 1) ∙ next-absent b o (kind_of b (b.born + 1)) refl)));
       story =

@@ -6,10 +6,10 @@ use Rattle.qo_model.specs.declared.notes.Note.{Note}
 use Rattle.qo_model.specs.Board.{Board, Record, record_of, is_live, kind_of}
 use Rattle.qo_model.specs.FinalNotes.{beginning, ending, IsBorn, NotesInOrder, Story}
 use Rattle.qo_model.specs.References.{refs}
-use Rattle.qo_model.specs.Release.{after, edit, final_notes, finalise, let_go, unpin}
-use Rattle.qo_model.specs.ReleaseKeeps.{Leaves, without_slots}
+use Rattle.qo_model.specs.Release.{after, edit, final_notes, finalize, let_go, unpin}
+use Rattle.qo_model.specs.ReleaseInduction.{Leaves, without_slots}
 use Rattle.qo_model.specs.ReleaseNotes.{notes_on, finals_of, NotesEnds}
-use Rattle.qo_model.proofs.ReleaseLeavesLemmas.{release_leaves, let_go-leaves, unpin-leaves}
+use Rattle.qo_model.proofs.ReleaseScopeLemmas.{release_leaves, let_go-leaves, unpin-leaves}
 use Rattle.qo_model.proofs.ReleaseNotesLemmas.{finals-none, release_notes, let_go-notes, unpin-notes}
 use Rattle.qo_model.proofs.StepLemmas.{found-edited, is_some-map, found-birth, map-edited}
 
@@ -94,15 +94,15 @@ ends-keep b c ends leaves o =
         (r.kind, story-ends n r.kind c.notes b.notes (ends.ended n e ∙ ap (λ (xs : List Note). notes_on n b.notes ++ xs) (finals-are n r p)) story)
 
 -- a release keeps them
-pub finalise-keeps : (b : Board) (n : ℕ) → NotesInOrder b → NotesInOrder (finalise b n)
-finalise-keeps b n o = ends-keep b (finalise b n) (release_notes b n) (release_leaves b n) o
+pub finalize-keeps : (b : Board) (n : ℕ) → NotesInOrder b → NotesInOrder (finalize b n)
+finalize-keeps b n o = ends-keep b (finalize b n) (release_notes b n) (release_leaves b n) o
 
-pub after-keeps : (b : Board) (x : Option ℕ) → NotesInOrder b → NotesInOrder (after finalise b x)
+pub after-keeps : (b : Board) (x : Option ℕ) → NotesInOrder b → NotesInOrder (after finalize b x)
 after-keeps b None o = o
 after-keeps b (Some m) o = go (refs b m == 0) refl
   where
-    go : (t : Bool) → (refs b m == 0) ≡ t → NotesInOrder (after finalise b (Some m))
-    go true p = rw (after, p) (finalise-keeps b m o)
+    go : (t : Bool) → (refs b m == 0) ≡ t → NotesInOrder (after finalize b (Some m))
+    go true p = rw (after, p) (finalize-keeps b m o)
     go false p = rw (after, p) o
 
 pub let_go-keeps : (b : Board) (owner i : ℕ) → NotesInOrder b → NotesInOrder (let_go b owner i)

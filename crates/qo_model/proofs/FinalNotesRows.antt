@@ -4,23 +4,23 @@ use Rattle.qo_values.specs.declared.kinds.Act.TheVariants.{Init}
 use Rattle.qo_values.specs.declared.kinds.TypeId.TheVariants.{Tag}
 use Rattle.qo_values.specs.declared.properties.Val.TheVariants as val
 use Rattle.qo_model.specs.declared.notes.Deed.TheVariants.{Did, Final}
-use Rattle.qo_model.specs.FinalNotesRuns.{added, deleted, behind}
+use Rattle.qo_model.specs.FinalNotesRuns.{added, deleted, after_changes}
 use Rattle.qo_model.specs.Opening.{opening_board}
-use Rattle.qo_model.specs.Paths.{attached, steps_to}
-use Rattle.qo_model.specs.Release.{drop_slot, finish, finalise, finalise_within, let_go, pin, unpin}
+use Rattle.qo_model.specs.Paths.{attached, path_down_to}
+use Rattle.qo_model.specs.Release.{drop_slot, finish, finalize, finalize_within, let_go, pin, unpin}
 use Rattle.qo_model.specs.Changes.{point, set}
 use Rattle.qo_model.specs.Types.{types}
 use Rattle.qo_model.proofs.RowTerms.{note}
 
 -- the one tag ends, and the next has another birth
-added-and-deleted : (behind opening_board (added (codes "tag") (codes "a") [] ∷ deleted (codes "a") ∷ added (codes "tag") (codes "a") [] ∷ [])).notes
+added-and-deleted : (after_changes opening_board (added (codes "tag") (codes "a") [] ∷ deleted (codes "a") ∷ added (codes "tag") (codes "a") [] ∷ [])).notes
     ≡ note 9 (Did (Init Tag)) ∷ note 9 (Final Tag) ∷ note 10 (Did (Init Tag)) ∷ []
-unfolding types opening_board steps_to attached drop_slot finish finalise finalise_within let_go pin unpin point set
+unfolding types opening_board path_down_to attached drop_slot finish finalize finalize_within let_go pin unpin point set
 added-and-deleted = refl
 
 -- an attempt that is given up takes a birth
 refused-and-added :
-    (behind opening_board (added (codes "tag") (codes "a") ((codes "text", val.Bool true) ∷ []) ∷ added (codes "tag") (codes "a") [] ∷ [])).notes
+    (after_changes opening_board (added (codes "tag") (codes "a") ((codes "text", val.Bool true) ∷ []) ∷ added (codes "tag") (codes "a") [] ∷ [])).notes
     ≡ note 9 (Did (Init Tag)) ∷ note 9 (Final Tag) ∷ note 10 (Did (Init Tag)) ∷ []
-unfolding types opening_board steps_to attached drop_slot finish finalise finalise_within let_go pin unpin point set
+unfolding types opening_board path_down_to attached drop_slot finish finalize finalize_within let_go pin unpin point set
 refused-and-added = refl

@@ -12,11 +12,11 @@ use Rattle.qo_model.specs.declared.notes.Deed.TheVariants.{Did, Final}
 use Rattle.qo_model.specs.declared.notes.Note.{Note}
 use Rattle.qo_model.specs.Board.{Board, Record, is_live, kind_of}
 use Rattle.qo_model.specs.FinalNotes.{beginning, ending, is_bound, is_final, FinalOnce, IsBorn, NotesInOrder, Story}
-use Rattle.qo_model.specs.FinalNotesRuns.{Change, behind, changed, FinalOnceLaw}
+use Rattle.qo_model.specs.FinalNotesRuns.{Change, after_changes, changed, FinalOnceLaw}
 use Rattle.qo_model.specs.Opening.{opening_board}
 use Rattle.qo_model.specs.ReleaseNotes.{notes_on}
 use Rattle.qo_model.specs.Types.{inits}
-use Rattle.qo_model.proofs.FinalNotesLemmas.{finalise-keeps, kind-live, let_go-keeps, live-of-kind, unpin-keeps}
+use Rattle.qo_model.proofs.FinalNotesLemmas.{finalize-keeps, kind-live, let_go-keeps, live-of-kind, unpin-keeps}
 use Rattle.qo_model.proofs.FinalNotesChangesLemmas.{changed-keeps}
 use Rattle.qo_model.proofs.FinalNotesGrowthLemmas.{act-keeps}
 use Rattle.qo_model.proofs.StepLemmas.{found_at}
@@ -77,9 +77,9 @@ opening_notes =
     gone n born e = let clash : true ≡ false = sym (opening-live n born.0 born.1) ∙ e in cc
 
 -- any changes keep the notes in order
-pub behind-keeps : (changes : List Change) (b : Board) → NotesInOrder b → NotesInOrder (behind b changes)
-behind-keeps [] b o = o
-behind-keeps (change ∷ changes) b o = behind-keeps changes (changed b change) (changed-keeps b change o)
+pub after_changes-keeps : (changes : List Change) (b : Board) → NotesInOrder b → NotesInOrder (after_changes b changes)
+after_changes-keeps [] b o = o
+after_changes-keeps (change ∷ changes) b o = after_changes-keeps changes (changed b change) (changed-keeps b change o)
 
 -- init notes, and notes that are neither init nor final, are not final
 inits-not-final : (n : ℕ) (ts : List TypeId) → list_any is_final (map (λ (t : TypeId). record { birth = n; deed = Did (Init t) }) ts) ≡ false
@@ -154,13 +154,13 @@ once b o n = go (leb 1 n) refl (leb n b.born) refl
 pub final_once_lem : FinalOnceLaw
 final_once_lem =
     record {
-      finalised = finalise-keeps;
+      finalized = finalize-keeps;
       slot_let_go = let_go-keeps;
       unpinned = unpin-keeps;
       acted = act-keeps;
       step = changed-keeps;
       opening = opening_notes;
-      run = λ changes. behind-keeps changes opening_board opening_notes;
+      run = λ changes. after_changes-keeps changes opening_board opening_notes;
       once = once;
-      once_in_run = λ changes n. once (behind opening_board changes) (behind-keeps changes opening_board opening_notes) n;
+      once_in_run = λ changes n. once (after_changes opening_board changes) (after_changes-keeps changes opening_board opening_notes) n;
     }

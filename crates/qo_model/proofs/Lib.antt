@@ -2,7 +2,7 @@ pub mod AttemptLemmas
 pub mod ClockFitLemmas
 pub mod ClockPropertyLemmas
 mod ClockPropertyRows
-pub mod ClockStaysLemmas
+pub mod ClockScopeLemmas
 pub mod ComesToLemmas
 pub mod CycleLemmas
 pub mod DepthLemmas
@@ -14,15 +14,15 @@ pub mod FinalNotesGrowthLemmas
 pub mod FinalNotesLemmas
 mod FinalNotesRows
 pub mod FinalNotesRunsLemmas
-pub mod FirstLemmas
+pub mod FirstSlotLemmas
 pub mod GraphLemmas
 mod HotplugRows
 pub mod OpeningLemmas
-pub mod PassedLemmas
+pub mod LateAttemptLemmas
 pub mod PeriodLemmas
 pub mod PinLemmas
-pub mod ReleaseKeepsLemmas
-pub mod ReleaseLeavesLemmas
+pub mod ReleaseInductionLemmas
+pub mod ReleaseScopeLemmas
 pub mod ReleaseLemmas
 pub mod ReleaseNotesLemmas
 mod ObjectRows
@@ -30,7 +30,7 @@ mod ReleaseRows
 pub mod ReleaseRulesLemmas
 mod Rows
 pub mod RowTerms
-pub mod StaysLemmas
+pub mod ChangeScopeLemmas
 pub mod StepLemmas
 pub mod TreeLemmas
 pub mod WeakLinkLemmas

@@ -11,10 +11,10 @@ use Rattle.qo_model.specs.Board.{Board, Record}
 use Rattle.qo_model.specs.Changes.{point, set}
 use Rattle.qo_model.specs.Objects.{Given, detached, object_add, object_del, sever}
 use Rattle.qo_model.specs.Opening.{opening_board}
-use Rattle.qo_model.specs.Paths.{attached, births, steps_to}
+use Rattle.qo_model.specs.Paths.{attached, births, path_down_to}
 use Rattle.qo_model.specs.Properties.{value_of, write}
 use Rattle.qo_model.specs.References.{refs}
-use Rattle.qo_model.specs.Release.{drop_slot, finish, finalise, finalise_within, let_go, pin, unpin}
+use Rattle.qo_model.specs.Release.{drop_slot, finish, finalize, finalize_within, let_go, pin, unpin}
 use Rattle.qo_model.specs.Types.{types}
 use Rattle.qo_model.proofs.RowTerms.{note}
 
@@ -35,24 +35,24 @@ abbrev removed : Board
 removed = (object_del (object_del crossed (codes "a")).board (codes "b")).board
 
 removed-are-detached : map (λ (r : Record). r.birth) (detached removed) ≡ 9 ∷ 10 ∷ []
-unfolding types opening_board steps_to attached drop_slot finish finalise finalise_within let_go pin unpin point set
+unfolding types opening_board path_down_to attached drop_slot finish finalize finalize_within let_go pin unpin point set
 removed-are-detached = refl
 
 removed-hold-each-other : map (refs removed) (9 ∷ 10 ∷ []) ≡ 1 ∷ 1 ∷ []
-unfolding types opening_board steps_to attached drop_slot finish finalise finalise_within let_go pin unpin point set
+unfolding types opening_board path_down_to attached drop_slot finish finalize finalize_within let_go pin unpin point set
 removed-hold-each-other = refl
 
 removed-is-named : value_of removed 9 (codes "next") ≡ Some (val.Text (codes "detached:" ++ decimal 10))
-unfolding types opening_board steps_to attached drop_slot finish finalise finalise_within let_go pin unpin point set
+unfolding types opening_board path_down_to attached drop_slot finish finalize finalize_within let_go pin unpin point set
 removed-is-named = refl
 
 -- severed, the one ends and then the other
 severed-notes : (sever removed 9).board.notes ≡ note 9 (Did (Init Tag)) ∷ note 10 (Did (Init Tag)) ∷ note 10 (Final Tag) ∷ note 9 (Final Tag) ∷ []
-unfolding types opening_board steps_to attached drop_slot finish finalise finalise_within let_go pin unpin point set
+unfolding types opening_board path_down_to attached drop_slot finish finalize finalize_within let_go pin unpin point set
 severed-notes = refl
 
 severed-births : births (sever removed 9).board ≡ 1 ∷ 2 ∷ 3 ∷ 4 ∷ 5 ∷ 6 ∷ 7 ∷ 8 ∷ []
-unfolding types opening_board steps_to attached drop_slot finish finalise finalise_within let_go pin unpin point set
+unfolding types opening_board path_down_to attached drop_slot finish finalize finalize_within let_go pin unpin point set
 severed-births = refl
 
 -- one tag holds the other, which sees it: removed in the order other, one, they end, and no link keeps either
@@ -61,7 +61,7 @@ seen = wrote 10 (codes "seen") (val.Text (codes "/objects/a"))
     (wrote 9 (codes "next") (val.Text (codes "/objects/b")) (tagged (codes "b") (tagged (codes "a") opening_board)))
 
 seen-notes : drop 2 (object_del (object_del seen (codes "b")).board (codes "a")).board.notes ≡ note 10 (Final Tag) ∷ note 9 (Final Tag) ∷ []
-unfolding types opening_board steps_to attached drop_slot finish finalise finalise_within let_go pin unpin point set
+unfolding types opening_board path_down_to attached drop_slot finish finalize finalize_within let_go pin unpin point set
 seen-notes = refl
 
 -- refusals of `object-add`, in their order
@@ -82,7 +82,7 @@ refusals :
     ∷ refusal (codes "tag") (codes "b") ((codes "flag", val.Bool true) ∷ (codes "next", val.Text (codes "a")) ∷ [])
     ∷ []
     ≡ Some E20 ∷ Some E21 ∷ Some E22 ∷ Some E23 ∷ Some E24 ∷ Some E24 ∷ Some E17 ∷ Some E18 ∷ Some E19 ∷ Some E15 ∷ None ∷ []
-unfolding types opening_board steps_to attached
+unfolding types opening_board path_down_to attached
 refusals = refl
 
 -- an attempt that was given up: the births are one higher, and its notes are there
@@ -93,5 +93,5 @@ given_up = refl
 
 -- refusals of `x-sever`
 sever-refusals : (sever (tagged (codes "a") opening_board) 10).refusal ∷ (sever (tagged (codes "a") opening_board) 9).refusal ∷ [] ≡ Some E33 ∷ Some E50 ∷ []
-unfolding types opening_board steps_to attached
+unfolding types opening_board path_down_to attached
 sever-refusals = refl

@@ -167,7 +167,7 @@ module _ (b : Board) where
       length-le_from_is_member nat_eq_equiv (m ∷ passed) (births b) (apart m passed not, w.distinct) (live-among (m ∷ passed) (live, w.live)) in
       omega arith
 
-  -- behind as many clocks as there are objects nothing follows but rounds
+  -- after as many clocks as there are objects nothing follows but rounds
 
   last : (m : ℕ) (passed : List ℕ) → IsPassed passed m → length (births b) ≤ length passed → 0 ≡ to_depth 1 m
   last m passed w room = go (among passed m) refl

@@ -6,9 +6,9 @@ use Rattle.std.proofs.lemmas.Bool.{eqb-true, eq-eqb}
 use Rattle.qo_model.specs.Board.{Board}
 use Rattle.qo_model.specs.Objects.{severed_from}
 use Rattle.qo_model.specs.References.{refs}
-use Rattle.qo_model.specs.Release.{after, finalise, put_in_order, unpin, without_first, without_pin}
+use Rattle.qo_model.specs.Release.{after, finalize, put_in_order, unpin, without_first, without_pin}
 use Rattle.qo_model.proofs.ComesToLemmas.{severed-comes}
-use Rattle.qo_model.proofs.ReleaseLeavesLemmas.{let_go-leaves, release_leaves}
+use Rattle.qo_model.proofs.ReleaseScopeLemmas.{let_go-leaves, release_leaves}
 
 -- numbers that never fall
 abbrev pub IsUp : List ℕ → Type 0
@@ -71,11 +71,11 @@ put-among n (m ∷ ms) = go (leb m n) refl (eqb n m) refl (put-among n ms)
     go false p u q rest = let own : eqb n n ≡ true = eq-eqb n n refl in rw (put_in_order, p, own) refl
 
 -- a release leaves the pins
-pub release-pins : (b : Board) (o : Option ℕ) → (after finalise b o).pins ≡ b.pins
+pub release-pins : (b : Board) (o : Option ℕ) → (after finalize b o).pins ≡ b.pins
 release-pins b None = refl
 release-pins b (Some m) = go (refs b m == 0) refl
   where
-    go : (t : Bool) → (refs b m == 0) ≡ t → (after finalise b (Some m)).pins ≡ b.pins
+    go : (t : Bool) → (refs b m == 0) ≡ t → (after finalize b (Some m)).pins ≡ b.pins
     go true p = rw (after, p) (release_leaves b m).pins
     go false p = rw (after, p) refl
 

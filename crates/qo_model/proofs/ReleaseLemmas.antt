@@ -1,10 +1,10 @@
--- The law of release: one finalisation is each slot let go, in order, and the end of the object, where what comes free is finalised by the same rule.
+-- The law of release: one finalization is each slot let go, in order, and the end of the object, where what comes free is finalized by the same rule.
 use Rattle.std.proofs.Common.{◌≡◌, refl, ap, sym, ◌∙◌, ℕ, zero, suc, ◌+◌, ◌<◌, ◌≤◌, Bool, true, false, not, ◌==◌, List, [], ◌∷◌, map, length, find, slice_get, sum_by, count_by, Option, Some, None, is_some, arith}
 use Rattle.std.proofs.lemmas.Option.{slice_get_within}
 use Rattle.std.proofs.lemmas.List.Sums.{sum_by-cons}
 use Rattle.qo_model.specs.Board.{Board, Record, Slot, plain, child, strong, weak, alias, slot_at, held}
 use Rattle.qo_model.specs.References.{refs}
-use Rattle.qo_model.specs.Release.{without_hold, with_dropped, drop_slot, next_place, forgotten_in, forgotten, finish, holding, width, after, from_place, finalise_by, finalise_within, finalise}
+use Rattle.qo_model.specs.Release.{without_hold, with_dropped, drop_slot, next_index, forgotten_in, forgotten, finish, holding, width, after, from_index, finalize_by, finalize_within, finalize}
 use Rattle.qo_model.proofs.EditLemmas.{sum-held, one_some, held-forgotten, sum-edit_le, sum-edit_lt, sum-filter_le, left_of, sum-without_hold, sum-without_hold_le, one_held, left-held, one_slot, left-slot, length-sum, StandsAt, stands-at}
 
 -- the two numbers of one record
@@ -95,12 +95,12 @@ pub finish-width : (b : Board) (n : ℕ) → width (finish b n) ≤ width b
 unfolding finish
 finish-width b n = sum-filter_le width_in (forgotten n) (λ (r : Record). not (r.birth == n)) (kept-width n) b.records
 
--- a finaliser that raises neither number
+-- a finalizer that raises neither number
 pub record IsShrinking (f : Board → ℕ → Board) : Type 0 where
   pub holding_falls : (b : Board) (n : ℕ) → holding (f b n) ≤ holding b
   pub width_falls : (b : Board) (n : ℕ) → width (f b n) ≤ width b
 
--- two finalisers that agree on boards that hold less than c
+-- two finalizers that agree on boards that hold less than c
 pub record AgreeBelow (c : ℕ) (f g : Board → ℕ → Board) : Type 0 where
   pub agree : (b : Board) (n : ℕ) → holding b < c → f b n ≡ g b n
 
@@ -120,9 +120,9 @@ after-width f h b (Some m) = go (refs b m == 0) refl
     go true p = rw (after, p) (h.width_falls b m)
     go false p = rw (after, p) (omega arith)
 
--- behind a slot the places that are left are fewer
+-- after a slot the places that are left are fewer
 pub place-falls : (f : Board → ℕ → Board) → IsShrinking f → (b : Board) (n i : ℕ) (s : Slot) (k : ℕ) → slot_at b n i ≡ Some s → width b ≤ suc k + i
-    → width (after f (drop_slot b n i) (held s)) ≤ k + next_place s i
+    → width (after f (drop_slot b n i) (held s)) ≤ k + next_index s i
 place-falls f h b n i (child m) k e room = omega (arith, after-width f h (drop_slot b n i) (Some m), drop-shorter b n i m e)
 place-falls f h b n i (plain v) k e room = omega (arith, drop-width b n i)
 place-falls f h b n i (strong t target) k e room = omega (arith, after-width f h (drop_slot b n i) target, drop-width b n i)
@@ -130,13 +130,13 @@ place-falls f h b n i (weak t target) k e room = omega (arith, drop-width b n i)
 place-falls f h b n i (alias m property) k e room = omega (arith, drop-width b n i)
 
 -- where no slot stands, nothing is let go, whatever the bound on places
-pub from_place-none : (f : Board → ℕ → Board) (k : ℕ) (b : Board) (n i : ℕ) → slot_at b n i ≡ None → from_place f k b n i ≡ b
-from_place-none f zero b n i e = refl
-from_place-none f (suc k) b n i e = rw (from_place, e) refl
+pub from_index-none : (f : Board → ℕ → Board) (k : ℕ) (b : Board) (n i : ℕ) → slot_at b n i ≡ None → from_index f k b n i ≡ b
+from_index-none f zero b n i e = refl
+from_index-none f (suc k) b n i e = rw (from_index, e) refl
 
-pub from_place-some : (f : Board → ℕ → Board) (k : ℕ) (b : Board) (n i : ℕ) (s : Slot) → slot_at b n i ≡ Some s
-    → from_place f (suc k) b n i ≡ from_place f k (after f (drop_slot b n i) (held s)) n (next_place s i)
-from_place-some f k b n i s e = rw (from_place, e) refl
+pub from_index-some : (f : Board → ℕ → Board) (k : ℕ) (b : Board) (n i : ℕ) (s : Slot) → slot_at b n i ≡ Some s
+    → from_index f (suc k) b n i ≡ from_index f k (after f (drop_slot b n i) (held s)) n (next_index s i)
+from_index-some f k b n i s e = rw (from_index, e) refl
 
 -- at a place that is no smaller than the number of all slots there is none
 pub past-width : (b : Board) (n i : ℕ) → width b ≤ i → slot_at b n i ≡ None
@@ -148,63 +148,63 @@ past-width b n i room = go (slot_at b n i) refl
 
 -- bounds on places that are enough give the same
 pub enough_places : (f : Board → ℕ → Board) → IsShrinking f → (k l : ℕ) (b : Board) (n i : ℕ) → width b ≤ k + i → width b ≤ l + i
-    → from_place f k b n i ≡ from_place f l b n i
-enough_places f h zero l b n i room room' = sym (from_place-none f l b n i (past-width b n i (omega arith)))
-enough_places f h (suc k) zero b n i room room' = from_place-none f (suc k) b n i (past-width b n i (omega arith))
+    → from_index f k b n i ≡ from_index f l b n i
+enough_places f h zero l b n i room room' = sym (from_index-none f l b n i (past-width b n i (omega arith)))
+enough_places f h (suc k) zero b n i room room' = from_index-none f (suc k) b n i (past-width b n i (omega arith))
 enough_places f h (suc k) (suc l) b n i room room' = go (slot_at b n i) refl (enough_places f h k l)
   where
-    go : (o : Option Slot) → slot_at b n i ≡ o → ((c : Board) (m j : ℕ) → width c ≤ k + j → width c ≤ l + j → from_place f k c m j ≡ from_place f l c m j)
-        → from_place f (suc k) b n i ≡ from_place f (suc l) b n i
-    go None p rest = from_place-none f (suc k) b n i p ∙ sym (from_place-none f (suc l) b n i p)
+    go : (o : Option Slot) → slot_at b n i ≡ o → ((c : Board) (m j : ℕ) → width c ≤ k + j → width c ≤ l + j → from_index f k c m j ≡ from_index f l c m j)
+        → from_index f (suc k) b n i ≡ from_index f (suc l) b n i
+    go None p rest = from_index-none f (suc k) b n i p ∙ sym (from_index-none f (suc l) b n i p)
     go (Some s) p rest =
-        from_place-some f k b n i s p
-        ∙ rest (after f (drop_slot b n i) (held s)) n (next_place s i) (place-falls f h b n i s k p room) (place-falls f h b n i s l p room')
-        ∙ sym (from_place-some f l b n i s p)
+        from_index-some f k b n i s p
+        ∙ rest (after f (drop_slot b n i) (held s)) n (next_index s i) (place-falls f h b n i s k p room) (place-falls f h b n i s l p room')
+        ∙ sym (from_index-some f l b n i s p)
 
 -- the slots of an object that are let go raise neither number
-pub from_place-holding : (f : Board → ℕ → Board) → IsShrinking f → (k : ℕ) (b : Board) (n i : ℕ) → holding (from_place f k b n i) ≤ holding b
-from_place-holding f h zero b n i = omega arith
-from_place-holding f h (suc k) b n i = go (slot_at b n i) refl (from_place-holding f h k)
+pub from_index-holding : (f : Board → ℕ → Board) → IsShrinking f → (k : ℕ) (b : Board) (n i : ℕ) → holding (from_index f k b n i) ≤ holding b
+from_index-holding f h zero b n i = omega arith
+from_index-holding f h (suc k) b n i = go (slot_at b n i) refl (from_index-holding f h k)
   where
-    go : (o : Option Slot) → slot_at b n i ≡ o → ((c : Board) (m j : ℕ) → holding (from_place f k c m j) ≤ holding c)
-        → holding (from_place f (suc k) b n i) ≤ holding b
-    go None p rest = rw (from_place-none f (suc k) b n i p) (omega arith)
+    go : (o : Option Slot) → slot_at b n i ≡ o → ((c : Board) (m j : ℕ) → holding (from_index f k c m j) ≤ holding c)
+        → holding (from_index f (suc k) b n i) ≤ holding b
+    go None p rest = rw (from_index-none f (suc k) b n i p) (omega arith)
     go (Some s) p rest =
         let c : Board = after f (drop_slot b n i) (held s) in
-        rw (from_place-some f k b n i s p) (omega (arith, rest c n (next_place s i), after-holding f h (drop_slot b n i) (held s), drop-holding b n i))
+        rw (from_index-some f k b n i s p) (omega (arith, rest c n (next_index s i), after-holding f h (drop_slot b n i) (held s), drop-holding b n i))
 
-pub from_place-width : (f : Board → ℕ → Board) → IsShrinking f → (k : ℕ) (b : Board) (n i : ℕ) → width (from_place f k b n i) ≤ width b
-from_place-width f h zero b n i = omega arith
-from_place-width f h (suc k) b n i = go (slot_at b n i) refl (from_place-width f h k)
+pub from_index-width : (f : Board → ℕ → Board) → IsShrinking f → (k : ℕ) (b : Board) (n i : ℕ) → width (from_index f k b n i) ≤ width b
+from_index-width f h zero b n i = omega arith
+from_index-width f h (suc k) b n i = go (slot_at b n i) refl (from_index-width f h k)
   where
-    go : (o : Option Slot) → slot_at b n i ≡ o → ((c : Board) (m j : ℕ) → width (from_place f k c m j) ≤ width c) → width (from_place f (suc k) b n i) ≤ width b
-    go None p rest = rw (from_place-none f (suc k) b n i p) (omega arith)
+    go : (o : Option Slot) → slot_at b n i ≡ o → ((c : Board) (m j : ℕ) → width (from_index f k c m j) ≤ width c) → width (from_index f (suc k) b n i) ≤ width b
+    go None p rest = rw (from_index-none f (suc k) b n i p) (omega arith)
     go (Some s) p rest =
         let c : Board = after f (drop_slot b n i) (held s) in
-        rw (from_place-some f k b n i s p) (omega (arith, rest c n (next_place s i), after-width f h (drop_slot b n i) (held s), drop-width b n i))
+        rw (from_index-some f k b n i s p) (omega (arith, rest c n (next_index s i), after-width f h (drop_slot b n i) (held s), drop-width b n i))
 
-finalise_by-shrinks : (f : Board → ℕ → Board) → IsShrinking f → IsShrinking (finalise_by f)
-finalise_by-shrinks f h =
+finalize_by-shrinks : (f : Board → ℕ → Board) → IsShrinking f → IsShrinking (finalize_by f)
+finalize_by-shrinks f h =
     record {
-      holding_falls = λ b n. omega (arith, finish-holding (from_place f (width b) b n 0) n, from_place-holding f h (width b) b n 0);
-      width_falls = λ b n. omega (arith, finish-width (from_place f (width b) b n 0) n, from_place-width f h (width b) b n 0);
+      holding_falls = λ b n. omega (arith, finish-holding (from_index f (width b) b n 0) n, from_index-holding f h (width b) b n 0);
+      width_falls = λ b n. omega (arith, finish-width (from_index f (width b) b n 0) n, from_index-width f h (width b) b n 0);
     }
 
-within-shrinks : (depth : ℕ) → IsShrinking (finalise_within depth)
-unfolding finalise_within
+within-shrinks : (depth : ℕ) → IsShrinking (finalize_within depth)
+unfolding finalize_within
 within-shrinks zero = record { holding_falls = λ b n. omega arith; width_falls = λ b n. omega arith }
-within-shrinks (suc depth) = finalise_by-shrinks (finalise_within depth) (within-shrinks depth)
+within-shrinks (suc depth) = finalize_by-shrinks (finalize_within depth) (within-shrinks depth)
 
 -- a release raises neither number
-pub finalise-shrinks : IsShrinking finalise
-unfolding finalise
-finalise-shrinks =
+pub finalize-shrinks : IsShrinking finalize
+unfolding finalize
+finalize-shrinks =
     record {
       holding_falls = λ b n. (within-shrinks (suc (holding b))).holding_falls b n;
       width_falls = λ b n. (within-shrinks (suc (holding b))).width_falls b n;
     }
 
--- behind a slot that was let go, finalisers that agree below what the board held give the same
+-- after a slot that was let go, finalizers that agree below what the board held give the same
 after-agree : (f g : Board → ℕ → Board) (c : ℕ) → AgreeBelow c f g → (b : Board) (n i : ℕ) (s : Slot) → slot_at b n i ≡ Some s → holding b ≤ c
     → after f (drop_slot b n i) (held s) ≡ after g (drop_slot b n i) (held s)
 after-agree f g c h b n i s e few = go (held s) refl
@@ -218,77 +218,77 @@ after-agree f g c h b n i s e few = go (held s) refl
     go None p = refl
     go (Some m) p = freed m p (refs (drop_slot b n i) m == 0) refl
 
-from_place-agree : (f g : Board → ℕ → Board) (c : ℕ) → IsShrinking f → AgreeBelow c f g → (k : ℕ) (b : Board) (n i : ℕ) → holding b ≤ c
-    → from_place f k b n i ≡ from_place g k b n i
-from_place-agree f g c shrinks h zero b n i few = refl
-from_place-agree f g c shrinks h (suc k) b n i few = go (slot_at b n i) refl (from_place-agree f g c shrinks h k)
+from_index-agree : (f g : Board → ℕ → Board) (c : ℕ) → IsShrinking f → AgreeBelow c f g → (k : ℕ) (b : Board) (n i : ℕ) → holding b ≤ c
+    → from_index f k b n i ≡ from_index g k b n i
+from_index-agree f g c shrinks h zero b n i few = refl
+from_index-agree f g c shrinks h (suc k) b n i few = go (slot_at b n i) refl (from_index-agree f g c shrinks h k)
   where
-    go : (o : Option Slot) → slot_at b n i ≡ o → ((d : Board) (m j : ℕ) → holding d ≤ c → from_place f k d m j ≡ from_place g k d m j)
-        → from_place f (suc k) b n i ≡ from_place g (suc k) b n i
-    go None p rest = from_place-none f (suc k) b n i p ∙ sym (from_place-none g (suc k) b n i p)
+    go : (o : Option Slot) → slot_at b n i ≡ o → ((d : Board) (m j : ℕ) → holding d ≤ c → from_index f k d m j ≡ from_index g k d m j)
+        → from_index f (suc k) b n i ≡ from_index g (suc k) b n i
+    go None p rest = from_index-none f (suc k) b n i p ∙ sym (from_index-none g (suc k) b n i p)
     go (Some s) p rest =
         let d : Board = after f (drop_slot b n i) (held s) in
         let less : holding d ≤ c = omega (arith, after-holding f shrinks (drop_slot b n i) (held s), drop-holding b n i) in
-        from_place-some f k b n i s p
-        ∙ rest d n (next_place s i) less
-        ∙ ap (λ (x : Board). from_place g k x n (next_place s i)) (after-agree f g c h b n i s p few)
-        ∙ sym (from_place-some g k b n i s p)
+        from_index-some f k b n i s p
+        ∙ rest d n (next_index s i) less
+        ∙ ap (λ (x : Board). from_index g k x n (next_index s i)) (after-agree f g c h b n i s p few)
+        ∙ sym (from_index-some g k b n i s p)
 
-finalise_by-agree : (f g : Board → ℕ → Board) (c : ℕ) → IsShrinking f → AgreeBelow c f g → AgreeBelow (suc c) (finalise_by f) (finalise_by g)
-finalise_by-agree f g c shrinks h =
-    record { agree = λ b n few. ap (λ (x : Board). finish x n) (from_place-agree f g c shrinks h (width b) b n 0 (omega arith)) }
+finalize_by-agree : (f g : Board → ℕ → Board) (c : ℕ) → IsShrinking f → AgreeBelow c f g → AgreeBelow (suc c) (finalize_by f) (finalize_by g)
+finalize_by-agree f g c shrinks h =
+    record { agree = λ b n few. ap (λ (x : Board). finish x n) (from_index-agree f g c shrinks h (width b) b n 0 (omega arith)) }
 
-within-agree : (c k l : ℕ) → c ≤ k → c ≤ l → AgreeBelow c (finalise_within k) (finalise_within l)
-unfolding finalise_within
+within-agree : (c k l : ℕ) → c ≤ k → c ≤ l → AgreeBelow c (finalize_within k) (finalize_within l)
+unfolding finalize_within
 within-agree zero k l few few' = record { agree = λ b n none. absurd (omega arith) }
 within-agree (suc c) zero l few few' = absurd (omega arith)
 within-agree (suc c) (suc k) zero few few' = absurd (omega arith)
 within-agree (suc c) (suc k) (suc l) few few' =
-    finalise_by-agree (finalise_within k) (finalise_within l) c (within-shrinks k) (within-agree c k l (omega arith) (omega arith))
+    finalize_by-agree (finalize_within k) (finalize_within l) c (within-shrinks k) (within-agree c k l (omega arith) (omega arith))
 
 -- a depth above what the board holds is enough
-pub enough : (k : ℕ) (b : Board) (n : ℕ) → holding b < k → finalise_within k b n ≡ finalise b n
-unfolding finalise
+pub enough : (k : ℕ) (b : Board) (n : ℕ) → holding b < k → finalize_within k b n ≡ finalize b n
+unfolding finalize
 enough k b n room = (within-agree (suc (holding b)) k (suc (holding b)) (omega arith) (omega arith)).agree b n (omega arith)
 
--- one finalisation by the same rule, on every board
-pub finalise-is : (b : Board) (n : ℕ) → finalise b n ≡ finalise_by finalise b n
-unfolding finalise finalise_within
-finalise-is b n =
-    let below : AgreeBelow (holding b) (finalise_within (holding b)) finalise = record { agree = λ c m few. enough (holding b) c m few } in
-    (finalise_by-agree (finalise_within (holding b)) finalise (holding b) (within-shrinks (holding b)) below).agree b n (omega arith)
+-- one finalization by the same rule, on every board
+pub finalize-is : (b : Board) (n : ℕ) → finalize b n ≡ finalize_by finalize b n
+unfolding finalize finalize_within
+finalize-is b n =
+    let below : AgreeBelow (holding b) (finalize_within (holding b)) finalize = record { agree = λ c m few. enough (holding b) c m few } in
+    (finalize_by-agree (finalize_within (holding b)) finalize (holding b) (within-shrinks (holding b)) below).agree b n (omega arith)
 
 -- the slots of n from a place on are let go
 abbrev pub slots_from : Board → ℕ → ℕ → Board
-slots_from b n i = from_place finalise (width b) b n i
+slots_from b n i = from_index finalize (width b) b n i
 
 pub slots_from-none : (b : Board) (n i : ℕ) → slot_at b n i ≡ None → slots_from b n i ≡ b
-slots_from-none b n i e = from_place-none finalise (width b) b n i e
+slots_from-none b n i e = from_index-none finalize (width b) b n i e
 
 -- a slot that stands is let go first
 pub slots_from-some : (b : Board) (n i : ℕ) (s : Slot) → slot_at b n i ≡ Some s
-    → slots_from b n i ≡ slots_from (after finalise (drop_slot b n i) (held s)) n (next_place s i)
+    → slots_from b n i ≡ slots_from (after finalize (drop_slot b n i) (held s)) n (next_index s i)
 slots_from-some b n i s e =
-    let c : Board = after finalise (drop_slot b n i) (held s) in
-    let j : ℕ = next_place s i in
-    let one_more : slots_from b n i ≡ from_place finalise (suc (width b)) b n i =
-    enough_places finalise finalise-shrinks (width b) (suc (width b)) b n i (omega arith) (omega arith) in
-    let room : width c ≤ width b + j = place-falls finalise finalise-shrinks b n i s (width b) e (omega arith) in
-    let as_many : from_place finalise (width b) c n j ≡ slots_from c n j =
-    enough_places finalise finalise-shrinks (width b) (width c) c n j room (omega arith) in
-    one_more ∙ from_place-some finalise (width b) b n i s e ∙ as_many
+    let c : Board = after finalize (drop_slot b n i) (held s) in
+    let j : ℕ = next_index s i in
+    let one_more : slots_from b n i ≡ from_index finalize (suc (width b)) b n i =
+    enough_places finalize finalize-shrinks (width b) (suc (width b)) b n i (omega arith) (omega arith) in
+    let room : width c ≤ width b + j = place-falls finalize finalize-shrinks b n i s (width b) e (omega arith) in
+    let as_many : from_index finalize (width b) c n j ≡ slots_from c n j =
+    enough_places finalize finalize-shrinks (width b) (width c) c n j room (omega arith) in
+    one_more ∙ from_index-some finalize (width b) b n i s e ∙ as_many
 
--- what is left of a finalisation of n whose slots before a place were let go
+-- what is left of a finalization of n whose slots before a place were let go
 abbrev pub end_of : Board → ℕ → ℕ → Board
 end_of b n i = finish (slots_from b n i) n
 
-pub end_of-first : (b : Board) (n : ℕ) → finalise b n ≡ end_of b n 0
-end_of-first b n = finalise-is b n
+pub end_of-first : (b : Board) (n : ℕ) → finalize b n ≡ end_of b n 0
+end_of-first b n = finalize-is b n
 
--- behind the last slot the object ends
+-- after the last slot the object ends
 pub end_of-none : (b : Board) (n i : ℕ) → slot_at b n i ≡ None → end_of b n i ≡ finish b n
 end_of-none b n i e = ap (λ (c : Board). finish c n) (slots_from-none b n i e)
 
 pub end_of-some : (b : Board) (n i : ℕ) (s : Slot) → slot_at b n i ≡ Some s
-    → end_of b n i ≡ end_of (after finalise (drop_slot b n i) (held s)) n (next_place s i)
+    → end_of b n i ≡ end_of (after finalize (drop_slot b n i) (held s)) n (next_index s i)
 end_of-some b n i s e = ap (λ (d : Board). finish d n) (slots_from-some b n i s e)

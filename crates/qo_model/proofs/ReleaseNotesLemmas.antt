@@ -10,11 +10,11 @@ use Rattle.qo_model.specs.declared.notes.Deed.TheVariants.{Final}
 use Rattle.qo_model.specs.declared.notes.Note.{Note}
 use Rattle.qo_model.specs.Board.{Board, Record, Slot, record_of, is_live, slot_at, held}
 use Rattle.qo_model.specs.Types.{finals}
-use Rattle.qo_model.specs.Release.{after, let_go, unpin, without_pin, edited, with_dropped, drop_slot, forgotten, finish, finalise, final_notes}
-use Rattle.qo_model.specs.ReleaseKeeps.{KeepsRelease}
+use Rattle.qo_model.specs.Release.{after, let_go, unpin, without_pin, edited, with_dropped, drop_slot, forgotten, finish, finalize, final_notes}
+use Rattle.qo_model.specs.ReleaseInduction.{KeepsRelease}
 use Rattle.qo_model.specs.Laws.{FinalNotesLaw}
 use Rattle.qo_model.specs.ReleaseNotes.{notes_on, finals_of, NotesEnds}
-use Rattle.qo_model.proofs.ReleaseKeepsLemmas.{release_keeps, after_keeps}
+use Rattle.qo_model.proofs.ReleaseInductionLemmas.{release_keeps, after_keeps}
 use Rattle.qo_model.proofs.StepLemmas.{drop-record, drop-live, finish-record, finish-live, found-birth}
 
 -- notes for each type, all of one birth
@@ -74,7 +74,7 @@ finals-none b n e = go (record_of b n) e
     go None h = refl
     go (Some r) h = cc
 
--- the notes behind an end
+-- the notes after an end
 pub drop-notes : (b : Board) (n i : ℕ) → (drop_slot b n i).notes ≡ b.notes
 unfolding drop_slot
 drop-notes b n i = refl
@@ -147,10 +147,10 @@ notes-keeps b =
     }
 
 -- and so does a release
-pub release_notes : (b : Board) (n : ℕ) → NotesEnds b (finalise b n)
+pub release_notes : (b : Board) (n : ℕ) → NotesEnds b (finalize b n)
 release_notes b n = release_keeps (λ (work : List (ℕ × ℕ)) (c : Board). NotesEnds b c) (notes-keeps b) b n [] (notes-none b)
 
-pub after-notes : (b c : Board) (o : Option ℕ) → NotesEnds b c → NotesEnds b (after finalise c o)
+pub after-notes : (b c : Board) (o : Option ℕ) → NotesEnds b c → NotesEnds b (after finalize c o)
 after-notes b c o h = after_keeps (λ (work : List (ℕ × ℕ)) (d : Board). NotesEnds b d) (notes-keeps b) c o [] (λ m e free. h) (λ held_on. h)
 
 -- a slot that is let go with all that follows
@@ -181,7 +181,7 @@ ends-say m (t ∷ ts) = ap (λ (ds : List Deed). Final t ∷ ds) (ends-say m ts)
 pub final_notes_lem : FinalNotesLaw
 final_notes_lem =
     record {
-      finalised = release_notes;
+      finalized = release_notes;
       slot_let_go = let_go-notes;
       unpinned = unpin-notes;
       derived_first = λ r. ends-say r.birth (finals r.kind);

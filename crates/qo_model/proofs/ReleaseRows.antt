@@ -7,7 +7,7 @@ use Rattle.qo_model.specs.Board.{Board, Record, Slot, strong, weak, slot_named}
 use Rattle.qo_model.specs.Opening.{opening_board, opening_records, fresh_record, slots_with, with_child}
 use Rattle.qo_model.specs.Paths.{births}
 use Rattle.qo_model.specs.References.{refs}
-use Rattle.qo_model.specs.Release.{drop_slot, finish, finalise, finalise_within, let_go, pin, unpin}
+use Rattle.qo_model.specs.Release.{drop_slot, finish, finalize, finalize_within, let_go, pin, unpin}
 use Rattle.qo_model.specs.Types.{types}
 
 -- an object whose slot of a name is another
@@ -40,15 +40,15 @@ abbrev detached : Board
 detached = let_go (let_go peers 3 1) 3 1
 
 detached-stay : map (refs detached) (9 ∷ 10 ∷ 11 ∷ 12 ∷ []) ≡ 1 ∷ 1 ∷ 1 ∷ 1 ∷ []
-unfolding types opening_board drop_slot finish finalise finalise_within let_go
+unfolding types opening_board drop_slot finish finalize finalize_within let_go
 detached-stay = refl
 
 detached-births : births detached ≡ 1 ∷ 2 ∷ 3 ∷ 4 ∷ 5 ∷ 6 ∷ 7 ∷ 8 ∷ 9 ∷ 10 ∷ 11 ∷ 12 ∷ 13 ∷ []
-unfolding types opening_board drop_slot finish finalise finalise_within let_go
+unfolding types opening_board drop_slot finish finalize finalize_within let_go
 detached-births = refl
 
 detached-notes : detached.notes ≡ []
-unfolding types opening_board drop_slot finish finalise finalise_within let_go
+unfolding types opening_board drop_slot finish finalize finalize_within let_go
 detached-notes = refl
 
 -- the first one's link let go: the second is free, in its end the first, and in this one's end its clock
@@ -56,7 +56,7 @@ abbrev severed : Board
 severed = let_go detached 9 4
 
 severed-births : births severed ≡ 1 ∷ 2 ∷ 3 ∷ 4 ∷ 5 ∷ 6 ∷ 7 ∷ 8 ∷ 13 ∷ []
-unfolding types opening_board drop_slot finish finalise finalise_within let_go
+unfolding types opening_board drop_slot finish finalize finalize_within let_go
 severed-births = refl
 
 severed-notes :
@@ -70,7 +70,7 @@ severed-notes :
     ∷ record { birth = 11; deed = Final SlotDevice }
     ∷ record { birth = 11; deed = Final Device }
     ∷ []
-unfolding types opening_board drop_slot finish finalise finalise_within let_go
+unfolding types opening_board drop_slot finish finalize finalize_within let_go
 severed-notes = refl
 
 -- two events, and the tag sees nothing any more
@@ -79,11 +79,11 @@ severed-events :
     ≡ record { deleted = true; id = None; path = codes "/kept" }
     ∷ record { deleted = true; id = None; path = codes "/kept" }
     ∷ []
-unfolding types opening_board drop_slot finish finalise finalise_within let_go
+unfolding types opening_board drop_slot finish finalize finalize_within let_go
 severed-events = refl
 
 severed-weak : slot_named severed 13 (codes "seen") ≡ Some (weak Object None)
-unfolding types opening_board drop_slot finish finalise finalise_within let_go
+unfolding types opening_board drop_slot finish finalize finalize_within let_go
 severed-weak = refl
 
 -- a pin keeps the clock when the machine lets it go, and with the end of the pin the clock ends; without a pin nothing is taken
@@ -91,17 +91,17 @@ abbrev pinned : Board
 pinned = let_go (pin opening_board 5) 2 3
 
 pinned-stays : births pinned ≡ 1 ∷ 2 ∷ 3 ∷ 4 ∷ 5 ∷ 6 ∷ 7 ∷ 8 ∷ []
-unfolding types opening_board drop_slot finish finalise finalise_within let_go pin
+unfolding types opening_board drop_slot finish finalize finalize_within let_go pin
 pinned-stays = refl
 
 unpinned-ends : births (unpin pinned 5) ≡ 1 ∷ 2 ∷ 3 ∷ 4 ∷ 6 ∷ 7 ∷ 8 ∷ []
-unfolding types opening_board drop_slot finish finalise finalise_within let_go pin unpin
+unfolding types opening_board drop_slot finish finalize finalize_within let_go pin unpin
 unpinned-ends = refl
 
 unpinned-pins : (unpin pinned 5).pins ≡ 1 ∷ []
-unfolding types opening_board drop_slot finish finalise finalise_within let_go pin unpin
+unfolding types opening_board drop_slot finish finalize finalize_within let_go pin unpin
 unpinned-pins = refl
 
 nothing-unpinned : births (unpin opening_board 5) ≡ 1 ∷ 2 ∷ 3 ∷ 4 ∷ 5 ∷ 6 ∷ 7 ∷ 8 ∷ []
-unfolding types opening_board drop_slot finish finalise finalise_within unpin
+unfolding types opening_board drop_slot finish finalize finalize_within unpin
 nothing-unpinned = refl

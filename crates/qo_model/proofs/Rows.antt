@@ -9,9 +9,9 @@ use Rattle.qo_values.specs.declared.kinds.TypeId.TheVariants.{Bus, SlotBus, MemB
 use Rattle.qo_model.specs.Board.{Board}
 use Rattle.qo_model.specs.Listing.{listing}
 use Rattle.qo_model.specs.Opening.{opening_board, opening_records, fresh_record, slots_with}
-use Rattle.qo_model.specs.Paths.{canonical, steps_to, attached, resolve_absolute, components, walk}
+use Rattle.qo_model.specs.Paths.{canonical, path_down_to, attached, resolve_absolute, components, walk}
 use Rattle.qo_model.specs.References.{refs}
-use Rattle.qo_model.specs.Types.{TypeRow, row_named, types, type_line, chain, is_a, slots_of, inits, finals}
+use Rattle.qo_model.specs.Types.{TypeInfo, type_named, types, type_line, chain, is_a, slots_of, inits, finals}
 use Rattle.qo_model.specs.RowNames.{property_name}
 use Rattle.qo_model.specs.declared.properties.Property.{Property}
 
@@ -47,7 +47,7 @@ chain-of-uart = refl
 abbrev chain_named : ℕ → List ℕ → List TypeId
 chain_named zero name = []
 chain_named (suc steps) name =
-    elim (row_named name) [
+    elim (type_named name) [
       | None ↦ []
       | Some row ↦ row.id ∷ elim (option_map type_name row.parent) [ None ↦ [] | Some parent ↦ chain_named steps parent ]
     ]
@@ -105,7 +105,7 @@ finals-of-uart : finals SlotUart ≡ SlotUart ∷ SlotDevice ∷ Device ∷ []
 unfolding types
 finals-of-uart = refl
 
-creatable : map (λ (r : TypeRow). r.id) (filter (λ r. is_a r.id (codes "user-creatable") && not r.is_abstract) types) ≡ MemoryBackendRam ∷ Tag ∷ []
+creatable : map (λ (r : TypeInfo). r.id) (filter (λ r. is_a r.id (codes "user-creatable") && not r.is_abstract) types) ≡ MemoryBackendRam ∷ Tag ∷ []
 unfolding types
 creatable = refl
 
@@ -138,11 +138,11 @@ unfolding types opening_board
 relative-missed = refl
 
 path-of-clock : canonical opening_board 5 ≡ Some (codes "/machine/sysclk")
-unfolding types opening_board steps_to
+unfolding types opening_board path_down_to
 path-of-clock = refl
 
 no-path-of-nine : canonical opening_board 9 ≡ None
-unfolding types opening_board steps_to
+unfolding types opening_board path_down_to
 no-path-of-nine = refl
 
 clock-attached : attached opening_board 5 ≡ true
@@ -223,5 +223,5 @@ no-way-through-empty = refl
 
 -- a detached object has no path
 no-path-of-detached : canonical uart_board 9 ≡ None
-unfolding types uart_board uart_births steps_to
+unfolding types uart_board uart_births path_down_to
 no-path-of-detached = refl

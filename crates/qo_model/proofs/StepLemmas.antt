@@ -8,11 +8,11 @@ use Rattle.qo_model.specs.Board.{Board, Record, Slot, plain, child, strong, weak
 use Rattle.qo_model.specs.Depth.{among}
 use Rattle.qo_model.specs.Paths.{births}
 use Rattle.qo_model.specs.References.{refs, refs_in, holds_it}
-use Rattle.qo_model.specs.Release.{edited, with_dropped, drop_slot, forgotten_in, forgotten, finish, finalise}
-use Rattle.qo_model.specs.ReleaseKeeps.{KeepsRelease}
+use Rattle.qo_model.specs.Release.{edited, with_dropped, drop_slot, forgotten_in, forgotten, finish, finalize}
+use Rattle.qo_model.specs.ReleaseInduction.{KeepsRelease}
 use Rattle.qo_model.proofs.EditLemmas.{sum-held, one_is, held-forgotten, sum-edit_le, sum-filter_le, left_of, sum-without_hold_le, StandsAt, stands-at}
 use Rattle.qo_model.proofs.ReleaseLemmas.{found-within}
-use Rattle.qo_model.proofs.ReleaseKeepsLemmas.{release_keeps}
+use Rattle.qo_model.proofs.ReleaseInductionLemmas.{release_keeps}
 
 -- the record of x among records
 abbrev pub found_at : ℕ → List Record → Option Record
@@ -116,7 +116,7 @@ found-other n x apart (r ∷ rs) = go (r.birth == n) refl (r.birth == x) refl (f
     go false p true q rest = rw (p, q) refl
     go false p false q rest = rw (p, q) rest
 
--- behind its end an object is not there, and the others are, without the weak links that named it
+-- after its end an object is not there, and the others are, without the weak links that named it
 pub finish-gone : (b : Board) (n : ℕ) → record_of (finish b n) n ≡ None
 unfolding finish
 finish-gone b n = found-gone n b.records
@@ -183,8 +183,8 @@ unfolding finish
 finish-refs b n x = omega (arith, sum-filter_le (refs_in x) (forgotten n) (λ (r : Record). not (r.birth == n)) (forgotten-refs n x) b.records)
 
 -- a release gives no object a reference
-pub finalise-refs : (b : Board) (n x : ℕ) → refs (finalise b n) x ≤ refs b x
-finalise-refs b n x = release_keeps (λ (work : List (ℕ × ℕ)) (c : Board). refs c x ≤ refs b x) keeps b n [] (omega arith)
+pub finalize-refs : (b : Board) (n x : ℕ) → refs (finalize b n) x ≤ refs b x
+finalize-refs b n x = release_keeps (λ (work : List (ℕ × ℕ)) (c : Board). refs c x ≤ refs b x) keeps b n [] (omega arith)
   where
     keeps : KeepsRelease (λ (work : List (ℕ × ℕ)) (c : Board). refs c x ≤ refs b x)
     keeps =

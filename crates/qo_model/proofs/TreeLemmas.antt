@@ -7,7 +7,7 @@ use Rattle.qo_model.specs.Types.{types}
 use Rattle.qo_model.specs.Board.{Board, Record, Slot, plain, child, strong, weak, alias}
 use Rattle.qo_model.specs.Depth.{among, leads, IsTree, IsLocal, by_depth}
 use Rattle.qo_model.specs.Opening.{opening_board}
-use Rattle.qo_model.specs.Paths.{births, children_in, children_of, is_child, place_in, place_of, parent_of, attached, attached_turn, steps_to, steps_turn, canonical}
+use Rattle.qo_model.specs.Paths.{births, children_in, children_of, is_child, place_in, place_of, parent_of, attached, attached_turn, path_down_to, path_turn, canonical}
 use Rattle.std.specs.List.{AllByRecursion}
 use Rattle.qo_model.specs.SoundAliases.{PassesTo, lasting}
 use Rattle.qo_model.specs.SoundGraph.{graph_of, Rises, SoundGraph, GraphFacts}
@@ -112,31 +112,31 @@ attached-local b n f g same = go (n == 1) refl (place_of b n) refl
     go false p None q = rw (p, attached_turn, q) refl
     go false p (Some r) q = rw (p, attached_turn, q) (same r.0 (asks b n r q))
 
-steps-local : (b : Board) → IsLocal (parents b) (steps_turn b)
+steps-local : (b : Board) → IsLocal (parents b) (path_turn b)
 steps-local b n f g same = go (n == 1) refl (place_of b n) refl
   where
-    go : (t : Bool) → (n == 1) ≡ t → (o : Option (ℕ × List ℕ)) → place_of b n ≡ o → steps_turn b f n ≡ steps_turn b g n
-    go true p o q = rw (p, steps_turn) refl
-    go false p None q = rw (p, steps_turn, q) refl
-    go false p (Some r) q = rw (p, steps_turn, q) (ap (option_map (λ (above : List ℕ). above ++ 47 ∷ r.1)) (same r.0 (asks b n r q)))
+    go : (t : Bool) → (n == 1) ≡ t → (o : Option (ℕ × List ℕ)) → place_of b n ≡ o → path_turn b f n ≡ path_turn b g n
+    go true p o q = rw (p, path_turn) refl
+    go false p None q = rw (p, path_turn, q) refl
+    go false p (Some r) q = rw (p, path_turn, q) (ap (option_map (λ (above : List ℕ). above ++ 47 ∷ r.1)) (same r.0 (asks b n r q)))
 
 -- to any depth the steps are there exactly where parents lead to birth 1
 abbrev SameTo : Board → ℕ → ℕ → Type 0
-SameTo b depth n = is_some (by_depth (steps_turn b) (λ _. None) depth n) ≡ by_depth (attached_turn b) (λ _. false) depth n
+SameTo b depth n = is_some (by_depth (path_turn b) (λ _. None) depth n) ≡ by_depth (attached_turn b) (λ _. false) depth n
 
 attached-steps : (b : Board) (depth n : ℕ) → SameTo b depth n
 attached-steps b zero n = refl
 attached-steps b (suc depth) n = go (n == 1) refl (place_of b n) refl (attached-steps b depth)
   where
     go : (t : Bool) → (n == 1) ≡ t → (o : Option (ℕ × List ℕ)) → place_of b n ≡ o → ((k : ℕ) → SameTo b depth k) → SameTo b (suc depth) n
-    go true p o q above = rw (p, steps_turn, attached_turn) refl
-    go false p None q above = rw (p, steps_turn, attached_turn, q) refl
+    go true p o q above = rw (p, path_turn, attached_turn) refl
+    go false p None q above = rw (p, path_turn, attached_turn, q) refl
     go false p (Some r) q above =
-        rw (p, steps_turn, attached_turn, q) (is_some-map (λ (way : List ℕ). way ++ 47 ∷ r.1) (by_depth (steps_turn b) (λ _. None) depth r.0) ∙ above r.0)
+        rw (p, path_turn, attached_turn, q) (is_some-map (λ (way : List ℕ). way ++ 47 ∷ r.1) (by_depth (path_turn b) (λ _. None) depth r.0) ∙ above r.0)
 
 -- birth 1 has a path and is attached; every other object has a path where it has steps
 attached-canonical : (b : Board) (n : ℕ) → is_some (canonical b n) ≡ attached b n
-unfolding steps_to attached
+unfolding path_down_to attached
 attached-canonical b n = go (n == 1) refl
   where
     go : (t : Bool) → (n == 1) ≡ t → is_some (canonical b n) ≡ attached b n
@@ -144,14 +144,14 @@ attached-canonical b n = go (n == 1) refl
     go false p = rw (p, canonical) (attached-steps b (suc (length (births b))) n)
 
 pub paths_lem : PathsLaw
-unfolding types opening_board steps_to attached
+unfolding types opening_board path_down_to attached
 paths_lem =
     record {
       opening = refl;
       back = refl;
       attached_only = attached-canonical;
       attached_by_parent = λ b sound n. by_objects_is (parents b) (attached_turn b) (λ _. false) (births b) (attached-local b) (parents-tree b sound) n;
-      steps_by_parent = λ b sound n. by_objects_is (parents b) (steps_turn b) (λ _. None) (births b) (steps-local b) (parents-tree b sound) n;
+      steps_by_parent = λ b sound n. by_objects_is (parents b) (path_turn b) (λ _. None) (births b) (steps-local b) (parents-tree b sound) n;
     }
 
 pub frame_lem : FrameLaw

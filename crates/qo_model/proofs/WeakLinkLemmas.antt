@@ -3,10 +3,10 @@ use Rattle.std.proofs.Common.{nat_eq, ◌≡◌, refl, subst, ◌∙◌, ℕ, ze
 use Rattle.std.specs.List.{AllByRecursion, list_any}
 use Rattle.std.proofs.lemmas.Option.{same_Some}
 use Rattle.qo_model.specs.Board.{Board, Record, Slot, plain, child, strong, weak, alias, is_live, slot_at, held}
-use Rattle.qo_model.specs.Release.{edited, emptied, without_hold, with_dropped, drop_slot, forgotten_in, forgotten, finish, after, finalise, let_go, unpin, without_pin}
+use Rattle.qo_model.specs.Release.{edited, emptied, without_hold, with_dropped, drop_slot, forgotten_in, forgotten, finish, after, finalize, let_go, unpin, without_pin}
 use Rattle.qo_model.specs.Laws.{WeakLinksLaw}
-use Rattle.qo_model.specs.ReleaseKeeps.{KeepsRelease, SeesOnly, WeakLinksLive}
-use Rattle.qo_model.proofs.ReleaseKeepsLemmas.{release_keeps, after_keeps}
+use Rattle.qo_model.specs.ReleaseInduction.{KeepsRelease, SeesOnly, WeakLinksLive}
+use Rattle.qo_model.proofs.ReleaseInductionLemmas.{release_keeps, after_keeps}
 use Rattle.qo_model.proofs.StepLemmas.{drop-live, finish-live}
 
 -- the weak links of records see only what a test passes
@@ -100,10 +100,10 @@ weak-keeps =
       kept = λ c m j work s h e held_on. weak-drop c m j h;
     }
 
-release_weak : (b : Board) (n : ℕ) → WeakLinksLive b → WeakLinksLive (finalise b n)
+release_weak : (b : Board) (n : ℕ) → WeakLinksLive b → WeakLinksLive (finalize b n)
 release_weak b n h = release_keeps (λ (work : List (ℕ × ℕ)) (c : Board). WeakLinksLive c) weak-keeps b n [] h
 
-after-weak : (c : Board) (o : Option ℕ) → WeakLinksLive c → WeakLinksLive (after finalise c o)
+after-weak : (c : Board) (o : Option ℕ) → WeakLinksLive c → WeakLinksLive (after finalize c o)
 after-weak c o h = after_keeps (λ (work : List (ℕ × ℕ)) (d : Board). WeakLinksLive d) weak-keeps c o [] (λ m e free. h) (λ held_on. h)
 
 let_go-weak : (b : Board) (owner i : ℕ) → WeakLinksLive b → WeakLinksLive (let_go b owner i)
@@ -123,4 +123,4 @@ unpin-weak b n h = go (list_any (nat_eq n) b.pins) refl
     go true p = rw (unpin, p) (after-weak (without_pin b n) (Some n) h)
 
 pub weak_links_lem : WeakLinksLaw
-weak_links_lem = record { finalised = release_weak; slot_let_go = let_go-weak; unpinned = unpin-weak }
+weak_links_lem = record { finalized = release_weak; slot_let_go = let_go-weak; unpinned = unpin-weak }

@@ -1,4 +1,4 @@
--- What is behind `qom-set`: the board as it was, the slot of the name with another value, or a link of the name with another target.
+-- What is after `qom-set`: the board as it was, the slot of the name with another value, or a link of the name with another target.
 use Rattle.std.proofs.Common.{◌≡◌, refl, ap, ◌∙◌, ℕ, ◌<◌, Bool, true, false, List, [], length, position, slice_get, Option, Some, None, Result, Ok, Err}
 use Rattle.std.specs.Prelude.{get_or, option_and_then, option_map}
 use Rattle.std.specs.Str.{bytes_eq}
@@ -13,13 +13,13 @@ use Rattle.qo_values.specs.declared.properties.Val.{Val}
 use Rattle.qo_values.specs.declared.properties.Val.TheVariants as val
 use Rattle.qo_model.specs.Board.{Board, Slot, plain, child, strong, weak, alias, kind_of, slot_at, slots_at}
 use Rattle.qo_model.specs.Changes.{set}
-use Rattle.qo_model.specs.FinalNotesRuns.{behind_write}
-use Rattle.qo_model.specs.Properties.{link_target, link_written, linked, may_set, relinked, row_of_property, write, written, written_by}
+use Rattle.qo_model.specs.FinalNotesRuns.{after_write}
+use Rattle.qo_model.specs.Properties.{link_target, link_written, linked, may_set, relinked, property_named, write, written, written_by}
 use Rattle.qo_model.specs.Release.{emptied}
 use Rattle.qo_model.specs.declared.properties.First.{First}
 use Rattle.qo_model.specs.declared.properties.Property.{Property}
-use Rattle.qo_model.specs.declared.properties.RowKind.{RowKind}
-use Rattle.qo_model.specs.declared.properties.RowKind.TheVariants as row
+use Rattle.qo_model.specs.declared.properties.PropertyRole.{PropertyRole}
+use Rattle.qo_model.specs.declared.properties.PropertyRole.TheVariants as row
 use Rattle.qo_model.specs.Paths.{child_of}
 
 -- the slots that are links to objects of a type
@@ -46,7 +46,7 @@ position-slot name slots i e =
     record { entry = get_or slots i d; at = slice_get-get_or slots i d h.0; passes = h.1 }
 
 -- what is to be shown of a property with a row: of each slot of its name, where it takes the value, and where it is a link that takes a target
-pub record Writes (P : Board → Type 0) (b : Board) (n i : ℕ) (name : List ℕ) (kind : RowKind) (v : Val) : Type 0 where
+pub record Writes (P : Board → Type 0) (b : Board) (n i : ℕ) (name : List ℕ) (kind : PropertyRole) (v : Val) : Type 0 where
   pub value : (old : Val) → slice_get (slots_at b n) i ≡ Some (name, plain old) → (type : PropType) (first : First) → kind ≡ row.Plain type first
       → admits type v ≡ true → P (set n i v b)
   pub link : (t : TypeId) (s left : Slot) → IsLink t s → emptied s ≡ Some left → slice_get (slots_at b n) i ≡ Some (name, s) → (u : TypeId) (holds : Bool)
@@ -54,10 +54,10 @@ pub record Writes (P : Board → Type 0) (b : Board) (n i : ℕ) (name : List �
 
 module _ (P : Board → Type 0) (b : Board) (none : P b) (n : ℕ) (name : List ℕ) (v : Val) where
   to-link : (i : ℕ) (t : TypeId) → ((path : List ℕ) (target : Option ℕ) → link_target b t path ≡ Ok target → P (relinked b n i target)) → (w : Val)
-      → P (behind_write b (link_written b n i t w))
+      → P (after_write b (link_written b n i t w))
   to-link i t keeps (val.Text path) = go (link_target b t path) refl
     where
-      go : (target : Result (Option ℕ) Code) → link_target b t path ≡ target → P (behind_write b (linked b n i target))
+      go : (target : Result (Option ℕ) Code) → link_target b t path ≡ target → P (after_write b (linked b n i target))
       go (Ok target) told = keeps path target told
       go (Err code) told = none
   to-link i t keeps (val.Bool w) = none
@@ -65,11 +65,11 @@ module _ (P : Board → Type 0) (b : Board) (none : P b) (n : ℕ) (name : List 
   to-link i t keeps (val.Uint w) = none
   to-link i t keeps val.Nothing = none
 
-  to-slot : (i : ℕ) (kind : RowKind) → Writes P b n i name kind v → (s : Slot) → slice_get (slots_at b n) i ≡ Some (name, s)
-      → P (behind_write b (written b n i kind (Some s) v))
+  to-slot : (i : ℕ) (kind : PropertyRole) → Writes P b n i name kind v → (s : Slot) → slice_get (slots_at b n) i ≡ Some (name, s)
+      → P (after_write b (written b n i kind (Some s) v))
   to-slot i (row.Plain type first) keeps (plain old) at = go (admits type v) refl
     where
-      go : (t : Bool) → admits type v ≡ t → P (behind_write b (written b n i (row.Plain type first) (Some (plain old)) v))
+      go : (t : Bool) → admits type v ≡ t → P (after_write b (written b n i (row.Plain type first) (Some (plain old)) v))
       go true p = rw (written, p) (keeps.value old at type first refl p)
       go false p = rw (written, p) none
   to-slot i (row.Link t holds) keeps (strong u target) at =
@@ -85,29 +85,29 @@ module _ (P : Board → Type 0) (b : Board) (none : P b) (n : ℕ) (name : List 
   to-slot i (row.Child t) keeps s at = none
   to-slot i (row.Alias owner property) keeps s at = none
 
-  pub write-comes : ((i : ℕ) (t : TypeId) (p : Property) → kind_of b n ≡ Some t → row_of_property t name ≡ Some p → may_set p.mark ≡ true
-      → Writes P b n i name p.kind v) → P (behind_write b (write b n name v))
+  pub write-comes : ((i : ℕ) (t : TypeId) (p : Property) → kind_of b n ≡ Some t → property_named t name ≡ Some p → may_set p.mark ≡ true
+      → Writes P b n i name p.role v) → P (after_write b (write b n name v))
   write-comes keeps = go (position (λ (s : List ℕ × Slot). bytes_eq s.0 name) (slots_at b n)) refl
     where
-      by : (i : ℕ) → SlotFound name (slots_at b n) i → (t : TypeId) → kind_of b n ≡ Some t → (p : Property) → row_of_property t name ≡ Some p → (u : Bool)
-          → may_set p.mark ≡ u → P (behind_write b (written_by b n i (Some p) v))
+      by : (i : ℕ) → SlotFound name (slots_at b n) i → (t : TypeId) → kind_of b n ≡ Some t → (p : Property) → property_named t name ≡ Some p → (u : Bool)
+          → may_set p.mark ≡ u → P (after_write b (written_by b n i (Some p) v))
       by i f t kind p e false m = rw (written_by, m) none
       by i f t kind p e true m =
           let there : slot_at b n i ≡ Some f.entry.1 = ap (option_map (λ (x : List ℕ × Slot). x.1)) f.at in
           let at : slice_get (slots_at b n) i ≡ Some (name, f.entry.1) =
           f.at ∙ ap (λ (own : List ℕ). Some (own, f.entry.1)) ((bytes_eq-Decides f.entry.0 name).0 f.passes) in
-          rw (written_by, m, there) (to-slot i p.kind (keeps i t p kind e m) f.entry.1 at)
+          rw (written_by, m, there) (to-slot i p.role (keeps i t p kind e m) f.entry.1 at)
 
-      by_row : (i : ℕ) → SlotFound name (slots_at b n) i → (t : TypeId) → kind_of b n ≡ Some t → (o : Option Property) → row_of_property t name ≡ o
-          → P (behind_write b (written_by b n i o v))
+      by_row : (i : ℕ) → SlotFound name (slots_at b n) i → (t : TypeId) → kind_of b n ≡ Some t → (o : Option Property) → property_named t name ≡ o
+          → P (after_write b (written_by b n i o v))
       by_row i f t kind None e = none
       by_row i f t kind (Some p) e = by i f t kind p e (may_set p.mark) refl
 
       by_kind : (i : ℕ) → SlotFound name (slots_at b n) i → (o : Option TypeId) → kind_of b n ≡ o
-          → P (behind_write b (written_by b n i (option_and_then (λ t. row_of_property t name) o) v))
+          → P (after_write b (written_by b n i (option_and_then (λ t. property_named t name) o) v))
       by_kind i f None kind = none
-      by_kind i f (Some t) kind = by_row i f t kind (row_of_property t name) refl
+      by_kind i f (Some t) kind = by_row i f t kind (property_named t name) refl
 
-      go : (place : Option ℕ) → position (λ (s : List ℕ × Slot). bytes_eq s.0 name) (slots_at b n) ≡ place → P (behind_write b (write b n name v))
+      go : (place : Option ℕ) → position (λ (s : List ℕ × Slot). bytes_eq s.0 name) (slots_at b n) ≡ place → P (after_write b (write b n name v))
       go None p = rw (write, p) none
       go (Some i) p = rw (write, p) (by_kind i (position-slot name (slots_at b n) i p) (kind_of b n) refl)

@@ -12,7 +12,7 @@ use Rattle.qo_model.specs.Release.{edit, put_in_order}
 abbrev pub fresh : ℕ → TypeId → Record
 fresh birth kind = record { birth = birth; kind = kind; slots = []; registers = fresh_registers kind; device_id = None; kept_path = None }
 
--- an object of a type is made: it has the next birth, stands behind the others, and is held once from outside the tree
+-- an object of a type is made: it has the next birth, stands after the others, and is held once from outside the tree
 unfoldable pub make : TypeId → Board → Board
 make kind b = record b { records = b.records ++ fresh (b.born + 1) kind ∷ []; born = b.born + 1; pins = put_in_order (b.born + 1) b.pins }
 
@@ -33,7 +33,7 @@ changed_at change i [] = []
 changed_at change zero (s ∷ slots) = (s.0, change s.1) ∷ slots
 changed_at change (suc i) (s ∷ slots) = s ∷ changed_at change i slots
 
--- an object whose slot at a place is changed; without the slot at a place; with a slot more, behind the others
+-- an object whose slot at a place is changed; without the slot at a place; with a slot more, after the others
 abbrev pub with_changed : (Slot → Slot) → ℕ → Record → Record
 with_changed change i r = record r { slots = changed_at change i r.slots }
 
@@ -55,11 +55,11 @@ set n i val b = edit n (with_changed (with_val val) i) b
 unfoldable pub cut : ℕ → ℕ → Board → Board
 cut n i b = edit n (with_cut i) b
 
--- n has a slot more, behind the others
+-- n has a slot more, after the others
 unfoldable pub add : ℕ → List ℕ → Slot → Board → Board
 add n name slot b = edit n (with_added name slot) b
 
--- n has the slots of a new object of a type too, behind the others: its plain properties with their first values, and its links without targets
+-- n has the slots of a new object of a type too, after the others: its plain properties with their first values, and its links without targets
 abbrev pub with_fresh : TypeId → Record → Record
 with_fresh kind r = record r { slots = r.slots ++ fresh_slots kind }
 

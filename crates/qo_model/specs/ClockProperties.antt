@@ -12,12 +12,12 @@ use Rattle.qo_model.specs.declared.properties.Mark.TheVariants.{Set}
 use Rattle.qo_model.specs.declared.properties.Property.{Property}
 use Rattle.qo_model.specs.declared.properties.PropertyName.{PropertyName}
 use Rattle.qo_model.specs.declared.properties.PropertyName.TheVariants as prop
-use Rattle.qo_model.specs.declared.properties.RowKind.{RowKind}
-use Rattle.qo_model.specs.declared.properties.RowKind.TheVariants as row
+use Rattle.qo_model.specs.declared.properties.PropertyRole.{PropertyRole}
+use Rattle.qo_model.specs.declared.properties.PropertyRole.TheVariants as row
 use Rattle.qo_model.specs.Board.{Board, Slot, kind_of, slot_named, plain, alias}
 use Rattle.qo_model.specs.ClockChanges.{clock_scaled, clock_set}
 use Rattle.qo_model.specs.Clocks.{div_of, mul_of}
-use Rattle.qo_model.specs.Properties.{row_of_property, write}
+use Rattle.qo_model.specs.Properties.{property_named, write}
 
 -- the row of the property of a name of n, if `qom-set` alone writes it: the property of a clock, or another name for one
 abbrev pub is_set : Mark → Bool
@@ -28,7 +28,7 @@ abbrev pub only_set : Property → Option Property
 only_set p = if is_set p.mark then Some p else None
 
 abbrev pub set_row : Board → ℕ → List ℕ → Option Property
-set_row b n name = option_and_then (λ t. option_and_then only_set (row_of_property t name)) (kind_of b n)
+set_row b n name = option_and_then (λ t. option_and_then only_set (property_named t name)) (kind_of b n)
 
 -- a property of n by its row; none where n has no such slot, or `qom-set` alone writes no value there
 abbrev pub in_slot : ℕ → Slot → Option Property → Result (ℕ × Property) Code
@@ -58,13 +58,13 @@ abbrev pub typed_written : Board → ℕ → PropertyName → PropType → Val �
 typed_written b c name type (val.Uint n) = if admits type (val.Uint n) then number_written b c name n else Err E19
 typed_written b c name type v = Err E19
 
-abbrev pub kind_written : Board → ℕ → PropertyName → RowKind → Val → Result Board Code
-kind_written b c name (row.Plain type first) v = typed_written b c name type v
-kind_written b c name kind v = Err E18
+abbrev pub role_written : Board → ℕ → PropertyName → PropertyRole → Val → Result Board Code
+role_written b c name (row.Plain type first) v = typed_written b c name type v
+role_written b c name kind v = Err E18
 
 -- a value to a property of a clock, if one was found
 abbrev pub clock_property_written : Board → Val → Result (ℕ × Property) Code → Result Board Code
-clock_property_written b v (Ok p) = kind_written b p.0 p.1.name p.1.kind v
+clock_property_written b v (Ok p) = role_written b p.0 p.1.name p.1.role v
 clock_property_written b v (Err code) = Err code
 
 -- a value to the property of a name of n, as `qom-set` writes it

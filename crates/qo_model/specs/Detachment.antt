@@ -10,5 +10,5 @@ abbrev pub told : Board → Record → Detached
 told b r = record { birth = r.birth; refs = refs b r.birth; kind = r.kind }
 
 -- those without a parent, in the order of births
-abbrev pub detached_told : Board → List Detached
-detached_told b = map (told b) (detached b)
+abbrev pub detached_listed : Board → List Detached
+detached_listed b = map (told b) (detached b)

@@ -52,8 +52,8 @@ is_realized b n = option_map_or is_true (plain_at b n (codes "realized")) false
 abbrev pub bus_of : Board → ℕ → Option ℕ
 bus_of b n = strong_at b n (codes "parent_bus")
 
-abbrev pub place_on : Board → ℕ → Option ℕ
-place_on b n = number_at b n (codes "slot")
+abbrev pub bus_slot_of : Board → ℕ → Option ℕ
+bus_slot_of b n = number_at b n (codes "slot")
 
 -- the name of the link of a bus to the kid in a slot; and of the child slot of the n-th device that has no id
 abbrev pub kid_name : ℕ → List ℕ

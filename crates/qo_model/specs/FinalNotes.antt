@@ -25,11 +25,11 @@ is_final x = deed_is_final x.deed
 abbrev pub is_bound : Note → Bool
 is_bound x = is_some (deed_type x.deed)
 
--- the final notes of n, an object of a type: one for each finaliser, derived first
+-- the final notes of n, an object of a type: one for each finalizer, derived first
 abbrev pub ending : ℕ → TypeId → List Note
 ending n t = map (λ (k : TypeId). record { birth = n; deed = Final k }) (finals t)
 
--- n has its final notes at most once, derived first, and no note behind them: what was noted of it is other notes, and then nothing or the final notes of one
+-- n has its final notes at most once, derived first, and no note after them: what was noted of it is other notes, and then nothing or the final notes of one
 -- type
 pub record FinalOnce (n : ℕ) (notes : List Note) : Type 0 where
   pub before : List Note

@@ -10,7 +10,7 @@ use Rattle.qo_model.specs.Notes.{deed_type}
 use Rattle.qo_model.specs.Objects.{Given, object_add, object_del, sever}
 use Rattle.qo_model.specs.Opening.{opening_board}
 use Rattle.qo_model.specs.Properties.{write}
-use Rattle.qo_model.specs.Release.{finalise, let_go, unpin}
+use Rattle.qo_model.specs.Release.{finalize, let_go, unpin}
 
 -- a change: `object-add` of a type's name, an id and properties; `object-del` of an id; a value to the property of a name of an object; or `x-sever` of an
 -- object
@@ -20,39 +20,39 @@ pub data Change : Type 0 where
   wrote : ℕ → List ℕ → Val → Change
   severed : ℕ → Change
 
--- the board behind a value that was written; it stays where this was refused
-abbrev pub behind_write : Board → Result Board Code → Board
-behind_write b (Ok c) = c
-behind_write b (Err code) = b
+-- the board after a value that was written; it stays where this was refused
+abbrev pub after_write : Board → Result Board Code → Board
+after_write b (Ok c) = c
+after_write b (Err code) = b
 
--- the board behind a change
+-- the board after a change
 abbrev pub changed : Board → Change → Board
 changed b (added driver id props) = (object_add b driver id props).board
 changed b (deleted id) = (object_del b id).board
-changed b (wrote n name v) = behind_write b (write b n name v)
+changed b (wrote n name v) = after_write b (write b n name v)
 changed b (severed n) = (sever b n).board
 
 -- an act of n is noted
 abbrev pub with_act : ℕ → Act → Board → Board
 with_act n act b = record b { notes = b.notes ++ record { birth = n; deed = Did act } ∷ [] }
 
--- the board behind changes, one after another
-abbrev pub behind : Board → List Change → Board
-behind b [] = b
-behind b (change ∷ changes) = behind (changed b change) changes
+-- the board after changes, one after another
+abbrev pub after_changes : Board → List Change → Board
+after_changes b [] = b
+after_changes b (change ∷ changes) = after_changes (changed b change) changes
 
 -- final notes over steps and changes
 pub record FinalOnceLaw : Type 0 where
   -- a release keeps notes in order, and so does an act that is noted on an object that is there, if it does not begin it
-  pub finalised : (b : Board) (n : ℕ) → NotesInOrder b → NotesInOrder (finalise b n)
+  pub finalized : (b : Board) (n : ℕ) → NotesInOrder b → NotesInOrder (finalize b n)
   pub slot_let_go : (b : Board) (owner i : ℕ) → NotesInOrder b → NotesInOrder (let_go b owner i)
   pub unpinned : (b : Board) (n : ℕ) → NotesInOrder b → NotesInOrder (unpin b n)
   pub acted : (b : Board) (n : ℕ) (act : Act) → is_live b n ≡ true → deed_type (Did act) ≡ None → NotesInOrder b → NotesInOrder (with_act n act b)
-  -- each change keeps them in order; they are so on the opening board, and so behind any changes of it
+  -- each change keeps them in order; they are so on the opening board, and so after any changes of it
   pub step : (b : Board) (change : Change) → NotesInOrder b → NotesInOrder (changed b change)
   pub opening : NotesInOrder opening_board
-  pub run : (changes : List Change) → NotesInOrder (behind opening_board changes)
-  -- where they are in order each birth has its final notes at most once, derived first, and no note behind them; so it is behind any changes of the opening
+  pub run : (changes : List Change) → NotesInOrder (after_changes opening_board changes)
+  -- where they are in order each birth has its final notes at most once, derived first, and no note after them; so it is after any changes of the opening
   -- board
   pub once : (b : Board) → NotesInOrder b → (n : ℕ) → FinalOnce n b.notes
-  pub once_in_run : (changes : List Change) (n : ℕ) → FinalOnce n (behind opening_board changes).notes
+  pub once_in_run : (changes : List Change) (n : ℕ) → FinalOnce n (after_changes opening_board changes).notes

@@ -6,16 +6,16 @@ use Rattle.qo_model.specs.Board.{Board, Record, is_live}
 use Rattle.qo_model.specs.Clocks.{child_period, own_period, period, source_of}
 use Rattle.qo_model.specs.Holders.{HeldFrom}
 use Rattle.qo_model.specs.Opening.{opening_board}
-use Rattle.qo_model.specs.Paths.{attached, attached_turn, steps_to, steps_turn, canonical, resolve_absolute}
-use Rattle.qo_model.specs.Release.{finalise, finalise_by, final_notes, let_go, unpin}
-use Rattle.qo_model.specs.ReleaseKeeps.{Leaves, WeakLinksLive}
+use Rattle.qo_model.specs.Paths.{attached, attached_turn, path_down_to, path_turn, canonical, resolve_absolute}
+use Rattle.qo_model.specs.Release.{finalize, finalize_by, final_notes, let_go, unpin}
+use Rattle.qo_model.specs.ReleaseInduction.{Leaves, WeakLinksLive}
 use Rattle.qo_model.specs.ReleaseNotes.{NotesEnds}
-use Rattle.qo_model.specs.ReleaseRules.{Finalises}
-use Rattle.qo_model.specs.Sound.{IsSound}
+use Rattle.qo_model.specs.ReleaseRules.{Finalizes}
+use Rattle.qo_model.specs.Soundness.{IsSound}
 use Rattle.qo_model.specs.SoundAliases.{SoundAliases}
 use Rattle.qo_model.specs.SoundEvents.{SoundEvents}
 use Rattle.qo_model.specs.SoundGraph.{SoundGraph, graph_of}
-use Rattle.qo_model.specs.Types.{chain, has_finaliser}
+use Rattle.qo_model.specs.Types.{chain, has_finalizer}
 
 -- the board that a machine begins with is sound
 abbrev pub OpeningLaw : Type 0
@@ -47,7 +47,7 @@ pub record PathsLaw : Type 0 where
   pub attached_only : (b : Board) (n : ℕ) → is_some (canonical b n) ≡ attached b n
   -- on a sound board, at any depth, an object is attached where its parent is, and its steps are those of its parent and its name
   pub attached_by_parent : (b : Board) → SoundGraph b → (n : ℕ) → attached b n ≡ attached_turn b (attached b) n
-  pub steps_by_parent : (b : Board) → SoundGraph b → (n : ℕ) → steps_to b n ≡ steps_turn b (steps_to b) n
+  pub steps_by_parent : (b : Board) → SoundGraph b → (n : ℕ) → path_down_to b n ≡ path_turn b (path_down_to b) n
 
 -- two boards that agree in all that a group of facts speaks of agree in that group
 pub record FrameLaw : Type 0 where
@@ -57,31 +57,31 @@ pub record FrameLaw : Type 0 where
 
 -- what a release is, on every board
 pub record ReleaseLaw : Type 0 where
-  -- a finalisation is one finalisation by the same rule: no depth bounds it
-  pub one_rule : (b : Board) (n : ℕ) → finalise b n ≡ finalise_by finalise b n
-  -- the rules of release lead from each board to what `finalise` gives, and to nothing else
-  pub reached : (b : Board) (n : ℕ) → Finalises b n (finalise b n)
-  pub only : (b c : Board) (n : ℕ) → Finalises b n c → finalise b n ≡ c
+  -- a finalization is one finalization by the same rule: no depth bounds it
+  pub one_rule : (b : Board) (n : ℕ) → finalize b n ≡ finalize_by finalize b n
+  -- the rules of release lead from each board to what `finalize` gives, and to nothing else
+  pub reached : (b : Board) (n : ℕ) → Finalizes b n (finalize b n)
+  pub only : (b c : Board) (n : ℕ) → Finalizes b n c → finalize b n ≡ c
 
--- what a release leaves as it was: a finalisation; a slot that is let go; a pin that ends, but for the pins
+-- what a release leaves as it was: a finalization; a slot that is let go; a pin that ends, but for the pins
 pub record LeavesLaw : Type 0 where
-  pub finalised : (b : Board) (n : ℕ) → Leaves b (finalise b n)
+  pub finalized : (b : Board) (n : ℕ) → Leaves b (finalize b n)
   pub slot_let_go : (b : Board) (owner i : ℕ) → Leaves b (let_go b owner i)
   pub unpinned : (b : Board) (n : ℕ) → Leaves (record b { pins = (unpin b n).pins }) (unpin b n)
 
--- where no weak link sees an object that is gone, none does behind any of these
+-- where no weak link sees an object that is gone, none does after any of these
 pub record WeakLinksLaw : Type 0 where
-  pub finalised : (b : Board) (n : ℕ) → WeakLinksLive b → WeakLinksLive (finalise b n)
+  pub finalized : (b : Board) (n : ℕ) → WeakLinksLive b → WeakLinksLive (finalize b n)
   pub slot_let_go : (b : Board) (owner i : ℕ) → WeakLinksLive b → WeakLinksLive (let_go b owner i)
   pub unpinned : (b : Board) (n : ℕ) → WeakLinksLive b → WeakLinksLive (unpin b n)
 
 -- each of these notes the ends of objects, and nothing else
 pub record FinalNotesLaw : Type 0 where
-  pub finalised : (b : Board) (n : ℕ) → NotesEnds b (finalise b n)
+  pub finalized : (b : Board) (n : ℕ) → NotesEnds b (finalize b n)
   pub slot_let_go : (b : Board) (owner i : ℕ) → NotesEnds b (let_go b owner i)
   pub unpinned : (b : Board) (n : ℕ) → NotesEnds b (unpin b n)
-  -- the final notes of an object say the finalisers of its type, then of its parent's, and so on to `object`
-  pub derived_first : (r : Record) → map (λ (x : Note). x.deed) (final_notes r) ≡ map Final (filter has_finaliser (chain r.kind))
+  -- the final notes of an object say the finalizers of its type, then of its parent's, and so on to `object`
+  pub derived_first : (r : Record) → map (λ (x : Note). x.deed) (final_notes r) ≡ map Final (filter has_finalizer (chain r.kind))
 
 -- on a sound board an object that is there and not attached is held from a cycle or from an attached object
 abbrev pub CycleLaw : Type 0

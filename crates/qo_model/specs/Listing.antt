@@ -8,11 +8,11 @@ use Rattle.qo_model.specs.Board.{Board, Slot, kind_of, slots_at, slot_named}
 use Rattle.qo_model.specs.Types.{slots_of}
 use Rattle.qo_model.specs.RowNames.{property_name}
 use Rattle.qo_model.specs.declared.properties.Property.{Property}
-use Rattle.qo_model.specs.declared.properties.RowKind.TheVariants as row
+use Rattle.qo_model.specs.declared.properties.PropertyRole.TheVariants as row
 
 -- the word of a property's row; only plain rows have one
 abbrev pub row_word : Property → List ℕ
-row_word p = elim p.kind [ row.Plain type first ↦ value_word type | _ ↦ [] ]
+row_word p = elim p.role [ row.Plain type first ↦ value_word type | _ ↦ [] ]
 
 -- the word of the plain property of a name, of an object of a type
 abbrev pub plain_word : TypeId → List ℕ → List ℕ

@@ -21,7 +21,7 @@ deed_word (Did Pre) = codes "pre"
 deed_word (Did Update) = codes "update"
 deed_word (Final t) = codes "final"
 
--- the type whose initialiser or finaliser ran
+-- the type whose initializer or finalizer ran
 abbrev pub deed_type : Deed → Option TypeId
 deed_type (Did (Init t)) = Some t
 deed_type (Did _) = None

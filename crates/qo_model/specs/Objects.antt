@@ -21,12 +21,12 @@ use Rattle.qo_model.specs.Board.{Board, Record, Slot, plain, child, strong, weak
 use Rattle.qo_model.specs.Changes.{with_added}
 use Rattle.qo_model.specs.Opening.{fresh_slots}
 use Rattle.qo_model.specs.Paths.{attached, place_of}
-use Rattle.qo_model.specs.Properties.{link_target, row_of_property}
+use Rattle.qo_model.specs.Properties.{link_target, property_named}
 use Rattle.qo_model.specs.Release.{edited, final_notes, let_go, pin, unpin}
-use Rattle.qo_model.specs.Types.{TypeRow, inits, is_a, row_named}
+use Rattle.qo_model.specs.Types.{TypeInfo, inits, is_a, type_named}
 use Rattle.qo_model.specs.declared.properties.Property.{Property}
-use Rattle.qo_model.specs.declared.properties.RowKind.{RowKind}
-use Rattle.qo_model.specs.declared.properties.RowKind.TheVariants as row
+use Rattle.qo_model.specs.declared.properties.PropertyRole.{PropertyRole}
+use Rattle.qo_model.specs.declared.properties.PropertyRole.TheVariants as row
 use Rattle.qo_model.specs.declared.properties.Mark.{Mark}
 use Rattle.qo_model.specs.declared.properties.Mark.TheVariants.{Add, Both}
 
@@ -46,19 +46,19 @@ code_of (Ok target) = None
 code_of (Err code) = Some code
 
 -- why a value is refused for a property with a row, if it is
-abbrev pub misfit : Board → RowKind → Val → Option Code
+abbrev pub misfit : Board → PropertyRole → Val → Option Code
 misfit b (row.Plain type first) v = if admits type v then None else Some E19
 misfit b (row.Link t holds) (val.Text path) = code_of (link_target b t path)
 misfit b kind v = Some E19
 
 abbrev pub refusal_by : Board → Option Property → Val → Option Code
 refusal_by b None v = Some E17
-refusal_by b (Some row) v = if may_add row.mark then misfit b row.kind v else Some E18
+refusal_by b (Some row) v = if may_add row.mark then misfit b row.role v else Some E18
 
 -- why the properties given to a new object of a type are refused, if they are: the first that is, in the order given
 abbrev pub refusal_of : Board → TypeId → List Given → Option Code
 refusal_of b t [] = None
-refusal_of b t (p ∷ props) = elim (refusal_by b (row_of_property t p.0) p.1) [ Some code ↦ Some code | None ↦ refusal_of b t props ]
+refusal_of b t (p ∷ props) = elim (refusal_by b (property_named t p.0) p.1) [ Some code ↦ Some code | None ↦ refusal_of b t props ]
 
 -- what a slot of a new object begins as, with the value given to it
 abbrev pub target_given : Result (Option ℕ) Code → Option ℕ
@@ -89,7 +89,7 @@ has_slot b n name = list_any (λ (s : List ℕ × Slot). bytes_eq s.0 name) (slo
 
 -- why an object of a named type, under an id at `/objects`, is refused before an attempt is made, if it is; E15 where `/objects` is not there, which it is on
 -- every sound board
-abbrev pub barred : Board → TypeRow → List ℕ → Option Code
+abbrev pub barred : Board → TypeInfo → List ℕ → Option Code
 barred b row id =
     if row.is_abstract then Some E21
     else if not (is_a row.id (codes "user-creatable")) then Some E22
@@ -101,7 +101,7 @@ barred b row id =
 
 -- why an object of a type's name, under an id, is refused before an attempt is made, if it is
 abbrev pub barred_by : Board → List ℕ → List ℕ → Option Code
-barred_by b driver id = option_map_or (λ (row : TypeRow). barred b row id) (row_named driver) (Some E20)
+barred_by b driver id = option_map_or (λ (row : TypeInfo). barred b row id) (type_named driver) (Some E20)
 
 -- the board with an object more, under an id at `/objects`
 abbrev pub with_object : Board → TypeId → List ℕ → List Given → Board
@@ -114,7 +114,7 @@ with_object b t id props =
       notes = b.notes ++ init_notes (b.born + 1) t;
     }
 
--- the board behind an attempt that was given up: the object was made and ended
+-- the board after an attempt that was given up: the object was made and ended
 abbrev pub with_attempt : Board → TypeId → Board
 with_attempt b t =
     record b {
@@ -124,12 +124,12 @@ with_attempt b t =
           ++ final_notes (record { birth = b.born + 1; kind = t; slots = []; registers = fresh_registers t; device_id = None; kept_path = None });
     }
 
--- the board behind an attempt of `object-add` that was given up; the board itself where the type, the id or the number of objects bars the attempt
+-- the board after an attempt of `object-add` that was given up; the board itself where the type, the id or the number of objects bars the attempt
 abbrev pub attempted_as : Board → List ℕ → List ℕ → Board
 attempted_as b driver id =
-    elim (barred_by b driver id) [ Some code ↦ b | None ↦ option_map_or (λ (row : TypeRow). with_attempt b row.id) (row_named driver) b ]
+    elim (barred_by b driver id) [ Some code ↦ b | None ↦ option_map_or (λ (row : TypeInfo). with_attempt b row.id) (type_named driver) b ]
 
--- what a change comes to: the code that refuses it, if it is refused, and the board behind it
+-- what a change comes to: the code that refuses it, if it is refused, and the board after it
 pub record Changed : Type 0 where
   pub refusal : Option Code
   pub board : Board
@@ -139,13 +139,13 @@ abbrev pub added_as : Board → TypeId → List ℕ → List Given → Option Co
 added_as b t id props None = record { refusal = None; board = with_object b t id props }
 added_as b t id props (Some code) = record { refusal = Some code; board = with_attempt b t }
 
-abbrev pub added_by : Board → TypeRow → List ℕ → List Given → Option Code → Changed
+abbrev pub added_by : Board → TypeInfo → List ℕ → List Given → Option Code → Changed
 added_by b row id props (Some code) = record { refusal = Some code; board = b }
 added_by b row id props None = added_as b row.id id props (refusal_of b row.id props)
 
 abbrev pub object_add : Board → List ℕ → List ℕ → List Given → Changed
 object_add b driver id props =
-    elim (row_named driver) [ None ↦ record { refusal = Some E20; board = b } | Some row ↦ added_by b row id props (barred b row id) ]
+    elim (type_named driver) [ None ↦ record { refusal = Some E20; board = b } | Some row ↦ added_by b row id props (barred b row id) ]
 
 -- the place of the child of `/objects` of a name
 abbrev pub is_object_named : List ℕ → List ℕ × Slot → Bool
@@ -153,14 +153,14 @@ is_object_named id (name, child m) = bytes_eq name id
 is_object_named id s = false
 
 -- the first place from one on at which a slot passes
-abbrev pub place_from : (List ℕ × Slot → Bool) → ℕ → List (List ℕ × Slot) → Option ℕ
-place_from p i [] = None
-place_from p i (s ∷ slots) = if p s then Some i else place_from p (suc i) slots
+abbrev pub index_from : (List ℕ × Slot → Bool) → ℕ → List (List ℕ × Slot) → Option ℕ
+index_from p i [] = None
+index_from p i (s ∷ slots) = if p s then Some i else index_from p (suc i) slots
 
 -- `object-del`: the child slot is let go
 abbrev pub object_del : Board → List ℕ → Changed
 object_del b id =
-    elim (place_from (is_object_named id) 0 (slots_at b OBJECTS_BIRTH)) [
+    elim (index_from (is_object_named id) 0 (slots_at b OBJECTS_BIRTH)) [
       | None ↦ record { refusal = Some E15; board = b }
       | Some i ↦ record { refusal = None; board = let_go b OBJECTS_BIRTH i }
     ]

@@ -13,8 +13,8 @@ use Rattle.qo_model.specs.Board.{Board, Record, Slot}
 use Rattle.qo_model.specs.Types.{slots_of}
 use Rattle.qo_model.specs.RowNames.{property_name}
 use Rattle.qo_model.specs.declared.properties.Property.{Property}
-use Rattle.qo_model.specs.declared.properties.RowKind.{RowKind}
-use Rattle.qo_model.specs.declared.properties.RowKind.TheVariants as row
+use Rattle.qo_model.specs.declared.properties.PropertyRole.{PropertyRole}
+use Rattle.qo_model.specs.declared.properties.PropertyRole.TheVariants as row
 use Rattle.qo_model.specs.declared.properties.First.{First}
 use Rattle.qo_model.specs.declared.properties.First.TheVariants as first
 
@@ -27,7 +27,7 @@ first_value t (first.Uint n) = val.Uint n
 first_value t first.NoText = val.Text []
 
 -- the slot that a property of a name begins as; `further` has the births of the objects that are made as children, by name, as far as they are made
-abbrev pub first_slot : (List ℕ → Option ℕ) → TypeId → List ℕ → RowKind → Option Slot
+abbrev pub first_slot : (List ℕ → Option ℕ) → TypeId → List ℕ → PropertyRole → Option Slot
 first_slot further t name (row.Plain type first) = Some (Slot.plain (first_value t first))
 first_slot further t name (row.Link target true) = Some (Slot.strong target None)
 first_slot further t name (row.Link target false) = Some (Slot.weak target None)
@@ -37,7 +37,7 @@ first_slot further t name (row.Alias owner of) = option_map (λ n. Slot.alias n 
 -- the slots of a new object with these further objects, in order
 abbrev pub slots_with : (List ℕ → Option ℕ) → TypeId → List (List ℕ × Slot)
 slots_with further t =
-    filter_map (λ (p : Property). option_map (λ (s : Slot). (property_name p.name, s)) (first_slot further t (property_name p.name) p.kind)) (slots_of t)
+    filter_map (λ (p : Property). option_map (λ (s : Slot). (property_name p.name, s)) (first_slot further t (property_name p.name) p.role)) (slots_of t)
 
 -- the slots of a new object without further objects: its plain properties and its links
 abbrev pub fresh_slots : TypeId → List (List ℕ × Slot)

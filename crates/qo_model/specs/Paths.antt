@@ -52,20 +52,20 @@ unfoldable pub attached : Board → ℕ → Bool
 attached b n = by_objects (attached_turn b) (λ _. false) (births b) n
 
 -- a `/` and a name for each step from the root down to an object, where f says it of its parent
-abbrev pub steps_turn : Board → (ℕ → Option (List ℕ)) → ℕ → Option (List ℕ)
-steps_turn b f n =
+abbrev pub path_turn : Board → (ℕ → Option (List ℕ)) → ℕ → Option (List ℕ)
+path_turn b f n =
     elim (n == ROOT_BIRTH) [
       | true ↦ Some []
       | false ↦ elim (place_of b n) [ None ↦ None | Some p ↦ option_map (λ (above : List ℕ). above ++ 47 ∷ p.1) (f p.0) ]
     ]
 
 -- a `/` and the name of the child slot for each step from the root down; none where parents do not lead there
-unfoldable pub steps_to : Board → ℕ → Option (List ℕ)
-steps_to b n = by_objects (steps_turn b) (λ _. None) (births b) n
+unfoldable pub path_down_to : Board → ℕ → Option (List ℕ)
+path_down_to b n = by_objects (path_turn b) (λ _. None) (births b) n
 
 -- the canonical path: `/` of the root, else the steps down to the object; a detached object has none
 abbrev pub canonical : Board → ℕ → Option (List ℕ)
-canonical b n = if n == ROOT_BIRTH then Some (codes "/") else steps_to b n
+canonical b n = if n == ROOT_BIRTH then Some (codes "/") else path_down_to b n
 
 -- the components of a path: what stands between its `/`, without the empty ones
 abbrev pub components : List ℕ → List (List ℕ)
@@ -98,10 +98,10 @@ abbrev pub resolve_absolute : Board → List ℕ → List ℕ → Option ℕ
 resolve_absolute b path wanted = if is_absolute path then option_and_then (only_of b wanted) (walk b ROOT_BIRTH (components path)) else None
 
 -- what a path leads to from the objects that it may begin at: one object, none, or several, also where these are the same object
-pub data Place : Type 0 where
-  found : ℕ → Place
-  missing : Place
-  several : Place
+pub data Resolution : Type 0 where
+  found : ℕ → Resolution
+  missing : Resolution
+  several : Resolution
 
 -- the objects that a path begins at: `/` for an absolute one, else each attached object
 abbrev pub starts : Board → List ℕ → List ℕ
@@ -111,11 +111,11 @@ starts b path = if is_absolute path then ROOT_BIRTH ∷ [] else filter (attached
 abbrev pub ends : Board → List ℕ → List ℕ → List ℕ
 ends b path wanted = filter_map (λ n. option_and_then (only_of b wanted) (walk b n (components path))) (starts b path)
 
-abbrev pub the_one : List ℕ → Place
+abbrev pub the_one : List ℕ → Resolution
 the_one [] = missing
 the_one (n ∷ []) = found n
 the_one _ = several
 
 -- what a path leads to
-abbrev pub resolve : Board → List ℕ → List ℕ → Place
+abbrev pub resolve : Board → List ℕ → List ℕ → Resolution
 resolve b path wanted = the_one (ends b path wanted)

@@ -6,7 +6,7 @@ use Rattle.std.specs.Option.{option_map_or, option_or}
 use Rattle.std.specs.Str.{bytes_eq}
 use Rattle.qo_values.specs.Ids.{is_id}
 use Rattle.qo_values.specs.Kinds.{type_name}
-use Rattle.qo_values.specs.Placing.{is_in_window, least, overlaps_any, place_of, range_at}
+use Rattle.qo_values.specs.Placing.{is_in_window, least, overlaps_any, free_address, range_at}
 use Rattle.qo_values.specs.Registers.{Registers, dimm}
 use Rattle.qo_values.specs.declared.births.TheConstants.{ANONYMOUS_BIRTH, MEMORY_BUS_BIRTH, PERIPHERAL_BIRTH, ROOT_BUS_BIRTH, SYSTEM_CLOCK_BIRTH}
 use Rattle.qo_values.specs.declared.limits.TheConstants.{BUS_DEPTH_MAX, BUS_SLOTS, DIMM_ALIGN, LIVE_OBJECTS_MAX, NOTICES_MAX}
@@ -26,17 +26,17 @@ use Rattle.qo_model.specs.Changes.{add, fresh, with_changed}
 use Rattle.qo_model.specs.Clocks.{acted}
 use Rattle.qo_model.specs.Devices.{anonymous_name, bridge_of, child_named, clock_of, depth_of, device_named, is_going, is_realized, kid_name, number_at, number_in, strong_at, text_at, text_in}
 use Rattle.qo_model.specs.FinalNotes.{ending}
-use Rattle.qo_model.specs.Objects.{Given, has_slot, init_notes, place_from, refusal_of, slot_given}
+use Rattle.qo_model.specs.Objects.{Given, has_slot, init_notes, index_from, refusal_of, slot_given}
 use Rattle.qo_model.specs.Opening.{first_value, fresh_record}
 use Rattle.qo_model.specs.Paths.{attached, canonical, found, is_of, only_of, resolve}
 use Rattle.qo_model.specs.Properties.{link_target}
 use Rattle.qo_model.specs.Release.{edit}
 use Rattle.qo_model.specs.Reset.{count, plugged}
-use Rattle.qo_model.specs.Types.{is_a, row_named, slots_of}
+use Rattle.qo_model.specs.Types.{is_a, type_named, slots_of}
 use Rattle.qo_model.specs.RowNames.{property_name}
 use Rattle.qo_model.specs.declared.properties.Property.{Property}
-use Rattle.qo_model.specs.declared.properties.RowKind.{RowKind}
-use Rattle.qo_model.specs.declared.properties.RowKind.TheVariants as row
+use Rattle.qo_model.specs.declared.properties.PropertyRole.{PropertyRole}
+use Rattle.qo_model.specs.declared.properties.PropertyRole.TheVariants as row
 use Rattle.qo_model.specs.Unplug.{is_named, set_named}
 
 -- what is asked for: a type's name, an id, the path of a bus, and properties in byte order of their names
@@ -48,7 +48,7 @@ pub record Wanted : Type 0 where
 
 -- the further objects of a device, in slot order, by name and type; and how many objects a device is
 abbrev pub further_in : Property → Option (List ℕ × TypeId)
-further_in p = elim p.kind [ row.Child t ↦ Some (property_name p.name, t) | _ ↦ None ]
+further_in p = elim p.role [ row.Child t ↦ Some (property_name p.name, t) | _ ↦ None ]
 
 abbrev pub further_of : TypeId → List (List ℕ × TypeId)
 further_of t = filter_map further_in (slots_of t)
@@ -74,7 +74,7 @@ bus_births n t = map (λ (o : ℕ × TypeId). o.0) (filter is_bus (born_from n (
 -- stage 1: the type
 abbrev pub type_barred : List ℕ → Option Code
 type_barred driver =
-    elim (row_named driver) [
+    elim (type_named driver) [
       | None ↦ Some E20
       | Some row ↦ if row.is_abstract then Some E21 else if not (is_a row.id (codes "device")) then Some E22 else None
     ]
@@ -130,9 +130,9 @@ text_for props name = unwrap_or (option_and_then text_in (given_for props name))
 abbrev pub is_free : Board → ℕ → ℕ → Bool
 is_free b bus slot = not (has_slot b bus (kid_name slot))
 
-abbrev pub slot_for : Board → ℕ → Option ℕ → Result ℕ Code
-slot_for b bus (Some slot) = if nat_lt slot BUS_SLOTS then (if is_free b bus slot then Ok slot else Err E29) else Err E28
-slot_for b bus None = elim (least (is_free b bus) 0 BUS_SLOTS) [ None ↦ Err E30 | Some slot ↦ Ok slot ]
+abbrev pub bus_slot_for : Board → ℕ → Option ℕ → Result ℕ Code
+bus_slot_for b bus (Some slot) = if nat_lt slot BUS_SLOTS then (if is_free b bus slot then Ok slot else Err E29) else Err E28
+bus_slot_for b bus None = elim (least (is_free b bus) 0 BUS_SLOTS) [ None ↦ Err E30 | Some slot ↦ Ok slot ]
 
 abbrev pub target_for : Board → TypeId → List Given → List ℕ → Option ℕ
 target_for b t props name = elim (link_target b t (text_for props name)) [ Ok target ↦ target | Err code ↦ None ]
@@ -163,7 +163,7 @@ size_of b m = unwrap_or (number_at b m (codes "size")) 0
 abbrev pub range_for : Board → Option ℕ → ℕ → Result Range Code
 range_for b (Some at) size =
     if is_in_window (range_at at size) && not (overlaps_any (range_at at size) (ranges_of b)) then Ok (range_at at size) else Err E40
-range_for b None size = elim (place_of (ranges_of b) size DIMM_ALIGN) [ None ↦ Err E41 | Some at ↦ Ok (range_at at size) ]
+range_for b None size = elim (free_address (ranges_of b) size DIMM_ALIGN) [ None ↦ Err E41 | Some at ↦ Ok (range_at at size) ]
 
 abbrev pub code_in : {T : Type 0} → Result T Code → Option Code
 code_in (Ok x) = None
@@ -180,7 +180,7 @@ kind_barred b SlotBridge bus props = if nat_le BUS_DEPTH_MAX (depth_of b bus) th
 kind_barred b t bus props = None
 
 abbrev pub place_barred : Board → TypeId → ℕ → List Given → Option Code
-place_barred b t bus props = option_or (code_in (slot_for b bus (number_for props (codes "slot")))) (kind_barred b t bus props)
+place_barred b t bus props = option_or (code_in (bus_slot_for b bus (number_for props (codes "slot")))) (kind_barred b t bus props)
 
 -- stage 6: the ring of a UART
 abbrev pub has_ring : Board → List ℕ → Bool
@@ -242,7 +242,7 @@ passed_notes b bus n t =
     ++ map (did Exit) (if count b bus == 0 then buses ++ n ∷ [] else [])
     ++ map (did Unrealize) (buses ++ n ∷ [])
 
--- the board behind an attempt that was given up: some of the objects were made, in order, this was noted of them, and they ended in this order
+-- the board after an attempt that was given up: some of the objects were made, in order, this was noted of them, and they ended in this order
 abbrev pub with_ended : Board → List (ℕ × TypeId) → List Note → List (ℕ × TypeId) → Board
 with_ended b made passed ended =
     record b { born = b.born + length made; notes = b.notes ++ begun_notes made ++ passed ++ ended_notes ended }
@@ -253,7 +253,7 @@ plug_attempt b t bus stage =
     let os = born_from (suc b.born) (types_in t) in
     with_ended b os (if stage == 8 then passed_notes b bus (suc b.born) t else []) (device_last os)
 
--- cut for want of memory, behind so many objects; the last one, where it was not joined, ends first
+-- cut for want of memory, after so many objects; the last one, where it was not joined, ends first
 abbrev pub cut_order : Bool → ℕ → List (ℕ × TypeId) → List (ℕ × TypeId)
 cut_order true i os = device_last os
 cut_order false zero os = []
@@ -283,9 +283,9 @@ range_of b t props = None
 
 abbrev pub spot_of : Board → TypeId → ℕ → List Given → Spot
 spot_of b t bus props =
-    record { bus = bus; slot = ok_or_zero (slot_for b bus (number_for props (codes "slot"))); range = range_of b t props }
+    record { bus = bus; slot = ok_or_zero (bus_slot_for b bus (number_for props (codes "slot"))); range = range_of b t props }
 
--- an object more behind the others, of the next birth; its initialisers are noted
+-- an object more after the others, of the next birth; its initializers are noted
 abbrev pub with_new : Record → Board → Board
 with_new r b = record b { records = b.records ++ r ∷ []; born = b.born + 1; notes = b.notes ++ init_notes (b.born + 1) r.kind }
 
@@ -302,20 +302,20 @@ aliased n name property None b = b
 aliased n name property (Some m) b = add n name (alias m property) b
 
 -- what a property of a type comes to at a new object n of the type: a plain slot, an empty link, a further object, or an alias of one that was made before
-abbrev pub row_made : ℕ → TypeId → List ℕ → RowKind → Board → Board
-row_made n t name (row.Plain type first) b = add n name (plain (first_value t first)) b
-row_made n t name (row.Link target true) b = add n name (strong target None) b
-row_made n t name (row.Link target false) b = add n name (weak target None) b
-row_made n t name (row.Child type) b = with_kid n name type b
-row_made n t name (row.Alias owner of) b = aliased n name (property_name of) (owned b n (property_name owner)) b
+abbrev pub property_made : ℕ → TypeId → List ℕ → PropertyRole → Board → Board
+property_made n t name (row.Plain type first) b = add n name (plain (first_value t first)) b
+property_made n t name (row.Link target true) b = add n name (strong target None) b
+property_made n t name (row.Link target false) b = add n name (weak target None) b
+property_made n t name (row.Child type) b = with_kid n name type b
+property_made n t name (row.Alias owner of) b = aliased n name (property_name of) (owned b n (property_name owner)) b
 
-abbrev pub rows_made : ℕ → TypeId → List Property → Board → Board
-rows_made n t [] b = b
-rows_made n t (p ∷ ps) b = rows_made n t ps (row_made n t (property_name p.name) p.kind b)
+abbrev pub properties_made : ℕ → TypeId → List Property → Board → Board
+properties_made n t [] b = b
+properties_made n t (p ∷ ps) b = properties_made n t ps (property_made n t (property_name p.name) p.role b)
 
 -- the device is made, property by property, and stands nowhere yet
 abbrev pub drafted : Board → TypeId → Board
-drafted b t = rows_made (b.born + 1) t (slots_of t) (with_new (fresh (b.born + 1) t) b)
+drafted b t = properties_made (b.born + 1) t (slots_of t) (with_new (fresh (b.born + 1) t) b)
 
 -- it is joined to its container and to its bus
 abbrev pub joined : Board → ℕ → Wanted → Spot → Board → Board
@@ -328,7 +328,7 @@ fitted b m (weak t None) = weak t (only_of b (type_name t) m)
 fitted b m s = s
 
 abbrev pub link_named : ℕ → List ℕ → ℕ → Board → Board
-link_named n name m b = elim (place_from (is_named name) 0 (slots_at b n)) [ None ↦ b | Some i ↦ edit n (with_changed (fitted b m) i) b ]
+link_named n name m b = elim (index_from (is_named name) 0 (slots_at b n)) [ None ↦ b | Some i ↦ edit n (with_changed (fitted b m) i) b ]
 
 -- the values that were given, where it stands, and that it is realized
 abbrev pub with_given : Board → List Given → Record → Record
@@ -375,7 +375,7 @@ stood b n a spot c = edit n (with_body_of a.id spot.range) (addressed_at n spot.
 abbrev pub clocked : ℕ → ℕ → Board → Board
 clocked source n c = with_source source (clock_of c n) c
 
--- the objects are made and stand in their places; the initialisers are noted
+-- the objects are made and stand in their places; the initializers are noted
 abbrev pub with_device : Board → TypeId → Wanted → Spot → Board
 with_device b t a spot = let n = b.born + 1 in counted a.id (clocked (source_for b spot.bus) n (stood b n a spot (drafted b t)))
 
@@ -384,7 +384,7 @@ abbrev pub acted_all : Act → List ℕ → Board → Board
 acted_all act [] b = b
 acted_all act (n ∷ ns) b = acted_all act ns (acted act n 0 b)
 
--- the acts of a device that is given up behind them: it is realized, goes through the phases on a bus, and is unrealized
+-- the acts of a device that is given up after them: it is realized, goes through the phases on a bus, and is unrealized
 abbrev pub passed : Board → ℕ → ℕ → TypeId → Board → Board
 passed b bus n t c =
     let buses = bus_births n t in
@@ -395,18 +395,18 @@ passed b bus n t c =
 abbrev pub with_path : Option (List ℕ) → Record → Record
 with_path path r = record r { kept_path = path }
 
-abbrev pub told_plug : ℕ → Board → Board
-told_plug n b = let c = edit n (with_path (canonical b n)) b in record c { notices = b.notices ++ record { plug = true; birth = n } ∷ [] }
+abbrev pub notified_plug : ℕ → Board → Board
+notified_plug n b = let c = edit n (with_path (canonical b n)) b in record c { notices = b.notices ++ record { plug = true; birth = n } ∷ [] }
 
 -- it acts, goes through the phases, and the guest is told
 abbrev pub started : ℕ → TypeId → Board → Board
-started n t c = told_plug n (plugged (acted_all Realize (n ∷ bus_births n t) c) n)
+started n t c = notified_plug n (plugged (acted_all Realize (n ∷ bus_births n t) c) n)
 
 -- a device is added
 abbrev pub with_plugged : Board → TypeId → Wanted → Spot → Board
 with_plugged b t a spot = started (b.born + 1) t (with_device b t a spot)
 
--- what adding comes to: the stage and the code that refuse it, if they do, and the board behind it
+-- what adding comes to: the stage and the code that refuse it, if they do, and the board after it
 pub record Plugged : Type 0 where
   pub refusal : Option (ℕ × Code)
   pub board : Board
@@ -424,7 +424,7 @@ plug_as b t a None = elim (bus_for b t a.bus) [ None ↦ record { refusal = None
 
 abbrev pub plug_by : Board → Wanted → Option Code → Plugged
 plug_by b a (Some code) = record { refusal = Some (1, code); board = b }
-plug_by b a None = elim (row_named a.driver) [ None ↦ record { refusal = None; board = b } | Some row ↦ plug_as b row.id a (barred_early b row.id a) ]
+plug_by b a None = elim (type_named a.driver) [ None ↦ record { refusal = None; board = b } | Some row ↦ plug_as b row.id a (barred_early b row.id a) ]
 
 unfoldable pub plug : Board → Wanted → Plugged
 plug b a = plug_by b a (type_barred a.driver)

@@ -13,12 +13,12 @@ use Rattle.qo_model.specs.Board.{Board, Slot, kind_of, slot_at, slot_named, slot
 use Rattle.qo_model.specs.Changes.{point, set}
 use Rattle.qo_model.specs.Clocks.{derived_period}
 use Rattle.qo_model.specs.Paths.{found, missing, several, canonical, resolve}
-use Rattle.qo_model.specs.Release.{after, drop_slot, finalise}
+use Rattle.qo_model.specs.Release.{after, drop_slot, finalize}
 use Rattle.qo_model.specs.Types.{slots_of}
 use Rattle.qo_model.specs.RowNames.{property_name}
 use Rattle.qo_model.specs.declared.properties.Property.{Property}
-use Rattle.qo_model.specs.declared.properties.RowKind.{RowKind}
-use Rattle.qo_model.specs.declared.properties.RowKind.TheVariants as row
+use Rattle.qo_model.specs.declared.properties.PropertyRole.{PropertyRole}
+use Rattle.qo_model.specs.declared.properties.PropertyRole.TheVariants as row
 use Rattle.qo_model.specs.declared.properties.Mark.{Mark}
 use Rattle.qo_model.specs.declared.properties.Mark.TheVariants.{Both}
 
@@ -52,8 +52,8 @@ abbrev pub value_of : Board → ℕ → List ℕ → Option Val
 value_of b n name = option_and_then (slot_value b n name) (slot_named b n name)
 
 -- the row of the property of a name, of objects of a type
-abbrev pub row_of_property : TypeId → List ℕ → Option Property
-row_of_property t name = find (λ (p : Property). bytes_eq (property_name p.name) name) (slots_of t)
+abbrev pub property_named : TypeId → List ℕ → Option Property
+property_named t name = find (λ (p : Property). bytes_eq (property_name p.name) name) (slots_of t)
 
 -- whether both `qom-set` and the command that adds an object write a property with a mark
 abbrev pub may_set : Mark → Bool
@@ -75,10 +75,10 @@ abbrev pub pointed_at : Option ℕ → ℕ → ℕ → Board → Board
 pointed_at None n i b = b
 pointed_at (Some m) n i b = point n i m b
 
--- a link is written: its new target is set, and then what it held is finalised where nothing refers to it any more
+-- a link is written: its new target is set, and then what it held is finalized where nothing refers to it any more
 abbrev pub relinked : Board → ℕ → ℕ → Option ℕ → Board
 relinked b n i target =
-    elim (slot_at b n i) [ None ↦ b | Some s ↦ after finalise (pointed_at target n i (drop_slot b n i)) (held s) ]
+    elim (slot_at b n i) [ None ↦ b | Some s ↦ after finalize (pointed_at target n i (drop_slot b n i)) (held s) ]
 
 -- a target to a link of n at a place, if it was not refused
 abbrev pub linked : Board → ℕ → ℕ → Result (Option ℕ) Code → Result Board Code
@@ -91,7 +91,7 @@ link_written b n i t (val.Text path) = linked b n i (link_target b t path)
 link_written b n i t v = Err E19
 
 -- a value to the slot of n at a place, which holds this, by the row of its property; a slot that is not what its row says is not written
-abbrev pub written : Board → ℕ → ℕ → RowKind → Option Slot → Val → Result Board Code
+abbrev pub written : Board → ℕ → ℕ → PropertyRole → Option Slot → Val → Result Board Code
 written b n i (row.Plain type first) (Some (plain old)) v = if admits type v then Ok (set n i v b) else Err E19
 written b n i (row.Link t holds) (Some (strong to target)) v = link_written b n i to v
 written b n i (row.Link t holds) (Some (weak to target)) v = link_written b n i to v
@@ -100,14 +100,14 @@ written b n i kind s v = Err E18
 -- a value to the slot of n at a place, whose property has this row; a slot that no row of the type has is not written
 abbrev pub written_by : Board → ℕ → ℕ → Option Property → Val → Result Board Code
 written_by b n i None v = Err E18
-written_by b n i (Some row) v = if may_set row.mark then written b n i row.kind (slot_at b n i) v else Err E18
+written_by b n i (Some row) v = if may_set row.mark then written b n i row.role (slot_at b n i) v else Err E18
 
 -- a value to the property of a name of n, where `qom-set` and the command that adds an object both write it
 abbrev pub write : Board → ℕ → List ℕ → Val → Result Board Code
 write b n name v =
     elim (position (λ (s : List ℕ × Slot). bytes_eq s.0 name) (slots_at b n)) [
       | None ↦ Err E17
-      | Some i ↦ written_by b n i (option_and_then (λ t. row_of_property t name) (kind_of b n)) v
+      | Some i ↦ written_by b n i (option_and_then (λ t. property_named t name) (kind_of b n)) v
     ]
 
 -- the object at a path, or the code where there is none, or several

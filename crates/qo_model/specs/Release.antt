@@ -1,4 +1,4 @@
--- Release: letting go of what a slot holds, and finalising an object whose last holder went (docs/devel/qom.rst, "The QEMU Object Model": reference counting,
+-- Release: letting go of what a slot holds, and finalizing an object whose last holder went (docs/devel/qom.rst, "The QEMU Object Model": reference counting,
 -- `object_unref`, `object_finalize`).
 use Rattle.std.specs.Prelude.{ℕ, zero, suc, ◌==◌, leb, nat_eq, true, false, not, if◌then◌else◌, List, [], ◌∷◌, ◌++◌, map, filter, length, sum_by, count_by, Option, Some, None, is_some, option_map, option_and_then, option_to_list}
 use Rattle.std.specs.List.{list_any}
@@ -30,17 +30,17 @@ without_hold i [] = []
 without_hold zero (s ∷ slots) = elim (emptied s.1) [ None ↦ slots | Some left ↦ (s.0, left) ∷ slots ]
 without_hold (suc i) (s ∷ slots) = s ∷ without_hold i slots
 
--- the slot of n at a place is let go, and nothing is finalised
+-- the slot of n at a place is let go, and nothing is finalized
 abbrev pub with_dropped : ℕ → Record → Record
 with_dropped i r = record r { slots = without_hold i r.slots }
 
 unfoldable pub drop_slot : Board → ℕ → ℕ → Board
 drop_slot b n i = edit n (with_dropped i) b
 
--- the place that comes next: behind a child slot that was let go the next slot has the same place
-abbrev pub next_place : Slot → ℕ → ℕ
-next_place (child m) i = i
-next_place _ i = suc i
+-- the place that comes next: after a child slot that was let go the next slot has the same place
+abbrev pub next_index : Slot → ℕ → ℕ
+next_index (child m) i = i
+next_index _ i = suc i
 
 -- a weak link that names n is emptied
 abbrev pub forgotten_in : ℕ → Slot → Slot
@@ -50,7 +50,7 @@ forgotten_in n s = s
 abbrev pub forgotten : ℕ → Record → Record
 forgotten n r = record r { slots = map (λ (s : List ℕ × Slot). (s.0, forgotten_in n s.1)) r.slots }
 
--- a note for each finaliser of an object's type, derived first
+-- a note for each finalizer of an object's type, derived first
 abbrev pub final_notes : Record → List Note
 final_notes r = map (λ (t : TypeId). record { birth = r.birth; deed = Final t }) (finals r.kind)
 
@@ -74,36 +74,36 @@ holding b = sum_by (λ (r : Record). count_by (λ (s : List ℕ × Slot). is_som
 abbrev pub width : Board → ℕ
 width b = sum_by (λ (r : Record). length r.slots) b.records
 
--- behind the letting go of a slot that held an object, if it held one: this is finalised where nothing refers to it any more
+-- after the letting go of a slot that held an object, if it held one: this is finalized where nothing refers to it any more
 abbrev pub after : (Board → ℕ → Board) → Board → Option ℕ → Board
-after finalise b None = b
-after finalise b (Some m) = elim (refs b m == 0) [ true ↦ finalise b m | false ↦ b ]
+after finalize b None = b
+after finalize b (Some m) = elim (refs b m == 0) [ true ↦ finalize b m | false ↦ b ]
 
 -- the slots of n from a place on are let go, in order, at most so many
-abbrev pub from_place : (Board → ℕ → Board) → ℕ → Board → ℕ → ℕ → Board
-from_place finalise zero b n i = b
-from_place finalise (suc places) b n i =
+abbrev pub from_index : (Board → ℕ → Board) → ℕ → Board → ℕ → ℕ → Board
+from_index finalize zero b n i = b
+from_index finalize (suc places) b n i =
     elim (slot_at b n i) [
       | None ↦ b
-      | Some s ↦ from_place finalise places (after finalise (drop_slot b n i) (held s)) n (next_place s i)
+      | Some s ↦ from_index finalize places (after finalize (drop_slot b n i) (held s)) n (next_index s i)
     ]
 
--- one finalisation: each slot is let go, in order, and then the object ends
-abbrev pub finalise_by : (Board → ℕ → Board) → Board → ℕ → Board
-finalise_by finalise b n = finish (from_place finalise (width b) b n 0) n
+-- one finalization: each slot is let go, in order, and then the object ends
+abbrev pub finalize_by : (Board → ℕ → Board) → Board → ℕ → Board
+finalize_by finalize b n = finish (from_index finalize (width b) b n 0) n
 
--- to a depth; each further finalisation follows a slot that held an object and was let go, so the number of these bounds it
-unfoldable pub finalise_within : ℕ → Board → ℕ → Board
-finalise_within zero b n = b
-finalise_within (suc depth) b n = finalise_by (finalise_within depth) b n
+-- to a depth; each further finalization follows a slot that held an object and was let go, so the number of these bounds it
+unfoldable pub finalize_within : ℕ → Board → ℕ → Board
+finalize_within zero b n = b
+finalize_within (suc depth) b n = finalize_by (finalize_within depth) b n
 
--- n is finalised
-unfoldable pub finalise : Board → ℕ → Board
-finalise b n = finalise_within (suc (holding b)) b n
+-- n is finalized
+unfoldable pub finalize : Board → ℕ → Board
+finalize b n = finalize_within (suc (holding b)) b n
 
--- the slot of an owner at a place is let go, and what it held is finalised where nothing refers to it any more
+-- the slot of an owner at a place is let go, and what it held is finalized where nothing refers to it any more
 unfoldable pub let_go : Board → ℕ → ℕ → Board
-let_go b owner i = elim (slot_at b owner i) [ None ↦ b | Some s ↦ after finalise (drop_slot b owner i) (held s) ]
+let_go b owner i = elim (slot_at b owner i) [ None ↦ b | Some s ↦ after finalize (drop_slot b owner i) (held s) ]
 
 -- a list without the first n in it
 abbrev pub without_first : ℕ → List ℕ → List ℕ
@@ -119,9 +119,9 @@ put_in_order n (m ∷ ms) = if leb m n then m ∷ put_in_order n ms else n ∷ m
 unfoldable pub pin : Board → ℕ → Board
 pin b n = record b { pins = put_in_order n b.pins }
 
--- n is held from outside once less, and is finalised where nothing refers to it any more; an object that is not so held stays
+-- n is held from outside once less, and is finalized where nothing refers to it any more; an object that is not so held stays
 abbrev pub without_pin : Board → ℕ → Board
 without_pin b n = record b { pins = without_first n b.pins }
 
 unfoldable pub unpin : Board → ℕ → Board
-unpin b n = elim (list_any (nat_eq n) b.pins) [ true ↦ after finalise (without_pin b n) (Some n) | false ↦ b ]
+unpin b n = elim (list_any (nat_eq n) b.pins) [ true ↦ after finalize (without_pin b n) (Some n) | false ↦ b ]

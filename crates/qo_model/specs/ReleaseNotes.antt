@@ -13,7 +13,7 @@ notes_on n notes = filter (λ (x : Note). x.birth == n) notes
 abbrev pub finals_of : Board → ℕ → List Note
 finals_of b n = option_map_or final_notes (record_of b n) []
 
--- from b to c nothing was noted but ends: who is still there has no new note, and will have the same final notes; who is not has its final notes behind what
+-- from b to c nothing was noted but ends: who is still there has no new note, and will have the same final notes; who is not has its final notes after what
 -- was noted of it before, and nothing else
 pub record NotesEnds (b c : Board) : Type 0 where
   pub living : (n : ℕ) → is_live c n ≡ true → notes_on n c.notes ≡ notes_on n b.notes

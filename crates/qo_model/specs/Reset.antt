@@ -18,7 +18,7 @@ below b o = if is_of b (codes "bus") o then kids_of b o else buses_of b o
 abbrev pub post_turn : Board → (ℕ → List ℕ) → ℕ → List ℕ
 post_turn b f o = flat_map f (below b o) ++ o ∷ []
 
--- an object behind all that is below it
+-- an object after all that is below it
 unfoldable pub post : Board → ℕ → List ℕ
 post b o = by_objects (post_turn b) (λ _. []) (births b) o
 

@@ -19,12 +19,12 @@ use Rattle.qo_model.specs.declared.properties.Mark.TheVariants.{Never, Add, Both
 use Rattle.qo_model.specs.declared.properties.Property.{Property}
 use Rattle.qo_model.specs.declared.properties.PropertyName.{PropertyName}
 use Rattle.qo_model.specs.declared.properties.PropertyName.TheVariants as prop
-use Rattle.qo_model.specs.declared.properties.RowKind.{RowKind}
-use Rattle.qo_model.specs.declared.properties.RowKind.TheVariants.{Plain, Child, Link, Alias}
+use Rattle.qo_model.specs.declared.properties.PropertyRole.{PropertyRole}
+use Rattle.qo_model.specs.declared.properties.PropertyRole.TheVariants.{Plain, Child, Link, Alias}
 
 -- a row of types: the type that it derives from, whether it has no objects of its own, and the interfaces and the properties that it adds to those of its
 -- parent
-pub record TypeRow : Type 0 where
+pub record TypeInfo : Type 0 where
   pub id : TypeId
   pub parent : Option TypeId
   pub is_abstract : Bool
@@ -48,11 +48,11 @@ abbrev pub int64 : PropType
 int64 = ty.Int (negsuc (2 ^ 63 - 1)) (pos (2 ^ 63 - 1))
 
 -- a row of properties with its parts in order
-abbrev pub property : PropertyName → RowKind → Mark → Property
-property name kind mark = record { name = name; kind = kind; mark = mark }
+abbrev pub property : PropertyName → PropertyRole → Mark → Property
+property name kind mark = record { name = name; role = kind; mark = mark }
 
 -- the sixteen types
-unfoldable pub types : List TypeRow
+unfoldable pub types : List TypeInfo
 types =
     record { id = Object; parent = None; is_abstract = true; interfaces = []; properties = property prop.Type (Plain ty.Text first.TypeName) Never ∷ [] }
     ∷ record { id = Container; parent = Some Object; is_abstract = false; interfaces = []; properties = [] }
@@ -144,16 +144,16 @@ types =
     ∷ []
 
 -- the row of the type of a name
-abbrev pub row_named : List ℕ → Option TypeRow
-row_named name = find (λ r. bytes_eq (type_name r.id) name) types
+abbrev pub type_named : List ℕ → Option TypeInfo
+type_named name = find (λ r. bytes_eq (type_name r.id) name) types
 
 -- the row of a type
-abbrev pub row_of : TypeId → Option TypeRow
-row_of t = row_named (type_name t)
+abbrev pub info_of : TypeId → Option TypeInfo
+info_of t = type_named (type_name t)
 
 -- the type that a type derives from
 abbrev pub parent_of : TypeId → Option TypeId
-parent_of t = option_and_then (λ (r : TypeRow). r.parent) (row_of t)
+parent_of t = option_and_then (λ (r : TypeInfo). r.parent) (info_of t)
 
 -- a type, its parent and so on, at most so many
 abbrev pub chain_within : ℕ → TypeId → List TypeId
@@ -166,11 +166,11 @@ chain t = chain_within (length types) t
 
 -- the interfaces in the row of a type
 abbrev pub interfaces_of : TypeId → List Interface
-interfaces_of t = option_map_or (λ (r : TypeRow). r.interfaces) (row_of t) []
+interfaces_of t = option_map_or (λ (r : TypeInfo). r.interfaces) (info_of t) []
 
 -- the properties in the row of a type
 abbrev pub properties_of : TypeId → List Property
-properties_of t = option_map_or (λ (r : TypeRow). r.properties) (row_of t) []
+properties_of t = option_map_or (λ (r : TypeInfo). r.properties) (info_of t) []
 
 -- whether a name is a type's own, or one of its interfaces
 abbrev pub answers_to : List ℕ → TypeId → Bool
@@ -184,17 +184,17 @@ is_a t name = list_any (answers_to name) (chain t)
 abbrev pub slots_of : TypeId → List Property
 slots_of t = flat_map properties_of (reverse (chain t))
 
--- whether a type has an initialiser and a finaliser: all but `object` and `container` have
-abbrev pub has_finaliser : TypeId → Bool
-has_finaliser Object = false
-has_finaliser Container = false
-has_finaliser _ = true
+-- whether a type has an initializer and a finalizer: all but `object` and `container` have
+abbrev pub has_finalizer : TypeId → Bool
+has_finalizer Object = false
+has_finalizer Container = false
+has_finalizer _ = true
 
--- the types whose finalisers end an object, derived first
+-- the types whose finalizers end an object, derived first
 abbrev pub finals : TypeId → List TypeId
-finals t = filter has_finaliser (chain t)
+finals t = filter has_finalizer (chain t)
 
--- the types whose initialisers begin an object, base first
+-- the types whose initializers begin an object, base first
 abbrev pub inits : TypeId → List TypeId
 inits t = reverse (finals t)
 
@@ -203,8 +203,8 @@ abbrev pub names_text : List (List ℕ) → List ℕ
 names_text [] = codes "-"
 names_text (name ∷ names) = join_with_byte 44 (name ∷ names)
 
--- the line of a type: its name, its parent or `-`, `abstract` or `plain`, its interfaces or `-`; spaces between them, and LF behind
-abbrev pub type_line : TypeRow → List ℕ
+-- the line of a type: its name, its parent or `-`, `abstract` or `plain`, its interfaces or `-`; spaces between them, and LF after
+abbrev pub type_line : TypeInfo → List ℕ
 type_line r =
     join_with_byte 32 (type_name r.id ∷ option_map_or type_name r.parent (codes "-") ∷ (if r.is_abstract then codes "abstract" else codes "plain")
     ∷ names_text (map interface_name r.interfaces) ∷ []) ++ 10 ∷ []

@@ -11,9 +11,9 @@ use Rattle.qo_model.specs.Changes.{cut, set, with_changed}
 use Rattle.qo_model.specs.Clocks.{acted, device_period}
 use Rattle.qo_model.specs.Depth.{by_objects}
 use Rattle.qo_model.specs.Devices.{clock_name, bus_of, buses_of, clock_of, kids_of}
-use Rattle.qo_model.specs.Objects.{place_from}
+use Rattle.qo_model.specs.Objects.{index_from}
 use Rattle.qo_model.specs.Paths.{births, is_child}
-use Rattle.qo_model.specs.Release.{after, drop_slot, edit, finalise, let_go, pin, unpin}
+use Rattle.qo_model.specs.Release.{after, drop_slot, edit, finalize, let_go, pin, unpin}
 
 -- lists of the board without what concerns n
 abbrev pub without_all : ℕ → List ℕ → List ℕ
@@ -30,11 +30,11 @@ abbrev pub is_named : List ℕ → List ℕ × Slot → Bool
 is_named name s = bytes_eq s.0 name
 
 abbrev pub set_named : ℕ → List ℕ → Val → Board → Board
-set_named n name v b = elim (place_from (is_named name) 0 (slots_at b n)) [ None ↦ b | Some i ↦ set n i v b ]
+set_named n name v b = elim (index_from (is_named name) 0 (slots_at b n)) [ None ↦ b | Some i ↦ set n i v b ]
 
 -- the first slot of n that passes is let go
 abbrev pub let_go_where : (List ℕ × Slot → Bool) → ℕ → Board → Board
-let_go_where p n b = elim (place_from p 0 (slots_at b n)) [ None ↦ b | Some i ↦ let_go b n i ]
+let_go_where p n b = elim (index_from p 0 (slots_at b n)) [ None ↦ b | Some i ↦ let_go b n i ]
 
 -- a weak link is emptied; any other slot stays
 abbrev pub unseen : Slot → Slot
@@ -42,7 +42,7 @@ unseen (weak t target) = weak t None
 unseen s = s
 
 abbrev pub unseen_named : ℕ → List ℕ → Board → Board
-unseen_named n name b = elim (place_from (is_named name) 0 (slots_at b n)) [ None ↦ b | Some i ↦ edit n (with_changed unseen i) b ]
+unseen_named n name b = elim (index_from (is_named name) 0 (slots_at b n)) [ None ↦ b | Some i ↦ edit n (with_changed unseen i) b ]
 
 -- a clock loses its source and stands still; nobody is called back
 abbrev pub disconnected : Option ℕ → Board → Board
@@ -71,10 +71,10 @@ unrealize b d = by_objects (unrealize_turn b) (λ d c. c) (births b) d b
 
 -- the first link that passes is let go and removed
 abbrev pub take_slot : Board → ℕ → ℕ → Board
-take_slot b n i = elim (slot_at b n i) [ None ↦ b | Some s ↦ after finalise (cut n i (drop_slot b n i)) (held s) ]
+take_slot b n i = elim (slot_at b n i) [ None ↦ b | Some s ↦ after finalize (cut n i (drop_slot b n i)) (held s) ]
 
 abbrev pub take_where : (List ℕ × Slot → Bool) → ℕ → Board → Board
-take_where p n b = elim (place_from p 0 (slots_at b n)) [ None ↦ b | Some i ↦ take_slot b n i ]
+take_where p n b = elim (index_from p 0 (slots_at b n)) [ None ↦ b | Some i ↦ take_slot b n i ]
 
 abbrev pub names_kid : ℕ → List ℕ × Slot → Bool
 names_kid d (name, strong t (Some m)) = m == d
@@ -83,8 +83,8 @@ names_kid d s = false
 abbrev pub is_child_slot : ℕ → List ℕ × Slot → Bool
 is_child_slot d s = is_child d s.1
 
-abbrev pub is_bus_slot : ℕ → List ℕ × Slot → Bool
-is_bus_slot m s = is_child m s.1 && not (bytes_eq s.0 clock_name)
+abbrev pub is_bus_child : ℕ → List ℕ × Slot → Bool
+is_bus_child m s = is_child m s.1 && not (bytes_eq s.0 clock_name)
 
 -- the first kid of a bus
 abbrev pub first_of : List ℕ → Option ℕ
@@ -98,7 +98,7 @@ drained f (suc times) m b = elim (first_of (kids_of b m)) [ None ↦ b | Some k 
 
 -- a bus of a device: its kids are detached, and it is let go
 abbrev pub lost_bus : (ℕ → Board → Board) → ℕ → ℕ → Board → Board
-lost_bus f d m b = let_go_where (is_bus_slot m) d (drained f (length (slots_at b m)) m b)
+lost_bus f d m b = let_go_where (is_bus_child m) d (drained f (length (slots_at b m)) m b)
 
 -- at most so many times the first bus of a device is lost, if there is one
 abbrev pub lost_buses : (ℕ → Board → Board) → ℕ → ℕ → Board → Board

@@ -14,7 +14,7 @@ ghost use Rattle.qo_model.specs.Laws.{
   WeakLinksLaw,
   PeriodsLaw,
 };
-ghost use Rattle.qo_model.specs.ReleaseKeeps.{KeepsRelease, Keeps};
+ghost use Rattle.qo_model.specs.ReleaseInduction.{KeepsRelease, Keeps};
 
 use std::marker::Brand;
 
@@ -26,7 +26,7 @@ pub fn law_opening()
 
 /// On the opening board the eight objects have their canonical paths, and each leads back to its
 /// object. An object has a canonical path exactly where it is attached. On a sound board it is
-/// attached where its parent is, and its path is its parent's with its name behind.
+/// attached where its parent is, and its path is its parent's with its name after.
 #[tactic(auto, using(crate::proofs::TreeLemmas::paths_lem))]
 pub fn law_paths()
     ensures { PathsLaw }
@@ -38,15 +38,15 @@ pub fn law_frame()
     ensures { FrameLaw }
 {}
 
-/// A release is one finalisation by its own rule, on every board and to any depth. The rules of
-/// release, as steps from board to board, lead to what `finalise` gives and to nothing else.
+/// A release is one finalization by its own rule, on every board and to any depth. The rules of
+/// release, as steps from board to board, lead to what `finalize` gives and to nothing else.
 #[tactic(auto, using(crate::proofs::ReleaseRulesLemmas::release_lem))]
 pub fn law_release()
     ensures { ReleaseLaw }
 {}
 
 /// A fact of the work that a release still has to do, and of the board. The work is a list: each
-/// object that is being finalised, and the place from which its slots are still to be let go.
+/// object that is being finalized, and the place from which its slots are still to be let go.
 pub trait Kept {
     ghost kept: { List (ℕ × ℕ) → Board → Type 0 };
 }
@@ -63,27 +63,27 @@ pub fn law_release_keeps<K: Kept>()
 {}
 
 /// A release leaves all but records, notes and events. It makes no object, and of an object that
-/// is still there it changes slots alone; notes and events come behind those of before.
-#[tactic(auto, using(crate::proofs::ReleaseLeavesLemmas::leaves_lem))]
+/// is still there it changes slots alone; notes and events come after those of before.
+#[tactic(auto, using(crate::proofs::ReleaseScopeLemmas::leaves_lem))]
 pub fn law_release_leaves()
     ensures { LeavesLaw }
 {}
 
-/// Where each weak link that is not empty sees an object that is there, so it is behind a release.
+/// Where each weak link that is not empty sees an object that is there, so it is after a release.
 #[tactic(auto, using(crate::proofs::WeakLinkLemmas::weak_links_lem))]
 pub fn law_weak_links()
     ensures { WeakLinksLaw }
 {}
 
 /// A release notes the ends of objects and nothing else: on an object that is still there no new
-/// note, on one that is not its final notes, derived first, behind what was noted of it before.
+/// note, on one that is not its final notes, derived first, after what was noted of it before.
 #[tactic(auto, using(crate::proofs::ReleaseNotesLemmas::final_notes_lem))]
 pub fn law_final_notes()
     ensures { FinalNotesLaw }
 {}
 
-/// Behind any commands on objects, from the opening board on, each birth has its final notes at most
-/// once, derived first, and no note behind them; they are those of the type of its init notes.
+/// After any commands on objects, from the opening board on, each birth has its final notes at most
+/// once, derived first, and no note after them; they are those of the type of its init notes.
 #[tactic(auto, using(crate::proofs::FinalNotesRunsLemmas::final_once_lem))]
 pub fn law_final_once()
     ensures { FinalOnceLaw }

@@ -11,7 +11,7 @@ use std::alloc::{AllocError, Global};
 pub enum Deed {
     /// An act on the object's body.
     Did(Act),
-    /// The finaliser of one type of the object's chain.
+    /// The finalizer of one type of the object's chain.
     Final(TypeId),
 }
 
@@ -42,7 +42,7 @@ impl Deed {
         }
     }
 
-    /// The type whose initialiser or finaliser ran; `None` for every other act.
+    /// The type whose initializer or finalizer ran; `None` for every other act.
     pub fn type_id(self) -> Option<TypeId>
         ensures { result ≡ deed_type self }
     {

@@ -35,7 +35,7 @@ pub enum Mark {
 
 /// What a property is.
 #[derive(Clone, Copy, Debug)]
-pub enum RowKind {
+pub enum PropertyRole {
     /// A value of a type, and what it is at first.
     Plain(PropType, First),
     /// A child of a type, which is made with the object.
@@ -62,7 +62,7 @@ pub struct Property {
     /// The property's name.
     pub name: PropertyName,
     /// What the property is.
-    pub kind: RowKind,
+    pub role: PropertyRole,
     /// Who may write it.
     pub mark: Mark,
 }

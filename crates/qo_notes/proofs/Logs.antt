@@ -11,7 +11,8 @@ use Rattle.qo_notes.specs.Laws.{LogLaw, GivenLaw}
 
 module _ {X : Type 0} where
   -- of the last `most` and one more, the last `most` are those of all
-  last_again : (most : ℕ) (xs : List X) (x : X) → drop (length (drop (length xs - most) xs ++ x ∷ []) - most) (drop (length xs - most) xs ++ x ∷ []) ≡ drop (length (xs ++ x ∷ []) - most) (xs ++ x ∷ [])
+  last_again : (most : ℕ) (xs : List X) (x : X)
+      → drop (length (drop (length xs - most) xs ++ x ∷ []) - most) (drop (length xs - most) xs ++ x ∷ []) ≡ drop (length (xs ++ x ∷ []) - most) (xs ++ x ∷ [])
   last_again most xs x =
       let skip = length xs - most in
       let whole : drop skip xs ++ x ∷ [] ≡ drop skip (xs ++ x ∷ []) = sym (drop-append-le skip xs (x ∷ []) (omega arith)) in
@@ -32,7 +33,8 @@ module _ (note : Note) (kept : List Note) where
   length-front (suc m) = omega (arith, length-front m)
 
 -- each log is that of some notes
-pub some_lem : (total : ℕ) (kept : List Note) → length kept ≡ min total NOTES_KEPT → total ≤ 2 ^ 64 - 1 → (notes : List Note) × IsLogOf notes (record { total = total; kept = kept })
+pub some_lem : (total : ℕ) (kept : List Note) → length kept ≡ min total NOTES_KEPT → total ≤ 2 ^ 64 - 1
+    → (notes : List Note) × IsLogOf notes (record { total = total; kept = kept })
 some_lem total kept size bound =
     let note : Note = record { birth = 0; deed = Did Enter } in
     let before : ℕ = total - length kept in

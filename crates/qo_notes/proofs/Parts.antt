@@ -39,10 +39,12 @@ module _ {X : Type 0} where
   rest xs n = take_all (length xs - n) (drop n xs) (omega (arith, length-drop n xs))
 
   -- past the first n of two lists is what is past `a` of the one and `b` of the other
-  pub past_lem : (xs ys : List X) (n a b : ℕ) → a ≡ min n (length xs) → b ≡ min (n - a) (length ys) → take (length xs - a) (drop a xs) ++ take (length ys - b) (drop b ys) ≡ drop n (xs ++ ys)
+  pub past_lem : (xs ys : List X) (n a b : ℕ) → a ≡ min n (length xs) → b ≡ min (n - a) (length ys)
+      → take (length xs - a) (drop a xs) ++ take (length ys - b) (drop b ys) ≡ drop n (xs ++ ys)
   past_lem xs ys n a b is_a is_b =
       ap (λ zs. zs ++ take (length ys - b) (drop b ys)) (rest xs a ∙ ap (λ k. drop k xs) is_a ∙ drop_min n xs)
-      ∙ ap (λ zs. drop n xs ++ zs) (rest ys b ∙ ap (λ k. drop k ys) {x = b} {y = min (n - length xs) (length ys)} (omega (arith, is_a, is_b)) ∙ drop_min (n - length xs) ys)
+      ∙ ap (λ zs. drop n xs ++ zs)
+      (rest ys b ∙ ap (λ k. drop k ys) {x = b} {y = min (n - length xs) (length ys)} (omega (arith, is_a, is_b)) ∙ drop_min (n - length xs) ys)
       ∙ past_two xs ys n
 
   -- the first n of two lists are the first `a` of the one and `b` of the other

@@ -13,4 +13,5 @@ pub record LogLaw : Type 0 where
 
 -- a reading gives the notes from its first number on, at most `NOTES_PER_REPLY`, where the total still counts each note
 abbrev pub GivenLaw : Type 0
-GivenLaw = (notes : List Note) (log : Log) (from : ℕ) → IsLogOf notes log → log.total < 2 ^ 64 - 1 → given_from from log ≡ take NOTES_PER_REPLY (drop (first_from from log) notes)
+GivenLaw = (notes : List Note) (log : Log) (from : ℕ) → IsLogOf notes log → log.total < 2 ^ 64 - 1
+    → given_from from log ≡ take NOTES_PER_REPLY (drop (first_from from log) notes)

@@ -31,6 +31,7 @@ pub record IsLogOf (notes : List Note) (log : Log) : Type 0 where
 abbrev pub first_from : ℕ → Log → ℕ
 first_from from log = min (max from (log.total - NOTES_KEPT)) log.total
 
--- the notes that a reading gives: from that number on, at most `NOTES_PER_REPLY`; numbers count all notes from 0, so the first kept has the total less how many are kept
+-- the notes that a reading gives: from that number on, at most `NOTES_PER_REPLY`; numbers count all notes from 0, so the first kept has the total less how many
+-- are kept
 abbrev pub given_from : ℕ → Log → List Note
 given_from from log = take NOTES_PER_REPLY (drop (first_from from log - (log.total - length log.kept)) log.kept)

@@ -1,4 +1,4 @@
-pub mod KeptLemmas
+pub mod ObjectLemmas
 pub mod NameLemmas
-pub mod ShownLemmas
+pub mod BoardObjectLemmas
 pub mod SlotLemmas

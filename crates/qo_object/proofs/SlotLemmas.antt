@@ -100,7 +100,8 @@ found-any {X} test xs = told (nat_lt (position_or_len test xs) (length xs)) (pos
     below [] = refl
     below (y ∷ ys) = by (test y) (below ys)
       where
-        by : (b : Bool) → nat_lt (position_or_len test ys) (length ys) ≡ list_any test ys → nat_lt (cond (not b) (1 + position_or_len test ys) 0) (suc (length ys)) ≡ b || list_any test ys
+        by : (b : Bool) → nat_lt (position_or_len test ys) (length ys) ≡ list_any test ys
+            → nat_lt (cond (not b) (1 + position_or_len test ys) 0) (suc (length ys)) ≡ b || list_any test ys
         by true rest = low (length ys)
         by false rest = step (position_or_len test ys) (length ys) ∙ rest
 
@@ -128,7 +129,8 @@ find-at_place {X} test xs = find_at test xs ∙ by (nat_lt (position_or_len test
     past (y ∷ ys) zero low = absurd (omega arith)
     past (y ∷ ys) (suc n) low = past ys n (omega arith)
 
-    by : (b : Bool) → nat_lt (position_or_len test xs) (length xs) ≡ b → slice_get xs (position_or_len test xs) ≡ option_and_then (slice_get xs) (cond b (Some (position_or_len test xs)) None)
+    by : (b : Bool) → nat_lt (position_or_len test xs) (length xs) ≡ b
+        → slice_get xs (position_or_len test xs) ≡ option_and_then (slice_get xs) (cond b (Some (position_or_len test xs)) None)
     by true is = refl
     by false is = past xs (position_or_len test xs) (ltb-false (position_or_len test xs) (length xs) is)
 

@@ -40,7 +40,7 @@ fresh kind = as_made kind [] 1
 abbrev pub HasNoClaim : Content → Type 0
 HasNoClaim c = IsBare c.body × (c.device_id ≡ None)
 
--- a slot more, behind the others
+-- a slot more, after the others
 abbrev pub with_slot : List ℕ → Slot → Content → Content
 with_slot name slot c = record c { slots = c.slots ++ (name, slot) ∷ [] }
 
@@ -91,8 +91,8 @@ is_holder birth c = list_any (λ (s : List ℕ × Slot). holds birth s.1) c.slot
 abbrev pub is_parent : ℕ → Content → Bool
 is_parent birth c = list_any (λ (s : List ℕ × Slot). names_child birth s.1) c.slots
 
-abbrev pub held_count : Content → ℕ
-held_count c = count_by (λ (s : List ℕ × Slot). is_some (held s.1)) c.slots
+abbrev pub reference_count : Content → ℕ
+reference_count c = count_by (λ (s : List ℕ × Slot). is_some (held s.1)) c.slots
 
 -- its body acts
 abbrev pub acted_at : Act → ℕ → ℕ → Content → Content

@@ -1,5 +1,5 @@
 pub mod Content
-pub mod Lends
+pub mod Loans
 pub mod Names
-pub mod Shown
+pub mod BoardObject
 pub mod Slots

@@ -54,7 +54,7 @@ impl Names {
         self.set.get_index_of(name)
     }
 
-    /// Adds a name that is not there, behind the others.
+    /// Adds a name that is not there, after the others.
     pub fn add(&mut self, name: &str) -> Result<(), AllocError>
         requires { list_any (bytes_eq name.now) self.old ≡ false }
         ensures { OnOk result (self.new ≡ self.old ++ name.now ∷ []) }

@@ -145,7 +145,7 @@ impl SlotMap {
         Some(names)
     }
 
-    /// Adds a slot under a name, behind the others, unless there is one of that name, which then stays.
+    /// Adds a slot under a name, after the others, unless there is one of that name, which then stays.
     /// It answers whether it was added. An error adds nothing.
     pub fn add(&mut self, name: SlotName, slot: Slot) -> Result<bool, AllocError>
         ensures added { result ≡ Ok true → (has_name name self.old ≡ false) × (self.new ≡ self.old ++ (name, slot) ∷ []) }

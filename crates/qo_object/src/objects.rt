@@ -80,9 +80,9 @@ impl Object {
     ghost use Rattle.std.specs.Str.{bytes_eq};
     ghost use Rattle.std.specs.Borrow.{sem};
     ghost use Rattle.qo_kinds.specs.Bodies.{MayAct, kept_of};
-    ghost use Rattle.qo_object.specs.Lends.{lends_body};
+    ghost use Rattle.qo_object.specs.Loans.{lends_body};
     ghost use Rattle.qo_object.specs.Slots.{has_name, names_child, names_of};
-    ghost use Rattle.qo_object.specs.Content.{IsObject, acted_at, fresh, with_id, with_path, with_slot, furnished, named_at, dropped_at, empty_link_at, pointed_at, set_at, cut_at, with_pin, without_pin, forgotten, holding, is_holder, is_parent, held_count};
+    ghost use Rattle.qo_object.specs.Content.{IsObject, acted_at, fresh, with_id, with_path, with_slot, furnished, named_at, dropped_at, empty_link_at, pointed_at, set_at, cut_at, with_pin, without_pin, forgotten, holding, is_holder, is_parent, reference_count};
     ghost use Rattle.qo_object.specs.declared.errors.AddError.TheVariants.{Duplicate, Memory};
 
     /// An object of a type, without slots, pinned once. It takes no memory.
@@ -197,7 +197,7 @@ impl Object {
         self.slots.slot_at(at)
     }
 
-    /// Adds a slot behind the others. `Duplicate` comes exactly where there is a slot of that name;
+    /// Adds a slot after the others. `Duplicate` comes exactly where there is a slot of that name;
     /// `Memory` where memory runs out, or where there are 2^32 slots. An error leaves the object as
     /// it was, and lets the slot go.
     pub fn add(&mut self, name: SlotName, slot: Slot) -> Result<(), AddError>
@@ -318,7 +318,7 @@ impl Object {
 
     /// Whether none of its slots holds an object. It takes no memory.
     pub fn is_bare(&self) -> bool
-        ensures { result ≡ (held_count self.now == 0) }
+        ensures { result ≡ (reference_count self.now == 0) }
     {
         !self.slots.holds_any()
     }

@@ -3,12 +3,12 @@ use Rattle.std.proofs.Common.{◌≡◌, refl, ap, sym, ◌∙◌, ℕ, zero, su
 use Rattle.std.specs.List.{slice_split}
 use Rattle.qo_model.specs.Board.{Board}
 use Rattle.qo_model.specs.Paths.{components, next_of, walk}
-use Rattle.qo_paths.specs.Parts.{parts_behind, path_up}
+use Rattle.qo_paths.specs.Parts.{parts_after, path_up}
 
 -- the components of what is left, and its length with one more where something is left
-abbrev pub named_behind : Option (List ℕ) → List (List ℕ)
-named_behind None = []
-named_behind (Some path) = components path
+abbrev pub named_after : Option (List ℕ) → List (List ℕ)
+named_after None = []
+named_after (Some path) = components path
 
 abbrev pub size_of : Option (List ℕ) → ℕ
 size_of None = 0
@@ -18,7 +18,8 @@ not_empty : (b : ℕ) (part : List ℕ) → length (b ∷ part) == 0 ≡ false
 not_empty b part = grind arith
 
 -- what is left begins with its first part, unless that is empty
-components_first : (path part : List ℕ) (rest : Option (List ℕ)) → slice_split (λ c. c == 47) path ≡ part ∷ parts_behind rest → components path ≡ cond (length part == 0) (named_behind rest) (part ∷ named_behind rest)
+components_first : (path part : List ℕ) (rest : Option (List ℕ)) → slice_split (λ c. c == 47) path ≡ part ∷ parts_after rest
+    → components path ≡ cond (length part == 0) (named_after rest) (part ∷ named_after rest)
 components_first path [] None h = rw h refl
 components_first path [] (Some rest) h = rw h refl
 components_first path (b ∷ part) None h = rw (h, not_empty b part) refl
@@ -32,28 +33,33 @@ module _ (b : Board) where
   off_next n part parts e = rw (e, walk) refl
 
   -- an empty part leads nowhere further
-  pub walk_skip : (n : ℕ) (path part : List ℕ) (rest : Option (List ℕ)) → slice_split (λ c. c == 47) path ≡ part ∷ parts_behind rest → length part == 0 ≡ true → walk b n (components path) ≡ walk b n (named_behind rest)
+  pub walk_skip : (n : ℕ) (path part : List ℕ) (rest : Option (List ℕ)) → slice_split (λ c. c == 47) path ≡ part ∷ parts_after rest → length part == 0 ≡ true
+      → walk b n (components path) ≡ walk b n (named_after rest)
   walk_skip n path part rest h empty = ap (walk b n) (rw empty at (components_first path part rest h))
 
   -- a part goes on to what it leads to
-  pub walk_on : (n m : ℕ) (path part : List ℕ) (rest : Option (List ℕ)) → slice_split (λ c. c == 47) path ≡ part ∷ parts_behind rest → length part == 0 ≡ false → next_of b n part ≡ Some m → walk b n (components path) ≡ walk b m (named_behind rest)
-  walk_on n m path part rest h full goes = ap (walk b n) (rw full at (components_first path part rest h)) ∙ on_next n part m (named_behind rest) goes
+  pub walk_on : (n m : ℕ) (path part : List ℕ) (rest : Option (List ℕ)) → slice_split (λ c. c == 47) path ≡ part ∷ parts_after rest → length part == 0 ≡ false
+      → next_of b n part ≡ Some m → walk b n (components path) ≡ walk b m (named_after rest)
+  walk_on n m path part rest h full goes = ap (walk b n) (rw full at (components_first path part rest h)) ∙ on_next n part m (named_after rest) goes
 
   -- or there is none
-  pub walk_off : (n : ℕ) (path part : List ℕ) (rest : Option (List ℕ)) → slice_split (λ c. c == 47) path ≡ part ∷ parts_behind rest → length part == 0 ≡ false → next_of b n part ≡ None → walk b n (components path) ≡ None
-  walk_off n path part rest h full goes = ap (walk b n) (rw full at (components_first path part rest h)) ∙ off_next n part (named_behind rest) goes
+  pub walk_off : (n : ℕ) (path part : List ℕ) (rest : Option (List ℕ)) → slice_split (λ c. c == 47) path ≡ part ∷ parts_after rest → length part == 0 ≡ false
+      → next_of b n part ≡ None → walk b n (components path) ≡ None
+  walk_off n path part rest h full goes = ap (walk b n) (rw full at (components_first path part rest h)) ∙ off_next n part (named_after rest) goes
 
 -- the text of a name
 abbrev pub text : Bor (List ℕ) → List ℕ
 text name = name.now
 
 -- one name more of a way up, from the last
-path_up-first : (names : List (Bor (List ℕ))) (i : ℕ) (d : Bor (List ℕ)) → i < length names → path_up (drop i (map text names)) ≡ path_up (drop (suc i) (map text names)) ++ 47 ∷ (get_or names i d).now
+path_up-first : (names : List (Bor (List ℕ))) (i : ℕ) (d : Bor (List ℕ)) → i < length names
+    → path_up (drop i (map text names)) ≡ path_up (drop (suc i) (map text names)) ++ 47 ∷ (get_or names i d).now
 path_up-first [] i d below = absurd (omega arith)
 path_up-first (n ∷ names) zero d below = refl
 path_up-first (n ∷ names) (suc i) d below = path_up-first names i d (omega arith)
 
-pub path_up-get : (names : List (Bor (List ℕ))) (left : ℕ) (d : Bor (List ℕ)) → 0 < left → left ≤ length names → (path_up (drop left (map text names)) ++ 47 ∷ []) ++ (get_or names (left - 1) d).now ≡ path_up (drop (left - 1) (map text names))
+pub path_up-get : (names : List (Bor (List ℕ))) (left : ℕ) (d : Bor (List ℕ)) → 0 < left → left ≤ length names
+    → (path_up (drop left (map text names)) ++ 47 ∷ []) ++ (get_or names (left - 1) d).now ≡ path_up (drop (left - 1) (map text names))
 path_up-get names left d some few =
     let back : suc (left - 1) ≡ left = omega arith in
     append_assoc (path_up (drop left (map text names))) (47 ∷ []) (get_or names (left - 1) d).now

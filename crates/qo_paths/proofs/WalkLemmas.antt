@@ -7,20 +7,22 @@ use Rattle.qo_slots.specs.declared.keys.Key.{Key}
 use Rattle.qo_table.specs.Rows.{IsLive}
 use Rattle.qo_object.specs.Slots.{Named, target_of}
 use Rattle.qo_object.specs.Content.{Content}
-use Rattle.qo_object.specs.Shown.{birth_of, shown_slot}
-use Rattle.qo_object.proofs.ShownLemmas.{shown-target}
+use Rattle.qo_object.specs.BoardObject.{birth_of, shown_slot}
+use Rattle.qo_object.proofs.BoardObjectLemmas.{shown-target}
 use Rattle.qo_model.specs.Board as board
 use Rattle.qo_model.specs.Paths.{next_of}
 use Rattle.qo_heap.specs.Objects.{IsHeap, Objects, content_of, slots_of}
 use Rattle.qo_heap.specs.Board.{Shows}
 use Rattle.qo_heap.proofs.HeapLemmas.{linked-at, targets_in}
-use Rattle.qo_heap.proofs.ShowsReads.{shows-slot_named}
+use Rattle.qo_heap.proofs.BoardReads.{shows-slot_named}
 
 -- a name leads to what its slot names
-pub next-is : (b : board.Board) (v : Objects) → Shows b v → (n : ℕ) (name : List ℕ) (o : Option Named) → o ≡ find (λ (t : Named). bytes_eq name t.0) (slots_of v n) → next_of b n name ≡ birth_of (option_and_then (λ (t : Named). target_of t.1) o)
+pub next-is : (b : board.Board) (v : Objects) → Shows b v → (n : ℕ) (name : List ℕ) (o : Option Named)
+    → o ≡ find (λ (t : Named). bytes_eq name t.0) (slots_of v n) → next_of b n name ≡ birth_of (option_and_then (λ (t : Named). target_of t.1) o)
 next-is b v s n name o there = ap (option_and_then board.target_of) (shows-slot_named b v s n name) ∙ rw (← there) (go o)
   where
-    go : (x : Option Named) → option_and_then board.target_of (option_map shown_slot (option_map (λ (t : Named). t.1) x)) ≡ birth_of (option_and_then (λ (t : Named). target_of t.1) x)
+    go : (x : Option Named) → option_and_then board.target_of (option_map shown_slot (option_map (λ (t : Named). t.1) x))
+        ≡ birth_of (option_and_then (λ (t : Named). target_of t.1) x)
     go None = refl
     go (Some t) = shown-target t.1
 

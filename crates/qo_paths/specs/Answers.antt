@@ -3,15 +3,15 @@ use Rattle.std.specs.Prelude.{ℕ, if◌then◌else◌, List, Option, None, Resu
 use Rattle.std.specs.Option.{option_and_then}
 use Rattle.qo_slots.specs.declared.keys.Key.{Key}
 use Rattle.qo_model.specs.Board.{Board}
-use Rattle.qo_model.specs.Paths.{Place, found, missing, several, attached, components, only_of, walk}
+use Rattle.qo_model.specs.Paths.{Resolution, found, missing, several, attached, components, only_of, walk}
 use Rattle.qo_paths.specs.declared.errors.PathError.{PathError}
 use Rattle.qo_paths.specs.declared.errors.PathError.TheVariants.{NotFound, Ambiguous}
 
 -- what an answer says that a path leads to
-abbrev pub place_told : Result Key PathError → Place
-place_told (Ok key) = found key.birth
-place_told (Err NotFound) = missing
-place_told (Err Ambiguous) = several
+abbrev pub shown_resolution : Result Key PathError → Resolution
+shown_resolution (Ok key) = found key.birth
+shown_resolution (Err NotFound) = missing
+shown_resolution (Err Ambiguous) = several
 
 -- the object of the wanted type that a path leads to from n, if that is attached
 abbrev pub end_from : Board → List ℕ → List ℕ → ℕ → Option ℕ

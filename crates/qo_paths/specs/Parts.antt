@@ -3,9 +3,9 @@ use Rattle.std.specs.Prelude.{ℕ, ◌==◌, List, [], ◌∷◌, ◌++◌, Opti
 use Rattle.std.specs.List.{slice_split}
 
 -- the parts of what follows a `/`, if there is one
-abbrev pub parts_behind : Option (List ℕ) → List (List ℕ)
-parts_behind None = []
-parts_behind (Some path) = slice_split (λ c. c == 47) path
+abbrev pub parts_after : Option (List ℕ) → List (List ℕ)
+parts_after None = []
+parts_after (Some path) = slice_split (λ c. c == 47) path
 
 -- the path of the names on a way up: a `/` and a name for each, from the last to the first
 abbrev pub path_up : List (List ℕ) → List ℕ

@@ -4,10 +4,10 @@ ghost use Rattle.std.specs.Prelude.{◌≡◌, true, false, IfSome, IfNone, IfOk
 ghost use Rattle.std.specs.Option.{option_and_then};
 ghost use Rattle.qo_model.specs.Board.{Board};
 ghost use Rattle.qo_model.specs.Paths.{components, is_absolute, only_of, resolve, walk};
-ghost use Rattle.qo_object.specs.Shown.{birth_of};
+ghost use Rattle.qo_object.specs.BoardObject.{birth_of};
 ghost use Rattle.qo_table.specs.Rows.{IsLive, object_at};
 ghost use Rattle.qo_heap.specs.Board.{Shows};
-ghost use Rattle.qo_paths.specs.Answers.{end_from, place_told};
+ghost use Rattle.qo_paths.specs.Answers.{end_from, shown_resolution};
 
 use crate::errors::PathError;
 use crate::parts::is_absolute;
@@ -58,7 +58,7 @@ fn absolute<L: Ledger>(
     steps: &mut Steps<L>,
 ) -> Result<Oid, PathError>
     requires { is_absolute path.now ≡ true }
-    ensures place { (b : Board) → Shows b heap.now → place_told result ≡ resolve b path.now wanted.now }
+    ensures place { (b : Board) → Shows b heap.now → shown_resolution result ≡ resolve b path.now wanted.now }
     ensures live { IfOk result (IsLive heap.now.rows) }
 {
     let Some(root) = root(heap) else {
@@ -95,7 +95,7 @@ fn partial<L: Ledger>(
     steps: &mut Steps<L>,
 ) -> Result<Oid, PathError>
     requires { is_absolute path.now ≡ false }
-    ensures place { (b : Board) → Shows b heap.now → place_told result ≡ resolve b path.now wanted.now }
+    ensures place { (b : Board) → Shows b heap.now → shown_resolution result ≡ resolve b path.now wanted.now }
     ensures live { IfOk result (IsLive heap.now.rows) }
 {
     let mut found = None;
@@ -122,7 +122,7 @@ pub fn resolve<L: Ledger>(
     wanted: &str,
     steps: &mut Steps<L>,
 ) -> Result<Oid, PathError>
-    ensures place { (b : Board) → Shows b heap.now → place_told result ≡ resolve b path.now wanted.now }
+    ensures place { (b : Board) → Shows b heap.now → shown_resolution result ≡ resolve b path.now wanted.now }
     ensures live { IfOk result (IsLive heap.now.rows) }
 {
     if is_absolute(path) {

@@ -2,7 +2,7 @@
 
 ghost use Rattle.std.specs.Prelude.{◌≡◌, IfOk, map, option_map, string_bytes};
 ghost use Rattle.qo_model.specs.Board.{Board};
-ghost use Rattle.qo_model.specs.Paths.{canonical, steps_to};
+ghost use Rattle.qo_model.specs.Paths.{canonical, path_down_to};
 ghost use Rattle.qo_heap.specs.Board.{Shows};
 ghost use Rattle.qo_paths.specs.Parts.{path_up};
 
@@ -22,7 +22,7 @@ fn names_up<'a, L: Ledger>(
     alloc: Global,
     steps: &mut Steps<L>,
 ) -> Result<Option<Vec<&'a str>>, AllocError>
-    ensures { (b : Board) → Shows b heap.now → IfOk result (λ names. option_map (λ ns. path_up (map (λ n. n.now) ns.items)) names ≡ steps_to b o.birth) }
+    ensures { (b : Board) → Shows b heap.now → IfOk result (λ names. option_map (λ ns. path_up (map (λ n. n.now) ns.items)) names ≡ path_down_to b o.birth) }
 {
     heap.facts();
     let mut names = Vec::new(alloc);

@@ -14,34 +14,34 @@ use Rattle.qo_model.specs.Devices.{buses_of}
 use Rattle.qo_model.specs.Paths.{canonical}
 use Rattle.qo_model.specs.Plug.{Plugged, Spot, Wanted, barred_late, bus_births, bus_for, clocked, counted, objects_in, parent_for, plug, plug_attempt, plug_late, source_for, spot_of, started, stood, with_plugged}
 use Rattle.qo_model.specs.Release.{unpin}
-use Rattle.qo_model.specs.Types.{TypeRow, is_a, row_named}
+use Rattle.qo_model.specs.Types.{TypeInfo, is_a, type_named}
 use Rattle.qo_sound.proofs.PlugLemmas.{IsPlace, place-of}
 use Rattle.qo_sound.proofs.ViewLemmas.{AtRest, rest-from_sound}
 use Rattle.qo_heap.specs.Board.{Shows}
 use Rattle.qo_heap.specs.Objects.{Objects, content_of}
-use Rattle.qo_heap.proofs.ShowsReads.{shows-kind}
+use Rattle.qo_heap.proofs.BoardReads.{shows-kind}
 use Rattle.qo_object.specs.Content.{Content}
 use Rattle.qo_properties.specs.Filling.{target_in}
-use Rattle.qo_properties.specs.Start.{KeepsNames}
+use Rattle.qo_properties.specs.OpeningSteps.{KeepsNames}
 use Rattle.qo_properties.specs.declared.adding.filling.Fill.{Fill}
 use Rattle.qo_reset.specs.Phases.{Holds}
-use Rattle.qo_sound.specs.Kept.{SoundTree}
-use Rattle.qo_hotplug.specs.Asked.{Asked}
+use Rattle.qo_sound.specs.TreeKept.{SoundTree}
+use Rattle.qo_hotplug.specs.Hotplug.{Asked}
 use Rattle.qo_plug.specs.declared.adding.Added.{Added}
 use Rattle.qo_plug.specs.declared.admitting.Site.{Site}
 use Rattle.qo_plug.specs.declared.refusals.AddRefusal.{AddRefusal}
 use Rattle.qo_plug.specs.declared.refusals.AddRefusal.TheVariants.{Refused, Memory}
 use Rattle.qo_plug.specs.declared.refusals.Barred.{Barred}
 use Rattle.qo_standing.specs.declared.spots.Spot.{Spot as Chosen}
-use Rattle.qo_plug.specs.Added.{IfRefused, IsAdmitted, barred_in}
-use Rattle.qo_plug.specs.Adding.{IsAdded, IsCut, IsOpen, IsPlugged, IsRefused, turned_down}
-use Rattle.qo_plug.specs.Chosen.{claims_given}
-use Rattle.qo_plug.specs.Drafts.{CutShort, held_draft}
+use Rattle.qo_plug.specs.Admission.{IfRefused, IsAdmitted, barred_in}
+use Rattle.qo_plug.specs.Answers.{IsAdded, IsCut, IsOpen, IsPlugged, IsRefused, turned_down}
+use Rattle.qo_plug.specs.Spots.{claims_given}
+use Rattle.qo_plug.specs.Drafts.{CutShort, pinned_draft}
 use Rattle.qo_plug.specs.Stages.{spot_barred}
-use Rattle.qo_standing.specs.Standing.{Stood, spot_in}
-use Rattle.qo_standing.specs.Taking.{kept_by}
-use Rattle.qo_plug.proofs.AdmitLemmas.{added-late}
-use Rattle.qo_plug.proofs.JudgeLemmas.{late-given, late-spot}
+use Rattle.qo_standing.specs.Placement.{Stood, spot_in}
+use Rattle.qo_standing.specs.DeviceClaims.{kept_by}
+use Rattle.qo_plug.proofs.AdmissionLemmas.{added-late}
+use Rattle.qo_plug.proofs.JudgementLemmas.{late-given, late-spot}
 use Rattle.qo_plug.proofs.PlugSteps.{counted-path, cut-whole, let-go, plugged-kinds, plugged-notices, plugged-pending, seat-holds, seat-notices, seated}
 use Rattle.qo_plug.proofs.StartBuses.{plugged-buses}
 
@@ -81,7 +81,7 @@ module _ (b : Board) (a : Wanted) where
           kept = λ t bus kind goes. kept ∙ own (λ (k : TypeId) (m : ℕ). Some (claims_given b k m a.props)) t bus kind goes;
         }
       where
-        own : {A : Type 0} (f : TypeId → ℕ → A) (t : TypeId) (bus : ℕ) → option_map (λ (row : TypeRow). row.id) (row_named a.driver) ≡ Some t
+        own : {A : Type 0} (f : TypeId → ℕ → A) (t : TypeId) (bus : ℕ) → option_map (λ (row : TypeInfo). row.id) (type_named a.driver) ≡ Some t
             → bus_for b t a.bus ≡ Some bus → f site.kind site.bus.birth ≡ f t bus
         own f t bus kind goes =
             let type_is : site.kind ≡ t = same_Some site.kind t (sym o.admitted.kind ∙ kind) in
@@ -103,7 +103,7 @@ module _ (b : Board) (a : Wanted) where
   refused-only T U (Refused stage code) w h = h.2
   refused-only T U Memory w h = tt
 
-  -- or behind one
+  -- or after one
   module _ (site : Site) (admitted : IsAdmitted b a site) (w : Objects) where
     pub is-refused : (stage : ℕ) (code : Code) → Some (stage, code) ≡ barred_late b site.kind site.bus.birth a.props
         → Shows (plug_attempt b site.kind site.bus.birth stage) w
@@ -135,8 +135,10 @@ module _ (b : Board) (a : Wanted) where
       turned-cut Memory h e = cut-late h
 
     -- or as it has no spot on its bus
-    module _ (bar : Barred) (given : None ≡ refusal_of b site.kind a.props) (barred : Some (bar.stage, bar.code) ≡ spot_barred b site.kind site.bus.birth a.props) where
-      pub spot-refused : (T : Type 0) (r : AddRefusal) → turned_down b site.kind site.bus.birth bar r w → IfRefused {T = T} (Err r) (λ stage code. IsRefused b a stage code w)
+    module _ (bar : Barred) (given : None ≡ refusal_of b site.kind a.props)
+        (barred : Some (bar.stage, bar.code) ≡ spot_barred b site.kind site.bus.birth a.props) where
+      pub spot-refused : (T : Type 0) (r : AddRefusal) → turned_down b site.kind site.bus.birth bar r w
+          → IfRefused {T = T} (Err r) (λ stage code. IsRefused b a stage code w)
       spot-refused T (Refused stage told) h =
           let its_stage : stage ≡ bar.stage = h.0 in
           let its_code : told ≡ bar.code = h.1 in
@@ -162,7 +164,8 @@ refused-last b a T U bar w is h =
     subst (λ (x : ℕ × Code). IsRefused b a x.0 x.1 w) (sym same) h
 
 -- what a plan names stays
-pub plan-live : (v w : Objects) → KeepsNames v w → (fs : List Fill) → AllByRecursion (λ (f : Fill). IfSome (target_in f) (IsLive v.rows)) fs → AllByRecursion (λ (f : Fill). IfSome (target_in f) (IsLive w.rows)) fs
+pub plan-live : (v w : Objects) → KeepsNames v w → (fs : List Fill) → AllByRecursion (λ (f : Fill). IfSome (target_in f) (IsLive v.rows)) fs
+    → AllByRecursion (λ (f : Fill). IfSome (target_in f) (IsLive w.rows)) fs
 plan-live v w keeps [] h = tt
 plan-live v w keeps (f ∷ fs) h = (go (target_in f) h.0, plan-live v w keeps fs h.1)
   where
@@ -179,7 +182,8 @@ counted-buses : (id : Option (List ℕ)) (c : Board) (m : ℕ) → buses_of (cou
 counted-buses None c m = refl
 counted-buses (Some id) c m = refl
 
-old-none : (k m : ℕ) → k < m → (rs : List Record) → AllByRecursion (λ x. x ≤ k) (map (λ (r : Record). r.birth) rs) → find (λ (r : Record). r.birth == m) rs ≡ None
+old-none : (k m : ℕ) → k < m → (rs : List Record) → AllByRecursion (λ x. x ≤ k) (map (λ (r : Record). r.birth) rs)
+    → find (λ (r : Record). r.birth == m) rs ≡ None
 old-none k m less [] low = refl
 old-none k m less (r ∷ rs) low =
     let lower : r.birth ≤ k = low.0 in
@@ -210,7 +214,7 @@ module _ (b : Board) (t : TypeId) (sound : SoundTree b) (device : is_a t (codes 
 
   own-buses : buses_of here n ≡ bus_births n t
   own-buses =
-      counted-buses a.id (clocked (source_for b bus) n (stood b n a spot (held_draft b t))) n
+      counted-buses a.id (clocked (source_for b bus) n (stood b n a spot (pinned_draft b t))) n
       ∙ plugged-buses b t a spot none-later device (container-apart a.id)
 
   abbrev Starts : List ℕ → List ℕ → Objects → Objects → ℕ → Type 0
@@ -223,14 +227,14 @@ module _ (b : Board) (t : TypeId) (sound : SoundTree b) (device : is_a t (codes 
   LetsGo x y m = (c : Board) → Shows c x → Shows (unpin c m) y
 
   module _ (m : ℕ) (is : m ≡ b.born + 1) (path holds : List ℕ) (h k : Asked) (w x y : Objects) (held : b.holds ≡ holds) (pending : b.pending ≡ h.pending)
-      (notices : b.notices ≡ h.notices) (place : IsPlace b t a spot) (stood_at : Stood b (held_draft b t) m a spot path w) (starts : Starts holds path w x m)
+      (notices : b.notices ≡ h.notices) (place : IsPlace b t a spot) (stood_at : Stood b (pinned_draft b t) m a spot path w) (starts : Starts holds path w x m)
       (tells : Tells h k m) (kept : k.pending ≡ h.pending) (goes : LetsGo x y m) where
     started_is : Shows (started n t here) x
     started_is =
-        let own : Stood b (held_draft b t) n a spot path w = subst (λ (i : ℕ). Stood b (held_draft b t) i a spot path w) is stood_at in
+        let own : Stood b (pinned_draft b t) n a spot path w = subst (λ (i : ℕ). Stood b (pinned_draft b t) i a spot path w) is stood_at in
         let begins : Starts holds path w x n = subst (Starts holds path w x) is starts in
-        let shown : Shows here w = counted-shown a.id (clocked (source_for b bus) n (stood b n a spot (held_draft b t))) w own.shown in
-        let path_is : canonical here n ≡ Some path = counted-path a.id (clocked (source_for b bus) n (stood b n a spot (held_draft b t))) n ∙ own.path_is in
+        let shown : Shows here w = counted-shown a.id (clocked (source_for b bus) n (stood b n a spot (pinned_draft b t))) w own.shown in
+        let path_is : canonical here n ≡ Some path = counted-path a.id (clocked (source_for b bus) n (stood b n a spot (pinned_draft b t))) n ∙ own.path_is in
         begins here t (shown, seat-holds b t sound a spot ∙ held) own-buses path_is
 
     pub plugged-in : IsPlugged b t a spot k y

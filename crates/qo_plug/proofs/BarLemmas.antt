@@ -20,49 +20,52 @@ use Rattle.qo_model.specs.Devices.{is_going}
 use Rattle.qo_model.specs.Objects.{has_slot}
 use Rattle.qo_model.specs.Paths.{attached, is_of}
 use Rattle.qo_model.specs.Plug.{bus_barred, bus_for, bus_type, container_barred, further_in, objects_in, room_barred, type_barred}
-use Rattle.qo_model.specs.Types.{TypeRow, is_a, row_named, row_of, slots_of as properties_of}
+use Rattle.qo_model.specs.Types.{TypeInfo, is_a, type_named, info_of, slots_of as properties_of}
 use Rattle.qo_model.specs.declared.properties.Property.{Property}
 use Rattle.qo_slots.specs.declared.keys.Key.{Key}
 use Rattle.qo_object.specs.Content.{Content}
-use Rattle.qo_object.specs.Shown.{shown_slots}
+use Rattle.qo_object.specs.BoardObject.{shown_slots}
 use Rattle.qo_object.specs.Slots.{Named}
 use Rattle.qo_heap.specs.Board.{Shows, record_of}
 use Rattle.qo_heap.specs.Objects.{Objects, content_of, slots_of}
 use Rattle.qo_heap.proofs.HeapLemmas.{is_some-find}
-use Rattle.qo_heap.proofs.ShowsReads.{shows-kind, shows-slots}
+use Rattle.qo_heap.proofs.BoardReads.{shows-kind, shows-slots}
 use Rattle.qo_properties.proofs.BarLemmas.{row-own}
-use Rattle.qo_properties.proofs.FreshLemmas.{next-slot}
+use Rattle.qo_properties.proofs.NewSlotLemmas.{next-slot}
 
 -- the type
-module _ (name : List ℕ) (t : TypeId) (is : Some t ≡ option_map (λ (x : TypeRow). x.id) (row_named name)) where
-  by_row : (P : Option TypeRow → Type 0) → ((row : TypeRow) → row.id ≡ t → is_abstract t ≡ row.is_abstract → P (Some row)) → P (row_named name)
-  by_row P given = go (row_named name) refl
+module _ (name : List ℕ) (t : TypeId) (is : Some t ≡ option_map (λ (x : TypeInfo). x.id) (type_named name)) where
+  by_row : (P : Option TypeInfo → Type 0) → ((row : TypeInfo) → row.id ≡ t → is_abstract t ≡ row.is_abstract → P (Some row)) → P (type_named name)
+  by_row P given = go (type_named name) refl
     where
-      go : (o : Option TypeRow) → row_named name ≡ o → P o
-      go None e = absurd (let clash : Some t ≡ None = is ∙ ap (option_map (λ (x : TypeRow). x.id)) e in cc)
+      go : (o : Option TypeInfo) → type_named name ≡ o → P o
+      go None e = absurd (let clash : Some t ≡ None = is ∙ ap (option_map (λ (x : TypeInfo). x.id)) e in cc)
       go (Some row) e =
-          let same : t ≡ row.id = same_Some t row.id (is ∙ ap (option_map (λ (x : TypeRow). x.id)) e) in
-          let row_is : row_of t ≡ Some row = ap row_of same ∙ row-own name row e in
-          given row (sym same) (ap (λ (o : Option TypeRow). option_map_or (λ (x : TypeRow). x.is_abstract) o false) row_is)
+          let same : t ≡ row.id = same_Some t row.id (is ∙ ap (option_map (λ (x : TypeInfo). x.id)) e) in
+          let row_is : info_of t ≡ Some row = ap info_of same ∙ row-own name row e in
+          given row (sym same) (ap (λ (o : Option TypeInfo). option_map_or (λ (x : TypeInfo). x.is_abstract) o false) row_is)
 
-  abbrev barred_as : Option TypeRow → Option Code
+  abbrev barred_as : Option TypeInfo → Option Code
   barred_as o = elim o [ None ↦ Some E20 | Some row ↦ if row.is_abstract then Some E21 else if not (is_a row.id (codes "device")) then Some E22 else None ]
 
   pub barred-abstract : is_abstract t ≡ true → Some E21 ≡ type_barred name
   barred-abstract holds = by_row (λ o. Some E21 ≡ barred_as o) (λ row same tells. let so : row.is_abstract ≡ true = sym tells ∙ holds in rw so refl)
 
   pub barred-use : is_abstract t ≡ false → is_a t (codes "device") ≡ false → Some E22 ≡ type_barred name
-  barred-use fails other = by_row (λ o. Some E22 ≡ barred_as o) (λ row same tells. let so : row.is_abstract ≡ false = sym tells ∙ fails in let its : is_a row.id (codes "device") ≡ false = ap (λ (k : TypeId). is_a k (codes "device")) same ∙ other in rw (so, its) refl)
+  barred-use fails other = by_row (λ o. Some E22 ≡ barred_as o) (λ row same tells. let so : row.is_abstract ≡ false = sym tells ∙ fails in
+      let its : is_a row.id (codes "device") ≡ false = ap (λ (k : TypeId). is_a k (codes "device")) same ∙ other in rw (so, its) refl)
 
   pub allowed : is_abstract t ≡ false → is_a t (codes "device") ≡ true → None ≡ type_barred name
-  allowed fails holds = by_row (λ o. None ≡ barred_as o) (λ row same tells. let so : row.is_abstract ≡ false = sym tells ∙ fails in let its : is_a row.id (codes "device") ≡ true = ap (λ (k : TypeId). is_a k (codes "device")) same ∙ holds in rw (so, its) refl)
+  allowed fails holds = by_row (λ o. None ≡ barred_as o) (λ row same tells. let so : row.is_abstract ≡ false = sym tells ∙ fails in
+      let its : is_a row.id (codes "device") ≡ true = ap (λ (k : TypeId). is_a k (codes "device")) same ∙ holds in rw (so, its) refl)
 
 -- the container
 
 taken-shown : (b : Board) (v : Objects) → Shows b v → (n : ℕ) (name : List ℕ) → has_slot b n name ≡ list_any (λ (s : Named). bytes_eq name s.0) (slots_of v n)
 taken-shown b v s n name = ap (list_any (λ (t : List ℕ × board.Slot). bytes_eq t.0 name)) (shows-slots b v s n) ∙ go (slots_of v n)
   where
-    go : (slots : List Named) → list_any (λ (t : List ℕ × board.Slot). bytes_eq t.0 name) (shown_slots slots) ≡ list_any (λ (t : Named). bytes_eq name t.0) slots
+    go : (slots : List Named)
+        → list_any (λ (t : List ℕ × board.Slot). bytes_eq t.0 name) (shown_slots slots) ≡ list_any (λ (t : Named). bytes_eq name t.0) slots
     go [] = refl
     go (t ∷ slots) = ap₂ (λ (x y : Bool). x || y) (nat_list_eq_equiv.symm t.0 name) (go slots)
 
@@ -70,9 +73,11 @@ found-told : {A : Type 0} (f : A → Named) (o : Option A) (x : Option Named) (t
 found-told f None x t e is = ap is_some (sym e) ∙ is
 found-told f (Some a) x t e is = ap is_some (sym e) ∙ is
 
-pub taken-is : {A : Type 0} (f : A → Named) (o : Option A) (b : Board) (v : Objects) → Shows b v → (n : ℕ) (name : List ℕ) (t : Bool) → option_map f o ≡ find (λ (s : Named). bytes_eq name s.0) (slots_of v n) → is_some o ≡ t → has_slot b n name ≡ t
+pub taken-is : {A : Type 0} (f : A → Named) (o : Option A) (b : Board) (v : Objects) → Shows b v → (n : ℕ) (name : List ℕ) (t : Bool)
+    → option_map f o ≡ find (λ (s : Named). bytes_eq name s.0) (slots_of v n) → is_some o ≡ t → has_slot b n name ≡ t
 taken-is f o b v s n name t e some =
-    taken-shown b v s n name ∙ sym (is_some-find (λ (x : Named). bytes_eq name x.0) (slots_of v n)) ∙ found-told f o (find (λ (x : Named). bytes_eq name x.0) (slots_of v n)) t e some
+    taken-shown b v s n name ∙ sym (is_some-find (λ (x : Named). bytes_eq name x.0) (slots_of v n))
+    ∙ found-told f o (find (λ (x : Named). bytes_eq name x.0) (slots_of v n)) t e some
 
 -- nobody is of a type where nobody is
 pub of-gone : (b : Board) (v : Objects) → Shows b v → (n : ℕ) (wanted : List ℕ) → content_of v n ≡ None → is_of b wanted n ≡ false
@@ -95,7 +100,8 @@ module _ (b : Board) (n m : ℕ) (name : List ℕ) (is : m ≡ n) where
   at-container-none fails = container-none b n name (ap (is_of b (codes "container")) (sym is) ∙ fails)
 
   pub at-container-taken : is_of b (codes "container") m ≡ true → has_slot b m name ≡ true → Some E24 ≡ container_barred b n name
-  at-container-taken holds taken = container-taken b n name (ap (is_of b (codes "container")) (sym is) ∙ holds) (ap (λ (k : ℕ). has_slot b k name) (sym is) ∙ taken)
+  at-container-taken holds taken =
+      container-taken b n name (ap (is_of b (codes "container")) (sym is) ∙ holds) (ap (λ (k : ℕ). has_slot b k name) (sym is) ∙ taken)
 
   pub at-container-free : is_of b (codes "container") m ≡ true → has_slot b m name ≡ false → None ≡ container_barred b n name
   at-container-free holds free = container-free b n name (ap (is_of b (codes "container")) (sym is) ∙ holds) (ap (λ (k : ℕ). has_slot b k name) (sym is) ∙ free)
@@ -113,21 +119,25 @@ module _ (b : Board) (t : TypeId) (m : ℕ) where
 
 -- where a device goes that names no bus
 module _ (b : Board) (t : TypeId) (v : Objects) (s : Shows b v) where
-  pub own-root : is_a t (codes "slot-device") ≡ true → (o : Option Key) → IfSome o (λ k. k.birth ≡ ROOT_BUS_BIRTH) → IfSome o (λ k. bus_for b t None ≡ Some k.birth)
+  pub own-root : is_a t (codes "slot-device") ≡ true → (o : Option Key) → IfSome o (λ k. k.birth ≡ ROOT_BUS_BIRTH)
+      → IfSome o (λ k. bus_for b t None ≡ Some k.birth)
   own-root holds None born = tt
   own-root holds (Some k) born = rw holds (ap Some (sym born))
 
-  pub own-memory : is_a t (codes "slot-device") ≡ false → (o : Option Key) → IfSome o (λ k. k.birth ≡ MEMORY_BUS_BIRTH) → IfSome o (λ k. bus_for b t None ≡ Some k.birth)
+  pub own-memory : is_a t (codes "slot-device") ≡ false → (o : Option Key) → IfSome o (λ k. k.birth ≡ MEMORY_BUS_BIRTH)
+      → IfSome o (λ k. bus_for b t None ≡ Some k.birth)
   own-memory fails None born = tt
   own-memory fails (Some k) born = rw fails (ap Some (sym born))
 
-  pub no-root : is_a t (codes "slot-device") ≡ true → (o : Option Key) → IfNone o (content_of v ROOT_BUS_BIRTH ≡ None) → IfNone o (bus_barred b t (bus_for b t None) ≡ Some E26)
+  pub no-root : is_a t (codes "slot-device") ≡ true → (o : Option Key) → IfNone o (content_of v ROOT_BUS_BIRTH ≡ None)
+      → IfNone o (bus_barred b t (bus_for b t None) ≡ Some E26)
   no-root holds (Some k) gone = tt
   no-root holds None gone =
       let none : is_of b (bus_type t) ROOT_BUS_BIRTH ≡ false = of-gone b v s ROOT_BUS_BIRTH (bus_type t) gone in
       ap (λ (u : Bool). bus_barred b t (Some (if u then ROOT_BUS_BIRTH else MEMORY_BUS_BIRTH))) holds ∙ bus-other b t ROOT_BUS_BIRTH none
 
-  pub no-memory : is_a t (codes "slot-device") ≡ false → (o : Option Key) → IfNone o (content_of v MEMORY_BUS_BIRTH ≡ None) → IfNone o (bus_barred b t (bus_for b t None) ≡ Some E26)
+  pub no-memory : is_a t (codes "slot-device") ≡ false → (o : Option Key) → IfNone o (content_of v MEMORY_BUS_BIRTH ≡ None)
+      → IfNone o (bus_barred b t (bus_for b t None) ≡ Some E26)
   no-memory fails (Some k) gone = tt
   no-memory fails None gone =
       let none : is_of b (bus_type t) MEMORY_BUS_BIRTH ≡ false = of-gone b v s MEMORY_BUS_BIRTH (bus_type t) gone in
@@ -144,7 +154,8 @@ module _ {X Y : Type 0} (f : X → Option Y) where
   passing-few (suc k) [] = omega arith
   passing-few (suc k) (x ∷ xs) = fewer (f x) (filter_map f (take k xs)) k (passing-few k xs)
 
-pub further-yes : (t : TypeId) (k n : ℕ) (p : Property) → Some p ≡ slice_get (properties_of t) k → n ≡ suc (length (filter_map further_in (take k (properties_of t)))) → is_some (further_in p) ≡ true
+pub further-yes : (t : TypeId) (k n : ℕ) (p : Property) → Some p ≡ slice_get (properties_of t) k
+    → n ≡ suc (length (filter_map further_in (take k (properties_of t)))) → is_some (further_in p) ≡ true
     → n + 1 ≡ suc (length (filter_map further_in (take (k + 1) (properties_of t))))
 further-yes t k n p at is holds = go (further_in p) refl holds
   where
@@ -152,10 +163,12 @@ further-yes t k n p at is holds = go (further_in p) refl holds
     go None e h = absurd (let clash : false ≡ true = h in cc)
     go (Some x) e h =
         let more : length (filter_map further_in (take (k + 1) (properties_of t))) ≡ length (filter_map further_in (take k (properties_of t)) ++ x ∷ []) =
-        ap (λ (l : List (List ℕ × TypeId)). length l) (next-slot further_in k (properties_of t) p (sym at) ∙ ap (λ (o : Option (List ℕ × TypeId)). filter_map further_in (take k (properties_of t)) ++ option_to_list o) e) in
+        ap (λ (l : List (List ℕ × TypeId)). length l) (next-slot further_in k (properties_of t) p (sym at)
+        ∙ ap (λ (o : Option (List ℕ × TypeId)). filter_map further_in (take k (properties_of t)) ++ option_to_list o) e) in
         omega (arith, more, is, length-append (filter_map further_in (take k (properties_of t))) (x ∷ []))
 
-pub further-no : (t : TypeId) (k n : ℕ) (p : Property) → Some p ≡ slice_get (properties_of t) k → n ≡ suc (length (filter_map further_in (take k (properties_of t)))) → is_some (further_in p) ≡ false
+pub further-no : (t : TypeId) (k n : ℕ) (p : Property) → Some p ≡ slice_get (properties_of t) k
+    → n ≡ suc (length (filter_map further_in (take k (properties_of t)))) → is_some (further_in p) ≡ false
     → n ≡ suc (length (filter_map further_in (take (k + 1) (properties_of t))))
 further-no t k n p at is fails = go (further_in p) refl fails
   where
@@ -163,14 +176,17 @@ further-no t k n p at is fails = go (further_in p) refl fails
     go (Some x) e h = absurd (let clash : true ≡ false = h in cc)
     go None e h =
         is ∙ ap (λ (l : List (List ℕ × TypeId)). suc (length l))
-        (sym (next-slot further_in k (properties_of t) p (sym at) ∙ ap (λ (o : Option (List ℕ × TypeId)). filter_map further_in (take k (properties_of t)) ++ option_to_list o) e ∙ append-nil (filter_map further_in (take k (properties_of t)))))
+        (sym (next-slot further_in k (properties_of t) p (sym at) ∙ ap (λ (o : Option (List ℕ × TypeId)). filter_map further_in (take k (properties_of t))
+        ++ option_to_list o) e ∙ append-nil (filter_map further_in (take k (properties_of t)))))
 
 -- the room
 pub many-shown : (b : Board) (v : Objects) → Shows b v → length b.records ≡ length v.rows
 many-shown b v s = ap (λ (l : List board.Record). length l) s.records ∙ length-map v.rows record_of
 
 pub room-is : (b : Board) (v : Objects) → Shows b v → (t : TypeId) → length v.rows + objects_in t ≤ LIVE_OBJECTS_MAX → None ≡ room_barred b t
-room-is b v s t fits = let so : nat_le (length b.records + objects_in t) LIVE_OBJECTS_MAX ≡ true = grind (arith, nat_tests, many-shown b v s, fits) in rw (room_barred, so) refl
+room-is b v s t fits = let so : nat_le (length b.records + objects_in t) LIVE_OBJECTS_MAX ≡ true = grind (arith, nat_tests, many-shown b v s, fits) in
+    rw (room_barred, so) refl
 
 pub room-not : (b : Board) (v : Objects) → Shows b v → (t : TypeId) → LIVE_OBJECTS_MAX < length v.rows + objects_in t → Some E43 ≡ room_barred b t
-room-not b v s t over = let so : nat_le (length b.records + objects_in t) LIVE_OBJECTS_MAX ≡ false = grind (arith, nat_tests, many-shown b v s, over) in rw (room_barred, so) refl
+room-not b v s t over = let so : nat_le (length b.records + objects_in t) LIVE_OBJECTS_MAX ≡ false = grind (arith, nat_tests, many-shown b v s, over) in
+    rw (room_barred, so) refl

@@ -7,22 +7,22 @@ use Rattle.qo_values.specs.declared.kinds.TypeId.{TypeId}
 use Rattle.qo_model.specs.Board.{Board}
 use Rattle.qo_model.specs.Changes.{fresh}
 use Rattle.qo_model.specs.Objects.{with_attempt}
-use Rattle.qo_model.specs.Plug.{cut_attempt, further_in, further_of, objects_in, plug_attempt, rows_made, with_new}
+use Rattle.qo_model.specs.Plug.{cut_attempt, further_in, further_of, objects_in, plug_attempt, properties_made, with_new}
 use Rattle.qo_model.specs.Release.{put_in_order, unpin}
 use Rattle.qo_model.specs.Types.{slots_of}
 use Rattle.qo_model.specs.declared.properties.Property.{Property}
-use Rattle.qo_model.specs.declared.properties.RowKind.TheVariants.{Child}
+use Rattle.qo_model.specs.declared.properties.PropertyRole.TheVariants.{Child}
 use Rattle.qo_model.proofs.DraftEndsLemmas.{kinds_in}
-use Rattle.qo_sound.specs.Kept.{SoundTree}
+use Rattle.qo_sound.specs.TreeKept.{SoundTree}
 use Rattle.qo_sound.proofs.DraftLemmas.{rows-blind, with_pins}
-use Rattle.qo_sound.proofs.PinnedLemmas as pinned
+use Rattle.qo_sound.proofs.PinLemmas as pinned
 use Rattle.qo_sound.proofs.StepsLemmas.{attempt-steps, cut-steps, unjoined-ended}
 use Rattle.qo_sound.proofs.ViewLemmas.{AtRest, rest-from_sound}
 use Rattle.qo_object.specs.Content as content
 use Rattle.qo_object.specs.Content.{Content}
 use Rattle.qo_heap.specs.Board.{Shows}
 use Rattle.qo_heap.specs.Objects.{Objects, content_of, pins_of}
-use Rattle.qo_plug.specs.Drafts.{CutShort, Fell, bare, created, held_draft, stopped, unjoined}
+use Rattle.qo_plug.specs.Drafts.{CutShort, Fell, bare, created, pinned_draft, stopped, unjoined}
 
 -- a new device is held once
 pub draft-pinned : (v : Objects) (n : ℕ) (t : TypeId) → option_map bare (content_of v n) ≡ Some (bare (content.fresh t)) → pins_of v n ≡ 1
@@ -54,16 +54,19 @@ map-length f (x ∷ xs) = ap suc (map-length f xs)
 
 kinds-within : (k : ℕ) (t : TypeId) → suc (length (kinds_in (take k (slots_of t)))) ≤ objects_in t
 kinds-within k t =
-    let same : length (kinds_in (take k (slots_of t))) ≡ length (filter_map further_in (take k (slots_of t))) = map-length (λ (f : List ℕ × TypeId). f.1) (filter_map further_in (take k (slots_of t))) in
+    let same : length (kinds_in (take k (slots_of t))) ≡ length (filter_map further_in (take k (slots_of t))) =
+    map-length (λ (f : List ℕ × TypeId). f.1) (filter_map further_in (take k (slots_of t))) in
     omega (arith, same, passing-within further_in k (slots_of t))
 
-kinds-more : (k : ℕ) (ps : List Property) (p : Property) (u : TypeId) → slice_get ps k ≡ Some p → p.kind ≡ Child u → suc (length (kinds_in (take k ps))) ≤ length (filter_map further_in ps)
+kinds-more : (k : ℕ) (ps : List Property) (p : Property) (u : TypeId) → slice_get ps k ≡ Some p → p.role ≡ Child u
+    → suc (length (kinds_in (take k ps))) ≤ length (filter_map further_in ps)
 kinds-more k [] p u at kind = cc
 kinds-more zero (q ∷ ps) p u at kind = let same : q ≡ p = cc in rw (same, kind) (omega arith)
 kinds-more (suc k) (q ∷ ps) p u at kind = go (further_in q) (kinds-more k ps p u at kind)
   where
     go : (o : Option (List ℕ × TypeId)) → suc (length (kinds_in (take k ps))) ≤ length (filter_map further_in ps)
-        → suc (length (map (λ (f : List ℕ × TypeId). f.1) (cons_option o (filter_map further_in (take k ps))))) ≤ length (cons_option o (filter_map further_in ps))
+        → suc (length (map (λ (f : List ℕ × TypeId). f.1) (cons_option o (filter_map further_in (take k ps)))))
+        ≤ length (cons_option o (filter_map further_in ps))
     go None le = le
     go (Some f) le = omega (arith, le)
 
@@ -92,28 +95,45 @@ module _ (b : Board) (t : TypeId) (sound : SoundTree b) where
   begun = pinned.created t b
 
   -- all of it was made, and it is given up
-  pub given-up : (bus stage : ℕ) → (stage == 8) ≡ false → unpin (held_draft b t) (b.born + 1) ≡ plug_attempt b t bus stage
-  given-up bus stage early = ap (λ (c : Board). unpin (rows_made (b.born + 1) t (slots_of t) c) (b.born + 1)) begun ∙ attempt-steps b t bus stage held held-is early rest
+  pub given-up : (bus stage : ℕ) → (stage == 8) ≡ false → unpin (pinned_draft b t) (b.born + 1) ≡ plug_attempt b t bus stage
+  given-up bus stage early = ap (λ (c : Board). unpin (properties_made (b.born + 1) t (slots_of t) c) (b.born + 1)) begun
+      ∙ attempt-steps b t bus stage held held-is early rest
 
   -- the first properties were made
-  cut-first : (k : ℕ) → unpin (rows_made (b.born + 1) t (take k (slots_of t)) (created b t)) (b.born + 1) ≡ cut_attempt b t (suc (length (kinds_in (take k (slots_of t))))) true
+  cut-first : (k : ℕ) → unpin (properties_made (b.born + 1) t (take k (slots_of t)) (created b t)) (b.born + 1)
+      ≡ cut_attempt b t (suc (length (kinds_in (take k (slots_of t))))) true
   cut-first k =
-      ap (λ (c : Board). unpin (rows_made (b.born + 1) t (take k (slots_of t)) c) (b.born + 1)) begun
+      ap (λ (c : Board). unpin (properties_made (b.born + 1) t (take k (slots_of t)) c) (b.born + 1)) begun
       ∙ cut-steps b t (take k (slots_of t)) (drop k (slots_of t)) held held-is (take-drop k (slots_of t)) rest
 
   -- and a further object, which has ended
-  cut-unjoined : (k : ℕ) (p : Property) (u : TypeId) → slice_get (slots_of t) k ≡ Some p → p.kind ≡ Child u
-      → unpin (with_attempt (rows_made (b.born + 1) t (take k (slots_of t)) (created b t)) u) (b.born + 1)
+  cut-unjoined : (k : ℕ) (p : Property) (u : TypeId) → slice_get (slots_of t) k ≡ Some p → p.role ≡ Child u
+      → unpin (with_attempt (properties_made (b.born + 1) t (take k (slots_of t)) (created b t)) u) (b.born + 1)
       ≡ cut_attempt b t (suc (suc (length (kinds_in (take k (slots_of t)))))) false
   cut-unjoined k p u at kind =
       let ps : List Property = take k (slots_of t) in
-      let c : Board = rows_made (b.born + 1) t ps (with_new (fresh (b.born + 1) t) b) in
-      let made : rows_made (b.born + 1) t ps (created b t) ≡ with_pins held c = ap (rows_made (b.born + 1) t ps) begun ∙ rows-blind held (b.born + 1) t ps (with_new (fresh (b.born + 1) t) b) in
+      let c : Board = properties_made (b.born + 1) t ps (with_new (fresh (b.born + 1) t) b) in
+      let made : properties_made (b.born + 1) t ps (created b t) ≡ with_pins held c =
+      ap (properties_made (b.born + 1) t ps) begun ∙ rows-blind held (b.born + 1) t ps (with_new (fresh (b.born + 1) t) b) in
       ap (λ (d : Board). unpin (with_attempt d u) (b.born + 1)) made
       ∙ unjoined-ended b t ps p u (drop (suc k) (slots_of t)) c held (split-at k (slots_of t) p at) kind held-is refl rest
 
-  pub fell-short : (v w x : Objects) → Fell (b.born + 1) t v w → Shows (created b t) v → ((c : Board) → Shows c w → Shows (unpin c (b.born + 1)) x) → CutShort b t x
+  pub fell-short : (v w x : Objects) → Fell (b.born + 1) t v w → Shows (created b t) v → ((c : Board) → Shows c w → Shows (unpin c (b.born + 1)) x)
+      → CutShort b t x
   fell-short v w x (stopped k makes) s drops =
-      inr (suc (length (kinds_in (take k (slots_of t)))), true, omega arith, kinds-within k t, subst (λ (c : Board). Shows c x) (cut-first k) (drops (rows_made (b.born + 1) t (take k (slots_of t)) (created b t)) (makes (created b t) s)))
+      inr (
+        suc (length (kinds_in (take k (slots_of t)))),
+        true,
+        omega arith,
+        kinds-within k t,
+        subst (λ (c : Board). Shows c x) (cut-first k) (drops (properties_made (b.born + 1) t (take k (slots_of t)) (created b t)) (makes (created b t) s)),
+      )
   fell-short v w x (unjoined k p u at kind makes) s drops =
-      inr (suc (suc (length (kinds_in (take k (slots_of t))))), false, omega arith, (let le : suc (length (kinds_in (take k (slots_of t)))) ≤ length (further_of t) = kinds-more k (slots_of t) p u at kind in omega (arith, le)), subst (λ (c : Board). Shows c x) (cut-unjoined k p u at kind) (drops (with_attempt (rows_made (b.born + 1) t (take k (slots_of t)) (created b t)) u) (makes (created b t) s)))
+      inr (
+        suc (suc (length (kinds_in (take k (slots_of t))))),
+        false,
+        omega arith,
+        (let le : suc (length (kinds_in (take k (slots_of t)))) ≤ length (further_of t) = kinds-more k (slots_of t) p u at kind in omega (arith, le)),
+        subst (λ (c : Board). Shows c x) (cut-unjoined k p u at kind)
+            (drops (with_attempt (properties_made (b.born + 1) t (take k (slots_of t)) (created b t)) u) (makes (created b t) s)),
+      )

@@ -13,21 +13,21 @@ use Rattle.qo_model.specs.Objects.{Given, given_to, target_given}
 use Rattle.qo_model.specs.Plug.{number_for, target_for, text_for}
 use Rattle.qo_model.specs.Properties.{link_target}
 use Rattle.qo_model.specs.Types.{is_a, types}
-use Rattle.qo_object.specs.Shown.{birth_of, shown_slot}
+use Rattle.qo_object.specs.BoardObject.{birth_of, shown_slot}
 use Rattle.qo_object.specs.declared.slots.Slot.TheVariants.{Link, Plain}
 use Rattle.qo_properties.specs.declared.adding.filling.Fill.{Fill}
 use Rattle.qo_properties.specs.declared.adding.filling.Fill.TheVariants as fill
 use Rattle.qo_properties.specs.Filling.{filled_with, target_in}
-use Rattle.qo_properties.specs.Planned.{TellsGiven, slot_for}
+use Rattle.qo_properties.specs.Plans.{TellsGiven, own_slot_for}
 use Rattle.qo_properties.specs.Planning.{TellsRefusal}
 use Rattle.qo_properties.specs.declared.refusals.Refusal.{Refusal}
 use Rattle.qo_properties.specs.declared.refusals.Refusal.TheVariants.{Refused}
 use Rattle.qo_slots.specs.declared.keys.Key.{Key}
-use Rattle.qo_plug.specs.Planned.{number_filled, text_filled}
+use Rattle.qo_plug.specs.DevicePlans.{number_filled, text_filled}
 
 -- the slots of devices that are asked for, as they begin
 
-pub slot-begins : (t : TypeId) → is_a t (codes "device") ≡ true → slot_for t (codes "slot") ≡ Some (codes "slot", Plain val.Nothing)
+pub slot-begins : (t : TypeId) → is_a t (codes "device") ≡ true → own_slot_for t (codes "slot") ≡ Some (codes "slot", Plain val.Nothing)
 unfolding types
 slot-begins Object e = absurd (let clash : false ≡ true = e in cc)
 slot-begins Container e = absurd (let clash : false ≡ true = e in cc)
@@ -46,15 +46,15 @@ slot-begins MemoryBackend e = absurd (let clash : false ≡ true = e in cc)
 slot-begins MemoryBackendRam e = absurd (let clash : false ≡ true = e in cc)
 slot-begins Tag e = absurd (let clash : false ≡ true = e in cc)
 
-addr-begins : slot_for MemDimm (codes "addr") ≡ Some (codes "addr", Plain val.Nothing)
+addr-begins : own_slot_for MemDimm (codes "addr") ≡ Some (codes "addr", Plain val.Nothing)
 unfolding types
 addr-begins = refl
 
-memdev-begins : slot_for MemDimm (codes "memdev") ≡ Some (codes "memdev", Link MemoryBackend true None)
+memdev-begins : own_slot_for MemDimm (codes "memdev") ≡ Some (codes "memdev", Link MemoryBackend true None)
 unfolding types
 memdev-begins = refl
 
-chardev-begins : slot_for SlotUart (codes "chardev") ≡ Some (codes "chardev", Plain (val.Text []))
+chardev-begins : own_slot_for SlotUart (codes "chardev") ≡ Some (codes "chardev", Plain (val.Text []))
 unfolding types
 chardev-begins = refl
 
@@ -139,18 +139,18 @@ module _ (b : board.Board) (props : List Given) where
 
   -- of the slots that are asked for
   module _ (t : TypeId) (o : Option Fill) where
-    pub slot-told : is_a t (codes "device") ≡ true → TellsGiven b props o (slot_for t (codes "slot"))
+    pub slot-told : is_a t (codes "device") ≡ true → TellsGiven b props o (own_slot_for t (codes "slot"))
         → option_and_then number_filled o ≡ number_for props (codes "slot")
     slot-told device told = number-told (codes "slot") o (rw (slot-begins t device) at told)
 
-    pub addr-told : t ≡ MemDimm → TellsGiven b props o (slot_for t (codes "addr")) → option_and_then number_filled o ≡ number_for props (codes "addr")
+    pub addr-told : t ≡ MemDimm → TellsGiven b props o (own_slot_for t (codes "addr")) → option_and_then number_filled o ≡ number_for props (codes "addr")
     addr-told dimm told = number-told (codes "addr") o (rw (dimm, addr-begins) at told)
 
-    pub chardev-told : t ≡ SlotUart → TellsGiven b props o (slot_for t (codes "chardev"))
+    pub chardev-told : t ≡ SlotUart → TellsGiven b props o (own_slot_for t (codes "chardev"))
         → unwrap_or (option_and_then text_filled o) [] ≡ text_for props (codes "chardev")
     chardev-told uart told = text-told (codes "chardev") o (rw (uart, chardev-begins) at told)
 
-    pub memdev-told : t ≡ MemDimm → TellsGiven b props o (slot_for t (codes "memdev"))
+    pub memdev-told : t ≡ MemDimm → TellsGiven b props o (own_slot_for t (codes "memdev"))
         → birth_of (option_and_then target_in o) ≡ target_for b MemoryBackend props (codes "memdev")
     memdev-told dimm told = target-told MemoryBackend (codes "memdev") o (rw (dimm, memdev-begins) at told)
 

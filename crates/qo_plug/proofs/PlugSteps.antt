@@ -3,22 +3,22 @@ use Rattle.std.proofs.Common.{◌≡◌, refl, ap, sym, ◌∙◌, ℕ, suc, ◌
 use Rattle.std.proofs.lemmas.List.{length-map, take_all}
 use Rattle.qo_values.specs.declared.kinds.TypeId.{TypeId}
 use Rattle.qo_model.specs.Board.{Board, kind_of}
-use Rattle.qo_model.specs.Paths.{canonical, steps_to}
-use Rattle.qo_model.specs.Plug.{Spot, Wanted, born_from, clocked, counted, cut_attempt, device_last, further_of, objects_in, plug_attempt, rows_made, source_for, started, stood, types_in, with_ended, with_plugged}
+use Rattle.qo_model.specs.Paths.{canonical, path_down_to}
+use Rattle.qo_model.specs.Plug.{Spot, Wanted, born_from, clocked, counted, cut_attempt, device_last, further_of, objects_in, plug_attempt, properties_made, source_for, started, stood, types_in, with_ended, with_plugged}
 use Rattle.qo_model.specs.Release.{unpin}
 use Rattle.qo_model.specs.Types.{slots_of}
 use Rattle.qo_model.proofs.DraftEndsLemmas.{born-length}
-use Rattle.qo_sound.specs.Kept.{SoundTree}
+use Rattle.qo_sound.specs.TreeKept.{SoundTree}
 use Rattle.qo_sound.proofs.DraftLemmas.{with_pins}
-use Rattle.qo_sound.proofs.PinnedLemmas.{steps-blind}
+use Rattle.qo_sound.proofs.PinLemmas.{steps-blind}
 use Rattle.qo_sound.proofs.PlugLemmas.{IsPlace}
 use Rattle.qo_sound.proofs.StepsLemmas.{plug-steps}
 use Rattle.qo_sound.proofs.ViewLemmas.{rest-from_sound}
-use Rattle.qo_plug.specs.Drafts.{held_draft}
-use Rattle.qo_plug.proofs.BesideLemmas.{Aside, aside, draft-aside, seated-aside, started-pending}
+use Rattle.qo_plug.specs.Drafts.{pinned_draft}
+use Rattle.qo_plug.proofs.ScopeLemmas.{Aside, aside, draft-aside, seated-aside, started-pending}
 use Rattle.qo_plug.proofs.CutLemmas.{begun, held, held-is}
 
--- all of a device was made, and it was given up: so it is where the attempt was cut behind the last object
+-- all of a device was made, and it was given up: so it is where the attempt was cut after the last object
 pub cut-whole : (b : Board) (t : TypeId) (bus : ℕ) → plug_attempt b t bus 0 ≡ cut_attempt b t (objects_in t) true
 cut-whole b t bus =
     let os : List (ℕ × TypeId) = born_from (suc b.born) (types_in t) in
@@ -27,7 +27,7 @@ cut-whole b t bus =
 
 -- how many devices were added does not show in paths
 pub counted-path : (id : Option (List ℕ)) (c : Board) (n : ℕ) → canonical (counted id c) n ≡ canonical c n
-unfolding steps_to
+unfolding path_down_to
 counted-path None c n = refl
 counted-path (Some id) c n = refl
 
@@ -37,20 +37,22 @@ module _ (b : Board) (t : TypeId) (sound : SoundTree b) (a : Wanted) (spot : Spo
 
   -- the board on which it stands, held from outside
   abbrev pub seated : Board
-  seated = counted a.id (clocked (source_for b spot.bus) n (stood b n a spot (held_draft b t)))
+  seated = counted a.id (clocked (source_for b spot.bus) n (stood b n a spot (pinned_draft b t)))
 
   started-is : started n t seated ≡ with_pins (held b t sound) (with_plugged b t a spot)
   started-is =
-      ap (λ (d : Board). started n t (counted a.id (clocked (source_for b spot.bus) n (stood b n a spot (rows_made n t (slots_of t) d))))) (begun b t sound)
+      ap (λ (d : Board). started n t (counted a.id (clocked (source_for b spot.bus) n (stood b n a spot (properties_made n t (slots_of t) d)))))
+      (begun b t sound)
       ∙ steps-blind (held b t sound) b t a spot
 
   pub let-go : IsPlace b t a spot → unpin (started n t seated) n ≡ with_plugged b t a spot
   let-go place =
-      ap (λ (d : Board). unpin (started n t (counted a.id (clocked (source_for b spot.bus) n (stood b n a spot (rows_made n t (slots_of t) d))))) n) (begun b t sound)
+      ap (λ (d : Board). unpin (started n t (counted a.id (clocked (source_for b spot.bus) n (stood b n a spot (properties_made n t (slots_of t) d))))) n)
+      (begun b t sound)
       ∙ plug-steps b t a spot (held b t sound) (held-is b t sound) (rest-from_sound b sound) place
 
   seat-aside : aside seated ≡ aside b
-  seat-aside = seated-aside b n a spot (held_draft b t) ∙ draft-aside b t
+  seat-aside = seated-aside b n a spot (pinned_draft b t) ∙ draft-aside b t
 
   pub seat-holds : seated.holds ≡ b.holds
   seat-holds = ap (λ (x : Aside). x.holds) seat-aside

@@ -13,18 +13,18 @@ use Rattle.qo_model.specs.Board.{Board, Record, Slot, plain, child, strong, weak
 use Rattle.qo_model.specs.Changes as changes
 use Rattle.qo_model.specs.Devices.{child_named, clock_of}
 use Rattle.qo_model.specs.Paths.{is_child, is_of, place_in, place_of}
-use Rattle.qo_model.specs.Plug.{drafted, rows_made, source_for, with_new}
+use Rattle.qo_model.specs.Plug.{drafted, properties_made, source_for, with_new}
 use Rattle.qo_model.specs.Types.{is_a, slots_of}
 use Rattle.qo_model.proofs.AttemptLemmas.{AreKids, BareSlot, IsStar, star-kids}
 use Rattle.qo_model.proofs.DraftEndsLemmas.{IsDraft, kids_from, kinds_in}
-use Rattle.qo_sound.specs.Kept.{SoundTree}
+use Rattle.qo_sound.specs.TreeKept.{SoundTree}
 use Rattle.qo_sound.proofs.DraftLemmas.{rows-blind, with_pins}
 use Rattle.qo_sound.proofs.StepsLemmas.{draft-of}
 use Rattle.qo_sound.proofs.ViewLemmas.{AtRest, rest-from_sound}
-use Rattle.qo_plug.specs.Drafts.{held_draft}
+use Rattle.qo_plug.specs.Drafts.{pinned_draft}
 use Rattle.qo_plug.proofs.CutLemmas.{begun, held}
 
--- a board with records behind those of before
+-- a board with records after those of before
 or-none : {X : Type 0} (o p : Option X) → p ≡ None → option_or o p ≡ o
 or-none None p e = e
 or-none (Some x) p e = refl
@@ -32,7 +32,8 @@ or-none (Some x) p e = refl
 pub find-old : (p : Record → Bool) (rs news : List Record) → find p news ≡ None → find p (rs ++ news) ≡ find p rs
 find-old p rs news none = find-append p rs news ∙ or-none (find p rs) (find p news) none
 
-find-low : (p : Record → Bool) (k : ℕ) (rs : List Record) (r : Record) → AllByRecursion (λ m. m ≤ k) (map (λ (x : Record). x.birth) rs) → find p rs ≡ Some r → r.birth ≤ k
+find-low : (p : Record → Bool) (k : ℕ) (rs : List Record) (r : Record) → AllByRecursion (λ m. m ≤ k) (map (λ (x : Record). x.birth) rs) → find p rs ≡ Some r
+    → r.birth ≤ k
 find-low p k [] r low e = cc
 find-low p k (x ∷ rs) r low e = go (p x) refl (find-low p k rs r low.1)
   where
@@ -55,7 +56,8 @@ star-none n m lo ((name, weak t target) ∷ ss) ls le h = star-none n m lo ss ls
 star-none n m lo ((name, plain v) ∷ ss) ls le h = star-none n m lo ss ls le h
 star-none n m lo ((name, alias x p) ∷ ss) ls le h = star-none n m lo ss ls le h
 
-bare-none : (n m : ℕ) (ss : List (List ℕ × Slot)) → AllByRecursion (λ (s : List ℕ × Slot). BareSlot n s.1) ss → find (λ (s : List ℕ × Slot). is_child m s.1) ss ≡ None
+bare-none : (n m : ℕ) (ss : List (List ℕ × Slot)) → AllByRecursion (λ (s : List ℕ × Slot). BareSlot n s.1) ss
+    → find (λ (s : List ℕ × Slot). is_child m s.1) ss ≡ None
 bare-none n m [] h = refl
 bare-none n m ((name, child x) ∷ ss) h = absurd (let clash : Some x ≡ None = h.0.empty in cc)
 bare-none n m ((name, strong t target) ∷ ss) h = bare-none n m ss h.1
@@ -94,25 +96,27 @@ module _ (b : Board) (t : TypeId) (sound : SoundTree b) where
   abbrev pub news : List Record
   news = device ∷ kids_from (suc n) (kinds_in (slots_of t))
 
-  pub draft-pinned_up : held_draft b t ≡ with_pins (held b t sound) (drafted b t)
-  draft-pinned_up = ap (rows_made n t (slots_of t)) (begun b t sound) ∙ rows-blind (held b t sound) n t (slots_of t) (with_new (changes.fresh n t) b)
+  pub draft-pinned_up : pinned_draft b t ≡ with_pins (held b t sound) (drafted b t)
+  draft-pinned_up = ap (properties_made n t (slots_of t)) (begun b t sound) ∙ rows-blind (held b t sound) n t (slots_of t) (with_new (changes.fresh n t) b)
 
-  pub draft-records : (held_draft b t).records ≡ b.records ++ news
+  pub draft-records : (pinned_draft b t).records ≡ b.records ++ news
   draft-records = ap (λ (c : Board). c.records) (draft-pinned_up ∙ ap (with_pins (held b t sound)) draft.shape)
 
   kids : AreKids n n (kids_from (suc n) (kinds_in (slots_of t)))
   kids = star-kids n n draft.slots (kids_from (suc n) (kinds_in (slots_of t))) draft.star_is
 
   module _ (m : ℕ) (low : m ≤ b.born) where
-    found-same : record_of (held_draft b t) m ≡ record_of b m
+    found-same : record_of (pinned_draft b t) m ≡ record_of b m
     found-same =
         let other : (n == m) ≡ false = grind (arith, nat_tests, low) in
-        let none : find (λ (r : Record). r.birth == m) news ≡ None = rw other (kids-later n m n (kids_from (suc n) (kinds_in (slots_of t))) (omega (arith, low)) kids) in
+        let none : find (λ (r : Record). r.birth == m) news ≡ None =
+        rw other (kids-later n m n (kids_from (suc n) (kinds_in (slots_of t))) (omega (arith, low)) kids) in
         ap (λ (rs : List Record). find (λ (r : Record). r.birth == m) rs) draft-records ∙ find-old (λ (r : Record). r.birth == m) b.records news none
 
-    place-same : place_of (held_draft b t) m ≡ place_of b m
+    place-same : place_of (pinned_draft b t) m ≡ place_of b m
     place-same =
-        let own : is_some (place_in m device) ≡ false = unplaced m device (star-none n m n draft.slots (kids_from (suc n) (kinds_in (slots_of t))) (omega (arith, low)) draft.star_is) in
+        let own : is_some (place_in m device) ≡ false =
+        unplaced m device (star-none n m n draft.slots (kids_from (suc n) (kinds_in (slots_of t))) (omega (arith, low)) draft.star_is) in
         let none : find (λ (r : Record). is_some (place_in m r)) news ≡ None = rw own (kids-unplaced n m n (kids_from (suc n) (kinds_in (slots_of t))) kids) in
         ap (λ (rs : List Record). option_and_then (place_in m) (find (λ (r : Record). is_some (place_in m r)) rs)) draft-records
         ∙ ap (option_and_then (place_in m)) (find-old (λ (r : Record). is_some (place_in m r)) b.records news none)
@@ -134,32 +138,36 @@ module _ (b : Board) (t : TypeId) (sound : SoundTree b) where
   abbrev if_device : Board → ℕ → Option ℕ
   if_device c p = if is_of c (codes "device") p then Some p else None
 
-  of-same : (p : ℕ) → p ≤ b.born → if_device (held_draft b t) p ≡ if_device b p
-  of-same p low = ap (λ (o : Option Record). if option_map_or (λ (k : TypeId). is_a k (codes "device")) (option_map (λ (r : Record). r.kind) o) false then Some p else None) (found-same p low)
+  of-same : (p : ℕ) → p ≤ b.born → if_device (pinned_draft b t) p ≡ if_device b p
+  of-same p low =
+      ap (λ (o : Option Record). if option_map_or (λ (k : TypeId). is_a k (codes "device")) (option_map (λ (r : Record). r.kind) o) false then Some p else None)
+      (found-same p low)
 
-  clock-same : (p : ℕ) → p ≤ b.born → clock_of (held_draft b t) p ≡ clock_of b p
+  clock-same : (p : ℕ) → p ≤ b.born → clock_of (pinned_draft b t) p ≡ clock_of b p
   clock-same p low =
-      ap (λ (o : Option Record). option_and_then child_named (option_map (λ (s : List ℕ × Slot). s.1) (find (λ (s : List ℕ × Slot). bytes_eq s.0 (codes "clk")) (option_map_or (λ (r : Record). r.slots) o []))))
+      ap (λ (o : Option Record). option_and_then child_named
+      (option_map (λ (s : List ℕ × Slot). s.1) (find (λ (s : List ℕ × Slot). bytes_eq s.0 (codes "clk")) (option_map_or (λ (r : Record). r.slots) o []))))
       (found-same p low)
 
   abbrev source_by : Board → Option ℕ → ℕ
   source_by c parent = unwrap_or (option_and_then (clock_of c) (option_and_then (if_device c) parent)) SYSTEM_CLOCK_BIRTH
 
-  by-same : (p : ℕ) → p ≤ b.born → source_by (held_draft b t) (Some p) ≡ source_by b (Some p)
+  by-same : (p : ℕ) → p ≤ b.born → source_by (pinned_draft b t) (Some p) ≡ source_by b (Some p)
   by-same p low =
-      ap (λ (o : Option ℕ). unwrap_or (option_and_then (clock_of (held_draft b t)) o) SYSTEM_CLOCK_BIRTH) (of-same p low) ∙ go (is_of b (codes "device") p)
+      ap (λ (o : Option ℕ). unwrap_or (option_and_then (clock_of (pinned_draft b t)) o) SYSTEM_CLOCK_BIRTH) (of-same p low) ∙ go (is_of b (codes "device") p)
     where
-      go : (u : Bool) → unwrap_or (option_and_then (clock_of (held_draft b t)) (if u then Some p else None)) SYSTEM_CLOCK_BIRTH
+      go : (u : Bool) → unwrap_or (option_and_then (clock_of (pinned_draft b t)) (if u then Some p else None)) SYSTEM_CLOCK_BIRTH
           ≡ unwrap_or (option_and_then (clock_of b) (if u then Some p else None)) SYSTEM_CLOCK_BIRTH
       go true = ap (λ (o : Option ℕ). unwrap_or o SYSTEM_CLOCK_BIRTH) (clock-same p low)
       go false = refl
 
   -- the clock that a device on a bus goes by
-  pub source-same : (bus : ℕ) → bus ≤ b.born → source_for b bus ≡ source_for (held_draft b t) bus
+  pub source-same : (bus : ℕ) → bus ≤ b.born → source_for b bus ≡ source_for (pinned_draft b t) bus
   source-same bus low =
-      sym (ap (λ (o : Option (ℕ × List ℕ)). source_by (held_draft b t) (option_map (λ (p : ℕ × List ℕ). p.0) o)) (place-same bus low) ∙ go (place_of b bus) refl)
+      sym (ap (λ (o : Option (ℕ × List ℕ)). source_by (pinned_draft b t) (option_map (λ (p : ℕ × List ℕ). p.0) o)) (place-same bus low)
+      ∙ go (place_of b bus) refl)
     where
       go : (o : Option (ℕ × List ℕ)) → place_of b bus ≡ o
-          → source_by (held_draft b t) (option_map (λ (p : ℕ × List ℕ). p.0) o) ≡ source_by b (option_map (λ (p : ℕ × List ℕ). p.0) o)
+          → source_by (pinned_draft b t) (option_map (λ (p : ℕ × List ℕ). p.0) o) ≡ source_by b (option_map (λ (p : ℕ × List ℕ). p.0) o)
       go None e = refl
       go (Some p) e = by-same p.0 (place-low bus p e)

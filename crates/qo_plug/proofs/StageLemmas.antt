@@ -15,13 +15,13 @@ use Rattle.qo_plug.specs.declared.placing.Way.{Way}
 use Rattle.qo_plug.specs.declared.placing.Way.TheVariants.{Stands, Full}
 use Rattle.qo_plug.specs.declared.refusals.Barred.{Barred}
 use Rattle.qo_standing.specs.declared.spots.Spot.{Spot as Chosen}
-use Rattle.qo_plug.specs.Added.{IsAdmitted, barred_in}
-use Rattle.qo_plug.specs.Adding.{IsCut, IsOpen, IsRefused}
+use Rattle.qo_plug.specs.Admission.{IsAdmitted, barred_in}
+use Rattle.qo_plug.specs.Answers.{IsCut, IsOpen, IsRefused}
 use Rattle.qo_plug.specs.Stages.{IsBegun, IsHeld, IsSettled, StandsBy}
-use Rattle.qo_standing.specs.Standing.{IsSeat}
+use Rattle.qo_standing.specs.Placement.{IsSeat}
 use Rattle.qo_plug.proofs.AddLemmas.{cut-late, is-refused, whole-cut}
-use Rattle.qo_plug.proofs.AdmitLemmas.{added-late}
-use Rattle.qo_plug.proofs.JudgeLemmas.{late-notices, late-spot, notice_as}
+use Rattle.qo_plug.proofs.AdmissionLemmas.{added-late}
+use Rattle.qo_plug.proofs.JudgementLemmas.{late-notices, late-spot, notice_as}
 
 module _ (b : Board) (a : Wanted) (d : Begun) (v : Objects) (is : IsBegun b a d v) where
   pub bus-low : IsHeld d v → d.site.bus.birth ≤ b.born
@@ -33,7 +33,8 @@ module _ (b : Board) (a : Wanted) (d : Begun) (v : Objects) (is : IsBegun b a d 
   -- it has a spot there
   module _ (at : Chosen) (has : d.spot ≡ Ok at) where
     by-notices : (full : Bool) → nat_le NOTICES_MAX (length b.notices) ≡ full → barred_late b d.site.kind d.site.bus.birth a.props ≡ at_stage 8 (notice_as full)
-    by-notices full = late-notices b d.site.bus.birth d.site.kind a.props full (sym is.given) (ap (λ (r : Result Chosen Barred). barred_in r) (sym has) ∙ is.barred)
+    by-notices full =
+        late-notices b d.site.bus.birth d.site.kind a.props full (sym is.given) (ap (λ (r : Result Chosen Barred). barred_in r) (sym has) ∙ is.barred)
 
     pub opened : nat_le NOTICES_MAX (length b.notices) ≡ false → IsOpen b a d.site at
     opened room = record { admitted = is.admitted; late = by-notices false room; chosen = rw has at is.spot }
@@ -42,10 +43,12 @@ module _ (b : Board) (a : Wanted) (d : Begun) (v : Objects) (is : IsBegun b a d 
     full-barred full = by-notices true full
 
   -- it has none
-  pub spot-refused : (bar : Barred) → d.spot ≡ Err bar → (w : Objects) → Shows (plug_attempt b d.site.kind d.site.bus.birth bar.stage) w → IsRefused b a bar.stage bar.code w
+  pub spot-refused : (bar : Barred) → d.spot ≡ Err bar → (w : Objects) → Shows (plug_attempt b d.site.kind d.site.bus.birth bar.stage) w
+      → IsRefused b a bar.stage bar.code w
   spot-refused bar has w s =
       is-refused b a d.site is.admitted w bar.stage bar.code
-      (late-spot b d.site.bus.birth d.site.kind a.props (bar.stage, bar.code) (sym is.given) (ap (λ (r : Result Chosen Barred). barred_in r) (sym has) ∙ is.barred)) s
+      (late-spot b d.site.bus.birth d.site.kind a.props (bar.stage, bar.code) (sym is.given)
+      (ap (λ (r : Result Chosen Barred). barred_in r) (sym has) ∙ is.barred)) s
 
   -- memory wants
   pub given_up-cut : (w : Objects) → Shows (plug_attempt b d.site.kind d.site.bus.birth 0) w → IsCut b a w

@@ -13,16 +13,16 @@ use Rattle.qo_values.specs.declared.ranges.Range.{Range}
 use Rattle.qo_model.specs.Board.{Board, Record, Slot, child, plain, strong, weak, alias, kind_of, record_of, slots_at}
 use Rattle.qo_model.specs.Changes.{add, changed_at, fresh, make, set, with_added, with_changed, with_val}
 use Rattle.qo_model.specs.Devices.{bus_in, buses_of, clock_name, clock_of, kid_name}
-use Rattle.qo_model.specs.Objects.{Given, given_to, place_from, slot_given}
+use Rattle.qo_model.specs.Objects.{Given, given_to, index_from, slot_given}
 use Rattle.qo_model.specs.Opening.{first_value, fresh_record}
-use Rattle.qo_model.specs.Plug.{Spot, Wanted, addressed_at, aliased, bus_births, fitted, further_in, further_of, joined, link_named, name_for, owned, parent_for, row_made, rows_made, source_for, stood, with_body_of, with_given, with_kid, with_new, with_source}
+use Rattle.qo_model.specs.Plug.{Spot, Wanted, addressed_at, aliased, bus_births, fitted, further_in, further_of, joined, link_named, name_for, owned, parent_for, property_made, properties_made, source_for, stood, with_body_of, with_given, with_kid, with_new, with_source}
 use Rattle.qo_model.specs.Release.{edit, edited}
 use Rattle.qo_model.specs.RowNames.{property_name}
 use Rattle.qo_model.specs.Types.{is_a, slots_of, types}
 use Rattle.qo_model.specs.Unplug.{is_named, set_named}
 use Rattle.qo_model.specs.declared.properties.Property.{Property}
-use Rattle.qo_model.specs.declared.properties.RowKind.{RowKind}
-use Rattle.qo_model.specs.declared.properties.RowKind.TheVariants as row
+use Rattle.qo_model.specs.declared.properties.PropertyRole.{PropertyRole}
+use Rattle.qo_model.specs.declared.properties.PropertyRole.TheVariants as row
 use Rattle.qo_slots.specs.declared.keys.Key.{Key}
 use Rattle.qo_table.specs.Rows.{Rises, object_at}
 use Rattle.qo_table.specs.Rows as table
@@ -30,10 +30,10 @@ use Rattle.qo_table.proofs.RowsLemmas.{rises-up}
 use Rattle.qo_object.specs.Content.{Content}
 use Rattle.qo_heap.specs.Board.{Shows}
 use Rattle.qo_heap.specs.Objects.{IsHeap, Objects}
-use Rattle.qo_heap.proofs.ShowsReads.{shows-kind}
-use Rattle.qo_plug.specs.Drafts.{created, held_draft}
-use Rattle.qo_standing.specs.Standing.{seated}
-use Rattle.qo_standing.proofs.StandBoards.{kinds-added, kinds-stood, tree-source}
+use Rattle.qo_heap.proofs.BoardReads.{shows-kind}
+use Rattle.qo_plug.specs.Drafts.{created, pinned_draft}
+use Rattle.qo_standing.specs.Placement.{seated}
+use Rattle.qo_standing.proofs.PlacementBoards.{kinds-added, kinds-stood, tree-source}
 use Rattle.qo_standing.proofs.TreeLemmas.{read-edit}
 
 -- the children in slots, by name
@@ -80,7 +80,8 @@ buses-same b c n kinds kids =
 kids-one : (s t : List ℕ × Slot) (ss ts : BoardSlots) → kid_in t ≡ kid_in s → kids_in ts ≡ kids_in ss → kids_in (t ∷ ts) ≡ kids_in (s ∷ ss)
 kids-one s t ss ts same rest = λ j. cons_option (same j) (rest j)
 
-kids-changed : (g : Slot → Slot) → ((name : List ℕ) (s : Slot) → kid_in (name, g s) ≡ kid_in (name, s)) → (i : ℕ) (ss : BoardSlots) → kids_in (changed_at g i ss) ≡ kids_in ss
+kids-changed : (g : Slot → Slot) → ((name : List ℕ) (s : Slot) → kid_in (name, g s) ≡ kid_in (name, s)) → (i : ℕ) (ss : BoardSlots)
+    → kids_in (changed_at g i ss) ≡ kids_in ss
 kids-changed g same i [] = refl
 kids-changed g same zero (s ∷ ss) = kids-one s (s.0, g s.1) ss ss (same s.0 s.1) refl
 kids-changed g same (suc i) (s ∷ ss) = kids-one s s ss (changed_at g i ss) refl (kids-changed g same i ss)
@@ -144,23 +145,25 @@ kids-append (x ∷ xs) ys =
 
 -- the children of each object, over the steps of a device that takes its place
 
-kids-edit : (b : Board) (n : ℕ) (f : Record → Record) → ((r : Record) → (f r).birth ≡ r.birth) → ((r : Record) → kids_in (f r).slots ≡ kids_in r.slots) → (m : ℕ) → kids_at (edit n f b) m ≡ kids_at b m
+kids-edit : (b : Board) (n : ℕ) (f : Record → Record) → ((r : Record) → (f r).birth ≡ r.birth) → ((r : Record) → kids_in (f r).slots ≡ kids_in r.slots)
+    → (m : ℕ) → kids_at (edit n f b) m ≡ kids_at b m
 kids-edit b n f born same m = read-edit n f born (λ (o : Option Record). kids_in (option_map_or (λ (r : Record). r.slots) o [])) same m b.records
 
 kids-set : (n : ℕ) (name : List ℕ) (v : Val) (b : Board) (m : ℕ) → kids_at (set_named n name v b) m ≡ kids_at b m
 unfolding set
-kids-set n name v b m = go (place_from (is_named name) 0 (slots_at b n)) refl
+kids-set n name v b m = go (index_from (is_named name) 0 (slots_at b n)) refl
   where
-    go : (o : Option ℕ) → place_from (is_named name) 0 (slots_at b n) ≡ o → kids_at (set_named n name v b) m ≡ kids_at b m
+    go : (o : Option ℕ) → index_from (is_named name) 0 (slots_at b n) ≡ o → kids_at (set_named n name v b) m ≡ kids_at b m
     go None e = rw (set_named, e) refl
     go (Some i) e = rw (set_named, e) (kids-edit b n (with_changed (with_val v) i) (λ r. refl) (λ r. kids-changed (with_val v) (kid-val v) i r.slots) m)
 
 kids-link : (n : ℕ) (name : List ℕ) (to : ℕ) (b : Board) (m : ℕ) → kids_at (link_named n name to b) m ≡ kids_at b m
-kids-link n name to b m = go (place_from (is_named name) 0 (slots_at b n)) refl
+kids-link n name to b m = go (index_from (is_named name) 0 (slots_at b n)) refl
   where
-    go : (o : Option ℕ) → place_from (is_named name) 0 (slots_at b n) ≡ o → kids_at (link_named n name to b) m ≡ kids_at b m
+    go : (o : Option ℕ) → index_from (is_named name) 0 (slots_at b n) ≡ o → kids_at (link_named n name to b) m ≡ kids_at b m
     go None e = rw (link_named, e) refl
-    go (Some i) e = rw (link_named, e) (kids-edit b n (with_changed (fitted b to) i) (λ r. refl) (λ r. kids-changed (fitted b to) (kid-fitted b to) i r.slots) m)
+    go (Some i) e =
+        rw (link_named, e) (kids-edit b n (with_changed (fitted b to) i) (λ r. refl) (λ r. kids-changed (fitted b to) (kid-fitted b to) i r.slots) m)
 
 kids-source : (source : ℕ) (clock : Option ℕ) (c : Board) (m : ℕ) → kids_at (with_source source clock c) m ≡ kids_at c m
 kids-source source None c m = refl
@@ -190,7 +193,8 @@ other-edit n m f born other (r ∷ rs) = go (r.birth == n) refl (other-edit n m 
 
 kids-other : (n : ℕ) (name : List ℕ) (s : Slot) (b : Board) (m : ℕ) → (n == m) ≡ false → kids_at (add n name s b) m ≡ kids_at b m
 unfolding add
-kids-other n name s b m other = ap (λ (o : Option Record). kids_in (option_map_or (λ (r : Record). r.slots) o [])) (other-edit n m (with_added name s) (λ r. refl) other b.records)
+kids-other n name s b m other =
+    ap (λ (o : Option Record). kids_in (option_map_or (λ (r : Record). r.slots) o [])) (other-edit n m (with_added name s) (λ r. refl) other b.records)
 
 -- a device keeps its buses where it takes its place
 
@@ -240,11 +244,13 @@ numbered-push : (m j : ℕ) (fs : List Further) (f : Further) → j ≡ m + leng
 numbered-push m j [] f e = let same : m ≡ j = omega (arith, e) in ap (λ (k : ℕ). (f.0, k) ∷ []) same
 numbered-push m j (x ∷ fs) f e = ap (λ (l : List Kid). (x.0, m) ∷ l) (numbered-push (suc m) j fs f (omega (arith, e)))
 
-kinds-push : (c : Board) (m j : ℕ) (fs : List Further) (f : Further) → j ≡ m + length fs → KindsFrom c m fs → kind_of c j ≡ Some f.1 → KindsFrom c m (fs ++ f ∷ [])
+kinds-push : (c : Board) (m j : ℕ) (fs : List Further) (f : Further) → j ≡ m + length fs → KindsFrom c m fs → kind_of c j ≡ Some f.1
+    → KindsFrom c m (fs ++ f ∷ [])
 kinds-push c m j [] f e all last = let same : j ≡ m = omega (arith, e) in (subst (λ (k : ℕ). kind_of c k ≡ Some f.1) same last, tt)
 kinds-push c m j (x ∷ fs) f e all last = (all.0, kinds-push c (suc m) j fs f (omega (arith, e)) all.1 last)
 
-kinds-still : (c d : Board) → ((m : ℕ) (t : TypeId) → kind_of c m ≡ Some t → kind_of d m ≡ Some t) → (m : ℕ) (fs : List Further) → KindsFrom c m fs → KindsFrom d m fs
+kinds-still : (c d : Board) → ((m : ℕ) (t : TypeId) → kind_of c m ≡ Some t → kind_of d m ≡ Some t) → (m : ℕ) (fs : List Further) → KindsFrom c m fs
+    → KindsFrom d m fs
 kinds-still c d still m [] all = tt
 kinds-still c d still m (f ∷ fs) all = (still m f.1 all.0, kinds-still c d still (suc m) fs all.1)
 
@@ -268,14 +274,16 @@ own-edit n f born (r ∷ rs) = go (r.birth == n) refl (own-edit n f born rs)
         rw (e, here) refl
     go false e rest = rw (e, e) rest
 
-added-own : (n : ℕ) (name : List ℕ) (s : Slot) (t : TypeId) (c : Board) → kind_of c n ≡ Some t → kids_at (add n name s c) n ≡ kids_at c n ++ kids_in ((name, s) ∷ [])
+added-own : (n : ℕ) (name : List ℕ) (s : Slot) (t : TypeId) (c : Board) → kind_of c n ≡ Some t
+    → kids_at (add n name s c) n ≡ kids_at c n ++ kids_in ((name, s) ∷ [])
 unfolding add
 added-own n name s t c kind =
     ap (λ (o : Option Record). kids_in (option_map_or (λ (r : Record). r.slots) o [])) (own-edit n (with_added name s) (λ r. refl) c.records)
     ∙ go (record_of c n) kind
   where
     go : (o : Option Record) → option_map (λ (r : Record). r.kind) o ≡ Some t
-        → kids_in (option_map_or (λ (r : Record). r.slots) (option_map (with_added name s) o) []) ≡ kids_in (option_map_or (λ (r : Record). r.slots) o []) ++ kids_in ((name, s) ∷ [])
+        → kids_in (option_map_or (λ (r : Record). r.slots) (option_map (with_added name s) o) [])
+        ≡ kids_in (option_map_or (λ (r : Record). r.slots) o []) ++ kids_in ((name, s) ∷ [])
     go None e = cc
     go (Some r) e = kids-append r.slots ((name, s) ∷ [])
 
@@ -283,7 +291,8 @@ born-added : (n : ℕ) (name : List ℕ) (s : Slot) (c : Board) → (add n name 
 unfolding add
 born-added n name s c = refl
 
-drafted-slot : (n : ℕ) (t : TypeId) (done : List Further) (c : Board) (name : List ℕ) (s : Slot) → kid_in (name, s) ≡ None → Drafted n t done c → Drafted n t done (add n name s c)
+drafted-slot : (n : ℕ) (t : TypeId) (done : List Further) (c : Board) (name : List ℕ) (s : Slot) → kid_in (name, s) ≡ None → Drafted n t done c
+    → Drafted n t done (add n name s c)
 drafted-slot n t done c name s none d =
     record {
       kind = kinds-added n name s c n ∙ d.kind;
@@ -294,12 +303,15 @@ drafted-slot n t done c name s none d =
     }
 
 -- a record more
-found-last : (m : ℕ) (y : Record) (xs : List Record) → find (λ (r : Record). r.birth == m) (xs ++ y ∷ []) ≡ option_or (find (λ (r : Record). r.birth == m) xs) (cond (y.birth == m) (Some y) None)
+found-last : (m : ℕ) (y : Record) (xs : List Record)
+    → find (λ (r : Record). r.birth == m) (xs ++ y ∷ []) ≡ option_or (find (λ (r : Record). r.birth == m) xs) (cond (y.birth == m) (Some y) None)
 found-last m y [] = refl
 found-last m y (x ∷ xs) = go (x.birth == m) (found-last m y xs)
   where
-    go : (t : Bool) → find (λ (r : Record). r.birth == m) (xs ++ y ∷ []) ≡ option_or (find (λ (r : Record). r.birth == m) xs) (cond (y.birth == m) (Some y) None)
-        → cond t (Some x) (find (λ (r : Record). r.birth == m) (xs ++ y ∷ [])) ≡ option_or (cond t (Some x) (find (λ (r : Record). r.birth == m) xs)) (cond (y.birth == m) (Some y) None)
+    go : (t : Bool)
+        → find (λ (r : Record). r.birth == m) (xs ++ y ∷ []) ≡ option_or (find (λ (r : Record). r.birth == m) xs) (cond (y.birth == m) (Some y) None)
+        → cond t (Some x) (find (λ (r : Record). r.birth == m) (xs ++ y ∷ []))
+        ≡ option_or (cond t (Some x) (find (λ (r : Record). r.birth == m) xs)) (cond (y.birth == m) (Some y) None)
     go true rest = refl
     go false rest = rest
 
@@ -311,18 +323,21 @@ kind-last m y xs = ap (option_map (λ (r : Record). r.kind)) (found-last m y xs)
     last true = refl
     last false = refl
 
-    go : (o : Option Record) → option_map (λ (r : Record). r.kind) (option_or o (cond (y.birth == m) (Some y) None)) ≡ option_or (option_map (λ (r : Record). r.kind) o) (cond (y.birth == m) (Some y.kind) None)
+    go : (o : Option Record) → option_map (λ (r : Record). r.kind) (option_or o (cond (y.birth == m) (Some y) None))
+        ≡ option_or (option_map (λ (r : Record). r.kind) o) (cond (y.birth == m) (Some y.kind) None)
     go None = last (y.birth == m)
     go (Some r) = refl
 
 self-is : (n : ℕ) → (n == n) ≡ true
 self-is n = eq-eqb n n refl
 
-drafted-kid : (n : ℕ) (t : TypeId) (done : List Further) (c : Board) (name : List ℕ) (k : TypeId) → Drafted n t done c → Drafted n t (done ++ (name, k) ∷ []) (with_kid n name k c)
+drafted-kid : (n : ℕ) (t : TypeId) (done : List Further) (c : Board) (name : List ℕ) (k : TypeId) → Drafted n t done c
+    → Drafted n t (done ++ (name, k) ∷ []) (with_kid n name k c)
 drafted-kid n t done c name k d =
     record {
       kind = kinds-added n name (child (c.born + 1)) new n ∙ was n t d.kind;
-      kids = added-own n name (child (c.born + 1)) t new (was n t d.kind) ∙ (λ j. (kids_were ∙ d.kids) j ++ (name, c.born + 1) ∷ []) ∙ sym (numbered-push (suc n) (c.born + 1) done (name, k) (omega (arith, born)));
+      kids = added-own n name (child (c.born + 1)) t new (was n t d.kind) ∙ (λ j. (kids_were ∙ d.kids) j ++ (name, c.born + 1) ∷ [])
+          ∙ sym (numbered-push (suc n) (c.born + 1) done (name, k) (omega (arith, born)));
       kinds = kinds-push (with_kid n name k c) (suc n) (c.born + 1) done (name, k) (omega (arith, born))
           (kinds-still c (with_kid n name k c) (λ m x e. kinds-added n name (child (c.born + 1)) new m ∙ was m x e) (suc n) done d.kinds)
           (kinds-added n name (child (c.born + 1)) new (c.born + 1) ∙ here);
@@ -356,29 +371,36 @@ drafted-kid n t done c name k d =
         ∙ ap (λ (b : Bool). cond b (Some k) None) other
 
     kids_were : kids_at (with_new (fresh_record (c.born + 1) k) c) n ≡ kids_at c n
-    kids_were = ap (λ (o : Option Record). kids_in (option_map_or (λ (r : Record). r.slots) o [])) (found-last n (fresh_record (c.born + 1) k) c.records) ∙ go (record_of c n) d.kind
+    kids_were = ap (λ (o : Option Record). kids_in (option_map_or (λ (r : Record). r.slots) o [])) (found-last n (fresh_record (c.born + 1) k) c.records)
+        ∙ go (record_of c n) d.kind
       where
         go : (o : Option Record) → option_map (λ (r : Record). r.kind) o ≡ Some t
-            → kids_in (option_map_or (λ (r : Record). r.slots) (option_or o (cond ((c.born + 1) == n) (Some (fresh_record (c.born + 1) k)) None)) []) ≡ kids_in (option_map_or (λ (r : Record). r.slots) o [])
+            → kids_in (option_map_or (λ (r : Record). r.slots) (option_or o (cond ((c.born + 1) == n) (Some (fresh_record (c.born + 1) k)) None)) [])
+            ≡ kids_in (option_map_or (λ (r : Record). r.slots) o [])
         go None e = cc
         go (Some r) e = refl
 
 -- property by property
 
-abbrev further_by : List ℕ → RowKind → Option Further
+abbrev further_by : List ℕ → PropertyRole → Option Further
 further_by name kind = elim kind [ row.Child t ↦ Some (name, t) | _ ↦ None ]
 
-drafted-alias : (n : ℕ) (t : TypeId) (done : List Further) (c : Board) (name of : List ℕ) (o : Option ℕ) → Drafted n t done c → Drafted n t done (aliased n name of o c)
+drafted-alias : (n : ℕ) (t : TypeId) (done : List Further) (c : Board) (name of : List ℕ) (o : Option ℕ) → Drafted n t done c
+    → Drafted n t done (aliased n name of o c)
 drafted-alias n t done c name of None d = d
 drafted-alias n t done c name of (Some m) d = drafted-slot n t done c name (alias m of) refl d
 
-drafted-row : (n : ℕ) (t : TypeId) (done : List Further) (c : Board) (name : List ℕ) (kind : RowKind) → Drafted n t done c → Drafted n t (done ++ option_to_list (further_by name kind)) (row_made n t name kind c)
+drafted-row : (n : ℕ) (t : TypeId) (done : List Further) (c : Board) (name : List ℕ) (kind : PropertyRole) → Drafted n t done c
+    → Drafted n t (done ++ option_to_list (further_by name kind)) (property_made n t name kind c)
 drafted-row n t done c name (row.Plain type first) d =
-    subst (λ (l : List Further). Drafted n t l (add n name (plain (first_value t first)) c)) (sym (append-nil done)) (drafted-slot n t done c name (plain (first_value t first)) refl d)
+    subst (λ (l : List Further). Drafted n t l (add n name (plain (first_value t first)) c)) (sym (append-nil done))
+    (drafted-slot n t done c name (plain (first_value t first)) refl d)
 drafted-row n t done c name (row.Link target true) d =
-    subst (λ (l : List Further). Drafted n t l (add n name (strong target None) c)) (sym (append-nil done)) (drafted-slot n t done c name (strong target None) refl d)
+    subst (λ (l : List Further). Drafted n t l (add n name (strong target None) c)) (sym (append-nil done))
+    (drafted-slot n t done c name (strong target None) refl d)
 drafted-row n t done c name (row.Link target false) d =
-    subst (λ (l : List Further). Drafted n t l (add n name (weak target None) c)) (sym (append-nil done)) (drafted-slot n t done c name (weak target None) refl d)
+    subst (λ (l : List Further). Drafted n t l (add n name (weak target None) c)) (sym (append-nil done))
+    (drafted-slot n t done c name (weak target None) refl d)
 drafted-row n t done c name (row.Child type) d = drafted-kid n t done c name type d
 drafted-row n t done c name (row.Alias owner of) d =
     subst (λ (l : List Further). Drafted n t l (aliased n name (property_name of) (owned c n (property_name owner)) c)) (sym (append-nil done))
@@ -391,12 +413,14 @@ further-cons p ps = go (further_in p)
     go None = refl
     go (Some f) = refl
 
-drafted-rows : (n : ℕ) (t : TypeId) (ps : List Property) (done : List Further) (c : Board) → Drafted n t done c → Drafted n t (done ++ filter_map further_in ps) (rows_made n t ps c)
+drafted-rows : (n : ℕ) (t : TypeId) (ps : List Property) (done : List Further) (c : Board) → Drafted n t done c
+    → Drafted n t (done ++ filter_map further_in ps) (properties_made n t ps c)
 drafted-rows n t [] done c d = subst (λ (l : List Further). Drafted n t l c) (sym (append-nil done)) d
 drafted-rows n t (p ∷ ps) done c d =
-    subst (λ (l : List Further). Drafted n t l (rows_made n t (p ∷ ps) c))
+    subst (λ (l : List Further). Drafted n t l (properties_made n t (p ∷ ps) c))
     (append_assoc done (option_to_list (further_in p)) (filter_map further_in ps) ∙ ap (λ (l : List Further). done ++ l) (sym (further-cons p ps)))
-    (drafted-rows n t ps (done ++ option_to_list (further_in p)) (row_made n t (property_name p.name) p.kind c) (drafted-row n t done c (property_name p.name) p.kind d))
+    (drafted-rows n t ps (done ++ option_to_list (further_in p)) (property_made n t (property_name p.name) p.role c)
+    (drafted-row n t done c (property_name p.name) p.role d))
 
 none-there : (o : Option Record) → option_map (λ (r : Record). r.kind) o ≡ None → o ≡ None
 none-there None e = refl
@@ -420,7 +444,8 @@ drafted-begun b t low =
     found : find (λ (r : Record). r.birth == (b.born + 1)) (b.records ++ fresh (b.born + 1) t ∷ []) ≡ Some (fresh (b.born + 1) t)
     found =
         found-last (b.born + 1) (fresh (b.born + 1) t) b.records
-        ∙ ap (λ (o : Option Record). option_or o (cond ((b.born + 1) == (b.born + 1)) (Some (fresh (b.born + 1) t)) None)) (none-there (record_of b (b.born + 1)) (low (b.born + 1) (omega arith)))
+        ∙ ap (λ (o : Option Record). option_or o (cond ((b.born + 1) == (b.born + 1)) (Some (fresh (b.born + 1) t)) None))
+        (none-there (record_of b (b.born + 1)) (low (b.born + 1) (omega arith)))
         ∙ ap (λ (x : Bool). cond x (Some (fresh (b.born + 1) t)) None) (self-is (b.born + 1))
 
 -- the buses among them
@@ -435,7 +460,8 @@ buses_from m (f ∷ fs) = cons_option (bus_from m f) (buses_from (suc m) fs)
 buses-numbered : (c : Board) (m : ℕ) (fs : List Further) → KindsFrom c m fs → filter_map (bus_of (kind_of c)) (numbered m fs) ≡ buses_from m fs
 buses-numbered c m [] all = refl
 buses-numbered c m (f ∷ fs) all =
-    let here : bus_of (kind_of c) (f.0, m) ≡ bus_from m f = ap (λ (o : Option TypeId). if option_map_or (λ (t : TypeId). is_a t (codes "bus")) o false && not (bytes_eq f.0 clock_name) then Some m else None) all.0 in
+    let here : bus_of (kind_of c) (f.0, m) ≡ bus_from m f = ap
+    (λ (o : Option TypeId). if option_map_or (λ (t : TypeId). is_a t (codes "bus")) o false && not (bytes_eq f.0 clock_name) then Some m else None) all.0 in
     let rest = buses-numbered c (suc m) fs all.1 in
     λ j. cons_option (here j) (rest j)
 
@@ -458,19 +484,20 @@ table-buses n MemoryBackend h = cc
 table-buses n MemoryBackendRam h = cc
 table-buses n Tag h = cc
 
-pub draft-buses : (b : Board) (t : TypeId) → ((m : ℕ) → b.born < m → kind_of b m ≡ None) → is_a t (codes "device") ≡ true → buses_of (held_draft b t) (b.born + 1) ≡ bus_births (b.born + 1) t
+pub draft-buses : (b : Board) (t : TypeId) → ((m : ℕ) → b.born < m → kind_of b m ≡ None) → is_a t (codes "device") ≡ true
+    → buses_of (pinned_draft b t) (b.born + 1) ≡ bus_births (b.born + 1) t
 draft-buses b t low device =
-    let d : Drafted (b.born + 1) t (further_of t) (held_draft b t) = drafted-rows (b.born + 1) t (slots_of t) [] (created b t) (drafted-begun b t low) in
-    buses-kids (held_draft b t) (slots_at (held_draft b t) (b.born + 1))
-    ∙ ap (filter_map (bus_of (kind_of (held_draft b t)))) d.kids
-    ∙ buses-numbered (held_draft b t) (suc (b.born + 1)) (further_of t) d.kinds
+    let d : Drafted (b.born + 1) t (further_of t) (pinned_draft b t) = drafted-rows (b.born + 1) t (slots_of t) [] (created b t) (drafted-begun b t low) in
+    buses-kids (pinned_draft b t) (slots_at (pinned_draft b t) (b.born + 1))
+    ∙ ap (filter_map (bus_of (kind_of (pinned_draft b t)))) d.kids
+    ∙ buses-numbered (pinned_draft b t) (suc (b.born + 1)) (further_of t) d.kinds
     ∙ table-buses (b.born + 1) t device
 
 -- the buses of a device that was made and stands
 pub plugged-buses : (b : Board) (t : TypeId) (a : Wanted) (spot : Spot) → ((m : ℕ) → b.born < m → kind_of b m ≡ None) → is_a t (codes "device") ≡ true
     → (parent_for a.id == (b.born + 1)) ≡ false
-    → buses_of (seated b (b.born + 1) a spot (held_draft b t)) (b.born + 1) ≡ bus_births (b.born + 1) t
-plugged-buses b t a spot low device other = seated-buses b (b.born + 1) a spot (held_draft b t) other ∙ draft-buses b t low device
+    → buses_of (seated b (b.born + 1) a spot (pinned_draft b t)) (b.born + 1) ≡ bus_births (b.born + 1) t
+plugged-buses b t a spot low device other = seated-buses b (b.born + 1) a spot (pinned_draft b t) other ∙ draft-buses b t low device
 
 -- no object is above the births so far
 rows-low : (above last m : ℕ) (rows : List (Key × Content)) → Rises above (table.births rows) last → last < m → object_at rows m ≡ None

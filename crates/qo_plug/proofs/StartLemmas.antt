@@ -14,7 +14,7 @@ use Rattle.qo_model.specs.Board.{Board, Notice, Record, Slot, child, plain, stro
 use Rattle.qo_model.specs.Clocks.{acted, with_act_on}
 use Rattle.qo_model.specs.Devices.{bus_in, buses_of, clock_name}
 use Rattle.qo_model.specs.Paths.{canonical}
-use Rattle.qo_model.specs.Plug.{acted_all, bus_births, started, told_plug}
+use Rattle.qo_model.specs.Plug.{acted_all, bus_births, started, notified_plug}
 use Rattle.qo_model.specs.Plug as plug
 use Rattle.qo_model.specs.Release.{edited}
 use Rattle.qo_model.specs.Release as release
@@ -22,7 +22,7 @@ use Rattle.qo_model.specs.Reset.{is_out, phased, plugged, post}
 use Rattle.qo_model.specs.Types.{is_a}
 use Rattle.qo_model.specs.declared.notes.Deed.TheVariants.{Did}
 use Rattle.qo_object.specs.Content.{Content, acted_at, with_path}
-use Rattle.qo_events.specs.Waiting.{promised}
+use Rattle.qo_events.specs.Queue.{promised}
 use Rattle.qo_heap.specs.Acts.{Acts}
 use Rattle.qo_heap.specs.Board.{Shows, pins_in}
 use Rattle.qo_heap.specs.Book.{IsBook}
@@ -31,14 +31,14 @@ use Rattle.qo_heap.proofs.ActsLemmas.{acts-act, acts-live, acts-none, acts-then}
 use Rattle.qo_heap.proofs.ActsReads.{acts-read}
 use Rattle.qo_heap.proofs.BookLemmas.{book-edit}
 use Rattle.qo_heap.proofs.HeapLemmas.{live-edit}
-use Rattle.qo_heap.proofs.ShowsActs.{shows-acted}
-use Rattle.qo_heap.proofs.ShowsEdits.{shows-edit}
-use Rattle.qo_heap.proofs.ShowsLive.{content-edited}
-use Rattle.qo_hotplug.specs.Asked.{Asked, told}
+use Rattle.qo_heap.proofs.BoardActs.{shows-acted}
+use Rattle.qo_heap.proofs.BoardEdits.{shows-edit}
+use Rattle.qo_heap.proofs.BoardObjects.{content-edited}
+use Rattle.qo_hotplug.specs.Hotplug.{Asked, told}
 use Rattle.qo_life.proofs.TreeLemmas.{read-content}
 use Rattle.qo_reset.specs.Phases.{Holds}
-use Rattle.qo_standing.specs.Taking.{SameKept, kept_by}
-use Rattle.qo_standing.proofs.StandSteps.{pins-edited}
+use Rattle.qo_standing.specs.DeviceClaims.{SameKept, kept_by}
+use Rattle.qo_standing.proofs.PlacementSteps.{pins-edited}
 use Rattle.qo_standing.proofs.TreeLemmas.{SameTree, canonical-same, read-edit, tree-edit, tree-same, tree-then}
 
 -- types, slots, places, holds and notices stay
@@ -94,7 +94,8 @@ plugged-still n b =
 bus-still : (b c : Board) → Still b c → (s : List ℕ × Slot) → bus_in c s ≡ bus_in b s
 bus-still b c still (name, plain v) = refl
 bus-still b c still (name, child m) =
-    ap (λ (k : Option TypeId). if option_map_or (λ (t : TypeId). is_a t (codes "bus")) k false && not (bytes_eq name clock_name) then Some m else None) (still.tree.kinds m)
+    ap (λ (k : Option TypeId). if option_map_or (λ (t : TypeId). is_a t (codes "bus")) k false && not (bytes_eq name clock_name) then Some m else None)
+    (still.tree.kinds m)
 bus-still b c still (name, strong t m) = refl
 bus-still b c still (name, weak t m) = refl
 bus-still b c still (name, alias m of) = refl
@@ -168,9 +169,11 @@ realized-more n at v u w r step acts =
           let found : option_and_then (bus_in c) (slice_get (slots_at c n) at) ≡ option_and_then (bus_in b) (slice_get (slots_at b n) at) =
           ap (λ (l : List (List ℕ × Slot)). option_and_then (bus_in c) (slice_get l at)) (still.slots n) ∙ bus-at b c still (slice_get (slots_at b n) at) in
           let more : at + 1 ≡ suc at = omega arith in
-          let same : acted_all Realize (option_to_list (option_and_then (bus_in c) (slice_get (slots_at c n) at))) c ≡ acted_all Realize (filter_map (bus_in b) (take (at + 1) (slots_at b n))) b =
+          let same : acted_all Realize (option_to_list (option_and_then (bus_in c) (slice_get (slots_at c n) at))) c
+          ≡ acted_all Realize (filter_map (bus_in b) (take (at + 1) (slots_at b n))) b =
           ap (λ (o : Option ℕ). acted_all Realize (option_to_list o) c) found
-          ∙ sym (all-append Realize (filter_map (bus_in b) (take at (slots_at b n))) (option_to_list (option_and_then (bus_in b) (slice_get (slots_at b n) at))) b)
+          ∙ sym (all-append Realize (filter_map (bus_in b) (take at (slots_at b n))) (option_to_list (option_and_then (bus_in b) (slice_get (slots_at b n) at)))
+          b)
           ∙ ap (λ (l : List ℕ). acted_all Realize l b) (sym (given-more (bus_in b) (slots_at b n) at))
           ∙ ap (λ (k : ℕ). acted_all Realize (filter_map (bus_in b) (take k (slots_at b n))) b) (sym more) in
           subst (λ (d : Board). Shows d w) same (step c (r.shown b s));
@@ -203,7 +206,7 @@ still-pathless v w acts n none =
     ∙ none
 
 pub path-shown : (b : Board) (v w : Objects) → Shows b v → (n : ℕ) (path : List ℕ) → canonical b n ≡ Some path
-    → w ≡ record (with_edit n (with_path path) v) { events = promised v.events } → Shows (told_plug n b) w
+    → w ≡ record (with_edit n (with_path path) v) { events = promised v.events } → Shows (notified_plug n b) w
 path-shown b v w s n path is now =
     let all : Shows (release.edit n (plug.with_path (Some path)) b) (with_edit n (with_path path) v) =
     shows-edit n (with_path path) b v s (plug.with_path (Some path)) (λ m c. refl) (λ c. refl) in
@@ -221,8 +224,8 @@ path-shown b v w s n path is now =
     record { records = kept.records; born = kept.born; pins = kept.pins; notes = kept.notes; events = kept.events; now = kept.now }
 
 pub started-shown : (n : ℕ) (t : TypeId) (b : Board) (w : Objects) → buses_of b n ≡ bus_births n t
-    → Shows (told_plug n (plugged (acted_all Realize (n ∷ buses_of b n) b) n)) w → Shows (started n t b) w
-started-shown n t b w same s = subst (λ (l : List ℕ). Shows (told_plug n (plugged (acted_all Realize (n ∷ l) b) n)) w) same s
+    → Shows (notified_plug n (plugged (acted_all Realize (n ∷ buses_of b n) b) n)) w → Shows (started n t b) w
+started-shown n t b w same s = subst (λ (l : List ℕ). Shows (notified_plug n (plugged (acted_all Realize (n ∷ l) b) n)) w) same s
 
 -- the path of a device that acted is the one before
 pub acted-path : (n : ℕ) (ns : List ℕ) (b : Board) (path : List ℕ) → canonical b n ≡ Some path → canonical (plugged (acted_all Realize ns b) n) n ≡ Some path
@@ -250,7 +253,8 @@ pub act-shown : (v w : Objects) (o : Key) → w ≡ with_note (record { birth = 
     → (b : Board) → Shows b v → Shows (acted Realize o.birth 0 b) w
 act-shown v w o is b s = subst (Shows (acted Realize o.birth 0 b)) (sym is) (shows-acted b v s Realize o.birth 0)
 
-pub act-acts : (v w : Objects) (o : Key) → w ≡ with_note (record { birth = o.birth; deed = Did Realize }) (with_edit o.birth (acted_at Realize v.time 0) v) → Acts v w
+pub act-acts : (v w : Objects) (o : Key) → w ≡ with_note (record { birth = o.birth; deed = Did Realize }) (with_edit o.birth (acted_at Realize v.time 0) v)
+    → Acts v w
 act-acts v w o is = subst (Acts v) (sym is) (acts-act v (record { birth = o.birth; deed = Did Realize }) o.birth Realize v.time 0)
 
 pub found-shown : (v w : Objects) (o : Key) → w ≡ with_note (record { birth = o.birth; deed = Did Realize }) (with_edit o.birth (acted_at Realize v.time 0) v)
@@ -266,14 +270,16 @@ pub path-live : (v w : Objects) (n : ℕ) (path : List ℕ) → w ≡ record (wi
     → IsLive v.rows key → IsLive w.rows key
 path-live v w n path now key live = subst (λ (x : Objects). IsLive x.rows key) (sym now) (live-edit n (with_path path) v.rows key live)
 
-pub path-all_pins : (v w : Objects) (n : ℕ) (path : List ℕ) → w ≡ record (with_edit n (with_path path) v) { events = promised v.events } → pins_in w.rows ≡ pins_in v.rows
+pub path-all_pins : (v w : Objects) (n : ℕ) (path : List ℕ) → w ≡ record (with_edit n (with_path path) v) { events = promised v.events }
+    → pins_in w.rows ≡ pins_in v.rows
 path-all_pins v w n path now = ap (λ (x : Objects). pins_in x.rows) now ∙ pins-edited n (with_path path) (λ c. refl) v.rows
 
 pub path-claims : (v w : Objects) (n : ℕ) (path : List ℕ) → w ≡ record (with_edit n (with_path path) v) { events = promised v.events } → SameKept v w
 path-claims v w n path now m = ap (λ (x : Objects). kept_by x m) now ∙ read-content (λ (c : Content). kept_of c.body) n (with_path path) (λ c. refl) v m
 
 pub path-pins : (v w : Objects) (n : ℕ) (path : List ℕ) → w ≡ record (with_edit n (with_path path) v) { events = promised v.events } → pins_of w n ≡ pins_of v n
-path-pins v w n path now = ap (λ (x : Objects). pins_of x n) now ∙ ap (λ (o : Option Content). option_map_or (λ (c : Content). c.pins) o 0) (content-edited v n (with_path path)) ∙ go (content_of v n)
+path-pins v w n path now = ap (λ (x : Objects). pins_of x n) now
+    ∙ ap (λ (o : Option Content). option_map_or (λ (c : Content). c.pins) o 0) (content-edited v n (with_path path)) ∙ go (content_of v n)
   where
     go : (o : Option Content) → option_map_or (λ (c : Content). c.pins) (option_map (with_path path) o) 0 ≡ option_map_or (λ (c : Content). c.pins) o 0
     go None = refl
@@ -286,7 +292,8 @@ ok-gives P (Err e) x is h = cc
 
 pub started-told : (n : ℕ) (t : TypeId) (b : Board) (old new : Asked) → new ≡ told true n old → b.notices ≡ old.notices → (started n t b).notices ≡ new.notices
 started-told n t b old new is same =
-    ap (λ (l : List Notice). l ++ record { plug = true; birth = n } ∷ []) (acted-notices n (n ∷ bus_births n t) b ∙ same) ∙ sym (ap (λ (x : Asked). x.notices) is)
+    ap (λ (l : List Notice). l ++ record { plug = true; birth = n } ∷ []) (acted-notices n (n ∷ bus_births n t) b ∙ same)
+    ∙ sym (ap (λ (x : Asked). x.notices) is)
 
 -- it starts
 pub starts : (n : ℕ) (t : TypeId) (b : Board) (holds path : List ℕ) (u v w : Objects) → Shows (acted_all Realize (n ∷ buses_of b n) b) u → b.holds ≡ holds

@@ -5,7 +5,7 @@ use Rattle.qo_values.specs.declared.kinds.Act.TheVariants.{Realize, Unrealize, E
 use Rattle.qo_slots.specs.declared.keys.Key.{Key}
 use Rattle.qo_model.specs.Types.{is_a}
 use Rattle.qo_object.specs.Content.{Content}
-use Rattle.qo_object.specs.Shown.{birth_of}
+use Rattle.qo_object.specs.BoardObject.{birth_of}
 use Rattle.qo_heap.specs.Objects.{Objects}
 use Rattle.qo_reset.specs.Phases.{walked}
 

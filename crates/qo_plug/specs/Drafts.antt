@@ -4,10 +4,10 @@ use Rattle.qo_values.specs.declared.kinds.TypeId.{TypeId}
 use Rattle.qo_model.specs.Board.{Board}
 use Rattle.qo_model.specs.Changes.{make}
 use Rattle.qo_model.specs.Objects.{init_notes, with_attempt}
-use Rattle.qo_model.specs.Plug.{cut_attempt, objects_in, rows_made}
+use Rattle.qo_model.specs.Plug.{cut_attempt, objects_in, properties_made}
 use Rattle.qo_model.specs.Types as types
 use Rattle.qo_model.specs.declared.properties.Property.{Property}
-use Rattle.qo_model.specs.declared.properties.RowKind.TheVariants.{Child}
+use Rattle.qo_model.specs.declared.properties.PropertyRole.TheVariants.{Child}
 use Rattle.qo_kinds.specs.Bodies.{IsTimely}
 use Rattle.qo_slots.specs.declared.keys.Key.{Key}
 use Rattle.qo_table.specs.Rows.{IsLive}
@@ -15,9 +15,9 @@ use Rattle.qo_object.specs.Content.{Content, fresh}
 use Rattle.qo_heap.specs.Board.{Shows}
 use Rattle.qo_heap.specs.Objects.{Objects, content_of}
 use Rattle.qo_properties.specs.Claims.{KeepsBook}
-use Rattle.qo_properties.specs.Fresh.{new_slots}
-use Rattle.qo_properties.specs.Start.{KeepsNames}
-pub use Rattle.qo_standing.specs.Own.{is_own, own_slots, own_slots_of}
+use Rattle.qo_properties.specs.NewSlots.{new_slots}
+use Rattle.qo_properties.specs.OpeningSteps.{KeepsNames}
+pub use Rattle.qo_standing.specs.OwnSlots.{is_own, own_slots, own_slots_of}
 
 -- a heap becomes another as each board that it shows does by a step
 abbrev pub Makes : (Board → Board) → Objects → Objects → Type 0
@@ -28,8 +28,8 @@ abbrev pub created : Board → TypeId → Board
 created b t = record (make t b) { notes = b.notes ++ init_notes (b.born + 1) t }
 
 -- it was made, property by property, and stands nowhere
-abbrev pub held_draft : Board → TypeId → Board
-held_draft b t = rows_made (b.born + 1) t (types.slots_of t) (created b t)
+abbrev pub pinned_draft : Board → TypeId → Board
+pinned_draft b t = properties_made (b.born + 1) t (types.slots_of t) (created b t)
 
 -- all of an object but its slots
 abbrev pub bare : Content → Content
@@ -39,7 +39,8 @@ bare c = record c { slots = [] }
 abbrev pub IsQuiet : Objects → ℕ → Type 0
 IsQuiet v n = IfSome (content_of v n) (λ (c : Content). IsTimely v.time c.body)
 
--- a heap has grown, or its objects have other slots: who was there is there under the same name, and has all else as before; the book of claims stays right; events and the time stay; who is new has begun no segment
+-- a heap has grown, or its objects have other slots: who was there is there under the same name, and has all else as before; the book of claims stays right;
+-- events and the time stay; who is new has begun no segment
 pub record Grows (v w : Objects) : Type 0 where
   pub names : KeepsNames v w
   pub rest : (n : ℕ) → n ≤ v.born → option_map bare (content_of w n) ≡ option_map bare (content_of v n)
@@ -58,9 +59,10 @@ pub record IsDraft (t : TypeId) (v w : Objects) (o : Key) : Type 0 where
 
 -- how far the properties of a device came: the first of them were made; or a further object of the next one was made too, and has ended
 pub data Fell (n : ℕ) (t : TypeId) (v w : Objects) : Type 0 where
-  stopped : (k : ℕ) → Makes (rows_made n t (take k (types.slots_of t))) v w → Fell n t v w
-  unjoined : (k : ℕ) (p : Property) (further : TypeId) → slice_get (types.slots_of t) k ≡ Some p → p.kind ≡ Child further → Makes (λ c. with_attempt (rows_made n t (take k (types.slots_of t)) c) further) v w → Fell n t v w
+  stopped : (k : ℕ) → Makes (properties_made n t (take k (types.slots_of t))) v w → Fell n t v w
+  unjoined : (k : ℕ) (p : Property) (further : TypeId) → slice_get (types.slots_of t) k ≡ Some p → p.role ≡ Child further
+      → Makes (λ c. with_attempt (properties_made n t (take k (types.slots_of t)) c) further) v w → Fell n t v w
 
--- a heap is as it was, or an attempt was cut behind so many objects, the last of them joined or not
+-- a heap is as it was, or an attempt was cut after so many objects, the last of them joined or not
 abbrev pub CutShort : Board → TypeId → Objects → Type 0
 CutShort b t w = Shows b w ⊎ ((i : ℕ) × (joined : Bool) × (1 ≤ i) × (i ≤ objects_in t) × Shows (cut_attempt b t i joined) w)

@@ -1,8 +1,8 @@
-pub mod Added
-pub mod Adding
+pub mod Admission
+pub mod Answers
 pub mod Attempts
-pub mod Chosen
+pub mod Spots
 pub mod Cuts
 pub mod Drafts
-pub mod Planned
+pub mod DevicePlans
 pub mod Stages

@@ -12,12 +12,12 @@ use Rattle.qo_model.specs.Objects.{Given, refusal_of}
 use Rattle.qo_model.specs.Plug.{Wanted, at_stage, barred_late, place_barred, realize_barred}
 use Rattle.qo_model.specs.Types.{is_a}
 use Rattle.qo_model.specs.Reset.{count}
-use Rattle.qo_sound.specs.Kept.{SoundTree}
+use Rattle.qo_sound.specs.TreeKept.{SoundTree}
 use Rattle.qo_table.specs.Rows.{IsLive}
 use Rattle.qo_object.specs.Content.{fresh}
 use Rattle.qo_heap.specs.Board.{Shows}
 use Rattle.qo_heap.specs.Objects.{Objects, content_of, pins_of}
-use Rattle.qo_hotplug.specs.Asked.{Asked}
+use Rattle.qo_hotplug.specs.Hotplug.{Asked}
 use Rattle.qo_properties.specs.Filling.{Fits, IsGiven, target_in}
 use Rattle.qo_plug.specs.declared.admitting.Site.{Site}
 use Rattle.qo_plug.specs.declared.beginning.Begun.{Begun}
@@ -27,13 +27,13 @@ use Rattle.qo_plug.specs.declared.placing.Way.TheVariants.{Stands, Full}
 use Rattle.qo_plug.specs.declared.planning.Planned.{Planned}
 use Rattle.qo_plug.specs.declared.refusals.Barred.{Barred}
 use Rattle.qo_standing.specs.declared.spots.Spot.{Spot}
-use Rattle.qo_plug.specs.Added.{IsAdmitted, barred_in}
-use Rattle.qo_plug.specs.Adding.{IsOpen}
-use Rattle.qo_plug.specs.Chosen.{IsChosen, claims_given}
-use Rattle.qo_plug.specs.Drafts.{IsQuiet, bare, held_draft, own_slots_of}
-use Rattle.qo_plug.specs.Planned.{HasGiven}
-use Rattle.qo_standing.specs.Standing.{Stood, spot_in}
-use Rattle.qo_standing.specs.Taking.{kept_by}
+use Rattle.qo_plug.specs.Admission.{IsAdmitted, barred_in}
+use Rattle.qo_plug.specs.Answers.{IsOpen}
+use Rattle.qo_plug.specs.Spots.{IsChosen, claims_given}
+use Rattle.qo_plug.specs.Drafts.{IsQuiet, bare, pinned_draft, own_slots_of}
+use Rattle.qo_plug.specs.DevicePlans.{HasGiven}
+use Rattle.qo_standing.specs.Placement.{Stood, spot_in}
+use Rattle.qo_standing.specs.DeviceClaims.{kept_by}
 
 -- what bars a device in its place on a bus: its slot, its depth and its memory come before its ring
 abbrev pub spot_barred : Board → TypeId → ℕ → List Given → Option (ℕ × Code)
@@ -71,7 +71,7 @@ pub record IsHeld (d : Begun) (v : Objects) : Type 0 where
 
 -- the stages 1 to 4 are done on a board: nothing of them bars the device, and it is made; what is judged of its place is known
 pub record IsBegun (b : Board) (a : Wanted) (d : Begun) (v : Objects) : Type 0 where
-  pub shown : Shows (held_draft b d.site.kind) v
+  pub shown : Shows (pinned_draft b d.site.kind) v
   pub sound : SoundTree b
   pub admitted : IsAdmitted b a d.site
   pub given : refusal_of b d.site.kind a.props ≡ None
@@ -100,10 +100,10 @@ pub record IsReady (p : Placed) (h : Asked) (v : Objects) : Type 0 where
 -- the stages 5 to 7 are done: nothing bars the device, it stands in its spot, and its body keeps its claims; or the notices alone bar it, and it stands nowhere
 abbrev pub StandsBy : Board → Wanted → Site → ℕ → ℕ → Way → Objects → Type 0
 StandsBy b a s n slot (Stands path) v =
-    (c : Spot) × (c.slot ≡ slot) × IsOpen b a s c × Stood b (held_draft b s.kind) n a (spot_in s.bus.birth c) path v
+    (c : Spot) × (c.slot ≡ slot) × IsOpen b a s c × Stood b (pinned_draft b s.kind) n a (spot_in s.bus.birth c) path v
     × (kept_by v n ≡ Some (claims_given b s.kind s.bus.birth a.props))
 StandsBy b a s n slot (Full out) v =
-    IsAdmitted b a s × (barred_late b s.kind s.bus.birth a.props ≡ Some (8, E44)) × (out ≡ (count b s.bus.birth == 0)) × Shows (held_draft b s.kind) v
+    IsAdmitted b a s × (barred_late b s.kind s.bus.birth a.props ≡ Some (8, E44)) × (out ≡ (count b s.bus.birth == 0)) × Shows (pinned_draft b s.kind) v
 
 pub record IsSettled (b : Board) (a : Wanted) (p : Placed) (v : Objects) : Type 0 where
   pub sound : SoundTree b

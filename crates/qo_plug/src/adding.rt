@@ -4,8 +4,8 @@ ghost use Rattle.std.specs.Prelude.{◌≡◌, Err, IfOk, OnErr, option_map};
 ghost use Rattle.qo_model.specs.Board.{Board};
 ghost use Rattle.qo_properties.specs.Claims.{KeepsBook};
 ghost use Rattle.qo_plug.specs.declared.refusals.AddRefusal.TheVariants.{Memory};
-ghost use Rattle.qo_plug.specs.Added.{IfRefused, wanted};
-ghost use Rattle.qo_plug.specs.Adding.{IsAdded, IsCut, IsRefused, IsShown};
+ghost use Rattle.qo_plug.specs.Admission.{IfRefused, wanted};
+ghost use Rattle.qo_plug.specs.Answers.{IsAdded, IsCut, IsRefused, IsShown};
 
 use crate::beginning::{choose, make, turn_down};
 use crate::finishing::finish;
@@ -33,7 +33,7 @@ pub struct Added {
 /// given: by the stages of `begin`, `place` and `finish`, but that a device which has no spot on its
 /// bus is not furnished first. `anonymous` is how many devices without an id were added before. A
 /// refusal is the first in the order of the stages: those of `admit`, before which nothing of the
-/// device is made, and then the others, behind which its births and notes are left. Want of memory
+/// device is made, and then the others, after which its births and notes are left. Want of memory
 /// leaves all as it was, or an attempt that was cut.
 pub fn add<L: Ledger>(
     heap: &mut Heap,

@@ -9,7 +9,7 @@ ghost use Rattle.qo_model.specs.Plug.{id_barred, id_refused, plug};
 ghost use Rattle.qo_model.specs.Types.{is_a};
 ghost use Rattle.qo_table.specs.Rows.{IsLive};
 ghost use Rattle.qo_heap.specs.Board.{Shows};
-ghost use Rattle.qo_plug.specs.Added.{IfRefused, IsAdmitted, IsPlaced, wanted};
+ghost use Rattle.qo_plug.specs.Admission.{IfRefused, IsAdmitted, IsPlaced, wanted};
 
 use crate::barring::{device_kind, open_bus, room, vacant};
 use crate::refusals::AddRefusal;

@@ -8,7 +8,7 @@ ghost use Rattle.qo_values.specs.declared.kinds.TypeId.{TypeId};
 ghost use Rattle.qo_model.specs.Board.{Board};
 ghost use Rattle.qo_model.specs.Plug.{plug_attempt};
 ghost use Rattle.qo_model.specs.Reset.{count};
-ghost use Rattle.qo_sound.specs.Kept.{SoundTree};
+ghost use Rattle.qo_sound.specs.TreeKept.{SoundTree};
 ghost use Rattle.qo_table.specs.Rows.{IsLive};
 ghost use Rattle.qo_heap.specs.Acts.{Acts};
 ghost use Rattle.qo_heap.specs.Board.{Shows};
@@ -16,7 +16,7 @@ ghost use Rattle.qo_heap.specs.Objects.{pins_of};
 ghost use Rattle.qo_properties.specs.Claims.{KeepsBook};
 ghost use Rattle.qo_reset.specs.Phases.{walked};
 ghost use Rattle.qo_plug.specs.Attempts.{first_acted, last_acted, let_out, new_bus, new_buses, passed_on};
-ghost use Rattle.qo_plug.specs.Drafts.{IsQuiet, held_draft};
+ghost use Rattle.qo_plug.specs.Drafts.{IsQuiet, pinned_draft};
 
 use qo_heap::{Heap, Oid, Steps};
 use qo_life::drop_pin;
@@ -110,7 +110,7 @@ pub(crate) fn refuse<L: Ledger>(heap: &mut Heap, device: Oid, out: bool, steps: 
     requires live { IsLive heap.old.rows device }
     requires pinned { 0 < pins_of heap.old device.birth }
     requires quiet { (n : ℕ) → device.birth ≤ n → IsQuiet heap.old n }
-    ensures shown { (b : Board) (t : TypeId) (bus : ℕ) → SoundTree b → device.birth ≡ b.born + 1 → out ≡ (count b bus == 0) → Shows (held_draft b t) heap.old → Shows (plug_attempt b t bus 8) heap.new }
+    ensures shown { (b : Board) (t : TypeId) (bus : ℕ) → SoundTree b → device.birth ≡ b.born + 1 → out ≡ (count b bus == 0) → Shows (pinned_draft b t) heap.old → Shows (plug_attempt b t bus 8) heap.new }
     ensures book { KeepsBook heap.old heap.new }
 {
     pass(heap, device, out, steps);

@@ -7,14 +7,14 @@ ghost use Rattle.qo_values.specs.declared.codes.Code.TheVariants.{E26};
 ghost use Rattle.qo_model.specs.Board.{Board};
 ghost use Rattle.qo_model.specs.Paths.{is_of};
 ghost use Rattle.qo_model.specs.Plug.{bus_barred, bus_for, bus_type, container_barred, further_in, objects_in, room_barred, type_barred};
-ghost use Rattle.qo_model.specs.Types.{is_a, row_named};
+ghost use Rattle.qo_model.specs.Types.{is_a, type_named};
 ghost use Rattle.qo_table.specs.Rows.{IsLive};
 ghost use Rattle.qo_heap.specs.Board.{Shows};
 ghost use Rattle.qo_properties.specs.Changes.{refusal_in};
 
 use qo_buses::{is_going, is_of};
 use qo_heap::{Heap, Oid, Steps};
-use qo_model::{Property, RowKind};
+use qo_model::{Property, PropertyRole};
 use qo_paths::{is_attached, resolve};
 use qo_types::TypeTable;
 use qo_values::{Code, LIVE_OBJECTS_MAX, MEMORY_BUS_BIRTH, ROOT_BUS_BIRTH, TypeId};
@@ -23,7 +23,7 @@ use std::sync::ledger::Ledger;
 /// The type of a name, where it is one of devices that can be made. `E20` comes where no type has the
 /// name, `E21` where it is abstract, `E22` where it is not one of devices.
 pub fn device_kind(driver: &str) -> Result<TypeId, Code>
-    ensures kind { IfOk result (λ kind. option_map (λ r. r.id) (row_named driver.now) ≡ Some kind) }
+    ensures kind { IfOk result (λ kind. option_map (λ r. r.id) (type_named driver.now) ≡ Some kind) }
     ensures device { IfOk result (λ kind. is_a kind (codes "device") ≡ true) }
     ensures refused { refusal_in result ≡ type_barred driver.now }
 {
@@ -144,7 +144,7 @@ pub fn open_bus<L: Ledger>(
 fn is_further(row: Property) -> bool
     ensures { result ≡ is_some (further_in row) }
 {
-    matches!(row.kind, RowKind::Child(_))
+    matches!(row.role, PropertyRole::Child(_))
 }
 
 /// How many objects a device of a type is.

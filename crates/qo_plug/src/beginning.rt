@@ -6,15 +6,15 @@ ghost use Rattle.qo_model.specs.Board.{Board, Ring};
 ghost use Rattle.qo_model.specs.Objects.{refusal_of};
 ghost use Rattle.qo_model.specs.Plug.{Wanted, plug_attempt};
 ghost use Rattle.qo_model.specs.Types.{is_a};
-ghost use Rattle.qo_sound.specs.Kept.{SoundTree};
+ghost use Rattle.qo_sound.specs.TreeKept.{SoundTree};
 ghost use Rattle.qo_table.specs.Rows.{IsLive};
 ghost use Rattle.qo_heap.specs.Board.{Shows};
 ghost use Rattle.qo_properties.specs.Claims.{KeepsBook};
 ghost use Rattle.qo_plug.specs.declared.refusals.AddRefusal.TheVariants.{Memory};
-ghost use Rattle.qo_plug.specs.Added.{IfRefused, wanted};
-ghost use Rattle.qo_plug.specs.Adding.{IsCut, IsRefused, IsShown, turned_down};
+ghost use Rattle.qo_plug.specs.Admission.{IfRefused, wanted};
+ghost use Rattle.qo_plug.specs.Answers.{IsCut, IsRefused, IsShown, turned_down};
 ghost use Rattle.qo_plug.specs.Drafts.{CutShort};
-ghost use Rattle.qo_plug.specs.Planned.{IsFit, IsPlanned};
+ghost use Rattle.qo_plug.specs.DevicePlans.{IsFit, IsPlanned};
 ghost use Rattle.qo_plug.specs.Stages.{IsBegun, IsHeld, IsJudged};
 
 use crate::admitting::{Site, admit};
@@ -99,7 +99,7 @@ pub(crate) fn make<L: Ledger>(
 
 /// The plan of a device that is asked for, where neither what bars it before an attempt nor what is
 /// given for its properties refuses it. A refusal is the first in the order of the stages: those of
-/// `admit`, before which nothing of the device is made, and then those of `plan` (stage 4), behind which
+/// `admit`, before which nothing of the device is made, and then those of `plan` (stage 4), after which
 /// its births and notes are left. Want of memory leaves all as it was, or an attempt that was cut.
 pub(crate) fn choose<L: Ledger>(
     heap: &mut Heap,
@@ -161,7 +161,7 @@ fn judged<L: Ledger>(
 /// Begins a device of a type's name, with an id, the path of its bus and properties, where these are
 /// given: the stages 1 to 4. `anonymous` is how many devices without an id were added before. A
 /// refusal is the first in the order of the stages: those of `admit`, before which nothing of the
-/// device is made, and then those of `plan` (stage 4), behind which its births and notes are left.
+/// device is made, and then those of `plan` (stage 4), after which its births and notes are left.
 /// Want of memory leaves all as it was, or an attempt that was cut.
 pub fn begin<L: Ledger>(
     heap: &mut Heap,

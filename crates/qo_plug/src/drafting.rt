@@ -5,23 +5,23 @@ ghost use Rattle.std.specs.Prelude.{◌≡◌, ◌+◌, ◌++◌, ◌⊎◌, ◌
 ghost use Rattle.std.specs.Prelude.{◌==◌, ℕ};
 ghost use Rattle.qo_values.specs.declared.kinds.TypeId.{TypeId};
 ghost use Rattle.qo_model.specs.Board.{Board};
-ghost use Rattle.qo_model.specs.Plug.{aliased, owned, plug_attempt, row_made, rows_made, with_kid};
+ghost use Rattle.qo_model.specs.Plug.{aliased, owned, plug_attempt, property_made, properties_made, with_kid};
 ghost use Rattle.qo_model.specs.RowNames.{property_name};
 ghost use Rattle.qo_model.specs.Types.{slots_of};
-ghost use Rattle.qo_model.specs.declared.properties.RowKind.TheVariants.{Child};
-ghost use Rattle.qo_sound.specs.Kept.{SoundTree};
-ghost use Rattle.qo_object.specs.Shown.{birth_of};
+ghost use Rattle.qo_model.specs.declared.properties.PropertyRole.TheVariants.{Child};
+ghost use Rattle.qo_sound.specs.TreeKept.{SoundTree};
+ghost use Rattle.qo_object.specs.BoardObject.{birth_of};
 ghost use Rattle.qo_table.specs.Rows.{IsLive};
 ghost use Rattle.qo_heap.specs.Board.{Shows};
 ghost use Rattle.qo_heap.specs.Objects.{pins_of};
-ghost use Rattle.qo_properties.specs.Adding.{IsTried, given_up};
+ghost use Rattle.qo_properties.specs.Additions.{IsTried, given_up};
 ghost use Rattle.qo_properties.specs.Claims.{KeepsBook};
-ghost use Rattle.qo_properties.specs.Fresh.{new_slots, slot_begun};
-ghost use Rattle.qo_plug.specs.Drafts.{CutShort, Fell, Grows, IsDraft, Makes, held_draft, own_slots_of};
+ghost use Rattle.qo_properties.specs.NewSlots.{new_slots, slot_begun};
+ghost use Rattle.qo_plug.specs.Drafts.{CutShort, Fell, Grows, IsDraft, Makes, pinned_draft, own_slots_of};
 
 use qo_heap::{Heap, Oid, Slot, SlotName, Steps};
 use qo_life::{create, drop_pin};
-use qo_model::{Property, PropertyName, RowKind};
+use qo_model::{Property, PropertyName, PropertyRole};
 use qo_properties::{add_row, make_child};
 use qo_types::TypeTable;
 use qo_values::TypeId;
@@ -102,16 +102,18 @@ fn make_property<L: Ledger>(
     steps: &mut Steps<L>,
 ) -> Result<(), AllocError>
     requires live { IsLive heap.old.rows device }
-    ensures ok { OnOk result (Makes (row_made device.birth kind (property_name row.name) row.kind) heap.old heap.new) }
+    ensures ok { OnOk result (Makes (property_made device.birth kind (property_name row.name) row.role) heap.old heap.new) }
     ensures own { OnOk result (own_slots_of heap.new device.birth ≡ own_slots_of heap.old device.birth ++ option_to_list (slot_begun kind row)) }
-    ensures err { OnErr result ((heap.new ≡ heap.old) ⊎ ((further : TypeId) × (row.kind ≡ Child further) × (heap.new ≡ given_up further heap.old))) }
+    ensures err { OnErr result ((heap.new ≡ heap.old) ⊎ ((further : TypeId) × (row.role ≡ Child further) × (heap.new ≡ given_up further heap.old))) }
     ensures grows { Grows heap.old heap.new }
 {
-    match row.kind {
-        RowKind::Plain(_, _) => add_row(heap, device, kind, row, alloc, steps),
-        RowKind::Link { .. } => add_row(heap, device, kind, row, alloc, steps),
-        RowKind::Child(further) => make_kid(heap, device, row.name, further, alloc, steps),
-        RowKind::Alias { child, of } => { make_alias(heap, device, row.name, child, of, steps) }
+    match row.role {
+        PropertyRole::Plain(_, _) => add_row(heap, device, kind, row, alloc, steps),
+        PropertyRole::Link { .. } => add_row(heap, device, kind, row, alloc, steps),
+        PropertyRole::Child(further) => make_kid(heap, device, row.name, further, alloc, steps),
+        PropertyRole::Alias { child, of } => {
+            make_alias(heap, device, row.name, child, of, steps)
+        }
     }
 }
 
@@ -126,7 +128,7 @@ fn make_properties<L: Ledger>(
     steps: &mut Steps<L>,
 ) -> Result<(), AllocError>
     requires live { IsLive heap.old.rows device }
-    ensures ok { OnOk result (Makes (rows_made device.birth kind (slots_of kind)) heap.old heap.new) }
+    ensures ok { OnOk result (Makes (properties_made device.birth kind (slots_of kind)) heap.old heap.new) }
     ensures own { OnOk result (own_slots_of heap.new device.birth ≡ own_slots_of heap.old device.birth ++ new_slots kind) }
     ensures err { OnErr result (Fell device.birth kind heap.old heap.new) }
     ensures grows { Grows heap.old heap.new }
@@ -139,7 +141,7 @@ fn make_properties<L: Ledger>(
     Ok(())
 }
 
-/// Makes a device of a type with its further objects, each with its initialisers base first; it
+/// Makes a device of a type with its further objects, each with its initializers base first; it
 /// stands nowhere, and is held from outside the tree once. Where memory wants, an attempt was cut:
 /// what was made has ended.
 pub fn make_device<L: Ledger>(
@@ -150,7 +152,7 @@ pub fn make_device<L: Ledger>(
 ) -> Result<Oid, AllocError>
     ensures made { IfOk result (IsDraft kind heap.old heap.new) }
     ensures pinned { IfOk result (λ o. 0 < pins_of heap.new o.birth) }
-    ensures shown { OnOk result (Makes (λ b. held_draft b kind) heap.old heap.new) }
+    ensures shown { OnOk result (Makes (λ b. pinned_draft b kind) heap.old heap.new) }
     ensures grows { OnOk result (Grows heap.old heap.new) }
     ensures err { OnErr result ((b : Board) → Shows b heap.old → SoundTree b → CutShort b kind heap.new) }
     ensures book { KeepsBook heap.old heap.new }
@@ -167,11 +169,11 @@ pub fn make_device<L: Ledger>(
 }
 
 /// Gives a device up that was made and stands nowhere: it ends, with its further objects, which are
-/// finalised first. It takes no memory.
+/// finalized first. It takes no memory.
 pub fn give_up<L: Ledger>(heap: &mut Heap, device: Oid, steps: &mut Steps<L>)
     requires live { IsLive heap.old.rows device }
     requires pinned { 0 < pins_of heap.old device.birth }
-    ensures shown { (b : Board) (t : TypeId) (bus stage : ℕ) → SoundTree b → device.birth ≡ b.born + 1 → (stage == 8) ≡ false → Shows (held_draft b t) heap.old → Shows (plug_attempt b t bus stage) heap.new }
+    ensures shown { (b : Board) (t : TypeId) (bus stage : ℕ) → SoundTree b → device.birth ≡ b.born + 1 → (stage == 8) ≡ false → Shows (pinned_draft b t) heap.old → Shows (plug_attempt b t bus stage) heap.new }
     ensures book { KeepsBook heap.old heap.new }
 {
     drop_pin(heap, device, steps);

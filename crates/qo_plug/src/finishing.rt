@@ -6,8 +6,8 @@ ghost use Rattle.qo_values.specs.declared.codes.Code.TheVariants.{E44};
 ghost use Rattle.qo_model.specs.Board.{Board};
 ghost use Rattle.qo_model.specs.Plug.{Wanted};
 ghost use Rattle.qo_properties.specs.Claims.{KeepsBook};
-ghost use Rattle.qo_plug.specs.Added.{barred_in};
-ghost use Rattle.qo_plug.specs.Adding.{IsAdded, IsRefused};
+ghost use Rattle.qo_plug.specs.Admission.{barred_in};
+ghost use Rattle.qo_plug.specs.Answers.{IsAdded, IsRefused};
 ghost use Rattle.qo_plug.specs.Stages.{IsBeside, IsReady, IsSettled};
 
 use crate::adding::Added;

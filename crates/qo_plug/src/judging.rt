@@ -7,16 +7,16 @@ ghost use Rattle.qo_values.specs.declared.limits.TheConstants.{BUS_SLOTS};
 ghost use Rattle.qo_model.specs.Board.{Board};
 ghost use Rattle.qo_model.specs.Devices.{kid_name};
 ghost use Rattle.qo_model.specs.Objects.{has_slot};
-ghost use Rattle.qo_model.specs.Plug.{kind_barred, number_for, range_of, realize_barred, ring_barred, slot_for, target_for, text_for};
+ghost use Rattle.qo_model.specs.Plug.{kind_barred, number_for, range_of, realize_barred, ring_barred, bus_slot_for, target_for, text_for};
 ghost use Rattle.qo_model.specs.Objects.{Given};
 ghost use Rattle.qo_model.specs.Plug as plug;
-ghost use Rattle.qo_object.specs.Shown.{birth_of};
+ghost use Rattle.qo_object.specs.BoardObject.{birth_of};
 ghost use Rattle.qo_table.specs.Rows.{IsLive};
 ghost use Rattle.qo_heap.specs.Board.{Shows};
 ghost use Rattle.qo_backends.specs.Rings.{named_ring};
-ghost use Rattle.qo_plug.specs.Added.{IfRefused};
-ghost use Rattle.qo_plug.specs.Chosen.{IsChosen, backend_given, ring_given};
-ghost use Rattle.qo_plug.specs.Planned.{HasGiven, IsFit};
+ghost use Rattle.qo_plug.specs.Admission.{IfRefused};
+ghost use Rattle.qo_plug.specs.Spots.{IsChosen, backend_given, ring_given};
+ghost use Rattle.qo_plug.specs.DevicePlans.{HasGiven, IsFit};
 ghost use Rattle.qo_plug.specs.Stages.{spot_barred};
 
 use crate::planning::{Planned, address_asked, backend_asked, ring_asked, slot_asked};
@@ -34,7 +34,7 @@ use std::sync::ledger::Ledger;
 /// taken.
 fn own_slot<L: Ledger>(heap: &Heap, bus: Oid, slot: u64, steps: &mut Steps<L>) -> Result<u8, Code>
     requires { IsLive heap.now.rows bus }
-    ensures slot { (b : Board) → Shows b heap.now → slot_for b bus.birth (Some slot) ≡ result }
+    ensures slot { (b : Board) → Shows b heap.now → bus_slot_for b bus.birth (Some slot) ≡ result }
     ensures within { IfOk result (λ s. s < BUS_SLOTS) }
     ensures free { (b : Board) → Shows b heap.now → IfOk result (λ s. has_slot b bus.birth (kid_name s) ≡ false) }
 {
@@ -57,7 +57,7 @@ fn slot_on<L: Ledger>(
     steps: &mut Steps<L>,
 ) -> Result<u8, Code>
     requires { IsLive heap.now.rows bus }
-    ensures slot { (b : Board) → Shows b heap.now → slot_for b bus.birth asked ≡ result }
+    ensures slot { (b : Board) → Shows b heap.now → bus_slot_for b bus.birth asked ≡ result }
     ensures within { IfOk result (λ s. s < BUS_SLOTS) }
     ensures free { (b : Board) → Shows b heap.now → IfOk result (λ s. has_slot b bus.birth (kid_name s) ≡ false) }
 {

@@ -7,8 +7,8 @@ ghost use Rattle.qo_model.specs.Board.{Board};
 ghost use Rattle.qo_model.specs.Plug.{Wanted};
 ghost use Rattle.qo_properties.specs.Claims.{KeepsBook};
 ghost use Rattle.qo_plug.specs.declared.refusals.AddRefusal.TheVariants.{Memory};
-ghost use Rattle.qo_plug.specs.Added.{IfRefused};
-ghost use Rattle.qo_plug.specs.Adding.{IsCut, IsRefused};
+ghost use Rattle.qo_plug.specs.Admission.{IfRefused};
+ghost use Rattle.qo_plug.specs.Answers.{IsCut, IsRefused};
 ghost use Rattle.qo_plug.specs.Stages.{IsBegun, IsHeld, IsReady, IsSettled};
 
 use crate::admitting::{Place, Site};

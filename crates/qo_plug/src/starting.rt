@@ -15,9 +15,9 @@ ghost use Rattle.qo_heap.specs.Acts.{Acts};
 ghost use Rattle.qo_heap.specs.Board.{Shows, pins_in};
 ghost use Rattle.qo_heap.specs.Objects.{content_of, pins_of};
 ghost use Rattle.qo_properties.specs.Claims.{KeepsBook};
-ghost use Rattle.qo_properties.specs.Start.{KeepsNames};
+ghost use Rattle.qo_properties.specs.OpeningSteps.{KeepsNames};
 ghost use Rattle.qo_reset.specs.Phases.{Holds};
-ghost use Rattle.qo_standing.specs.Taking.{SameKept};
+ghost use Rattle.qo_standing.specs.DeviceClaims.{SameKept};
 
 use qo_buses::bus_in_slot;
 use qo_heap::{Heap, Oid, Steps};

@@ -21,38 +21,49 @@ use Rattle.qo_model.specs.Opening.{first_value}
 use Rattle.qo_model.specs.Types.{slots_of}
 use Rattle.qo_model.specs.RowNames.{property_name}
 use Rattle.qo_model.specs.declared.properties.Property.{Property}
-use Rattle.qo_model.specs.declared.properties.RowKind.{RowKind}
-use Rattle.qo_model.specs.declared.properties.RowKind.TheVariants as row
-use Rattle.qo_properties.specs.Fresh.{first_slots, new_slots, slot_begun}
+use Rattle.qo_model.specs.declared.properties.PropertyRole.{PropertyRole}
+use Rattle.qo_model.specs.declared.properties.PropertyRole.TheVariants as row
+use Rattle.qo_properties.specs.NewSlots.{first_slots, new_slots, slot_begun}
 use Rattle.qo_model.specs.Objects.{Given, given_slots, with_attempt, with_object}
 use Rattle.qo_notes.proofs.Logs.{all_lem}
-use Rattle.qo_object.specs.Content.{Content, fresh, furnished, held_count, holding, with_slot, without_pin, as_made}
+use Rattle.qo_object.specs.Content.{Content, fresh, furnished, reference_count, holding, with_slot, without_pin, as_made}
 use Rattle.qo_object.specs.Slots.{Named, forgotten_in, held, holds, is_born, target_of}
 use Rattle.qo_object.specs.declared.slots.Slot.{Slot}
 use Rattle.qo_object.specs.declared.slots.Slot.TheVariants.{Plain, Child, Link, Alias}
-use Rattle.qo_object.specs.Shown.{shown_slots}
+use Rattle.qo_object.specs.BoardObject.{shown_slots}
 use Rattle.std.proofs.lemmas.List.{map-append}
 use Rattle.qo_heap.specs.Board.{Shows, pins_in, record_of}
 use Rattle.qo_heap.proofs.HeapLemmas.{live-edit}
-use Rattle.qo_heap.proofs.ShowsChanges.{shows-added}
+use Rattle.qo_heap.proofs.BoardChanges.{shows-added}
 use Rattle.qo_heap.specs.Objects.{IsHeap, Objects, content_of, ended, final_notes, forgets, pins_of, refs_of, targets, with_edit}
-use Rattle.qo_heap.proofs.ShowsLive.{content-edited, live-content}
+use Rattle.qo_heap.proofs.BoardObjects.{content-edited, live-content}
 use Rattle.std.proofs.lemmas.Option.{same_Some}
 use Rattle.qo_notes.specs.Log.{IsLogOf, empty_log, noted_all}
 use Rattle.qo_life.specs.Life.{init_notes, with_log}
 use Rattle.qo_life.proofs.TreeLemmas.{tree, tree-shows}
-use Rattle.qo_properties.specs.Adding.{IsChild, IsTried, given_up, with_child, with_newest}
+use Rattle.qo_properties.specs.Additions.{IsChild, IsTried, given_up, with_child, with_newest}
 
 -- a pin taken from an object that nothing else holds
 
-holding-edit : (n m : ℕ) (rows : List (Key × Content)) → sum_by (λ (row : Key × Content). holding m row.1) (edit n without_pin rows) ≡ sum_by (λ (row : Key × Content). holding m row.1) rows
+holding-edit : (n m : ℕ) (rows : List (Key × Content))
+    → sum_by (λ (row : Key × Content). holding m row.1) (edit n without_pin rows) ≡ sum_by (λ (row : Key × Content). holding m row.1) rows
 holding-edit n m [] = refl
 holding-edit n m (row ∷ rows) = go (eqb row.0.birth n) refl (holding-edit n m rows)
   where
-    sums : (r s : Key × Content) → holding m r.1 ≡ holding m s.1 → sum_by (λ (x : Key × Content). holding m x.1) (edit n without_pin rows) ≡ sum_by (λ (x : Key × Content). holding m x.1) rows → sum_by (λ (x : Key × Content). holding m x.1) (r ∷ edit n without_pin rows) ≡ sum_by (λ (x : Key × Content). holding m x.1) (s ∷ rows)
-    sums r s same rest = omega (arith, same, rest, sum_by-cons (λ (x : Key × Content). holding m x.1) r (edit n without_pin rows), sum_by-cons (λ (x : Key × Content). holding m x.1) s rows)
+    sums : (r s : Key × Content) → holding m r.1 ≡ holding m s.1
+        → sum_by (λ (x : Key × Content). holding m x.1) (edit n without_pin rows) ≡ sum_by (λ (x : Key × Content). holding m x.1) rows
+        → sum_by (λ (x : Key × Content). holding m x.1) (r ∷ edit n without_pin rows) ≡ sum_by (λ (x : Key × Content). holding m x.1) (s ∷ rows)
+    sums r s same rest = omega (
+      arith,
+      same,
+      rest,
+      sum_by-cons (λ (x : Key × Content). holding m x.1) r (edit n without_pin rows),
+      sum_by-cons (λ (x : Key × Content). holding m x.1) s rows,
+    )
 
-    go : (t : Bool) → eqb row.0.birth n ≡ t → sum_by (λ (x : Key × Content). holding m x.1) (edit n without_pin rows) ≡ sum_by (λ (x : Key × Content). holding m x.1) rows → sum_by (λ (x : Key × Content). holding m x.1) (edit n without_pin (row ∷ rows)) ≡ sum_by (λ (x : Key × Content). holding m x.1) (row ∷ rows)
+    go : (t : Bool) → eqb row.0.birth n ≡ t
+        → sum_by (λ (x : Key × Content). holding m x.1) (edit n without_pin rows) ≡ sum_by (λ (x : Key × Content). holding m x.1) rows
+        → sum_by (λ (x : Key × Content). holding m x.1) (edit n without_pin (row ∷ rows)) ≡ sum_by (λ (x : Key × Content). holding m x.1) (row ∷ rows)
     go true p rest = rw p (sums (row.0, without_pin row.1) row refl rest)
     go false p rest = rw p (sums row row refl rest)
 
@@ -68,17 +79,22 @@ unpinned-free v w n is one alone =
     let moved : refs_of (with_edit n without_pin v) n ≡ refs_of w n = ap (λ (x : Objects). refs_of x n) (sym is) in
     omega (arith, holding-edit n n v.rows, pins-less v n, one, alone, moved)
 
-pub unpinned-bare : (v w : Objects) (n : ℕ) → w ≡ with_edit n without_pin v → option_map held_count (content_of v n) ≡ Some 0 → option_map held_count (content_of w n) ≡ Some 0
-unpinned-bare v w n is bare = ap (λ (x : Objects). option_map held_count (content_of x n)) is ∙ ap (option_map held_count) (content-edited v n without_pin) ∙ go (content_of v n) ∙ bare
+pub unpinned-bare : (v w : Objects) (n : ℕ) → w ≡ with_edit n without_pin v → option_map reference_count (content_of v n) ≡ Some 0
+    → option_map reference_count (content_of w n) ≡ Some 0
+unpinned-bare v w n is bare = ap (λ (x : Objects). option_map reference_count (content_of x n)) is
+    ∙ ap (option_map reference_count) (content-edited v n without_pin) ∙ go (content_of v n) ∙ bare
   where
-    go : (o : Option Content) → option_map held_count (option_map without_pin o) ≡ option_map held_count o
+    go : (o : Option Content) → option_map reference_count (option_map without_pin o) ≡ option_map reference_count o
     go None = refl
     go (Some c) = refl
 
-pub unpinned-kind : (v w u : Objects) (n : ℕ) → w ≡ with_edit n without_pin v → option_map (λ (c : Content). ended n c w) (content_of w n) ≡ Some u → option_map (λ (c : Content). ended n c (with_edit n without_pin v)) (content_of v n) ≡ Some u
-unpinned-kind v w u n is e = sym (ap (λ (x : Objects). option_map (λ (c : Content). ended n c x) (content_of x n)) is ∙ ap (option_map (λ (c : Content). ended n c (with_edit n without_pin v))) (content-edited v n without_pin) ∙ go (content_of v n)) ∙ e
+pub unpinned-kind : (v w u : Objects) (n : ℕ) → w ≡ with_edit n without_pin v → option_map (λ (c : Content). ended n c w) (content_of w n) ≡ Some u
+    → option_map (λ (c : Content). ended n c (with_edit n without_pin v)) (content_of v n) ≡ Some u
+unpinned-kind v w u n is e = sym (ap (λ (x : Objects). option_map (λ (c : Content). ended n c x) (content_of x n)) is
+    ∙ ap (option_map (λ (c : Content). ended n c (with_edit n without_pin v))) (content-edited v n without_pin) ∙ go (content_of v n)) ∙ e
   where
-    go : (o : Option Content) → option_map (λ (c : Content). ended n c (with_edit n without_pin v)) (option_map without_pin o) ≡ option_map (λ (c : Content). ended n c (with_edit n without_pin v)) o
+    go : (o : Option Content) → option_map (λ (c : Content). ended n c (with_edit n without_pin v)) (option_map without_pin o)
+        ≡ option_map (λ (c : Content). ended n c (with_edit n without_pin v)) o
     go None = refl
     go (Some c) = refl
 
@@ -98,13 +114,16 @@ upto m above last (row ∷ rows) c rises e = go (eqb row.0.birth m) refl (upto m
     go true p rest = let up = rises-up row.0.birth last (births rows) rises.1 in let same : row.0.birth ≡ m = eqb-true row.0.birth m p in omega arith
     go false p rest = rest (rw p at e)
 
-unnamed-all : (n : ℕ) (P : Key → Type 0) → ((key : Key) → P key → eqb key.birth n ≡ false) → (slots : List Named) → AllByRecursion P (filter_map (λ (s : Named). target_of s.1) slots) → Unnamed n slots
+unnamed-all : (n : ℕ) (P : Key → Type 0) → ((key : Key) → P key → eqb key.birth n ≡ false) → (slots : List Named)
+    → AllByRecursion P (filter_map (λ (s : Named). target_of s.1) slots) → Unnamed n slots
 unnamed-all n P apart [] all = tt
 unnamed-all n P apart (s ∷ slots) all = go (target_of s.1) refl all (unnamed-all n P apart slots)
   where
-    go : (o : Option Key) → target_of s.1 ≡ o → AllByRecursion P (cons_option o (filter_map (λ (x : Named). target_of x.1) slots)) → (AllByRecursion P (filter_map (λ (x : Named). target_of x.1) slots) → Unnamed n slots) → Unnamed n (s ∷ slots)
+    go : (o : Option Key) → target_of s.1 ≡ o → AllByRecursion P (cons_option o (filter_map (λ (x : Named). target_of x.1) slots))
+        → (AllByRecursion P (filter_map (λ (x : Named). target_of x.1) slots) → Unnamed n slots) → Unnamed n (s ∷ slots)
     go None p given rest = ((λ key e. absurd (let clash : None ≡ Some key = sym p ∙ e in cc)), rest given)
-    go (Some k) p given rest = ((λ key e. let same : k ≡ key = same_Some k key (sym p ∙ e) in ap (λ (x : Key). eqb x.birth n) (sym same) ∙ apart k given.0), rest given.1)
+    go (Some k) p given rest =
+        ((λ key e. let same : k ≡ key = same_Some k key (sym p ∙ e) in ap (λ (x : Key). eqb x.birth n) (sym same) ∙ apart k given.0), rest given.1)
 
 pub apart-from : (v : Objects) (n : ℕ) → v.born < n → IsHeap v → Apart n v.rows
 apart-from v n high good = go 0 v.rows good.rising good.linked
@@ -115,7 +134,8 @@ apart-from v n high good = go 0 v.rows good.rising good.linked
         let low : key.birth ≤ v.born = upto key.birth 0 v.born v.rows c good.rising there in
         grind (arith, low, high)
 
-    go : (above : ℕ) (rows : List (Key × Content)) → Rises above (births rows) v.born → AllByRecursion (λ (row : Key × Content). AllByRecursion (IsLive v.rows) (targets row.1)) rows → Apart n rows
+    go : (above : ℕ) (rows : List (Key × Content)) → Rises above (births rows) v.born
+        → AllByRecursion (λ (row : Key × Content). AllByRecursion (IsLive v.rows) (targets row.1)) rows → Apart n rows
     go above [] rises linked = tt
     go above (row ∷ rows) rises linked =
         let low : row.0.birth ≤ v.born = rises-up row.0.birth v.born (births rows) rises.1 in
@@ -172,7 +192,7 @@ others-edited n m f (row ∷ rows) all = go (eqb row.0.birth m) refl (others-edi
     go true p rest = rw p (all.0, rest)
     go false p rest = rw p (all.0, rest)
 
--- rows with the newest behind them
+-- rows with the newest after them
 
 module _ (o : Key) (c : Content) where
   own : eqb o.birth o.birth ≡ true
@@ -197,7 +217,13 @@ module _ (o : Key) (c : Content) where
 pub held-holds : (n : ℕ) (slots : List Named) → count_by (λ (s : Named). holds n s.1) slots ≤ count_by (λ (s : Named). is_some (held s.1)) slots
 held-holds n [] = omega arith
 held-holds n (s ∷ slots) =
-    omega (arith, held-holds n slots, one s.1, sum_by-cons (λ (x : Named). cond {A = ℕ} (holds n x.1) 1 0) s slots, sum_by-cons (λ (x : Named). cond {A = ℕ} (is_some (held x.1)) 1 0) s slots)
+    omega (
+      arith,
+      held-holds n slots,
+      one s.1,
+      sum_by-cons (λ (x : Named). cond {A = ℕ} (holds n x.1) 1 0) s slots,
+      sum_by-cons (λ (x : Named). cond {A = ℕ} (is_some (held x.1)) 1 0) s slots,
+    )
   where
     by : (t : Bool) → cond {A = ℕ} t 1 0 ≤ 1
     by true = omega arith
@@ -227,9 +253,10 @@ module _ (v w : Objects) (o : Key) (c : Content) (good : IsHeap v) (birth : o.bi
   pub newest-pinned : c.pins ≡ 1 → pins_of w o.birth ≡ 1
   newest-pinned one = ap (λ (x : Option Content). option_map_or (λ (d : Content). d.pins) x 0) newest-content ∙ one
 
-  pub newest-alone : c.pins ≡ 1 → held_count c ≡ 0 → refs_of w o.birth ≡ 1
+  pub newest-alone : c.pins ≡ 1 → reference_count c ≡ 0 → refs_of w o.birth ≡ 1
   newest-alone one bare =
-      let sums : sum_by (λ (row : Key × Content). holding o.birth row.1) w.rows ≡ sum_by (λ (row : Key × Content). holding o.birth row.1) (v.rows ++ (o, c) ∷ []) = ap (λ (x : Objects). sum_by (λ (row : Key × Content). holding o.birth row.1) x.rows) is in
+      let sums : sum_by (λ (row : Key × Content). holding o.birth row.1) w.rows ≡ sum_by (λ (row : Key × Content). holding o.birth row.1)
+      (v.rows ++ (o, c) ∷ []) = ap (λ (x : Objects). sum_by (λ (row : Key × Content). holding o.birth row.1) x.rows) is in
       omega (
         arith,
         newest-pinned one,
@@ -241,16 +268,26 @@ module _ (v w : Objects) (o : Key) (c : Content) (good : IsHeap v) (birth : o.bi
         bare,
       )
 
-  pub newest-bare : held_count c ≡ 0 → option_map held_count (content_of w o.birth) ≡ Some 0
-  newest-bare bare = ap (option_map held_count) newest-content ∙ ap Some bare
+  pub newest-bare : reference_count c ≡ 0 → option_map reference_count (content_of w o.birth) ≡ Some 0
+  newest-bare bare = ap (option_map reference_count) newest-content ∙ ap Some bare
 
-  pub newest-ends : kept_of c.body ≡ none_kept → c.device_id ≡ None → c.kept_path ≡ None → (u : Objects) → option_map (λ (d : Content). ended o.birth d (with_edit o.birth without_pin w)) (content_of w o.birth) ≡ Some u → u ≡ given_up c.kind v
+  pub newest-ends : kept_of c.body ≡ none_kept → c.device_id ≡ None → c.kept_path ≡ None → (u : Objects)
+      → option_map (λ (d : Content). ended o.birth d (with_edit o.birth without_pin w)) (content_of w o.birth) ≡ Some u → u ≡ given_up c.kind v
   newest-ends none unnamed pathless u e =
-      let now : ended o.birth c (with_edit o.birth without_pin w) ≡ u = same_Some (ended o.birth c (with_edit o.birth without_pin w)) u (sym (ap (option_map (λ (d : Content). ended o.birth d (with_edit o.birth without_pin w))) newest-content) ∙ e) in
-      let rows : map (forgets o.birth) (without o.birth (edit o.birth without_pin (v.rows ++ (o, c) ∷ []))) ≡ v.rows = ap (λ (l : List (Key × Content)). map (forgets o.birth) (without o.birth l)) (edit-newest o c without_pin v.rows (others o.birth v.rows apart)) ∙ end-newest o (without_pin c) v.rows apart in
+      let now : ended o.birth c (with_edit o.birth without_pin w) ≡ u = same_Some (ended o.birth c (with_edit o.birth without_pin w)) u
+      (sym (ap (option_map (λ (d : Content). ended o.birth d (with_edit o.birth without_pin w))) newest-content) ∙ e) in
+      let rows : map (forgets o.birth) (without o.birth (edit o.birth without_pin (v.rows ++ (o, c) ∷ []))) ≡ v.rows =
+      ap (λ (l : List (Key × Content)). map (forgets o.birth) (without o.birth l)) (edit-newest o c without_pin v.rows (others o.birth v.rows apart))
+      ∙ end-newest o (without_pin c) v.rows apart in
       sym now
       ∙ ap (λ (x : Objects). ended o.birth c (with_edit o.birth without_pin x)) is
-      ∙ (λ j. record v { rows = rows j; born = v.born + 1; log = noted_all (final_notes (birth j) c.kind) (noted_all (init_notes (birth j) c.kind) v.log); claims = without_device (unnamed j) (without_kept (none j) v.claims); events = with_kept_event (option_map (λ (path : List ℕ). record { deleted = true; id = c.device_id; path = path }) (pathless j)) v.events })
+      ∙ (λ j. record v {
+        rows = rows j;
+        born = v.born + 1;
+        log = noted_all (final_notes (birth j) c.kind) (noted_all (init_notes (birth j) c.kind) v.log);
+        claims = without_device (unnamed j) (without_kept (none j) v.claims);
+        events = with_kept_event (option_map (λ (path : List ℕ). record { deleted = true; id = c.device_id; path = path }) (pathless j)) v.events;
+      })
 
 -- who was there is there beside the newest
 
@@ -267,24 +304,28 @@ newest-keeps v w o c is key live = subst (λ (x : Objects). IsLive x.rows key) (
 
 -- another than the newest changed
 
-edit-more : (m : ℕ) (f : Content → Content) (rows : List (Key × Content)) (row : Key × Content) → eqb row.0.birth m ≡ false → edit m f (rows ++ row ∷ []) ≡ edit m f rows ++ row ∷ []
+edit-more : (m : ℕ) (f : Content → Content) (rows : List (Key × Content)) (row : Key × Content) → eqb row.0.birth m ≡ false
+    → edit m f (rows ++ row ∷ []) ≡ edit m f rows ++ row ∷ []
 edit-more m f [] row other = rw other refl
 edit-more m f (r ∷ rows) row other = ap (λ (l : List (Key × Content)). edit m f (r ∷ []) ++ l) (edit-more m f rows row other)
 
-pub newest-beside : (v w u : Objects) (o key : Key) (c : Content) (f : Content → Content) → IsHeap v → o.birth ≡ v.born + 1 → IsLive v.rows key → w ≡ with_newest o c v → u ≡ with_edit key.birth f w → u ≡ with_newest o c (with_edit key.birth f v)
+pub newest-beside : (v w u : Objects) (o key : Key) (c : Content) (f : Content → Content) → IsHeap v → o.birth ≡ v.born + 1 → IsLive v.rows key
+    → w ≡ with_newest o c v → u ≡ with_edit key.birth f w → u ≡ with_newest o c (with_edit key.birth f v)
 newest-beside v w u o key c f good birth live is change =
     let (d, there) = live-content v key live in
     let low : key.birth ≤ v.born = upto key.birth 0 v.born v.rows d good.rising there in
     let other : eqb o.birth key.birth ≡ false = grind (arith, low, birth) in
     let rows = edit-more key.birth f v.rows (o, c) other in
-    change ∙ ap (λ (x : Objects). with_edit key.birth f x) is ∙ (λ j. record v { rows = rows j; born = v.born + 1; log = noted_all (init_notes o.birth c.kind) v.log })
+    change ∙ ap (λ (x : Objects). with_edit key.birth f x) is
+    ∙ (λ j. record v { rows = rows j; born = v.born + 1; log = noted_all (init_notes o.birth c.kind) v.log })
 
 -- first slots hold nothing
 
-begun-bare : (t : TypeId) (p : Property) (slots : List Named) → count_by (λ (s : Named). is_some (held s.1)) (cons_option (slot_begun t p) slots) ≡ count_by (λ (s : Named). is_some (held s.1)) slots
-begun-bare t p slots = go p.kind refl
+begun-bare : (t : TypeId) (p : Property) (slots : List Named)
+    → count_by (λ (s : Named). is_some (held s.1)) (cons_option (slot_begun t p) slots) ≡ count_by (λ (s : Named). is_some (held s.1)) slots
+begun-bare t p slots = go p.role refl
   where
-    go : (k : RowKind) → p.kind ≡ k → count_by (λ (s : Named). is_some (held s.1)) (cons_option (slot_begun t p) slots)
+    go : (k : PropertyRole) → p.role ≡ k → count_by (λ (s : Named). is_some (held s.1)) (cons_option (slot_begun t p) slots)
         ≡ count_by (λ (s : Named). is_some (held s.1)) slots
     go (row.Plain type first) e =
         rw e (omega (arith, sum_by-cons (λ (s : Named). cond {A = ℕ} (is_some (held s.1)) 1 0) (property_name p.name, Plain (first_value t first)) slots))
@@ -339,7 +380,8 @@ module _ {v w : Objects} {o parent : Key} {name : List ℕ} {t : TypeId} {slots 
   beside = with_edit parent.birth (with_slot name (Child o)) v
 
   child-others : Others o.birth beside.rows
-  child-others = others-edited o.birth parent.birth (with_slot name (Child o)) v.rows (others o.birth v.rows (apart-from v o.birth (omega (arith, made.birth)) good))
+  child-others =
+      others-edited o.birth parent.birth (with_slot name (Child o)) v.rows (others o.birth v.rows (apart-from v o.birth (omega (arith, made.birth)) good))
 
   child-row : row_at w.rows o.birth ≡ Some (o, begun)
   child-row = ap (λ (x : Objects). row_at x.rows o.birth) made.is ∙ row-newest o begun beside.rows child-others
@@ -367,7 +409,9 @@ pins-last [] o c none = rw none refl
 pins-last (row ∷ rows) o c none = ap (λ (l : List ℕ). replicate row.1.pins row.0.birth ++ l) (pins-last rows o c none)
 
 -- the board with an object more
-pub shows-object : (b : Board) (v : Objects) → Shows b v → (o parent : Key) → parent.birth ≡ OBJECTS_BIRTH → o.birth ≡ v.born + 1 → (name : List ℕ) (t : TypeId) (props : List Given) (slots : List Named) → shown_slots slots ≡ given_slots b t props → Shows (with_object b t name props) (with_newest o (as_made t slots 0) (with_edit parent.birth (with_slot name (Child o)) v))
+pub shows-object : (b : Board) (v : Objects) → Shows b v → (o parent : Key) → parent.birth ≡ OBJECTS_BIRTH → o.birth ≡ v.born + 1
+    → (name : List ℕ) (t : TypeId) (props : List Given) (slots : List Named) → shown_slots slots ≡ given_slots b t props
+    → Shows (with_object b t name props) (with_newest o (as_made t slots 0) (with_edit parent.birth (with_slot name (Child o)) v))
 unfolding add
 shows-object b v s o parent place birth name t props slots given =
     let rows : Objects = with_edit parent.birth (with_slot name (Child o)) v in
@@ -375,19 +419,24 @@ shows-object b v s o parent place birth name t props slots given =
     let its : b.born + 1 ≡ o.birth = ap (λ (k : ℕ). k + 1) s.born ∙ sym birth in
     record {
       records =
-          (λ j. map (edited (sym place j) (with_added name (board.child (its j)))) b.records ++ record { birth = its j; kind = t; slots = sym given j; registers = fresh_registers t; device_id = None; kept_path = None } ∷ [])
-          ∙ (λ j. more.records j ++ record { birth = o.birth; kind = t; slots = shown_slots slots; registers = sym (fresh-registers t) j; device_id = None; kept_path = None } ∷ [])
+          (λ j. map (edited (sym place j) (with_added name (board.child (its j)))) b.records
+          ++ record { birth = its j; kind = t; slots = sym given j; registers = fresh_registers t; device_id = None; kept_path = None } ∷ [])
+          ∙ (λ j. more.records j
+          ++ record { birth = o.birth; kind = t; slots = shown_slots slots; registers = sym (fresh-registers t) j; device_id = None; kept_path = None }
+          ∷ [])
           ∙ sym (map-append record_of rows.rows ((o, as_made t slots 0) ∷ []));
       born = ap (λ (k : ℕ). k + 1) s.born;
       pins = more.pins ∙ sym (pins-last rows.rows o (as_made t slots 0) refl);
-      notes = subst (λ (k : ℕ). IsLogOf (b.notes ++ init_notes k t) (noted_all (init_notes o.birth t) v.log)) (sym its) (all_lem b.notes (init_notes o.birth t) v.log s.notes);
+      notes = subst (λ (k : ℕ). IsLogOf (b.notes ++ init_notes k t) (noted_all (init_notes o.birth t) v.log)) (sym its)
+          (all_lem b.notes (init_notes o.birth t) v.log s.notes);
       events = s.events;
       now = s.now;
     }
 
 -- the same pins
 
-pub object-pins : (v : Objects) (o parent : Key) (name : List ℕ) (t : TypeId) (slots : List Named) (w : Objects) → w ≡ with_newest o (as_made t slots 0) (with_edit parent.birth (with_slot name (Child o)) v) → pins_in w.rows ≡ pins_in v.rows
+pub object-pins : (v : Objects) (o parent : Key) (name : List ℕ) (t : TypeId) (slots : List Named) (w : Objects)
+    → w ≡ with_newest o (as_made t slots 0) (with_edit parent.birth (with_slot name (Child o)) v) → pins_in w.rows ≡ pins_in v.rows
 unfolding add
 object-pins v o parent name t slots w is =
     let rows : Objects = with_edit parent.birth (with_slot name (Child o)) v in
@@ -398,7 +447,7 @@ pub tried-pins : (v w : Objects) (t : TypeId) → IsTried t v w → pins_in w.ro
 tried-pins v w t (inl same) = ap (λ (x : Objects). pins_in x.rows) same
 tried-pins v w t (inr same) = ap (λ (x : Objects). pins_in x.rows) same
 
--- the board behind an attempt
+-- the board after an attempt
 pub shows-tried : (b : Board) (v : Objects) → Shows b v → (t : TypeId) → Shows (with_attempt b t) (given_up t v)
 shows-tried b v s t =
     record {
@@ -406,8 +455,10 @@ shows-tried b v s t =
       born = ap (λ (k : ℕ). k + 1) s.born;
       pins = s.pins;
       notes =
-          subst (λ (k : ℕ). IsLogOf ((b.notes ++ init_notes (k + 1) t) ++ final_notes (k + 1) t) (noted_all (final_notes (v.born + 1) t) (noted_all (init_notes (v.born + 1) t) v.log))) (sym s.born)
-          (all_lem (b.notes ++ init_notes (v.born + 1) t) (final_notes (v.born + 1) t) (noted_all (init_notes (v.born + 1) t) v.log) (all_lem b.notes (init_notes (v.born + 1) t) v.log s.notes));
+          subst (λ (k : ℕ). IsLogOf ((b.notes ++ init_notes (k + 1) t) ++ final_notes (k + 1) t)
+          (noted_all (final_notes (v.born + 1) t) (noted_all (init_notes (v.born + 1) t) v.log))) (sym s.born)
+          (all_lem (b.notes ++ init_notes (v.born + 1) t) (final_notes (v.born + 1) t) (noted_all (init_notes (v.born + 1) t) v.log)
+          (all_lem b.notes (init_notes (v.born + 1) t) v.log s.notes));
       events = s.events;
       now = s.now;
     }

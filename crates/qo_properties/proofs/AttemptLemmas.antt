@@ -1,4 +1,4 @@
--- Objects without slots that are made behind each other, and end.
+-- Objects without slots that are made after each other, and end.
 use Rattle.std.proofs.Common.{◌≡◌, refl, ap, sym, subst, ◌∙◌, ℕ, suc, ◌+◌, ◌<◌, ◌≤◌, true, false, eqb, List, [], ◌∷◌, ◌++◌, map, filter_map, sum_by, length, take, slice_get, append_assoc, append-nil, Option, Some, None, IsSomeAnd, option_map, option_to_list, inr, arith}
 use Rattle.std.specs.Prelude.{OnErr, OnOk, Result, Ok, Err, drop}
 use Rattle.std.specs.declared.alloc.AllocError.{AllocError}
@@ -21,19 +21,19 @@ use Rattle.qo_model.specs.Objects.{init_notes}
 use Rattle.qo_model.specs.Plug.{begun_notes, born_from, device_last, ended_notes, further_in, objects_in, types_in}
 use Rattle.qo_model.specs.Types.{slots_of}
 use Rattle.qo_model.specs.declared.properties.Property.{Property}
-use Rattle.qo_model.specs.declared.properties.RowKind.{RowKind}
-use Rattle.qo_model.specs.declared.properties.RowKind.TheVariants as row
-use Rattle.qo_object.specs.Content.{Content, fresh, held_count, holding, without_pin}
+use Rattle.qo_model.specs.declared.properties.PropertyRole.{PropertyRole}
+use Rattle.qo_model.specs.declared.properties.PropertyRole.TheVariants as row
+use Rattle.qo_object.specs.Content.{Content, fresh, reference_count, holding, without_pin}
 use Rattle.qo_heap.specs.Objects.{IsHeap, Objects, content_of, ended, final_notes, forgets, pins_of, refs_of, with_edit, without_kept}
 use Rattle.qo_heap.proofs.EndLemmas.{noted-none}
-use Rattle.qo_properties.specs.Adding.{with_newest}
+use Rattle.qo_properties.specs.Additions.{with_newest}
 use Rattle.qo_properties.specs.Attempts.{AreNext, IsCutWhole, IsEnding, MadeFurther, bare_rows, by_birth, further_types, given_up_whole, grown, tried_all}
 use Rattle.qo_properties.proofs.AddLemmas.{Apart, Others, apart-from, forgets-same, others, sum-none}
-use Rattle.qo_properties.proofs.FreshLemmas.{next-slot, past}
+use Rattle.qo_properties.proofs.NewSlotLemmas.{next-slot, past}
 
 -- rows with an object among them
 
-module _ (o : Key) (c : Content) (more : List (Key × Content)) (behind : Apart o.birth more) where
+module _ (o : Key) (c : Content) (more : List (Key × Content)) (after : Apart o.birth more) where
   own : eqb o.birth o.birth ≡ true
   own = eq-eqb o.birth o.birth refl
 
@@ -46,7 +46,7 @@ module _ (o : Key) (c : Content) (more : List (Key × Content)) (behind : Apart 
   edit-none f (row ∷ rows) all = rw (all.0.0) (ap (λ (l : List (Key × Content)). row ∷ l) (edit-none f rows all.1))
 
   edit-among : (f : Content → Content) (rows : List (Key × Content)) → Others o.birth rows → edit o.birth f (rows ++ (o, c) ∷ more) ≡ rows ++ (o, f c) ∷ more
-  edit-among f [] all = rw own (ap (λ (l : List (Key × Content)). (o, f c) ∷ l) (edit-none f more behind))
+  edit-among f [] all = rw own (ap (λ (l : List (Key × Content)). (o, f c) ∷ l) (edit-none f more after))
   edit-among f (row ∷ rows) all = rw all.0 (ap (λ (l : List (Key × Content)). row ∷ l) (edit-among f rows all.1))
 
   end-none : (rows : List (Key × Content)) → Apart o.birth rows → map (forgets o.birth) (without o.birth rows) ≡ rows
@@ -57,7 +57,7 @@ module _ (o : Key) (c : Content) (more : List (Key × Content)) (behind : Apart 
       rw (all.0.0) (λ j. (row.0, record row.1 { slots = here j }) ∷ rest j)
 
   end-among : (rows : List (Key × Content)) → Apart o.birth rows → map (forgets o.birth) (without o.birth (rows ++ (o, c) ∷ more)) ≡ rows ++ more
-  end-among [] all = rw own (end-none more behind)
+  end-among [] all = rw own (end-none more after)
   end-among (row ∷ rows) all =
       let here = forgets-same o.birth row.1.slots all.0.1 in
       let rest = end-among rows all.1 in
@@ -75,7 +75,7 @@ bare-apart : (n : ℕ) (os : List (Key × TypeId)) → AreOthers n os → Apart 
 bare-apart n [] all = tt
 bare-apart n (o ∷ os) all = ((all.0, tt), bare-apart n os all.1)
 
--- those that are born next to each other are others than one before, and than one behind
+-- those that are born next to each other are others than one before, and than one after
 next-above : (n m : ℕ) (os : List (Key × TypeId)) → AreNext m os → n ≤ m → AreOthers n os
 next-above n m [] next le = tt
 next-above n m (o ∷ os) next le = (grind (arith, next.0, le), next-above n (suc m) os next.1 (omega (arith, le)))
@@ -142,7 +142,8 @@ types-more t k p at =
     ap (map (λ (f : List ℕ × TypeId). f.1)) (next-slot further_in k (slots_of t) p (sym at))
     ∙ map-append (λ (f : List ℕ × TypeId). f.1) (filter_map further_in (take k (slots_of t))) (option_to_list (further_in p))
 
-pub made-same : (t : TypeId) (k : ℕ) (p : Property) (v w : Objects) → Some p ≡ slice_get (slots_of t) k → further_in p ≡ None → MadeFurther t k v w → MadeFurther t (k + 1) v w
+pub made-same : (t : TypeId) (k : ℕ) (p : Property) (v w : Objects) → Some p ≡ slice_get (slots_of t) k → further_in p ≡ None → MadeFurther t k v w
+    → MadeFurther t (k + 1) v w
 made-same t k p v w at none m =
     record {
       objects = m.objects;
@@ -155,7 +156,7 @@ made-same t k p v w at none m =
       is = m.is;
     }
 
-pub made-more : (t : TypeId) (k : ℕ) (p : Property) (u : TypeId) (o : Key) (v w x : Objects) → Some p ≡ slice_get (slots_of t) k → p.kind ≡ row.Child u
+pub made-more : (t : TypeId) (k : ℕ) (p : Property) (u : TypeId) (o : Key) (v w x : Objects) → Some p ≡ slice_get (slots_of t) k → p.role ≡ row.Child u
     → o.birth ≡ w.born + 1 → x ≡ with_newest o (fresh u) w → MadeFurther t k v w → MadeFurther t (k + 1) v x
 made-more t k p u o v w x at kind born more m =
     record {
@@ -168,25 +169,27 @@ made-more t k p u o v w x at kind born more m =
       is = grown-push m.objects (o, u) v w x m.is more;
     }
 
-pub is-further : (p : Property) → ((u : TypeId) → p.kind ≡ row.Child u → ⊥) → further_in p ≡ None
-is-further p other = go p.kind refl
+pub is-further : (p : Property) → ((u : TypeId) → p.role ≡ row.Child u → ⊥) → further_in p ≡ None
+is-further p other = go p.role refl
   where
-    go : (kind : RowKind) → p.kind ≡ kind → further_in p ≡ None
+    go : (kind : PropertyRole) → p.role ≡ kind → further_in p ≡ None
     go (row.Child u) e = absurd (other u e)
     go (row.Plain type first) e = rw e refl
     go (row.Link target strong) e = rw e refl
     go (row.Alias owner of) e = rw e refl
 
 -- all of them
-pub made-all : (t : TypeId) (k : ℕ) (v w : Objects) → slice_get (slots_of t) k ≡ None → k ≤ length (slots_of t) → MadeFurther t k v w → MadeFurther t (length (slots_of t)) v w
+pub made-all : (t : TypeId) (k : ℕ) (v w : Objects) → slice_get (slots_of t) k ≡ None → k ≤ length (slots_of t) → MadeFurther t k v w
+    → MadeFurther t (length (slots_of t)) v w
 made-all t k v w end within m =
     let last : length (slots_of t) ≤ k = past (slots_of t) k end in
     let same : k ≡ length (slots_of t) = omega arith in
     subst (λ (i : ℕ). MadeFurther t i v w) same m
 
 -- one among them ends
-module _ (v w : Objects) (good : IsHeap v) (front : List (Key × TypeId)) (o : Key × TypeId) (back : List (Key × TypeId)) (are : w.rows ≡ v.rows ++ bare_rows (front ++ o ∷ back))
-    (high : v.born < o.0.birth) (others_before : AreOthers o.0.birth front) (others_behind : AreOthers o.0.birth back) where
+module _ (v w : Objects) (good : IsHeap v) (front : List (Key × TypeId)) (o : Key × TypeId) (back : List (Key × TypeId))
+    (are : w.rows ≡ v.rows ++ bare_rows (front ++ o ∷ back))
+    (high : v.born < o.0.birth) (others_before : AreOthers o.0.birth front) (others_after : AreOthers o.0.birth back) where
   abbrev before : List (Key × Content)
   before = v.rows ++ bare_rows front
 
@@ -199,11 +202,12 @@ module _ (v w : Objects) (good : IsHeap v) (front : List (Key × TypeId)) (o : K
   apart : Apart o.0.birth before
   apart = apart-append o.0.birth v.rows (bare_rows front) (apart-from v o.0.birth high good) (bare-apart o.0.birth front others_before)
 
-  behind : Apart o.0.birth (bare_rows back)
-  behind = bare-apart o.0.birth back others_behind
+  after : Apart o.0.birth (bare_rows back)
+  after = bare-apart o.0.birth back others_after
 
   among-row : row_at w.rows o.0.birth ≡ Some (o.0, fresh o.1)
-  among-row = ap (λ (rs : List (Key × Content)). row_at rs o.0.birth) rows ∙ row-among o.0 (fresh o.1) (bare_rows back) behind before (others o.0.birth before apart)
+  among-row = ap (λ (rs : List (Key × Content)). row_at rs o.0.birth) rows
+      ∙ row-among o.0 (fresh o.1) (bare_rows back) after before (others o.0.birth before apart)
 
   among-content : content_of w o.0.birth ≡ Some (fresh o.1)
   among-content = ap (option_map (λ (row : Key × Content). row.1)) among-row
@@ -216,7 +220,8 @@ module _ (v w : Objects) (good : IsHeap v) (front : List (Key × TypeId)) (o : K
 
   pub among-alone : refs_of w o.0.birth ≡ 1
   among-alone =
-      let sums : sum_by (λ (row : Key × Content). holding o.0.birth row.1) w.rows ≡ sum_by (λ (row : Key × Content). holding o.0.birth row.1) (before ++ (o.0, fresh o.1) ∷ bare_rows back) =
+      let sums : sum_by (λ (row : Key × Content). holding o.0.birth row.1) w.rows
+      ≡ sum_by (λ (row : Key × Content). holding o.0.birth row.1) (before ++ (o.0, fresh o.1) ∷ bare_rows back) =
       ap (sum_by (λ (row : Key × Content). holding o.0.birth row.1)) rows in
       omega (
         arith,
@@ -225,11 +230,11 @@ module _ (v w : Objects) (good : IsHeap v) (front : List (Key × TypeId)) (o : K
         sum_by-append (λ (row : Key × Content). holding o.0.birth row.1) before ((o.0, fresh o.1) ∷ bare_rows back),
         sum-none o.0.birth before apart,
         sum_by-cons (λ (row : Key × Content). holding o.0.birth row.1) (o.0, fresh o.1) (bare_rows back),
-        sum-none o.0.birth (bare_rows back) behind,
+        sum-none o.0.birth (bare_rows back) after,
       )
 
-  pub among-bare : option_map held_count (content_of w o.0.birth) ≡ Some 0
-  among-bare = ap (option_map held_count) among-content
+  pub among-bare : option_map reference_count (content_of w o.0.birth) ≡ Some 0
+  among-bare = ap (option_map reference_count) among-content
 
   pub among-ends : (u : Objects) → option_map (λ (d : Content). ended o.0.birth d (with_edit o.0.birth without_pin w)) (content_of w o.0.birth) ≡ Some u
       → u ≡ record w { rows = v.rows ++ bare_rows (front ++ back); log = noted_all (final_notes o.0.birth o.1) w.log }
@@ -245,8 +250,8 @@ module _ (v w : Objects) (good : IsHeap v) (front : List (Key × TypeId)) (o : K
       left =
           ap (λ (rs : List (Key × Content)). map (forgets o.0.birth) (without o.0.birth (edit o.0.birth without_pin rs))) rows
           ∙ ap (λ (rs : List (Key × Content)). map (forgets o.0.birth) (without o.0.birth rs))
-          (edit-among o.0 (fresh o.1) (bare_rows back) behind without_pin before (others o.0.birth before apart))
-          ∙ end-among o.0 (without_pin (fresh o.1)) (bare_rows back) behind before apart
+          (edit-among o.0 (fresh o.1) (bare_rows back) after without_pin before (others o.0.birth before apart))
+          ∙ end-among o.0 (without_pin (fresh o.1)) (bare_rows back) after before apart
           ∙ append_assoc v.rows (bare_rows front) (bare_rows back)
           ∙ ap (λ (rs : List (Key × Content)). v.rows ++ rs) (sym (map-append (λ (x : Key × TypeId). (x.0, fresh x.1)) front back))
 
@@ -262,13 +267,14 @@ map-length : {X Y : Type 0} (f : X → Y) (xs : List X) → length (map f xs) �
 map-length f [] = refl
 map-length f (x ∷ xs) = ap suc (map-length f xs)
 
-next-split : (m : ℕ) (over : List (Key × TypeId)) (x : Key × TypeId) (left : List (Key × TypeId)) → AreNext m (over ++ x ∷ left) → (m < x.0.birth) × AreNext x.0.birth left
+next-split : (m : ℕ) (over : List (Key × TypeId)) (x : Key × TypeId) (left : List (Key × TypeId)) → AreNext m (over ++ x ∷ left)
+    → (m < x.0.birth) × AreNext x.0.birth left
 next-split m [] x left next = (omega (arith, next.0), subst (λ (n : ℕ). AreNext n left) (sym next.0) next.1)
 next-split m (y ∷ over) x left next = let (low, rest) = next-split (suc m) over x left next.1 in (omega (arith, low), rest)
 
-behind-first : (xs more : List (Key × Content)) (r : Key × Content) → slice_get (xs ++ r ∷ more) (suc (length xs)) ≡ slice_get more 0
-behind-first [] more r = refl
-behind-first (x ∷ xs) more r = behind-first xs more r
+after-first : (xs more : List (Key × Content)) (r : Key × Content) → slice_get (xs ++ r ∷ more) (suc (length xs)) ≡ slice_get more 0
+after-first [] more r = refl
+after-first (x ∷ xs) more r = after-first xs more r
 
 module _ (v w : Objects) (t : TypeId) (o : Key) (k : ℕ) where
   -- it begins
@@ -291,7 +297,8 @@ module _ (v w : Objects) (t : TypeId) (o : Key) (k : ℕ) where
       length-first : v.born + 1 + length m.objects ≡ v.born + length ((o, t) ∷ m.objects)
       length-first = omega arith
 
-      log : noted_all (begun_notes (by_birth m.objects)) (noted_all (init_notes o.birth t) v.log) ≡ noted_all (ended_notes []) (noted_all (begun_notes (by_birth ((o, t) ∷ m.objects))) v.log)
+      log : noted_all (begun_notes (by_birth m.objects)) (noted_all (init_notes o.birth t) v.log)
+          ≡ noted_all (ended_notes []) (noted_all (begun_notes (by_birth ((o, t) ∷ m.objects))) v.log)
       log =
           sym (parts_lem (init_notes o.birth t) (begun_notes (by_birth m.objects)) v.log)
           ∙ sym (noted-none (noted_all (begun_notes (by_birth ((o, t) ∷ m.objects))) v.log))
@@ -300,12 +307,14 @@ module _ (v w : Objects) (t : TypeId) (o : Key) (k : ℕ) where
     rows-of : (left : List (Key × TypeId)) → e.left ≡ left → w.rows ≡ v.rows ++ bare_rows ((o, t) ∷ left)
     rows-of left is = ap (λ (x : Objects). x.rows) e.is ∙ ap (λ (os : List (Key × TypeId)). v.rows ++ bare_rows ((o, t) ∷ os)) is
 
-    behind-it : (place : ℕ) (left : List (Key × TypeId)) → place ≡ length v.rows → e.left ≡ left → option_map (λ (row : Key × Content). row.0) (slice_get w.rows (place + 1))
+    after-it : (place : ℕ) (left : List (Key × TypeId)) → place ≡ length v.rows → e.left ≡ left
+        → option_map (λ (row : Key × Content). row.0) (slice_get w.rows (place + 1))
         ≡ option_map (λ (row : Key × Content). row.0) (slice_get (bare_rows left) 0)
-    behind-it place left at is =
+    after-it place left at is =
         let last : place + 1 ≡ suc (length v.rows) = omega (arith, at) in
         ap (option_map (λ (row : Key × Content). row.0))
-        (ap (λ (i : ℕ). slice_get w.rows i) last ∙ ap (λ (rs : List (Key × Content)). slice_get rs (suc (length v.rows))) (rows-of left is) ∙ behind-first v.rows (bare_rows left) (o, fresh t))
+        (ap (λ (i : ℕ). slice_get w.rows i) last ∙ ap (λ (rs : List (Key × Content)). slice_get rs (suc (length v.rows))) (rows-of left is)
+        ∙ after-first v.rows (bare_rows left) (o, fresh t))
 
     -- the next one that ends
     pub ending-next : (place : ℕ) (key : Key) → place ≡ length v.rows → Some key ≡ option_map (λ (row : Key × Content). row.0) (slice_get w.rows (place + 1))
@@ -313,15 +322,15 @@ module _ (v w : Objects) (t : TypeId) (o : Key) (k : ℕ) where
     ending-next place key at is = go e.left refl
       where
         go : (left : List (Key × TypeId)) → e.left ≡ left → (x : Key × TypeId) × (rest : List (Key × TypeId)) × (e.left ≡ x ∷ rest) × (x.0 ≡ key)
-        go [] l = absurd (let clash : Some key ≡ None = is ∙ behind-it place [] at l in cc)
-        go (x ∷ rest) l = (x, rest, l, sym (same_Some key x.0 (is ∙ behind-it place (x ∷ rest) at l)))
+        go [] l = absurd (let clash : Some key ≡ None = is ∙ after-it place [] at l in cc)
+        go (x ∷ rest) l = (x, rest, l, sym (same_Some key x.0 (is ∙ after-it place (x ∷ rest) at l)))
 
     pub ending-none : (place : ℕ) → place ≡ length v.rows → None ≡ option_map (λ (row : Key × Content). row.0) (slice_get w.rows (place + 1)) → e.left ≡ []
     ending-none place at is = go e.left refl
       where
         go : (left : List (Key × TypeId)) → e.left ≡ left → e.left ≡ []
         go [] l = l
-        go (x ∷ rest) l = absurd (let clash : None ≡ Some x.0 = is ∙ behind-it place (x ∷ rest) at l in cc)
+        go (x ∷ rest) l = absurd (let clash : None ≡ Some x.0 = is ∙ after-it place (x ∷ rest) at l in cc)
 
     module _ (x : Key × TypeId) (left : List (Key × TypeId)) (is_left : e.left ≡ x ∷ left) where
       split : (suc v.born < x.0.birth) × AreNext x.0.birth left
@@ -333,7 +342,9 @@ module _ (v w : Objects) (t : TypeId) (o : Key) (k : ℕ) where
       above : v.born < x.0.birth
       above = let low : suc v.born < x.0.birth = split.0 in omega (arith, low)
 
-      abbrev Needs : {A : Type 0} → ((w.rows ≡ v.rows ++ bare_rows ((o, t) ∷ [] ++ x ∷ left)) → (v.born < x.0.birth) → AreOthers x.0.birth ((o, t) ∷ []) → AreOthers x.0.birth left → A) → A
+      abbrev Needs : {A : Type 0}
+          → ((w.rows ≡ v.rows ++ bare_rows ((o, t) ∷ [] ++ x ∷ left)) → (v.born < x.0.birth) → AreOthers x.0.birth ((o, t) ∷ []) → AreOthers x.0.birth left → A)
+          → A
       Needs f = f (rows-of (x ∷ left) is_left) above (first-other, tt) (next-above x.0.birth x.0.birth left split.1 (≤-refl x.0.birth))
 
       pub kid-live : IsLive w.rows x.0
@@ -345,7 +356,7 @@ module _ (v w : Objects) (t : TypeId) (o : Key) (k : ℕ) where
       pub kid-alone : refs_of w x.0.birth ≡ 1
       kid-alone = Needs (λ are high front back. among-alone v w good ((o, t) ∷ []) x left are high front back)
 
-      pub kid-bare : option_map held_count (content_of w x.0.birth) ≡ Some 0
+      pub kid-bare : option_map reference_count (content_of w x.0.birth) ≡ Some 0
       kid-bare = Needs (λ are high front back. among-bare v w good ((o, t) ∷ []) x left are high front back)
 
       pub kid-fewer : (u : Objects) → option_map (λ (d : Content). ended x.0.birth d (with_edit x.0.birth without_pin w)) (content_of w x.0.birth) ≡ Some u
@@ -356,7 +367,8 @@ module _ (v w : Objects) (t : TypeId) (o : Key) (k : ℕ) where
           let more : length w.rows ≡ length (v.rows ++ bare_rows ((o, t) ∷ x ∷ left)) = ap length (rows-of (x ∷ left) is_left) in
           omega (arith, fewer, more, length-append v.rows (bare_rows ((o, t) ∷ left)), length-append v.rows (bare_rows ((o, t) ∷ x ∷ left)))
 
-      pub kid-ends : (u : Objects) → option_map (λ (d : Content). ended x.0.birth d (with_edit x.0.birth without_pin w)) (content_of w x.0.birth) ≡ Some u → IsEnding v t o k u
+      pub kid-ends : (u : Objects) → option_map (λ (d : Content). ended x.0.birth d (with_edit x.0.birth without_pin w)) (content_of w x.0.birth) ≡ Some u
+          → IsEnding v t o k u
       kid-ends u end =
           record {
             over = e.over ++ x ∷ [];
@@ -372,16 +384,20 @@ module _ (v w : Objects) (t : TypeId) (o : Key) (k : ℕ) where
           all : e.over ++ e.left ≡ (e.over ++ x ∷ []) ++ left
           all = ap (λ (os : List (Key × TypeId)). e.over ++ os) is_left ∙ sym (append_assoc e.over (x ∷ []) left)
 
-          log : noted_all (final_notes x.0.birth x.1) (noted_all (ended_notes (by_birth e.over)) (noted_all (begun_notes (by_birth ((o, t) ∷ e.over ++ e.left))) v.log))
+          log : noted_all (final_notes x.0.birth x.1)
+              (noted_all (ended_notes (by_birth e.over)) (noted_all (begun_notes (by_birth ((o, t) ∷ e.over ++ e.left))) v.log))
               ≡ noted_all (ended_notes (by_birth (e.over ++ x ∷ []))) (noted_all (begun_notes (by_birth ((o, t) ∷ (e.over ++ x ∷ []) ++ left))) v.log)
           log =
               sym (parts_lem (ended_notes (by_birth e.over)) (final_notes x.0.birth x.1) (noted_all (begun_notes (by_birth ((o, t) ∷ e.over ++ e.left))) v.log))
               ∙ ap (λ ns. noted_all ns (noted_all (begun_notes (by_birth ((o, t) ∷ e.over ++ e.left))) v.log)) (sym (ended-push e.over x))
-              ∙ ap (λ (os : List (Key × TypeId)). noted_all (ended_notes (by_birth (e.over ++ x ∷ []))) (noted_all (begun_notes (by_birth ((o, t) ∷ os))) v.log)) all
+              ∙ ap
+              (λ (os : List (Key × TypeId)). noted_all (ended_notes (by_birth (e.over ++ x ∷ []))) (noted_all (begun_notes (by_birth ((o, t) ∷ os))) v.log))
+              all
 
     -- and the first one, which ends last
     module _ (none : e.left ≡ []) where
-      abbrev Last : {A : Type 0} → ((w.rows ≡ v.rows ++ bare_rows ([] ++ (o, t) ∷ [])) → (v.born < o.birth) → AreOthers o.birth [] → AreOthers o.birth [] → A) → A
+      abbrev Last : {A : Type 0} → ((w.rows ≡ v.rows ++ bare_rows ([] ++ (o, t) ∷ [])) → (v.born < o.birth) → AreOthers o.birth [] → AreOthers o.birth [] → A)
+          → A
       Last f = f (rows-of [] none) (newer v.born o.birth birth) tt tt
 
       pub first-live : IsLive w.rows o
@@ -393,7 +409,7 @@ module _ (v w : Objects) (t : TypeId) (o : Key) (k : ℕ) where
       pub first-alone : refs_of w o.birth ≡ 1
       first-alone = Last (λ are high front back. among-alone v w good [] (o, t) [] are high front back)
 
-      pub first-bare : option_map held_count (content_of w o.birth) ≡ Some 0
+      pub first-bare : option_map reference_count (content_of w o.birth) ≡ Some 0
       first-bare = Last (λ are high front back. among-bare v w good [] (o, t) [] are high front back)
 
       over-all : e.over ++ e.left ≡ e.over
@@ -411,14 +427,17 @@ module _ (v w : Objects) (t : TypeId) (o : Key) (k : ℕ) where
           made = by_birth ((o, t) ∷ e.over)
 
           born : v.born + length ((o, t) ∷ e.over ++ e.left) ≡ v.born + length (by_birth ((o, t) ∷ e.over))
-          born = ap (λ (os : List (Key × TypeId)). v.born + length ((o, t) ∷ os)) over-all ∙ ap (λ (n : ℕ). v.born + suc n) (sym (map-length (λ (x : Key × TypeId). (x.0.birth, x.1)) e.over))
+          born = ap (λ (os : List (Key × TypeId)). v.born + length ((o, t) ∷ os)) over-all
+              ∙ ap (λ (n : ℕ). v.born + suc n) (sym (map-length (λ (x : Key × TypeId). (x.0.birth, x.1)) e.over))
 
-          log : noted_all (final_notes o.birth t) (noted_all (ended_notes (by_birth e.over)) (noted_all (begun_notes (by_birth ((o, t) ∷ e.over ++ e.left))) v.log))
+          log : noted_all (final_notes o.birth t)
+              (noted_all (ended_notes (by_birth e.over)) (noted_all (begun_notes (by_birth ((o, t) ∷ e.over ++ e.left))) v.log))
               ≡ noted_all (ended_notes (device_last (by_birth ((o, t) ∷ e.over)))) (noted_all (begun_notes (by_birth ((o, t) ∷ e.over))) v.log)
           log =
               sym (parts_lem (ended_notes (by_birth e.over)) (final_notes o.birth t) (noted_all (begun_notes (by_birth ((o, t) ∷ e.over ++ e.left))) v.log))
               ∙ ap (λ ns. noted_all ns (noted_all (begun_notes (by_birth ((o, t) ∷ e.over ++ e.left))) v.log)) (sym last)
-              ∙ ap (λ (os : List (Key × TypeId)). noted_all (ended_notes (device_last (by_birth ((o, t) ∷ e.over)))) (noted_all (begun_notes (by_birth ((o, t) ∷ os))) v.log)) over-all
+              ∙ ap (λ (os : List (Key × TypeId)).
+              noted_all (ended_notes (device_last (by_birth ((o, t) ∷ e.over)))) (noted_all (begun_notes (by_birth ((o, t) ∷ os))) v.log)) over-all
             where
               last : ended_notes (by_birth e.over ++ (o.birth, t) ∷ []) ≡ ended_notes (by_birth e.over) ++ final_notes o.birth t
               last =
@@ -442,8 +461,10 @@ further-split t k =
     ∙ ap (map (λ (f : List ℕ × TypeId). f.1)) (filter_map-append further_in (take k (slots_of t)) (drop k (slots_of t)))
     ∙ map-append (λ (f : List ℕ × TypeId). f.1) (filter_map further_in (take k (slots_of t))) (filter_map further_in (drop k (slots_of t)))
 
-pub tried-whole : (t : TypeId) (v u : Objects) → u ≡ tried_all (born_from (suc v.born) (t ∷ further_types (take (length (slots_of t)) (slots_of t)))) v → u ≡ given_up_whole t v
-tried-whole t v u is = is ∙ ap (λ (ps : List Property). tried_all (born_from (suc v.born) (t ∷ further_types ps)) v) (take_all (length (slots_of t)) (slots_of t) (≤-refl (length (slots_of t))))
+pub tried-whole : (t : TypeId) (v u : Objects) → u ≡ tried_all (born_from (suc v.born) (t ∷ further_types (take (length (slots_of t)) (slots_of t)))) v
+    → u ≡ given_up_whole t v
+tried-whole t v u is = is ∙ ap (λ (ps : List Property). tried_all (born_from (suc v.born) (t ∷ further_types ps)) v)
+    (take_all (length (slots_of t)) (slots_of t) (≤-refl (length (slots_of t))))
 
 pub tried-part : (t : TypeId) (k : ℕ) (v u : Objects) → u ≡ tried_all (born_from (suc v.born) (t ∷ further_types (take k (slots_of t)))) v → IsCutWhole t v u
 tried-part t k v u is =
@@ -456,11 +477,14 @@ tried-part t k v u is =
   where
     within : suc (length (further_types (take k (slots_of t)))) ≤ objects_in t
     within =
-        let all : length (further_types (slots_of t)) ≡ length (further_types (take k (slots_of t)) ++ further_types (drop k (slots_of t))) = ap length (further-split t k) in
-        let same : length (further_types (slots_of t)) ≡ length (filter_map further_in (slots_of t)) = map-length (λ (f : List ℕ × TypeId). f.1) (filter_map further_in (slots_of t)) in
+        let all : length (further_types (slots_of t)) ≡ length (further_types (take k (slots_of t)) ++ further_types (drop k (slots_of t))) =
+        ap length (further-split t k) in
+        let same : length (further_types (slots_of t)) ≡ length (filter_map further_in (slots_of t)) =
+        map-length (λ (f : List ℕ × TypeId). f.1) (filter_map further_in (slots_of t)) in
         omega (arith, all, same, length-append (further_types (take k (slots_of t))) (further_types (drop k (slots_of t))))
 
-    taken : take (suc (length (further_types (take k (slots_of t))))) (born_from (suc v.born) (types_in t)) ≡ born_from (suc v.born) (t ∷ further_types (take k (slots_of t)))
+    taken : take (suc (length (further_types (take k (slots_of t))))) (born_from (suc v.born) (types_in t))
+        ≡ born_from (suc v.born) (t ∷ further_types (take k (slots_of t)))
     taken =
         ap (λ (ts : List TypeId). take (suc (length (further_types (take k (slots_of t))))) (born_from (suc v.born) (t ∷ ts))) (further-split t k)
         ∙ take-born (suc v.born) (t ∷ further_types (take k (slots_of t))) (further_types (drop k (slots_of t)))
@@ -480,7 +504,8 @@ module _ (t : TypeId) (v w : Objects) (o : Key) (result : Result (Unit {0}) Allo
       go (Err e) none (k, m) = (k, tt, ending-begins v w t o k u birth is m)
 
   module _ (good : IsHeap v) (birth : o.birth ≡ v.born + 1) (m : MayEnd) where
-    module _ (place : ℕ) (key : Key) (at : place ≡ length v.rows) (found : Some key ≡ option_map (λ (row : Key × Content). row.0) (slice_get w.rows (place + 1))) where
+    module _ (place : ℕ) (key : Key) (at : place ≡ length v.rows)
+        (found : Some key ≡ option_map (λ (row : Key × Content). row.0) (slice_get w.rows (place + 1))) where
       next : (x : Key × TypeId) × (left : List (Key × TypeId)) × (m.2.left ≡ x ∷ left) × (x.0 ≡ key)
       next = ending-next v w t o m.0 good birth m.2 place key at found
 
@@ -493,12 +518,14 @@ module _ (t : TypeId) (v w : Objects) (o : Key) (result : Result (Unit {0}) Allo
       pub next-alone : refs_of w key.birth ≡ 1
       next-alone = subst (λ (y : Key). refs_of w y.birth ≡ 1) next.3 (kid-alone v w t o m.0 good birth m.2 next.0 next.1 next.2)
 
-      pub next-bare : option_map held_count (content_of w key.birth) ≡ Some 0
-      next-bare = subst (λ (y : Key). option_map held_count (content_of w y.birth) ≡ Some 0) next.3 (kid-bare v w t o m.0 good birth m.2 next.0 next.1 next.2)
+      pub next-bare : option_map reference_count (content_of w key.birth) ≡ Some 0
+      next-bare =
+          subst (λ (y : Key). option_map reference_count (content_of w y.birth) ≡ Some 0) next.3 (kid-bare v w t o m.0 good birth m.2 next.0 next.1 next.2)
 
       module _ (u : Objects) (end : option_map (λ (d : Content). ended key.birth d (with_edit key.birth without_pin w)) (content_of w key.birth) ≡ Some u) where
         its : option_map (λ (d : Content). ended next.0.0.birth d (with_edit next.0.0.birth without_pin w)) (content_of w next.0.0.birth) ≡ Some u
-        its = subst (λ (y : Key). option_map (λ (d : Content). ended y.birth d (with_edit y.birth without_pin w)) (content_of w y.birth) ≡ Some u) (sym next.3) end
+        its = subst (λ (y : Key). option_map (λ (d : Content). ended y.birth d (with_edit y.birth without_pin w)) (content_of w y.birth) ≡ Some u) (sym next.3)
+            end
 
         pub next-fewer : suc (length u.rows) ≤ length w.rows
         next-fewer = kid-fewer v w t o m.0 good birth m.2 next.0 next.1 next.2 u its
@@ -519,7 +546,7 @@ module _ (t : TypeId) (v w : Objects) (o : Key) (result : Result (Unit {0}) Allo
       pub last-alone : refs_of w o.birth ≡ 1
       last-alone = first-alone v w t o m.0 good birth m.2 over
 
-      pub last-bare : option_map held_count (content_of w o.birth) ≡ Some 0
+      pub last-bare : option_map reference_count (content_of w o.birth) ≡ Some 0
       last-bare = first-bare v w t o m.0 good birth m.2 over
 
       module _ (u : Objects) (end : option_map (λ (d : Content). ended o.birth d (with_edit o.birth without_pin w)) (content_of w o.birth) ≡ Some u) where

@@ -15,7 +15,7 @@ use Rattle.qo_values.specs.declared.codes.Code.TheVariants.{E15, E20, E21, E22, 
 use Rattle.qo_values.specs.declared.codes.Code.{Code}
 use Rattle.qo_values.specs.declared.kinds.TypeId.{TypeId}
 use Rattle.qo_values.specs.declared.limits.TheConstants.{LIVE_OBJECTS_MAX}
-use Rattle.qo_model.specs.Types.{TypeRow, is_a, row_named, row_of, types}
+use Rattle.qo_model.specs.Types.{TypeInfo, is_a, type_named, info_of, types}
 use Rattle.qo_types.specs.Rows.{is_abstract}
 use Rattle.qo_model.specs.Board.{Board, is_live}
 use Rattle.qo_model.specs.Board as board
@@ -23,20 +23,20 @@ use Rattle.qo_model.specs.Objects.{barred, barred_by, has_slot}
 use Rattle.qo_slots.specs.declared.keys.Key.{Key}
 use Rattle.qo_table.specs.Rows.{IsLive}
 use Rattle.qo_object.specs.Content.{Content}
-use Rattle.qo_object.specs.Shown.{shown_slots}
+use Rattle.qo_object.specs.BoardObject.{shown_slots}
 use Rattle.qo_object.specs.Slots.{Named}
 use Rattle.qo_heap.specs.Board.{Shows, record_of}
 use Rattle.qo_heap.specs.Objects.{Objects, content_of, slots_of}
 use Rattle.qo_heap.proofs.HeapLemmas.{is_some-find}
-use Rattle.qo_heap.proofs.ShowsReads.{shows-live, shows-live_key, shows-slots}
-use Rattle.qo_properties.specs.Changes.{place_refusal, row_refusal, type_refusal}
+use Rattle.qo_heap.proofs.BoardReads.{shows-live, shows-live_key, shows-slots}
+use Rattle.qo_properties.specs.Changes.{place_refusal, info_refusal, type_refusal}
 
 -- each row is that of its own type
-rows-own : AllByRecursion (λ (r : TypeRow). row_of r.id ≡ Some r) types
+rows-own : AllByRecursion (λ (r : TypeInfo). info_of r.id ≡ Some r) types
 unfolding types
 rows-own = (refl, (refl, (refl, (refl, (refl, (refl, (refl, (refl, (refl, (refl, (refl, (refl, (refl, (refl, (refl, (refl, tt))))))))))))))))
 
-found-has : (P : TypeRow → Type 0) (p : TypeRow → Bool) (rows : List TypeRow) (row : TypeRow) → AllByRecursion P rows → find p rows ≡ Some row → P row
+found-has : (P : TypeInfo → Type 0) (p : TypeInfo → Bool) (rows : List TypeInfo) (row : TypeInfo) → AllByRecursion P rows → find p rows ≡ Some row → P row
 found-has P p [] row all e = cc
 found-has P p (r ∷ rows) row all e = go (p r) refl (found-has P p rows row all.1)
   where
@@ -44,34 +44,42 @@ found-has P p (r ∷ rows) row all e = go (p r) refl (found-has P p rows row all
     go true is rest = let same : r ≡ row = same_Some r row (rw is at e) in subst P same all.0
     go false is rest = rest (rw is at e)
 
-pub row-own : (name : List ℕ) (row : TypeRow) → row_named name ≡ Some row → row_of row.id ≡ Some row
-row-own name row e = found-has (λ (r : TypeRow). row_of r.id ≡ Some r) (λ (r : TypeRow). bytes_eq (type_name r.id) name) types row rows-own e
+pub row-own : (name : List ℕ) (row : TypeInfo) → type_named name ≡ Some row → info_of row.id ≡ Some row
+row-own name row e = found-has (λ (r : TypeInfo). info_of r.id ≡ Some r) (λ (r : TypeInfo). bytes_eq (type_name r.id) name) types row rows-own e
 
 -- what the row of a type says, where a name gives the type
-module _ (name : List ℕ) (t : TypeId) (is : Some t ≡ option_map (λ (x : TypeRow). x.id) (row_named name)) where
-  by_row : (P : Option TypeRow → Type 0) → ((row : TypeRow) → row_named name ≡ Some row → row.id ≡ t → is_abstract t ≡ row.is_abstract → P (Some row))
-      → P (row_named name)
-  by_row P given = go (row_named name) refl
+module _ (name : List ℕ) (t : TypeId) (is : Some t ≡ option_map (λ (x : TypeInfo). x.id) (type_named name)) where
+  by_row : (P : Option TypeInfo → Type 0) → ((row : TypeInfo) → type_named name ≡ Some row → row.id ≡ t → is_abstract t ≡ row.is_abstract → P (Some row))
+      → P (type_named name)
+  by_row P given = go (type_named name) refl
     where
-      go : (o : Option TypeRow) → row_named name ≡ o → P o
-      go None e = absurd (let clash : Some t ≡ None = is ∙ ap (option_map (λ (x : TypeRow). x.id)) e in cc)
+      go : (o : Option TypeInfo) → type_named name ≡ o → P o
+      go None e = absurd (let clash : Some t ≡ None = is ∙ ap (option_map (λ (x : TypeInfo). x.id)) e in cc)
       go (Some row) e =
-          let same : t ≡ row.id = same_Some t row.id (is ∙ ap (option_map (λ (x : TypeRow). x.id)) e) in
-          let row_is : row_of t ≡ Some row = ap row_of same ∙ row-own name row e in
-          given row e (sym same) (ap (λ (o : Option TypeRow). option_map_or (λ (x : TypeRow). x.is_abstract) o false) row_is)
+          let same : t ≡ row.id = same_Some t row.id (is ∙ ap (option_map (λ (x : TypeInfo). x.id)) e) in
+          let row_is : info_of t ≡ Some row = ap info_of same ∙ row-own name row e in
+          given row e (sym same) (ap (λ (o : Option TypeInfo). option_map_or (λ (x : TypeInfo). x.is_abstract) o false) row_is)
 
   pub refused-abstract : is_abstract t ≡ true → Some E21 ≡ type_refusal name
-  refused-abstract is_so = by_row (λ o. Some E21 ≡ option_map_or row_refusal o (Some E20)) (λ row e same tells. let so : row.is_abstract ≡ true = sym tells ∙ is_so in rw (row_refusal, so) refl)
+  refused-abstract is_so = by_row (λ o. Some E21 ≡ option_map_or info_refusal o (Some E20))
+      (λ row e same tells. let so : row.is_abstract ≡ true = sym tells ∙ is_so in rw (info_refusal, so) refl)
 
   pub refused-use : is_abstract t ≡ false → is_a t (codes "user-creatable") ≡ false → Some E22 ≡ type_refusal name
-  refused-use so_not use_not = by_row (λ o. Some E22 ≡ option_map_or row_refusal o (Some E20)) (λ row e same tells. let so : row.is_abstract ≡ false = sym tells ∙ so_not in let not_so : is_a row.id (codes "user-creatable") ≡ false = ap (λ (k : TypeId). is_a k (codes "user-creatable")) same ∙ use_not in rw (row_refusal, so, not_so) refl)
+  refused-use so_not use_not =
+      by_row (λ o. Some E22 ≡ option_map_or info_refusal o (Some E20)) (λ row e same tells. let so : row.is_abstract ≡ false = sym tells ∙ so_not in
+      let not_so : is_a row.id (codes "user-creatable") ≡ false = ap (λ (k : TypeId). is_a k (codes "user-creatable")) same ∙ use_not in
+      rw (info_refusal, so, not_so) refl)
 
   pub allowed : is_abstract t ≡ false → is_a t (codes "user-creatable") ≡ true → None ≡ type_refusal name
-  allowed so_not use_yes = by_row (λ o. None ≡ option_map_or row_refusal o (Some E20)) (λ row e same tells. let so : row.is_abstract ≡ false = sym tells ∙ so_not in let its : is_a row.id (codes "user-creatable") ≡ true = ap (λ (k : TypeId). is_a k (codes "user-creatable")) same ∙ use_yes in rw (row_refusal, so, its) refl)
+  allowed so_not use_yes =
+      by_row (λ o. None ≡ option_map_or info_refusal o (Some E20)) (λ row e same tells. let so : row.is_abstract ≡ false = sym tells ∙ so_not in
+      let its : is_a row.id (codes "user-creatable") ≡ true = ap (λ (k : TypeId). is_a k (codes "user-creatable")) same ∙ use_yes in
+      rw (info_refusal, so, its) refl)
 
 -- the slots of `/objects`, and the objects
 
-taken-shown : (b : Board) (v : Objects) → Shows b v → (n : ℕ) (id : List ℕ) → n ≡ OBJECTS_BIRTH → has_slot b OBJECTS_BIRTH id ≡ list_any (λ (s : Named). bytes_eq id s.0) (slots_of v n)
+taken-shown : (b : Board) (v : Objects) → Shows b v → (n : ℕ) (id : List ℕ) → n ≡ OBJECTS_BIRTH
+    → has_slot b OBJECTS_BIRTH id ≡ list_any (λ (s : Named). bytes_eq id s.0) (slots_of v n)
 taken-shown b v s n id is =
     ap (λ (m : ℕ). has_slot b m id) (sym is) ∙ ap (list_any (λ (t : List ℕ × board.Slot). bytes_eq t.0 id)) (shows-slots b v s n) ∙ go (slots_of v n)
   where
@@ -83,9 +91,11 @@ found-told : {A : Type 0} (f : A → Named) (o : Option A) (x : Option Named) (t
 found-told f None x t e is = ap is_some (sym e) ∙ is
 found-told f (Some a) x t e is = ap is_some (sym e) ∙ is
 
-pub taken-is : {A : Type 0} (f : A → Named) (o : Option A) (b : Board) (v : Objects) → Shows b v → (n : ℕ) (id : List ℕ) (t : Bool) → n ≡ OBJECTS_BIRTH → option_map f o ≡ find (λ (s : Named). bytes_eq id s.0) (slots_of v n) → is_some o ≡ t → has_slot b OBJECTS_BIRTH id ≡ t
+pub taken-is : {A : Type 0} (f : A → Named) (o : Option A) (b : Board) (v : Objects) → Shows b v → (n : ℕ) (id : List ℕ) (t : Bool) → n ≡ OBJECTS_BIRTH
+    → option_map f o ≡ find (λ (s : Named). bytes_eq id s.0) (slots_of v n) → is_some o ≡ t → has_slot b OBJECTS_BIRTH id ≡ t
 taken-is f o b v s n id t is e some =
-    taken-shown b v s n id is ∙ sym (is_some-find (λ (x : Named). bytes_eq id x.0) (slots_of v n)) ∙ found-told f o (find (λ (x : Named). bytes_eq id x.0) (slots_of v n)) t e some
+    taken-shown b v s n id is ∙ sym (is_some-find (λ (x : Named). bytes_eq id x.0) (slots_of v n))
+    ∙ found-told f o (find (λ (x : Named). bytes_eq id x.0) (slots_of v n)) t e some
 
 pub many-shown : (b : Board) (v : Objects) → Shows b v → length b.records ≡ length v.rows
 many-shown b v s = ap (λ (l : List board.Record). length l) s.records ∙ length-map v.rows record_of
@@ -116,34 +126,37 @@ module _ (b : Board) (v : Objects) (s : Shows b v) (key : Key) (live : IsLive v.
 -- the refusals in order
 
 module _ (b : Board) (driver id : List ℕ) where
-  by_type : (row : TypeRow) (code : Code) → row_refusal row ≡ Some code → barred b row id ≡ Some code
+  by_type : (row : TypeInfo) (code : Code) → info_refusal row ≡ Some code → barred b row id ≡ Some code
   by_type row code e = go row.is_abstract refl (is_a row.id (codes "user-creatable")) refl
     where
       go : (t : Bool) → row.is_abstract ≡ t → (u : Bool) → is_a row.id (codes "user-creatable") ≡ u → barred b row id ≡ Some code
-      go true p u q = let same : Some E21 ≡ Some code = rw (row_refusal, p) at e in rw (barred, p) same
-      go false p false q = let same : Some E22 ≡ Some code = rw (row_refusal, p, q) at e in rw (barred, p, q) same
-      go false p true q = absurd (let clash : None ≡ Some code = rw (row_refusal, p, q) at e in cc)
+      go true p u q = let same : Some E21 ≡ Some code = rw (info_refusal, p) at e in rw (barred, p) same
+      go false p false q = let same : Some E22 ≡ Some code = rw (info_refusal, p, q) at e in rw (barred, p, q) same
+      go false p true q = absurd (let clash : None ≡ Some code = rw (info_refusal, p, q) at e in cc)
 
-  by_rest : (row : TypeRow) → row_refusal row ≡ None → barred b row id ≡ cond (is_id id) (place_refusal b id) (Some E23)
+  by_rest : (row : TypeInfo) → info_refusal row ≡ None → barred b row id ≡ cond (is_id id) (place_refusal b id) (Some E23)
   by_rest row e = go row.is_abstract refl (is_a row.id (codes "user-creatable")) refl (is_id id) refl
     where
-      go : (t : Bool) → row.is_abstract ≡ t → (u : Bool) → is_a row.id (codes "user-creatable") ≡ u → (w : Bool) → is_id id ≡ w → barred b row id ≡ cond (is_id id) (place_refusal b id) (Some E23)
-      go true p u q w r = absurd (let clash : Some E21 ≡ None = rw (row_refusal, p) at e in cc)
-      go false p false q w r = absurd (let clash : Some E22 ≡ None = rw (row_refusal, p, q) at e in cc)
+      go : (t : Bool) → row.is_abstract ≡ t → (u : Bool) → is_a row.id (codes "user-creatable") ≡ u → (w : Bool) → is_id id ≡ w
+          → barred b row id ≡ cond (is_id id) (place_refusal b id) (Some E23)
+      go true p u q w r = absurd (let clash : Some E21 ≡ None = rw (info_refusal, p) at e in cc)
+      go false p false q w r = absurd (let clash : Some E22 ≡ None = rw (info_refusal, p, q) at e in cc)
       go false p true q true r = rw (barred, p, q, r) refl
       go false p true q false r = rw (barred, p, q, r) refl
 
   pub barred-type : (code : Code) → type_refusal driver ≡ Some code → barred_by b driver id ≡ Some code
-  barred-type code e = go (row_named driver) e
+  barred-type code e = go (type_named driver) e
     where
-      go : (o : Option TypeRow) → option_map_or row_refusal o (Some E20) ≡ Some code → option_map_or (λ (row : TypeRow). barred b row id) o (Some E20) ≡ Some code
+      go : (o : Option TypeInfo) → option_map_or info_refusal o (Some E20) ≡ Some code
+          → option_map_or (λ (row : TypeInfo). barred b row id) o (Some E20) ≡ Some code
       go None same = same
       go (Some row) same = by_type row code same
 
   pub barred-rest : type_refusal driver ≡ None → barred_by b driver id ≡ cond (is_id id) (place_refusal b id) (Some E23)
-  barred-rest e = go (row_named driver) e
+  barred-rest e = go (type_named driver) e
     where
-      go : (o : Option TypeRow) → option_map_or row_refusal o (Some E20) ≡ None → option_map_or (λ (row : TypeRow). barred b row id) o (Some E20) ≡ cond (is_id id) (place_refusal b id) (Some E23)
+      go : (o : Option TypeInfo) → option_map_or info_refusal o (Some E20) ≡ None
+          → option_map_or (λ (row : TypeInfo). barred b row id) o (Some E20) ≡ cond (is_id id) (place_refusal b id) (Some E23)
       go None clash = absurd (let other : Some E20 ≡ None = clash in cc)
       go (Some row) same = by_rest row same
 

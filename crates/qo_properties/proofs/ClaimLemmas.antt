@@ -15,7 +15,7 @@ use Rattle.qo_object.specs.declared.slots.Slot.TheVariants.{Child}
 use Rattle.qo_heap.specs.Book.{IsBook, owned}
 use Rattle.qo_heap.specs.Objects.{Objects, no_objects_made, with_edit}
 use Rattle.qo_heap.proofs.BookLemmas.{book-edit}
-use Rattle.qo_properties.specs.Adding.{IsTried, with_newest}
+use Rattle.qo_properties.specs.Additions.{IsTried, with_newest}
 use Rattle.qo_properties.specs.Claims.{KeepsBook}
 
 -- nothing is held, and nothing is there
@@ -39,7 +39,8 @@ pub edit-keeps : (v w : Objects) (n : ℕ) (f : Content → Content) → ((c : C
 edit-keeps v w n f same is out h = subst (λ (x : Objects). IsBook out x) (sym is) (book-edit out v n f same h)
 
 -- an object more, which holds no claim
-pub more-keeps : (v : Objects) (key : Key) (c : Content) (born : ℕ) (log : Log) → kept_of c.body ≡ none_kept → c.device_id ≡ None → KeepsBook v (record v { rows = v.rows ++ (key, c) ∷ []; born = born; log = log })
+pub more-keeps : (v : Objects) (key : Key) (c : Content) (born : ℕ) (log : Log) → kept_of c.body ≡ none_kept → c.device_id ≡ None
+    → KeepsBook v (record v { rows = v.rows ++ (key, c) ∷ []; born = born; log = log })
 more-keeps v key c born log bare unnamed out h x =
     let none : owned x (key, c) ≡ 0 = rw (bare, unnamed) refl in
     omega (arith, h x, none, sum_by-append (owned x) v.rows ((key, c) ∷ []), sum_by-cons (owned x) (key, c) [])
@@ -50,7 +51,8 @@ tried-keeps v w t (inl same) out h = subst (λ (x : Objects). IsBook out x) (sym
 tried-keeps v w t (inr same) out h = subst (λ (x : Objects). IsBook out x) (sym same) h
 
 -- an object was added under another
-pub object-keeps : (v : Objects) (o parent : Key) (name : List ℕ) (t : TypeId) (slots : List Named) (w : Objects) → w ≡ with_newest o (as_made t slots 0) (with_edit parent.birth (with_slot name (Child o)) v) → KeepsBook v w
+pub object-keeps : (v : Objects) (o parent : Key) (name : List ℕ) (t : TypeId) (slots : List Named) (w : Objects)
+    → w ≡ with_newest o (as_made t slots 0) (with_edit parent.birth (with_slot name (Child o)) v) → KeepsBook v w
 object-keeps v o parent name t slots w is out h =
     let beside : Objects = with_edit parent.birth (with_slot name (Child o)) v in
     subst (λ (x : Objects). IsBook out x) (sym is)

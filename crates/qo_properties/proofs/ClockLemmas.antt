@@ -11,12 +11,12 @@ use Rattle.qo_slots.specs.declared.keys.Key.{Key}
 use Rattle.qo_object.specs.declared.slots.Slot.{Slot}
 use Rattle.qo_object.specs.declared.slots.Slot.TheVariants.{Plain, Child, Link, Alias}
 use Rattle.qo_object.specs.Content.{Content}
-use Rattle.qo_object.specs.Shown.{birth_of, shown_slot}
+use Rattle.qo_object.specs.BoardObject.{birth_of, shown_slot}
 use Rattle.qo_object.specs.Slots.{Named, with_val}
 use Rattle.qo_model.specs.Board as board
 use Rattle.qo_model.specs.ClockProperties.{in_slot, is_set, led_by, led_to, only_set, own_property, set_row}
 use Rattle.qo_model.specs.Clocks.{derived_period, period, source_of}
-use Rattle.qo_model.specs.Properties.{row_of_property}
+use Rattle.qo_model.specs.Properties.{property_named}
 use Rattle.qo_model.specs.declared.properties.Mark.{Mark}
 use Rattle.qo_model.specs.declared.properties.Mark.TheVariants as mark
 use Rattle.qo_model.specs.declared.properties.Property.{Property}
@@ -24,9 +24,9 @@ use Rattle.qo_heap.specs.Acts.{Acts}
 use Rattle.qo_heap.specs.Board.{Shows, pins_in}
 use Rattle.qo_heap.specs.Objects.{Objects, content_of, slots_of}
 use Rattle.qo_heap.proofs.ActsReads.{acts-pins}
-use Rattle.qo_heap.proofs.ShowsReads.{shows-kind}
+use Rattle.qo_heap.proofs.BoardReads.{shows-kind}
 use Rattle.qo_clocks.specs.declared.errors.ClockError.{ClockError}
-use Rattle.qo_clocks.specs.Links.{changed_named, place_on, with_slot_changed}
+use Rattle.qo_clocks.specs.Links.{changed_named, index_on, with_slot_changed}
 use Rattle.qo_clocks.specs.Reads.{source_on}
 use Rattle.qo_clocks.specs.Writes.{Answers, with_period, with_scale}
 use Rattle.qo_clocks.proofs.ReadLemmas.{shows-source}
@@ -38,10 +38,10 @@ use Rattle.qo_properties.proofs.ReadLemmas.{named-gone, named-is}
 -- the row of a property that `qom-set` alone writes
 
 pub row-is : (b : board.Board) (v : Objects) → Shows b v → (n : ℕ) (name : List ℕ) (kind : TypeId) (o : Option Property)
-    → option_map (λ (c : Content). c.kind) (content_of v n) ≡ Some kind → o ≡ row_of_property kind name → option_and_then only_set o ≡ set_row b n name
+    → option_map (λ (c : Content). c.kind) (content_of v n) ≡ Some kind → o ≡ property_named kind name → option_and_then only_set o ≡ set_row b n name
 row-is b v s n name kind o is found =
     ap (option_and_then only_set) found
-    ∙ sym (ap (option_and_then (λ (t : TypeId). option_and_then only_set (row_of_property t name))) (shows-kind b v s n ∙ is))
+    ∙ sym (ap (option_and_then (λ (t : TypeId). option_and_then only_set (property_named t name))) (shows-kind b v s n ∙ is))
 
 pub only-set : (p : Property) → p.mark ≡ mark.Set → only_set p ≡ Some p
 only-set p is = ap (λ (m : Mark). cond (is_set m) (Some p) None) is
@@ -106,9 +106,9 @@ clock-err P (Err e) h = h
 -- the same pins
 
 named-pins : (v : Objects) (n : ℕ) (name : List ℕ) (change : Slot → Slot) → pins_in (changed_named n name change v).rows ≡ pins_in v.rows
-named-pins v n name change = go (place_on v n name) refl
+named-pins v n name change = go (index_on v n name) refl
   where
-    go : (o : Option ℕ) → place_on v n name ≡ o → pins_in (changed_named n name change v).rows ≡ pins_in v.rows
+    go : (o : Option ℕ) → index_on v n name ≡ o → pins_in (changed_named n name change v).rows ≡ pins_in v.rows
     go None e = rw (changed_named, e) refl
     go (Some i) e = rw (changed_named, e) (edited-pins v _ n (with_slot_changed change i) (λ c. refl) refl)
 

@@ -6,7 +6,7 @@ use Rattle.qo_table.specs.Rows.{edit}
 use Rattle.qo_model.specs.Board as board
 use Rattle.qo_model.specs.Objects.{Given, slot_given}
 use Rattle.qo_object.specs.Content.{Content}
-use Rattle.qo_object.specs.Shown.{shown_slots}
+use Rattle.qo_object.specs.BoardObject.{shown_slots}
 use Rattle.qo_object.specs.Slots.{Named, changed_at}
 use Rattle.qo_heap.specs.Objects.{Objects, with_edit}
 use Rattle.qo_properties.specs.declared.adding.filling.Fill.{Fill}
@@ -50,13 +50,15 @@ fill-nothing n i v = sym (edit-same n (filled_at fill.Nothing i) (λ c. ap (λ (
 
 -- the slots as they are given
 
-pub filled-given : (b : board.Board) (props : List Given) (fs : List Fill) (slots : List Named) → AllZip (IsGiven b props) fs slots → shown_slots (filled fs slots) ≡ map (slot_given b props) (shown_slots slots)
+pub filled-given : (b : board.Board) (props : List Given) (fs : List Fill) (slots : List Named) → AllZip (IsGiven b props) fs slots
+    → shown_slots (filled fs slots) ≡ map (slot_given b props) (shown_slots slots)
 filled-given b props [] [] all = refl
 filled-given b props [] (s ∷ slots) all = absurd all
 filled-given b props (f ∷ fs) [] all = absurd all
 filled-given b props (f ∷ fs) (s ∷ slots) all = let here = all.0 in let rest = filled-given b props fs slots all.1 in λ j. (s.0, here j) ∷ rest j
 
 -- targets stay where they are
-pub all-live : (P Q : Key → Type 0) → ((key : Key) → P key → Q key) → (fs : List Fill) → AllByRecursion (λ (f : Fill). IfSome (target_in f) P) fs → AllByRecursion (λ (f : Fill). IfSome (target_in f) Q) fs
+pub all-live : (P Q : Key → Type 0) → ((key : Key) → P key → Q key) → (fs : List Fill) → AllByRecursion (λ (f : Fill). IfSome (target_in f) P) fs
+    → AllByRecursion (λ (f : Fill). IfSome (target_in f) Q) fs
 all-live P Q more [] all = tt
 all-live P Q more (f ∷ fs) all = (some-live P Q more (target_in f) all.0, all-live P Q more fs all.1)

@@ -8,9 +8,9 @@ use Rattle.qo_model.specs.Board.{Board, slots_at}
 use Rattle.qo_model.specs.Opening.{opening_board}
 use Rattle.qo_model.specs.Objects.{severed_from}
 use Rattle.qo_model.specs.References.{refs}
-use Rattle.qo_model.specs.Release.{after, finalise, let_go, pin, put_in_order, without_first}
+use Rattle.qo_model.specs.Release.{after, finalize, let_go, pin, put_in_order, without_first}
 use Rattle.qo_model.proofs.PinLemmas.{put-among, put-back, severed-pins, unpin-pins}
-use Rattle.qo_model.proofs.ReleaseLeavesLemmas.{let_go-leaves, release_leaves}
+use Rattle.qo_model.proofs.ReleaseScopeLemmas.{let_go-leaves, release_leaves}
 use Rattle.qo_notes.specs.Log.{empty_log}
 use Rattle.qo_object.specs.Content.{Content}
 use Rattle.qo_heap.specs.Board.{Shows, pins_in}
@@ -18,7 +18,7 @@ use Rattle.qo_heap.specs.Objects.{Objects, pins_of, with_edit}
 use Rattle.qo_life.specs.Life.{Goes}
 use Rattle.qo_life.proofs.TreeLemmas.{tree, tree-shows}
 use Rattle.qo_properties.specs.Changes.{severed}
-use Rattle.qo_properties.specs.Pinned.{OnlyRootPinned}
+use Rattle.qo_properties.specs.Pins.{OnlyRootPinned}
 
 length-more : (k m : ℕ) (xs : List ℕ) → length (replicate k m ++ xs) ≡ k + length xs
 length-more zero m xs = omega arith
@@ -29,7 +29,8 @@ pins-within : (n : ℕ) (rows : List (Key × Content)) → option_map_or (λ (c 
 pins-within n [] = omega arith
 pins-within n (row ∷ rows) = go (eqb row.0.birth n) refl (pins-within n rows)
   where
-    go : (b : Bool) → eqb row.0.birth n ≡ b → option_map_or (λ (c : Content). c.pins) (object_at rows n) 0 ≤ length (pins_in rows) → option_map_or (λ (c : Content). c.pins) (object_at (row ∷ rows) n) 0 ≤ length (pins_in (row ∷ rows))
+    go : (b : Bool) → eqb row.0.birth n ≡ b → option_map_or (λ (c : Content). c.pins) (object_at rows n) 0 ≤ length (pins_in rows)
+        → option_map_or (λ (c : Content). c.pins) (object_at (row ∷ rows) n) 0 ≤ length (pins_in (row ∷ rows))
     go true p rest = rw p (omega (arith, length-more row.1.pins row.0.birth (pins_in rows)))
     go false p rest = rw p (omega (arith, rest, length-more row.1.pins row.0.birth (pins_in rows)))
 
@@ -49,20 +50,21 @@ edit-pins n f same (row ∷ rows) = go (eqb row.0.birth n) refl (edit-pins n f s
     go false p rest = rw p (ap (λ (l : List ℕ). replicate row.1.pins row.0.birth ++ l) rest)
 
 -- an object of a heap was changed, but not its pins
-pub edited-pins : (v w : Objects) (n : ℕ) (f : Content → Content) → ((c : Content) → (f c).pins ≡ c.pins) → w ≡ with_edit n f v → pins_in w.rows ≡ pins_in v.rows
+pub edited-pins : (v w : Objects) (n : ℕ) (f : Content → Content) → ((c : Content) → (f c).pins ≡ c.pins) → w ≡ with_edit n f v
+    → pins_in w.rows ≡ pins_in v.rows
 edited-pins v w n f same is = ap (λ (x : Objects). pins_in x.rows) is ∙ edit-pins n f same v.rows
 
 -- what was held is let go
-pub hold-pins : (held : Option ℕ) (v w : Objects) → Goes (λ b. after finalise b held) v w → pins_in w.rows ≡ pins_in v.rows
+pub hold-pins : (held : Option ℕ) (v w : Objects) → Goes (λ b. after finalize b held) v w → pins_in w.rows ≡ pins_in v.rows
 hold-pins held v w goes =
     let s = goes.shown (tree v) empty_log (tree-shows v) in
     sym s.pins ∙ go held
   where
-    by : (n : ℕ) (t : Bool) → (refs (tree v) n == 0) ≡ t → (after finalise (tree v) (Some n)).pins ≡ pins_in v.rows
+    by : (n : ℕ) (t : Bool) → (refs (tree v) n == 0) ≡ t → (after finalize (tree v) (Some n)).pins ≡ pins_in v.rows
     by n true p = rw (after, p) (release_leaves (tree v) n).pins
     by n false p = rw (after, p) refl
 
-    go : (o : Option ℕ) → (after finalise (tree v) o).pins ≡ pins_in v.rows
+    go : (o : Option ℕ) → (after finalize (tree v) o).pins ≡ pins_in v.rows
     go None = refl
     go (Some n) = by n (refs (tree v) n == 0) refl
 
@@ -72,7 +74,8 @@ unfolding opening_board
 opening-pinned v s = sym s.pins
 
 -- a step that keeps the pins of boards of which birth 1 alone is pinned
-pub goes-pins : (step : Board → Board) (v w : Objects) → Goes step v w → OnlyRootPinned v → ((b : Board) → b.pins ≡ 1 ∷ [] → (step b).pins ≡ 1 ∷ []) → OnlyRootPinned w
+pub goes-pins : (step : Board → Board) (v w : Objects) → Goes step v w → OnlyRootPinned v → ((b : Board) → b.pins ≡ 1 ∷ [] → (step b).pins ≡ 1 ∷ [])
+    → OnlyRootPinned w
 goes-pins step v w goes only keeps =
     let s = goes.shown (tree v) empty_log (tree-shows v) in
     sym s.pins ∙ keeps (tree v) only

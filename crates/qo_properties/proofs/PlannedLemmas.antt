@@ -8,13 +8,13 @@ use Rattle.std.proofs.lemmas.Option.{same_Some, slice_get_past, slice_get_read}
 use Rattle.qo_values.specs.declared.kinds.TypeId.{TypeId}
 use Rattle.qo_model.specs.Board.{Board}
 use Rattle.qo_model.specs.Objects.{Given}
-use Rattle.qo_model.specs.Properties.{row_of_property}
+use Rattle.qo_model.specs.Properties.{property_named}
 use Rattle.qo_object.specs.Slots.{Named}
 use Rattle.qo_properties.specs.declared.adding.filling.Fill.{Fill}
 use Rattle.qo_properties.specs.declared.adding.planning.PlacedRow.{PlacedRow}
 use Rattle.qo_properties.specs.Filling.{IsGiven}
-use Rattle.qo_properties.specs.Fresh.{new_slots, slot_begun}
-use Rattle.qo_properties.specs.Planned.{IsPlan, TellsGiven, slot_for}
+use Rattle.qo_properties.specs.NewSlots.{new_slots, slot_begun}
+use Rattle.qo_properties.specs.Plans.{IsPlan, TellsGiven, own_slot_for}
 use Rattle.qo_properties.specs.Planning.{StandsAt}
 
 zip-at : {X Y : Type 0} (R : X → Y → Type 0) (xs : List X) (ys : List Y) (i : ℕ) (y : Y) → AllZip R xs ys → slice_get ys i ≡ Some y
@@ -34,11 +34,11 @@ got xs i None at = let over : length xs ≤ i = grind (arith, nat_tests, at.0) i
 got xs i (Some x) at = let below : i < length xs = grind (arith, nat_tests, at.0) in sym (slice_get_read xs (length xs) i x.now refl below at.1)
 
 module _ (b : Board) (props : List Given) (t : TypeId) (name : List ℕ) (plan : List Fill) (has : IsPlan b t props plan) where
-  pub none-told : (o : Option Fill) → row_of_property t name ≡ None → TellsGiven b props o (slot_for t name)
+  pub none-told : (o : Option Fill) → property_named t name ≡ None → TellsGiven b props o (own_slot_for t name)
   none-told o none = rw none tt
 
-  pub place-told : (p : PlacedRow) → row_of_property t name ≡ Some p.row → StandsAt t p → (o : Option Fill) → o ≡ slice_get plan p.place
-      → TellsGiven b props o (slot_for t name)
+  pub place-told : (p : PlacedRow) → property_named t name ≡ Some p.row → StandsAt t p → (o : Option Fill) → o ≡ slice_get plan p.place
+      → TellsGiven b props o (own_slot_for t name)
   place-told p row stands o is = rw row (go (slot_begun t p.row) refl)
     where
       go : (s : Option Named) → slot_begun t p.row ≡ s → TellsGiven b props o (slot_begun t p.row)

@@ -11,31 +11,31 @@ use Rattle.std.proofs.lemmas.List.{drop_more, length-take, map-append, take-appe
 use Rattle.std.proofs.lemmas.Map.Text.{is_eq-slice_cmp}
 use Rattle.std.proofs.lemmas.Option.{same_Some, slice_get-get_or, slice_get_within}
 use Rattle.std.proofs.lemmas.Slice.Eq.{bytes_eq-Decides}
-use Rattle.qo_values.specs.PropLists.{NamesRise, is_above, names_of}
+use Rattle.qo_values.specs.PropertyLists.{NamesRise, is_above, names_of}
 use Rattle.qo_values.specs.declared.codes.Code.{Code}
 use Rattle.qo_values.specs.declared.kinds.TypeId.{TypeId}
 use Rattle.qo_values.specs.declared.kinds.TypeId.TheVariants.{Object, Container, Machine, Device, SlotDevice, SlotUart, SlotTimer, SlotBridge, MemDimm, Bus, SlotBus, MemBus, Clock, MemoryBackend, MemoryBackendRam, Tag}
-use Rattle.qo_values.proofs.Rising.{above_those_before, both_true}
+use Rattle.qo_values.proofs.NameOrder.{above_those_before, both_true}
 use Rattle.qo_model.specs.Board.{Board}
 use Rattle.qo_model.specs.Board as board
 use Rattle.qo_model.specs.Objects.{Given, given_to}
-use Rattle.qo_model.specs.Properties.{row_of_property}
+use Rattle.qo_model.specs.Properties.{property_named}
 use Rattle.qo_model.specs.RowNames.{property_name}
 use Rattle.qo_model.specs.Types.{slots_of, types}
 use Rattle.qo_model.specs.declared.properties.Property.{Property}
 use Rattle.qo_object.specs.declared.slots.Slot.{Slot}
-use Rattle.qo_object.specs.Shown.{shown_slot}
+use Rattle.qo_object.specs.BoardObject.{shown_slot}
 use Rattle.qo_object.specs.Slots.{Named}
 use Rattle.qo_properties.specs.declared.adding.filling.Fill.{Fill}
 use Rattle.qo_properties.specs.declared.adding.filling.Fill.TheVariants as fill
 use Rattle.qo_properties.specs.declared.adding.planning.PlacedRow.{PlacedRow}
 use Rattle.qo_properties.specs.declared.refusals.Refusal.{Refusal}
 use Rattle.qo_properties.specs.declared.refusals.Refusal.TheVariants.{Refused}
-use Rattle.qo_properties.specs.Fresh.{begun, new_slots, slot_begun}
+use Rattle.qo_properties.specs.NewSlots.{begun, new_slots, slot_begun}
 use Rattle.qo_properties.specs.Filling.{Fits, HasValue, IsGiven, fits}
 use Rattle.qo_properties.specs.Planning.{StandsAt, TellsRefusal}
-use Rattle.qo_properties.proofs.FreshLemmas.{few-slots, next-slot}
-use Rattle.qo_properties.proofs.GivenLemmas.{drop-at, drop-past, find-here, find-later}
+use Rattle.qo_properties.proofs.NewSlotLemmas.{few-slots, next-slot}
+use Rattle.qo_properties.proofs.GivenPropertyLemmas.{drop-at, drop-past, find-here, find-later}
 
 -- the slots of a new object have different names
 
@@ -105,7 +105,7 @@ module _ {X : Type 0} (P : X → Type 0) where
   all-same x is [] = tt
   all-same x is (y ∷ ys) = (is, all-same x is ys)
 
--- what is found, with one item more behind the others
+-- what is found, with one item more after the others
 
 module _ {X : Type 0} (f : X → Bool) where
   find-other : (xs : List X) (x : X) → f x ≡ false → find f (xs ++ x ∷ []) ≡ find f xs
@@ -170,8 +170,8 @@ module _ (b : Board) (given : List Given) (p : Given) (none : find (λ (q : Give
       )
   told-set (g ∷ fs) (t ∷ slots) (suc i) f s apart at same is all =
       let both = both_true (list_all (λ (u : Named). not (bytes_eq u.0 t.0)) slots) (are_apart slots) apart in
-      let behind : not (bytes_eq s.0 t.0) ≡ true = all-at (λ (u : Named). not (bytes_eq u.0 t.0)) slots i s both.0 at in
-      let other : not (bytes_eq t.0 p.0) ≡ true = ap not (nat_list_eq_equiv.symm t.0 p.0 ∙ ap (λ (n : List ℕ). bytes_eq n t.0) (sym same)) ∙ behind in
+      let after : not (bytes_eq s.0 t.0) ≡ true = all-at (λ (u : Named). not (bytes_eq u.0 t.0)) slots i s both.0 at in
+      let other : not (bytes_eq t.0 p.0) ≡ true = ap not (nat_list_eq_equiv.symm t.0 p.0 ∙ ap (λ (n : List ℕ). bytes_eq n t.0) (sym same)) ∙ after in
       (given-other g t other all.0, told-set fs slots i f s both.1 at same is all.1)
 
 -- of names that rise, none of those before has the name
@@ -305,7 +305,7 @@ seat t p stands own = go (begun t p.row.kind) refl
     go None e = absurd (let clash : false ≡ true = rw e at own in cc)
     go (Some s) e = record { slot = s; begins = e; stands = rw e at stands }
 
-row-name : (t : TypeId) (name : List ℕ) (r : Property) → Some r ≡ row_of_property t name → property_name r.name ≡ name
+row-name : (t : TypeId) (name : List ℕ) (r : Property) → Some r ≡ property_named t name → property_name r.name ≡ name
 row-name t name r is =
     let same : bytes_eq (property_name r.name) name ≡ true = found-is (λ (p : Property). bytes_eq (property_name p.name) name) (slots_of t) r (sym is) in
     (bytes_eq-Decides (property_name r.name) name).0 same
@@ -322,7 +322,7 @@ module _ (t : TypeId) (fs : List Fill) (p : PlacedRow) (stands : StandsAt t p) (
       let x : Seat t p = seat t p stands own in
       zip-set Fits fs (new_slots t) p.place f (property_name p.row.name, x.slot) x.stands (rw x.begins at fit) all
 
-  pub put-told : (b : Board) (given : List Given) (q : Given) → find (λ (g : Given). bytes_eq g.0 q.0) given ≡ None → Some p.row ≡ row_of_property t q.0
+  pub put-told : (b : Board) (given : List Given) (q : Given) → find (λ (g : Given). bytes_eq g.0 q.0) given ≡ None → Some p.row ≡ property_named t q.0
       → (f : Fill) → IfSome (begun t p.row.kind) (HasValue b q.1 f) → AllZip (IsGiven b given) fs (new_slots t)
       → AllZip (IsGiven b (given ++ q ∷ [])) (set fs p.place f) (new_slots t)
   put-told b given q none is f told all =

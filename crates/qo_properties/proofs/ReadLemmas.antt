@@ -9,10 +9,10 @@ use Rattle.qo_slots.specs.declared.keys.Key.{Key}
 use Rattle.qo_object.specs.declared.slots.Slot.{Slot}
 use Rattle.qo_object.specs.declared.slots.Slot.TheVariants.{Plain, Child, Link, Alias}
 use Rattle.qo_object.specs.Content.{Content}
-use Rattle.qo_object.specs.Shown.{birth_of, shown_slot}
+use Rattle.qo_object.specs.BoardObject.{birth_of, shown_slot}
 use Rattle.qo_object.specs.Slots.{Named}
 use Rattle.qo_model.specs.Board as board
-use Rattle.qo_model.specs.Detachment.{detached_told, told}
+use Rattle.qo_model.specs.Detachment.{detached_listed, told}
 use Rattle.qo_model.specs.Paths.{place_of}
 use Rattle.qo_model.specs.Properties.{own_value, slot_value, value_of}
 use Rattle.qo_model.specs.References.{refs}
@@ -21,7 +21,7 @@ use Rattle.qo_heap.specs.Objects as heap
 use Rattle.qo_heap.specs.Objects.{IsHeap, Objects, content_of, refs_of, slots_of}
 use Rattle.qo_heap.specs.Board.{Shows, record_of}
 use Rattle.qo_heap.proofs.PlacesLemmas.{at-key, object-at-place}
-use Rattle.qo_heap.proofs.ShowsReads.{shows-parent, shows-refs, shows-slot_named}
+use Rattle.qo_heap.proofs.BoardReads.{shows-parent, shows-refs, shows-slot_named}
 use Rattle.qo_properties.specs.Reads.{derived_in, detached_in, is_derived, reads_derived}
 
 -- objects without a parent
@@ -41,35 +41,46 @@ placed b v s n = first (place_of b n) ∙ ap is_none (shows-parent b v s n) ∙ 
 abbrev pub in_row : board.Board → Key × Content → Option Detached
 in_row b row = detached_in b (record_of row)
 
-pub detached-not : (b : board.Board) (v : Objects) → Shows b v → (i : ℕ) (key : Key) → Some key ≡ option_map (λ (row : Key × Content). row.0) (slice_get v.rows i) → not (eqb key.birth 1) && is_none (heap.parent_of v key.birth) ≡ false → None ≡ option_and_then (in_row b) (slice_get v.rows i)
+pub detached-not : (b : board.Board) (v : Objects) → Shows b v → (i : ℕ) (key : Key) → Some key ≡ option_map (λ (row : Key × Content). row.0)
+    (slice_get v.rows i) → not (eqb key.birth 1) && is_none (heap.parent_of v key.birth) ≡ false → None ≡ option_and_then (in_row b) (slice_get v.rows i)
 detached-not b v s i key e fails =
     let (c, there) = at-key v.rows i key (sym e) in
-    let test : not (eqb key.birth 1) && is_none (place_of b key.birth) ≡ false = ap (λ (t : Bool). not (eqb key.birth 1) && t) (placed b v s key.birth) ∙ fails in
+    let test : not (eqb key.birth 1) && is_none (place_of b key.birth) ≡ false =
+    ap (λ (t : Bool). not (eqb key.birth 1) && t) (placed b v s key.birth) ∙ fails in
     rw (there, test) refl
 
-pub detached-is : (b : board.Board) (v : Objects) → Shows b v → IsHeap v → (i : ℕ) (key : Key) (count : ℕ) (kind : TypeId) → Some key ≡ option_map (λ (row : Key × Content). row.0) (slice_get v.rows i) → not (eqb key.birth 1) && is_none (heap.parent_of v key.birth) ≡ true → count ≡ refs_of v key.birth → option_map (λ (c : Content). c.kind) (content_of v key.birth) ≡ Some kind → Some (record { birth = key.birth; refs = count; kind = kind }) ≡ option_and_then (in_row b) (slice_get v.rows i)
+pub detached-is : (b : board.Board) (v : Objects) → Shows b v → IsHeap v → (i : ℕ) (key : Key) (count : ℕ) (kind : TypeId)
+    → Some key ≡ option_map (λ (row : Key × Content). row.0) (slice_get v.rows i) → not (eqb key.birth 1) && is_none (heap.parent_of v key.birth) ≡ true
+    → count ≡ refs_of v key.birth → option_map (λ (c : Content). c.kind) (content_of v key.birth) ≡ Some kind
+    → Some (record { birth = key.birth; refs = count; kind = kind }) ≡ option_and_then (in_row b) (slice_get v.rows i)
 detached-is b v s good i key count kind e passes counted is =
     let (c, there) = at-key v.rows i key (sym e) in
     let own : content_of v key.birth ≡ Some c = object-at-place v.born v.rows i key c good.rising there in
     let its : c.kind ≡ kind = cc (sym (ap (option_map (λ (d : Content). d.kind)) own) ∙ is) in
-    let test : not (eqb key.birth 1) && is_none (place_of b key.birth) ≡ true = ap (λ (t : Bool). not (eqb key.birth 1) && t) (placed b v s key.birth) ∙ passes in
+    let test : not (eqb key.birth 1) && is_none (place_of b key.birth) ≡ true =
+    ap (λ (t : Bool). not (eqb key.birth 1) && t) (placed b v s key.birth) ∙ passes in
     let same : refs b key.birth ≡ count = shows-refs b v s good key.birth ∙ sym counted in
     rw (there, test) (λ j. Some (record { birth = key.birth; refs = sym same j; kind = sym its j }))
 
 -- all of them, row by row
-abbrev pub detached_behind : board.Board → List (Key × Content) → ℕ → List Detached
-detached_behind b rows place = filter_map (in_row b) (drop place rows)
+abbrev pub detached_after : board.Board → List (Key × Content) → ℕ → List Detached
+detached_after b rows place = filter_map (in_row b) (drop place rows)
 
-detached-rows : (b : board.Board) (rows : List (Key × Content)) → map (told b) (filter (λ (r : board.Record). not (eqb r.birth 1) && is_none (place_of b r.birth)) (map record_of rows)) ≡ filter_map (in_row b) rows
+detached-rows : (b : board.Board) (rows : List (Key × Content))
+    → map (told b) (filter (λ (r : board.Record). not (eqb r.birth 1) && is_none (place_of b r.birth)) (map record_of rows)) ≡ filter_map (in_row b) rows
 detached-rows b [] = refl
 detached-rows b (row ∷ rows) = go (not (eqb row.0.birth 1) && is_none (place_of b row.0.birth)) refl (detached-rows b rows)
   where
-    go : (t : Bool) → not (eqb row.0.birth 1) && is_none (place_of b row.0.birth) ≡ t → map (told b) (filter (λ (r : board.Record). not (eqb r.birth 1) && is_none (place_of b r.birth)) (map record_of rows)) ≡ filter_map (in_row b) rows → map (told b) (filter (λ (r : board.Record). not (eqb r.birth 1) && is_none (place_of b r.birth)) (map record_of (row ∷ rows))) ≡ filter_map (in_row b) (row ∷ rows)
+    go : (t : Bool) → not (eqb row.0.birth 1) && is_none (place_of b row.0.birth) ≡ t → map (told b)
+        (filter (λ (r : board.Record). not (eqb r.birth 1) && is_none (place_of b r.birth)) (map record_of rows)) ≡ filter_map (in_row b) rows → map (told b)
+        (filter (λ (r : board.Record). not (eqb r.birth 1) && is_none (place_of b r.birth)) (map record_of (row ∷ rows))) ≡ filter_map (in_row b) (row ∷ rows)
     go true is rest = rw is (ap (λ (l : List Detached). told b (record_of row) ∷ l) rest)
     go false is rest = rw is rest
 
-pub detached-all : (b : board.Board) (v : Objects) → Shows b v → detached_told b ≡ detached_behind b v.rows 0
-detached-all b v s = ap (λ (rs : List board.Record). map (told b) (filter (λ (r : board.Record). not (eqb r.birth 1) && is_none (place_of b r.birth)) rs)) s.records ∙ detached-rows b v.rows
+pub detached-all : (b : board.Board) (v : Objects) → Shows b v → detached_listed b ≡ detached_after b v.rows 0
+detached-all b v s =
+    ap (λ (rs : List board.Record). map (told b) (filter (λ (r : board.Record). not (eqb r.birth 1) && is_none (place_of b r.birth)) rs)) s.records
+    ∙ detached-rows b v.rows
 
 module _ {X Y : Type 0} (f : X → Option Y) where
   given-first : (xs : List X) (i : ℕ) → filter_map f (drop i xs) ≡ cons_option (option_and_then f (slice_get xs i)) (filter_map f (drop (suc i) xs))
@@ -78,8 +89,10 @@ module _ {X Y : Type 0} (f : X → Option Y) where
   given-first (x ∷ xs) zero = refl
   given-first (x ∷ xs) (suc i) = given-first xs i
 
-  pub given-next : (xs : List X) (i : ℕ) (o : Option Y) → o ≡ option_and_then f (slice_get xs i) → filter_map f (drop i xs) ≡ cons_option o (filter_map f (drop (i + 1) xs))
-  given-next xs i o e = let next : suc i ≡ i + 1 = omega arith in rw e (given-first xs i ∙ ap (λ (k : ℕ). cons_option (option_and_then f (slice_get xs i)) (filter_map f (drop k xs))) next)
+  pub given-next : (xs : List X) (i : ℕ) (o : Option Y) → o ≡ option_and_then f (slice_get xs i)
+      → filter_map f (drop i xs) ≡ cons_option o (filter_map f (drop (i + 1) xs))
+  given-next xs i o e = let next : suc i ≡ i + 1 = omega arith in
+      rw e (given-first xs i ∙ ap (λ (k : ℕ). cons_option (option_and_then f (slice_get xs i)) (filter_map f (drop k xs))) next)
 
   pub given-past : (xs : List X) (i : ℕ) → length xs ≤ i → filter_map f (drop i xs) ≡ []
   given-past [] zero past = refl
@@ -90,7 +103,8 @@ module _ {X Y : Type 0} (f : X → Option Y) where
 -- values
 
 -- what a look-up by name finds is what the board has there
-pub named-is : (b : board.Board) (v : Objects) → Shows b v → (n : ℕ) (name : List ℕ) (o : Option Named) → o ≡ find (λ (t : Named). bytes_eq name t.0) (slots_of v n) → board.slot_named b n name ≡ option_map shown_slot (option_map (λ (t : Named). t.1) o)
+pub named-is : (b : board.Board) (v : Objects) → Shows b v → (n : ℕ) (name : List ℕ) (o : Option Named)
+    → o ≡ find (λ (t : Named). bytes_eq name t.0) (slots_of v n) → board.slot_named b n name ≡ option_map shown_slot (option_map (λ (t : Named). t.1) o)
 named-is b v s n name o e = shows-slot_named b v s n name ∙ ap (λ (p : Option Named). option_map shown_slot (option_map (λ (t : Named). t.1) p)) (sym e)
 
 -- an object that is not there has no slot
@@ -100,7 +114,8 @@ named-gone b v s n name gone =
     named-is b v s n name None (rw none refl)
 
 -- a slot that is no alias reads as its own
-pub read-own : (b : board.Board) (n : ℕ) (name : List ℕ) (s : Slot) → ((key : Key) (of : List ℕ) → s ≡ Alias key of → ⊥) → slot_value b n name (shown_slot s) ≡ Some (own_value b n name (shown_slot s))
+pub read-own : (b : board.Board) (n : ℕ) (name : List ℕ) (s : Slot) → ((key : Key) (of : List ℕ) → s ≡ Alias key of → ⊥)
+    → slot_value b n name (shown_slot s) ≡ Some (own_value b n name (shown_slot s))
 read-own b n name (Plain val) other = refl
 read-own b n name (Child key) other = refl
 read-own b n name (Link ty true target) other = refl

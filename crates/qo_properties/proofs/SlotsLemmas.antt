@@ -5,21 +5,21 @@ use Rattle.std.specs.Str.{bytes_eq}
 use Rattle.std.proofs.lemmas.Cmp.{nat_list_eq_equiv}
 use Rattle.std.proofs.lemmas.List.{drop_more}
 use Rattle.qo_values.specs.declared.kinds.TypeId.{TypeId}
-use Rattle.qo_values.proofs.Rising.{both_true}
+use Rattle.qo_values.proofs.NameOrder.{both_true}
 use Rattle.qo_slots.specs.declared.keys.Key.{Key}
 use Rattle.qo_model.specs.Types.{slots_of}
 use Rattle.qo_model.specs.declared.properties.Property.{Property}
-use Rattle.qo_model.specs.declared.properties.RowKind.{RowKind}
-use Rattle.qo_model.specs.declared.properties.RowKind.TheVariants as row
+use Rattle.qo_model.specs.declared.properties.PropertyRole.{PropertyRole}
+use Rattle.qo_model.specs.declared.properties.PropertyRole.TheVariants as row
 use Rattle.qo_object.specs.declared.slots.Slot.{Slot}
 use Rattle.qo_object.specs.declared.slots.Slot.TheVariants.{Plain, Child, Link, Alias}
 use Rattle.qo_object.specs.Slots.{Named, names_of, target_of}
 use Rattle.qo_properties.specs.declared.adding.filling.Fill.{Fill}
 use Rattle.qo_properties.specs.declared.adding.filling.Fill.TheVariants as fill
 use Rattle.qo_properties.specs.Filling.{filled, filled_with, target_in}
-use Rattle.qo_properties.specs.Fresh.{new_slots, slot_begun}
-use Rattle.qo_properties.proofs.FreshLemmas.{few-slots}
-use Rattle.qo_properties.proofs.GivenLemmas.{drop-past}
+use Rattle.qo_properties.specs.NewSlots.{new_slots, slot_begun}
+use Rattle.qo_properties.proofs.NewSlotLemmas.{few-slots}
+use Rattle.qo_properties.proofs.GivenPropertyLemmas.{drop-past}
 use Rattle.qo_properties.proofs.PlanningLemmas.{are_apart, fewer, new-apart}
 
 -- filling changes no name, and adds no slot
@@ -88,9 +88,9 @@ module _ (P : Key → Type 0) where
 
   new-none : (t : TypeId) (ps : List Property) → AllByRecursion (λ (s : Named). target_of s.1 ≡ None) (filter_map (slot_begun t) ps)
   new-none t [] = tt
-  new-none t (p ∷ ps) = go p.kind refl (new-none t ps)
+  new-none t (p ∷ ps) = go p.role refl (new-none t ps)
     where
-      go : (k : RowKind) → p.kind ≡ k → AllByRecursion (λ (s : Named). target_of s.1 ≡ None) (filter_map (slot_begun t) ps)
+      go : (k : PropertyRole) → p.role ≡ k → AllByRecursion (λ (s : Named). target_of s.1 ≡ None) (filter_map (slot_begun t) ps)
           → AllByRecursion (λ (s : Named). target_of s.1 ≡ None) (filter_map (slot_begun t) (p ∷ ps))
       go (row.Plain type first) is rest = rw is (refl, rest)
       go (row.Child type) is rest = rw is rest

@@ -18,19 +18,19 @@ use Rattle.qo_table.specs.Rows.{IsLive}
 use Rattle.qo_object.specs.declared.slots.Slot.{Slot}
 use Rattle.qo_object.specs.declared.slots.Slot.TheVariants.{Plain, Child, Link, Alias}
 use Rattle.qo_object.specs.Content.{Content, dropped_at, empty_link_at}
-use Rattle.qo_object.specs.Shown.{birth_of, shown_slot, shown_slots}
+use Rattle.qo_object.specs.BoardObject.{birth_of, shown_slot, shown_slots}
 use Rattle.qo_object.specs.Slots.{Named, held, is_empty_link, let_go_at, slot_in, target_of}
-use Rattle.qo_object.proofs.ShownLemmas.{length-shown, shown-held}
+use Rattle.qo_object.proofs.BoardObjectLemmas.{length-shown, shown-held}
 use Rattle.qo_model.specs.Board as board
 use Rattle.qo_model.specs.Changes.{set}
-use Rattle.qo_model.specs.Properties.{link_written, pointed_at, relinked, row_of_property, write, written_by}
-use Rattle.qo_model.specs.Release.{after, drop_slot, finalise}
+use Rattle.qo_model.specs.Properties.{link_written, pointed_at, relinked, property_named, write, written_by}
+use Rattle.qo_model.specs.Release.{after, drop_slot, finalize}
 use Rattle.qo_model.specs.declared.properties.Property.{Property}
 use Rattle.qo_heap.specs.Objects as heap
 use Rattle.qo_heap.specs.Objects.{IsHeap, Objects, content_of, with_edit}
 use Rattle.qo_heap.specs.Board.{Shows}
-use Rattle.qo_heap.proofs.ShowsLive.{content-edited, live-content, named-live_dropped}
-use Rattle.qo_heap.proofs.ShowsReads.{shows-kind, shows-slot_at, shows-slots}
+use Rattle.qo_heap.proofs.BoardObjects.{content-edited, live-content, named-live_dropped}
+use Rattle.qo_heap.proofs.BoardReads.{shows-kind, shows-slot_at, shows-slots}
 use Rattle.qo_properties.specs.Writes.{is_link_at, is_plain, is_plain_at, link_type, link_type_at, to_link, to_plain}
 
 pub some-live : (P Q : Key → Type 0) → ((key : Key) → P key → Q key) → (o : Option Key) → IfSome o P → IfSome o Q
@@ -39,11 +39,13 @@ some-live P Q more (Some key) all = more key all
 
 -- the place of a name
 
-place-shown : (name : List ℕ) (slots : List Named) → position_or_len (λ (s : List ℕ × board.Slot). bytes_eq s.0 name) (shown_slots slots) ≡ position_or_len (λ (t : Named). bytes_eq name t.0) slots
+place-shown : (name : List ℕ) (slots : List Named)
+    → position_or_len (λ (s : List ℕ × board.Slot). bytes_eq s.0 name) (shown_slots slots) ≡ position_or_len (λ (t : Named). bytes_eq name t.0) slots
 place-shown name [] = refl
 place-shown name (t ∷ slots) = rw (nat_list_eq_equiv.symm t.0 name, place-shown name slots) refl
 
-pub shows-place_of : (b : board.Board) (v : Objects) → Shows b v → (n : ℕ) (name : List ℕ) → position (λ (s : List ℕ × board.Slot). bytes_eq s.0 name) (board.slots_at b n) ≡ position (λ (t : Named). bytes_eq name t.0) (heap.slots_of v n)
+pub shows-place_of : (b : board.Board) (v : Objects) → Shows b v → (n : ℕ) (name : List ℕ)
+    → position (λ (s : List ℕ × board.Slot). bytes_eq s.0 name) (board.slots_at b n) ≡ position (λ (t : Named). bytes_eq name t.0) (heap.slots_of v n)
 shows-place_of b v s n name =
     ap (position (λ (t : List ℕ × board.Slot). bytes_eq t.0 name)) (shows-slots b v s n)
     ∙ (λ j. cond (nat_lt (place-shown name (heap.slots_of v n) j) (length-shown (heap.slots_of v n) j)) (Some (place-shown name (heap.slots_of v n) j)) None)
@@ -52,25 +54,30 @@ shows-place_of b v s n name =
 
 module _ (b : board.Board) (v : Objects) (s : Shows b v) (n : ℕ) (name : List ℕ) (val : Val) where
   pub write-none : None ≡ position (λ (t : Named). bytes_eq name t.0) (heap.slots_of v n) → Err E17 ≡ write b n name val
-  write-none none = sym (ap (λ (o : Option ℕ). elim o [ None ↦ Err E17 | Some i ↦ written_by b n i (option_and_then (λ t. row_of_property t name) (board.kind_of b n)) val ]) (shows-place_of b v s n name ∙ sym none))
+  write-none none =
+      sym (ap (λ (o : Option ℕ). elim o [ None ↦ Err E17 | Some i ↦ written_by b n i (option_and_then (λ t. property_named t name) (board.kind_of b n)) val ])
+      (shows-place_of b v s n name ∙ sym none))
 
-  by-place : (i : ℕ) (kind : TypeId) → Some i ≡ position (λ (t : Named). bytes_eq name t.0) (heap.slots_of v n) → option_map (λ (c : Content). c.kind) (content_of v n) ≡ Some kind → write b n name val ≡ written_by b n i (row_of_property kind name) val
+  by-place : (i : ℕ) (kind : TypeId) → Some i ≡ position (λ (t : Named). bytes_eq name t.0) (heap.slots_of v n)
+      → option_map (λ (c : Content). c.kind) (content_of v n) ≡ Some kind → write b n name val ≡ written_by b n i (property_named kind name) val
   by-place i kind there is =
-      ap (λ (o : Option ℕ). elim o [ None ↦ Err E17 | Some j ↦ written_by b n j (option_and_then (λ t. row_of_property t name) (board.kind_of b n)) val ]) (shows-place_of b v s n name ∙ sym there)
-      ∙ ap (λ (o : Option TypeId). written_by b n i (option_and_then (λ t. row_of_property t name) o) val) (shows-kind b v s n ∙ is)
+      ap (λ (o : Option ℕ). elim o [ None ↦ Err E17 | Some j ↦ written_by b n j (option_and_then (λ t. property_named t name) (board.kind_of b n)) val ])
+      (shows-place_of b v s n name ∙ sym there)
+      ∙ ap (λ (o : Option TypeId). written_by b n i (option_and_then (λ t. property_named t name) o) val) (shows-kind b v s n ∙ is)
 
   pub write-no_row : (i : ℕ) (kind : TypeId) → Some i ≡ position (λ (t : Named). bytes_eq name t.0) (heap.slots_of v n)
-      → option_map (λ (c : Content). c.kind) (content_of v n) ≡ Some kind → None ≡ row_of_property kind name → Err E18 ≡ write b n name val
+      → option_map (λ (c : Content). c.kind) (content_of v n) ≡ Some kind → None ≡ property_named kind name → Err E18 ≡ write b n name val
   write-no_row i kind there is none = sym (by-place i kind there is ∙ ap (λ (o : Option Property). written_by b n i o val) (sym none))
 
   pub write-row : (i : ℕ) (kind : TypeId) (r : Property) → Some i ≡ position (λ (t : Named). bytes_eq name t.0) (heap.slots_of v n)
-      → option_map (λ (c : Content). c.kind) (content_of v n) ≡ Some kind → Some r ≡ row_of_property kind name
+      → option_map (λ (c : Content). c.kind) (content_of v n) ≡ Some kind → Some r ≡ property_named kind name
       → written_by b n i (Some r) val ≡ write b n name val
   write-row i kind r there is its = sym (by-place i kind there is ∙ ap (λ (o : Option Property). written_by b n i o val) (sym its))
 
 -- what stands in the slot that is written
 
-to-plain-slot : (b : board.Board) (n i : ℕ) (ty : PropType) (val : Val) (o : Option Slot) → to_plain b n i ty (option_map shown_slot o) val ≡ cond (option_map_or is_plain o false) (cond (admits ty val) (Ok (set n i val b)) (Err E19)) (Err E18)
+to-plain-slot : (b : board.Board) (n i : ℕ) (ty : PropType) (val : Val) (o : Option Slot)
+    → to_plain b n i ty (option_map shown_slot o) val ≡ cond (option_map_or is_plain o false) (cond (admits ty val) (Ok (set n i val b)) (Err E19)) (Err E18)
 to-plain-slot b n i ty val None = refl
 to-plain-slot b n i ty val (Some (Plain old)) = refl
 to-plain-slot b n i ty val (Some (Child key)) = refl
@@ -82,7 +89,8 @@ abbrev to_typed : board.Board → ℕ → ℕ → Val → Option TypeId → Resu
 to_typed b n i val None = Err E18
 to_typed b n i val (Some t) = link_written b n i t val
 
-to-link-slot : (b : board.Board) (n i : ℕ) (val : Val) (o : Option Slot) → to_link b n i (option_map shown_slot o) val ≡ to_typed b n i val (option_and_then link_type o)
+to-link-slot : (b : board.Board) (n i : ℕ) (val : Val) (o : Option Slot)
+    → to_link b n i (option_map shown_slot o) val ≡ to_typed b n i val (option_and_then link_type o)
 to-link-slot b n i val None = refl
 to-link-slot b n i val (Some (Plain old)) = refl
 to-link-slot b n i val (Some (Child key)) = refl
@@ -91,7 +99,8 @@ to-link-slot b n i val (Some (Link t false target)) = refl
 to-link-slot b n i val (Some (Alias key of)) = refl
 
 module _ (b : board.Board) (v : Objects) (s : Shows b v) (n i : ℕ) (val : Val) where
-  pub plain-is : (ty : PropType) (plain : Bool) → is_plain_at v n i ≡ plain → to_plain b n i ty (board.slot_at b n i) val ≡ cond plain (cond (admits ty val) (Ok (set n i val b)) (Err E19)) (Err E18)
+  pub plain-is : (ty : PropType) (plain : Bool) → is_plain_at v n i ≡ plain
+      → to_plain b n i ty (board.slot_at b n i) val ≡ cond plain (cond (admits ty val) (Ok (set n i val b)) (Err E19)) (Err E18)
   plain-is ty plain is =
       ap (λ (o : Option board.Slot). to_plain b n i ty o val) (shows-slot_at b v s n i)
       ∙ to-plain-slot b n i ty val (slot_in (heap.slots_of v n) i)
@@ -126,13 +135,14 @@ link-slot : (o : Option Slot) → is_some (option_and_then link_type o) ≡ true
 link-slot None is = cc
 link-slot (Some s) is = (s, refl)
 
-pub relinked-is : (b : board.Board) (v : Objects) → Shows b v → (n i : ℕ) (target : Option ℕ) (was : Option Key) → is_link_at v n i ≡ true → was ≡ option_and_then held (slot_in (heap.slots_of v n) i) → after finalise (pointed_at target n i (drop_slot b n i)) (birth_of was) ≡ relinked b n i target
+pub relinked-is : (b : board.Board) (v : Objects) → Shows b v → (n i : ℕ) (target : Option ℕ) (was : Option Key) → is_link_at v n i ≡ true → was
+    ≡ option_and_then held (slot_in (heap.slots_of v n) i) → after finalize (pointed_at target n i (drop_slot b n i)) (birth_of was) ≡ relinked b n i target
 relinked-is b v s n i target was link e =
     let (t, there) = link-slot (slot_in (heap.slots_of v n) i) link in
     let shown : board.slot_at b n i ≡ Some (shown_slot t) = shows-slot_at b v s n i ∙ ap (option_map shown_slot) there in
     let its : board.held (shown_slot t) ≡ birth_of was = shown-held t ∙ ap birth_of (sym (e ∙ ap (option_and_then held) there)) in
-    ap (after finalise (pointed_at target n i (drop_slot b n i))) (sym its)
-    ∙ sym (ap (λ (o : Option board.Slot). elim o [ None ↦ b | Some x ↦ after finalise (pointed_at target n i (drop_slot b n i)) (board.held x) ]) shown)
+    ap (after finalize (pointed_at target n i (drop_slot b n i))) (sym its)
+    ∙ sym (ap (λ (o : Option board.Slot). elim o [ None ↦ b | Some x ↦ after finalize (pointed_at target n i (drop_slot b n i)) (board.held x) ]) shown)
 
 -- what is held is named, and stays there when it is let go
 held-named : (o : Option Slot) (key : Key) → option_and_then held o ≡ Some key → option_and_then target_of o ≡ Some key
@@ -143,15 +153,18 @@ held-named (Some (Link ty true target)) key e = e
 held-named (Some (Link ty false target)) key e = cc
 held-named (Some (Alias k of)) key e = cc
 
-pub held-live : (v : Objects) → IsHeap v → (o : Key) → IsLive v.rows o → (i : ℕ) (was : Option Key) → was ≡ option_and_then held (slot_in (heap.slots_of v o.birth) i) → IfSome was (IsLive (with_edit o.birth (dropped_at i) v).rows)
+pub held-live : (v : Objects) → IsHeap v → (o : Key) → IsLive v.rows o → (i : ℕ) (was : Option Key)
+    → was ≡ option_and_then held (slot_in (heap.slots_of v o.birth) i) → IfSome was (IsLive (with_edit o.birth (dropped_at i) v).rows)
 held-live v good o live i None e = tt
 held-live v good o live i (Some key) e =
     let (c, there) = live-content v o live in
     let slots : heap.slots_of v o.birth ≡ c.slots = ap (λ (x : Option Content). option_map_or (λ (d : Content). d.slots) x []) there in
-    named-live_dropped v good o.birth i c there key (held-named (slot_in c.slots i) key (ap (λ (l : List Named). option_and_then held (slot_in l i)) (sym slots) ∙ sym e))
+    named-live_dropped v good o.birth i c there key
+    (held-named (slot_in c.slots i) key (ap (λ (l : List Named). option_and_then held (slot_in l i)) (sym slots) ∙ sym e))
 
 -- a link that was let go has no target
-emptied : (slots : List Named) (i : ℕ) → is_some (option_and_then link_type (slot_in slots i)) ≡ true → option_map_or is_empty_link (slot_in (let_go_at i slots) i) false ≡ true
+emptied : (slots : List Named) (i : ℕ) → is_some (option_and_then link_type (slot_in slots i)) ≡ true
+    → option_map_or is_empty_link (slot_in (let_go_at i slots) i) false ≡ true
 emptied [] i is = cc
 emptied ((name, Plain val) ∷ slots) zero is = cc
 emptied ((name, Child key) ∷ slots) zero is = cc
@@ -159,9 +172,11 @@ emptied ((name, Link ty strong target) ∷ slots) zero is = refl
 emptied ((name, Alias key of) ∷ slots) zero is = cc
 emptied (t ∷ slots) (suc i) is = emptied slots i is
 
-pub emptied-link : (v : Objects) (o : Key) (i : ℕ) → IsLive v.rows o → is_link_at v o.birth i ≡ true → option_map (λ (c : Content). empty_link_at c i) (content_of (with_edit o.birth (dropped_at i) v) o.birth) ≡ Some true
+pub emptied-link : (v : Objects) (o : Key) (i : ℕ) → IsLive v.rows o → is_link_at v o.birth i ≡ true
+    → option_map (λ (c : Content). empty_link_at c i) (content_of (with_edit o.birth (dropped_at i) v) o.birth) ≡ Some true
 emptied-link v o i live link =
     let (c, there) = live-content v o live in
-    let its : is_some (option_and_then link_type (slot_in c.slots i)) ≡ true = ap (λ (x : Option Content). is_some (option_and_then link_type (slot_in (option_map_or (λ (d : Content). d.slots) x []) i))) (sym there) ∙ link in
+    let its : is_some (option_and_then link_type (slot_in c.slots i)) ≡ true =
+    ap (λ (x : Option Content). is_some (option_and_then link_type (slot_in (option_map_or (λ (d : Content). d.slots) x []) i))) (sym there) ∙ link in
     ap (option_map (λ (d : Content). empty_link_at d i)) (content-edited v o.birth (dropped_at i) ∙ ap (option_map (dropped_at i)) there)
     ∙ ap Some (emptied c.slots i its)

@@ -17,7 +17,7 @@ bare_rows os = map (λ (o : Key × TypeId). (o.0, fresh o.1)) os
 abbrev pub by_birth : List (Key × TypeId) → List (ℕ × TypeId)
 by_birth os = map (λ (o : Key × TypeId). (o.0.birth, o.1)) os
 
--- each was born next behind a number
+-- each was born next after a number
 abbrev pub AreNext : ℕ → List (Key × TypeId) → Type 0
 AreNext n [] = ⊤
 AreNext n (o ∷ os) = (o.0.birth ≡ suc n) × AreNext (suc n) os
@@ -42,7 +42,7 @@ pub record MadeFurther (t : TypeId) (k : ℕ) (v w : Objects) : Type 0 where
   pub types : map (λ (o : Key × TypeId). o.1) objects ≡ further_types (take k (slots_of t))
   pub is : w ≡ grown objects v
 
--- the heap behind some objects that were made and ended, in this order: births and notes are left
+-- the heap after some objects that were made and ended, in this order: births and notes are left
 abbrev pub tried_all : List (ℕ × TypeId) → Objects → Objects
 tried_all os v =
     record v { born = v.born + length os; log = noted_all (ended_notes (device_last os)) (noted_all (begun_notes os) v.log) }

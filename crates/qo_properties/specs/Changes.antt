@@ -8,7 +8,7 @@ use Rattle.qo_object.specs.Slots.{Named, is_strong, slot_in}
 use Rattle.qo_model.specs.Board.{Board, is_live, slot_at, slots_at, strong}
 use Rattle.qo_values.specs.declared.codes.Code.TheVariants.{E15, E20, E21, E22, E24, E43}
 use Rattle.qo_model.specs.Objects.{Changed, has_slot, severed_from}
-use Rattle.qo_model.specs.Types.{TypeRow, is_a, row_named}
+use Rattle.qo_model.specs.Types.{TypeInfo, is_a, type_named}
 use Rattle.qo_model.specs.Release.{let_go, pin, unpin}
 use Rattle.qo_heap.specs.Board.{Shows}
 use Rattle.qo_heap.specs.Objects.{Objects}
@@ -36,12 +36,13 @@ abbrev pub severed : Board → ℕ → Board
 severed b n = unpin (severed_from (length (slots_at b n)) 0 n (pin b n)) n
 
 -- why objects of a type's name are not made by users: there is none, it is abstract, or it is not for them
-abbrev pub row_refusal : TypeRow → Option Code
-row_refusal row = if row.is_abstract then Some E21 else if not (is_a row.id (codes "user-creatable")) then Some E22 else None
+abbrev pub info_refusal : TypeInfo → Option Code
+info_refusal row = if row.is_abstract then Some E21 else if not (is_a row.id (codes "user-creatable")) then Some E22 else None
 
 abbrev pub type_refusal : List ℕ → Option Code
-type_refusal driver = option_map_or row_refusal (row_named driver) (Some E20)
+type_refusal driver = option_map_or info_refusal (type_named driver) (Some E20)
 
 -- why no object is made under an id: `/objects` is not there, it has a slot of that name, or there are as many objects as there may be
 abbrev pub place_refusal : Board → List ℕ → Option Code
-place_refusal b id = if not (is_live b OBJECTS_BIRTH) then Some E15 else if has_slot b OBJECTS_BIRTH id then Some E24 else if leb LIVE_OBJECTS_MAX (length b.records) then Some E43 else None
+place_refusal b id = if not (is_live b OBJECTS_BIRTH) then Some E15 else if has_slot b OBJECTS_BIRTH id then Some E24
+    else if leb LIVE_OBJECTS_MAX (length b.records) then Some E43 else None

@@ -6,7 +6,7 @@ use Rattle.qo_model.specs.Board.{Board}
 use Rattle.qo_model.specs.Objects.{Given, given_to, slot_given}
 use Rattle.qo_object.specs.declared.slots.Slot.{Slot}
 use Rattle.qo_object.specs.Content.{Content, empty_link_at}
-use Rattle.qo_object.specs.Shown.{shown_slot}
+use Rattle.qo_object.specs.BoardObject.{shown_slot}
 use Rattle.qo_object.specs.Slots.{Named, changed_at, is_empty_link, pointed, with_val}
 use Rattle.qo_properties.specs.declared.adding.filling.Fill.{Fill}
 use Rattle.qo_properties.specs.declared.adding.filling.Fill.TheVariants as fill

@@ -7,7 +7,7 @@ use Rattle.qo_values.specs.declared.kinds.TypeId.{TypeId}
 use Rattle.qo_properties.specs.declared.adding.planning.PlacedRow.{PlacedRow}
 use Rattle.qo_properties.specs.declared.refusals.Refusal.{Refusal}
 use Rattle.qo_properties.specs.declared.refusals.Refusal.TheVariants.{Refused, Memory}
-use Rattle.qo_properties.specs.Fresh.{new_slots, slot_begun}
+use Rattle.qo_properties.specs.NewSlots.{new_slots, slot_begun}
 
 -- what a call answers where a refusal is defined: it is done where there is none, or refused with its code; nothing is told for want of memory
 abbrev pub TellsRefusal : {T : Type 0} → Result T Refusal → Option Code → Type 0

@@ -16,14 +16,14 @@ use Rattle.qo_model.specs.Paths.{missing, resolve}
 use Rattle.qo_model.specs.Properties.{link_written, object_at}
 use Rattle.qo_object.specs.declared.slots.Slot.{Slot}
 use Rattle.qo_object.specs.declared.slots.Slot.TheVariants.{Plain, Link}
-use Rattle.qo_object.specs.Shown.{birth_of}
+use Rattle.qo_object.specs.BoardObject.{birth_of}
 use Rattle.qo_object.specs.Slots.{slot_in}
 use Rattle.qo_heap.specs.Board.{Shows}
 use Rattle.qo_heap.specs.Objects.{Objects, slots_of}
 use Rattle.qo_properties.specs.declared.refusals.Refusal.{Refusal}
 use Rattle.qo_properties.specs.declared.refusals.Refusal.TheVariants.{Refused, Memory}
 
--- a heap behind a write that a definition gives: it shows the board that is given; or the write was refused as it is given; or there was not enough memory
+-- a heap after a write that a definition gives: it shows the board that is given; or the write was refused as it is given; or there was not enough memory
 abbrev pub Writes : {T : Type 0} → Objects → Result T Refusal → Result Board Code → Type 0
 Writes v (Ok done) given = (b : Board) × (given ≡ Ok b) × Shows b v
 Writes v (Err (Refused code)) given = given ≡ Err code

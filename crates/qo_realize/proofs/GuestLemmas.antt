@@ -9,10 +9,10 @@ use Rattle.qo_guest.specs.declared.addresses.Addr.TheVariants.{Slots, Mem}
 use Rattle.qo_model.specs.Board.{Board, Slot, slots_at}
 use Rattle.qo_model.specs.Devices.{bridge_of, bus_of, strong_in}
 use Rattle.qo_object.specs.Content.{Content}
-use Rattle.qo_object.specs.Shown.{shown_slots}
+use Rattle.qo_object.specs.BoardObject.{shown_slots}
 use Rattle.qo_heap.specs.Board.{Shows}
 use Rattle.qo_heap.specs.Objects.{Objects, content_of}
-use Rattle.qo_heap.proofs.ShowsReads.{shows-slots}
+use Rattle.qo_heap.proofs.BoardReads.{shows-slots}
 use Rattle.qo_realize.specs.Guest.{address_of, slot_in, slots_to}
 
 -- by the bus that it is on
@@ -29,4 +29,5 @@ gone-address b v s n gone = ap (address_by b n) on_none
 
     on_none : bus_of b n ≡ None
     on_none =
-        ap (λ (xs : List (List ℕ × Slot)). option_and_then strong_in (option_map (λ (x : List ℕ × Slot). x.1) (find (λ (x : List ℕ × Slot). bytes_eq x.0 (codes "parent_bus")) xs))) empty
+        ap (λ (xs : List (List ℕ × Slot)).
+        option_and_then strong_in (option_map (λ (x : List ℕ × Slot). x.1) (find (λ (x : List ℕ × Slot). bytes_eq x.0 (codes "parent_bus")) xs))) empty

@@ -10,23 +10,23 @@ use Rattle.qo_model.specs.Reset.{held, is_deep, pulse, released}
 use Rattle.qo_heap.specs.Acts.{Acts}
 use Rattle.qo_heap.specs.Objects.{Objects}
 use Rattle.qo_heap.proofs.ActsLemmas.{acts-book}
-use Rattle.qo_hotplug.specs.Asked.{Asked}
+use Rattle.qo_hotplug.specs.Hotplug.{Asked}
 use Rattle.qo_properties.specs.Claims.{KeepsBook}
-use Rattle.qo_properties.specs.Pinned.{OnlyRootPinned}
+use Rattle.qo_properties.specs.Pins.{OnlyRootPinned}
 use Rattle.qo_properties.specs.declared.refusals.Refusal.{Refusal}
 use Rattle.qo_properties.specs.declared.refusals.Refusal.TheVariants.{Refused, Memory}
 use Rattle.qo_reset.specs.HoldList.{HoldList}
 use Rattle.qo_reset.specs.Phases.{Holds}
-use Rattle.qo_sound.specs.DevicesStay.{ResetLeaves}
-use Rattle.qo_sound.proofs.DevicesStayLemmas.{devices_stay_lem}
+use Rattle.qo_sound.specs.DeviceScope.{ResetLeaves}
+use Rattle.qo_sound.proofs.DeviceScopeLemmas.{devices_stay_lem}
 use Rattle.qo_realize.specs.Answers.{Changes, IsAnswered}
-use Rattle.qo_realize.specs.Good.{Good}
+use Rattle.qo_realize.specs.GoodBoard.{Good}
 use Rattle.qo_realize.specs.Parts.{Parts, parts_of}
 use Rattle.qo_realize.specs.Resets.{Releases, Resets, at_path, held_at, held_of, released_at, released_of, resettable_at}
-use Rattle.qo_realize.specs.Stands.{Stands, StandsForGood}
-use Rattle.qo_realize.proofs.SoundLemmas.{held-good, pulsed-good, released-good, root-pinned}
+use Rattle.qo_realize.specs.Representation.{Stands, StandsForGood}
+use Rattle.qo_realize.proofs.GoodBoardLemmas.{held-good, pulsed-good, released-good, root-pinned}
 
--- what is so of the board and of the board with the hold, or without it, is so behind the change
+-- what is so of the board and of the board with the hold, or without it, is so after the change
 
 at_path-all : (P : Board → Type 0) (b : Board) (change : ℕ → Changed) (r : Result ℕ Code) → P b → ((n : ℕ) → P (change n).board) → P (at_path b change r).board
 at_path-all P b change (Ok n) p q = q n
@@ -77,7 +77,7 @@ held_at-good b path good = held_at-all Good b path good (λ n. held-good b n goo
 released_at-good : (b : Board) (path : List ℕ) → Good b → Good (released_at b path).board
 released_at-good b path good = released_at-all Good b path good (λ n. released-good b n good)
 
--- with other holds, behind acts
+-- with other holds, after acts
 
 -- acts keep the book right
 pub acts-keep : (v w : Objects) → Acts v w → KeepsBook v w
@@ -87,10 +87,10 @@ module _ (rings : List Ring) (anonymous : ℕ) (running : Bool) (old new : HoldL
   abbrev before : Parts
   before = parts_of rings anonymous running old asked v
 
-  abbrev behind : Parts
-  behind = parts_of rings anonymous running new asked w
+  abbrev after : Parts
+  after = parts_of rings anonymous running new asked w
 
-  pub reset-stands : (b c : Board) → Stands b before → ResetLeaves b c → Holds c new.births w → Stands c behind
+  pub reset-stands : (b c : Board) → Stands b before → ResetLeaves b c → Holds c new.births w → Stands c after
   reset-stands b c s l h =
       record {
         shows = h.0;
@@ -103,57 +103,57 @@ module _ (rings : List Ring) (anonymous : ℕ) (running : Bool) (old new : HoldL
         book = book [] s.book;
       }
 
-  same-parts : (w ≡ v) × (new.births ≡ old.births) → behind ≡ before
+  same-parts : (w ≡ v) × (new.births ≡ old.births) → after ≡ before
   same-parts h = ap₂ (λ (x : Objects) (holds : List ℕ). parts_of rings anonymous running (record { births = holds; spare = 0 }) asked x) h.0 h.1
 
-  pub left-stands : (b : Board) → Stands b before → (w ≡ v) × (new.births ≡ old.births) → Stands b behind
+  pub left-stands : (b : Board) → Stands b before → (w ≡ v) × (new.births ≡ old.births) → Stands b after
   left-stands b s h = subst (λ (p : Parts). Stands b p) (sym (same-parts h)) s
 
   changes : (b : Board) (change : Changed) (result : Result Unit Refusal) → Stands b before → ResetLeaves b change.board → Resets b change result new.births w
-      → OnErr result ((w ≡ v) × (new.births ≡ old.births)) → Changes change b result behind
+      → OnErr result ((w ≡ v) × (new.births ≡ old.births)) → Changes change b result after
   changes b change (Ok u) s l (none, h) same = (none, reset-stands b change.board s l h)
   changes b change (Err (Refused code)) s l is same = (is, left-stands b s same)
   changes b change (Err Memory) s l is same = left-stands b s same
 
   answers : (b : Board) (change : Changed) (result : Result Unit Code) → Stands b before → ResetLeaves b change.board → Releases b change result new.births w
-      → OnErr result ((w ≡ v) × (new.births ≡ old.births)) → IsAnswered change result behind
+      → OnErr result ((w ≡ v) × (new.births ≡ old.births)) → IsAnswered change result after
   answers b change (Ok u) s l (none, h) same = record { refusal = none; board = reset-stands b change.board s l h }
   answers b change (Err code) s l is same =
-      record { refusal = ap (λ (x : Changed). x.refusal) is; board = subst (λ (x : Changed). Stands x.board behind) (sym is) (left-stands b s same) }
+      record { refusal = ap (λ (x : Changed). x.refusal) is; board = subst (λ (x : Changed). Stands x.board after) (sym is) (left-stands b s same) }
 
   pub hold-changes : (b : Board) (path : List ℕ) (result : Result Unit Refusal) → Stands b before → Resets b (held_at b path) result new.births w
-      → OnErr result ((w ≡ v) × (new.births ≡ old.births)) → Changes (held_at b path) b result behind
+      → OnErr result ((w ≡ v) × (new.births ≡ old.births)) → Changes (held_at b path) b result after
   hold-changes b path result s h same = changes b (held_at b path) result s (held_at-leaves b path) h same
 
   pub release-answers : (b : Board) (path : List ℕ) (result : Result Unit Code) → Stands b before → Releases b (released_at b path) result new.births w
-      → OnErr result ((w ≡ v) × (new.births ≡ old.births)) → IsAnswered (released_at b path) result behind
+      → OnErr result ((w ≡ v) × (new.births ≡ old.births)) → IsAnswered (released_at b path) result after
   release-answers b path result s h same = answers b (released_at b path) result s (released_at-leaves b path) h same
 
   -- the board that stands is good
 
-  pub good-pinned : (b : Board) → Stands b behind → Good b → OnlyRootPinned w × StandsForGood behind
-  good-pinned b s good = (root-pinned b behind s good, (b, s, good))
+  pub good-pinned : (b : Board) → Stands b after → Good b → OnlyRootPinned w × StandsForGood after
+  good-pinned b s good = (root-pinned b after s good, (b, s, good))
 
-  hold-good : (b : Board) (path : List ℕ) (result : Result Unit Refusal) → Good b → Changes (held_at b path) b result behind
-      → OnlyRootPinned w × StandsForGood behind
+  hold-good : (b : Board) (path : List ℕ) (result : Result Unit Refusal) → Good b → Changes (held_at b path) b result after
+      → OnlyRootPinned w × StandsForGood after
   hold-good b path (Ok u) good h = good-pinned (held_at b path).board h.1 (held_at-good b path good)
   hold-good b path (Err (Refused code)) good h = good-pinned b h.1 good
   hold-good b path (Err Memory) good h = good-pinned b h good
 
   pub hold-keeps : (path : List ℕ) (result : Result Unit Refusal) → StandsForGood before → ((b : Board) → Holds b old.births v
       → Resets b (held_at b path) result new.births w)
-      → OnErr result ((w ≡ v) × (new.births ≡ old.births)) → OnlyRootPinned w × StandsForGood behind
+      → OnErr result ((w ≡ v) × (new.births ≡ old.births)) → OnlyRootPinned w × StandsForGood after
   hold-keeps path result (b, s, good) h same = hold-good b path result good (hold-changes b path result s (h b (s.shows, s.holds)) same)
 
   pub release-keeps : (path : List ℕ) (result : Result Unit Code) → StandsForGood before → ((b : Board) → Holds b old.births v
       → Releases b (released_at b path) result new.births w)
-      → OnErr result ((w ≡ v) × (new.births ≡ old.births)) → OnlyRootPinned w × StandsForGood behind
+      → OnErr result ((w ≡ v) × (new.births ≡ old.births)) → OnlyRootPinned w × StandsForGood after
   release-keeps path result (b, s, good) h same =
       good-pinned (released_at b path).board (release-answers b path result s (h b (s.shows, s.holds)) same).board (released_at-good b path good)
 
-  pub pulse-stands : (b : Board) (n : ℕ) → Stands b before → Holds (pulse b n) new.births w → Stands (pulse b n) behind
+  pub pulse-stands : (b : Board) (n : ℕ) → Stands b before → Holds (pulse b n) new.births w → Stands (pulse b n) after
   pulse-stands b n s h = reset-stands b (pulse b n) s (devices_stay_lem.pulsed b n) h
 
   pub pulse-keeps : (n : ℕ) → StandsForGood before → ((b : Board) → Holds b old.births v → Holds (pulse b n) new.births w)
-      → OnlyRootPinned w × StandsForGood behind
+      → OnlyRootPinned w × StandsForGood after
   pulse-keeps n (b, s, good) h = good-pinned (pulse b n) (pulse-stands b n s (h b (s.shows, s.holds))) (pulsed-good b n good)

@@ -3,36 +3,36 @@ use Rattle.std.proofs.Common.{◌≡◌, refl, ap, sym, subst, ◌∙◌, ℕ, B
 use Rattle.std.specs.Option.{option_map_or}
 use Rattle.std.proofs.lemmas.Bool.{le-leb}
 use Rattle.std.proofs.lemmas.Option.{same_Some}
-use Rattle.qo_hotplug.specs.Asked.{Asked}
+use Rattle.qo_hotplug.specs.Hotplug.{Asked}
 use Rattle.qo_model.specs.Board.{Board, Ring}
 use Rattle.qo_model.specs.Plug.{Wanted, barred_early, cut_attempt, objects_in, plug, type_barred}
-use Rattle.qo_model.specs.Stays.{Stays}
-use Rattle.qo_model.specs.Types.{TypeRow, row_named}
+use Rattle.qo_model.specs.ChangeScope.{Stays}
+use Rattle.qo_model.specs.Types.{TypeInfo, type_named}
 use Rattle.qo_model.specs.Types as rows
 use Rattle.qo_heap.specs.Board.{Shows}
 use Rattle.qo_heap.specs.Objects.{Objects}
-use Rattle.qo_plug.specs.Added.{IfRefused}
-use Rattle.qo_plug.specs.Adding.{IsAdded, IsCut, IsRefused, IsShown}
+use Rattle.qo_plug.specs.Admission.{IfRefused}
+use Rattle.qo_plug.specs.Answers.{IsAdded, IsCut, IsRefused, IsShown}
 use Rattle.qo_plug.specs.Drafts.{CutShort}
 use Rattle.qo_plug.specs.Cuts.{cut_as, cut_of, cut_open}
 use Rattle.qo_plug.specs.declared.adding.Added as device
 use Rattle.qo_plug.specs.declared.refusals.AddRefusal.{AddRefusal}
 use Rattle.qo_plug.specs.declared.refusals.AddRefusal.TheVariants.{Refused, Memory}
 use Rattle.qo_properties.specs.Claims.{KeepsBook}
-use Rattle.qo_properties.specs.Pinned.{OnlyRootPinned}
+use Rattle.qo_properties.specs.Pins.{OnlyRootPinned}
 use Rattle.qo_reset.specs.HoldList.{HoldList}
-use Rattle.qo_sound.specs.DevicesStay.{AddLeaves, anonymous_behind}
-use Rattle.qo_sound.specs.PlugComesTo as comes
-use Rattle.qo_sound.proofs.DevicesStayLemmas.{devices_stay_lem}
-use Rattle.qo_sound.proofs.PlugComesToLemmas.{plug_comes_to_lem}
+use Rattle.qo_sound.specs.DeviceScope.{AddLeaves, anonymous_after}
+use Rattle.qo_sound.specs.PlugOutcomes as comes
+use Rattle.qo_sound.proofs.DeviceScopeLemmas.{devices_stay_lem}
+use Rattle.qo_sound.proofs.PlugOutcomesLemmas.{plug_comes_to_lem}
 use Rattle.qo_values.specs.declared.codes.Code.{Code}
 use Rattle.qo_values.specs.declared.kinds.TypeId.{TypeId}
 use Rattle.qo_realize.specs.Answers.{Plugs}
-use Rattle.qo_realize.specs.Good.{Good}
+use Rattle.qo_realize.specs.GoodBoard.{Good}
 use Rattle.qo_realize.specs.Parts.{Parts, counts, parts_of}
-use Rattle.qo_realize.specs.Stands.{Stands, StandsForGood}
-use Rattle.qo_realize.proofs.StandsLemmas.{stands-by}
-use Rattle.qo_realize.proofs.SoundLemmas.{added-good, cut_as-good, root-pinned}
+use Rattle.qo_realize.specs.Representation.{Stands, StandsForGood}
+use Rattle.qo_realize.proofs.RepresentationLemmas.{stands-by}
+use Rattle.qo_realize.proofs.GoodBoardLemmas.{added-good, cut_as-good, root-pinned}
 
 abbrev pub the : (T : Type 0) → T → T
 the T x = x
@@ -41,7 +41,15 @@ the T x = x
 pub is_shown : (b : Board) (rings : List Ring) (anonymous : ℕ) (running : Bool) (holds : HoldList) (asked : Asked) (v : Objects)
     → Stands b (parts_of rings anonymous running holds asked v) → Good b → IsShown b anonymous holds.births rings asked v
 is_shown b rings anonymous running holds asked v s good =
-    record { shown = s.shows; anonymous_is = s.anonymous; holds_are = s.holds; rings_are = s.rings; pending = s.pending; notices = s.notices; sound = good.devices.tree }
+    record {
+      shown = s.shows;
+      anonymous_is = s.anonymous;
+      holds_are = s.holds;
+      rings_are = s.rings;
+      pending = s.pending;
+      notices = s.notices;
+      sound = good.devices.tree;
+    }
 
 -- of an add all stays but objects, births, notes, notices and the number of accepted adds; of one that is refused the last two stay too
 pub record Leaves (b c : Board) : Type 0 where
@@ -64,14 +72,14 @@ taken-anonymous b a is =
     let came : comes.Added b a (plug b a).board = plug_comes_to_lem.added b a is in
     ap (λ (c : Board). c.anonymous) came.board ∙ devices_stay_lem.counted b came.row.id a _ ∙ same a.id
   where
-    same : (id : Option (List ℕ)) → anonymous_behind b id ≡ counts b.anonymous id
+    same : (id : Option (List ℕ)) → anonymous_after b id ≡ counts b.anonymous id
     same None = omega arith
     same (Some id) = refl
 
 -- an attempt that was cut leaves all beside the objects
 cut-leaves : (b : Board) (a : Wanted) (i : ℕ) (joined : Bool) → Stays b (cut_as b a i joined)
 unfolding cut_as
-cut-leaves b a i joined = by (type_barred a.driver) (row_named a.driver)
+cut-leaves b a i joined = by (type_barred a.driver) (type_named a.driver)
   where
     none : Stays b b
     none = record { anonymous = refl; now = refl; running = refl; holds = refl; pending = refl; notices = refl; rings = refl }
@@ -80,17 +88,17 @@ cut-leaves b a i joined = by (type_barred a.driver) (row_named a.driver)
     some t true = (devices_stay_lem.cut b t i joined).stays
     some t false = none
 
-    free : (row : TypeRow) (bar : Option (ℕ × Code)) → Stays b (elim bar as (λ o. Board) [ None ↦ cut_of b row.id i joined | Some found ↦ b ])
+    free : (row : TypeInfo) (bar : Option (ℕ × Code)) → Stays b (elim bar as (λ o. Board) [ None ↦ cut_of b row.id i joined | Some found ↦ b ])
     free row None = some row.id (nat_le 1 i && nat_le i (objects_in row.id))
     free row (Some found) = none
 
-    by : (bar : Option Code) (row : Option TypeRow)
-        → Stays b (elim bar as (λ o. Board) [ Some code ↦ b | None ↦ option_map_or (λ (row : TypeRow). cut_open b a row i joined) row b ])
+    by : (bar : Option Code) (row : Option TypeInfo)
+        → Stays b (elim bar as (λ o. Board) [ Some code ↦ b | None ↦ option_map_or (λ (row : TypeInfo). cut_open b a row i joined) row b ])
     by (Some code) row = none
     by None None = none
     by None (Some row) = free row (barred_early b row.id a)
 
--- the board behind an add stands
+-- the board after an add stands
 came-stands : (b : Board) (a : Wanted) (rings : List Ring) (anonymous next : ℕ) (running : Bool) (holds : HoldList) (old new : Asked)
     (v w : Objects) (d : device.Added)
     → Stands b (parts_of rings anonymous running holds old v) → IsAdded b a d new w → (plug b a).board.anonymous ≡ next → KeepsBook v w
@@ -126,16 +134,16 @@ added-stands b a rings anonymous next running holds old new v w d s came is keep
     (came.refusal, came-stands b a rings anonymous next running holds old new v w d s came count keeps, came.kept)
 
 -- an attempt that was cut is that of these words
-cut_as-is : (b : Board) (a : Wanted) (t : TypeId) (i : ℕ) (joined : Bool) → option_map (λ (row : TypeRow). row.id) (row_named a.driver) ≡ Some t
+cut_as-is : (b : Board) (a : Wanted) (t : TypeId) (i : ℕ) (joined : Bool) → option_map (λ (row : TypeInfo). row.id) (type_named a.driver) ≡ Some t
     → type_barred a.driver ≡ None → barred_early b t a ≡ None
     → 1 ≤ i → i ≤ objects_in t → cut_as b a i joined ≡ cut_attempt b t i joined
 unfolding cut_as rows.types
-cut_as-is b a t i joined named unbarred early low high = rw unbarred (by (row_named a.driver) refl)
+cut_as-is b a t i joined named unbarred early low high = rw unbarred (by (type_named a.driver) refl)
   where
     within : (nat_le 1 i && nat_le i (objects_in t)) ≡ true
     within = rw (le-leb 1 i low, le-leb i (objects_in t) high) refl
 
-    by : (row : Option TypeRow) → row_named a.driver ≡ row → option_map_or (λ (row : TypeRow). cut_open b a row i joined) row b ≡ cut_attempt b t i joined
+    by : (row : Option TypeInfo) → type_named a.driver ≡ row → option_map_or (λ (row : TypeInfo). cut_open b a row i joined) row b ≡ cut_attempt b t i joined
     by None is = absurd (let clash : None ≡ Some t = rw is at named in cc)
     by (Some row) is =
         let same : row.id ≡ t = same_Some row.id t (rw is at named) in
@@ -163,11 +171,16 @@ barred-stands b a rings anonymous running holds old new v w Memory s refused mem
         subst (λ (h : Asked). Stands c (parts_of rings anonymous running holds h w)) (sym same)
         (cut-stands b c rings anonymous running holds old v w s stays shows keeps)
 
-    short : (t : TypeId) → option_map (λ (row : TypeRow). row.id) (row_named a.driver) ≡ Some t → type_barred a.driver ≡ None
+    short : (t : TypeId) → option_map (λ (row : TypeInfo). row.id) (type_named a.driver) ≡ Some t → type_barred a.driver ≡ None
         → barred_early b t a ≡ None → CutShort b t w → Plugs b a (Err Memory) (parts_of rings anonymous running holds new w)
     short t named unbarred early (inl shows) = inl (stands b (same-stays b) shows)
     short t named unbarred early (inr (i, joined, low, high, shows)) =
-        inr (i, joined, stands (cut_as b a i joined) (cut-leaves b a i joined) (subst (λ (c : Board). Shows c w) (sym (cut_as-is b a t i joined named unbarred early low high)) shows))
+        inr (
+          i,
+          joined,
+          stands (cut_as b a i joined) (cut-leaves b a i joined)
+              (subst (λ (c : Board). Shows c w) (sym (cut_as-is b a t i joined named unbarred early low high)) shows),
+        )
 
     by : IsCut b a w → Plugs b a (Err Memory) (parts_of rings anonymous running holds new w)
     by (inl shows) = inl (stands b (same-stays b) shows)

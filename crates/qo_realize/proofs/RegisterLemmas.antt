@@ -1,4 +1,4 @@
--- The registers of a device as the guest reads and writes them: what the heap's body has is the board's, and what stands behind a write.
+-- The registers of a device as the guest reads and writes them: what the heap's body has is the board's, and what stands after a write.
 use Rattle.std.proofs.Common.{◌≡◌, refl, ap, ap₂, sym, subst, ◌∙◌, ℕ, Bool, List, [], count_by, Option, None, Some, IfNone, IfSome, is_some, option_map, arith}
 use Rattle.std.specs.Option.{option_map_or}
 use Rattle.std.proofs.lemmas.Option.{same_Some}
@@ -13,7 +13,7 @@ use Rattle.qo_kinds.specs.declared.bodies.Effect as told
 use Rattle.qo_slots.specs.declared.keys.Key.{Key}
 use Rattle.qo_table.specs.Rows.{IsLive}
 use Rattle.qo_object.specs.Content.{Content}
-use Rattle.qo_object.specs.Shown.{shown}
+use Rattle.qo_object.specs.BoardObject.{shown}
 use Rattle.qo_model.specs.Board.{Board, Record, record_of, Ring}
 use Rattle.qo_model.specs.Clocks.{ClocksFit, device_period}
 use Rattle.qo_model.specs.Devices.{first_bus}
@@ -23,25 +23,25 @@ use Rattle.qo_heap.specs.Book.{claim_eq, kept_times}
 use Rattle.qo_heap.specs.Objects.{IsHeap, Objects, content_of, with_edit}
 use Rattle.qo_heap.proofs.BookLemmas.{book-put}
 use Rattle.qo_heap.proofs.HeapLemmas.{edit-is, edit-same, live-edit}
-use Rattle.qo_heap.proofs.ShowsEdits.{shows-edit}
-use Rattle.qo_heap.proofs.ShowsLive.{live-content}
-use Rattle.qo_heap.proofs.ShowsReads.{shows-record}
-use Rattle.qo_hotplug.specs.Asked.{Asked}
+use Rattle.qo_heap.proofs.BoardEdits.{shows-edit}
+use Rattle.qo_heap.proofs.BoardObjects.{live-content}
+use Rattle.qo_heap.proofs.BoardReads.{shows-record}
+use Rattle.qo_hotplug.specs.Hotplug.{Asked}
 use Rattle.qo_properties.specs.Claims.{KeepsBook}
-use Rattle.qo_properties.specs.Pinned.{OnlyRootPinned}
-use Rattle.qo_registers.specs.Effects.{effect_told}
+use Rattle.qo_properties.specs.Pins.{OnlyRootPinned}
+use Rattle.qo_registers.specs.Effects.{shown_effect}
 use Rattle.qo_reset.specs.HoldList.{HoldList}
 use Rattle.qo_reset.specs.Phases.{Holds}
-use Rattle.qo_sound.proofs.DevicesStayLemmas.{devices_stay_lem}
-use Rattle.qo_sound_clocks.specs.RegistersKept.{registers_set, with_registers}
+use Rattle.qo_sound.proofs.DeviceScopeLemmas.{devices_stay_lem}
+use Rattle.qo_sound_clocks.specs.RegisterWrites.{registers_set, with_registers}
 use Rattle.qo_sound_clocks.specs.SoundTimes as boards
 use Rattle.qo_sound_clocks.proofs.TimesLemmas.{times_kept_lem}
-use Rattle.qo_realize.specs.Good.{Good}
+use Rattle.qo_realize.specs.GoodBoard.{Good}
 use Rattle.qo_realize.specs.Parts.{Parts, parts_of}
-use Rattle.qo_realize.specs.Registers.{GuestWrites, HasWritten, IsHeld, Written, behind_effect, guest_written, registers_at, registers_written}
-use Rattle.qo_realize.specs.Stands.{Stands, StandsForGood}
-use Rattle.qo_realize.proofs.SoundLemmas.{root-pinned, written-good}
-use Rattle.qo_realize.proofs.WrittenLemmas.{WriteLeaves, written-leaves}
+use Rattle.qo_realize.specs.Registers.{GuestWrites, HasWritten, IsHeld, Written, after_effect, guest_written, registers_at, registers_written}
+use Rattle.qo_realize.specs.Representation.{Stands, StandsForGood}
+use Rattle.qo_realize.proofs.GoodBoardLemmas.{root-pinned, written-good}
+use Rattle.qo_realize.proofs.RegisterWriteLemmas.{WriteLeaves, written-leaves}
 
 -- the body of an object that is there
 body-there : (v : Objects) (o : Key) (body : Body) → IsLive v.rows o → option_map (λ (c : Content). c.body) (content_of v o.birth) ≡ Some body
@@ -107,7 +107,7 @@ shows-put b v s n body = shows-edit n (put body) b v s (with_registers (register
 pub has-written : (b : Board) (v : Objects) → Shows b v → (o : Key) (old new : Body) (reg value : ℕ) → IsLive v.rows o
     → option_map (λ (c : Content). c.body) (content_of v o.birth) ≡ Some old → (ring : Bool) (time period : ℕ) → ring ≡ is_some (claimed_ring b o.birth)
     → time ≡ v.time → period ≡ device_period b o.birth → (result : Option told.Effect)
-    → option_map (λ (e : told.Effect). (registers_of new, effect_told e)) result ≡ body_write (registers_of old) reg value ring time period
+    → option_map (λ (e : told.Effect). (registers_of new, shown_effect e)) result ≡ body_write (registers_of old) reg value ring time period
     → HasWritten b o.birth (registers_written b o.birth reg value) result (with_edit o.birth (put new) v)
 has-written b v s o old new reg value live is ring time period claimed at by result came =
     go result
@@ -115,7 +115,7 @@ has-written b v s o old new reg value live is ring time period claimed at by res
     (came ∙ board-call (λ (r : Registers) (now p : ℕ). body_write r reg value ring now p) b v s o old live is time period at by
     ∙ ap (λ (x : Bool). body_write (registers_at b o.birth) reg value x b.now (device_period b o.birth)) claimed))
   where
-    go : (r : Option told.Effect) → registers_written b o.birth reg value ≡ option_map (λ (e : told.Effect). (registers_of new, effect_told e)) r
+    go : (r : Option told.Effect) → registers_written b o.birth reg value ≡ option_map (λ (e : told.Effect). (registers_of new, shown_effect e)) r
         → HasWritten b o.birth (registers_written b o.birth reg value) r (with_edit o.birth (put new) v)
     go None e = e
     go (Some x) e = (registers_of new, e, shows-put b v s o.birth new)
@@ -149,33 +149,33 @@ put-live v o new live = live-edit o.birth (put new) v.rows o live
 
 -- a bus goes through a pulse, which leaves the rings
 pub pulse-held : (b : Board) (d m : ℕ) (holds next : List ℕ) (rings : List Ring) (v w : Objects) → IsHeld b holds rings v → first_bus b d ≡ Some m
-    → Holds (pulse b m) next w → IsHeld (behind_effect d effect.pulse b) next rings w
-pulse-held b d m holds next rings v w h is behind =
+    → Holds (pulse b m) next w → IsHeld (after_effect d effect.pulse b) next rings w
+pulse-held b d m holds next rings v w h is after =
     subst (λ (bus : Option ℕ). IsHeld (option_map_or (pulse b) bus b) next rings w) (sym is)
-    (record { held = behind; rings_are = (devices_stay_lem.pulsed b m).rings ∙ h.rings_are })
+    (record { held = after; rings_are = (devices_stay_lem.pulsed b m).rings ∙ h.rings_are })
 
--- the board behind the write
+-- the board after the write
 pub was-written : (b : Board) (d reg value : ℕ) (e : told.Effect) (holds next : List ℕ) (rings others : List Ring) (v w : Objects) → b.holds ≡ holds
     → b.rings ≡ rings → HasWritten b d (registers_written b d reg value) (Some e) v
-    → ((c : Board) → IsHeld c holds rings v → IsHeld (behind_effect d (effect_told e) c) next others w)
+    → ((c : Board) → IsHeld c holds rings v → IsHeld (after_effect d (shown_effect e) c) next others w)
     → Written (guest_written b d reg value) (Some tt) next others w
 was-written b d reg value e holds next rings others v w held kept (registers, is, shows) through = (
-  behind_effect d (effect_told e) (registers_set b d registers),
-  ap (option_map (λ (x : Registers × Effect). behind_effect d x.1 (registers_set b d x.0))) is,
+  after_effect d (shown_effect e) (registers_set b d registers),
+  ap (option_map (λ (x : Registers × Effect). after_effect d x.1 (registers_set b d x.0))) is,
   through (registers_set b d registers) (record { held = (shows, held); rings_are = kept }),
 )
 
--- what stands behind it
+-- what stands after it
 
 module _ (rings others : List Ring) (anonymous : ℕ) (running : Bool) (old new : HoldList) (asked : Asked) (v w : Objects) (book : KeepsBook v w)
     (d reg value : ℕ) where
   abbrev before : Parts
   before = parts_of rings anonymous running old asked v
 
-  abbrev behind : Parts
-  behind = parts_of others anonymous running new asked w
+  abbrev after : Parts
+  after = parts_of others anonymous running new asked w
 
-  written-stands : (b c : Board) → Stands b before → WriteLeaves b c → IsHeld c new.births others w → Stands c behind
+  written-stands : (b c : Board) → Stands b before → WriteLeaves b c → IsHeld c new.births others w → Stands c after
   written-stands b c s l h =
       record {
         shows = h.held.0;
@@ -188,22 +188,22 @@ module _ (rings others : List Ring) (anonymous : ℕ) (running : Bool) (old new 
         book = book [] s.book;
       }
 
-  same-parts : (w ≡ v) × (new.births ≡ old.births) × (others ≡ rings) → behind ≡ before
+  same-parts : (w ≡ v) × (new.births ≡ old.births) × (others ≡ rings) → after ≡ before
   same-parts h =
       ap (λ (r : List Ring). parts_of r anonymous running new asked w) h.2
       ∙ ap₂ (λ (x : Objects) (holds : List ℕ). parts_of rings anonymous running (record { births = holds; spare = 0 }) asked x) h.0 h.1
 
   pub write-stands : (b : Board) (result : Option (Unit {0})) → Stands b before → Written (guest_written b d reg value) result new.births others w
-      → GuestWrites (guest_written b d reg value) result behind
+      → GuestWrites (guest_written b d reg value) result after
   write-stands b (Some u) s (c, is, held) = (c, is, written-stands b c s (written-leaves b d reg value c is) held)
   write-stands b None s is = is
 
-  stands-pinned : (b : Board) → Stands b behind → Good b → OnlyRootPinned w × StandsForGood behind
-  stands-pinned b s good = (root-pinned b behind s good, (b, s, good))
+  stands-pinned : (b : Board) → Stands b after → Good b → OnlyRootPinned w × StandsForGood after
+  stands-pinned b s good = (root-pinned b after s good, (b, s, good))
 
   pub write-keeps : (result : Option (Unit {0})) → StandsForGood before
       → ((b : Board) → IsHeld b old.births rings v → ClocksFit b → Written (guest_written b d reg value) result new.births others w)
-      → IfNone result ((w ≡ v) × (new.births ≡ old.births) × (others ≡ rings)) → OnlyRootPinned w × StandsForGood behind
+      → IfNone result ((w ≡ v) × (new.births ≡ old.births) × (others ≡ rings)) → OnlyRootPinned w × StandsForGood after
   write-keeps None (b, s, good) h same = stands-pinned b (subst (λ (p : Parts). Stands b p) (sym (same-parts same)) s) good
   write-keeps (Some u) (b, s, good) h same =
       let (c, is, held) = h b (record { held = (s.shows, s.holds); rings_are = s.rings }) good.clocks.fit in

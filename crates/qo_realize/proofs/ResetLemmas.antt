@@ -4,18 +4,18 @@ use Rattle.std.specs.Prelude.{slice_get}
 use Rattle.qo_values.specs.declared.births.TheConstants.{MACHINE_BIRTH, ROOT_BIRTH}
 use Rattle.qo_slots.specs.declared.keys.Key.{Key}
 use Rattle.qo_object.specs.Content.{Content}
-use Rattle.qo_object.specs.Shown.{birth_of}
+use Rattle.qo_object.specs.BoardObject.{birth_of}
 use Rattle.qo_model.specs.Board.{Board, is_live}
 use Rattle.qo_model.specs.Hotplug.{all_completed, completed}
 use Rattle.qo_model.specs.Unplug.{first_of}
 use Rattle.qo_heap.specs.Objects.{content_of}
-use Rattle.qo_heap.proofs.ShowsReads.{shows-live}
+use Rattle.qo_heap.proofs.BoardReads.{shows-live}
 use Rattle.qo_sound.proofs.ViewLemmas.{rest-from_sound}
 use Rattle.qo_sound_devices.specs.SoundLists.{IsOn}
 use Rattle.qo_sound_devices.proofs.PlacesLemmas.{child-live, stands-live}
 use Rattle.qo_sound_devices.proofs.ResetLemmas.{first-on}
 use Rattle.qo_realize.specs.Parts.{Parts}
-use Rattle.qo_realize.specs.Stands.{Stands, StandsForGood}
+use Rattle.qo_realize.specs.Representation.{Stands, StandsForGood}
 
 -- what is said where there is none
 pub none-said : {T : Type 0} (o : Option T) (P : Type 0) → ((x : T) → o ≡ Some x → ⊥) → IfNone o P → P

@@ -1,14 +1,14 @@
--- What stands behind each stage of an add.
+-- What stands after each stage of an add.
 use Rattle.std.proofs.Common.{◌≡◌, refl, ap, sym, subst, ◌∙◌, ℕ, ◌≤◌, Bool, true, Option, Some, Ok, Err, Result, arith, List}
 use Rattle.std.proofs.lemmas.Option.{same_Some}
-use Rattle.qo_hotplug.specs.Asked.{Asked}
+use Rattle.qo_hotplug.specs.Hotplug.{Asked}
 use Rattle.qo_model.specs.Board.{Board, Ring}
 use Rattle.qo_model.specs.Plug.{Wanted, objects_in, plug_attempt}
-use Rattle.qo_model.specs.Stays.{Stays}
+use Rattle.qo_model.specs.ChangeScope.{Stays}
 use Rattle.qo_heap.specs.Board.{Shows}
 use Rattle.qo_heap.specs.Objects.{Objects}
-use Rattle.qo_plug.specs.Added.{IfRefused}
-use Rattle.qo_plug.specs.Adding.{IsAdded, IsCut, IsRefused, IsShown}
+use Rattle.qo_plug.specs.Admission.{IfRefused}
+use Rattle.qo_plug.specs.Answers.{IsAdded, IsCut, IsRefused, IsShown}
 use Rattle.qo_plug.specs.Stages.{IsBegun, IsBeside, IsSettled}
 use Rattle.qo_plug.specs.declared.adding.Added as device
 use Rattle.qo_plug.specs.declared.beginning.Begun.{Begun}
@@ -19,17 +19,17 @@ use Rattle.qo_plug.proofs.PlugSteps.{cut-whole}
 use Rattle.qo_plug.proofs.StageLemmas.{passed-making, passed-placing}
 use Rattle.qo_properties.specs.Claims.{KeepsBook}
 use Rattle.qo_reset.specs.HoldList.{HoldList}
-use Rattle.qo_sound.proofs.DevicesStayLemmas.{devices_stay_lem}
+use Rattle.qo_sound.proofs.DeviceScopeLemmas.{devices_stay_lem}
 use Rattle.qo_values.specs.declared.codes.Code.{Code}
 use Rattle.qo_values.specs.declared.codes.Code.TheVariants.{E44}
 use Rattle.qo_values.specs.declared.kinds.TypeId.{TypeId}
 use Rattle.qo_realize.specs.Answers.{Plugs}
-use Rattle.qo_realize.specs.Good.{Good}
+use Rattle.qo_realize.specs.GoodBoard.{Good}
 use Rattle.qo_realize.specs.Parts.{Parts, counts, parts_of}
 use Rattle.qo_realize.specs.Stages.{IsDrafted, IsPlugged, IsWithin, Since}
-use Rattle.qo_realize.specs.Stands.{Stands, StandsForGood}
+use Rattle.qo_realize.specs.Representation.{Stands, StandsForGood}
 use Rattle.qo_realize.proofs.PlugLemmas.{added-stands, barred-stands, cut-stands, is_shown, the}
-use Rattle.qo_realize.proofs.SoundLemmas.{given_up-good}
+use Rattle.qo_realize.proofs.GoodBoardLemmas.{given_up-good}
 
 -- the book is kept on from step to step
 books : (u v w : Objects) → KeepsBook u v → KeepsBook v w → KeepsBook u w

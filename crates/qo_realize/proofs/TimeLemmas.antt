@@ -4,12 +4,12 @@ use Rattle.std.specs.Prelude.{nat_lt}
 use Rattle.qo_values.specs.declared.limits.TheConstants.{TIME_MAX}
 use Rattle.qo_model.specs.Board.{Board, Ring}
 use Rattle.qo_heap.specs.Objects.{Objects}
-use Rattle.qo_hotplug.specs.Asked.{Asked}
+use Rattle.qo_hotplug.specs.Hotplug.{Asked}
 use Rattle.qo_reset.specs.HoldList.{HoldList}
 use Rattle.qo_realize.specs.Parts.{parts_of}
-use Rattle.qo_realize.specs.Stands.{Stands, StandsForGood}
+use Rattle.qo_realize.specs.Representation.{Stands, StandsForGood}
 use Rattle.qo_realize.specs.Time.{at_time, with_running}
-use Rattle.qo_realize.proofs.SoundLemmas.{switched-good, timed-good}
+use Rattle.qo_realize.proofs.GoodBoardLemmas.{switched-good, timed-good}
 
 -- the heap's time is the board's
 pub timed-stands : (b : Board) (rings : List Ring) (anonymous : ℕ) (running : Bool) (holds : HoldList) (asked : Asked) (v : Objects) (time : ℕ)

@@ -11,11 +11,11 @@ use Rattle.qo_model.specs.Devices.{child_named}
 use Rattle.qo_model.specs.Objects.{Changed, object_del}
 use Rattle.qo_heap.specs.Board.{Shows}
 use Rattle.qo_heap.specs.Objects.{Objects, content_of}
-use Rattle.qo_heap.proofs.ShowsReads.{shows-record}
-use Rattle.qo_object.specs.Shown.{shown}
+use Rattle.qo_heap.proofs.BoardReads.{shows-record}
+use Rattle.qo_object.specs.BoardObject.{shown}
 use Rattle.qo_realize.specs.Answers.{IsAnswered}
 use Rattle.qo_realize.specs.Parts.{Parts}
-use Rattle.qo_realize.specs.Stands.{Stands}
+use Rattle.qo_realize.specs.Representation.{Stands}
 use Rattle.qo_realize.specs.Users.{has_dimm, is_used, object_removed}
 
 abbrev removed_as : Board → List ℕ → Bool → Changed

@@ -1,18 +1,18 @@
--- The board that stands is good behind a write of a property, also of a clock's.
+-- The board that stands is good after a write of a property, also of a clock's.
 use Rattle.std.proofs.Common.{◌≡◌, ap, subst, ℕ, ◌^◌, ◌<◌, List, Ok}
 use Rattle.qo_values.specs.declared.properties.Val.{Val}
 use Rattle.qo_model.specs.Access.{write_at}
 use Rattle.qo_model.specs.Board.{Board}
 use Rattle.qo_model.specs.ClockChanges.{clock_scaled, clock_set}
 use Rattle.qo_model.specs.Clocks.{div_of, mul_of}
-use Rattle.qo_model.specs.FinalNotesRuns.{behind_write, wrote}
+use Rattle.qo_model.specs.FinalNotesRuns.{after_write, wrote}
 use Rattle.qo_model.proofs.ClockPropertyLemmas.{write_at-cases}
-use Rattle.qo_sound_clocks.proofs.KeepLemmas.{writes_keep_lem}
+use Rattle.qo_sound_clocks.proofs.WriteLawLemmas.{writes_keep_lem}
 use Rattle.qo_sound_clocks.proofs.LawLemmas.{clocks_kept_lem}
 use Rattle.qo_sound_clocks.proofs.NumbersLemmas.{numbers_kept_lem}
 use Rattle.qo_sound_clocks.proofs.TimesLemmas.{times_kept_lem}
-use Rattle.qo_realize.specs.Good.{Good}
-use Rattle.qo_realize.proofs.SoundLemmas.{changed-good}
+use Rattle.qo_realize.specs.GoodBoard.{Good}
+use Rattle.qo_realize.proofs.GoodBoardLemmas.{changed-good}
 
 -- a clock that was written
 
@@ -38,7 +38,7 @@ scaled-good b d c mul div narrow thin is h =
 pub wrote-good : (b d : Board) (path name : List ℕ) (v : Val) → write_at b path name v ≡ Ok d → Good b → Good d
 wrote-good b d path name v is good =
     write_at-cases (Good d) b d
-    (λ n name v q. subst Good (ap (behind_write b) q) (changed-good b (wrote n name v) good))
+    (λ n name v q. subst Good (ap (after_write b) q) (changed-good b (wrote n name v) good))
     (λ c period fits q. set-good b d c period fits q good)
     (λ c mul fits q. scaled-good b d c mul (div_of b c) fits (good.numbers c).div q good)
     (λ c div fits q. scaled-good b d c (mul_of b c) div (good.numbers c).mul fits q good)

@@ -4,7 +4,7 @@ use Rattle.qo_values.specs.declared.codes.Code.{Code}
 use Rattle.qo_model.specs.Board.{Board}
 use Rattle.qo_model.specs.Objects.{Changed, Given, attempted_as, object_add}
 use Rattle.qo_model.specs.Plug.{Wanted, plug}
-use Rattle.qo_plug.specs.Adding.{KeepsGiven}
+use Rattle.qo_plug.specs.Answers.{KeepsGiven}
 use Rattle.qo_plug.specs.Cuts.{cut_as}
 use Rattle.qo_plug.specs.declared.adding.Added.{Added}
 use Rattle.qo_plug.specs.declared.refusals.AddRefusal.{AddRefusal}
@@ -13,7 +13,7 @@ use Rattle.qo_properties.specs.Changes.{refusal_in}
 use Rattle.qo_properties.specs.declared.refusals.Refusal.{Refusal}
 use Rattle.qo_properties.specs.declared.refusals.Refusal.TheVariants.{Refused, Memory}
 use Rattle.qo_realize.specs.Parts.{Parts}
-use Rattle.qo_realize.specs.Stands.{Stands}
+use Rattle.qo_realize.specs.Representation.{Stands}
 
 -- a write that a definition gives: the board that is given, or refused as it is given, or there was not enough memory
 abbrev pub Writes : Parts → Result (Unit {0}) Refusal → Result Board Code → Type 0

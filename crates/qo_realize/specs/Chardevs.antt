@@ -17,7 +17,7 @@ use Rattle.qo_rings.specs.declared.rings.TheConstants.{RING_SIZE_DEFAULT}
 use Rattle.qo_properties.specs.declared.refusals.Refusal.{Refusal}
 use Rattle.qo_properties.specs.declared.refusals.Refusal.TheVariants.{Refused, Memory}
 use Rattle.qo_realize.specs.Parts.{Parts}
-use Rattle.qo_realize.specs.Stands.{Stands}
+use Rattle.qo_realize.specs.Representation.{Stands}
 
 -- a board with other rings, and one that refuses
 abbrev pub with_rings : List Ring → Board → Board
@@ -50,7 +50,7 @@ removal_barred b id = if not (has_ring b id) then Some E36 else if list_any (cla
 abbrev pub chardev_removed : Board → List ℕ → Changed
 chardev_removed b id = by_code b (with_rings (without_ring id b.rings) b) (removal_barred b id)
 
--- what reading a ring comes to: the text, or the code that refuses it; and the board behind it
+-- what reading a ring comes to: the text, or the code that refuses it; and the board after it
 pub record Reading : Type 0 where
   pub text : Result (List ℕ) Code
   pub board : Board
@@ -67,13 +67,14 @@ ring_read b id most form =
 abbrev pub ringbuf_read : Board → List ℕ → ℕ → Option Form → Reading
 ringbuf_read b id most form = ring_read b id most (unwrap_or form Utf8)
 
--- bytes go behind those of a ring
+-- bytes go after those of a ring
 abbrev pub written_as : Board → List ℕ → Option (List ℕ) → Changed
 written_as b id None = record { refusal = Some E19; board = b }
 written_as b id (Some bytes) = record { refusal = None; board = with_rings (ring_changed (λ m. ring_add m bytes) id b.rings) b }
 
 abbrev pub ring_written : Board → List ℕ → List ℕ → Form → Changed
-ring_written b id text form = elim (ring_named id b.rings) [ None ↦ record { refusal = Some E36; board = b } | Some r ↦ written_as b id (given_bytes form text) ]
+ring_written b id text form =
+    elim (ring_named id b.rings) [ None ↦ record { refusal = Some E36; board = b } | Some r ↦ written_as b id (given_bytes form text) ]
 
 abbrev pub ringbuf_written : Board → List ℕ → List ℕ → Option Form → Changed
 ringbuf_written b id text form = ring_written b id text (unwrap_or form Utf8)

@@ -1,12 +1,12 @@
 pub mod Answers
 pub mod Chardevs
-pub mod Good
+pub mod GoodBoard
 pub mod Guest
 pub mod Parts
 pub mod Registers
 pub mod Removals
 pub mod Resets
 pub mod Stages
-pub mod Stands
+pub mod Representation
 pub mod Time
 pub mod Users

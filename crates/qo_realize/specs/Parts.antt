@@ -2,7 +2,7 @@
 use Rattle.std.specs.Prelude.{ℕ, ◌+◌, Bool, List, Option, None, Some}
 use Rattle.qo_model.specs.Board.{Notice, Ring}
 use Rattle.qo_heap.specs.Objects.{Objects}
-use Rattle.qo_hotplug.specs.Asked.{Asked}
+use Rattle.qo_hotplug.specs.Hotplug.{Asked}
 use Rattle.qo_reset.specs.HoldList.{HoldList}
 
 pub record Parts : Type 0 where
@@ -22,7 +22,7 @@ abbrev pub parts_of : List Ring → ℕ → Bool → HoldList → Asked → Obje
 parts_of rings anonymous running holds asked v =
     record { objects = v; anonymous = anonymous; running = running; holds = holds.births; pending = asked.pending; notices = asked.notices; rings = rings }
 
--- how many devices without an id were added behind one more, with an id or without
+-- how many devices without an id were added after one more, with an id or without
 abbrev pub counts : ℕ → Option (List ℕ) → ℕ
 counts n None = n + 1
 counts n (Some id) = n

@@ -1,6 +1,6 @@
 -- What is asked for of devices, as the board has it, and how asking for a removal changes it.
 use Rattle.std.specs.Prelude.{◌≡◌, None, Some, Result, Ok, Err, ⊤}
-use Rattle.qo_hotplug.specs.Asked.{Asked}
+use Rattle.qo_hotplug.specs.Hotplug.{Asked}
 use Rattle.qo_model.specs.Board.{Board}
 use Rattle.qo_model.specs.Objects.{Changed}
 use Rattle.qo_properties.specs.declared.refusals.Refusal.{Refusal}

@@ -12,9 +12,9 @@ use Rattle.qo_plug.specs.declared.placing.Placed.{Placed}
 use Rattle.qo_plug.specs.declared.refusals.AddRefusal.{AddRefusal}
 use Rattle.qo_plug.specs.declared.refusals.AddRefusal.TheVariants.{Refused, Memory}
 use Rattle.qo_realize.specs.Answers.{Plugs}
-use Rattle.qo_realize.specs.Good.{Good}
+use Rattle.qo_realize.specs.GoodBoard.{Good}
 use Rattle.qo_realize.specs.Parts.{Parts, counts}
-use Rattle.qo_realize.specs.Stands.{Stands}
+use Rattle.qo_realize.specs.Representation.{Stands}
 use Rattle.qo_realize.specs.declared.stages.NotAdded.{NotAdded}
 
 -- what is seen of it: the board's parts, the device, and how many without an id will have been added
@@ -72,6 +72,6 @@ abbrev pub Finishes : Board → Wanted → Result (Parts × Added) NotAdded → 
 Finishes b a (Ok done) = Plugs b a (Ok done.1) done.0
 Finishes b a (Err e) = (e.refusal ≡ Refused 8 E44) × Plugs b a (Err e.refusal) e.board
 
--- the board behind a draft that was abandoned: nothing is left but births and notes
+-- the board after a draft that was abandoned: nothing is left but births and notes
 abbrev pub given_up : Board → Drafting → Board
 given_up b d = plug_attempt b d.begun.site.kind d.begun.site.bus.birth 4

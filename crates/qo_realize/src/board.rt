@@ -41,9 +41,9 @@ pub struct Board {
 }
 
 impl Model for Board {
-    ghost use Rattle.qo_properties.specs.Pinned.{OnlyRootPinned};
+    ghost use Rattle.qo_properties.specs.Pins.{OnlyRootPinned};
     ghost use Rattle.qo_realize.specs.Parts.{Parts, parts_of};
-    ghost use Rattle.qo_realize.specs.Stands.{StandsForGood};
+    ghost use Rattle.qo_realize.specs.Representation.{StandsForGood};
 
     ghost Value = { Parts };
 
@@ -52,7 +52,7 @@ impl Model for Board {
     ghost invariant = { λ b. OnlyRootPinned b.heap × StandsForGood (parts_of b.rings b.anonymous b.running b.resets b.hotplug b.heap) };
 }
 
-/// How many devices without an id there are behind the add of one, with an id or without; `None` where
+/// How many devices without an id there are after the add of one, with an id or without; `None` where
 /// that is more than 64 bits hold.
 pub(crate) fn next_anonymous(anonymous: u64, id: Option<&str>) -> Option<u64>
     ensures { IfSome result (λ n. n ≡ counts anonymous (option_map (λ t. t.now) id.entry)) }
@@ -63,7 +63,7 @@ pub(crate) fn next_anonymous(anonymous: u64, id: Option<&str>) -> Option<u64>
     }
 }
 
-/// The moment so many ns behind another; `None` exactly past the greatest one.
+/// The moment so many ns after another; `None` exactly past the greatest one.
 fn later(now: u64, ns: u64) -> Option<u64>
     ensures { result ≡ (if nat_lt TIME_MAX (now + ns) then None else Some (now + ns)) }
 {
@@ -82,7 +82,7 @@ impl Board {
     ghost use Rattle.qo_table.specs.Rows.{IsLive};
     ghost use Rattle.qo_values.specs.TypeTexts.{text_of};
     ghost use Rattle.qo_model.specs.Board as model;
-    ghost use Rattle.qo_model.specs.Detachment.{detached_told};
+    ghost use Rattle.qo_model.specs.Detachment.{detached_listed};
     ghost use Rattle.qo_model.specs.NoteReplies.{first_from, given_from};
     ghost use Rattle.qo_model.specs.Notes.{total_of};
     ghost use Rattle.qo_model.specs.Objects as objects;
@@ -92,11 +92,11 @@ impl Board {
     ghost use Rattle.qo_buses.specs.Addresses.{addressed};
     ghost use Rattle.qo_model.specs.Depth.{among};
     ghost use Rattle.qo_model.specs.Hotplug.{asked, completed, refused};
-    ghost use Rattle.qo_object.specs.Shown.{birth_of};
-    ghost use Rattle.qo_plug.specs.Added.{wanted};
+    ghost use Rattle.qo_object.specs.BoardObject.{birth_of};
+    ghost use Rattle.qo_plug.specs.Admission.{wanted};
     ghost use Rattle.qo_realize.specs.Answers.{Adds, Changes, IsAnswered, Plugs, Writes};
     ghost use Rattle.qo_realize.specs.Guest.{address_of, first_notice, polled};
-    ghost use Rattle.qo_realize.specs.Stands.{Stands, StandsForGood};
+    ghost use Rattle.qo_realize.specs.Representation.{Stands, StandsForGood};
     ghost use Rattle.qo_realize.specs.Users.{object_removed};
     ghost use Rattle.qo_realize.specs.Time.{Advances, advanced, switches, with_running};
 
@@ -223,7 +223,7 @@ impl Board {
         alloc: Global,
         steps: &mut Steps<L>,
     ) -> Result<Vec<Detached>, AllocError>
-        ensures { (b : model.Board) → Stands b self.now → IfOk result (λ list. list.items ≡ detached_told b) }
+        ensures { (b : model.Board) → Stands b self.now → IfOk result (λ list. list.items ≡ detached_listed b) }
     {
         detached_list(&self.heap, alloc, steps)
     }
@@ -267,7 +267,7 @@ impl Board {
     }
 
     /// Writes the property of a name of the object at a path (QEMU's QAPI, `qom-set`). A link takes
-    /// the path of its target, or the empty text for none; what it held is finalised where nothing
+    /// the path of its target, or the empty text for none; what it held is finalized where nothing
     /// refers to it any more. A clock takes a number for its period, its mul and its div, the first
     /// also by the device's alias for it; the devices of the clocks below are called back. Refused
     /// with E15 where a path leads to no object and E16 where to several, E17 where the object has no
@@ -295,7 +295,7 @@ impl Board {
     /// `E21` where it is abstract, `E22` where users may not make it, `E23` where the id is malformed,
     /// `E15` where `/objects` is not there, `E24` where it has such a slot, and `E43` at `LIVE_OBJECTS_MAX` objects;
     /// the board is then as it was. A property that is refused, the first in the order given, is so
-    /// with `E17`, `E18`, `E19`, `E15`, `E16` or `E31` behind an attempt that is given up: the object
+    /// with `E17`, `E18`, `E19`, `E15`, `E16` or `E31` after an attempt that is given up: the object
     /// was made and ended. Where memory wants, the board is as it was, or an attempt was given up.
     pub fn object_add<L: Ledger>(
         &mut self,
@@ -310,7 +310,7 @@ impl Board {
         add_object(&mut self.heap, driver, id, props, alloc, steps)
     }
 
-    /// Removes the user's object of an id: its slot at `/objects` is let go, and it is finalised
+    /// Removes the user's object of an id: its slot at `/objects` is let go, and it is finalized
     /// where nothing else refers to it (QEMU's QAPI, `object-del`). `E15` comes exactly where there
     /// is no such slot, and `E32` exactly where it is a memory backend on which a DIMM stands. An error
     /// leaves the board as it was.
@@ -324,7 +324,7 @@ impl Board {
         remove(&mut self.heap, id, steps)
     }
 
-    /// Cuts the strong links of a detached object, in order, which is held meanwhile and finalised
+    /// Cuts the strong links of a detached object, in order, which is held meanwhile and finalized
     /// in the end where nothing refers to it (the profile's `x-sever`). `E33` comes exactly where no
     /// object of that birth is live, else `E50` exactly where it is attached. An error leaves the
     /// board as it was.
@@ -338,7 +338,7 @@ impl Board {
     /// Adds a device of a type's name, under an id if one is given, to the bus at a path or the one that
     /// its type goes on, with values for its properties (QEMU's QAPI, `device_add`): by the stages of
     /// docs/PROFILE.md. The first condition of a stage that stands on the board before is the refusal;
-    /// behind stage 3 and `E43` one is refused behind an attempt that is given up. Where memory wants,
+    /// after stage 3 and `E43` one is refused after an attempt that is given up. Where memory wants,
     /// the board is as it was, or an attempt was cut.
     pub fn add<L: Ledger>(
         &mut self,

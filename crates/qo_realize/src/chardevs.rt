@@ -6,7 +6,7 @@ ghost use Rattle.qo_model.specs.Board.{Board as Tree};
 ghost use Rattle.qo_heap.specs.Board.{Shows};
 ghost use Rattle.qo_realize.specs.Answers.{Changes, IsAnswered};
 ghost use Rattle.qo_realize.specs.Chardevs.{AnswersRings, ChangesRings, ReadsRing, TakesRing, chardev_added, chardev_removed, ring_added, ring_read, ring_written, ringbuf_read, ringbuf_written};
-ghost use Rattle.qo_realize.specs.Stands.{Stands};
+ghost use Rattle.qo_realize.specs.Representation.{Stands};
 
 use crate::board::Board;
 use qo_backends::is_ring_claimed;

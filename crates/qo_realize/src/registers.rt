@@ -9,10 +9,10 @@ ghost use Rattle.qo_table.specs.Rows.{IsLive};
 ghost use Rattle.qo_heap.specs.Board.{Shows};
 ghost use Rattle.qo_heap.specs.Objects.{content_of};
 ghost use Rattle.qo_properties.specs.Claims.{KeepsBook};
-ghost use Rattle.qo_registers.specs.Effects.{effect_told};
+ghost use Rattle.qo_registers.specs.Effects.{shown_effect};
 ghost use Rattle.qo_backends.specs.Rings.{claimed_ring};
-ghost use Rattle.qo_realize.specs.Registers.{GuestWrites, HasWritten, IsHeld, Written, behind_effect, guest_read, guest_written, registers_written};
-ghost use Rattle.qo_realize.specs.Stands.{Stands};
+ghost use Rattle.qo_realize.specs.Registers.{GuestWrites, HasWritten, IsHeld, Written, after_effect, guest_read, guest_written, registers_written};
+ghost use Rattle.qo_realize.specs.Representation.{Stands};
 
 use crate::board::Board;
 use qo_backends::claimed_ring;
@@ -59,7 +59,7 @@ fn write_register<L: Ledger>(
 /// Adds a byte to the ring that a device has claimed; it goes nowhere where there is none.
 fn send<L: Ledger>(heap: &Heap, rings: &mut Rings, dev: Oid, byte: u8, steps: &mut Steps<L>)
     requires { IsLive heap.now.rows dev }
-    ensures { (b : Tree) → (holds : List ℕ) → IsHeld b holds rings.old heap.now → IsHeld (behind_effect dev.birth (bodies.byte byte) b) holds rings.new heap.now }
+    ensures { (b : Tree) → (holds : List ℕ) → IsHeld b holds rings.old heap.now → IsHeld (after_effect dev.birth (bodies.byte byte) b) holds rings.new heap.now }
 {
     if let Some(id) = claimed_ring(heap, dev, steps) {
         rings.push(id.as_str(), byte);
@@ -69,7 +69,7 @@ fn send<L: Ledger>(heap: &Heap, rings: &mut Rings, dev: Oid, byte: u8, steps: &m
 /// The first bus of a device goes through the phases of a reset.
 fn pulse_bus<L: Ledger>(heap: &mut Heap, resets: &mut Resets, dev: Oid, steps: &mut Steps<L>)
     requires { IsLive heap.old.rows dev }
-    ensures shown { (b : Tree) → (rings : List Ring) → IsHeld b resets.old.births rings heap.old → IsHeld (behind_effect dev.birth bodies.pulse b) resets.new.births rings heap.new }
+    ensures shown { (b : Tree) → (rings : List Ring) → IsHeld b resets.old.births rings heap.old → IsHeld (after_effect dev.birth bodies.pulse b) resets.new.births rings heap.new }
     ensures book { KeepsBook heap.old heap.new }
 {
     if let Some(bus) = first_bus(heap, dev, steps) {
@@ -88,7 +88,7 @@ fn do_beside<L: Ledger>(
     steps: &mut Steps<L>,
 )
     requires { IsLive heap.old.rows dev }
-    ensures shown { (b : Tree) → IsHeld b resets.old.births rings.old heap.old → IsHeld (behind_effect dev.birth (effect_told effect) b) resets.new.births rings.new heap.new }
+    ensures shown { (b : Tree) → IsHeld b resets.old.births rings.old heap.old → IsHeld (after_effect dev.birth (shown_effect effect) b) resets.new.births rings.new heap.new }
     ensures book { KeepsBook heap.old heap.new }
 {
     match effect {

@@ -7,7 +7,7 @@ ghost use Rattle.qo_model.specs.Hotplug.{all_completed, reset_whole};
 ghost use Rattle.qo_model.specs.Reset.{pulse};
 ghost use Rattle.qo_model.specs.Unplug.{first_of};
 ghost use Rattle.qo_values.specs.declared.births.TheConstants.{MACHINE_BIRTH};
-ghost use Rattle.qo_object.specs.Shown.{birth_of};
+ghost use Rattle.qo_object.specs.BoardObject.{birth_of};
 ghost use Rattle.qo_table.specs.Rows.{IsLive};
 ghost use Rattle.qo_heap.specs.Acts.{Acts};
 ghost use Rattle.qo_heap.specs.Board.{Shows};
@@ -15,7 +15,7 @@ ghost use Rattle.qo_properties.specs.Reads.{birth_told};
 ghost use Rattle.qo_reset.specs.Phases.{Holds};
 ghost use Rattle.qo_realize.specs.Answers.{Changes, IsAnswered};
 ghost use Rattle.qo_realize.specs.Resets.{Releases, Resets as Holding, held_at, released_at, resettable_at};
-ghost use Rattle.qo_realize.specs.Stands.{Stands};
+ghost use Rattle.qo_realize.specs.Representation.{Stands};
 
 use crate::board::Board;
 use qo_heap::{Heap, Oid, Steps};

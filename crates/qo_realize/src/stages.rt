@@ -4,10 +4,10 @@
 ghost use Rattle.std.specs.Prelude.{◌≡◌, option_map};
 ghost use Rattle.qo_model.specs.Board as model;
 ghost use Rattle.qo_model.specs.Plug.{Wanted};
-ghost use Rattle.qo_plug.specs.Added.{wanted};
+ghost use Rattle.qo_plug.specs.Admission.{wanted};
 ghost use Rattle.qo_realize.specs.Parts.{parts_of};
 ghost use Rattle.qo_realize.specs.Stages.{Begins, Finishes, IsDrafted, IsPlugged, Places, given_up};
-ghost use Rattle.qo_realize.specs.Stands.{Stands, StandsForGood};
+ghost use Rattle.qo_realize.specs.Representation.{Stands, StandsForGood};
 
 use crate::board::{Board, next_anonymous};
 use qo_heap::{Heap, Steps};
@@ -20,7 +20,7 @@ use std::alloc::Global;
 use std::marker::Model;
 use std::sync::ledger::Ledger;
 
-/// Why a device is not added, with the board behind that.
+/// Why a device is not added, with the board after that.
 #[derive(Drop)]
 pub struct NotAdded {
     /// The board.
@@ -181,7 +181,7 @@ impl Board {
 impl Draft {
     /// Places the device, by the stages 5 to 7: it stands in a slot of its bus. Refused, as by `add`, by
     /// the first condition of these stages that stands: with `E28`, `E29`, `E30`, `E42`, or `E38` to `E41`
-    /// (stage 5), `E36` or `E37` (6), behind an attempt that is given up. Where memory wants, an attempt was cut.
+    /// (stage 5), `E36` or `E37` (6), after an attempt that is given up. Where memory wants, an attempt was cut.
     pub fn place<L: Ledger>(self, alloc: Global, steps: &mut Steps<L>) -> Result<Plugged, NotAdded>
         ensures { (b : model.Board) (a : Wanted) → IsDrafted b a self → Places b a result }
     {
@@ -222,7 +222,7 @@ impl Draft {
 
 impl Plugged {
     /// Finishes the device, by the last stage: it is realized, goes through the phases, and the guest is
-    /// told. Refused with `E44` (stage 8) exactly where as many notices wait as may, behind an attempt
+    /// told. Refused with `E44` (stage 8) exactly where as many notices wait as may, after an attempt
     /// that is given up. It takes no memory, and there is no other error.
     pub fn finish<L: Ledger>(self, steps: &mut Steps<L>) -> Result<(Board, Added), NotAdded>
         ensures { (b : model.Board) (a : Wanted) → IsPlugged b a self → Finishes b a result }

@@ -5,34 +5,34 @@ use Rattle.std.proofs.Math.Seq.{take-append_seam}
 use Rattle.std.proofs.lemmas.List.{append_cancel_right, length-take-le, take-append-drop, take-append-le}
 use Rattle.std.specs.Io.KnownBytes.{prepend_known}
 use Rattle.qo_causes.specs.declared.inputs.Input.{Input}
-use Rattle.qo_record.proofs.ReadingLemmas.{behind_is, none_some, some_is}
+use Rattle.qo_record.proofs.ReadingLemmas.{after_is, none_some, some_is}
 use Rattle.qo_record.proofs.RecordLemmas.{entries_parted, goes_on, nothing_left}
-use Rattle.qo_record.specs.Reading.{behind}
+use Rattle.qo_record.specs.Reading.{after_front}
 use Rattle.qo_record.specs.Record.{Read, entries_from, stopped, stream_inputs}
-use Rattle.qo_record.specs.Replays.{Gave, Progress, ahead_of, inputs_ahead, inputs_from, read_from, stream_behind, unread, with_front}
+use Rattle.qo_record.specs.Replays.{Gave, Progress, ahead_of, inputs_ahead, inputs_from, read_from, stream_after, unread, with_front}
 use Rattle.qo_record.specs.Spelling.{entries_text, header, none_open, opened_by_all}
 
 -- a whole stream, read
 abbrev pub stream_read : List ℕ → Read
-stream_read bytes = stream_behind bytes (behind header bytes)
+stream_read bytes = stream_after bytes (after_front header bytes)
 
-behind_inputs : (bytes : List ℕ) (r : Option (List ℕ)) → behind header bytes ≡ r → (stream_behind bytes r).inputs ≡ stream_inputs bytes
-behind_inputs bytes None h = rw h refl
-behind_inputs bytes (Some rest) h = rw h refl
+after_inputs : (bytes : List ℕ) (r : Option (List ℕ)) → after_front header bytes ≡ r → (stream_after bytes r).inputs ≡ stream_inputs bytes
+after_inputs bytes None h = rw h refl
+after_inputs bytes (Some rest) h = rw h refl
 
 pub read_inputs : (headed : Bool) (opened : List Bool) (bytes : List ℕ) → (read_from headed opened bytes).inputs ≡ inputs_from headed opened bytes
 read_inputs true opened bytes = refl
-read_inputs false opened bytes = behind_inputs bytes (behind header bytes) refl
+read_inputs false opened bytes = after_inputs bytes (after_front header bytes) refl
 
 -- how long a stream with inputs is
-behind_size : (bytes : List ℕ) (r : Option (List ℕ)) → behind header bytes ≡ r → 0 < length ((stream_behind bytes r).inputs) →
-    length bytes ≡ 7 + length (entries_text ((stream_behind bytes r).inputs)) + length ((stream_behind bytes r).left)
-behind_size bytes None h some = absurd (omega (arith, some))
-behind_size bytes (Some rest) h some =
+after_size : (bytes : List ℕ) (r : Option (List ℕ)) → after_front header bytes ≡ r → 0 < length ((stream_after bytes r).inputs) →
+    length bytes ≡ 7 + length (entries_text ((stream_after bytes r).inputs)) + length ((stream_after bytes r).left)
+after_size bytes None h some = absurd (omega (arith, some))
+after_size bytes (Some rest) h some =
     let r : Read = entries_from none_open rest in
     omega (
       arith,
-      ap (length {A = ℕ}) (behind_is header bytes rest h),
+      ap (length {A = ℕ}) (after_is header bytes rest h),
       length-append header rest,
       ap (length {A = ℕ}) (entries_parted none_open rest).parts,
       length-append (entries_text r.inputs) r.left,
@@ -40,17 +40,17 @@ behind_size bytes (Some rest) h some =
 
 stream_size : (bytes : List ℕ) → 0 < length ((stream_read bytes).inputs) →
     length bytes ≡ 7 + length (entries_text ((stream_read bytes).inputs)) + length ((stream_read bytes).left)
-stream_size bytes some = behind_size bytes (behind header bytes) refl some
+stream_size bytes some = after_size bytes (after_front header bytes) refl some
 
 -- more bytes take no input away
-behind_more : (bytes more : List ℕ) (r : Option (List ℕ)) → behind header bytes ≡ r →
-    (others : List Input) × (stream_inputs (bytes ++ more) ≡ (stream_behind bytes r).inputs ++ others)
-behind_more bytes more None h = (stream_inputs (bytes ++ more), refl)
-behind_more bytes more (Some rest) h =
+after_more : (bytes more : List ℕ) (r : Option (List ℕ)) → after_front header bytes ≡ r →
+    (others : List Input) × (stream_inputs (bytes ++ more) ≡ (stream_after bytes r).inputs ++ others)
+after_more bytes more None h = (stream_inputs (bytes ++ more), refl)
+after_more bytes more (Some rest) h =
     let r : Read = entries_from none_open rest in
     let p = entries_parted none_open rest in
     let whole : bytes ++ more ≡ header ++ (entries_text r.inputs ++ (r.left ++ more)) =
-    ap (λ (l : List ℕ). l ++ more) (behind_is header bytes rest h) ∙ append_assoc header rest more
+    ap (λ (l : List ℕ). l ++ more) (after_is header bytes rest h) ∙ append_assoc header rest more
     ∙ ap (λ (l : List ℕ). header ++ (l ++ more)) p.parts ∙ ap (λ (l : List ℕ). header ++ l) (append_assoc (entries_text r.inputs) r.left more) in (
       (entries_from (opened_by_all none_open r.inputs) (r.left ++ more)).inputs,
       ap stream_inputs whole ∙ ap (λ (q : Read). q.inputs) (goes_on r.inputs none_open (r.left ++ more) p.fit),
@@ -58,8 +58,8 @@ behind_more bytes more (Some rest) h =
 
 pub stream_more : (bytes more : List ℕ) → (others : List Input) × (stream_inputs (bytes ++ more) ≡ stream_inputs bytes ++ others)
 stream_more bytes more =
-    let p = behind_more bytes more (behind header bytes) refl in
-    (p.0, p.1 ∙ ap (λ (l : List Input). l ++ p.0) (behind_inputs bytes (behind header bytes) refl))
+    let p = after_more bytes more (after_front header bytes) refl in
+    (p.0, p.1 ∙ ap (λ (l : List Input). l ++ p.0) (after_inputs bytes (after_front header bytes) refl))
 
 -- of two fronts of one list the shorter is a front of the longer
 front_of_front : (xs ys more last : List Input) → xs ++ last ≡ ys ++ more → length ys ≤ length xs → (others : List Input) × (xs ≡ ys ++ others)
@@ -75,7 +75,7 @@ no_more xs (y ∷ ys) few = absurd (omega (arith, few, length-append xs (y ∷ y
 text_size : (t bytes : List ℕ) (given : List Input) → stream_read bytes ≡ record { inputs = given; left = [] } → stream_inputs t ≡ given → 0 < length given →
     length bytes ≤ length t
 text_size t bytes given all same some =
-    let front : (stream_read t).inputs ≡ given = behind_inputs t (behind header t) refl ∙ same in
+    let front : (stream_read t).inputs ≡ given = after_inputs t (after_front header t) refl ∙ same in
     let whole : (stream_read bytes).inputs ≡ given = ap (λ (r : Read). r.inputs) all in
     let size_t = stream_size t (omega (arith, some, ap (length {A = Input}) front)) in
     let size = stream_size bytes (omega (arith, some, ap (length {A = Input}) whole)) in
@@ -96,7 +96,7 @@ covered_by bytes t rest given before last all split short parts single = go (ord
 
     given_is : given ≡ front ++ more.0
     given_is =
-        ap (λ (r : Read). r.inputs) (sym all) ∙ behind_inputs bytes (behind header bytes) refl ∙ ap stream_inputs split ∙ more.1
+        ap (λ (r : Read). r.inputs) (sym all) ∙ after_inputs bytes (after_front header bytes) refl ∙ ap stream_inputs split ∙ more.1
 
     order : (a b : ℕ) → (a ≤ b) ⊎ (b < a)
     order a b = grind arith
@@ -143,7 +143,7 @@ given_whole p left_old left_new bytes given h =
     ap stream_read (sym (append-nil bytes)) ∙ h.gave [] ∙ ap (with_front given) (none_ahead p.headed p.opened)
     ∙ ap (λ (l : List Input). record { inputs = l; left = [] }) (append-nil given)
 
--- they are the first of the inputs, with any bytes behind them
+-- they are the first of the inputs, with any bytes after them
 pub given_first : (p : Progress) (left_old left_new : Option (List ℕ)) (bytes : List ℕ) (given : List Input) (more : List ℕ) →
     Gave unread p left_old left_new bytes given → stream_inputs (bytes ++ more) ≡ given ++ inputs_from p.headed p.opened more
 given_first p left_old left_new bytes given more h =

@@ -1,4 +1,4 @@
--- The entries of a demo record, written one behind the other, and that they may stand.
+-- The entries of a demo record, written one after the other, and that they may stand.
 use Rattle.std.proofs.Common.{◌≡◌, ℕ, zero, suc, ◌+◌, ◌-◌, ◌*◌, ◌%◌, ◌^◌, ◌<◌, ◌≤◌, Bool, true, false, if◌then◌else◌, ◌==◌}
 use Rattle.std.proofs.Common.{List, [], ◌∷◌, ◌++◌, length, codes, decimal}
 use Rattle.std.proofs.Common.{refl, sym, ◌∙◌, ap, subst, arith, append_assoc, length-append, Result, Ok, Err, OnOk}
@@ -19,23 +19,23 @@ pub next_is : (x : ℕ) → (x * 6364136223846793005 % 18446744073709551616 + 14
 unfolding next_number
 next_is x = mod-add-mod (x * 6364136223846793005) 18446744073709551616 1442695040888963407
 
--- An entry, behind what there is.
+-- An entry, after what there is.
 
 regrouped : (old word moment told : List ℕ) → (old ++ (word ++ (moment ++ 32 ∷ []))) ++ told ≡ old ++ (word ++ (moment ++ 32 ∷ told))
 regrouped old word moment told = simp append_assoc
 
-pub behind_start : {E : Type 0} (r : Result Unit E) (old mid new word moment rest told : List ℕ) → mid ≡ old ++ (word ++ (moment ++ 32 ∷ [])) →
+pub after_start : {E : Type 0} (r : Result Unit E) (old mid new word moment rest told : List ℕ) → mid ≡ old ++ (word ++ (moment ++ 32 ∷ [])) →
     told ≡ rest → OnOk r (new ≡ mid ++ told) → OnOk r (new ≡ old ++ (word ++ (moment ++ 32 ∷ rest)))
-behind_start (Ok u) old mid new word moment rest told start same put =
+after_start (Ok u) old mid new word moment rest told start same put =
     put ∙ ap (λ (l : List ℕ). l ++ told) start ∙ regrouped old word moment told ∙ ap (λ (l : List ℕ). old ++ (word ++ (moment ++ 32 ∷ l))) same
-behind_start (Err e) old mid new word moment rest told start same put = tt
+after_start (Err e) old mid new word moment rest told start same put = tt
 
--- two parts that were put one behind the other
+-- two parts that were put one after the other
 pub put_twice : {E : Type 0} (r : Result Unit E) (old mid new xs ys : List ℕ) → mid ≡ old ++ xs → OnOk r (new ≡ mid ++ ys) → OnOk r (new ≡ old ++ (xs ++ ys))
 put_twice (Ok u) old mid new xs ys first put = put ∙ ap (λ (l : List ℕ). l ++ ys) first ∙ append_assoc old xs ys
 put_twice (Err e) old mid new xs ys first put = tt
 
--- the number of session 0, with what stands behind it
+-- the number of session 0, with what stands after it
 pub session_zero : (rest : List ℕ) → 48 ∷ rest ≡ decimal 0 ++ rest
 session_zero rest = ap (λ (l : List ℕ). l ++ rest) (sym (decimal_digit 0 (omega arith)))
 
@@ -45,7 +45,7 @@ pub same_text : {E : Type 0} (r : Result Unit E) (new old : List ℕ) (second : 
 same_text r new old second text wanted same put =
     subst (λ (l : List ℕ). OnOk r (new ≡ old ++ entry_text (at_second second (Bytes 0 l)))) same put
 
--- Steps, one behind the other.
+-- Steps, one after the other.
 
 abbrev left_text : ℕ → ℕ → ℕ → List ℕ
 left_text more x second = entries_text (demo_steps more x second)
@@ -58,20 +58,20 @@ none_written seed steps =
     ∙ append_assoc header (entries_text demo_start) (left_text steps seed 1)
     ∙ ap (λ (l : List ℕ). header ++ l) (sym (flat_map-append entry_text demo_start (demo_steps steps seed 1)))
 
-pub one_written : (steps i j x y : ℕ) (before behind whole : List ℕ) → i < steps → before ++ left_text (steps - i) x (i + 1) ≡ whole →
-    j ≡ i → behind ≡ before ++ entry_text (demo_step x (j + 1)) → y ≡ next_number (next_number x) → behind ++ left_text (steps - (i + 1)) y (i + 1 + 1) ≡ whole
-one_written steps i j x y before behind whole within is same put drawn_twice =
+pub one_written : (steps i j x y : ℕ) (before after whole : List ℕ) → i < steps → before ++ left_text (steps - i) x (i + 1) ≡ whole →
+    j ≡ i → after ≡ before ++ entry_text (demo_step x (j + 1)) → y ≡ next_number (next_number x) → after ++ left_text (steps - (i + 1)) y (i + 1 + 1) ≡ whole
+one_written steps i j x y before after whole within is same put drawn_twice =
     let more : ℕ = steps - (i + 1) in
     let count : steps - i ≡ suc more = omega arith in
     let last : List ℕ = left_text more (next_number (next_number x)) (i + 1 + 1) in
-    ap (λ (n : ℕ). behind ++ left_text more n (i + 1 + 1)) drawn_twice
+    ap (λ (n : ℕ). after ++ left_text more n (i + 1 + 1)) drawn_twice
     ∙ ap (λ (l : List ℕ). l ++ last) (put ∙ ap (λ (n : ℕ). before ++ entry_text (demo_step x (n + 1))) same)
     ∙ append_assoc before (entry_text (demo_step x (i + 1))) last
     ∙ ap (λ (n : ℕ). before ++ left_text n x (i + 1)) (sym count) ∙ is
 
 -- The entries of a demo may stand.
 
--- it may stand, and the same sessions are open behind it
+-- it may stand, and the same sessions are open after it
 record Stays (opened : List Bool) (what : What) : Type 0 where
   fits : FitsWhat opened what
   same : opened_by opened what ≡ opened
@@ -92,21 +92,21 @@ gone ns some few = record { fits = (some, few); same = refl }
 digit_size : (n : ℕ) → n < 8 → length (decimal n) ≤ 1
 digit_size n few = length-decimal-le 1 n (omega arith) (omega arith) (omega arith)
 
-number_fits : (before behind : List ℕ) (n : ℕ) → n < 8 → 1 ≤ length before → length before + length behind ≤ 60000 → FitsPiece (with_number before n behind)
-number_fits before behind n few some size = (
-  omega (arith, length-append (before ++ decimal n) behind, length-append before (decimal n)),
-  omega (arith, digit_size n few, length-append (before ++ decimal n) behind, length-append before (decimal n)),
+number_fits : (before after : List ℕ) (n : ℕ) → n < 8 → 1 ≤ length before → length before + length after ≤ 60000 → FitsPiece (with_number before n after)
+number_fits before after n few some size = (
+  omega (arith, length-append (before ++ decimal n) after, length-append before (decimal n)),
+  omega (arith, digit_size n few, length-append (before ++ decimal n) after, length-append before (decimal n)),
 )
 
 plugging_fits : (driver : List ℕ) (n : ℕ) → n < 8 → length driver ≤ 60000 → FitsPiece (plugging driver n)
 plugging_fits driver n few size =
     let head : List ℕ = codes "{\"execute\":\"device_add\",\"arguments\":{\"driver\":\"" in
     let before : List ℕ = codes "\",\"id\":\"d" in
-    let behind : List ℕ = codes "\",\"slot\":" in
-    let id : List ℕ = with_number before n behind in
+    let after : List ℕ = codes "\",\"slot\":" in
+    let id : List ℕ = with_number before n after in
     let slot : List ℕ = with_number [] n (line_of (codes "}}")) in
     let id_size : length id ≤ 20 =
-    omega (arith, digit_size n few, length-append (before ++ decimal n) behind, length-append before (decimal n)) in
+    omega (arith, digit_size n few, length-append (before ++ decimal n) after, length-append before (decimal n)) in
     let slot_size : length slot ≤ 4 = omega (arith, digit_size n few, length-append (decimal n) (line_of (codes "}}"))) in (
       omega (arith, length-append ((head ++ driver) ++ id) slot, length-append (head ++ driver) id, length-append head driver),
       omega (arith, size, id_size, slot_size, length-append ((head ++ driver) ++ id) slot, length-append (head ++ driver) id, length-append head driver),

@@ -9,22 +9,22 @@ use Rattle.qo_causes.specs.declared.inputs.Moment.{Moment}
 use Rattle.qo_causes.specs.declared.inputs.What.{What}
 use Rattle.qo_causes.specs.declared.inputs.What.TheVariants.{Open, Bytes, Shut, Guest, Step, End}
 use Rattle.qo_record.specs.Laws.{EntriesAreSpelled}
-use Rattle.qo_record.specs.Reading.{◌>>=◌, or_else, behind, digits_of, number_until}
-use Rattle.qo_record.specs.Record.{bytes_at, entry_at, entry_of, guest_at, moment_at, moment_behind, open_at, piece_at, piece_of, shut_at, step_at}
+use Rattle.qo_record.specs.Reading.{◌>>=◌, or_else, after_front, digits_of, number_until}
+use Rattle.qo_record.specs.Record.{bytes_at, entry_at, entry_of, guest_at, moment_at, moment_after, open_at, piece_at, piece_of, shut_at, step_at}
 use Rattle.qo_record.specs.Spelling.{Fits, FitsMoment, FitsPiece, FitsWhat, entry_text, is_open, last_digits, moment_text, piece_text, rest_text, word_text}
-use Rattle.qo_record.proofs.ReadingLemmas.{behind_again, behind_is, bind_some, digits_are_last, last_are_digits, number_again, number_taken, some_is}
+use Rattle.qo_record.proofs.ReadingLemmas.{after_again, after_is, bind_some, digits_are_last, last_are_digits, number_again, number_taken, some_is}
 use Rattle.qo_record.proofs.ReadingLemmas.{when_false, when_true}
 
--- A moment, and the space behind it.
+-- A moment, and the space after it.
 
 moment_taken : (bytes : List ℕ) (m : Moment × List ℕ) → moment_at bytes ≡ Some m → FitsMoment m.0 × (bytes ≡ moment_text m.0 ++ 32 ∷ m.1)
 moment_taken bytes m h =
     let s = bind_some (number_until 46 (2 ^ 63 - 1) bytes) _ m h in
     let t = bind_some (digits_of 6 0 s.0.1) _ m s.2 in
-    let u = bind_some (behind (32 ∷ []) t.0.1) _ m t.2 in
+    let u = bind_some (after_front (32 ∷ []) t.0.1) _ m t.2 in
     let seconds = number_taken 46 (2 ^ 63 - 1) bytes s.0 (omega arith) s.1 in
     let micros = digits_are_last 6 s.0.1 0 t.0 t.1 in
-    let space = behind_is (32 ∷ []) t.0.1 u.0 u.1 in
+    let space = after_is (32 ∷ []) t.0.1 u.0 u.1 in
     let made : (record { seconds = s.0.0; micros = t.0.0 }, u.0) ≡ m = some_is u.2 in
     let whole : bytes ≡ (decimal s.0.0 ++ 46 ∷ last_digits 6 t.0.0) ++ 32 ∷ u.0 =
     seconds.1 ∙ ap (λ (l : List ℕ). decimal s.0.0 ++ 46 ∷ l) (micros.1 ∙ ap (λ (l : List ℕ). last_digits 6 t.0.0 ++ l) space)
@@ -42,7 +42,7 @@ moment_again m rest fits =
     ap (λ (k : ℕ). digits_of 6 k (last_digits 6 m.micros ++ 32 ∷ rest)) (sym none) ∙ last_are_digits 6 m.micros (32 ∷ rest) (omega (arith, fits.1)) in
     rw (spelled, seconds, micros) refl
 
--- Some bytes behind their number.
+-- Some bytes after their number.
 
 piece_taken : (bytes : List ℕ) (p : List ℕ × List ℕ) → piece_at bytes ≡ Some p → FitsPiece p.0 × (bytes ≡ piece_text p.0 ++ p.1)
 piece_taken bytes p h =
@@ -50,12 +50,12 @@ piece_taken bytes p h =
     let len : ℕ = s.0.0 in
     let left : List ℕ = s.0.1 in
     let size = number_taken 10 65536 bytes s.0 (omega arith) s.1 in
-    let g = when_false ((len == 0) || nat_lt (length left) len) (behind (10 ∷ []) (drop len left) >>= λ rest. Some (take len left, rest)) p s.2 in
-    let t = bind_some (behind (10 ∷ []) (drop len left)) (λ (rest : List ℕ). Some (take len left, rest)) p g.1 in
+    let g = when_false ((len == 0) || nat_lt (length left) len) (after_front (10 ∷ []) (drop len left) >>= λ rest. Some (take len left, rest)) p s.2 in
+    let t = bind_some (after_front (10 ∷ []) (drop len left)) (λ (rest : List ℕ). Some (take len left, rest)) p g.1 in
     let some : 1 ≤ len = grind (arith, nat_tests, g.0) in
     let there : len ≤ length left = grind (arith, nat_tests, g.0) in
     let is : length (take len left) ≡ len = length-take-le len left there in
-    let line = behind_is (10 ∷ []) (drop len left) t.0 t.1 in
+    let line = after_is (10 ∷ []) (drop len left) t.0 t.1 in
     let made : (take len left, t.0) ≡ p = some_is t.2 in
     let content : left ≡ (take len left ++ 10 ∷ []) ++ t.0 =
     sym (take-append-drop len left) ∙ ap (λ (l : List ℕ). take len left ++ l) line ∙ sym (append_assoc (take len left) (10 ∷ []) t.0) in
@@ -75,7 +75,7 @@ piece_again piece rest fits =
     let test : ((len == 0) || nat_lt (length (piece ++ 10 ∷ rest)) len) ≡ false = grind (arith, nat_tests, more, fits.0) in
     rw (spelled, size, test, take-append_seam piece (10 ∷ rest), drop-append_seam piece (10 ∷ rest)) refl
 
--- What stands behind the moment, for each word.
+-- What stands after the moment, for each word.
 
 record IsWhat (word : List ℕ) (opened : List Bool) (bytes : List ℕ) (what : What) (rest : List ℕ) : Type 0 where
   worded : word_text what ≡ word
@@ -141,13 +141,13 @@ of_word : (word : List ℕ) (what_at : List ℕ → Option (What × List ℕ)) (
     ((left : List ℕ) (w : What × List ℕ) → what_at left ≡ Some w → IsWhat word opened left w.0 w.1) → entry_of word what_at bytes ≡ Some e →
     IsRead opened bytes e
 of_word word what_at opened bytes e taken h =
-    let t = bind_some (moment_behind word bytes) _ e h in
-    let s = bind_some (behind word bytes) (λ (rest : List ℕ). moment_at rest) t.0 t.1 in
+    let t = bind_some (moment_after word bytes) _ e h in
+    let s = bind_some (after_front word bytes) (λ (rest : List ℕ). moment_at rest) t.0 t.1 in
     let u = bind_some (what_at t.0.1) _ e t.2 in
     let moment = moment_taken s.0 t.0 s.2 in
     let what = taken t.0.1 u.0 u.1 in
     let whole : bytes ≡ entry_text (record { at = t.0.0; what = u.0.0 }) ++ u.0.1 =
-    behind_is word bytes s.0 s.1 ∙ ap (λ (l : List ℕ). word ++ l) (moment.1 ∙ ap (λ (l : List ℕ). moment_text t.0.0 ++ 32 ∷ l) what.spelled)
+    after_is word bytes s.0 s.1 ∙ ap (λ (l : List ℕ). word ++ l) (moment.1 ∙ ap (λ (l : List ℕ). moment_text t.0.0 ++ 32 ∷ l) what.spelled)
     ∙ ap (λ (l : List ℕ). l ++ (moment_text t.0.0 ++ 32 ∷ (rest_text u.0.0 ++ u.0.1))) (sym what.worded)
     ∙ sym (entry_spelled (word_text u.0.0) (moment_text t.0.0) (rest_text u.0.0) u.0.1) in
     subst (λ (y : Input × List ℕ). IsRead opened bytes y) (some_is u.2) (whole, (moment.0, what.fits))
@@ -181,7 +181,7 @@ record IsAgain (what_at : List ℕ → Option (What × List ℕ)) (what : What) 
 word_again : (what_at : List ℕ → Option (What × List ℕ)) (at : Moment) (what : What) (rest : List ℕ) → FitsMoment at → IsAgain what_at what rest → entry_of
     (word_text what) what_at (word_text what ++ (moment_text at ++ 32 ∷ (rest_text what ++ rest))) ≡ Some (record { at = at; what = what }, rest)
 word_again what_at at what rest moment again =
-    rw (behind_again (word_text what) (moment_text at ++ 32 ∷ (rest_text what ++ rest)), moment_again at (rest_text what ++ rest) moment, again.read) refl
+    rw (after_again (word_text what) (moment_text at ++ 32 ∷ (rest_text what ++ rest)), moment_again at (rest_text what ++ rest) moment, again.read) refl
 
 open_again : (opened : List Bool) (s : ℕ) (rest : List ℕ) → FitsWhat opened (Open s) → IsAgain (open_at opened) (Open s) rest
 open_again opened s rest fits =

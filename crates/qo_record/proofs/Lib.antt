@@ -5,5 +5,5 @@ pub mod RecordLemmas
 pub mod WindowLemmas
 pub mod ReplayLemmas
 pub mod CoverLemmas
-pub mod WaitingLemmas
+pub mod PartialEntryLemmas
 pub mod DemoLemmas

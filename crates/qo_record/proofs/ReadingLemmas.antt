@@ -9,7 +9,7 @@ use Rattle.std.proofs.lemmas.Fmt.{decimal_by_steps, decimal_digit, decimal_step}
 use Rattle.std.proofs.lemmas.List.{take-append-drop}
 use Rattle.std.proofs.lemmas.Slice.Eq.{bytes_eq-Decides}
 use Rattle.std.specs.Str.{bytes_eq}
-use Rattle.qo_record.specs.Reading.{◌>>=◌, behind, digits_of, digits_until, next_of, number_until}
+use Rattle.qo_record.specs.Reading.{◌>>=◌, after_front, digits_of, digits_until, next_of, number_until}
 use Rattle.qo_record.specs.Spelling.{last_digits}
 
 -- Where something was read in the end, each part was read.
@@ -39,15 +39,15 @@ when_false false p y h = (refl, h)
 
 -- A front.
 
-pub behind_is : (front bytes rest : List ℕ) → behind front bytes ≡ Some rest → bytes ≡ front ++ rest
-behind_is front bytes rest h =
+pub after_is : (front bytes rest : List ℕ) → after_front front bytes ≡ Some rest → bytes ≡ front ++ rest
+after_is front bytes rest h =
     let p = when_true (bytes_eq (take (length front) bytes) front) (Some (drop (length front) bytes)) rest h in
     let same : take (length front) bytes ≡ front = (bytes_eq-Decides (take (length front) bytes) front).0 p.0 in
     let left : drop (length front) bytes ≡ rest = some_is p.1 in
     sym (take-append-drop (length front) bytes) ∙ ap (λ (l : List ℕ). l ++ drop (length front) bytes) same ∙ ap (λ (l : List ℕ). front ++ l) left
 
-pub behind_again : (front rest : List ℕ) → behind front (front ++ rest) ≡ Some rest
-behind_again front rest =
+pub after_again : (front rest : List ℕ) → after_front front (front ++ rest) ≡ Some rest
+after_again front rest =
     let same : bytes_eq front front ≡ true = (bytes_eq-Decides front front).1 refl in
     rw (take-append_seam front rest, drop-append_seam front rest, same) refl
 
@@ -68,7 +68,7 @@ digit_taken last n byte more h =
 digit_takes : (last n byte more : ℕ) → IsTaken last n byte more → next_of last n byte ≡ Some more
 digit_takes last n byte more t = grind (arith, nat_tests, t.low, t.high, t.sum, t.fits)
 
--- further digits are those behind the digits so far
+-- further digits are those after the digits so far
 digits_taken : (stop last : ℕ) (bytes : List ℕ) (n : ℕ) (x : ℕ × List ℕ) → last < 2 ^ 64 → 0 < n → n ≤ last → digits_until stop last n bytes ≡ Some x →
     (x.0 ≤ last) × (decimal n ++ bytes ≡ decimal x.0 ++ stop ∷ x.1)
 digits_taken stop last [] n x wide some few h = absurd (none_some h)
@@ -96,13 +96,13 @@ pub number_taken : (stop last : ℕ) (bytes : List ℕ) (x : ℕ × List ℕ) �
     (x.0 ≤ last) × (bytes ≡ decimal x.0 ++ stop ∷ x.1)
 number_taken stop last [] x wide h = absurd (none_some h)
 number_taken stop last (b ∷ bytes) x wide h =
-    elim (if_some (b == 48) (behind (stop ∷ []) bytes >>= λ rest. Some (0, rest)) (next_of last 0 b >>= λ first. digits_until stop last first bytes) x h) [
+    elim (if_some (b == 48) (after_front (stop ∷ []) bytes >>= λ rest. Some (0, rest)) (next_of last 0 b >>= λ first. digits_until stop last first bytes) x h) [
       | inl p ↦ (
           let is : b ≡ 48 = grind (arith, nat_tests) in
-          let s = bind_some (behind (stop ∷ []) bytes) (λ (rest : List ℕ). Some (0, rest)) x p.1 in
+          let s = bind_some (after_front (stop ∷ []) bytes) (λ (rest : List ℕ). Some (0, rest)) x p.1 in
           let made : (0, s.0) ≡ x = some_is s.2 in
           let whole : b ∷ bytes ≡ decimal 0 ++ stop ∷ s.0 =
-          ap (λ (l : List ℕ). b ∷ l) (behind_is (stop ∷ []) bytes s.0 s.1) ∙ ap (λ (k : ℕ). k ∷ stop ∷ s.0) is
+          ap (λ (l : List ℕ). b ∷ l) (after_is (stop ∷ []) bytes s.0 s.1) ∙ ap (λ (k : ℕ). k ∷ stop ∷ s.0) is
           ∙ ap (λ (l : List ℕ). l ++ stop ∷ s.0) (sym (decimal_digit 0 (omega arith))) in
           subst (λ (y : ℕ × List ℕ). (y.0 ≤ last) × (b ∷ bytes ≡ decimal y.0 ++ stop ∷ y.1)) made (omega arith, whole)
           )

@@ -7,11 +7,11 @@ use Rattle.qo_causes.specs.declared.inputs.Input.{Input}
 use Rattle.qo_causes.specs.declared.inputs.What.{What}
 use Rattle.qo_causes.specs.declared.inputs.What.TheVariants.{Open, Bytes, Shut, Guest, Step, End}
 use Rattle.qo_record.specs.Laws.{InputsAreFew, ReadsLongest, SpelledStreamsAreRead, StreamsAreLongest}
-use Rattle.qo_record.specs.Reading.{behind}
-use Rattle.qo_record.specs.Record.{Read, entries_from, entries_within, entry_at, inputs_behind, place_before, stopped, with_first}
+use Rattle.qo_record.specs.Reading.{after_front}
+use Rattle.qo_record.specs.Record.{Read, entries_from, entries_within, entry_at, inputs_after, offset_before, stopped, with_first}
 use Rattle.qo_record.specs.Spelling.{FitAll, FitsWhat, entries_text, entry_text, header, moment_text, none_open, opened_by, opened_by_all, rest_text, word_text}
 use Rattle.qo_record.proofs.EntryLemmas.{entry_again, entry_taken}
-use Rattle.qo_record.proofs.ReadingLemmas.{behind_is}
+use Rattle.qo_record.proofs.ReadingLemmas.{after_is}
 
 -- An entry takes at least one byte from the front.
 
@@ -84,12 +84,12 @@ within_parted (suc n) opened bytes = go (entry_at opened bytes) refl (within_par
     go None h again = subst (λ (r : Read). IsParted opened bytes r) (sym (within_none (suc n) opened bytes h)) record { parts = refl; fit = tt }
     go (Some e) h again =
         let t = entry_taken opened bytes e h in
-        let behind = again (opened_by opened e.0.what) e.1 in
+        let after_front = again (opened_by opened e.0.what) e.1 in
         let r : Read = entries_within n (opened_by opened e.0.what) e.1 in
         subst (λ (r : Read). IsParted opened bytes r) (sym (within_some n opened bytes e h))
         record {
-          parts = t.0 ∙ ap (λ (l : List ℕ). entry_text e.0 ++ l) behind.parts ∙ sym (append_assoc (entry_text e.0) (entries_text r.inputs) r.left);
-          fit = (t.1, behind.fit);
+          parts = t.0 ∙ ap (λ (l : List ℕ). entry_text e.0 ++ l) after_front.parts ∙ sym (append_assoc (entry_text e.0) (entries_text r.inputs) r.left);
+          fit = (t.1, after_front.fit);
         }
 
 pub entries_parted : (opened : List Bool) (bytes : List ℕ) → IsParted opened bytes (entries_from opened bytes)
@@ -102,7 +102,7 @@ left_few opened bytes =
     let r : Read = entries_from opened bytes in
     omega (arith, ap (length {A = ℕ}) (entries_parted opened bytes).parts, length-append (entries_text r.inputs) r.left)
 
--- Reading goes on behind entries that may stand.
+-- Reading goes on after entries that may stand.
 
 abbrev with_front : List Input → Read → Read
 with_front inputs r = record { inputs = inputs ++ r.inputs; left = r.left }
@@ -151,7 +151,7 @@ spelled_streams_are_read inputs fit =
     ap (entries_from none_open) (sym (append-nil text)) ∙ goes_on inputs none_open [] fit
     ∙ ap (λ (r : Read). with_front inputs r) (nothing_left (opened_by_all none_open inputs))
     ∙ ap (λ (l : List Input). record { inputs = l; left = [] }) (append-nil inputs) in
-    (ap (λ (r : Read). r.inputs) read, ap (λ (r : Read). place_before (length (header ++ text)) r.left) read)
+    (ap (λ (r : Read). r.inputs) read, ap (λ (r : Read). offset_before (length (header ++ text)) r.left) read)
 
 pub not_end : (opened : List Bool) (what : What) → FitsWhat opened what → is_end what ≡ false
 not_end opened (Open s) h = refl
@@ -169,10 +169,10 @@ text_few : (inputs : List Input) → length inputs ≤ length (entries_text inpu
 text_few [] = omega arith
 text_few (i ∷ inputs) = omega (arith, text_some i, text_few inputs, length-append (entry_text i) (entries_text inputs))
 
-few_behind : (r : Option (List ℕ)) (size : ℕ) → ((rest : List ℕ) → r ≡ Some rest → length rest ≤ size) →
-    AllByRecursion (λ (i : Input). is_end i.what ≡ false) (inputs_behind r) × (length (inputs_behind r) ≤ size)
-few_behind None size h = (tt, omega arith)
-few_behind (Some rest) size h =
+few_after : (r : Option (List ℕ)) (size : ℕ) → ((rest : List ℕ) → r ≡ Some rest → length rest ≤ size) →
+    AllByRecursion (λ (i : Input). is_end i.what ≡ false) (inputs_after r) × (length (inputs_after r) ≤ size)
+few_after None size h = (tt, omega arith)
+few_after (Some rest) size h =
     let r : Read = entries_from none_open rest in
     let p = entries_parted none_open rest in (
       none_ends r.inputs none_open p.fit,
@@ -188,5 +188,5 @@ few_behind (Some rest) size h =
 
 pub inputs_are_few : InputsAreFew
 inputs_are_few bytes =
-    few_behind (behind header bytes) (length bytes)
-    (λ rest h. omega (arith, ap (length {A = ℕ}) (behind_is header bytes rest h), length-append header rest))
+    few_after (after_front header bytes) (length bytes)
+    (λ rest h. omega (arith, ap (length {A = ℕ}) (after_is header bytes rest h), length-append header rest))

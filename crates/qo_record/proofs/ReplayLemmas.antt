@@ -12,11 +12,11 @@ use Rattle.qo_causes.specs.declared.inputs.Moment.{Moment}
 use Rattle.qo_causes.specs.declared.inputs.What.{What}
 use Rattle.qo_causes.specs.declared.inputs.What.TheVariants.{Open, Bytes, Shut, Guest, Step, End}
 use Rattle.qo_record.proofs.EntryLemmas.{entry_again, entry_taken}
-use Rattle.qo_record.proofs.ReadingLemmas.{behind_again, behind_is, none_some}
+use Rattle.qo_record.proofs.ReadingLemmas.{after_again, after_is, none_some}
 use Rattle.qo_record.proofs.RecordLemmas.{entries_none, entries_some, left_few, not_end}
-use Rattle.qo_record.specs.Reading.{behind}
-use Rattle.qo_record.specs.Record.{Read, entries_from, entry_at, place_before}
-use Rattle.qo_record.specs.Replays.{Progress, Replaying, Went, ahead_of, bad_ahead, bad_from, inputs_ahead, inputs_from, place_from, told_place}
+use Rattle.qo_record.specs.Reading.{after_front}
+use Rattle.qo_record.specs.Record.{Read, entries_from, entry_at, offset_before}
+use Rattle.qo_record.specs.Replays.{Progress, Replaying, Went, ahead_of, bad_ahead, bad_from, inputs_ahead, inputs_from, offset_from, capped_offset}
 use Rattle.qo_record.specs.Replays.{took_none, went_nowhere, went_then}
 use Rattle.qo_record.specs.Windows.{BeginsWithHeader, IsFirst, NoEntry, first_entry}
 use Rattle.qo_record.specs.Spelling.{Fits, FitsMoment, FitsPiece, FitsWhat, entry_text, header, last_digits, moment_text, none_open, opened_by}
@@ -80,7 +80,7 @@ entry_short opened i fits =
 
 -- What a front decides.
 
--- an entry is read again with more bytes behind it
+-- an entry is read again with more bytes after it
 pub entry_more : (opened : List Bool) (bytes more : List ℕ) (e : Input × List ℕ) → entry_at opened bytes ≡ Some e →
     entry_at opened (bytes ++ more) ≡ Some (e.0, e.1 ++ more)
 entry_more opened bytes more e h =
@@ -117,20 +117,21 @@ none_found opened held now (Some more) same (inr gone) none =
     (ap (λ (l : List ℕ). entry_at opened (now ++ l)) gone ∙ ap (entry_at opened) (append-nil now ∙ same) ∙ none, λ e. gone)
 
 -- bytes that differ from the header do not begin with it, whatever follows
-pub header_other : (bytes : List ℕ) → behind header bytes ≡ None → behind bytes header ≡ None → (more : List ℕ) → behind header (bytes ++ more) ≡ None
-header_other bytes shorter longer more = go (behind header (bytes ++ more)) refl (order (length bytes))
+pub header_other : (bytes : List ℕ) → after_front header bytes ≡ None → after_front bytes header ≡ None → (more : List ℕ)
+    → after_front header (bytes ++ more) ≡ None
+header_other bytes shorter longer more = go (after_front header (bytes ++ more)) refl (order (length bytes))
   where
     order : (n : ℕ) → (7 ≤ n) ⊎ (n ≤ 7)
     order n = grind arith
 
-    go : (r : Option (List ℕ)) → behind header (bytes ++ more) ≡ r → (7 ≤ length bytes) ⊎ (length bytes ≤ 7) → behind header (bytes ++ more) ≡ None
+    go : (r : Option (List ℕ)) → after_front header (bytes ++ more) ≡ r → (7 ≤ length bytes) ⊎ (length bytes ≤ 7) → after_front header (bytes ++ more) ≡ None
     go None h o = h
     go (Some rest) h (inl many) =
-        let is = front_within header rest bytes more (behind_is header (bytes ++ more) rest h) many in
-        absurd (none_some (sym shorter ∙ ap (behind header) is ∙ behind_again header (drop 7 bytes)))
+        let is = front_within header rest bytes more (after_is header (bytes ++ more) rest h) many in
+        absurd (none_some (sym shorter ∙ ap (after_front header) is ∙ after_again header (drop 7 bytes)))
     go (Some rest) h (inr few) =
-        let is = front_within bytes more header rest (sym (behind_is header (bytes ++ more) rest h)) few in
-        absurd (none_some (sym longer ∙ ap (behind bytes) is ∙ behind_again bytes (drop (length bytes) header)))
+        let is = front_within bytes more header rest (sym (after_is header (bytes ++ more) rest h)) few in
+        absurd (none_some (sym longer ∙ ap (after_front bytes) is ∙ after_again bytes (drop (length bytes) header)))
 
 -- The header is passed.
 
@@ -141,9 +142,9 @@ abbrev headed : List ℕ → ℕ → List Bool → Progress
 headed held place opened = record { held = held; headed = true; place = place; opened = opened }
 
 place_seven : (size whole : ℕ) (left : List ℕ) → whole ≡ size + 7 → length left ≤ size →
-    place_from 7 size left ≡ option_map told_place (place_before whole left)
+    offset_from 7 size left ≡ option_map capped_offset (offset_before whole left)
 place_seven size whole [] same few = refl
-place_seven size whole (b ∷ left) same few = ap (λ (n : ℕ). Some (told_place n)) (omega arith)
+place_seven size whole (b ∷ left) same few = ap (λ (n : ℕ). Some (capped_offset n)) (omega arith)
 
 bad_passed : (place : ℕ) (opened : List Bool) (more : List ℕ) → bad_from true 7 none_open more ≡ bad_from false place opened (header ++ more)
 bad_passed place opened more =
@@ -189,12 +190,12 @@ entry_inputs held rest opened i (Some more) h =
     ap (λ (r : Read). Some r.inputs) (entries_some opened (held ++ more) (i, rest ++ more) (entry_more opened held more (i, rest) h))
 
 place_passed : (place size before now : ℕ) (left : List ℕ) → before ≡ size + now → length left ≤ now →
-    place_from (told_place (place + size)) now left ≡ place_from place before left
+    offset_from (capped_offset (place + size)) now left ≡ offset_from place before left
 place_passed place size before now [] same few = refl
 place_passed place size before now (b ∷ left) same few = ap (λ (n : ℕ). Some n) (omega arith)
 
 entry_bad : (held rest : List ℕ) (opened : List Bool) (i : Input) (place size : ℕ) (left : Option (List ℕ)) → entry_at opened held ≡ Some (i, rest) →
-    length held ≡ size + length rest → option_map (bad_from true (told_place (place + size)) (opened_by opened i.what)) (ahead_of rest left) ≡ option_map
+    length held ≡ size + length rest → option_map (bad_from true (capped_offset (place + size)) (opened_by opened i.what)) (ahead_of rest left) ≡ option_map
     (bad_from true place opened) (ahead_of held left)
 entry_bad held rest opened i place size None h parts = refl
 entry_bad held rest opened i place size (Some more) h parts =
@@ -205,7 +206,7 @@ entry_bad held rest opened i place size (Some more) h parts =
     ap (λ (n : Option ℕ). Some n)
     (place_passed place size (length (held ++ more)) (length (rest ++ more)) left (omega (arith, parts, length-append held more, length-append rest more))
     (left_few now (rest ++ more))
-    ∙ ap (place_from place (length (held ++ more))) same)
+    ∙ ap (offset_from place (length (held ++ more))) same)
 
 took_entry : (text rest : List ℕ) (left : Option (List ℕ)) → ahead_of (text ++ rest) left ≡ prepend_known text (ahead_of rest left)
 took_entry text rest None = refl
@@ -228,16 +229,16 @@ headed_is : (p : Progress) → p.headed ≡ true → p ≡ headed p.held p.place
 headed_is p on = ap (λ (b : Bool). record { held = p.held; headed = b; place = p.place; opened = p.opened }) on
 
 abbrev passed : Progress → First → Progress
-passed p f = headed (drop f.size p.held) (told_place (p.place + f.size)) (opened_by p.opened f.input.what)
+passed p f = headed (drop f.size p.held) (capped_offset (p.place + f.size)) (opened_by p.opened f.input.what)
 
--- the progress behind an entry, as the code has it
+-- the progress after an entry, as the code has it
 pub passed_is : (p : Progress) (f : First) (held : List ℕ) (flag : Bool)
-    (place : ℕ) → flag ≡ true → IsFirst p.opened p.held f → held ≡ drop f.size p.held → place ≡ told_place
+    (place : ℕ) → flag ≡ true → IsFirst p.opened p.held f → held ≡ drop f.size p.held → place ≡ capped_offset
     (p.place + f.size) → record { held = held; headed = flag; place = place; opened = f.opened } ≡ passed p f
 passed_is p f held flag place on first is moved =
     ap (λ (b : Bool). record { held = held; headed = b; place = place; opened = f.opened }) on ∙ ap (λ (l : List ℕ). headed l place f.opened) is
     ∙ ap (λ (n : ℕ). headed (drop f.size p.held) n f.opened) moved
-    ∙ ap (headed (drop f.size p.held) (told_place (p.place + f.size))) first.opens
+    ∙ ap (headed (drop f.size p.held) (capped_offset (p.place + f.size))) first.opens
 
 pub first_some : (p : Progress) (f : First) → IsFirst p.opened p.held f → is_end f.input.what ≡ false
 first_some p f first = not_end p.opened f.input.what (entry_taken p.opened p.held (first_entry p.held f) first.entry).1.1
@@ -256,7 +257,7 @@ first_bad p f left on first =
 pub first_went : (p : Progress) (f : First) (left : Option (List ℕ)) → p.headed ≡ true → IsFirst p.opened p.held f → Went p (passed p f) left left
 first_went p f left on first =
     subst (λ (q : Progress). Went q (passed p f) left left) (sym (headed_is p on))
-    (entry_went p.held (drop f.size p.held) p.opened f.input p.place (told_place (p.place + f.size)) left first.entry)
+    (entry_went p.held (drop f.size p.held) p.opened f.input p.place (capped_offset (p.place + f.size)) left first.entry)
 
 -- More bytes are held.
 
@@ -281,11 +282,11 @@ at_end held place opened (Some more) none h =
     let stop = entries_none opened (held ++ more) h.0 in
     let all : held ++ more ≡ [] = rw (none, h.1 none) refl in (
       ap (λ (r : Read). r.inputs) stop,
-      ap (λ (r : Read). place_from place (length (held ++ more)) r.left) stop ∙ ap (place_from place (length
+      ap (λ (r : Read). offset_from place (length (held ++ more)) r.left) stop ∙ ap (offset_from place (length
           (held ++ more))) all,
     )
 
-place_here : (place : ℕ) (bytes : List ℕ) → place < 2 ^ 64 → 0 < length bytes → place_from place (length bytes) bytes ≡ Some place
+place_here : (place : ℕ) (bytes : List ℕ) → place < 2 ^ 64 → 0 < length bytes → offset_from place (length bytes) bytes ≡ Some place
 place_here place [] within some = absurd (omega arith)
 place_here place (b ∷ bytes) within some = ap (λ (n : ℕ). Some n) (omega arith)
 
@@ -295,7 +296,7 @@ at_bad held place opened None within some h = (tt, tt)
 at_bad held place opened (Some more) within some h =
     let stop = entries_none opened (held ++ more) h.0 in (
       ap (λ (r : Read). r.inputs) stop,
-      ap (λ (r : Read). place_from place (length (held ++ more)) r.left) stop
+      ap (λ (r : Read). offset_from place (length (held ++ more)) r.left) stop
           ∙ place_here place (held ++ more) within (omega (arith, length-append held more)),
     )
 
@@ -307,7 +308,7 @@ bad_same : (p : Progress) (held : List ℕ) (left_old left_new : Option (List �
     bad_ahead (holding p held) left_new ≡ bad_ahead p left_old
 bad_same p held left_old left_new same = ap (option_map (bad_from p.headed p.place p.opened)) same
 
--- no entry stands behind what is held
+-- no entry stands after what is held
 pub end_there : (p : Progress) (held : List ℕ) (left_old left_new : Option (List ℕ)) → p.headed ≡ true → ahead_of held left_new ≡ ahead_of p.held left_old →
     length held ≡ 0 → IfSome left_new (NoEntry p.opened held) → AtEnd (inputs_ahead p left_old) (bad_ahead p left_old) None
 end_there p held left_old left_new on same none h =
@@ -333,8 +334,8 @@ filled_at q p held left_old left_new is same =
 
 pub filled_then : (q p c : Progress) (held : List ℕ) (left_old left_new : Option (List ℕ)) → q ≡ p → ahead_of held left_new ≡ ahead_of q.held left_old →
     Went (holding q held) c left_new left_new → Went p c left_old left_new
-filled_then q p c held left_old left_new is same behind =
-    went_then p (holding q held) c left_old left_new left_new (filled_at q p held left_old left_new is same) behind
+filled_then q p c held left_old left_new is same after_front =
+    went_then p (holding q held) c left_old left_new left_new (filled_at q p held left_old left_new is same) after_front
 
 pub end_at : (q p : Progress) (held : List ℕ) (left_old left_new : Option (List ℕ)) → q ≡ p → p.headed ≡ true →
     ahead_of held left_new ≡ ahead_of q.held left_old → length held ≡ 0 → IfSome left_new (NoEntry q.opened held) → (inputs_ahead

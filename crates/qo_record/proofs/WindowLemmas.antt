@@ -9,29 +9,29 @@ use Rattle.qo_causes.specs.declared.inputs.Input.{Input}
 use Rattle.qo_record.proofs.EntryLemmas.{entry_taken}
 use Rattle.qo_record.specs.Record.{entry_at}
 use Rattle.qo_record.specs.Replays.{ahead_of}
-use Rattle.qo_record.specs.Windows.{TakesBehind, between}
+use Rattle.qo_record.specs.Windows.{TakesAfter, between}
 use Rattle.qo_record.specs.Spelling.{entry_text}
 
--- a place that is behind a front is in what follows it
-pub piece_behind : (front piece : List ℕ) (end n : ℕ) → length front ≡ end → between (front ++ piece) end (end + n) ≡ take n piece
-piece_behind front piece end n size =
+-- a place that is after a front is in what follows it
+pub piece_after : (front piece : List ℕ) (end n : ℕ) → length front ≡ end → between (front ++ piece) end (end + n) ≡ take n piece
+piece_after front piece end n size =
     let upto : take (end + n) (front ++ piece) ≡ front ++ take n piece =
     ap (λ (k : ℕ). take (k + n) (front ++ piece)) (sym size) ∙ take-append-add front piece n in
     ap (drop end) upto ∙ ap (λ (k : ℕ). drop k (front ++ take n piece)) (sym size) ∙ drop-append_seam front (take n piece)
 
--- what a source gave stands behind the front
-pub took_behind : {E : Type 0} (old new : Option (List ℕ)) (r : Result ℕ E) (before after piece : List ℕ) (end : ℕ) → end ≤ length before →
+-- what a source gave stands after the front
+pub took_after : {E : Type 0} (old new : Option (List ℕ)) (r : Result ℕ E) (before after piece : List ℕ) (end : ℕ) → end ≤ length before →
     length piece ≡ length before - end → length after ≡ length before → take (end + length piece) after ≡ take end before ++ piece → IfOk r (λ
-    (n : ℕ). n ≤ length piece) → Takes old new r piece → TakesBehind old new r after end
-took_behind old new (Ok n) before after piece end within room size written few took =
+    (n : ℕ). n ≤ length piece) → Takes old new r piece → TakesAfter old new r after end
+took_after old new (Ok n) before after piece end within room size written few took =
     let upto : take (end + n) after ≡ take (end + n) (take end before ++ piece) =
     sym (take-take (end + n) (end + length piece) after (omega (arith, few))) ∙ ap (take (end + n)) written in
     let is : between after end (end + n) ≡ take n piece =
-    ap (drop end) upto ∙ piece_behind (take end before) piece end n (length-take-le end before within) in
+    ap (drop end) upto ∙ piece_after (take end before) piece end n (length-take-le end before within) in
     (rw is took.0, λ none some. took.1 none (omega arith))
-took_behind old new (Err e) before after piece end within room size written few took = took
+took_after old new (Err e) before after piece end within room size written few took = took
 
--- what stands up to a place is what stands up to an earlier one, and what is behind that
+-- what stands up to a place is what stands up to an earlier one, and what is after that
 between_more : (old new : List ℕ) (at end n : ℕ) → at ≤ end → end ≤ length old → take end new ≡ take end old →
     between new at (end + n) ≡ between old at end ++ between new end (end + n)
 between_more old new at end n order within same =
@@ -41,7 +41,7 @@ between_more old new at end n order within same =
     ap (take (end + n)) (sym (take-append-drop end new)) ∙ ap (λ (k : ℕ). take (k + n) (front ++ drop end new)) (sym size)
     ∙ take-append-add front (drop end new) n in
     let piece : between new end (end + n) ≡ take n (drop end new) =
-    ap (λ (l : List ℕ). between l end (end + n)) (sym (take-append-drop end new)) ∙ piece_behind front (drop end new) end n size in
+    ap (λ (l : List ℕ). between l end (end + n)) (sym (take-append-drop end new)) ∙ piece_after front (drop end new) end n size in
     ap (drop at) parts ∙ drop-append-le at front (take n (drop end new)) (omega (arith, size))
     ∙ ap (λ (l : List ℕ). drop at l ++ take n (drop end new)) same ∙ ap (λ (l : List ℕ). between old at end ++ l) (sym piece)
 
@@ -59,10 +59,10 @@ taken_ahead old_bytes new_bytes held at end n old new order within same is took 
     ∙ ahead_same (between old_bytes at end) piece new ∙ ap (λ (l : List ℕ). ahead_of l (prepend_known piece new)) is
     ∙ ap (ahead_of held) (sym took)
 
--- the bytes behind an entry are no more than all, and are the last so many
-pub behind_size : (opened : List Bool) (bytes : List ℕ) (e : Input × List ℕ) → entry_at opened bytes ≡ Some e →
+-- the bytes after an entry are no more than all, and are the last so many
+pub after_size : (opened : List Bool) (bytes : List ℕ) (e : Input × List ℕ) → entry_at opened bytes ≡ Some e →
     (length e.1 ≤ length bytes) × (drop (length bytes - length e.1) bytes ≡ e.1)
-behind_size opened bytes e h =
+after_size opened bytes e h =
     let t = entry_taken opened bytes e h in
     let front : List ℕ = entry_text e.0 in
     let size : length bytes - length e.1 ≡ length front = omega (arith, ap (length {A = ℕ}) t.0, length-append front e.1) in

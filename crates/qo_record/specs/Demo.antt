@@ -14,7 +14,7 @@ drawn x = x / 2 ^ 33
 
 -- a text with a number in it
 abbrev pub with_number : List ℕ → ℕ → List ℕ → List ℕ
-with_number before n behind = before ++ decimal n ++ behind
+with_number before n after = before ++ decimal n ++ after
 
 -- a line: a text and its LF
 abbrev pub line_of : List ℕ → List ℕ

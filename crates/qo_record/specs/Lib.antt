@@ -5,5 +5,5 @@ pub mod Record
 pub mod Replays
 pub mod Spelling
 pub mod Streams
-pub mod Waiting
+pub mod PartialEntries
 pub mod Windows

@@ -1,4 +1,4 @@
--- How the parts of an entry are read: words and numbers. Each reader answers what it read and the bytes behind it.
+-- How the parts of an entry are read: words and numbers. Each reader answers what it read and the bytes after it.
 use Rattle.std.specs.Prelude.{ℕ, zero, suc, ◌+◌, ◌-◌, ◌*◌, Bool, ◌&&◌, ◌==◌, nat_le, if◌then◌else◌, List, [], ◌∷◌, length, take, drop, Option, Some, None}
 use Rattle.std.specs.Str.{bytes_eq}
 
@@ -13,9 +13,9 @@ abbrev pub or_else : {A : Type 0} → Option A → Option A → Option A
 or_else None other = other
 or_else (Some x) other = Some x
 
--- the bytes behind a front
-abbrev pub behind : List ℕ → List ℕ → Option (List ℕ)
-behind front bytes = if bytes_eq (take (length front) bytes) front then Some (drop (length front) bytes) else None
+-- the bytes after a front
+abbrev pub after_front : List ℕ → List ℕ → Option (List ℕ)
+after_front front bytes = if bytes_eq (take (length front) bytes) front then Some (drop (length front) bytes) else None
 
 -- a digit
 abbrev pub is_digit : ℕ → Bool
@@ -35,7 +35,7 @@ digits_until stop last n (b ∷ bytes) =
 abbrev pub number_until : ℕ → ℕ → List ℕ → Option (ℕ × List ℕ)
 number_until stop last [] = None
 number_until stop last (b ∷ bytes) =
-    if b == 48 then (behind (stop ∷ []) bytes >>= λ rest. Some (0, rest))
+    if b == 48 then (after_front (stop ∷ []) bytes >>= λ rest. Some (0, rest))
     else (next_of last 0 b >>= λ first. digits_until stop last first bytes)
 
 -- so many digits more, of a number below a million

@@ -3,17 +3,17 @@ use Rattle.std.specs.Prelude.{ℕ, ◌≡◌, ◌+◌, ◌-◌, ◌^◌, min, Bo
 use Rattle.std.proofs.Common.{refl, sym, ◌∙◌, ap, append_assoc}
 use Rattle.std.specs.Io.KnownBytes.{prepend_known}
 use Rattle.qo_causes.specs.declared.inputs.Input.{Input}
-use Rattle.qo_record.specs.Reading.{behind}
+use Rattle.qo_record.specs.Reading.{after_front}
 use Rattle.qo_record.specs.Record.{Read, bad_place, entries_from, stopped, stream_inputs}
 use Rattle.qo_record.specs.Spelling.{header, none_open}
 
 -- a place as it is told: as 2^64 - 1 where it is further on
-abbrev pub told_place : ℕ → ℕ
-told_place n = min n (2 ^ 64 - 1)
+abbrev pub capped_offset : ℕ → ℕ
+capped_offset n = min n (2 ^ 64 - 1)
 
 -- the bad place of a whole stream, as it is told
 abbrev pub told_bad : List ℕ → Option ℕ
-told_bad bytes = option_map told_place (bad_place bytes)
+told_bad bytes = option_map capped_offset (bad_place bytes)
 
 -- how far a stream was read: the bytes that were taken and are not read yet, whether its header was read, the place of the
 -- first byte that was not read, as it is told, and which sessions are open there
@@ -37,18 +37,18 @@ pub record Replaying (S K : Type 0) : Type 0 where
   pub sink : K
   pub read : Progress
 
--- the inputs of the bytes that are ahead, behind the header or with it
+-- the inputs of the bytes that are ahead, after the header or with it
 abbrev pub inputs_from : Bool → List Bool → List ℕ → List Input
 inputs_from true opened bytes = (entries_from opened bytes).inputs
 inputs_from false opened bytes = stream_inputs bytes
 
 -- the bad place, where this is the place of the first byte ahead and these bytes are left of so many
-abbrev pub place_from : ℕ → ℕ → List ℕ → Option ℕ
-place_from place size [] = None
-place_from place size (b ∷ bytes) = Some (told_place (place + (size - length (b ∷ bytes))))
+abbrev pub offset_from : ℕ → ℕ → List ℕ → Option ℕ
+offset_from place size [] = None
+offset_from place size (b ∷ bytes) = Some (capped_offset (place + (size - length (b ∷ bytes))))
 
 abbrev pub bad_from : Bool → ℕ → List Bool → List ℕ → Option ℕ
-bad_from true place opened bytes = place_from place (length bytes) ((entries_from opened bytes).left)
+bad_from true place opened bytes = offset_from place (length bytes) ((entries_from opened bytes).left)
 bad_from false place opened bytes = told_bad bytes
 
 -- the inputs and the bad place of a stream that was read so far, where its source has this left
@@ -58,19 +58,19 @@ inputs_ahead p left = option_map (inputs_from p.headed p.opened) (ahead_of p.hel
 abbrev pub bad_ahead : Progress → Option (List ℕ) → Option (Option ℕ)
 bad_ahead p left = option_map (bad_from p.headed p.place p.opened) (ahead_of p.held left)
 
--- the entries of a whole stream, and what is left behind them
-abbrev pub stream_behind : List ℕ → Option (List ℕ) → Read
-stream_behind bytes None = stopped bytes
-stream_behind bytes (Some rest) = entries_from none_open rest
+-- the entries of a whole stream, and what is left after them
+abbrev pub stream_after : List ℕ → Option (List ℕ) → Read
+stream_after bytes None = stopped bytes
+stream_after bytes (Some rest) = entries_from none_open rest
 
 abbrev pub read_from : Bool → List Bool → List ℕ → Read
 read_from true opened bytes = entries_from opened bytes
-read_from false opened bytes = stream_behind bytes (behind header bytes)
+read_from false opened bytes = stream_after bytes (after_front header bytes)
 
 abbrev pub with_front : List Input → Read → Read
 with_front inputs r = record { inputs = inputs ++ r.inputs; left = r.left }
 
--- these bytes of what was ahead were read as these inputs, whatever comes behind, and nothing else became of what was ahead
+-- these bytes of what was ahead were read as these inputs, whatever comes after, and nothing else became of what was ahead
 pub record Gave (old new : Progress) (left_old left_new : Option (List ℕ)) (bytes : List ℕ) (given : List Input) : Type 0 where
   pub took : ahead_of old.held left_old ≡ prepend_known bytes (ahead_of new.held left_new)
   pub gave : (more : List ℕ) → read_from old.headed old.opened (bytes ++ more) ≡ with_front given (read_from new.headed new.opened more)

@@ -1,4 +1,4 @@
--- The entries of a recorded stream: how each is spelled, and which may stand behind others.
+-- The entries of a recorded stream: how each is spelled, and which may stand after others.
 --     record = "qrec 1" LF entry*
 --     entry  = "open " moment " " s LF                              s is not open by the entries before
 --            | "bytes " moment " " s " " len LF (len bytes) LF      s is open by the entries before
@@ -24,7 +24,7 @@ last_digits (suc more) n = (48 + n / 10 ^ more % 10) ∷ last_digits more n
 abbrev pub moment_text : Moment → List ℕ
 moment_text m = decimal m.seconds ++ 46 ∷ last_digits 6 m.micros
 
--- some bytes behind their number, and the LF behind them
+-- some bytes after their number, and the LF after them
 abbrev pub piece_text : List ℕ → List ℕ
 piece_text bytes = decimal (length bytes) ++ 10 ∷ (bytes ++ 10 ∷ [])
 
@@ -37,7 +37,7 @@ word_text (Guest bytes) = codes "guest "
 word_text (Step ns) = codes "step "
 word_text End = []
 
--- what stands behind its moment and the space
+-- what stands after its moment and the space
 abbrev pub rest_text : What → List ℕ
 rest_text (Open s) = decimal s ++ 10 ∷ []
 rest_text (Bytes s bytes) = decimal s ++ 32 ∷ piece_text bytes
@@ -50,7 +50,7 @@ rest_text End = []
 abbrev pub entry_text : Input → List ℕ
 entry_text i = word_text i.what ++ (moment_text i.at ++ 32 ∷ rest_text i.what)
 
--- some entries, one behind the other
+-- some entries, one after the other
 abbrev pub entries_text : List Input → List ℕ
 entries_text inputs = flat_map entry_text inputs
 
@@ -65,7 +65,7 @@ none_open = replicate 16 false
 abbrev pub is_open : List Bool → ℕ → Bool
 is_open opened s = slice_index_or opened s false
 
--- the sessions that are open behind an entry, and behind some
+-- the sessions that are open after an entry, and after some
 abbrev pub opened_by : List Bool → What → List Bool
 opened_by opened (Open s) = slice_set opened s true
 opened_by opened (Bytes s bytes) = opened
@@ -95,7 +95,7 @@ FitsWhat opened (Guest bytes) = FitsPiece bytes
 FitsWhat opened (Step ns) = (1 ≤ ns) × (ns < 2 ^ 63)
 FitsWhat opened End = ⊥
 
--- an entry that may stand while these sessions are open, and entries that may, one behind the other
+-- an entry that may stand while these sessions are open, and entries that may, one after the other
 abbrev pub Fits : List Bool → Input → Type 0
 Fits opened i = FitsMoment i.at × FitsWhat opened i.what
 

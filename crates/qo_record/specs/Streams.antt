@@ -17,11 +17,11 @@ said_by (Shuts s) = Shut s
 said_by (Writes piece) = Guest piece.now
 said_by (Steps ns) = Step ns
 
--- with the bytes behind it
+-- with the bytes after it
 abbrev pub said_what : Said × Bor (List ℕ) → What × List ℕ
 said_what x = (said_by x.0, x.1.now)
 
--- an entry that borrows its bytes as an input, with the bytes behind it
+-- an entry that borrows its bytes as an input, with the bytes after it
 abbrev pub entry_said : Entry → Input × List ℕ
 entry_said e = (record { at = e.at; what = said_by e.said }, e.rest.now)
 

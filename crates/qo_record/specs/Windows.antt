@@ -5,7 +5,7 @@ use Rattle.qo_causes.specs.Cause.{Rose}
 use Rattle.qo_causes.specs.declared.hubs.NextError.{NextError}
 use Rattle.qo_causes.specs.declared.hubs.NextError.TheVariants.{Failed as NextFailed, Bad, Memory}
 use Rattle.qo_causes.specs.declared.inputs.Input.{Input}
-use Rattle.qo_record.specs.Reading.{behind}
+use Rattle.qo_record.specs.Reading.{after_front}
 use Rattle.qo_record.specs.Record.{entry_at}
 use Rattle.qo_record.specs.Replays.{ahead_of}
 use Rattle.qo_record.specs.Spelling.{header, opened_by}
@@ -19,12 +19,12 @@ abbrev pub between : List ℕ → ℕ → ℕ → List ℕ
 between bytes at end = drop at (take end bytes)
 
 -- a source gave so many bytes, which stand in a buffer from this place on, and nothing to a buffer with room only at its end
-abbrev pub TakesBehind : {E : Type 0} → Option (List ℕ) → Option (List ℕ) → Result ℕ E → List ℕ → ℕ → Type 0
-TakesBehind old new (Ok n) buffer end =
+abbrev pub TakesAfter : {E : Type 0} → Option (List ℕ) → Option (List ℕ) → Result ℕ E → List ℕ → ℕ → Type 0
+TakesAfter old new (Ok n) buffer end =
     (old ≡ prepend_known (between buffer end (end + n)) new) × (n ≡ 0 → end < length buffer → IfSome new (λ left. left ≡ []))
-TakesBehind old new (Err e) buffer end = new ≡ old
+TakesAfter old new (Err e) buffer end = new ≡ old
 
--- an entry at the front of some bytes, and the bytes behind it
+-- an entry at the front of some bytes, and the bytes after it
 abbrev pub first_entry : List ℕ → First → Input × List ℕ
 first_entry bytes f = (f.input, drop f.size bytes)
 
@@ -46,13 +46,13 @@ BeginsWithHeader bytes = (more : List ℕ) × (bytes ≡ header ++ more)
 -- what the first bytes of a stream are
 abbrev pub HeaderIn : List ℕ → Front → Type 0
 HeaderIn bytes Header = BeginsWithHeader bytes
-HeaderIn bytes Other = (more : List ℕ) → behind header (bytes ++ more) ≡ None
-HeaderIn bytes Short = (behind header bytes ≡ None) × (length bytes ≤ 7)
+HeaderIn bytes Other = (more : List ℕ) → after_front header (bytes ++ more) ≡ None
+HeaderIn bytes Short = (after_front header bytes ≡ None) × (length bytes ≤ 7)
 
 -- the header stands at the front of what is held, or is not ahead
 abbrev pub HeaderFound : {E : Type 0} → List ℕ → Option (List ℕ) → Result Bool E → Type 0
 HeaderFound held left (Ok true) = BeginsWithHeader held
-HeaderFound held left (Ok false) = IfSome (ahead_of held left) (λ bytes. behind header bytes ≡ None)
+HeaderFound held left (Ok false) = IfSome (ahead_of held left) (λ bytes. after_front header bytes ≡ None)
 HeaderFound held left (Err e) = Unit {0}
 
 -- it is the first entry of some bytes, while these sessions are open

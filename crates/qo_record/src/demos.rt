@@ -41,13 +41,13 @@ fn with_number(
     alloc: Global,
     before: &[u8],
     number: u64,
-    behind: &[u8],
+    after: &[u8],
 ) -> Result<Vec<u8>, AllocError>
-    ensures { IfOk result (λ text. text.items ≡ with_number before.now number behind.now) }
+    ensures { IfOk result (λ text. text.items ≡ with_number before.now number after.now) }
 {
     let mut text = Vec::from_slice(alloc, before)?;
     add_number(&mut text, number)?;
-    text.extend_from_slice(behind)?;
+    text.extend_from_slice(after)?;
     Ok(text)
 }
 
@@ -74,7 +74,7 @@ fn add_start(stream: &mut Vec<u8>, word: &[u8], second: u64) -> Result<(), Alloc
     stream.extend_from_slice(b".000000 ")
 }
 
-/// Adds bytes behind their number.
+/// Adds bytes after their number.
 fn add_piece(stream: &mut Vec<u8>, piece: &[u8]) -> Result<(), AllocError>
     ensures { OnOk result (stream.new.items ≡ stream.old.items ++ piece_text piece.now) }
 {
@@ -141,11 +141,11 @@ fn add_line(
     second: u64,
     before: &[u8],
     number: u64,
-    behind: &[u8],
+    after: &[u8],
 ) -> Result<(), AllocError>
-    ensures { OnOk result (stream.new.items ≡ stream.old.items ++ entry_text (at_second second (What.Guest (with_number before.now number behind.now)))) }
+    ensures { OnOk result (stream.new.items ≡ stream.old.items ++ entry_text (at_second second (What.Guest (with_number before.now number after.now)))) }
 {
-    let text = with_number(alloc, before, number, behind)?;
+    let text = with_number(alloc, before, number, after)?;
     add_guest(stream, second, &text)
 }
 
@@ -207,7 +207,7 @@ fn add_step(
     add_entry(alloc, stream, second, kind, number)
 }
 
-/// The entries by which session 0 opens and negotiates, behind the header.
+/// The entries by which session 0 opens and negotiates, after the header.
 fn started(alloc: Global) -> Result<Vec<u8>, AllocError>
     ensures { IfOk result (λ stream. stream.items ≡ header ++ entries_text demo_start) }
 {
@@ -217,7 +217,7 @@ fn started(alloc: Global) -> Result<Vec<u8>, AllocError>
     Ok(stream)
 }
 
-/// The demo record of a seed, with so many steps behind the opening and the negotiation of session 0.
+/// The demo record of a seed, with so many steps after the opening and the negotiation of session 0.
 ///
 /// Each step stands at a whole second, the first at 1, and takes two draws modulo 8: what it does, and a number. It
 /// plugs or unplugs a device, resets the machine, lets time go on, or is a line of the guest. The memory is that of the

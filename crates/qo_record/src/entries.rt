@@ -1,12 +1,12 @@
 //! Entries of a recorded stream, each read from the front of bytes.
 
 ghost use Rattle.std.specs.Prelude.{◌≡◌, ◌≤◌, codes, length, option_map, IfOk, IfSome};
-ghost use Rattle.qo_record.specs.Record.{bytes_at, entry_at, entry_of, guest_at, moment_behind, open_at, shut_at, step_at};
+ghost use Rattle.qo_record.specs.Record.{bytes_at, entry_at, entry_of, guest_at, moment_after, open_at, shut_at, step_at};
 ghost use Rattle.qo_record.specs.Spelling.{FitsPiece, opened_by};
 ghost use Rattle.qo_record.specs.Windows.{first_entry};
 ghost use Rattle.qo_record.specs.Streams.{FitsSaid, entry_said, said_by, said_what};
 
-use crate::reading::{behind, moment_at, number_until, piece_at, session_until};
+use crate::reading::{after_front, moment_at, number_until, piece_at, session_until};
 use qo_causes::{Chunk, Input, Moment, What};
 use std::alloc::{AllocError, Global};
 
@@ -28,7 +28,7 @@ enum Said<'a> {
     Steps(u64),
 }
 
-/// An entry, and the bytes behind it.
+/// An entry, and the bytes after it.
 #[derive(Clone, Copy)]
 struct Entry<'a> {
     at: Moment,
@@ -36,7 +36,7 @@ struct Entry<'a> {
     rest: &'a [u8],
 }
 
-/// The first entry of some bytes as an input, the sessions that are open behind it, and how many bytes it has.
+/// The first entry of some bytes as an input, the sessions that are open after it, and how many bytes it has.
 #[derive(Drop)]
 pub(crate) struct First {
     pub(crate) input: Input,
@@ -102,12 +102,12 @@ fn step_at(bytes: &[u8]) -> Option<(Said<'_>, &[u8])>
     Some((Said::Steps(nanos), rest))
 }
 
-/// The moment behind a word.
+/// The moment after a word.
 #[inline(always)]
-pub(crate) fn moment_behind<'a>(word: &[u8], bytes: &'a [u8]) -> Option<(Moment, &'a [u8])>
-    ensures { option_map (λ x. (x.0, x.1.now)) result ≡ moment_behind word.now bytes.now }
+pub(crate) fn moment_after<'a>(word: &[u8], bytes: &'a [u8]) -> Option<(Moment, &'a [u8])>
+    ensures { option_map (λ x. (x.0, x.1.now)) result ≡ moment_after word.now bytes.now }
 {
-    moment_at(behind(word, bytes)?)
+    moment_at(after_front(word, bytes)?)
 }
 
 /// An entry with the word `open`.
@@ -115,7 +115,7 @@ fn open_entry<'a>(opened: &[bool; 16], bytes: &'a [u8]) -> Option<Entry<'a>>
     ensures entry { option_map entry_said result ≡ entry_of (codes "open ") (open_at opened.now) bytes.now }
     ensures fits { IfSome result (λ e. FitsSaid e.said) }
 {
-    let (at, rest) = moment_behind(b"open ", bytes)?;
+    let (at, rest) = moment_after(b"open ", bytes)?;
     let (said, rest) = open_at(opened, rest)?;
     Some(Entry { at, said, rest })
 }
@@ -125,7 +125,7 @@ fn bytes_entry<'a>(opened: &[bool; 16], bytes: &'a [u8]) -> Option<Entry<'a>>
     ensures entry { option_map entry_said result ≡ entry_of (codes "bytes ") (bytes_at opened.now) bytes.now }
     ensures fits { IfSome result (λ e. FitsSaid e.said) }
 {
-    let (at, rest) = moment_behind(b"bytes ", bytes)?;
+    let (at, rest) = moment_after(b"bytes ", bytes)?;
     let (said, rest) = bytes_at(opened, rest)?;
     Some(Entry { at, said, rest })
 }
@@ -135,7 +135,7 @@ fn shut_entry<'a>(opened: &[bool; 16], bytes: &'a [u8]) -> Option<Entry<'a>>
     ensures entry { option_map entry_said result ≡ entry_of (codes "shut ") (shut_at opened.now) bytes.now }
     ensures fits { IfSome result (λ e. FitsSaid e.said) }
 {
-    let (at, rest) = moment_behind(b"shut ", bytes)?;
+    let (at, rest) = moment_after(b"shut ", bytes)?;
     let (said, rest) = shut_at(opened, rest)?;
     Some(Entry { at, said, rest })
 }
@@ -145,7 +145,7 @@ fn guest_entry(bytes: &[u8]) -> Option<Entry<'_>>
     ensures entry { option_map entry_said result ≡ entry_of (codes "guest ") guest_at bytes.now }
     ensures fits { IfSome result (λ e. FitsSaid e.said) }
 {
-    let (at, rest) = moment_behind(b"guest ", bytes)?;
+    let (at, rest) = moment_after(b"guest ", bytes)?;
     let (said, rest) = guest_at(rest)?;
     Some(Entry { at, said, rest })
 }
@@ -155,7 +155,7 @@ fn step_entry(bytes: &[u8]) -> Option<Entry<'_>>
     ensures entry { option_map entry_said result ≡ entry_of (codes "step ") step_at bytes.now }
     ensures fits { IfSome result (λ e. FitsSaid e.said) }
 {
-    let (at, rest) = moment_behind(b"step ", bytes)?;
+    let (at, rest) = moment_after(b"step ", bytes)?;
     let (said, rest) = step_at(rest)?;
     Some(Entry { at, said, rest })
 }
@@ -181,7 +181,7 @@ fn entry_at<'a>(opened: &[bool; 16], bytes: &'a [u8]) -> Option<Entry<'a>>
     }
 }
 
-/// The sessions that are open behind an entry.
+/// The sessions that are open after an entry.
 fn opened_by(opened: [bool; 16], said: Said) -> [bool; 16]
     requires { FitsSaid said }
     ensures { result ≡ opened_by opened (said_by said.entry) }

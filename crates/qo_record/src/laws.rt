@@ -7,7 +7,7 @@ pub fn law_entries()
     ensures { EntriesAreSpelled }
 {}
 
-/// Behind a header the inputs of a stream are the longest list of whole entries, and the bad place is that of what is left.
+/// After a header the inputs of a stream are the longest list of whole entries, and the bad place is that of what is left.
 pub fn law_streams()
     ensures { StreamsAreLongest }
 {}

@@ -8,7 +8,7 @@ ghost use Rattle.qo_record.specs.Windows.{BeginsWithHeader, EntryFound, HeaderFo
 ghost use Rattle.qo_record.specs.declared.windows.TheConstants.{ROOM};
 
 use crate::entries::{First, first_of};
-use crate::reading::behind;
+use crate::reading::after_front;
 use crate::waiting::is_wrong;
 use crate::windows::Window;
 use qo_causes::{Failed, Input, Moment, NextError, Source, What};
@@ -33,10 +33,10 @@ enum Front {
 fn front_of(bytes: &[u8]) -> Front
     ensures { HeaderIn bytes.now result }
 {
-    if behind(HEADER, bytes).is_some() {
+    if after_front(HEADER, bytes).is_some() {
         return Front::Header;
     }
-    match behind(bytes, HEADER) {
+    match after_front(bytes, HEADER) {
         Some(_) => Front::Short,
         None => Front::Other,
     }
@@ -222,7 +222,7 @@ impl Reader {
         input
     }
 
-    /// The next entry behind the header, or the end of the inputs.
+    /// The next entry after the header, or the end of the inputs.
     fn next_entry<S: Source>(&mut self, source: &mut S) -> Result<Input, NextError>
         requires { self.old.headed ≡ true }
         ensures given { NextGives (inputs_ahead self.old (S.left source.old)) (inputs_ahead self.new (S.left source.new)) (bad_ahead self.old (S.left source.old)) result }

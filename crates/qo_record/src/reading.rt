@@ -1,8 +1,8 @@
-//! Readers of parts of an entry. Each answers what was read and the bytes behind it.
+//! Readers of parts of an entry. Each answers what was read and the bytes after it.
 
 ghost use Rattle.std.specs.Prelude.{◌≡◌, ◌≤◌, ◌-◌, ◌^◌, ◌<◌, option_map, IfSome};
 ghost use Rattle.std.specs.Option.{option_copied};
-ghost use Rattle.qo_record.specs.Reading.{behind, next_of, digits_until, number_until, digits_of};
+ghost use Rattle.qo_record.specs.Reading.{after_front, next_of, digits_until, number_until, digits_of};
 ghost use Rattle.qo_record.specs.Record.{moment_at, piece_at, piece_of};
 ghost use Rattle.qo_record.specs.Spelling.{FitsPiece};
 
@@ -17,9 +17,9 @@ const LAST_SESSION: u64 = 15;
 /// The most bytes in one piece.
 pub(crate) const PIECE_MAX: u64 = 65_536;
 
-/// The bytes behind a front.
-pub(crate) fn behind<'a>(front: &[u8], bytes: &'a [u8]) -> Option<&'a [u8]>
-    ensures { option_copied result ≡ behind front.now bytes.now }
+/// The bytes after a front.
+pub(crate) fn after_front<'a>(front: &[u8], bytes: &'a [u8]) -> Option<&'a [u8]>
+    ensures { option_copied result ≡ after_front front.now bytes.now }
 {
     bytes.strip_prefix(front)
 }
@@ -60,7 +60,7 @@ pub(crate) fn number_until(stop: u8, last: u64, bytes: &[u8]) -> Option<(u64, &[
 {
     let (byte, rest) = bytes.split_first()?;
     if *byte == b'0' {
-        return Some((0, behind(&[stop], rest)?));
+        return Some((0, after_front(&[stop], rest)?));
     }
     digits_until(stop, last, next_of(last, 0, *byte)?, rest)
 }
@@ -79,13 +79,13 @@ fn six_digits(bytes: &[u8]) -> Option<(u32, &[u8])>
     Some((number as u32, left))
 }
 
-/// A moment, and the space behind it.
+/// A moment, and the space after it.
 pub(crate) fn moment_at(bytes: &[u8]) -> Option<(Moment, &[u8])>
     ensures { option_map (λ x. (x.0, x.1.now)) result ≡ moment_at bytes.now }
 {
     let (seconds, rest) = number_until(b'.', LAST_SECOND, bytes)?;
     let (micros, rest) = six_digits(rest)?;
-    Some((Moment { seconds, micros }, behind(b" ", rest)?))
+    Some((Moment { seconds, micros }, after_front(b" ", rest)?))
 }
 
 /// A session's number, and the byte that ends it.
@@ -97,7 +97,7 @@ pub(crate) fn session_until(stop: u8, bytes: &[u8]) -> Option<(u8, &[u8])>
     Some((number as u8, rest))
 }
 
-/// So many bytes, and the line's end behind them.
+/// So many bytes, and the line's end after them.
 fn piece_of(len: u64, bytes: &[u8]) -> Option<(&[u8], &[u8])>
     requires { len ≤ 65536 }
     ensures piece { option_map (λ x. (x.0.now, x.1.now)) result ≡ piece_of len bytes.now }
@@ -108,7 +108,7 @@ fn piece_of(len: u64, bytes: &[u8]) -> Option<(&[u8], &[u8])>
         return None;
     }
     let (piece, rest) = bytes.split_at(len);
-    Some((piece, behind(b"\n", rest)?))
+    Some((piece, after_front(b"\n", rest)?))
 }
 
 /// A number of bytes, and the bytes.

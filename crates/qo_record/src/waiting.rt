@@ -1,19 +1,19 @@
 //! Which bytes may still become an entry when more come.
 
 ghost use Rattle.std.specs.Prelude.{◌≡◌, option_map};
-ghost use Rattle.qo_record.specs.Waiting.{are_to_come, has_line, is_wrong, promised_by_guest, promised_by_session};
+ghost use Rattle.qo_record.specs.PartialEntries.{are_to_come, has_line, is_wrong, promised_by_guest, promised_by_session};
 
-use crate::entries::moment_behind;
+use crate::entries::moment_after;
 use crate::reading::{PIECE_MAX, number_until, session_until};
 
 /// The most bytes that the first line of an entry has, with its end.
 const LINE_MAX: usize = 52;
 
-/// How many bytes the first line of an entry of a session promises, and the bytes behind that line.
+/// How many bytes the first line of an entry of a session promises, and the bytes after that line.
 fn promised_by_session<'a>(opened: &[bool; 16], bytes: &'a [u8]) -> Option<(u64, &'a [u8])>
     ensures { option_map (λ x. (x.0, x.1.now)) result ≡ promised_by_session opened.now bytes.now }
 {
-    let (_, rest) = moment_behind(b"bytes ", bytes)?;
+    let (_, rest) = moment_after(b"bytes ", bytes)?;
     let (session, rest) = session_until(b' ', rest)?;
     if !opened[session as usize] {
         return None;
@@ -21,15 +21,15 @@ fn promised_by_session<'a>(opened: &[bool; 16], bytes: &'a [u8]) -> Option<(u64,
     number_until(b'\n', PIECE_MAX, rest)
 }
 
-/// How many bytes the first line of an entry of the guest promises, and the bytes behind that line.
+/// How many bytes the first line of an entry of the guest promises, and the bytes after that line.
 fn promised_by_guest(bytes: &[u8]) -> Option<(u64, &[u8])>
     ensures { option_map (λ x. (x.0, x.1.now)) result ≡ promised_by_guest bytes.now }
 {
-    let (_, rest) = moment_behind(b"guest ", bytes)?;
+    let (_, rest) = moment_after(b"guest ", bytes)?;
     number_until(b'\n', PIECE_MAX, rest)
 }
 
-/// Whether some of the bytes that were promised, or the line's end behind them, are still to come.
+/// Whether some of the bytes that were promised, or the line's end after them, are still to come.
 fn are_to_come(promised: Option<(u64, &[u8])>) -> bool
     ensures { result ≡ are_to_come (option_map (λ x. (x.0, x.1.now)) promised.entry) }
 {
@@ -48,7 +48,7 @@ fn has_line(bytes: &[u8]) -> bool
 
 /// Whether bytes at whose front no entry stands will have none, whatever follows them. It is told where their first line
 /// has ended, or is too long.
-#[tactic(auto, unfolding(crate::specs::Waiting::is_wrong))]
+#[tactic(auto, unfolding(crate::specs::PartialEntries::is_wrong))]
 pub(crate) fn is_wrong(opened: &[bool; 16], bytes: &[u8]) -> bool
     ensures { result ≡ is_wrong opened.now bytes.now }
 {

@@ -4,7 +4,7 @@ ghost use Rattle.std.specs.Prelude.{◌≡◌, ◌≤◌, ◌<◌, ◌+◌, [], 
 ghost use Rattle.qo_causes.specs.Cause.{HasCause};
 ghost use Rattle.qo_record.specs.Replays.{ahead_of};
 ghost use Rattle.qo_record.specs.declared.windows.TheConstants.{ROOM};
-ghost use Rattle.qo_record.specs.Windows.{Filled, TakesBehind, between};
+ghost use Rattle.qo_record.specs.Windows.{Filled, TakesAfter, between};
 
 use qo_causes::{Failed, Source};
 use std::alloc::{AllocError, Global};
@@ -38,7 +38,7 @@ impl Model for Window {
     ghost invariant = { λ w. (w.at ≤ w.end) × (w.end ≤ ROOM) × (length w.buffer.items ≡ ROOM) };
 }
 
-/// Moves the held bytes to the front where nothing is free behind them, and gives their places.
+/// Moves the held bytes to the front where nothing is free after them, and gives their places.
 fn make_room(buffer: &mut Vec<u8>, at: usize, end: usize) -> (usize, usize)
     requires order { at ≤ end }
     requires within { end ≤ ROOM }
@@ -57,12 +57,12 @@ fn make_room(buffer: &mut Vec<u8>, at: usize, end: usize) -> (usize, usize)
 }
 
 /// Takes bytes from a source, once, into the places of a buffer from one on, and answers how many these were.
-fn take_behind<S: Source>(buffer: &mut [u8], end: usize, source: &mut S) -> Result<usize, Failed>
+fn take_after<S: Source>(buffer: &mut [u8], end: usize, source: &mut S) -> Result<usize, Failed>
     requires { end ≤ length buffer.old }
     ensures size { length buffer.new ≡ length buffer.old }
     ensures front { take end buffer.new ≡ take end buffer.old }
     ensures bound { IfOk result (λ n. end + n ≤ length buffer.new) }
-    ensures bytes { TakesBehind (S.left source.old) (S.left source.new) result buffer.new end }
+    ensures bytes { TakesAfter (S.left source.old) (S.left source.new) result buffer.new end }
     ensures cause { HasCause (S.faults source.old) (S.faults source.new) result }
     ensures quiet { OnOk result (S.faults source.new ≡ S.faults source.old) }
 {
@@ -106,7 +106,7 @@ impl Window {
     }
 
     /// Takes bytes from a source, once, as many as there is room for, and answers how many these were. Where
-    /// nothing is free behind the held bytes, these are moved to the front before.
+    /// nothing is free after the held bytes, these are moved to the front before.
     pub(crate) fn fill<S: Source>(&mut self, source: &mut S) -> Result<usize, Failed>
         requires { length self.old < ROOM }
         ensures ahead { ahead_of self.new (S.left source.new) ≡ ahead_of self.old (S.left source.old) }
@@ -118,7 +118,7 @@ impl Window {
         let (at, end) = make_room(&mut self.buffer, self.at, self.end);
         self.at = at;
         self.end = end;
-        let count = take_behind(&mut self.buffer, end, source)?;
+        let count = take_after(&mut self.buffer, end, source)?;
         self.end += count;
         Ok(count)
     }

@@ -5,7 +5,7 @@ use Rattle.qo_values.specs.Bodies as bodies
 use Rattle.qo_values.specs.Bodies.{nothing, byte, pulse}
 
 -- nothing; a byte goes to the ring; the bridge's bus is pulsed
-abbrev pub effect_told : Effect → bodies.Effect
-effect_told Nothing = nothing
-effect_told (Byte n) = byte n
-effect_told Pulse = pulse
+abbrev pub shown_effect : Effect → bodies.Effect
+shown_effect Nothing = nothing
+shown_effect (Byte n) = byte n
+shown_effect Pulse = pulse

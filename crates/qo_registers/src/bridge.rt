@@ -3,7 +3,7 @@
 ghost use Rattle.std.specs.Prelude.{◌≡◌, ◌%◌, ◌==◌, ◌&&◌, ℕ, Bool, IfNone, if◌then◌else◌, not, option_map};
 ghost use Rattle.qo_values.specs.Bodies.{bridge_read, bridge_write, nothing, pulse};
 ghost use Rattle.qo_values.specs.Registers.{bridge};
-ghost use Rattle.qo_registers.specs.Effects.{effect_told};
+ghost use Rattle.qo_registers.specs.Effects.{shown_effect};
 
 use qo_kinds::Effect;
 
@@ -26,7 +26,7 @@ pub fn read(raised: bool, holds: u32, reg: u8) -> Option<u32>
 /// A write to CTRL, and what it does beside.
 fn control(raised: &mut bool, value: u32) -> Effect
     ensures raised { raised.new ≡ (value % 2 == 1) }
-    ensures effect { effect_told result ≡ (if (value % 2 == 1) && not raised.old then pulse else nothing) }
+    ensures effect { shown_effect result ≡ (if (value % 2 == 1) && not raised.old then pulse else nothing) }
 {
     let rises = value % 2 == 1 && !*raised;
     *raised = value % 2 == 1;
@@ -40,7 +40,7 @@ fn control(raised: &mut bool, value: u32) -> Effect
 /// Writes `value` to register `reg` of a bridge. `None` is a register that is absent; the bridge is
 /// then as before.
 pub fn write(raised: &mut bool, reg: u8, value: u32) -> Option<Effect>
-    ensures written { (holds : ℕ) → option_map (λ effect. (bridge (record { raised = raised.new; holds = holds }), effect_told effect)) result ≡ bridge_write (record { raised = raised.old; holds = holds }) reg value }
+    ensures written { (holds : ℕ) → option_map (λ effect. (bridge (record { raised = raised.new; holds = holds }), shown_effect effect)) result ≡ bridge_write (record { raised = raised.old; holds = holds }) reg value }
     ensures absent { IfNone result (raised.new ≡ raised.old) }
 {
     match reg {

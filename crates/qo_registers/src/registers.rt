@@ -4,7 +4,7 @@ ghost use Rattle.std.specs.Prelude.{◌≡◌, ◌≤◌, Bool, IfNone, ℕ, opt
 ghost use Rattle.qo_values.specs.Bodies.{body_read, body_write};
 ghost use Rattle.qo_values.specs.Registers as registers;
 ghost use Rattle.qo_kinds.specs.Bodies.{IsTimely, kept_of, registers_of, with_registers};
-ghost use Rattle.qo_registers.specs.Effects.{effect_told};
+ghost use Rattle.qo_registers.specs.Effects.{shown_effect};
 
 use crate::bridge;
 use qo_dimm::Dimm;
@@ -14,7 +14,7 @@ use qo_uart::Uart;
 
 /// Writes to a register of a UART.
 fn write_uart(uart: &mut Uart, reg: u8, value: u32, ring: bool) -> Option<Effect>
-    ensures written { (time period : ℕ) → option_map (λ effect. (registers.uart uart.new, effect_told effect)) result ≡ body_write (registers.uart uart.old) reg value ring time period }
+    ensures written { (time period : ℕ) → option_map (λ effect. (registers.uart uart.new, shown_effect effect)) result ≡ body_write (registers.uart uart.old) reg value ring time period }
     ensures absent { IfNone result (uart.new ≡ uart.old) }
 {
     match uart.write(reg, value, ring)?.byte {
@@ -26,7 +26,7 @@ fn write_uart(uart: &mut Uart, reg: u8, value: u32, ring: bool) -> Option<Effect
 /// Writes to a register of a timer.
 fn write_timer(timer: &mut Timer, reg: u8, value: u32, time: u64, period: u64) -> Option<Effect>
     requires { timer.old.last ≤ time }
-    ensures written { (ring : Bool) → option_map (λ effect. (registers.timer timer.new, effect_told effect)) result ≡ body_write (registers.timer timer.old) reg value ring time period }
+    ensures written { (ring : Bool) → option_map (λ effect. (registers.timer timer.new, shown_effect effect)) result ≡ body_write (registers.timer timer.old) reg value ring time period }
     ensures absent { IfNone result (timer.new ≡ timer.old) }
 {
     timer.write(reg, value, time, period)?;
@@ -35,7 +35,7 @@ fn write_timer(timer: &mut Timer, reg: u8, value: u32, time: u64, period: u64) -
 
 /// Writes to a register of a DIMM, which change nothing.
 fn write_dimm(dimm: &Dimm, reg: u8) -> Option<Effect>
-    ensures { (value : ℕ) → (ring : Bool) → (time period : ℕ) → option_map (λ effect. (registers.dimm dimm.now, effect_told effect)) result ≡ body_write (registers.dimm dimm.now) reg value ring time period }
+    ensures { (value : ℕ) → (ring : Bool) → (time period : ℕ) → option_map (λ effect. (registers.dimm dimm.now, shown_effect effect)) result ≡ body_write (registers.dimm dimm.now) reg value ring time period }
 {
     match dimm.read(reg) {
         Some(_) => Some(Effect::Nothing),
@@ -71,7 +71,7 @@ pub fn write(
     period: u64,
 ) -> Option<Effect>
     requires { IsTimely time body.old }
-    ensures written { option_map (λ effect. (registers_of body.new, effect_told effect)) result ≡ body_write (registers_of body.old) reg value ring time period }
+    ensures written { option_map (λ effect. (registers_of body.new, shown_effect effect)) result ≡ body_write (registers_of body.old) reg value ring time period }
     ensures rest { body.new ≡ with_registers (registers_of body.new) body.old }
     ensures kept { kept_of body.new ≡ kept_of body.old }
     ensures absent { IfNone result (body.new ≡ body.old) }

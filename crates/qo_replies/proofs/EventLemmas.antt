@@ -10,10 +10,10 @@ use Rattle.serde_json.specs.Written.{compact_text}
 use Rattle.qo_causes.specs.declared.inputs.Moment.{Moment}
 use Rattle.qo_replies.specs.Events.{before_path, before_reason, caused_event, device_event, device_name, ending, event_line, of_device, plain_event}
 use Rattle.qo_replies.specs.Json.{ascii, json}
-use Rattle.qo_replies.specs.Plain.{is_plain_byte}
+use Rattle.qo_replies.specs.PlainBytes.{is_plain_byte}
 use Rattle.qo_replies.specs.Replies.{line_end}
 use Rattle.qo_replies.proofs.AsciiLemmas.{ascii-plain}
-use Rattle.qo_replies.proofs.QuotedLemmas.{ascii-append, ascii-before, escape-plain, plain-ascii, small-ascii}
+use Rattle.qo_replies.proofs.QuoteLemmas.{ascii-append, ascii-before, escape-plain, plain-ascii, small-ascii}
 
 -- what stands between the texts of an ending
 abbrev pub before_event : List ℕ
@@ -25,12 +25,12 @@ before_micros = codes "\",\"timestamp\":{\"microseconds\":"
 abbrev pub before_seconds : List ℕ
 before_seconds = codes ",\"seconds\":"
 
-abbrev pub behind_seconds : List ℕ
-behind_seconds = codes "}}"
+abbrev pub after_seconds : List ℕ
+after_seconds = codes "}}"
 
 -- an ending as it is written
 abbrev pub pieces : List ℕ → Moment → List ℕ
-pieces name at = before_event ++ (name ++ (before_micros ++ (decimal at.micros ++ (before_seconds ++ (decimal at.seconds ++ behind_seconds)))))
+pieces name at = before_event ++ (name ++ (before_micros ++ (decimal at.micros ++ (before_seconds ++ (decimal at.seconds ++ after_seconds)))))
 
 pub ending-pieces : (name : List ℕ) (at : Moment) → list_all is_plain_byte name ≡ true → ending name at ≡ pieces name at
 unfolding ending serde_json_on_literals
@@ -40,7 +40,8 @@ ending-pieces name at h =
     ∙ ap (λ t. before_event ++ (name ++ (before_micros ++ t))) (append_assoc (decimal at.micros) (before_seconds ++ (decimal at.seconds ++ 125 ∷ [])) (125 ∷ [])
     ∙ ap (λ t. decimal at.micros ++ (before_seconds ++ t)) (append_assoc (decimal at.seconds) (125 ∷ []) (125 ∷ []))))
 
-pub ending-ascii : (name : List ℕ) (at : Moment) → list_all is_plain_byte name ≡ true → IsAscii (decimal at.micros) → IsAscii (decimal at.seconds) → IsAscii (ending name at)
+pub ending-ascii : (name : List ℕ) (at : Moment) → list_all is_plain_byte name ≡ true → IsAscii (decimal at.micros) → IsAscii (decimal at.seconds)
+    → IsAscii (ending name at)
 ending-ascii name at h micros seconds =
     rw (ending-pieces name at h)
     (IsAscii-append before_event _ (small-ascii before_event refl)
@@ -48,7 +49,7 @@ ending-ascii name at h micros seconds =
     (IsAscii-append before_micros _ (small-ascii before_micros refl)
     (IsAscii-append (decimal at.micros) _ micros
     (IsAscii-append before_seconds _ (small-ascii before_seconds refl)
-    (IsAscii-append (decimal at.seconds) behind_seconds seconds (small-ascii behind_seconds refl)))))))
+    (IsAscii-append (decimal at.seconds) after_seconds seconds (small-ascii after_seconds refl)))))))
 
 -- an event without data
 pub simple-text : (name : List ℕ) (at : Moment) → IsAscii (ending name at) → json (plain_event at name) ≡ 123 ∷ ending name at
@@ -56,20 +57,20 @@ unfolding json ending
 simple-text name at h = ascii-plain (123 ∷ ending name at) (IsAscii-append (123 ∷ []) (ending name at) (small-ascii (123 ∷ []) refl) h)
 
 -- what stands between the data of an event and its ending
-abbrev pub behind_data : List ℕ
-behind_data = codes "},"
+abbrev pub after_data : List ℕ
+after_data = codes "},"
 
 -- an event with data: a text, a text in quotes and the ending
 abbrev told : List ℕ → List ℕ → List ℕ → Moment → List ℕ
-told before last name at = before ++ (quoted last ++ (behind_data ++ ending name at))
+told before last name at = before ++ (quoted last ++ (after_data ++ ending name at))
 
 told-ascii : (before last name : List ℕ) (at : Moment) → IsUtf8 before → IsUtf8 (quoted last) → IsAscii (ending name at)
-    → ascii (told before last name at) ≡ ascii before ++ (ascii (quoted last) ++ (behind_data ++ ending name at))
+    → ascii (told before last name at) ≡ ascii before ++ (ascii (quoted last) ++ (after_data ++ ending name at))
 told-ascii before last name at first second h =
     rw (
-      ascii-append before (quoted last ++ (behind_data ++ ending name at)) first,
-      ascii-append (quoted last) (behind_data ++ ending name at) second,
-      ascii-plain (behind_data ++ ending name at) (IsAscii-append behind_data (ending name at) (small-ascii behind_data refl) h),
+      ascii-append before (quoted last ++ (after_data ++ ending name at)) first,
+      ascii-append (quoted last) (after_data ++ ending name at) second,
+      ascii-plain (after_data ++ ending name at) (IsAscii-append after_data (ending name at) (small-ascii after_data refl) h),
     ) refl
 
 caused-told : (guest : Bool) (reason name : List ℕ) (at : Moment) → compact_text (caused_event at guest reason name) ≡ told (before_reason guest) reason name at
@@ -86,7 +87,7 @@ device-told (Some id) path name at =
     ∙ sym (append_assoc (quoted id) (codes ",\"path\":") (told [] path name at)))
 
 pub caused-text : (guest : Bool) (reason name : List ℕ) (at : Moment) → IsUtf8 (quoted reason) → IsAscii (ending name at)
-    → json (caused_event at guest reason name) ≡ before_reason guest ++ (ascii (quoted reason) ++ (behind_data ++ ending name at))
+    → json (caused_event at guest reason name) ≡ before_reason guest ++ (ascii (quoted reason) ++ (after_data ++ ending name at))
 unfolding json
 caused-text guest reason name at spelled h =
     rw (caused-told guest reason name at)
@@ -98,12 +99,13 @@ caused-text guest reason name at spelled h =
     reason-ascii false = small-ascii (before_reason false) refl
 
 pub device-text : (id : Option (List ℕ)) (path name : List ℕ) (at : Moment) → IsUtf8 (before_path id) → IsUtf8 (quoted path) → IsAscii (ending name at)
-    → json (device_event at id path name) ≡ ascii (before_path id) ++ (ascii (quoted path) ++ (behind_data ++ ending name at))
+    → json (device_event at id path name) ≡ ascii (before_path id) ++ (ascii (quoted path) ++ (after_data ++ ending name at))
 unfolding json
 device-text id path name at first second h = rw (device-told id path name at) (told-ascii (before_path id) path name at first second h)
 
 -- the line of an event of a device
-pub device-line : (deleted : Bool) (id : Option (List ℕ)) (path : List ℕ) (at : Moment) → event_line at (of_device deleted id path) ≡ json (device_event at id path (device_name deleted)) ++ line_end
+pub device-line : (deleted : Bool) (id : Option (List ℕ)) (path : List ℕ) (at : Moment)
+    → event_line at (of_device deleted id path) ≡ json (device_event at id path (device_name deleted)) ++ line_end
 unfolding event_line
 device-line true id path at = refl
 device-line false id path at = refl
@@ -118,21 +120,21 @@ none-spelled = IsUtf8-from_ascii (before_path None) (small-ascii (before_path No
 abbrev before_id : List ℕ
 before_id = codes "{\"data\":{\"device\":"
 
-abbrev behind_id : List ℕ
-behind_id = codes ",\"path\":"
+abbrev after_id : List ℕ
+after_id = codes ",\"path\":"
 
-pub before_path-some : (id : List ℕ) → IsUtf8 (quoted id) → ascii (before_path (Some id)) ≡ before_id ++ (ascii (quoted id) ++ behind_id)
+pub before_path-some : (id : List ℕ) → IsUtf8 (quoted id) → ascii (before_path (Some id)) ≡ before_id ++ (ascii (quoted id) ++ after_id)
 before_path-some id h =
     rw (
-      ascii-before before_id (quoted id ++ behind_id) (small-ascii before_id refl),
-      ascii-append (quoted id) behind_id h,
-      ascii-plain behind_id (small-ascii behind_id refl),
+      ascii-before before_id (quoted id ++ after_id) (small-ascii before_id refl),
+      ascii-append (quoted id) after_id h,
+      ascii-plain after_id (small-ascii after_id refl),
     ) refl
 
 pub some-spelled : (id : List ℕ) → IsUtf8 (quoted id) → IsUtf8 (before_path (Some id))
 some-spelled id h =
     IsUtf8-append before_id _ (IsUtf8-from_ascii before_id (small-ascii before_id refl))
-    (IsUtf8-append (quoted id) behind_id h (IsUtf8-from_ascii behind_id (small-ascii behind_id refl)))
+    (IsUtf8-append (quoted id) after_id h (IsUtf8-from_ascii after_id (small-ascii after_id refl)))
 
 -- pieces, one after another
 pub ended : (old a b c d end : List ℕ) → (((old ++ a) ++ b) ++ c) ++ (d ++ end) ≡ old ++ ((a ++ (b ++ (c ++ d))) ++ end)
@@ -142,5 +144,6 @@ ended old a b c d end =
     ∙ append_assoc old a (b ++ (c ++ (d ++ end)))
     ∙ ap (λ t. old ++ t) (sym (append_assoc a (b ++ (c ++ d)) end ∙ ap (λ t. a ++ t) (append_assoc b (c ++ d) end ∙ ap (λ t. b ++ t) (append_assoc c d end))))
 
-pub pieces-more : (old a b c d e f g : List ℕ) → ((((((old ++ a) ++ b) ++ c) ++ d) ++ e) ++ f) ++ (g ++ line_end) ≡ old ++ ((a ++ (b ++ (c ++ (d ++ (e ++ (f ++ g)))))) ++ line_end)
+pub pieces-more : (old a b c d e f g : List ℕ)
+    → ((((((old ++ a) ++ b) ++ c) ++ d) ++ e) ++ f) ++ (g ++ line_end) ≡ old ++ ((a ++ (b ++ (c ++ (d ++ (e ++ (f ++ g)))))) ++ line_end)
 pieces-more old a b c d e f g = simp append_assoc

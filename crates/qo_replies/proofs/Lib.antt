@@ -2,5 +2,5 @@ pub mod AsciiLemmas
 pub mod EventLemmas
 pub mod MemberLemmas
 pub mod PropertyLemmas
-pub mod QuotedLemmas
-pub mod WrittenLemmas
+pub mod QuoteLemmas
+pub mod TextLemmas

@@ -7,7 +7,7 @@ use Rattle.json.specs.Print.{quoted}
 use Rattle.serde_json.specs.Data.{member, no_members, number, object, string, unsigned}
 use Rattle.qo_replies.specs.Json.{ascii, json}
 use Rattle.qo_replies.proofs.AsciiLemmas.{ascii-plain}
-use Rattle.qo_replies.proofs.QuotedLemmas.{ascii-append, ascii-before, small-ascii}
+use Rattle.qo_replies.proofs.QuoteLemmas.{ascii-append, ascii-before, small-ascii}
 
 -- a name and what stands for its value
 one : (name value : List ℕ) → IsUtf8 (quoted name) → IsUtf8 value

@@ -18,10 +18,10 @@ use Rattle.qo_values.specs.declared.properties.PropType.TheVariants as ty
 use Rattle.qo_values.specs.declared.type_texts.TypeText.{TypeText}
 use Rattle.qo_values.specs.declared.type_texts.TypeText.TheVariants as text
 use Rattle.qo_replies.specs.Json.{ascii, json}
-use Rattle.qo_replies.specs.Plain.{is_plain_byte}
-use Rattle.qo_replies.specs.Properties.{Begun, HasWritten, are_any, before_name, before_type, behind_type, opened, properties_data, property_data, rows_text}
+use Rattle.qo_replies.specs.PlainBytes.{is_plain_byte}
+use Rattle.qo_replies.specs.Properties.{Begun, HasWritten, are_any, before_name, before_type, after_type, opened, properties_data, property_data, rows_text}
 use Rattle.qo_replies.proofs.AsciiLemmas.{ascii-plain}
-use Rattle.qo_replies.proofs.QuotedLemmas.{ascii-append, ascii-before, small-ascii, three_more, five_more}
+use Rattle.qo_replies.proofs.QuoteLemmas.{ascii-append, ascii-before, small-ascii, three_more, five_more}
 
 -- what is told of types stands for itself
 plain-name : (t : TypeId) → list_all is_plain_byte (type_name t) ≡ true
@@ -47,7 +47,8 @@ both-plain a b ea eb = list_all-append is_plain_byte a b ∙ rw (ea, eb) refl
 
 pub plain-around : (word : List ℕ) (t : TypeId) → list_all is_plain_byte word ≡ true → list_all is_plain_byte (around word t) ≡ true
 plain-around word t e =
-    both-plain ((word ++ codes "<") ++ type_name t) (codes ">") (both-plain (word ++ codes "<") (type_name t) (both-plain word (codes "<") e refl) (plain-name t)) refl
+    both-plain ((word ++ codes "<") ++ type_name t) (codes ">")
+    (both-plain (word ++ codes "<") (type_name t) (both-plain word (codes "<") e refl) (plain-name t)) refl
 
 plain-value : (t : PropType) → list_all is_plain_byte (value_word t) ≡ true
 plain-value ty.Bool = refl
@@ -62,19 +63,27 @@ plain-type (text.Link t) = plain-around (codes "link") t refl
 plain-type text.Nothing = refl
 
 -- one property more in a list
-rows_more : (rows : List (List ℕ × List ℕ)) (row : List ℕ × List ℕ) → rows_text true (rows ++ row ∷ []) ≡ rows_text true rows ++ (44 ∷ compact_text (property_data row))
+rows_more : (rows : List (List ℕ × List ℕ)) (row : List ℕ × List ℕ)
+    → rows_text true (rows ++ row ∷ []) ≡ rows_text true rows ++ (44 ∷ compact_text (property_data row))
 rows_more [] row = rw (append-nil (compact_text (property_data row))) refl
-rows_more (first ∷ rows) row = ap (λ t. 44 ∷ t) (rw (rows_more rows row) (sym (append_assoc (compact_text (property_data first)) (rows_text true rows) (44 ∷ compact_text (property_data row)))))
+rows_more (first ∷ rows) row = ap (λ t. 44 ∷ t)
+    (rw (rows_more rows row) (sym (append_assoc (compact_text (property_data first)) (rows_text true rows) (44 ∷ compact_text (property_data row)))))
 
-pub opened_more : (rows : List (List ℕ × List ℕ)) (row : List ℕ × List ℕ) → opened (rows ++ row ∷ []) ≡ opened rows ++ (comma_if (are_any rows) ++ compact_text (property_data row))
+pub opened_more : (rows : List (List ℕ × List ℕ)) (row : List ℕ × List ℕ)
+    → opened (rows ++ row ∷ []) ≡ opened rows ++ (comma_if (are_any rows) ++ compact_text (property_data row))
 opened_more [] row = rw (append-nil (compact_text (property_data row))) refl
-opened_more (first ∷ rows) row = ap (λ t. 91 ∷ t) (rw (rows_more rows row) (sym (append_assoc (compact_text (property_data first)) (rows_text true rows) (44 ∷ compact_text (property_data row)))))
+opened_more (first ∷ rows) row = ap (λ t. 91 ∷ t)
+    (rw (rows_more rows row) (sym (append_assoc (compact_text (property_data first)) (rows_text true rows) (44 ∷ compact_text (property_data row)))))
 
 -- the closing bracket
 items_rows : (later : Bool) (rows : List (List ℕ × List ℕ)) → items_text later (items_of (map property_data rows)) ≡ rows_text later rows ++ 93 ∷ []
 items_rows later [] = refl
 items_rows later (row ∷ rows) =
-    rw (items_rows true rows, append_assoc (comma_if later) (compact_text (property_data row) ++ rows_text true rows) (93 ∷ []), append_assoc (compact_text (property_data row)) (rows_text true rows) (93 ∷ [])) refl
+    rw (
+      items_rows true rows,
+      append_assoc (comma_if later) (compact_text (property_data row) ++ rows_text true rows) (93 ∷ []),
+      append_assoc (compact_text (property_data row)) (rows_text true rows) (93 ∷ []),
+    ) refl
 
 bracket-ascii : IsAscii (93 ∷ [])
 bracket-ascii zero = omega arith
@@ -86,7 +95,8 @@ closed rows spelled =
     rw (items_rows false rows) (ascii-append (opened rows) (93 ∷ []) spelled ∙ rw (ascii-plain (93 ∷ []) bracket-ascii) refl)
 
 -- a property as it is written
-pub property-text : (some : Bool) (row : List ℕ × List ℕ) → comma_if some ++ compact_text (property_data row) ≡ before_name some ++ (quoted row.0 ++ (before_type ++ (quoted row.1 ++ behind_type)))
+pub property-text : (some : Bool) (row : List ℕ × List ℕ)
+    → comma_if some ++ compact_text (property_data row) ≡ before_name some ++ (quoted row.0 ++ (before_type ++ (quoted row.1 ++ after_type)))
 unfolding serde_json_on_literals
 property-text true row = refl
 property-text false row = refl
@@ -114,33 +124,36 @@ before_name-ascii false = small-ascii (before_name false) refl
 before_type-ascii : IsAscii before_type
 before_type-ascii = small-ascii before_type refl
 
-behind_type-ascii : IsAscii behind_type
-behind_type-ascii = small-ascii behind_type refl
+after_type-ascii : IsAscii after_type
+after_type-ascii = small-ascii after_type refl
 
 -- a property more, as it is written
 pub property-ascii : (some : Bool) (row : List ℕ × List ℕ) → IsUtf8 (quoted row.0) → IsUtf8 (quoted row.1)
-    → ascii (comma_if some ++ compact_text (property_data row)) ≡ before_name some ++ (ascii (quoted row.0) ++ (before_type ++ (ascii (quoted row.1) ++ behind_type)))
+    → ascii (comma_if some ++ compact_text (property_data row))
+    ≡ before_name some ++ (ascii (quoted row.0) ++ (before_type ++ (ascii (quoted row.1) ++ after_type)))
 property-ascii some row name type =
     rw (
       property-text some row,
-      ascii-before (before_name some) (quoted row.0 ++ (before_type ++ (quoted row.1 ++ behind_type))) (before_name-ascii some),
-      ascii-append (quoted row.0) (before_type ++ (quoted row.1 ++ behind_type)) name,
-      ascii-before before_type (quoted row.1 ++ behind_type) before_type-ascii,
-      ascii-append (quoted row.1) behind_type type,
-      ascii-plain behind_type behind_type-ascii,
+      ascii-before (before_name some) (quoted row.0 ++ (before_type ++ (quoted row.1 ++ after_type))) (before_name-ascii some),
+      ascii-append (quoted row.0) (before_type ++ (quoted row.1 ++ after_type)) name,
+      ascii-before before_type (quoted row.1 ++ after_type) before_type-ascii,
+      ascii-append (quoted row.1) after_type type,
+      ascii-plain after_type after_type-ascii,
     ) refl
 
-pub property-spelled : (some : Bool) (row : List ℕ × List ℕ) → IsUtf8 (quoted row.0) → IsUtf8 (quoted row.1) → IsUtf8 (comma_if some ++ compact_text (property_data row))
+pub property-spelled : (some : Bool) (row : List ℕ × List ℕ) → IsUtf8 (quoted row.0) → IsUtf8 (quoted row.1)
+    → IsUtf8 (comma_if some ++ compact_text (property_data row))
 property-spelled some row name type =
     rw (property-text some row)
     (IsUtf8-append (before_name some) _ (IsUtf8-from_ascii _ (before_name-ascii some))
     (IsUtf8-append (quoted row.0) _ name
     (IsUtf8-append before_type _ (IsUtf8-from_ascii before_type before_type-ascii)
-    (IsUtf8-append (quoted row.1) behind_type type (IsUtf8-from_ascii behind_type behind_type-ascii)))))
+    (IsUtf8-append (quoted row.1) after_type type (IsUtf8-from_ascii after_type after_type-ascii)))))
 
 -- a list with a property more
 pub written_more : (rows : List (List ℕ × List ℕ)) (row : List ℕ × List ℕ) (old new : Begun) → HasWritten rows old
-    → new.text ≡ old.text ++ ascii (comma_if old.some ++ compact_text (property_data row)) → IsUtf8 (comma_if old.some ++ compact_text (property_data row)) → new.some ≡ true → HasWritten (rows ++ row ∷ []) new
+    → new.text ≡ old.text ++ ascii (comma_if old.some ++ compact_text (property_data row)) → IsUtf8 (comma_if old.some ++ compact_text (property_data row))
+    → new.some ≡ true → HasWritten (rows ++ row ∷ []) new
 written_more rows row old new h text spelled some =
     let more = opened_more rows row in
     record {
@@ -154,7 +167,8 @@ written_more rows row old new h text spelled some =
     any-more (first ∷ rows) = refl
 
 -- a word around a type's name, piece by piece
-pub around-pieces : (a word name : List ℕ) → ((((a ++ 34 ∷ []) ++ word) ++ codes "<") ++ name) ++ (codes ">" ++ 34 ∷ []) ≡ a ++ (34 ∷ ((((word ++ codes "<") ++ name) ++ codes ">") ++ 34 ∷ []))
+pub around-pieces : (a word name : List ℕ)
+    → ((((a ++ 34 ∷ []) ++ word) ++ codes "<") ++ name) ++ (codes ">" ++ 34 ∷ []) ≡ a ++ (34 ∷ ((((word ++ codes "<") ++ name) ++ codes ">") ++ 34 ∷ []))
 around-pieces a word name =
     five_more a (34 ∷ []) word (codes "<") name (codes ">" ++ 34 ∷ [])
     ∙ ap (λ t. a ++ 34 ∷ t) (sym (append_assoc ((word ++ codes "<") ++ name) (codes ">") (34 ∷ []) ∙ three_more word (codes "<") name (codes ">" ++ 34 ∷ [])))

@@ -1,5 +1,5 @@
 pub mod Events
 pub mod Json
-pub mod Plain
+pub mod PlainBytes
 pub mod Properties
 pub mod Replies

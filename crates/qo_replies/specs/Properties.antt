@@ -46,5 +46,5 @@ before_name some = comma_if some ++ codes "{\"name\":"
 abbrev pub before_type : List ℕ
 before_type = codes ",\"type\":"
 
-abbrev pub behind_type : List ℕ
-behind_type = codes "}"
+abbrev pub after_type : List ℕ
+after_type = codes "}"

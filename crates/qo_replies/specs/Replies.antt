@@ -33,8 +33,8 @@ greeting = json greeting_data ++ line_end
 
 -- the member `id`, where the message had one; it is kept as its text
 abbrev pub id_member : Option (List ℕ) → List ℕ → List ℕ → List ℕ
-id_member None before behind = []
-id_member (Some id) before behind = before ++ codes "\"id\":" ++ id ++ behind
+id_member None before after = []
+id_member (Some id) before after = before ++ codes "\"id\":" ++ id ++ after
 
 -- the reply to a command that was done: members `id` and `return`
 unfoldable pub return_reply : Option (List ℕ) → Data → List ℕ

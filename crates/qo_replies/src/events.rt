@@ -6,7 +6,7 @@ ghost use Rattle.std.specs.Str.{IsAscii, IsUtf8};
 ghost use Rattle.qo_replies.specs.Events.{before_path, before_reason, caused_event, device_name, ending, event_line, of_device, plain_event};
 ghost use Rattle.qo_replies.specs.declared.events.Event.TheVariants.{Reset, Shutdown};
 ghost use Rattle.qo_replies.specs.Json.{ascii, json};
-ghost use Rattle.qo_replies.specs.Plain.{is_plain_byte};
+ghost use Rattle.qo_replies.specs.PlainBytes.{is_plain_byte};
 ghost use Rattle.qo_replies.specs.Replies.{line_end};
 
 use crate::quoted::{push_plain, push_quoted};
@@ -21,7 +21,7 @@ const EVENT_BYTES: usize = 256;
 /// What happened (QMP specification, 2.5 "Asynchronous events").
 #[derive(Debug, Drop)]
 pub enum Event {
-    /// A device is finalised that had a path to it in the tree.
+    /// A device is finalized that had a path to it in the tree.
     DeviceDeleted { id: Option<Id>, path: Text },
     /// The guest refused to let a device go.
     DeviceUnplugGuestError { id: Option<Id>, path: Text },

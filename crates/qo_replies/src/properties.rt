@@ -6,7 +6,7 @@ ghost use Rattle.std.specs.Str.{IsUtf8};
 ghost use Rattle.json.specs.Print.{quoted};
 ghost use Rattle.qo_values.specs.TypeTexts.{around, text_of};
 ghost use Rattle.qo_replies.specs.Json.{ascii, json};
-ghost use Rattle.qo_replies.specs.Plain.{is_plain_byte};
+ghost use Rattle.qo_replies.specs.PlainBytes.{is_plain_byte};
 ghost use Rattle.qo_replies.specs.Properties.{before_name, property_data};
 ghost use Rattle.serde_json.specs.Written.{comma_if, compact_text};
 
@@ -98,7 +98,7 @@ impl PropertyList {
         Ok(PropertyList { text, some: false })
     }
 
-    /// A property more, behind the others. The error is want of memory.
+    /// A property more, after the others. The error is want of memory.
     pub fn push(&mut self, alloc: Global, name: &str, ty: TypeText) -> Result<(), AllocError>
         ensures { OnOk result ((rows : List (List ℕ × List ℕ)) → HasWritten rows self.old → HasWritten (rows ++ (name.now, text_of ty) ∷ []) self.new) }
     {

@@ -5,7 +5,7 @@ ghost use Rattle.std.specs.List.{list_all};
 ghost use Rattle.std.specs.Str.{IsUtf8};
 ghost use Rattle.json.specs.Print.{quoted};
 ghost use Rattle.qo_replies.specs.Json.{ascii};
-ghost use Rattle.qo_replies.specs.Plain.{is_plain_byte};
+ghost use Rattle.qo_replies.specs.PlainBytes.{is_plain_byte};
 
 use crate::ascii::push_ascii;
 use serde_json::Value;

@@ -54,15 +54,15 @@ fn push_id(
     text: &mut String,
     id: Option<&Text>,
     before: &str,
-    behind: &str,
+    after: &str,
 ) -> Result<(), AllocError>
-    ensures { OnOk result (string_bytes text.new ≡ string_bytes text.old ++ id_member (option_map (λ id. id.now) id.entry) before.now behind.now) }
+    ensures { OnOk result (string_bytes text.new ≡ string_bytes text.old ++ id_member (option_map (λ id. id.now) id.entry) before.now after.now) }
 {
     if let Some(id) = id {
         text.push_str(before)?;
         text.push_str("\"id\":")?;
         text.push_str(id.as_str())?;
-        text.push_str(behind)?;
+        text.push_str(after)?;
     }
     Ok(())
 }

@@ -1,6 +1,6 @@
-pub mod GivenLemmas
-pub mod Joining
+pub mod ArgumentMemberLemmas
+pub mod MemberSteps
 pub mod MemberLemmas
 pub mod PartLemmas
 pub mod Readings
-pub mod Rising
+pub mod NameOrder

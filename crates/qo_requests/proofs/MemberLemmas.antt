@@ -10,12 +10,12 @@ use Rattle.qo_json.specs.View.{members_view, view}
 use Rattle.serde_json.specs.Written.{has_float}
 use Rattle.qo_requests.specs.Arguments.{all_named, fits, has_only, is_named}
 use Rattle.qo_requests.specs.declared.arguments.Argument.{Argument}
-use Rattle.qo_requests.specs.declared.arguments.ArgumentKind.TheVariants as kind
+use Rattle.qo_requests.specs.declared.arguments.ArgumentType.TheVariants as kind
 use Rattle.qo_requests.specs.declared.commands.Command.{Command}
 use Rattle.qo_requests.specs.Commands.{command_of}
 use Rattle.qo_requests.specs.Values.{text_at}
 use Rattle.qo_requests.specs.Fields.{argument}
-use Rattle.qo_requests.specs.Given.{names}
+use Rattle.qo_requests.specs.ArgumentMembers.{names}
 use Rattle.qo_requests.specs.Members.{is_whole}
 use Rattle.qo_requests.specs.Messages.{call_of, is_message, message_members, request_in}
 use Rattle.qo_requests.specs.declared.fields.Field.TheVariants.{Arguments, Execute, Id}
@@ -111,7 +111,8 @@ abbrev fitting : Option Data → Option Data → Option Data → Bool
 fitting execute arguments id =
     option_map_or (fits kind.Text) execute true && (option_map_or (fits kind.Object) arguments true && (option_map_or (fits kind.Any) id true && true))
 
-rows_are : (others : Bool) (execute arguments id : Option Data) → is_whole others execute arguments ≡ (not others && stood execute && fitting execute arguments id)
+rows_are : (others : Bool) (execute arguments id : Option Data)
+    → is_whole others execute arguments ≡ (not others && stood execute && fitting execute arguments id)
 rows_are true x a i = refl
 rows_are false None a i = refl
 rows_are false (Some e) a None = both (is_some (as_str e)) (option_map_or (λ d. is_some (as_object d)) a true)

@@ -4,7 +4,7 @@ use Rattle.std.specs.Cmp.Lexicographic.{slice_cmp}
 use Rattle.std.specs.Ordering.{match_ordering, nat_cmp}
 use Rattle.serde_json.specs.Data.{Data, null, boolean, number, string, array, object, Members, no_members, member}
 use Rattle.serde_json.specs.Find.{get_member}
-use Rattle.qo_json.specs.Ordered.{HaveOrder, IsOrdered}
+use Rattle.qo_json.specs.Order.{HaveOrder, IsOrdered}
 use Rattle.qo_requests.specs.Fields.{argument, field_name}
 use Rattle.qo_requests.specs.declared.fields.Field.{Field}
 

@@ -5,13 +5,13 @@ use Rattle.std.specs.Option.{option_map_or}
 use Rattle.std.specs.Str.{bytes_eq}
 use Rattle.serde_json.specs.Data.{Data, Items, no_items, item, Members, no_members, member}
 use Rattle.serde_json.specs.Find.{as_number, as_u64, as_bool, as_str, as_array, as_object}
-use Rattle.qo_values.specs.Plain.{plain_of}
+use Rattle.qo_values.specs.PlainValues.{plain_of}
 use Rattle.qo_values.specs.declared.limits.TheConstants.{RING_SIZE_MAX}
 use Rattle.qo_requests.specs.Fields.{field_name, argument}
 use Rattle.qo_requests.specs.declared.arguments.Argument.{Argument}
 use Rattle.qo_requests.specs.declared.arguments.Argument.TheVariants.{Needed, Optional}
-use Rattle.qo_requests.specs.declared.arguments.ArgumentKind.{ArgumentKind}
-use Rattle.qo_requests.specs.declared.arguments.ArgumentKind.TheVariants as kind
+use Rattle.qo_requests.specs.declared.arguments.ArgumentType.{ArgumentType}
+use Rattle.qo_requests.specs.declared.arguments.ArgumentType.TheVariants as kind
 use Rattle.qo_requests.specs.declared.fields.Field.{Field}
 
 -- the argument's name, and its kind
@@ -19,9 +19,9 @@ abbrev pub field_of : Argument → Field
 field_of (Needed field kind) = field
 field_of (Optional field kind) = field
 
-abbrev pub kind_of : Argument → ArgumentKind
-kind_of (Needed field kind) = kind
-kind_of (Optional field kind) = kind
+abbrev pub type_of : Argument → ArgumentType
+type_of (Needed field kind) = kind
+type_of (Optional field kind) = kind
 
 -- all values of a list are texts
 abbrev pub all_texts : Items → Bool
@@ -33,7 +33,7 @@ abbrev pub is_form : List ℕ → Bool
 is_form name = bytes_eq name (codes "utf8") || bytes_eq name (codes "base64")
 
 -- a value is of a kind
-abbrev pub fits : ArgumentKind → Data → Bool
+abbrev pub fits : ArgumentType → Data → Bool
 fits kind.Any d = true
 fits kind.Object d = is_some (as_object d)
 fits kind.Text d = is_some (as_str d)
@@ -68,7 +68,7 @@ has_only rows d = all_named rows (unwrap_or (as_object d) no_members)
 
 -- an argument is of its kind, where it stands there
 abbrev pub is_fit : Argument → Data → Bool
-is_fit row d = option_map_or (fits (kind_of row)) (argument (field_of row) d) true
+is_fit row d = option_map_or (fits (type_of row)) (argument (field_of row) d) true
 
 -- each argument that stands in the object is of its kind
 abbrev pub all_fit : List Argument → Data → Bool

@@ -5,7 +5,7 @@ use Rattle.qo_requests.specs.declared.commands.Command.{Command}
 use Rattle.qo_requests.specs.declared.commands.Command.TheVariants.{ChardevAdd, ChardevRemove, Cont, DeviceListProperties, DeviceAdd, DeviceDel, ObjectAdd, ObjectDel, QmpCapabilities, QomGet, QomList, QomListTypes, QomSet, QueryCommands, QueryStatus, QueryVersion, Quit, RingbufRead, RingbufWrite, Stop, SystemReset, XGuest, XQueryDetached, XQueryNotes, XResetHold, XResetRelease, XSever, XStep}
 use Rattle.qo_requests.specs.declared.arguments.Argument.{Argument}
 use Rattle.qo_requests.specs.declared.arguments.Argument.TheVariants.{Needed, Optional}
-use Rattle.qo_requests.specs.declared.arguments.ArgumentKind.TheVariants.{Object, Text, Texts, Truth, Number, RingBytes, Form, Plain}
+use Rattle.qo_requests.specs.declared.arguments.ArgumentType.TheVariants.{Object, Text, Texts, Truth, Number, RingBytes, Form, Plain}
 use Rattle.qo_requests.specs.declared.fields.Field.TheVariants as field
 use Rattle.serde_json.specs.Data.{Data}
 use Rattle.qo_requests.specs.Fields.{part_of}
@@ -54,7 +54,9 @@ command_name XStep = codes "x-step"
 
 -- the commands, in byte order of their names
 abbrev pub commands : List Command
-commands = ChardevAdd ∷ ChardevRemove ∷ Cont ∷ DeviceListProperties ∷ DeviceAdd ∷ DeviceDel ∷ ObjectAdd ∷ ObjectDel ∷ QmpCapabilities ∷ QomGet ∷ QomList ∷ QomListTypes ∷ QomSet ∷ QueryCommands ∷ QueryStatus ∷ QueryVersion ∷ Quit ∷ RingbufRead ∷ RingbufWrite ∷ Stop ∷ SystemReset ∷ XGuest ∷ XQueryDetached ∷ XQueryNotes ∷ XResetHold ∷ XResetRelease ∷ XSever ∷ XStep ∷ []
+commands = ChardevAdd ∷ ChardevRemove ∷ Cont ∷ DeviceListProperties ∷ DeviceAdd ∷ DeviceDel ∷ ObjectAdd ∷ ObjectDel ∷ QmpCapabilities ∷ QomGet ∷ QomList
+    ∷ QomListTypes ∷ QomSet ∷ QueryCommands ∷ QueryStatus ∷ QueryVersion ∷ Quit ∷ RingbufRead ∷ RingbufWrite ∷ Stop ∷ SystemReset ∷ XGuest ∷ XQueryDetached
+    ∷ XQueryNotes ∷ XResetHold ∷ XResetRelease ∷ XSever ∷ XStep ∷ []
 
 -- the command of a name
 abbrev pub command_of : List ℕ → Option Command
@@ -102,7 +104,8 @@ alters a = request.Call (call.Change (change.Alter a))
 
 -- the ring that a `backend` asks for: its `type`, and the `size` of its `data`
 abbrev pub ring_on : Data → Data → Request
-ring_on args backend = alters (alteration.ChardevAdd (text_in field.Id args) (text_in field.Kind backend) (number_at field.Size (part_of field.Payload backend)))
+ring_on args backend =
+    alters (alteration.ChardevAdd (text_in field.Id args) (text_in field.Kind backend) (number_at field.Size (part_of field.Payload backend)))
 
 -- the request of a command with these arguments; those of an object or a device that no row names are its properties
 abbrev pub request_of : Command → Data → Request
@@ -110,7 +113,8 @@ request_of ChardevAdd args = ring_on args (part_of field.Backend args)
 request_of ChardevRemove args = alters (alteration.ChardevRemove (text_in field.Id args))
 request_of Cont args = alters alteration.Cont
 request_of DeviceListProperties args = queries (query.DeviceListProperties (text_in field.Typename args))
-request_of DeviceAdd args = adds (addition.DeviceAdd (text_in field.Driver args) (text_at field.Id args) (text_at field.Bus args) (properties_beside (arguments DeviceAdd) args))
+request_of DeviceAdd args =
+    adds (addition.DeviceAdd (text_in field.Driver args) (text_at field.Id args) (text_at field.Bus args) (properties_beside (arguments DeviceAdd) args))
 request_of DeviceDel args = alters (alteration.DeviceDel (text_in field.Id args))
 request_of ObjectAdd args = adds (addition.ObjectAdd (text_in field.QomType args) (text_in field.Id args) (properties_beside (arguments ObjectAdd) args))
 request_of ObjectDel args = alters (alteration.ObjectDel (text_in field.Id args))

@@ -1,7 +1,7 @@
 pub mod Arguments
 pub mod Commands
 pub mod Fields
-pub mod Given
+pub mod ArgumentMembers
 pub mod Members
 pub mod Messages
 pub mod Values

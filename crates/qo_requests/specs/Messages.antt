@@ -16,7 +16,7 @@ use Rattle.qo_requests.specs.Values.{text_at}
 use Rattle.qo_replies.specs.Json.{json}
 use Rattle.qo_requests.specs.declared.arguments.Argument.{Argument}
 use Rattle.qo_requests.specs.declared.arguments.Argument.TheVariants.{Needed, Optional}
-use Rattle.qo_requests.specs.declared.arguments.ArgumentKind.TheVariants.{Any, Object, Text, Number}
+use Rattle.qo_requests.specs.declared.arguments.ArgumentType.TheVariants.{Any, Object, Text, Number}
 use Rattle.qo_requests.specs.declared.commands.Command.{Command}
 use Rattle.qo_requests.specs.declared.commands.Command.TheVariants.{ChardevAdd}
 use Rattle.qo_requests.specs.declared.fields.Field.TheVariants.{Arguments, Backend, Execute, Id, Kind, Payload, Size}

@@ -2,8 +2,8 @@
 
 ghost use Rattle.std.specs.Prelude.{◌≡◌};
 ghost use Rattle.qo_json.specs.View.{view, items_view};
-ghost use Rattle.qo_requests.specs.declared.arguments.ArgumentKind.TheVariants as kind;
-ghost use Rattle.qo_requests.specs.Arguments.{field_of, kind_of, all_texts, is_form, fits, is_named};
+ghost use Rattle.qo_requests.specs.declared.arguments.ArgumentType.TheVariants as kind;
+ghost use Rattle.qo_requests.specs.Arguments.{field_of, type_of, all_texts, is_form, fits, is_named};
 
 use crate::fields::Field;
 use qo_json::Json;
@@ -11,7 +11,7 @@ use qo_values::RING_SIZE_MAX;
 
 /// What an argument is to be.
 #[derive(Clone, Copy, Debug)]
-pub enum ArgumentKind {
+pub enum ArgumentType {
     /// Anything.
     Any,
     /// An object.
@@ -36,9 +36,9 @@ pub enum ArgumentKind {
 #[derive(Clone, Copy, Debug)]
 pub enum Argument {
     /// It must stand there.
-    Needed(Field, ArgumentKind),
+    Needed(Field, ArgumentType),
     /// It may stand there.
-    Optional(Field, ArgumentKind),
+    Optional(Field, ArgumentType),
 }
 
 impl Argument {
@@ -52,8 +52,8 @@ impl Argument {
     }
 
     /// The argument's kind.
-    pub(crate) fn kind(self) -> ArgumentKind
-        ensures { result ≡ kind_of self }
+    pub(crate) fn kind(self) -> ArgumentType
+        ensures { result ≡ type_of self }
     {
         match self {
             Argument::Needed(_, kind) | Argument::Optional(_, kind) => kind,
@@ -92,19 +92,19 @@ pub(crate) fn is_plain(value: &Json<'_>) -> bool
 }
 
 /// Whether a value is of a kind.
-pub(crate) fn fits(kind: ArgumentKind, value: &Json<'_>) -> bool
+pub(crate) fn fits(kind: ArgumentType, value: &Json<'_>) -> bool
     ensures { result ≡ fits kind (view value.now) }
 {
     match kind {
-        ArgumentKind::Any => true,
-        ArgumentKind::Object => value.is_object(),
-        ArgumentKind::Text => value.is_string(),
-        ArgumentKind::Texts => value.as_array().is_some_and(|items| all_texts(items)),
-        ArgumentKind::Truth => value.is_boolean(),
-        ArgumentKind::Number => value.as_u64().is_some(),
-        ArgumentKind::RingBytes => value.as_u64().is_some_and(|size| size <= RING_SIZE_MAX),
-        ArgumentKind::Form => value.as_str().is_some_and(is_form),
-        ArgumentKind::Plain => is_plain(value),
+        ArgumentType::Any => true,
+        ArgumentType::Object => value.is_object(),
+        ArgumentType::Text => value.is_string(),
+        ArgumentType::Texts => value.as_array().is_some_and(|items| all_texts(items)),
+        ArgumentType::Truth => value.is_boolean(),
+        ArgumentType::Number => value.as_u64().is_some(),
+        ArgumentType::RingBytes => value.as_u64().is_some_and(|size| size <= RING_SIZE_MAX),
+        ArgumentType::Form => value.as_str().is_some_and(is_form),
+        ArgumentType::Plain => is_plain(value),
     }
 }
 

@@ -1,11 +1,11 @@
 //! Commands whose arguments stand there and are of their kinds, built into requests.
 
 ghost use Rattle.std.specs.Prelude.{◌≡◌, IfOk};
-ghost use Rattle.qo_json.specs.Ordered.{IsOrdered};
+ghost use Rattle.qo_json.specs.Order.{IsOrdered};
 ghost use Rattle.qo_json.specs.View.{view};
 ghost use Rattle.qo_requests.specs.declared.commands.Command.TheVariants as command;
 ghost use Rattle.qo_requests.specs.Commands.{arguments, request_of, ring_on};
-ghost use Rattle.qo_requests.specs.Given.{AreGiven};
+ghost use Rattle.qo_requests.specs.ArgumentMembers.{AreGiven};
 
 use crate::calls::{Addition, Alteration, Query};
 use crate::commands::{Command, backend_members, payload_members};

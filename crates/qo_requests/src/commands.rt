@@ -6,7 +6,7 @@ ghost use Rattle.qo_requests.specs.Commands.{command_name, commands, command_of,
 ghost use Rattle.qo_requests.specs.Messages.{backend_members, payload_members};
 
 use crate::arguments::Argument::{self, Needed, Optional};
-use crate::arguments::ArgumentKind::{Form, Number, Object, Plain, RingBytes, Text, Texts, Truth};
+use crate::arguments::ArgumentType::{Form, Number, Object, Plain, RingBytes, Text, Texts, Truth};
 use crate::fields::Field;
 
 /// A command, in byte order of the names.

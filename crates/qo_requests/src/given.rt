@@ -3,9 +3,9 @@
 ghost use Rattle.std.specs.Prelude.{◌≡◌, ◌≤◌, ◌&&◌, ◌||◌, length, slice_get, true, Some, option_map};
 ghost use Rattle.qo_json.specs.View.{view, members_view};
 ghost use Rattle.qo_requests.specs.Arguments.{field_of, fits, all_stand, has_only, all_fit, plain_beside};
-ghost use Rattle.qo_requests.specs.declared.arguments.ArgumentKind.TheVariants as kind;
+ghost use Rattle.qo_requests.specs.declared.arguments.ArgumentType.TheVariants as kind;
 ghost use Rattle.qo_requests.specs.Fields.{argument};
-ghost use Rattle.qo_requests.specs.Given.{names, stands_by, is_fit_by, AreRead, AreGiven};
+ghost use Rattle.qo_requests.specs.ArgumentMembers.{names, stands_by, is_fit_by, AreRead, AreGiven};
 
 use crate::arguments::{Argument, fits, is_plain};
 use crate::fields::{Field, argument, found, is_beside, is_one};
@@ -153,7 +153,7 @@ impl<'v, 'a> Given<'v, 'a> {
     }
 
     /// The member of a name, where it stands there. One that no row names is looked for.
-    #[tactic(auto, using(crate::proofs::GivenLemmas::part_named))]
+    #[tactic(auto, using(crate::proofs::ArgumentMemberLemmas::part_named))]
     pub(crate) fn at(&self, field: Field) -> Option<&'v Json<'a>>
         requires { AreGiven self.now }
         ensures { option_map (λ v. view v.now) result ≡ argument field (view self.now.place.now) }

@@ -2,11 +2,11 @@
 
 ghost use Rattle.std.specs.Prelude.{◌≡◌, false, None, option_map, unwrap_or, IfOk};
 ghost use Rattle.serde_json.specs.Data.{null};
-ghost use Rattle.qo_json.specs.Ordered.{IsOrdered};
+ghost use Rattle.qo_json.specs.Order.{IsOrdered};
 ghost use Rattle.qo_json.specs.View.{view, items_view, members_view};
 ghost use Rattle.serde_json.specs.Written.{has_float, items_have_float, members_have_float};
 ghost use Rattle.qo_requests.specs.Commands.{arguments};
-ghost use Rattle.qo_requests.specs.Given.{AreGiven};
+ghost use Rattle.qo_requests.specs.ArgumentMembers.{AreGiven};
 ghost use Rattle.qo_requests.specs.Members.{AreOf};
 ghost use Rattle.qo_values.specs.declared.codes.Code.TheVariants.{E1};
 ghost use Rattle.qo_requests.specs.declared.requests.ReadError.TheVariants.{Refused};

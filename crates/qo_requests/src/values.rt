@@ -2,12 +2,12 @@
 
 ghost use Rattle.std.specs.Prelude.{◌≡◌, [], ◌∷◌, ◌++◌, true, unwrap_or, IfOk, OnOk};
 ghost use Rattle.serde_json.specs.View.{number_view};
-ghost use Rattle.qo_json.specs.Ordered.{IsOrdered, NamesRise, names_of as member_names};
+ghost use Rattle.qo_json.specs.Order.{IsOrdered, NamesRise, names_of as member_names};
 ghost use Rattle.qo_json.specs.View.{view, items_view, members_view};
-ghost use Rattle.qo_values.specs.Plain.{whole_of};
-ghost use Rattle.qo_values.specs.PropLists.{names_of, is_above};
+ghost use Rattle.qo_values.specs.PlainValues.{whole_of};
+ghost use Rattle.qo_values.specs.PropertyLists.{names_of, is_above};
 ghost use Rattle.qo_values.specs.declared.properties.Val.TheVariants as val;
-ghost use Rattle.qo_requests.specs.Given.{AreGiven};
+ghost use Rattle.qo_requests.specs.ArgumentMembers.{AreGiven};
 ghost use Rattle.qo_requests.specs.Values.{text_of, texts_in, plain_in, form_named, text_at, number_at, truth_at, form_at, texts_at, text_in, number_in, value_in, properties_in, properties_beside};
 
 use crate::arguments::{Argument, is_named};
@@ -161,7 +161,7 @@ pub(crate) fn value_in(alloc: Global, args: &Given<'_, '_>, field: Field) -> Res
     }
 }
 
-/// Puts a property behind others, whose names come before its own.
+/// Puts a property after others, whose names come before its own.
 fn put(props: &mut PropList, name: Text, val: Val) -> Result<(), AllocError>
     requires { is_above (names_of props.old) name ≡ true }
     ensures { OnOk result (props.new ≡ props.old ++ (name, val) ∷ []) }
@@ -195,7 +195,7 @@ fn properties_in(
 }
 
 /// The arguments that no row names, as properties.
-#[tactic(auto, using(crate::proofs::GivenLemmas::none_beside))]
+#[tactic(auto, using(crate::proofs::ArgumentMemberLemmas::none_beside))]
 pub(crate) fn properties_beside(alloc: Global, args: &Given<'_, '_>) -> Result<PropList, AllocError>
     requires given { AreGiven args.now }
     requires ordered { IsOrdered (view args.now.place.now) }

@@ -20,15 +20,15 @@ use Rattle.qo_model.specs.Types.{is_a}
 use Rattle.qo_object.specs.declared.slots.Slot.{Slot}
 use Rattle.qo_object.specs.declared.slots.Slot.TheVariants.{Plain, Child, Link, Alias}
 use Rattle.qo_object.specs.Content.{Content}
-use Rattle.qo_object.specs.Shown.{birth_of, shown_slot, shown_slots}
+use Rattle.qo_object.specs.BoardObject.{birth_of, shown_slot, shown_slots}
 use Rattle.qo_object.specs.Slots.{Named}
 use Rattle.qo_heap.specs.Acts.{Acts}
 use Rattle.qo_heap.specs.Board.{Shows}
 use Rattle.qo_heap.specs.Objects.{Objects, content_of, slots_of}
 use Rattle.qo_heap.proofs.ActsLemmas.{acts-then}
 use Rattle.qo_heap.proofs.ActsReads.{acts-length}
-use Rattle.qo_heap.proofs.ShowsActs.{shows-acted}
-use Rattle.qo_heap.proofs.ShowsReads.{shows-kind, shows-size, shows-slots}
+use Rattle.qo_heap.proofs.BoardActs.{shows-acted}
+use Rattle.qo_heap.proofs.BoardReads.{shows-kind, shows-size, shows-slots}
 use Rattle.qo_reset.specs.Phases.{acted_on, below_on, chosen, count_on, is_bus, is_crowded, kids_in, phase_on, picked, picks, post_by, turned_to, visited, walked}
 use Rattle.qo_reset.proofs.WalkLemmas.{acts-below, acts-chosen, walked-acts}
 
@@ -119,7 +119,7 @@ visited-phase act only holds levels n v e =
 pub phase-acts : (act : Act) (only : Bool) (holds : List ℕ) (n : ℕ) (v : Objects) → Acts v (phase_on act only holds n v)
 phase-acts act only holds n v = walked-acts act (picks only holds n v) v
 
--- a phase, and a phase behind acts
+-- a phase, and a phase after acts
 
 abbrev pub all_picked : Bool → Board → ℕ → List ℕ
 all_picked only b n = picked only b (post b n)
@@ -130,7 +130,7 @@ shows-phase act only n b v s =
     subst (λ (l : List ℕ). Shows (phased act l b) (phase_on act only b.holds n v)) (sym (shows-picks only b v s n))
     (shows-walked act (picks only b.holds n v) b v s)
 
--- a phase of c, which shows w behind acts on v, of the objects that b lists
+-- a phase of c, which shows w after acts on v, of the objects that b lists
 shows-next : (act : Act) (only : Bool) (n : ℕ) (b c : Board) (v w : Objects) → Shows b v → Acts v w → Shows c w
     → Shows (phased act (all_picked only b n) c) (phase_on act only b.holds n w)
 shows-next act only n b c v w s acts t =

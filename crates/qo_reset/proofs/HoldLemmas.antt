@@ -1,4 +1,4 @@
--- The list of holds: the place of one, a hold less, and one that is taken behind the others.
+-- The list of holds: the place of one, a hold less, and one that is taken after the others.
 use Rattle.std.proofs.Common.{◌≡◌, refl, ap, sym, ◌∙◌, ℕ, suc, not, cond, Bool, true, false, List, [], ◌∷◌, ◌++◌, length, filter, nat_eq, nat_lt, ◌<◌, position, remove, slice_index_or, Option, Some, None, ◌+◌, arith}
 use Rattle.std.specs.Prelude.{◌||◌}
 use Rattle.std.specs.List.{position_or_len}
@@ -13,20 +13,20 @@ use Rattle.qo_reset.specs.Phases.{births_of}
 
 -- the first hold on the object of a birth
 
-abbrev pub place_of : ℕ → List Key → Option ℕ
-place_of n holds = position (λ (k : Key). nat_eq k.birth n) holds
+abbrev pub hold_index : ℕ → List Key → Option ℕ
+hold_index n holds = position (λ (k : Key). nat_eq k.birth n) holds
 
 abbrev place : ℕ → List Key → ℕ
 place n holds = position_or_len (λ (k : Key). nat_eq k.birth n) holds
 
-place-is : (n : ℕ) (holds : List Key) (i : ℕ) → place_of n holds ≡ Some i → place n holds ≡ i
+place-is : (n : ℕ) (holds : List Key) (i : ℕ) → hold_index n holds ≡ Some i → place n holds ≡ i
 place-is n holds i e = go (nat_lt (place n holds) (length holds)) e
   where
     go : (t : Bool) → cond t (Some (place n holds)) None ≡ Some i → place n holds ≡ i
     go true is = same_Some (place n holds) i is
     go false is = cc
 
-pub place-below : (n : ℕ) (holds : List Key) (i : ℕ) → place_of n holds ≡ Some i → i < length holds
+pub place-below : (n : ℕ) (holds : List Key) (i : ℕ) → hold_index n holds ≡ Some i → i < length holds
 place-below n holds i e = go (nat_lt (place n holds) (length holds)) refl e
   where
     go : (t : Bool) → nat_lt (place n holds) (length holds) ≡ t → cond t (Some (place n holds)) None ≡ Some i → i < length holds
@@ -52,7 +52,7 @@ less-there n (k ∷ holds) = go (nat_eq k.birth n) (less-there n holds)
         let one : 1 + place n holds ≡ suc (place n holds) = omega arith in
         ap (λ (d : ℕ). births_of (remove (k ∷ holds) d)) one ∙ ap (λ (l : List ℕ). k.birth ∷ l) rest
 
-pub less-hold : (n : ℕ) (holds : List Key) (i : ℕ) → place_of n holds ≡ Some i → births_of (remove holds i) ≡ without_first n (births_of holds)
+pub less-hold : (n : ℕ) (holds : List Key) (i : ℕ) → hold_index n holds ≡ Some i → births_of (remove holds i) ≡ without_first n (births_of holds)
 less-hold n holds i e = ap (λ (j : ℕ). births_of (remove holds j)) (sym (place-is n holds i e)) ∙ less-there n holds
 
 -- it is the hold of the birth
@@ -70,7 +70,7 @@ born-there n (k ∷ holds) d low = go (nat_eq k.birth n) refl low (born-there n 
         let low : place n holds < length holds = omega (arith, below) in
         ap (λ (j : ℕ). (slice_index_or (k ∷ holds) j d).birth) one ∙ rest low
 
-pub born-place : (n : ℕ) (holds : List Key) (i : ℕ) (d : Key) → place_of n holds ≡ Some i → (slice_index_or holds i d).birth ≡ n
+pub born-place : (n : ℕ) (holds : List Key) (i : ℕ) (d : Key) → hold_index n holds ≡ Some i → (slice_index_or holds i d).birth ≡ n
 born-place n holds i d e =
     let same : place n holds ≡ i = place-is n holds i e in
     let low : place n holds < length holds = let below = place-below n holds i e in omega (arith, same, below) in
@@ -98,14 +98,14 @@ some-there n (k ∷ holds) = go (nat_eq k.birth n) (some-there n holds) ∙ ap (
         let same : nat_lt (1 + place n holds) (length (k ∷ holds)) ≡ nat_lt (place n holds) (length holds) = grind (arith, nat_tests) in
         same ∙ rest
 
-pub place-some : (n : ℕ) (holds : List Key) (i : ℕ) → place_of n holds ≡ Some i → among (births_of holds) n ≡ true
+pub place-some : (n : ℕ) (holds : List Key) (i : ℕ) → hold_index n holds ≡ Some i → among (births_of holds) n ≡ true
 place-some n holds i e = sym (some-there n holds) ∙ go (nat_lt (place n holds) (length holds)) e
   where
     go : (t : Bool) → cond t (Some (place n holds)) None ≡ Some i → t ≡ true
     go true is = refl
     go false is = cc
 
-pub place-none : (n : ℕ) (holds : List Key) → place_of n holds ≡ None → among (births_of holds) n ≡ false
+pub place-none : (n : ℕ) (holds : List Key) → hold_index n holds ≡ None → among (births_of holds) n ≡ false
 place-none n holds e = sym (some-there n holds) ∙ go (nat_lt (place n holds) (length holds)) e
   where
     go : (t : Bool) → cond t (Some (place n holds)) None ≡ None → t ≡ false
@@ -132,7 +132,7 @@ last-none n (x ∷ xs) e = go (nat_eq x n) (sym (ap (λ (t : Bool). t || among x
     go true q rest = cc
     go false q rest = ap (λ (l : List ℕ). x ∷ l) (rest q)
 
-pub last-hold : (n : ℕ) (holds : List Key) (i : ℕ) (k : Key) → place_of n holds ≡ Some i → k ≡ slice_index_or holds i k
+pub last-hold : (n : ℕ) (holds : List Key) (i : ℕ) (k : Key) → hold_index n holds ≡ Some i → k ≡ slice_index_or holds i k
     → births_of (remove holds i ++ k ∷ []) ≡ without_first n (births_of holds ++ n ∷ [])
 last-hold n holds i k e is =
     let born : k.birth ≡ n = ap (λ (h : Key). h.birth) is ∙ born-place n holds i k e in

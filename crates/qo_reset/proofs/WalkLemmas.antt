@@ -17,15 +17,15 @@ use Rattle.qo_model.specs.Devices.{clock_name}
 use Rattle.qo_model.specs.Types.{is_a}
 use Rattle.qo_object.specs.declared.slots.Slot.TheVariants.{Plain, Child, Link, Alias}
 use Rattle.qo_object.specs.Content.{Content}
-use Rattle.qo_object.specs.Shown.{birth_of}
+use Rattle.qo_object.specs.BoardObject.{birth_of}
 use Rattle.qo_object.specs.Slots.{Named, child_of, target_of}
 use Rattle.qo_heap.specs.Acts.{Acts}
 use Rattle.qo_heap.specs.Objects.{IsHeap, Objects, content_of, slots_of}
 use Rattle.qo_heap.proofs.ActsLemmas.{acts-act, acts-none, acts-then, acts-live}
 use Rattle.qo_heap.proofs.ActsReads.{acts-length, acts-read, acts-slots}
-use Rattle.qo_heap.proofs.ShowsLive.{named-live}
-use Rattle.qo_heap.proofs.TimelyLemmas.{acts-timely}
-use Rattle.qo_heap.specs.Timely.{Timely}
+use Rattle.qo_heap.proofs.BoardObjects.{named-live}
+use Rattle.qo_heap.proofs.MomentLemmas.{acts-timely}
+use Rattle.qo_heap.specs.Moments.{Timely}
 use Rattle.qo_reset.specs.Phases.{acted_on, below_on, births_of, bus_child, chosen, count_on, is_bus, is_under, kids_in, out_on, post_by, strong_target, turned, turned_to, visited, visited_to, walked}
 
 -- what slots name is there

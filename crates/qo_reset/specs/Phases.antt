@@ -15,7 +15,7 @@ use Rattle.qo_model.specs.Types.{is_a}
 use Rattle.qo_object.specs.declared.slots.Slot.{Slot}
 use Rattle.qo_object.specs.declared.slots.Slot.TheVariants.{Child, Link}
 use Rattle.qo_object.specs.Content.{Content, acted_at}
-use Rattle.qo_object.specs.Shown.{birth_of}
+use Rattle.qo_object.specs.BoardObject.{birth_of}
 use Rattle.qo_heap.specs.Board.{Shows}
 use Rattle.qo_heap.specs.Objects.{Objects, content_of, slots_of, with_edit, with_note}
 
@@ -43,7 +43,7 @@ kids_in bus at slots = filter_map (λ (s : List ℕ × Slot). birth_of (turned_t
 abbrev pub below_on : Objects → ℕ → List ℕ
 below_on v n = kids_in (is_bus v) (is_bus v n) (slots_of v n)
 
--- an object behind all that is below it, to a depth
+-- an object after all that is below it, to a depth
 unfoldable pub post_by : (ℕ → List ℕ) → ℕ → ℕ → List ℕ
 post_by next levels n = by_depth (λ f o. flat_map f (next o) ++ o ∷ []) (λ _. []) levels n
 

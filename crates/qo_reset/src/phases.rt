@@ -9,7 +9,7 @@ ghost use Rattle.qo_model.specs.Release.{without_first};
 ghost use Rattle.qo_model.specs.Reset.{held, plugged, released};
 ghost use Rattle.qo_heap.specs.Acts.{Acts};
 ghost use Rattle.qo_heap.specs.Board.{Shows};
-ghost use Rattle.qo_heap.specs.Timely.{Timely};
+ghost use Rattle.qo_heap.specs.Moments.{Timely};
 ghost use Rattle.qo_reset.specs.Phases.{Holds, births_of, phase_on, turned, visited};
 
 use crate::below::{below_at, is_bus};

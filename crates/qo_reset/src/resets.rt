@@ -29,7 +29,7 @@ impl Model for Resets {
 }
 
 /// The place of the first hold on the object of a birth.
-fn place_of(holds: &[Oid], birth: u64) -> Option<usize>
+fn hold_index(holds: &[Oid], birth: u64) -> Option<usize>
     ensures { result ≡ position (λ k. nat_eq k.birth birth) holds.now }
 {
     holds.iter().position(|hold| hold.birth == birth)
@@ -44,7 +44,7 @@ impl Resets {
     ghost use Rattle.qo_model.specs.Reset.{count, held, is_deep, plugged, pulse, released};
     ghost use Rattle.qo_model.specs.Unplug.{without_all};
     ghost use Rattle.qo_heap.specs.Acts.{Acts};
-    ghost use Rattle.qo_heap.specs.Timely.{Timely};
+    ghost use Rattle.qo_heap.specs.Moments.{Timely};
     ghost use Rattle.qo_reset.specs.HoldList.{HoldList, no_holds, with_hold};
     ghost use Rattle.qo_reset.specs.Phases.{Holds};
     ghost use Rattle.qo_reset.specs.declared.errors.HoldError.TheVariants.{Depth, NoHold};
@@ -133,7 +133,7 @@ impl Resets {
         ensures acts { Acts heap.old heap.new }
         ensures timely { Timely heap.old → Timely heap.new }
     {
-        let Some(at) = place_of(&self.holds, root.birth) else {
+        let Some(at) = hold_index(&self.holds, root.birth) else {
             return Err(HoldError::NoHold);
         };
         self.holds.remove(at);
@@ -141,13 +141,13 @@ impl Resets {
         Ok(())
     }
 
-    /// Of the holds on an object the first is taken behind the others, as one that was taken and
+    /// Of the holds on an object the first is taken after the others, as one that was taken and
     /// released at once leaves them.
     fn put_last(&mut self, birth: u64)
         ensures holds { self.new.births ≡ without_first birth (self.old.births ++ birth ∷ []) }
         ensures room { self.new.spare ≡ self.old.spare }
     {
-        if let Some(at) = place_of(&self.holds, birth) {
+        if let Some(at) = hold_index(&self.holds, birth) {
             let hold = self.holds.remove(at);
             self.holds.push_reserved(hold);
         }

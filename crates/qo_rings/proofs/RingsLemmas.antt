@@ -85,8 +85,8 @@ differ-added id size (r ∷ rs) differ free =
     (any-added id r.id size rs differ.0 (bytes_eq-sym id r.id ∙ apart.0), differ-added id size rs differ.1 apart.1)
 
 -- where an id was found, others of it are none
-none-behind : (id : List ℕ) (r : Ring) (rs : List Ring) → is_ring id r ≡ true → list_any (is_ring r.id) rs ≡ false → list_any (is_ring id) rs ≡ false
-none-behind id r rs found none = ap (λ i. list_any (is_ring i) rs) (sym ((bytes_eq-Decides r.id id).0 found)) ∙ none
+none-after : (id : List ℕ) (r : Ring) (rs : List Ring) → is_ring id r ≡ true → list_any (is_ring r.id) rs ≡ false → list_any (is_ring id) rs ≡ false
+none-after id r rs found none = ap (λ i. list_any (is_ring i) rs) (sym ((bytes_eq-Decides r.id id).0 found)) ∙ none
 
 -- the first is changed, and so is each
 changed-first : (f : RingBytes → RingBytes) (id : List ℕ) (d : Ring) (rings : List Ring) (at : ℕ) → IdsDiffer rings
@@ -96,7 +96,7 @@ changed-first f id d (r ∷ rs) zero differ is low = by (is_ring id r) refl is
   where
     by : (b : Bool) → is_ring id r ≡ b → zero ≡ cond (not b) (1 + position_or_len (is_ring id) rs) 0
         → with_bytes f r ∷ rs ≡ (if b then with_bytes f r else r) ∷ ring_changed f id rs
-    by true found same = ap (λ rest. with_bytes f r ∷ rest) (sym (unchanged f id rs (none-behind id r rs found differ.0)))
+    by true found same = ap (λ rest. with_bytes f r ∷ rest) (sym (unchanged f id rs (none-after id r rs found differ.0)))
     by false found same = absurd (omega arith)
 changed-first f id d (r ∷ rs) (suc at) differ is low = by (is_ring id r) is (λ same. changed-first f id d rs at differ.1 same (omega arith))
   where

@@ -69,7 +69,7 @@ act mode Broken = Answer E3 None
 act mode TooLong = Answer E4 None
 act mode TooDeep = Answer E5 None
 
--- the mode behind it
-abbrev pub mode_behind : Mode → SessionAct → Mode
-mode_behind mode (Negotiated id) = Commanding
-mode_behind mode what = mode
+-- the mode after it
+abbrev pub mode_after : Mode → SessionAct → Mode
+mode_after mode (Negotiated id) = Commanding
+mode_after mode what = mode

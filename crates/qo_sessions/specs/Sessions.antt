@@ -20,7 +20,7 @@ begun = record { mode = Negotiating; framing = between }
 abbrev pub in_mode : Mode → State → State
 in_mode mode s = record { mode = mode; framing = s.framing }
 
--- the items of some bytes, and the session behind them
+-- the items of some bytes, and the session after them
 pub record Fed : Type 0 where
   pub items : List Item
   pub session : State

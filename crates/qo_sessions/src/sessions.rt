@@ -32,7 +32,7 @@ impl Model for Session {
 impl Session {
     ghost use Rattle.std.specs.Prelude.{◌≡◌, ◌≢◌, IfOk, OnErr};
     ghost use Rattle.qo_replies.specs.Replies.{greeting};
-    ghost use Rattle.qo_sessions.specs.Acts.{act, mode_behind};
+    ghost use Rattle.qo_sessions.specs.Acts.{act, mode_after};
     ghost use Rattle.qo_sessions.specs.Sessions.{Fed, begun, closed, fed, in_mode};
     ghost use Rattle.qo_sessions.specs.declared.modes.Mode.TheVariants as Mode;
 
@@ -72,7 +72,7 @@ impl Session {
         greeting(alloc)
     }
 
-    /// The items of further bytes, behind those that came before. A closed session takes none. After
+    /// The items of further bytes, after those that came before. A closed session takes none. After
     /// an error the session is as before.
     pub fn feed(&mut self, alloc: Global, bytes: &[u8]) -> Result<Vec<Item>, AllocError>
         ensures items { IfOk result (λ items. fed self.old bytes.now ≡ record { items = items.items; session = self.new }) }
@@ -93,7 +93,7 @@ impl Session {
         scratch: &mut Scratch,
     ) -> Result<SessionAct, AllocError>
         ensures act { IfOk result (λ what. what ≡ act self.old.mode item.now) }
-        ensures mode { IfOk result (λ what. self.new ≡ in_mode (mode_behind self.old.mode what) self.old) }
+        ensures mode { IfOk result (λ what. self.new ≡ in_mode (mode_after self.old.mode what) self.old) }
         ensures kept { OnErr result (self.new ≡ self.old) }
     {
         let what = act_in(alloc, self.mode, item, scratch)?;

@@ -30,7 +30,8 @@ module _ {T : Type 0} where
   IsLive-within t key live = grind (arith, get_or_past, (found-IsLive t key live).1)
 
   -- a change elsewhere leaves a live key live
-  pub IsLive-updated_other : (old new : Table T) (index : ℕ) (slot : Option (ℕ × T)) (key : Key) → Updates old new index slot → key.index ≢ index → IsLive old key → IsLive new key
+  pub IsLive-updated_other : (old new : Table T) (index : ℕ) (slot : Option (ℕ × T)) (key : Key) → Updates old new index slot → key.index ≢ index
+      → IsLive old key → IsLive new key
   IsLive-updated_other old new index slot key updates differs live = rw (updates.others key.index differs) live
 
   -- a write through `change` changes that key alone
@@ -41,24 +42,24 @@ module _ {T : Type 0} where
   }
 
 module _ {X : Type 0} (weight : Option X → ℕ) (none : weight None ≡ 0) where
-  -- the slots behind the first
-  behind_first : List (Option X) → List (Option X)
-  behind_first [] = []
-  behind_first (x ∷ xs) = xs
+  -- the slots after the first
+  after_first : List (Option X) → List (Option X)
+  after_first [] = []
+  after_first (x ∷ xs) = xs
 
-  get_or-behind_first : (xs : List (Option X)) (k : ℕ) → get_or (behind_first xs) k None ≡ get_or xs (suc k) None
-  unfolding behind_first
-  get_or-behind_first [] k = refl
-  get_or-behind_first (x ∷ xs) k = refl
+  get_or-after_first : (xs : List (Option X)) (k : ℕ) → get_or (after_first xs) k None ≡ get_or xs (suc k) None
+  unfolding after_first
+  get_or-after_first [] k = refl
+  get_or-after_first (x ∷ xs) k = refl
 
-  sum_by-behind_first : (xs : List (Option X)) → sum_by weight xs ≡ weight (get_or xs 0 None) + sum_by weight (behind_first xs)
-  unfolding behind_first
-  sum_by-behind_first [] = omega (arith, none)
-  sum_by-behind_first (x ∷ xs) = sum_by-cons weight x xs
+  sum_by-after_first : (xs : List (Option X)) → sum_by weight xs ≡ weight (get_or xs 0 None) + sum_by weight (after_first xs)
+  unfolding after_first
+  sum_by-after_first [] = omega (arith, none)
+  sum_by-after_first (x ∷ xs) = sum_by-cons weight x xs
 
   -- slots that agree at each index weigh the same, whatever their number
   sum_by-agreeing : (xs ys : List (Option X)) → ((k : ℕ) → get_or ys k None ≡ get_or xs k None) → sum_by weight ys ≡ sum_by weight xs
-  unfolding behind_first
+  unfolding after_first
   sum_by-agreeing [] [] same = refl
   sum_by-agreeing [] (y ∷ ys) same =
       omega (arith, sum_by-cons weight y ys, none, ap weight (same 0), sum_by-agreeing [] ys (λ k. same (suc k)))
@@ -66,30 +67,33 @@ module _ {X : Type 0} (weight : Option X → ℕ) (none : weight None ≡ 0) whe
       omega (
         arith,
         sum_by-cons weight x xs,
-        sum_by-behind_first ys,
+        sum_by-after_first ys,
         ap weight (same 0),
-        sum_by-agreeing xs (behind_first ys) (λ k. rw (get_or-behind_first ys k) (same (suc k))),
+        sum_by-agreeing xs (after_first ys) (λ k. rw (get_or-after_first ys k) (same (suc k))),
       )
 
   -- slots that agree at each index but one differ in weight by what stands there
-  sum_by-changed : (i : ℕ) (xs ys : List (Option X)) → ((k : ℕ) → k ≢ i → get_or ys k None ≡ get_or xs k None) → sum_by weight ys + weight (get_or xs i None) ≡ sum_by weight xs + weight (get_or ys i None)
+  sum_by-changed : (i : ℕ) (xs ys : List (Option X)) → ((k : ℕ) → k ≢ i → get_or ys k None ≡ get_or xs k None)
+      → sum_by weight ys + weight (get_or xs i None) ≡ sum_by weight xs + weight (get_or ys i None)
   sum_by-changed zero xs ys same =
       omega (
         arith,
-        sum_by-behind_first xs,
-        sum_by-behind_first ys,
-        sum_by-agreeing (behind_first xs) (behind_first ys) (λ k. rw (get_or-behind_first xs k, get_or-behind_first ys k) (same (suc k) (omega arith))),
+        sum_by-after_first xs,
+        sum_by-after_first ys,
+        sum_by-agreeing (after_first xs) (after_first ys) (λ k. rw (get_or-after_first xs k, get_or-after_first ys k) (same (suc k) (omega arith))),
       )
   sum_by-changed (suc i) xs ys same =
       omega (
         arith,
-        sum_by-behind_first xs,
-        sum_by-behind_first ys,
+        sum_by-after_first xs,
+        sum_by-after_first ys,
         ap weight (same 0 (omega arith)),
-        rw (get_or-behind_first xs i, get_or-behind_first ys i) at (sum_by-changed i (behind_first xs) (behind_first ys) (λ k differs. rw (get_or-behind_first xs k, get_or-behind_first ys k) (same (suc k) (omega arith)))),
+        rw (get_or-after_first xs i, get_or-after_first ys i) at (sum_by-changed i (after_first xs) (after_first ys)
+            (λ k differs. rw (get_or-after_first xs k, get_or-after_first ys k) (same (suc k) (omega arith)))),
       )
 
 -- where one index is changed, a sum over the slots loses what stood there and gains what stands there
-pub sum-updated : {T : Type 0} (weight : Option (ℕ × T) → ℕ) → weight None ≡ 0 → (old new : Table T) (index : ℕ) (slot : Option (ℕ × T)) → Updates old new index slot → sum_by weight new.slots + weight (find old index) ≡ sum_by weight old.slots + weight slot
+pub sum-updated : {T : Type 0} (weight : Option (ℕ × T) → ℕ) → weight None ≡ 0 → (old new : Table T) (index : ℕ) (slot : Option (ℕ × T))
+    → Updates old new index slot → sum_by weight new.slots + weight (find old index) ≡ sum_by weight old.slots + weight slot
 sum-updated weight none old new index slot updates =
     rw updates.changed at (sum_by-changed weight none index old.slots new.slots updates.others)

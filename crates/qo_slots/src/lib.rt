@@ -12,5 +12,5 @@ mod walk;
 
 pub use counting::Steps;
 pub use keys::Key;
-pub use table::Slots;
+pub use table::Arena;
 pub use walk::Rest;

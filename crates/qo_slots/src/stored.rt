@@ -4,7 +4,7 @@ use std::marker::Model;
 use std::mem::ManuallyDrop;
 
 /// A value with its birth. It can be let go whatever the value is, so a slab may hold it; that no
-/// value is lost by this is the duty of `Slots` and `Rest`, which cannot be let go themselves and
+/// value is lost by this is the duty of `Arena` and `Rest`, which cannot be let go themselves and
 /// end only when they hold nothing.
 pub struct Stored<T> {
     birth: u64,
@@ -34,7 +34,7 @@ impl<T> Stored<T> {
     pub fn new(birth: u64, value: T) -> Stored<T>
         ensures { result ≡ (birth, value) }
     {
-        // SAFETY: the value is consumed later. `Slots` and `Rest` alone keep what is stored; they
+        // SAFETY: the value is consumed later. `Arena` and `Rest` alone keep what is stored; they
         // are linear, hand out each value by `into_value`, and end only when they hold none.
         let value = unsafe { ManuallyDrop::new_unchecked(value) };
         Stored { birth, value }

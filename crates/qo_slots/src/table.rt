@@ -13,12 +13,12 @@ use std::sync::ledger::Ledger;
 /// `into_rest`.
 ///
 /// A birth is given by each `put`, from 1 up, and is never given again.
-pub struct Slots<T> {
+pub struct Arena<T> {
     table: Slab<Stored<T>>,
     born: u64,
 }
 
-impl<T> Model for Slots<T> {
+impl<T> Model for Arena<T> {
     ghost use Rattle.qo_slots.specs.Table.{Table, table_code};
 
     ghost Value = { Table T };
@@ -36,17 +36,17 @@ impl<T> Model for Slots<T> {
     ghost invariant = { λ s. BirthsGiven s.table.slots s.born };
 }
 
-impl<T> Slots<T> {
+impl<T> Arena<T> {
     ghost use Rattle.std.specs.Prelude.{◌≡◌, ℕ, ◌+◌, ◌≤◌, ◌<◌, ◌^◌, [], IfSome, IsOk, IsErr, OnOk, Some, None, slice_set};
     ghost use Rattle.std.specs.Borrow.{sem};
     ghost use Rattle.qo_slots.specs.Table.{find, live_count, values_in, HasSpare, IsLive, Updates};
-    ghost use Rattle.qo_slots.specs.Lends.{lends_value};
+    ghost use Rattle.qo_slots.specs.Loans.{lends_value};
 
     /// A table without values. It takes memory only by `reserve`.
-    pub fn new(alloc: Global) -> Slots<T>
+    pub fn new(alloc: Global) -> Arena<T>
         ensures { result ≡ record { slots = []; born = 0; capacity = 0 } }
     {
-        Slots {
+        Arena {
             table: Slab::new(alloc),
             born: 0,
         }
@@ -132,14 +132,14 @@ impl<T> Slots<T> {
     pub fn destroy_empty(self)
         requires { live_count self ≡ 0 }
     {
-        let Slots { table: _, born: _ } = self;
+        let Arena { table: _, born: _ } = self;
     }
 
     /// Gives the table up, for what it still holds. It takes no memory.
     pub fn into_rest(self) -> Rest<T>
         ensures { result ≡ values_in self.slots }
     {
-        let Slots { table, born: _ } = self;
+        let Arena { table, born: _ } = self;
         Rest::new(table)
     }
 }

@@ -20,14 +20,14 @@ use Rattle.qo_model.specs.Changes.{with_added}
 use Rattle.qo_model.specs.Objects.{Given, added_as, barred, given_slots, has_slot, init_notes, object_add, with_attempt, with_object}
 use Rattle.qo_model.specs.Paths.{children_in, children_of, is_child}
 use Rattle.qo_model.specs.Release.{edit, edited}
-use Rattle.qo_model.specs.Types.{TypeRow, is_a}
+use Rattle.qo_model.specs.Types.{TypeInfo, is_a}
 use Rattle.qo_sound.proofs.SlotLemmas.{names_in, one_child}
-use Rattle.qo_sound.proofs.FirmLemmas.{Linked, AllLinked, parents_in, Firm, firm-born}
+use Rattle.qo_sound.proofs.FirmBoardLemmas.{Linked, AllLinked, parents_in, Firm, firm-born}
 use Rattle.qo_sound.proofs.WorkLemmas.{Nearly}
 use Rattle.qo_sound.proofs.ViewLemmas.{AtRest}
-use Rattle.qo_sound.proofs.FreshLemmas.{all-lone, new-names}
-use Rattle.qo_sound.proofs.MadeLemmas.{IsNew, children-none, grown, grown-near, grown-new, grown-old, grown-parents, new-absent}
-use Rattle.qo_sound.proofs.NamedLemmas.{IsNameless, leads-first, named-near}
+use Rattle.qo_sound.proofs.NewSlotLemmas.{all-lone, new-names}
+use Rattle.qo_sound.proofs.NewObjectLemmas.{IsNew, children-none, grown, grown-near, grown-new, grown-old, grown-parents, new-absent}
+use Rattle.qo_sound.proofs.ChildSlotLemmas.{IsNameless, leads-first, named-near}
 
 -- an attempt takes a birth, and nothing else
 pub attempt-rest : (b : Board) (t : TypeId) → AtRest b → AtRest (with_attempt b t)
@@ -77,7 +77,7 @@ name-free id (s ∷ slots) e = go (bytes_eq s.0 id) refl (name-free id slots)
     go true p rest = absurd (let clash : true ≡ false = rw p at e in cc)
     go false p rest = (p, rest (rw p at e))
 
--- the object that is made, and the notes behind it
+-- the object that is made, and the notes after it
 abbrev pub made : Board → TypeId → List Given → Record
 made b t props = record { birth = b.born + 1; kind = t; slots = given_slots b t props; registers = fresh_registers t; device_id = None; kept_path = None }
 
@@ -150,7 +150,7 @@ pub unbarred : (t : Bool) (code : Code) (o : Option Code) → (if t then Some co
 unbarred true code o e = absurd (let clash : Some code ≡ None = e in cc)
 unbarred false code o e = (refl, e)
 
-free-from_barred : (b : Board) (row : TypeRow) (id : List ℕ) → barred b row id ≡ None → IsFree b id
+free-from_barred : (b : Board) (row : TypeInfo) (id : List ℕ) → barred b row id ≡ None → IsFree b id
 free-from_barred b row id e =
     let after_place : Option Code = if leb 4096 (length b.records) then Some E43 else None in
     let after_name : Option Code = if has_slot b OBJECTS_BIRTH id then Some E24 else after_place in
@@ -166,7 +166,7 @@ free-from_barred b row id e =
     record { there = not-false (is_live b OBJECTS_BIRTH) name.0; free = place.0 }
 
 -- and its type is one that users may create
-pub creatable : (b : Board) (row : TypeRow) (id : List ℕ) → barred b row id ≡ None → is_a row.id (codes "user-creatable") ≡ true
+pub creatable : (b : Board) (row : TypeInfo) (id : List ℕ) → barred b row id ≡ None → is_a row.id (codes "user-creatable") ≡ true
 creatable b row id e =
     let first = unbarred row.is_abstract E21 _ e in
     let second = unbarred (not (is_a row.id (codes "user-creatable"))) E22 _ first.1 in

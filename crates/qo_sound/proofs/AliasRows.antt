@@ -6,7 +6,7 @@ use Rattle.qo_model.specs.Board.{Board, child, alias}
 use Rattle.qo_model.specs.Changes.{with_added}
 use Rattle.qo_model.specs.FinalNotesRuns.{deleted, changed}
 use Rattle.qo_model.specs.Opening.{opening_board, fresh_record}
-use Rattle.qo_model.specs.Release.{edited, drop_slot, finish, finalise, finalise_within, let_go}
+use Rattle.qo_model.specs.Release.{edited, drop_slot, finish, finalize, finalize_within, let_go}
 use Rattle.qo_model.specs.SoundGraph.{graph_of, SoundGraph}
 use Rattle.qo_model.specs.Types.{types}
 use Rattle.qo_model.proofs.GraphLemmas.{HasLater, none_round-from_later}
@@ -36,7 +36,7 @@ aliased-sound =
       referred = search rules;
     }
 
--- behind `object-del` of the tag the alias names what is gone
+-- after `object-del` of the tag the alias names what is gone
 deleted-unsound : SoundGraph (changed aliased (deleted (codes "t"))) → ⊥
-unfolding types opening_board graph_of drop_slot finish finalise finalise_within let_go
+unfolding types opening_board graph_of drop_slot finish finalize finalize_within let_go
 deleted-unsound h = let gone : false ≡ true = h.live.1.0.1.1.1.1.1.1.0 in absurd cc

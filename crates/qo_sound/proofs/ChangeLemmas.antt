@@ -21,7 +21,7 @@ use Rattle.qo_model.proofs.WrittenLemmas.{IsLink, holding, seeing}
 use Rattle.qo_sound.proofs.SlotLemmas.{clocks-changed, clocks-stay, IsNoClock, no_child}
 use Rattle.qo_sound.proofs.RecordLemmas.{all-edited, sum-edited}
 use Rattle.qo_sound.proofs.SlotLemmas.{all-changed, all-dropped, child-pointed, sum-changed}
-use Rattle.qo_sound.proofs.FirmLemmas.{FitsKind, Linked, Firm, edited-births, edited-kinds, firm-drop, firm-changed}
+use Rattle.qo_sound.proofs.FirmBoardLemmas.{FitsKind, Linked, Firm, edited-births, edited-kinds, firm-drop, firm-changed}
 use Rattle.qo_sound.proofs.WorkLemmas.{HasOwn, Nearly, after-firm, dropped-held}
 
 -- what passes on to objects does so where a slot was let go

@@ -4,14 +4,14 @@ use Rattle.qo_values.specs.declared.births.TheConstants.{OBJECTS_BIRTH}
 use Rattle.qo_values.specs.declared.properties.Val.{Val}
 use Rattle.qo_model.specs.Board.{Board, Slot, slot_at, slots_at, held}
 use Rattle.qo_model.specs.Changes.{point, pointed, set, with_changed, with_val}
-use Rattle.qo_model.specs.FinalNotesRuns.{behind_write}
+use Rattle.qo_model.specs.FinalNotesRuns.{after_write}
 use Rattle.qo_model.specs.Objects.{object_del, sever, severed_from}
 use Rattle.qo_model.specs.Properties.{pointed_at, relinked, write}
 use Rattle.qo_model.specs.Release.{drop_slot, pin, with_dropped}
 use Rattle.qo_model.proofs.ComesToLemmas.{deletion-comes, sever-comes, severed-comes}
 use Rattle.qo_model.proofs.WrittenLemmas.{write-comes}
-use Rattle.qo_sound.proofs.MakeStepsLemmas.{KeepsEdits}
-use Rattle.qo_sound.proofs.DetachStepsLemmas.{KeepsEnds, KeepsPins, step-let_go, step-pin, step-unpin}
+use Rattle.qo_sound.proofs.AdditionStepsLemmas.{KeepsEdits}
+use Rattle.qo_sound.proofs.DetachmentStepsLemmas.{KeepsEnds, KeepsPins, step-let_go, step-pin, step-unpin}
 
 module _ (P : Board → Type 0) (edits : KeepsEdits P) (pins : KeepsPins P) (ends : KeepsEnds P) where
   -- `object-del`
@@ -39,7 +39,7 @@ module _ (P : Board → Type 0) (edits : KeepsEdits P) (pins : KeepsPins P) (end
       go None p = rw (relinked, p) h
       go (Some s) p = rw (relinked, p) (ends (held s) (pointed_at target n i (drop_slot b n i)) (step-pointed (drop_slot b n i) n i target (step-drop b n i h)))
 
-  pub step-write : (b : Board) (n : ℕ) (name : List ℕ) (v : Val) → P b → P (behind_write b (write b n name v))
+  pub step-write : (b : Board) (n : ℕ) (name : List ℕ) (v : Val) → P b → P (after_write b (write b n name v))
   step-write b n name v h = write-comes P b h n name v (λ i t p kind e may. record {
     value = λ old at type first is fits. step-val b n i v h;
     link = λ u s left link leaves at to holds is path target told. step-relinked b n i target h;

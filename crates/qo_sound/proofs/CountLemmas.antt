@@ -7,7 +7,7 @@ use Rattle.std.proofs.lemmas.List.Sums.{sum_by-cons, sum_by-append}
 use Rattle.qo_model.specs.Board.{Record, Slot, plain, child, strong, weak, alias}
 use Rattle.qo_model.specs.Paths.{children_in}
 use Rattle.qo_sound.proofs.SlotLemmas.{one_child}
-use Rattle.qo_sound.proofs.FirmLemmas.{parents_in}
+use Rattle.qo_sound.proofs.FirmBoardLemmas.{parents_in}
 
 -- one where a number is x
 abbrev pub one_at : ℕ → ℕ → ℕ

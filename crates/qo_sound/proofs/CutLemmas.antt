@@ -16,7 +16,7 @@ use Rattle.qo_model.proofs.EditLemmas.{StandsAt, stands-at}
 use Rattle.qo_model.proofs.StepLemmas.{live-among, one_of}
 use Rattle.qo_sound.proofs.RecordLemmas.{all-edited, sum-edited}
 use Rattle.qo_sound.proofs.SlotLemmas.{clocks_in, names_in, one_child}
-use Rattle.qo_sound.proofs.FirmLemmas.{Linked, parents_in, Firm, edited-births, firm-edit, firm-beside}
+use Rattle.qo_sound.proofs.FirmBoardLemmas.{Linked, parents_in, Firm, edited-births, firm-edit, firm-beside}
 use Rattle.qo_sound.proofs.WorkLemmas.{HasOwn, Nearly}
 
 -- lists without the member at a place

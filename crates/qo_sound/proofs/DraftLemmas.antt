@@ -20,40 +20,40 @@ use Rattle.qo_model.specs.Devices.{child_named}
 use Rattle.qo_model.specs.Objects.{init_notes}
 use Rattle.qo_model.specs.Opening.{first_value, fresh_record}
 use Rattle.qo_model.specs.Paths.{child_of, children_in, children_of}
-use Rattle.qo_model.specs.Plug.{aliased, drafted, owned, row_made, rows_made, with_kid, with_new}
+use Rattle.qo_model.specs.Plug.{aliased, drafted, owned, property_made, properties_made, with_kid, with_new}
 use Rattle.qo_model.specs.References.{refs}
 use Rattle.qo_model.specs.Release.{edited}
 use Rattle.qo_model.specs.SoundAliases.{is_clock_slot, is_open, lasting, PassesTo}
 use Rattle.qo_model.specs.Types.{slots_of, types}
 use Rattle.qo_model.specs.RowNames.{property_name}
 use Rattle.qo_model.specs.declared.properties.Property.{Property}
-use Rattle.qo_model.specs.declared.properties.RowKind.{RowKind}
-use Rattle.qo_model.specs.declared.properties.RowKind.TheVariants as row
+use Rattle.qo_model.specs.declared.properties.PropertyRole.{PropertyRole}
+use Rattle.qo_model.specs.declared.properties.PropertyRole.TheVariants as row
 use Rattle.qo_model.proofs.GraphLemmas.{births_at}
 use Rattle.qo_model.proofs.StepLemmas.{found_at, found-edited, found-birth}
 use Rattle.qo_sound.proofs.RecordLemmas.{all-append}
 use Rattle.qo_sound.proofs.SlotLemmas.{clocks_in, names_in, one_child}
-use Rattle.qo_sound.proofs.FirmLemmas.{Linked, parents_of, edited-leads, firm-beside}
-use Rattle.qo_sound.proofs.FreshLemmas.{fresh-names, new-lone}
-use Rattle.qo_sound.proofs.MadeLemmas.{IsNew, children-none, grown, grown-leads, grown-near, grown-new, grown-old, grown-parents, new-absent}
-use Rattle.qo_sound.proofs.NamedLemmas.{IsNameless, Step, stayed, new_one, leads-first, named-near, named-parents, named-step}
+use Rattle.qo_sound.proofs.FirmBoardLemmas.{Linked, parents_of, edited-leads, firm-beside}
+use Rattle.qo_sound.proofs.NewSlotLemmas.{fresh-names, new-lone}
+use Rattle.qo_sound.proofs.NewObjectLemmas.{IsNew, children-none, grown, grown-leads, grown-near, grown-new, grown-old, grown-parents, new-absent}
+use Rattle.qo_sound.proofs.ChildSlotLemmas.{IsNameless, Step, stayed, new_one, leads-first, named-near, named-parents, named-step}
 use Rattle.qo_sound.proofs.WorkLemmas.{Nearly}
 use Rattle.qo_sound.proofs.AddLemmas.{absent-parents}
-use Rattle.qo_sound.proofs.AddedLemmas.{children-added, near-added, none-child, sum-added}
+use Rattle.qo_sound.proofs.SlotGrowthLemmas.{children-added, near-added, none-child, sum-added}
 
 -- a board with n held from outside once more
-abbrev pub held_up : ℕ → Board → Board
-held_up n b = record b { pins = n ∷ b.pins }
+abbrev pub pinned_once : ℕ → Board → Board
+pinned_once n b = record b { pins = n ∷ b.pins }
 
-pub near-held_up : (n : ℕ) (b : Board) → Nearly (Some n) b → Nearly None (held_up n b)
-near-held_up n b h =
+pub near-pinned_once : (n : ℕ) (b : Board) → Nearly (Some n) b → Nearly None (pinned_once n b)
+near-pinned_once n b h =
     record {
-      firm = firm-beside b (held_up n b) h.firm;
+      firm = firm-beside b (pinned_once n b) h.firm;
       aliases = h.aliases;
       used = used;
     }
   where
-    used : (m : ℕ) → is_live b m ≡ true → refs (held_up n b) m ≡ 0 → None ≡ Some m
+    used : (m : ℕ) → is_live b m ≡ true → refs (pinned_once n b) m ≡ 0 → None ≡ Some m
     used m there none = go (n == m) refl
       where
         go : (t : Bool) → (n == m) ≡ t → None ≡ Some m
@@ -65,10 +65,10 @@ near-held_up n b h =
             absurd (let clash : true ≡ false = sym (eq-eqb n m is) ∙ p in cc)
 
 -- and without the pin n alone may have none
-pub near-let_down : (n : ℕ) (b : Board) → Nearly None (held_up n b) → Nearly (Some n) b
+pub near-let_down : (n : ℕ) (b : Board) → Nearly None (pinned_once n b) → Nearly (Some n) b
 near-let_down n b h =
     record {
-      firm = firm-beside (held_up n b) b h.firm;
+      firm = firm-beside (pinned_once n b) b h.firm;
       aliases = h.aliases;
       used = used;
     }
@@ -90,7 +90,7 @@ HoldsNone s = ⊤
 
 -- an alias passes on to the clock
 abbrev pub OfClock : Property → Type 0
-OfClock p = elim p.kind as (λ _. Type 0) [ row.Alias owner of ↦ bytes_eq (property_name owner) (codes "clk") ≡ true | _ ↦ ⊤ ]
+OfClock p = elim p.role as (λ _. Type 0) [ row.Alias owner of ↦ bytes_eq (property_name owner) (codes "clk") ≡ true | _ ↦ ⊤ ]
 
 abbrev pub row_names : List Property → List (List ℕ)
 row_names ps = map (λ (p : Property). (property_name p.name)) ps
@@ -294,10 +294,10 @@ module _ (b : Board) (n : ℕ) (t : TypeId) (absent : record_of b n ≡ None) (n
           let shut : is_open h.owner.birth ≡ false = ap is_open (found-birth n c.records h.owner h.found) ∙ not_open in
           rw shut (clock-found h.owner.slots m in_slots)
 
-  drafts-row : (p : Property) (ps : List Property) (c : Board) → Drafts b n t (p ∷ ps) c → Drafts b n t ps (row_made n t (property_name p.name) p.kind c)
-  drafts-row p ps c h = go p.kind refl
+  drafts-row : (p : Property) (ps : List Property) (c : Board) → Drafts b n t (p ∷ ps) c → Drafts b n t ps (property_made n t (property_name p.name) p.role c)
+  drafts-row p ps c h = go p.role refl
     where
-      go : (kind : RowKind) → p.kind ≡ kind → Drafts b n t ps (row_made n t (property_name p.name) p.kind c)
+      go : (kind : PropertyRole) → p.role ≡ kind → Drafts b n t ps (property_made n t (property_name p.name) p.role c)
       go (row.Plain type first) e = rw e (drafts-slot p ps c (plain (first_value t first)) refl tt tt h tt)
       go (row.Link target true) e = rw e (drafts-slot p ps c (strong target None) refl tt tt h tt)
       go (row.Link target false) e = rw e (drafts-slot p ps c (weak target None) refl tt tt h tt)
@@ -305,9 +305,9 @@ module _ (b : Board) (n : ℕ) (t : TypeId) (absent : record_of b n ≡ None) (n
       go (row.Alias owner of) e =
           rw e (drafts-alias p ps c (property_name owner) (property_name of) (rw e at h.clocked.0) h (owned c n (property_name owner)) refl)
 
-  pub drafts-rows : (ps : List Property) (c : Board) → Drafts b n t ps c → Drafts b n t [] (rows_made n t ps c)
+  pub drafts-rows : (ps : List Property) (c : Board) → Drafts b n t ps c → Drafts b n t [] (properties_made n t ps c)
   drafts-rows [] c h = h
-  drafts-rows (p ∷ ps) c h = drafts-rows ps (row_made n t (property_name p.name) p.kind c) (drafts-row p ps c h)
+  drafts-rows (p ∷ ps) c h = drafts-rows ps (property_made n t (property_name p.name) p.role c) (drafts-row p ps c h)
 
 -- the rows of types: their names differ, and an alias passes on to the clock
 row-names : (t : TypeId) → IsDistinct bytes_eq (row_names (slots_of t))
@@ -353,11 +353,12 @@ all-free [] = tt
 all-free (p ∷ ps) = (tt, all-free ps)
 
 -- the device as it begins, held from outside
-pub drafts-begun : (b : Board) (t : TypeId) → Nearly None b → Drafts b (b.born + 1) t (slots_of t) (held_up (b.born + 1) (with_new (fresh (b.born + 1) t) b))
+pub drafts-begun : (b : Board) (t : TypeId) → Nearly None b
+    → Drafts b (b.born + 1) t (slots_of t) (pinned_once (b.born + 1) (with_new (fresh (b.born + 1) t) b))
 unfolding IsDistinct
 drafts-begun b t h =
     record {
-      near = near-held_up (b.born + 1) g (grown-near b k notes h.firm new h);
+      near = near-pinned_once (b.born + 1) g (grown-near b k notes h.firm new h);
       owner = k;
       found = grown-new b k notes h.firm new;
       kind = refl;
@@ -401,17 +402,18 @@ abbrev pub with_pins : List ℕ → Board → Board
 with_pins q c = record c { pins = q }
 
 -- no row sees the pins
-pub rows-blind : (q : List ℕ) (n : ℕ) (t : TypeId) (ps : List Property) (c : Board) → rows_made n t ps (with_pins q c) ≡ with_pins q (rows_made n t ps c)
+pub rows-blind : (q : List ℕ) (n : ℕ) (t : TypeId) (ps : List Property) (c : Board)
+    → properties_made n t ps (with_pins q c) ≡ with_pins q (properties_made n t ps c)
 unfolding add
 rows-blind q n t [] c = refl
-rows-blind q n t (p ∷ ps) c = ap (rows_made n t ps) (by p.kind) ∙ rows-blind q n t ps (row_made n t (property_name p.name) p.kind c)
+rows-blind q n t (p ∷ ps) c = ap (properties_made n t ps) (by p.role) ∙ rows-blind q n t ps (property_made n t (property_name p.name) p.role c)
   where
     joined : (o : Option ℕ) (property : List ℕ)
         → aliased n (property_name p.name) property o (with_pins q c) ≡ with_pins q (aliased n (property_name p.name) property o c)
     joined None property = refl
     joined (Some m) property = refl
 
-    by : (kind : RowKind) → row_made n t (property_name p.name) kind (with_pins q c) ≡ with_pins q (row_made n t (property_name p.name) kind c)
+    by : (kind : PropertyRole) → property_made n t (property_name p.name) kind (with_pins q c) ≡ with_pins q (property_made n t (property_name p.name) kind c)
     by (row.Plain type first) = refl
     by (row.Link target true) = refl
     by (row.Link target false) = refl
@@ -419,30 +421,31 @@ rows-blind q n t (p ∷ ps) c = ap (rows_made n t ps) (by p.kind) ∙ rows-blind
     by (row.Alias owner of) = joined (owned c n (property_name owner)) (property_name of)
 
 -- no row changes the pins
-pub rows-pins : (n : ℕ) (t : TypeId) (ps : List Property) (c : Board) → (rows_made n t ps c).pins ≡ c.pins
+pub rows-pins : (n : ℕ) (t : TypeId) (ps : List Property) (c : Board) → (properties_made n t ps c).pins ≡ c.pins
 unfolding add
 rows-pins n t [] c = refl
-rows-pins n t (p ∷ ps) c = rows-pins n t ps (row_made n t (property_name p.name) p.kind c) ∙ by p.kind
+rows-pins n t (p ∷ ps) c = rows-pins n t ps (property_made n t (property_name p.name) p.role c) ∙ by p.role
   where
     joined : (o : Option ℕ) (property : List ℕ) → (aliased n (property_name p.name) property o c).pins ≡ c.pins
     joined None property = refl
     joined (Some m) property = refl
 
-    by : (kind : RowKind) → (row_made n t (property_name p.name) kind c).pins ≡ c.pins
+    by : (kind : PropertyRole) → (property_made n t (property_name p.name) kind c).pins ≡ c.pins
     by (row.Plain type first) = refl
     by (row.Link target true) = refl
     by (row.Link target false) = refl
     by (row.Child type) = refl
     by (row.Alias owner of) = joined (owned c n (property_name owner)) (property_name of)
 
-rows-held_up : (n : ℕ) (t : TypeId) (ps : List Property) (c : Board) → rows_made n t ps (held_up n c) ≡ held_up n (rows_made n t ps c)
-rows-held_up n t ps c = rows-blind (n ∷ c.pins) n t ps c ∙ ap (λ (q : List ℕ). with_pins (n ∷ q) (rows_made n t ps c)) (sym (rows-pins n t ps c))
+rows-pinned_once : (n : ℕ) (t : TypeId) (ps : List Property) (c : Board) → properties_made n t ps (pinned_once n c) ≡ pinned_once n (properties_made n t ps c)
+rows-pinned_once n t ps c = rows-blind (n ∷ c.pins) n t ps c ∙ ap (λ (q : List ℕ). with_pins (n ∷ q) (properties_made n t ps c)) (sym (rows-pins n t ps c))
 
 -- the device as it is made, still held
-pub drafted-drafts : (b : Board) (t : TypeId) → is_open (b.born + 1) ≡ false → Nearly None b → Drafts b (b.born + 1) t [] (held_up (b.born + 1) (drafted b t))
+pub drafted-drafts : (b : Board) (t : TypeId) → is_open (b.born + 1) ≡ false → Nearly None b
+    → Drafts b (b.born + 1) t [] (pinned_once (b.born + 1) (drafted b t))
 drafted-drafts b t not_open h =
-    subst (Drafts b (b.born + 1) t []) (rows-held_up (b.born + 1) t (slots_of t) (with_new (fresh (b.born + 1) t) b))
-    (drafts-rows b (b.born + 1) t absent not_open (slots_of t) (held_up (b.born + 1) (with_new (fresh (b.born + 1) t) b)) (drafts-begun b t h))
+    subst (Drafts b (b.born + 1) t []) (rows-pinned_once (b.born + 1) t (slots_of t) (with_new (fresh (b.born + 1) t) b))
+    (drafts-rows b (b.born + 1) t absent not_open (slots_of t) (pinned_once (b.born + 1) (with_new (fresh (b.born + 1) t) b)) (drafts-begun b t h))
   where
     absent : record_of b (b.born + 1) ≡ None
     absent = go (record_of b (b.born + 1)) refl

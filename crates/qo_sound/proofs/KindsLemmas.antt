@@ -11,28 +11,28 @@ use Rattle.qo_model.specs.Board.{Board, child, strong, kind_of, slots_at}
 use Rattle.qo_model.specs.Changes.{add, set, with_added, with_changed, with_val}
 use Rattle.qo_model.specs.Clocks.{acted, with_act_on}
 use Rattle.qo_model.specs.Devices.{clock_of, kid_name}
-use Rattle.qo_model.specs.Objects.{place_from}
+use Rattle.qo_model.specs.Objects.{index_from}
 use Rattle.qo_model.specs.Paths.{canonical}
 use Rattle.qo_model.specs.Plug.{Spot, Wanted, acted_all, addressed_at, bus_births, clocked, counted, drafted, fitted, joined, link_named, name_for, parent_for, source_for, stood, valued, with_body_of, with_device, with_given, with_path, with_plugged, with_source}
 use Rattle.qo_model.specs.Release.{edit}
 use Rattle.qo_model.specs.Reset.{is_out, phased, plugged, post}
 use Rattle.qo_model.specs.Unplug.{is_named, set_named}
-use Rattle.qo_sound.proofs.FirmLemmas.{edited-kinds}
+use Rattle.qo_sound.proofs.FirmBoardLemmas.{edited-kinds}
 
 -- the types of objects stay with these steps
 
 set-kinds : (n : ℕ) (name : List ℕ) (v : Val) (c : Board) → kind_of (set_named n name v c) ≡ kind_of c
 unfolding set
-set-kinds n name v c = go (place_from (is_named name) 0 (slots_at c n)) refl
+set-kinds n name v c = go (index_from (is_named name) 0 (slots_at c n)) refl
   where
-    go : (o : Option ℕ) → place_from (is_named name) 0 (slots_at c n) ≡ o → kind_of (set_named n name v c) ≡ kind_of c
+    go : (o : Option ℕ) → index_from (is_named name) 0 (slots_at c n) ≡ o → kind_of (set_named n name v c) ≡ kind_of c
     go None e = rw (set_named, e) refl
     go (Some i) e = rw (set_named, e) (edited-kinds n (with_changed (with_val v) i) (λ r. refl) (λ r. refl) c)
 
 link-kinds : (n : ℕ) (name : List ℕ) (m : ℕ) (c : Board) → kind_of (link_named n name m c) ≡ kind_of c
-link-kinds n name m c = go (place_from (is_named name) 0 (slots_at c n)) refl
+link-kinds n name m c = go (index_from (is_named name) 0 (slots_at c n)) refl
   where
-    go : (o : Option ℕ) → place_from (is_named name) 0 (slots_at c n) ≡ o → kind_of (link_named n name m c) ≡ kind_of c
+    go : (o : Option ℕ) → index_from (is_named name) 0 (slots_at c n) ≡ o → kind_of (link_named n name m c) ≡ kind_of c
     go None e = rw (link_named, e) refl
     go (Some i) e = rw (link_named, e) (edited-kinds n (with_changed (fitted c m) i) (λ r. refl) (λ r. refl) c)
 

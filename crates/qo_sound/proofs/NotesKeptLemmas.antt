@@ -19,29 +19,29 @@ use Rattle.qo_model.specs.FinalNotesRuns.{with_act}
 use Rattle.qo_model.specs.Hotplug.{asked, asked_of, device_at, refused, with_asked}
 use Rattle.qo_model.specs.Objects.{init_notes}
 use Rattle.qo_model.specs.Paths.{attached, canonical}
-use Rattle.qo_model.specs.Plug.{Spot, Wanted, acted_all, aliased, barred_early, barred_late, bus_births, bus_for, clocked, counted, drafted, notice_barred, owned, plug, plug_as, plug_by, plug_late, row_made, rows_made, source_for, spot_of, stood, type_barred, types_in, with_body_of, with_device, with_new, with_path, with_plugged}
+use Rattle.qo_model.specs.Plug.{Spot, Wanted, acted_all, aliased, barred_early, barred_late, bus_births, bus_for, clocked, counted, drafted, notice_barred, owned, plug, plug_as, plug_by, plug_late, property_made, properties_made, source_for, spot_of, stood, type_barred, types_in, with_body_of, with_device, with_new, with_path, with_plugged}
 use Rattle.qo_model.specs.Release.{edit, pin, without_first}
 use Rattle.qo_model.specs.ReleaseNotes.{notes_on}
 use Rattle.qo_model.specs.Reset.{held, is_out, phased, plugged, post, pulse, released}
 use Rattle.qo_model.specs.RowNames.{property_name}
 use Rattle.qo_model.specs.SoundAliases.{is_open}
-use Rattle.qo_model.specs.Types.{TypeRow, inits, is_a, row_named, slots_of}
+use Rattle.qo_model.specs.Types.{TypeInfo, inits, is_a, type_named, slots_of}
 use Rattle.qo_model.specs.Unplug.{detach, unrealize}
 use Rattle.qo_model.specs.declared.properties.Property.{Property}
-use Rattle.qo_model.specs.declared.properties.RowKind.{RowKind}
-use Rattle.qo_model.specs.declared.properties.RowKind.TheVariants as row
+use Rattle.qo_model.specs.declared.properties.PropertyRole.{PropertyRole}
+use Rattle.qo_model.specs.declared.properties.PropertyRole.TheVariants as row
 use Rattle.qo_model.proofs.DraftEndsLemmas.{kinds_in}
 use Rattle.qo_model.proofs.FinalNotesGrowthLemmas.{act-keeps, Grown, grown-keeps, next-absent, next-begins, last-other, last-own, unmapped}
 use Rattle.qo_model.proofs.FinalNotesLemmas.{after-keeps, edit-keeps, edit-kind, kind-live, pins-keep, same-keep}
 use Rattle.qo_model.proofs.StepLemmas.{found_at}
-use Rattle.qo_sound.specs.Kept.{SoundTree}
+use Rattle.qo_sound.specs.TreeKept.{SoundTree}
 use Rattle.qo_sound.specs.NotesKept.{NotesKeptLaw}
 use Rattle.qo_sound.proofs.AttemptNotesLemmas.{buses-within, cut_attempt-keeps, noted-other, plug_attempt-keeps}
-use Rattle.qo_sound.proofs.DetachStepsLemmas.{KeepsEnds, KeepsLists, KeepsPins, step-detach, step-pin, step-unrealize}
-use Rattle.qo_sound.proofs.FirmLemmas.{AllLinked}
+use Rattle.qo_sound.proofs.DetachmentStepsLemmas.{KeepsEnds, KeepsLists, KeepsPins, step-detach, step-pin, step-unrealize}
+use Rattle.qo_sound.proofs.FirmBoardLemmas.{AllLinked}
 use Rattle.qo_sound.proofs.KindsLemmas.{device-kinds}
-use Rattle.qo_sound.proofs.LiveLemmas.{buses-there, IsThere, kids-there, post-there}
-use Rattle.qo_sound.proofs.MakeStepsLemmas.{any-rows, KeepsActs, KeepsEdits, KeepsNew, LeavesAllButSlots, new_with, step-acted_all, step-drafted, step-phased, step-plugged, step-stood}
+use Rattle.qo_sound.proofs.PresenceLemmas.{buses-there, IsThere, kids-there, post-there}
+use Rattle.qo_sound.proofs.AdditionStepsLemmas.{any-rows, KeepsActs, KeepsEdits, KeepsNew, LeavesAllButSlots, new_with, step-acted_all, step-drafted, step-phased, step-plugged, step-stood}
 use Rattle.qo_sound.proofs.PlugLemmas.{device-of, held-all, held-phased, IsPlace, place-of, shut-above, sits-device}
 use Rattle.qo_sound.proofs.RecordLemmas.{all-filter, all-imply}
 use Rattle.qo_sound.proofs.UnplugLemmas.{Sits}
@@ -162,17 +162,17 @@ unfolding add
 aliased-born n name property None c = refl
 aliased-born n name property (Some m) c = refl
 
-rows-born : (n : ℕ) (t : TypeId) (ps : List Property) (c : Board) → (rows_made n t ps c).born ≡ c.born + length (kinds_in ps)
+rows-born : (n : ℕ) (t : TypeId) (ps : List Property) (c : Board) → (properties_made n t ps c).born ≡ c.born + length (kinds_in ps)
 unfolding add
 rows-born n t [] c = omega arith
-rows-born n t (p ∷ ps) c = go p.kind refl (rows-born n t ps)
+rows-born n t (p ∷ ps) c = go p.role refl (rows-born n t ps)
   where
-    go : (kind : RowKind) → p.kind ≡ kind → ((x : Board) → (rows_made n t ps x).born ≡ x.born + length (kinds_in ps))
-        → (rows_made n t (p ∷ ps) c).born ≡ c.born + length (kinds_in (p ∷ ps))
-    go (row.Plain type first) e rest = rw e (rest (row_made n t (property_name p.name) (row.Plain type first) c))
-    go (row.Link target true) e rest = rw e (rest (row_made n t (property_name p.name) (row.Link target true) c))
-    go (row.Link target false) e rest = rw e (rest (row_made n t (property_name p.name) (row.Link target false) c))
-    go (row.Child k) e rest = rw e (rest (row_made n t (property_name p.name) (row.Child k) c) ∙ omega arith)
+    go : (kind : PropertyRole) → p.role ≡ kind → ((x : Board) → (properties_made n t ps x).born ≡ x.born + length (kinds_in ps))
+        → (properties_made n t (p ∷ ps) c).born ≡ c.born + length (kinds_in (p ∷ ps))
+    go (row.Plain type first) e rest = rw e (rest (property_made n t (property_name p.name) (row.Plain type first) c))
+    go (row.Link target true) e rest = rw e (rest (property_made n t (property_name p.name) (row.Link target true) c))
+    go (row.Link target false) e rest = rw e (rest (property_made n t (property_name p.name) (row.Link target false) c))
+    go (row.Child k) e rest = rw e (rest (property_made n t (property_name p.name) (row.Child k) c) ∙ omega arith)
     go (row.Alias owner of) e rest =
         let m : Option ℕ = owned c n (property_name owner) in
         rw e (rest (aliased n (property_name p.name) (property_name of) m c)
@@ -257,9 +257,9 @@ as-notes b t a device rest o None e = go (bus_for b t a.bus) refl
 
 by-notes : (b : Board) (a : Wanted) → AtRest b → NotesInOrder b → (r : Option Code) → type_barred a.driver ≡ r → NotesInOrder (plug_by b a r).board
 by-notes b a rest o (Some code) e = o
-by-notes b a rest o None e = go (row_named a.driver) refl
+by-notes b a rest o None e = go (type_named a.driver) refl
   where
-    go : (row : Option TypeRow) → row_named a.driver ≡ row → NotesInOrder (plug_by b a None).board
+    go : (row : Option TypeInfo) → type_named a.driver ≡ row → NotesInOrder (plug_by b a None).board
     go None p = rw (plug_by, p) o
     go (Some row) p = rw (plug_by, p) (as-notes b row.id a (device-of row (rw (type_barred, p) at e)) rest o (barred_early b row.id a) refl)
 

@@ -23,20 +23,20 @@ use Rattle.qo_model.specs.Depth.{leads, Leads, one, more}
 use Rattle.qo_model.specs.Devices.{is_going, kid_name}
 use Rattle.qo_model.specs.Objects.{has_slot, refusal_of}
 use Rattle.qo_model.specs.Paths.{attached, canonical, children_of, is_of}
-use Rattle.qo_model.specs.Plug.{Spot, Wanted, acted_all, addressed_at, at_stage, barred_early, barred_late, born_from, bus_barred, bus_births, bus_for, bus_type, code_in, container_barred, counted, cut_attempt, cut_order, device_last, drafted, first_of, id_barred, id_refused, is_free, joined, kind_barred, name_for, notice_barred, number_for, ok_or_zero, parent_for, passed_notes, place_barred, plug, plug_as, plug_attempt, plug_by, plug_late, realize_barred, room_barred, slot_for, spot_of, stood, told_plug, type_barred, types_in, valued, with_body_of, with_device, with_ended, with_given, with_path, with_plugged, with_source}
+use Rattle.qo_model.specs.Plug.{Spot, Wanted, acted_all, addressed_at, at_stage, barred_early, barred_late, born_from, bus_barred, bus_births, bus_for, bus_type, code_in, container_barred, counted, cut_attempt, cut_order, device_last, drafted, first_of, id_barred, id_refused, is_free, joined, kind_barred, name_for, notice_barred, number_for, ok_or_zero, parent_for, passed_notes, place_barred, plug, plug_as, plug_attempt, plug_by, plug_late, realize_barred, room_barred, bus_slot_for, spot_of, stood, notified_plug, type_barred, types_in, valued, with_body_of, with_device, with_ended, with_given, with_path, with_plugged, with_source}
 use Rattle.qo_model.specs.Release.{edit}
 use Rattle.qo_model.specs.Reset.{is_out, phased, plugged, post}
 use Rattle.qo_model.specs.SoundAliases.{is_open}
-use Rattle.qo_model.specs.Types.{TypeRow, is_a, row_named, types}
-use Rattle.qo_sound.proofs.FirmLemmas.{Firm, edited-kinds, firm-born, firm-beside}
-use Rattle.qo_sound.proofs.NamedLemmas.{IsNameless, named-near}
+use Rattle.qo_model.specs.Types.{TypeInfo, is_a, type_named, types}
+use Rattle.qo_sound.proofs.FirmBoardLemmas.{Firm, edited-kinds, firm-born, firm-beside}
+use Rattle.qo_sound.proofs.ChildSlotLemmas.{IsNameless, named-near}
 use Rattle.qo_sound.proofs.WorkLemmas.{Nearly}
 use Rattle.qo_sound.proofs.ViewLemmas.{AtRest}
 use Rattle.qo_sound.proofs.AddLemmas.{name-free, unbarred}
-use Rattle.qo_sound.proofs.AddedLemmas.{near-added}
+use Rattle.qo_sound.proofs.SlotGrowthLemmas.{near-added}
 use Rattle.qo_sound.proofs.CutLemmas.{near-beside, near-same_slots}
-use Rattle.qo_sound.proofs.DraftLemmas.{Drafts, drafted-drafts, found-low, held_up, near-let_down, other-record, rows-pins}
-use Rattle.qo_sound.proofs.GivenLemmas.{held-linked, near-given}
+use Rattle.qo_sound.proofs.DraftLemmas.{Drafts, drafted-drafts, found-low, pinned_once, near-let_down, other-record, rows-pins}
+use Rattle.qo_sound.proofs.GivenPropertyLemmas.{held-linked, near-given}
 use Rattle.qo_sound.proofs.UnplugLemmas.{Sits, held-acted, held-set}
 use Rattle.qo_model.specs.Types.{slots_of}
 
@@ -141,7 +141,7 @@ module _ (b : Board) (t : TypeId) (a : Wanted) (spot : Spot) (rest : AtRest b) (
   abbrev c : Board
   c = drafted b t
 
-  d : Drafts b n t [] (held_up n c)
+  d : Drafts b n t [] (pinned_once n c)
   d = drafted-drafts b t shut rest.used
 
   f : Firm b
@@ -264,7 +264,7 @@ pub held-plugged : (ps : List ℕ) (m : ℕ) (c : Board) → Sits ps c → Sits 
 unfolding plugged
 held-plugged ps m c h = held-phased ps Exit (filter (is_out c) (post c m)) _ (held-phased ps Hold (post c m) _ (held-phased ps Enter (post c m) c h))
 
-held-told : (ps : List ℕ) (m : ℕ) (c : Board) → Sits ps c → Sits ps (told_plug m c)
+held-told : (ps : List ℕ) (m : ℕ) (c : Board) → Sits ps c → Sits ps (notified_plug m c)
 held-told ps m c h =
     record {
       near = near-beside None (edit m (with_path (canonical c m)) c) c.holds c.pending _ c.notes
@@ -339,20 +339,20 @@ least-passes p (suc times) first m e = go (p first) refl (least-passes p times (
     go true q rest = subst (λ (k : ℕ). p k ≡ true) (same_Some first m (rw q at e)) q
     go false q rest = rest (rw q at e)
 
-slot-free : (b : Board) (bus : ℕ) (given : Option ℕ) → code_in (slot_for b bus given) ≡ None
-    → has_slot b bus (kid_name (ok_or_zero (slot_for b bus given))) ≡ false
+slot-free : (b : Board) (bus : ℕ) (given : Option ℕ) → code_in (bus_slot_for b bus given) ≡ None
+    → has_slot b bus (kid_name (ok_or_zero (bus_slot_for b bus given))) ≡ false
 slot-free b bus (Some slot) e = go (nat_lt slot BUS_SLOTS) refl (is_free b bus slot) refl
   where
     go : (u : Bool) → nat_lt slot BUS_SLOTS ≡ u → (v : Bool) → is_free b bus slot ≡ v
-        → has_slot b bus (kid_name (ok_or_zero (slot_for b bus (Some slot)))) ≡ false
-    go true p true q = rw (slot_for, p, q) (not-true (has_slot b bus (kid_name slot)) q)
-    go true p false q = absurd (let clash : Some E29 ≡ None = rw (slot_for, p, q) at e in cc)
-    go false p v q = absurd (let clash : Some E28 ≡ None = rw (slot_for, p) at e in cc)
+        → has_slot b bus (kid_name (ok_or_zero (bus_slot_for b bus (Some slot)))) ≡ false
+    go true p true q = rw (bus_slot_for, p, q) (not-true (has_slot b bus (kid_name slot)) q)
+    go true p false q = absurd (let clash : Some E29 ≡ None = rw (bus_slot_for, p, q) at e in cc)
+    go false p v q = absurd (let clash : Some E28 ≡ None = rw (bus_slot_for, p) at e in cc)
 slot-free b bus None e = go (least (is_free b bus) 0 BUS_SLOTS) refl
   where
-    go : (o : Option ℕ) → least (is_free b bus) 0 BUS_SLOTS ≡ o → has_slot b bus (kid_name (ok_or_zero (slot_for b bus None))) ≡ false
-    go None p = absurd (let clash : Some E30 ≡ None = rw (slot_for, p) at e in cc)
-    go (Some slot) p = rw (slot_for, p) (not-true (has_slot b bus (kid_name slot)) (least-passes (is_free b bus) BUS_SLOTS 0 slot p))
+    go : (o : Option ℕ) → least (is_free b bus) 0 BUS_SLOTS ≡ o → has_slot b bus (kid_name (ok_or_zero (bus_slot_for b bus None))) ≡ false
+    go None p = absurd (let clash : Some E30 ≡ None = rw (bus_slot_for, p) at e in cc)
+    go (Some slot) p = rw (bus_slot_for, p) (not-true (has_slot b bus (kid_name slot)) (least-passes (is_free b bus) BUS_SLOTS 0 slot p))
 
 -- the stages
 
@@ -378,7 +378,7 @@ place-of b t bus a device chosen early late =
     let props : (at_stage 4 (refusal_of b t a.props) ≡ None) × (option_or place_stage last_stages ≡ None) =
     or-none (at_stage 4 (refusal_of b t a.props)) (option_or place_stage last_stages) late in
     let here : (place_stage ≡ None) × (last_stages ≡ None) = or-none place_stage last_stages props.1 in
-    let slot_code : Option Code = code_in (slot_for b bus (number_for a.props (codes "slot"))) in
+    let slot_code : Option Code = code_in (bus_slot_for b bus (number_for a.props (codes "slot"))) in
     let slot : (slot_code ≡ None) × (kind_barred b t bus a.props ≡ None) =
     or-none slot_code (kind_barred b t bus a.props) (stage-none 5 (place_barred b t bus a.props) here.0) in
     record {
@@ -398,7 +398,7 @@ as-rest b t a device h shut None e = go (bus_for b t a.bus) refl
     go None p = rw (plug_as, p) h
     go (Some bus) p = rw (plug_as, p) (late-rest b t bus a (barred_late b t bus a.props) refl h shut (place-of b t bus a device p e))
 
-pub device-of : (row : TypeRow) → (if row.is_abstract then Some E21 else if not (is_a row.id (codes "device")) then Some E22 else None) ≡ None
+pub device-of : (row : TypeInfo) → (if row.is_abstract then Some E21 else if not (is_a row.id (codes "device")) then Some E22 else None) ≡ None
     → is_a row.id (codes "device") ≡ true
 device-of row e =
     let after_it : Option Code = if not (is_a row.id (codes "device")) then Some E22 else None in
@@ -408,9 +408,9 @@ device-of row e =
 
 by-rest : (b : Board) (a : Wanted) → AtRest b → is_open (b.born + 1) ≡ false → (o : Option Code) → type_barred a.driver ≡ o → AtRest (plug_by b a o).board
 by-rest b a h shut (Some code) e = h
-by-rest b a h shut None e = go (row_named a.driver) refl
+by-rest b a h shut None e = go (type_named a.driver) refl
   where
-    go : (row : Option TypeRow) → row_named a.driver ≡ row → AtRest (plug_by b a None).board
+    go : (row : Option TypeInfo) → type_named a.driver ≡ row → AtRest (plug_by b a None).board
     go None p = rw (plug_by, p) h
     go (Some row) p = rw (plug_by, p) (as-rest b row.id a (device-of row (rw (type_barred, p) at e)) h shut (barred_early b row.id a) refl)
 

@@ -9,7 +9,7 @@ use Rattle.qo_model.specs.Devices.{plain_in, strong_in}
 use Rattle.qo_model.specs.Release.{forgotten_in, drop_slot, edit, edited, with_dropped, without_hold}
 use Rattle.qo_model.specs.Unplug.{unseen}
 use Rattle.qo_model.specs.Plug.{fitted}
-use Rattle.qo_model.proofs.FirstLemmas.{slots_in}
+use Rattle.qo_model.proofs.FirstSlotLemmas.{slots_in}
 use Rattle.qo_model.proofs.StepLemmas.{drop-record, found-birth, found-edited}
 
 -- an object's end empties weak links alone

@@ -10,7 +10,7 @@ use Rattle.qo_model.specs.Release.{without_first}
 use Rattle.qo_model.specs.Reset.{held, is_out, phased, post, pulse, released}
 use Rattle.qo_model.specs.Unplug.{first_of}
 use Rattle.qo_model.specs.declared.notes.Note.{Note}
-use Rattle.qo_sound.specs.DevicesStay.{ResetLeaves}
+use Rattle.qo_sound.specs.DeviceScope.{ResetLeaves}
 use Rattle.qo_sound.proofs.CutLemmas.{near-beside}
 use Rattle.qo_sound.proofs.PlugLemmas.{held-phased}
 use Rattle.qo_sound.proofs.UnplugLemmas.{detach-rest, Sits}

@@ -8,24 +8,24 @@ use Rattle.qo_model.specs.Board.{Board, Record, Slot, plain, child, strong, weak
 use Rattle.qo_model.specs.Changes.{fresh}
 use Rattle.qo_model.specs.FinalNotes.{ending}
 use Rattle.qo_model.specs.Objects.{init_notes}
-use Rattle.qo_model.specs.Plug.{Spot, Wanted, clocked, counted, cut_attempt, drafted, passed, plug_attempt, rows_made, source_for, started, stood, with_new, with_plugged}
+use Rattle.qo_model.specs.Plug.{Spot, Wanted, clocked, counted, cut_attempt, drafted, passed, plug_attempt, properties_made, source_for, started, stood, with_new, with_plugged}
 use Rattle.qo_model.specs.References.{refs}
-use Rattle.qo_model.specs.Release.{finalise, put_in_order, unpin}
+use Rattle.qo_model.specs.Release.{finalize, put_in_order, unpin}
 use Rattle.qo_model.specs.Types.{is_a, slots_of}
 use Rattle.qo_model.specs.declared.properties.Property.{Property}
-use Rattle.qo_model.specs.declared.properties.RowKind.TheVariants as row
+use Rattle.qo_model.specs.declared.properties.PropertyRole.TheVariants as row
 use Rattle.qo_model.proofs.AttemptLemmas.{IsStar, LowRecord, LowSlot}
 use Rattle.qo_model.proofs.DraftEndsLemmas.{IsDraft, draft-begun, draft-free, draft-low, draft-rows, drafted-cut, drafted-ends, kid-ends, kid-free, kinds_in, unjoined-cut, unjoined-ends}
 use Rattle.qo_model.proofs.GraphLemmas.{births_at}
 use Rattle.qo_model.proofs.StepLemmas.{is_some-map}
-use Rattle.qo_model.proofs.PassedLemmas.{attempt-free, attempt-passed}
+use Rattle.qo_model.proofs.LateAttemptLemmas.{attempt-free, attempt-passed}
 use Rattle.qo_model.proofs.PinLemmas.{IsUp}
-use Rattle.qo_sound.proofs.FirmLemmas.{AllLinked, Firm, FitsKind, Linked}
+use Rattle.qo_sound.proofs.FirmBoardLemmas.{AllLinked, Firm, FitsKind, Linked}
 use Rattle.qo_sound.proofs.WorkLemmas.{Nearly}
 use Rattle.qo_sound.proofs.ViewLemmas.{AtRest}
-use Rattle.qo_sound.proofs.DraftLemmas.{Drafts, drafted-drafts, found-low, held_up, rows-blind, rows-pins, with_pins}
+use Rattle.qo_sound.proofs.DraftLemmas.{Drafts, drafted-drafts, found-low, pinned_once, rows-blind, rows-pins, with_pins}
 use Rattle.qo_sound.proofs.KindsLemmas.{plug-kinds}
-use Rattle.qo_sound.proofs.PinnedLemmas.{let-free, let-free_up, let-go, passed-blind, passed-pins, steps-blind}
+use Rattle.qo_sound.proofs.PinLemmas.{let-free, let-free_up, let-go, passed-blind, passed-pins, steps-blind}
 use Rattle.qo_sound.proofs.PlugLemmas.{IsPlace, plugged-rest, shut-above}
 
 -- an object that is there has references
@@ -46,12 +46,12 @@ device-kind b n t c d = ap (option_map (λ (r : Record). r.kind)) d.found ∙ ap
 -- the device is there
 plug-live : (b : Board) (t : TypeId) (a : Wanted) (spot : Spot) → AtRest b → is_live (with_plugged b t a spot) (b.born + 1) ≡ true
 plug-live b t a spot h = live-kind (with_plugged b t a spot) (b.born + 1) (kind_of (drafted b t)) t (plug-kinds b t a spot)
-    (device-kind b (b.born + 1) t (held_up (b.born + 1) (drafted b t)) (drafted-drafts b t (shut-above b.born h.used.firm.begun) h.used))
+    (device-kind b (b.born + 1) t (pinned_once (b.born + 1) (drafted b t)) (drafted-drafts b t (shut-above b.born h.used.firm.begun) h.used))
 
 -- the device is made, held, and let go where it stands
 pub plug-steps : (b : Board) (t : TypeId) (a : Wanted) (spot : Spot) (q : List ℕ) → q ≡ put_in_order (b.born + 1) (1 ∷ []) → AtRest b → IsPlace b t a spot
     → unpin (started (b.born + 1) t (counted a.id (clocked (source_for b spot.bus) (b.born + 1)
-    (stood b (b.born + 1) a spot (rows_made (b.born + 1) t (slots_of t) (with_pins q (with_new (fresh (b.born + 1) t) b))))))) (b.born + 1)
+    (stood b (b.born + 1) a spot (properties_made (b.born + 1) t (slots_of t) (with_pins q (with_new (fresh (b.born + 1) t) b))))))) (b.born + 1)
     ≡ with_plugged b t a spot
 plug-steps b t a spot q is h place =
     let rest : AtRest (with_plugged b t a spot) = plugged-rest b t a spot h (shut-above b.born h.used.firm.begun) place in
@@ -98,37 +98,38 @@ low-pins : (b : Board) → AtRest b → AllByRecursion (λ p. p < b.born + 1) b.
 low-pins b h = subst (AllByRecursion (λ p. p < b.born + 1)) (sym h.pinned) (let begun : 8 ≤ b.born = h.used.firm.begun in omega (arith, begun), tt)
 
 pub draft-of : (b : Board) (t : TypeId) (ps : List Property) → AtRest b
-    → IsDraft b (b.born + 1) t (kinds_in ps) (rows_made (b.born + 1) t ps (with_new (fresh (b.born + 1) t) b))
+    → IsDraft b (b.born + 1) t (kinds_in ps) (properties_made (b.born + 1) t ps (with_new (fresh (b.born + 1) t) b))
 draft-of b t ps h = draft-rows b (b.born + 1) t (low-records b h.used.firm b.records h.used.firm.within h.used.firm.linked) ps []
     (with_new (fresh (b.born + 1) t) b) (draft-begun b t)
 
 -- the steps of an attempt: the first properties of a device were made, and it is let go
 given-up : (b : Board) (t : TypeId) (ps : List Property) (q : List ℕ) → q ≡ put_in_order (b.born + 1) (1 ∷ []) → AtRest b
-    → unpin (rows_made (b.born + 1) t ps (with_pins q (with_new (fresh (b.born + 1) t) b))) (b.born + 1)
-    ≡ finalise (rows_made (b.born + 1) t ps (with_new (fresh (b.born + 1) t) b)) (b.born + 1)
+    → unpin (properties_made (b.born + 1) t ps (with_pins q (with_new (fresh (b.born + 1) t) b))) (b.born + 1)
+    ≡ finalize (properties_made (b.born + 1) t ps (with_new (fresh (b.born + 1) t) b)) (b.born + 1)
 given-up b t ps q is h =
     let low : AllByRecursion (LowRecord (b.born + 1)) b.records = low-records b h.used.firm b.records h.used.firm.within h.used.firm.linked in
-    let none : refs (rows_made (b.born + 1) t ps (with_new (fresh (b.born + 1) t) b)) (b.born + 1) ≡ 0 =
-    draft-free b t (kinds_in ps) (rows_made (b.born + 1) t ps (with_new (fresh (b.born + 1) t) b)) low (low-pins b h) (draft-of b t ps h) in
+    let none : refs (properties_made (b.born + 1) t ps (with_new (fresh (b.born + 1) t) b)) (b.born + 1) ≡ 0 =
+    draft-free b t (kinds_in ps) (properties_made (b.born + 1) t ps (with_new (fresh (b.born + 1) t) b)) low (low-pins b h) (draft-of b t ps h) in
     ap (λ (x : Board). unpin x (b.born + 1)) (rows-blind q (b.born + 1) t ps (with_new (fresh (b.born + 1) t) b))
-    ∙ let-free (rows_made (b.born + 1) t ps (with_new (fresh (b.born + 1) t) b)) (b.born + 1) q
+    ∙ let-free (properties_made (b.born + 1) t ps (with_new (fresh (b.born + 1) t) b)) (b.born + 1) q
     (rows-pins (b.born + 1) t ps (with_new (fresh (b.born + 1) t) b) ∙ h.pinned) is (ap (λ (k : ℕ). k == 0) none)
 
 -- all of them, where the attempt is refused before it is realized
 pub attempt-steps : (b : Board) (t : TypeId) (m stage : ℕ) (q : List ℕ) → q ≡ put_in_order (b.born + 1) (1 ∷ []) → (stage == 8) ≡ false → AtRest b
-    → unpin (rows_made (b.born + 1) t (slots_of t) (with_pins q (with_new (fresh (b.born + 1) t) b))) (b.born + 1) ≡ plug_attempt b t m stage
+    → unpin (properties_made (b.born + 1) t (slots_of t) (with_pins q (with_new (fresh (b.born + 1) t) b))) (b.born + 1) ≡ plug_attempt b t m stage
 attempt-steps b t m stage q is early h = given-up b t (slots_of t) q is h
     ∙ drafted-ends b t m stage (low-records b h.used.firm b.records h.used.firm.within h.used.firm.linked) (low-pins b h) early
 
 -- a first part, where it is cut for want of memory
 pub cut-steps : (b : Board) (t : TypeId) (ps qs : List Property) (q : List ℕ) → q ≡ put_in_order (b.born + 1) (1 ∷ []) → slots_of t ≡ ps ++ qs → AtRest b
-    → unpin (rows_made (b.born + 1) t ps (with_pins q (with_new (fresh (b.born + 1) t) b))) (b.born + 1) ≡ cut_attempt b t (suc (length (kinds_in ps))) true
+    → unpin (properties_made (b.born + 1) t ps (with_pins q (with_new (fresh (b.born + 1) t) b))) (b.born + 1)
+    ≡ cut_attempt b t (suc (length (kinds_in ps))) true
 cut-steps b t ps qs q is split h = given-up b t ps q is h
     ∙ drafted-cut b t ps qs split (low-records b h.used.firm b.records h.used.firm.within h.used.firm.linked) (low-pins b h)
 
 -- all of them, where it is refused because the notices are full: it acts where it stands nowhere, and is let go
 pub passed-steps : (b : Board) (t : TypeId) (m : ℕ) (q : List ℕ) → q ≡ put_in_order (b.born + 1) (1 ∷ [])
-    → AtRest b → unpin (passed b m (b.born + 1) t (rows_made (b.born + 1) t (slots_of t) (with_pins q (with_new (fresh (b.born + 1) t) b)))) (b.born + 1)
+    → AtRest b → unpin (passed b m (b.born + 1) t (properties_made (b.born + 1) t (slots_of t) (with_pins q (with_new (fresh (b.born + 1) t) b)))) (b.born + 1)
     ≡ plug_attempt b t m 8
 passed-steps b t m q is h =
     let low : AllByRecursion (LowRecord (b.born + 1)) b.records = low-records b h.used.firm b.records h.used.firm.within h.used.firm.linked in
@@ -141,10 +142,10 @@ passed-steps b t m q is h =
 pins-two : (n : ℕ) → 1 ≤ n → put_in_order n (1 ∷ []) ≡ 1 ∷ n ∷ []
 pins-two n low = let order : leb 1 n ≡ true = grind (arith, low) in rw (put_in_order, order) refl
 
--- and where it is cut behind a further object that was made, was not joined, and has ended
+-- and where it is cut after a further object that was made, was not joined, and has ended
 pub unjoined-ended : (b : Board) (t : TypeId) (ps : List Property) (p : Property) (k : TypeId) (qs : List Property) (c : Board) (q : List ℕ)
-    → slots_of t ≡ ps ++ p ∷ qs → p.kind ≡ row.Child k → q ≡ put_in_order (b.born + 1) (1 ∷ [])
-    → c ≡ rows_made (b.born + 1) t ps (with_new (fresh (b.born + 1) t) b) → AtRest b
+    → slots_of t ≡ ps ++ p ∷ qs → p.role ≡ row.Child k → q ≡ put_in_order (b.born + 1) (1 ∷ [])
+    → c ≡ properties_made (b.born + 1) t ps (with_new (fresh (b.born + 1) t) b) → AtRest b
     → unpin (with_pins q (record c { born = c.born + 1; notes = c.notes ++ init_notes (c.born + 1) k ++ ending (c.born + 1) k })) (b.born + 1)
     ≡ cut_attempt b t (suc (suc (length (kinds_in ps)))) false
 unjoined-ended b t ps p k qs c q split is_kid is made h =
@@ -164,8 +165,8 @@ unjoined-ended b t ps p k qs c q split is_kid is made h =
 
 -- where that one, with some slots, is let go first
 pub unjoined-steps : (b : Board) (t : TypeId) (ps : List Property) (p : Property) (k : TypeId) (qs : List Property) (ss : List (List ℕ × Slot)) (c : Board)
-    (q : List ℕ) → slots_of t ≡ ps ++ p ∷ qs → p.kind ≡ row.Child k → q ≡ put_in_order (b.born + 1) (1 ∷ [])
-    → c ≡ rows_made (b.born + 1) t ps (with_new (fresh (b.born + 1) t) b) → IsStar (c.born + 1) (c.born + 1) ss [] → AtRest b
+    (q : List ℕ) → slots_of t ≡ ps ++ p ∷ qs → p.role ≡ row.Child k → q ≡ put_in_order (b.born + 1) (1 ∷ [])
+    → c ≡ properties_made (b.born + 1) t ps (with_new (fresh (b.born + 1) t) b) → IsStar (c.born + 1) (c.born + 1) ss [] → AtRest b
     → unpin (unpin (with_pins (put_in_order (c.born + 1) q) (with_new (record (fresh (c.born + 1) k) { slots = ss }) (with_pins q c))) (c.born + 1))
     (b.born + 1) ≡ cut_attempt b t (suc (suc (length (kinds_in ps)))) false
 unjoined-steps b t ps p k qs ss c q split is_kid is made star_is h =

@@ -8,9 +8,9 @@ use Rattle.qo_values.specs.declared.codes.Code.{Code}
 use Rattle.qo_values.specs.declared.codes.Code.TheVariants.{E15, E31}
 use Rattle.qo_values.specs.declared.kinds.TypeId.{TypeId}
 use Rattle.qo_model.specs.Board.{Board, kind_of}
-use Rattle.qo_model.specs.Paths.{Place, found, missing, several, components, ends, is_of, only_of, resolve, starts, the_one, walk}
+use Rattle.qo_model.specs.Paths.{Resolution, found, missing, several, components, ends, is_of, only_of, resolve, starts, the_one, walk}
 use Rattle.qo_model.specs.Properties.{link_target}
-use Rattle.qo_sound.proofs.FirmLemmas.{FitsKind}
+use Rattle.qo_sound.proofs.FirmBoardLemmas.{FitsKind}
 
 -- each end of a path is of the wanted type
 ends-of : (b : Board) (wanted : List ℕ) (from : ℕ → Option ℕ) (ns : List ℕ)
@@ -47,12 +47,12 @@ pub target-fits : (b : Board) (t : TypeId) (path : List ℕ) → FitsResult b t 
 target-fits b t [] = tt
 target-fits b t (c ∷ path) = go (resolve b (c ∷ path) (type_name t)) refl
   where
-    no_target : (p : Place) → FitsResult b t (elim p as (λ _. Result (Option ℕ) Code) [ missing ↦ Err E15 | found m ↦ Err E31 | several ↦ Err E31 ])
+    no_target : (p : Resolution) → FitsResult b t (elim p as (λ _. Result (Option ℕ) Code) [ missing ↦ Err E15 | found m ↦ Err E31 | several ↦ Err E31 ])
     no_target missing = tt
     no_target (found m) = tt
     no_target several = tt
 
-    go : (p : Place) → resolve b (c ∷ path) (type_name t) ≡ p → FitsResult b t (link_target b t (c ∷ path))
+    go : (p : Resolution) → resolve b (c ∷ path) (type_name t) ≡ p → FitsResult b t (link_target b t (c ∷ path))
     go (found m) p = rw (link_target, p) (resolved-of b (c ∷ path) (type_name t) m p)
     go several p = rw (link_target, p) tt
     go missing p = rw (link_target, p) (no_target (resolve b (c ∷ path) (codes "object")))

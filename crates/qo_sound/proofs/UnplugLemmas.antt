@@ -17,21 +17,21 @@ use Rattle.qo_model.specs.Changes.{cut, set, with_val}
 use Rattle.qo_model.specs.Clocks.{acted, device_period, with_act_on}
 use Rattle.qo_model.specs.Depth.{by_depth}
 use Rattle.qo_model.specs.Devices.{bus_of, buses_of, clock_of, kids_of}
-use Rattle.qo_model.specs.Objects.{place_from}
+use Rattle.qo_model.specs.Objects.{index_from}
 use Rattle.qo_model.specs.Paths.{births, child_of, is_child}
 use Rattle.qo_model.specs.Release.{drop_slot, let_go, pin, put_in_order, unpin, without_first}
 use Rattle.qo_model.specs.SoundAliases.{is_clock_slot, is_open, PassesTo}
-use Rattle.qo_model.specs.Unplug.{apart_within, detach, disconnected, drained, each, first_of, is_bus_slot, is_child_slot, is_named, left_bus, let_go_where, lost_bus, lost_buses, unseen, unseen_named, names_kid, set_named, take_slot, take_where, taken_by, unheld, unnoticed, unrealize, unrealize_turn, unrealized_device, without_all}
-use Rattle.qo_model.proofs.FirstLemmas.{Found, found-at}
+use Rattle.qo_model.specs.Unplug.{apart_within, detach, disconnected, drained, each, first_of, is_bus_child, is_child_slot, is_named, left_bus, let_go_where, lost_bus, lost_buses, unseen, unseen_named, names_kid, set_named, take_slot, take_where, taken_by, unheld, unnoticed, unrealize, unrealize_turn, unrealized_device, without_all}
+use Rattle.qo_model.proofs.FirstSlotLemmas.{Found, found-at}
 use Rattle.qo_model.proofs.PinLemmas.{IsUp, put-among, put-back, put-up, release-pins, unpin-pins}
-use Rattle.qo_model.proofs.ReleaseLeavesLemmas.{let_go-leaves}
+use Rattle.qo_model.proofs.ReleaseScopeLemmas.{let_go-leaves}
 use Rattle.qo_model.proofs.StepLemmas.{one_of}
-use Rattle.qo_sound.proofs.FirmLemmas.{Linked}
+use Rattle.qo_sound.proofs.FirmBoardLemmas.{Linked}
 use Rattle.qo_sound.proofs.SlotLemmas.{IsNoClock, no_child, other_name}
 use Rattle.qo_sound.proofs.WorkLemmas.{Nearly, after-firm}
 use Rattle.qo_sound.proofs.ViewLemmas.{AtRest}
 use Rattle.qo_sound.proofs.ChangeLemmas.{IsGentle, emptied-at, gentle-val, near-changed, near-drop, near-let_go, open-last, other-lasts}
-use Rattle.qo_sound.proofs.SeverLemmas.{near-pin, near-unpin, pin-pins}
+use Rattle.qo_sound.proofs.SeveringLemmas.{near-pin, near-unpin, pin-pins}
 use Rattle.qo_sound.proofs.CutLemmas.{near-beside, near-cut, near-same_slots}
 
 pub slot-of : (b : Board) (n i : ℕ) (s : List ℕ × Slot) → slice_get (slots_at b n) i ≡ Some s → slot_at b n i ≡ Some s.1
@@ -54,17 +54,17 @@ held-let_go : (ps : List ℕ) (c : Board) (n i : ℕ) → Nearly None (let_go c 
 held-let_go ps c n i near h = record { near = near; pins = (let_go-leaves c n i).pins ∙ h.pins }
 
 pub held-where_open : (ps : List ℕ) (p : List ℕ × Slot → Bool) (n : ℕ) (c : Board) → is_open n ≡ true → Sits ps c → Sits ps (let_go_where p n c)
-held-where_open ps p n c wide h = go (place_from p 0 (slots_at c n)) refl
+held-where_open ps p n c wide h = go (index_from p 0 (slots_at c n)) refl
   where
-    go : (o : Option ℕ) → place_from p 0 (slots_at c n) ≡ o → Sits ps (let_go_where p n c)
+    go : (o : Option ℕ) → index_from p 0 (slots_at c n) ≡ o → Sits ps (let_go_where p n c)
     go None e = rw (let_go_where, e) h
     go (Some i) e = rw (let_go_where, e) (held-let_go ps c n i (near-let_go c n i (λ s q. open-last c n i wide) h.near) h)
 
 pub held-where_other : (ps : List ℕ) (p : List ℕ × Slot → Bool) → ((s : List ℕ × Slot) → p s ≡ true → is_clock_slot s ≡ false) → (n : ℕ) (c : Board) → Sits ps c
     → Sits ps (let_go_where p n c)
-held-where_other ps p apart n c h = go (place_from p 0 (slots_at c n)) refl
+held-where_other ps p apart n c h = go (index_from p 0 (slots_at c n)) refl
   where
-    go : (o : Option ℕ) → place_from p 0 (slots_at c n) ≡ o → Sits ps (let_go_where p n c)
+    go : (o : Option ℕ) → index_from p 0 (slots_at c n) ≡ o → Sits ps (let_go_where p n c)
     go None e = rw (let_go_where, e) h
     go (Some i) e =
         let f : Found p (slots_at c n) i = found-at p i (slots_at c n) e in
@@ -76,7 +76,7 @@ held-where_other ps p apart n c h = go (place_from p 0 (slots_at c n)) refl
 pub named-apart : (name : List ℕ) → bytes_eq name (codes "clk") ≡ false → (s : List ℕ × Slot) → is_named name s ≡ true → is_clock_slot s ≡ false
 named-apart name apart s e = subst (λ (x : List ℕ). bytes_eq x (codes "clk") ≡ false) (sym ((bytes_eq-Decides s.0 name).0 e)) apart
 
-pub bus-apart : (m : ℕ) (s : List ℕ × Slot) → is_bus_slot m s ≡ true → is_clock_slot s ≡ false
+pub bus-apart : (m : ℕ) (s : List ℕ × Slot) → is_bus_child m s ≡ true → is_clock_slot s ≡ false
 bus-apart m s e = go (is_clock_slot s) refl
   where
     go : (t : Bool) → is_clock_slot s ≡ t → is_clock_slot s ≡ false
@@ -120,9 +120,9 @@ set-count k v (alias m name) = omega arith
 
 pub held-set : (ps : List ℕ) (n : ℕ) (name : List ℕ) (v : Val) (c : Board) → Sits ps c → Sits ps (set_named n name v c)
 unfolding set
-held-set ps n name v c h = go (place_from (is_named name) 0 (slots_at c n)) refl
+held-set ps n name v c h = go (index_from (is_named name) 0 (slots_at c n)) refl
   where
-    go : (o : Option ℕ) → place_from (is_named name) 0 (slots_at c n) ≡ o → Sits ps (set_named n name v c)
+    go : (o : Option ℕ) → index_from (is_named name) 0 (slots_at c n) ≡ o → Sits ps (set_named n name v c)
     go None e = rw (set_named, e) h
     go (Some i) e =
         let f : Found (is_named name) (slots_at c n) i = found-at (is_named name) i (slots_at c n) e in
@@ -180,9 +180,9 @@ unseen-count k (weak t target) = omega arith
 unseen-count k (alias m name) = omega arith
 
 held-unseen : (ps : List ℕ) (n : ℕ) (name : List ℕ) (c : Board) → Sits ps c → Sits ps (unseen_named n name c)
-held-unseen ps n name c h = go (place_from (is_named name) 0 (slots_at c n)) refl
+held-unseen ps n name c h = go (index_from (is_named name) 0 (slots_at c n)) refl
   where
-    go : (o : Option ℕ) → place_from (is_named name) 0 (slots_at c n) ≡ o → Sits ps (unseen_named n name c)
+    go : (o : Option ℕ) → index_from (is_named name) 0 (slots_at c n) ≡ o → Sits ps (unseen_named n name c)
     go None e = rw (unseen_named, e) h
     go (Some i) e =
         let f : Found (is_named name) (slots_at c n) i = found-at (is_named name) i (slots_at c n) e in
@@ -250,9 +250,9 @@ kid-held d (name, alias m property) e = cc
 
 pub held-taken : (ps : List ℕ) (d m : ℕ) (c : Board) → Sits ps c → Sits ps (take_where (names_kid d) m c)
 unfolding cut drop_slot
-held-taken ps d m c h = go (place_from (names_kid d) 0 (slots_at c m)) refl
+held-taken ps d m c h = go (index_from (names_kid d) 0 (slots_at c m)) refl
   where
-    go : (o : Option ℕ) → place_from (names_kid d) 0 (slots_at c m) ≡ o → Sits ps (take_where (names_kid d) m c)
+    go : (o : Option ℕ) → index_from (names_kid d) 0 (slots_at c m) ≡ o → Sits ps (take_where (names_kid d) m c)
     go None e = rw (take_where, e) h
     go (Some i) e =
         let f : Found (names_kid d) (slots_at c m) i = found-at (names_kid d) i (slots_at c m) e in
@@ -281,7 +281,7 @@ held-out ps f keeps d c h =
     held-where_open ps (is_child_slot d) ANONYMOUS_BIRTH _ refl
     (held-where_open ps (is_child_slot d) PERIPHERAL_BIRTH _ refl
     (held-left_bus ps d _
-    (held-buses (Sits ps) f d (λ m e k. held-where_other ps (is_bus_slot m) (bus-apart m) d _ (held-drained (Sits ps) f keeps (length (slots_at e m)) m e k))
+    (held-buses (Sits ps) f d (λ m e k. held-where_other ps (is_bus_child m) (bus-apart m) d _ (held-drained (Sits ps) f keeps (length (slots_at e m)) m e k))
     (length (slots_at c d)) c h)))
 
 held-apart : (depth : ℕ) (ps : List ℕ) → IsUp ps → (d : ℕ) (c : Board) → Sits ps c → Sits ps (apart_within depth d c)

@@ -17,10 +17,10 @@ use Rattle.qo_model.proofs.GraphLemmas.{births-graph_of, child_of-without_value,
 use Rattle.qo_model.proofs.StepLemmas.{found_at, live-among}
 use Rattle.qo_model.specs.SoundAliases.{is_clock_slot, is_open, lasting, PassesTo}
 use Rattle.qo_sound.proofs.SlotLemmas.{clocks_in}
-use Rattle.qo_sound.specs.Kept.{SoundTree}
+use Rattle.qo_sound.specs.TreeKept.{SoundTree}
 use Rattle.qo_sound.proofs.RecordLemmas.{all-both, all-map, all-unmap}
 use Rattle.qo_sound.proofs.SlotLemmas.{names-each, one_child, one_child-same, sum-each_same}
-use Rattle.qo_sound.proofs.FirmLemmas.{Linked, AllLinked, HasNames, parents_in, parents_of, Firm}
+use Rattle.qo_sound.proofs.FirmBoardLemmas.{Linked, AllLinked, HasNames, parents_in, parents_of, Firm}
 use Rattle.qo_sound.proofs.CountLemmas.{parents-from_distinct, distinct-from_parents}
 use Rattle.qo_sound.proofs.WorkLemmas.{HasOwn, Nearly}
 

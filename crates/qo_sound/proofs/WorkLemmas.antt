@@ -10,19 +10,19 @@ use Rattle.qo_model.specs.Board.{Board, Record, Slot, plain, child, strong, weak
 use Rattle.qo_model.specs.Depth.{among}
 use Rattle.qo_model.specs.Paths.{births}
 use Rattle.qo_model.specs.References.{refs, refs_in, holds_it}
-use Rattle.qo_model.specs.Release.{with_dropped, drop_slot, next_place, forgotten_in, forgotten, finish, finalise, after}
-use Rattle.qo_model.specs.ReleaseKeeps.{KeepsRelease}
+use Rattle.qo_model.specs.Release.{with_dropped, drop_slot, next_index, forgotten_in, forgotten, finish, finalize, after}
+use Rattle.qo_model.specs.ReleaseInduction.{KeepsRelease}
 use Rattle.qo_model.specs.SoundGraph.{Rises}
 use Rattle.qo_model.proofs.EditLemmas.{sum-held, one_is, held-forgotten, sum-without_hold, StandsAt, stands-at}
-use Rattle.qo_model.proofs.ReleaseKeepsLemmas.{after_keeps}
+use Rattle.qo_model.proofs.ReleaseInductionLemmas.{after_keeps}
 use Rattle.qo_model.proofs.StepLemmas.{drop-live, drop-refs, finish-live, finish-refs, found_at, found-birth, one_of}
 use Rattle.qo_model.specs.SoundAliases.{is_open, lasting, PassesTo}
 use Rattle.qo_sound.proofs.SlotLemmas.{clocks-each}
 use Rattle.qo_sound.proofs.RecordLemmas.{all-imply, all-map, all-passing, all-edited, sum-edited, sum-filtered}
 use Rattle.qo_sound.proofs.SlotLemmas.{each_slot, child-forgotten}
-use Rattle.qo_sound.proofs.FirmLemmas.{Firm, firm-drop}
-use Rattle.qo_sound.proofs.FinishLemmas.{firm-finish}
-use Rattle.qo_sound.proofs.EmptyLemmas.{EmptyBefore, empty-drop, empty-drop_next, empty-all, empty-finish}
+use Rattle.qo_sound.proofs.FirmBoardLemmas.{Firm, firm-drop}
+use Rattle.qo_sound.proofs.EndLemmas.{firm-finish}
+use Rattle.qo_sound.proofs.EmptySlotLemmas.{EmptyBefore, empty-drop, empty-drop_next, empty-all, empty-finish}
 
 -- the objects of the work
 abbrev pub births_of : List (ℕ × ℕ) → List ℕ
@@ -80,12 +80,12 @@ fewer m k ns e = go (eqb m k) refl
 first-among : (m : ℕ) (ns : List ℕ) → among (m ∷ ns) m ≡ true
 first-among m ns = rw (eq-eqb m m refl) refl
 
--- behind a slot of the first object of the work that was let go
+-- after a slot of the first object of the work that was let go
 record Dropped (b : Board) (n i : ℕ) (work : List (ℕ × ℕ)) (s : Slot) : Type 0 where
   firm : Firm (drop_slot b n i)
   aliases : AllByRecursion (OwnBut (n ∷ births_of work)) (drop_slot b n i).records
-  free : AllByRecursion (λ (p : ℕ × ℕ). refs (drop_slot b n i) p.0 ≡ 0) ((n, next_place s i) ∷ work)
-  done : AllByRecursion (λ (p : ℕ × ℕ). EmptyBefore p.1 (slots_at (drop_slot b n i) p.0)) ((n, next_place s i) ∷ work)
+  free : AllByRecursion (λ (p : ℕ × ℕ). refs (drop_slot b n i) p.0 ≡ 0) ((n, next_index s i) ∷ work)
+  done : AllByRecursion (λ (p : ℕ × ℕ). EmptyBefore p.1 (slots_at (drop_slot b n i) p.0)) ((n, next_index s i) ∷ work)
   used : (m : ℕ) → is_live (drop_slot b n i) m ≡ true → refs (drop_slot b n i) m ≡ 0 → among (n ∷ births_of work) m ≡ false → held s ≡ Some m
 
 dropped : (b : Board) (n i : ℕ) (work : List (ℕ × ℕ)) (s : Slot) → slot_at b n i ≡ Some s → Midst ((n, i) ∷ work) b → Dropped b n i work s
@@ -100,7 +100,7 @@ dropped b n i work s e h =
           cc)) h.aliases;
       free =
           all-imply (λ (p : ℕ × ℕ). refs b p.0 ≡ 0) (λ (p : ℕ × ℕ). refs (drop_slot b n i) p.0 ≡ 0) (λ p k. omega (arith, k, drop-refs b n i p.0))
-          ((n, next_place s i) ∷ work) h.free;
+          ((n, next_index s i) ∷ work) h.free;
       done = (
         empty-drop_next b n i s e h.done.0,
         all-imply (λ (p : ℕ × ℕ). EmptyBefore p.1 (slots_at b p.0)) (λ (p : ℕ × ℕ). EmptyBefore p.1 (slots_at (drop_slot b n i) p.0))
@@ -118,7 +118,7 @@ dropped b n i work s e h =
 
 -- a slot let go whose object still has references, or that held none
 kept-midst : (b : Board) (n i : ℕ) (work : List (ℕ × ℕ)) (s : Slot) → Midst ((n, i) ∷ work) b → slot_at b n i ≡ Some s
-    → ((m : ℕ) → held s ≡ Some m → 0 < refs (drop_slot b n i) m) → Midst ((n, next_place s i) ∷ work) (drop_slot b n i)
+    → ((m : ℕ) → held s ≡ Some m → 0 < refs (drop_slot b n i) m) → Midst ((n, next_index s i) ∷ work) (drop_slot b n i)
 kept-midst b n i work s h e held_on = let d : Dropped b n i work s = dropped b n i work s e h in
     record { firm = d.firm; aliases = d.aliases; free = d.free; done = d.done; used = used d }
   where
@@ -131,7 +131,7 @@ kept-midst b n i work s h e held_on = let d : Dropped b n i work s = dropped b n
 
 -- and one whose object has none any more
 freed-midst : (b : Board) (n i : ℕ) (work : List (ℕ × ℕ)) (s : Slot) (k : ℕ) → Midst ((n, i) ∷ work) b → slot_at b n i ≡ Some s → held s ≡ Some k
-    → refs (drop_slot b n i) k ≡ 0 → Midst ((k, 0) ∷ (n, next_place s i) ∷ work) (drop_slot b n i)
+    → refs (drop_slot b n i) k ≡ 0 → Midst ((k, 0) ∷ (n, next_index s i) ∷ work) (drop_slot b n i)
 freed-midst b n i work s k h e holds free =
     let d : Dropped b n i work s = dropped b n i work s e h in
     record {
@@ -152,7 +152,7 @@ freed-midst b n i work s k h e holds free =
             let is : m ≡ k = same_Some m k (sym (d.used m there none p) ∙ holds) in
             rw (eq-eqb m k is) refl
 
--- the aliases of an object behind the end of another
+-- the aliases of an object after the end of another
 own-forgotten : (n : ℕ) (r : Record) → HasOwn r → HasOwn (forgotten n r)
 own-forgotten n r h = subst (λ (ns : List ℕ). AllByRecursion (λ (s : List ℕ × Slot). PassesTo ns s.1) (each_slot (forgotten_in n) r.slots)) (sym stays)
     (all-map (λ (s : List ℕ × Slot). PassesTo (lasting r) s.1) (λ (s : List ℕ × Slot). PassesTo (lasting r) s.1)
@@ -237,8 +237,8 @@ pub record Nearly (o : Option ℕ) (b : Board) : Type 0 where
   pub aliases : AllByRecursion HasOwn b.records
   pub used : (m : ℕ) → is_live b m ≡ true → refs b m ≡ 0 → o ≡ Some m
 
--- behind what follows a slot that held this one, all have
-pub after-firm : (b : Board) (o : Option ℕ) → Nearly o b → Nearly None (after finalise b o)
+-- after what follows a slot that held this one, all have
+pub after-firm : (b : Board) (o : Option ℕ) → Nearly o b → Nearly None (after finalize b o)
 after-firm b o h = at_rest (after_keeps Midst midst-keeps b o [] free held_on)
   where
     free : (m : ℕ) → o ≡ Some m → refs b m ≡ 0 → Midst ((m, 0) ∷ []) b

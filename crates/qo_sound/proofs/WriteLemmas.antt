@@ -5,14 +5,14 @@ use Rattle.qo_values.specs.declared.kinds.TypeId.{TypeId}
 use Rattle.qo_values.specs.declared.properties.Val.{Val}
 use Rattle.qo_model.specs.Board.{Board, Slot, kind_of, slot_at, held}
 use Rattle.qo_model.specs.Changes.{point, set}
-use Rattle.qo_model.specs.FinalNotesRuns.{behind_write}
+use Rattle.qo_model.specs.FinalNotesRuns.{after_write}
 use Rattle.qo_model.specs.Objects.{object_del}
 use Rattle.qo_model.specs.Properties.{pointed_at, relinked, write}
 use Rattle.qo_model.specs.Release.{drop_slot}
 use Rattle.qo_model.proofs.ComesToLemmas.{deletion-comes}
-use Rattle.qo_model.proofs.ReleaseLeavesLemmas.{let_go-leaves}
+use Rattle.qo_model.proofs.ReleaseScopeLemmas.{let_go-leaves}
 use Rattle.qo_model.proofs.PinLemmas.{release-pins}
-use Rattle.qo_sound.proofs.FirmLemmas.{FitsKind}
+use Rattle.qo_sound.proofs.FirmBoardLemmas.{FitsKind}
 use Rattle.qo_sound.proofs.ViewLemmas.{AtRest}
 use Rattle.qo_model.proofs.WrittenLemmas.{IsLink}
 use Rattle.qo_sound.proofs.TargetLemmas.{target-fit}
@@ -41,9 +41,10 @@ relinked-rest b n i t s link e target fits h = record {
   pinned = rw (relinked, e) (release-pins (pointed_at target n i (drop_slot b n i)) (held s)) ∙ pointed-pins b n i target ∙ h.pinned;
 }
 
-pub write-rest : (b : Board) (n : ℕ) (name : List ℕ) (v : Val) → AtRest b → AtRest (behind_write b (write b n name v))
+pub write-rest : (b : Board) (n : ℕ) (name : List ℕ) (v : Val) → AtRest b → AtRest (after_write b (write b n name v))
 write-rest b n name v h = write-comes AtRest b h n name v (λ i t p kind e may. record {
   value = λ old at type first is fits.
       record { used = near-set b n i v old (ap (option_map (λ (x : List ℕ × Slot). x.1)) at) h.used; pinned = set-pins b n i v ∙ h.pinned };
-  link = λ u s left link leaves at to holds is path target told. relinked-rest b n i u s link (ap (option_map (λ (x : List ℕ × Slot). x.1)) at) target (target-fit b u path target told) h;
+  link = λ u s left link leaves at to holds is path target told.
+      relinked-rest b n i u s link (ap (option_map (λ (x : List ℕ × Slot). x.1)) at) target (target-fit b u path target told) h;
 })

@@ -1,5 +1,5 @@
-pub mod DevicesStay
-pub mod Kept
+pub mod DeviceScope
+pub mod TreeKept
 pub mod NotesKept
-pub mod PlugComesTo
-pub mod Timerless
+pub mod PlugOutcomes
+pub mod NoTimers

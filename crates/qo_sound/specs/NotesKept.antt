@@ -7,7 +7,7 @@ use Rattle.qo_model.specs.Hotplug.{asked, refused}
 use Rattle.qo_model.specs.Plug.{Wanted, cut_attempt, plug}
 use Rattle.qo_model.specs.Reset.{held, pulse, released}
 use Rattle.qo_model.specs.Unplug.{detach}
-use Rattle.qo_sound.specs.Kept.{SoundTree}
+use Rattle.qo_sound.specs.TreeKept.{SoundTree}
 
 -- what keeps notes in order
 pub record NotesKeptLaw : Type 0 where

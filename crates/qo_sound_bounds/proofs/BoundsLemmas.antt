@@ -24,26 +24,26 @@ use Rattle.qo_model.specs.Hotplug.{all_completed, asked, asked_of, completed, de
 use Rattle.qo_model.specs.Objects.{Given, added_as, barred, has_slot, object_add, with_object}
 use Rattle.qo_model.specs.Opening.{fresh_record, opening_board}
 use Rattle.qo_model.specs.Paths.{attached, canonical}
-use Rattle.qo_model.specs.Plug.{Spot, Wanted, acted_all, aliased, at_stage, bus_barred, bus_births, bus_for, counted, drafted, first_of, further_in, id_barred, notice_barred, objects_in, owned, plug, room_barred, row_made, rows_made, spot_of, with_body_of, with_device, with_kid, with_new, with_path, with_plugged}
+use Rattle.qo_model.specs.Plug.{Spot, Wanted, acted_all, aliased, at_stage, bus_barred, bus_births, bus_for, counted, drafted, first_of, further_in, id_barred, notice_barred, objects_in, owned, plug, room_barred, property_made, properties_made, spot_of, with_body_of, with_device, with_kid, with_new, with_path, with_plugged}
 use Rattle.qo_model.specs.Release.{drop_slot, edit, edited, finish, forgotten, pin, with_dropped, without_first}
-use Rattle.qo_model.specs.ReleaseKeeps.{KeepsRelease}
+use Rattle.qo_model.specs.ReleaseInduction.{KeepsRelease}
 use Rattle.qo_model.specs.Reset.{held, is_out, phased, plugged, post, pulse, released}
 use Rattle.qo_model.specs.RowNames.{property_name}
-use Rattle.qo_model.specs.Types.{TypeRow, is_a, slots_of, types}
+use Rattle.qo_model.specs.Types.{TypeInfo, is_a, slots_of, types}
 use Rattle.qo_model.specs.Unplug.{detach}
 use Rattle.qo_model.specs.Unplug as unplug
 use Rattle.qo_model.specs.declared.properties.Property.{Property}
-use Rattle.qo_model.specs.declared.properties.RowKind.{RowKind}
-use Rattle.qo_model.specs.declared.properties.RowKind.TheVariants as row
+use Rattle.qo_model.specs.declared.properties.PropertyRole.{PropertyRole}
+use Rattle.qo_model.specs.declared.properties.PropertyRole.TheVariants as row
 use Rattle.qo_model.proofs.ComesToLemmas.{addition-comes}
-use Rattle.qo_model.proofs.ReleaseKeepsLemmas.{after_keeps}
+use Rattle.qo_model.proofs.ReleaseInductionLemmas.{after_keeps}
 use Rattle.qo_sound.proofs.AddLemmas.{unbarred}
-use Rattle.qo_sound.proofs.MakeStepsLemmas.{all-any, KeepsActs, KeepsEdits, step-acted_all, step-plugged, step-set, step-stood}
-use Rattle.qo_sound.proofs.DetachStepsLemmas.{KeepsEnds, KeepsLists, KeepsPins, step-detach, step-pin, step-unrealize}
+use Rattle.qo_sound.proofs.AdditionStepsLemmas.{all-any, KeepsActs, KeepsEdits, step-acted_all, step-plugged, step-set, step-stood}
+use Rattle.qo_sound.proofs.DetachmentStepsLemmas.{KeepsEnds, KeepsLists, KeepsPins, step-detach, step-pin, step-unrealize}
 use Rattle.qo_sound.proofs.ChangeStepsLemmas.{step-object_del, step-sever, step-write}
 use Rattle.qo_sound.proofs.PlugLemmas.{or-none, stage-none}
-use Rattle.qo_sound_devices.proofs.PlugLemmas.{Accepted, behind-plug}
-use Rattle.qo_sound_clocks.specs.RegistersKept.{with_registers}
+use Rattle.qo_sound_devices.proofs.PlugLemmas.{Accepted, after-plug}
+use Rattle.qo_sound_clocks.specs.RegisterWrites.{with_registers}
 use Rattle.qo_sound_clocks.proofs.StepsLemmas.{kept-scaled, kept-set, KeepsNumbers, calls-kept}
 use Rattle.qo_sound_bounds.specs.BoundsKept.{BoundsKeptLaw}
 use Rattle.qo_sound_bounds.specs.SoundBounds.{SoundBounds}
@@ -101,7 +101,7 @@ bounds-ends o c h = after_keeps (λ (work : List (ℕ × ℕ)) (d : Board). Soun
 
 -- the commands on objects
 
-room-from_barred : (b : Board) (row : TypeRow) (id : List ℕ) → barred b row id ≡ None → leb 4096 (length b.records) ≡ false
+room-from_barred : (b : Board) (row : TypeInfo) (id : List ℕ) → barred b row id ≡ None → leb 4096 (length b.records) ≡ false
 room-from_barred b row id e =
     let after_place : Option Code = if leb 4096 (length b.records) then Some E43 else None in
     let after_name : Option Code = if has_slot b OBJECTS_BIRTH id then Some E24 else after_place in
@@ -160,16 +160,17 @@ aliased-length n name property None c = refl
 aliased-length n name property (Some m) c = add-length n name (alias m property) c
 
 rows-length : (n : ℕ) (t : TypeId) (ps : List Property) (c : Board)
-    → length (rows_made n t ps c).records ≡ length c.records + length (filter_map further_in ps)
+    → length (properties_made n t ps c).records ≡ length c.records + length (filter_map further_in ps)
 rows-length n t [] c = omega arith
-rows-length n t (p ∷ ps) c = go p.kind refl (rows-length n t ps)
+rows-length n t (p ∷ ps) c = go p.role refl (rows-length n t ps)
   where
     name : List ℕ
     name = property_name p.name
 
-    go : (kind : RowKind) → p.kind ≡ kind
-        → ((d : Board) → length (rows_made n t ps d).records ≡ length d.records + length (filter_map further_in ps))
-        → length (rows_made n t ps (row_made n t (property_name p.name) p.kind c)).records ≡ length c.records + length (filter_map further_in (p ∷ ps))
+    go : (kind : PropertyRole) → p.role ≡ kind
+        → ((d : Board) → length (properties_made n t ps d).records ≡ length d.records + length (filter_map further_in ps))
+        → length (properties_made n t ps (property_made n t (property_name p.name) p.role c)).records
+        ≡ length c.records + length (filter_map further_in (p ∷ ps))
     go (row.Plain type first) e rest = rw (further_in, e) (rest _ ∙ ap (λ (k : ℕ). k + length (filter_map further_in ps)) (add-length n name _ c))
     go (row.Link target true) e rest = rw (further_in, e) (rest _ ∙ ap (λ (k : ℕ). k + length (filter_map further_in ps)) (add-length n name _ c))
     go (row.Link target false) e rest = rw (further_in, e) (rest _ ∙ ap (λ (k : ℕ). k + length (filter_map further_in ps)) (add-length n name _ c))
@@ -207,10 +208,10 @@ counted-bounds : (id : Option (List ℕ)) (c : Board) → SoundBounds c → Soun
 counted-bounds None c h = record { room = h.room; time = h.time }
 counted-bounds (Some id) c h = h
 
-rows-now : (n : ℕ) (t : TypeId) (ps : List Property) (c : Board) → (rows_made n t ps c).now ≡ c.now
+rows-now : (n : ℕ) (t : TypeId) (ps : List Property) (c : Board) → (properties_made n t ps c).now ≡ c.now
 unfolding add
 rows-now n t [] c = refl
-rows-now n t (p ∷ ps) c = rows-now n t ps (row_made n t (property_name p.name) p.kind c) ∙ go p.kind refl
+rows-now n t (p ∷ ps) c = rows-now n t ps (property_made n t (property_name p.name) p.role c) ∙ go p.role refl
   where
     name : List ℕ
     name = property_name p.name
@@ -219,7 +220,7 @@ rows-now n t (p ∷ ps) c = rows-now n t ps (row_made n t (property_name p.name)
     aliases property None = refl
     aliases property (Some m) = refl
 
-    go : (kind : RowKind) → p.kind ≡ kind → (row_made n t name kind c).now ≡ c.now
+    go : (kind : PropertyRole) → p.role ≡ kind → (property_made n t name kind c).now ≡ c.now
     go (row.Plain type first) e = refl
     go (row.Link target true) e = refl
     go (row.Link target false) e = refl
@@ -254,7 +255,7 @@ plugged-bounds b t a spot room h =
 
 plug-bounds : (b : Board) (a : Wanted) → SoundBounds b → SoundBounds (plug b a).board
 plug-bounds b a h =
-    behind-plug SoundBounds b a h (λ t bus stage. record { room = h.room; time = h.time })
+    after-plug SoundBounds b a h (λ t bus stage. record { room = h.room; time = h.time })
     (λ t bus k. plugged-bounds b t a (spot_of b t bus a.props) (accepted-room b t bus a k) h)
 
 -- detaching

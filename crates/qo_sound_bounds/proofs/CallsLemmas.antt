@@ -11,8 +11,8 @@ use Rattle.qo_model.specs.Paths.{births}
 use Rattle.qo_model.specs.Plug.{acted_all}
 use Rattle.qo_model.specs.Reset.{is_out, phased, plugged, post}
 use Rattle.qo_model.specs.Unplug.{each, unrealize, unrealize_turn, unrealized_bus, unrealized_device}
-use Rattle.qo_sound.proofs.DetachStepsLemmas.{KeepsLists, step-unheld, step-unnoticed}
-use Rattle.qo_sound.proofs.MakeStepsLemmas.{KeepsEdits, step-set, step-disconnected}
+use Rattle.qo_sound.proofs.DetachmentStepsLemmas.{KeepsLists, step-unheld, step-unnoticed}
+use Rattle.qo_sound.proofs.AdditionStepsLemmas.{KeepsEdits, step-set, step-disconnected}
 
 -- an act that is not Pre keeps P
 abbrev pub KeepsOtherActs : (Board → Type 0) → Type 0

@@ -16,18 +16,18 @@ use Rattle.qo_model.specs.Depth.{among}
 use Rattle.qo_model.specs.Devices.{bridge_of, bus_of, child_named, clock_of, is_realized}
 use Rattle.qo_model.specs.Paths.{is_of}
 use Rattle.qo_model.specs.Plug.{source_for}
-use Rattle.qo_model.proofs.FirstLemmas.{named_in}
-use Rattle.qo_sound.proofs.FirmLemmas.{Firm}
+use Rattle.qo_model.proofs.FirstSlotLemmas.{named_in}
+use Rattle.qo_sound.proofs.FirmBoardLemmas.{Firm}
 use Rattle.qo_sound.proofs.SlotLemmas.{names_in}
 use Rattle.qo_sound.proofs.TestLemmas.{clash}
 use Rattle.qo_sound_devices.specs.SoundPlaces.{child_entries, child_entry, HasOwner, machines, bridges, listed, owns, owns_it, stands}
-use Rattle.qo_sound_devices.proofs.AttachedLemmas.{owns-listed, parent-is}
+use Rattle.qo_sound_devices.proofs.AttachmentLemmas.{owns-listed, parent-is}
 use Rattle.qo_sound_devices.proofs.DropLemmas.{names-at}
 use Rattle.qo_sound_devices.proofs.PlacesLemmas.{child-live}
 use Rattle.qo_sound_devices.proofs.PlugLemmas.{stands-device}
-use Rattle.qo_sound_phases.proofs.BelowLemmas.{Placed}
+use Rattle.qo_sound_phases.proofs.ResetTreeLemmas.{Placed}
 use Rattle.qo_sound_phases.proofs.FrameLemmas.{Frame}
-use Rattle.qo_sound_phases.proofs.ReachedLemmas.{machine-no_device, machines-listed}
+use Rattle.qo_sound_phases.proofs.ReachLemmas.{machine-no_device, machines-listed}
 use Rattle.qo_sound_bounds.specs.SoundSources.{IsDeviceClock, SoundSources}
 
 -- the first entry of a name

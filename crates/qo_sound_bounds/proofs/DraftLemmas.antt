@@ -15,20 +15,20 @@ use Rattle.qo_model.specs.Changes.{add, changed_at, fresh, with_added, with_val}
 use Rattle.qo_model.specs.Devices.{child_named}
 use Rattle.qo_model.specs.Objects.{Given, slot_given}
 use Rattle.qo_model.specs.Opening.{first_value, fresh_record, fresh_slots}
-use Rattle.qo_model.specs.Plug.{aliased, drafted, fitted, owned, row_made, rows_made, with_new}
+use Rattle.qo_model.specs.Plug.{aliased, drafted, fitted, owned, property_made, properties_made, with_new}
 use Rattle.qo_model.specs.Release.{edited}
 use Rattle.qo_model.specs.RowNames.{property_name}
 use Rattle.qo_model.specs.Types.{slots_of, types}
 use Rattle.qo_model.specs.declared.properties.Property.{Property}
-use Rattle.qo_model.specs.declared.properties.RowKind.{RowKind}
-use Rattle.qo_model.specs.declared.properties.RowKind.TheVariants as row
-use Rattle.qo_model.proofs.FirstLemmas.{slots_in}
+use Rattle.qo_model.specs.declared.properties.PropertyRole.{PropertyRole}
+use Rattle.qo_model.specs.declared.properties.PropertyRole.TheVariants as row
+use Rattle.qo_model.proofs.FirstSlotLemmas.{slots_in}
 use Rattle.qo_model.proofs.StepLemmas.{found_at, found-edited}
-use Rattle.qo_sound.proofs.GivenLemmas.{given-cases}
+use Rattle.qo_sound.proofs.GivenPropertyLemmas.{given-cases}
 use Rattle.qo_sound.proofs.RecordLemmas.{all-append, all-imply}
 use Rattle.qo_sound.proofs.TestLemmas.{clash-back}
 use Rattle.qo_sound_devices.proofs.SourceLemmas.{add-other}
-use Rattle.qo_sound_clocks.proofs.LessLemmas.{Slots}
+use Rattle.qo_sound_clocks.proofs.SlotLemmas.{Slots}
 use Rattle.qo_sound_clocks.proofs.PlugLemmas.{edited-at}
 
 -- a clock as new, younger than a birth
@@ -48,12 +48,12 @@ abbrev is_clock : TypeId → Bool
 is_clock Clock = true
 is_clock t = false
 
-abbrev fits_clock : List ℕ → RowKind → Bool
+abbrev fits_clock : List ℕ → PropertyRole → Bool
 fits_clock name (row.Child k) = not (bytes_eq name (codes "clk")) || is_clock k
 fits_clock name kind = true
 
 abbrev RowClock : Property → Type 0
-RowClock p = fits_clock (property_name p.name) p.kind ≡ true
+RowClock p = fits_clock (property_name p.name) p.role ≡ true
 
 rows-clock : (t : TypeId) → AllByRecursion RowClock (slots_of t)
 unfolding types
@@ -200,8 +200,8 @@ ready-kid n name k c row h =
           young = let low : n ≤ c.born = h.high in omega (arith, low);
         }
 
-ready-row : (n : ℕ) (t : TypeId) (p : Property) → RowClock p → (c : Board) → Ready n c → Ready n (row_made n t (property_name p.name) p.kind c)
-ready-row n t p clock c h = go p.kind refl
+ready-row : (n : ℕ) (t : TypeId) (p : Property) → RowClock p → (c : Board) → Ready n c → Ready n (property_made n t (property_name p.name) p.role c)
+ready-row n t p clock c h = go p.role refl
   where
     name : List ℕ
     name = property_name p.name
@@ -210,16 +210,16 @@ ready-row n t p clock c h = go p.kind refl
     aliases property None = h
     aliases property (Some m) = ready-add n name (alias m property) c tt h
 
-    go : (kind : RowKind) → p.kind ≡ kind → Ready n (row_made n t name kind c)
+    go : (kind : PropertyRole) → p.role ≡ kind → Ready n (property_made n t name kind c)
     go (row.Plain type first) e = ready-add n name (plain (first_value t first)) c tt h
     go (row.Link target true) e = ready-add n name (strong target None) c tt h
     go (row.Link target false) e = ready-add n name (weak target None) c tt h
     go (row.Child k) e = ready-kid n name k c (row-clock name k (sym (ap (fits_clock name) e) ∙ clock)) h
     go (row.Alias owner of) e = aliases (property_name of) (owned c n (property_name owner))
 
-ready-rows : (n : ℕ) (t : TypeId) (ps : List Property) → AllByRecursion RowClock ps → (c : Board) → Ready n c → Ready n (rows_made n t ps c)
+ready-rows : (n : ℕ) (t : TypeId) (ps : List Property) → AllByRecursion RowClock ps → (c : Board) → Ready n c → Ready n (properties_made n t ps c)
 ready-rows n t [] clock c h = h
-ready-rows n t (p ∷ ps) clock c h = ready-rows n t ps clock.1 (row_made n t (property_name p.name) p.kind c) (ready-row n t p clock.0 c h)
+ready-rows n t (p ∷ ps) clock c h = ready-rows n t ps clock.1 (property_made n t (property_name p.name) p.role c) (ready-row n t p clock.0 c h)
 
 -- the slots of the device that was made
 pub drafted-clock : (b : Board) → ((x : ℕ) → b.born < x → record_of b x ≡ None) → (t : TypeId)

@@ -16,16 +16,16 @@ use Rattle.qo_model.specs.Board.{Board, Record, child, strong, is_live, kind_of,
 use Rattle.qo_model.specs.Changes.{add, changed_at, fresh, set, with_added, with_changed, with_val}
 use Rattle.qo_model.specs.Clocks.{source_of, weak_in}
 use Rattle.qo_model.specs.Devices.{bus_of, child_named, clock_of, is_realized, kid_name}
-use Rattle.qo_model.specs.Objects.{place_from}
+use Rattle.qo_model.specs.Objects.{index_from}
 use Rattle.qo_model.specs.Opening.{fresh_slots}
 use Rattle.qo_model.specs.Paths.{is_of, only_of}
 use Rattle.qo_model.specs.Plug.{Spot, Wanted, acted_all, addressed_at, bus_births, clocked, counted, drafted, fitted, joined, link_named, name_for, parent_for, plug, plug_attempt, source_for, spot_of, stood, valued, with_body_of, with_device, with_given, with_new, with_plugged, with_source}
 use Rattle.qo_model.specs.Release.{edit}
 use Rattle.qo_model.specs.Types.{is_a, slots_of, types}
 use Rattle.qo_model.specs.Unplug.{is_named, set_named}
-use Rattle.qo_model.proofs.FirstLemmas.{slots_in, named_in}
+use Rattle.qo_model.proofs.FirstSlotLemmas.{slots_in, named_in}
 use Rattle.qo_model.proofs.StepLemmas.{found-edited, map-edited}
-use Rattle.qo_sound.proofs.MakeStepsLemmas.{link-by}
+use Rattle.qo_sound.proofs.AdditionStepsLemmas.{link-by}
 use Rattle.qo_sound.proofs.PlugLemmas.{plugged-rest, shut-above}
 use Rattle.qo_sound.proofs.RecordLemmas.{all-map}
 use Rattle.qo_sound.proofs.TestLemmas.{decide, clash}
@@ -33,18 +33,18 @@ use Rattle.qo_sound.proofs.ViewLemmas.{AtRest, rest-from_sound}
 use Rattle.qo_sound_devices.specs.SoundDevices.{SoundDevices}
 use Rattle.qo_sound_devices.specs.SoundPlaces.{child_entries, HasOwner, machines, bridges, owns_it, stands}
 use Rattle.qo_sound_devices.proofs.DropLemmas.{edited-slots}
-use Rattle.qo_sound_devices.proofs.DraftedLemmas.{drafted-made}
-use Rattle.qo_sound_devices.proofs.JoinedLemmas.{deepened, done, Joined, old-stands, places-joined}
+use Rattle.qo_sound_devices.proofs.DraftLemmas.{drafted-made}
+use Rattle.qo_sound_devices.proofs.AdditionLemmas.{deepened, done, Joined, old-stands, places-joined}
 use Rattle.qo_sound_devices.proofs.PlacesLemmas.{child-live, high-absent, kind-alike, of-live, stands-live}
-use Rattle.qo_sound_devices.proofs.PlugLemmas.{Accepted, behind-plug}
-use Rattle.qo_sound_devices.proofs.PluggedLemmas.{accepted-joined}
+use Rattle.qo_sound_devices.proofs.PlugLemmas.{Accepted, after-plug}
+use Rattle.qo_sound_devices.proofs.PlugStageLemmas.{accepted-joined}
 use Rattle.qo_sound_devices.proofs.SourceLemmas.{add-other, addressed-other, edit-other, link-other, set-other, stood-other}
-use Rattle.qo_sound_devices.proofs.TakeLemmas.{aside-apart}
-use Rattle.qo_sound_clocks.proofs.LessLemmas.{sees, Slots}
+use Rattle.qo_sound_devices.proofs.UnparentingLemmas.{aside-apart}
+use Rattle.qo_sound_clocks.proofs.SlotLemmas.{sees, Slots}
 use Rattle.qo_sound_clocks.proofs.PlugLemmas.{Calm, edited-at, Growing, growing-first, growing-rows, growing-stood, rows-quiet}
-use Rattle.qo_sound_clocks.proofs.PluggedLemmas.{growing}
+use Rattle.qo_sound_clocks.proofs.PlugStageLemmas.{growing}
 use Rattle.qo_sound_clocks.proofs.ReadLemmas.{named-reads, Reads, tree-reads}
-use Rattle.qo_sound_phases.proofs.BelowLemmas.{Placed}
+use Rattle.qo_sound_phases.proofs.ResetTreeLemmas.{Placed}
 use Rattle.qo_sound_phases.proofs.PlugLemmas.{same-acts, told-so}
 use Rattle.qo_sound_phases.proofs.ShapeLemmas.{PhasedSo, phased-so, SameShape, shape-none, shape-records, shape-then}
 use Rattle.qo_sound_bounds.specs.SoundSources.{IsDeviceClock, SoundSources}
@@ -79,7 +79,7 @@ started-shape b t a spot =
     acts : PhasedSo Realize ns made f
     acts = subst (PhasedSo Realize ns made) (sym (same-acts Realize ns made)) (phased-so Realize ns made)
 
--- the board behind a device that nothing refuses
+-- the board after a device that nothing refuses
 pub added-placed : (b : Board) (a : Wanted) → SoundDevices b → (t : TypeId) (at : ℕ) → Accepted b t at a
     → Placed (with_plugged b t a (spot_of b t at a.props))
 added-placed b a d t at k =
@@ -148,18 +148,18 @@ module _ (b : Board) (a : Wanted) (spot : Spot) (c : Board) where
 
     own-set : (name : List ℕ) (v : Val) (e : Board) → Own (slots_at e (b.born + 1)) → Own (slots_at (set_named (b.born + 1) name v e) (b.born + 1))
     unfolding set
-    own-set name v e h = go (place_from (is_named name) 0 (slots_at e n)) refl
+    own-set name v e h = go (index_from (is_named name) 0 (slots_at e n)) refl
       where
-        go : (o : Option ℕ) → place_from (is_named name) 0 (slots_at e n) ≡ o → Own (slots_at (set_named n name v e) n)
+        go : (o : Option ℕ) → index_from (is_named name) 0 (slots_at e n) ≡ o → Own (slots_at (set_named n name v e) n)
         go None q = rw (set_named, q) h
         go (Some i) q =
             rw (set_named, q)
             (own-edit (with_changed (with_val v) i) (λ r. refl) (λ r k. clocks-changed n dr (with_val v) (clock-val n dr v) i r.slots k) e h)
 
     own-link : (name : List ℕ) (m : ℕ) (e : Board) → Own (slots_at e (b.born + 1)) → Own (slots_at (link_named (b.born + 1) name m e) (b.born + 1))
-    own-link name m e h = go (place_from (is_named name) 0 (slots_at e n)) refl
+    own-link name m e h = go (index_from (is_named name) 0 (slots_at e n)) refl
       where
-        go : (o : Option ℕ) → place_from (is_named name) 0 (slots_at e n) ≡ o → Own (slots_at (link_named n name m e) n)
+        go : (o : Option ℕ) → index_from (is_named name) 0 (slots_at e n) ≡ o → Own (slots_at (link_named n name m e) n)
         go None q = rw (link_named, q) h
         go (Some i) q =
             rw (link_named, q)
@@ -188,7 +188,7 @@ module _ (b : Board) (a : Wanted) (spot : Spot) (c : Board) where
         (λ r k. all-map (ClockIn n dr) (ClockIn n dr) _ (clock-given n dr b a.props) r.slots k) c2 second)))))
 
 -- the source of a clock as new
-source-place : place_from (is_named (codes "source")) 0 (fresh_slots Clock) ≡ Some 4
+source-place : index_from (is_named (codes "source")) 0 (fresh_slots Clock) ≡ Some 4
 unfolding types
 source-place = refl
 
@@ -206,8 +206,8 @@ linked-source d m k r e fresh is =
     ∙ source-now d m
     ∙ ap (λ (t : Bool). if t then Some m else None) is)
   where
-    place : place_from (is_named (codes "source")) 0 (slots_at d k) ≡ Some 4
-    place = ap (place_from (is_named (codes "source")) 0) (ap slots_in e ∙ fresh) ∙ source-place
+    place : index_from (is_named (codes "source")) 0 (slots_at d k) ≡ Some 4
+    place = ap (index_from (is_named (codes "source")) 0) (ap slots_in e ∙ fresh) ∙ source-place
 
 kind-clock : (d : Board) (m : ℕ) → kind_of d m ≡ Some Clock → is_of d (codes "clock") m ≡ true
 unfolding types
@@ -349,7 +349,7 @@ module _ (b : Board) (a : Wanted) (d : SoundDevices b) (h : SoundSources b) (t :
       ∙ kind-alike b c source (j.body source (source-live b kb at j.goal.owner))
       ∙ source-kind
 
-  -- behind it
+  -- after it
   record Fed (q : Board) : Type 0 where
     old : (x s : ℕ) → is_live b x ≡ true → sees s (slots_at b x) ≡ true → sees s (slots_at q x) ≡ true
     kind : (m : ℕ) → clock_of q (b.born + 1) ≡ Some m → kind_of q m ≡ Some Clock
@@ -478,5 +478,5 @@ module _ (b : Board) (a : Wanted) (d : SoundDevices b) (h : SoundSources b) (t :
 
 pub plug-sources : (b : Board) (a : Wanted) → SoundDevices b → SoundSources b → SoundSources (plug b a).board
 plug-sources b a d h =
-    behind-plug SoundSources b a h (λ t bus stage. beside-sources b (plug_attempt b t bus stage) refl h)
+    after-plug SoundSources b a h (λ t bus stage. beside-sources b (plug_attempt b t bus stage) refl h)
     (λ t bus k. accepted-sources b a d h t bus k)

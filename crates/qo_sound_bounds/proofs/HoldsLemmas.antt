@@ -22,8 +22,8 @@ use Rattle.qo_model.specs.Plug.{Wanted, cut_attempt, notice_barred, plug, plug_a
 use Rattle.qo_model.specs.Release.{without_first}
 use Rattle.qo_model.specs.Reset.{below, count, held, is_deep, post, pulse, released}
 use Rattle.qo_model.specs.Unplug.{detach, first_of}
-use Rattle.qo_model.proofs.StaysLemmas.{changed-stays}
-use Rattle.qo_sound.proofs.DevicesStayLemmas.{devices_stay_lem}
+use Rattle.qo_model.proofs.ChangeScopeLemmas.{changed-stays}
+use Rattle.qo_sound.proofs.DeviceScopeLemmas.{devices_stay_lem}
 use Rattle.qo_sound.proofs.RecordLemmas.{all-imply}
 use Rattle.qo_sound.proofs.TestLemmas.{decide, clash, clash-back}
 use Rattle.qo_sound.proofs.ViewLemmas.{rest-from_sound}
@@ -31,29 +31,29 @@ use Rattle.qo_sound_devices.specs.SoundDevices.{SoundDevices}
 use Rattle.qo_sound_devices.specs.SoundLists.{IsOn}
 use Rattle.qo_sound_devices.specs.SoundPlaces.{stands}
 use Rattle.qo_sound_devices.proofs.DevicesLawLemmas.{devices_kept_lem}
-use Rattle.qo_sound_devices.proofs.JoinedLemmas.{done, Joined}
-use Rattle.qo_sound_devices.proofs.PlugLemmas.{Accepted, behind-plug}
-use Rattle.qo_sound_devices.proofs.PluggedLemmas.{accepted-joined}
+use Rattle.qo_sound_devices.proofs.AdditionLemmas.{done, Joined}
+use Rattle.qo_sound_devices.proofs.PlugLemmas.{Accepted, after-plug}
+use Rattle.qo_sound_devices.proofs.PlugStageLemmas.{accepted-joined}
 use Rattle.qo_sound_devices.proofs.ResetLemmas.{detached-below, first-on}
-use Rattle.qo_sound_clocks.specs.RegistersKept.{registers_set, with_registers}
-use Rattle.qo_sound_clocks.proofs.KeepLemmas.{writes_keep_lem}
+use Rattle.qo_sound_clocks.specs.RegisterWrites.{registers_set, with_registers}
+use Rattle.qo_sound_clocks.proofs.WriteLawLemmas.{writes_keep_lem}
 use Rattle.qo_sound_clocks.proofs.StepsLemmas.{kept-scaled, kept-set, calls-kept}
 use Rattle.qo_sound_phases.specs.PhaseRuns.{SoundResets}
 use Rattle.qo_sound_phases.specs.SoundPhases.{IsReached, bus}
-use Rattle.qo_sound_phases.proofs.BelowLemmas.{forest, kid-leads, Placed, placed, post-reach, reach-post}
+use Rattle.qo_sound_phases.proofs.ResetTreeLemmas.{forest, kid-leads, Placed, placed, post-reach, reach-post}
 use Rattle.qo_sound_phases.proofs.CommandLemmas.{frame}
-use Rattle.qo_sound_phases.proofs.DetachLemmas as detaching
+use Rattle.qo_sound_phases.proofs.DetachmentLemmas as detaching
 use Rattle.qo_sound_phases.proofs.ForestLemmas.{above, before, Reach}
 use Rattle.qo_sound_phases.proofs.FrameLemmas.{Frame, frame-count, frame-reached, dims-frame}
 use Rattle.qo_sound_phases.proofs.HoldLemmas.{count-less, count-more, count-shape, held-so, HeldSo, one_if, released-so, ReleasedSo}
 use Rattle.qo_sound_phases.proofs.ListLemmas.{among-right, one-among}
 use Rattle.qo_sound_phases.proofs.PlugLemmas.{back, below-new, new-there, reached-old}
-use Rattle.qo_sound_phases.proofs.ReachedLemmas.{reached-live, shape-reached}
+use Rattle.qo_sound_phases.proofs.ReachLemmas.{reached-live, shape-reached}
 use Rattle.qo_sound_phases.proofs.ShapeLemmas.{counted-same, SameShape, shape-acted, shape-back, shape-count, shape-edit, shape-post, shape-records, shape-then}
 use Rattle.qo_sound_bounds.specs.HoldsKept.{HoldsKeptLaw}
 use Rattle.qo_sound_bounds.specs.SoundHolds.{SoundHolds}
 use Rattle.qo_sound_bounds.proofs.FeedLemmas.{added-placed}
-use Rattle.qo_sound_bounds.proofs.WrittenLemmas.{Written, written-acts, written-none, written-numbers}
+use Rattle.qo_sound_bounds.proofs.ClockWriteLemmas.{Written, written-acts, written-none, written-numbers}
 
 -- boards of one shape with the same holds
 
@@ -114,7 +114,7 @@ fewer-counted f n (x ∷ rs) = go (x == n) refl (fewer-counted f n rs)
     go false p rest =
         rw p (omega (arith, rest, sum_by-cons (λ y. one_if (f y)) x rs, sum_by-cons (λ y. one_if (f y)) x (without_first n rs)))
 
--- what is counted behind it
+-- what is counted after it
 released-count : (b : Board) (n o : ℕ) → count (released b n) o ≡ count_by (λ x. among (post b x) o) (without_first n b.holds)
 released-count b n o =
     count-shape s.less (released b n) s.shape o
@@ -283,7 +283,7 @@ module _ (b : Board) (a : Wanted) (w : SoundResets b) (h : SoundHolds b) (t : Ty
 
 plug-holds : (b : Board) (a : Wanted) → SoundResets b → SoundHolds b → SoundHolds (plug b a).board
 plug-holds b a w h =
-    behind-plug SoundHolds b a h (λ t bus stage. beside-holds b (plug_attempt b t bus stage) refl refl h)
+    after-plug SoundHolds b a h (λ t bus stage. beside-holds b (plug_attempt b t bus stage) refl refl h)
     (λ t bus k. accepted-holds b a w h t bus k)
 
 -- a device that is detached, and the reset of the whole board

@@ -2,7 +2,7 @@ pub mod BoundsLemmas
 pub mod SightLemmas
 pub mod ClockLemmas
 pub mod SourceLemmas
-pub mod LeaveLemmas
+pub mod LeavingLemmas
 pub mod DraftLemmas
 pub mod FeedLemmas
 pub mod SourcesLawLemmas
@@ -10,4 +10,4 @@ pub mod HoldsLemmas
 pub mod CallsLemmas
 pub mod SegmentLemmas
 pub mod SegmentsLawLemmas
-pub mod WrittenLemmas
+pub mod ClockWriteLemmas

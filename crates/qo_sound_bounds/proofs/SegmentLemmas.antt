@@ -76,7 +76,7 @@ begun t now on le few =
     let same : (from : ℕ) → ◌≡◌ {A = Option ℕ} (Some now) (Some from) → from ≡ now = λ from q. sym (same_Some now from q) in
     (omega arith, record { running = sym on; began = same; ticks = omega (arith, le, few) })
 
--- Update behind Pre
+-- Update after Pre
 followed : (t : TimerRegisters) (now : ℕ) → Rests now t → Fits now (timer_update t now)
 followed t now h =
     either-fits t.enabled (after_begin t now) t now (λ on. begun t now on h.low h.ticks) (λ off. disabled t now off h)

@@ -19,19 +19,19 @@ use Rattle.qo_model.specs.Opening.{opening_board}
 use Rattle.qo_model.specs.Paths.{attached, canonical}
 use Rattle.qo_model.specs.Plug.{Spot, Wanted, acted_all, barred_early, barred_late, bus_births, bus_for, counted, drafted, notice_barred, plug, plug_as, plug_by, plug_late, spot_of, type_barred, with_body_of, with_device, with_path, with_plugged}
 use Rattle.qo_model.specs.Release.{drop_slot, edit, edited, finish, forgotten, pin, with_dropped, without_first}
-use Rattle.qo_model.specs.ReleaseKeeps.{KeepsRelease}
+use Rattle.qo_model.specs.ReleaseInduction.{KeepsRelease}
 use Rattle.qo_model.specs.Reset.{held, is_out, phased, plugged, post, pulse, released}
-use Rattle.qo_model.specs.Types.{TypeRow, row_named, slots_of, types}
+use Rattle.qo_model.specs.Types.{TypeInfo, type_named, slots_of, types}
 use Rattle.qo_model.specs.Unplug.{detach, first_of}
 use Rattle.qo_model.proofs.ComesToLemmas.{addition-comes}
-use Rattle.qo_model.proofs.ReleaseKeepsLemmas.{after_keeps}
-use Rattle.qo_sound.proofs.FoundLemmas.{all-found}
+use Rattle.qo_model.proofs.ReleaseInductionLemmas.{after_keeps}
+use Rattle.qo_sound.proofs.SearchLemmas.{all-found}
 use Rattle.qo_sound.proofs.RecordLemmas.{all-append, all-both, all-filter, all-imply, all-map}
-use Rattle.qo_sound.proofs.MakeStepsLemmas.{any-rows, KeepsEdits, KeepsNew, new_with, step-drafted, step-set, step-stood}
-use Rattle.qo_sound.proofs.DetachStepsLemmas.{KeepsEnds, KeepsLists, KeepsPins, step-detach, step-pin}
+use Rattle.qo_sound.proofs.AdditionStepsLemmas.{any-rows, KeepsEdits, KeepsNew, new_with, step-drafted, step-set, step-stood}
+use Rattle.qo_sound.proofs.DetachmentStepsLemmas.{KeepsEnds, KeepsLists, KeepsPins, step-detach, step-pin}
 use Rattle.qo_sound.proofs.ChangeStepsLemmas.{step-object_del, step-sever, step-write}
 use Rattle.qo_sound_clocks.proofs.StepsLemmas.{KeepsNumbers, kept-set, kept-scaled}
-use Rattle.qo_sound_clocks.specs.RegistersKept.{registers_set, with_registers}
+use Rattle.qo_sound_clocks.specs.RegisterWrites.{registers_set, with_registers}
 use Rattle.qo_sound_clocks.specs.SoundTimes.{IsTimely, SoundTimes}
 use Rattle.qo_sound_bounds.specs.SegmentsKept.{SegmentsKeptLaw}
 use Rattle.qo_sound_bounds.specs.SoundSegments.{IsSegmented, SoundSegments}
@@ -188,9 +188,9 @@ as-segments b t a None h = go (bus_for b t a.bus) refl
 
 by-segments : (b : Board) (a : Wanted) (o : Option Code) → Sound b → Sound (plug_by b a o).board
 by-segments b a (Some code) h = h
-by-segments b a None h = go (row_named a.driver) refl
+by-segments b a None h = go (type_named a.driver) refl
   where
-    go : (row : Option TypeRow) → row_named a.driver ≡ row → Sound (plug_by b a None).board
+    go : (row : Option TypeInfo) → type_named a.driver ≡ row → Sound (plug_by b a None).board
     go None p = rw (plug_by, p) h
     go (Some row) p = rw (plug_by, p) (as-segments b row.id a (barred_early b row.id a) h)
 

@@ -16,23 +16,23 @@ use Rattle.qo_model.specs.Board.{Board, Record, Slot, plain, child, strong, weak
 use Rattle.qo_model.specs.Changes.{changed_at, cut, point, pointed, set, with_added, with_changed, with_cut, with_val}
 use Rattle.qo_model.specs.Depth.{among}
 use Rattle.qo_model.specs.Devices.{bus_of, buses_of, kids_of}
-use Rattle.qo_model.specs.FinalNotesRuns.{Change, added, behind_write, changed, deleted, severed, wrote}
-use Rattle.qo_model.specs.Objects.{Given, added_as, given_slots, is_object_named, object_add, object_del, place_from, sever, severed_from, with_object}
+use Rattle.qo_model.specs.FinalNotesRuns.{Change, added, after_write, changed, deleted, severed, wrote}
+use Rattle.qo_model.specs.Objects.{Given, added_as, given_slots, is_object_named, object_add, object_del, index_from, sever, severed_from, with_object}
 use Rattle.qo_model.specs.Properties.{pointed_at, relinked, write}
-use Rattle.qo_model.specs.Release.{after, drop_slot, edit, edited, emptied, finalise, finish, forgotten, forgotten_in, let_go, pin, unpin, with_dropped, without_hold, without_pin}
-use Rattle.qo_model.specs.ReleaseKeeps.{KeepsRelease}
-use Rattle.qo_model.specs.Unplug.{apart_within, drained, first_of, is_bus_slot, is_child_slot, is_named, left_bus, left_parent, let_go_where, lost_bus, lost_buses, names_kid, take_slot, take_where, taken_by}
+use Rattle.qo_model.specs.Release.{after, drop_slot, edit, edited, emptied, finalize, finish, forgotten, forgotten_in, let_go, pin, unpin, with_dropped, without_hold, without_pin}
+use Rattle.qo_model.specs.ReleaseInduction.{KeepsRelease}
+use Rattle.qo_model.specs.Unplug.{apart_within, drained, first_of, is_bus_child, is_child_slot, is_named, left_bus, left_parent, let_go_where, lost_bus, lost_buses, names_kid, take_slot, take_where, taken_by}
 use Rattle.qo_model.proofs.ComesToLemmas.{addition-comes, deletion-comes, sever-comes, severed-comes}
-use Rattle.qo_model.proofs.FirstLemmas.{slots_in, Found, found-at}
-use Rattle.qo_model.proofs.ReleaseKeepsLemmas.{after_keeps}
+use Rattle.qo_model.proofs.FirstSlotLemmas.{slots_in, Found, found-at}
+use Rattle.qo_model.proofs.ReleaseInductionLemmas.{after_keeps}
 use Rattle.qo_model.proofs.StepLemmas.{drop-record, finish-gone, finish-record, found_at, found-edited, is_some-map, found-birth, drop-live}
-use Rattle.qo_sound.proofs.FoundLemmas.{found-append}
+use Rattle.qo_sound.proofs.SearchLemmas.{found-append}
 use Rattle.qo_sound.proofs.ReadLemmas.{dropped-at, edit-slots}
 use Rattle.qo_sound.proofs.SlotLemmas.{each_slot, kept-slot}
 use Rattle.qo_model.proofs.WrittenLemmas.{write-comes}
 use Rattle.qo_sound.proofs.TestLemmas.{decide, clash, clash-back}
 use Rattle.qo_sound_clocks.proofs.CommandLemmas.{may-set, set-other}
-use Rattle.qo_sound_clocks.proofs.LessLemmas.{or-less, OtherName, sees, sees_it, Slots}
+use Rattle.qo_sound_clocks.proofs.SlotLemmas.{or-less, OtherName, sees, sees_it, Slots}
 
 -- slots that see no less
 
@@ -149,7 +149,7 @@ edit-sight n change same_birth c on =
       seen = λ k s i j e. edit-seen n change same_birth c on k s e;
     }
 
--- a release: but for the objects that are being finalised
+-- a release: but for the objects that are being finalized
 record SightBut (b : Board) (work : List (ℕ × ℕ)) (c : Board) : Type 0 where
   live : (x : ℕ) → is_live c x ≡ true → is_live b x ≡ true
   seen : (k s : ℕ) → among (map (λ (w : ℕ × ℕ). w.0) work) k ≡ false → is_live c k ≡ true → is_live c s ≡ true → sees s (slots_at b k) ≡ true
@@ -222,9 +222,9 @@ release-sight b =
       kept = λ c n i work s h e held_on. but-drop b n i work c h _;
     }
 
-pub after-sight : (o : Option ℕ) (c : Board) → Sight c (after finalise c o)
+pub after-sight : (o : Option ℕ) (c : Board) → Sight c (after finalize c o)
 after-sight o c =
-    let k : SightBut c [] (after finalise c o) =
+    let k : SightBut c [] (after finalize c o) =
     after_keeps (λ (work : List (ℕ × ℕ)) (d : Board). SightBut c work d) (release-sight c) c o [] (λ m e free. but-more c m [] c none) (λ held_on. none) in
     record { live = k.live; seen = λ m s i j e. k.seen m s refl i j e }
   where
@@ -239,8 +239,8 @@ drop-sight c n i fine =
     (λ r q. sees-dropped i r.slots (λ x e. fine x (ap (λ (o : Option Record). slice_get (slots_in o) i) q ∙ e)))
 
 module _ (b : Board) where
-  pub sight-after : (o : Option ℕ) (c : Board) → Sight b c → Sight b (after finalise c o)
-  sight-after o c h = sight-then b c (after finalise c o) h (after-sight o c)
+  pub sight-after : (o : Option ℕ) (c : Board) → Sight b c → Sight b (after finalize c o)
+  sight-after o c h = sight-then b c (after finalize c o) h (after-sight o c)
 
   pub sight-pin : (n : ℕ) (c : Board) → Sight b c → Sight b (pin c n)
   unfolding pin
@@ -267,9 +267,9 @@ module _ (b : Board) where
 
   sight-where : (p : List ℕ × Slot → Bool) → ((x : List ℕ × Slot) → p x ≡ true → harmless x ≡ true) → (n : ℕ) (c : Board) → Sight b c
       → Sight b (let_go_where p n c)
-  sight-where p fine n c h = go (place_from p 0 (slots_at c n)) refl
+  sight-where p fine n c h = go (index_from p 0 (slots_at c n)) refl
     where
-      go : (o : Option ℕ) → place_from p 0 (slots_at c n) ≡ o → Sight b (let_go_where p n c)
+      go : (o : Option ℕ) → index_from p 0 (slots_at c n) ≡ o → Sight b (let_go_where p n c)
       go None e = rw (let_go_where, e) h
       go (Some i) e =
           let f : Found p (slots_at c n) i = found-at p i (slots_at c n) e in
@@ -301,7 +301,7 @@ module _ (b : Board) where
           ap harmless (same_Some x (own, strong t None) (sym q ∙ sym (ap (λ (xs : Slots). slice_get xs i) same) ∙ left)))
 
   sight-take : (d n : ℕ) (c : Board) → Sight b c → Sight b (take_where (names_kid d) n c)
-  sight-take d n c h = go (place_from (names_kid d) 0 (slots_at c n)) refl
+  sight-take d n c h = go (index_from (names_kid d) 0 (slots_at c n)) refl
     where
       of : (i : ℕ) (x : List ℕ × Slot) → slice_get (slots_at c n) i ≡ Some x → names_kid d x ≡ true → Sight b (take_slot c n i)
       of i (own, plain v) at passes = clash-back passes
@@ -310,7 +310,7 @@ module _ (b : Board) where
       of i (own, weak t target) at passes = clash-back passes
       of i (own, alias m property) at passes = clash-back passes
 
-      go : (o : Option ℕ) → place_from (names_kid d) 0 (slots_at c n) ≡ o → Sight b (take_where (names_kid d) n c)
+      go : (o : Option ℕ) → index_from (names_kid d) 0 (slots_at c n) ≡ o → Sight b (take_where (names_kid d) n c)
       go None e = rw (take_where, e) h
       go (Some i) e =
           let f : Found (names_kid d) (slots_at c n) i = found-at (names_kid d) i (slots_at c n) e in
@@ -323,7 +323,7 @@ module _ (b : Board) where
   child-fine d (own, weak t target) e = clash-back e
   child-fine d (own, alias m property) e = refl
 
-  bus-fine : (m : ℕ) (x : List ℕ × Slot) → is_bus_slot m x ≡ true → harmless x ≡ true
+  bus-fine : (m : ℕ) (x : List ℕ × Slot) → is_bus_child m x ≡ true → harmless x ≡ true
   bus-fine m (own, plain v) e = refl
   bus-fine m (own, child k) e = refl
   bus-fine m (own, strong t target) e = refl
@@ -365,7 +365,7 @@ module _ (b : Board) where
 
     sight-lost_bus : (d m : ℕ) (c : Board) → Sight b c → Sight b (lost_bus f d m c)
     sight-lost_bus d m c h =
-        sight-where (is_bus_slot m) (bus-fine m) d (drained f (length (slots_at c m)) m c) (sight-drained (length (slots_at c m)) m c h)
+        sight-where (is_bus_child m) (bus-fine m) d (drained f (length (slots_at c m)) m c) (sight-drained (length (slots_at c m)) m c h)
 
     sight-lost_buses : (times d : ℕ) (c : Board) → Sight b c → Sight b (lost_buses f times d c)
     sight-lost_buses zero d c h = h
@@ -425,7 +425,7 @@ module _ (b : Board) (n i : ℕ) (own : List ℕ) (s left : Slot)
       let there : slot_at b n i ≡ Some s = ap (option_map (λ (x : List ℕ × Slot). x.1)) at in
       rw (relinked, there) (sight-after b (held s) (pointed_at target n i (drop_slot b n i)) (pointed-sight target))
 
-write-sight : (b : Board) (n : ℕ) (name : List ℕ) (v : Val) → Sight b (behind_write b (write b n name v))
+write-sight : (b : Board) (n : ℕ) (name : List ℕ) (v : Val) → Sight b (after_write b (write b n name v))
 write-sight b n name v = write-comes (Sight b) b (sight-none b) n name v (λ i t p kind e may.
     let other : OtherName name = set-other t name (may-set t name p e may) in
     record {

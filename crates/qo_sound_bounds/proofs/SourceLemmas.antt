@@ -16,28 +16,28 @@ use Rattle.qo_model.specs.Paths.{attached}
 use Rattle.qo_model.specs.Plug.{notice_barred}
 use Rattle.qo_model.specs.Release.{without_first}
 use Rattle.qo_model.specs.Reset.{held, is_out, phased, post, pulse, released}
-use Rattle.qo_model.proofs.FirstLemmas.{named_in}
-use Rattle.qo_sound.proofs.KeptLemmas.{sound_kept_lem}
+use Rattle.qo_model.proofs.FirstSlotLemmas.{named_in}
+use Rattle.qo_sound.proofs.TreeKeptLemmas.{sound_kept_lem}
 use Rattle.qo_sound.proofs.TestLemmas.{decide}
 use Rattle.qo_sound_devices.specs.SoundDevices.{SoundDevices}
 use Rattle.qo_sound_devices.specs.SoundPlaces.{child_entry, stands}
 use Rattle.qo_sound_devices.proofs.DevicesLawLemmas.{devices_kept_lem}
-use Rattle.qo_sound_devices.proofs.LowLemmas.{stands-dimmed}
-use Rattle.qo_sound_clocks.specs.RegistersKept.{registers_set, with_registers}
+use Rattle.qo_sound_devices.proofs.DepthLemmas.{stands-dimmed}
+use Rattle.qo_sound_clocks.specs.RegisterWrites.{registers_set, with_registers}
 use Rattle.qo_sound_clocks.proofs.CommandLemmas.{kept-change}
-use Rattle.qo_sound_clocks.proofs.KeepLemmas.{writes_keep_lem}
+use Rattle.qo_sound_clocks.proofs.WriteLawLemmas.{writes_keep_lem}
 use Rattle.qo_sound_clocks.proofs.ReadLemmas.{Reads, tree-reads}
 use Rattle.qo_sound_clocks.proofs.RegisterLemmas.{registers_kept_lem}
 use Rattle.qo_sound_clocks.proofs.StepsLemmas.{kept-scaled, kept-set, calls-kept}
-use Rattle.qo_sound_phases.proofs.BelowLemmas.{Placed, placed}
+use Rattle.qo_sound_phases.proofs.ResetTreeLemmas.{Placed, placed}
 use Rattle.qo_sound_phases.proofs.CommandLemmas.{frame, keeps}
 use Rattle.qo_sound_phases.proofs.FrameLemmas.{Frame, dims-frame}
-use Rattle.qo_sound_phases.proofs.ReachedLemmas.{same-stands}
+use Rattle.qo_sound_phases.proofs.ReachLemmas.{same-stands}
 use Rattle.qo_sound_phases.proofs.ShapeLemmas.{SameShape, shape-acted, shape-edit}
 use Rattle.qo_sound_bounds.specs.SoundSources.{SoundSources}
 use Rattle.qo_sound_bounds.proofs.ClockLemmas.{frame-sources}
 use Rattle.qo_sound_bounds.proofs.SightLemmas.{changed-seen}
-use Rattle.qo_sound_bounds.proofs.WrittenLemmas.{Written, written-acts, written-none, written-numbers}
+use Rattle.qo_sound_bounds.proofs.ClockWriteLemmas.{Written, written-acts, written-none, written-numbers}
 
 -- what changes no object
 pub beside-sources : (b c : Board) → c.records ≡ b.records → SoundSources b → SoundSources c

@@ -10,16 +10,16 @@ use Rattle.qo_model.specs.Objects.{with_attempt}
 use Rattle.qo_model.specs.Opening.{opening_board}
 use Rattle.qo_model.specs.Plug.{cut_attempt, plug_attempt}
 use Rattle.qo_model.specs.Types.{types}
-use Rattle.qo_model.proofs.FirstLemmas.{slots_in}
-use Rattle.qo_sound.proofs.FoundLemmas.{all-found}
+use Rattle.qo_model.proofs.FirstSlotLemmas.{slots_in}
+use Rattle.qo_sound.proofs.SearchLemmas.{all-found}
 use Rattle.qo_sound.proofs.TestLemmas.{clash}
 use Rattle.qo_sound_devices.specs.SoundPlaces.{stands}
 use Rattle.qo_sound_devices.proofs.DevicesLawLemmas.{devices_kept_lem}
-use Rattle.qo_sound_phases.proofs.BelowLemmas.{Placed, placed}
+use Rattle.qo_sound_phases.proofs.ResetTreeLemmas.{Placed, placed}
 use Rattle.qo_sound_bounds.specs.SoundSources.{SoundSources}
 use Rattle.qo_sound_bounds.specs.SourcesKept.{SourcesKeptLaw}
 use Rattle.qo_sound_bounds.proofs.FeedLemmas.{plug-sources}
-use Rattle.qo_sound_bounds.proofs.LeaveLemmas.{detach-sources, reset-sources}
+use Rattle.qo_sound_bounds.proofs.LeavingLemmas.{detach-sources, reset-sources}
 use Rattle.qo_sound_bounds.proofs.SourceLemmas.{acted-sources, asked-sources, beside-sources, changed-sources, held-sources, pulse-sources, registers-sources, released-sources, scaled-sources, set-sources}
 
 -- on the opening board no device is realized, and no clock has a source

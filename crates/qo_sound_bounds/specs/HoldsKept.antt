@@ -15,7 +15,7 @@ use Rattle.qo_model.specs.Reset.{held, is_deep, pulse, released}
 use Rattle.qo_model.specs.Unplug.{detach}
 use Rattle.qo_sound_devices.specs.SoundDevices.{SoundDevices}
 use Rattle.qo_sound_devices.specs.SoundPlaces.{stands}
-use Rattle.qo_sound_clocks.specs.RegistersKept.{registers_set}
+use Rattle.qo_sound_clocks.specs.RegisterWrites.{registers_set}
 use Rattle.qo_sound_phases.specs.PhaseRuns.{SoundResets}
 use Rattle.qo_sound_bounds.specs.SoundHolds.{SoundHolds}
 

@@ -15,7 +15,7 @@ use Rattle.qo_model.specs.Opening.{opening_board}
 use Rattle.qo_model.specs.Plug.{Wanted, cut_attempt, plug, plug_attempt}
 use Rattle.qo_model.specs.Reset.{held, pulse, released}
 use Rattle.qo_model.specs.Unplug.{detach}
-use Rattle.qo_sound_clocks.specs.RegistersKept.{registers_set}
+use Rattle.qo_sound_clocks.specs.RegisterWrites.{registers_set}
 use Rattle.qo_sound_clocks.specs.SoundTimes.{IsTimely, SoundTimes}
 use Rattle.qo_sound_bounds.specs.SoundSegments.{IsSegmented, SoundSegments}
 

@@ -11,7 +11,7 @@ use Rattle.qo_values.specs.declared.properties.Val.{Val}
 use Rattle.qo_model.specs.Board.{Board, Record, Slot, plain, child, strong, weak, alias, record_of, slot_at, slots_at, held}
 use Rattle.qo_model.specs.Changes.{point, pointed, set, with_added, with_changed, with_val}
 use Rattle.qo_model.specs.Devices.{is_realized}
-use Rattle.qo_model.specs.FinalNotesRuns.{Change, added, deleted, wrote, severed, behind_write, changed}
+use Rattle.qo_model.specs.FinalNotesRuns.{Change, added, deleted, wrote, severed, after_write, changed}
 use Rattle.qo_model.specs.Objects.{Given, added_as, is_object_named, object_add, object_del, sever, severed_from, slot_given, with_object}
 use Rattle.qo_model.specs.Opening.{fresh_slots}
 use Rattle.qo_model.specs.Paths.{attached, is_of}
@@ -19,20 +19,20 @@ use Rattle.qo_model.specs.Properties.{pointed_at, relinked, write}
 use Rattle.qo_model.specs.Release.{drop_slot, edited, emptied, pin}
 use Rattle.qo_model.specs.Types.{is_a, types}
 use Rattle.qo_model.proofs.ComesToLemmas.{addition-comes, deletion-comes, sever-comes, severed-comes}
-use Rattle.qo_model.proofs.FirstLemmas.{Found, found-at}
+use Rattle.qo_model.proofs.FirstSlotLemmas.{Found, found-at}
 use Rattle.qo_model.proofs.StepLemmas.{found-edited, found_at}
 use Rattle.qo_sound.proofs.AddLemmas.{creatable, made}
-use Rattle.qo_sound.proofs.FoundLemmas.{found-append}
+use Rattle.qo_sound.proofs.SearchLemmas.{found-append}
 use Rattle.qo_sound.proofs.ReadLemmas.{dropped-at}
 use Rattle.qo_sound.proofs.RecordLemmas.{all-map}
 use Rattle.qo_sound.proofs.SlotLemmas.{kept-slot}
 use Rattle.qo_model.proofs.WrittenLemmas.{write-comes}
 use Rattle.qo_sound_devices.specs.SoundDevices.{SoundDevices}
 use Rattle.qo_sound_devices.proofs.PlugLemmas.{stands-device}
-use Rattle.qo_sound_devices.proofs.SayLemmas.{devices_say_lem}
+use Rattle.qo_sound_devices.proofs.FactLemmas.{devices_say_lem}
 use Rattle.qo_sound_clocks.proofs.CommandLemmas.{MaySet, may-set, set-apart}
-use Rattle.qo_sound_clocks.proofs.LessLemmas.{Slots}
-use Rattle.qo_sound_claims.proofs.FewerLemmas.{at-record, Fewer, fewer-after, fewer-drop, fewer-let_go, fewer-none, fewer-pin, fewer-slots, fewer-unpin, Harmless, LessRecord, NearAt, record-none, record-slots, spares-harmless, Spares}
+use Rattle.qo_sound_clocks.proofs.SlotLemmas.{Slots}
+use Rattle.qo_sound_claims.proofs.DecreaseLemmas.{at-record, Fewer, fewer-after, fewer-drop, fewer-let_go, fewer-none, fewer-pin, fewer-slots, fewer-unpin, Harmless, LessRecord, NearAt, record-none, record-slots, spares-harmless, Spares}
 use Rattle.qo_sound_claims.proofs.ReadLemmas.{realized-at}
 use Rattle.qo_sound_claims.proofs.SlotLemmas.{is_memdev, less-added, less-pointed, less-set, lit_in, OtherName}
 
@@ -113,7 +113,7 @@ module _ (b : Board) (n i : ℕ) (own : List ℕ) (s left : Slot)
       let there : slot_at b n i ≡ Some s = ap (option_map (λ (x : List ℕ × Slot). x.1)) at in
       rw (relinked, there) (fewer-after false b (held s) (pointed_at target n i (drop_slot b n i)) (pointed-fewer target))
 
-write-fewer : (b : Board) (n : ℕ) (name : List ℕ) (v : Val) → Fewer false b (behind_write b (write b n name v))
+write-fewer : (b : Board) (n : ℕ) (name : List ℕ) (v : Val) → Fewer false b (after_write b (write b n name v))
 write-fewer b n name v = write-comes (Fewer false b) b (fewer-none false b) n name v (λ i t p kind e may.
     let other : Unclaimed name = set-other t name (may-set t name p e may) in
     record {
@@ -226,7 +226,8 @@ added-fewer b t id props dark None = with_object-fewer b t id props dark
 
 object_add-fewer : (b : Board) (driver id : List ℕ) (props : List Given) → Fewer false b (object_add b driver id props).board
 object_add-fewer b driver id props =
-    addition-comes (Fewer false b) b driver id props (fewer-none false b) (λ row e o is. added-fewer b row.id id props (created-dark row.id (creatable b row id e)) o)
+    addition-comes (Fewer false b) b driver id props (fewer-none false b)
+    (λ row e o is. added-fewer b row.id id props (created-dark row.id (creatable b row id e)) o)
 
 pub changed-fewer : (b : Board) → SoundDevices b → (change : Change) → Fewer false b (changed b change)
 changed-fewer b h (added driver id props) = object_add-fewer b driver id props

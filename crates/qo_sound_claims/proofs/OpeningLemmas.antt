@@ -7,8 +7,8 @@ use Rattle.qo_model.specs.Devices.{is_realized, is_true, plain_in}
 use Rattle.qo_model.specs.Opening.{opening_board}
 use Rattle.qo_model.specs.Paths.{is_of}
 use Rattle.qo_model.specs.Types.{types}
-use Rattle.qo_model.proofs.FirstLemmas.{named_in}
-use Rattle.qo_sound.proofs.FoundLemmas.{all-found}
+use Rattle.qo_model.proofs.FirstSlotLemmas.{named_in}
+use Rattle.qo_sound.proofs.SearchLemmas.{all-found}
 use Rattle.qo_sound_claims.specs.SoundClaims.{SoundClaims}
 use Rattle.qo_sound_claims.specs.SoundRings.{SoundRings}
 

@@ -7,7 +7,7 @@ use Rattle.std.specs.Str.{bytes_eq}
 use Rattle.std.proofs.lemmas.Bool.{and_parts, eqb-true, eq-eqb, not-true, not-false}
 use Rattle.std.proofs.lemmas.Option.{same_Some}
 use Rattle.std.proofs.lemmas.Slice.Eq.{bytes_eq-Decides}
-use Rattle.qo_values.specs.Placing.{fits_at, is_in_window, overlap, overlaps_any, place_of, range_at, window_size, window_start}
+use Rattle.qo_values.specs.Placing.{fits_at, is_in_window, overlap, overlaps_any, free_address, range_at, window_size, window_start}
 use Rattle.qo_values.specs.Registers.{dimm}
 use Rattle.qo_values.specs.declared.codes.Code.{Code}
 use Rattle.qo_values.specs.declared.codes.Code.TheVariants.{E19, E36, E37, E38, E39, E40, E41}
@@ -22,26 +22,26 @@ use Rattle.qo_model.specs.Devices.{is_realized, number_at, number_in, plain_in, 
 use Rattle.qo_model.specs.Objects.{Given, given_to, refusal_by, refusal_of, slot_given, target_given}
 use Rattle.qo_model.specs.Paths.{is_of}
 use Rattle.qo_model.specs.Plug.{Spot, Wanted, at_stage, backend_of, barred_late, claims_ring, code_in, dimms, first_of, has_backend, has_ring, is_dimm, kind_barred, notice_barred, number_for, ok_in, place_barred, plug, plug_attempt, range_barred, range_for, range_in, range_of, ranges_of, realize_barred, ring_barred, size_of, spot_of, target_for, text_for, with_plugged}
-use Rattle.qo_model.specs.Properties.{link_target, row_of_property}
+use Rattle.qo_model.specs.Properties.{link_target, property_named}
 use Rattle.qo_model.specs.Types.{is_a, slots_of, types}
 use Rattle.qo_model.proofs.StepLemmas.{found_at, found-birth}
-use Rattle.qo_sound.specs.Kept.{SoundTree}
+use Rattle.qo_sound.specs.TreeKept.{SoundTree}
 use Rattle.qo_sound.proofs.AddLemmas.{unbarred}
-use Rattle.qo_sound.proofs.DevicesStayLemmas.{devices_stay_lem}
+use Rattle.qo_sound.proofs.DeviceScopeLemmas.{devices_stay_lem}
 use Rattle.qo_sound.proofs.PlugLemmas.{or-none, plugged-rest, shut-above, least-passes, stage-none}
 use Rattle.qo_sound.proofs.TargetLemmas.{FitsResult, target-fits}
 use Rattle.qo_sound.proofs.ViewLemmas.{AtRest, rest-from_sound, sound-from_rest}
 use Rattle.qo_sound_devices.specs.SoundDevices.{SoundDevices}
-use Rattle.qo_sound_devices.proofs.AcceptedLemmas.{Passes, passes}
-use Rattle.qo_sound_devices.proofs.PlugLemmas.{Accepted, behind-plug}
-use Rattle.qo_sound_devices.proofs.PluggedLemmas.{accepted-joined}
-use Rattle.qo_sound_clocks.proofs.PluggedLemmas.{absent-above}
+use Rattle.qo_sound_devices.proofs.AcceptanceLemmas.{Passes, passes}
+use Rattle.qo_sound_devices.proofs.PlugLemmas.{Accepted, after-plug}
+use Rattle.qo_sound_devices.proofs.PlugStageLemmas.{accepted-joined}
+use Rattle.qo_sound_clocks.proofs.PlugStageLemmas.{absent-above}
 use Rattle.qo_sound_claims.specs.SoundBackends.{SoundBackends}
 use Rattle.qo_sound_claims.specs.SoundClaims.{HasRange, is_dimm_on, is_uart_on, NamesRing, StandsOn}
 use Rattle.qo_sound_claims.specs.SoundRings.{AreGoodRings}
-use Rattle.qo_sound_claims.proofs.GrowingLemmas.{Growing, growing-all}
-use Rattle.qo_sound_claims.proofs.KeptLemmas.{backend-before, dimm-before, dimm-of, memory-same, Old, one_uart-old, ranges-old, rings-old, stands-before, uart-before}
-use Rattle.qo_sound_claims.proofs.OwnLemmas.{Apart, first_row, own-addr, own-is, own-range}
+use Rattle.qo_sound_claims.proofs.GrowthLemmas.{Growing, growing-all}
+use Rattle.qo_sound_claims.proofs.ClaimLemmas.{backend-before, dimm-before, dimm-of, memory-same, Old, one_uart-old, ranges-old, rings-old, stands-before, uart-before}
+use Rattle.qo_sound_claims.proofs.ClaimValueLemmas.{Apart, first_row, own-addr, own-is, own-range}
 use Rattle.qo_sound_claims.proofs.ReadLemmas.{at-backend, kind-at, target-there}
 use Rattle.qo_sound_claims.proofs.RingLemmas.{claims-it}
 use Rattle.qo_sound_claims.proofs.SlotLemmas.{is_memdev}
@@ -90,20 +90,20 @@ dimm-only Tag e = absurd (let clash : false ≡ true = e in cc)
 -- what was given fits
 
 given-fits : (b : Board) (t : TypeId) (name : List ℕ) (props : List Given) → refusal_of b t props ≡ None → (p : Given)
-    → find (λ (q : Given). bytes_eq q.0 name) props ≡ Some p → refusal_by b (row_of_property t name) p.1 ≡ None
+    → find (λ (q : Given). bytes_eq q.0 name) props ≡ Some p → refusal_by b (property_named t name) p.1 ≡ None
 given-fits b t name [] e p k = cc
 given-fits b t name (q ∷ props) e p k =
-    go (refusal_by b (row_of_property t q.0) q.1) refl (bytes_eq q.0 name) refl (given-fits b t name props)
+    go (refusal_by b (property_named t q.0) q.1) refl (bytes_eq q.0 name) refl (given-fits b t name props)
   where
-    go : (o : Option Code) → refusal_by b (row_of_property t q.0) q.1 ≡ o → (u : Bool) → bytes_eq q.0 name ≡ u
+    go : (o : Option Code) → refusal_by b (property_named t q.0) q.1 ≡ o → (u : Bool) → bytes_eq q.0 name ≡ u
         → (refusal_of b t props ≡ None → (r : Given) → find (λ (s : Given). bytes_eq s.0 name) props ≡ Some r
-        → refusal_by b (row_of_property t name) r.1 ≡ None)
-        → refusal_by b (row_of_property t name) p.1 ≡ None
+        → refusal_by b (property_named t name) r.1 ≡ None)
+        → refusal_by b (property_named t name) p.1 ≡ None
     go (Some code) r u l rest = absurd (let clash : Some code ≡ None = rw (refusal_of, r) at e in cc)
     go None r true l rest =
         let is : q ≡ p = same_Some q p (rw l at k) in
-        ap (λ (own : List ℕ). refusal_by b (row_of_property t own) p.1) (sym ((bytes_eq-Decides q.0 name).0 l) ∙ ap (λ (x : Given). x.0) is)
-        ∙ ap (λ (x : Given). refusal_by b (row_of_property t x.0) x.1) (sym is)
+        ap (λ (own : List ℕ). refusal_by b (property_named t own) p.1) (sym ((bytes_eq-Decides q.0 name).0 l) ∙ ap (λ (x : Given). x.0) is)
+        ∙ ap (λ (x : Given). refusal_by b (property_named t x.0) x.1) (sym is)
         ∙ r
     go None r false l rest = rest (rw (refusal_of, r) at e) p (rw l at k)
 
@@ -113,7 +113,7 @@ record IsText (v : Val) : Type 0 where
   text : List ℕ
   is : v ≡ val.Text text
 
-uart-text : (b : Board) (v : Val) → refusal_by b (row_of_property SlotUart (codes "chardev")) v ≡ None → IsText v
+uart-text : (b : Board) (v : Val) → refusal_by b (property_named SlotUart (codes "chardev")) v ≡ None → IsText v
 unfolding types
 uart-text b (val.Text text) e = record { text = text; is = refl }
 uart-text b (val.Bool v) e = absurd (let clash : Some E19 ≡ None = e in cc)
@@ -149,7 +149,7 @@ admitted : (t : Bool) → (if t then None else Some E19) ≡ None → t ≡ true
 admitted true e = refl
 admitted false e = absurd (let clash : Some E19 ≡ None = e in cc)
 
-dimm-addr : (b : Board) (v : Val) → refusal_by b (row_of_property MemDimm (codes "addr")) v ≡ None → IsAligned v
+dimm-addr : (b : Board) (v : Val) → refusal_by b (property_named MemDimm (codes "addr")) v ≡ None → IsAligned v
 unfolding types
 dimm-addr b (val.Uint at) e =
     let passes : (nat_le 0 at && nat_le at 18446744073709551615 && (at % DIMM_ALIGN == 0)) ≡ true = admitted _ e in
@@ -202,9 +202,9 @@ range-given b at size g aligned e = go (is_in_window (range_at at size) && not (
     go false p = absurd (let clash : Err E40 ≡ Ok g = rw p at e in cc)
 
 range-found : (b : Board) (size : ℕ) (g : Range) → range_for b None size ≡ Ok g → RangeFits b size g
-range-found b size g e = go (place_of (ranges_of b) size DIMM_ALIGN) refl
+range-found b size g e = go (free_address (ranges_of b) size DIMM_ALIGN) refl
   where
-    go : (o : Option ℕ) → place_of (ranges_of b) size DIMM_ALIGN ≡ o → RangeFits b size g
+    go : (o : Option ℕ) → free_address (ranges_of b) size DIMM_ALIGN ≡ o → RangeFits b size g
     go None p = absurd (let clash : Err E41 ≡ Ok g = rw (range_for, p) at e in cc)
     go (Some at) p =
         let is : range_at at size ≡ g = same_ok (range_at at size) g (rw (range_for, p) at e) in
@@ -678,5 +678,5 @@ module _ (b : Board) (a : Wanted) (devices : SoundDevices b) (h : SoundBackends 
 
 pub plugged-backends : (b : Board) (a : Wanted) → SoundDevices b → SoundBackends b → SoundBackends (plug b a).board
 plugged-backends b a devices h =
-    behind-plug SoundBackends b a h (λ t bus stage. backends-beside b (plug_attempt b t bus stage) refl refl h)
+    after-plug SoundBackends b a h (λ t bus stage. backends-beside b (plug_attempt b t bus stage) refl refl h)
     (λ t bus k. added-backends b a devices h t bus k)

@@ -12,13 +12,13 @@ use Rattle.qo_model.specs.Devices.{is_realized, is_true, plain_at, plain_in, str
 use Rattle.qo_model.specs.Paths.{is_of}
 use Rattle.qo_model.specs.Plug.{backend_of}
 use Rattle.qo_model.specs.Types.{is_a}
-use Rattle.qo_model.proofs.FirstLemmas.{slots_in, named_in}
-use Rattle.qo_sound.specs.Kept.{SoundTree}
-use Rattle.qo_sound.proofs.FirmLemmas.{FitsKind, HasNames, Linked}
-use Rattle.qo_sound.proofs.FoundLemmas.{all-found}
+use Rattle.qo_model.proofs.FirstSlotLemmas.{slots_in, named_in}
+use Rattle.qo_sound.specs.TreeKept.{SoundTree}
+use Rattle.qo_sound.proofs.FirmBoardLemmas.{FitsKind, HasNames, Linked}
+use Rattle.qo_sound.proofs.SearchLemmas.{all-found}
 use Rattle.qo_sound.proofs.SlotLemmas.{names_in}
 use Rattle.qo_sound.proofs.ViewLemmas.{rest-from_sound}
-use Rattle.qo_sound_clocks.proofs.LessLemmas.{is_target, plain_of, Slots}
+use Rattle.qo_sound_clocks.proofs.SlotLemmas.{is_target, plain_of, Slots}
 use Rattle.qo_sound_clocks.proofs.ReadLemmas.{tree-named, target-seen, seen-target, plain-read}
 use Rattle.qo_sound_claims.proofs.SlotLemmas.{is_memdev, lit_in, Names, points, points_it}
 

@@ -18,7 +18,7 @@ use Rattle.qo_sound_claims.specs.ClaimsKept.{ring_frame}
 use Rattle.qo_sound_claims.specs.SoundBackends.{SoundBackends}
 use Rattle.qo_sound_claims.specs.SoundClaims.{is_uart_on, SoundClaims}
 use Rattle.qo_sound_claims.specs.SoundRings.{IsGoodRing, ring_ids}
-use Rattle.qo_sound_claims.proofs.BesideLemmas.{moved-claims}
+use Rattle.qo_sound_claims.proofs.DependenceLemmas.{moved-claims}
 use Rattle.qo_sound_claims.proofs.ReadLemmas.{kind-at}
 
 -- claims with other rings, where those that are named are still there

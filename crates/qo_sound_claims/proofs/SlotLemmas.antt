@@ -15,7 +15,7 @@ use Rattle.qo_model.specs.Release.{forgotten_in, without_hold}
 use Rattle.qo_model.specs.Unplug.{unseen}
 use Rattle.qo_sound.proofs.ReadLemmas.{plain-forgotten, strong-forgotten, plain-unseen, strong-unseen, plain-pointed}
 use Rattle.qo_sound.proofs.SlotLemmas.{each_slot}
-use Rattle.qo_sound_clocks.proofs.LessLemmas.{is_target, plain_named, plain_of, Slots, or-less, absent, plain-each, plain-dropped, plain-changed, plain-apart, plain-taken}
+use Rattle.qo_sound_clocks.proofs.SlotLemmas.{is_target, plain_named, plain_of, Slots, or-less, absent, plain-each, plain-dropped, plain-changed, plain-apart, plain-taken}
 
 -- strong links under names that pass, to k
 abbrev pub Names : Type 0
@@ -293,7 +293,7 @@ less-filled is_dimm g same i xs x e other =
       strongs = λ k d q. absurd (let clash : false ≡ true = d in cc);
     }
 
--- a slot more behind the others
+-- a slot more after the others
 
 pub plain-added : (name own : List ℕ) (t : Slot) → plain_in t ≡ None → (xs : Slots) → plain_of name (xs ++ (own, t) ∷ []) ≡ plain_of name xs
 plain-added name own t none [] = rw none (absent (bytes_eq own name) None)

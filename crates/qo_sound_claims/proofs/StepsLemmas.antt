@@ -16,31 +16,31 @@ use Rattle.qo_model.specs.Clocks.{acted, source_of}
 use Rattle.qo_model.specs.Depth.{among}
 use Rattle.qo_model.specs.FinalNotesRuns.{Change, changed}
 use Rattle.qo_model.specs.Hotplug.{all_completed, asked, asked_of, completed, device_at, reset_whole}
-use Rattle.qo_model.specs.Objects.{place_from}
+use Rattle.qo_model.specs.Objects.{index_from}
 use Rattle.qo_model.specs.Paths.{attached}
 use Rattle.qo_model.specs.Plug.{notice_barred, range_in}
 use Rattle.qo_model.specs.Release.{without_first}
 use Rattle.qo_model.specs.Reset.{held, is_out, phased, post, pulse, released}
 use Rattle.qo_model.specs.Types.{is_a}
 use Rattle.qo_model.specs.Unplug.{detach, first_of, is_named, set_named}
-use Rattle.qo_model.proofs.StaysLemmas.{stays_lem}
-use Rattle.qo_sound.proofs.DevicesStayLemmas.{devices_stay_lem}
+use Rattle.qo_model.proofs.ChangeScopeLemmas.{stays_lem}
+use Rattle.qo_sound.proofs.DeviceScopeLemmas.{devices_stay_lem}
 use Rattle.qo_sound_devices.specs.SoundDevices.{SoundDevices}
 use Rattle.qo_sound_devices.specs.SoundLists.{IsOn}
 use Rattle.qo_sound_devices.specs.SoundPlaces.{stands}
 use Rattle.qo_sound_devices.proofs.DevicesLawLemmas.{devices_kept_lem}
 use Rattle.qo_sound_clocks.proofs.BecomesLemmas.{Becomes, written-becomes, uart_to, timer_to, dimm_stays, bridge_to}
-use Rattle.qo_sound_clocks.specs.RegistersKept.{registers_set, with_registers}
-use Rattle.qo_sound_clocks.proofs.KeepLemmas.{writes_keep_lem}
+use Rattle.qo_sound_clocks.specs.RegisterWrites.{registers_set, with_registers}
+use Rattle.qo_sound_clocks.proofs.WriteLawLemmas.{writes_keep_lem}
 use Rattle.qo_sound_clocks.proofs.RegisterLemmas.{registers_kept_lem}
 use Rattle.qo_sound_clocks.proofs.StepsLemmas.{kept-written, calls-kept}
 use Rattle.qo_sound_claims.specs.SoundBackends.{SoundBackends}
 use Rattle.qo_sound_claims.specs.SoundRings.{AreGoodRings}
-use Rattle.qo_sound_claims.proofs.BesideLemmas.{claims-beside}
+use Rattle.qo_sound_claims.proofs.DependenceLemmas.{claims-beside}
 use Rattle.qo_sound_claims.proofs.CommandLemmas.{changed-fewer}
-use Rattle.qo_sound_claims.proofs.DetachLemmas.{detach-fewer}
-use Rattle.qo_sound_claims.proofs.FewerLemmas.{Fewer, fewer-acted, fewer-edit, fewer-loose, fewer-none, fewer-phased, fewer-set}
-use Rattle.qo_sound_claims.proofs.KeptLemmas.{claims-fewer}
+use Rattle.qo_sound_claims.proofs.DetachmentLemmas.{detach-fewer}
+use Rattle.qo_sound_claims.proofs.DecreaseLemmas.{Fewer, fewer-acted, fewer-edit, fewer-loose, fewer-none, fewer-phased, fewer-set}
+use Rattle.qo_sound_claims.proofs.ClaimLemmas.{claims-fewer}
 use Rattle.qo_sound_claims.proofs.SlotLemmas.{less-none, OtherName}
 
 -- neither objects nor rings change
@@ -128,9 +128,9 @@ goes-acted b act n period c h =
 goes-set : (b : Board) (n : ℕ) (name : List ℕ) (v : ℕ) → OtherName name → (c : Board) → Goes b c → Goes b (set_named n name (val.Uint v) c)
 unfolding set
 goes-set b n name v other c h =
-    record { fewer = fewer-set false b n name (val.Uint v) other (inl refl) c h.fewer; rings = go (place_from (is_named name) 0 (slots_at c n)) refl }
+    record { fewer = fewer-set false b n name (val.Uint v) other (inl refl) c h.fewer; rings = go (index_from (is_named name) 0 (slots_at c n)) refl }
   where
-    go : (o : Option ℕ) → place_from (is_named name) 0 (slots_at c n) ≡ o → (set_named n name (val.Uint v) c).rings ≡ b.rings
+    go : (o : Option ℕ) → index_from (is_named name) 0 (slots_at c n) ≡ o → (set_named n name (val.Uint v) c).rings ≡ b.rings
     go None e = rw (set_named, e) h.rings
     go (Some i) e = rw (set_named, e) h.rings
 

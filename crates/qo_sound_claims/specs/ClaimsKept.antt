@@ -16,7 +16,7 @@ use Rattle.qo_model.specs.Opening.{opening_board}
 use Rattle.qo_model.specs.Plug.{Wanted, claims_ring, cut_attempt, has_ring, plug, plug_attempt}
 use Rattle.qo_model.specs.Reset.{held, pulse, released}
 use Rattle.qo_model.specs.Unplug.{detach}
-use Rattle.qo_sound_clocks.specs.RegistersKept.{registers_set}
+use Rattle.qo_sound_clocks.specs.RegisterWrites.{registers_set}
 use Rattle.qo_sound_devices.specs.SoundDevices.{SoundDevices}
 use Rattle.qo_sound_devices.specs.SoundPlaces.{stands}
 use Rattle.qo_sound_claims.specs.SoundBackends.{SoundBackends}

@@ -8,10 +8,10 @@ ghost use Rattle.qo_sound_claims.specs.ClaimsKept.{ClaimsKeptLaw};
 /// Each realized UART names a ring that is there, or none, and no two name the same. Each realized DIMM
 /// stands on a range of the window, at its address and as long as its memory backend; no two stand on
 /// one backend, and no two ranges overlap. The ids of rings differ, each has a size that the profile
-/// allows, and holds no more bytes. So it is on the opening board, behind what changes neither objects
-/// nor rings, and behind a ring that is added under a new id, that is removed while no realized UART
+/// allows, and holds no more bytes. So it is on the opening board, after what changes neither objects
+/// nor rings, and after a ring that is added under a new id, that is removed while no realized UART
 /// names it, or that gets other bytes. Where devices, the tree and the lists are sound too, it is so
-/// behind a guest's write to a register, acts and holds, a write of a clock, each command on objects, a
+/// after a guest's write to a register, acts and holds, a write of a clock, each command on objects, a
 /// device that is added or refused at any stage, one that is detached, and the reset of the whole board.
 #[tactic(auto, using(crate::proofs::LawLemmas::claims_kept_lem))]
 pub fn law_claims_kept()

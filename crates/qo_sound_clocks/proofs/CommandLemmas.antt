@@ -11,33 +11,33 @@ use Rattle.qo_values.specs.declared.kinds.TypeId.TheVariants.{Object, Container,
 use Rattle.qo_values.specs.declared.properties.Val.{Val}
 use Rattle.qo_model.specs.Board.{Board, Record, Slot, plain, child, record_of, slot_at, slots_at, held}
 use Rattle.qo_model.specs.Changes.{point, pointed, set, with_added, with_changed, with_val}
-use Rattle.qo_model.specs.FinalNotesRuns.{Change, added, deleted, wrote, severed, behind_write, changed}
+use Rattle.qo_model.specs.FinalNotesRuns.{Change, added, deleted, wrote, severed, after_write, changed}
 use Rattle.qo_model.specs.Objects.{Given, added_as, object_add, object_del, sever, severed_from, with_object}
 use Rattle.qo_model.specs.Opening.{fresh_slots}
-use Rattle.qo_model.specs.Properties.{may_set, pointed_at, relinked, row_of_property, write}
+use Rattle.qo_model.specs.Properties.{may_set, pointed_at, relinked, property_named, write}
 use Rattle.qo_model.specs.Release.{drop_slot, edited, emptied, pin}
 use Rattle.qo_model.specs.Types.{is_a, types}
 use Rattle.qo_model.specs.declared.properties.Property.{Property}
 use Rattle.qo_model.proofs.ComesToLemmas.{addition-comes, deletion-comes, sever-comes, severed-comes}
-use Rattle.qo_model.proofs.FirstLemmas.{slots_in}
+use Rattle.qo_model.proofs.FirstSlotLemmas.{slots_in}
 use Rattle.qo_model.proofs.StepLemmas.{found-edited, found_at}
-use Rattle.qo_sound.specs.Kept.{SoundTree}
+use Rattle.qo_sound.specs.TreeKept.{SoundTree}
 use Rattle.qo_sound.proofs.AddLemmas.{creatable, made}
-use Rattle.qo_sound.proofs.FoundLemmas.{found-append}
-use Rattle.qo_sound.proofs.KeptLemmas.{sound_kept_lem}
+use Rattle.qo_sound.proofs.SearchLemmas.{found-append}
+use Rattle.qo_sound.proofs.TreeKeptLemmas.{sound_kept_lem}
 use Rattle.qo_sound.proofs.ReadLemmas.{dropped-at}
 use Rattle.qo_sound.proofs.SlotLemmas.{kept-slot}
 use Rattle.qo_model.proofs.WrittenLemmas.{write-comes}
-use Rattle.qo_sound_clocks.proofs.FewerLemmas.{edit-less, Fewer, fewer-after, fewer-drop, fewer-edit, fewer-let_go, fewer-none, fewer-pin, fewer-unpin}
-use Rattle.qo_sound_clocks.proofs.LessLemmas.{Less, less-blank, less-added, less-none, less-pointed, less-set, OtherName, Slots}
-use Rattle.qo_sound_clocks.proofs.QuietLemmas.{Quiet, quiet-all_given, quiet-blank}
+use Rattle.qo_sound_clocks.proofs.DecreaseLemmas.{edit-less, Fewer, fewer-after, fewer-drop, fewer-edit, fewer-let_go, fewer-none, fewer-pin, fewer-unpin}
+use Rattle.qo_sound_clocks.proofs.SlotLemmas.{Less, less-blank, less-added, less-none, less-pointed, less-set, OtherName, Slots}
+use Rattle.qo_sound_clocks.proofs.QuietSlotLemmas.{Quiet, quiet-all_given, quiet-blank}
 use Rattle.qo_sound_clocks.proofs.ReadLemmas.{tree-reads}
-use Rattle.qo_sound_clocks.proofs.StayLemmas.{KeptByFewer}
+use Rattle.qo_sound_clocks.proofs.DependenceLemmas.{KeptByFewer}
 
 -- no property of a clock is written by `qom-set` yet
 
 abbrev pub MaySet : TypeId → List ℕ → Bool
-MaySet t name = option_map_or (λ (p : Property). may_set p.mark) (row_of_property t name) false
+MaySet t name = option_map_or (λ (p : Property). may_set p.mark) (property_named t name) false
 
 record NeverSet (t : TypeId) : Type 0 where
   period : MaySet t (codes "period") ≡ false
@@ -85,7 +85,7 @@ set-other t name e =
     n = never-set t
 
 -- the row of a property that may be set says so
-pub may-set : (t : TypeId) (name : List ℕ) (p : Property) → row_of_property t name ≡ Some p → may_set p.mark ≡ true → MaySet t name ≡ true
+pub may-set : (t : TypeId) (name : List ℕ) (p : Property) → property_named t name ≡ Some p → may_set p.mark ≡ true → MaySet t name ≡ true
 may-set t name p e may = ap (λ (o : Option Property). option_map_or (λ (x : Property). may_set x.mark) o false) e ∙ may
 
 -- the slot that is written
@@ -115,7 +115,7 @@ module _ (b : Board) (n i : ℕ) (own : List ℕ) (s left : Slot)
       let there : slot_at b n i ≡ Some s = ap (option_map (λ (x : List ℕ × Slot). x.1)) at in
       rw (relinked, there) (fewer-after b (held s) (pointed_at target n i (drop_slot b n i)) (pointed-fewer target))
 
-write-fewer : (b : Board) (n : ℕ) (name : List ℕ) (v : Val) → Fewer b (behind_write b (write b n name v))
+write-fewer : (b : Board) (n : ℕ) (name : List ℕ) (v : Val) → Fewer b (after_write b (write b n name v))
 write-fewer b n name v = write-comes (Fewer b) b (fewer-none b) n name v (λ i t p kind e may.
     let other : OtherName name = set-other t name (may-set t name p e may) in
     record {

@@ -5,10 +5,10 @@ use Rattle.qo_sound.proofs.QuietStepsLemmas.{quiet-asked, quiet-held, quiet-puls
 use Rattle.qo_sound_clocks.specs.ClocksKept.{ClocksKeptLaw}
 use Rattle.qo_sound_clocks.specs.SoundClocks.{SoundClocks}
 use Rattle.qo_sound_clocks.proofs.CommandLemmas.{kept-change}
-use Rattle.qo_sound_clocks.proofs.GrownLemmas.{fewer-sound, same-sound}
+use Rattle.qo_sound_clocks.proofs.GrowthLemmas.{fewer-sound, same-sound}
 use Rattle.qo_sound_clocks.proofs.OpeningLemmas.{opening-clocks}
-use Rattle.qo_sound_clocks.proofs.PluggedLemmas.{plug-clocks}
-use Rattle.qo_sound_clocks.proofs.StayLemmas.{kept-acted, kept-beside, kept-detach, kept-reset, KeptByFewer}
+use Rattle.qo_sound_clocks.proofs.PlugStageLemmas.{plug-clocks}
+use Rattle.qo_sound_clocks.proofs.DependenceLemmas.{kept-acted, kept-beside, kept-detach, kept-reset, KeptByFewer}
 use Rattle.qo_sound_clocks.proofs.WriteLemmas.{scaled-clocks, set-clocks}
 
 fewer-clocks : KeptByFewer SoundClocks

@@ -19,7 +19,7 @@ use Rattle.qo_model.specs.Unplug.{set_named}
 use Rattle.qo_model.proofs.FinalNotesGrowthLemmas.{act-keeps}
 use Rattle.qo_model.proofs.FinalNotesLemmas.{edit-kind, kind-live, same-keep}
 use Rattle.qo_model.proofs.StepLemmas.{found_at}
-use Rattle.qo_sound.proofs.MakeStepsLemmas.{step-set}
+use Rattle.qo_sound.proofs.AdditionStepsLemmas.{step-set}
 use Rattle.qo_sound.proofs.NotesKeptLemmas.{notes-edits}
 use Rattle.qo_sound_clocks.proofs.StepsLemmas.{same_ok}
 

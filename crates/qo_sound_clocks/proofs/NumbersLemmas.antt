@@ -17,19 +17,19 @@ use Rattle.qo_model.specs.Opening.{opening_board}
 use Rattle.qo_model.specs.Plug.{Spot, Wanted, plug, plug_attempt, source_for, with_plugged}
 use Rattle.qo_model.specs.Types.{is_a, types}
 use Rattle.qo_model.specs.Unplug.{set_named}
-use Rattle.qo_model.proofs.FirstLemmas.{slots_in}
-use Rattle.qo_sound.specs.Kept.{SoundTree}
-use Rattle.qo_sound.proofs.FoundLemmas.{all-found}
-use Rattle.qo_sound.proofs.KeptLemmas.{sound_kept_lem}
+use Rattle.qo_model.proofs.FirstSlotLemmas.{slots_in}
+use Rattle.qo_sound.specs.TreeKept.{SoundTree}
+use Rattle.qo_sound.proofs.SearchLemmas.{all-found}
+use Rattle.qo_sound.proofs.TreeKeptLemmas.{sound_kept_lem}
 use Rattle.qo_sound.proofs.QuietStepsLemmas.{quiet-asked, quiet-held, quiet-pulse, quiet-released}
 use Rattle.qo_sound_clocks.specs.NumbersKept.{NumbersKeptLaw}
 use Rattle.qo_sound_clocks.specs.SoundNumbers.{NumbersFit, SoundNumbers}
 use Rattle.qo_sound_clocks.proofs.CommandLemmas.{kept-change}
-use Rattle.qo_sound_clocks.proofs.LessLemmas.{Blank, div_in, Less, mul_in, own_in, Slots}
+use Rattle.qo_sound_clocks.proofs.SlotLemmas.{Blank, div_in, Less, mul_in, own_in, Slots}
 use Rattle.qo_sound_clocks.proofs.PlugLemmas.{Growing}
-use Rattle.qo_sound_clocks.proofs.PluggedLemmas.{growing, kept-plug}
+use Rattle.qo_sound_clocks.proofs.PlugStageLemmas.{growing, kept-plug}
 use Rattle.qo_sound_clocks.proofs.ReadLemmas.{Reads, tree-reads}
-use Rattle.qo_sound_clocks.proofs.StayLemmas.{kept-acted, kept-beside, kept-detach, kept-reset, KeptByFewer}
+use Rattle.qo_sound_clocks.proofs.DependenceLemmas.{kept-acted, kept-beside, kept-detach, kept-reset, KeptByFewer}
 use Rattle.qo_sound_clocks.proofs.StepsLemmas.{kept-written, calls-kept}
 use Rattle.qo_sound_clocks.proofs.WriteLemmas.{IsSetAt, number-at, number-here, plain_at_name, set-at}
 

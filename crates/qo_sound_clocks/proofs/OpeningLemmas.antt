@@ -10,11 +10,11 @@ use Rattle.qo_model.specs.Clocks.{child_period, div_of, mul_of, own_period, scal
 use Rattle.qo_model.specs.Devices.{number_in, plain_in}
 use Rattle.qo_model.specs.Opening.{opening_board}
 use Rattle.qo_model.specs.Types.{types}
-use Rattle.qo_model.proofs.FirstLemmas.{named_in}
+use Rattle.qo_model.proofs.FirstSlotLemmas.{named_in}
 use Rattle.qo_model.proofs.PeriodLemmas.{period-own}
-use Rattle.qo_sound.proofs.FoundLemmas.{all-found}
+use Rattle.qo_sound.proofs.SearchLemmas.{all-found}
 use Rattle.qo_sound_clocks.specs.SoundClocks.{SoundClocks}
-use Rattle.qo_sound_clocks.proofs.LessLemmas.{Slots}
+use Rattle.qo_sound_clocks.proofs.SlotLemmas.{Slots}
 
 abbrev source_in : Slots → Option ℕ
 source_in xs = option_and_then weak_in (named_in (codes "source") xs)

@@ -20,25 +20,25 @@ use Rattle.qo_model.specs.Devices.{child_named, clock_of, kid_name, plain_in}
 use Rattle.qo_model.specs.Objects.{Given, slot_given}
 use Rattle.qo_model.specs.Opening.{first_value, fresh_record, fresh_slots}
 use Rattle.qo_model.specs.Paths.{canonical, is_of, only_of}
-use Rattle.qo_model.specs.Plug.{Spot, Wanted, acted_all, addressed_at, aliased, bus_births, clocked, counted, drafted, fitted, link_named, name_for, owned, parent_for, row_made, rows_made, source_for, stood, with_body_of, with_device, with_given, with_new, with_path, with_plugged, with_source}
+use Rattle.qo_model.specs.Plug.{Spot, Wanted, acted_all, addressed_at, aliased, bus_births, clocked, counted, drafted, fitted, link_named, name_for, owned, parent_for, property_made, properties_made, source_for, stood, with_body_of, with_device, with_given, with_new, with_path, with_plugged, with_source}
 use Rattle.qo_model.specs.Release.{edit, edited}
 use Rattle.qo_model.specs.Reset.{plugged, post}
 use Rattle.qo_model.specs.RowNames.{property_name}
 use Rattle.qo_model.specs.Types.{is_a, slots_of, types}
 use Rattle.qo_model.specs.Unplug.{set_named}
 use Rattle.qo_model.specs.declared.properties.Property.{Property}
-use Rattle.qo_model.specs.declared.properties.RowKind.{RowKind}
-use Rattle.qo_model.specs.declared.properties.RowKind.TheVariants as row
-use Rattle.qo_model.proofs.FirstLemmas.{slots_in}
+use Rattle.qo_model.specs.declared.properties.PropertyRole.{PropertyRole}
+use Rattle.qo_model.specs.declared.properties.PropertyRole.TheVariants as row
+use Rattle.qo_model.proofs.FirstSlotLemmas.{slots_in}
 use Rattle.qo_model.proofs.StepLemmas.{found-edited, found_at, found-birth}
-use Rattle.qo_sound.proofs.FoundLemmas.{found-append}
-use Rattle.qo_sound.proofs.GivenLemmas.{given-cases}
-use Rattle.qo_sound.proofs.MakeStepsLemmas.{all-any, KeepsActs, link-by, set-by, stand-by, step-acted_all, step-plugged}
+use Rattle.qo_sound.proofs.SearchLemmas.{found-append}
+use Rattle.qo_sound.proofs.GivenPropertyLemmas.{given-cases}
+use Rattle.qo_sound.proofs.AdditionStepsLemmas.{all-any, KeepsActs, link-by, set-by, stand-by, step-acted_all, step-plugged}
 use Rattle.qo_sound.proofs.ReadLemmas.{plain-fitted}
 use Rattle.qo_sound.proofs.RecordLemmas.{all-append, all-map}
-use Rattle.qo_sound_clocks.proofs.LessLemmas.{Blank, blank-none, div_in, is_target, Less, less-added, less-blank, less-none, less-then, mul_in, number-same, own_in, plain-changed, plain_of, sees, sees_it, Slots}
-use Rattle.qo_sound_clocks.proofs.QuietLemmas.{is_read, Quiet, quiet-blank, quiet-given}
-use Rattle.qo_sound_clocks.proofs.StayLemmas.{acted-slots}
+use Rattle.qo_sound_clocks.proofs.SlotLemmas.{Blank, blank-none, div_in, is_target, Less, less-added, less-blank, less-none, less-then, mul_in, number-same, own_in, plain-changed, plain_of, sees, sees_it, Slots}
+use Rattle.qo_sound_clocks.proofs.QuietSlotLemmas.{is_read, Quiet, quiet-blank, quiet-given}
+use Rattle.qo_sound_clocks.proofs.DependenceLemmas.{acted-slots}
 
 -- a slot of the new device: it is not read as a clock's, and a child is new
 
@@ -107,7 +107,7 @@ blank-fresh Tag = record { own = refl; mul = refl; div = refl; source = λ s. re
 
 abbrev pub RowQuiet : Property → Type 0
 RowQuiet p =
-    elim p.kind as (λ _. Type 0) [
+    elim p.role as (λ _. Type 0) [
       | row.Plain type first ↦ is_read (property_name p.name) ≡ false
       | row.Link t holds ↦ is_read (property_name p.name) ≡ false
       | _ ↦ ⊤
@@ -392,8 +392,8 @@ module _ (b : Board) (source : ℕ) where
       growing-own (with_added name s) (λ r. refl) (λ r k. all-append (NewSlot b.born) r.slots ((name, s) ∷ []) k (new, tt)) c h
 
   -- what is made
-  growing-row : (t : TypeId) (p : Property) → RowQuiet p → (c : Board) → Growing c → Growing (row_made n t (property_name p.name) p.kind c)
-  growing-row t p quiet c h = go p.kind refl
+  growing-row : (t : TypeId) (p : Property) → RowQuiet p → (c : Board) → Growing c → Growing (property_made n t (property_name p.name) p.role c)
+  growing-row t p quiet c h = go p.role refl
     where
       name : List ℕ
       name = property_name p.name
@@ -402,7 +402,7 @@ module _ (b : Board) (source : ℕ) where
       aliases property None = h
       aliases property (Some m) = growing-add_own name (alias m property) (tt, tt) c h
 
-      go : (kind : RowKind) → p.kind ≡ kind → Growing (row_made n t name kind c)
+      go : (kind : PropertyRole) → p.role ≡ kind → Growing (property_made n t name kind c)
       go (row.Plain type first) e = growing-add_own name (plain (first_value t first)) (rw e at quiet, tt) c h
       go (row.Link target true) e = growing-add_own name (strong target None) (tt, tt) c h
       go (row.Link target false) e = growing-add_own name (weak target None) (rw e at quiet, tt) c h
@@ -411,9 +411,9 @@ module _ (b : Board) (source : ℕ) where
           growing-add_own name (child (c.born + 1)) (tt, omega (arith, low)) (with_new (fresh_record (c.born + 1) k) c) (growing-new k c h)
       go (row.Alias owner of) e = aliases (property_name of) (owned c n (property_name owner))
 
-  pub growing-rows : (t : TypeId) (ps : List Property) → AllByRecursion RowQuiet ps → (c : Board) → Growing c → Growing (rows_made n t ps c)
+  pub growing-rows : (t : TypeId) (ps : List Property) → AllByRecursion RowQuiet ps → (c : Board) → Growing c → Growing (properties_made n t ps c)
   growing-rows t [] quiet c h = h
-  growing-rows t (p ∷ ps) quiet c h = growing-rows t ps quiet.1 (row_made n t (property_name p.name) p.kind c) (growing-row t p quiet.0 c h)
+  growing-rows t (p ∷ ps) quiet c h = growing-rows t ps quiet.1 (property_made n t (property_name p.name) p.role c) (growing-row t p quiet.0 c h)
 
   -- where it stands
   growing-set : (name : List ℕ) (v : Val) (c : Board) → Growing c → Growing (set_named n name v c)

@@ -10,13 +10,13 @@ use Rattle.qo_values.specs.declared.properties.Val.{Val}
 use Rattle.qo_model.specs.Board.{Board, Record, record_of, slots_at}
 use Rattle.qo_model.specs.Clocks.{div_of, mul_of, own_period, source_of, weak_in}
 use Rattle.qo_model.specs.Devices.{number_in, plain_in}
-use Rattle.qo_model.proofs.FirstLemmas.{slots_in, named_in}
-use Rattle.qo_sound.specs.Kept.{SoundTree}
-use Rattle.qo_sound.proofs.FirmLemmas.{HasNames}
-use Rattle.qo_sound.proofs.FoundLemmas.{all-found}
+use Rattle.qo_model.proofs.FirstSlotLemmas.{slots_in, named_in}
+use Rattle.qo_sound.specs.TreeKept.{SoundTree}
+use Rattle.qo_sound.proofs.FirmBoardLemmas.{HasNames}
+use Rattle.qo_sound.proofs.SearchLemmas.{all-found}
 use Rattle.qo_sound.proofs.SlotLemmas.{names_in}
 use Rattle.qo_sound.proofs.ViewLemmas.{AtRest, rest-from_sound}
-use Rattle.qo_sound_clocks.proofs.LessLemmas.{div_in, is_target, mul_in, own_in, plain_of, sees, sees_it, Slots}
+use Rattle.qo_sound_clocks.proofs.SlotLemmas.{div_in, is_target, mul_in, own_in, plain_of, sees, sees_it, Slots}
 
 -- a source is seen
 

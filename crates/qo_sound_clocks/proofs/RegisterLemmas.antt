@@ -4,22 +4,22 @@ use Rattle.qo_values.specs.Registers.{Registers}
 use Rattle.qo_model.specs.Board.{Board, record_of, slots_at}
 use Rattle.qo_model.specs.Release.{edited}
 use Rattle.qo_model.proofs.FinalNotesLemmas.{edit-keeps}
-use Rattle.qo_model.proofs.FirstLemmas.{slots_in}
+use Rattle.qo_model.proofs.FirstSlotLemmas.{slots_in}
 use Rattle.qo_model.proofs.StepLemmas.{found-edited, map-edited, slots-edited}
-use Rattle.qo_sound.specs.Kept.{SoundTree}
+use Rattle.qo_sound.specs.TreeKept.{SoundTree}
 use Rattle.qo_sound.proofs.CutLemmas.{near-same_slots}
-use Rattle.qo_sound.proofs.FirmLemmas.{Firm}
+use Rattle.qo_sound.proofs.FirmBoardLemmas.{Firm}
 use Rattle.qo_sound.proofs.ViewLemmas.{AtRest, rest-from_sound, sound-from_rest}
 use Rattle.qo_sound.proofs.WorkLemmas.{Nearly}
 use Rattle.qo_sound_devices.specs.SoundDevices.{SoundDevices}
 use Rattle.qo_sound_devices.specs.SoundPlaces.{PlacesBut}
-use Rattle.qo_sound_devices.proofs.AlikeLemmas.{Alike, bodiless, alike-same}
+use Rattle.qo_sound_devices.proofs.LikenessLemmas.{Alike, bodiless, alike-same}
 use Rattle.qo_sound_devices.proofs.ListsLemmas.{lists-same}
-use Rattle.qo_sound_devices.proofs.LowLemmas.{moved-dimmed, stands-dimmed}
-use Rattle.qo_sound_devices.proofs.MovedLemmas.{places-moved}
-use Rattle.qo_sound_devices.proofs.UnrealizeLemmas.{Dims, dims-alike}
-use Rattle.qo_sound_clocks.specs.RegistersKept.{RegistersKeptLaw, registers_set, with_registers}
-use Rattle.qo_sound_clocks.proofs.GrownLemmas.{same-sound}
+use Rattle.qo_sound_devices.proofs.DepthLemmas.{moved-dimmed, stands-dimmed}
+use Rattle.qo_sound_devices.proofs.RemovalLemmas.{places-moved}
+use Rattle.qo_sound_devices.proofs.UnrealizingLemmas.{Dims, dims-alike}
+use Rattle.qo_sound_clocks.specs.RegisterWrites.{RegistersKeptLaw, registers_set, with_registers}
+use Rattle.qo_sound_clocks.proofs.GrowthLemmas.{same-sound}
 use Rattle.qo_sound_clocks.proofs.NumbersLemmas.{same-numbers}
 use Rattle.qo_sound_clocks.proofs.TimesLemmas.{edit-times}
 

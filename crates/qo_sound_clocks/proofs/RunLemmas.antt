@@ -6,23 +6,23 @@ use Rattle.qo_values.specs.declared.codes.Code.{Code}
 use Rattle.qo_model.specs.Board.{Board, Notice}
 use Rattle.qo_model.specs.ClockChanges.{clock_scaled, clock_set}
 use Rattle.qo_model.specs.Depth.{among}
-use Rattle.qo_model.specs.FinalNotesRuns.{behind_write}
+use Rattle.qo_model.specs.FinalNotesRuns.{after_write}
 use Rattle.qo_model.specs.Hotplug.{refused}
 use Rattle.qo_model.specs.Opening.{opening_board}
 use Rattle.qo_model.specs.Plug.{cut_attempt}
-use Rattle.qo_sound_devices.specs.DeviceRuns.{Step, commands, adds, cuts, asks, refuses, lets_go, reads, acts, holds, releases, resets, sends, notice_read, stepped}
+use Rattle.qo_sound_devices.specs.DeviceRuns.{DeviceStep, commands, adds, cuts, asks, refuses, lets_go, reads, acts, holds, releases, resets, sends, notice_read, stepped}
 use Rattle.qo_sound_devices.specs.SoundDevices.{SoundDevices}
 use Rattle.qo_sound_devices.proofs.DevicesLawLemmas.{devices_kept_lem, stepped-below}
-use Rattle.qo_sound_clocks.specs.ClockRuns.{ClockRunsLaw, ClockStep, goes, passes, scales, sets, behind_clock_steps, clock_stepped, SoundRun}
+use Rattle.qo_sound_clocks.specs.ClockRuns.{ClockRunsLaw, ClockStep, goes, passes, scales, sets, after_clock_steps, clock_stepped, SoundRun}
 use Rattle.qo_sound_clocks.specs.SoundClocks.{SoundClocks}
 use Rattle.qo_sound_clocks.specs.SoundNumbers.{SoundNumbers}
 use Rattle.qo_sound_clocks.specs.SoundTimes.{SoundTimes}
-use Rattle.qo_sound_clocks.proofs.KeepLemmas.{writes_keep_lem}
+use Rattle.qo_sound_clocks.proofs.WriteLawLemmas.{writes_keep_lem}
 use Rattle.qo_sound_clocks.proofs.LawLemmas.{clocks_kept_lem}
 use Rattle.qo_sound_clocks.proofs.NumbersLemmas.{numbers_kept_lem}
 use Rattle.qo_sound_clocks.proofs.TimesLemmas.{times_kept_lem}
 
-clocks-step : (b : Board) (step : Step) → SoundDevices b → SoundClocks b → SoundClocks (stepped b step)
+clocks-step : (b : Board) (step : DeviceStep) → SoundDevices b → SoundClocks b → SoundClocks (stepped b step)
 clocks-step b (commands change) d h = clocks_kept_lem.change b change d.tree h
 clocks-step b (adds a) d h = clocks_kept_lem.plugged b a d.tree h
 clocks-step b (cuts t i joined) d h = clocks_kept_lem.cut b t i joined h
@@ -44,7 +44,7 @@ clocks-step b (releases n) d h = clocks_kept_lem.released_so b n h
 clocks-step b resets d h = clocks_kept_lem.reset b d.tree h
 clocks-step b sends d h = clocks_kept_lem.beside b _ refl h
 
-numbers-step : (b : Board) (step : Step) → SoundDevices b → SoundNumbers b → SoundNumbers (stepped b step)
+numbers-step : (b : Board) (step : DeviceStep) → SoundDevices b → SoundNumbers b → SoundNumbers (stepped b step)
 numbers-step b (commands change) d h = numbers_kept_lem.change b change d.tree h
 numbers-step b (adds a) d h = numbers_kept_lem.plugged b a d.tree h
 numbers-step b (cuts t i joined) d h = numbers_kept_lem.beside b (cut_attempt b t i joined) refl h
@@ -66,7 +66,7 @@ numbers-step b (releases n) d h = numbers_kept_lem.released_so b n h
 numbers-step b resets d h = numbers_kept_lem.reset b d.tree h
 numbers-step b sends d h = numbers_kept_lem.beside b (record b { events = [] }) refl h
 
-times-step : (b : Board) (step : Step) → SoundTimes b → SoundTimes (stepped b step)
+times-step : (b : Board) (step : DeviceStep) → SoundTimes b → SoundTimes (stepped b step)
 times-step b (commands change) h = times_kept_lem.change b change h
 times-step b (adds a) h = times_kept_lem.plugged b a h
 times-step b (cuts t i joined) h = times_kept_lem.cut b t i joined h
@@ -91,7 +91,7 @@ times-step b sends h = h
 below : (m n : ℕ) → nat_lt m n ≡ true → m < n
 below m n e = grind (arith, nat_tests, e)
 
-set-run : (b : Board) (c period : ℕ) → period < 2 ^ 64 → (r : Result Board Code) → clock_set b c period ≡ r → SoundRun b → SoundRun (behind_write b r)
+set-run : (b : Board) (c period : ℕ) → period < 2 ^ 64 → (r : Result Board Code) → clock_set b c period ≡ r → SoundRun b → SoundRun (after_write b r)
 set-run b c period wide (Err code) e h = h
 set-run b c period wide (Ok d) e h =
     record {
@@ -102,7 +102,7 @@ set-run b c period wide (Ok d) e h =
     }
 
 scaled-run : (b : Board) (c mul div : ℕ) → mul < 2 ^ 32 → div < 2 ^ 32 → (r : Result Board Code) → clock_scaled b c mul div ≡ r → SoundRun b
-    → SoundRun (behind_write b r)
+    → SoundRun (after_write b r)
 scaled-run b c mul div wide also (Err code) e h = h
 scaled-run b c mul div wide also (Ok d) e h =
     record {
@@ -142,7 +142,7 @@ step-run b (passes span) h =
       times = times_kept_lem.beside b later refl (omega arith) h.times;
     }
 
-steps-run : (b : Board) (steps : List ClockStep) → SoundRun b → SoundRun (behind_clock_steps b steps)
+steps-run : (b : Board) (steps : List ClockStep) → SoundRun b → SoundRun (after_clock_steps b steps)
 steps-run b [] h = h
 steps-run b (step ∷ steps) h = steps-run (clock_stepped b step) steps (step-run b step h)
 

@@ -13,7 +13,7 @@ use Rattle.qo_model.specs.Clocks.{acted, called, called_all, clock_written, cloc
 use Rattle.qo_model.specs.Paths.{parent_of}
 use Rattle.qo_model.specs.Unplug.{set_named}
 
--- the board behind a write that is not refused
+-- the board after a write that is not refused
 pub same_ok : (x d : Board) → ◌≡◌ {A = Result Board Code} (Ok x) (Ok d) → x ≡ d
 same_ok x d e = ap (λ (r : Result Board Code). elim r as (λ _. Board) [ Ok y ↦ y | Err code ↦ x ]) e
 

@@ -1,4 +1,4 @@
--- Where a write of a clock's numbers is not refused, the clocks are sound behind it.
+-- Where a write of a clock's numbers is not refused, the clocks are sound after it.
 use Rattle.std.proofs.Common.{◌≡◌, ◌⊎◌, inl, inr, refl, ap, subst, sym, ◌∙◌, ℕ, zero, suc, Bool, true, false, eqb, List, [], ◌∷◌, slice_get, Option, Some, None, option_map, option_and_then, unwrap_or, codes, Ok, Err}
 use Rattle.std.specs.List.{list_any}
 use Rattle.std.specs.Str.{bytes_eq}
@@ -13,19 +13,19 @@ use Rattle.qo_model.specs.Changes.{changed_at, set, with_changed, with_val}
 use Rattle.qo_model.specs.ClockChanges.{clock_scaled, clock_set}
 use Rattle.qo_model.specs.Clocks.{clock_written, clocks_below, div_of, overflows, own_period, period, source_of, spread, weak_in}
 use Rattle.qo_model.specs.Devices.{number_at, number_in, plain_in}
-use Rattle.qo_model.specs.Objects.{place_from}
+use Rattle.qo_model.specs.Objects.{index_from}
 use Rattle.qo_model.specs.Paths.{births}
 use Rattle.qo_model.specs.Release.{edited}
 use Rattle.qo_model.specs.Unplug.{is_named, set_named}
 use Rattle.qo_model.proofs.ClockFitLemmas.{fits-new, IsWritten, written-then}
-use Rattle.qo_model.proofs.FirstLemmas.{slots_in, named_in, Found, found-at}
+use Rattle.qo_model.proofs.FirstSlotLemmas.{slots_in, named_in, Found, found-at}
 use Rattle.qo_model.proofs.StepLemmas.{found-edited, found-birth}
-use Rattle.qo_sound.proofs.FirmLemmas.{edited-births}
+use Rattle.qo_sound.proofs.FirmBoardLemmas.{edited-births}
 use Rattle.qo_sound.proofs.ReadLemmas.{weak-val}
 use Rattle.qo_sound_clocks.specs.SoundClocks.{SoundClocks}
-use Rattle.qo_sound_clocks.proofs.LessLemmas.{Slots}
-use Rattle.qo_sound_clocks.proofs.GrownLemmas.{same-sound}
-use Rattle.qo_sound_clocks.proofs.StayLemmas.{kept-acted}
+use Rattle.qo_sound_clocks.proofs.SlotLemmas.{Slots}
+use Rattle.qo_sound_clocks.proofs.GrowthLemmas.{same-sound}
+use Rattle.qo_sound_clocks.proofs.DependenceLemmas.{kept-acted}
 use Rattle.qo_sound_clocks.proofs.StepsLemmas.{kept-all, same_ok, calls-kept}
 
 abbrev pub plain_at_name : List ℕ → Slots → Option Val
@@ -112,9 +112,9 @@ pub record IsSetAt (n : ℕ) (name : List ℕ) (v : Val) (b c : Board) : Type 0 
 
 pub set-at : (n : ℕ) (name : List ℕ) (v : Val) (b : Board) → IsSetAt n name v b (set_named n name v b)
 unfolding set
-set-at n name v b = go (place_from (is_named name) 0 (slots_at b n)) refl
+set-at n name v b = go (index_from (is_named name) 0 (slots_at b n)) refl
   where
-    go : (o : Option ℕ) → place_from (is_named name) 0 (slots_at b n) ≡ o → IsSetAt n name v b (set_named n name v b)
+    go : (o : Option ℕ) → index_from (is_named name) 0 (slots_at b n) ≡ o → IsSetAt n name v b (set_named n name v b)
     go None e = rw (set_named, e) (record { at = is_set-none name v (slots_at b n); apart = λ x p. refl; births = refl })
     go (Some i) e =
         rw (set_named, e) (record {

@@ -12,7 +12,7 @@ use Rattle.qo_model.specs.Opening.{opening_board}
 use Rattle.qo_model.specs.Plug.{Wanted, cut_attempt, plug, plug_attempt}
 use Rattle.qo_model.specs.Reset.{held, pulse, released}
 use Rattle.qo_model.specs.Unplug.{detach}
-use Rattle.qo_sound.specs.Kept.{SoundTree}
+use Rattle.qo_sound.specs.TreeKept.{SoundTree}
 use Rattle.qo_sound_clocks.specs.SoundClocks.{SoundClocks}
 
 -- what keeps the clocks sound, some of it where the tree is sound

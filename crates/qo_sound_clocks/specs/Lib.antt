@@ -1,10 +1,10 @@
 pub mod ClockRuns
 pub mod ClocksKept
-pub mod ClocksSay
+pub mod ClockFacts
 pub mod NumbersKept
-pub mod RegistersKept
+pub mod RegisterWrites
 pub mod SoundClocks
 pub mod SoundNumbers
 pub mod SoundTimes
 pub mod TimesKept
-pub mod WritesKeep
+pub mod ClockWrites

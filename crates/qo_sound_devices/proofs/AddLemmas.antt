@@ -14,7 +14,7 @@ use Rattle.qo_values.specs.declared.properties.Val.{Val}
 use Rattle.qo_values.specs.declared.properties.Val.TheVariants as val
 use Rattle.qo_model.specs.Board.{Board, Record, Slot, plain, child, strong, weak, alias, record_of, is_live, slots_at}
 use Rattle.qo_model.specs.Changes.{with_added}
-use Rattle.qo_model.specs.Devices.{bus_of, is_realized, is_true, place_on, plain_in, strong_in, number_in}
+use Rattle.qo_model.specs.Devices.{bus_of, is_realized, is_true, bus_slot_of, plain_in, strong_in, number_in}
 use Rattle.qo_model.specs.Opening.{fresh_slots}
 use Rattle.qo_model.specs.Objects.{Given, given_to, slot_given, added_as, given_slots, object_add, with_attempt, with_object}
 use Rattle.qo_model.specs.Paths.{is_of}
@@ -23,12 +23,12 @@ use Rattle.qo_model.specs.Types.{is_a, types}
 use Rattle.qo_model.proofs.ComesToLemmas.{addition-comes}
 use Rattle.qo_model.proofs.StepLemmas.{found_at, found-edited, found-birth}
 use Rattle.qo_sound.proofs.AddLemmas.{attempt-rest, creatable}
-use Rattle.qo_sound.proofs.FirmLemmas.{Firm}
+use Rattle.qo_sound.proofs.FirmBoardLemmas.{Firm}
 use Rattle.qo_sound.proofs.RecordLemmas.{all-imply}
 use Rattle.qo_sound.proofs.TestLemmas.{decide, clash-back}
 use Rattle.qo_sound.proofs.ViewLemmas.{AtRest}
 use Rattle.qo_sound_devices.specs.SoundPlaces.{child_entries, child_entry, HasOwner, machines, bridges, id_of, IsAnonymous, IsAtHome, IsHome, IsKid, IsPeripheral, kid_entries, kid_entry, listed, owns_it, PlacesBut, stands}
-use Rattle.qo_sound_devices.proofs.AlikeLemmas.{alike-record, bodiless, realized_in}
+use Rattle.qo_sound_devices.proofs.LikenessLemmas.{alike-record, bodiless, realized_in}
 use Rattle.qo_sound_devices.proofs.PlacesLemmas.{child-live, Keeps, keeps-none, children-grown, high-absent, MoreChildren, rooted-same, no-more, id-alike, kept-alike, of-alike, of-live, owner-live, places-kept, SameBody, stands-live, suits-alike, peripheral-alike, anonymous-alike}
 
 -- a board with more objects, of which places do not speak; `/objects` has a child more
@@ -36,7 +36,7 @@ pub record Grown (b c : Board) : Type 0 where
   pub body : (x : ℕ) → is_live b x ≡ true → SameBody b c x
   pub realized : (x : ℕ) → is_live b x ≡ true → is_realized c x ≡ is_realized b x
   pub bus : (x : ℕ) → is_live b x ≡ true → bus_of c x ≡ bus_of b x
-  pub place : (x : ℕ) → is_live b x ≡ true → place_on c x ≡ place_on b x
+  pub place : (x : ℕ) → is_live b x ≡ true → bus_slot_of c x ≡ bus_slot_of b x
   pub kids : (x : ℕ) → is_live b x ≡ true → kid_entries c x ≡ kid_entries b x
   pub children : (x : ℕ) → is_live b x ≡ true → (x == OBJECTS_BIRTH) ≡ false → child_entries c x ≡ child_entries b x
   pub unrealized : (x : ℕ) → is_live b x ≡ false → is_realized c x ≡ false
@@ -95,7 +95,7 @@ module _ (depth : ℕ → ℕ) (b c : Board) (g : Grown b c) (firm : Firm b) (h 
           }
 
       at_objects : is_live b OBJECTS_BIRTH ≡ true → MoreChildren b c OBJECTS_BIRTH
-      at_objects e = record { added = g.added ∷ []; behind = g.objects e; at_home = (own OBJECTS_BIRTH, tt) }
+      at_objects e = record { added = g.added ∷ []; after = g.objects e; at_home = (own OBJECTS_BIRTH, tt) }
 
       more : (p : ℕ) → is_live b p ≡ true → MoreChildren b c p
       more p e =
@@ -241,7 +241,7 @@ users b MemoryBackendRam props =
     λ e. record { no_bus = refl; no_device = refl; no_children = children-given b props (fresh_slots MemoryBackendRam); unrealized = refl }
 users b Tag props = λ e. record { no_bus = refl; no_device = refl; no_children = children-given b props (fresh_slots Tag); unrealized = refl }
 
--- a slot more behind the others
+-- a slot more after the others
 pub entry-added : (f : List ℕ × Slot → Option (List ℕ × ℕ)) (s : List ℕ × Slot) (e : List ℕ × ℕ) → f s ≡ Some e → (slots : List (List ℕ × Slot))
     → filter_map f (slots ++ s ∷ []) ≡ filter_map f slots ++ e ∷ []
 entry-added f s e is [] = ap (λ (o : Option (List ℕ × ℕ)). cons_option o []) is
@@ -417,4 +417,5 @@ added_as-places depth b t id props (Some code) may rest h = record { places = at
 pub object_add-places : (depth : ℕ → ℕ) (b : Board) (driver id : List ℕ) (props : List Given) → AtRest b → PlacesBut depth None (λ x. false) b
     → Keeps depth b (object_add b driver id props).board
 object_add-places depth b driver id props rest h =
-    addition-comes (Keeps depth b) b driver id props (keeps-none depth b h) (λ row e o is. added_as-places depth b row.id id props o (creatable b row id e) rest h)
+    addition-comes (Keeps depth b) b driver id props (keeps-none depth b h)
+    (λ row e o is. added_as-places depth b row.id id props o (creatable b row id e) rest h)

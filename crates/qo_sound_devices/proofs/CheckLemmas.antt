@@ -10,7 +10,7 @@ use Rattle.qo_model.specs.Board.{Board, Record, record_of}
 use Rattle.qo_model.specs.Devices.{bus_of, clock_name, is_realized}
 use Rattle.qo_model.specs.Paths.{is_of}
 use Rattle.qo_model.proofs.StepLemmas.{found_at, found-birth}
-use Rattle.qo_sound.proofs.FoundLemmas.{all-found}
+use Rattle.qo_sound.proofs.SearchLemmas.{all-found}
 use Rattle.qo_sound_devices.specs.SoundPlaces.{child_entries, HasOwner, machines, bridges, id_of, IsAnonymous, IsAtHome, IsHome, IsKid, IsRooted, IsPeripheral, kid_entries, listed, owns_it, SoundPlaces, stands}
 use Rattle.qo_sound_devices.proofs.PlacesLemmas.{all-listed, or-cases}
 

@@ -11,20 +11,20 @@ use Rattle.qo_model.specs.Board.{Board, Record, Slot, plain, child, strong, weak
 use Rattle.qo_model.specs.Depth.{among}
 use Rattle.qo_model.specs.Objects.{is_object_named, object_del, sever, severed_from}
 use Rattle.qo_model.specs.Paths.{attached, child_of, is_of}
-use Rattle.qo_model.specs.Release.{after, drop_slot, finalise, let_go, pin, put_in_order, unpin, without_first, without_pin}
+use Rattle.qo_model.specs.Release.{after, drop_slot, finalize, let_go, pin, put_in_order, unpin, without_first, without_pin}
 use Rattle.qo_model.specs.SoundGraph.{SoundGraph}
 use Rattle.qo_model.proofs.ComesToLemmas.{deletion-comes, sever-comes, severed-comes}
 use Rattle.qo_model.proofs.EditLemmas.{StandsAt, stands-at}
 use Rattle.qo_sound.proofs.ChangeLemmas.{near-deleted, near-unlinked}
-use Rattle.qo_sound.proofs.FirmLemmas.{Firm, firm-beside}
-use Rattle.qo_model.proofs.FirstLemmas.{Found, found-at}
+use Rattle.qo_sound.proofs.FirmBoardLemmas.{Firm, firm-beside}
+use Rattle.qo_model.proofs.FirstSlotLemmas.{Found, found-at}
 use Rattle.qo_model.proofs.PinLemmas.{put-among, put-back, release-pins, severed-pins}
-use Rattle.qo_sound.proofs.SeverLemmas.{near-pin, near-unpin, pin-pins}
+use Rattle.qo_sound.proofs.SeveringLemmas.{near-pin, near-unpin, pin-pins}
 use Rattle.qo_sound.proofs.ViewLemmas.{AtRest, sound-from_rest}
 use Rattle.qo_sound.proofs.WorkLemmas.{Nearly}
 use Rattle.qo_sound_devices.specs.SoundPlaces.{HasOwner, kid_entry, PlacesBut, stands}
-use Rattle.qo_sound_devices.proofs.AlikeLemmas.{alike-record}
-use Rattle.qo_sound_devices.proofs.AttachedLemmas.{owner-attached, stands-attached}
+use Rattle.qo_sound_devices.proofs.LikenessLemmas.{alike-record}
+use Rattle.qo_sound_devices.proofs.AttachmentLemmas.{owner-attached, stands-attached}
 use Rattle.qo_sound_devices.proofs.DropLemmas.{kept-drop}
 use Rattle.qo_sound_devices.proofs.PlacesLemmas.{after-kept, Keeps, keeps-none, Kept, kept-alike, keeper, owner-back, owner-live, places-kept, same-stands}
 
@@ -51,10 +51,10 @@ goes-kept depth left out b c kept pinned h =
 pub goes-none : (depth : ℕ → ℕ) (left : Option ℕ) (out : ℕ → Bool) (b : Board) → among b.pins 1 ≡ true → PlacesBut depth left out b → Goes depth left out b b
 goes-none depth left out b pinned h = record { places = h; stood = λ d. refl; owned = λ q o. o; pinned = pinned }
 
-pub goes-after : (depth : ℕ → ℕ) (left : Option ℕ) (out : ℕ → Bool) (b : Board) (o : Option ℕ) → Firm (after finalise b o) → among b.pins 1 ≡ true
-    → PlacesBut depth left out b → Goes depth left out b (after finalise b o)
+pub goes-after : (depth : ℕ → ℕ) (left : Option ℕ) (out : ℕ → Bool) (b : Board) (o : Option ℕ) → Firm (after finalize b o) → among b.pins 1 ≡ true
+    → PlacesBut depth left out b → Goes depth left out b (after finalize b o)
 goes-after depth left out b o firm pinned h =
-    goes-kept depth left out b (after finalise b o) (after-kept b o firm (owner-live b 1 MACHINE_BIRTH h.machine) pinned)
+    goes-kept depth left out b (after finalize b o) (after-kept b o firm (owner-live b 1 MACHINE_BIRTH h.machine) pinned)
     (ap (λ (ps : List ℕ). among ps 1) (release-pins b o) ∙ pinned) h
 
 pub keeps-goes : (depth : ℕ → ℕ) (b c : Board) → Goes depth None (λ d. false) b c → Keeps depth b c
@@ -80,7 +80,7 @@ pub goes-let_go : (depth : ℕ → ℕ) (left : Option ℕ) (out : ℕ → Bool)
     → ((s : List ℕ × Slot) → slice_get (slots_at b n) i ≡ Some s → is_of b (codes "bus") n ≡ true → HasOwner b n → kid_entry s ≡ None)
     → PlacesBut depth left out b → Goes depth left out b (let_go b n i)
 unfolding let_go drop_slot
-goes-let_go depth left out b n i firm firm_behind pinned link children kids h = go (slot_at b n i) refl
+goes-let_go depth left out b n i firm firm_after pinned link children kids h = go (slot_at b n i) refl
   where
     go : (o : Option Slot) → slot_at b n i ≡ o → Goes depth left out b (let_go b n i)
     go None e = rw (let_go, e) (goes-none depth left out b pinned h)
@@ -92,9 +92,9 @@ goes-let_go depth left out b n i firm firm_behind pinned link children kids h = 
         kept-drop b firm (owner-live b 1 MACHINE_BIRTH h.machine) n i at.entry at.owner at.found at.at (link at.entry here) (children at.entry here)
         (kids at.entry here) in
         let first : Goes depth left out b (drop_slot b n i) = goes-kept depth left out b (drop_slot b n i) kept pinned h in
-        let ends : Firm (after finalise (drop_slot b n i) (held s)) = rw (let_go, e) at firm_behind in
+        let ends : Firm (after finalize (drop_slot b n i) (held s)) = rw (let_go, e) at firm_after in
         rw (let_go, e)
-        (goes-then depth left out b (drop_slot b n i) (after finalise (drop_slot b n i) (held s)) first
+        (goes-then depth left out b (drop_slot b n i) (after finalize (drop_slot b n i) (held s)) first
         (goes-after depth left out (drop_slot b n i) (held s) ends pinned first.places))
 
 -- `object-del`
@@ -207,8 +207,8 @@ severed-places depth b n places rest h apart = ends
     has : list_any (nat_eq n) c.pins ≡ true
     has = ap (list_any (nat_eq n)) pins_stay ∙ put-among n (1 ∷ [])
 
-    near_behind : Nearly None (unpin c n)
-    near_behind = near-unpin c n has there.near
+    near_after : Nearly None (unpin c n)
+    near_after = near-unpin c n has there.near
 
     one_left : among (without_first n c.pins) 1 ≡ true
     one_left = ap (λ (ps : List ℕ). among (without_first n ps) 1) pins_stay ∙ ap (λ (ps : List ℕ). among ps 1) (put-back n (1 ∷ []) (tt, tt))
@@ -217,9 +217,9 @@ severed-places depth b n places rest h apart = ends
     ends =
         let less : Goes depth None (λ d. false) c (without_pin c n) =
         goes-pins depth None (λ d. false) c (without_first n c.pins) there.near.firm one_left there.places in
-        let firm_behind : Firm (after finalise (without_pin c n) (Some n)) = rw (unpin, has) at near_behind.firm in
-        let last : Goes depth None (λ d. false) (without_pin c n) (after finalise (without_pin c n) (Some n)) =
-        goes-after depth None (λ d. false) (without_pin c n) (Some n) firm_behind one_left less.places in
+        let firm_after : Firm (after finalize (without_pin c n) (Some n)) = rw (unpin, has) at near_after.firm in
+        let last : Goes depth None (λ d. false) (without_pin c n) (after finalize (without_pin c n) (Some n)) =
+        goes-after depth None (λ d. false) (without_pin c n) (Some n) firm_after one_left less.places in
         rw (unpin, has) (record { places = last.places; stood = λ d. last.stood d ∙ less.stood d ∙ there.stood d })
 
 pub sever-places : (depth : ℕ → ℕ) (b : Board) (n : ℕ) → AtRest b → PlacesBut depth None (λ d. false) b → Keeps depth b (sever b n).board

@@ -5,18 +5,18 @@ use Rattle.qo_model.specs.Board.{Board, Notice}
 use Rattle.qo_model.specs.Depth.{among}
 use Rattle.qo_model.specs.Opening.{opening_board}
 use Rattle.qo_model.specs.Plug.{Wanted, cut_attempt, plug}
-use Rattle.qo_sound.proofs.KeptLemmas.{sound_kept_lem}
+use Rattle.qo_sound.proofs.TreeKeptLemmas.{sound_kept_lem}
 use Rattle.qo_sound.proofs.ViewLemmas.{rest-from_sound}
-use Rattle.qo_sound_devices.specs.DeviceRuns.{Step, commands, adds, cuts, asks, refuses, lets_go, reads, acts, holds, releases, resets, sends, behind_steps, notice_read, stepped}
+use Rattle.qo_sound_devices.specs.DeviceRuns.{DeviceStep, commands, adds, cuts, asks, refuses, lets_go, reads, acts, holds, releases, resets, sends, after_steps, notice_read, stepped}
 use Rattle.qo_sound_devices.specs.DevicesKept.{DevicesKeptLaw}
 use Rattle.qo_sound_devices.specs.SoundDevices.{SoundDevices}
 use Rattle.qo_sound_devices.specs.SoundLists.{IsOn}
 use Rattle.qo_sound_devices.proofs.ListsKeptLemmas.{cut_attempt-lists, plugged-lists}
 use Rattle.qo_sound_devices.proofs.ListsLawLemmas.{changed-below, opening-below}
 use Rattle.qo_sound_devices.proofs.PlugLemmas.{among-all, cut_attempt-places}
-use Rattle.qo_sound_devices.proofs.PluggedLemmas.{plugged-places}
+use Rattle.qo_sound_devices.proofs.PlugStageLemmas.{plugged-places}
 use Rattle.qo_sound_devices.proofs.ResetLemmas.{acted-below, detached-below, held-below, pulse-below, released-below, reset-below}
-use Rattle.qo_sound_devices.proofs.SameLemmas.{asked-below, attempt-below, given_up-below, read-below, refused-below, same-below}
+use Rattle.qo_sound_devices.proofs.EqualObjectLemmas.{asked-below, attempt-below, given_up-below, read-below, refused-below, same-below}
 
 plugged-below : (b : Board) (a : Wanted) → SoundDevices b → SoundDevices (plug b a).board
 plugged-below b a h =
@@ -50,7 +50,7 @@ notice_read-below b h = go b.notices refl
     go [] e = rw (notice_read, e) h
     go (notice ∷ others) e = rw (notice_read, e) (read-below b notice others e h)
 
-pub stepped-below : (b : Board) (step : Step) → SoundDevices b → SoundDevices (stepped b step)
+pub stepped-below : (b : Board) (step : DeviceStep) → SoundDevices b → SoundDevices (stepped b step)
 stepped-below b (commands change) h = changed-below b change h
 stepped-below b (adds a) h = plugged-below b a h
 stepped-below b (cuts t i joined) h = cut-below b t i joined h
@@ -64,7 +64,7 @@ stepped-below b (releases n) h = released-below b n h
 stepped-below b resets h = reset-below b h
 stepped-below b sends h = same-below b (record b { events = [] }) refl refl refl refl refl refl h
 
-steps-below : (b : Board) (steps : List Step) → SoundDevices b → SoundDevices (behind_steps b steps)
+steps-below : (b : Board) (steps : List DeviceStep) → SoundDevices b → SoundDevices (after_steps b steps)
 steps-below b [] h = h
 steps-below b (step ∷ steps) h = steps-below (stepped b step) steps (stepped-below b step h)
 

@@ -1,4 +1,4 @@
--- Places behind an edit of one object, and behind a slot of it that is let go.
+-- Places after an edit of one object, and after a slot of it that is let go.
 use Rattle.std.proofs.Common.{◌⊎◌, inl, inr, ◌≡◌, refl, ap, sym, subst, ◌∙◌, ℕ, zero, suc, Bool, true, false, ◌==◌, List, [], ◌∷◌, filter_map, slice_get, Option, Some, None, is_some, option_map, option_and_then, codes}
 use Rattle.std.specs.List.{AllByRecursion, cons_option, IsDistinct}
 use Rattle.std.specs.Option.{option_map_or}
@@ -8,23 +8,23 @@ use Rattle.std.proofs.lemmas.Option.{same_Some}
 use Rattle.std.proofs.lemmas.Slice.Eq.{bytes_eq-Decides}
 use Rattle.qo_values.specs.declared.properties.Val.{Val}
 use Rattle.qo_model.specs.Board.{Board, Record, Slot, plain, child, strong, weak, alias, record_of, is_live, slots_at}
-use Rattle.qo_model.specs.Devices.{bus_of, is_realized, is_true, number_in, place_on, plain_in, strong_in}
+use Rattle.qo_model.specs.Devices.{bus_of, is_realized, is_true, number_in, bus_slot_of, plain_in, strong_in}
 use Rattle.qo_model.specs.Paths.{child_of, is_of}
 use Rattle.qo_model.specs.Release.{drop_slot, edit, edited, with_dropped, without_hold}
-use Rattle.qo_model.proofs.FirstLemmas.{named_in}
+use Rattle.qo_model.proofs.FirstSlotLemmas.{named_in}
 use Rattle.qo_model.proofs.StepLemmas.{found-edited, is_some-map, found-birth, map-edited}
-use Rattle.qo_sound.proofs.FoundLemmas.{all-found}
+use Rattle.qo_sound.proofs.SearchLemmas.{all-found}
 use Rattle.qo_sound.proofs.SlotLemmas.{names_in}
-use Rattle.qo_sound.proofs.FirmLemmas.{Firm, firm-drop, HasNames}
+use Rattle.qo_sound.proofs.FirmBoardLemmas.{Firm, firm-drop, HasNames}
 use Rattle.qo_sound_devices.specs.SoundPlaces.{child_entries, child_entry, HasOwner, kid_entries, kid_entry, stands}
-use Rattle.qo_sound_devices.proofs.AlikeLemmas.{bodiless, Alike, alike-record, other-record}
+use Rattle.qo_sound_devices.proofs.LikenessLemmas.{bodiless, Alike, alike-record, other-record}
 use Rattle.qo_sound_devices.proofs.PlacesLemmas.{Kept, keeper, more, nothing, same, Within, within-all, within-same}
 
 -- what is shown of the object that is edited
 pub record KeptAt (b c : Board) (n : ℕ) : Type 0 where
   pub realized : is_realized c n ≡ is_realized b n
   pub bus : stands b n ≡ true → bus_of c n ≡ bus_of b n
-  pub place : stands b n ≡ true → place_on c n ≡ place_on b n
+  pub place : stands b n ≡ true → bus_slot_of c n ≡ bus_slot_of b n
   pub children : keeper b n ≡ true → child_entries c n ≡ child_entries b n
   pub kids : is_of b (codes "bus") n ≡ true → HasOwner b n → kid_entries c n ≡ kid_entries b n
   pub fewer : is_of b (codes "bus") n ≡ true → Within (kid_entries c n) (kid_entries b n)
@@ -51,7 +51,7 @@ module _ (n : ℕ) (change : Record → Record) (same_birth : (r : Record) → (
         body = λ x there. edit-body x;
         realized = λ x there. at_each x (λ m. is_realized (edit n change b) m ≡ is_realized b m) (λ a. a.realized) h.realized;
         bus = λ x there. at_each x (λ m. stands b m ≡ true → bus_of (edit n change b) m ≡ bus_of b m) (λ a e. a.bus) h.bus;
-        place = λ x there. at_each x (λ m. stands b m ≡ true → place_on (edit n change b) m ≡ place_on b m) (λ a e. a.place) h.place;
+        place = λ x there. at_each x (λ m. stands b m ≡ true → bus_slot_of (edit n change b) m ≡ bus_slot_of b m) (λ a e. a.place) h.place;
         children = λ x there. at_each x (λ m. keeper b m ≡ true → child_entries (edit n change b) m ≡ child_entries b m) (λ a e. a.children) h.children;
         kids = λ x there.
             at_each x (λ m. is_of b (codes "bus") m ≡ true → HasOwner b m → kid_entries (edit n change b) m ≡ kid_entries b m) (λ a e o. a.kids) h.kids;

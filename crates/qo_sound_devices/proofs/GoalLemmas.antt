@@ -10,7 +10,7 @@ use Rattle.qo_values.specs.declared.limits.TheConstants.{BUS_SLOTS}
 use Rattle.qo_values.specs.declared.kinds.TypeId.TheVariants.{Object, Container, Machine, Device, SlotDevice, SlotUart, SlotTimer, SlotBridge, MemDimm, Bus, SlotBus, MemBus, Clock, MemoryBackend, MemoryBackendRam, Tag}
 use Rattle.qo_model.specs.Board.{Board, kind_of}
 use Rattle.qo_model.specs.Paths.{is_of}
-use Rattle.qo_model.specs.Plug.{bus_type, code_in, is_free, ok_or_zero, slot_for}
+use Rattle.qo_model.specs.Plug.{bus_type, code_in, is_free, ok_or_zero, bus_slot_for}
 use Rattle.qo_model.specs.Types.{is_a, types}
 
 -- what is of a device's type of bus is a bus
@@ -71,15 +71,15 @@ least-low p (suc times) first m e = go (p first) refl (least-low p times (first 
     go true q rest = let is : first ≡ m = same_Some first m (rw q at e) in omega (arith, is)
     go false q rest = let low : m < first + 1 + times = rest (rw q at e) in omega (arith, low)
 
-pub slot-low : (b : Board) (bus : ℕ) (given : Option ℕ) → code_in (slot_for b bus given) ≡ None → ok_or_zero (slot_for b bus given) < BUS_SLOTS
+pub slot-low : (b : Board) (bus : ℕ) (given : Option ℕ) → code_in (bus_slot_for b bus given) ≡ None → ok_or_zero (bus_slot_for b bus given) < BUS_SLOTS
 slot-low b bus (Some slot) e = go (nat_lt slot BUS_SLOTS) refl (is_free b bus slot) refl
   where
-    go : (u : Bool) → nat_lt slot BUS_SLOTS ≡ u → (v : Bool) → is_free b bus slot ≡ v → ok_or_zero (slot_for b bus (Some slot)) < BUS_SLOTS
-    go true p true q = rw (slot_for, p, q) (grind (arith, p))
-    go true p false q = absurd (let clash : Some E29 ≡ None = rw (slot_for, p, q) at e in cc)
-    go false p v q = absurd (let clash : Some E28 ≡ None = rw (slot_for, p) at e in cc)
+    go : (u : Bool) → nat_lt slot BUS_SLOTS ≡ u → (v : Bool) → is_free b bus slot ≡ v → ok_or_zero (bus_slot_for b bus (Some slot)) < BUS_SLOTS
+    go true p true q = rw (bus_slot_for, p, q) (grind (arith, p))
+    go true p false q = absurd (let clash : Some E29 ≡ None = rw (bus_slot_for, p, q) at e in cc)
+    go false p v q = absurd (let clash : Some E28 ≡ None = rw (bus_slot_for, p) at e in cc)
 slot-low b bus None e = go (least (is_free b bus) 0 BUS_SLOTS) refl
   where
-    go : (o : Option ℕ) → least (is_free b bus) 0 BUS_SLOTS ≡ o → ok_or_zero (slot_for b bus None) < BUS_SLOTS
-    go None p = absurd (let clash : Some E30 ≡ None = rw (slot_for, p) at e in cc)
-    go (Some slot) p = rw (slot_for, p) (let low : slot < 0 + 8 = least-low (is_free b bus) BUS_SLOTS 0 slot p in omega (arith, low))
+    go : (o : Option ℕ) → least (is_free b bus) 0 BUS_SLOTS ≡ o → ok_or_zero (bus_slot_for b bus None) < BUS_SLOTS
+    go None p = absurd (let clash : Some E30 ≡ None = rw (bus_slot_for, p) at e in cc)
+    go (Some slot) p = rw (bus_slot_for, p) (let low : slot < 0 + 8 = least-low (is_free b bus) BUS_SLOTS 0 slot p in omega (arith, low))

@@ -1,22 +1,22 @@
 -- The law: what keeps the places of devices sound.
 use Rattle.std.proofs.Common.{ℕ, false, List, [], ◌∷◌, None}
 use Rattle.qo_model.specs.Board.{Board}
-use Rattle.qo_model.specs.FinalNotesRuns.{Change, added, behind, deleted, wrote, severed, changed}
+use Rattle.qo_model.specs.FinalNotesRuns.{Change, added, after_changes, deleted, wrote, severed, changed}
 use Rattle.qo_model.specs.Opening.{opening_board}
-use Rattle.qo_sound.specs.Kept.{SoundTree}
-use Rattle.qo_sound.proofs.FirmLemmas.{Firm}
-use Rattle.qo_sound.proofs.KeptLemmas.{changed-sound, sound_kept_lem}
+use Rattle.qo_sound.specs.TreeKept.{SoundTree}
+use Rattle.qo_sound.proofs.FirmBoardLemmas.{Firm}
+use Rattle.qo_sound.proofs.TreeKeptLemmas.{changed-sound, sound_kept_lem}
 use Rattle.qo_sound.proofs.ViewLemmas.{AtRest, rest-from_sound}
 use Rattle.qo_sound_devices.specs.PlacesKept.{PlacesKeptLaw}
 use Rattle.qo_sound_devices.specs.SoundPlaces.{PlacesBut, SoundPlaces}
 use Rattle.qo_sound_devices.proofs.AddLemmas.{attempt-places, object_add-places}
-use Rattle.qo_sound_devices.proofs.BesideLemmas.{asked-places, beside-places, refused-places}
+use Rattle.qo_sound_devices.proofs.DependenceLemmas.{asked-places, beside-places, refused-places}
 use Rattle.qo_sound_devices.proofs.CommandLemmas.{object_del-places, sever-places}
-use Rattle.qo_sound_devices.proofs.DetachLemmas.{detach-places}
+use Rattle.qo_sound_devices.proofs.DetachmentLemmas.{detach-places}
 use Rattle.qo_sound_devices.proofs.PlacesLemmas.{Keeps}
 use Rattle.qo_sound_devices.proofs.PlaceRows.{opening-places}
 use Rattle.qo_sound_devices.proofs.PlugLemmas.{cut_attempt-places, plug_attempt-places}
-use Rattle.qo_sound_devices.proofs.PluggedLemmas.{plugged-places}
+use Rattle.qo_sound_devices.proofs.PlugStageLemmas.{plugged-places}
 use Rattle.qo_sound_devices.proofs.WriteLemmas.{write-places}
 
 -- each change keeps places, and the same devices stand
@@ -30,10 +30,10 @@ pub changed-places : (depth : ℕ → ℕ) (b : Board) (change : Change) → AtR
     → PlacesBut depth None (λ x. false) (changed b change)
 changed-places depth b change rest h = (changed-keeps depth b change rest h).places
 
-behind-places : (b : Board) (changes : List Change) → SoundTree b → SoundPlaces b → SoundPlaces (behind b changes)
-behind-places b [] tree h = h
-behind-places b (change ∷ changes) tree h =
-    behind-places (changed b change) changes (changed-sound b change tree) (h.0, changed-places h.0 b change (rest-from_sound b tree) h.1)
+after_changes-places : (b : Board) (changes : List Change) → SoundTree b → SoundPlaces b → SoundPlaces (after_changes b changes)
+after_changes-places b [] tree h = h
+after_changes-places b (change ∷ changes) tree h =
+    after_changes-places (changed b change) changes (changed-sound b change tree) (h.0, changed-places h.0 b change (rest-from_sound b tree) h.1)
 
 firm : (b : Board) → SoundTree b → Firm b
 firm b tree = (rest-from_sound b tree).used.firm
@@ -42,7 +42,7 @@ pub places_kept_lem : PlacesKeptLaw
 places_kept_lem =
     record {
       opening = opening-places;
-      run = λ changes. behind-places opening_board changes (sound_kept_lem.run [], sound_kept_lem.run_aliases []) opening-places;
+      run = λ changes. after_changes-places opening_board changes (sound_kept_lem.run [], sound_kept_lem.run_aliases []) opening-places;
       change = λ b change tree h. (h.0, changed-places h.0 b change (rest-from_sound b tree) h.1);
       attempt = λ b t tree h. (h.0, attempt-places h.0 b t (rest-from_sound b tree) h.1);
       given_up = λ b t bus stage tree h. (h.0, plug_attempt-places h.0 b t bus stage (rest-from_sound b tree) h.1);

@@ -20,21 +20,21 @@ use Rattle.qo_model.specs.Objects.{with_attempt}
 use Rattle.qo_model.specs.Opening.{opening_board}
 use Rattle.qo_model.specs.Paths.{attached, child_of, components, is_absolute, is_of, only_of, resolve_absolute, walk}
 use Rattle.qo_model.specs.Plug.{Wanted, cut_attempt, notice_barred, plug, plug_attempt, spot_of, with_plugged}
-use Rattle.qo_model.proofs.StaysLemmas.{stays_lem}
+use Rattle.qo_model.proofs.ChangeScopeLemmas.{stays_lem}
 use Rattle.qo_sound.proofs.AddLemmas.{unbarred}
-use Rattle.qo_sound.proofs.DevicesStayLemmas.{devices_stay_lem}
+use Rattle.qo_sound.proofs.DeviceScopeLemmas.{devices_stay_lem}
 use Rattle.qo_sound.proofs.RecordLemmas.{all-append, all-imply}
 use Rattle.qo_sound.proofs.ViewLemmas.{AtRest, sound-from_rest}
 use Rattle.qo_sound_devices.specs.SoundLists.{IsOn, SoundLists}
 use Rattle.qo_sound_devices.specs.SoundPlaces.{child_entry, listed, PlacesBut, stands}
-use Rattle.qo_sound_devices.proofs.AcceptedLemmas.{passes}
-use Rattle.qo_sound_devices.proofs.JoinedLemmas.{done, Joined, new-stands, old-stands}
+use Rattle.qo_sound_devices.proofs.AcceptanceLemmas.{passes}
+use Rattle.qo_sound_devices.proofs.AdditionLemmas.{done, Joined, new-stands, old-stands}
 use Rattle.qo_sound_devices.proofs.LawLemmas.{changed-keeps}
 use Rattle.qo_sound_devices.proofs.ListsLemmas.{lists-fewer, lists-same, on-stands, within-filter}
 use Rattle.qo_sound_devices.proofs.PlacesLemmas.{Keeps, more, stands-live, within-all, Within}
-use Rattle.qo_sound_devices.proofs.PlugLemmas.{Accepted, behind-plug}
-use Rattle.qo_sound_devices.proofs.PluggedLemmas.{accepted-joined}
-use Rattle.qo_sound_devices.proofs.WhereLemmas.{attached-stands}
+use Rattle.qo_sound_devices.proofs.PlugLemmas.{Accepted, after-plug}
+use Rattle.qo_sound_devices.proofs.PlugStageLemmas.{accepted-joined}
+use Rattle.qo_sound_devices.proofs.LocationLemmas.{attached-stands}
 
 pub opening-lists : SoundLists opening_board
 unfolding opening_board IsDistinct
@@ -202,4 +202,4 @@ module _ (depth : ℕ → ℕ) (b : Board) (rest : AtRest b) (h : PlacesBut dept
         new = (new-stands depth b (b.born + 1) bus (spot_of b t bus a.props).slot a.id t c j rest.used.firm h, j.stands_realized)
 
     pub plugged-lists : SoundLists (plug b a).board
-    plugged-lists = behind-plug SoundLists b a lists (λ t bus stage. plug_attempt-lists b t bus stage lists) plugged-on
+    plugged-lists = after-plug SoundLists b a lists (λ t bus stage. plug_attempt-lists b t bus stage lists) plugged-on

@@ -1,16 +1,16 @@
 -- The law: what keeps the lists of pending removals and of notices.
 use Rattle.std.proofs.Common.{List, [], ◌∷◌}
 use Rattle.qo_model.specs.Board.{Board}
-use Rattle.qo_model.specs.FinalNotesRuns.{Change, behind, changed}
+use Rattle.qo_model.specs.FinalNotesRuns.{Change, after_changes, changed}
 use Rattle.qo_model.specs.Opening.{opening_board}
-use Rattle.qo_sound.proofs.KeptLemmas.{changed-sound, sound_kept_lem}
+use Rattle.qo_sound.proofs.TreeKeptLemmas.{changed-sound, sound_kept_lem}
 use Rattle.qo_sound.proofs.ViewLemmas.{AtRest, rest-from_sound}
 use Rattle.qo_sound_devices.specs.ListsKept.{ListsKeptLaw}
 use Rattle.qo_sound_devices.specs.SoundDevices.{SoundDevices}
 use Rattle.qo_sound_devices.proofs.LawLemmas.{changed-places}
 use Rattle.qo_sound_devices.proofs.ListsKeptLemmas.{asked-lists, attempt-lists, changed-lists, cut_attempt-lists, opening-lists, plug_attempt-lists, plugged-lists, read-lists, refused-lists}
 use Rattle.qo_sound_devices.proofs.PlaceRows.{opening-places}
-use Rattle.qo_sound_devices.proofs.UnlistLemmas.{detach-lists}
+use Rattle.qo_sound_devices.proofs.UnlistingLemmas.{detach-lists}
 
 at_rest : (b : Board) → SoundDevices b → AtRest b
 at_rest b h = rest-from_sound b h.tree
@@ -23,9 +23,9 @@ changed-below b change h =
       lists = changed-lists h.places.0 b change (at_rest b h) h.places.1 h.lists;
     }
 
-pub behind-below : (b : Board) (changes : List Change) → SoundDevices b → SoundDevices (behind b changes)
-behind-below b [] h = h
-behind-below b (change ∷ changes) h = behind-below (changed b change) changes (changed-below b change h)
+pub after-below : (b : Board) (changes : List Change) → SoundDevices b → SoundDevices (after_changes b changes)
+after-below b [] h = h
+after-below b (change ∷ changes) h = after-below (changed b change) changes (changed-below b change h)
 
 pub opening-below : SoundDevices opening_board
 opening-below = record { tree = (sound_kept_lem.run [], sound_kept_lem.run_aliases []); places = opening-places; lists = opening-lists }
@@ -34,7 +34,7 @@ pub lists_kept_lem : ListsKeptLaw
 lists_kept_lem =
     record {
       opening = opening-lists;
-      run = λ changes. (behind-below opening_board changes opening-below).lists;
+      run = λ changes. (after-below opening_board changes opening-below).lists;
       change = λ b change h. (changed-below b change h).lists;
       attempt = attempt-lists;
       given_up = plug_attempt-lists;

@@ -9,7 +9,7 @@ use Rattle.qo_model.specs.Depth.{among}
 use Rattle.qo_sound.proofs.RecordLemmas.{all-both, all-imply}
 use Rattle.qo_sound_devices.specs.SoundLists.{IsOn, SoundLists}
 use Rattle.qo_sound_devices.specs.SoundPlaces.{PlacesBut, stands}
-use Rattle.qo_sound_devices.proofs.DetachLemmas.{within-short}
+use Rattle.qo_sound_devices.proofs.DetachmentLemmas.{within-short}
 use Rattle.qo_sound_devices.proofs.PlacesLemmas.{all-within, more, nothing, same, within-same, Within}
 
 -- whether the guest has a notice of a device; whether a list of the board names it

@@ -9,22 +9,22 @@ use Rattle.qo_values.specs.declared.kinds.Act.TheVariants.{Realize}
 use Rattle.qo_values.specs.declared.kinds.TypeId.{TypeId}
 use Rattle.qo_model.specs.Board.{Board, is_live}
 use Rattle.qo_model.specs.Devices.{anonymous_name}
-use Rattle.qo_model.specs.Paths.{canonical, place_of, steps_to, steps_turn}
+use Rattle.qo_model.specs.Paths.{canonical, place_of, path_down_to, path_turn}
 use Rattle.qo_model.specs.Plug.{Spot, Wanted, bus_births, clocked, drafted, source_for, stood, with_device}
 use Rattle.qo_model.specs.SoundGraph.{SoundGraph}
 use Rattle.qo_model.proofs.TreeLemmas.{paths_lem}
-use Rattle.qo_sound.proofs.FirmLemmas.{Firm}
+use Rattle.qo_sound.proofs.FirmBoardLemmas.{Firm}
 use Rattle.qo_sound.proofs.PlugLemmas.{IsPlace, held-all, shut-above, sits-device, held-plugged}
 use Rattle.qo_sound.proofs.TestLemmas.{decide}
 use Rattle.qo_sound.proofs.UnplugLemmas.{Sits}
 use Rattle.qo_sound.proofs.ViewLemmas.{AtRest, sound-from_rest}
 use Rattle.qo_sound_devices.specs.SoundPlaces.{child_entries, has_entry, IsRooted, PlacesBut}
-use Rattle.qo_sound_devices.proofs.JoinedLemmas.{Goal, Joined, named_entry, numbered_entry, Now, path_behind}
+use Rattle.qo_sound_devices.proofs.AdditionLemmas.{Goal, Joined, named_entry, numbered_entry, Now, path_after}
 use Rattle.qo_sound_devices.proofs.PlacesLemmas.{child-live, owner-live, rooted-same}
-use Rattle.qo_sound_devices.proofs.StartedLemmas.{acting, dims-acting, joined-counted, joined-dims}
-use Rattle.qo_sound_devices.proofs.StoodLemmas.{joined-stood}
+use Rattle.qo_sound_devices.proofs.StartLemmas.{acting, dims-acting, joined-counted, joined-dims}
+use Rattle.qo_sound_devices.proofs.ValueLemmas.{joined-stood}
 use Rattle.qo_sound_devices.proofs.SourceLemmas.{holds-source}
-use Rattle.qo_sound_devices.proofs.WhereLemmas.{place-named}
+use Rattle.qo_sound_devices.proofs.LocationLemmas.{place-named}
 
 -- the last entry is there
 has-last : (name : List ℕ) (x : ℕ) (es : List (List ℕ × ℕ)) → has_entry (name, x) (es ++ (name, x) ∷ []) ≡ true
@@ -34,27 +34,27 @@ has-last name x (e ∷ es) = rw (has-last name x es) (or-true (e.1 == x && bytes
 
 -- steps from the root, where objects are children under these names
 module _ (e : Board) (sound : SoundGraph e) (firm : Firm e) where
-  steps-root : steps_to e 1 ≡ Some []
+  steps-root : path_down_to e 1 ≡ Some []
   steps-root = paths_lem.steps_by_parent e sound 1
 
-  steps-below : (p x : ℕ) (name above : List ℕ) → (x == 1) ≡ false → has_entry (name, x) (child_entries e p) ≡ true → steps_to e p ≡ Some above
-      → steps_to e x ≡ Some (above ++ 47 ∷ name)
+  steps-below : (p x : ℕ) (name above : List ℕ) → (x == 1) ≡ false → has_entry (name, x) (child_entries e p) ≡ true → path_down_to e p ≡ Some above
+      → path_down_to e x ≡ Some (above ++ 47 ∷ name)
   steps-below p x name above apart there is =
       let place : place_of e x ≡ Some (p, name) = place-named e firm p x name there in
-      paths_lem.steps_by_parent e sound x ∙ rw (steps_turn, apart, place) (ap (option_map (λ (way : List ℕ). way ++ 47 ∷ name)) is)
+      paths_lem.steps_by_parent e sound x ∙ rw (path_turn, apart, place) (ap (option_map (λ (way : List ℕ). way ++ 47 ∷ name)) is)
 
   module _ (rooted : IsRooted e) where
-    machine-steps : steps_to e MACHINE_BIRTH ≡ Some (codes "/machine")
+    machine-steps : path_down_to e MACHINE_BIRTH ≡ Some (codes "/machine")
     machine-steps = steps-below 1 MACHINE_BIRTH (codes "machine") [] refl rooted.machine steps-root
 
     pub peripheral-steps : (x : ℕ) (name : List ℕ) → (x == 1) ≡ false → has_entry (name, x) (child_entries e PERIPHERAL_BIRTH) ≡ true
-        → steps_to e x ≡ Some (codes "/machine/peripheral/" ++ name)
+        → path_down_to e x ≡ Some (codes "/machine/peripheral/" ++ name)
     peripheral-steps x name apart there =
         steps-below PERIPHERAL_BIRTH x name (codes "/machine/peripheral") apart there
         (steps-below MACHINE_BIRTH PERIPHERAL_BIRTH (codes "peripheral") (codes "/machine") refl rooted.peripheral machine-steps)
 
     pub anonymous-steps : (x : ℕ) (name : List ℕ) → (x == 1) ≡ false → has_entry (name, x) (child_entries e ANONYMOUS_BIRTH) ≡ true
-        → steps_to e x ≡ Some (codes "/machine/peripheral-anon/" ++ name)
+        → path_down_to e x ≡ Some (codes "/machine/peripheral-anon/" ++ name)
     anonymous-steps x name apart there =
         steps-below ANONYMOUS_BIRTH x name (codes "/machine/peripheral-anon") apart there
         (steps-below MACHINE_BIRTH ANONYMOUS_BIRTH (codes "peripheral-anon") (codes "/machine") refl rooted.anonymous machine-steps)
@@ -114,10 +114,10 @@ module _ (depth : ℕ → ℕ) (b : Board) (t : TypeId) (a : Wanted) (spot : Spo
       decide (n == 1) {A = (n == 1) ≡ false}
       (λ p. absurd (let clash : false ≡ true = sym standing.joined.absent ∙ ap (is_live b) (eqb-true n 1 p) ∙ root_live in cc)) (λ p. p)
 
-  pub holds-path : canonical (acting (b.born + 1) t (with_device b t a spot)) (b.born + 1) ≡ Some (path_behind b a.id)
+  pub holds-path : canonical (acting (b.born + 1) t (with_device b t a spot)) (b.born + 1) ≡ Some (path_after b a.id)
   holds-path = rw not_root (go a.id refl)
     where
-      go : (o : Option (List ℕ)) → a.id ≡ o → steps_to e n ≡ Some (path_behind b o)
+      go : (o : Option (List ℕ)) → a.id ≡ o → path_down_to e n ≡ Some (path_after b o)
       go (Some i) is =
           peripheral-steps e sound sits.near.firm rooted n i not_root
           (ap (has_entry (i, n)) (standing.joined.third ∙ ap (λ (o : Option (List ℕ)). child_entries b PERIPHERAL_BIRTH ++ named_entry o n) is)

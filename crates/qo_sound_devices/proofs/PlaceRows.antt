@@ -5,9 +5,9 @@ use Rattle.qo_model.specs.Changes.{add, cut, set}
 use Rattle.qo_model.specs.Clocks.{acted, clocks_below, period}
 use Rattle.qo_model.specs.Devices.{depth_of, is_going}
 use Rattle.qo_model.specs.Opening.{opening_board}
-use Rattle.qo_model.specs.Paths.{attached, steps_to}
+use Rattle.qo_model.specs.Paths.{attached, path_down_to}
 use Rattle.qo_model.specs.Plug.{Wanted, plug}
-use Rattle.qo_model.specs.Release.{drop_slot, finish, finalise, finalise_within, let_go, pin, unpin}
+use Rattle.qo_model.specs.Release.{drop_slot, finish, finalize, finalize_within, let_go, pin, unpin}
 use Rattle.qo_model.specs.Reset.{held, plugged, post, pulse, released}
 use Rattle.qo_model.specs.Types.{types}
 use Rattle.qo_model.specs.Unplug.{apart_within, detach, unrealize}
@@ -75,7 +75,7 @@ abbrev depth_two : ℕ → ℕ
 depth_two q = if q == 11 then 1 else if q == 14 then 2 else 0
 
 places-two : Checked two
-unfolding types opening_board steps_to attached drop_slot finish finalise finalise_within let_go pin unpin add set cut acted period clocks_below depth_of
+unfolding types opening_board path_down_to attached drop_slot finish finalize finalize_within let_go pin unpin add set cut acted period clocks_below depth_of
     is_going plug plugged post held released pulse least
 places-two =
     record {
@@ -207,6 +207,6 @@ two-places = checked-sound two places-two
 
 -- without the upper one, whose removal takes both
 places-removed : Checked (detach two 9)
-unfolding types opening_board steps_to attached drop_slot finish finalise finalise_within let_go pin unpin add set cut acted period clocks_below depth_of
+unfolding types opening_board path_down_to attached drop_slot finish finalize finalize_within let_go pin unpin add set cut acted period clocks_below depth_of
     is_going plug plugged post held released pulse least unrealize apart_within detach
 places-removed = objects-opening (detach two 9)

@@ -9,26 +9,26 @@ use Rattle.qo_values.specs.declared.births.TheConstants.{ANONYMOUS_BIRTH, MACHIN
 use Rattle.qo_values.specs.declared.kinds.TypeId.{TypeId}
 use Rattle.qo_model.specs.Board.{Board, Record, Slot, plain, child, strong, weak, alias, record_of, kind_of, is_live, slots_at}
 use Rattle.qo_model.specs.Depth.{among}
-use Rattle.qo_model.specs.Devices.{bus_of, is_realized, place_on, strong_in}
+use Rattle.qo_model.specs.Devices.{bus_of, is_realized, bus_slot_of, strong_in}
 use Rattle.qo_model.specs.Paths.{is_of}
 use Rattle.qo_model.specs.Plug.{bus_type}
 use Rattle.std.proofs.lemmas.List.Sums.{sum_by-cons}
 use Rattle.qo_sound.proofs.CountLemmas.{one_at, times}
 use Rattle.qo_model.specs.References.{refs}
-use Rattle.qo_model.specs.Release.{after, drop_slot, finalise, finish}
-use Rattle.qo_model.specs.ReleaseKeeps.{KeepsRelease}
+use Rattle.qo_model.specs.Release.{after, drop_slot, finalize, finish}
+use Rattle.qo_model.specs.ReleaseInduction.{KeepsRelease}
 use Rattle.qo_model.specs.Types.{is_a}
 use Rattle.std.proofs.Math.Bool.{or-true}
-use Rattle.qo_model.proofs.ReleaseKeepsLemmas.{after_keeps}
-use Rattle.qo_model.proofs.ReleaseLeavesLemmas.{release_leaves}
+use Rattle.qo_model.proofs.ReleaseInductionLemmas.{after_keeps}
+use Rattle.qo_model.proofs.ReleaseScopeLemmas.{release_leaves}
 use Rattle.qo_model.proofs.StepLemmas.{drop-live, finish-live, is_some-map}
-use Rattle.qo_sound.proofs.FoundLemmas.{all-found}
+use Rattle.qo_sound.proofs.SearchLemmas.{all-found}
 use Rattle.qo_sound.proofs.WorkLemmas.{births_of}
 use Rattle.qo_sound.proofs.RecordLemmas.{all-append, all-both, all-imply}
 use Rattle.qo_sound.proofs.DraftLemmas.{found-low}
-use Rattle.qo_sound.proofs.FirmLemmas.{FitsKind, Firm, Linked}
+use Rattle.qo_sound.proofs.FirmBoardLemmas.{FitsKind, Firm, Linked}
 use Rattle.qo_sound_devices.specs.SoundPlaces.{child_entries, child_entry, has_entry, HasOwner, machines, bridges, id_of, IsAnonymous, IsAtHome, IsHome, IsHosted, on_machine, on_device, IsRooted, IsKid, IsPeripheral, IsShallow, kid_entries, kid_entry, listed, owns_it, path_of, PlacesBut, stands, suits}
-use Rattle.qo_sound_devices.proofs.AlikeLemmas.{bodiless, after-alike, Alike, apart-first}
+use Rattle.qo_sound_devices.proofs.LikenessLemmas.{bodiless, after-alike, Alike, apart-first}
 
 -- what is alike has the same type, id and path
 abbrev pub SameBody : Board → Board → ℕ → Type 0
@@ -240,7 +240,7 @@ pub record Kept (b c : Board) : Type 0 where
   pub body : (x : ℕ) → is_live c x ≡ true → option_map bodiless (record_of c x) ≡ option_map bodiless (record_of b x)
   pub realized : (x : ℕ) → is_live c x ≡ true → is_realized c x ≡ is_realized b x
   pub bus : (x : ℕ) → is_live c x ≡ true → stands b x ≡ true → bus_of c x ≡ bus_of b x
-  pub place : (x : ℕ) → is_live c x ≡ true → stands b x ≡ true → place_on c x ≡ place_on b x
+  pub place : (x : ℕ) → is_live c x ≡ true → stands b x ≡ true → bus_slot_of c x ≡ bus_slot_of b x
   pub children : (x : ℕ) → is_live c x ≡ true → keeper b x ≡ true → child_entries c x ≡ child_entries b x
   pub kids : (q : ℕ) → is_live c q ≡ true → is_of b (codes "bus") q ≡ true → HasOwner b q → kid_entries c q ≡ kid_entries b q
   pub fewer : (q : ℕ) → is_live c q ≡ true → is_of b (codes "bus") q ≡ true → Within (kid_entries c q) (kid_entries b q)
@@ -289,10 +289,10 @@ children-within b c firm body within h p = go (record_of c p) refl
         (all-both (IsThere c) (IsAtHome b p) (child_entries c p) (children-there c (slots_at c p) (linked-at c firm p))
         (all-within (IsAtHome b p) (within p there) (h p)))
 
--- with more children behind the others
+-- with more children after the others
 pub record MoreChildren (b c : Board) (p : ℕ) : Type 0 where
   pub added : List (List ℕ × ℕ)
-  pub behind : child_entries c p ≡ child_entries b p ++ added
+  pub later : child_entries c p ≡ child_entries b p ++ added
   pub at_home : AllByRecursion (IsAtHome c p) added
 
 append-none : (xs : List (List ℕ × ℕ)) → xs ≡ xs ++ []
@@ -300,7 +300,7 @@ append-none [] = refl
 append-none (x ∷ xs) = ap (λ (ys : List (List ℕ × ℕ)). x ∷ ys) (append-none xs)
 
 pub no-more : (b c : Board) (p : ℕ) → child_entries c p ≡ child_entries b p → MoreChildren b c p
-no-more b c p e = record { added = []; behind = e ∙ append-none (child_entries b p); at_home = tt }
+no-more b c p e = record { added = []; later = e ∙ append-none (child_entries b p); at_home = tt }
 
 pub children-grown : (b c : Board) → Firm b → ((x : ℕ) → is_live b x ≡ true → SameBody b c x) → ((p : ℕ) → is_live b p ≡ true → MoreChildren b c p)
     → ((p : ℕ) → is_live b p ≡ false → AllByRecursion (IsAtHome c p) (child_entries c p)) → ((p : ℕ) → AllByRecursion (IsAtHome b p) (child_entries b p))
@@ -311,7 +311,7 @@ children-grown b c firm body grows new h p = go (is_live b p) refl
     go false e = new p e
     go true e =
         let m : MoreChildren b c p = grows p e in
-        subst (AllByRecursion (IsAtHome c p)) (sym m.behind)
+        subst (AllByRecursion (IsAtHome c p)) (sym m.later)
         (all-append (IsAtHome c p) (child_entries b p) m.added
         (all-imply (λ (x : List ℕ × ℕ). IsThere b x × IsAtHome b p x) (IsAtHome c p) (λ x k. at-home b c p x (body p e) (body x.1 k.0) k.1) (child_entries b p)
         (all-both (IsThere b) (IsAtHome b p) (child_entries b p) (children-there b (slots_at b p) (linked-at b firm p)) (h p)))
@@ -490,7 +490,7 @@ pinned-times n (p ∷ ps) e = go (eqb n p) refl (pinned-times n ps)
     go true q rest = let own : (p == n) ≡ true = grind (arith, q) in let one : one_at n p ≡ 1 = rw own refl in omega (arith, one, sum_by-cons (one_at n) p ps)
     go false q rest = let some : 0 < times n ps = rest (rw q at e) in omega (arith, some, sum_by-cons (one_at n) p ps)
 
--- what is pinned is there behind a release
+-- what is pinned is there after a release
 record Pinned (n : ℕ) (work : List (ℕ × ℕ)) (c : Board) : Type 0 where
   live : is_live c n ≡ true
   idle : among (births_of work) n ≡ false
@@ -522,7 +522,7 @@ pinned-keeps n =
             let none : refs (drop_slot c m i) n ≡ 0 = ap (refs (drop_slot c m i)) is ∙ free in
             absurd (let some : 0 < times n c.pins = h.pins in omega (arith, none, some))
 
-after-root : (b : Board) (o : Option ℕ) (n : ℕ) → is_live b n ≡ true → among b.pins n ≡ true → is_live (after finalise b o) n ≡ true
+after-root : (b : Board) (o : Option ℕ) (n : ℕ) → is_live b n ≡ true → among b.pins n ≡ true → is_live (after finalize b o) n ≡ true
 after-root b o n there pinned =
     (after_keeps (Pinned n) (pinned-keeps n) b o [] free (λ some. record { live = there; idle = refl; pins = pinned-times n b.pins pinned })).live
   where
@@ -536,11 +536,11 @@ after-root b o n there pinned =
             let nothing : refs b n ≡ 0 = ap (refs b) is ∙ none in
             absurd (let some : 0 < times n b.pins = pinned-times n b.pins pinned in omega (arith, nothing, some))
 
-pub after-anonymous : (b : Board) (o : Option ℕ) → (after finalise b o).anonymous ≡ b.anonymous
+pub after-anonymous : (b : Board) (o : Option ℕ) → (after finalize b o).anonymous ≡ b.anonymous
 after-anonymous b None = refl
 after-anonymous b (Some m) = go (refs b m == 0) refl
   where
-    go : (t : Bool) → (refs b m == 0) ≡ t → (after finalise b (Some m)).anonymous ≡ b.anonymous
+    go : (t : Bool) → (refs b m == 0) ≡ t → (after finalize b (Some m)).anonymous ≡ b.anonymous
     go true p = rw (after, p) (release_leaves b m).anonymous
     go false p = rw (after, p) refl
 
@@ -553,10 +553,10 @@ owner-live b n d e = go (record_of b n) refl
     go (Some r) q = ap is_some q
 
 -- a release keeps what is shown of any board, where it keeps the tree and birth 1 is pinned
-pub after-kept : (b : Board) (o : Option ℕ) → Firm (after finalise b o) → is_live b 1 ≡ true → among b.pins 1 ≡ true → Kept b (after finalise b o)
-after-kept b o firm there pinned = kept-alike b (after finalise b o) firm (after-root b o 1 there pinned) (after-anonymous b o) (after-alike b o)
+pub after-kept : (b : Board) (o : Option ℕ) → Firm (after finalize b o) → is_live b 1 ≡ true → among b.pins 1 ≡ true → Kept b (after finalize b o)
+after-kept b o firm there pinned = kept-alike b (after finalize b o) firm (after-root b o 1 there pinned) (after-anonymous b o) (after-alike b o)
 
-pub after-places : (depth : ℕ → ℕ) (left : Option ℕ) (out : ℕ → Bool) (b : Board) (o : Option ℕ) → Firm (after finalise b o) → among b.pins 1 ≡ true
-    → PlacesBut depth left out b → PlacesBut depth left out (after finalise b o)
+pub after-places : (depth : ℕ → ℕ) (left : Option ℕ) (out : ℕ → Bool) (b : Board) (o : Option ℕ) → Firm (after finalize b o) → among b.pins 1 ≡ true
+    → PlacesBut depth left out b → PlacesBut depth left out (after finalize b o)
 after-places depth left out b o firm pinned h =
-    places-kept b (after finalise b o) (after-kept b o firm (owner-live b 1 MACHINE_BIRTH h.machine) pinned) depth left out h
+    places-kept b (after finalize b o) (after-kept b o firm (owner-live b 1 MACHINE_BIRTH h.machine) pinned) depth left out h

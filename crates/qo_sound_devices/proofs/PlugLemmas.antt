@@ -14,15 +14,15 @@ use Rattle.qo_model.specs.Depth.{among, by_depth}
 use Rattle.qo_model.specs.Devices.{bridge_of, bus_above, bus_of, depth_of, depth_turn, device_named, has_id}
 use Rattle.qo_model.specs.Paths.{births, is_of}
 use Rattle.qo_model.specs.Plug.{Wanted, barred_early, barred_late, bus_for, cut_attempt, plug, plug_as, plug_attempt, plug_by, plug_late, spot_of, type_barred, with_plugged}
-use Rattle.qo_model.specs.Types.{TypeRow, is_a, row_named}
-use Rattle.qo_sound.proofs.FirmLemmas.{Firm}
+use Rattle.qo_model.specs.Types.{TypeInfo, is_a, type_named}
+use Rattle.qo_sound.proofs.FirmBoardLemmas.{Firm}
 use Rattle.qo_sound.proofs.PlugLemmas.{IsPlace, cut_attempt-rest, device-of, place-of, plug_attempt-rest}
 use Rattle.qo_sound.proofs.RecordLemmas.{all-imply}
 use Rattle.qo_sound.proofs.ViewLemmas.{AtRest}
 use Rattle.qo_sound_devices.specs.SoundPlaces.{child_entries, HasOwner, machines, bridges, id_of, IsAnonymous, IsHome, IsPeripheral, listed, PlacesBut, stands}
-use Rattle.qo_sound_devices.proofs.AlikeLemmas.{alike-record}
-use Rattle.qo_sound_devices.proofs.AttachedLemmas.{owns-listed, parent-is}
-use Rattle.qo_sound_devices.proofs.LowLemmas.{room}
+use Rattle.qo_sound_devices.proofs.LikenessLemmas.{alike-record}
+use Rattle.qo_sound_devices.proofs.AttachmentLemmas.{owns-listed, parent-is}
+use Rattle.qo_sound_devices.proofs.DepthLemmas.{room}
 use Rattle.qo_sound_devices.proofs.PlacesLemmas.{all-listed, kept-alike, or-cases, owner-live, places-kept}
 
 -- attempts take births, and are noted
@@ -50,7 +50,7 @@ pub record Accepted (b : Board) (t : TypeId) (bus : ℕ) (a : Wanted) : Type 0 w
   pub late : barred_late b t bus a.props ≡ None
   pub place : IsPlace b t a (spot_of b t bus a.props)
 
--- a fact of the board behind an add: as it was, behind an attempt, or behind a device that was added
+-- a fact of the board after an add: as it was, after an attempt, or after a device that was added
 module _ (P : Board → Type 0) (b : Board) (a : Wanted) (same : P b) (attempt : (t : TypeId) (bus stage : ℕ) → P (plug_attempt b t bus stage))
     (taken : (t : TypeId) (bus : ℕ) → Accepted b t bus a → P (with_plugged b t a (spot_of b t bus a.props))) where
   by-late : (t : TypeId) (bus : ℕ) (o : Option (ℕ × Code)) → barred_late b t bus a.props ≡ o
@@ -71,15 +71,15 @@ module _ (P : Board → Type 0) (b : Board) (a : Wanted) (same : P b) (attempt :
 
   by-type : (o : Option Code) → type_barred a.driver ≡ o → P (plug_by b a o).board
   by-type (Some code) e = same
-  by-type None e = go (row_named a.driver) refl
+  by-type None e = go (type_named a.driver) refl
     where
-      go : (row : Option TypeRow) → row_named a.driver ≡ row → P (plug_by b a None).board
+      go : (row : Option TypeInfo) → type_named a.driver ≡ row → P (plug_by b a None).board
       go None p = rw (plug_by, p) same
       go (Some row) p = rw (plug_by, p) (by-stage row.id (device-of row (rw (type_barred, p) at e)) (barred_early b row.id a) refl)
 
-  pub behind-plug : P (plug b a).board
+  pub after-plug : P (plug b a).board
   unfolding plug
-  behind-plug = by-type (type_barred a.driver) refl
+  after-plug = by-type (type_barred a.driver) refl
 
 -- depths
 

@@ -12,21 +12,21 @@ use Rattle.qo_model.specs.Release.{without_first}
 use Rattle.qo_model.specs.Reset.{held, is_out, phased, post, pulse, released}
 use Rattle.qo_model.specs.Unplug.{detach, first_of}
 use Rattle.qo_sound.proofs.CutLemmas.{near-beside}
-use Rattle.qo_sound.proofs.FirmLemmas.{Firm}
-use Rattle.qo_sound.proofs.KeptLemmas.{sound_kept_lem}
+use Rattle.qo_sound.proofs.FirmBoardLemmas.{Firm}
+use Rattle.qo_sound.proofs.TreeKeptLemmas.{sound_kept_lem}
 use Rattle.qo_sound.proofs.UnplugLemmas.{Sits, held-acted}
 use Rattle.qo_sound.proofs.ViewLemmas.{AtRest, rest-from_sound, sound-from_rest}
 use Rattle.qo_sound.proofs.WorkLemmas.{Nearly}
 use Rattle.qo_sound_devices.specs.SoundDevices.{SoundDevices}
 use Rattle.qo_sound_devices.specs.SoundLists.{IsOn, SoundLists}
 use Rattle.qo_sound_devices.specs.SoundPlaces.{PlacesBut, stands}
-use Rattle.qo_sound_devices.proofs.BesideLemmas.{beside-places}
-use Rattle.qo_sound_devices.proofs.DetachLemmas.{detach-places}
+use Rattle.qo_sound_devices.proofs.DependenceLemmas.{beside-places}
+use Rattle.qo_sound_devices.proofs.DetachmentLemmas.{detach-places}
 use Rattle.qo_sound_devices.proofs.ListsLemmas.{lists-same}
-use Rattle.qo_sound_devices.proofs.LowLemmas.{moved-dimmed, stands-dimmed}
-use Rattle.qo_sound_devices.proofs.MovedLemmas.{places-moved}
-use Rattle.qo_sound_devices.proofs.UnlistLemmas.{detach-lists}
-use Rattle.qo_sound_devices.proofs.UnrealizeLemmas.{Dims, dims-acted}
+use Rattle.qo_sound_devices.proofs.DepthLemmas.{moved-dimmed, stands-dimmed}
+use Rattle.qo_sound_devices.proofs.RemovalLemmas.{places-moved}
+use Rattle.qo_sound_devices.proofs.UnlistingLemmas.{detach-lists}
+use Rattle.qo_sound_devices.proofs.UnrealizingLemmas.{Dims, dims-acted}
 
 -- what changes nothing that places speak of keeps them
 dims-places : (depth : ℕ → ℕ) (b c : Board) → Firm c → Dims b c → PlacesBut depth None (λ x. false) b → PlacesBut depth None (λ x. false) c

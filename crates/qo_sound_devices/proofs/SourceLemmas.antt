@@ -15,29 +15,29 @@ use Rattle.qo_values.specs.declared.ranges.Range.{Range}
 use Rattle.qo_model.specs.Board.{Board, Record, Slot, plain, child, strong, weak, alias, record_of, is_live, slots_at}
 use Rattle.qo_model.specs.Changes.{add, changed_at, set, with_added, with_changed, with_val}
 use Rattle.qo_model.specs.Devices.{child_named, clock_of, is_true, kid_name, number_in, plain_in, strong_in}
-use Rattle.qo_model.specs.Objects.{place_from}
+use Rattle.qo_model.specs.Objects.{index_from}
 use Rattle.qo_model.specs.Paths.{is_of}
 use Rattle.qo_model.specs.Plug.{Spot, Wanted, addressed_at, clocked, drafted, fitted, joined, link_named, name_for, parent_for, source_for, stood, valued, with_body_of, with_given, with_source}
 use Rattle.qo_model.specs.Release.{edit}
 use Rattle.qo_model.specs.Types.{is_a}
 use Rattle.qo_model.specs.Unplug.{is_named, set_named}
-use Rattle.qo_model.proofs.FirstLemmas.{named_in, Found, found-at, named-other, other-name, first-found}
+use Rattle.qo_model.proofs.FirstSlotLemmas.{named_in, Found, found-at, named-other, other-name, first-found}
 use Rattle.qo_model.proofs.StepLemmas.{found-edited}
 use Rattle.qo_sound.proofs.PlugLemmas.{shut-above}
 use Rattle.qo_sound.proofs.TestLemmas.{decide}
 use Rattle.qo_sound.proofs.ViewLemmas.{AtRest}
 use Rattle.qo_sound_devices.specs.SoundPlaces.{child_entries, child_entry, kid_entry, listed, PlacesBut}
-use Rattle.qo_sound_devices.proofs.AlikeLemmas.{other-record}
-use Rattle.qo_sound_devices.proofs.DraftedLemmas.{drafted-source, may_see}
-use Rattle.qo_sound_devices.proofs.JoinedLemmas.{Goal, IsFurther, Joined}
-use Rattle.qo_sound_devices.proofs.MadeLemmas.{now_at}
+use Rattle.qo_sound_devices.proofs.LikenessLemmas.{other-record}
+use Rattle.qo_sound_devices.proofs.DraftLemmas.{drafted-source, may_see}
+use Rattle.qo_sound_devices.proofs.AdditionLemmas.{Goal, IsFurther, Joined}
+use Rattle.qo_sound_devices.proofs.JoiningLemmas.{now_at}
 use Rattle.qo_sound_devices.proofs.PlacesLemmas.{child-live, of-live}
-use Rattle.qo_sound_devices.proofs.StoodLemmas.{child-fitted, joined-stood}
-use Rattle.qo_sound_devices.proofs.UnrealizeLemmas.{Dims, dims-none, entries-changed, reads, bodies}
-use Rattle.qo_sound_devices.proofs.WhereLemmas.{entry-of}
+use Rattle.qo_sound_devices.proofs.ValueLemmas.{child-fitted, joined-stood}
+use Rattle.qo_sound_devices.proofs.UnrealizingLemmas.{Dims, dims-none, entries-changed, reads, bodies}
+use Rattle.qo_sound_devices.proofs.LocationLemmas.{entry-of}
 
 -- the slot at the first place of a name is the one of that name
-place-slot : (name : List ℕ) (slots : List (List ℕ × Slot)) (k j i : ℕ) → place_from (is_named name) k slots ≡ Some j → j ≡ i + k → (s : List ℕ × Slot)
+place-slot : (name : List ℕ) (slots : List (List ℕ × Slot)) (k j i : ℕ) → index_from (is_named name) k slots ≡ Some j → j ≡ i + k → (s : List ℕ × Slot)
     → slice_get slots i ≡ Some s → named_in name slots ≡ Some s.1
 place-slot name slots k j i e is s at =
     ap (option_map (λ (x : List ℕ × Slot). x.1)) (sym (first-found name slots k j i e is) ∙ at)
@@ -59,9 +59,9 @@ entries-at f g zero (x ∷ slots) s at same =
 entries-at f g (suc i) (x ∷ slots) s at same = ap (cons_option (f x)) (entries-at f g i slots s at same)
 
 dims-source : (n m : ℕ) (c : Board) → may_see (named_in (codes "source") (slots_at c n)) ≡ true → Dims c (link_named n (codes "source") m c)
-dims-source n m c e = go (place_from (is_named (codes "source")) 0 (slots_at c n)) refl
+dims-source n m c e = go (index_from (is_named (codes "source")) 0 (slots_at c n)) refl
   where
-    go : (o : Option ℕ) → place_from (is_named (codes "source")) 0 (slots_at c n) ≡ o → Dims c (link_named n (codes "source") m c)
+    go : (o : Option ℕ) → index_from (is_named (codes "source")) 0 (slots_at c n) ≡ o → Dims c (link_named n (codes "source") m c)
     go None p = rw (link_named, p) (dims-none c)
     go (Some i) p =
         rw (link_named, p) (record {
@@ -117,16 +117,16 @@ module _ (x : ℕ) where
 
   pub set-other : (n : ℕ) (name : List ℕ) (v : Val) → (x == n) ≡ false → (c : Board) → record_of (set_named n name v c) x ≡ record_of c x
   unfolding set
-  set-other n name v apart c = go (place_from (is_named name) 0 (slots_at c n)) refl
+  set-other n name v apart c = go (index_from (is_named name) 0 (slots_at c n)) refl
     where
-      go : (o : Option ℕ) → place_from (is_named name) 0 (slots_at c n) ≡ o → record_of (set_named n name v c) x ≡ record_of c x
+      go : (o : Option ℕ) → index_from (is_named name) 0 (slots_at c n) ≡ o → record_of (set_named n name v c) x ≡ record_of c x
       go None e = rw (set_named, e) refl
       go (Some i) e = rw (set_named, e) (edit-other n (with_changed (with_val v) i) (λ r. refl) apart c)
 
   pub link-other : (n : ℕ) (name : List ℕ) (m : ℕ) → (x == n) ≡ false → (c : Board) → record_of (link_named n name m c) x ≡ record_of c x
-  link-other n name m apart c = go (place_from (is_named name) 0 (slots_at c n)) refl
+  link-other n name m apart c = go (index_from (is_named name) 0 (slots_at c n)) refl
     where
-      go : (o : Option ℕ) → place_from (is_named name) 0 (slots_at c n) ≡ o → record_of (link_named n name m c) x ≡ record_of c x
+      go : (o : Option ℕ) → index_from (is_named name) 0 (slots_at c n) ≡ o → record_of (link_named n name m c) x ≡ record_of c x
       go None e = rw (link_named, e) refl
       go (Some i) e = rw (link_named, e) (edit-other n (with_changed (fitted c m) i) (λ r. refl) apart c)
 

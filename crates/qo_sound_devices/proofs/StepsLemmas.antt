@@ -11,17 +11,17 @@ use Rattle.qo_values.specs.declared.births.TheConstants.{MACHINE_BIRTH}
 use Rattle.qo_values.specs.declared.properties.Val.{Val}
 use Rattle.qo_model.specs.Board.{Board, Record, Slot, plain, child, strong, weak, alias, record_of, is_live, slots_at}
 use Rattle.qo_model.specs.Depth.{among}
-use Rattle.qo_model.specs.Devices.{bus_of, is_realized, is_true, number_in, place_on, plain_in, strong_in}
+use Rattle.qo_model.specs.Devices.{bus_of, is_realized, is_true, number_in, bus_slot_of, plain_in, strong_in}
 use Rattle.qo_model.specs.Paths.{is_of}
-use Rattle.qo_model.specs.Release.{after, edit, edited, finalise, without_hold}
-use Rattle.qo_model.proofs.FirstLemmas.{named_in}
+use Rattle.qo_model.specs.Release.{after, edit, edited, finalize, without_hold}
+use Rattle.qo_model.proofs.FirstSlotLemmas.{named_in}
 use Rattle.qo_model.proofs.StepLemmas.{found-edited, is_some-map, map-edited}
-use Rattle.qo_sound.proofs.FirmLemmas.{Firm}
+use Rattle.qo_sound.proofs.FirmBoardLemmas.{Firm}
 use Rattle.qo_sound.proofs.SlotLemmas.{names_in}
 use Rattle.qo_sound_devices.specs.SoundPlaces.{child_entries, child_entry, HasOwner, kid_entries, kid_entry, listed, owns_it, stands}
-use Rattle.qo_sound_devices.proofs.AlikeLemmas.{after-alike, Alike, alike-record, bodiless, other-record}
+use Rattle.qo_sound_devices.proofs.LikenessLemmas.{after-alike, Alike, alike-record, bodiless, other-record}
 use Rattle.qo_sound_devices.proofs.DropLemmas.{children-fewer, edited-slots, kids-fewer, none-named, plain-dropped}
-use Rattle.qo_sound_devices.proofs.MovedLemmas.{Moved}
+use Rattle.qo_sound_devices.proofs.RemovalLemmas.{Moved}
 use Rattle.qo_sound_devices.proofs.PlacesLemmas.{after-anonymous, more, nothing, same, SameBody, stands-live, Within, within-all, within-same}
 
 pub within-then : {A : Type 0} {xs ys zs : List A} → Within xs ys → Within ys zs → Within xs zs
@@ -44,7 +44,7 @@ pub record Steps (b c : Board) : Type 0 where
   pub live : (x : ℕ) → is_live c x ≡ true → is_live b x ≡ true
   pub body : (x : ℕ) → is_live c x ≡ true → SameBody b c x
   pub realized : (x : ℕ) → is_live c x ≡ true → is_realized c x ≡ is_realized b x
-  pub place : (x : ℕ) → is_live c x ≡ true → place_on c x ≡ place_on b x
+  pub place : (x : ℕ) → is_live c x ≡ true → bus_slot_of c x ≡ bus_slot_of b x
   pub bus : (x q : ℕ) → bus_of c x ≡ Some q → bus_of b x ≡ Some q
   pub children : (x : ℕ) → Within (child_entries c x) (child_entries b x)
   pub kids : (x : ℕ) → Within (kid_entries c x) (kid_entries b x)
@@ -105,8 +105,8 @@ steps-alike b c anonymous alike =
     read_bus x q None e k = absurd (let clash : None ≡ Some q = rw e at k in cc)
     read_bus x q (Some r) e k = sym (alike x (ap is_some e)).bus ∙ k
 
-pub steps-after : (b : Board) (o : Option ℕ) → Steps b (after finalise b o)
-steps-after b o = steps-alike b (after finalise b o) (after-anonymous b o) (after-alike b o)
+pub steps-after : (b : Board) (o : Option ℕ) → Steps b (after finalize b o)
+steps-after b o = steps-alike b (after finalize b o) (after-anonymous b o) (after-alike b o)
 
 -- slots, of which some was taken away
 
@@ -223,7 +223,7 @@ module _ (b : Board) (n : ℕ) (change : Record → Record) (same_birth : (r : R
         realized = λ x e. at_each (λ y. is_realized c y ≡ is_realized b y) (λ y a. a.realized)
             (at-slots (λ ss. option_map_or is_true (option_and_then plain_in (named_in (codes "realized") ss)) false)
             (ap (λ (o : Option Val). option_map_or is_true o false) (h.plains (codes "realized")))) x;
-        place = λ x e. at_each (λ y. place_on c y ≡ place_on b y) (λ y a. a.place) (at-slots (λ ss.
+        place = λ x e. at_each (λ y. bus_slot_of c y ≡ bus_slot_of b y) (λ y a. a.place) (at-slots (λ ss.
             option_and_then number_in (option_and_then plain_in (named_in (codes "slot") ss))) (ap (option_and_then number_in) (h.plains (codes "slot")))) x;
         bus = λ x q. at_each (λ y. bus_of c y ≡ Some q → bus_of b y ≡ Some q) (λ y a e. sym a.bus ∙ e)
             (λ e. ap (λ ss. option_and_then strong_in (named_in (codes "parent_bus") ss)) was

@@ -14,30 +14,30 @@ use Rattle.qo_model.specs.Board.{Board, Record, Slot, plain, child, strong, weak
 use Rattle.qo_model.specs.Changes.{changed_at, point, pointed, set, with_changed, with_val}
 use Rattle.qo_model.specs.Depth.{among}
 use Rattle.qo_model.specs.Devices.{is_realized, is_true, number_in, plain_in, strong_in}
-use Rattle.qo_model.specs.FinalNotesRuns.{behind_write}
+use Rattle.qo_model.specs.FinalNotesRuns.{after_write}
 use Rattle.qo_model.specs.Paths.{child_of, is_of}
-use Rattle.qo_model.specs.Properties.{may_set, pointed_at, relinked, row_of_property, write}
-use Rattle.qo_model.specs.Release.{after, drop_slot, edit, edited, emptied, finalise, with_dropped, without_hold}
+use Rattle.qo_model.specs.Properties.{may_set, pointed_at, relinked, property_named, write}
+use Rattle.qo_model.specs.Release.{after, drop_slot, edit, edited, emptied, finalize, with_dropped, without_hold}
 use Rattle.qo_model.specs.RowNames.{property_name}
 use Rattle.qo_model.specs.Types.{is_a, slots_of, types}
 use Rattle.qo_model.specs.declared.properties.Property.{Property}
 use Rattle.qo_model.proofs.EditLemmas.{StandsAt, stands-at}
-use Rattle.qo_model.proofs.FirstLemmas.{named-changed, named-other}
+use Rattle.qo_model.proofs.FirstSlotLemmas.{named-changed, named-other}
 use Rattle.qo_model.proofs.StepLemmas.{drop-live, found-edited}
 use Rattle.qo_sound.proofs.ChangeLemmas.{emptied-at, near-relinked, near-set}
 use Rattle.qo_model.proofs.WrittenLemmas.{IsLink, holding, seeing, link-childless}
 use Rattle.qo_sound.proofs.TargetLemmas.{target-fit}
-use Rattle.qo_sound.proofs.FirmLemmas.{edited-kinds, FitsKind, Firm, firm-changed, firm-drop, Linked}
+use Rattle.qo_sound.proofs.FirmBoardLemmas.{edited-kinds, FitsKind, Firm, firm-changed, firm-drop, Linked}
 use Rattle.qo_sound.proofs.ReadLemmas.{plain-pointed}
 use Rattle.qo_sound.proofs.SlotLemmas.{child-pointed}
 use Rattle.qo_sound.proofs.ViewLemmas.{AtRest}
 use Rattle.qo_model.proofs.WrittenLemmas.{SlotFound, write-comes}
 use Rattle.qo_sound_devices.specs.SoundPlaces.{child_entry, PlacesBut}
-use Rattle.qo_sound_devices.proofs.AlikeLemmas.{Alike}
+use Rattle.qo_sound_devices.proofs.LikenessLemmas.{Alike}
 use Rattle.qo_sound_devices.proofs.CommandLemmas.{Goes, goes-after, goes-kept, goes-then, keeps-goes}
 use Rattle.qo_sound_devices.proofs.DropLemmas.{edited-slots, kept-drop, kept-edit, KeptAt}
 use Rattle.qo_sound_devices.proofs.PlacesLemmas.{Keeps, keeps-none, Kept, kept-alike, of-alike, owner-live, within-same}
-use Rattle.qo_sound_devices.proofs.UnrealizeLemmas.{Dimmed, dimmed-live, entries-changed, mild-dimmed, mild-val, reads}
+use Rattle.qo_sound_devices.proofs.UnrealizingLemmas.{Dimmed, dimmed-live, entries-changed, mild-dimmed, mild-val, reads}
 
 -- what `qom-set` may write: no property of buses, and none that places speak of
 abbrev fits_places : TypeId → Property → Bool
@@ -84,11 +84,11 @@ found-fits t name (p ∷ ps) h row e = go (bytes_eq (property_name p.name) name)
     go true q rest = subst (λ (x : Property). (fits_places t x ≡ true) × (bytes_eq (property_name x.name) name ≡ true)) (same_Some p row (rw q at e)) (h.0, q)
     go false q rest = rest (rw q at e)
 
-pub row-fits : (b : Board) (n : ℕ) (name : List ℕ) (row : Property) → option_and_then (λ t. row_of_property t name) (kind_of b n) ≡ Some row
+pub row-fits : (b : Board) (n : ℕ) (name : List ℕ) (row : Property) → option_and_then (λ t. property_named t name) (kind_of b n) ≡ Some row
     → may_set row.mark ≡ true → Fits b n name
 row-fits b n name row e may = go (kind_of b n) refl e
   where
-    go : (o : Option TypeId) → kind_of b n ≡ o → option_and_then (λ t. row_of_property t name) o ≡ Some row → Fits b n name
+    go : (o : Option TypeId) → kind_of b n ≡ o → option_and_then (λ t. property_named t name) o ≡ Some row → Fits b n name
     go None q k = absurd (let clash : None ≡ Some row = k in cc)
     go (Some t) q k =
         let all : (fits_places t row ≡ true) × (bytes_eq (property_name row.name) name ≡ true) = found-fits t name (slots_of t) (all-fit t) row k in
@@ -264,8 +264,8 @@ relinked-places depth b n i name t s fits f link e target fits_target rest h = r
     first : Goes depth None (λ x. false) b c
     first = goes-kept depth None (λ x. false) b c kept pinned h
 
-    named_behind : (left : Slot) → emptied s ≡ Some left → SlotFound name (slots_at c n) i
-    named_behind left leaves =
+    named_after : (left : Slot) → emptied s ≡ Some left → SlotFound name (slots_at c n) i
+    named_after left leaves =
         record {
           entry = (at.entry.0, left);
           at =
@@ -277,17 +277,17 @@ relinked-places depth b n i name t s fits f link e target fits_target rest h = r
     live_n : is_live c n ≡ true
     live_n = drop-live b n i n ∙ ap is_some at.found
 
-    ends : (to : Option ℕ) → FitsKind (kind_of b) t to → to ≡ target → Keeps depth b (after finalise (pointed_at to n i c) (held s))
+    ends : (to : Option ℕ) → FitsKind (kind_of b) t to → to ≡ target → Keeps depth b (after finalize (pointed_at to n i c) (held s))
     ends to fits_to is =
-        keeps-goes depth b (after finalise (pointed_at to n i c) (held s))
-        (goes-then depth None (λ x. false) b (pointed_at to n i c) (after finalise (pointed_at to n i c) (held s)) (middle to fits_to)
-        (goes-after depth None (λ x. false) (pointed_at to n i c) (held s) firm_behind (pins_to to) (middle to fits_to).places))
+        keeps-goes depth b (after finalize (pointed_at to n i c) (held s))
+        (goes-then depth None (λ x. false) b (pointed_at to n i c) (after finalize (pointed_at to n i c) (held s)) (middle to fits_to)
+        (goes-after depth None (λ x. false) (pointed_at to n i c) (held s) firm_after (pins_to to) (middle to fits_to).places))
       where
         near_firm : Firm (relinked b n i to)
         near_firm = (near-relinked b n i t s link e to fits_to rest.used).firm
 
-        firm_behind : Firm (after finalise (pointed_at to n i c) (held s))
-        firm_behind = rw (relinked, e) at near_firm
+        firm_after : Firm (after finalize (pointed_at to n i c) (held s))
+        firm_after = rw (relinked, e) at near_firm
 
         pins_to : (goal : Option ℕ) → among (pointed_at goal n i c).pins 1 ≡ true
         pins_to None = pinned
@@ -308,12 +308,12 @@ relinked-places depth b n i name t s fits f link e target fits_target rest h = r
             let no_bus : is_of c (codes "bus") n ≡ false = of-alike b c n (codes "bus") (kept.body n live_n) ∙ fits.no_bus in
             goes-then depth None (λ x. false) b c (point n i m c) first
             (goes-kept depth None (λ x. false) c (point n i m c)
-            (point-kept depth c first.places n i m name (named_behind left leaves) fits.unlinked no_bus firm) pinned first.places)
+            (point-kept depth c first.places n i m name (named_after left leaves) fits.unlinked no_bus firm) pinned first.places)
 
 pub write-places : (depth : ℕ → ℕ) (b : Board) (n : ℕ) (name : List ℕ) (v : Val) → AtRest b → PlacesBut depth None (λ x. false) b
-    → Keeps depth b (behind_write b (write b n name v))
+    → Keeps depth b (after_write b (write b n name v))
 write-places depth b n name v rest h = write-comes (Keeps depth b) b (keeps-none depth b h) n name v (λ i t p kind e may.
-    let fits_row : Fits b n name = row-fits b n name p (ap (option_and_then (λ k. row_of_property k name)) kind ∙ e) may in
+    let fits_row : Fits b n name = row-fits b n name p (ap (option_and_then (λ k. property_named k name)) kind ∙ e) may in
     let found : (s : Slot) → slice_get (slots_at b n) i ≡ Some (name, s) → SlotFound name (slots_at b n) i =
     λ s at. record { entry = (name, s); at = at; passes = (bytes_eq-Decides name name).1 refl } in
     let there : (s : Slot) → slice_get (slots_at b n) i ≡ Some (name, s) → slot_at b n i ≡ Some s = λ s at. ap (option_map (λ (x : List ℕ × Slot). x.1)) at in
@@ -323,5 +323,6 @@ write-places depth b n name v rest h = write-comes (Keeps depth b) b (keeps-none
           (set-kept b n i v name fits_row (found (plain old) at) (near-set b n i v old (there (plain old) at) rest.used).firm
           (owner-live b 1 MACHINE_BIRTH h.machine))
           (set-pins n i v b (ap (λ (ps : List ℕ). among ps 1) rest.pinned)) h);
-      link = λ u s left link leaves at to holds is path target told. relinked-places depth b n i name u s fits_row (found s at) link (there s at) target (target-fit b u path target told) rest h;
+      link = λ u s left link leaves at to holds is path target told.
+          relinked-places depth b n i name u s fits_row (found s at) link (there s at) target (target-fit b u path target told) rest h;
     })

@@ -12,26 +12,26 @@ use Rattle.qo_model.specs.Reset.{held, released}
 
 -- a step: a command on objects; a device is added, or the attempt is cut; its removal is asked for, and the guest refuses it or lets it go; a notice is read;
 -- an object acts, is held, and no longer; the whole board is reset; the events are sent
-pub data Step : Type 0 where
-  commands : Change → Step
-  adds : Wanted → Step
-  cuts : TypeId → ℕ → Bool → Step
-  asks : List ℕ → Step
-  refuses : ℕ → Step
-  lets_go : ℕ → Step
-  reads : Step
-  acts : Act → ℕ → ℕ → Step
-  holds : ℕ → Step
-  releases : ℕ → Step
-  resets : Step
-  sends : Step
+pub data DeviceStep : Type 0 where
+  commands : Change → DeviceStep
+  adds : Wanted → DeviceStep
+  cuts : TypeId → ℕ → Bool → DeviceStep
+  asks : List ℕ → DeviceStep
+  refuses : ℕ → DeviceStep
+  lets_go : ℕ → DeviceStep
+  reads : DeviceStep
+  acts : Act → ℕ → ℕ → DeviceStep
+  holds : ℕ → DeviceStep
+  releases : ℕ → DeviceStep
+  resets : DeviceStep
+  sends : DeviceStep
 
 -- the first notice is read, if there is one
 abbrev pub notice_read : Board → Board
 notice_read b = elim b.notices [ [] ↦ b | notice ∷ others ↦ record b { notices = others } ]
 
--- the board behind a step; a device is let go only where its removal is pending
-abbrev pub stepped : Board → Step → Board
+-- the board after a step; a device is let go only where its removal is pending
+abbrev pub stepped : Board → DeviceStep → Board
 stepped b (commands change) = changed b change
 stepped b (adds a) = (plug b a).board
 stepped b (cuts t i joined) = cut_attempt b t i joined
@@ -45,7 +45,7 @@ stepped b (releases n) = released b n
 stepped b resets = reset_whole b
 stepped b sends = record b { events = [] }
 
--- and behind some, in order
-abbrev pub behind_steps : Board → List Step → Board
-behind_steps b [] = b
-behind_steps b (step ∷ steps) = behind_steps (stepped b step) steps
+-- and after some, in order
+abbrev pub after_steps : Board → List DeviceStep → Board
+after_steps b [] = b
+after_steps b (step ∷ steps) = after_steps (stepped b step) steps

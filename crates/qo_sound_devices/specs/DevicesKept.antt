@@ -11,15 +11,15 @@ use Rattle.qo_model.specs.Opening.{opening_board}
 use Rattle.qo_model.specs.Plug.{Wanted, cut_attempt, plug, plug_attempt}
 use Rattle.qo_model.specs.Reset.{held, pulse, released}
 use Rattle.qo_model.specs.Unplug.{detach}
-use Rattle.qo_sound_devices.specs.DeviceRuns.{Step, behind_steps}
+use Rattle.qo_sound_devices.specs.DeviceRuns.{DeviceStep, after_steps}
 use Rattle.qo_sound_devices.specs.SoundDevices.{SoundDevices}
 use Rattle.qo_sound_devices.specs.SoundPlaces.{stands}
 
 -- what keeps it so, with no more said than that it is so before
 pub record DevicesKeptLaw : Type 0 where
-  -- the opening board is sound so, and so is each board behind any steps of it
+  -- the opening board is sound so, and so is each board after any steps of it
   pub opening : SoundDevices opening_board
-  pub run : (steps : List Step) → SoundDevices (behind_steps opening_board steps)
+  pub run : (steps : List DeviceStep) → SoundDevices (after_steps opening_board steps)
   -- each change by command on objects, taken or refused
   pub change : (b : Board) (change : Change) → SoundDevices b → SoundDevices (changed b change)
   -- an attempt that was given up, to make an object and to add a device

@@ -1,6 +1,6 @@
 pub mod DeviceRuns
 pub mod DevicesKept
-pub mod DevicesSay
+pub mod DeviceFacts
 pub mod ListsKept
 pub mod PlacesKept
 pub mod SoundDevices

@@ -2,7 +2,7 @@
 use Rattle.std.specs.Prelude.{◌≡◌, ℕ, Bool, true, List, ◌∷◌}
 use Rattle.qo_values.specs.declared.kinds.TypeId.{TypeId}
 use Rattle.qo_model.specs.Board.{Board, Notice}
-use Rattle.qo_model.specs.FinalNotesRuns.{Change, behind, changed}
+use Rattle.qo_model.specs.FinalNotesRuns.{Change, after_changes, changed}
 use Rattle.qo_model.specs.Hotplug.{asked, refused}
 use Rattle.qo_model.specs.Objects.{with_attempt}
 use Rattle.qo_model.specs.Opening.{opening_board}
@@ -14,9 +14,9 @@ use Rattle.qo_sound_devices.specs.SoundPlaces.{stands}
 
 -- what keeps the lists sound, where the tree and the places are too
 pub record ListsKeptLaw : Type 0 where
-  -- they are sound on the opening board, and behind any changes of it by commands on objects
+  -- they are sound on the opening board, and after any changes of it by commands on objects
   pub opening : SoundLists opening_board
-  pub run : (changes : List Change) → SoundLists (behind opening_board changes)
+  pub run : (changes : List Change) → SoundLists (after_changes opening_board changes)
   -- each change by command on objects, taken or refused
   pub change : (b : Board) (change : Change) → SoundDevices b → SoundLists (changed b change)
   -- an attempt that was given up: to make an object, to add a device, and one that was cut

@@ -2,20 +2,20 @@
 use Rattle.std.specs.Prelude.{◌≡◌, ℕ, ◌≤◌, Bool, true, List}
 use Rattle.qo_values.specs.declared.kinds.TypeId.{TypeId}
 use Rattle.qo_model.specs.Board.{Board}
-use Rattle.qo_model.specs.FinalNotesRuns.{Change, behind, changed}
+use Rattle.qo_model.specs.FinalNotesRuns.{Change, after_changes, changed}
 use Rattle.qo_model.specs.Hotplug.{asked, refused}
 use Rattle.qo_model.specs.Objects.{with_attempt}
 use Rattle.qo_model.specs.Opening.{opening_board}
 use Rattle.qo_model.specs.Plug.{Wanted, cut_attempt, plug, plug_attempt}
 use Rattle.qo_model.specs.Unplug.{detach}
-use Rattle.qo_sound.specs.Kept.{SoundTree}
+use Rattle.qo_sound.specs.TreeKept.{SoundTree}
 use Rattle.qo_sound_devices.specs.SoundPlaces.{SoundPlaces, stands}
 
 -- what keeps the places sound, where the tree is
 pub record PlacesKeptLaw : Type 0 where
-  -- they are sound on the opening board, and behind any changes of it by commands on objects
+  -- they are sound on the opening board, and after any changes of it by commands on objects
   pub opening : SoundPlaces opening_board
-  pub run : (changes : List Change) → SoundPlaces (behind opening_board changes)
+  pub run : (changes : List Change) → SoundPlaces (after_changes opening_board changes)
   -- each change by command on objects, taken or refused
   pub change : (b : Board) (change : Change) → SoundTree b → SoundPlaces b → SoundPlaces (changed b change)
   -- an attempt that was given up: to make an object, to add a device, and one that was cut

@@ -1,6 +1,6 @@
 -- When a board is sound as far as devices go.
 use Rattle.qo_model.specs.Board.{Board}
-use Rattle.qo_sound.specs.Kept.{SoundTree}
+use Rattle.qo_sound.specs.TreeKept.{SoundTree}
 use Rattle.qo_sound_devices.specs.SoundLists.{SoundLists}
 use Rattle.qo_sound_devices.specs.SoundPlaces.{SoundPlaces}
 

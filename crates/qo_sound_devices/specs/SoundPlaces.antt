@@ -8,7 +8,7 @@ use Rattle.qo_values.specs.declared.kinds.TypeId.TheVariants.{Container}
 use Rattle.qo_values.specs.declared.limits.TheConstants.{BUS_DEPTH_MAX, BUS_SLOTS}
 use Rattle.qo_model.specs.Board.{Board, Record, Slot, child, strong, kind_of, record_of, slots_at}
 use Rattle.qo_model.specs.Depth.{among}
-use Rattle.qo_model.specs.Devices.{anonymous_name, bus_of, clock_name, is_realized, kid_name, place_on}
+use Rattle.qo_model.specs.Devices.{anonymous_name, bus_of, clock_name, is_realized, kid_name, bus_slot_of}
 use Rattle.qo_model.specs.Paths.{is_of}
 use Rattle.qo_model.specs.Plug.{bus_type}
 
@@ -74,7 +74,7 @@ pub record IsKid (b : Board) (bus : ℕ) (e : List ℕ × ℕ) : Type 0 where
   pub there : stands b e.1 ≡ true
   pub on : bus_of b e.1 ≡ Some bus
   pub fits : suits b bus e.1 ≡ true
-  pub slot : (k : ℕ) × ((k < BUS_SLOTS) × ((place_on b e.1 ≡ Some k) × (e.0 ≡ kid_name k)))
+  pub slot : (k : ℕ) × ((k < BUS_SLOTS) × ((bus_slot_of b e.1 ≡ Some k) × (e.0 ≡ kid_name k)))
 
 -- a device is on a bus, and the bus has it
 pub record IsHome (b : Board) (d : ℕ) : Type 0 where

@@ -12,20 +12,20 @@ use Rattle.qo_model.specs.Changes.{with_added}
 use Rattle.qo_model.specs.Clocks.{acted, with_act_on}
 use Rattle.qo_model.specs.Devices.{buses_of, kids_of}
 use Rattle.qo_model.specs.Objects.{Given, given_slots, object_del, sever, with_object}
-use Rattle.qo_model.specs.FinalNotesRuns.{behind_write}
+use Rattle.qo_model.specs.FinalNotesRuns.{after_write}
 use Rattle.qo_model.specs.Paths.{canonical}
 use Rattle.qo_model.specs.Plug.{Spot, Wanted, acted_all, bus_births, clocked, counted, drafted, registers_on, source_for, stood, with_body_of, with_device, with_new, with_path, with_plugged}
 use Rattle.qo_model.specs.Properties.{write}
 use Rattle.qo_model.specs.Release.{edit, forgotten, pin}
-use Rattle.qo_model.specs.ReleaseKeeps.{without_slots}
+use Rattle.qo_model.specs.ReleaseInduction.{without_slots}
 use Rattle.qo_model.specs.Reset.{plugged, post}
 use Rattle.qo_model.specs.Types.{slots_of}
 use Rattle.qo_model.specs.Unplug.{detach, set_named}
 use Rattle.qo_values.specs.declared.properties.Val.{Val}
 use Rattle.qo_sound.proofs.ChangeStepsLemmas.{step-object_del, step-sever, step-write}
-use Rattle.qo_sound.proofs.DetachStepsLemmas.{KeepsEnds, KeepsLists, KeepsPins, step-detach, step-pin, step-unrealize}
-use Rattle.qo_sound.proofs.MakeStepsLemmas.{all-any, KeepsActs, KeepsEdits, KeepsNew, new_with, RowPasses, step-acted_all, step-drafted, step-plugged, step-set, step-stood}
-use Rattle.qo_sound_clocks.specs.RegistersKept.{registers_set, with_registers}
+use Rattle.qo_sound.proofs.DetachmentStepsLemmas.{KeepsEnds, KeepsLists, KeepsPins, step-detach, step-pin, step-unrealize}
+use Rattle.qo_sound.proofs.AdditionStepsLemmas.{all-any, KeepsActs, KeepsEdits, KeepsNew, new_with, RowPasses, step-acted_all, step-drafted, step-plugged, step-set, step-stood}
+use Rattle.qo_sound_clocks.specs.RegisterWrites.{registers_set, with_registers}
 use Rattle.qo_sound_shapes.proofs.BoardLemmas.{all-after, all-edit, all-new, AllOf}
 
 module _ (Q : Record → Type 0) (slots : (r s : Record) → without_slots s ≡ without_slots r → Q r → Q s)
@@ -61,7 +61,7 @@ module _ (Q : Record → Type 0) (slots : (r s : Record) → without_slots s ≡
   pub fact-deleted : (b : Board) (id : List ℕ) → AllOf Q b → AllOf Q (object_del b id).board
   fact-deleted b id h = step-object_del (AllOf Q) fact-edits fact-pins fact-ends b id h
 
-  pub fact-wrote : (b : Board) (n : ℕ) (name : List ℕ) (v : Val) → AllOf Q b → AllOf Q (behind_write b (write b n name v))
+  pub fact-wrote : (b : Board) (n : ℕ) (name : List ℕ) (v : Val) → AllOf Q b → AllOf Q (after_write b (write b n name v))
   fact-wrote b n name v h = step-write (AllOf Q) fact-edits fact-pins fact-ends b n name v h
 
   pub fact-severed : (b : Board) (n : ℕ) → AllOf Q b → AllOf Q (sever b n).board

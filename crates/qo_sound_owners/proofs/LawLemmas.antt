@@ -5,7 +5,7 @@ use Rattle.qo_sound.proofs.QuietStepsLemmas.{quiet-asked, quiet-held, quiet-puls
 use Rattle.qo_sound_owners.specs.OwnersKept.{OwnersKeptLaw}
 use Rattle.qo_sound_owners.specs.SoundOwners.{SoundOwners}
 use Rattle.qo_sound_owners.proofs.OwnersLemmas.{acted-owners, changed-owners, clock_scaled-owners, clock_set-owners, detach-owners, opening-owners, plug-owners, registers-owners, same-owners}
-use Rattle.qo_sound_owners.proofs.QuietLemmas.{quiet-reset}
+use Rattle.qo_sound_owners.proofs.ResetLemmas.{quiet-reset}
 
 pub owners_kept_lem : OwnersKeptLaw
 owners_kept_lem =

@@ -1,6 +1,6 @@
-pub mod AptLemmas
-pub mod CreatableLemmas
+pub mod TypeLemmas
+pub mod UserObjectLemmas
 pub mod FactLemmas
 pub mod LawLemmas
 pub mod OwnersLemmas
-pub mod QuietLemmas
+pub mod ResetLemmas

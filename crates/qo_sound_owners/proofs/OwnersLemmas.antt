@@ -22,15 +22,15 @@ use Rattle.qo_model.specs.Plug.{Wanted, plug}
 use Rattle.qo_model.specs.Types.{is_a}
 use Rattle.qo_model.specs.Unplug.{detach, set_named}
 use Rattle.qo_model.proofs.StepLemmas.{found-birth}
-use Rattle.qo_sound_clocks.specs.RegistersKept.{registers_set}
+use Rattle.qo_sound_clocks.specs.RegisterWrites.{registers_set}
 use Rattle.qo_sound_clocks.proofs.StepsLemmas.{kept-written, calls-kept}
 use Rattle.qo_sound_devices.specs.SoundDevices.{SoundDevices}
 use Rattle.qo_sound_devices.specs.SoundPlaces.{path_of, stands}
 use Rattle.qo_sound_devices.proofs.DevicesLawLemmas.{devices_kept_lem}
 use Rattle.qo_sound_shapes.proofs.BoardLemmas.{all-same, AllOf}
 use Rattle.qo_sound_owners.specs.SoundOwners.{containers, SoundOwners}
-use Rattle.qo_sound_owners.proofs.AptLemmas.{apt-body, apt-changed, apt-opening, apt-plug, apt-slots, Apt}
-use Rattle.qo_sound_owners.proofs.CreatableLemmas.{Creatable, creatable-acted, creatable-beside, creatable-changed, creatable-detach, creatable-opening, creatable-plug, creatable-registers, creatable-set, firm-devices}
+use Rattle.qo_sound_owners.proofs.TypeLemmas.{apt-body, apt-changed, apt-opening, apt-plug, apt-slots, Apt}
+use Rattle.qo_sound_owners.proofs.UserObjectLemmas.{Creatable, creatable-acted, creatable-beside, creatable-changed, creatable-detach, creatable-opening, creatable-plug, creatable-registers, creatable-set, firm-devices}
 use Rattle.qo_sound_owners.proofs.FactLemmas.{fact-act, fact-detach, fact-registers, fact-set}
 
 of-record : (b : Board) (x : ℕ) (r : Record) (name : List ℕ) → record_of b x ≡ Some r → is_of b name x ≡ is_a r.kind name

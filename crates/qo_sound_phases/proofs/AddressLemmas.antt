@@ -16,19 +16,19 @@ use Rattle.qo_model.specs.Types.{is_a, types}
 use Rattle.qo_sound.proofs.TestLemmas.{decide, clash-back}
 use Rattle.qo_sound_devices.specs.SoundDevices.{SoundDevices}
 use Rattle.qo_sound_devices.specs.SoundPlaces.{bridges, kid_entry, listed, stands}
-use Rattle.qo_sound_devices.proofs.AttachedLemmas.{owner-attached}
-use Rattle.qo_sound_devices.proofs.LowLemmas.{IsBusOf, is-bus_of, kid-of}
+use Rattle.qo_sound_devices.proofs.AttachmentLemmas.{owner-attached}
+use Rattle.qo_sound_devices.proofs.DepthLemmas.{IsBusOf, is-bus_of, kid-of}
 use Rattle.qo_sound_devices.proofs.PlugLemmas.{among-all}
 use Rattle.qo_sound_phases.specs.PhasesKept.{may_reset}
 use Rattle.qo_sound_phases.specs.SoundPhases.{IsReached, SoundPhases}
-use Rattle.qo_sound_phases.proofs.BelowLemmas.{Placed, placed}
-use Rattle.qo_sound_phases.proofs.ReachedLemmas.{machines-is}
+use Rattle.qo_sound_phases.proofs.ResetTreeLemmas.{Placed, placed}
+use Rattle.qo_sound_phases.proofs.ReachLemmas.{machines-is}
 
 -- the target of the first link of a name is among the kids
 named-listed : (d : ℕ) (p : List ℕ × Slot → Bool) (slots : List (List ℕ × Slot))
     → option_and_then strong_in (option_map (λ (s : List ℕ × Slot). s.1) (find p slots)) ≡ Some d → listed d (filter_map kid_entry slots) ≡ true
 named-listed d p [] e = absurd (let clash : None ≡ Some d = e in cc)
-named-listed d p (s ∷ slots) e = decide (p s) (λ q. here s (rw q at e)) (λ q. behind s (named-listed d p slots (rw q at e)))
+named-listed d p (s ∷ slots) e = decide (p s) (λ q. here s (rw q at e)) (λ q. after s (named-listed d p slots (rw q at e)))
   where
     here : (s : List ℕ × Slot) → strong_in s.1 ≡ Some d → listed d (filter_map kid_entry (s ∷ slots)) ≡ true
     here (name, strong t (Some m)) q = let is : (m == d) ≡ true = eq-eqb m d (same_Some m d q) in rw is refl
@@ -38,13 +38,13 @@ named-listed d p (s ∷ slots) e = decide (p s) (λ q. here s (rw q at e)) (λ q
     here (name, weak t target) q = absurd (let clash : None ≡ Some d = q in cc)
     here (name, alias m property) q = absurd (let clash : None ≡ Some d = q in cc)
 
-    behind : (s : List ℕ × Slot) → listed d (filter_map kid_entry slots) ≡ true → listed d (filter_map kid_entry (s ∷ slots)) ≡ true
-    behind (name, strong t (Some m)) q = rw q (or-true (m == d))
-    behind (name, strong t None) q = q
-    behind (name, plain v) q = q
-    behind (name, child m) q = q
-    behind (name, weak t target) q = q
-    behind (name, alias m property) q = q
+    after : (s : List ℕ × Slot) → listed d (filter_map kid_entry slots) ≡ true → listed d (filter_map kid_entry (s ∷ slots)) ≡ true
+    after (name, strong t (Some m)) q = rw q (or-true (m == d))
+    after (name, strong t None) q = q
+    after (name, plain v) q = q
+    after (name, child m) q = q
+    after (name, weak t target) q = q
+    after (name, alias m property) q = q
 
 first-among : (m : ℕ) (ms : List ℕ) → elim ms as (λ _. Option ℕ) [ [] ↦ None | k ∷ _ ↦ Some k ] ≡ Some m → among ms m ≡ true
 first-among m [] e = absurd (let clash : None ≡ Some m = e in cc)

@@ -17,14 +17,14 @@ use Rattle.qo_model.specs.Types.{finals, is_a}
 use Rattle.qo_sound.proofs.AttemptNotesLemmas.{buses-within}
 use Rattle.qo_sound.proofs.RecordLemmas.{all-append, all-imply}
 use Rattle.qo_sound.proofs.TestLemmas.{decide}
-use Rattle.qo_sound_devices.proofs.JoinedLemmas.{device-no_bus}
+use Rattle.qo_sound_devices.proofs.AdditionLemmas.{device-no_bus}
 use Rattle.qo_sound_devices.proofs.PlugLemmas.{among-all}
 use Rattle.qo_sound_phases.specs.Phases.{Stage, stage_of, phase_in, phases_of}
 use Rattle.qo_sound_phases.specs.Phases as stage
 use Rattle.qo_sound_phases.specs.SoundPhases.{SoundPhases}
-use Rattle.qo_sound_phases.proofs.BelowLemmas.{Placed}
+use Rattle.qo_sound_phases.proofs.ResetTreeLemmas.{Placed}
 use Rattle.qo_sound_phases.proofs.ListLemmas.{distinct-append, among-one, phases-none}
-use Rattle.qo_sound_phases.proofs.QuietLemmas.{Aside, aside-phases, phases-init, phases-made, quiet-aside}
+use Rattle.qo_sound_phases.proofs.QuietChangeLemmas.{Aside, aside-phases, phases-init, phases-made, quiet-aside}
 use Rattle.qo_sound_phases.proofs.ShapeLemmas.{shape-records}
 use Rattle.qo_sound_phases.proofs.StageLemmas.{noted-in, noted-none, noted-out}
 
@@ -103,7 +103,7 @@ module _ (n : ℕ) (t : TypeId) (its : is_a t (codes "device") ≡ true) where
       let is : x ≡ n = among-one x n f in
       omega (arith, high, is))
 
--- the phases of a device that is given up behind them
+-- the phases of a device that is given up after them
 module _ (b : Board) (bus : ℕ) (t : TypeId) (its : is_a t (codes "device") ≡ true) (h : SoundPhases b) where
   abbrev n : ℕ
   n = suc b.born

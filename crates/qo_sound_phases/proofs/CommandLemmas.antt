@@ -13,34 +13,34 @@ use Rattle.qo_model.specs.Changes.{with_added}
 use Rattle.qo_model.specs.FinalNotesRuns.{Change, added, changed, deleted, severed, wrote}
 use Rattle.qo_model.specs.Objects.{Given, added_as, given_slots, object_del, sever, severed_from, with_attempt, with_object}
 use Rattle.qo_model.specs.Paths.{attached, is_of}
-use Rattle.qo_model.specs.Release.{after, edit, edited, finalise, let_go, pin, put_in_order, unpin, without_first, without_pin}
+use Rattle.qo_model.specs.Release.{after, edit, edited, finalize, let_go, pin, put_in_order, unpin, without_first, without_pin}
 use Rattle.qo_model.specs.References.{refs}
 use Rattle.qo_model.specs.Types.{is_a}
 use Rattle.qo_model.proofs.ComesToLemmas.{addition-comes, deletion-comes, sever-comes, severed-comes}
-use Rattle.qo_model.proofs.ReleaseLeavesLemmas.{release_leaves}
-use Rattle.qo_model.proofs.StaysLemmas.{changed-stays}
+use Rattle.qo_model.proofs.ReleaseScopeLemmas.{release_leaves}
+use Rattle.qo_model.proofs.ChangeScopeLemmas.{changed-stays}
 use Rattle.qo_model.proofs.StepLemmas.{found_at, found-edited, is_some-map, map-edited}
 use Rattle.qo_model.proofs.TreeLemmas.{paths_lem}
 use Rattle.qo_sound.proofs.ChangeStepsLemmas.{step-object_del, step-sever, step-write}
-use Rattle.qo_sound.proofs.DetachStepsLemmas.{KeepsEnds, KeepsPins}
-use Rattle.qo_sound.proofs.MakeStepsLemmas.{KeepsEdits}
+use Rattle.qo_sound.proofs.DetachmentStepsLemmas.{KeepsEnds, KeepsPins}
+use Rattle.qo_sound.proofs.AdditionStepsLemmas.{KeepsEdits}
 use Rattle.qo_sound.proofs.TestLemmas.{decide, clash, clash-back}
 use Rattle.qo_sound.proofs.ViewLemmas.{rest-from_sound}
 use Rattle.qo_sound_devices.specs.SoundDevices.{SoundDevices}
 use Rattle.qo_sound_devices.specs.SoundPlaces.{child_entries, HasOwner, machines, bridges, owns_it, stands}
-use Rattle.qo_sound_devices.proofs.AlikeLemmas.{other-record}
-use Rattle.qo_sound_devices.proofs.AttachedLemmas.{child-attached, owns-listed, stands-attached}
+use Rattle.qo_sound_devices.proofs.LikenessLemmas.{other-record}
+use Rattle.qo_sound_devices.proofs.AttachmentLemmas.{child-attached, owns-listed, stands-attached}
 use Rattle.qo_sound_devices.proofs.DevicesLawLemmas.{devices_kept_lem}
 use Rattle.qo_sound_devices.proofs.LawLemmas.{changed-keeps}
 use Rattle.qo_sound_devices.proofs.PlacesLemmas.{child-live, Keeps, kind-alike, of-live, stands-live}
 use Rattle.qo_sound_devices.proofs.StepsLemmas.{steps-after}
 use Rattle.qo_sound_phases.specs.SoundPhases.{IsReached, machine, device, bus, SoundPhases}
-use Rattle.qo_sound_phases.proofs.BelowLemmas.{Placed, placed}
-use Rattle.qo_sound_phases.proofs.FixedLemmas.{Fixed, fixed-after, fixed-let_go, fixed-none, fixed-then, fixed-write, same-record, SameAt}
+use Rattle.qo_sound_phases.proofs.ResetTreeLemmas.{Placed, placed}
+use Rattle.qo_sound_phases.proofs.FixedObjectLemmas.{Fixed, fixed-after, fixed-let_go, fixed-none, fixed-then, fixed-write, same-record, SameAt}
 use Rattle.qo_sound_phases.proofs.FrameLemmas.{Frame}
-use Rattle.qo_sound_phases.proofs.LoneLemmas.{lone-changed}
-use Rattle.qo_sound_phases.proofs.QuietLemmas.{frame-phases, quiet-changed}
-use Rattle.qo_sound_phases.proofs.ReachedLemmas.{machines-listed}
+use Rattle.qo_sound_phases.proofs.MachineLemmas.{lone-changed}
+use Rattle.qo_sound_phases.proofs.QuietChangeLemmas.{frame-phases, quiet-changed}
+use Rattle.qo_sound_phases.proofs.ReachLemmas.{machines-listed}
 
 -- the machine, and the devices in their places
 data IsKeeper (b : Board) (x : ℕ) : Type 0 where
@@ -71,7 +71,7 @@ fixed-unpin On n c = go (list_any (nat_eq n) c.pins) refl
     go : (u : Bool) → list_any (nat_eq n) c.pins ≡ u → Fixed On c (unpin c n)
     go true e =
         rw (unpin, e)
-        (fixed-then On c (without_pin c n) (after finalise (without_pin c n) (Some n)) (fixed-pins On c (without_first n c.pins))
+        (fixed-then On c (without_pin c n) (after finalize (without_pin c n) (Some n)) (fixed-pins On c (without_first n c.pins))
         (fixed-after On (without_pin c n) (Some n)))
     go false e = rw (unpin, e) (fixed-none On c)
 
@@ -97,9 +97,9 @@ fixed-severed b d n = sever-comes (Fixed (IsKeeper b) b) b n (fixed-none (IsKeep
         (child-attached b d.tree.0 k.firm 1 MACHINE_BIRTH k.places.machine (paths_lem.attached_by_parent b d.tree.0 1))
 
 -- `object-add`
-behind-add : (b : Board) (t : TypeId) (id : List ℕ) (props : List Given) (x : ℕ) → is_live b x ≡ true
+after-add : (b : Board) (t : TypeId) (id : List ℕ) (props : List Given) (x : ℕ) → is_live b x ≡ true
     → record_of (with_object b t id props) x ≡ option_map (edited OBJECTS_BIRTH (with_added id (child (b.born + 1)))) (record_of b x)
-behind-add b t id props x live = go (record_of b x) refl
+after-add b t id props x live = go (record_of b x) refl
   where
     change : Record → Record
     change = with_added id (child (b.born + 1))
@@ -135,7 +135,7 @@ fixed-added b k t id props None x on e = same-record b (with_object b t id props
     apart = decide (x == OBJECTS_BIRTH) (λ q. absurd (no-objects b k (subst (IsKeeper b) (eqb-true x OBJECTS_BIRTH q) on))) (λ q. q)
 
     same : record_of (with_object b t id props) x ≡ record_of b x
-    same = behind-add b t id props x (live on) ∙ other-record OBJECTS_BIRTH x (with_added id (child (b.born + 1))) b refl apart (record_of b x) refl
+    same = after-add b t id props x (live on) ∙ other-record OBJECTS_BIRTH x (with_added id (child (b.born + 1))) b refl apart (record_of b x) refl
 
 -- what a command leaves
 fixed-changed : (b : Board) → SoundDevices b → (change : Change) → Fixed (IsKeeper b) b (changed b change)
@@ -182,14 +182,14 @@ kin-ends b o c h = (
   subst (λ (n : ℕ). b.born ≤ n) (sym (born o)) h.0,
   λ x e.
       let was : (is_live b x ≡ true) × (kind_of c x ≡ kind_of b x) = h.1 x ((steps-after c o).live x e) in
-      (was.0, kind-alike c (after finalise c o) x ((steps-after c o).body x e) ∙ was.1),
+      (was.0, kind-alike c (after finalize c o) x ((steps-after c o).body x e) ∙ was.1),
 )
   where
-    born : (u : Option ℕ) → (after finalise c u).born ≡ c.born
+    born : (u : Option ℕ) → (after finalize c u).born ≡ c.born
     born None = refl
     born (Some m) = go (refs c m == 0) refl
       where
-        go : (t : Bool) → (refs c m == 0) ≡ t → (after finalise c (Some m)).born ≡ c.born
+        go : (t : Bool) → (refs c m == 0) ≡ t → (after finalize c (Some m)).born ≡ c.born
         go true e = rw (after, e) (release_leaves c m).born
         go false e = rw (after, e) refl
 
@@ -205,7 +205,7 @@ kin-at b c h = record { older = h.0; kind = λ x e g. (h.1 x g).1 }
 kin-added : (b : Board) (t : TypeId) (id : List ℕ) (props : List Given) (refusal : Option Code) → KinAt b (added_as b t id props refusal).board
 kin-added b t id props (Some code) = record { older = omega arith; kind = λ x e g. refl }
 kin-added b t id props None =
-    record { older = omega arith; kind = λ x e g. ap (option_map (λ (r : Record). r.kind)) (behind-add b t id props x e) ∙ same (record_of b x) }
+    record { older = omega arith; kind = λ x e g. ap (option_map (λ (r : Record). r.kind)) (after-add b t id props x e) ∙ same (record_of b x) }
   where
     kind_in : (r : Record) (u : Bool) → (r.birth == OBJECTS_BIRTH) ≡ u → (edited OBJECTS_BIRTH (with_added id (child (b.born + 1))) r).kind ≡ r.kind
     kind_in r true p = rw (edited, p) refl

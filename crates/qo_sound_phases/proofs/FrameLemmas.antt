@@ -13,15 +13,15 @@ use Rattle.qo_model.specs.Reset.{below, count, post}
 use Rattle.qo_model.specs.Types.{is_a}
 use Rattle.qo_sound.proofs.TestLemmas.{clash}
 use Rattle.qo_sound_devices.specs.SoundPlaces.{child_entries, HasOwner, machines, bridges, listed, owns, owns_it, stands}
-use Rattle.qo_sound_devices.proofs.AttachedLemmas.{owns-listed}
-use Rattle.qo_sound_devices.proofs.LowLemmas.{stands-dimmed}
+use Rattle.qo_sound_devices.proofs.AttachmentLemmas.{owns-listed}
+use Rattle.qo_sound_devices.proofs.DepthLemmas.{stands-dimmed}
 use Rattle.qo_sound_devices.proofs.PlacesLemmas.{child-live, stands-live, kind-alike}
-use Rattle.qo_sound_devices.proofs.UnrealizeLemmas.{Dims}
+use Rattle.qo_sound_devices.proofs.UnrealizingLemmas.{Dims}
 use Rattle.qo_sound_phases.specs.SoundPhases.{IsReached, machine, device, bus}
-use Rattle.qo_sound_phases.proofs.BelowLemmas.{bus-leads, kid-leads, leads-cases, one-parent, Placed, post-reach, reach-post, stands-no_bus}
+use Rattle.qo_sound_phases.proofs.ResetTreeLemmas.{bus-leads, kid-leads, leads-cases, one-parent, Placed, post-reach, reach-post, stands-no_bus}
 use Rattle.qo_sound_phases.proofs.ForestLemmas.{Reach, itself, further}
 use Rattle.qo_sound_phases.proofs.ListLemmas.{iff}
-use Rattle.qo_sound_phases.proofs.ReachedLemmas.{machine-aside, machine-no_bus, machines-listed, reached-above, reached-live}
+use Rattle.qo_sound_phases.proofs.ReachLemmas.{machine-aside, machine-no_bus, machines-listed, reached-above, reached-live}
 use Rattle.qo_sound_phases.proofs.ShapeLemmas.{counted-same}
 
 -- what a reset reaches on c stands as on b
@@ -96,8 +96,8 @@ module _ (b c : Board) (kb : Placed b) (kc : Placed c) (f : Frame b c) where
       to_bus (device s) apart is its = clash (sym is ∙ stands-no_bus c kc o s)
       to_bus (bus also by) apart is its = listed-bus (owns-listed o (child_entries c p) its) is its by
 
-  leads-behind : (p o : ℕ) → IsReached c o → leads (below b) p o ≡ true → leads (below c) p o ≡ true
-  leads-behind p o i e = leads-cases b kb p o e (λ is s on. to_kid i s on) (λ apart is its. to_bus i is its)
+  leads-after : (p o : ℕ) → IsReached c o → leads (below b) p o ≡ true → leads (below c) p o ≡ true
+  leads-after p o i e = leads-cases b kb p o e (λ is s on. to_kid i s on) (λ apart is its. to_bus i is its)
     where
       to_kid : IsReached c o → stands b o ≡ true → bus_of b o ≡ Some p → leads (below c) p o ≡ true
       to_kid (machine at) s on = clash (sym s ∙ ap (stands b) at ∙ machine-aside b kb)
@@ -124,16 +124,16 @@ module _ (b c : Board) (kb : Placed b) (kc : Placed c) (f : Frame b c) where
   reach-before r o i itself = itself
   reach-before r o i (further {p} k e) = further (reach-before r p (reached-above c kc p o e i) k) (leads-before p o i e)
 
-  reach-behind : (r o : ℕ) → IsReached c o → Reach (below b) r o → Reach (below c) r o
-  reach-behind r o i itself = itself
-  reach-behind r o i (further {p} k e) =
-      let step : leads (below c) p o ≡ true = leads-behind p o i e in
-      further (reach-behind r p (reached-above c kc p o step i) k) step
+  reach-after : (r o : ℕ) → IsReached c o → Reach (below b) r o → Reach (below c) r o
+  reach-after r o i itself = itself
+  reach-after r o i (further {p} k e) =
+      let step : leads (below c) p o ≡ true = leads-after p o i e in
+      further (reach-after r p (reached-above c kc p o step i) k) step
 
   pub frame-post : (r o : ℕ) → IsReached c o → among (post c r) o ≡ among (post b r) o
   frame-post r o i =
       iff (among (post c r) o) (among (post b r) o) (λ e. reach-post b kb r o (reach-before r o i (post-reach c kc r o e)))
-      (λ e. reach-post c kc r o (reach-behind r o i (post-reach b kb r o e)))
+      (λ e. reach-post c kc r o (reach-after r o i (post-reach b kb r o e)))
 
   -- as many holds are on it and above it, where the same holds are there
   pub frame-count : (o : ℕ) → IsReached c o → c.holds ≡ b.holds → count c o ≡ count b o

@@ -19,9 +19,9 @@ use Rattle.qo_sound_devices.proofs.ResetLemmas.{held-below}
 use Rattle.qo_sound_phases.specs.Phases.{Stage, stage_of}
 use Rattle.qo_sound_phases.specs.Phases as stage
 use Rattle.qo_sound_phases.specs.SoundPhases.{IsReached, SoundPhases, stage_now}
-use Rattle.qo_sound_phases.proofs.BelowLemmas.{Placed, placed, post-once}
+use Rattle.qo_sound_phases.proofs.ResetTreeLemmas.{Placed, placed, post-once}
 use Rattle.qo_sound_phases.proofs.ListLemmas.{among-filter, among-right, distinct-filter, one-among}
-use Rattle.qo_sound_phases.proofs.ReachedLemmas.{buses-stay, live-born, post-reached, reached-live, shape-reached}
+use Rattle.qo_sound_phases.proofs.ReachLemmas.{buses-stay, live-born, post-reached, reached-live, shape-reached}
 use Rattle.qo_sound_phases.proofs.ShapeLemmas.{counted-same, PhasedSo, phased-so, SameShape, shape-back, shape-post, shape-records, shape-then}
 use Rattle.qo_sound_phases.proofs.StageLemmas.{noted-in, noted-out}
 

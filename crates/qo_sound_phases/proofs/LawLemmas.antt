@@ -22,7 +22,7 @@ use Rattle.qo_model.specs.Plug.{notice_barred}
 use Rattle.qo_model.specs.Types.{is_a, types}
 use Rattle.qo_model.specs.Unplug.{first_of}
 use Rattle.qo_model.proofs.StepLemmas.{found-birth}
-use Rattle.qo_sound.proofs.FoundLemmas.{all-found}
+use Rattle.qo_sound.proofs.SearchLemmas.{all-found}
 use Rattle.qo_sound.proofs.RecordLemmas.{all-imply}
 use Rattle.qo_sound.proofs.TestLemmas.{decide, clash-back}
 use Rattle.qo_sound.proofs.ViewLemmas.{AtRest, rest-from_sound}
@@ -30,21 +30,21 @@ use Rattle.qo_sound_devices.specs.SoundDevices.{SoundDevices}
 use Rattle.qo_sound_devices.specs.SoundLists.{IsOn}
 use Rattle.qo_sound_devices.specs.SoundPlaces.{machines}
 use Rattle.qo_sound_devices.proofs.ResetLemmas.{detached-below, first-on}
-use Rattle.qo_sound_devices.proofs.WhereLemmas.{attached-owner, attached-stands}
-use Rattle.qo_sound_clocks.specs.RegistersKept.{registers_set, with_registers}
+use Rattle.qo_sound_devices.proofs.LocationLemmas.{attached-owner, attached-stands}
+use Rattle.qo_sound_clocks.specs.RegisterWrites.{registers_set, with_registers}
 use Rattle.qo_sound_phases.specs.Phases.{held, out, phase_of, stage_of}
 use Rattle.qo_sound_phases.specs.PhasesKept.{may_reset, PhasesKeptLaw}
-use Rattle.qo_sound_phases.specs.PhasesSay.{PhasesSayLaw}
+use Rattle.qo_sound_phases.specs.PhaseFacts.{PhasesSayLaw}
 use Rattle.qo_sound_phases.specs.SoundPhases.{IsReached, LoneMachine, machine, device, bus, SoundPhases}
 use Rattle.qo_sound_phases.proofs.AddressLemmas.{addressed-stands, first-may}
 use Rattle.qo_sound_phases.proofs.AttemptLemmas.{cut-phases, plug_attempt-phases}
-use Rattle.qo_sound_phases.proofs.BelowLemmas.{placed, post-once}
+use Rattle.qo_sound_phases.proofs.ResetTreeLemmas.{placed, post-once}
 use Rattle.qo_sound_phases.proofs.CommandLemmas.{change-phases}
-use Rattle.qo_sound_phases.proofs.DetachLemmas.{detach-phases}
+use Rattle.qo_sound_phases.proofs.DetachmentLemmas.{detach-phases}
 use Rattle.qo_sound_phases.proofs.HoldLemmas.{hold-phases, pulse-phases, release-phases}
 use Rattle.qo_sound_phases.proofs.PlugLemmas.{plug-phases}
-use Rattle.qo_sound_phases.proofs.QuietLemmas.{aside-phases, Quiet, quiet-acted, quiet-aside, quiet-attempt}
-use Rattle.qo_sound_phases.proofs.ReachedLemmas.{buses-stay, same-stands, shape-reached}
+use Rattle.qo_sound_phases.proofs.QuietChangeLemmas.{aside-phases, Quiet, quiet-acted, quiet-aside, quiet-attempt}
+use Rattle.qo_sound_phases.proofs.ReachLemmas.{buses-stay, same-stands, shape-reached}
 use Rattle.qo_sound_phases.proofs.ShapeLemmas.{SameShape, shape-acted, shape-back, shape-count, shape-edit, shape-records}
 use Rattle.qo_sound_phases.proofs.StageLemmas.{turns-some}
 use Rattle.qo_sound_phases.proofs.WriteLemmas.{scaled-phases, set-phases}

@@ -77,7 +77,7 @@ among-apart n (x ∷ xs) e = go (eqb n x) refl (among-apart n xs)
     go true p rest = clash (rw p at e)
     go false p rest = (p, rest (rw p at e))
 
--- lists without repeats, one behind another, with nothing in both
+-- lists without repeats, one after another, with nothing in both
 pub distinct-append : (xs ys : List ℕ) → IsDistinct eqb xs → IsDistinct eqb ys → ((n : ℕ) → among xs n ≡ true → among ys n ≡ true → ⊥)
     → IsDistinct eqb (xs ++ ys)
 unfolding IsDistinct

@@ -18,37 +18,37 @@ use Rattle.qo_model.specs.Board.{Board, Record, is_live, record_of}
 use Rattle.qo_model.specs.Depth.{among}
 use Rattle.qo_model.specs.Devices.{anonymous_name, bus_of}
 use Rattle.qo_model.specs.Paths.{canonical, is_of}
-use Rattle.qo_model.specs.Plug.{Spot, Wanted, acted_all, barred_early, barred_late, bus_births, bus_for, counted, did, drafted, plug, plug_as, plug_by, plug_late, spot_of, told_plug, type_barred, with_body_of, with_device, with_new, with_path, with_plugged}
+use Rattle.qo_model.specs.Plug.{Spot, Wanted, acted_all, barred_early, barred_late, bus_births, bus_for, counted, did, drafted, plug, plug_as, plug_by, plug_late, spot_of, notified_plug, type_barred, with_body_of, with_device, with_new, with_path, with_plugged}
 use Rattle.qo_model.specs.Release.{edit, edited}
 use Rattle.qo_model.specs.Reset.{below, is_out, phased, plugged, post}
-use Rattle.qo_model.specs.Types.{TypeRow, is_a, row_named, slots_of}
+use Rattle.qo_model.specs.Types.{TypeInfo, is_a, type_named, slots_of}
 use Rattle.qo_model.proofs.StepLemmas.{found_at, found-edited, is_some-map}
-use Rattle.qo_sound.specs.DevicesStay.{AddLeaves}
-use Rattle.qo_sound.proofs.DevicesStayLemmas.{devices_stay_lem}
-use Rattle.qo_sound.proofs.MakeStepsLemmas.{any-rows, KeepsEdits, KeepsNew, new_with, step-drafted, step-stood}
+use Rattle.qo_sound.specs.DeviceScope.{AddLeaves}
+use Rattle.qo_sound.proofs.DeviceScopeLemmas.{devices_stay_lem}
+use Rattle.qo_sound.proofs.AdditionStepsLemmas.{any-rows, KeepsEdits, KeepsNew, new_with, step-drafted, step-stood}
 use Rattle.qo_sound.proofs.PlugLemmas.{device-of, place-of, plugged-rest, shut-above}
 use Rattle.qo_sound.proofs.RecordLemmas.{all-imply}
 use Rattle.qo_sound.proofs.TestLemmas.{decide, clash, clash-back}
 use Rattle.qo_sound.proofs.ViewLemmas.{rest-from_sound}
 use Rattle.qo_sound_devices.specs.SoundDevices.{SoundDevices}
 use Rattle.qo_sound_devices.specs.SoundPlaces.{child_entries, HasOwner, machines, bridges, IsHome, listed, owns, owns_it, stands}
-use Rattle.qo_sound_devices.proofs.AttachedLemmas.{owns-listed}
-use Rattle.qo_sound_devices.proofs.JoinedLemmas.{deepened, done, Joined, named_entry, new-stands, numbered_entry, old-stands, places-joined, only-listed}
+use Rattle.qo_sound_devices.proofs.AttachmentLemmas.{owns-listed}
+use Rattle.qo_sound_devices.proofs.AdditionLemmas.{deepened, done, Joined, named_entry, new-stands, numbered_entry, old-stands, places-joined, only-listed}
 use Rattle.qo_sound_devices.proofs.PlacesLemmas.{child-live, kind-alike, of-alike, of-live, or-cases, stands-live}
 use Rattle.qo_sound_devices.proofs.PlugLemmas.{Accepted}
-use Rattle.qo_sound_devices.proofs.PluggedLemmas.{accepted-joined}
-use Rattle.qo_sound_devices.proofs.TakeLemmas.{aside-apart}
+use Rattle.qo_sound_devices.proofs.PlugStageLemmas.{accepted-joined}
+use Rattle.qo_sound_devices.proofs.UnparentingLemmas.{aside-apart}
 use Rattle.qo_sound_phases.specs.Phases.{Stage, stage_of}
 use Rattle.qo_sound_phases.specs.Phases as stage
 use Rattle.qo_sound_phases.specs.SoundPhases.{IsReached, machine, device, bus, LoneMachine, SoundPhases, stage_now}
 use Rattle.qo_sound_phases.proofs.AttemptLemmas.{plug_attempt-phases}
-use Rattle.qo_sound_phases.proofs.BelowLemmas.{bus-leads, leads-cases, Placed, placed, post-once, post-reach, reach-post, stands-no_bus}
+use Rattle.qo_sound_phases.proofs.ResetTreeLemmas.{bus-leads, leads-cases, Placed, placed, post-once, post-reach, reach-post, stands-no_bus}
 use Rattle.qo_sound_phases.proofs.ForestLemmas.{Reach, itself, further}
 use Rattle.qo_sound_phases.proofs.FrameLemmas.{Frame, frame-count}
 use Rattle.qo_sound_phases.proofs.ListLemmas.{among-filter, distinct-filter}
-use Rattle.qo_sound_phases.proofs.LoneLemmas.{lone-plugged}
-use Rattle.qo_sound_phases.proofs.QuietLemmas.{Quiet, quiet-acted_all, quiet-device, quiet-then}
-use Rattle.qo_sound_phases.proofs.ReachedLemmas.{buses-stay, live-born, machines-listed, reach-below, reached-live}
+use Rattle.qo_sound_phases.proofs.MachineLemmas.{lone-plugged}
+use Rattle.qo_sound_phases.proofs.QuietChangeLemmas.{Quiet, quiet-acted_all, quiet-device, quiet-then}
+use Rattle.qo_sound_phases.proofs.ReachLemmas.{buses-stay, live-born, machines-listed, reach-below, reached-live}
 use Rattle.qo_sound_phases.proofs.ShapeLemmas.{PhasedSo, phased-so, SameShape, shape-count, shape-edit, shape-post, shape-records, shape-then}
 use Rattle.qo_sound_phases.proofs.StageLemmas.{noted-in, noted-out}
 
@@ -122,7 +122,7 @@ pub record StartedSo (f : Board) (n : ℕ) (c : Board) : Type 0 where
   born : c.born ≡ f.born
   notes : c.notes ≡ ((f.notes ++ map (did Enter) (post f n)) ++ map (did Hold) (post f n)) ++ map (did Exit) (filter (is_out f) (post f n))
 
-pub told-so : (n : ℕ) (f : Board) → StartedSo f n (told_plug n (plugged f n))
+pub told-so : (n : ℕ) (f : Board) → StartedSo f n (notified_plug n (plugged f n))
 unfolding plugged
 told-so n f =
     let os : List ℕ = post f n in
@@ -134,10 +134,10 @@ told-so n f =
     let end : Board = phased Exit out held in
     record {
       shape =
-          shape-then f (phased Enter os f) (told_plug n end) one.shape
-          (shape-then (phased Enter os f) held (told_plug n end) two.shape
-          (shape-then held end (told_plug n end) three.shape
-          (shape-then end (edit n (with_path (canonical end n)) end) (told_plug n end)
+          shape-then f (phased Enter os f) (notified_plug n end) one.shape
+          (shape-then (phased Enter os f) held (notified_plug n end) two.shape
+          (shape-then held end (notified_plug n end) three.shape
+          (shape-then end (edit n (with_path (canonical end n)) end) (notified_plug n end)
           (shape-edit n (with_path (canonical end n)) (λ r. refl) (λ r. refl) (λ r. refl) end) (shape-records _ _ refl))));
       holds = three.holds ∙ two.holds ∙ one.holds;
       born = three.born ∙ two.born ∙ one.born;
@@ -165,7 +165,7 @@ module _ (b : Board) (kb : Placed b) (h : SoundPhases b) (n on slot : ℕ) (id :
   its-live : (x : ℕ) → stands b x ≡ true → is_live b x ≡ true
   its-live x s = stands-live b kb.firm x s
 
-  -- seen from behind, what was there stands as before
+  -- seen from after, what was there stands as before
   pub back : Frame c b
   back =
       record {
@@ -397,9 +397,9 @@ module _ (b : Board) (a : Wanted) (d : SoundDevices b) (h : SoundPhases b) where
 
   by-type : (o : Option Code) → type_barred a.driver ≡ o → SoundPhases (plug_by b a o).board
   by-type (Some code) e = h
-  by-type None e = go (row_named a.driver) refl
+  by-type None e = go (type_named a.driver) refl
     where
-      go : (row : Option TypeRow) → row_named a.driver ≡ row → SoundPhases (plug_by b a None).board
+      go : (row : Option TypeInfo) → type_named a.driver ≡ row → SoundPhases (plug_by b a None).board
       go None p = rw (plug_by, p) h
       go (Some row) p = rw (plug_by, p) (by-stage row.id (device-of row (rw (type_barred, p) at e)) (barred_early b row.id a) refl)
 

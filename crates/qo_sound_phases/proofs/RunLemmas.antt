@@ -3,11 +3,11 @@ use Rattle.std.proofs.Common.{◌≡◌, refl, Bool, true, false, List, [], ◌�
 use Rattle.qo_model.specs.Board.{Board, Notice}
 use Rattle.qo_model.specs.Depth.{among}
 use Rattle.qo_model.specs.Opening.{opening_board}
-use Rattle.qo_sound_devices.specs.DeviceRuns.{Step, commands, adds, cuts, asks, refuses, lets_go, reads, acts, holds, releases, resets, sends, notice_read, stepped}
+use Rattle.qo_sound_devices.specs.DeviceRuns.{DeviceStep, commands, adds, cuts, asks, refuses, lets_go, reads, acts, holds, releases, resets, sends, notice_read, stepped}
 use Rattle.qo_sound_devices.specs.SoundLists.{IsOn}
 use Rattle.qo_sound_devices.proofs.DevicesLawLemmas.{devices_kept_lem}
 use Rattle.qo_sound_devices.proofs.PlugLemmas.{among-all}
-use Rattle.qo_sound_phases.specs.PhaseRuns.{PhaseRunsLaw, PhaseStep, goes, pulses, behind_phase_steps, is_made, phase_stepped, SoundResets}
+use Rattle.qo_sound_phases.specs.PhaseRuns.{PhaseRunsLaw, PhaseStep, goes, pulses, after_phase_steps, is_made, phase_stepped, SoundResets}
 use Rattle.qo_sound_phases.specs.PhasesKept.{may_reset}
 use Rattle.qo_sound_phases.proofs.LawLemmas.{phases_kept_lem, phases_say_lem}
 
@@ -20,7 +20,7 @@ beside b c records born anonymous pins pending notices on notes h =
       phases = phases_kept_lem.beside b c records born on notes h.phases;
     }
 
-made-run : (b : Board) (step : Step) → is_made b step ≡ true → SoundResets b → SoundResets (stepped b step)
+made-run : (b : Board) (step : DeviceStep) → is_made b step ≡ true → SoundResets b → SoundResets (stepped b step)
 made-run b (commands change) e h =
     record { devices = devices_kept_lem.change b change h.devices; phases = phases_kept_lem.change b change h.devices h.phases }
 made-run b (adds a) e h = record { devices = devices_kept_lem.plugged b a h.devices; phases = phases_kept_lem.plugged b a h.devices h.phases }
@@ -60,7 +60,7 @@ step-run b (pulses n) h = go (may_reset b n) refl
     go true e = rw (phase_stepped, e) (record { devices = devices_kept_lem.pulsed b n h.devices; phases = phases_kept_lem.pulsed b n e h.devices h.phases })
     go false e = rw (phase_stepped, e) h
 
-steps-run : (b : Board) (steps : List PhaseStep) → SoundResets b → SoundResets (behind_phase_steps b steps)
+steps-run : (b : Board) (steps : List PhaseStep) → SoundResets b → SoundResets (after_phase_steps b steps)
 steps-run b [] h = h
 steps-run b (step ∷ steps) h = steps-run (phase_stepped b step) steps (step-run b step h)
 
@@ -72,5 +72,5 @@ phase_runs_lem =
     record {
       step = step-run;
       run = λ steps. steps-run opening_board steps opening-run;
-      in_turn = λ steps n. phases_say_lem.in_turn (behind_phase_steps opening_board steps) (steps-run opening_board steps opening-run).phases n;
+      in_turn = λ steps n. phases_say_lem.in_turn (after_phase_steps opening_board steps) (steps-run opening_board steps opening-run).phases n;
     }

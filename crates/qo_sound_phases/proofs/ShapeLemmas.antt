@@ -17,7 +17,7 @@ use Rattle.qo_model.specs.Reset.{below, count, phased, post, post_turn}
 use Rattle.qo_model.specs.Types.{is_a}
 use Rattle.qo_model.specs.Release.{edit, edited}
 use Rattle.qo_model.proofs.StepLemmas.{found-edited, map-edited, slots-edited}
-use Rattle.qo_sound.proofs.FirmLemmas.{edited-births}
+use Rattle.qo_sound.proofs.FirmBoardLemmas.{edited-births}
 
 -- the same objects, by birth, type and slots
 pub record SameShape (b c : Board) : Type 0 where

@@ -66,7 +66,7 @@ turns-some n notes e = go (stage_of n notes) refl
         let h : Turns out (phases_of n notes) = turns-from out (phases_of n notes) t p in
         record { times = h.times; to_come = h.to_come; in_turn = h.in_turn }
 
--- phases behind phases
+-- phases after phases
 passed-append : (stage : Stage) (xs ys : List Act) → passed_all stage (xs ++ ys) ≡ option_and_then (λ (t : Stage). passed_all t ys) (passed_all stage xs)
 passed-append stage [] ys = refl
 passed-append stage (act ∷ acts) ys = go (passed stage act) refl (λ t. passed-append t acts ys)

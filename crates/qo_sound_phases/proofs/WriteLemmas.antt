@@ -11,22 +11,22 @@ use Rattle.qo_model.specs.Board.{Board, slots_at}
 use Rattle.qo_model.specs.Changes.{set}
 use Rattle.qo_model.specs.ClockChanges.{clock_scaled, clock_set}
 use Rattle.qo_model.specs.Clocks.{acted, called, called_all, clock_written, clocks_below, overflows, period, source_of, spread}
-use Rattle.qo_model.specs.Objects.{place_from}
+use Rattle.qo_model.specs.Objects.{index_from}
 use Rattle.qo_model.specs.Paths.{parent_of}
 use Rattle.qo_model.specs.Unplug.{is_named, set_named}
 use Rattle.qo_sound.proofs.TestLemmas.{decide}
 use Rattle.qo_sound_devices.specs.SoundDevices.{SoundDevices}
 use Rattle.qo_sound_devices.specs.SoundPlaces.{HasOwner, machines, bridges, owns_it}
-use Rattle.qo_sound_devices.proofs.LowLemmas.{stands-dimmed}
+use Rattle.qo_sound_devices.proofs.DepthLemmas.{stands-dimmed}
 use Rattle.qo_sound_devices.proofs.PlacesLemmas.{kind-alike, of-alike}
-use Rattle.qo_sound_devices.proofs.UnrealizeLemmas.{Dims, dims-acted, dims-none, dims-set, dims-then}
-use Rattle.qo_sound_clocks.proofs.KeepLemmas.{writes_keep_lem}
+use Rattle.qo_sound_devices.proofs.UnrealizingLemmas.{Dims, dims-acted, dims-none, dims-set, dims-then}
+use Rattle.qo_sound_clocks.proofs.WriteLawLemmas.{writes_keep_lem}
 use Rattle.qo_sound_clocks.proofs.StepsLemmas.{same_ok}
 use Rattle.qo_sound_phases.specs.Phases.{phase_of}
 use Rattle.qo_sound_phases.specs.SoundPhases.{IsReached, machine, device, bus, SoundPhases}
-use Rattle.qo_sound_phases.proofs.BelowLemmas.{placed}
+use Rattle.qo_sound_phases.proofs.ResetTreeLemmas.{placed}
 use Rattle.qo_sound_phases.proofs.FrameLemmas.{Frame, dims-frame}
-use Rattle.qo_sound_phases.proofs.QuietLemmas.{frame-phases, Quiet, quiet-acted, quiet-then}
+use Rattle.qo_sound_phases.proofs.QuietChangeLemmas.{frame-phases, Quiet, quiet-acted, quiet-then}
 
 -- what a write leaves
 record LeavesPhases (b c : Board) : Type 0 where
@@ -55,12 +55,12 @@ leaves-acted act none n period b =
 leaves-set : (name : List ℕ) → bytes_eq name (codes "slot") ≡ false → bytes_eq name (codes "realized") ≡ false → (n v : ℕ) (b : Board)
     → LeavesPhases b (set_named n name (val.Uint v) b)
 unfolding set
-leaves-set name no_slot no_mark n v b = go (place_from (is_named name) 0 (slots_at b n)) refl
+leaves-set name no_slot no_mark n v b = go (index_from (is_named name) 0 (slots_at b n)) refl
   where
     dims : Dims b (set_named n name (val.Uint v) b)
     dims = dims-set n name (val.Uint v) no_slot no_mark b
 
-    go : (o : Option ℕ) → place_from (is_named name) 0 (slots_at b n) ≡ o → LeavesPhases b (set_named n name (val.Uint v) b)
+    go : (o : Option ℕ) → index_from (is_named name) 0 (slots_at b n) ≡ o → LeavesPhases b (set_named n name (val.Uint v) b)
     go None e = record { dims = dims; holds = rw (set_named, e) refl; born = rw (set_named, e) refl; quiet = λ m. rw (set_named, e) refl }
     go (Some i) e = record { dims = dims; holds = rw (set_named, e) refl; born = rw (set_named, e) refl; quiet = λ m. rw (set_named, e) refl }
 

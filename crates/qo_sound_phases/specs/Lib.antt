@@ -1,5 +1,5 @@
 pub mod PhaseRuns
 pub mod Phases
 pub mod PhasesKept
-pub mod PhasesSay
+pub mod PhaseFacts
 pub mod SoundPhases

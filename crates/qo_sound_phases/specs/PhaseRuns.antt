@@ -4,7 +4,7 @@ use Rattle.qo_model.specs.Board.{Board}
 use Rattle.qo_model.specs.Depth.{among}
 use Rattle.qo_model.specs.Opening.{opening_board}
 use Rattle.qo_model.specs.Reset.{pulse}
-use Rattle.qo_sound_devices.specs.DeviceRuns.{Step, acts, holds, releases, stepped}
+use Rattle.qo_sound_devices.specs.DeviceRuns.{DeviceStep, acts, holds, releases, stepped}
 use Rattle.qo_sound_devices.specs.SoundDevices.{SoundDevices}
 use Rattle.qo_sound_phases.specs.Phases.{IsInTurn, phases_of}
 use Rattle.qo_sound_phases.specs.PhasesKept.{may_reset}
@@ -12,33 +12,33 @@ use Rattle.qo_sound_phases.specs.SoundPhases.{SoundPhases}
 
 -- a step: one as devices have it; or an object is held in reset and let go at once
 pub data PhaseStep : Type 0 where
-  goes : Step → PhaseStep
+  goes : DeviceStep → PhaseStep
   pulses : ℕ → PhaseStep
 
 -- whether a machine makes a step of devices: it holds what may be held in reset, lets go where a hold is, and makes no act by itself
-abbrev pub is_made : Board → Step → Bool
+abbrev pub is_made : Board → DeviceStep → Bool
 is_made b (acts act n period) = false
 is_made b (holds n) = may_reset b n
 is_made b (releases n) = among b.holds n
 is_made b step = true
 
--- the board behind a step; one that no machine makes leaves it
+-- the board after a step; one that no machine makes leaves it
 abbrev pub phase_stepped : Board → PhaseStep → Board
 phase_stepped b (goes step) = if is_made b step then stepped b step else b
 phase_stepped b (pulses n) = if may_reset b n then pulse b n else b
 
--- and behind some, in order
-abbrev pub behind_phase_steps : Board → List PhaseStep → Board
-behind_phase_steps b [] = b
-behind_phase_steps b (step ∷ steps) = behind_phase_steps (phase_stepped b step) steps
+-- and after some, in order
+abbrev pub after_phase_steps : Board → List PhaseStep → Board
+after_phase_steps b [] = b
+after_phase_steps b (step ∷ steps) = after_phase_steps (phase_stepped b step) steps
 
 -- a board that is sound as far as devices and phases go
 pub record SoundResets (b : Board) : Type 0 where
   pub devices : SoundDevices b
   pub phases : SoundPhases b
 
--- each step keeps it so, and so it is behind any steps of the opening board: over every run the phases of each birth are in turn
+-- each step keeps it so, and so it is after any steps of the opening board: over every run the phases of each birth are in turn
 pub record PhaseRunsLaw : Type 0 where
   pub step : (b : Board) (step : PhaseStep) → SoundResets b → SoundResets (phase_stepped b step)
-  pub run : (steps : List PhaseStep) → SoundResets (behind_phase_steps opening_board steps)
-  pub in_turn : (steps : List PhaseStep) (n : ℕ) → IsInTurn (phases_of n (behind_phase_steps opening_board steps).notes)
+  pub run : (steps : List PhaseStep) → SoundResets (after_phase_steps opening_board steps)
+  pub in_turn : (steps : List PhaseStep) (n : ℕ) → IsInTurn (phases_of n (after_phase_steps opening_board steps).notes)

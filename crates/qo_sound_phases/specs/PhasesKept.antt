@@ -19,7 +19,7 @@ use Rattle.qo_model.specs.Types.{is_a}
 use Rattle.qo_model.specs.Unplug.{detach}
 use Rattle.qo_sound_devices.specs.SoundDevices.{SoundDevices}
 use Rattle.qo_sound_devices.specs.SoundPlaces.{stands}
-use Rattle.qo_sound_clocks.specs.RegistersKept.{registers_set}
+use Rattle.qo_sound_clocks.specs.RegisterWrites.{registers_set}
 use Rattle.qo_sound_phases.specs.Phases.{phase_of}
 use Rattle.qo_sound_phases.specs.SoundPhases.{SoundPhases}
 

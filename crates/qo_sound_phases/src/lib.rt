@@ -5,14 +5,14 @@
 
 ghost use Rattle.qo_sound_phases.specs.PhaseRuns.{PhaseRunsLaw};
 ghost use Rattle.qo_sound_phases.specs.PhasesKept.{PhasesKeptLaw};
-ghost use Rattle.qo_sound_phases.specs.PhasesSay.{PhasesSayLaw};
+ghost use Rattle.qo_sound_phases.specs.PhaseFacts.{PhasesSayLaw};
 
 /// On the opening board no object went through a phase. Where devices are sound, and the phases of
 /// each birth are in turn, and what a reset reaches is held by its notes where a hold is on it or
-/// above it, and nowhere else, so it is behind each command on objects, a device that is added,
+/// above it, and nowhere else, so it is after each command on objects, a device that is added,
 /// refused at any stage or cut, a removal that is asked for or refused, a device that is detached,
 /// an act that is no phase, a hold, a hold less, both, the reset of the whole board, and a write of
-/// a clock's numbers that is not refused. So it is too, on every board, behind other registers of an
+/// a clock's numbers that is not refused. So it is too, on every board, after other registers of an
 /// object, which leave each device in its place.
 #[tactic(auto, using(crate::proofs::LawLemmas::phases_kept_lem))]
 pub fn law_phases_kept()

@@ -9,16 +9,16 @@ use Rattle.qo_values.specs.declared.births.TheConstants.{MACHINE_BIRTH, ROOT_BIR
 use Rattle.qo_values.specs.declared.kinds.TypeId.{TypeId}
 use Rattle.qo_model.specs.Board.{Board, Record, Slot, held, is_live, kind_of, record_of, slot_at, slots_at}
 use Rattle.qo_model.specs.Opening.{opening_board}
-use Rattle.qo_model.specs.Release.{after, drop_slot, edit, edited, finalise, finish, forgotten, let_go, next_place, pin, unpin, with_dropped, without_pin}
-use Rattle.qo_model.specs.ReleaseKeeps.{KeepsRelease}
+use Rattle.qo_model.specs.Release.{after, drop_slot, edit, edited, finalize, finish, forgotten, let_go, next_index, pin, unpin, with_dropped, without_pin}
+use Rattle.qo_model.specs.ReleaseInduction.{KeepsRelease}
 use Rattle.qo_model.specs.Types.{types}
-use Rattle.qo_model.proofs.ReleaseKeepsLemmas.{after_keeps}
+use Rattle.qo_model.proofs.ReleaseInductionLemmas.{after_keeps}
 use Rattle.qo_model.proofs.StepLemmas.{drop-record, finish-gone, finish-record, found-edited, found_at, found-birth}
-use Rattle.qo_sound.proofs.FoundLemmas.{found-append}
+use Rattle.qo_sound.proofs.SearchLemmas.{found-append}
 use Rattle.qo_sound.proofs.RecordLemmas.{all-imply}
 use Rattle.qo_sound_shapes.specs.SoundShape.{SoundShape, unvalued}
-use Rattle.qo_sound_shapes.proofs.GoodLemmas.{Good, is_first}
-use Rattle.qo_sound_shapes.proofs.WholeLemmas.{Whole}
+use Rattle.qo_sound_shapes.proofs.ShapeLemmas.{Good, is_first}
+use Rattle.qo_sound_shapes.proofs.CompletenessLemmas.{Whole}
 
 abbrev pub AllOf : (Record → Type 0) → Board → Type 0
 AllOf Q b = (x : ℕ) (r : Record) → record_of b x ≡ Some r → Q r
@@ -45,7 +45,7 @@ all-edit Q n change same c keeps h x r e = go (record_of c x) refl (sym (found-e
     go None p q = absurd (let clash : None ≡ Some r = q in cc)
     go (Some y) p q = subst Q (same_Some (edited n change y) r q) (at_record y p (y.birth == n) refl)
 
--- and where another fact holds behind it
+-- and where another fact holds after it
 pub all-becomes : (P Q : Record → Type 0) (n : ℕ) (change : Record → Record) → ((r : Record) → (change r).birth ≡ r.birth) → (c : Board)
     → ((r : Record) → record_of c n ≡ Some r → r.birth ≡ n → P r → Q (change r)) → ((r : Record) → (r.birth == n) ≡ false → P r → Q r) → AllOf P c
     → AllOf Q (edit n change c)
@@ -62,7 +62,7 @@ all-becomes P Q n change same c own other h x r e = go (record_of c x) refl (sym
     go None p q = absurd (let clash : None ≡ Some r = q in cc)
     go (Some y) p q = subst Q (same_Some (edited n change y) r q) (at_record y p (y.birth == n) refl)
 
--- an object more behind the others
+-- an object more after the others
 pub all-new : (Q : Record → Type 0) (r : Record) (b c : Board) → c.records ≡ b.records ++ r ∷ [] → Q r → AllOf Q b → AllOf Q c
 all-new Q r b c e new h x y k = go (record_of b x) refl (sym (ap (found_at x) e ∙ found-append x b.records (r ∷ [])) ∙ k)
   where
@@ -74,7 +74,7 @@ all-new Q r b c e new h x y k = go (record_of b x) refl (sym (ap (found_at x) e 
     go None p q = last (r.birth == x) refl q
     go (Some z) p q = h x y (p ∙ q)
 
--- of each but those that are being finalised
+-- of each but those that are being finalized
 abbrev in_work : List (ℕ × ℕ) → ℕ → Bool
 in_work work x = list_any (λ (w : ℕ × ℕ). w.0 == x) work
 
@@ -131,11 +131,11 @@ module _ (Q : Record → Type 0) (forgets : (n : ℕ) (r : Record) → Q r → Q
   release-all =
       record {
         ended = λ c n i work h e. finish-all c n i work h;
-        freed = λ c n i work s m h e q free. more-work m ((n, next_place s i) ∷ work) (drop_slot c n i) (drop-all c n i (next_place s i) work h);
-        kept = λ c n i work s h e held_on. drop-all c n i (next_place s i) work h;
+        freed = λ c n i work s m h e q free. more-work m ((n, next_index s i) ∷ work) (drop_slot c n i) (drop-all c n i (next_index s i) work h);
+        kept = λ c n i work s h e held_on. drop-all c n i (next_index s i) work h;
       }
 
-  pub all-after : (o : Option ℕ) (c : Board) → AllOf Q c → AllOf Q (after finalise c o)
+  pub all-after : (o : Option ℕ) (c : Board) → AllOf Q c → AllOf Q (after finalize c o)
   all-after o c h x r e = after_keeps (AllBut Q) release-all c o [] (λ m q free y s k out. h y s k) (λ held_on y s k out. h y s k) x r e refl
 
   pub all-unpin : (n : ℕ) (c : Board) → AllOf Q c → AllOf Q (unpin c n)

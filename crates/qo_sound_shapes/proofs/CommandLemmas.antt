@@ -15,39 +15,39 @@ use Rattle.qo_values.specs.declared.properties.Val.{Val}
 use Rattle.qo_model.specs.Board.{Board, Record, Slot, plain, child, strong, weak, alias, held, is_live, kind_of, record_of, slot_at, slots_at}
 use Rattle.qo_model.specs.Changes.{changed_at, point, pointed, set, with_added, with_changed, with_val}
 use Rattle.qo_model.specs.Depth.{among}
-use Rattle.qo_model.specs.FinalNotesRuns.{Change, added, behind_write, changed, deleted, severed, wrote}
+use Rattle.qo_model.specs.FinalNotesRuns.{Change, added, after_write, changed, deleted, severed, wrote}
 use Rattle.qo_model.specs.Objects.{Given, added_as, object_add, object_del, refusal_of, sever, severed_from, with_object}
 use Rattle.qo_model.specs.Opening.{opening_board}
 use Rattle.qo_model.specs.Paths.{attached, child_of, is_of}
-use Rattle.qo_model.specs.Properties.{pointed_at, relinked, row_of_property, write}
+use Rattle.qo_model.specs.Properties.{pointed_at, relinked, property_named, write}
 use Rattle.qo_model.specs.Release.{drop_slot, edit, forgotten, forgotten_in, let_go, pin, with_dropped, without_hold}
-use Rattle.qo_model.specs.Types.{TypeRow, is_a, slots_of, types}
+use Rattle.qo_model.specs.Types.{TypeInfo, is_a, slots_of, types}
 use Rattle.qo_model.specs.declared.properties.Property.{Property}
-use Rattle.qo_model.specs.declared.properties.RowKind.{RowKind}
-use Rattle.qo_model.specs.declared.properties.RowKind.TheVariants as row
+use Rattle.qo_model.specs.declared.properties.PropertyRole.{PropertyRole}
+use Rattle.qo_model.specs.declared.properties.PropertyRole.TheVariants as row
 use Rattle.qo_model.proofs.ComesToLemmas.{addition-comes, deletion-comes, sever-comes, severed-comes}
 use Rattle.qo_model.proofs.StepLemmas.{found-birth}
 use Rattle.qo_model.proofs.WrittenLemmas.{link-childless}
 use Rattle.qo_model.proofs.WrittenLemmas.{write-comes}
 use Rattle.qo_sound.proofs.AddLemmas.{creatable, made}
-use Rattle.qo_sound.proofs.FirmLemmas.{Firm}
+use Rattle.qo_sound.proofs.FirmBoardLemmas.{Firm}
 use Rattle.qo_sound.proofs.SlotLemmas.{names-changed, names-each, names_in}
 use Rattle.qo_sound.proofs.ViewLemmas.{rest-from_sound}
 use Rattle.qo_sound_devices.specs.SoundDevices.{SoundDevices}
 use Rattle.qo_sound_devices.specs.SoundPlaces.{child_entries, child_entry, IsKid, kid_entries, kid_entry, listed, PlacesBut, stands}
-use Rattle.qo_sound_devices.proofs.AlikeLemmas.{child-entry-forgotten}
-use Rattle.qo_sound_devices.proofs.AttachedLemmas.{owner-attached}
+use Rattle.qo_sound_devices.proofs.LikenessLemmas.{child-entry-forgotten}
+use Rattle.qo_sound_devices.proofs.AttachmentLemmas.{owner-attached}
 use Rattle.qo_sound_devices.proofs.DevicesLawLemmas.{devices_kept_lem}
-use Rattle.qo_sound_devices.proofs.PartLemmas.{slot-is}
+use Rattle.qo_sound_devices.proofs.DepartureLemmas.{slot-is}
 use Rattle.qo_sound_devices.proofs.PlacesLemmas.{child-live, high-absent, stands-live}
-use Rattle.qo_sound_phases.proofs.FixedLemmas.{child-val}
-use Rattle.qo_sound_shapes.specs.SoundShape.{HasSlots, IsChildSlot, is_child_row, IsAsRow, IsFurther, IsShaped, SoundShape}
+use Rattle.qo_sound_phases.proofs.FixedObjectLemmas.{child-val}
+use Rattle.qo_sound_shapes.specs.SoundShape.{HasSlots, IsChildSlot, is_child_role, HasRole, IsFurther, IsShaped, SoundShape}
 use Rattle.qo_sound_shapes.proofs.BoardLemmas.{all-after, all-edit, all-imply_of, all-let_go, all-new, all-pin, all-unpin, AllOf, good-all, OpeningLive, shape-all}
-use Rattle.qo_sound_shapes.proofs.GoodLemmas.{Good, good-added, good-changed, good-dropped, good-forgotten, good-slots, is_first, mild-pointed, rows-pointed}
-use Rattle.qo_sound_shapes.proofs.MadeLemmas.{created-own, fresh-has, fresh-like, given-has, good-new}
-use Rattle.qo_sound_shapes.proofs.QuietLemmas.{good-set, RowTakes, slot-of, Takes}
+use Rattle.qo_sound_shapes.proofs.ShapeLemmas.{Good, good-added, good-changed, good-dropped, good-forgotten, good-slots, is_first, mild-pointed, rows-pointed}
+use Rattle.qo_sound_shapes.proofs.NewObjectLemmas.{created-own, fresh-has, fresh-like, given-has, good-new}
+use Rattle.qo_sound_shapes.proofs.QuietChangeLemmas.{good-set, RowTakes, slot-of, Takes}
 use Rattle.qo_sound_shapes.proofs.RowLemmas.{has-dropped, held-slots, IsHolding, link-apart, NoKidLinks, none-kid, Slots}
-use Rattle.qo_sound_shapes.proofs.WholeLemmas.{entries-changed, entries-each, entries-let_go, entries_in, Kept, kept-of, kept-slots, names-let_go, whole-kept}
+use Rattle.qo_sound_shapes.proofs.CompletenessLemmas.{entries-changed, entries-each, entries-let_go, entries_in, Kept, kept-of, kept-slots, names-let_go, whole-kept}
 
 -- on a board that is sound as far as devices go the machine's objects are there
 pub live-devices : (b : Board) → SoundDevices b → OpeningLive b
@@ -93,11 +93,11 @@ live-devices b h = (
 pub container-kind : (n : ℕ) → kind_of opening_board n ≡ Some Container → (r : Record) → r.birth ≡ n → Good r → r.kind ≡ Container
 container-kind n e r own h = h.kind Container (ap (kind_of opening_board) own ∙ e)
 
-pub childless : AllByRecursion (λ (p : Property). is_child_row p.kind ≡ false) (slots_of Container)
+pub childless : AllByRecursion (λ (p : Property). is_child_role p.role ≡ false) (slots_of Container)
 unfolding types
 childless = search rules
 
-pub child-row : (kind : RowKind) (m : ℕ) → IsAsRow kind (child m) → is_child_row kind ≡ true
+pub child-row : (kind : PropertyRole) (m : ℕ) → HasRole kind (child m) → is_child_role kind ≡ true
 child-row (row.Plain type first) m h = absurd h
 child-row (row.Child k) m h = refl
 child-row (row.Link k true) m h = absurd h
@@ -109,15 +109,15 @@ pub good-emptied : (i : ℕ) (r : Record) → is_first r.birth ≡ false → r.k
 good-emptied i r apart kind h = good-slots r _ h has (λ e. absurd (let clash : true ≡ false = sym e ∙ apart in cc))
   where
     R : Property → Type 0
-    R p = is_child_row p.kind ≡ false
+    R p = is_child_role p.role ≡ false
 
     has : HasSlots r.kind (slots_of r.kind) (with_dropped i r).slots
     has =
-        has-dropped (λ (p : Property). is_child_row p.kind ≡ false) r.kind i (slots_of r.kind)
-        (subst (λ (t : TypeId). AllByRecursion (λ (p : Property). is_child_row p.kind ≡ false) (slots_of t)) (sym kind) childless) h.shaped.slots
+        has-dropped (λ (p : Property). is_child_role p.role ≡ false) r.kind i (slots_of r.kind)
+        (subst (λ (t : TypeId). AllByRecursion (λ (p : Property). is_child_role p.role ≡ false) (slots_of t)) (sym kind) childless) h.shaped.slots
         (λ p s m own at is row.
         absurd
-        (let clash : true ≡ false = sym (child-row p.kind m (subst (IsAsRow p.kind) is row.fits)) ∙ own in
+        (let clash : true ≡ false = sym (child-row p.role m (subst (HasRole p.role) is row.fits)) ∙ own in
         cc))
         (subst NoKidLinks (sym kind) (λ name to target k. k))
 
@@ -157,7 +157,7 @@ module _ (o : Board) where
   full-pointed : (m i : ℕ) (r : Record) → Full o r → Full o (with_changed (pointed m) i r)
   full-pointed m i r h =
       full-slots r (changed_at (pointed m) i r.slots)
-      (good-changed (pointed m) (mild-pointed m) i r (λ p x row at is. rows-pointed m p.kind x.1 is.fits) h.good) (names-changed (pointed m) i r.slots)
+      (good-changed (pointed m) (mild-pointed m) i r (λ p x row at is. rows-pointed m p.role x.1 is.fits) h.good) (names-changed (pointed m) i r.slots)
       (entries-changed (pointed m) (entry-pointed m) i r.slots) h
     where
       entry-pointed : (m : ℕ) (s : List ℕ × Slot) → child_entry (s.0, pointed m s.1) ≡ child_entry s
@@ -246,7 +246,8 @@ module _ (base : Board) (aside : stands base OBJECTS_BIRTH ≡ false) where
   severed-all : (places i n : ℕ) (b : Board) → AllOf (Severing n) b → AllOf (Severing n) (severed_from places i n b)
   severed-all places i n b h = severed-comes (AllOf (Severing n)) n cuts places i b h
     where
-      cuts : (c : Board) (j : ℕ) (t : TypeId) (target : Option ℕ) → slot_at c n j ≡ Some (strong t target) → AllOf (Severing n) c → AllOf (Severing n) (let_go c n j)
+      cuts : (c : Board) (j : ℕ) (t : TypeId) (target : Option ℕ) → slot_at c n j ≡ Some (strong t target) → AllOf (Severing n) c
+          → AllOf (Severing n) (let_go c n j)
       cuts c j t target p all =
           all-let_go (Severing n) (λ m r k. record { full = full-forgotten base m r k.full; apart = k.apart }) n j c
           (λ r e own k. record { full = full-dropped base j r (no_child r e) (k.apart own) k.full; apart = k.apart }) all
@@ -324,7 +325,7 @@ module _ (base : Board) (aside : stands base OBJECTS_BIRTH ≡ false) where
   added-all b driver id props apart begun h =
       addition-comes (AllOf (Full base)) b driver id props h (λ row e o is. taken row (creatable b row id e) o is)
     where
-      taken : (row : TypeRow) → is_a row.id (codes "user-creatable") ≡ true → (o : Option Code) → refusal_of b row.id props ≡ o
+      taken : (row : TypeInfo) → is_a row.id (codes "user-creatable") ≡ true → (o : Option Code) → refusal_of b row.id props ≡ o
           → AllOf (Full base) (added_as b row.id id props o).board
       taken row creatable (Some code) e = h
       taken row creatable None e = object-all b row.id id props apart begun creatable e h
@@ -359,16 +360,16 @@ module _ (base : Board) (aside : stands base OBJECTS_BIRTH ≡ false) where
           all-edit (Full base) n (with_changed (with_val v) i) (λ r. refl) b
           (λ r q own k. full-set base name v i r entry (slot-of b n i r entry q at) named (takes r q) k) h
 
-  write-all : (b : Board) (n : ℕ) (name : List ℕ) (v : Val) → AllOf (Full base) b → AllOf (Full base) (behind_write b (write b n name v))
+  write-all : (b : Board) (n : ℕ) (name : List ℕ) (v : Val) → AllOf (Full base) b → AllOf (Full base) (after_write b (write b n name v))
   write-all b n name v h = write-comes (AllOf (Full base)) b h n name v (λ i t p kind e may.
-      let row_in : (r : Record) → record_of b n ≡ Some r → row_of_property r.kind name ≡ Some p =
-      λ r q. ap (λ k. row_of_property k name) (same_Some r.kind t (sym (ap (option_map (λ (y : Record). y.kind)) q) ∙ kind)) ∙ e in
+      let row_in : (r : Record) → record_of b n ≡ Some r → property_named r.kind name ≡ Some p =
+      λ r q. ap (λ k. property_named k name) (same_Some r.kind t (sym (ap (option_map (λ (y : Record). y.kind)) q) ∙ kind)) ∙ e in
       record {
         value = λ old at type first is fits.
             val-all b h n i name (name, plain old) at ((bytes_eq-Decides name name).1 refl) v
             (λ r q.
             subst (λ (o : Option Property). elim o as (λ _. Type 0) [ None ↦ ⊤ | Some x ↦ RowTakes x.kind v ]) (sym (row_in r q))
-            (subst (λ (k : RowKind). RowTakes k v) (sym is) fits));
+            (subst (λ (k : PropertyRole). RowTakes k v) (sym is) fits));
         link = λ u s left link leaves at to holds is path target told.
             relinked-all b h n i (λ r q. link-apart r.kind to holds name p (row_in r q) is) s (ap (option_map (λ (x : List ℕ × Slot). x.1)) at)
             (link-childless u s link) target;

@@ -16,29 +16,29 @@ use Rattle.qo_model.specs.Board.{Board, Record, Slot, plain, child, strong, weak
 use Rattle.qo_model.specs.Changes.{add, fresh, with_added}
 use Rattle.qo_model.specs.Devices.{child_named}
 use Rattle.qo_model.specs.Opening.{first_value, fresh_record}
-use Rattle.qo_model.specs.Plug.{aliased, drafted, owned, row_made, rows_made, with_new}
+use Rattle.qo_model.specs.Plug.{aliased, drafted, owned, property_made, properties_made, with_new}
 use Rattle.qo_model.specs.RowNames.{property_name}
 use Rattle.qo_model.specs.Types.{slots_of, types}
 use Rattle.qo_model.specs.declared.properties.Property.{Property}
-use Rattle.qo_model.specs.declared.properties.RowKind.{RowKind}
-use Rattle.qo_model.specs.declared.properties.RowKind.TheVariants as row
+use Rattle.qo_model.specs.declared.properties.PropertyRole.{PropertyRole}
+use Rattle.qo_model.specs.declared.properties.PropertyRole.TheVariants as row
 use Rattle.qo_model.proofs.StepLemmas.{found-birth}
-use Rattle.qo_sound_shapes.specs.SoundShape.{further, HasSlots, is_child_row, is_like, IsOfRow, IsShaped, next}
+use Rattle.qo_sound_shapes.specs.SoundShape.{further, HasSlots, is_child_role, is_like, IsOfProperty, IsShaped, next}
 use Rattle.qo_sound_shapes.proofs.BoardLemmas.{all-becomes, all-new, AllOf}
-use Rattle.qo_sound_shapes.proofs.GoodLemmas.{Good}
-use Rattle.qo_sound_shapes.proofs.MadeLemmas.{first_fits, fresh-has, fresh-like, good-new, may-hold, of-row, OwnRows, RowsFirst, rows-first}
+use Rattle.qo_sound_shapes.proofs.ShapeLemmas.{Good}
+use Rattle.qo_sound_shapes.proofs.NewObjectLemmas.{first_fits, fresh-has, fresh-like, good-new, may-hold, of-row, OwnRows, RowsFirst, rows-first}
 use Rattle.qo_sound_shapes.proofs.RowLemmas.{Slots}
-use Rattle.qo_sound_shapes.proofs.WholeLemmas.{HasRows}
+use Rattle.qo_sound_shapes.proofs.CompletenessLemmas.{HasRows}
 
--- whether rows can be made in order: the clock's comes once, as a child, and other names come behind it
-abbrev row_ready : Bool → RowKind → Bool
+-- whether rows can be made in order: the clock's comes once, as a child, and other names come after it
+abbrev row_ready : Bool → PropertyRole → Bool
 row_ready has (row.Alias owner of) = has && bytes_eq (property_name owner) (codes "clk")
 row_ready has kind = true
 
 abbrev ready : Bool → List Property → Bool
 ready has [] = true
 ready has (p ∷ ps) =
-    cond (bytes_eq (property_name p.name) (codes "clk")) (is_child_row p.kind && (not has && ready true ps)) (row_ready has p.kind && ready has ps)
+    cond (bytes_eq (property_name p.name) (codes "clk")) (is_child_role p.role && (not has && ready true ps)) (row_ready has p.role && ready has ps)
 
 rows-ready : (t : TypeId) → ready false (slots_of t) ≡ true
 unfolding types
@@ -60,12 +60,12 @@ rows-ready MemoryBackendRam = refl
 rows-ready Tag = refl
 
 -- further objects have rows of their own alone
-abbrev KinRow : RowKind → Type 0
+abbrev KinRow : PropertyRole → Type 0
 KinRow (row.Child k) = OwnRows (slots_of k)
 KinRow kind = ⊤
 
 abbrev KinRows : List Property → Type 0
-KinRows ps = AllByRecursion (λ (p : Property). KinRow p.kind) ps
+KinRows ps = AllByRecursion (λ (p : Property). KinRow p.role) ps
 
 rows-kin : (t : TypeId) → KinRows (slots_of t)
 unfolding types
@@ -159,7 +159,8 @@ module _ (t : TypeId) (n : ℕ) where
     other : (r.birth == n) ≡ false → Good r
 
   -- a slot more
-  draft-add : (has later : Bool) (p : Property) (ps : List Property) (s : Slot) → IsOfRow p (property_name p.name, s) → Adds has later (property_name p.name) s
+  draft-add : (has later : Bool) (p : Property) (ps : List Property) (s : Slot) → IsOfProperty p (property_name p.name, s)
+      → Adds has later (property_name p.name) s
       → (c : Board) → AllOf (Draft has (p ∷ ps)) c → AllOf (Draft later ps) (add n (property_name p.name) s c)
   unfolding add
   draft-add has later p ps s is adds c h =
@@ -193,21 +194,21 @@ module _ (t : TypeId) (n : ℕ) where
             good-new (fresh_record (c.born + 1) k) (omega (arith, begun)) (record { slots = fresh-has k own; registers = fresh-like k });
       }) h
 
-  -- each row, and those behind it
+  -- each row, and those after it
   record Next (has : Bool) (ps : List Property) (before c : Board) : Type 0 where
     all : AllOf (Draft has ps) c
     high : before.born ≤ c.born
 
-  other-row : (has : Bool) (p : Property) (ps : List Property) → bytes_eq (property_name p.name) (codes "clk") ≡ false → row_ready has p.kind ≡ true
-      → first_fits t p.kind ≡ true → KinRow p.kind → (c : Board) → n ≤ c.born → 8 ≤ c.born → AllOf (Draft has (p ∷ ps)) c
-      → Next has ps c (row_made n t (property_name p.name) p.kind c)
+  other-row : (has : Bool) (p : Property) (ps : List Property) → bytes_eq (property_name p.name) (codes "clk") ≡ false → row_ready has p.role ≡ true
+      → first_fits t p.role ≡ true → KinRow p.role → (c : Board) → n ≤ c.born → 8 ≤ c.born → AllOf (Draft has (p ∷ ps)) c
+      → Next has ps c (property_made n t (property_name p.name) p.role c)
   unfolding add
-  other-row has p ps apart may fits kin c low begun h = go p.kind refl
+  other-row has p ps apart may fits kin c low begun h = go p.role refl
     where
       adds : (s : Slot) → Adds has has (property_name p.name) s
       adds s = adds-other has (property_name p.name) s apart
 
-      passed : (owner of : _) → p.kind ≡ row.Alias owner of → Next has ps c (row_made n t (property_name p.name) (row.Alias owner of) c)
+      passed : (owner of : _) → p.role ≡ row.Alias owner of → Next has ps c (property_made n t (property_name p.name) (row.Alias owner of) c)
       passed owner of e = at_record (record_of c n) refl
         where
           ok : (has ≡ true) × (bytes_eq (property_name owner) (codes "clk") ≡ true)
@@ -249,7 +250,7 @@ module _ (t : TypeId) (n : ℕ) where
                 high = omega arith;
               })
 
-      go : (kind : RowKind) → p.kind ≡ kind → Next has ps c (row_made n t (property_name p.name) kind c)
+      go : (kind : PropertyRole) → p.role ≡ kind → Next has ps c (property_made n t (property_name p.name) kind c)
       go (row.Plain type first) e =
           record {
             all =
@@ -275,12 +276,12 @@ module _ (t : TypeId) (n : ℕ) where
           }
       go (row.Alias owner of) e = passed owner of e
 
-  clock-row : (p : Property) (ps : List Property) → bytes_eq (property_name p.name) (codes "clk") ≡ true → is_child_row p.kind ≡ true → KinRow p.kind
-      → (c : Board) → n ≤ c.born → 8 ≤ c.born → AllOf (Draft false (p ∷ ps)) c → Next true ps c (row_made n t (property_name p.name) p.kind c)
+  clock-row : (p : Property) (ps : List Property) → bytes_eq (property_name p.name) (codes "clk") ≡ true → is_child_role p.role ≡ true → KinRow p.role
+      → (c : Board) → n ≤ c.born → 8 ≤ c.born → AllOf (Draft false (p ∷ ps)) c → Next true ps c (property_made n t (property_name p.name) p.role c)
   unfolding add
-  clock-row p ps named is kin c low begun h = go p.kind refl
+  clock-row p ps named is kin c low begun h = go p.role refl
     where
-      go : (kind : RowKind) → p.kind ≡ kind → Next true ps c (row_made n t (property_name p.name) kind c)
+      go : (kind : PropertyRole) → p.role ≡ kind → Next true ps c (property_made n t (property_name p.name) kind c)
       go (row.Child k) e =
           record {
             all =
@@ -294,7 +295,7 @@ module _ (t : TypeId) (n : ℕ) where
       go (row.Alias owner of) e = absurd (let clash : false ≡ true = rw e at is in cc)
 
   draft-rows : (has : Bool) (ps : List Property) → ready has ps ≡ true → RowsFirst t ps → KinRows ps → (c : Board) → n ≤ c.born → 8 ≤ c.born
-      → AllOf (Draft has ps) c → AllOf Whole (rows_made n t ps c)
+      → AllOf (Draft has ps) c → AllOf Whole (properties_made n t ps c)
   draft-rows has [] may fits kin c low begun h =
       λ x r e. record {
         own = λ own.
@@ -318,21 +319,21 @@ module _ (t : TypeId) (n : ℕ) where
     where
       go : (u : Bool) → bytes_eq (property_name p.name) (codes "clk") ≡ u
           → (ready has ps ≡ true → RowsFirst t ps → KinRows ps → (d : Board) → n ≤ d.born → 8 ≤ d.born → AllOf (Draft has ps) d
-          → AllOf Whole (rows_made n t ps d))
+          → AllOf Whole (properties_made n t ps d))
           → (ready true ps ≡ true → RowsFirst t ps → KinRows ps → (d : Board) → n ≤ d.born → 8 ≤ d.born → AllOf (Draft true ps) d
-          → AllOf Whole (rows_made n t ps d))
-          → AllOf Whole (rows_made n t (p ∷ ps) c)
+          → AllOf Whole (properties_made n t ps d))
+          → AllOf Whole (properties_made n t (p ∷ ps) c)
       go true q rest clocked =
-          let one = and_parts (is_child_row p.kind) (not has && ready true ps) (rw q at may) in
+          let one = and_parts (is_child_role p.role) (not has && ready true ps) (rw q at may) in
           let two = and_parts (not has) (ready true ps) one.1 in
           let none : has ≡ false = not-true has two.0 in
-          let it : Next true ps c (row_made n t (property_name p.name) p.kind c) =
+          let it : Next true ps c (property_made n t (property_name p.name) p.role c) =
           clock-row p ps q one.0 kin.0 c low begun (subst (λ (u : Bool). AllOf (Draft u (p ∷ ps)) c) none h) in
-          clocked two.1 fits.1 kin.1 (row_made n t (property_name p.name) p.kind c) (omega (arith, low, it.high)) (omega (arith, begun, it.high)) it.all
+          clocked two.1 fits.1 kin.1 (property_made n t (property_name p.name) p.role c) (omega (arith, low, it.high)) (omega (arith, begun, it.high)) it.all
       go false q rest clocked =
-          let one = and_parts (row_ready has p.kind) (ready has ps) (rw q at may) in
-          let it : Next has ps c (row_made n t (property_name p.name) p.kind c) = other-row has p ps q one.0 fits.0 kin.0 c low begun h in
-          rest one.1 fits.1 kin.1 (row_made n t (property_name p.name) p.kind c) (omega (arith, low, it.high)) (omega (arith, begun, it.high)) it.all
+          let one = and_parts (row_ready has p.role) (ready has ps) (rw q at may) in
+          let it : Next has ps c (property_made n t (property_name p.name) p.role c) = other-row has p ps q one.0 fits.0 kin.0 c low begun h in
+          rest one.1 fits.1 kin.1 (property_made n t (property_name p.name) p.role c) (omega (arith, low, it.high)) (omega (arith, begun, it.high)) it.all
 
 -- the device that was made, and those that were there
 module _ (b : Board) (t : TypeId) (begun : 8 ≤ b.born) (absent : record_of b (b.born + 1) ≡ None) (h : AllOf Good b) where

@@ -3,10 +3,10 @@ use Rattle.std.proofs.Common.{refl}
 use Rattle.qo_model.specs.Plug.{cut_attempt, plug_attempt}
 use Rattle.qo_sound_shapes.specs.ShapesKept.{ShapesKeptLaw}
 use Rattle.qo_sound_shapes.proofs.CommandLemmas.{changed-shape}
-use Rattle.qo_sound_shapes.proofs.DetachedLemmas.{detach-shape, reset-shape}
+use Rattle.qo_sound_shapes.proofs.ResetLemmas.{detach-shape, reset-shape}
 use Rattle.qo_sound_shapes.proofs.PlugLemmas.{plug-shape}
-use Rattle.qo_sound_shapes.proofs.MadeLemmas.{opening-shape}
-use Rattle.qo_sound_shapes.proofs.QuietLemmas.{acted-shape, asked-shape, clock_scaled-shape, clock_set-shape, held-shape, pulse-shape, registers-shape, released-shape, same-shape, write-like}
+use Rattle.qo_sound_shapes.proofs.NewObjectLemmas.{opening-shape}
+use Rattle.qo_sound_shapes.proofs.QuietChangeLemmas.{acted-shape, asked-shape, clock_scaled-shape, clock_set-shape, held-shape, pulse-shape, registers-shape, released-shape, same-shape, write-like}
 
 pub shapes_kept_lem : ShapesKeptLaw
 shapes_kept_lem =

@@ -11,7 +11,7 @@ use Rattle.std.proofs.Math.Bool.{or-true}
 use Rattle.std.proofs.lemmas.Bool.Decides.{nat_tests}
 use Rattle.std.proofs.lemmas.Option.{same_Some}
 use Rattle.std.proofs.lemmas.Slice.Eq.{bytes_eq-Decides}
-use Rattle.qo_values.specs.Placing.{fits_at, is_in_window, least, overlaps_any, place_of, range_at, window_end, window_size, window_start}
+use Rattle.qo_values.specs.Placing.{fits_at, is_in_window, least, overlaps_any, free_address, range_at, window_end, window_size, window_start}
 use Rattle.qo_values.specs.Properties.{admits}
 use Rattle.qo_values.specs.Registers.{fresh_registers}
 use Rattle.qo_values.specs.declared.births.TheConstants.{ANONYMOUS_BIRTH, PERIPHERAL_BIRTH}
@@ -28,11 +28,11 @@ use Rattle.qo_model.specs.Changes.{add, changed_at, with_added, with_changed, wi
 use Rattle.qo_model.specs.Clocks.{acted, with_act_on}
 use Rattle.qo_model.specs.Depth.{among}
 use Rattle.qo_model.specs.Devices.{anonymous_name, clock_of, kid_name, number_in}
-use Rattle.qo_model.specs.Objects.{Given, misfit, place_from, refusal_by, refusal_of, slot_given}
+use Rattle.qo_model.specs.Objects.{Given, misfit, index_from, refusal_by, refusal_of, slot_given}
 use Rattle.qo_model.specs.Opening.{opening_board}
 use Rattle.qo_model.specs.Paths.{canonical}
-use Rattle.qo_model.specs.Plug.{Spot, Wanted, acted_all, addressed_at, bus_births, bus_type, clocked, counted, drafted, fitted, link_named, name_for, number_for, ok_in, parent_for, plug, range_for, range_of, ranges_of, registers_on, size_of, source_for, spot_of, stood, target_for, told_plug, with_body_of, with_device, with_given, with_path, with_plugged, with_source}
-use Rattle.qo_model.specs.Properties.{row_of_property}
+use Rattle.qo_model.specs.Plug.{Spot, Wanted, acted_all, addressed_at, bus_births, bus_type, clocked, counted, drafted, fitted, link_named, name_for, number_for, ok_in, parent_for, plug, range_for, range_of, ranges_of, registers_on, size_of, source_for, spot_of, stood, target_for, notified_plug, with_body_of, with_device, with_given, with_path, with_plugged, with_source}
+use Rattle.qo_model.specs.Properties.{property_named}
 use Rattle.qo_model.specs.Release.{edit}
 use Rattle.qo_model.specs.RowNames.{property_name}
 use Rattle.qo_model.specs.Reset.{plugged, post}
@@ -40,37 +40,37 @@ use Rattle.qo_model.specs.Types.{is_a, multiple_of, slots_of, types}
 use Rattle.qo_model.specs.Unplug.{is_named, set_named}
 use Rattle.qo_model.specs.declared.properties.First.TheVariants as first
 use Rattle.qo_model.specs.declared.properties.Property.{Property}
-use Rattle.qo_model.specs.declared.properties.RowKind.{RowKind}
-use Rattle.qo_model.specs.declared.properties.RowKind.TheVariants as row
-use Rattle.qo_model.proofs.FirstLemmas.{Found, found-at}
+use Rattle.qo_model.specs.declared.properties.PropertyRole.{PropertyRole}
+use Rattle.qo_model.specs.declared.properties.PropertyRole.TheVariants as row
+use Rattle.qo_model.proofs.FirstSlotLemmas.{Found, found-at}
 use Rattle.qo_model.proofs.StepLemmas.{found-birth}
-use Rattle.qo_sound.proofs.MakeStepsLemmas.{all-any, KeepsActs, link-by, set-by, stand-by, step-acted_all, step-plugged}
+use Rattle.qo_sound.proofs.AdditionStepsLemmas.{all-any, KeepsActs, link-by, set-by, stand-by, step-acted_all, step-plugged}
 use Rattle.qo_sound.proofs.PlugLemmas.{shut-above}
 use Rattle.qo_sound.proofs.RecordLemmas.{all-imply}
 use Rattle.qo_sound.proofs.SlotLemmas.{names-changed, names_in}
 use Rattle.qo_sound.proofs.ViewLemmas.{AtRest, rest-from_sound}
 use Rattle.qo_sound_devices.specs.SoundDevices.{SoundDevices}
 use Rattle.qo_sound_devices.specs.SoundPlaces.{child_entries, listed, names_it, stands}
-use Rattle.qo_sound_devices.proofs.AcceptedLemmas.{goal-of, passes}
+use Rattle.qo_sound_devices.proofs.AcceptanceLemmas.{goal-of, passes}
 use Rattle.qo_sound_devices.proofs.DevicesLawLemmas.{devices_kept_lem}
-use Rattle.qo_sound_devices.proofs.DraftedLemmas.{drafted-made}
-use Rattle.qo_sound_devices.proofs.JoinedLemmas.{Goal, done, Joined, named_entry, numbered_entry}
-use Rattle.qo_sound_devices.proofs.MadeLemmas.{Made}
+use Rattle.qo_sound_devices.proofs.DraftLemmas.{drafted-made}
+use Rattle.qo_sound_devices.proofs.AdditionLemmas.{Goal, done, Joined, named_entry, numbered_entry}
+use Rattle.qo_sound_devices.proofs.JoiningLemmas.{Made}
 use Rattle.qo_sound_devices.proofs.PlacesLemmas.{high-absent, kind-alike, of-live, or-cases, stands-live}
-use Rattle.qo_sound_devices.proofs.PlugLemmas.{Accepted, behind-plug, stands-device}
-use Rattle.qo_sound_devices.proofs.PluggedLemmas.{accepted-joined}
-use Rattle.qo_sound_devices.proofs.TakeLemmas.{aside-apart}
+use Rattle.qo_sound_devices.proofs.PlugLemmas.{Accepted, after-plug, stands-device}
+use Rattle.qo_sound_devices.proofs.PlugStageLemmas.{accepted-joined}
+use Rattle.qo_sound_devices.proofs.UnparentingLemmas.{aside-apart}
 use Rattle.qo_sound_shapes.specs.SoundShape.{HasEach, is_like, IsFurther, SoundShape}
 use Rattle.qo_sound_shapes.proofs.BoardLemmas.{all-edit, AllOf, good-all, shape-all}
 use Rattle.qo_sound_shapes.proofs.CommandLemmas.{begun-devices, container-kind, live-devices}
-use Rattle.qo_sound_shapes.proofs.DetachLemmas.{bus-apart, container-four, container-three, takes-realized}
+use Rattle.qo_sound_shapes.proofs.DetachmentLemmas.{bus-apart, container-four, container-three, takes-realized}
 use Rattle.qo_sound_shapes.proofs.DraftLemmas.{drafted-good, drafted-rows}
-use Rattle.qo_sound_shapes.proofs.GoodLemmas.{Good, good-added, good-changed, good-slots, is_first, mild-fitted, rows-fitted}
-use Rattle.qo_sound_shapes.proofs.MadeLemmas.{fits-by, found-given, given-has, late-first}
-use Rattle.qo_sound_shapes.proofs.QuietLemmas.{admits-up_to, good-act, good-set, slot-of, Takes}
+use Rattle.qo_sound_shapes.proofs.ShapeLemmas.{Good, good-added, good-changed, good-slots, is_first, mild-fitted, rows-fitted}
+use Rattle.qo_sound_shapes.proofs.NewObjectLemmas.{fits-by, found-given, given-has, late-first}
+use Rattle.qo_sound_shapes.proofs.QuietChangeLemmas.{admits-up_to, good-act, good-set, slot-of, Takes}
 use Rattle.qo_sound_shapes.proofs.RowLemmas.{Slots}
-use Rattle.qo_sound_shapes.proofs.StayLemmas.{Stood, whole-stays}
-use Rattle.qo_sound_shapes.proofs.WholeLemmas.{HasRows, rows-same, Whole}
+use Rattle.qo_sound_shapes.proofs.ChildLemmas.{Stood, whole-stays}
+use Rattle.qo_sound_shapes.proofs.CompletenessLemmas.{HasRows, rows-same, Whole}
 
 -- an object of the kind that is said of it, which lacks no slot where it is a certain one
 record Placed (kinds : ℕ → Option TypeId) (new : ℕ) (r : Record) : Type 0 where
@@ -207,9 +207,9 @@ admits-fitting ranges size at e =
     let high : nat_le at (2 ^ 64 - 1) ≡ true = grind (arith, nat_tests, within) in
     rw (low, high, two.0) refl
 
-address-kind : (p : Property) → row_of_property MemDimm (codes "addr") ≡ Some p → p.kind ≡ row.Plain (multiple_of DIMM_ALIGN) first.Nothing
+address-kind : (p : Property) → property_named MemDimm (codes "addr") ≡ Some p → p.role ≡ row.Plain (multiple_of DIMM_ALIGN) first.Nothing
 unfolding types
-address-kind p e = sym (ap (λ (x : Property). x.kind) (same_Some _ p e))
+address-kind p e = sym (ap (λ (x : Property). x.role) (same_Some _ p e))
 
 address-fits : (b : Board) (v : Val) (n : ℕ) → number_in v ≡ Some n → misfit b (row.Plain (multiple_of DIMM_ALIGN) first.Nothing) v ≡ None
     → admits (multiple_of DIMM_ALIGN) (val.Uint n) ≡ true
@@ -235,17 +235,17 @@ address-given b props n none e = go (find (λ (p : Given). bytes_eq p.0 (codes "
         let (named, taken) = found-given b MemDimm (codes "addr") props g q none in
         let num : number_in g.1 ≡ Some n =
         sym (ap (λ (o : Option Given). option_and_then number_in (option_map (λ (p : Given). p.1) o)) q) ∙ e in
-        by g named taken num (row_of_property MemDimm (codes "addr")) refl
+        by g named taken num (property_named MemDimm (codes "addr")) refl
       where
-        by : (g : Given) → bytes_eq g.0 (codes "addr") ≡ true → refusal_by b (row_of_property MemDimm g.0) g.1 ≡ None → number_in g.1 ≡ Some n
-            → (o : Option Property) → row_of_property MemDimm (codes "addr") ≡ o → admits (multiple_of DIMM_ALIGN) (val.Uint n) ≡ true
+        by : (g : Given) → bytes_eq g.0 (codes "addr") ≡ true → refusal_by b (property_named MemDimm g.0) g.1 ≡ None → number_in g.1 ≡ Some n
+            → (o : Option Property) → property_named MemDimm (codes "addr") ≡ o → admits (multiple_of DIMM_ALIGN) (val.Uint n) ≡ true
         by g named taken num None r =
-            let its : row_of_property MemDimm g.0 ≡ None = ap (row_of_property MemDimm) ((bytes_eq-Decides g.0 (codes "addr")).0 named) ∙ r in
+            let its : property_named MemDimm g.0 ≡ None = ap (property_named MemDimm) ((bytes_eq-Decides g.0 (codes "addr")).0 named) ∙ r in
             absurd (let clash : Some E17 ≡ None = sym (ap (λ (o : Option Property). refusal_by b o g.1) its) ∙ taken in cc)
         by g named taken num (Some p) r =
-            let its : row_of_property MemDimm g.0 ≡ Some p = ap (row_of_property MemDimm) ((bytes_eq-Decides g.0 (codes "addr")).0 named) ∙ r in
-            let fits : misfit b p.kind g.1 ≡ None = fits-by b p g.1 (sym (ap (λ (o : Option Property). refusal_by b o g.1) its) ∙ taken) in
-            address-fits b g.1 n num (sym (ap (λ (k : RowKind). misfit b k g.1) (address-kind p r)) ∙ fits)
+            let its : property_named MemDimm g.0 ≡ Some p = ap (property_named MemDimm) ((bytes_eq-Decides g.0 (codes "addr")).0 named) ∙ r in
+            let fits : misfit b p.role g.1 ≡ None = fits-by b p g.1 (sym (ap (λ (o : Option Property). refusal_by b o g.1) its) ∙ taken) in
+            address-fits b g.1 n num (sym (ap (λ (k : PropertyRole). misfit b k g.1) (address-kind p r)) ∙ fits)
 
 range-fits : (b : Board) (o : Option ℕ) (size : ℕ) (r : Range) → ((n : ℕ) → o ≡ Some n → admits (multiple_of DIMM_ALIGN) (val.Uint n) ≡ true)
     → ok_in (range_for b o size) ≡ Some r → admits (multiple_of DIMM_ALIGN) (val.Uint r.at) ≡ true
@@ -257,9 +257,9 @@ range-fits b (Some at) size r given e = go (is_in_window (range_at at size) && n
         let is : range_at at size ≡ r = same_Some (range_at at size) r (rw (range_for, p) at e) in
         subst (λ (k : ℕ). admits (multiple_of DIMM_ALIGN) (val.Uint k) ≡ true) (ap (λ (x : Range). x.at) is) (given at refl)
     go false p = absurd (let clash : None ≡ Some r = rw (range_for, p) at e in cc)
-range-fits b None size r given e = go (place_of (ranges_of b) size DIMM_ALIGN) refl
+range-fits b None size r given e = go (free_address (ranges_of b) size DIMM_ALIGN) refl
   where
-    go : (o : Option ℕ) → place_of (ranges_of b) size DIMM_ALIGN ≡ o → admits (multiple_of DIMM_ALIGN) (val.Uint r.at) ≡ true
+    go : (o : Option ℕ) → free_address (ranges_of b) size DIMM_ALIGN ≡ o → admits (multiple_of DIMM_ALIGN) (val.Uint r.at) ≡ true
     go None p = absurd (let clash : None ≡ Some r = rw (range_for, p) at e in cc)
     go (Some at) p =
         let is : range_at at size ≡ r = same_Some (range_at at size) r (rw (range_for, p) at e) in
@@ -323,7 +323,7 @@ module _ (kinds : ℕ → Option TypeId) (new : ℕ) where
   placed-set : (n : ℕ) (name : List ℕ) (v : Val) → ((t : TypeId) → Takes t name v) → (c : Board) → H c → H (set_named n name v c)
   placed-set n name v takes c h = set-by H n name c h v there
     where
-      there : (i : ℕ) → place_from (is_named name) 0 (slots_at c n) ≡ Some i → H (edit n (with_changed (with_val v) i) c)
+      there : (i : ℕ) → index_from (is_named name) 0 (slots_at c n) ≡ Some i → H (edit n (with_changed (with_val v) i) c)
       there i e =
           let f : Found (is_named name) (slots_at c n) i = found-at (is_named name) i (slots_at c n) e in
           placed-edit n (with_changed (with_val v) i) (λ r. refl) (λ r. refl) (rows-changed (with_val v) i) c
@@ -334,7 +334,7 @@ module _ (kinds : ℕ → Option TypeId) (new : ℕ) where
       link-by H n name c h m
       (λ i e.
       placed-edit n (with_changed (fitted c m) i) (λ r. refl) (λ r. refl) (rows-changed (fitted c m) i) c
-      (λ r q own k. good-changed (fitted c m) (mild-fitted c m) i r (λ p s row at is. rows-fitted c m p.kind s.1 is.fits) k.good) h)
+      (λ r q own k. good-changed (fitted c m) (mild-fitted c m) i r (λ p s row at is. rows-fitted c m p.role s.1 is.fits) k.good) h)
 
   -- a further slot more
   placed-add : (n : ℕ) (name : List ℕ) (s : Slot) → ((r : Record) → r.birth ≡ n → Placed kinds new r
@@ -350,7 +350,7 @@ module _ (kinds : ℕ → Option TypeId) (new : ℕ) where
   placed-acts act n period unbound on c h =
       placed-edit n (with_act_on act c.now period) (λ r. refl) (λ r. refl) (λ r k. k) c (λ r e own k. good-act act c.now period r k.good) h
 
-  placed-told : (n : ℕ) (c : Board) → H c → H (told_plug n c)
+  placed-told : (n : ℕ) (c : Board) → H c → H (notified_plug n c)
   placed-told n c h =
       placed-edit n (with_path (canonical c n)) (λ r. refl) (λ r. refl) (λ r k. k) c
       (λ r e own k. record { shaped = record { slots = k.good.shaped.slots; registers = k.good.shaped.registers }; kind = k.good.kind; fixed = k.good.fixed }) h
@@ -584,6 +584,6 @@ module _ (b : Board) (t : TypeId) (bus : ℕ) (a : Wanted) (devices : SoundDevic
 pub plug-shape : (b : Board) (a : Wanted) → SoundDevices b → SoundShape b → SoundShape (plug b a).board
 plug-shape b a devices h =
     let both : AllOf Good (plug b a).board × Whole (plug b a).board =
-    behind-plug (λ (c : Board). AllOf Good c × Whole c) b a (good-all b h, h.whole) (λ t bus stage. (good-all b h, h.whole))
+    after-plug (λ (c : Board). AllOf Good c × Whole c) b a (good-all b h, h.whole) (λ t bus stage. (good-all b h, h.whole))
     (λ t bus k. (with_plugged-good b t bus a devices k h, with_plugged-whole b t bus a devices k h)) in
     shape-all (plug b a).board (live-devices (plug b a).board (devices_kept_lem.plugged b a devices)) both.1 both.0

@@ -9,14 +9,14 @@ use Rattle.qo_values.specs.declared.kinds.TypeId.TheVariants.{Object, Container,
 use Rattle.qo_model.specs.Board.{Slot, plain, child, strong, weak, alias}
 use Rattle.qo_model.specs.Changes.{changed_at}
 use Rattle.qo_model.specs.Devices.{kid_name}
-use Rattle.qo_model.specs.Properties.{row_of_property}
+use Rattle.qo_model.specs.Properties.{property_named}
 use Rattle.qo_model.specs.Release.{without_hold}
 use Rattle.qo_model.specs.RowNames.{property_name}
 use Rattle.qo_model.specs.Types.{is_a, slots_of, types}
 use Rattle.qo_model.specs.declared.properties.Property.{Property}
-use Rattle.qo_model.specs.declared.properties.RowKind.{RowKind}
-use Rattle.qo_model.specs.declared.properties.RowKind.TheVariants as row
-use Rattle.qo_sound_shapes.specs.SoundShape.{HasSlots, further, IsAsRow, IsFurther, IsKidLink, IsOfRow, may_miss, missing, next}
+use Rattle.qo_model.specs.declared.properties.PropertyRole.{PropertyRole}
+use Rattle.qo_model.specs.declared.properties.PropertyRole.TheVariants as row
+use Rattle.qo_sound_shapes.specs.SoundShape.{HasSlots, further, HasRole, IsFurther, IsKidLink, IsOfProperty, may_miss, missing, next}
 
 abbrev pub Slots : Type 0
 Slots = List (List ℕ × Slot)
@@ -27,7 +27,7 @@ NoKidLinks t = (name : List ℕ) (to : TypeId) (target : Option ℕ) → IsFurth
 
 module _ (R : Property → Type 0) (t : TypeId) where
   -- each slot is changed
-  pub has-each : (f : List ℕ × Slot → List ℕ × Slot) → ((p : Property) (s : List ℕ × Slot) → R p → IsOfRow p s → IsOfRow p (f s))
+  pub has-each : (f : List ℕ × Slot → List ℕ × Slot) → ((p : Property) (s : List ℕ × Slot) → R p → IsOfProperty p s → IsOfProperty p (f s))
       → ((s : List ℕ × Slot) → IsFurther t s → IsFurther t (f s)) → (ps : List Property) → AllByRecursion R ps → {slots : Slots} → HasSlots t ps slots
       → HasSlots t ps (map f slots)
   has-each f of more [] rows {slots} (further all) = further (all-further slots all)
@@ -40,7 +40,7 @@ module _ (R : Property → Type 0) (t : TypeId) where
 
   -- one slot is changed
   pub has-changed : (g : Slot → Slot) (i : ℕ) (ps : List Property) → AllByRecursion R ps → {slots : Slots} → HasSlots t ps slots
-      → ((p : Property) (s : List ℕ × Slot) → R p → slice_get slots i ≡ Some s → IsOfRow p s → IsOfRow p (s.0, g s.1))
+      → ((p : Property) (s : List ℕ × Slot) → R p → slice_get slots i ≡ Some s → IsOfProperty p s → IsOfProperty p (s.0, g s.1))
       → ((s : List ℕ × Slot) → slice_get slots i ≡ Some s → IsFurther t s → IsFurther t (s.0, g s.1)) → HasSlots t ps (changed_at g i slots)
   has-changed g i [] rows {slots} (further all) of more = further (one i slots all more)
     where
@@ -55,7 +55,7 @@ module _ (R : Property → Type 0) (t : TypeId) where
 
   -- one slot is let go, where no further one is a strong link: where it is a child, its row says that it may be missing
   pub has-dropped : (i : ℕ) (ps : List Property) → AllByRecursion R ps → {slots : Slots} → HasSlots t ps slots
-      → ((p : Property) (s : List ℕ × Slot) (m : ℕ) → R p → slice_get slots i ≡ Some s → s.1 ≡ child m → IsOfRow p s → may_miss p ≡ true) → NoKidLinks t
+      → ((p : Property) (s : List ℕ × Slot) (m : ℕ) → R p → slice_get slots i ≡ Some s → s.1 ≡ child m → IsOfProperty p s → may_miss p ≡ true) → NoKidLinks t
       → HasSlots t ps (without_hold i slots)
   has-dropped i [] rows {slots} (further all) may none = further (one i slots all)
     where
@@ -87,33 +87,33 @@ module _ (R : Property → Type 0) (t : TypeId) where
       one (suc j) (x ∷ xs) h = (h.0, one j xs h.1)
   has-dropped zero (p ∷ ps) rows (next {s = s} {slots = slots} is rest) may none = go s is (may p s)
     where
-      emptied_row : (kind : RowKind) (to : TypeId) (target : Option ℕ) → IsAsRow kind (strong to target) → IsAsRow kind (strong to None)
+      emptied_row : (kind : PropertyRole) (to : TypeId) (target : Option ℕ) → HasRole kind (strong to target) → HasRole kind (strong to None)
       emptied_row (row.Plain type first) to target h = h
       emptied_row (row.Child type) to target h = h
       emptied_row (row.Link k true) to target h = h
       emptied_row (row.Link k false) to target h = h
       emptied_row (row.Alias owner of) to target h = h
 
-      blinded_row : (kind : RowKind) (to : TypeId) (target : Option ℕ) → IsAsRow kind (weak to target) → IsAsRow kind (weak to None)
+      blinded_row : (kind : PropertyRole) (to : TypeId) (target : Option ℕ) → HasRole kind (weak to target) → HasRole kind (weak to None)
       blinded_row (row.Plain type first) to target h = h
       blinded_row (row.Child type) to target h = h
       blinded_row (row.Link k true) to target h = h
       blinded_row (row.Link k false) to target h = h
       blinded_row (row.Alias owner of) to target h = h
 
-      go : (x : List ℕ × Slot) → IsOfRow p x → ((m : ℕ) → R p → Some s ≡ Some s → x.1 ≡ child m → IsOfRow p x → may_miss p ≡ true)
+      go : (x : List ℕ × Slot) → IsOfProperty p x → ((m : ℕ) → R p → Some s ≡ Some s → x.1 ≡ child m → IsOfProperty p x → may_miss p ≡ true)
           → HasSlots t (p ∷ ps) (without_hold zero (x ∷ slots))
       go (name, plain v) k may = next k rest
       go (name, child m) k may = missing (may m rows.0 refl refl k) rest
-      go (name, strong to target) k may = next (record { name = k.name; fits = emptied_row p.kind to target k.fits }) rest
-      go (name, weak to target) k may = next (record { name = k.name; fits = blinded_row p.kind to target k.fits }) rest
+      go (name, strong to target) k may = next (record { name = k.name; fits = emptied_row p.role to target k.fits }) rest
+      go (name, weak to target) k may = next (record { name = k.name; fits = blinded_row p.role to target k.fits }) rest
       go (name, alias m property) k may = next k rest
   has-dropped (suc i) (p ∷ ps) rows (next is rest) may none = next is (has-dropped i ps rows.1 rest may none)
   has-dropped i (p ∷ ps) rows (missing m rest) may none = missing m (has-dropped i ps rows.1 rest may none)
 
   -- one further slot is removed
   pub has-removed : (i : ℕ) (ps : List Property) → AllByRecursion R ps → {slots : Slots} → HasSlots t ps slots
-      → ((p : Property) (s : List ℕ × Slot) → R p → slice_get slots i ≡ Some s → IsOfRow p s → ⊥) → HasSlots t ps (remove slots i)
+      → ((p : Property) (s : List ℕ × Slot) → R p → slice_get slots i ≡ Some s → IsOfProperty p s → ⊥) → HasSlots t ps (remove slots i)
   has-removed i [] rows {slots} (further all) none = further (one i slots all)
     where
       one : (j : ℕ) (xs : Slots) → AllByRecursion (IsFurther t) xs → AllByRecursion (IsFurther t) (remove xs j)
@@ -127,19 +127,19 @@ module _ (R : Property → Type 0) (t : TypeId) where
 
   -- a slot is that of a row, or a further one
   pub has-found : (i : ℕ) (ps : List Property) → AllByRecursion R ps → {slots : Slots} → HasSlots t ps slots → (s : List ℕ × Slot)
-      → slice_get slots i ≡ Some s → ((p : Property) × (R p × IsOfRow p s)) ⊎ IsFurther t s
+      → slice_get slots i ≡ Some s → ((p : Property) × (R p × IsOfProperty p s)) ⊎ IsFurther t s
   has-found i [] rows {slots} (further all) s e = inr (one i slots all e)
     where
       one : (j : ℕ) (xs : Slots) → AllByRecursion (IsFurther t) xs → slice_get xs j ≡ Some s → IsFurther t s
       one j [] h q = cc
       one zero (x ∷ xs) h q = subst (IsFurther t) (same_Some x s q) h.0
       one (suc j) (x ∷ xs) h q = one j xs h.1 q
-  has-found zero (p ∷ ps) rows (next {s = x} is rest) s e = inl (p, (rows.0, subst (IsOfRow p) (same_Some x s e) is))
+  has-found zero (p ∷ ps) rows (next {s = x} is rest) s e = inl (p, (rows.0, subst (IsOfProperty p) (same_Some x s e) is))
   has-found (suc i) (p ∷ ps) rows (next is rest) s e = has-found i ps rows.1 rest s e
   has-found i (p ∷ ps) rows (missing may rest) s e = has-found i ps rows.1 rest s e
 
 -- what holds of slots of rows, and of further ones, holds of each
-pub has-all : (R : Property → Type 0) (P : List ℕ × Slot → Type 0) (t : TypeId) → ((p : Property) (s : List ℕ × Slot) → R p → IsOfRow p s → P s)
+pub has-all : (R : Property → Type 0) (P : List ℕ × Slot → Type 0) (t : TypeId) → ((p : Property) (s : List ℕ × Slot) → R p → IsOfProperty p s → P s)
     → ((s : List ℕ × Slot) → IsFurther t s → P s) → (ps : List Property) → AllByRecursion R ps → {slots : Slots} → HasSlots t ps slots → AllByRecursion P slots
 has-all R P t of more [] rows {slots} (further all) = one slots all
   where
@@ -161,7 +161,7 @@ has-added t s more (p ∷ ps) (missing may rest) = missing may (has-added t s mo
 
 -- each row of a type is the one that is found by its name
 abbrev pub IsRowOf : TypeId → Property → Type 0
-IsRowOf t p = row_of_property t (property_name p.name) ≡ Some p
+IsRowOf t p = property_named t (property_name p.name) ≡ Some p
 
 pub own-rows : (t : TypeId) → AllByRecursion (IsRowOf t) (slots_of t)
 unfolding types
@@ -194,12 +194,12 @@ each-found P name (q ∷ ps) h p e = go (bytes_eq (property_name q.name) name) r
 
 -- the rows of buses, and who has links to kids
 
-abbrev pub is_plain_row : RowKind → Bool
-is_plain_row (row.Plain type first) = true
-is_plain_row kind = false
+abbrev pub is_plain_role : PropertyRole → Bool
+is_plain_role (row.Plain type first) = true
+is_plain_role kind = false
 
 abbrev pub PlainRows : List Property → Type 0
-PlainRows ps = AllByRecursion (λ (p : Property). is_plain_row p.kind ≡ true) ps
+PlainRows ps = AllByRecursion (λ (p : Property). is_plain_role p.role ≡ true) ps
 
 pub bus-plain : (t : TypeId) → is_a t (codes "bus") ≡ true → PlainRows (slots_of t)
 unfolding types
@@ -239,17 +239,17 @@ none-kid MemoryBackend e name to target h = h
 none-kid MemoryBackendRam e name to target h = h
 none-kid Tag e name to target h = h
 
-pub link-apart : (t k : TypeId) (holds : Bool) (name : List ℕ) (p : Property) → row_of_property t name ≡ Some p → p.kind ≡ row.Link k holds → NoKidLinks t
+pub link-apart : (t k : TypeId) (holds : Bool) (name : List ℕ) (p : Property) → property_named t name ≡ Some p → p.role ≡ row.Link k holds → NoKidLinks t
 link-apart t k holds name p e is = go (is_a t (codes "bus")) refl
   where
     go : (u : Bool) → is_a t (codes "bus") ≡ u → NoKidLinks t
     go true q =
-        let plains : is_plain_row p.kind ≡ true = each-found (λ (x : Property). is_plain_row x.kind ≡ true) name (slots_of t) (bus-plain t q) p e in
-        absurd (let clash : false ≡ true = sym (ap is_plain_row is) ∙ plains in cc)
+        let plains : is_plain_role p.role ≡ true = each-found (λ (x : Property). is_plain_role x.role ≡ true) name (slots_of t) (bus-plain t q) p e in
+        absurd (let clash : false ≡ true = sym (ap is_plain_role is) ∙ plains in cc)
     go false q = none-kid t q
 
 -- no row of a bus has the name of a link to a kid
-pub kid-rowless : (t : TypeId) → is_a t (codes "bus") ≡ true → (k : ℕ) → row_of_property t (kid_name k) ≡ None
+pub kid-rowless : (t : TypeId) → is_a t (codes "bus") ≡ true → (k : ℕ) → property_named t (kid_name k) ≡ None
 unfolding types
 kid-rowless Object e k = absurd (let clash : false ≡ true = e in cc)
 kid-rowless Container e k = absurd (let clash : false ≡ true = e in cc)
@@ -289,7 +289,7 @@ bus-kid MemoryBackendRam e s h = absurd (let clash : false ≡ true = e in cc)
 bus-kid Tag e s h = absurd (let clash : false ≡ true = e in cc)
 
 -- a plain row has no strong link
-pub plain-strong : (kind : RowKind) (t : TypeId) (target : Option ℕ) → is_plain_row kind ≡ true → IsAsRow kind (strong t target) → ⊥
+pub plain-strong : (kind : PropertyRole) (t : TypeId) (target : Option ℕ) → is_plain_role kind ≡ true → HasRole kind (strong t target) → ⊥
 plain-strong (row.Plain type first) t target e h = h
 plain-strong (row.Child k) t target e h = h
 plain-strong (row.Link k true) t target e h = absurd (let clash : false ≡ true = e in cc)
@@ -304,10 +304,10 @@ IsHolding s = ⊤
 -- those of buses are so
 pub held-slots : (t : TypeId) → is_a t (codes "bus") ≡ true → {slots : Slots} → HasSlots t (slots_of t) slots → AllByRecursion IsHolding slots
 held-slots t bus h =
-    has-all (λ (p : Property). is_plain_row p.kind ≡ true) IsHolding t (λ p s plains is. plain-holding p.kind s.0 s.1 plains is.fits)
+    has-all (λ (p : Property). is_plain_role p.role ≡ true) IsHolding t (λ p s plains is. plain-holding p.role s.0 s.1 plains is.fits)
     (λ s k. kid-holding s.0 s.1 (bus-kid t bus s k)) (slots_of t) (bus-plain t bus) h
   where
-    plain-holding : (kind : RowKind) (name : List ℕ) (s : Slot) → is_plain_row kind ≡ true → IsAsRow kind s → IsHolding (name, s)
+    plain-holding : (kind : PropertyRole) (name : List ℕ) (s : Slot) → is_plain_role kind ≡ true → HasRole kind s → IsHolding (name, s)
     plain-holding kind name (plain v) plains is = tt
     plain-holding kind name (child m) plains is = tt
     plain-holding kind name (strong t (Some m)) plains is = tt

@@ -1,3 +1,3 @@
 pub mod ShapesKept
-pub mod ShapesSay
+pub mod ShapeFacts
 pub mod SoundShape

@@ -21,8 +21,8 @@ use Rattle.qo_model.specs.Types.{slots_of}
 use Rattle.qo_model.specs.declared.properties.First.{First}
 use Rattle.qo_model.specs.declared.properties.First.TheVariants as first
 use Rattle.qo_model.specs.declared.properties.Property.{Property}
-use Rattle.qo_model.specs.declared.properties.RowKind.{RowKind}
-use Rattle.qo_model.specs.declared.properties.RowKind.TheVariants as row
+use Rattle.qo_model.specs.declared.properties.PropertyRole.{PropertyRole}
+use Rattle.qo_model.specs.declared.properties.PropertyRole.TheVariants as row
 use Rattle.qo_sound_devices.specs.SoundPlaces.{stands}
 
 -- what a plain property of a type may hold: nothing where it begins with nothing, or a value that the type admits; so a clock's period, mul and div are numbers
@@ -30,26 +30,26 @@ abbrev pub MayHold : PropType → First → Val → Type 0
 MayHold type begins v = ((begins ≡ first.Nothing) × (v ≡ val.Nothing)) ⊎ (admits type v ≡ true)
 
 -- a slot is as a row says: it holds such a value, is a child, links to objects of the row's type, strongly or weakly, or is another name for the row's property
-abbrev pub IsAsRow : RowKind → Slot → Type 0
-IsAsRow (row.Plain type begins) (plain v) = MayHold type begins v
-IsAsRow (row.Child type) (child m) = ⊤
-IsAsRow (row.Link t true) (strong to target) = to ≡ t
-IsAsRow (row.Link t false) (weak to target) = to ≡ t
-IsAsRow (row.Alias owner of) (alias m name) = name ≡ property_name of
-IsAsRow kind s = ⊥
+abbrev pub HasRole : PropertyRole → Slot → Type 0
+HasRole (row.Plain type begins) (plain v) = MayHold type begins v
+HasRole (row.Child type) (child m) = ⊤
+HasRole (row.Link t true) (strong to target) = to ≡ t
+HasRole (row.Link t false) (weak to target) = to ≡ t
+HasRole (row.Alias owner of) (alias m name) = name ≡ property_name of
+HasRole kind s = ⊥
 
 -- and has the row's name
-pub record IsOfRow (p : Property) (s : List ℕ × Slot) : Type 0 where
+pub record IsOfProperty (p : Property) (s : List ℕ × Slot) : Type 0 where
   pub name : s.0 ≡ property_name p.name
-  pub fits : IsAsRow p.kind s.1
+  pub fits : HasRole p.role s.1
 
 -- a child that is not the clock may be missing: the bus of a bridge that was detached
-abbrev pub is_child_row : RowKind → Bool
-is_child_row (row.Child type) = true
-is_child_row kind = false
+abbrev pub is_child_role : PropertyRole → Bool
+is_child_role (row.Child type) = true
+is_child_role kind = false
 
 abbrev pub may_miss : Property → Bool
-may_miss p = is_child_row p.kind && not (bytes_eq (property_name p.name) clock_name)
+may_miss p = is_child_role p.role && not (bytes_eq (property_name p.name) clock_name)
 
 -- a further slot: of a bus a link `child[N]` that holds a device, of a container and of the machine a child, of any other object none
 abbrev pub IsKidLink : List ℕ → Slot → Type 0
@@ -67,10 +67,10 @@ IsFurther Container s = IsChildSlot s.1
 IsFurther Machine s = IsChildSlot s.1
 IsFurther t s = ⊥
 
--- slots of an object of a type are those of these rows, in order, and behind them further ones
+-- slots of an object of a type are those of these rows, in order, and after them further ones
 pub data HasSlots (t : TypeId) : List Property → List (List ℕ × Slot) → Type 0 where
   further : {slots : List (List ℕ × Slot)} → AllByRecursion (IsFurther t) slots → HasSlots t [] slots
-  next : {p : Property} {ps : List Property} {s : List ℕ × Slot} {slots : List (List ℕ × Slot)} → IsOfRow p s → HasSlots t ps slots
+  next : {p : Property} {ps : List Property} {s : List ℕ × Slot} {slots : List (List ℕ × Slot)} → IsOfProperty p s → HasSlots t ps slots
       → HasSlots t (p ∷ ps) (s ∷ slots)
   missing : {p : Property} {ps : List Property} {slots : List (List ℕ × Slot)} → may_miss p ≡ true → HasSlots t ps slots → HasSlots t (p ∷ ps) slots
 
@@ -85,7 +85,7 @@ is_like r s = false
 
 -- an object is shaped as its type says
 pub record IsShaped (r : Record) : Type 0 where
-  -- it has the slots of its type's properties, base first, and behind them further ones
+  -- it has the slots of its type's properties, base first, and after them further ones
   pub slots : HasSlots r.kind (slots_of r.kind) r.slots
   -- its registers are those of its type's body
   pub registers : is_like r.registers (fresh_registers r.kind) ≡ true

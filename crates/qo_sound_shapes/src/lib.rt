@@ -4,13 +4,13 @@
 #![tactic(auto)]
 
 ghost use Rattle.qo_sound_shapes.specs.ShapesKept.{ShapesKeptLaw};
-ghost use Rattle.qo_sound_shapes.specs.ShapesSay.{ShapesSayLaw};
+ghost use Rattle.qo_sound_shapes.specs.ShapeFacts.{ShapesSayLaw};
 
-/// The objects of a board are shaped as their types say on the opening board. They are so behind what
-/// changes no object, behind acts and holds, behind a write of a clock that is not refused, and behind
+/// The objects of a board are shaped as their types say on the opening board. They are so after what
+/// changes no object, after acts and holds, after a write of a clock that is not refused, and after
 /// other registers of an object's own body, as a guest's write leaves them. Where the board is sound
-/// as far as devices go, they are so behind each command on objects, behind a device that is added or
-/// refused at any stage, behind one that is detached, and behind the reset of the whole board.
+/// as far as devices go, they are so after each command on objects, after a device that is added or
+/// refused at any stage, after one that is detached, and after the reset of the whole board.
 #[tactic(auto, using(crate::proofs::LawLemmas::shapes_kept_lem))]
 pub fn law_shapes_kept()
     ensures { ShapesKeptLaw }
@@ -20,7 +20,7 @@ pub fn law_shapes_kept()
 /// property of its type is as the property's row says; and a device that stands in a container has
 /// something there. A clock's period, mul and div are numbers, and so is the size of a memory backend.
 /// No strong link of a bus is empty.
-#[tactic(auto, using(crate::proofs::SayLemmas::shapes_say_lem))]
+#[tactic(auto, using(crate::proofs::FactLemmas::shapes_say_lem))]
 pub fn law_shapes_say()
     ensures { ShapesSayLaw }
 {}

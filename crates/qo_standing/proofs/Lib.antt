@@ -1,8 +1,8 @@
-pub mod KeptLemmas
+pub mod BodyLemmas
 pub mod RangeLemmas
-pub mod StandBoards
-pub mod StandFills
-pub mod StandLemmas
-pub mod StandSteps
-pub mod TakeLemmas
+pub mod PlacementBoards
+pub mod PlacementFills
+pub mod PlacementLemmas
+pub mod PlacementSteps
+pub mod ClaimLemmas
 pub mod TreeLemmas

@@ -16,18 +16,18 @@ use Rattle.qo_model.specs.Board as board
 use Rattle.qo_model.specs.Plug.{registers_on, with_body_of}
 use Rattle.qo_model.specs.Release as release
 use Rattle.qo_object.specs.Content.{Content}
-use Rattle.qo_object.specs.Shown.{shown}
+use Rattle.qo_object.specs.BoardObject.{shown}
 use Rattle.qo_heap.specs.Board.{Shows}
 use Rattle.qo_heap.specs.Book.{IsBook, kept_times, one, owned}
 use Rattle.qo_heap.specs.Objects.{IsHeap, Objects, content_of, with_edit}
 use Rattle.qo_heap.proofs.BookLemmas.{sum-edit}
-use Rattle.qo_heap.proofs.ShowsLive.{live-content}
+use Rattle.qo_heap.proofs.BoardObjects.{live-content}
 use Rattle.qo_life.proofs.TreeLemmas.{read-content}
 use Rattle.qo_properties.proofs.FillingLemmas.{edit-twice}
 use Rattle.qo_standing.specs.declared.spots.Memory.{Memory}
-use Rattle.qo_standing.specs.Standing.{Alike, IsDimm, named, range_in, ranged}
-use Rattle.qo_standing.specs.Taking.{SameKept, kept_by}
-use Rattle.qo_standing.proofs.StandSteps.{alike-edit, shows-at}
+use Rattle.qo_standing.specs.Placement.{Alike, IsDimm, named, range_in, ranged}
+use Rattle.qo_standing.specs.DeviceClaims.{SameKept, kept_by}
+use Rattle.qo_standing.proofs.PlacementSteps.{alike-edit, shows-at}
 
 -- a DIMM stands on its range
 

@@ -5,7 +5,7 @@ use Rattle.std.specs.Option.{option_and_then, option_or}
 use Rattle.qo_values.specs.declared.births.TheConstants.{ROOT_BIRTH}
 use Rattle.qo_model.specs.Board.{Board, Record, kind_of}
 use Rattle.qo_model.specs.Depth.{by_depth}
-use Rattle.qo_model.specs.Paths.{births, canonical, place_in, place_of, steps_to, steps_turn}
+use Rattle.qo_model.specs.Paths.{births, canonical, place_in, place_of, path_down_to, path_turn}
 use Rattle.qo_model.specs.Release.{edited}
 use Rattle.qo_model.specs.Release as release
 
@@ -28,16 +28,17 @@ Above = ℕ → Option (List ℕ)
 abbrev turn_by : Option (ℕ × List ℕ) → Above → ℕ → Option (List ℕ)
 turn_by o f n = elim (n == ROOT_BIRTH) [ true ↦ Some [] | false ↦ elim o [ None ↦ None | Some p ↦ option_map (λ (above : List ℕ). above ++ 47 ∷ p.1) (f p.0) ] ]
 
-steps-depth : (b c : Board) → ((n : ℕ) → place_of c n ≡ place_of b n) → (k n : ℕ) → by_depth (steps_turn c) (λ _. None) k n ≡ by_depth (steps_turn b) (λ _. None) k n
+steps-depth : (b c : Board) → ((n : ℕ) → place_of c n ≡ place_of b n) → (k n : ℕ)
+    → by_depth (path_turn c) (λ _. None) k n ≡ by_depth (path_turn b) (λ _. None) k n
 steps-depth b c same zero n = refl
 steps-depth b c same (suc k) n =
-    let rest : by_depth (steps_turn c) (λ _. None) k ≡ by_depth (steps_turn b) (λ _. None) k = λ j m. steps-depth b c same k m j in
-    ap (λ (f : Above). turn_by (place_of c n) f n) rest ∙ ap (λ (o : Option (ℕ × List ℕ)). turn_by o (by_depth (steps_turn b) (λ _. None) k) n) (same n)
+    let rest : by_depth (path_turn c) (λ _. None) k ≡ by_depth (path_turn b) (λ _. None) k = λ j m. steps-depth b c same k m j in
+    ap (λ (f : Above). turn_by (place_of c n) f n) rest ∙ ap (λ (o : Option (ℕ × List ℕ)). turn_by o (by_depth (path_turn b) (λ _. None) k) n) (same n)
 
-steps-same : (b c : Board) → SameTree b c → (n : ℕ) → steps_to c n ≡ steps_to b n
-unfolding steps_to
+steps-same : (b c : Board) → SameTree b c → (n : ℕ) → path_down_to c n ≡ path_down_to b n
+unfolding path_down_to
 steps-same b c s n =
-    ap (λ (k : ℕ). by_depth (steps_turn c) (λ _. None) (suc k) n) s.size ∙ steps-depth b c s.places (suc (length (births b))) n
+    ap (λ (k : ℕ). by_depth (path_turn c) (λ _. None) (suc k) n) s.size ∙ steps-depth b c s.places (suc (length (births b))) n
 
 pub canonical-same : (b c : Board) → SameTree b c → (n : ℕ) → canonical c n ≡ canonical b n
 canonical-same b c s n = ap (λ (o : Option (List ℕ)). if n == ROOT_BIRTH then Some (codes "/") else o) (steps-same b c s n)
@@ -69,7 +70,8 @@ module _ (n : ℕ) (f : Record → Record) (born : (r : Record) → (f r).birth 
       own false = refl
 
       go : (t : Bool) → h (find (λ (x : Record). x.birth == m) (map (edited n f) rs)) ≡ h (find (λ (x : Record). x.birth == m) rs)
-          → h (cond t (Some (edited n f r)) (find (λ (x : Record). x.birth == m) (map (edited n f) rs))) ≡ h (cond t (Some r) (find (λ (x : Record). x.birth == m) rs))
+          → h (cond t (Some (edited n f r)) (find (λ (x : Record). x.birth == m) (map (edited n f) rs)))
+          ≡ h (cond t (Some r) (find (λ (x : Record). x.birth == m) rs))
       go true rest = own (r.birth == n)
       go false rest = rest
 
@@ -83,7 +85,8 @@ place-cons k r rs = go (place_in k r) refl
     go None e = rw e refl
     go (Some x) e = rw e e
 
-place-edit : (k n : ℕ) (f : Record → Record) → ((r : Record) → place_in k (f r) ≡ place_in k r) → (rs : List Record) → place_at (map (edited n f) rs) k ≡ place_at rs k
+place-edit : (k n : ℕ) (f : Record → Record) → ((r : Record) → place_in k (f r) ≡ place_in k r) → (rs : List Record)
+    → place_at (map (edited n f) rs) k ≡ place_at rs k
 place-edit k n f same [] = refl
 place-edit k n f same (r ∷ rs) =
     place-cons k (edited n f r) (map (edited n f) rs)

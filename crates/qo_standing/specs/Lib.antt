@@ -1,3 +1,3 @@
-pub mod Own
-pub mod Standing
-pub mod Taking
+pub mod OwnSlots
+pub mod Placement
+pub mod DeviceClaims

@@ -3,15 +3,15 @@
 //! come to stand.
 
 ghost use Rattle.std.specs.Prelude.{◌≡◌, ◌++◌, [], ◌∷◌, List, Some, None, IfOk, IfSome, IfNone, OnOk, OnErr, option_map, option_and_then};
-ghost use Rattle.qo_claims.specs.Lists.{slot_at};
+ghost use Rattle.qo_claims.specs.Lists.{bus_slot};
 ghost use Rattle.qo_claims.specs.declared.claims.Claimed.{Claimed};
 ghost use Rattle.qo_claims.specs.declared.claims.Claimed.TheVariants as on;
 ghost use Rattle.qo_heap.specs.Book.{IsBook};
 ghost use Rattle.qo_heap.specs.Objects.{content_of, with_edit};
 ghost use Rattle.qo_kinds.specs.Bodies.{IsBare, kept_of, none_kept, with_kept};
 ghost use Rattle.qo_table.specs.Rows.{IsLive};
-ghost use Rattle.qo_standing.specs.Standing.{kept_in, named, with_book};
-ghost use Rattle.qo_standing.specs.Taking.{kept_on, kept_out, labels_out, one_out, taken_out};
+ghost use Rattle.qo_standing.specs.Placement.{kept_in, named, with_book};
+ghost use Rattle.qo_standing.specs.DeviceClaims.{kept_on, kept_out, labels_out, one_out, taken_out};
 
 use crate::spots::{Memory, Spot};
 use qo_claims::{Claim, Kept, Space, keep};
@@ -57,7 +57,7 @@ fn take_label(heap: &mut Heap, id: Option<Id>) -> Result<Option<Label>, AllocErr
 /// Claims a slot of a bus. The error is that it is held, or want of memory, and leaves the heap as it
 /// was.
 fn take_slot(heap: &mut Heap, bus: u64, slot: u8) -> Result<Kept, AllocError>
-    ensures on { IfOk result (λ kept. kept ≡ on.Slot (slot_at bus slot)) }
+    ensures on { IfOk result (λ kept. kept ≡ on.Slot (bus_slot bus slot)) }
     ensures rest { heap.new ≡ with_book heap.new.claims heap.old }
     ensures book { IfOk result (λ kept. (out : List Claimed) → IsBook out heap.old → IsBook (kept ∷ out) heap.new) }
     ensures err { OnErr result (heap.new ≡ heap.old) }

@@ -28,10 +28,10 @@ ghost use Rattle.qo_heap.specs.Book.{IsBook};
 ghost use Rattle.qo_heap.specs.Objects.{content_of, pins_of, slots_of, with_edit};
 ghost use Rattle.qo_properties.specs.Claims.{KeepsBook};
 ghost use Rattle.qo_properties.specs.Filling.{Fits, IsGiven, filled_at, fits_at, target_in};
-ghost use Rattle.qo_properties.specs.Start.{KeepsNames};
-ghost use Rattle.qo_standing.specs.Own.{is_own, own_slots_of};
-ghost use Rattle.qo_standing.specs.Standing.{Alike, IsDimm, IsSeat, Stays, Stood, joined_on, kept_in, range_in, ranged, spot_in, with_own};
-ghost use Rattle.qo_standing.specs.Taking.{SameKept, kept_on, labels_out};
+ghost use Rattle.qo_properties.specs.OpeningSteps.{KeepsNames};
+ghost use Rattle.qo_standing.specs.OwnSlots.{is_own, own_slots_of};
+ghost use Rattle.qo_standing.specs.Placement.{Alike, IsDimm, IsSeat, Stays, Stood, joined_on, kept_in, range_in, ranged, spot_in, with_own};
+ghost use Rattle.qo_standing.specs.DeviceClaims.{SameKept, kept_on, labels_out};
 
 use crate::claiming::{Label, Taken, give_back, keep_claims, keep_label, take_claims};
 use crate::spots::{Memory, Spot};

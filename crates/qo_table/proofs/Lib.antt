@@ -1,3 +1,3 @@
-pub mod FoundLemmas
+pub mod SearchLemmas
 pub mod RowsLemmas
-pub mod GivenLemmas
+pub mod ValueLemmas

@@ -1,3 +1,3 @@
-pub mod Lends
+pub mod Loans
 pub mod Rows
-pub mod Ordered
+pub mod Order

@@ -1,10 +1,10 @@
 //! The table.
 
 ghost use Rattle.std.specs.Prelude.{◌≡◌, ℕ, ◌<◌, nat_lt, length, slice_get};
-ghost use Rattle.qo_table.specs.Ordered.{births_of, front};
+ghost use Rattle.qo_table.specs.Order.{births_of, front};
 ghost use Rattle.qo_table.specs.Rows.{Rises};
 
-use qo_slots::{Key, Rest, Slots, Steps};
+use qo_slots::{Arena, Key, Rest, Steps};
 use std::alloc::Global;
 use std::marker::Model;
 use std::sync::ledger::Ledger;
@@ -12,7 +12,7 @@ use std::sync::ledger::Ledger;
 /// Objects under names that are never given twice, in the order of their births. It is linear,
 /// since its objects may be: it ends by `into_rest`.
 pub struct ObjectTable<T> {
-    slots: Slots<T>,
+    slots: Arena<T>,
     order: Vec<Key>,
 }
 
@@ -23,7 +23,7 @@ impl<T> Model for ObjectTable<T> {
 
     ghost coded = { rows_code T.code };
 
-    ghost use Rattle.qo_table.specs.Ordered.{rows_in, IsOrdered};
+    ghost use Rattle.qo_table.specs.Order.{rows_in, IsOrdered};
 
     ghost view = { λ t. record { rows = rows_in t.slots t.order.items; born = t.slots.born } };
 
@@ -49,14 +49,14 @@ impl<T> ObjectTable<T> {
     ghost use Rattle.std.specs.Prelude.{◌≡◌, ◌+◌, ◌≤◌, Bool, count_by, [], ◌∷◌, ◌++◌, map, Some, None, IfOk, IfErr, OnOk, option_map, find, leb};
     ghost use Rattle.std.specs.Borrow.{sem};
     ghost use Rattle.qo_table.specs.Rows.{IsLive, births, edit, object_at, without};
-    ghost use Rattle.qo_table.specs.Lends.{lends_object};
+    ghost use Rattle.qo_table.specs.Loans.{lends_object};
 
     /// A table without objects. It takes no memory.
     pub fn new(alloc: Global) -> ObjectTable<T>
         ensures { result ≡ record { rows = []; born = 0 } }
     {
         ObjectTable {
-            slots: Slots::new(alloc),
+            slots: Arena::new(alloc),
             order: Vec::new(alloc),
         }
     }

@@ -13,7 +13,7 @@ use Rattle.qo_timer.specs.Calls.{TimerCall, enter, hold, exit, pre, update, halt
 use Rattle.qo_timer.specs.Segments.{Mark, empties, begins, ends, Segment, marks, call_marks, control_marks, reload_marks, enabled_after, segments, segment_from, is_emptying}
 use Rattle.qo_timer.specs.Sum.{segment_ticks, total_ticks, LawSum}
 
--- an end behind all marks ends the segment that is open
+-- an end after all marks ends the segment that is open
 segment_from-ends : (from : ℕ) (ms : List Mark) (at old now period : ℕ) →
     segment_from from (ms ++ ends at old ∷ []) now period ≡ segment_from from ms at old
 segment_from-ends from [] at old now period = refl
@@ -21,7 +21,7 @@ segment_from-ends from (ends a b ∷ ms) at old now period = refl
 segment_from-ends from (begins a ∷ ms) at old now period = segment_from-ends from ms at old now period
 segment_from-ends from (empties ∷ ms) at old now period = segment_from-ends from ms at old now period
 
--- a begin behind all marks ends no segment
+-- a begin after all marks ends no segment
 segment_from-begins : (from : ℕ) (ms : List Mark) (at now period : ℕ) →
     segment_from from (ms ++ begins at ∷ []) now period ≡ segment_from from ms now period
 segment_from-begins from [] at now period = refl
@@ -35,7 +35,7 @@ list_any-push : (ms : List Mark) (m : Mark) → is_emptying m ≡ false →
 list_any-push [] m h = grind (arith, h)
 list_any-push (x ∷ ms) m h = grind (arith, list_any-push ms m h)
 
--- an append behind a choice
+-- an append after a choice
 cond-append : (b : Bool) (xs ys zs : List Segment) → cond b (xs ++ zs) (ys ++ zs) ≡ cond b xs ys ++ zs
 cond-append true xs ys zs = refl
 cond-append false xs ys zs = refl
@@ -45,7 +45,7 @@ cond-or-true : (b : Bool) (ys : List Segment) → cond (b || true) [] ys ≡ []
 cond-or-true true ys = refl
 cond-or-true false ys = refl
 
--- an end behind all marks adds no segment, and ends the open one
+-- an end after all marks adds no segment, and ends the open one
 segments-ends : (ms : List Mark) (at old now period : ℕ) →
     segments (ms ++ ends at old ∷ []) now period ≡ segments ms at old
 segments-ends [] at old now period = refl
@@ -54,7 +54,7 @@ segments-ends (begins a ∷ ms) at old now period =
     rw (list_any-push ms (ends at old) refl, segments-ends ms at old now period, segment_from-ends a ms at old now period)
 segments-ends (empties ∷ ms) at old now period = segments-ends ms at old now period
 
--- a begin behind all marks adds a segment that is open
+-- a begin after all marks adds a segment that is open
 segments-begins : (ms : List Mark) (at now period : ℕ) →
     segments (ms ++ begins at ∷ []) now period ≡ segments ms now period ++ segment_from at [] now period ∷ []
 segments-begins [] at now period = refl
@@ -64,7 +64,7 @@ segments-begins (begins a ∷ ms) at now period =
     (cond-append (list_any is_emptying ms) _ _ _)
 segments-begins (empties ∷ ms) at now period = segments-begins ms at now period
 
--- an emptying behind all marks leaves no segment
+-- an emptying after all marks leaves no segment
 segments-empties : (ms : List Mark) (now period : ℕ) → segments (ms ++ empties ∷ []) now period ≡ []
 segments-empties [] now period = refl
 segments-empties (ends a b ∷ ms) now period = segments-empties ms now period
@@ -82,7 +82,7 @@ none-given f (Some x) d h = absurd (cc)
 closed-ticks : (t : TimerRegisters) (now period : ℕ) → is_open t ≡ false → timer_ticks t now period ≡ t.done
 closed-ticks t now period h = none-given (λ from. t.done + span_ticks (now - from) period) t.began t.done h
 
--- no segment is open behind an end
+-- no segment is open after an end
 closed-after-end : (t : TimerRegisters) (now period : ℕ) (b : Bool) → is_open t ≡ b →
     is_open (after_end t now period) ≡ false
 closed-after-end t now period true h = rw h refl
@@ -171,7 +171,8 @@ halt-agrees : (t : TimerRegisters) (ms : List Mark) (at period : ℕ) (enabled :
 halt-agrees t ms at period true on tidy h = agree-halts t ms at period h
 halt-agrees t ms at period false off tidy h = λ now later.
     let closed : is_open t ≡ false = tidy off in
-    closed-ticks (after_end t at period) now later (closed-after-end t at period false closed) ∙ done-after-end t at period false closed ∙ closed-ticks t at period closed ∙ sym (closed-ticks t now later closed)
+    closed-ticks (after_end t at period) now later (closed-after-end t at period false closed) ∙ done-after-end t at period false closed ∙ closed-ticks t
+    at period closed ∙ sym (closed-ticks t now later closed)
     ∙ agree-stays t ms h now later
 
 control-agrees : (t : TimerRegisters) (ms : List Mark) (at period : ℕ) (enabled bit : Bool) → t.enabled ≡ enabled →
@@ -324,7 +325,7 @@ call-enables t (write reg value at period) =
     (reg == 0) (reg == 1) (reg == 2 || reg == 3)
     (control-enables t at period t.enabled (value % 2 == 1) refl) (reload-enables t value at t.enabled refl)
 
--- no segment is open behind a Pre
+-- no segment is open after a Pre
 call-closes : (t : TimerRegisters) (call : TimerCall) → is_pre call ≡ true → is_open (after_call t call) ≡ false
 call-closes t (pre at old) h = closed-after-end t at old (is_open t) refl
 call-closes t enter h = refl
@@ -336,25 +337,25 @@ call-closes t (read reg at period) h = absurd (cc)
 call-closes t (write reg value at period) h = absurd (cc)
 
 -- what the test of the order says of the first call and of the others
-first-follows : (updating behind rest : Bool) → (not updating || behind) && rest ≡ true → updating ≡ true → behind ≡ true
+first-follows : (updating following rest : Bool) → (not updating || following) && rest ≡ true → updating ≡ true → following ≡ true
 first-follows true true rest e u = refl
 first-follows true false rest e u = e
-first-follows false behind rest e u = absurd (cc)
+first-follows false following rest e u = absurd (cc)
 
 others-follow : (first rest : Bool) → first && rest ≡ true → rest ≡ true
 others-follow true rest e = e
 others-follow false rest e = absurd (cc)
 
 -- all calls together
-calls-agree : (t : TimerRegisters) (ms : List Mark) (behind : Bool) (calls : List TimerCall) →
-    (behind ≡ true → is_open t ≡ false) → updates_follow behind calls ≡ true → Tidy t →
+calls-agree : (t : TimerRegisters) (ms : List Mark) (following : Bool) (calls : List TimerCall) →
+    (following ≡ true → is_open t ≡ false) → updates_follow following calls ≡ true → Tidy t →
     Agree t ms → Agree (after_calls t calls) (ms ++ marks t.enabled calls)
-calls-agree t ms behind [] closed follows tidy h = agree-stays t ms h
-calls-agree t ms behind (call ∷ calls) closed follows tidy h =
+calls-agree t ms following [] closed follows tidy h = agree-stays t ms h
+calls-agree t ms following (call ∷ calls) closed follows tidy h =
     let after : Agree (after_calls (after_call t call) calls) ((ms ++ call_marks t.enabled call) ++ marks (after_call t call).enabled calls) =
     calls-agree (after_call t call) (ms ++ call_marks t.enabled call) (is_pre call) calls
-    (call-closes t call) (others-follow (not (is_update call) || behind) (updates_follow (is_pre call) calls) follows) (call-tidies t call tidy)
-    (call-agrees t ms call (λ u. closed (first-follows (is_update call) behind (updates_follow (is_pre call) calls) follows u)) tidy h) in
+    (call-closes t call) (others-follow (not (is_update call) || following) (updates_follow (is_pre call) calls) follows) (call-tidies t call tidy)
+    (call-agrees t ms call (λ u. closed (first-follows (is_update call) following (updates_follow (is_pre call) calls) follows u)) tidy h) in
     rw (← append_assoc ms (call_marks t.enabled call) (marks (enabled_after t.enabled call) calls), ← call-enables t call) after
 
 pub sum-after : LawSum

@@ -38,8 +38,8 @@ abbrev pub is_update : TimerCall → Bool
 is_update (update now) = true
 is_update _ = false
 
--- whether each Update directly follows a Pre, where behind_pre says whether a Pre stands directly before the list
+-- whether each Update directly follows a Pre, where after_pre says whether a Pre stands directly before the list
 abbrev pub updates_follow : Bool → List TimerCall → Bool
-updates_follow behind_pre [] = true
-updates_follow behind_pre (call ∷ calls) =
-    (not (is_update call) || behind_pre) && updates_follow (is_pre call) calls
+updates_follow after_pre [] = true
+updates_follow after_pre (call ∷ calls) =
+    (not (is_update call) || after_pre) && updates_follow (is_pre call) calls

@@ -51,11 +51,11 @@ pub record Segment : Type 0 where
   pub to : ℕ
   pub period : ℕ
 
--- the segment that begins at a moment: the first end behind it ends it; without one it is open and reaches to now
+-- the segment that begins at a moment: the first end after it ends it; without one it is open and reaches to now
 abbrev pub segment_from : ℕ → List Mark → ℕ → ℕ → Segment
 segment_from from [] now period = record { from = from; to = now; period = period }
-segment_from from (ends at old ∷ behind) now period = record { from = from; to = at; period = old }
-segment_from from (_ ∷ behind) now period = segment_from from behind now period
+segment_from from (ends at old ∷ after) now period = record { from = from; to = at; period = old }
+segment_from from (_ ∷ after) now period = segment_from from after now period
 
 abbrev pub is_emptying : Mark → Bool
 is_emptying empties = true
@@ -64,7 +64,7 @@ is_emptying _ = false
 -- the segments that marks leave: one for each begin that no emptying follows
 abbrev pub segments : List Mark → ℕ → ℕ → List Segment
 segments [] now period = []
-segments (begins from ∷ behind) now period =
-    if list_any is_emptying behind then segments behind now period
-    else segment_from from behind now period ∷ segments behind now period
-segments (_ ∷ behind) now period = segments behind now period
+segments (begins from ∷ after) now period =
+    if list_any is_emptying after then segments after now period
+    else segment_from from after now period ∷ segments after now period
+segments (_ ∷ after) now period = segments after now period

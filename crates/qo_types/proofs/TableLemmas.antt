@@ -5,17 +5,17 @@ use Rattle.std.specs.Str.{bytes_eq}
 use Rattle.qo_values.specs.Kinds.{type_name}
 use Rattle.qo_values.specs.declared.kinds.TypeId.{TypeId}
 use Rattle.qo_values.specs.declared.kinds.TypeId.TheVariants.{Object, Container, Machine, Device, SlotDevice, SlotUart, SlotTimer, SlotBridge, MemDimm, Bus, SlotBus, MemBus, Clock, MemoryBackend, MemoryBackendRam, Tag}
-use Rattle.qo_model.specs.Types.{TypeRow, types, chain, parent_of, row_named}
+use Rattle.qo_model.specs.Types.{TypeInfo, types, chain, parent_of, type_named}
 use Rattle.qo_types.specs.Rows.{type_ids}
 
 -- the first type of a name, by the types or by their rows
-abbrev among : List TypeRow → List ℕ → Option TypeId
-among rs name = find (λ t. bytes_eq (type_name t) name) (map (λ (r : TypeRow). r.id) rs)
+abbrev among : List TypeInfo → List ℕ → Option TypeId
+among rs name = find (λ t. bytes_eq (type_name t) name) (map (λ (r : TypeInfo). r.id) rs)
 
-abbrev row_among : List TypeRow → List ℕ → Option TypeId
-row_among rs name = option_map (λ (r : TypeRow). r.id) (find (λ r. bytes_eq (type_name r.id) name) rs)
+abbrev row_among : List TypeInfo → List ℕ → Option TypeId
+row_among rs name = option_map (λ (r : TypeInfo). r.id) (find (λ r. bytes_eq (type_name r.id) name) rs)
 
-named_among : (rs : List TypeRow) (name : List ℕ) → among rs name ≡ row_among rs name
+named_among : (rs : List TypeInfo) (name : List ℕ) → among rs name ≡ row_among rs name
 named_among [] name = refl
 named_among (r ∷ rs) name = go (bytes_eq (type_name r.id) name) refl (named_among rs name)
   where
@@ -23,13 +23,13 @@ named_among (r ∷ rs) name = go (bytes_eq (type_name r.id) name) refl (named_am
     go true h rest = rw h refl
     go false h rest = rw h rest
 
-pub named_in : (name : List ℕ) → find (λ t. bytes_eq (type_name t) name) type_ids ≡ option_map (λ (r : TypeRow). r.id) (row_named name)
+pub named_in : (name : List ℕ) → find (λ t. bytes_eq (type_name t) name) type_ids ≡ option_map (λ (r : TypeInfo). r.id) (type_named name)
 named_in name = named_among types name
 
 -- it is among those whose names begin as it does
 pub found_first : (name : List ℕ) (first : ℕ) (ts : List TypeId) → Some first ≡ slice_get name 0
     → ((rest : List ℕ) → find (λ t. bytes_eq (type_name t) (first ∷ rest)) ts ≡ find (λ t. bytes_eq (type_name t) (first ∷ rest)) type_ids)
-    → find (λ t. bytes_eq (type_name t) name) ts ≡ option_map (λ (r : TypeRow). r.id) (row_named name)
+    → find (λ t. bytes_eq (type_name t) name) ts ≡ option_map (λ (r : TypeInfo). r.id) (type_named name)
 found_first [] first ts is all = cc
 found_first (x ∷ rest) first ts is all =
     let same : first ≡ x = cc in
@@ -37,12 +37,12 @@ found_first (x ∷ rest) first ts is all =
     ∙ named_in (x ∷ rest)
 
 -- no type has the empty name
-pub none_first : (name : List ℕ) → None ≡ slice_get name 0 → None ≡ option_map (λ (r : TypeRow). r.id) (row_named name)
+pub none_first : (name : List ℕ) → None ≡ slice_get name 0 → None ≡ option_map (λ (r : TypeInfo). r.id) (type_named name)
 unfolding types
 none_first [] is = named_in []
 none_first (x ∷ rest) is = cc
 
--- the parent of a type is next behind it in its chain
+-- the parent of a type is next after it in its chain
 pub parent_in : (t : TypeId) → slice_get (chain t) 1 ≡ parent_of t
 unfolding types
 parent_in Object = refl

@@ -2,15 +2,15 @@
 use Rattle.std.specs.Prelude.{ℕ, Bool, false, not, ◌&&◌, ◌||◌, List, map, filter}
 use Rattle.std.specs.Option.{option_map_or}
 use Rattle.qo_values.specs.declared.kinds.TypeId.{TypeId}
-use Rattle.qo_model.specs.Types.{TypeRow, types, row_of, is_a}
+use Rattle.qo_model.specs.Types.{TypeInfo, types, info_of, is_a}
 
 -- the types in row order
 abbrev pub type_ids : List TypeId
-type_ids = map (λ (r : TypeRow). r.id) types
+type_ids = map (λ (r : TypeInfo). r.id) types
 
 -- whether the row of a type says that it is abstract
 abbrev pub is_abstract : TypeId → Bool
-is_abstract t = option_map_or (λ (r : TypeRow). r.is_abstract) (row_of t) false
+is_abstract t = option_map_or (λ (r : TypeInfo). r.is_abstract) (info_of t) false
 
 -- the types of a name, in row order, abstract ones only where asked
 abbrev pub listed : List ℕ → Bool → List TypeId

@@ -5,24 +5,24 @@ ghost use Rattle.std.specs.Str.{bytes_eq};
 ghost use Rattle.qo_model.specs.RowNames.{property_name};
 ghost use Rattle.qo_model.specs.Types.{slots_of};
 
-use qo_model::{First, Mark, Property, PropertyName, RowKind};
+use qo_model::{First, Mark, Property, PropertyName, PropertyRole};
 use qo_values::{BACKEND_SIZE_AT_FIRST, BACKEND_SIZE_MAX, DIMM_ALIGN, PropType, TypeId};
 
 const TYPE: Property = Property {
     name: PropertyName::Type,
-    kind: RowKind::Plain(PropType::Text, First::TypeName),
+    role: PropertyRole::Plain(PropType::Text, First::TypeName),
     mark: Mark::Never,
 };
 
 const REALIZED: Property = Property {
     name: PropertyName::Realized,
-    kind: RowKind::Plain(PropType::Bool, First::Bool(false)),
+    role: PropertyRole::Plain(PropType::Bool, First::Bool(false)),
     mark: Mark::Never,
 };
 
 const PARENT_BUS: Property = Property {
     name: PropertyName::ParentBus,
-    kind: RowKind::Link {
+    role: PropertyRole::Link {
         ty: TypeId::Bus,
         strong: true,
     },
@@ -31,7 +31,7 @@ const PARENT_BUS: Property = Property {
 
 const SLOT: Property = Property {
     name: PropertyName::Slot,
-    kind: RowKind::Plain(
+    role: PropertyRole::Plain(
         PropType::Uint {
             lo: 0,
             hi: 255,
@@ -44,7 +44,7 @@ const SLOT: Property = Property {
 
 const PEER: Property = Property {
     name: PropertyName::Peer,
-    kind: RowKind::Link {
+    role: PropertyRole::Link {
         ty: TypeId::Device,
         strong: true,
     },
@@ -53,7 +53,7 @@ const PEER: Property = Property {
 
 const WATCH: Property = Property {
     name: PropertyName::Watch,
-    kind: RowKind::Link {
+    role: PropertyRole::Link {
         ty: TypeId::Device,
         strong: false,
     },
@@ -62,13 +62,13 @@ const WATCH: Property = Property {
 
 const CLK: Property = Property {
     name: PropertyName::Clk,
-    kind: RowKind::Child(TypeId::Clock),
+    role: PropertyRole::Child(TypeId::Clock),
     mark: Mark::Never,
 };
 
 const CLOCK_PERIOD: Property = Property {
     name: PropertyName::ClockPeriod,
-    kind: RowKind::Alias {
+    role: PropertyRole::Alias {
         child: PropertyName::Clk,
         of: PropertyName::Period,
     },
@@ -77,19 +77,19 @@ const CLOCK_PERIOD: Property = Property {
 
 const CHARDEV: Property = Property {
     name: PropertyName::Chardev,
-    kind: RowKind::Plain(PropType::Text, First::NoText),
+    role: PropertyRole::Plain(PropType::Text, First::NoText),
     mark: Mark::Add,
 };
 
 const BUS: Property = Property {
     name: PropertyName::Bus0,
-    kind: RowKind::Child(TypeId::SlotBus),
+    role: PropertyRole::Child(TypeId::SlotBus),
     mark: Mark::Never,
 };
 
 const MEMDEV: Property = Property {
     name: PropertyName::Memdev,
-    kind: RowKind::Link {
+    role: PropertyRole::Link {
         ty: TypeId::MemoryBackend,
         strong: true,
     },
@@ -98,7 +98,7 @@ const MEMDEV: Property = Property {
 
 const ADDR: Property = Property {
     name: PropertyName::Addr,
-    kind: RowKind::Plain(
+    role: PropertyRole::Plain(
         PropType::Uint {
             lo: 0,
             hi: u64::MAX,
@@ -111,7 +111,7 @@ const ADDR: Property = Property {
 
 const PERIOD: Property = Property {
     name: PropertyName::Period,
-    kind: RowKind::Plain(
+    role: PropertyRole::Plain(
         PropType::Uint {
             lo: 0,
             hi: u64::MAX,
@@ -124,7 +124,7 @@ const PERIOD: Property = Property {
 
 const MUL: Property = Property {
     name: PropertyName::Mul,
-    kind: RowKind::Plain(
+    role: PropertyRole::Plain(
         PropType::Uint {
             lo: 0,
             hi: 4_294_967_295,
@@ -137,7 +137,7 @@ const MUL: Property = Property {
 
 const DIV: Property = Property {
     name: PropertyName::Div,
-    kind: RowKind::Plain(
+    role: PropertyRole::Plain(
         PropType::Uint {
             lo: 0,
             hi: 4_294_967_295,
@@ -150,7 +150,7 @@ const DIV: Property = Property {
 
 const SOURCE: Property = Property {
     name: PropertyName::Source,
-    kind: RowKind::Link {
+    role: PropertyRole::Link {
         ty: TypeId::Clock,
         strong: false,
     },
@@ -159,7 +159,7 @@ const SOURCE: Property = Property {
 
 const SIZE: Property = Property {
     name: PropertyName::Size,
-    kind: RowKind::Plain(
+    role: PropertyRole::Plain(
         PropType::Uint {
             lo: DIMM_ALIGN,
             hi: BACKEND_SIZE_MAX,
@@ -172,13 +172,13 @@ const SIZE: Property = Property {
 
 const TEXT: Property = Property {
     name: PropertyName::Text,
-    kind: RowKind::Plain(PropType::Text, First::NoText),
+    role: PropertyRole::Plain(PropType::Text, First::NoText),
     mark: Mark::Both,
 };
 
 const NUMBER: Property = Property {
     name: PropertyName::Number,
-    kind: RowKind::Plain(
+    role: PropertyRole::Plain(
         PropType::Int {
             lo: i64::MIN,
             hi: i64::MAX,
@@ -190,13 +190,13 @@ const NUMBER: Property = Property {
 
 const FLAG: Property = Property {
     name: PropertyName::Flag,
-    kind: RowKind::Plain(PropType::Bool, First::Bool(false)),
+    role: PropertyRole::Plain(PropType::Bool, First::Bool(false)),
     mark: Mark::Both,
 };
 
 const NEXT: Property = Property {
     name: PropertyName::Next,
-    kind: RowKind::Link {
+    role: PropertyRole::Link {
         ty: TypeId::Object,
         strong: true,
     },
@@ -205,7 +205,7 @@ const NEXT: Property = Property {
 
 const SEEN: Property = Property {
     name: PropertyName::Seen,
-    kind: RowKind::Link {
+    role: PropertyRole::Link {
         ty: TypeId::Object,
         strong: false,
     },

@@ -2,8 +2,8 @@
 
 ghost use Rattle.std.specs.Prelude.{◌≡◌, IfOk, option_map};
 ghost use Rattle.std.specs.List.{slice_get};
-ghost use Rattle.qo_model.specs.Properties.{row_of_property};
-ghost use Rattle.qo_model.specs.Types.{chain, has_finaliser, interfaces_of, is_a, parent_of, row_named, slots_of};
+ghost use Rattle.qo_model.specs.Properties.{property_named};
+ghost use Rattle.qo_model.specs.Types.{chain, has_finalizer, interfaces_of, is_a, parent_of, type_named, slots_of};
 ghost use Rattle.qo_types.specs.Rows.{is_abstract, listed};
 
 use crate::hierarchy::{
@@ -27,7 +27,7 @@ impl TypeTable {
 
     /// The type of a name; `None` where no type has it. Interfaces are no types.
     pub fn find(&self, name: &str) -> Option<TypeId>
-        ensures { result ≡ option_map (λ r. r.id) (row_named name.now) }
+        ensures { result ≡ option_map (λ r. r.id) (type_named name.now) }
     {
         match name.as_bytes().first() {
             Some(first) => first_named(types_with(*first), name),
@@ -55,7 +55,7 @@ impl TypeTable {
         ancestry(t)
     }
 
-    /// The type itself at 0, its parent at 1, and so on to `object`; `None` behind that.
+    /// The type itself at 0, its parent at 1, and so on to `object`; `None` after that.
     pub fn chain(&self, t: TypeId, i: usize) -> Option<TypeId>
         ensures { result ≡ slice_get (chain t) i }
     {
@@ -85,7 +85,7 @@ impl TypeTable {
     }
 
     /// The property at a place, from 0, among those that each object of a type has, base first;
-    /// `None` behind the last.
+    /// `None` after the last.
     pub fn prop(&self, t: TypeId, i: usize) -> Option<Property>
         ensures { result ≡ slice_get (slots_of t) i }
     {
@@ -101,14 +101,14 @@ impl TypeTable {
 
     /// The property of a name among those that each object of a type has.
     pub fn property(&self, t: TypeId, name: &str) -> Option<Property>
-        ensures { result ≡ row_of_property t name.now }
+        ensures { result ≡ property_named t name.now }
     {
         slots::first_named(slots(t), name)
     }
 
-    /// Whether a type has an initialiser and a finaliser.
-    pub fn has_finaliser(&self, t: TypeId) -> bool
-        ensures { result ≡ has_finaliser t }
+    /// Whether a type has an initializer and a finalizer.
+    pub fn has_finalizer(&self, t: TypeId) -> bool
+        ensures { result ≡ has_finalizer t }
     {
         !matches!(t, TypeId::Object | TypeId::Container)
     }

@@ -27,7 +27,7 @@ with_send_fault c = record c { send_faults = counted c.send_faults }
 abbrev pub with_loss : Counts → Counts
 with_loss c = record c { losses = counted c.losses }
 
--- what is counted behind a call of `begin`, of `next` and of `send`, by what it answered
+-- what is counted after a call of `begin`, of `next` and of `send`, by what it answered
 abbrev pub after_begin : {T E : Type 0} → Counts → Result T E → Counts
 after_begin c (Ok u) = c
 after_begin c (Err e) = with_next_fault c

@@ -1,4 +1,4 @@
-//! A hub over a Unix socket: the clients that connect, one behind the other, are session 0.
+//! A hub over a Unix socket: the clients that connect, one after the other, are session 0.
 #![tactic(auto)]
 
 mod socket_file;

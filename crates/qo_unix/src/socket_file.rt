@@ -71,7 +71,7 @@ impl SocketFile {
 /// Listens at a path, also where a socket file was left behind there.
 fn bind(rt: &HostRuntime, path: &str) -> io::Result<UnixListener> {
     match UnixListener::bind(rt, path) {
-        Err(error) if error.kind() == ErrorKind::AddrInUse && is_left_behind(rt, path)? => {
+        Err(error) if error.kind() == ErrorKind::AddrInUse && is_left_after(rt, path)? => {
             fs::remove_file(rt, path)?;
             UnixListener::bind(rt, path)
         }
@@ -80,7 +80,7 @@ fn bind(rt: &HostRuntime, path: &str) -> io::Result<UnixListener> {
 }
 
 /// Whether a socket file stands at the path on which nobody listens.
-fn is_left_behind(rt: &HostRuntime, path: &str) -> io::Result<bool> {
+fn is_left_after(rt: &HostRuntime, path: &str) -> io::Result<bool> {
     if !fs::symlink_metadata(rt, path)?.file_type().is_socket() {
         return Ok(false);
     }

@@ -17,10 +17,10 @@ use std::time::{Duration, SystemTime};
 /// The greatest number of bytes that one read takes.
 const CHUNK_BYTES: usize = 4096;
 
-/// How long a write waits for a peer that does not read. The session is lost behind it.
+/// How long a write waits for a peer that does not read. The session is lost after it.
 const WRITE_SECONDS: u64 = 10;
 
-/// A Unix socket that serves so many clients, one behind the other, each as session 0.
+/// A Unix socket that serves so many clients, one after the other, each as session 0.
 ///
 /// It tells nothing of what clients send and get. Contracts see its counts: the calls of `begin` and `next`
 /// that failed, the sends that failed, and how often session 0 was lost.
@@ -30,7 +30,7 @@ pub struct UnixHub {
     listener: Option<UnixListener>,
     // The client that is served, if there is one.
     peer: Option<UnixStream>,
-    // How many clients are still to be served behind it.
+    // How many clients are still to be served after it.
     connections: u32,
     next_faults: u64,
     send_faults: u64,
@@ -143,7 +143,7 @@ impl UnixHub {
         self.wait_for_client()
     }
 
-    /// The opening of the next client's session, or the end behind the last one.
+    /// The opening of the next client's session, or the end after the last one.
     fn wait_for_client(&mut self) -> Result<What, NextError>
         ensures ours { IfOk result OfOneSession }
         ensures not_bad { NeverBad result }
@@ -233,7 +233,7 @@ impl Hub for UnixHub {
     ///
     /// A client's session opens where its connection is accepted. Its bytes come in pieces of at most 4,096,
     /// one for each read. It is shut where the client shut its writing side and where a read failed. The end
-    /// comes behind the last client, and where the hub listens nowhere; the socket file is removed then. It
+    /// comes after the last client, and where the hub listens nowhere; the socket file is removed then. It
     /// fails where no connection can be accepted, and where the clock fails.
     fn next(&mut self) -> Result<Input, NextError>
         ensures next_count { self.old.next_faults ≤ self.new.next_faults }

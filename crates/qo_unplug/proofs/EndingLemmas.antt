@@ -5,7 +5,7 @@ use Rattle.qo_values.specs.Registers.{Registers}
 use Rattle.qo_values.specs.declared.kinds.Act.TheVariants.{Unrealize}
 use Rattle.qo_values.specs.declared.properties.Val.{Val}
 use Rattle.qo_values.specs.declared.properties.Val.TheVariants as val
-use Rattle.qo_claims.specs.Held.{Held}
+use Rattle.qo_claims.specs.Book.{ClaimsTaken}
 use Rattle.qo_claims.specs.declared.claims.Claimed.{Claimed}
 use Rattle.qo_kinds.specs.Bodies.{kept_of, none_kept, registers_of, with_kept}
 use Rattle.qo_kinds.specs.declared.bodies.Body.{Body}
@@ -22,34 +22,34 @@ use Rattle.qo_model.specs.declared.notes.Deed.TheVariants.{Did}
 use Rattle.qo_notes.specs.Log.{empty_log}
 use Rattle.qo_object.specs.declared.slots.Slot.{Slot}
 use Rattle.qo_object.specs.Content.{Content, acted_at}
-use Rattle.qo_object.specs.Shown.{birth_of, shown}
+use Rattle.qo_object.specs.BoardObject.{birth_of, shown}
 use Rattle.qo_object.specs.Slots.{with_val}
-use Rattle.qo_hotplug.specs.Asked.{Asked}
+use Rattle.qo_hotplug.specs.Hotplug.{Asked}
 use Rattle.qo_heap.specs.Board.{Shows, pins_in}
 use Rattle.qo_heap.specs.Book.{IsBook, kept_times, owned}
 use Rattle.qo_heap.specs.Objects.{IsHeap, Objects, content_of, with_edit, with_note, without_kept}
-use Rattle.qo_heap.specs.Timely.{Timely}
+use Rattle.qo_heap.specs.Moments.{Timely}
 use Rattle.qo_heap.proofs.ActsLemmas.{acts-act, acts-book}
 use Rattle.qo_heap.proofs.BookLemmas.{book-edit, kept-without, sum-changed}
 use Rattle.qo_heap.proofs.HeapLemmas.{edit-is, live-edit}
-use Rattle.qo_heap.proofs.ShowsActs.{shows-acted}
-use Rattle.qo_heap.proofs.ShowsEdits.{shows-edit}
-use Rattle.qo_heap.proofs.ShowsLive.{content-edited, live-content}
-use Rattle.qo_heap.proofs.TimelyLemmas.{acts-timely}
+use Rattle.qo_heap.proofs.BoardActs.{shows-acted}
+use Rattle.qo_heap.proofs.BoardEdits.{shows-edit}
+use Rattle.qo_heap.proofs.BoardObjects.{content-edited, live-content}
+use Rattle.qo_heap.proofs.MomentLemmas.{acts-timely}
 use Rattle.qo_life.specs.Life.{Goes, with_log}
 use Rattle.qo_life.proofs.TreeLemmas.{goes-shows, tree, tree-shows}
-use Rattle.qo_clocks.specs.Links.{changed_named, place_on, unseen_on, with_slot_changed}
-use Rattle.qo_clocks.proofs.KeepLemmas.{timely-changed}
+use Rattle.qo_clocks.specs.Links.{changed_named, index_on, unseen_on, with_slot_changed}
+use Rattle.qo_clocks.proofs.ScopeLemmas.{timely-changed}
 use Rattle.qo_clocks.proofs.LinkLemmas.{live-changed}
-use Rattle.qo_sound.proofs.MakeStepsLemmas.{step-set}
+use Rattle.qo_sound.proofs.AdditionStepsLemmas.{step-set}
 use Rattle.qo_sound_clocks.specs.SoundTimes.{SoundTimes}
-use Rattle.qo_sound_clocks.proofs.LessLemmas.{OtherName}
+use Rattle.qo_sound_clocks.proofs.SlotLemmas.{OtherName}
 use Rattle.qo_sound_clocks.proofs.TimesLemmas.{times-edits}
 use Rattle.qo_unplug.specs.Unrealizing.{Parts, Undoes, parts}
-use Rattle.qo_unplug.proofs.TimelyLemmas.{edit-pins, goes-timely, same-timely}
+use Rattle.qo_unplug.proofs.MomentLemmas.{edit-pins, goes-timely, same-timely}
 use Rattle.qo_unplug.proofs.TreeLemmas.{quiet-acted, quiet-disconnected, quiet-set_named, same-then}
 use Rattle.qo_unplug.proofs.TreeLemmas as boards
-use Rattle.qo_unplug.proofs.UndoesLemmas.{Stands, undoes-quiet, undoes-same, undoes-then}
+use Rattle.qo_unplug.proofs.StepLemmas.{Stands, undoes-quiet, undoes-same, undoes-then}
 
 -- the act
 
@@ -75,14 +75,14 @@ undoes-act v w n period is held asked =
 
 module _ (n : ℕ) (name : List ℕ) (f : Slot → Slot) (v : Objects) where
   changed-book : (out : List Claimed) → IsBook out v → IsBook out (changed_named n name f v)
-  changed-book out h = go (place_on v n name)
+  changed-book out h = go (index_on v n name)
     where
       go : (o : Option ℕ) → IsBook out (elim o as (λ _. Objects) [ None ↦ v | Some i ↦ with_edit n (with_slot_changed f i) v ])
       go None = h
       go (Some i) = book-edit out v n (with_slot_changed f i) (λ c. refl) h
 
   changed-pins : pins_in (changed_named n name f v).rows ≡ pins_in v.rows
-  changed-pins = go (place_on v n name)
+  changed-pins = go (index_on v n name)
     where
       go : (o : Option ℕ)
           → pins_in (elim o as (λ _. Objects) [ None ↦ v | Some i ↦ with_edit n (with_slot_changed f i) v ]).rows ≡ pins_in v.rows
@@ -126,11 +126,11 @@ pub undoes-stop : (s t u : Parts) (d period : ℕ) (clock : Option Key) → ((b 
     → ((b : Board) → Shows b s.heap → ClocksFit b → period ≡ device_period b d)
     → Undoes (λ _ c. acted Unrealize d period c) s t → Undoes (λ _. disconnected (birth_of clock)) t u
     → Undoes (λ _ c. disconnected (clock_of c d) (acted Unrealize d (device_period c d) c)) s u
-undoes-stop s t u d period clock is says acts behind =
+undoes-stop s t u d period clock is says acts after =
     undoes-same (λ _ c. disconnected (birth_of clock) (acted Unrealize d (device_period c d) c))
     (λ _ c. disconnected (clock_of c d) (acted Unrealize d (device_period c d) c)) s u
     (undoes-then (λ _ c. acted Unrealize d (device_period c d) c) (λ _. disconnected (birth_of clock)) s t u
-    (undoes-at d period s t says acts) behind)
+    (undoes-at d period s t says acts) after)
     (λ b c same beside. ap (λ (o : Option ℕ). disconnected o (acted Unrealize d (device_period c d) c)) (sym (is c beside.shown)))
 
 -- a value is set that is none of a clock's
@@ -194,7 +194,7 @@ edited-same n (r ∷ rs) = ap₂ (λ (x : Record) (xs : List Record). x ∷ xs) 
     go true = refl
     go false = refl
 
-shows-bared : (b : Board) (v : Objects) → Shows b v → (n : ℕ) (claims : Held) → Shows b (record (with_edit n bared v) { claims = claims })
+shows-bared : (b : Board) (v : Objects) → Shows b v → (n : ℕ) (claims : ClaimsTaken) → Shows b (record (with_edit n bared v) { claims = claims })
 shows-bared b v s n claims =
     let t = shows-edit n bared b v s (λ (r : Record). r)
     (λ m c. ap (λ (x : Registers). record (shown m c) { registers = x }) (bare-registers c.body)) (λ c. refl) in

@@ -1,8 +1,8 @@
-pub mod ApartLemmas
-pub mod DetachLemmas
+pub mod UnparentingLemmas
+pub mod DetachmentLemmas
 pub mod TreeLemmas
-pub mod TimelyLemmas
-pub mod UndoesLemmas
+pub mod MomentLemmas
+pub mod StepLemmas
 pub mod EndingLemmas
-pub mod TakesLemmas
+pub mod ScopeLemmas
 pub mod WalkLemmas

@@ -14,17 +14,17 @@ use Rattle.qo_model.specs.Board.{Board, Record, Slot, plain, child, strong, weak
 use Rattle.qo_model.specs.Changes.{changed_at, set, with_changed, with_val}
 use Rattle.qo_model.specs.Clocks.{acted, with_act_on}
 use Rattle.qo_model.specs.Devices.{bus_in, clock_name}
-use Rattle.qo_model.specs.Objects.{place_from}
+use Rattle.qo_model.specs.Objects.{index_from}
 use Rattle.qo_model.specs.Release.{edit, edited}
 use Rattle.qo_model.specs.Types.{is_a}
 use Rattle.qo_model.specs.Unplug.{disconnected, is_named, set_named, unseen, unseen_named}
-use Rattle.qo_sound.proofs.FirmLemmas.{HasNames}
+use Rattle.qo_sound.proofs.FirmBoardLemmas.{HasNames}
 use Rattle.qo_sound.proofs.RecordLemmas.{all-map, all-unmap}
 use Rattle.qo_sound.proofs.SlotLemmas.{names-each}
-use Rattle.qo_sound_clocks.proofs.FewerLemmas.{Fewer, fewer-acted, fewer-disconnected, fewer-none, fewer-set}
-use Rattle.qo_sound_clocks.proofs.GrownLemmas.{fewer-sound}
+use Rattle.qo_sound_clocks.proofs.DecreaseLemmas.{Fewer, fewer-acted, fewer-disconnected, fewer-none, fewer-set}
+use Rattle.qo_sound_clocks.proofs.GrowthLemmas.{fewer-sound}
 use Rattle.qo_sound_clocks.proofs.LawLemmas.{clocks_kept_lem}
-use Rattle.qo_sound_clocks.proofs.LessLemmas.{OtherName}
+use Rattle.qo_sound_clocks.proofs.SlotLemmas.{OtherName}
 use Rattle.qo_sound_clocks.proofs.ReadLemmas.{named-reads}
 use Rattle.qo_unplug.specs.Unrealizing.{SameTree, Ticks, bus_at, kid_in, kid_in_place, still, still_slot, still_slots}
 
@@ -131,14 +131,14 @@ still-unseen (alias m name) = refl
 
 leaves-set_named : (b : Board) (n : ℕ) (name : List ℕ) (v : Val) → Leaves b (set_named n name v b)
 unfolding set
-leaves-set_named b n name v = go (place_from (is_named name) 0 (slots_at b n))
+leaves-set_named b n name v = go (index_from (is_named name) 0 (slots_at b n))
   where
     go : (o : Option ℕ) → Leaves b (elim o as (λ _. Board) [ None ↦ b | Some i ↦ set n i v b ])
     go None = leaves-none b
     go (Some i) = leaves-changed b n (with_val v) (still-val v) i
 
 leaves-unseen : (b : Board) (n : ℕ) (name : List ℕ) → Leaves b (unseen_named n name b)
-leaves-unseen b n name = go (place_from (is_named name) 0 (slots_at b n))
+leaves-unseen b n name = go (index_from (is_named name) 0 (slots_at b n))
   where
     go : (o : Option ℕ) → Leaves b (elim o as (λ _. Board) [ None ↦ b | Some i ↦ edit n (with_changed unseen i) b ])
     go None = leaves-none b

@@ -8,14 +8,14 @@ use Rattle.qo_model.specs.Board.{Board, Slot, slots_at}
 use Rattle.qo_model.specs.Devices.{bus_in}
 use Rattle.qo_model.specs.Unplug.{each, unrealized_bus, unrealized_device}
 use Rattle.qo_model.proofs.DepthLemmas.{one-less}
-use Rattle.qo_object.specs.Shown.{birth_of}
-use Rattle.qo_object.proofs.ShownLemmas.{length-shown}
+use Rattle.qo_object.specs.BoardObject.{birth_of}
+use Rattle.qo_object.proofs.BoardObjectLemmas.{length-shown}
 use Rattle.qo_heap.specs.Board.{Shows}
 use Rattle.qo_heap.specs.Objects.{Objects, slots_of}
-use Rattle.qo_heap.proofs.ShowsReads.{shows-slots}
+use Rattle.qo_heap.proofs.BoardReads.{shows-slots}
 use Rattle.qo_unplug.specs.Unrealizing.{Parts, SameTree, Undoes, bus_at, bus_within, buses_within, device_within, kid_in, kid_in_place, kids_within, on_one}
 use Rattle.qo_unplug.proofs.TreeLemmas.{same-bus, same-kid, same-length}
-use Rattle.qo_unplug.proofs.UndoesLemmas.{undoes-none, undoes-same, undoes-then}
+use Rattle.qo_unplug.proofs.StepLemmas.{undoes-none, undoes-same, undoes-then}
 
 -- a slot more
 each-more : {X : Type 0} (g : ℕ → Board → Board) (f : X → Option ℕ) (i : ℕ) (xs : List X) (c : Board)

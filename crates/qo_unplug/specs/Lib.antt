@@ -1,3 +1,3 @@
-pub mod Apart
-pub mod Beside
+pub mod Unparenting
+pub mod BoardParts
 pub mod Unrealizing

@@ -13,13 +13,13 @@ use Rattle.qo_model.specs.Clocks.{acted, device_period}
 use Rattle.qo_model.specs.Depth.{by_depth}
 use Rattle.qo_model.specs.Devices.{bus_in, clock_of, kids_of, strong_in}
 use Rattle.qo_model.specs.Unplug.{disconnected, each, unrealize_turn, unrealized_bus}
-use Rattle.qo_hotplug.specs.Asked.{Asked}
+use Rattle.qo_hotplug.specs.Hotplug.{Asked}
 use Rattle.qo_heap.specs.Board.{pins_in}
 use Rattle.qo_heap.specs.Objects.{Objects}
-use Rattle.qo_heap.specs.Timely.{Timely}
+use Rattle.qo_heap.specs.Moments.{Timely}
 use Rattle.qo_properties.specs.Claims.{KeepsBook}
 use Rattle.qo_sound_clocks.specs.SoundClocks.{SoundClocks}
-use Rattle.qo_unplug.specs.Beside.{Beside}
+use Rattle.qo_unplug.specs.BoardParts.{Beside}
 
 -- an object without what unrealizing may change: its values, its weak links' targets, and its registers
 abbrev pub still_slot : Slot → Slot

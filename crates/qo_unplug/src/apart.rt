@@ -7,11 +7,11 @@ ghost use Rattle.qo_model.specs.Board.{Board};
 ghost use Rattle.qo_model.specs.Devices.{buses_of, kids_of};
 ghost use Rattle.qo_model.specs.Unplug.{apart_within, first_of};
 ghost use Rattle.qo_notes.specs.Log.{Log};
-ghost use Rattle.qo_object.specs.Shown.{birth_of};
+ghost use Rattle.qo_object.specs.BoardObject.{birth_of};
 ghost use Rattle.qo_table.specs.Rows.{IsLive};
 ghost use Rattle.qo_heap.specs.Board.{Shows};
 ghost use Rattle.qo_life.specs.Life.{Goes, with_log};
-ghost use Rattle.qo_unplug.specs.Apart.{HasRoom, bus_lost, buses_lost, drained_within, first_apart, first_lost, held_times, taken_within};
+ghost use Rattle.qo_unplug.specs.Unparenting.{HasRoom, bus_lost, buses_lost, drained_within, first_apart, first_lost, pin_count, taken_within};
 
 use qo_buses::{first_bus, first_kid, leave, leave_parent, let_go_bus};
 use qo_heap::{Heap, Oid, Steps};
@@ -61,7 +61,7 @@ fn drain<L: Ledger>(heap: &mut Heap, bus: Oid, levels: usize, steps: &mut Steps<
 #[cycle(apart)]
 fn lose_bus<L: Ledger>(heap: &mut Heap, dev: Oid, bus: Oid, levels: usize, steps: &mut Steps<L>)
     requires live { IsLive heap.old.rows dev }
-    requires pinned { 0 < held_times heap.old dev.birth }
+    requires pinned { 0 < pin_count heap.old dev.birth }
     requires bus { IsLive heap.old.rows bus }
     requires room { HasRoom heap.old levels }
     ensures { Goes (bus_lost levels dev.birth bus.birth) heap.old heap.new }
@@ -74,7 +74,7 @@ fn lose_bus<L: Ledger>(heap: &mut Heap, dev: Oid, bus: Oid, levels: usize, steps
 #[cycle(apart)]
 fn lose_first_bus<L: Ledger>(heap: &mut Heap, dev: Oid, levels: usize, steps: &mut Steps<L>) -> bool
     requires live { IsLive heap.old.rows dev }
-    requires pinned { 0 < held_times heap.old dev.birth }
+    requires pinned { 0 < pin_count heap.old dev.birth }
     requires room { HasRoom heap.old levels }
     ensures goes { Goes (first_lost levels dev.birth) heap.old heap.new }
     ensures none { result ≡ false → (b : Board) (log : Log) → Shows b (with_log log heap.new) → first_of (buses_of b dev.birth) ≡ None }
@@ -91,7 +91,7 @@ fn lose_first_bus<L: Ledger>(heap: &mut Heap, dev: Oid, levels: usize, steps: &m
 #[cycle(apart)]
 fn lose_buses<L: Ledger>(heap: &mut Heap, dev: Oid, levels: usize, steps: &mut Steps<L>)
     requires live { IsLive heap.old.rows dev }
-    requires pinned { 0 < held_times heap.old dev.birth }
+    requires pinned { 0 < pin_count heap.old dev.birth }
     requires room { HasRoom heap.old levels }
     ensures { Goes (buses_lost levels dev.birth) heap.old heap.new }
 {
@@ -107,7 +107,7 @@ fn lose_buses<L: Ledger>(heap: &mut Heap, dev: Oid, levels: usize, steps: &mut S
 #[cycle(apart)]
 pub fn take_out<L: Ledger>(heap: &mut Heap, dev: Oid, levels: usize, steps: &mut Steps<L>)
     requires live { IsLive heap.old.rows dev }
-    requires pinned { 0 < held_times heap.old dev.birth }
+    requires pinned { 0 < pin_count heap.old dev.birth }
     requires room { HasRoom heap.old levels }
     ensures { Goes (taken_within levels dev.birth) heap.old heap.new }
 {

@@ -3,15 +3,15 @@
 ghost use Rattle.std.specs.Prelude.{◌≡◌, ℕ, ◌≤◌};
 ghost use Rattle.qo_model.specs.Board.{Board};
 ghost use Rattle.qo_model.specs.Unplug.{detach};
-ghost use Rattle.qo_sound.specs.Kept.{SoundTree};
+ghost use Rattle.qo_sound.specs.TreeKept.{SoundTree};
 ghost use Rattle.qo_sound_clocks.specs.SoundClocks.{SoundClocks};
 ghost use Rattle.qo_table.specs.Rows.{IsLive};
 ghost use Rattle.qo_heap.specs.Board.{pins_in};
 ghost use Rattle.qo_heap.specs.Objects.{pins_of};
-ghost use Rattle.qo_heap.specs.Timely.{Timely};
+ghost use Rattle.qo_heap.specs.Moments.{Timely};
 ghost use Rattle.qo_life.specs.Life.{KeepsNames};
 ghost use Rattle.qo_properties.specs.Claims.{KeepsBook};
-ghost use Rattle.qo_unplug.specs.Beside.{Beside};
+ghost use Rattle.qo_unplug.specs.BoardParts.{Beside};
 
 use crate::apart::take_out;
 use crate::unrealizing::unrealize;
@@ -23,7 +23,7 @@ use std::sync::ledger::Ledger;
 
 /// A device is unrealized, with all that is below it, and taken out of the tree, while it is held
 /// (include/hw/qdev-core.h, "Realization" and `unparent`; include/hw/hotplug.h; the order is the
-/// profile's). What nothing refers to any more is finalised. No hold, no pending removal and no
+/// profile's). What nothing refers to any more is finalized. No hold, no pending removal and no
 /// notice is left of a device that was unrealized. A timer stops at the heap's time, which none may be
 /// ahead of. Each object may be held from outside the tree once at most. It always succeeds, and
 /// takes no memory.

@@ -7,10 +7,10 @@ ghost use Rattle.qo_values.specs.declared.properties.Val.TheVariants as val;
 ghost use Rattle.qo_kinds.specs.Bodies.{kept_of, none_kept};
 ghost use Rattle.qo_model.specs.Clocks.{acted};
 ghost use Rattle.qo_model.specs.Unplug.{set_named, unrealized_bus, unrealized_device};
-ghost use Rattle.qo_hotplug.specs.Asked.{Asked};
+ghost use Rattle.qo_hotplug.specs.Hotplug.{Asked};
 ghost use Rattle.qo_table.specs.Rows.{IsLive};
 ghost use Rattle.qo_heap.specs.Objects.{content_of};
-ghost use Rattle.qo_heap.specs.Timely.{Timely};
+ghost use Rattle.qo_heap.specs.Moments.{Timely};
 ghost use Rattle.qo_unplug.specs.Unrealizing.{HeapUndoes, Undoes, parts, stopped};
 
 use crate::claims::free_claims;

@@ -3,7 +3,7 @@
 
 ghost use Rattle.std.specs.Prelude.{◌≡◌, ◌+◌, length};
 ghost use Rattle.qo_table.specs.Rows.{IsLive};
-ghost use Rattle.qo_heap.specs.Timely.{Timely};
+ghost use Rattle.qo_heap.specs.Moments.{Timely};
 ghost use Rattle.qo_unplug.specs.Unrealizing.{Undoes, bus_undone, bus_within, device_within, kid_undone, parts};
 
 use crate::ending::{end_bus, end_device};

@@ -26,7 +26,11 @@ id-named [] e = cc
 id-named (b ∷ bs) e = go (is_letter b) refl (list_all is_id_byte bs) refl (nat_lt (length bs) ID_MAX) refl
   where
     go : (t : Bool) → is_letter b ≡ t → (u : Bool) → list_all is_id_byte bs ≡ u → (w : Bool) → nat_lt (length bs) ID_MAX ≡ w → IsName (b ∷ bs)
-    go true p true q true r = record { some = omega arith; short = (let few : length bs < ID_MAX = ltb-true (length bs) ID_MAX r in omega arith); printable = rw (id-first b p) (ids-all bs q) }
+    go true p true q true r = record {
+      some = omega arith;
+      short = (let few : length bs < ID_MAX = ltb-true (length bs) ID_MAX r in omega arith);
+      printable = rw (id-first b p) (ids-all bs q);
+    }
     go true p true q false r = absurd (let clash : false ≡ true = rw (p, q, r) at e in cc)
     go true p false q w r = absurd (let clash : false ≡ true = rw (p, q) at e in cc)
     go false p u q w r = absurd (let clash : false ≡ true = rw p at e in cc)

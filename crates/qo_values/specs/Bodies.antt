@@ -1,4 +1,5 @@
--- What the acts, the reads and the writes of a guest do to the registers of a body (devices of the profile; phases: docs/devel/reset.rst, "Multi-phase mechanism"; callbacks: docs/devel/clocks.rst, "Clock callbacks").
+-- What the acts, the reads and the writes of a guest do to the registers of a body (devices of the profile; phases: docs/devel/reset.rst, "Multi-phase
+-- mechanism"; callbacks: docs/devel/clocks.rst, "Clock callbacks").
 use Rattle.std.specs.Prelude.{ℕ, ◌%◌, Bool, false, not, ◌&&◌, ◌==◌, if◌then◌else◌, Option, Some, None, option_map}
 use Rattle.qo_values.specs.Counts.{count_up}
 use Rattle.qo_values.specs.Dimm.{dimm_read}

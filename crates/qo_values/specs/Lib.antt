@@ -6,8 +6,8 @@ pub mod Ids
 pub mod Kinds
 pub mod Names
 pub mod Placing
-pub mod Plain
-pub mod PropLists
+pub mod PlainValues
+pub mod PropertyLists
 pub mod Properties
 pub mod Registers
 pub mod Rings

@@ -3,7 +3,7 @@ use Rattle.std.specs.Prelude.{ℕ, zero, suc, ◌+◌, ◌≤◌, ◌%◌, ◌^�
 use Rattle.std.specs.List.{list_any}
 use Rattle.qo_values.specs.declared.ranges.Range.{Range}
 
--- the window of addresses: its start, how many it has, and the first one behind it
+-- the window of addresses: its start, how many it has, and the first one after it
 abbrev pub window_start : ℕ
 window_start = 2 ^ 32
 
@@ -49,5 +49,5 @@ least test first zero = None
 least test first (suc more) = if test first then Some first else least test (first + 1) more
 
 -- the place of size bytes: the least address of the window at which they fit
-abbrev pub place_of : List Range → ℕ → ℕ → Option ℕ
-place_of ranges size align = least (fits_at ranges size align) window_start window_size
+abbrev pub free_address : List Range → ℕ → ℕ → Option ℕ
+free_address ranges size align = least (fits_at ranges size align) window_start window_size

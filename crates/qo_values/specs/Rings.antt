@@ -20,7 +20,7 @@ keep_last n bytes = drop (length bytes - n) bytes
 abbrev pub empty_ring : ℕ → RingBytes
 empty_ring size = record { size = size; bytes = [] }
 
--- more bytes behind those of a ring; the oldest go
+-- more bytes after those of a ring; the oldest go
 abbrev pub ring_add : RingBytes → List ℕ → RingBytes
 ring_add ring more = record ring { bytes = keep_last ring.size (ring.bytes ++ more) }
 

@@ -25,5 +25,5 @@ pub const MEMORY_BUS_BIRTH: u64 = 7;
 /// The container of users' objects, at `/objects`.
 pub const OBJECTS_BIRTH: u64 = 8;
 
-/// How many objects a machine begins with; a new object is born behind them.
+/// How many objects a machine begins with; a new object is born after them.
 pub const OPENING_OBJECTS: u64 = 8;

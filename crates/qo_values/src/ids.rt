@@ -45,14 +45,14 @@ fn is_letter(byte: u8) -> bool
     byte.is_ascii_alphabetic()
 }
 
-/// Whether a byte may stand behind an id's first letter.
+/// Whether a byte may stand after an id's first letter.
 fn is_id_byte(byte: u8) -> bool
     ensures { result ≡ is_id_byte byte }
 {
     is_letter(byte) || byte.is_ascii_digit() || matches!(byte, b'-' | b'.' | b'_')
 }
 
-/// Whether all bytes may stand behind an id's first letter.
+/// Whether all bytes may stand after an id's first letter.
 fn are_id_bytes(bytes: &[u8]) -> bool
     ensures { result ≡ list_all is_id_byte bytes.now }
 {

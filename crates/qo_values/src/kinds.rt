@@ -45,7 +45,7 @@ pub enum TypeId {
 /// mechanism"; clock callbacks: docs/devel/clocks.rst, "Clock callbacks").
 #[derive(Clone, Copy, Debug, PartialEq, Eq)]
 pub enum Act {
-    /// The initialiser of one type of the object's chain.
+    /// The initializer of one type of the object's chain.
     Init(TypeId),
     /// Realize.
     Realize,

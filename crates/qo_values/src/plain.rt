@@ -2,7 +2,7 @@
 
 ghost use Rattle.std.specs.Prelude.{◌≡◌, IfOk};
 ghost use Rattle.serde_json.specs.View.{view, number_view};
-ghost use Rattle.qo_values.specs.Plain.{ReadsPlain, whole_of, plain_of, data_of};
+ghost use Rattle.qo_values.specs.PlainValues.{ReadsPlain, whole_of, plain_of, data_of};
 
 use crate::names::Text;
 use crate::properties::Val;

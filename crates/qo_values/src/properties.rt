@@ -3,7 +3,7 @@
 
 ghost use Rattle.std.specs.Prelude.{◌≡◌, is_ok};
 ghost use Rattle.qo_values.specs.Properties.{admits, is_multiple};
-ghost use Rattle.qo_values.specs.PropLists.{names_of, NamesRise, is_above};
+ghost use Rattle.qo_values.specs.PropertyLists.{names_of, NamesRise, is_above};
 
 use crate::names::Text;
 use std::alloc::{AllocFailed, Global};
@@ -34,7 +34,7 @@ pub struct PropList {
 
 impl Model for PropList {
     ghost use Rattle.std.specs.Prelude.{List, ℕ};
-    ghost use Rattle.qo_values.specs.PropLists.{names_of, NamesRise};
+    ghost use Rattle.qo_values.specs.PropertyLists.{names_of, NamesRise};
     ghost use Rattle.qo_values.specs.declared.properties.Val.{Val};
 
     ghost Value = { List (List ℕ × Val) };
@@ -44,10 +44,10 @@ impl Model for PropList {
     ghost invariant = { λ p. NamesRise (names_of p.pairs.items) };
 }
 
-/// Why a property was not put behind the others.
+/// Why a property was not put after the others.
 #[derive(Clone, Copy, Debug, PartialEq, Eq, Error)]
 pub enum PushError {
-    /// Its name does not come after all names of the list: one is equal, or comes behind it.
+    /// Its name does not come after all names of the list: one is equal, or comes after it.
     #[error("name out of order")]
     OutOfOrder,
     /// Want of memory.
@@ -90,7 +90,7 @@ impl PropList {
         }
     }
 
-    /// Puts a property behind the others; `OutOfOrder` exactly where its name does not come after
+    /// Puts a property after the others; `OutOfOrder` exactly where its name does not come after
     /// all of theirs. An error leaves the list as it was.
     pub fn push(&mut self, name: Text, val: Val) -> Result<(), PushError>
         ensures pushed { OnOk result (self.new ≡ self.old ++ (name, val) ∷ []) }

@@ -27,7 +27,7 @@ fn one(name: &str, of: &str, alloc: Global) -> Result<PropList, Refusal> {
     }
 }
 
-/// Whether a property that a tag does not have is refused, behind an attempt.
+/// Whether a property that a tag does not have is refused, after an attempt.
 fn refuses<L: Ledger>(
     board: &mut Board,
     alloc: Global,

@@ -39,7 +39,7 @@ fn begun<L: Ledger>(
     board.begin("slot-bridge", Some(id), bus, props, alloc, steps)
 }
 
-/// The board behind a refusal at a stage by a code.
+/// The board after a refusal at a stage by a code.
 fn refused(why: NotAdded, at: u8, by: Code) -> Result<Board, AddRefusal> {
     match why.refusal {
         AddRefusal::Refused { stage, code } if stage == at && code == by => Ok(why.board),

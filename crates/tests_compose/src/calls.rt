@@ -57,7 +57,7 @@ fn a_truncated_entry_is_the_bad_place(rt: HostRuntime) -> Result<(), Fail> {
     Ok(())
 }
 
-/// The entry of a message, and the transcript's line that answers it behind a negotiation.
+/// The entry of a message, and the transcript's line that answers it after a negotiation.
 const ANSWERED: [(&str, &str); 3] = [
     (
         "bytes 1.000000 0 54\n{\"execute\":\"qom-list\",\"arguments\":{\"path\":\"/nowhere\"}}\n",

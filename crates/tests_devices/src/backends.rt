@@ -13,7 +13,7 @@ use std::test::Fail;
 /// The first address of the window.
 const WINDOW_START: u64 = 0x1_0000_0000;
 
-/// Whether a DIMM beside one that stands at the window's start goes behind it, and is refused where it
+/// Whether a DIMM beside one that stands at the window's start goes after it, and is refused where it
 /// would overlap it.
 fn placed<L: Ledger>(alloc: Global, blank: Blank) -> Result<bool, AllocError>
     requires name { blank.name ≡ L.name }

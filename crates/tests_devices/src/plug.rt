@@ -59,8 +59,8 @@ fn bridge<L: Ledger>(
     )
 }
 
-/// The slot behind the last one, as a property.
-fn slot_behind(alloc: Global) -> Result<PropList, AllocError> {
+/// The slot after the last one, as a property.
+fn slot_after(alloc: Global) -> Result<PropList, AllocError> {
     let mut props = PropList::new(alloc);
     let name = Text::from_string(String::from_str(alloc, "slot")?);
     match props.push(name, Val::Uint(u64::from(BUS_SLOTS))) {
@@ -70,7 +70,7 @@ fn slot_behind(alloc: Global) -> Result<PropList, AllocError> {
 }
 
 /// On the opening board a bridge is refused as its slot is none, and leaves its notes; one is refused
-/// behind its acts, which are noted too, where the notices are full; and one is added.
+/// after its acts, which are noted too, where the notices are full; and one is added.
 fn refused_and_added<L: Ledger>(alloc: Global, blank: Blank) -> Result<bool, AddRefusal>
     requires name { blank.name ≡ L.name }
     requires parts { blank.parts ≡ L.parts }
@@ -87,8 +87,8 @@ fn refused_and_added<L: Ledger>(alloc: Global, blank: Blank) -> Result<bool, Add
     for _ in 0..NOTICES_MAX {
         let _told = full.plug(bus);
     }
-    let (props, behind) = (PropList::new(alloc), slot_behind(alloc)?);
-    let early = bridge(&mut heap, &resets, &mut hotplug, &behind, alloc, &mut steps);
+    let (props, after) = (PropList::new(alloc), slot_after(alloc)?);
+    let early = bridge(&mut heap, &resets, &mut hotplug, &after, alloc, &mut steps);
     let noted = heap.live() == 8 && heap.notes_total() == 12;
     let late = bridge(&mut heap, &resets, &mut full, &props, alloc, &mut steps);
     let told = heap.live() == 8 && heap.notes_total() == 34;

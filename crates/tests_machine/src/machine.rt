@@ -58,7 +58,7 @@ fn guest(alloc: Global, bytes: &[u8]) -> Result<Input, Fail> {
     Ok(input(What::Guest(chunk(alloc, bytes)?)))
 }
 
-/// The texts of some messages, one after another, each behind its lane.
+/// The texts of some messages, one after another, each after its lane.
 fn told(alloc: Global, outs: &Outs) -> Result<Vec<u8>, Fail> {
     let mut text = Vec::new(alloc);
     for (lane, bytes) in outs.as_slice() {

@@ -1,1 +1,1 @@
-mod TimelyLemmas
+mod MomentLemmas

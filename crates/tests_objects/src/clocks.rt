@@ -1,6 +1,6 @@
 //! What periods are in numbers, and what becomes of a tree of clocks that is written, with ample memory.
 ghost use Rattle.std.specs.Prelude.{◌≡◌, ◌<◌, IfSome};
-ghost use Rattle.qo_heap.specs.Timely.{Timely};
+ghost use Rattle.qo_heap.specs.Moments.{Timely};
 
 use crate::names::name_of;
 use qo_clocks::{connect, period, period_of_hz, set, set_mul_div};
@@ -97,7 +97,7 @@ fn connected<L: Ledger>(
     Some(heap)
 }
 
-/// Three clocks, one behind the other, and a device of the last.
+/// Three clocks, one after the other, and a device of the last.
 fn three<L: Ledger>(alloc: Global, steps: &mut Steps<L>) -> Option<Heap>
     ensures { IfSome result (λ h. Timely h) }
 {

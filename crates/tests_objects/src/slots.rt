@@ -2,7 +2,7 @@
 //! at values that may not.
 ghost use Rattle.std.specs.Prelude.{◌≡◌, ◌+◌, ◌<◌, OnOk};
 
-use qo_slots::{Key, Slots, Steps};
+use qo_slots::{Arena, Key, Steps};
 use std::alloc::{AllocError, Global};
 use std::marker::Brand;
 use std::sync::ledger::{Blank, Ledger};
@@ -20,7 +20,7 @@ struct Seen {
 }
 
 /// Puts two numbers, changes the second, takes the first and puts a third in its place.
-fn walk_numbers<L: Ledger>(slots: &mut Slots<u64>, steps: &mut Steps<L>) -> Result<Seen, AllocError>
+fn walk_numbers<L: Ledger>(slots: &mut Arena<u64>, steps: &mut Steps<L>) -> Result<Seen, AllocError>
     ensures { OnOk result (steps.new ≡ steps.old + 6) }
 {
     slots.reserve(2)?;
@@ -42,7 +42,7 @@ fn walk_numbers<L: Ledger>(slots: &mut Slots<u64>, steps: &mut Steps<L>) -> Resu
 }
 
 /// The values that a table still holds, the first ones in the higher digits.
-fn digits_left(slots: Slots<u64>) -> u64 {
+fn digits_left(slots: Arena<u64>) -> u64 {
     let mut left = 0u64;
     let mut rest = slots.into_rest();
     while let Some(value) = rest.next() {
@@ -58,7 +58,7 @@ fn seen_numbers<L: Ledger>(alloc: Global, blank: Blank) -> Result<Seen, AllocErr
     requires some { 0 < blank.parts }
 {
     let mut steps = Steps::<L>::from_blank(blank);
-    let mut slots = Slots::new(alloc);
+    let mut slots = Arena::new(alloc);
     let walked = walk_numbers(&mut slots, &mut steps);
     let left = digits_left(slots);
     Ok(Seen { left, ..walked? })
@@ -94,7 +94,7 @@ fn walk_tokens<L: Ledger>(alloc: Global, blank: Blank) -> Result<u64, AllocError
     requires some { 0 < blank.parts }
 {
     let mut steps = Steps::<L>::from_blank(blank);
-    let mut slots = Slots::new(alloc);
+    let mut slots = Arena::new(alloc);
     if slots.reserve(1).is_err() {
         slots.destroy_empty();
         return Err(AllocError);

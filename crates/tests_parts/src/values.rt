@@ -21,7 +21,7 @@ fn ids_are_letters_and_then_id_bytes(rt: HostRuntime) -> Result<(), Fail> {
     Ok(())
 }
 
-/// Puts a property without a value yet behind others.
+/// Puts a property without a value yet after others.
 fn push(alloc: Global, props: &mut PropList, name: &str) -> Result<(), PushError> {
     let Ok(text) = String::from_str(alloc, name) else {
         return Err(PushError::Memory);

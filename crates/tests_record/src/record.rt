@@ -30,7 +30,7 @@ fn hub(alloc: Global, bytes: &[u8]) -> Result<ReplayHub<ByteSource, ByteSink>, F
     hub_over(alloc, source_of(alloc, bytes, &[])?)
 }
 
-/// Where a hub stops behind so many inputs: its bad place, or none at the end.
+/// Where a hub stops after so many inputs: its bad place, or none at the end.
 fn stop_of<H: Hub>(hub: &mut H, count: usize) -> Result<Option<u64>, Fail> {
     for _ in 0..count {
         if let What::End = hub.next()?.what {
@@ -47,7 +47,7 @@ fn stop_of<H: Hub>(hub: &mut H, count: usize) -> Result<Option<u64>, Fail> {
     }
 }
 
-/// Where a stream stops behind so many inputs.
+/// Where a stream stops after so many inputs.
 fn stop(alloc: Global, bytes: &[u8], count: usize) -> Result<Option<u64>, Fail> {
     stop_of(&mut hub(alloc, bytes)?, count)
 }
@@ -113,7 +113,7 @@ fn entries_come_in_order(rt: HostRuntime) -> Result<(), Fail> {
     gives(&rt, rt.alloc(), &mut hub, &EACH_TOLD)
 }
 
-/// A stream, how many inputs it gives, and where it stops behind them: its bad place, or none at the end.
+/// A stream, how many inputs it gives, and where it stops after them: its bad place, or none at the end.
 type Row = (&'static [u8], usize, Option<u64>);
 
 /// Streams stop so.
@@ -318,8 +318,8 @@ fn whole_entries_are_given_before_a_take(rt: HostRuntime) -> Result<(), Fail> {
     let mut hub = hub_over(rt.alloc(), source)?;
     gives(&rt, rt.alloc(), &mut hub, &["1.000000 open 0"])?;
     assert!(rt; hub.send(Lane::Session(0), b"one\r\n").is_ok());
-    let behind = ["1.000000 step 5", "the hub failed", "no input at byte 39"];
-    gives(&rt, rt.alloc(), &mut hub, &behind)?;
+    let after = ["1.000000 step 5", "the hub failed", "no input at byte 39"];
+    gives(&rt, rt.alloc(), &mut hub, &after)?;
     assert_eq!(rt; hub.into_parts().1.held(), b"0 one\r\n".as_slice());
     Ok(())
 }
@@ -335,8 +335,8 @@ fn a_failed_take_is_not_the_end(rt: HostRuntime) -> Result<(), Fail> {
     )
 }
 
-/// What stands behind the opening of session 0, where the source fails before it gives more than these bytes.
-fn behind_opening(alloc: Global, bytes: &[u8]) -> Result<Option<NextError>, Fail> {
+/// What stands after the opening of session 0, where the source fails before it gives more than these bytes.
+fn after_opening(alloc: Global, bytes: &[u8]) -> Result<Option<NextError>, Fail> {
     let mut stream = b"qrec 1\nopen 1.000000 0\n".to_vec(alloc)?;
     stream.extend_from_slice(bytes)?;
     let mut hub = hub_over(alloc, source_of(alloc, &stream, &[2])?)?;
@@ -358,7 +358,7 @@ const WRONG: [&[u8]; 5] = [
 #[test]
 fn wrong_entries_are_told_without_a_take(rt: HostRuntime) -> Result<(), Fail> {
     for bytes in WRONG {
-        let stopped = behind_opening(rt.alloc(), bytes)?;
+        let stopped = after_opening(rt.alloc(), bytes)?;
         assert_eq!(rt; stopped, Some(NextError::Bad(23)), "{bytes:?}");
     }
     Ok(())
@@ -375,7 +375,7 @@ const BEGUN: [&[u8]; 4] = [
 #[test]
 fn begun_entries_wait_for_more(rt: HostRuntime) -> Result<(), Fail> {
     for bytes in BEGUN {
-        let stopped = behind_opening(rt.alloc(), bytes)?;
+        let stopped = after_opening(rt.alloc(), bytes)?;
         assert_eq!(rt; stopped, Some(NextError::Failed), "{bytes:?}");
     }
     Ok(())

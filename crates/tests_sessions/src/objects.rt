@@ -67,7 +67,7 @@ const ERRORS: [(&str, &str); 13] = [
     ),
 ];
 
-/// Adds an entry of a command to session 0: its name, and behind a space its arguments, if it has any.
+/// Adds an entry of a command to session 0: its name, and after a space its arguments, if it has any.
 fn add_command(alloc: Global, record: &mut Vec<u8>, command: &str) -> Result<(), Fail> {
     let text = match command.split_once(" ") {
         Some((name, arguments)) => {
@@ -141,7 +141,7 @@ fn holds(alloc: Global, rows: &[(&str, &str)]) -> Result<bool, Fail> {
     gives(alloc, record.as_slice(), want.as_bytes())
 }
 
-/// Commands that are done, and behind each what is detached, with its references, and all notes.
+/// Commands that are done, and after each what is detached, with its references, and all notes.
 const LINKED: [(&str, &str, &str); 13] = [
     (
         "object-add {\"qom-type\":\"tag\",\"id\":\"a\"}",

@@ -48,7 +48,7 @@ fn gives(rt: &impl Abort, alloc: Global, record: &[u8], want: &[u8]) -> Result<(
     Ok(())
 }
 
-/// Behind its greeting session 0 sends these pieces, each of which is answered by the lines beside it.
+/// After its greeting session 0 sends these pieces, each of which is answered by the lines beside it.
 fn answers(rt: &impl Abort, alloc: Global, rows: &[(&str, &str)]) -> Result<(), Fail> {
     let mut record = opened(alloc)?;
     let mut want = String::from_str(alloc, GREETING)?;
@@ -59,7 +59,7 @@ fn answers(rt: &impl Abort, alloc: Global, rows: &[(&str, &str)]) -> Result<(), 
     gives(rt, alloc, record.as_slice(), want.as_bytes())
 }
 
-/// Pieces before the negotiation and behind it.
+/// Pieces before the negotiation and after it.
 const NEGOTIATION: [(&str, &str); 6] = [
     (
         "{\"execute\":\"qom-list\",\"id\":7}\n",
@@ -153,10 +153,10 @@ const TOO_DEEP: &str =
 const NO_COMMAND: &str =
     "0 {\"error\":{\"class\":\"GenericError\",\"desc\":\"E6 not a command\"}}\r\n";
 
-/// A member behind 63 brackets.
-fn bracketed(alloc: Global, behind: &str) -> Result<String, Fail> {
+/// A member after 63 brackets.
+fn bracketed(alloc: Global, after: &str) -> Result<String, Fail> {
     let brackets = "[".repeat(alloc, 63)?;
-    Ok(joined(alloc, &["{\"execute\":", &brackets, behind])?)
+    Ok(joined(alloc, &["{\"execute\":", &brackets, after])?)
 }
 
 #[test]
@@ -175,7 +175,7 @@ fn depth_has_its_limit(rt: HostRuntime) -> Result<(), Fail> {
 const TOO_LONG: &str =
     "0 {\"error\":{\"class\":\"GenericError\",\"desc\":\"E4 object too long\"}}\r\n";
 
-/// A record of a command that spaces behind its brace fill up to so many bytes, before the 25 of the rest.
+/// A record of a command that spaces after its brace fill up to so many bytes, before the 25 of the rest.
 fn padded(alloc: Global, filled: usize) -> Result<Vec<u8>, Fail> {
     let mut command = Vec::from_slice(alloc, b"{")?;
     command.resize(filled, b' ')?;

@@ -85,8 +85,8 @@ fn clients_go_away(rt: HostRuntime) -> Result<(), Fail> {
 }
 
 #[test]
-fn a_socket_file_left_behind_is_replaced(rt: HostRuntime) -> Result<(), Fail> {
-    let path = "left_behind.sock";
+fn a_socket_file_left_after_is_replaced(rt: HostRuntime) -> Result<(), Fail> {
+    let path = "left_after.sock";
     drop(UnixListener::bind(&rt, path)?);
     let mut hub = UnixHub::new(rt.clone()?)?;
     assert_eq!(rt; hub.begin(path, 1), Ok(()));

@@ -8,7 +8,7 @@ ghost use Rattle.qo_properties.specs.Attempts.{IsCutWhole, MadeFurther, given_up
 use crate::adding::objects::give_up;
 use qo_heap::{Heap, Steps};
 use qo_life::create;
-use qo_model::RowKind;
+use qo_model::PropertyRole;
 use qo_types::TypeTable;
 use qo_values::TypeId;
 use std::alloc::{AllocError, Global};
@@ -28,7 +28,7 @@ fn make_further<L: Ledger>(
 {
     let mut place = 0;
     while let Some(row) = TypeTable::board().prop(kind, place) {
-        if let RowKind::Child(further) = row.kind {
+        if let PropertyRole::Child(further) = row.role {
             create(heap, alloc, further, steps)?;
         }
         place += 1;

@@ -9,7 +9,7 @@ ghost use Rattle.qo_values.specs.declared.codes.Code.TheVariants.{E23};
 ghost use Rattle.qo_properties.specs.declared.refusals.Refusal.TheVariants.{Refused};
 ghost use Rattle.qo_model.specs.Board.{Board};
 ghost use Rattle.qo_model.specs.Objects.{barred_by};
-ghost use Rattle.qo_model.specs.Types.{row_named};
+ghost use Rattle.qo_model.specs.Types.{type_named};
 ghost use Rattle.qo_table.specs.Rows.{IsLive};
 ghost use Rattle.qo_heap.specs.Board.{Shows};
 ghost use Rattle.qo_properties.specs.Changes.{place_refusal, refusal_in, type_refusal};
@@ -24,7 +24,7 @@ use std::sync::ledger::Ledger;
 
 /// The type of a name, where users may make objects of it.
 fn creatable(driver: &str) -> Result<TypeId, Code>
-    ensures kind { IfOk result (λ kind. option_map (λ r. r.id) (row_named driver.now) ≡ Some kind) }
+    ensures kind { IfOk result (λ kind. option_map (λ r. r.id) (type_named driver.now) ≡ Some kind) }
     ensures refused { refusal_in result ≡ type_refusal driver.now }
 {
     let Some(kind) = TypeTable::board().find(driver) else {
@@ -77,7 +77,7 @@ pub fn admit<L: Ledger>(
     alloc: Global,
     steps: &mut Steps<L>,
 ) -> Result<Admitted, Refusal>
-    ensures kind { IfOk result (λ a. option_map (λ r. r.id) (row_named driver.now) ≡ Some a.kind) }
+    ensures kind { IfOk result (λ a. option_map (λ r. r.id) (type_named driver.now) ≡ Some a.kind) }
     ensures place { IfOk result (λ a. (a.objects.birth ≡ OBJECTS_BIRTH) × IsLive heap.now.rows a.objects × (a.name ≡ id.now)) }
     ensures open { OnOk result ((b : Board) → Shows b heap.now → barred_by b driver.now id.now ≡ None) }
     ensures refused { (b : Board) (code : Code) → Shows b heap.now → result ≡ Err (Refused code) → barred_by b driver.now id.now ≡ Some code }

@@ -2,10 +2,10 @@
 
 ghost use Rattle.std.specs.Prelude.{◌≡◌, is_some};
 ghost use Rattle.qo_values.specs.declared.kinds.TypeId.{TypeId};
-ghost use Rattle.qo_properties.specs.Fresh.{begun};
+ghost use Rattle.qo_properties.specs.NewSlots.{begun};
 
 use qo_heap::Oid;
-use qo_model::RowKind;
+use qo_model::PropertyRole;
 use qo_values::Val;
 
 /// What a slot of a new object is filled with.
@@ -20,13 +20,13 @@ pub enum Fill {
 }
 
 /// Whether a new object has a slot for a property with this row.
-pub(crate) fn begins(kind: RowKind) -> bool
+pub(crate) fn begins(kind: PropertyRole) -> bool
     ensures { (t : TypeId) → result ≡ is_some (begun t kind) }
 {
     match kind {
-        RowKind::Plain(_, _) => true,
-        RowKind::Link { .. } => true,
-        RowKind::Child(_) => false,
-        RowKind::Alias { .. } => false,
+        PropertyRole::Plain(_, _) => true,
+        PropertyRole::Link { .. } => true,
+        PropertyRole::Child(_) => false,
+        PropertyRole::Alias { .. } => false,
     }
 }

@@ -10,11 +10,11 @@ ghost use Rattle.qo_object.specs.Content.{furnished};
 ghost use Rattle.qo_object.specs.Slots.{Named};
 ghost use Rattle.qo_heap.specs.Objects.{with_edit};
 ghost use Rattle.qo_properties.specs.Filling.{filled, filled_with};
-ghost use Rattle.qo_properties.specs.Fresh.{new_slots, slot_begun, with_slots};
+ghost use Rattle.qo_properties.specs.NewSlots.{new_slots, slot_begun, with_slots};
 
 use crate::adding::filling::Fill;
 use qo_heap::{Heap, Oid, Slot, SlotName, Steps};
-use qo_model::{First, Property, RowKind};
+use qo_model::{First, Property, PropertyRole};
 use qo_types::TypeTable;
 use qo_values::{Name, PropType, Text, TypeId, Val};
 use std::alloc::{AllocError, Global};
@@ -57,18 +57,18 @@ pub fn add_row<L: Ledger>(
     ensures ok { OnOk result (heap.new ≡ with_edit o.birth (with_slots (option_to_list (slot_begun kind row))) heap.old) }
     ensures err { OnErr result (heap.new ≡ heap.old) }
 {
-    match row.kind {
-        RowKind::Plain(_, first) => {
+    match row.role {
+        PropertyRole::Plain(_, first) => {
             let val = first_val(kind, first, alloc)?;
             heap.add_plain(o, SlotName::row(row.name), val, steps)?;
             Ok(())
         }
-        RowKind::Link { ty, strong } => {
+        PropertyRole::Link { ty, strong } => {
             heap.add_link(o, SlotName::row(row.name), ty, strong, None, steps)?;
             Ok(())
         }
-        RowKind::Child(_) => Ok(()),
-        RowKind::Alias { .. } => Ok(()),
+        PropertyRole::Child(_) => Ok(()),
+        PropertyRole::Alias { .. } => Ok(()),
     }
 }
 
@@ -96,7 +96,7 @@ fn link_slot(ty: TypeId, strong: bool, fill: Fill) -> Slot
     Slot::Link { ty, strong, target }
 }
 
-/// Puts the slot that a new object of a type has for a row, if it has one, behind others, filled with
+/// Puts the slot that a new object of a type has for a row, if it has one, after others, filled with
 /// what is planned next.
 fn put_row(
     slots: &mut Vec<(SlotName, Slot)>,
@@ -107,20 +107,20 @@ fn put_row(
 ) -> Result<(), AllocError>
     ensures { OnOk result ((rest : List Named) → slots.new.items ++ filled (into_iter_items fills.new) rest ≡ slots.old.items ++ filled (into_iter_items fills.old) (option_to_list (slot_begun kind row) ++ rest)) }
 {
-    match row.kind {
-        RowKind::Plain(_, first) => {
+    match row.role {
+        PropertyRole::Plain(_, first) => {
             let fill = fills.next().unwrap_or(Fill::Nothing);
             let slot = plain_slot(kind, first, fill, alloc)?;
             slots.push((SlotName::row(row.name), slot))?;
             Ok(())
         }
-        RowKind::Link { ty, strong } => {
+        PropertyRole::Link { ty, strong } => {
             let fill = fills.next().unwrap_or(Fill::Nothing);
             slots.push((SlotName::row(row.name), link_slot(ty, strong, fill)))?;
             Ok(())
         }
-        RowKind::Child(_) => Ok(()),
-        RowKind::Alias { .. } => Ok(()),
+        PropertyRole::Child(_) => Ok(()),
+        PropertyRole::Alias { .. } => Ok(()),
     }
 }
 

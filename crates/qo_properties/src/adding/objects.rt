@@ -7,14 +7,14 @@ ghost use Rattle.qo_values.specs.declared.births.TheConstants.{OBJECTS_BIRTH};
 ghost use Rattle.qo_table.specs.Rows.{IsLive};
 ghost use Rattle.qo_model.specs.Board.{Board};
 ghost use Rattle.qo_model.specs.Objects.{Given, with_object};
-ghost use Rattle.qo_object.specs.Content.{held_count, without_pin};
+ghost use Rattle.qo_object.specs.Content.{reference_count, without_pin};
 ghost use Rattle.qo_object.specs.Slots.{names_of, target_of};
 ghost use Rattle.qo_heap.specs.Board.{Shows, pins_in};
 ghost use Rattle.qo_heap.specs.Objects.{content_of, ended, pins_of, refs_of, with_edit};
-ghost use Rattle.qo_properties.specs.Adding.{Adds, IsChild, IsTried, given_up};
+ghost use Rattle.qo_properties.specs.Additions.{Adds, IsChild, IsTried, given_up};
 ghost use Rattle.qo_properties.specs.Claims.{KeepsBook};
 ghost use Rattle.qo_properties.specs.Filling.{Fits, IsGiven, target_in};
-ghost use Rattle.qo_properties.specs.Fresh.{new_slots};
+ghost use Rattle.qo_properties.specs.NewSlots.{new_slots};
 
 use crate::adding::barring::{Admitted, admit};
 use crate::adding::filling::Fill;
@@ -32,7 +32,7 @@ pub(crate) fn give_up<L: Ledger>(heap: &mut Heap, o: Oid, steps: &mut Steps<L>)
     requires live { IsLive heap.old.rows o }
     requires pinned { pins_of heap.old o.birth ≡ 1 }
     requires alone { refs_of heap.old o.birth ≡ 1 }
-    requires bare { option_map held_count (content_of heap.old o.birth) ≡ Some 0 }
+    requires bare { option_map reference_count (content_of heap.old o.birth) ≡ Some 0 }
     ensures { option_map (λ c. ended o.birth c (with_edit o.birth without_pin heap.old)) (content_of heap.old o.birth) ≡ Some heap.new }
 {
     heap.unpin(o, steps);
@@ -143,7 +143,7 @@ fn add_planned<L: Ledger>(
 /// abstract, `E22` where users may not make it, `E23` where the id is malformed, `E15` where
 /// `/objects` is not there, `E24` where it has such a slot, and `E43` at `LIVE_OBJECTS_MAX` objects; the heap is
 /// then as it was. A property that is refused, the first in the order given, is so with `E17`, `E18`,
-/// `E19`, `E15`, `E16` or `E31` behind an attempt that is given up: the object was made and ended.
+/// `E19`, `E15`, `E16` or `E31` after an attempt that is given up: the object was made and ended.
 /// Where memory wants, the heap is as it was, or an attempt was given up.
 pub fn add_object<L: Ledger>(
     heap: &mut Heap,

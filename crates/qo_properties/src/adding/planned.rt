@@ -7,7 +7,7 @@ ghost use Rattle.qo_model.specs.Objects.{Given};
 ghost use Rattle.qo_table.specs.Rows.{IsLive};
 ghost use Rattle.qo_heap.specs.Objects.{Objects};
 ghost use Rattle.qo_properties.specs.Filling.{target_in};
-ghost use Rattle.qo_properties.specs.Planned.{IsPlan, TellsGiven, slot_for};
+ghost use Rattle.qo_properties.specs.Plans.{IsPlan, TellsGiven, own_slot_for};
 
 use crate::adding::filling::Fill;
 use crate::adding::planning::placed_row;
@@ -16,7 +16,7 @@ use qo_values::TypeId;
 /// What is planned for the property of a name, of a new object of a type; `None` where such an object
 /// has no slot for it.
 pub fn planned_for<'a>(plan: &'a [Fill], kind: TypeId, name: &str) -> Option<&'a Fill>
-    ensures given { (b : Board) (props : List Given) → IsPlan b kind props plan.now → TellsGiven b props (option_map (λ f. f.now) result) (slot_for kind name.now) }
+    ensures given { (b : Board) (props : List Given) → IsPlan b kind props plan.now → TellsGiven b props (option_map (λ f. f.now) result) (own_slot_for kind name.now) }
     ensures live { (v : Objects) → AllByRecursion (λ f. IfSome (target_in f) (IsLive v.rows)) plan.now → IfSome result (λ f. IfSome (target_in f.now) (IsLive v.rows)) }
 {
     let placed = placed_row(kind, name)?;

@@ -7,14 +7,14 @@ ghost use Rattle.std.specs.Str.{bytes_eq};
 ghost use Rattle.qo_values.specs.declared.kinds.TypeId.{TypeId};
 ghost use Rattle.qo_model.specs.Board.{Board};
 ghost use Rattle.qo_model.specs.Objects.{Given, misfit, refusal_by, refusal_of};
-ghost use Rattle.qo_model.specs.Properties.{row_of_property};
+ghost use Rattle.qo_model.specs.Properties.{property_named};
 ghost use Rattle.qo_object.specs.declared.slots.Slot.TheVariants.{Link};
 ghost use Rattle.qo_table.specs.Rows.{IsLive};
 ghost use Rattle.qo_heap.specs.Board.{Shows};
 ghost use Rattle.qo_properties.specs.declared.adding.filling.Fill.TheVariants.{Nothing, Value};
-ghost use Rattle.qo_properties.specs.Fresh.{begun, new_slots};
+ghost use Rattle.qo_properties.specs.NewSlots.{begun, new_slots};
 ghost use Rattle.qo_properties.specs.Filling.{Fits, HasValue, IsGiven, fits, target_in};
-ghost use Rattle.qo_properties.specs.Given.{link_misfit, plain_misfit};
+ghost use Rattle.qo_properties.specs.GivenProperties.{link_misfit, plain_misfit};
 ghost use Rattle.qo_properties.specs.Planning.{StandsAt, TellsRefusal};
 
 use crate::adding::filling::{Fill, begins};
@@ -22,7 +22,7 @@ use crate::reading::values::copy_of;
 use crate::refusals::Refusal;
 use crate::writing::writes::link_target;
 use qo_heap::{Heap, Steps};
-use qo_model::{Mark, Property, RowKind};
+use qo_model::{Mark, Property, PropertyRole};
 use qo_types::TypeTable;
 use qo_values::{Code, Misfit, PropList, PropType, TypeId, Val};
 use std::alloc::{AllocError, Global};
@@ -40,7 +40,7 @@ pub struct PlacedRow {
 
 /// The row of the property of a name of a type, with its place; `None` where no property has it.
 pub fn placed_row(kind: TypeId, name: &str) -> Option<PlacedRow>
-    ensures row { option_map (λ p. p.row) result ≡ row_of_property kind name.now }
+    ensures row { option_map (λ p. p.row) result ≡ property_named kind name.now }
     ensures place { IfSome result (StandsAt kind) }
 {
     let mut place = 0;
@@ -48,7 +48,7 @@ pub fn placed_row(kind: TypeId, name: &str) -> Option<PlacedRow>
         if row.name.as_str() == name {
             return Some(PlacedRow { row: *row, place });
         }
-        if begins(row.kind) {
+        if begins(row.role) {
             place += 1;
         }
     }
@@ -92,7 +92,7 @@ fn link_fill<L: Ledger>(
 /// What a value fills the slot of a property with this row with.
 fn kind_fill<L: Ledger>(
     heap: &Heap,
-    kind: RowKind,
+    kind: PropertyRole,
     val: &Val,
     alloc: Global,
     steps: &mut Steps<L>,
@@ -104,10 +104,10 @@ fn kind_fill<L: Ledger>(
     ensures live { IfOk result (λ f. IfSome (target_in f) (IsLive heap.now.rows)) }
 {
     match kind {
-        RowKind::Plain(ty, _) => plain_fill(ty, val, alloc),
-        RowKind::Link { ty, .. } => link_fill(heap, ty, val, steps),
-        RowKind::Child(_) => Err(Refusal::Refused(Code::E19)),
-        RowKind::Alias { .. } => Err(Refusal::Refused(Code::E19)),
+        PropertyRole::Plain(ty, _) => plain_fill(ty, val, alloc),
+        PropertyRole::Link { ty, .. } => link_fill(heap, ty, val, steps),
+        PropertyRole::Child(_) => Err(Refusal::Refused(Code::E19)),
+        PropertyRole::Alias { .. } => Err(Refusal::Refused(Code::E19)),
     }
 }
 
@@ -121,14 +121,14 @@ fn row_fill<L: Ledger>(
     steps: &mut Steps<L>,
 ) -> Result<Fill, Refusal>
     ensures refused { (b : Board) → Shows b heap.now → TellsRefusal result (refusal_by b (Some row) val.now) }
-    ensures own { OnOk result ((t : TypeId) → is_some (begun t row.kind) ≡ true) }
-    ensures told { (b : Board) → Shows b heap.now → (t : TypeId) → IfOk result (λ f. IfSome (begun t row.kind) (HasValue b val.now f)) }
-    ensures fits { (t : TypeId) → IfOk result (λ f. IfSome (begun t row.kind) (λ s. fits f s ≡ true)) }
+    ensures own { OnOk result ((t : TypeId) → is_some (begun t row.role) ≡ true) }
+    ensures told { (b : Board) → Shows b heap.now → (t : TypeId) → IfOk result (λ f. IfSome (begun t row.role) (HasValue b val.now f)) }
+    ensures fits { (t : TypeId) → IfOk result (λ f. IfSome (begun t row.role) (λ s. fits f s ≡ true)) }
     ensures live { IfOk result (λ f. IfSome (target_in f) (IsLive heap.now.rows)) }
 {
     match row.mark {
-        Mark::Add => kind_fill(heap, row.kind, val, alloc, steps),
-        Mark::Both => kind_fill(heap, row.kind, val, alloc, steps),
+        Mark::Add => kind_fill(heap, row.role, val, alloc, steps),
+        Mark::Both => kind_fill(heap, row.role, val, alloc, steps),
         Mark::Never => Err(Refusal::Refused(Code::E18)),
         Mark::Set => Err(Refusal::Refused(Code::E18)),
     }
@@ -146,7 +146,7 @@ fn plan_one<L: Ledger>(
     steps: &mut Steps<L>,
 ) -> Result<(), Refusal>
     requires { AllZip Fits fills.old.items (new_slots kind) }
-    ensures refused { (b : Board) → Shows b heap.now → TellsRefusal result (refusal_by b (row_of_property kind name.now) val.now) }
+    ensures refused { (b : Board) → Shows b heap.now → TellsRefusal result (refusal_by b (property_named kind name.now) val.now) }
     ensures told { (b : Board) (given : List Given) → Shows b heap.now → find (λ p. bytes_eq p.0 name.now) given ≡ None → AllZip (IsGiven b given) fills.old.items (new_slots kind) → OnOk result (AllZip (IsGiven b (given ++ (name.now, val.now) ∷ [])) fills.new.items (new_slots kind)) }
     ensures fits { OnOk result (AllZip Fits fills.new.items (new_slots kind)) }
     ensures live { OnOk result (AllByRecursion (λ f. IfSome (target_in f) (IsLive heap.now.rows)) fills.old.items → AllByRecursion (λ f. IfSome (target_in f) (IsLive heap.now.rows)) fills.new.items) }
@@ -166,7 +166,7 @@ fn blank(kind: TypeId, alloc: Global) -> Result<Vec<Fill>, AllocError>
     let rows = TypeTable::board().props(kind);
     let mut fills = Vec::with_capacity(alloc, rows.len())?;
     for row in rows {
-        if begins(row.kind) {
+        if begins(row.role) {
             fills.push(Fill::Nothing)?;
         }
     }

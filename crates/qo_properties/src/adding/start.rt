@@ -11,8 +11,8 @@ ghost use Rattle.qo_object.specs.Content.{set_at, as_made};
 ghost use Rattle.qo_heap.specs.Board.{Shows};
 ghost use Rattle.qo_heap.specs.Objects.{content_of, with_edit};
 ghost use Rattle.qo_properties.specs.Claims.{KeepsBook};
-ghost use Rattle.qo_properties.specs.Fresh.{new_slots};
-ghost use Rattle.qo_properties.specs.Start.{IsMade, KeepsNames, with_new, with_new_child, with_clock, with_containers, with_buses, with_machine, with_all};
+ghost use Rattle.qo_properties.specs.NewSlots.{new_slots};
+ghost use Rattle.qo_properties.specs.OpeningSteps.{IsMade, KeepsNames, with_new, with_new_child, with_clock, with_containers, with_buses, with_machine, with_all};
 
 use crate::adding::fresh::{furnish_new, name_of};
 use crate::reading::lookup::place_named;

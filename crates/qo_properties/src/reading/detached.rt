@@ -3,7 +3,7 @@
 ghost use Rattle.std.specs.Prelude.{◌≡◌, IfOk, slice_get};
 ghost use Rattle.std.specs.Option.{option_and_then};
 ghost use Rattle.qo_model.specs.Board.{Board as Tree};
-ghost use Rattle.qo_model.specs.Detachment.{detached_told};
+ghost use Rattle.qo_model.specs.Detachment.{detached_listed};
 ghost use Rattle.qo_heap.specs.Board.{Shows, record_of};
 ghost use Rattle.qo_properties.specs.Reads.{detached_in};
 
@@ -38,7 +38,7 @@ pub fn detached_list<L: Ledger>(
     alloc: Global,
     steps: &mut Steps<L>,
 ) -> Result<Vec<Detached>, AllocError>
-    ensures { (b : Tree) → Shows b heap.now → IfOk result (λ list. list.items ≡ detached_told b) }
+    ensures { (b : Tree) → Shows b heap.now → IfOk result (λ list. list.items ≡ detached_listed b) }
 {
     let mut list = Vec::new(alloc);
     for place in 0..heap.live() {

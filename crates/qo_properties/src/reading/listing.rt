@@ -5,7 +5,7 @@ ghost use Rattle.std.specs.Option.{option_map_or};
 ghost use Rattle.qo_model.specs.Board.{Board as Tree, slot_named};
 ghost use Rattle.qo_model.specs.Listing.{listing, own_text, plain_word, row_word, type_text};
 ghost use Rattle.qo_values.specs.TypeTexts.{text_of};
-ghost use Rattle.qo_object.specs.Shown.{shown_slot};
+ghost use Rattle.qo_object.specs.BoardObject.{shown_slot};
 ghost use Rattle.qo_object.specs.Slots.{target_of};
 ghost use Rattle.qo_table.specs.Rows.{IsLive};
 ghost use Rattle.qo_heap.specs.Board.{Shows};
@@ -13,7 +13,7 @@ ghost use Rattle.qo_heap.specs.Objects.{slots_of};
 
 use crate::reading::lookup::object_of;
 use qo_heap::{Heap, Oid, Slot, Steps};
-use qo_model::{Property, RowKind};
+use qo_model::{Property, PropertyRole};
 use qo_types::TypeTable;
 use qo_values::{TypeId, TypeText};
 use std::sync::ledger::Ledger;
@@ -22,8 +22,8 @@ use std::sync::ledger::Ledger;
 fn row_text(row: Property) -> TypeText
     ensures { text_of result ≡ row_word row }
 {
-    match row.kind {
-        RowKind::Plain(ty, _) => TypeText::Value(ty),
+    match row.role {
+        PropertyRole::Plain(ty, _) => TypeText::Value(ty),
         _ => TypeText::Nothing,
     }
 }

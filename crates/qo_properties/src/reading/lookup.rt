@@ -2,8 +2,8 @@
 
 ghost use Rattle.std.specs.Prelude.{◌≡◌, IfSome, IfNone, None, position};
 ghost use Rattle.std.specs.Str.{bytes_eq};
-ghost use Rattle.qo_model.specs.Objects.{is_object_named, place_from};
-ghost use Rattle.qo_object.specs.Shown.{shown_slot, shown_slots};
+ghost use Rattle.qo_model.specs.Objects.{is_object_named, index_from};
+ghost use Rattle.qo_object.specs.BoardObject.{shown_slot, shown_slots};
 ghost use Rattle.qo_table.specs.Rows.{IsLive};
 ghost use Rattle.qo_heap.specs.Objects.{content_of, slots_of};
 
@@ -46,7 +46,7 @@ fn is_child_named(name: &str, what: &Slot, id: &str) -> bool
 /// The first place at which an object has a child under a name; `None` where it has none.
 pub fn child_place<L: Ledger>(heap: &Heap, o: Oid, id: &str, steps: &mut Steps<L>) -> Option<usize>
     requires { IsLive heap.now.rows o }
-    ensures { result ≡ place_from (is_object_named id.now) 0 (shown_slots (slots_of heap.now o.birth)) }
+    ensures { result ≡ index_from (is_object_named id.now) 0 (shown_slots (slots_of heap.now o.birth)) }
 {
     let mut at = 0;
     while let Some(view) = heap.slot_at(o, at, steps) {

@@ -3,11 +3,11 @@
 
 ghost use Rattle.std.specs.Prelude.{◌≡◌, IfOk, OnErr};
 ghost use Rattle.qo_model.specs.Board.{Board as Tree};
-ghost use Rattle.qo_model.specs.ClockProperties.{kind_written, led_to, number_written, own_property, set_row};
+ghost use Rattle.qo_model.specs.ClockProperties.{role_written, led_to, number_written, own_property, set_row};
 ghost use Rattle.qo_model.specs.Clocks.{ClocksFit};
 ghost use Rattle.qo_table.specs.Rows.{IsLive};
 ghost use Rattle.qo_heap.specs.Board.{Shows, pins_in};
-ghost use Rattle.qo_heap.specs.Timely.{Timely};
+ghost use Rattle.qo_heap.specs.Moments.{Timely};
 ghost use Rattle.qo_properties.specs.Claims.{KeepsBook};
 ghost use Rattle.qo_properties.specs.ClockWrites.{property_told, refused_as};
 ghost use Rattle.qo_properties.specs.Writes.{Writes};
@@ -16,7 +16,7 @@ use crate::reading::lookup::object_of;
 use crate::refusals::Refusal;
 use qo_clocks::{ClockError, div, mul, set, set_mul_div};
 use qo_heap::{Heap, Oid, Slot, Steps};
-use qo_model::{Mark, Property, PropertyName, RowKind};
+use qo_model::{Mark, Property, PropertyName, PropertyRole};
 use qo_types::TypeTable;
 use qo_values::{Code, Misfit, Val};
 use std::sync::ledger::Ledger;
@@ -139,12 +139,12 @@ pub fn write_property<L: Ledger>(
 ) -> Result<(), Refusal>
     requires live { IsLive heap.old.rows c }
     requires timely { Timely heap.old }
-    ensures written { (b : Tree) → Shows b heap.old → ClocksFit b → Writes heap.new result (kind_written b c.birth row.name row.kind val.now) }
+    ensures written { (b : Tree) → Shows b heap.old → ClocksFit b → Writes heap.new result (role_written b c.birth row.name row.role val.now) }
     ensures err { OnErr result (heap.new ≡ heap.old) }
     ensures pins { pins_in heap.new.rows ≡ pins_in heap.old.rows }
     ensures book { KeepsBook heap.old heap.new }
 {
-    let RowKind::Plain(ty, _) = row.kind else {
+    let PropertyRole::Plain(ty, _) = row.role else {
         return Err(Refusal::Refused(Code::E18));
     };
     let Val::Uint(number) = val else {

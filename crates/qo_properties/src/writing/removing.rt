@@ -13,7 +13,7 @@ use qo_life::let_go;
 use qo_values::{Code, OBJECTS_BIRTH};
 use std::sync::ledger::Ledger;
 
-/// Removes the user's object of an id: its slot at `/objects` is let go, and it is finalised where
+/// Removes the user's object of an id: its slot at `/objects` is let go, and it is finalized where
 /// nothing else refers to it (QEMU's QAPI, `object-del`). `E15` comes exactly where there is no such
 /// slot. An error leaves the heap as it was.
 pub fn remove<L: Ledger>(heap: &mut Heap, id: &str, steps: &mut Steps<L>) -> Result<(), Code>

@@ -10,7 +10,7 @@ ghost use Rattle.qo_heap.specs.Objects.{pins_of, slots_of};
 ghost use Rattle.qo_life.specs.Life.{Goes};
 ghost use Rattle.qo_properties.specs.Changes.{IsAnswered, is_strong_in, severed, severed_at};
 ghost use Rattle.qo_properties.specs.Claims.{KeepsBook};
-ghost use Rattle.qo_properties.specs.Pinned.{OnlyRootPinned};
+ghost use Rattle.qo_properties.specs.Pins.{OnlyRootPinned};
 
 use crate::reading::lookup::object_of;
 use qo_heap::{Heap, Oid, Steps};
@@ -56,7 +56,7 @@ fn sever_links<L: Ledger>(heap: &mut Heap, o: Oid, steps: &mut Steps<L>)
     drop_pin(heap, o, steps);
 }
 
-/// Cuts the strong links of a detached object, in order, which is held meanwhile and finalised in the
+/// Cuts the strong links of a detached object, in order, which is held meanwhile and finalized in the
 /// end where nothing refers to it (the profile's `x-sever`). `E33` comes exactly where no object of
 /// that birth is live, else `E50` exactly where it is attached. An error leaves the heap as it was.
 pub fn sever<L: Ledger>(heap: &mut Heap, birth: u64, steps: &mut Steps<L>) -> Result<(), Code>

@@ -9,12 +9,12 @@ ghost use Rattle.qo_model.specs.Access.{write_at};
 ghost use Rattle.qo_model.specs.ClockProperties.{set_property};
 ghost use Rattle.qo_model.specs.Clocks.{ClocksFit};
 ghost use Rattle.qo_object.specs.Content.{empty_link_at};
-ghost use Rattle.qo_object.specs.Shown.{birth_of};
+ghost use Rattle.qo_object.specs.BoardObject.{birth_of};
 ghost use Rattle.qo_object.specs.Slots.{held, slot_in};
 ghost use Rattle.qo_table.specs.Rows.{IsLive};
 ghost use Rattle.qo_heap.specs.Board.{Shows, pins_in};
 ghost use Rattle.qo_heap.specs.Objects.{content_of, slots_of};
-ghost use Rattle.qo_heap.specs.Timely.{Timely};
+ghost use Rattle.qo_heap.specs.Moments.{Timely};
 ghost use Rattle.qo_properties.specs.Claims.{KeepsBook};
 ghost use Rattle.qo_properties.specs.Writes.{Writes, is_link_at, is_of_clock, is_of_clock_at, is_plain_at, link_type_at, no_target, target_told, to_link, to_plain};
 
@@ -25,7 +25,7 @@ use crate::refusals::Refusal;
 use crate::writing::clocks::{led_to, set_row, write_property};
 use qo_heap::{Heap, Oid, Slot, Steps};
 use qo_life::drop_hold;
-use qo_model::{Mark, Property, RowKind};
+use qo_model::{Mark, Property, PropertyRole};
 use qo_paths::{PathError, resolve};
 use qo_types::TypeTable;
 use qo_values::{Code, Misfit, PropType, TypeId, Val};
@@ -104,7 +104,7 @@ fn point_at<L: Ledger>(
     }
 }
 
-/// Points the link of an object at a place at a target, or at none, and finalises what it held where
+/// Points the link of an object at a place at a target, or at none, and finalizes what it held where
 /// nothing refers to that any more.
 fn relink<L: Ledger>(heap: &mut Heap, o: Oid, at: usize, target: Option<Oid>, steps: &mut Steps<L>)
     requires live { IsLive heap.old.rows o }
@@ -191,7 +191,7 @@ fn write_kind<L: Ledger>(
     heap: &mut Heap,
     o: Oid,
     at: usize,
-    kind: RowKind,
+    kind: PropertyRole,
     val: &Val,
     alloc: Global,
     steps: &mut Steps<L>,
@@ -203,10 +203,10 @@ fn write_kind<L: Ledger>(
     ensures book { KeepsBook heap.old heap.new }
 {
     match kind {
-        RowKind::Plain(ty, _) => write_plain(heap, o, at, ty, val, alloc, steps),
-        RowKind::Link { .. } => write_link(heap, o, at, val, steps),
-        RowKind::Child(_) => Err(Refusal::Refused(Code::E18)),
-        RowKind::Alias { .. } => Err(Refusal::Refused(Code::E18)),
+        PropertyRole::Plain(ty, _) => write_plain(heap, o, at, ty, val, alloc, steps),
+        PropertyRole::Link { .. } => write_link(heap, o, at, val, steps),
+        PropertyRole::Child(_) => Err(Refusal::Refused(Code::E18)),
+        PropertyRole::Alias { .. } => Err(Refusal::Refused(Code::E18)),
     }
 }
 
@@ -228,7 +228,7 @@ fn write_row<L: Ledger>(
     ensures book { KeepsBook heap.old heap.new }
 {
     match row.mark {
-        Mark::Both => write_kind(heap, o, at, row.kind, val, alloc, steps),
+        Mark::Both => write_kind(heap, o, at, row.role, val, alloc, steps),
         _ => Err(Refusal::Refused(Code::E18)),
     }
 }
@@ -283,7 +283,7 @@ fn set_property<L: Ledger>(
 }
 
 /// Writes the property of a name of the object at a path (QEMU's QAPI, `qom-set`). A link takes the
-/// path of its target, or the empty text for none; what it held is finalised where nothing refers to
+/// path of its target, or the empty text for none; what it held is finalized where nothing refers to
 /// it any more. A clock takes a number for its period, its mul and its div, the first also by the
 /// device's alias for it; the devices of the clocks below are called back (`qo_clocks::set`). Refused
 /// with E15 where a path leads to no object and E16 where to several, E17 where the object has no such

@@ -1,4 +1,4 @@
-use Rattle.qo_model.proofs.StaysLemmas.{stays_lem}
+use Rattle.qo_model.proofs.ChangeScopeLemmas.{stays_lem}
 use Rattle.qo_sound.proofs.law_stays.Goals as goal
 
 pub returns : goal.returns

@@ -1,11 +1,11 @@
 -- The number, and a front of the line's end.
 use Rattle.std.proofs.Common.{◌∷◌, [], ◌∙◌, ap, decimal}
 use Rattle.std.specs.Io.KnownBytes.{append_known}
-use Rattle.qo_machine.proofs.SendingLemmas.{front_behind}
+use Rattle.qo_machine.proofs.SendingLemmas.{front_after}
 use Rattle.compose.proofs.complaints.put_number.Goals as goal
 
 pub returns-in-Err-put_all-clause-bytes : goal.returns-in-Err-put_all-clause-bytes
 returns-in-Err-put_all-clause-bytes g c =
-    front_behind _ (g.K.Sink.held c.put_all.new.sink) _ (decimal c.args.number) (10 ∷ [])
+    front_after _ (g.K.Sink.held c.put_all.new.sink) _ (decimal c.args.number) (10 ∷ [])
     (c.in_default.ensures.bytes ∙ ap (append_known (g.K.Sink.held c.args.sink.now)) (c.as_bytes.ensures.value
     ∙ c.format.ensures.text)) c.in-Err-put_all.ensures.bytes

@@ -1,4 +1,4 @@
--- Each range that is there is added behind the others.
+-- Each range that is there is added after the others.
 use Rattle.std.proofs.Common.{◌≡◌, ◌+◌, rules, ◌∷◌, ◌++◌, [], List, Some, None, ap, append-nil, sym, ◌∙◌, arith}
 use Rattle.qo_values.specs.declared.ranges.Range.{Range}
 use Rattle.qo_backends.proofs.DimmLemmas.{ranges-all, ranges-past, ranges-step, ranges_from}

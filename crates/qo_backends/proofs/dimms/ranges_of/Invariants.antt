@@ -1,4 +1,4 @@
--- The ranges of the DIMMs before the place, and of those behind it, are all.
+-- The ranges of the DIMMs before the place, and of those after it, are all.
 use Rattle.std.proofs.Common.{◌≡◌, ◌++◌}
 use Rattle.qo_model.specs.Board.{Board}
 use Rattle.qo_model.specs.Plug.{ranges_of}

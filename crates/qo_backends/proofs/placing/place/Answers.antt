@@ -1,4 +1,4 @@
--- The search goes on behind each range that is overlapped.
+-- The search goes on after each range that is overlapped.
 use Rattle.std.proofs.Common.{◌≡◌, None, sym, ◌∙◌, arith, rules}
 use Rattle.qo_backends.proofs.PlacingLemmas.{goes-on, place-found, place-out, place-past, reached-next}
 use Rattle.qo_backends.proofs.placing.place.Goals as goal

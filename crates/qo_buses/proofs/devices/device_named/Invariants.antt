@@ -3,8 +3,8 @@ use Rattle.std.proofs.Common.{◌≡◌}
 use Rattle.qo_model.specs.Board.{Board}
 use Rattle.qo_model.specs.Devices.{device_named}
 use Rattle.qo_heap.specs.Board.{Shows}
-use Rattle.qo_buses.proofs.DeviceLemmas.{any_behind}
+use Rattle.qo_buses.proofs.DeviceLemmas.{any_after}
 use Rattle.qo_buses.proofs.devices.device_named.Given as goal
 
 abbrev pub invariant-loop-place : goal.invariant-loop-place
-invariant-loop-place g l = (b : Board) → Shows b l.heap → any_behind l.id l.heap.rows l.place ≡ device_named b l.id
+invariant-loop-place g l = (b : Board) → Shows b l.heap → any_after l.id l.heap.rows l.place ≡ device_named b l.id

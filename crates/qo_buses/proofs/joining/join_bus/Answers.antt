@@ -2,7 +2,7 @@
 use Rattle.std.proofs.Common.{true, Some}
 use Rattle.qo_values.specs.declared.kinds.TypeId.TheVariants.{Device}
 use Rattle.qo_object.specs.declared.slots.Slot.TheVariants.{Link}
-use Rattle.qo_heap.proofs.ShowsChanges.{shows-added}
+use Rattle.qo_heap.proofs.BoardChanges.{shows-added}
 use Rattle.qo_buses.proofs.joining.join_bus.Goals as goal
 
 pub returns-clause-shown : goal.returns-clause-shown

@@ -1,7 +1,7 @@
 -- The link of the bus goes first, and then the link to it.
 use Rattle.qo_model.specs.Unplug.{left_bus}
 use Rattle.qo_life.proofs.TreeLemmas.{goes-names}
-use Rattle.qo_buses.proofs.LeaveLemmas.{goes-left, goes-stayed}
+use Rattle.qo_buses.proofs.LeavingLemmas.{goes-left, goes-stayed}
 use Rattle.qo_buses.proofs.leaving.leave.Goals as goal
 
 pub returns-in-Some-clause-goes : goal.returns-in-Some-clause-goes

@@ -3,7 +3,7 @@ use Rattle.std.proofs.Common.{◌<◌, length, sym, ◌∙◌, arith}
 use Rattle.std.proofs.lemmas.Option.{slice_get_within}
 use Rattle.qo_model.specs.Unplug.{names_kid}
 use Rattle.qo_heap.specs.Objects.{slots_of}
-use Rattle.qo_buses.proofs.LeaveLemmas.{place-here, place-next, place-past}
+use Rattle.qo_buses.proofs.LeavingLemmas.{place-here, place-next, place-past}
 use Rattle.qo_buses.proofs.leaving.place_linked.Goals as goal
 
 pub returns-then-links_to-clause-place : goal.returns-then-links_to-clause-place

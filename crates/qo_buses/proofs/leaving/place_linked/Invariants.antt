@@ -2,12 +2,12 @@
 use Rattle.std.proofs.Common.{◌≡◌, ◌-◌, length}
 use Rattle.qo_model.specs.Unplug.{names_kid}
 use Rattle.qo_heap.specs.Objects.{slots_of}
-use Rattle.qo_buses.proofs.LeaveLemmas.{place_behind}
+use Rattle.qo_buses.proofs.LeavingLemmas.{place_after}
 use Rattle.qo_buses.proofs.leaving.place_linked.Given as goal
 
 abbrev pub invariant-loop-view : goal.invariant-loop-view
 invariant-loop-view g l =
-    place_behind (names_kid l.birth) l.at (slots_of l.heap l.o.birth) ≡ place_behind (names_kid l.birth) 0 (slots_of l.heap l.o.birth)
+    place_after (names_kid l.birth) l.at (slots_of l.heap l.o.birth) ≡ place_after (names_kid l.birth) 0 (slots_of l.heap l.o.birth)
 
 abbrev pub decreases-loop-view : goal.decreases-loop-view
 decreases-loop-view g l = length (slots_of l.heap l.o.birth) - l.at

@@ -1,7 +1,7 @@
 -- The link that is found is taken, or there is none.
 use Rattle.std.proofs.Common.{sym}
 use Rattle.qo_model.specs.Unplug.{names_kid}
-use Rattle.qo_buses.proofs.LeaveLemmas.{goes-take_none, goes-take_where}
+use Rattle.qo_buses.proofs.LeavingLemmas.{goes-take_none, goes-take_where}
 use Rattle.qo_buses.proofs.leaving.take_kid.Goals as goal
 
 pub returns-in-Some : goal.returns-in-Some

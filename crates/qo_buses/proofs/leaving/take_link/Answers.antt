@@ -3,7 +3,7 @@ use Rattle.qo_table.specs.Rows.{IsLive}
 use Rattle.qo_object.specs.Content.{cut_at, dropped_at}
 use Rattle.qo_heap.specs.Objects.{with_edit}
 use Rattle.qo_heap.proofs.HeapLemmas.{live-edit}
-use Rattle.qo_buses.proofs.LeaveLemmas.{goes-taken, link-emptied, link-held, link-live, more-live}
+use Rattle.qo_buses.proofs.LeavingLemmas.{goes-taken, link-emptied, link-held, link-live, more-live}
 use Rattle.qo_buses.proofs.leaving.take_link.Goals as goal
 
 pub cut-requires-clause-live : goal.cut-requires-clause-live

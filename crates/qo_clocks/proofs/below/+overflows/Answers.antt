@@ -1,6 +1,6 @@
 use Rattle.std.proofs.Common.{◌∙◌, ◌-◌, ◌≤◌, length, sym, arith}
 use Rattle.qo_model.proofs.DepthLemmas.{one-less}
-use Rattle.qo_clocks.proofs.BelowLemmas.{over-all, over-found, over-none, over-not, over-other, over-too_wide}
+use Rattle.qo_clocks.proofs.SubtreeLemmas.{over-all, over-found, over-none, over-not, over-other, over-too_wide}
 use Rattle.qo_clocks.proofs.below.+overflows.Goals.{in-Some+in-Some-child_period+else-overflows, in_default}
 use Rattle.qo_clocks.proofs.below.+overflows.Goals as goal
 

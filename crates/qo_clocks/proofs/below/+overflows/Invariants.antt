@@ -1,5 +1,5 @@
 use Rattle.std.proofs.Common.{◌≡◌, ◌-◌, false}
-use Rattle.qo_clocks.proofs.BelowLemmas.{over_to}
+use Rattle.qo_clocks.proofs.SubtreeLemmas.{over_to}
 use Rattle.qo_clocks.proofs.below.+overflows.Given as goal
 
 abbrev pub decreases-overflows : goal.decreases-overflows

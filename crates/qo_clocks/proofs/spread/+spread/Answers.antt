@@ -1,7 +1,7 @@
 use Rattle.std.proofs.Common.{◌∙◌, ◌-◌, ◌≤◌, length, sym, arith, rules}
 use Rattle.qo_model.proofs.DepthLemmas.{one-less}
 use Rattle.qo_heap.specs.Acts.{Acts}
-use Rattle.qo_heap.specs.Timely.{Timely}
+use Rattle.qo_heap.specs.Moments.{Timely}
 use Rattle.qo_heap.proofs.ActsLemmas.{acts-live}
 use Rattle.qo_clocks.proofs.SpreadLemmas.{called-acts, called-timely, none-spread, to-all, to-kid, to-none, to-other, to-timely}
 use Rattle.qo_clocks.proofs.spread.+spread.Goals.{in-Some, in_default}

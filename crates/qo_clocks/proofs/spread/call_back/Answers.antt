@@ -1,7 +1,7 @@
 use Rattle.std.proofs.Common.{sym}
 use Rattle.qo_values.specs.declared.kinds.Act.TheVariants.{Pre, Update}
 use Rattle.qo_heap.specs.Acts.{Acts}
-use Rattle.qo_heap.specs.Timely.{Timely}
+use Rattle.qo_heap.specs.Moments.{Timely}
 use Rattle.qo_heap.proofs.ActsLemmas.{acts-live}
 use Rattle.qo_heap.proofs.HeapLemmas.{parent-live}
 use Rattle.qo_clocks.proofs.SpreadLemmas.{acted-acts, acted-timely, may-act}

@@ -1,13 +1,13 @@
 use Rattle.std.proofs.Common.{◌∙◌, ◌+◌, ℕ, ap, is_some, sym}
 use Rattle.qo_heap.specs.Acts.{Acts}
-use Rattle.qo_heap.specs.Timely.{Timely}
+use Rattle.qo_heap.specs.Moments.{Timely}
 use Rattle.qo_heap.proofs.ActsLemmas.{acts-none}
 use Rattle.qo_clocks.specs.Periods.{fitting, scaled_on, wide_on}
 use Rattle.qo_clocks.specs.Reads.{own_on}
 use Rattle.qo_clocks.specs.Writes.{all_fit, with_period}
-use Rattle.qo_clocks.proofs.AnswerLemmas.{acts-behind, set-done, set-fits, set-over, set-sourced, spread-alike}
+use Rattle.qo_clocks.proofs.AnswerLemmas.{acts-after, set-done, set-fits, set-over, set-sourced, spread-alike}
 use Rattle.qo_clocks.proofs.FitLemmas.{fits-acts}
-use Rattle.qo_clocks.proofs.KeepLemmas.{period-book, period-names, period-timely}
+use Rattle.qo_clocks.proofs.ScopeLemmas.{period-book, period-names, period-timely}
 use Rattle.qo_clocks.proofs.SpreadLemmas.{spread-acts, spread-timely}
 use Rattle.qo_clocks.proofs.writes.set.Goals as goal
 
@@ -44,21 +44,21 @@ returns-clause-answer g c = λ b s fit.
 
 -- beside the number that is written only bodies act
 
-behind : (g : _) (c : goal.After-spread g) → Acts (with_period c.args.c.birth c.args.period c.args.heap.now) c.spread.new.heap
-behind g c =
+later : (g : _) (c : goal.After-spread g) → Acts (with_period c.args.c.birth c.args.period c.args.heap.now) c.spread.new.heap
+later g c =
     let acts : Acts c.set_number.new.heap c.spread.new.heap =
     rw c.spread.ensures (spread-acts c.set_number.new.heap (c.live-levels.result + 1) c.args.c.birth c.scaled-before.result c.in-Some.after) in
-    acts-behind (with_period c.args.c.birth c.args.period c.args.heap.now) c.set_number.new.heap c.spread.new.heap
+    acts-after (with_period c.args.c.birth c.args.period c.args.heap.now) c.set_number.new.heap c.spread.new.heap
     c.set_number.ensures acts
 
 pub returns-clause-acts : goal.returns-clause-acts
-returns-clause-acts g c = behind g c
+returns-clause-acts g c = later g c
 
 pub returns-clause-names : goal.returns-clause-names
-returns-clause-names g c = period-names c.args.heap.now c.spread.new.heap c.args.c.birth c.args.period (behind g c)
+returns-clause-names g c = period-names c.args.heap.now c.spread.new.heap c.args.c.birth c.args.period (later g c)
 
 pub returns-clause-book : goal.returns-clause-book
-returns-clause-book g c = period-book c.args.heap.now c.spread.new.heap c.args.c.birth c.args.period (behind g c)
+returns-clause-book g c = period-book c.args.heap.now c.spread.new.heap c.args.c.birth c.args.period (later g c)
 
 pub returns-clause-timely : goal.returns-clause-timely
 returns-clause-timely g c =
@@ -80,4 +80,4 @@ returns-clause-fits g c = λ b s fit x t.
     (c.in-Some.ensures
     ∙ ap (all_fit c.args.heap.now (c.live-levels.result + 1) c.args.c.birth)
     (c.child_period-child.ensures ∙ ap (λ (k : ℕ). fitting (wide_on c.args.heap.now c.args.c.birth k)) c.written-own.ensures))
-    (behind g c) x t
+    (later g c) x t

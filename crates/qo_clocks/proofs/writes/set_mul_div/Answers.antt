@@ -2,13 +2,13 @@ use Rattle.std.proofs.Common.{refl, ◌∙◌, ◌+◌, ℕ, ap, sym, codes}
 use Rattle.qo_values.specs.declared.properties.Val.TheVariants as val
 use Rattle.qo_object.specs.Slots.{with_val}
 use Rattle.qo_heap.specs.Acts.{Acts}
-use Rattle.qo_heap.specs.Timely.{Timely}
+use Rattle.qo_heap.specs.Moments.{Timely}
 use Rattle.qo_heap.proofs.ActsLemmas.{acts-none}
 use Rattle.qo_clocks.specs.Periods.{scaled_on}
 use Rattle.qo_clocks.specs.Writes.{with_scale}
-use Rattle.qo_clocks.proofs.AnswerLemmas.{acts-behind, fits-scaled, scale-done, scale-fits, scale-over, scaled-heap, spread-alike}
+use Rattle.qo_clocks.proofs.AnswerLemmas.{acts-after, fits-scaled, scale-done, scale-fits, scale-over, scaled-heap, spread-alike}
 use Rattle.qo_clocks.proofs.FitLemmas.{fits-acts}
-use Rattle.qo_clocks.proofs.KeepLemmas.{scale-book, scale-names, scale-timely}
+use Rattle.qo_clocks.proofs.ScopeLemmas.{scale-book, scale-names, scale-timely}
 use Rattle.qo_clocks.proofs.LinkLemmas.{live-changed}
 use Rattle.qo_clocks.proofs.SpreadLemmas.{spread-acts, spread-timely}
 use Rattle.qo_clocks.proofs.writes.set_mul_div.Goals as goal
@@ -52,22 +52,22 @@ returns-clause-answer g c = λ b s fit.
 
 -- beside the number that is written only bodies act
 
-behind : (g : _) (c : goal.After-spread g) → Acts (with_scale c.args.c.birth c.args.mul c.args.div c.args.heap.now) c.spread.new.heap
-behind g c =
+later : (g : _) (c : goal.After-spread g) → Acts (with_scale c.args.c.birth c.args.mul c.args.div c.args.heap.now) c.spread.new.heap
+later g c =
     let acts : Acts c.set_number-2.new.heap c.spread.new.heap =
     rw c.spread.ensures (spread-acts c.set_number-2.new.heap (c.live-levels.result + 1) c.args.c.birth c.scaled-before.result c.in-Some.after) in
-    acts-behind (with_scale c.args.c.birth c.args.mul c.args.div c.args.heap.now) c.set_number-2.new.heap c.spread.new.heap
+    acts-after (with_scale c.args.c.birth c.args.mul c.args.div c.args.heap.now) c.set_number-2.new.heap c.spread.new.heap
     (scaled-heap c.args.heap.now c.set_number.new.heap c.set_number-2.new.heap c.args.c.birth c.args.mul c.args.div c.args.mul c.args.div
     c.set_number.ensures c.set_number-2.ensures refl refl) acts
 
 pub returns-clause-acts : goal.returns-clause-acts
-returns-clause-acts g c = behind g c
+returns-clause-acts g c = later g c
 
 pub returns-clause-names : goal.returns-clause-names
-returns-clause-names g c = scale-names c.args.heap.now c.spread.new.heap c.args.c.birth c.args.mul c.args.div (behind g c)
+returns-clause-names g c = scale-names c.args.heap.now c.spread.new.heap c.args.c.birth c.args.mul c.args.div (later g c)
 
 pub returns-clause-book : goal.returns-clause-book
-returns-clause-book g c = scale-book c.args.heap.now c.spread.new.heap c.args.c.birth c.args.mul c.args.div (behind g c)
+returns-clause-book g c = scale-book c.args.heap.now c.spread.new.heap c.args.c.birth c.args.mul c.args.div (later g c)
 
 pub returns-clause-timely : goal.returns-clause-timely
 returns-clause-timely g c =
@@ -92,4 +92,4 @@ returns-clause-fits g c = λ b s fit x t.
     ∙ fits-scaled c.args.heap.now (c.live-levels.result + 1) c.args.c.birth c.period-own.result c.args.mul c.args.div c.args.mul c.args.div
     c.written-mul_after.result c.written.result c.fitting-child.result refl refl c.written-mul_after.ensures c.written.ensures
     c.fitting-child.ensures)
-    (behind g c) x t
+    (later g c) x t

@@ -7,4 +7,5 @@ use Rattle.qo_commands.proofs.changes.remove.Goals as goal
 pub returns : goal.returns
 unfolding altered
 returns g c = λ b s.
-    answered-came (object_removed b c.args.id.now) c.object_del.result c.done_by.result c.object_del.new.self (c.object_del.ensures.change b s) c.done_by.ensures
+    answered-came (object_removed b c.args.id.now) c.object_del.result c.done_by.result c.object_del.new.self (c.object_del.ensures.change b s)
+    c.done_by.ensures

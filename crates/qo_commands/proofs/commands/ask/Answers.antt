@@ -21,12 +21,14 @@ returns-in_ok-types-in-QomListTypes g c = λ b s.
 pub returns-in_ok-version-in-QueryVersion : goal.returns-in_ok-version-in-QueryVersion
 unfolding queried
 returns-in_ok-version-in-QueryVersion g c = λ b s.
-    c.returned_value-in-QueryVersion.ensures b ∙ ap (λ (d : Data). returned b d) c.in_ok-version-in-QueryVersion.ensures ∙ ap (queried b) (sym c.in-QueryVersion.is)
+    c.returned_value-in-QueryVersion.ensures b ∙ ap (λ (d : Data). returned b d) c.in_ok-version-in-QueryVersion.ensures
+    ∙ ap (queried b) (sym c.in-QueryVersion.is)
 
 pub returns-in_ok-commands-in-QueryCommands : goal.returns-in_ok-commands-in-QueryCommands
 unfolding queried
 returns-in_ok-commands-in-QueryCommands g c = λ b s.
-    c.returned_value-in-QueryCommands.ensures b ∙ ap (λ (d : Data). returned b d) c.in_ok-commands-in-QueryCommands.ensures ∙ ap (queried b) (sym c.in-QueryCommands.is)
+    c.returned_value-in-QueryCommands.ensures b ∙ ap (λ (d : Data). returned b d) c.in_ok-commands-in-QueryCommands.ensures
+    ∙ ap (queried b) (sym c.in-QueryCommands.is)
 
 pub returns-in-QueryStatus : goal.returns-in-QueryStatus
 unfolding queried

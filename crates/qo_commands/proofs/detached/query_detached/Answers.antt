@@ -14,4 +14,5 @@ returned_value-requires g c = ap has_float c.in_ok-value.ensures ∙ detached_no
 pub returns : goal.returns
 returns g c = λ b s.
     c.returned_value.ensures b
-    ∙ ap (λ (d : Data). returned b d) (c.in_ok-value.ensures ∙ ap (λ (l : List Detached). array (items_of (map detached_data l))) (c.deref.ensures.value ∙ c.in_ok-objects.ensures b s))
+    ∙ ap (λ (d : Data). returned b d)
+    (c.in_ok-value.ensures ∙ ap (λ (l : List Detached). array (items_of (map detached_data l))) (c.deref.ensures.value ∙ c.in_ok-objects.ensures b s))

@@ -3,7 +3,7 @@ use Rattle.std.proofs.Common.{[], ◌-◌, length, take}
 use Rattle.qo_heap.specs.Objects.{slots_of}
 use Rattle.qo_model.specs.Board.{Board as Tree}
 use Rattle.qo_model.specs.Listing.{listing}
-use Rattle.qo_realize.specs.Stands.{Stands}
+use Rattle.qo_realize.specs.Representation.{Stands}
 use Rattle.qo_replies.specs.Properties.{HasWritten}
 use Rattle.qo_commands.proofs.listings.push_all.Given as goal
 

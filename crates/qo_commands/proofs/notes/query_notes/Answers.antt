@@ -14,4 +14,5 @@ returned_value-requires c = ap has_float c.in_ok-value.ensures ∙ rw (notes_no_
 pub returns : goal.returns
 returns c = λ b s.
     c.returned_value.ensures b
-    ∙ ap (λ (d : Data). returned b d) (c.in_ok-value.ensures ∙ told-is b.notes c.args.from c.notes_first.result c.notes_total.result c.deref.result.now (c.notes_first.ensures.told b s) (c.deref.ensures.value ∙ c.in_ok-notes.ensures.told b s) (c.notes_total.ensures.told b s))
+    ∙ ap (λ (d : Data). returned b d) (c.in_ok-value.ensures ∙ told-is b.notes c.args.from c.notes_first.result c.notes_total.result c.deref.result.now
+    (c.notes_first.ensures.told b s) (c.deref.ensures.value ∙ c.in_ok-notes.ensures.told b s) (c.notes_total.ensures.told b s))

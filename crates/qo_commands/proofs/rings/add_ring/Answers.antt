@@ -7,4 +7,5 @@ use Rattle.qo_commands.proofs.rings.add_ring.Goals as goal
 pub returns : goal.returns
 unfolding altered
 returns c = λ b s.
-    made-alters b c.chardev_add.new.self (chardev_added b c.args.id.now c.args.kind.now c.args.size) c.chardev_add.result c.outcome_of.result (c.chardev_add.ensures.change b s) c.outcome_of.ensures
+    made-alters b c.chardev_add.new.self (chardev_added b c.args.id.now c.args.kind.now c.args.size) c.chardev_add.result c.outcome_of.result
+    (c.chardev_add.ensures.change b s) c.outcome_of.ensures

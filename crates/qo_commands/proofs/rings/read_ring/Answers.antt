@@ -3,7 +3,7 @@ use Rattle.std.proofs.Common.{subst, sym, Err}
 use Rattle.qo_properties.specs.declared.refusals.Refusal.{Refusal}
 use Rattle.qo_realize.specs.Chardevs.{ReadsRing, ringbuf_read}
 use Rattle.qo_realize.specs.Parts.{Parts}
-use Rattle.qo_realize.specs.Stands.{Stands}
+use Rattle.qo_realize.specs.Representation.{Stands}
 use Rattle.qo_commands.specs.Commands.{altered}
 use Rattle.qo_commands.proofs.ChangeLemmas.{read-err, read-ok}
 use Rattle.qo_commands.proofs.rings.read_ring.Goals as goal

@@ -7,4 +7,5 @@ use Rattle.qo_commands.proofs.rings.write_ring.Goals as goal
 pub returns : goal.returns
 unfolding altered
 returns c = λ b s.
-    made-alters b c.ringbuf_write.new.self (ringbuf_written b c.args.id.now c.args.text.now c.args.form) c.ringbuf_write.result c.outcome_of.result (c.ringbuf_write.ensures.change b s) c.outcome_of.ensures
+    made-alters b c.ringbuf_write.new.self (ringbuf_written b c.args.id.now c.args.text.now c.args.form) c.ringbuf_write.result c.outcome_of.result
+    (c.ringbuf_write.ensures.change b s) c.outcome_of.ensures

@@ -1,7 +1,7 @@
 -- The properties of a type that is there, and one of devices.
 use Rattle.std.proofs.Common.{◌∙◌, ap, sym}
 use Rattle.serde_json.specs.Data.{Data}
-use Rattle.qo_model.specs.Types.{row_named}
+use Rattle.qo_model.specs.Types.{type_named}
 use Rattle.qo_commands.specs.Commands.{returned}
 use Rattle.qo_commands.proofs.ListingLemmas.{device-listed, device-none, device-other}
 use Rattle.serde_json.specs.Written.{has_float}
@@ -13,12 +13,14 @@ pub returned_value-requires : goal.returned_value-requires
 returned_value-requires c = ap has_float c.in_ok-listing.ensures ∙ rows_no_float (adding_properties c.in-Some.t)
 
 pub returns-in_default : goal.returns-in_default
-returns-in_default c = λ b. c.refused.ensures b ∙ device-none b (row_named c.args.typename.now) (sym c.in_default.is ∙ c.find.ensures)
+returns-in_default c = λ b. c.refused.ensures b ∙ device-none b (type_named c.args.typename.now) (sym c.in_default.is ∙ c.find.ensures)
 
 pub returns-then-not-is_a : goal.returns-then-not-is_a
 returns-then-not-is_a c = λ b.
-    c.refused-then-not-is_a.ensures b ∙ device-other b (row_named c.args.typename.now) c.in-Some.t (sym c.in-Some.is ∙ c.find.ensures) (sym c.is_a.ensures ∙ c.if-not-is_a.true)
+    c.refused-then-not-is_a.ensures b
+    ∙ device-other b (type_named c.args.typename.now) c.in-Some.t (sym c.in-Some.is ∙ c.find.ensures) (sym c.is_a.ensures ∙ c.if-not-is_a.true)
 
 pub returns : goal.returns
 returns c = λ b.
-    c.returned_value.ensures b ∙ ap (λ (d : Data). returned b d) c.in_ok-listing.ensures ∙ device-listed b (row_named c.args.typename.now) c.in-Some.t (sym c.in-Some.is ∙ c.find.ensures) (sym c.is_a.ensures ∙ c.if-not-is_a.false)
+    c.returned_value.ensures b ∙ ap (λ (d : Data). returned b d) c.in_ok-listing.ensures
+    ∙ device-listed b (type_named c.args.typename.now) c.in-Some.t (sym c.in-Some.is ∙ c.find.ensures) (sym c.is_a.ensures ∙ c.if-not-is_a.false)

@@ -9,4 +9,5 @@ pub loop-t-preserved : goal.loop-t-preserved
 loop-t-preserved c = types-more c.args.types.now c.loop-t.t-index _ _ _ c.loop-t-test.true c.loop-t.invariant c.in_ok-push_type.ensures
 
 pub returns : goal.returns
-returns c = view-Array c.loop-t.values ∙ ap (λ (l : List Data). array (items_of l)) (c.loop-t.invariant ∙ types-all c.args.types.now c.loop-t.t-index c.loop-t.auto.t-index-end c.loop-t-test.false)
+returns c = view-Array c.loop-t.values ∙ ap (λ (l : List Data). array (items_of l))
+    (c.loop-t.invariant ∙ types-all c.args.types.now c.loop-t.t-index c.loop-t.auto.t-index-end c.loop-t-test.false)

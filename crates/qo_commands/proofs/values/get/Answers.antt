@@ -1,7 +1,7 @@
 -- What the board reads is told, or what refuses it.
 use Rattle.std.proofs.Common.{◌≡◌, Err, ◌∙◌, ap, sym}
 use Rattle.serde_json.specs.Data.{Data}
-use Rattle.qo_values.specs.Plain.{data_of}
+use Rattle.qo_values.specs.PlainValues.{data_of}
 use Rattle.qo_model.specs.Access.{read}
 use Rattle.qo_commands.specs.Commands.{answered, returned}
 use Rattle.qo_commands.proofs.values.get.Goals as goal

@@ -1,6 +1,6 @@
 -- An object that has not ended is one whose scanner is known.
 use Rattle.std.proofs.Common.{◌∷◌, [], refl}
-use Rattle.qo_framing.proofs.Unfinished.{unfinished_begun}
+use Rattle.qo_framing.proofs.UnfinishedObjects.{unfinished_begun}
 use Rattle.qo_framing.proofs.parts.object_part.Goals as goal
 
 pub returns-in-Open-clause-scanned : goal.returns-in-Open-clause-scanned

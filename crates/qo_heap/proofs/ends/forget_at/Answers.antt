@@ -11,9 +11,12 @@ change-requires g c =
 
 pub returns-in-Some : goal.returns-in-Some
 returns-in-Some g c =
-    let there = read-at-place c.args.table.now.born c.args.table.now.rows c.args.place c.in-Some.key c.change.result.now c.facts.ensures (sym c.key_at.ensures ∙ c.in-Some.is) c.change.ensures.object in
-    ap (λ (rows : List (Key × Content)). record c.args.table.now { rows = rows }) (edit-at-place (forgotten c.args.birth) c.forget.new.self 0 c.args.table.now.born c.args.table.now.rows c.args.place (c.in-Some.key, c.change.result.now) c.facts.ensures there c.forget.ensures)
+    let there = read-at-place c.args.table.now.born c.args.table.now.rows c.args.place c.in-Some.key c.change.result.now c.facts.ensures
+    (sym c.key_at.ensures ∙ c.in-Some.is) c.change.ensures.object in
+    ap (λ (rows : List (Key × Content)). record c.args.table.now { rows = rows }) (edit-at-place (forgotten c.args.birth) c.forget.new.self 0
+    c.args.table.now.born c.args.table.now.rows c.args.place (c.in-Some.key, c.change.result.now) c.facts.ensures there c.forget.ensures)
 
 pub returns-in_default : goal.returns-in_default
 returns-in_default g c =
-    ap (λ (rows : List (Key × Content)). record c.args.table.now { rows = rows }) (sym (changed_at-past (forgets c.args.birth) c.args.place c.args.table.now.rows (past-last c.args.table.now.rows c.args.place (sym c.key_at.ensures ∙ c.in_default.is))))
+    ap (λ (rows : List (Key × Content)). record c.args.table.now { rows = rows }) (sym (changed_at-past (forgets c.args.birth) c.args.place
+    c.args.table.now.rows (past-last c.args.table.now.rows c.args.place (sym c.key_at.ensures ∙ c.in_default.is))))

@@ -2,7 +2,7 @@ use Rattle.std.proofs.Common.{sym, ◌∙◌, ap, ℕ, drop}
 use Rattle.std.specs.List.{list_any}
 use Rattle.qo_object.specs.Content.{Content, is_holder}
 use Rattle.qo_slots.specs.declared.keys.Key.{Key}
-use Rattle.qo_heap.proofs.HeldLemmas.{any-here, any-from, any-past}
+use Rattle.qo_heap.proofs.ReferenceLemmas.{any-here, any-from, any-past}
 use Rattle.qo_heap.proofs.PlacesLemmas.{all-walked}
 use Rattle.qo_heap.proofs.reads.is_held_in.Goals as goal
 

@@ -2,8 +2,8 @@ use Rattle.std.proofs.Common.{◌≡◌, ◌∙◌, ap, filter, not, rules}
 use Rattle.std.specs.Prelude.{◌==◌}
 use Rattle.std.proofs.lemmas.Fn.{filter_same}
 use Rattle.qo_slots.specs.declared.keys.Key.{Key}
-use Rattle.qo_hotplug.specs.Asked.{births}
-use Rattle.qo_hotplug.proofs.Among.{births_without}
+use Rattle.qo_hotplug.specs.Hotplug.{births}
+use Rattle.qo_hotplug.proofs.Births.{births_without}
 use Rattle.qo_hotplug.proofs.hotplug.drop_pending.Goals as goal
 
 pub returns-clause-items : goal.returns-clause-items

@@ -1,7 +1,7 @@
 -- The run ends.
 use Rattle.std.proofs.Common.{ap}
 use Rattle.qo_lane.specs.Hearing.{acted, shut_down}
-use Rattle.qo_lane.proofs.HearLemmas.{came-as}
+use Rattle.qo_lane.proofs.HearingLemmas.{came-as}
 use Rattle.qo_lane.proofs.hearing.act.Goals as goal
 
 pub returns-in-Shutdown-clause-came : goal.returns-in-Shutdown-clause-came

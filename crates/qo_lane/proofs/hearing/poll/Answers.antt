@@ -2,8 +2,8 @@
 use Rattle.std.proofs.Common.{rules, ◌≡◌, ap, ◌∙◌}
 use Rattle.std.specs.Prelude.{option_map}
 use Rattle.qo_realize.specs.Guest.{polled}
-use Rattle.qo_lane.specs.Hearing.{answered, outcome_of, told_by}
-use Rattle.qo_lane.proofs.HearLemmas.{told-polled}
+use Rattle.qo_lane.specs.Hearing.{answered, outcome_of, notice_answer}
+use Rattle.qo_lane.proofs.HearingLemmas.{told-polled}
 use Rattle.qo_lane.proofs.hearing.poll.Goals as goal
 
 pub returns : goal.returns
@@ -12,5 +12,6 @@ returns g c = λ b s.
     let same : option_map (λ n. n.now) c.as_ref.result ≡ c.poll-notice.result = search rules in (
       stands,
       ap (outcome_of (polled b)) c.answered.ensures
-          ∙ ap (answered (polled b)) (c.told_by.ensures (polled b) stands ∙ told-polled b _ ∙ ap (told_by b) (same ∙ c.poll-notice.ensures.first b s)),
+          ∙ ap (answered (polled b))
+          (c.notice_answer.ensures (polled b) stands ∙ told-polled b _ ∙ ap (notice_answer b) (same ∙ c.poll-notice.ensures.first b s)),
     )

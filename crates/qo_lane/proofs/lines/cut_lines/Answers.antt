@@ -5,5 +5,6 @@ use Rattle.qo_lane.proofs.lines.cut_lines.Goals as goal
 
 pub loop-byte-preserved : goal.loop-byte-preserved
 loop-byte-preserved c =
-    lines-more c.args.kept.now.items c.args.piece.now c.loop-byte.kept.items c.add_byte.new.kept.items c.loop-byte.lines.items c.add_byte.new.lines.items c.loop-byte.byte-index _ (omega arith) refl
+    lines-more c.args.kept.now.items c.args.piece.now c.loop-byte.kept.items c.add_byte.new.kept.items c.loop-byte.lines.items c.add_byte.new.lines.items
+    c.loop-byte.byte-index _ (omega arith) refl
     c.loop-byte.invariant c.in_ok-add_byte.ensures

@@ -1,6 +1,6 @@
 use Rattle.std.proofs.Common.{ap}
 use Rattle.qo_heap.specs.Objects.{Objects}
-use Rattle.qo_life.proofs.MadeLemmas.{made-live}
+use Rattle.qo_life.proofs.NewObjectLemmas.{made-live}
 use Rattle.qo_life.proofs.birth.create.Goals as goal
 
 pub note_inits-requires : goal.note_inits-requires

@@ -2,10 +2,10 @@ use Rattle.std.proofs.Common.{sym, ◌∙◌}
 use Rattle.qo_life.proofs.BirthLemmas.{note-had, note-none}
 use Rattle.qo_life.proofs.birth.note_init.Goals as goal
 
-pub returns-then-has_finaliser : goal.returns-then-has_finaliser
-returns-then-has_finaliser c =
-    note-had c.args.o.birth c.args.of c.args.heap.now c.init.new.self (sym c.has_finaliser.ensures ∙ c.if-has_finaliser.true) c.init.ensures
+pub returns-then-has_finalizer : goal.returns-then-has_finalizer
+returns-then-has_finalizer c =
+    note-had c.args.o.birth c.args.of c.args.heap.now c.init.new.self (sym c.has_finalizer.ensures ∙ c.if-has_finalizer.true) c.init.ensures
 
-pub returns-else-has_finaliser : goal.returns-else-has_finaliser
-returns-else-has_finaliser c =
-    note-none c.args.o.birth c.args.of c.args.heap.now (sym c.has_finaliser.ensures ∙ c.if-has_finaliser.false)
+pub returns-else-has_finalizer : goal.returns-else-has_finalizer
+returns-else-has_finalizer c =
+    note-none c.args.o.birth c.args.of c.args.heap.now (sym c.has_finalizer.ensures ∙ c.if-has_finalizer.false)

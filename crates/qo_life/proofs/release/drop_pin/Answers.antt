@@ -1,10 +1,10 @@
 use Rattle.std.proofs.Common.{subst, Some}
 use Rattle.qo_object.specs.Content.{without_pin}
-use Rattle.qo_model.specs.Release.{after, finalise, unpin}
+use Rattle.qo_model.specs.Release.{after, finalize, unpin}
 use Rattle.qo_heap.specs.Objects.{Objects}
 use Rattle.qo_heap.proofs.HeapLemmas.{live-edit}
 use Rattle.qo_life.specs.Life.{Goes}
-use Rattle.qo_life.proofs.GoesLemmas.{goes-drop_pin}
+use Rattle.qo_life.proofs.ReleaseLemmas.{goes-drop_pin}
 use Rattle.qo_life.proofs.TreeLemmas.{goes-names, goes-shows}
 use Rattle.qo_life.proofs.release.drop_pin.Goals as goal
 
@@ -14,15 +14,17 @@ end_unheld-requires g c =
 
 pub returns-clause-release : goal.returns-clause-release
 returns-clause-release g c =
-    let behind = subst (λ (x : Objects). Goes (λ b. after finalise b (Some c.args.o.birth)) x c.end_unheld.new.heap) c.unpin.ensures.now c.end_unheld.ensures in
-    goes-shows (λ b. unpin b c.args.o.birth) c.args.heap.now c.end_unheld.new.heap (goes-drop_pin c.args.heap.now c.end_unheld.new.heap c.facts.ensures c.args.o.birth c.requires.pinned behind)
+    let later = subst (λ (x : Objects). Goes (λ b. after finalize b (Some c.args.o.birth)) x c.end_unheld.new.heap) c.unpin.ensures.now c.end_unheld.ensures in
+    goes-shows (λ b. unpin b c.args.o.birth) c.args.heap.now c.end_unheld.new.heap
+    (goes-drop_pin c.args.heap.now c.end_unheld.new.heap c.facts.ensures c.args.o.birth c.requires.pinned later)
 
 pub returns-clause-names : goal.returns-clause-names
 returns-clause-names g c =
-    let behind = subst (λ (x : Objects). Goes (λ b. after finalise b (Some c.args.o.birth)) x c.end_unheld.new.heap) c.unpin.ensures.now c.end_unheld.ensures in
-    goes-names (λ b. unpin b c.args.o.birth) c.args.heap.now c.end_unheld.new.heap (goes-drop_pin c.args.heap.now c.end_unheld.new.heap c.facts.ensures c.args.o.birth c.requires.pinned behind)
+    let later = subst (λ (x : Objects). Goes (λ b. after finalize b (Some c.args.o.birth)) x c.end_unheld.new.heap) c.unpin.ensures.now c.end_unheld.ensures in
+    goes-names (λ b. unpin b c.args.o.birth) c.args.heap.now c.end_unheld.new.heap
+    (goes-drop_pin c.args.heap.now c.end_unheld.new.heap c.facts.ensures c.args.o.birth c.requires.pinned later)
 
 pub returns-clause-goes : goal.returns-clause-goes
 returns-clause-goes g c =
-    let behind = subst (λ (x : Objects). Goes (λ b. after finalise b (Some c.args.o.birth)) x c.end_unheld.new.heap) c.unpin.ensures.now c.end_unheld.ensures in
-    goes-drop_pin c.args.heap.now c.end_unheld.new.heap c.facts.ensures c.args.o.birth c.requires.pinned behind
+    let later = subst (λ (x : Objects). Goes (λ b. after finalize b (Some c.args.o.birth)) x c.end_unheld.new.heap) c.unpin.ensures.now c.end_unheld.ensures in
+    goes-drop_pin c.args.heap.now c.end_unheld.new.heap c.facts.ensures c.args.o.birth c.requires.pinned later

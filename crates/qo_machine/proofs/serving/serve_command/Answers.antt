@@ -1,6 +1,6 @@
 -- A command is done as it is defined, or refused for want of memory.
 use Rattle.std.proofs.Common.{refl}
-use Rattle.qo_machine.proofs.LeftLemmas.{left_served}
+use Rattle.qo_machine.proofs.MemoryLemmas.{left_served}
 use Rattle.qo_machine.proofs.MachineLemmas.{left_done, on_err, on_ok, served_command, served_want}
 use Rattle.qo_machine.proofs.serving.serve_command.Goals as goal
 

@@ -2,9 +2,9 @@
 use Rattle.std.proofs.Common.{ℕ, List, [], ◌∷◌, refl, sym, ap, subst, ◌∙◌, append-nil, Option}
 use Rattle.qo_commands.proofs.CommandLemmas.{empty_written}
 use Rattle.qo_commands.specs.Commands.{empty}
-use Rattle.qo_machine.proofs.LeftLemmas.{front_answer, front_command, front_negotiation, front_unheeded}
+use Rattle.qo_machine.proofs.MemoryLemmas.{front_answer, front_command, front_negotiation, front_unheeded}
 use Rattle.qo_machine.proofs.MachineLemmas.{on_err, serves_answer, serves_command, serves_negotiation, serves_over_by}
-use Rattle.qo_machine.specs.Machine.{by_item, state_at}
+use Rattle.qo_machine.specs.Machine.{by_item, state_with}
 use Rattle.qo_machine.specs.Serving.{CommandLeft, CommandServed, moved}
 use Rattle.qo_machine.proofs.serving.serve_item.Goals as goal
 
@@ -24,7 +24,7 @@ returns-in_ok-push-in-Answer-clause-served g c = (
   (c.requires, tt),
   serves_answer c.args.sending.now.at c.args.session c.args.machine.now c.heed.new.self c.args.item.now c.in-Answer.code c.in-Answer.id _
       (sym c.if-ended.ensures) (λ b. sym c.in-Answer.is ∙ c.in_ok-code.ensures.act b)
-      (λ b. c.in_ok-code.ensures.state b ∙ ap (moved (state_at b c.args.machine.now) c.args.session) c.in-Answer.is) c.heed.ensures.board
+      (λ b. c.in_ok-code.ensures.state b ∙ ap (moved (state_with b c.args.machine.now) c.args.session) c.in-Answer.is) c.heed.ensures.board
       (rw c.as_ref.ensures.value at c.in_ok-text-in-Answer.ensures),
 )
 
@@ -35,7 +35,7 @@ returns-in_ok-push-in-Negotiated-clause-served g c = (
   (c.requires, tt),
   serves_negotiation c.args.sending.now.at c.args.session c.args.machine.now c.heed.new.self c.args.item.now c.in-Negotiated.id _ (sym c.if-ended.ensures)
       (λ b. sym c.in-Negotiated.is ∙ c.in_ok-code.ensures.act b)
-      (λ b. c.in_ok-code.ensures.state b ∙ ap (moved (state_at b c.args.machine.now) c.args.session) c.in-Negotiated.is) c.heed.ensures.board
+      (λ b. c.in_ok-code.ensures.state b ∙ ap (moved (state_with b c.args.machine.now) c.args.session) c.in-Negotiated.is) c.heed.ensures.board
       (rw c.as_ref-in-Negotiated.ensures.value at (c.in_ok-text-in-Negotiated.ensures empty empty_written)),
 )
 
@@ -47,7 +47,7 @@ returns-in_ok-serve_command-in-Do-clause-served g c =
       served.2,
       serves_command c.args.sending.now.at c.args.session c.args.machine.now c.heed.new.self c.serve_command.new.machine c.args.item.now c.in-Do.command
           c.in-Do.id served.0 (sym c.if-ended.ensures) (λ b. sym c.in-Do.is ∙ c.in_ok-code.ensures.act b)
-          (λ b. c.in_ok-code.ensures.state b ∙ ap (moved (state_at b c.args.machine.now) c.args.session) c.in-Do.is) c.heed.ensures.board
+          (λ b. c.in_ok-code.ensures.state b ∙ ap (moved (state_with b c.args.machine.now) c.args.session) c.in-Do.is) c.heed.ensures.board
           (λ s here. subst (λ (id : Option (List ℕ)). CommandServed c.args.sending.now.at c.args.session s c.in-Do.command id served.0
           c.serve_command.new.machine) c.as_ref-in-Do.ensures.value (served.3 s here)),
     )
@@ -63,33 +63,33 @@ pub returns-in_err-text-in-Answer-clause-left : goal.returns-in_err-text-in-Answ
 returns-in_err-text-in-Answer-clause-left g c =
     on_err c.from_residual-in_err-text-in-Answer.result
     (front_answer c.args.sending.now.at c.args.session c.args.machine.now c.heed.new.self (c.args.item.now ∷ []) c.in-Answer.code c.in-Answer.id
-    (λ b. c.in_ok-code.ensures.state b ∙ ap (moved (state_at b c.args.machine.now) c.args.session) c.in-Answer.is) c.heed.ensures.board)
+    (λ b. c.in_ok-code.ensures.state b ∙ ap (moved (state_with b c.args.machine.now) c.args.session) c.in-Answer.is) c.heed.ensures.board)
 
 pub returns-in_err-push-in-Answer-clause-left : goal.returns-in_err-push-in-Answer-clause-left
 returns-in_err-push-in-Answer-clause-left g c =
     on_err c.from_residual-in_err-push-in-Answer.result
     (front_answer c.args.sending.now.at c.args.session c.args.machine.now c.heed.new.self (c.args.item.now ∷ []) c.in-Answer.code c.in-Answer.id
-    (λ b. c.in_ok-code.ensures.state b ∙ ap (moved (state_at b c.args.machine.now) c.args.session) c.in-Answer.is) c.heed.ensures.board)
+    (λ b. c.in_ok-code.ensures.state b ∙ ap (moved (state_with b c.args.machine.now) c.args.session) c.in-Answer.is) c.heed.ensures.board)
 
 pub returns-in_err-text-in-Negotiated-clause-left : goal.returns-in_err-text-in-Negotiated-clause-left
 returns-in_err-text-in-Negotiated-clause-left g c =
     on_err c.from_residual-in_err-text-in-Negotiated.result
     (front_negotiation c.args.sending.now.at c.args.session c.args.machine.now c.heed.new.self c.args.item.now c.in-Negotiated.id (sym c.if-ended.ensures)
     (λ b. sym c.in-Negotiated.is ∙ c.in_ok-code.ensures.act b)
-    (λ b. c.in_ok-code.ensures.state b ∙ ap (moved (state_at b c.args.machine.now) c.args.session) c.in-Negotiated.is) c.heed.ensures.board)
+    (λ b. c.in_ok-code.ensures.state b ∙ ap (moved (state_with b c.args.machine.now) c.args.session) c.in-Negotiated.is) c.heed.ensures.board)
 
 pub returns-in_err-push-in-Negotiated-clause-left : goal.returns-in_err-push-in-Negotiated-clause-left
 returns-in_err-push-in-Negotiated-clause-left g c =
     on_err c.from_residual-in_err-push-in-Negotiated.result
     (front_negotiation c.args.sending.now.at c.args.session c.args.machine.now c.heed.new.self c.args.item.now c.in-Negotiated.id (sym c.if-ended.ensures)
     (λ b. sym c.in-Negotiated.is ∙ c.in_ok-code.ensures.act b)
-    (λ b. c.in_ok-code.ensures.state b ∙ ap (moved (state_at b c.args.machine.now) c.args.session) c.in-Negotiated.is) c.heed.ensures.board)
+    (λ b. c.in_ok-code.ensures.state b ∙ ap (moved (state_with b c.args.machine.now) c.args.session) c.in-Negotiated.is) c.heed.ensures.board)
 
 pub returns-in_err-serve_command-in-Do-clause-left : goal.returns-in_err-serve_command-in-Do-clause-left
 returns-in_err-serve_command-in-Do-clause-left g c =
     on_err c.from_residual-in_err-serve_command-in-Do.result
     (front_command c.args.sending.now.at c.args.session c.args.machine.now c.heed.new.self c.serve_command.new.machine c.args.item.now c.in-Do.command
     c.in-Do.id (sym c.if-ended.ensures) (λ b. sym c.in-Do.is ∙ c.in_ok-code.ensures.act b)
-    (λ b. c.in_ok-code.ensures.state b ∙ ap (moved (state_at b c.args.machine.now) c.args.session) c.in-Do.is) c.heed.ensures.board
+    (λ b. c.in_ok-code.ensures.state b ∙ ap (moved (state_with b c.args.machine.now) c.args.session) c.in-Do.is) c.heed.ensures.board
     (λ s here. subst (λ (id : Option (List ℕ)). CommandLeft c.args.sending.now.at c.args.session s c.in-Do.command id c.serve_command.new.machine)
     c.as_ref-in-Do.ensures.value (c.in_err-serve_command-in-Do.ensures.left s here)))

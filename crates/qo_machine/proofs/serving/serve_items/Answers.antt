@@ -3,7 +3,7 @@ use Rattle.std.proofs.Common.{refl, sym, ◌∙◌, subst, List, [], ◌∷◌, 
 use Rattle.qo_framing.specs.declared.items.Item.{Item}
 use Rattle.qo_causes.specs.declared.inputs.Moment.{Moment}
 use Rattle.qo_machine.proofs.LaneLemmas.{more_lanes}
-use Rattle.qo_machine.proofs.LeftLemmas.{front_of_all_by, front_on_by}
+use Rattle.qo_machine.proofs.MemoryLemmas.{front_of_all_by, front_on_by}
 use Rattle.qo_machine.proofs.MachineLemmas.{on_err, serves_on_by, take_one}
 use Rattle.qo_machine.specs.Machine.{IsIn, Message, State, by_item}
 use Rattle.qo_machine.specs.Sending.{AreToLanes}
@@ -16,7 +16,9 @@ loop-item-preserved g c =
     record {
       moment = c.serve_item.ensures.moment ∙ c.loop-item.invariant.moment;
       served = λ s here.
-          subst (λ (outs : List Message). ServesTo c.args.at c.args.session s (take (c.loop-item.item-index + 1) c.args.items.now) outs c.serve_item.new.machine) (sym one.1)
+          subst
+          (λ (outs : List Message). ServesTo c.args.at c.args.session s (take (c.loop-item.item-index + 1) c.args.items.now) outs c.serve_item.new.machine)
+          (sym one.1)
           (subst (λ (items : List Item). ServesTo c.args.at c.args.session s items (c.loop-item.sending.outs ++ one.0) c.serve_item.new.machine)
           (sym (take_one c.args.items.now c.loop-item.item-index c.item-item.result (omega arith) c.item-item.is))
           (serves_on_by (by_item c.args.at c.args.session) s c.loop-item.machine c.serve_item.new.machine (take c.loop-item.item-index c.args.items.now)

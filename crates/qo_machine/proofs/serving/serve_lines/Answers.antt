@@ -2,7 +2,7 @@
 use Rattle.std.proofs.Common.{sym, ◌∙◌, subst, ℕ, List, [], ◌∷◌, ◌++◌, ◌+◌, take, arith}
 use Rattle.qo_causes.specs.declared.inputs.Moment.{Moment}
 use Rattle.qo_machine.proofs.LaneLemmas.{more_lanes}
-use Rattle.qo_machine.proofs.LeftLemmas.{front_of_all_by, front_on_by}
+use Rattle.qo_machine.proofs.MemoryLemmas.{front_of_all_by, front_on_by}
 use Rattle.qo_machine.proofs.MachineLemmas.{on_err, serves_on_by, take_one}
 use Rattle.qo_machine.specs.Machine.{IsIn, Message, State, by_line}
 use Rattle.qo_machine.specs.Sending.{AreToLanes}

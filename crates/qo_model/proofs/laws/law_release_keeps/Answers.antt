@@ -1,4 +1,4 @@
-use Rattle.qo_model.proofs.ReleaseKeepsLemmas.{release_keeps}
+use Rattle.qo_model.proofs.ReleaseInductionLemmas.{release_keeps}
 use Rattle.qo_model.proofs.laws.law_release_keeps.Goals as goal
 
 pub returns : goal.returns

@@ -13,5 +13,7 @@ returns-in-Some-clause-parts c =
 
 pub returns-in-None-clause-parts : goal.returns-in-None-clause-parts
 returns-in-None-clause-parts c =
-    let none : position_or_len (λ (x : ℕ). eqb x 47) c.args.path.now ≡ length c.args.path.now = split_once_first 47 c.args.path.now None c.in-None.ensures.cases (omega arith) in
-    slice_split_none (λ (x : ℕ). x == 47) c.args.path.now (λ k d below. let low : k < length c.args.path.now = below in fails_before_first (λ (x : ℕ). x == 47) c.args.path.now k d (rw none low))
+    let none : position_or_len (λ (x : ℕ). eqb x 47) c.args.path.now ≡ length c.args.path.now =
+    split_once_first 47 c.args.path.now None c.in-None.ensures.cases (omega arith) in
+    slice_split_none (λ (x : ℕ). x == 47) c.args.path.now (λ k d below. let low : k < length c.args.path.now = below in
+    fails_before_first (λ (x : ℕ). x == 47) c.args.path.now k d (rw none low))

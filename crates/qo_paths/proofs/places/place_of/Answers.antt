@@ -17,8 +17,10 @@ child_slot-requires g c = parent-live c.args.heap.now c.facts.ensures c.args.o.b
 pub returns-in_err-slot : goal.returns-in_err-slot
 returns-in_err-slot g c = λ b s.
     let none : c.from_residual-in_err-slot.result ≡ None = search rules in
-    rw none (sym (place-is b c.args.heap.now s c.facts.ensures c.args.o.birth c.in_ok-parent.parent (sym c.in_ok-parent.ensures) None c.in_err-slot.ensures.slot))
+    rw none
+    (sym (place-is b c.args.heap.now s c.facts.ensures c.args.o.birth c.in_ok-parent.parent (sym c.in_ok-parent.ensures) None c.in_err-slot.ensures.slot))
 
 pub returns : goal.returns
 returns g c = λ b s.
-    sym (place-is b c.args.heap.now s c.facts.ensures c.args.o.birth c.in_ok-parent.parent (sym c.in_ok-parent.ensures) (Some (c.in_ok-slot.slot.name.now, c.in_ok-slot.slot.what.now)) c.in_ok-slot.ensures.slot)
+    sym (place-is b c.args.heap.now s c.facts.ensures c.args.o.birth c.in_ok-parent.parent (sym c.in_ok-parent.ensures)
+    (Some (c.in_ok-slot.slot.name.now, c.in_ok-slot.slot.what.now)) c.in_ok-slot.ensures.slot)

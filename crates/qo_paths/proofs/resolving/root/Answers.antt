@@ -16,4 +16,5 @@ returns-then-first-eq1-clause-live c =
 
 pub returns-clause-none : goal.returns-clause-none
 returns-clause-none c =
-    root-later c.args.heap.now.born c.args.heap.now.rows c.in_ok-first.first c.facts.ensures.rising (sym c.in_ok-first.ensures) (not-one c.in_ok-first.first.birth c.if-first-eq1.false)
+    root-later c.args.heap.now.born c.args.heap.now.rows c.in_ok-first.first c.facts.ensures.rising (sym c.in_ok-first.ensures)
+    (not-one c.in_ok-first.first.birth c.if-first-eq1.false)

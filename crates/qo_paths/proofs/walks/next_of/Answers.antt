@@ -1,7 +1,7 @@
 -- A name leads to what its slot names.
 use Rattle.std.proofs.Common.{◌≡◌, Some, None, ap, sym, ◌∙◌, rules}
 use Rattle.std.specs.Str.{bytes_eq}
-use Rattle.qo_object.specs.Shown.{birth_of}
+use Rattle.qo_object.specs.BoardObject.{birth_of}
 use Rattle.qo_object.specs.Slots.{Named}
 use Rattle.qo_paths.proofs.WalkLemmas.{next-is, target-live}
 use Rattle.qo_paths.proofs.walks.next_of.Goals as goal
@@ -18,4 +18,5 @@ returns-clause-next g c = λ b s.
 
 pub returns-clause-live : goal.returns-clause-live
 returns-clause-live g c =
-    rw c.target.ensures (target-live c.args.heap.now c.facts.ensures c.args.o.birth (λ (t : Named). bytes_eq c.args.name.now t.0) (c.in_ok-slot.slot.name.now, c.in_ok-slot.slot.what.now) c.in_ok-slot.ensures.slot)
+    rw c.target.ensures (target-live c.args.heap.now c.facts.ensures c.args.o.birth (λ (t : Named). bytes_eq c.args.name.now t.0)
+    (c.in_ok-slot.slot.name.now, c.in_ok-slot.slot.what.now) c.in_ok-slot.ensures.slot)

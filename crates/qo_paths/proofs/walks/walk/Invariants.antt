@@ -5,12 +5,13 @@ use Rattle.qo_model.specs.Board.{Board}
 use Rattle.qo_model.specs.Paths.{components, walk}
 use Rattle.qo_table.specs.Rows.{IsLive}
 use Rattle.qo_heap.specs.Board.{Shows}
-use Rattle.qo_paths.proofs.PartLemmas.{named_behind, size_of}
+use Rattle.qo_paths.proofs.PartLemmas.{named_after, size_of}
 use Rattle.qo_paths.proofs.walks.walk.Given as goal
 
 abbrev pub invariant-loop-left : goal.invariant-loop-left
 invariant-loop-left g l =
-    ((b : Board) → Shows b l.heap → walk b l.at.birth (named_behind (option_copied l.left)) ≡ walk b l.fn.from.birth (components l.fn.path)) × IsLive l.heap.rows l.at
+    ((b : Board) → Shows b l.heap → walk b l.at.birth (named_after (option_copied l.left)) ≡ walk b l.fn.from.birth (components l.fn.path))
+    × IsLive l.heap.rows l.at
 
 abbrev pub decreases-loop-left : goal.decreases-loop-left
 decreases-loop-left g l = size_of (option_copied l.left)

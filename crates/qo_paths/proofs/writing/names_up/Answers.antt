@@ -11,12 +11,14 @@ loop-turn-init g c = λ b s. rw c.new-names.ensures.items (steps-all b c.args.he
 pub returns-then-at-eq1 : goal.returns-then-at-eq1
 returns-then-at-eq1 g c = λ b s.
     let below = within c.loop-turn._turn c.live-turn-end.result (length c.args.heap.now.rows) c.loop-turn-test.true c.live-turn-end.ensures in
-    sym (steps-root b (length c.args.heap.now.rows) c.loop-turn._turn c.loop-turn.at.birth (map text c.loop-turn.names.items) below (is-one c.loop-turn.at.birth c.if-at-eq1.true)) ∙ c.loop-turn.invariant b s
+    sym (steps-root b (length c.args.heap.now.rows) c.loop-turn._turn c.loop-turn.at.birth (map text c.loop-turn.names.items) below
+    (is-one c.loop-turn.at.birth c.if-at-eq1.true)) ∙ c.loop-turn.invariant b s
 
 pub returns-in_default : goal.returns-in_default
 returns-in_default g c = λ b s.
     let below = within c.loop-turn._turn c.live-turn-end.result (length c.args.heap.now.rows) c.loop-turn-test.true c.live-turn-end.ensures in
-    sym (steps-none b (length c.args.heap.now.rows) c.loop-turn._turn c.loop-turn.at.birth (map text c.loop-turn.names.items) below (not-one c.loop-turn.at.birth c.if-at-eq1.false) (sym (c.in_default.ensures b s)))
+    sym (steps-none b (length c.args.heap.now.rows) c.loop-turn._turn c.loop-turn.at.birth (map text c.loop-turn.names.items) below
+    (not-one c.loop-turn.at.birth c.if-at-eq1.false) (sym (c.in_default.ensures b s)))
     ∙ c.loop-turn.invariant b s
 
 pub loop-turn-preserved : goal.loop-turn-preserved
@@ -25,6 +27,7 @@ loop-turn-preserved g c = λ b s.
     let grown : map text c.push.new.self.items ≡ map text c.loop-turn.names.items ++ c.in-Some.place.name.now ∷ [] =
     ap (map text) c.in_ok-push.ensures.items ∙ map-append text c.loop-turn.names.items (c.in-Some.place.name ∷ []) in
     rw grown (
-    sym (steps-up b (length c.args.heap.now.rows) c.loop-turn._turn c.loop-turn.at.birth (map text c.loop-turn.names.items) (c.in-Some.place.parent.birth, c.in-Some.place.name.now) below (not-one c.loop-turn.at.birth c.if-at-eq1.false) (sym (c.in-Some.ensures b s)))
+    sym (steps-up b (length c.args.heap.now.rows) c.loop-turn._turn c.loop-turn.at.birth (map text c.loop-turn.names.items)
+    (c.in-Some.place.parent.birth, c.in-Some.place.name.now) below (not-one c.loop-turn.at.birth c.if-at-eq1.false) (sym (c.in-Some.ensures b s)))
     ∙ c.loop-turn.invariant b s
     )

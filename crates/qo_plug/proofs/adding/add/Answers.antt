@@ -3,9 +3,9 @@ use Rattle.std.proofs.Common.{◌≡◌, ◌≤◌, ◌==◌, ap, sym, subst, �
 use Rattle.std.proofs.lemmas.Bool.Decides.{nat_tests}
 use Rattle.qo_model.specs.Plug.{Wanted}
 use Rattle.qo_heap.specs.Board.{Shows}
-use Rattle.qo_plug.specs.Added.{wanted}
+use Rattle.qo_plug.specs.Admission.{wanted}
 use Rattle.qo_plug.specs.Stages.{spot_barred}
-use Rattle.qo_plug.proofs.JudgeLemmas.{refused-told}
+use Rattle.qo_plug.proofs.JudgementLemmas.{refused-told}
 use Rattle.qo_plug.proofs.AddLemmas.{cut-late, refused-last, refused-within, spot-cut, spot-refused}
 use Rattle.qo_plug.proofs.adding.add.Goals as goal
 

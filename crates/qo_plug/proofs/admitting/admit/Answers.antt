@@ -1,8 +1,8 @@
 -- The refusals come in order.
 use Rattle.std.proofs.Common.{ℕ, Some, arith, option_map, sym}
 use Rattle.qo_model.specs.Plug.{Wanted}
-use Rattle.qo_plug.specs.Added.{wanted}
-use Rattle.qo_plug.proofs.AdmitLemmas.{added-early, added-first, early-bus, early-room, place-refused}
+use Rattle.qo_plug.specs.Admission.{wanted}
+use Rattle.qo_plug.proofs.AdmissionLemmas.{added-early, added-first, early-bus, early-room, place-refused}
 use Rattle.qo_plug.proofs.admitting.admit.Goals as goal
 
 pub returns-in-Err-clause-refused : goal.returns-in-Err-clause-refused

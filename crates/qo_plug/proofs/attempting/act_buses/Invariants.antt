@@ -1,4 +1,4 @@
-use Rattle.qo_plug.proofs.PassLemmas.{Reached}
+use Rattle.qo_plug.proofs.AttemptLemmas.{Reached}
 use Rattle.qo_plug.proofs.attempting.act_buses.Given as goal
 
 abbrev pub invariant-loop-place : goal.invariant-loop-place

@@ -1,5 +1,5 @@
 -- Acts leave who is quiet quiet.
-use Rattle.qo_plug.proofs.PassLemmas.{act-leaves, first-is}
+use Rattle.qo_plug.proofs.AttemptLemmas.{act-leaves, first-is}
 use Rattle.qo_plug.proofs.attempting.act_first.Goals as goal
 
 pub act_buses-requires : goal.act_buses-requires

@@ -2,7 +2,7 @@
 use Rattle.std.proofs.Common.{◌≡◌, ◌≤◌, ◌&&◌, Bool, true, false, ap₂, nat_le, sym, ◌∙◌, arith}
 use Rattle.std.proofs.lemmas.Bool.Decides.{nat_tests}
 use Rattle.qo_heap.proofs.PlacesLemmas.{key-live}
-use Rattle.qo_plug.proofs.PassLemmas.{bus-at}
+use Rattle.qo_plug.proofs.AttemptLemmas.{bus-at}
 use Rattle.qo_plug.proofs.attempting.new_bus_at.Goals as goal
 
 pub kind-requires : goal.kind-requires

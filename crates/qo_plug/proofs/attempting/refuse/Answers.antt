@@ -6,17 +6,19 @@ use Rattle.qo_heap.specs.Objects.{pins_of}
 use Rattle.qo_heap.proofs.ActsLemmas.{acts-book}
 use Rattle.qo_heap.proofs.ActsReads.{acts-pins_of}
 use Rattle.qo_plug.specs.Attempts.{passed_on}
-use Rattle.qo_plug.proofs.PassLemmas.{leaves-live, passed-leaves, refused-late}
+use Rattle.qo_plug.proofs.AttemptLemmas.{leaves-live, passed-leaves, refused-late}
 use Rattle.qo_plug.proofs.attempting.refuse.Goals as goal
 
 pub drop_pin-requires-clause-live : goal.drop_pin-requires-clause-live
 drop_pin-requires-clause-live g c =
-    leaves-live c.args.heap.now c.pass.new.heap (passed-leaves c.args.out c.args.device.birth c.args.heap.now c.pass.new.heap c.pass.ensures) c.args.device c.requires.live
+    leaves-live c.args.heap.now c.pass.new.heap (passed-leaves c.args.out c.args.device.birth c.args.heap.now c.pass.new.heap c.pass.ensures) c.args.device
+    c.requires.live
 
 pub drop_pin-requires-clause-pinned : goal.drop_pin-requires-clause-pinned
 drop_pin-requires-clause-pinned g c =
     let same : pins_of c.pass.new.heap c.args.device.birth ≡ pins_of c.args.heap.now c.args.device.birth =
-    acts-pins_of c.args.heap.now c.pass.new.heap (passed-leaves c.args.out c.args.device.birth c.args.heap.now c.pass.new.heap c.pass.ensures).acts c.args.device.birth in
+    acts-pins_of c.args.heap.now c.pass.new.heap (passed-leaves c.args.out c.args.device.birth c.args.heap.now c.pass.new.heap c.pass.ensures).acts
+    c.args.device.birth in
     omega (arith, same, c.requires.pinned)
 
 pub returns-clause-shown : goal.returns-clause-shown

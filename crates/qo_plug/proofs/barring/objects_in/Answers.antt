@@ -4,7 +4,7 @@ use Rattle.std.proofs.lemmas.List.{take_all}
 use Rattle.qo_model.specs.Plug.{further_in}
 use Rattle.qo_model.specs.Types.{slots_of}
 use Rattle.qo_model.specs.declared.properties.Property.{Property}
-use Rattle.qo_properties.proofs.FreshLemmas.{few-slots, past, row-at}
+use Rattle.qo_properties.proofs.NewSlotLemmas.{few-slots, past, row-at}
 use Rattle.qo_plug.proofs.BarLemmas.{further-no, further-yes, passing-few}
 use Rattle.qo_plug.proofs.barring.objects_in.Goals.{then-is_further, else-is_further}
 use Rattle.qo_plug.proofs.barring.objects_in.Goals as goal
@@ -36,10 +36,12 @@ loop-row-preserved c =
     counted = elim c.if-is_further.branch [
       | then-is_further w ↦
           w.count-is
-          ∙ further-yes c.args.kind c.loop-row.place c.loop-row.count c.in-Some.row c.in-Some.ensures c.loop-row.invariant.0 (sym c.is_further.ensures ∙ w.if-is_further.true)
+          ∙ further-yes c.args.kind c.loop-row.place c.loop-row.count c.in-Some.row c.in-Some.ensures c.loop-row.invariant.0
+          (sym c.is_further.ensures ∙ w.if-is_further.true)
       | else-is_further w ↦
           w.count-is
-          ∙ further-no c.args.kind c.loop-row.place c.loop-row.count c.in-Some.row c.in-Some.ensures c.loop-row.invariant.0 (sym c.is_further.ensures ∙ w.if-is_further.false)
+          ∙ further-no c.args.kind c.loop-row.place c.loop-row.count c.in-Some.row c.in-Some.ensures c.loop-row.invariant.0
+          (sym c.is_further.ensures ∙ w.if-is_further.false)
     ]
 
 pub returns-clause-count : goal.returns-clause-count

@@ -4,7 +4,8 @@ use Rattle.qo_plug.proofs.BarLemmas.{at-container-free, at-container-none, at-co
 use Rattle.qo_plug.proofs.barring.vacant.Goals as goal
 
 pub returns-in_default-clause-refused : goal.returns-in_default-clause-refused
-returns-in_default-clause-refused g c = λ b s. container-none b c.args.birth c.args.name.now (of-gone b c.args.heap.now s c.args.birth (codes "container") c.in_default.ensures.none)
+returns-in_default-clause-refused g c =
+    λ b s. container-none b c.args.birth c.args.name.now (of-gone b c.args.heap.now s c.args.birth (codes "container") c.in_default.ensures.none)
 
 pub returns-then-not-is_of-clause-refused : goal.returns-then-not-is_of-clause-refused
 returns-then-not-is_of-clause-refused g c = λ b s.

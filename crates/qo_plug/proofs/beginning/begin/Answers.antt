@@ -2,7 +2,7 @@
 use Rattle.std.proofs.Common.{ap, sym, subst, ◌∙◌, option_map, Err}
 use Rattle.qo_model.specs.Plug.{Wanted}
 use Rattle.qo_heap.specs.Board.{Shows}
-use Rattle.qo_plug.specs.Added.{wanted}
+use Rattle.qo_plug.specs.Admission.{wanted}
 use Rattle.qo_plug.proofs.AddLemmas.{cut-late}
 use Rattle.qo_plug.proofs.beginning.begin.Goals as goal
 

@@ -1,7 +1,7 @@
 -- The device is admitted, and what is given for its properties is planned.
 use Rattle.std.proofs.Common.{refl, sym, ◌∙◌, ℕ, option_map}
 use Rattle.qo_model.specs.Plug.{Wanted}
-use Rattle.qo_plug.specs.Added.{IsAdmitted, wanted}
+use Rattle.qo_plug.specs.Admission.{IsAdmitted, wanted}
 use Rattle.qo_model.specs.Objects.{refusal_of}
 use Rattle.qo_plug.proofs.AddLemmas.{refused-early, turned-cut, turned-refused}
 use Rattle.qo_plug.proofs.PlanLemmas.{plan-refused}

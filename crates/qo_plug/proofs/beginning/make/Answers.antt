@@ -5,8 +5,8 @@ use Rattle.qo_model.specs.Reset.{count}
 use Rattle.qo_object.specs.Slots.{Named}
 use Rattle.qo_properties.specs.Filling.{Fits, IsGiven}
 use Rattle.qo_plug.proofs.AddLemmas.{plan-live}
-use Rattle.qo_plug.proofs.GrowsLemmas.{live-low, unborn-quiet}
-use Rattle.qo_plug.proofs.PassLemmas.{cut-none}
+use Rattle.qo_plug.proofs.GrowthLemmas.{live-low, unborn-quiet}
+use Rattle.qo_plug.proofs.AttemptLemmas.{cut-none}
 use Rattle.qo_plug.proofs.beginning.make.Goals as goal
 
 pub returns-clause-held : goal.returns-clause-held

@@ -1,6 +1,6 @@
 -- The objects were made and ended.
 use Rattle.std.proofs.Common.{refl}
-use Rattle.qo_plug.proofs.TurnLemmas.{cut-book, tried-cut, tried-shown, whole-book}
+use Rattle.qo_plug.proofs.RefusalLemmas.{cut-book, tried-cut, tried-shown, whole-book}
 use Rattle.qo_plug.proofs.beginning.turn_down.Goals as goal
 
 pub returns-in-Ok-clause-down : goal.returns-in-Ok-clause-down

@@ -3,7 +3,7 @@ use Rattle.std.proofs.Common.{◌≡◌, ap, sym, subst, ◌∙◌, List, ℕ, S
 use Rattle.std.specs.Option.{option_and_then}
 use Rattle.qo_model.specs.Board as board
 use Rattle.qo_model.specs.Devices.{child_named}
-use Rattle.qo_object.specs.Shown.{shown_slot}
+use Rattle.qo_object.specs.BoardObject.{shown_slot}
 use Rattle.qo_object.specs.declared.slots.Slot.{Slot}
 use Rattle.qo_properties.proofs.ReadLemmas.{named-is}
 use Rattle.qo_plug.proofs.DraftLemmas.{no-child}
@@ -18,11 +18,13 @@ returns-in_err-slot g c = λ b s.
 pub returns-in-Child : goal.returns-in-Child
 returns-in-Child g c = λ b s.
     subst (λ (name : List ℕ). Some c.in-Child.child.birth ≡ option_and_then child_named (board.slot_named b c.args.o.birth name)) c.as_str.ensures
-    (sym (ap (option_and_then child_named) (named-is b c.args.heap.now s c.args.o.birth c.as_str.result.now (Some (c.in_ok-slot.slot.name.now, c.in_ok-slot.slot.what.now)) c.in_ok-slot.ensures.slot)
+    (sym (ap (option_and_then child_named) (named-is b c.args.heap.now s c.args.o.birth c.as_str.result.now
+    (Some (c.in_ok-slot.slot.name.now, c.in_ok-slot.slot.what.now)) c.in_ok-slot.ensures.slot)
     ∙ ap (λ (x : Slot). child_named (shown_slot x)) c.in-Child.is))
 
 pub returns-in_default : goal.returns-in_default
 returns-in_default g c = λ b s.
     subst (λ (name : List ℕ). None ≡ option_and_then child_named (board.slot_named b c.args.o.birth name)) c.as_str.ensures
-    (sym (ap (option_and_then child_named) (named-is b c.args.heap.now s c.args.o.birth c.as_str.result.now (Some (c.in_ok-slot.slot.name.now, c.in_ok-slot.slot.what.now)) c.in_ok-slot.ensures.slot)
+    (sym (ap (option_and_then child_named) (named-is b c.args.heap.now s c.args.o.birth c.as_str.result.now
+    (Some (c.in_ok-slot.slot.name.now, c.in_ok-slot.slot.what.now)) c.in_ok-slot.ensures.slot)
     ∙ no-child c.in_ok-slot.slot.what.now c.in_default.not-Child))

@@ -1,11 +1,11 @@
--- The alias stands behind the other slots, where the child is there.
+-- The alias stands after the other slots, where the child is there.
 use Rattle.std.proofs.Common.{refl}
 use Rattle.qo_model.specs.Plug.{owned}
 use Rattle.qo_model.specs.RowNames.{property_name}
 use Rattle.qo_object.specs.Content.{with_slot}
 use Rattle.qo_object.specs.declared.slots.Slot.TheVariants.{Alias}
 use Rattle.qo_plug.proofs.DraftLemmas.{alias-shown, own-aliased}
-use Rattle.qo_plug.proofs.GrowsLemmas.{grows-edit}
+use Rattle.qo_plug.proofs.GrowthLemmas.{grows-edit}
 use Rattle.qo_plug.proofs.drafting.make_alias.Goals as goal
 
 pub returns-clause-ok : goal.returns-clause-ok

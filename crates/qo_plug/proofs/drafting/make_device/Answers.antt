@@ -12,18 +12,23 @@ use Rattle.qo_plug.proofs.drafting.make_device.Goals as goal
 
 pub make_properties-requires : goal.make_properties-requires
 make_properties-requires g c =
-    record { live = newest-live c.args.heap.now c.create.new.heap c.in_ok-device.device (fresh c.args.kind) c.facts.ensures c.in_ok-device.ensures.made.0 c.in_ok-device.ensures.made.1 }
+    record {
+      live = newest-live c.args.heap.now c.create.new.heap c.in_ok-device.device (fresh c.args.kind) c.facts.ensures c.in_ok-device.ensures.made.0
+          c.in_ok-device.ensures.made.1;
+    }
 
 pub drop_pin-requires-clause-live : goal.drop_pin-requires-clause-live
 drop_pin-requires-clause-live g c =
-    draft-live c.args.heap.now c.create.new.heap c.make_properties.new.heap c.in_ok-device.device c.args.kind c.facts.ensures c.in_ok-device.ensures.made.0 c.in_ok-device.ensures.made.1
+    draft-live c.args.heap.now c.create.new.heap c.make_properties.new.heap c.in_ok-device.device c.args.kind c.facts.ensures c.in_ok-device.ensures.made.0
+    c.in_ok-device.ensures.made.1
     c.make_properties.ensures.grows
 
 pub drop_pin-requires-clause-pinned : goal.drop_pin-requires-clause-pinned
 drop_pin-requires-clause-pinned g c =
     let one : pins_of c.make_properties.new.heap c.in_ok-device.device.birth ≡ 1 =
     draft-pinned c.make_properties.new.heap c.in_ok-device.device.birth c.args.kind
-    (draft-rest c.args.heap.now c.create.new.heap c.make_properties.new.heap c.in_ok-device.device c.args.kind c.facts.ensures c.in_ok-device.ensures.made.0 c.in_ok-device.ensures.made.1
+    (draft-rest c.args.heap.now c.create.new.heap c.make_properties.new.heap c.in_ok-device.device c.args.kind c.facts.ensures c.in_ok-device.ensures.made.0
+    c.in_ok-device.ensures.made.1
     c.make_properties.ensures.grows) in
     omega (arith, one)
 
@@ -31,43 +36,51 @@ pub returns-in-Ok-clause-pinned : goal.returns-in-Ok-clause-pinned
 returns-in-Ok-clause-pinned g c =
     let one : pins_of c.make_properties.new.heap c.in_ok-device.device.birth ≡ 1 =
     draft-pinned c.make_properties.new.heap c.in_ok-device.device.birth c.args.kind
-    (draft-rest c.args.heap.now c.create.new.heap c.make_properties.new.heap c.in_ok-device.device c.args.kind c.facts.ensures c.in_ok-device.ensures.made.0 c.in_ok-device.ensures.made.1
+    (draft-rest c.args.heap.now c.create.new.heap c.make_properties.new.heap c.in_ok-device.device c.args.kind c.facts.ensures c.in_ok-device.ensures.made.0
+    c.in_ok-device.ensures.made.1
     c.in-Ok.ensures.grows) in
     omega (arith, one)
 
 pub returns-in-Ok-clause-made : goal.returns-in-Ok-clause-made
 returns-in-Ok-clause-made g c =
-    drafted-is c.args.heap.now c.create.new.heap c.make_properties.new.heap c.in_ok-device.device c.args.kind c.facts.ensures c.in_ok-device.ensures.made.0 c.in_ok-device.ensures.made.1
+    drafted-is c.args.heap.now c.create.new.heap c.make_properties.new.heap c.in_ok-device.device c.args.kind c.facts.ensures c.in_ok-device.ensures.made.0
+    c.in_ok-device.ensures.made.1
     c.in-Ok.ensures.grows c.in-Ok.ensures.own
 
 pub returns-in-Ok-clause-shown : goal.returns-in-Ok-clause-shown
 returns-in-Ok-clause-shown g c =
-    drafted-shown c.args.heap.now c.create.new.heap c.make_properties.new.heap c.in_ok-device.device c.args.kind c.facts.ensures c.in_ok-device.ensures.made.0 c.in_ok-device.ensures.made.1
+    drafted-shown c.args.heap.now c.create.new.heap c.make_properties.new.heap c.in_ok-device.device c.args.kind c.facts.ensures c.in_ok-device.ensures.made.0
+    c.in_ok-device.ensures.made.1
     c.in-Ok.ensures.grows c.in-Ok.ensures.ok
 
 pub returns-in-Ok-clause-grows : goal.returns-in-Ok-clause-grows
 returns-in-Ok-clause-grows g c =
-    drafting-grows c.args.heap.now c.create.new.heap c.make_properties.new.heap c.in_ok-device.device c.args.kind c.facts.ensures c.in_ok-device.ensures.made.0 c.in_ok-device.ensures.made.1
+    drafting-grows c.args.heap.now c.create.new.heap c.make_properties.new.heap c.in_ok-device.device c.args.kind c.facts.ensures c.in_ok-device.ensures.made.0
+    c.in_ok-device.ensures.made.1
     c.in-Ok.ensures.grows
 
 pub returns-in-Ok-clause-book : goal.returns-in-Ok-clause-book
 returns-in-Ok-clause-book g c =
-    (drafting-grows c.args.heap.now c.create.new.heap c.make_properties.new.heap c.in_ok-device.device c.args.kind c.facts.ensures c.in_ok-device.ensures.made.0 c.in_ok-device.ensures.made.1
+    (drafting-grows c.args.heap.now c.create.new.heap c.make_properties.new.heap c.in_ok-device.device c.args.kind c.facts.ensures c.in_ok-device.ensures.made.0
+    c.in_ok-device.ensures.made.1
     c.in-Ok.ensures.grows).book
 
 pub returns-in-Err-clause-err : goal.returns-in-Err-clause-err
 returns-in-Err-clause-err g c = λ b s sound.
     let place : c.in_ok-device.device.birth ≡ b.born + 1 =
-    at-birth c.args.heap.now c.create.new.heap c.make_properties.new.heap c.in_ok-device.device c.args.kind c.facts.ensures c.in_ok-device.ensures.made.0 c.in_ok-device.ensures.made.1
+    at-birth c.args.heap.now c.create.new.heap c.make_properties.new.heap c.in_ok-device.device c.args.kind c.facts.ensures c.in_ok-device.ensures.made.0
+    c.in_ok-device.ensures.made.1
     c.in-Err.ensures.grows b s in
     fell-short b c.args.kind sound c.create.new.heap c.make_properties.new.heap c.drop_pin.new.heap
     (subst (λ (n : ℕ). Fell n c.args.kind c.create.new.heap c.make_properties.new.heap) place c.in-Err.ensures.err)
-    (created-shown c.args.heap.now c.create.new.heap c.make_properties.new.heap c.in_ok-device.device c.args.kind c.facts.ensures c.in_ok-device.ensures.made.0 c.in_ok-device.ensures.made.1
+    (created-shown c.args.heap.now c.create.new.heap c.make_properties.new.heap c.in_ok-device.device c.args.kind c.facts.ensures c.in_ok-device.ensures.made.0
+    c.in_ok-device.ensures.made.1
     c.in-Err.ensures.grows b s)
     (λ d shown. subst (λ (n : ℕ). Shows (unpin d n) c.drop_pin.new.heap) place (c.drop_pin.ensures.release d shown))
 
 pub returns-in-Err-clause-book : goal.returns-in-Err-clause-book
 returns-in-Err-clause-book g c = λ out h.
     c.drop_pin.ensures.goes.book out
-    ((drafting-grows c.args.heap.now c.create.new.heap c.make_properties.new.heap c.in_ok-device.device c.args.kind c.facts.ensures c.in_ok-device.ensures.made.0 c.in_ok-device.ensures.made.1
+    ((drafting-grows c.args.heap.now c.create.new.heap c.make_properties.new.heap c.in_ok-device.device c.args.kind c.facts.ensures
+    c.in_ok-device.ensures.made.0 c.in_ok-device.ensures.made.1
     c.in-Err.ensures.grows).book out h)

@@ -2,9 +2,9 @@
 use Rattle.std.proofs.Common.{◌<◌, ◌≤◌, length, arith}
 use Rattle.qo_model.specs.Types.{slots_of}
 use Rattle.qo_heap.proofs.HeapLemmas.{on-err}
-use Rattle.qo_properties.proofs.FreshLemmas.{few-slots, row-at}
+use Rattle.qo_properties.proofs.NewSlotLemmas.{few-slots, row-at}
 use Rattle.qo_plug.proofs.DraftLemmas.{all-own, all-shown, fell-at, reached-all, reached-more, reached-none}
-use Rattle.qo_plug.proofs.GrowsLemmas.{grows-then}
+use Rattle.qo_plug.proofs.GrowthLemmas.{grows-then}
 use Rattle.qo_plug.proofs.drafting.make_properties.Goals as goal
 
 pub loop-row-init : goal.loop-row-init
@@ -26,19 +26,24 @@ loop-row-smaller g c =
 
 pub loop-row-preserved : goal.loop-row-preserved
 loop-row-preserved g c =
-    reached-more c.args.device c.args.kind c.loop-row.place c.in-Some.row c.args.heap.now c.loop-row.heap c.make_property.new.heap c.in-Some.ensures c.loop-row.invariant
+    reached-more c.args.device c.args.kind c.loop-row.place c.in-Some.row c.args.heap.now c.loop-row.heap c.make_property.new.heap c.in-Some.ensures
+    c.loop-row.invariant
     c.in_ok-make_property.ensures.ok c.in_ok-make_property.ensures.own c.in_ok-make_property.ensures.grows
 
 pub returns-in_err-make_property-clause-err : goal.returns-in_err-make_property-clause-err
 returns-in_err-make_property-clause-err g c =
     on-err c.from_residual.result
-    (fell-at c.args.device c.args.kind c.loop-row.place c.in-Some.row c.args.heap.now c.loop-row.heap c.make_property.new.heap c.in-Some.ensures c.loop-row.invariant c.in_err-make_property.ensures.err)
+    (fell-at c.args.device c.args.kind c.loop-row.place c.in-Some.row c.args.heap.now c.loop-row.heap c.make_property.new.heap c.in-Some.ensures
+    c.loop-row.invariant c.in_err-make_property.ensures.err)
 
 pub returns-in_err-make_property-clause-grows : goal.returns-in_err-make_property-clause-grows
-returns-in_err-make_property-clause-grows g c = grows-then c.args.heap.now c.loop-row.heap c.make_property.new.heap c.loop-row.invariant.grows c.in_err-make_property.ensures.grows
+returns-in_err-make_property-clause-grows g c =
+    grows-then c.args.heap.now c.loop-row.heap c.make_property.new.heap c.loop-row.invariant.grows c.in_err-make_property.ensures.grows
 
 pub returns-clause-ok : goal.returns-clause-ok
-returns-clause-ok g c = all-shown c.args.device c.args.kind c.args.heap.now c.loop-row.heap (reached-all c.args.device c.args.kind c.loop-row.place c.args.heap.now c.loop-row.heap c.in_default.ensures c.loop-row.invariant)
+returns-clause-ok g c = all-shown c.args.device c.args.kind c.args.heap.now c.loop-row.heap
+    (reached-all c.args.device c.args.kind c.loop-row.place c.args.heap.now c.loop-row.heap c.in_default.ensures c.loop-row.invariant)
 
 pub returns-clause-own : goal.returns-clause-own
-returns-clause-own g c = all-own c.args.device c.args.kind c.args.heap.now c.loop-row.heap (reached-all c.args.device c.args.kind c.loop-row.place c.args.heap.now c.loop-row.heap c.in_default.ensures c.loop-row.invariant)
+returns-clause-own g c = all-own c.args.device c.args.kind c.args.heap.now c.loop-row.heap
+    (reached-all c.args.device c.args.kind c.loop-row.place c.args.heap.now c.loop-row.heap c.in_default.ensures c.loop-row.invariant)

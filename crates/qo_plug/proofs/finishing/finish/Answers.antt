@@ -1,7 +1,7 @@
--- The device starts and is let go, or is refused behind its acts.
+-- The device starts and is let go, or is refused after its acts.
 use Rattle.std.proofs.Common.{ap₂, sym, ◌∙◌, ℕ}
 use Rattle.qo_plug.proofs.AddLemmas.{is-added, is-refused, kinds-in, open-place, plugged-in}
-use Rattle.qo_standing.proofs.KeptLemmas.{kept-bodies, there-bodies}
+use Rattle.qo_standing.proofs.BodyLemmas.{kept-bodies, there-bodies}
 use Rattle.qo_plug.proofs.finishing.finish.Goals as goal
 
 pub returns-in-Stands-clause-ok : goal.returns-in-Stands-clause-ok

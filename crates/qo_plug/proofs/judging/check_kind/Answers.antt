@@ -3,8 +3,8 @@ use Rattle.std.proofs.Common.{◌≡◌, ℕ, ap, sym, subst, ◌∙◌, Some, N
 use Rattle.qo_values.specs.declared.kinds.TypeId.{TypeId}
 use Rattle.qo_values.specs.declared.kinds.TypeId.TheVariants.{MemDimm}
 use Rattle.qo_model.specs.Plug.{kind_barred}
-use Rattle.qo_plug.specs.Added.{IfRefused}
-use Rattle.qo_plug.proofs.JudgeLemmas.{refused-map}
+use Rattle.qo_plug.specs.Admission.{IfRefused}
+use Rattle.qo_plug.proofs.JudgementLemmas.{refused-map}
 use Rattle.qo_plug.proofs.judging.check_kind.Goals as goal
 
 pub returns-in-Ok-clause-open : goal.returns-in-Ok-clause-open

@@ -4,7 +4,7 @@ use Rattle.std.specs.List.{list_any}
 use Rattle.qo_model.specs.Board.{Ring}
 use Rattle.qo_model.specs.Plug.{claims_ring}
 use Rattle.qo_rings.specs.Rings.{is_ring}
-use Rattle.qo_plug.proofs.JudgeLemmas.{ring-named, ring_as}
+use Rattle.qo_plug.proofs.JudgementLemmas.{ring-named, ring_as}
 use Rattle.qo_plug.proofs.judging.free_ring.Goals as goal
 
 pub returns-then-not-has-clause-refused : goal.returns-then-not-has-clause-refused

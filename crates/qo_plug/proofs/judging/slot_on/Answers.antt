@@ -1,5 +1,5 @@
 -- The least free slot is free.
-use Rattle.qo_plug.proofs.JudgeLemmas.{least-free}
+use Rattle.qo_plug.proofs.JudgementLemmas.{least-free}
 use Rattle.qo_plug.proofs.judging.slot_on.Goals as goal
 
 pub returns-in-Some-least_free-clause-free : goal.returns-in-Some-least_free-clause-free

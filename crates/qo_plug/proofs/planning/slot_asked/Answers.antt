@@ -1,7 +1,7 @@
 -- Each device has a slot for it.
 use Rattle.std.proofs.Common.{sym, subst, ◌∙◌, List, option_map}
 use Rattle.qo_properties.specs.declared.adding.filling.Fill.{Fill}
-use Rattle.qo_properties.specs.Planned.{IsPlan}
+use Rattle.qo_properties.specs.Plans.{IsPlan}
 use Rattle.qo_plug.proofs.PlanLemmas.{slot-told}
 use Rattle.qo_plug.proofs.planning.slot_asked.Goals as goal
 

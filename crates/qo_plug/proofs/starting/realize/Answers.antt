@@ -16,4 +16,5 @@ returns-clause-shown g c = λ b s.
 
 pub returns-clause-acts : goal.returns-clause-acts
 returns-clause-acts g c =
-    acts-then c.args.heap.now c.act.new.self c.realize_buses.new.heap (act-acts c.args.heap.now c.act.new.self c.args.device c.act.ensures) c.realize_buses.ensures.acts
+    acts-then c.args.heap.now c.act.new.self c.realize_buses.new.heap (act-acts c.args.heap.now c.act.new.self c.args.device c.act.ensures)
+    c.realize_buses.ensures.acts

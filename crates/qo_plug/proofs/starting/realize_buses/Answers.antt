@@ -25,7 +25,8 @@ loop-device-smaller g c =
 
 pub loop-device-preserved : goal.loop-device-preserved
 loop-device-preserved g c =
-    realized-more c.args.device.birth c.loop-device.at c.args.heap.now c.loop-device.heap c.realize_at.new.heap c.loop-device.invariant c.realize_at.ensures.shown c.realize_at.ensures.acts
+    realized-more c.args.device.birth c.loop-device.at c.args.heap.now c.loop-device.heap c.realize_at.new.heap c.loop-device.invariant
+    c.realize_at.ensures.shown c.realize_at.ensures.acts
 
 pub returns-clause-shown : goal.returns-clause-shown
 returns-clause-shown g c = λ b s.
@@ -33,6 +34,7 @@ returns-clause-shown g c = λ b s.
     none-at (λ (v : SlotView). (v.name.now, v.what.now)) c.slot_at.result (slots_of c.loop-device.heap c.args.device.birth) c.loop-device.at
     c.slot_at.ensures.slot (sym c.is_some.ensures ∙ c.loop-device-test.false) in
     let end : slice_get (slots_of c.args.heap.now c.args.device.birth) c.loop-device.at ≡ None =
-    ap (λ (l : List Named). slice_get l c.loop-device.at) (sym (acts-slots c.args.heap.now c.loop-device.heap c.loop-device.invariant.acts c.args.device.birth)) ∙ none in
+    ap (λ (l : List Named). slice_get l c.loop-device.at)
+    (sym (acts-slots c.args.heap.now c.loop-device.heap c.loop-device.invariant.acts c.args.device.birth)) ∙ none in
     realized-all c.args.device.birth c.loop-device.at c.args.heap.now c.loop-device.heap c.loop-device.invariant b s
     (shows-place_at b c.args.heap.now s c.args.device.birth c.loop-device.at None (sym end))

@@ -7,7 +7,8 @@ use Rattle.qo_realize.proofs.guests.slot_in.Goals as goal
 pub returns-then-is_in_slot : goal.returns-then-is_in_slot
 returns-then-is_in_slot g c = λ b s.
     let here : is_in_slot b c.args.bus.birth c.args.dev.birth c.loop-slot.slot ≡ true = sym (c.is_in_slot.ensures b s) ∙ c.if-is_in_slot.true in
-    ap (λ (o : Option ℕ). unwrap_or o 0) (sym (least-here (is_in_slot b c.args.bus.birth c.args.dev.birth) c.loop-slot.slot 8 (omega arith) here) ∙ c.loop-slot.invariant b s)
+    ap (λ (o : Option ℕ). unwrap_or o 0)
+    (sym (least-here (is_in_slot b c.args.bus.birth c.args.dev.birth) c.loop-slot.slot 8 (omega arith) here) ∙ c.loop-slot.invariant b s)
 
 pub loop-slot-preserved : goal.loop-slot-preserved
 loop-slot-preserved g c = λ b s.
@@ -16,4 +17,5 @@ loop-slot-preserved g c = λ b s.
 
 pub returns : goal.returns
 returns g c = λ b s.
-    ap (λ (o : Option ℕ). unwrap_or o 0) (sym (least-past (is_in_slot b c.args.bus.birth c.args.dev.birth) c.loop-slot.slot 8 (omega arith)) ∙ c.loop-slot.invariant b s)
+    ap (λ (o : Option ℕ). unwrap_or o 0)
+    (sym (least-past (is_in_slot b c.args.bus.birth c.args.dev.birth) c.loop-slot.slot 8 (omega arith)) ∙ c.loop-slot.invariant b s)

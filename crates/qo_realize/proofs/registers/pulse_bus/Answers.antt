@@ -1,6 +1,6 @@
 -- The bus goes through a pulse.
 use Rattle.std.proofs.Common.{ap, sym, ◌∙◌}
-use Rattle.qo_object.specs.Shown.{birth_of}
+use Rattle.qo_object.specs.BoardObject.{birth_of}
 use Rattle.qo_realize.proofs.HoldLemmas.{acts-keep}
 use Rattle.qo_realize.proofs.RegisterLemmas.{pulse-held}
 use Rattle.qo_realize.proofs.registers.pulse_bus.Goals as goal

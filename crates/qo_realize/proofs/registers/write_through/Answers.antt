@@ -1,4 +1,4 @@
--- The board behind the write, and behind what it does beside.
+-- The board after the write, and after what it does beside.
 use Rattle.qo_realize.proofs.RegisterLemmas.{was-written}
 use Rattle.qo_realize.proofs.registers.write_through.Goals as goal
 

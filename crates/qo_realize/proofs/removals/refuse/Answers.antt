@@ -1,9 +1,9 @@
 -- The event waits, and the removal is asked for no more.
 use Rattle.std.proofs.Common.{sym, subst}
-use Rattle.qo_hotplug.specs.Asked.{Asked}
+use Rattle.qo_hotplug.specs.Hotplug.{Asked}
 use Rattle.qo_realize.specs.Removals.{IsAsked}
 use Rattle.qo_model.specs.Hotplug.{refused}
-use Rattle.qo_realize.proofs.RefuseLemmas.{refused-asked, refused-shows}
+use Rattle.qo_realize.proofs.RefusalLemmas.{refused-asked, refused-shows}
 use Rattle.qo_realize.proofs.removals.refuse.Goals as goal
 
 pub returns-in-Ok-clause-refused : goal.returns-in-Ok-clause-refused

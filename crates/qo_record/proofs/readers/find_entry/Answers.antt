@@ -1,8 +1,8 @@
 -- Where no more is taken for an entry, none is found.
 use Rattle.std.proofs.Common.{◌≡◌, true, ◌∙◌, ap, sym, None}
 use Rattle.qo_record.proofs.ReplayLemmas.{none_found}
-use Rattle.qo_record.proofs.WaitingLemmas.{wrong_found}
-use Rattle.qo_record.specs.Waiting.{is_wrong}
+use Rattle.qo_record.proofs.PartialEntryLemmas.{wrong_found}
+use Rattle.qo_record.specs.PartialEntries.{is_wrong}
 use Rattle.qo_record.specs.Record.{entry_at}
 use Rattle.qo_record.proofs.readers.find_entry.Goals as goal
 

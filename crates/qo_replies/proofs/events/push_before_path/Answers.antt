@@ -3,7 +3,7 @@ use Rattle.std.specs.Prelude.{string_bytes}
 use Rattle.json.specs.Print.{quoted}
 use Rattle.qo_replies.specs.Json.{ascii}
 use Rattle.qo_replies.proofs.EventLemmas.{before_path-none, before_path-some, none-spelled, some-spelled}
-use Rattle.qo_replies.proofs.QuotedLemmas.{three_more}
+use Rattle.qo_replies.proofs.QuoteLemmas.{three_more}
 use Rattle.qo_replies.proofs.events.push_before_path.Goals as goal
 
 pub returns-in_ok-push_str-in-Some-2-clause-bytes : goal.returns-in_ok-push_str-in-Some-2-clause-bytes

@@ -1,6 +1,6 @@
 use Rattle.std.proofs.Common.{decimal}
 use Rattle.std.specs.Prelude.{string_bytes}
-use Rattle.qo_replies.proofs.EventLemmas.{before_event, before_micros, before_seconds, behind_seconds, ending-ascii, ending-pieces, pieces-more}
+use Rattle.qo_replies.proofs.EventLemmas.{before_event, before_micros, before_seconds, after_seconds, ending-ascii, ending-pieces, pieces-more}
 use Rattle.qo_replies.proofs.events.push_ending.Goals as goal
 
 pub returns-clause-bytes : goal.returns-clause-bytes
@@ -16,7 +16,9 @@ returns-clause-bytes c =
       c.in_ok-push_str.ensures.bytes,
       c.from.ensures,
     )
-    (pieces-more (string_bytes c.args.text.now) before_event c.args.name.now before_micros (decimal c.args.at.micros) before_seconds (decimal c.args.at.seconds) behind_seconds)
+    (pieces-more (string_bytes c.args.text.now) before_event c.args.name.now before_micros (decimal c.args.at.micros) before_seconds (decimal c.args.at.seconds)
+    after_seconds)
 
 pub returns-clause-spelled : goal.returns-clause-spelled
-returns-clause-spelled c = ending-ascii c.args.name.now c.args.at c.requires (rw c.from.ensures at c.in_ok-push_number.ensures.spelled) c.in_ok-push_number-2.ensures.spelled
+returns-clause-spelled c =
+    ending-ascii c.args.name.now c.args.at c.requires (rw c.from.ensures at c.in_ok-push_number.ensures.spelled) c.in_ok-push_number-2.ensures.spelled

@@ -2,7 +2,7 @@ use Rattle.std.proofs.Common.{[], ◌∷◌, decimal}
 use Rattle.json.specs.Print.{quoted}
 use Rattle.qo_replies.specs.Json.{ascii}
 use Rattle.qo_replies.proofs.MemberLemmas.{number-member}
-use Rattle.qo_replies.proofs.QuotedLemmas.{five_more}
+use Rattle.qo_replies.proofs.QuoteLemmas.{five_more}
 use Rattle.qo_replies.proofs.members.number_member.Goals as goal
 
 pub returns : goal.returns

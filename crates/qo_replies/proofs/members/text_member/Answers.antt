@@ -2,7 +2,7 @@ use Rattle.std.proofs.Common.{[], ◌∷◌}
 use Rattle.json.specs.Print.{quoted}
 use Rattle.qo_replies.specs.Json.{ascii}
 use Rattle.qo_replies.proofs.MemberLemmas.{text-member}
-use Rattle.qo_replies.proofs.QuotedLemmas.{five_more}
+use Rattle.qo_replies.proofs.QuoteLemmas.{five_more}
 use Rattle.qo_replies.proofs.members.text_member.Goals as goal
 
 pub returns : goal.returns

@@ -2,7 +2,7 @@ use Rattle.std.specs.Prelude.{string_bytes}
 use Rattle.qo_values.specs.Kinds.{type_name}
 use Rattle.qo_values.specs.TypeTexts.{around}
 use Rattle.qo_replies.proofs.PropertyLemmas.{around-pieces, plain-around}
-use Rattle.qo_replies.proofs.QuotedLemmas.{quoted-plain}
+use Rattle.qo_replies.proofs.QuoteLemmas.{quoted-plain}
 use Rattle.qo_replies.proofs.properties.push_around.Goals as goal
 
 pub returns : goal.returns

@@ -1,6 +1,6 @@
 use Rattle.std.proofs.Common.{◌≡◌, true, take}
 use Rattle.std.specs.List.{list_all}
-use Rattle.qo_replies.specs.Plain.{is_plain_byte}
+use Rattle.qo_replies.specs.PlainBytes.{is_plain_byte}
 use Rattle.qo_replies.proofs.quoted.is_plain.Given as goal
 
 abbrev pub invariant-loop-byte : goal.invariant-loop-byte

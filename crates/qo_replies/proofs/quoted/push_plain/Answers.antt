@@ -1,6 +1,6 @@
 use Rattle.std.proofs.Common.{[], ◌∷◌}
 use Rattle.std.specs.Prelude.{string_bytes}
-use Rattle.qo_replies.proofs.QuotedLemmas.{quoted-plain, three_more}
+use Rattle.qo_replies.proofs.QuoteLemmas.{quoted-plain, three_more}
 use Rattle.qo_replies.proofs.quoted.push_plain.Goals as goal
 
 pub returns : goal.returns

@@ -1,5 +1,5 @@
 use Rattle.std.proofs.Common.{sym}
-use Rattle.qo_replies.proofs.QuotedLemmas.{quoted-spelled}
+use Rattle.qo_replies.proofs.QuoteLemmas.{quoted-spelled}
 use Rattle.qo_replies.proofs.quoted.push_quoted.Goals as goal
 
 pub returns-in_ok-push_plain-clause-spelled : goal.returns-in_ok-push_plain-clause-spelled

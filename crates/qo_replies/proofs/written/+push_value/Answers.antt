@@ -12,8 +12,8 @@ use Rattle.qo_json.specs.View.{view, items_view, members_view}
 use Rattle.qo_json.specs.declared.values.Json.{Json, Null, the_lemmas}
 use Rattle.qo_json.proofs.MemberLemmas.{Member}
 use Rattle.qo_replies.proofs.AsciiLemmas.{ascii-plain}
-use Rattle.qo_replies.proofs.QuotedLemmas.{small-ascii}
-use Rattle.qo_replies.proofs.WrittenLemmas.{ItemsLeft, items_begin, item_written, items_end, MembersLeft, members_begin, member_written, members_end}
+use Rattle.qo_replies.proofs.QuoteLemmas.{small-ascii}
+use Rattle.qo_replies.proofs.TextLemmas.{ItemsLeft, items_begin, item_written, items_end, MembersLeft, members_begin, member_written, members_end}
 use Rattle.qo_replies.proofs.written.+push_value.Goals as goal
 
 pub push_value-returns-in-Null-clause-spelled : goal.push_value-returns-in-Null-clause-spelled

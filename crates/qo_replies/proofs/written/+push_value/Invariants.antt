@@ -1,6 +1,6 @@
 use Rattle.std.proofs.Common.{drop, string_bytes}
 use Rattle.qo_json.specs.View.{items_view, members_view}
-use Rattle.qo_replies.proofs.WrittenLemmas.{ItemsLeft, MembersLeft}
+use Rattle.qo_replies.proofs.TextLemmas.{ItemsLeft, MembersLeft}
 use Rattle.qo_replies.proofs.written.+push_value.Given as goal
 
 abbrev pub invariant-push_items-loop-item : goal.invariant-push_items-loop-item

@@ -2,12 +2,12 @@ use Rattle.std.proofs.Common.{◌≡◌, refl, ◌∙◌, ap, sym, ◌+◌, ◌�
 use Rattle.std.proofs.lemmas.List.{drop_more}
 use Rattle.qo_json.proofs.MemberLemmas.{Member}
 use Rattle.qo_json.specs.View.{members_view}
-use Rattle.qo_values.proofs.Rising.{above_those_before, rises_without}
-use Rattle.qo_values.specs.PropLists.{names_of, NamesRise}
+use Rattle.qo_values.proofs.NameOrder.{above_those_before, rises_without}
+use Rattle.qo_values.specs.PropertyLists.{names_of, NamesRise}
 use Rattle.qo_requests.specs.Arguments.{is_named}
 use Rattle.qo_requests.specs.Values.{properties_in}
-use Rattle.qo_requests.proofs.Joining.{named_passed}
-use Rattle.qo_requests.proofs.Rising.{names_left, names_rise}
+use Rattle.qo_requests.proofs.MemberSteps.{named_passed}
+use Rattle.qo_requests.proofs.NameOrder.{names_left, names_rise}
 use Rattle.qo_requests.proofs.values.properties_in.Goals as goal
 
 pub loop-member-init : goal.loop-member-init

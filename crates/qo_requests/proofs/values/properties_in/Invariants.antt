@@ -1,8 +1,8 @@
 use Rattle.std.proofs.Common.{drop, ◌≡◌, ◌++◌}
 use Rattle.qo_json.specs.View.{members_view}
-use Rattle.qo_values.specs.PropLists.{names_of, NamesRise}
+use Rattle.qo_values.specs.PropertyLists.{names_of, NamesRise}
 use Rattle.qo_requests.specs.Values.{properties_in}
-use Rattle.qo_requests.proofs.Rising.{names_left}
+use Rattle.qo_requests.proofs.NameOrder.{names_left}
 use Rattle.qo_requests.proofs.values.properties_in.Given as goal
 
 -- all properties are those read so far, and after them what is left; the names of both rise

@@ -2,8 +2,8 @@
 use Rattle.std.proofs.Common.{◌++◌, List, subst}
 use Rattle.qo_claims.specs.declared.claims.Claimed.{Claimed}
 use Rattle.qo_heap.specs.Book.{IsBook}
-use Rattle.qo_standing.specs.Taking.{one_out}
-use Rattle.qo_standing.proofs.TakeLemmas.{out-parts}
+use Rattle.qo_standing.specs.DeviceClaims.{one_out}
+use Rattle.qo_standing.proofs.ClaimLemmas.{out-parts}
 use Rattle.qo_standing.proofs.claiming.free_all.Goals as goal
 
 pub returns-clause-book : goal.returns-clause-book

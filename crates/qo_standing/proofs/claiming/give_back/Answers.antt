@@ -1,7 +1,7 @@
 use Rattle.std.proofs.Common.{◌++◌, List, append_assoc, subst}
 use Rattle.qo_claims.specs.declared.claims.Claimed.{Claimed}
 use Rattle.qo_heap.specs.Book.{IsBook}
-use Rattle.qo_standing.specs.Taking.{kept_out, labels_out}
+use Rattle.qo_standing.specs.DeviceClaims.{kept_out, labels_out}
 use Rattle.qo_standing.proofs.claiming.give_back.Goals as goal
 
 pub returns-clause-book : goal.returns-clause-book

@@ -1,7 +1,7 @@
 use Rattle.std.proofs.Common.{◌++◌, Option, subst}
 use Rattle.qo_heap.specs.Book.{IsBook}
 use Rattle.qo_standing.specs.declared.claiming.Label.{Label}
-use Rattle.qo_standing.specs.Taking.{labels_out}
+use Rattle.qo_standing.specs.DeviceClaims.{labels_out}
 use Rattle.qo_standing.proofs.claiming.give_label.Goals as goal
 
 pub returns-in-Some-clause-book : goal.returns-in-Some-clause-book

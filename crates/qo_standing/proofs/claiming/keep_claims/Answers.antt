@@ -2,7 +2,7 @@
 use Rattle.std.proofs.Common.{◌++◌, sym, subst}
 use Rattle.qo_kinds.specs.declared.kept.KeptSet.{KeptSet}
 use Rattle.qo_heap.specs.Book.{IsBook}
-use Rattle.qo_standing.specs.Taking.{kept_out}
+use Rattle.qo_standing.specs.DeviceClaims.{kept_out}
 use Rattle.qo_standing.proofs.claiming.keep_claims.Goals as goal
 
 pub returns-in-Some-clause-book : goal.returns-in-Some-clause-book

@@ -4,9 +4,9 @@ use Rattle.qo_claims.specs.declared.claims.Claimed.TheVariants as on
 use Rattle.qo_heap.specs.Book.{IsBook}
 use Rattle.qo_heap.specs.Objects.{with_edit}
 use Rattle.qo_standing.specs.declared.claiming.Label.{Label}
-use Rattle.qo_standing.specs.Standing.{named}
-use Rattle.qo_standing.specs.Taking.{labels_out}
-use Rattle.qo_standing.proofs.TakeLemmas.{named-book, named-none}
+use Rattle.qo_standing.specs.Placement.{named}
+use Rattle.qo_standing.specs.DeviceClaims.{labels_out}
+use Rattle.qo_standing.proofs.ClaimLemmas.{named-book, named-none}
 use Rattle.qo_standing.proofs.claiming.keep_label.Goals as goal
 
 pub returns-in-Some-clause-book : goal.returns-in-Some-clause-book
@@ -18,5 +18,6 @@ returns-in-Some-clause-book g c = λ out h.
 
 pub returns-in-None-clause-now : goal.returns-in-None-clause-now
 returns-in-None-clause-now g c =
-    subst (λ (l : Option Label). c.args.heap.now ≡ with_edit c.args.device.birth (named (option_map (λ (x : Label). x.id) l)) c.args.heap.now) (sym c.in-None.is)
+    subst (λ (l : Option Label). c.args.heap.now ≡ with_edit c.args.device.birth (named (option_map (λ (x : Label). x.id) l)) c.args.heap.now)
+    (sym c.in-None.is)
     (named-none c.args.heap.now c.facts.ensures c.args.device c.requires.live c.requires.unnamed)

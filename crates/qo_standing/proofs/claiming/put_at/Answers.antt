@@ -1,6 +1,6 @@
 -- The body that was written has the claims, or has no room for them.
 use Rattle.qo_kinds.specs.Bodies.{with_kept}
-use Rattle.qo_standing.proofs.TakeLemmas.{body-put, put-back, put-kept}
+use Rattle.qo_standing.proofs.ClaimLemmas.{body-put, put-back, put-kept}
 use Rattle.qo_standing.proofs.claiming.put_at.Goals as goal
 
 pub returns-clause-now : goal.returns-clause-now

@@ -2,7 +2,7 @@
 use Rattle.std.proofs.Common.{◌++◌, List, append_assoc, sym, subst}
 use Rattle.qo_claims.specs.declared.claims.Claimed.{Claimed}
 use Rattle.qo_heap.specs.Book.{IsBook}
-use Rattle.qo_standing.specs.Taking.{kept_out, labels_out}
+use Rattle.qo_standing.specs.DeviceClaims.{kept_out, labels_out}
 use Rattle.qo_standing.proofs.claiming.take_claims.Goals as goal
 
 pub returns-in-Ok-clause-book : goal.returns-in-Ok-clause-book

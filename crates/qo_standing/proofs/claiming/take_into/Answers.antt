@@ -2,8 +2,8 @@
 use Rattle.std.proofs.Common.{◌++◌, ◌∷◌, Some, None, sym, subst}
 use Rattle.qo_heap.specs.Book.{IsBook}
 use Rattle.qo_heap.specs.Objects.{Objects}
-use Rattle.qo_standing.specs.Taking.{one_out}
-use Rattle.qo_standing.proofs.TakeLemmas.{parts-book}
+use Rattle.qo_standing.specs.DeviceClaims.{one_out}
+use Rattle.qo_standing.proofs.ClaimLemmas.{parts-book}
 use Rattle.qo_standing.proofs.claiming.take_into.Goals as goal
 
 pub returns-in_err-ring-clause-book : goal.returns-in_err-ring-clause-book

@@ -4,7 +4,7 @@ use Rattle.qo_object.specs.declared.slots.Slot.TheVariants.{Child}
 use Rattle.qo_object.specs.Content.{dropped_at, with_slot}
 use Rattle.qo_heap.specs.Objects.{Objects, with_edit}
 use Rattle.qo_table.specs.Rows.{IsLive}
-use Rattle.qo_standing.proofs.StandLemmas.{child-undone, edited-live}
+use Rattle.qo_standing.proofs.PlacementLemmas.{child-undone, edited-live}
 use Rattle.qo_standing.proofs.standing.join.Goals as goal
 
 pub join_to-requires-clause-live : goal.join_to-requires-clause-live

@@ -1,11 +1,11 @@
 -- The body is written first, and then the id.
 use Rattle.std.proofs.Common.{◌++◌, option_map}
 use Rattle.qo_standing.specs.declared.claiming.Label.{Label}
-use Rattle.qo_standing.specs.Standing.{range_in}
-use Rattle.qo_standing.specs.Taking.{labels_out}
+use Rattle.qo_standing.specs.Placement.{range_in}
+use Rattle.qo_standing.specs.DeviceClaims.{labels_out}
 use Rattle.qo_standing.proofs.RangeLemmas.{body-kept, body-shown, ranged-alike, ranged-book, ranged-unnamed}
-use Rattle.qo_standing.proofs.StandSteps.{alike-then}
-use Rattle.qo_standing.proofs.StandLemmas.{named-alike}
+use Rattle.qo_standing.proofs.PlacementSteps.{alike-then}
+use Rattle.qo_standing.proofs.PlacementLemmas.{named-alike}
 use Rattle.qo_standing.proofs.standing.put_body.Goals as goal
 
 pub keep_label-requires-clause-live : goal.keep_label-requires-clause-live

@@ -1,5 +1,5 @@
 use Rattle.std.proofs.Common.{codes}
-use Rattle.qo_standing.proofs.StandSteps.{stays-linked}
+use Rattle.qo_standing.proofs.PlacementSteps.{stays-linked}
 use Rattle.qo_standing.proofs.standing.put_bus.Goals as goal
 
 pub returns-clause-stays : goal.returns-clause-stays

@@ -1,4 +1,4 @@
-use Rattle.qo_standing.proofs.StandSteps.{stays-set}
+use Rattle.qo_standing.proofs.PlacementSteps.{stays-set}
 use Rattle.qo_standing.proofs.standing.put_value.Goals as goal
 
 pub returns-clause-stays : goal.returns-clause-stays

@@ -6,21 +6,24 @@ use Rattle.qo_model.specs.Plug.{addressed_at, link_named, with_given}
 use Rattle.qo_model.specs.Release.{edit}
 use Rattle.qo_model.specs.Unplug.{set_named}
 use Rattle.qo_heap.specs.Board.{Shows}
-use Rattle.qo_standing.specs.Standing.{range_in}
-use Rattle.qo_standing.proofs.StandSteps.{shows-given, stays-own, stays-then}
+use Rattle.qo_standing.specs.Placement.{range_in}
+use Rattle.qo_standing.proofs.PlacementSteps.{shows-given, stays-own, stays-then}
 use Rattle.qo_standing.proofs.standing.put_values.Goals as goal
 
 pub put_value-requires : goal.put_value-requires
-put_value-requires g c = (stays-own c.args.heap.now c.settle_own.new.heap c.args.device.birth c.args.plan.items c.settle_own.ensures).alike.names c.args.device c.requires.live
+put_value-requires g c =
+    (stays-own c.args.heap.now c.settle_own.new.heap c.args.device.birth c.args.plan.items c.settle_own.ensures).alike.names c.args.device c.requires.live
 
 pub put_bus-requires-clause-live : goal.put_bus-requires-clause-live
 put_bus-requires-clause-live g c =
-    (stays-then c.args.heap.now c.settle_own.new.heap c.put_value.new.heap (stays-own c.args.heap.now c.settle_own.new.heap c.args.device.birth c.args.plan.items c.settle_own.ensures) c.put_value.ensures.stays).alike.names
+    (stays-then c.args.heap.now c.settle_own.new.heap c.put_value.new.heap
+    (stays-own c.args.heap.now c.settle_own.new.heap c.args.device.birth c.args.plan.items c.settle_own.ensures) c.put_value.ensures.stays).alike.names
     c.args.device c.requires.live
 
 pub put_bus-requires-clause-bus : goal.put_bus-requires-clause-bus
 put_bus-requires-clause-bus g c =
-    (stays-then c.args.heap.now c.settle_own.new.heap c.put_value.new.heap (stays-own c.args.heap.now c.settle_own.new.heap c.args.device.birth c.args.plan.items c.settle_own.ensures) c.put_value.ensures.stays).alike.names
+    (stays-then c.args.heap.now c.settle_own.new.heap c.put_value.new.heap
+    (stays-own c.args.heap.now c.settle_own.new.heap c.args.device.birth c.args.plan.items c.settle_own.ensures) c.put_value.ensures.stays).alike.names
     c.args.bus c.requires.bus
 
 pub put_value-requires-2 : goal.put_value-requires-2
@@ -40,7 +43,8 @@ put_address-requires g c =
 
 pub returns-clause-shown : goal.returns-clause-shown
 returns-clause-shown g c = λ b d props s told.
-    let given = shows-given b d c.args.heap.now c.settle_own.new.heap c.args.device props c.args.plan.items s c.facts.ensures c.requires.live told c.settle_own.ensures in
+    let given = shows-given b d c.args.heap.now c.settle_own.new.heap c.args.device props c.args.plan.items s c.facts.ensures c.requires.live told
+    c.settle_own.ensures in
     let linked : Board = link_named c.args.device.birth (codes "parent_bus") c.args.bus.birth (set_named c.args.device.birth (codes "slot")
     (val.Uint c.from.result) (edit c.args.device.birth (with_given b props) d)) in
     subst (λ (k : ℕ). Shows (addressed_at c.args.device.birth (range_in c.args.memory) (set_named c.args.device.birth (codes "realized")

@@ -2,8 +2,8 @@
 use Rattle.qo_kinds.specs.Bodies.{registers_of, with_registers}
 use Rattle.qo_kinds.specs.declared.bodies.Body.{Body}
 use Rattle.qo_model.specs.Plug.{registers_on}
-use Rattle.qo_standing.specs.Standing.{range_in}
-use Rattle.qo_standing.proofs.TakeLemmas.{body-put}
+use Rattle.qo_standing.specs.Placement.{range_in}
+use Rattle.qo_standing.proofs.ClaimLemmas.{body-put}
 use Rattle.qo_standing.proofs.standing.set_range.Goals as goal
 
 pub returns : goal.returns

@@ -1,5 +1,5 @@
 -- The own slots from the place on are filled.
-use Rattle.qo_standing.proofs.StandFills.{Settled}
+use Rattle.qo_standing.proofs.PlacementFills.{Settled}
 use Rattle.qo_standing.proofs.standing.settle_own.Given as goal
 
 abbrev pub invariant-loop-at : goal.invariant-loop-at

@@ -2,7 +2,7 @@
 use Rattle.std.proofs.Common.{sym, ap, ◌∙◌}
 use Rattle.std.specs.Option.{option_and_then}
 use Rattle.qo_model.specs.Devices.{clock_of}
-use Rattle.qo_standing.proofs.StandSteps.{source-none}
+use Rattle.qo_standing.proofs.PlacementSteps.{source-none}
 use Rattle.qo_standing.proofs.standing.source_of.Goals.{in-Some+in_default-clock_of, in_default}
 use Rattle.qo_standing.proofs.standing.source_of.Goals as goal
 

@@ -16,13 +16,13 @@ use Rattle.qo_heap.proofs.HeapLemmas.{on-err}
 use Rattle.qo_properties.specs.Filling.{Fits, IsGiven}
 use Rattle.qo_properties.proofs.FillingLemmas.{all-live}
 use Rattle.qo_properties.proofs.WriteLemmas.{some-live}
-use Rattle.qo_standing.specs.Own.{own_slots_of}
-use Rattle.qo_standing.specs.Standing.{kept_in, range_in, spot_in, with_book}
-use Rattle.qo_standing.specs.Taking.{SameKept, kept_by, kept_out, labels_out, taken_out}
-use Rattle.qo_standing.proofs.KeptLemmas.{kept-bodies, of-bodies}
+use Rattle.qo_standing.specs.OwnSlots.{own_slots_of}
+use Rattle.qo_standing.specs.Placement.{kept_in, range_in, spot_in, with_book}
+use Rattle.qo_standing.specs.DeviceClaims.{SameKept, kept_by, kept_out, labels_out, taken_out}
+use Rattle.qo_standing.proofs.BodyLemmas.{kept-bodies, of-bodies}
 use Rattle.qo_standing.proofs.RangeLemmas.{still-dimm}
-use Rattle.qo_standing.proofs.StandSteps.{alike-then, pinned-same}
-use Rattle.qo_standing.proofs.StandLemmas.{joined-alike, joined-bare, placed-alike, placed-book, placed-claims, placed-ids, placed-kept, placed-own, placed-registers, placed-shown, reserved-book, reserved-live, reserved-shows, returned-kept, rows-joined, stands, still-unnamed}
+use Rattle.qo_standing.proofs.PlacementSteps.{alike-then, pinned-same}
+use Rattle.qo_standing.proofs.PlacementLemmas.{joined-alike, joined-bare, placed-alike, placed-book, placed-claims, placed-ids, placed-kept, placed-own, placed-registers, placed-shown, reserved-book, reserved-live, reserved-shows, returned-kept, rows-joined, stands, still-unnamed}
 use Rattle.qo_standing.proofs.standing.stand.Goals as goal
 
 pub returns-in_err-taken-clause-book : goal.returns-in_err-taken-clause-book

@@ -1,11 +1,11 @@
 -- Kids and buses are lost one after another, and who is held stays meanwhile.
 use Rattle.std.proofs.Common.{◌-◌, ◌+◌, Some, None, arith}
-use Rattle.qo_unplug.specs.Apart.{buses_lost, drained_within, taken_within}
-use Rattle.qo_unplug.proofs.ApartLemmas.{bus-any, buses-done, buses-lost, buses-stopped, buses_left, goes-apart, goes-bus_lost, goes-first_bus}
-use Rattle.qo_unplug.proofs.ApartLemmas.{goes-first_kid, goes-no_bus, goes-no_kid, goes-pin, goes-taken, kid-any, kids-done, kids-lost, kids-stopped}
-use Rattle.qo_unplug.proofs.ApartLemmas.{kids_left, losing-none, none-apart, pin-left, pin-live, pin-own, pin-room, pinned-of, taken-live}
-use Rattle.qo_unplug.proofs.ApartLemmas.{taken-pinned, taken-room}
-use Rattle.qo_unplug.proofs.TakesLemmas.{takes-buses_lost, takes-drained_within, takes-taken_within}
+use Rattle.qo_unplug.specs.Unparenting.{buses_lost, drained_within, taken_within}
+use Rattle.qo_unplug.proofs.UnparentingLemmas.{bus-any, buses-done, buses-lost, buses-stopped, buses_left, goes-apart, goes-bus_lost, goes-first_bus}
+use Rattle.qo_unplug.proofs.UnparentingLemmas.{goes-first_kid, goes-no_bus, goes-no_kid, goes-pin, goes-taken, kid-any, kids-done, kids-lost, kids-stopped}
+use Rattle.qo_unplug.proofs.UnparentingLemmas.{kids_left, losing-none, none-apart, pin-left, pin-live, pin-own, pin-room, pinned-of, taken-live}
+use Rattle.qo_unplug.proofs.UnparentingLemmas.{taken-pinned, taken-room}
+use Rattle.qo_unplug.proofs.ScopeLemmas.{takes-buses_lost, takes-drained_within, takes-taken_within}
 use Rattle.qo_unplug.proofs.apart.+apart.Goals as goal
 
 -- the first kid

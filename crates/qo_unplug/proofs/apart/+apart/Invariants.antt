@@ -1,6 +1,6 @@
 -- So many kids, and so many buses, are left at most.
 use Rattle.std.proofs.Common.{◌+◌, ◌-◌, ◌*◌}
-use Rattle.qo_unplug.proofs.ApartLemmas.{Losing, buses_left, kids_left}
+use Rattle.qo_unplug.proofs.UnparentingLemmas.{Losing, buses_left, kids_left}
 use Rattle.qo_unplug.proofs.apart.+apart.Given as goal
 
 abbrev pub decreases-take_apart : goal.decreases-take_apart

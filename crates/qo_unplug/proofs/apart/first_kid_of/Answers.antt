@@ -1,7 +1,7 @@
 -- A bus that is not there has no kid.
 use Rattle.std.proofs.Common.{ap, ◌∙◌}
-use Rattle.qo_object.specs.Shown.{birth_of}
-use Rattle.qo_unplug.proofs.ApartLemmas.{no-bus}
+use Rattle.qo_object.specs.BoardObject.{birth_of}
+use Rattle.qo_unplug.proofs.UnparentingLemmas.{no-bus}
 use Rattle.qo_unplug.proofs.apart.first_kid_of.Goals as goal
 
 pub returns-in_err-bus-clause-kid : goal.returns-in_err-bus-clause-kid

@@ -1,11 +1,11 @@
 -- No board sees the claims of a body.
 use Rattle.std.proofs.Common.{ap, sym, ◌∙◌, option_map}
 use Rattle.std.proofs.lemmas.Option.{same_Some}
-use Rattle.qo_claims.specs.Held.{Held}
+use Rattle.qo_claims.specs.Book.{ClaimsTaken}
 use Rattle.qo_kinds.specs.Bodies.{kept_of}
 use Rattle.qo_object.specs.Content.{Content}
 use Rattle.qo_heap.specs.Objects.{without_kept}
-use Rattle.qo_heap.proofs.ShowsLive.{live-content}
+use Rattle.qo_heap.proofs.BoardObjects.{live-content}
 use Rattle.qo_unplug.proofs.EndingLemmas.{bare-now, undoes-freed}
 use Rattle.qo_unplug.proofs.claims.free_claims.Goals as goal
 
@@ -17,7 +17,7 @@ returns-clause-undoes g c = λ held asked.
     let own = same_Some (kept_of content.body) kept (sym (ap (option_map (λ (d : Content). kept_of d.body)) there) ∙ c.take_claims-kept.ensures.taken) in
     undoes-freed c.args.heap.now u (record u { claims = c.free_kept.new.claims }) c.facts.ensures c.args.o.birth content there kept own
     c.take_claims-kept.ensures.left
-    (ap (λ (h : Held). record u { claims = h }) (c.free_kept.ensures ∙ ap (without_kept kept) c.claims.ensures.claims)) held asked
+    (ap (λ (h : ClaimsTaken). record u { claims = h }) (c.free_kept.ensures ∙ ap (without_kept kept) c.claims.ensures.claims)) held asked
 
 pub returns-clause-bare : goal.returns-clause-bare
 returns-clause-bare g c = bare-now c.args.heap.now c.take_claims-kept.new.heap c.args.o c.requires c.take_claims-kept.ensures.left

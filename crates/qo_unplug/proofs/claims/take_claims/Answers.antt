@@ -4,7 +4,7 @@ use Rattle.std.proofs.lemmas.Option.{same_Some}
 use Rattle.qo_kinds.specs.Bodies.{none_kept, with_kept}
 use Rattle.qo_kinds.specs.declared.bodies.Body.{Body}
 use Rattle.qo_object.specs.Content.{Content}
-use Rattle.qo_heap.proofs.ShowsLive.{live-content}
+use Rattle.qo_heap.proofs.BoardObjects.{live-content}
 use Rattle.qo_unplug.proofs.EndingLemmas.{bare-left}
 use Rattle.qo_unplug.proofs.claims.take_claims.Goals as goal
 

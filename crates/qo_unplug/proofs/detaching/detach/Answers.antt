@@ -1,11 +1,11 @@
 -- The device is held, unrealized, taken out, and let go.
 use Rattle.std.proofs.Common.{◌+◌, length}
-use Rattle.qo_unplug.specs.Apart.{taken_within}
+use Rattle.qo_unplug.specs.Unparenting.{taken_within}
 use Rattle.qo_unplug.specs.Unrealizing.{device_within}
-use Rattle.qo_unplug.proofs.ApartLemmas.{goes-pin, pin-live, pinned-of, taken-live, taken-pinned}
-use Rattle.qo_unplug.proofs.DetachLemmas.{beside-detached, book-detached, detach-room, names-detached, pin-timely, pins-detached}
-use Rattle.qo_unplug.proofs.DetachLemmas.{timely-detached, unrealized-pinned}
-use Rattle.qo_unplug.proofs.TakesLemmas.{takes-taken_within}
+use Rattle.qo_unplug.proofs.UnparentingLemmas.{goes-pin, pin-live, pinned-of, taken-live, taken-pinned}
+use Rattle.qo_unplug.proofs.DetachmentLemmas.{beside-detached, book-detached, detach-room, names-detached, pin-timely, pins-detached}
+use Rattle.qo_unplug.proofs.DetachmentLemmas.{timely-detached, unrealized-pinned}
+use Rattle.qo_unplug.proofs.ScopeLemmas.{takes-taken_within}
 use Rattle.qo_unplug.proofs.detaching.detach.Goals as goal
 
 pub unrealize-requires-clause-live : goal.unrealize-requires-clause-live

@@ -3,7 +3,7 @@ use Rattle.qo_values.specs.declared.kinds.Act.TheVariants.{Unrealize}
 use Rattle.qo_model.specs.Clocks.{acted}
 use Rattle.qo_model.specs.Unplug.{unheld}
 use Rattle.qo_unplug.specs.Unrealizing.{parts}
-use Rattle.qo_unplug.proofs.UndoesLemmas.{undoes-then, undoes-unheld}
+use Rattle.qo_unplug.proofs.StepLemmas.{undoes-then, undoes-unheld}
 use Rattle.qo_unplug.proofs.ending.end_bus.Goals as goal
 
 pub returns : goal.returns

@@ -6,9 +6,9 @@ use Rattle.qo_model.specs.Board.{Board}
 use Rattle.qo_model.specs.Clocks.{acted, device_period}
 use Rattle.qo_model.specs.Devices.{clock_of}
 use Rattle.qo_model.specs.Unplug.{disconnected, set_named, unheld, unnoticed}
-use Rattle.qo_hotplug.specs.Asked.{nothing_asked}
+use Rattle.qo_hotplug.specs.Hotplug.{nothing_asked}
 use Rattle.qo_unplug.specs.Unrealizing.{parts}
-use Rattle.qo_unplug.proofs.UndoesLemmas.{undoes-then, undoes-unheld, undoes-unnoticed}
+use Rattle.qo_unplug.proofs.StepLemmas.{undoes-then, undoes-unheld, undoes-unnoticed}
 use Rattle.qo_unplug.proofs.ending.end_device.Goals as goal
 
 pub unset-requires : goal.unset-requires

@@ -1,9 +1,9 @@
 -- The act, and then the clock, if there is one.
 use Rattle.std.proofs.Common.{[], Some, None}
-use Rattle.qo_hotplug.specs.Asked.{nothing_asked}
+use Rattle.qo_hotplug.specs.Hotplug.{nothing_asked}
 use Rattle.qo_unplug.specs.Unrealizing.{parts}
 use Rattle.qo_unplug.proofs.EndingLemmas.{undoes-disconnected, undoes-stop}
-use Rattle.qo_unplug.proofs.UndoesLemmas.{undoes-none}
+use Rattle.qo_unplug.proofs.StepLemmas.{undoes-none}
 use Rattle.qo_unplug.proofs.ending.stop.Goals as goal
 
 pub disconnect-requires : goal.disconnect-requires

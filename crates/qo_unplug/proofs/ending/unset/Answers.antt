@@ -1,7 +1,7 @@
 -- The value is set.
 use Rattle.std.proofs.Common.{codes, false}
 use Rattle.qo_values.specs.declared.properties.Val.TheVariants as val
-use Rattle.qo_sound_clocks.proofs.FewerLemmas.{other-realized}
+use Rattle.qo_sound_clocks.proofs.DecreaseLemmas.{other-realized}
 use Rattle.qo_unplug.proofs.EndingLemmas.{undoes-set}
 use Rattle.qo_unplug.proofs.ending.unset.Goals as goal
 

@@ -1,7 +1,7 @@
 -- The kids of a bus and the bus, and the buses of a device and the device.
 use Rattle.std.proofs.Common.{◌-◌, Some, None}
 use Rattle.qo_unplug.specs.Unrealizing.{parts}
-use Rattle.qo_unplug.proofs.UndoesLemmas.{undoes-none}
+use Rattle.qo_unplug.proofs.StepLemmas.{undoes-none}
 use Rattle.qo_unplug.proofs.WalkLemmas.{bus-read, buses-first, buses-last, buses-next, kid-read, kids-first, kids-last, kids-next, none-within}
 use Rattle.qo_unplug.proofs.unrealizing.+unrealizing.Goals as goal
 

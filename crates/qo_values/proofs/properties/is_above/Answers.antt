@@ -1,5 +1,5 @@
 use Rattle.std.proofs.Common.{◌≡◌, ◌++◌, ◌∷◌, [], rules}
-use Rattle.qo_values.proofs.Rising.{last_pair_decides}
+use Rattle.qo_values.proofs.NameOrder.{last_pair_decides}
 use Rattle.qo_values.proofs.properties.is_above.Goals as goal
 
 pub returns-in-Some : goal.returns-in-Some

@@ -1,4 +1,4 @@
-use Rattle.tests_objects.proofs.TimelyLemmas.{connected-timely}
+use Rattle.tests_objects.proofs.MomentLemmas.{connected-timely}
 use Rattle.tests_objects.proofs.clocks.connected.Goals as goal
 
 pub returns : goal.returns

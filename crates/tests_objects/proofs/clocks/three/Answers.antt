@@ -1,5 +1,5 @@
 use Rattle.qo_object.specs.declared.slots.Slot.TheVariants.{Child}
-use Rattle.tests_objects.proofs.TimelyLemmas.{slot-tried}
+use Rattle.tests_objects.proofs.MomentLemmas.{slot-tried}
 use Rattle.tests_objects.proofs.clocks.three.Goals as goal
 
 pub returns : goal.returns

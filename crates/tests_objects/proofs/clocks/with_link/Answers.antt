@@ -1,7 +1,7 @@
 use Rattle.std.proofs.Common.{false, None}
 use Rattle.qo_values.specs.declared.kinds.TypeId.TheVariants.{Clock}
 use Rattle.qo_object.specs.declared.slots.Slot.TheVariants.{Link}
-use Rattle.tests_objects.proofs.TimelyLemmas.{slot-tried}
+use Rattle.tests_objects.proofs.MomentLemmas.{slot-tried}
 use Rattle.tests_objects.proofs.clocks.with_link.Goals as goal
 
 pub returns : goal.returns

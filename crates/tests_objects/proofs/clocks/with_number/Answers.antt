@@ -1,6 +1,6 @@
 use Rattle.qo_values.specs.declared.properties.Val.TheVariants as val
 use Rattle.qo_object.specs.declared.slots.Slot.TheVariants.{Plain}
-use Rattle.tests_objects.proofs.TimelyLemmas.{slot-tried}
+use Rattle.tests_objects.proofs.MomentLemmas.{slot-tried}
 use Rattle.tests_objects.proofs.clocks.with_number.Goals as goal
 
 pub returns : goal.returns

@@ -1,4 +1,4 @@
-use Rattle.tests_objects.proofs.TimelyLemmas.{make-tried}
+use Rattle.tests_objects.proofs.MomentLemmas.{make-tried}
 use Rattle.tests_objects.proofs.clocks.with_object.Goals as goal
 
 pub returns : goal.returns

@@ -7,7 +7,8 @@ use Rattle.qo_causes.specs.Hub.{Loses}
 use Rattle.qo_causes.specs.Script.{ScriptState}
 use Rattle.qo_causes.proofs.script_hub.ScriptHub.lose.Goals as goal
 
-one_loss : (xs : List ℕ) (n t more : ℕ) → n < length xs → more ≡ counted (slice_index_or xs n 0) → slice_index_or xs n 0 ≤ more → Loses (t == n) (slice_index_or xs t 0) (slice_index_or (slice_set xs n more) t 0)
+one_loss : (xs : List ℕ) (n t more : ℕ) → n < length xs → more ≡ counted (slice_index_or xs n 0) → slice_index_or xs n 0 ≤ more
+    → Loses (t == n) (slice_index_or xs t 0) (slice_index_or (slice_set xs n more) t 0)
 one_loss xs n t more within is least = go (t == n) refl
   where
     go : (b : Bool) → (t == n) ≡ b → Loses b (slice_index_or xs t 0) (slice_index_or (slice_set xs n more) t 0)

@@ -5,4 +5,5 @@ use Rattle.qo_claims.proofs.ids.Ids.give_back.Goals as goal
 
 pub returns : goal.returns
 returns c =
-    rw (← c.self.view_is) (ap (map string_bytes) c.shift_remove.ensures.keys ∙ sym (remove_key-map string_bytes (bytes_eq c.args.id.now) c.self.inside.set.keys))
+    rw (← c.self.view_is)
+    (ap (map string_bytes) c.shift_remove.ensures.keys ∙ sym (remove_key-map string_bytes (bytes_eq c.args.id.now) c.self.inside.set.keys))

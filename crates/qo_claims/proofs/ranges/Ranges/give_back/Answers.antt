@@ -2,7 +2,7 @@
 use Rattle.std.proofs.Common.{◌≡◌, ◌∙◌, sym}
 use Rattle.qo_values.specs.Placing.{window_start}
 use Rattle.qo_claims.specs.Lists.{range_eq, without_range}
-use Rattle.qo_claims.proofs.Laid.{apart-without, remove_key-found, remove_key-none}
+use Rattle.qo_claims.proofs.DisjointRanges.{apart-without, remove_key-found, remove_key-none}
 use Rattle.qo_claims.proofs.ranges.Ranges.give_back.Goals as goal
 
 removed : (c : goal.After-remove) → c.remove.new.self.items ≡ without_range c.args.range c.self.inside.list.items

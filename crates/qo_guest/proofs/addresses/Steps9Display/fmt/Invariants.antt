@@ -1,6 +1,6 @@
 use Rattle.std.proofs.Common.{take}
 use Rattle.std.specs.Fmt.{HasWritten, IsPlainFormatter}
-use Rattle.qo_guest.proofs.Dotted.{dotted}
+use Rattle.qo_guest.proofs.DottedSlots.{dotted}
 use Rattle.qo_guest.proofs.addresses.Steps9Display.fmt.Given as goal
 
 abbrev pub invariant-loop-slot : goal.invariant-loop-slot

@@ -1,6 +1,6 @@
 -- The first object from a birth on is that of the birth, or there is none of it.
 use Rattle.std.proofs.Common.{rules, ◌≡◌, ℕ, eqb, false, None, sym, arith}
-use Rattle.qo_heap.proofs.FoundLemmas.{found-live, found-later, found-none}
+use Rattle.qo_heap.proofs.SearchLemmas.{found-live, found-later, found-none}
 use Rattle.qo_heap.proofs.heap.Heap.by_birth.Goals as goal
 
 other : (n m : ℕ) → (n ≡ m → ⊥) → eqb n m ≡ false
@@ -17,4 +17,5 @@ returns-then-o-birth-clause-live c =
 
 pub returns-clause-none : goal.returns-clause-none
 returns-clause-none c =
-    found-later c.args.birth 0 c.args.self.now.born c.args.self.now.rows c.in_ok-o.o c.facts.ensures.rising (sym c.in_ok-o.ensures) (other c.in_ok-o.o.birth c.args.birth c.if-o-birth.false)
+    found-later c.args.birth 0 c.args.self.now.born c.args.self.now.rows c.in_ok-o.o c.facts.ensures.rising (sym c.in_ok-o.ensures)
+    (other c.in_ok-o.o.birth c.args.birth c.if-o-birth.false)

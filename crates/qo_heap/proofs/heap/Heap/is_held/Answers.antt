@@ -1,5 +1,5 @@
 use Rattle.std.proofs.Common.{◌∙◌}
-use Rattle.qo_heap.proofs.HeldLemmas.{unpinned-refs}
+use Rattle.qo_heap.proofs.ReferenceLemmas.{unpinned-refs}
 use Rattle.qo_heap.proofs.heap.Heap.is_held.Goals as goal
 
 pub returns-else-pins-gt0 : goal.returns-else-pins-gt0

@@ -6,10 +6,26 @@ use Rattle.qo_heap.proofs.heap.Heap.pin.Goals as goal
 
 pub invariant_of-self : goal.invariant_of-self
 invariant_of-self g c =
-    let v : Objects = record { rows = c.self.inside.table.rows; born = c.self.inside.table.born; log = c.self.inside.log; claims = c.self.inside.claims; events = c.self.inside.events; time = c.self.inside.time } in
-    (edited-heap v c.self.invariant c.args.o.birth with_pin c.change.result.now c.pin.new.self c.change.ensures.object c.pin.ensures (λ x all. all) (λ x. refl)).good
+    let v : Objects = record {
+      rows = c.self.inside.table.rows;
+      born = c.self.inside.table.born;
+      log = c.self.inside.log;
+      claims = c.self.inside.claims;
+      events = c.self.inside.events;
+      time = c.self.inside.time;
+    } in
+    (edited-heap v c.self.invariant c.args.o.birth with_pin c.change.result.now c.pin.new.self c.change.ensures.object c.pin.ensures (λ x all. all)
+    (λ x. refl)).good
 
 pub returns-clause-now : goal.returns-clause-now
 returns-clause-now g c =
-    let v : Objects = record { rows = c.self.inside.table.rows; born = c.self.inside.table.born; log = c.self.inside.log; claims = c.self.inside.claims; events = c.self.inside.events; time = c.self.inside.time } in
-    rw (← c.self.view_is) (edited-heap v c.self.invariant c.args.o.birth with_pin c.change.result.now c.pin.new.self c.change.ensures.object c.pin.ensures (λ x all. all) (λ x. refl)).now
+    let v : Objects = record {
+      rows = c.self.inside.table.rows;
+      born = c.self.inside.table.born;
+      log = c.self.inside.log;
+      claims = c.self.inside.claims;
+      events = c.self.inside.events;
+      time = c.self.inside.time;
+    } in
+    rw (← c.self.view_is) (edited-heap v c.self.invariant c.args.o.birth with_pin c.change.result.now c.pin.new.self c.change.ensures.object c.pin.ensures
+    (λ x all. all) (λ x. refl)).now

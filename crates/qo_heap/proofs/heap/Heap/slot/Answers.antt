@@ -7,7 +7,8 @@ use Rattle.qo_heap.proofs.heap.Heap.slot.Goals as goal
 
 pub returns-in-Some-clause-slot : goal.returns-in-Some-clause-slot
 returns-in-Some-clause-slot g c =
-    let found = position-find (λ (s : List ℕ × Slot). bytes_eq c.args.name.now s.0) c.look-object.result.now.slots c.in-Some.at (sym c.find.ensures ∙ c.in-Some.is) in
+    let found =
+    position-find (λ (s : List ℕ × Slot). bytes_eq c.args.name.now s.0) c.look-object.result.now.slots c.in-Some.at (sym c.find.ensures ∙ c.in-Some.is) in
     rw (← c.self.view_is, c.look-object.ensures.object) (c.slot_at.ensures.slot ∙ found)
 
 pub returns-in-Some-clause-at : goal.returns-in-Some-clause-at
@@ -15,8 +16,10 @@ returns-in-Some-clause-at g c =
     let p = λ (s : List ℕ × Slot). bytes_eq c.args.name.now s.0 in
     let there = sym c.find.ensures ∙ c.in-Some.is in
     let (x, is) = position-some p c.look-object.result.now.slots c.in-Some.at there in
-    rw (← c.self.view_is, c.look-object.ensures.object) (some-at _ (λ (v : SlotView). v.at) c.slot_at.result x c.in-Some.at (c.slot_at.ensures.slot ∙ is) c.slot_at.ensures.at ∙ sym there)
+    rw (← c.self.view_is, c.look-object.ensures.object)
+    (some-at _ (λ (v : SlotView). v.at) c.slot_at.result x c.in-Some.at (c.slot_at.ensures.slot ∙ is) c.slot_at.ensures.at ∙ sym there)
 
 pub returns-in-None-clause-slot : goal.returns-in-None-clause-slot
 returns-in-None-clause-slot g c =
-    rw (← c.self.view_is, c.look-object.ensures.object) (sym (position-none (λ (s : List ℕ × Slot). bytes_eq c.args.name.now s.0) c.look-object.result.now.slots (sym c.find.ensures ∙ c.in-None.is)))
+    rw (← c.self.view_is, c.look-object.ensures.object)
+    (sym (position-none (λ (s : List ℕ × Slot). bytes_eq c.args.name.now s.0) c.look-object.result.now.slots (sym c.find.ensures ∙ c.in-None.is)))

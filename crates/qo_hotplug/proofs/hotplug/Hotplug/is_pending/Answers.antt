@@ -1,5 +1,5 @@
 use Rattle.std.proofs.Common.{◌∙◌}
-use Rattle.qo_hotplug.proofs.Among.{among_births}
+use Rattle.qo_hotplug.proofs.Births.{among_births}
 use Rattle.qo_hotplug.proofs.hotplug.Hotplug.is_pending.Goals as goal
 
 pub returns : goal.returns

@@ -2,8 +2,8 @@
 use Rattle.std.proofs.Common.{[], ◌∙◌, ap, sym, subst, List, OnErr}
 use Rattle.qo_causes.specs.declared.inputs.What.TheVariants.{Bytes, Guest}
 use Rattle.qo_causes.specs.declared.inputs.What.{What}
-use Rattle.qo_machine.specs.Machine.{BreaksOff, Message, State, state_at, unchanged}
-use Rattle.qo_machine.proofs.LeftLemmas.{breaks_before}
+use Rattle.qo_machine.specs.Machine.{BreaksOff, Message, State, state_with, unchanged}
+use Rattle.qo_machine.proofs.MemoryLemmas.{breaks_before}
 use Rattle.qo_machine.proofs.MachineLemmas.{answers_ended, answers_moved, answers_timed, leaves, on_err, seen_ended, served_beside, served_bytes}
 use Rattle.qo_machine.proofs.machines.Machine.serve.Goals as goal
 
@@ -24,12 +24,13 @@ returns-in-Bytes-clause-answered g c =
 pub returns-in-Shut-clause-answered : goal.returns-in-Shut-clause-answered
 returns-in-Shut-clause-answered g c =
     answers_moved c.args.input.now _ _ c.args.self.now c.shut.new.self (sym (seen_ended c.self.view_is) ∙ c.if-self.false) c.in-Shut.is
-    (λ b. c.shut.ensures.answered b c.args.input.now.at ∙ ap (λ (outs : List Message). record { outs = outs; state = state_at b c.shut.new.self; rest = [] }) (sym c.none-in-Shut.ensures)) c.shut.ensures.board
+    (λ b. c.shut.ensures.answered b c.args.input.now.at ∙ ap (λ (outs : List Message). record { outs = outs; state = state_with b c.shut.new.self; rest = [] })
+    (sym c.none-in-Shut.ensures)) c.shut.ensures.board
 
 pub returns-in-End-clause-answered : goal.returns-in-End-clause-answered
 returns-in-End-clause-answered g c =
     answers_moved c.args.input.now _ _ c.args.self.now c.finish.new.self (sym (seen_ended c.self.view_is) ∙ c.if-self.false) c.in-End.is
-    (λ b. ap (λ (s : State). unchanged s []) (sym (c.finish.ensures.done b)) ∙ leaves (state_at b c.finish.new.self) _ c.none-in-End.ensures)
+    (λ b. ap (λ (s : State). unchanged s []) (sym (c.finish.ensures.done b)) ∙ leaves (state_with b c.finish.new.self) _ c.none-in-End.ensures)
     c.finish.ensures.board
 
 pub returns-in-Guest-clause-answered : goal.returns-in-Guest-clause-answered
@@ -49,8 +50,10 @@ returns-in-Open-clause-breaks g c = λ s here.
 
 pub returns-in-Bytes-clause-breaks : goal.returns-in-Bytes-clause-breaks
 returns-in-Bytes-clause-breaks g c = λ s here.
-    subst (λ (w : What). OnErr c.take.result (BreaksOff s (record { at = c.args.input.now.at; what = w }) c.take.new.self)) (sym (c.in-Bytes.is ∙ ap (Bytes c.in-Bytes.session) (sym c.as_slice.ensures.value))) (c.take.ensures.breaks s here)
+    subst (λ (w : What). OnErr c.take.result (BreaksOff s (record { at = c.args.input.now.at; what = w }) c.take.new.self))
+    (sym (c.in-Bytes.is ∙ ap (Bytes c.in-Bytes.session) (sym c.as_slice.ensures.value))) (c.take.ensures.breaks s here)
 
 pub returns-in-Guest-clause-breaks : goal.returns-in-Guest-clause-breaks
 returns-in-Guest-clause-breaks g c = λ s here.
-    subst (λ (w : What). OnErr c.take_guest.result (BreaksOff s (record { at = c.args.input.now.at; what = w }) c.take_guest.new.self)) (sym (c.in-Guest.is ∙ ap Guest (sym c.as_slice-in-Guest.ensures.value))) (c.take_guest.ensures.breaks s here)
+    subst (λ (w : What). OnErr c.take_guest.result (BreaksOff s (record { at = c.args.input.now.at; what = w }) c.take_guest.new.self))
+    (sym (c.in-Guest.is ∙ ap Guest (sym c.as_slice-in-Guest.ensures.value))) (c.take_guest.ensures.breaks s here)

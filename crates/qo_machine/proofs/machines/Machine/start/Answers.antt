@@ -1,7 +1,7 @@
 -- The board at first is the opening one, which is sound.
 use Rattle.qo_machine.proofs.BoardLemmas.{started_board}
 use Rattle.qo_machine.proofs.ClocksLemmas.{started_run}
-use Rattle.qo_machine.proofs.SoundLemmas.{started_sound}
+use Rattle.qo_machine.proofs.SoundnessLemmas.{started_sound}
 use Rattle.qo_machine.proofs.machines.Machine.start.Goals as goal
 
 pub returns-clause-sound : goal.returns-clause-sound

@@ -1,9 +1,9 @@
 -- A step keeps the board sound, and where memory ran out a front of its items was served.
 use Rattle.std.proofs.Common.{◌∙◌, subst}
-use Rattle.qo_realize.specs.Stands.{StandsForGood}
+use Rattle.qo_realize.specs.Representation.{StandsForGood}
 use Rattle.qo_machine.proofs.BoardLemmas.{broken_board, stepped_board}
 use Rattle.qo_machine.proofs.ClocksLemmas.{broken_run, stepped_run}
-use Rattle.qo_machine.proofs.LeftLemmas.{breaks_before, breaks_kept}
+use Rattle.qo_machine.proofs.MemoryLemmas.{breaks_before, breaks_kept}
 use Rattle.qo_machine.proofs.MachineLemmas.{seen_board}
 use Rattle.qo_machine.proofs.TreeLemmas.{broken_sound, stepped_sound}
 use Rattle.qo_machine.proofs.machines.Machine.step.Goals as goal

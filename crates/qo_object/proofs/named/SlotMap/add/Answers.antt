@@ -6,7 +6,7 @@ use Rattle.std.proofs.lemmas.Map.Keys.{IsDistinct-push}
 use Rattle.std.specs.List.{IsDistinct, list_any}
 use Rattle.std.specs.Str.{bytes_eq}
 use Rattle.qo_object.specs.Slots.{Named, has_name, names_of}
-use Rattle.qo_object.proofs.KeptLemmas.{any-name}
+use Rattle.qo_object.proofs.ObjectLemmas.{any-name}
 use Rattle.qo_object.proofs.named.SlotMap.add.Goals as goal
 
 module _ (c : goal.Joined-self-index) where

@@ -1,7 +1,7 @@
 use Rattle.std.proofs.Common.{◌∙◌, ap}
 use Rattle.std.specs.List.{list_any}
 use Rattle.std.specs.Str.{bytes_eq}
-use Rattle.qo_object.proofs.KeptLemmas.{any-name}
+use Rattle.qo_object.proofs.ObjectLemmas.{any-name}
 use Rattle.qo_object.proofs.named.SlotMap.names_with.Goals as goal
 
 pub add-requires : goal.add-requires

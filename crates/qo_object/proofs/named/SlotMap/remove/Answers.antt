@@ -4,7 +4,7 @@ use Rattle.std.specs.List.{IsDistinct}
 use Rattle.std.specs.Str.{bytes_eq}
 use Rattle.indexmap.proofs.SetLemmas.{map-remove}
 use Rattle.qo_object.specs.Slots.{Named, names_of}
-use Rattle.qo_object.proofs.KeptLemmas.{distinct-removed}
+use Rattle.qo_object.proofs.ObjectLemmas.{distinct-removed}
 use Rattle.qo_object.proofs.named.SlotMap.remove.Goals as goal
 use Rattle.qo_object.proofs.named.SlotMap.remove.Goals.{in-Some, in_default}
 

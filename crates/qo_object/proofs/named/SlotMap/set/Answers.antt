@@ -1,6 +1,6 @@
 use Rattle.std.proofs.Common.{◌≡◌, ◌<◌, ◌≤◌, length, slice_set, arith}
 use Rattle.qo_object.specs.Slots.{changed_at, with_val}
-use Rattle.qo_object.proofs.KeptLemmas.{names-changed}
+use Rattle.qo_object.proofs.ObjectLemmas.{names-changed}
 use Rattle.qo_object.proofs.SlotLemmas.{changed-past, changed-there}
 use Rattle.qo_object.proofs.named.SlotMap.set.Goals as goal
 

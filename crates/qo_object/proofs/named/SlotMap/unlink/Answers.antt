@@ -1,7 +1,7 @@
 use Rattle.std.proofs.Common.{◌≡◌, ◌∙◌, ◌<◌, ◌≤◌, length, Some, slice_set, ap, sym, arith}
 use Rattle.std.specs.Option.{option_and_then}
 use Rattle.qo_object.specs.Slots.{changed_at, child_of, slot_in, target_of, unlinked}
-use Rattle.qo_object.proofs.KeptLemmas.{names-changed}
+use Rattle.qo_object.proofs.ObjectLemmas.{names-changed}
 use Rattle.qo_object.proofs.SlotLemmas.{changed-past, changed-there, slot-past, slot-there}
 use Rattle.qo_object.proofs.named.SlotMap.unlink.Goals as goal
 

@@ -4,16 +4,26 @@ use Rattle.qo_object.proofs.SlotLemmas.{first_changed, first-none, first-more, f
 use Rattle.qo_object.proofs.objects.Object.forget.Goals as goal
 
 pub loop-at-init : goal.loop-at-init
-loop-at-init c = record { kind = refl; slots = sym (first-none (forgotten_in c.args.birth) c.self.inside.slots); pins = refl; body = refl; device_id = refl; kept_path = refl }
+loop-at-init c = record {
+  kind = refl;
+  slots = sym (first-none (forgotten_in c.args.birth) c.self.inside.slots);
+  pins = refl;
+  body = refl;
+  device_id = refl;
+  kept_path = refl;
+}
 
 pub invariant_of-self : goal.invariant_of-self
-invariant_of-self c =
-    (rw (c.loop-at.invariant.slots, length-first (forgotten_in c.args.birth) c.loop-at.at c.self.inside.slots) c.self.invariant.0, rw c.loop-at.invariant.pins c.self.invariant.1)
+invariant_of-self c = (
+  rw (c.loop-at.invariant.slots, length-first (forgotten_in c.args.birth) c.loop-at.at c.self.inside.slots) c.self.invariant.0,
+  rw c.loop-at.invariant.pins c.self.invariant.1,
+)
 
 pub loop-at-preserved : goal.loop-at-preserved
 loop-at-preserved c = record {
   kind = c.loop-at.invariant.kind;
-  slots = c.forget.ensures ∙ ap (changed_at (forgotten_in c.args.birth) c.loop-at.at) c.loop-at.invariant.slots ∙ first-more (forgotten_in c.args.birth) c.loop-at.at c.self.inside.slots;
+  slots = c.forget.ensures ∙ ap (changed_at (forgotten_in c.args.birth) c.loop-at.at) c.loop-at.invariant.slots
+      ∙ first-more (forgotten_in c.args.birth) c.loop-at.at c.self.inside.slots;
   pins = c.loop-at.invariant.pins;
   body = c.loop-at.invariant.body;
   device_id = c.loop-at.invariant.device_id;
@@ -24,8 +34,16 @@ pub returns : goal.returns
 returns c =
     let change = forgotten_in c.args.birth in
     let end : c.loop-at.at ≡ length c.self.inside.slots = omega (arith, c.loop-at-test.false, c.loop-at.auto.at-end, c.len-at-end.ensures) in
-    let slots : c.loop-at.self-inside.slots ≡ each_changed change c.self.inside.slots = c.loop-at.invariant.slots ∙ ap (λ n. first_changed change n c.self.inside.slots) end ∙ first-all change c.self.inside.slots in
-    rw (← c.self.view_is) (λ j. record { kind = c.loop-at.invariant.kind j; slots = slots j; pins = c.loop-at.invariant.pins j; body = c.loop-at.invariant.body j; device_id = c.loop-at.invariant.device_id j; kept_path = c.loop-at.invariant.kept_path j })
+    let slots : c.loop-at.self-inside.slots ≡ each_changed change c.self.inside.slots =
+    c.loop-at.invariant.slots ∙ ap (λ n. first_changed change n c.self.inside.slots) end ∙ first-all change c.self.inside.slots in
+    rw (← c.self.view_is) (λ j. record {
+      kind = c.loop-at.invariant.kind j;
+      slots = slots j;
+      pins = c.loop-at.invariant.pins j;
+      body = c.loop-at.invariant.body j;
+      device_id = c.loop-at.invariant.device_id j;
+      kept_path = c.loop-at.invariant.kept_path j;
+    })
 
 pub returns-then-not-names_weakly : goal.returns-then-not-names_weakly
 returns-then-not-names_weakly c =

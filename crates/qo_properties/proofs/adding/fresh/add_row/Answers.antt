@@ -1,4 +1,4 @@
-use Rattle.qo_properties.proofs.FreshLemmas.{with-none}
+use Rattle.qo_properties.proofs.NewSlotLemmas.{with-none}
 use Rattle.qo_properties.proofs.adding.fresh.add_row.Goals as goal
 
 pub returns-in-Child-clause-ok : goal.returns-in-Child-clause-ok

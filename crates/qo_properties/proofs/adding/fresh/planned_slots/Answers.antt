@@ -3,7 +3,7 @@ use Rattle.std.proofs.Common.{◌+◌, ◌++◌, ap, append-nil, drop, filter_ma
 use Rattle.std.specs.Vec.Iter.{into_iter_items}
 use Rattle.qo_object.specs.Slots.{Named}
 use Rattle.qo_properties.specs.Filling.{filled}
-use Rattle.qo_properties.specs.Fresh.{slot_begun}
+use Rattle.qo_properties.specs.NewSlots.{slot_begun}
 use Rattle.qo_properties.proofs.SlotsLemmas.{filled-end, rows-end, rows-next}
 use Rattle.qo_properties.proofs.adding.fresh.planned_slots.Goals as goal
 

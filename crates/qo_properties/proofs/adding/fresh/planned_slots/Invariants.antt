@@ -2,7 +2,7 @@
 use Rattle.std.proofs.Common.{◌≡◌, ◌++◌, drop, filter_map}
 use Rattle.std.specs.Vec.Iter.{into_iter_items}
 use Rattle.qo_properties.specs.Filling.{filled}
-use Rattle.qo_properties.specs.Fresh.{new_slots, slot_begun}
+use Rattle.qo_properties.specs.NewSlots.{new_slots, slot_begun}
 use Rattle.qo_properties.proofs.adding.fresh.planned_slots.Given as goal
 
 abbrev pub invariant-loop-row : goal.invariant-loop-row

@@ -1,10 +1,10 @@
--- A refusal comes before the attempt, or behind it; else the object is added.
+-- A refusal comes before the attempt, or after it; else the object is added.
 use Rattle.std.proofs.Common.{◌≡◌, ap, sym, subst, ℕ, List, inl, inr, Err, rules}
 use Rattle.std.specs.Prelude.{Result}
 use Rattle.qo_model.specs.Objects.{with_object}
 use Rattle.qo_heap.specs.Board.{Shows}
 use Rattle.qo_heap.specs.Objects.{Objects}
-use Rattle.qo_properties.specs.Adding.{Adds}
+use Rattle.qo_properties.specs.Additions.{Adds}
 use Rattle.qo_properties.specs.declared.refusals.Refusal.{Refusal}
 use Rattle.qo_properties.specs.declared.refusals.Refusal.TheVariants.{Memory, Refused}
 use Rattle.qo_properties.proofs.AddLemmas.{shows-tried}

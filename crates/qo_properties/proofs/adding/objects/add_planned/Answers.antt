@@ -1,16 +1,16 @@
 -- The object is made with the slots that are planned, and its pin goes.
 use Rattle.std.proofs.Common.{◌≡◌, ap, sym, subst, ◌∙◌, map, arith}
 use Rattle.qo_table.specs.Rows.{IsLive}
-use Rattle.qo_object.specs.Shown.{shown_slots}
+use Rattle.qo_object.specs.BoardObject.{shown_slots}
 use Rattle.qo_heap.specs.Board.{Shows}
 use Rattle.qo_heap.specs.Objects.{Objects, pins_of}
 use Rattle.qo_model.specs.Objects.{slot_given, with_object}
 use Rattle.qo_model.specs.Types.{slots_of}
-use Rattle.qo_properties.specs.Fresh.{new_slots}
+use Rattle.qo_properties.specs.NewSlots.{new_slots}
 use Rattle.qo_properties.proofs.AddLemmas.{child-live, child-pinned, child-unpinned, object-pins, shows-object, tried-pins}
 use Rattle.qo_properties.proofs.ClaimLemmas.{object-keeps, tried-keeps}
 use Rattle.qo_properties.proofs.FillingLemmas.{filled-given}
-use Rattle.qo_properties.proofs.FreshLemmas.{new-shown}
+use Rattle.qo_properties.proofs.NewSlotLemmas.{new-shown}
 use Rattle.qo_properties.proofs.SlotsLemmas.{slots-differ, slots-few, slots-live}
 use Rattle.qo_properties.proofs.adding.objects.add_planned.Goals as goal
 

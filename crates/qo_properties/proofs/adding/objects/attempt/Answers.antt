@@ -23,4 +23,5 @@ give_up-requires-clause-bare g c =
 
 pub returns-clause-ok : goal.returns-clause-ok
 returns-clause-ok g c =
-    newest-ends c.args.heap.now c.create.new.heap c.in_ok-o.o (fresh c.args.kind) c.facts.ensures c.in_ok-o.ensures.made.0 c.in_ok-o.ensures.made.1 (fresh-bare c.args.kind) refl refl c.give_up.new.heap c.give_up.ensures
+    newest-ends c.args.heap.now c.create.new.heap c.in_ok-o.o (fresh c.args.kind) c.facts.ensures c.in_ok-o.ensures.made.0 c.in_ok-o.ensures.made.1
+    (fresh-bare c.args.kind) refl refl c.give_up.new.heap c.give_up.ensures

@@ -1,4 +1,4 @@
--- Behind its pin nothing refers to the object.
+-- After its pin nothing refers to the object.
 use Rattle.std.proofs.Common.{◌≡◌, arith}
 use Rattle.qo_object.specs.Content.{without_pin}
 use Rattle.qo_heap.proofs.HeapLemmas.{live-edit}

@@ -1,7 +1,7 @@
 -- There is an empty fill for each slot of the rows before the place.
 use Rattle.std.proofs.Common.{◌≡◌, take, map, filter_map}
 use Rattle.qo_properties.specs.declared.adding.filling.Fill.TheVariants.{Nothing}
-use Rattle.qo_properties.specs.Fresh.{slot_begun}
+use Rattle.qo_properties.specs.NewSlots.{slot_begun}
 use Rattle.qo_properties.proofs.adding.planning.blank.Given as goal
 
 abbrev pub invariant-loop-row : goal.invariant-loop-row

@@ -2,7 +2,7 @@
 use Rattle.std.proofs.Common.{◌≡◌, drop, take, find, length, filter_map}
 use Rattle.std.specs.Str.{bytes_eq}
 use Rattle.qo_model.specs.RowNames.{property_name}
-use Rattle.qo_properties.specs.Fresh.{slot_begun}
+use Rattle.qo_properties.specs.NewSlots.{slot_begun}
 use Rattle.qo_properties.proofs.adding.planning.placed_row.Given as goal
 
 abbrev pub invariant-loop-row : goal.invariant-loop-row

@@ -3,15 +3,15 @@ use Rattle.std.proofs.Common.{◌≡◌, ◌+◌, refl, ap, sym, subst, ◌∙�
 use Rattle.std.specs.List.{AllZip}
 use Rattle.std.specs.Str.{bytes_eq}
 use Rattle.std.proofs.lemmas.List.{take_more}
-use Rattle.qo_values.specs.PropLists.{NamesRise, names_of}
+use Rattle.qo_values.specs.PropertyLists.{NamesRise, names_of}
 use Rattle.qo_table.specs.Rows.{IsLive}
 use Rattle.qo_model.specs.Objects.{Given, refusal_by, refusal_of}
-use Rattle.qo_model.specs.Properties.{row_of_property}
+use Rattle.qo_model.specs.Properties.{property_named}
 use Rattle.qo_properties.specs.declared.adding.filling.Fill.{Fill}
 use Rattle.qo_properties.specs.declared.adding.filling.Fill.TheVariants as fill
-use Rattle.qo_properties.specs.Fresh.{new_slots}
+use Rattle.qo_properties.specs.NewSlots.{new_slots}
 use Rattle.qo_properties.specs.Filling.{Fits, IsGiven, target_in}
-use Rattle.qo_properties.proofs.GivenLemmas.{drop-at, passed-first}
+use Rattle.qo_properties.proofs.GivenPropertyLemmas.{drop-at, passed-first}
 use Rattle.qo_properties.proofs.PlanningLemmas.{all-same, none-before, told-done, zip-same}
 use Rattle.qo_properties.proofs.adding.planning.plan.Goals as goal
 
@@ -35,7 +35,7 @@ loop-pair-preserved g c =
           c.pair-item.is)
           ∙ passed-first b c.args.kind c.pair-item.result (drop (c.loop-pair.pair-index + 1) c.as_slice-pair-items.result.now)
           (told-done c.plan_one.result c.in_ok-plan_one.field-0 _ c.in_ok-plan_one.was (c.plan_one.ensures.refused b s)
-          ∙ ap (λ (t : List ℕ). refusal_by b (row_of_property c.args.kind t) c.pair-item.result.1) c.as_str.ensures);
+          ∙ ap (λ (t : List ℕ). refusal_by b (property_named c.args.kind t) c.pair-item.result.1) c.as_str.ensures);
       told = λ b s.
           let all = c.as_slice-pair-items.result.now in
           let i = c.loop-pair.pair-index in

@@ -1,4 +1,4 @@
-use Rattle.qo_properties.proofs.StartLemmas.{live-child, pinned-child, is-child, shows-child}
+use Rattle.qo_properties.proofs.OpeningLemmas.{live-child, pinned-child, is-child, shows-child}
 use Rattle.qo_properties.proofs.adding.start.make_child.Goals as goal
 
 pub unpin-requires-clause-live : goal.unpin-requires-clause-live

@@ -7,13 +7,14 @@ use Rattle.qo_values.specs.declared.limits.TheConstants.{SYSTEM_PERIOD}
 use Rattle.qo_object.specs.Content.{set_at}
 use Rattle.qo_heap.specs.Board.{Shows}
 use Rattle.qo_heap.proofs.HeapLemmas.{live-edit}
-use Rattle.qo_heap.proofs.ShowsChanges.{shows-set}
+use Rattle.qo_heap.proofs.BoardChanges.{shows-set}
 use Rattle.qo_properties.proofs.ClaimLemmas.{edit-keeps}
-use Rattle.qo_properties.specs.Start.{with_new_child}
+use Rattle.qo_properties.specs.OpeningSteps.{with_new_child}
 use Rattle.qo_properties.proofs.adding.start.make_clock.Goals as goal
 
 pub returns-clause-names : goal.returns-clause-names
-returns-clause-names g c = λ key live. rw c.set_period.ensures (live-edit c.in_ok-clock.clock.birth (set_at (Uint SYSTEM_PERIOD) 1) c.make_child.new.heap.rows key (c.in_ok-clock.ensures.made.names key live))
+returns-clause-names g c = λ key live. rw c.set_period.ensures
+    (live-edit c.in_ok-clock.clock.birth (set_at (Uint SYSTEM_PERIOD) 1) c.make_child.new.heap.rows key (c.in_ok-clock.ensures.made.names key live))
 
 pub returns-clause-shown : goal.returns-clause-shown
 returns-clause-shown g c =
@@ -21,8 +22,10 @@ returns-clause-shown g c =
     let child : Board = with_new_child c.args.machine.birth (codes "sysclk") Clock b in
     let shown : Shows (set c.in_ok-clock.clock.birth 1 (Uint SYSTEM_PERIOD) child) c.set_period.new.heap =
     rw c.set_period.ensures (shows-set child c.make_child.new.heap (c.in_ok-clock.ensures.shown b s) c.in_ok-clock.clock.birth 1 (Uint SYSTEM_PERIOD)) in
-    subst (λ (n : ℕ). Shows (set n 1 (Uint SYSTEM_PERIOD) child) c.set_period.new.heap) (c.in_ok-clock.ensures.made.birth ∙ ap (λ (k : ℕ). k + 1) (sym s.born)) shown
+    subst (λ (n : ℕ). Shows (set n 1 (Uint SYSTEM_PERIOD) child) c.set_period.new.heap) (c.in_ok-clock.ensures.made.birth ∙ ap (λ (k : ℕ). k + 1) (sym s.born))
+    shown
 
 pub returns-clause-book : goal.returns-clause-book
 returns-clause-book g c = λ out h.
-    edit-keeps c.make_child.new.heap c.set_period.new.heap c.in_ok-clock.clock.birth (set_at (Uint SYSTEM_PERIOD) 1) (λ d. refl) c.set_period.ensures out (c.in_ok-clock.ensures.made.book out h)
+    edit-keeps c.make_child.new.heap c.set_period.new.heap c.in_ok-clock.clock.birth (set_at (Uint SYSTEM_PERIOD) 1) (λ d. refl) c.set_period.ensures out
+    (c.in_ok-clock.ensures.made.book out h)

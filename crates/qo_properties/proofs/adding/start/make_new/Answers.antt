@@ -3,9 +3,9 @@ use Rattle.std.proofs.Common.{subst, sym}
 use Rattle.qo_heap.specs.Board.{Shows}
 use Rattle.qo_heap.specs.Objects.{Objects}
 use Rattle.qo_model.specs.Changes.{make, with_fresh_slots}
-use Rattle.qo_properties.specs.Start.{IsMade}
-use Rattle.qo_properties.proofs.FreshLemmas.{shows-fresh}
-use Rattle.qo_properties.proofs.StartLemmas.{begun-in, is-made, live-made, made_in, shows-new}
+use Rattle.qo_properties.specs.OpeningSteps.{IsMade}
+use Rattle.qo_properties.proofs.NewSlotLemmas.{shows-fresh}
+use Rattle.qo_properties.proofs.OpeningLemmas.{begun-in, is-made, live-made, made_in, shows-new}
 use Rattle.qo_properties.proofs.adding.start.make_new.Goals as goal
 
 pub furnish_new-requires : goal.furnish_new-requires

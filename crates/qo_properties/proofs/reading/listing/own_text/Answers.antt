@@ -10,4 +10,5 @@ returns-in-Plain g c = λ b s.
 
 pub returns-in-Child : goal.returns-in-Child
 returns-in-Child g c = λ b s.
-    own-child b c.args.heap.now s c.args.o.birth c.args.name.now c.in-Child.child c.kind-in-Child.result c.kind-in-Child.ensures.kind c.args.what.now c.in-Child.is
+    own-child b c.args.heap.now s c.args.o.birth c.args.name.now c.in-Child.child c.kind-in-Child.result c.kind-in-Child.ensures.kind c.args.what.now
+    c.in-Child.is

@@ -8,19 +8,23 @@ use Rattle.qo_properties.proofs.reading.lookup.child_place.Goals as goal
 
 pub returns-then-is_child_named : goal.returns-then-is_child_named
 returns-then-is_child_named g c =
-    sym (place-here (is_object_named c.args.id.now) c.loop-view.at (slots_of c.args.heap.now c.args.o.birth) (c.in-Some.view.name.now, c.in-Some.view.what.now) (sym c.in-Some.ensures.slot) (sym c.is_child_named.ensures ∙ c.if-is_child_named.true))
+    sym (place-here (is_object_named c.args.id.now) c.loop-view.at (slots_of c.args.heap.now c.args.o.birth) (c.in-Some.view.name.now, c.in-Some.view.what.now)
+    (sym c.in-Some.ensures.slot) (sym c.is_child_named.ensures ∙ c.if-is_child_named.true))
     ∙ c.loop-view.invariant
 
 pub loop-view-smaller : goal.loop-view-smaller
 loop-view-smaller g c =
-    let within : c.loop-view.at < length (slots_of c.args.heap.now c.args.o.birth) = slice_get_within (slots_of c.args.heap.now c.args.o.birth) c.loop-view.at (c.in-Some.view.name.now, c.in-Some.view.what.now) (sym c.in-Some.ensures.slot) in
+    let within : c.loop-view.at < length (slots_of c.args.heap.now c.args.o.birth) = slice_get_within (slots_of c.args.heap.now c.args.o.birth) c.loop-view.at
+    (c.in-Some.view.name.now, c.in-Some.view.what.now) (sym c.in-Some.ensures.slot) in
     omega arith
 
 pub loop-view-preserved : goal.loop-view-preserved
 loop-view-preserved g c =
-    sym (place-next (is_object_named c.args.id.now) c.loop-view.at (slots_of c.args.heap.now c.args.o.birth) (c.in-Some.view.name.now, c.in-Some.view.what.now) (sym c.in-Some.ensures.slot) (sym c.is_child_named.ensures ∙ c.if-is_child_named.false))
+    sym (place-next (is_object_named c.args.id.now) c.loop-view.at (slots_of c.args.heap.now c.args.o.birth) (c.in-Some.view.name.now, c.in-Some.view.what.now)
+    (sym c.in-Some.ensures.slot) (sym c.is_child_named.ensures ∙ c.if-is_child_named.false))
     ∙ c.loop-view.invariant
 
 pub returns : goal.returns
 returns g c =
-    sym (place-past (is_object_named c.args.id.now) c.loop-view.at (slots_of c.args.heap.now c.args.o.birth) (sym c.in_default.ensures.slot)) ∙ c.loop-view.invariant
+    sym (place-past (is_object_named c.args.id.now) c.loop-view.at (slots_of c.args.heap.now c.args.o.birth) (sym c.in_default.ensures.slot))
+    ∙ c.loop-view.invariant

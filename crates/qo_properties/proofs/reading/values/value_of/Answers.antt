@@ -10,13 +10,16 @@ use Rattle.qo_properties.proofs.reading.values.value_of.Goals as goal
 
 pub returns-in_default : goal.returns-in_default
 returns-in_default g c = λ b s fit.
-    ap (option_and_then (slot_value b c.args.o.birth c.args.name.now)) (sym (named-is b c.args.heap.now s c.args.o.birth c.args.name.now None c.in_default.ensures.slot))
+    ap (option_and_then (slot_value b c.args.o.birth c.args.name.now))
+    (sym (named-is b c.args.heap.now s c.args.o.birth c.args.name.now None c.in_default.ensures.slot))
 
 pub returns-in-Alias : goal.returns-in-Alias
 returns-in-Alias g c = λ b s fit.
-    let passed : option_map (own_value b c.in-Alias.target.birth c.as_str.result.now) (board.slot_named b c.in-Alias.target.birth c.as_str.result.now) ≡ value_of b c.args.o.birth c.args.name.now =
+    let passed : option_map (own_value b c.in-Alias.target.birth c.as_str.result.now) (board.slot_named b c.in-Alias.target.birth c.as_str.result.now)
+    ≡ value_of b c.args.o.birth c.args.name.now =
     ap (λ (of : List ℕ). option_map (own_value b c.in-Alias.target.birth of) (board.slot_named b c.in-Alias.target.birth of)) c.as_str.ensures.value
-    ∙ read-alias b c.args.heap.now s c.args.o.birth c.args.name.now (c.in-Some.slot.name.now, c.in-Some.slot.what.now) c.in-Some.ensures.slot c.in-Alias.target c.in-Alias.of c.in-Alias.is in
+    ∙ read-alias b c.args.heap.now s c.args.o.birth c.args.name.now (c.in-Some.slot.name.now, c.in-Some.slot.what.now) c.in-Some.ensures.slot c.in-Alias.target
+    c.in-Alias.of c.in-Alias.is in
     let derived =
     derived-alias b c.args.heap.now s c.args.o.birth c.args.name.now (c.in-Some.slot.name.now, c.in-Some.slot.what.now)
     c.in-Some.ensures.slot c.in-Alias.target c.in-Alias.of c.in-Alias.is in
@@ -30,4 +33,5 @@ returns g c = λ b s fit.
     c.in-Some.ensures.slot (λ key of e. c.in_default-what.not-Alias key of e) in
     ap Some (c.in_ok-own_value.ensures b s (λ e. fit (derived ∙ e)))
     ∙ sym (read-own b c.args.o.birth c.args.name.now c.in-Some.slot.what.now (λ key of e. c.in_default-what.not-Alias key of e))
-    ∙ ap (option_and_then (slot_value b c.args.o.birth c.args.name.now)) (sym (named-is b c.args.heap.now s c.args.o.birth c.args.name.now (Some (c.in-Some.slot.name.now, c.in-Some.slot.what.now)) c.in-Some.ensures.slot))
+    ∙ ap (option_and_then (slot_value b c.args.o.birth c.args.name.now))
+    (sym (named-is b c.args.heap.now s c.args.o.birth c.args.name.now (Some (c.in-Some.slot.name.now, c.in-Some.slot.what.now)) c.in-Some.ensures.slot))

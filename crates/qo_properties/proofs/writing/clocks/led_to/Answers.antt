@@ -2,7 +2,7 @@
 use Rattle.std.proofs.Common.{ap, sym, ◌∙◌, ℕ, None, Some}
 use Rattle.qo_model.specs.ClockProperties.{led_by, own_property}
 use Rattle.qo_object.specs.declared.slots.Slot.{Slot}
-use Rattle.qo_object.specs.Shown.{shown_slot}
+use Rattle.qo_object.specs.BoardObject.{shown_slot}
 use Rattle.qo_properties.proofs.ClockLemmas.{led-is, led-own, own-gone}
 use Rattle.qo_properties.proofs.writing.clocks.led_to.Goals as goal
 

@@ -3,7 +3,7 @@ use Rattle.std.proofs.Common.{ap, sym, ◌∙◌, None, Some}
 use Rattle.qo_model.specs.Board.{plain}
 use Rattle.qo_model.specs.ClockProperties.{in_slot, set_row}
 use Rattle.qo_object.specs.declared.slots.Slot.{Slot}
-use Rattle.qo_object.specs.Shown.{shown_slot}
+use Rattle.qo_object.specs.BoardObject.{shown_slot}
 use Rattle.qo_properties.proofs.ClockLemmas.{in-other, own-is}
 use Rattle.qo_properties.proofs.writing.clocks.own_property.Goals as goal
 

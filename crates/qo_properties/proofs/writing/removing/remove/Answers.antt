@@ -12,7 +12,8 @@ returns-in_default-child_place-clause-change g c = λ b s.
 
 pub returns-clause-change : goal.returns-clause-change
 returns-clause-change g c = λ b s.
-    del-done b c.args.heap.now c.let_go.new.heap s c.args.id.now c.in-Some.objects.birth c.in-Some-child_place.at c.in-Some.ensures.born c.in-Some-child_place.ensures (c.let_go.ensures.release b s)
+    del-done b c.args.heap.now c.let_go.new.heap s c.args.id.now c.in-Some.objects.birth c.in-Some-child_place.at c.in-Some.ensures.born
+    c.in-Some-child_place.ensures (c.let_go.ensures.release b s)
 
 pub returns-clause-pins : goal.returns-clause-pins
 returns-clause-pins g c = let_go-same c.in-Some.objects.birth c.in-Some-child_place.at c.args.heap.now c.let_go.new.heap c.let_go.ensures.goes

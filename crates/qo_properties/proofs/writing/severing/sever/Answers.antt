@@ -1,6 +1,6 @@
 -- The links are let go, where the object is there and detached.
 use Rattle.std.proofs.Common.{sym}
-use Rattle.qo_heap.proofs.ShowsReads.{shows-live_key}
+use Rattle.qo_heap.proofs.BoardReads.{shows-live_key}
 use Rattle.qo_life.proofs.TreeLemmas.{goes-shows}
 use Rattle.qo_properties.specs.Changes.{severed}
 use Rattle.qo_properties.proofs.AnswerLemmas.{sever-absent, sever-attached, sever-done}
@@ -21,11 +21,13 @@ sever_links-requires-clause-room g c = pins-room c.args.heap.now c.requires.pinn
 pub returns-clause-change : goal.returns-clause-change
 returns-clause-change g c = λ b s.
     let live = shows-live_key b c.args.heap.now s c.in-Some.o c.in-Some.ensures.live in
-    sever-done b c.sever_links.new.heap c.args.birth c.in-Some.o.birth c.in-Some.ensures.born live (sym (c.if-is_attached.ensures b s)) (goes-shows (λ d. severed d c.in-Some.o.birth) c.args.heap.now c.sever_links.new.heap c.sever_links.ensures b s)
+    sever-done b c.sever_links.new.heap c.args.birth c.in-Some.o.birth c.in-Some.ensures.born live (sym (c.if-is_attached.ensures b s))
+    (goes-shows (λ d. severed d c.in-Some.o.birth) c.args.heap.now c.sever_links.new.heap c.sever_links.ensures b s)
 
 pub returns-clause-pinned : goal.returns-clause-pinned
 returns-clause-pinned g c =
-    goes-pins (λ b. severed b c.in-Some.o.birth) c.args.heap.now c.sever_links.new.heap c.sever_links.ensures c.requires.pinned (severed-keeps c.in-Some.o.birth)
+    goes-pins (λ b. severed b c.in-Some.o.birth) c.args.heap.now c.sever_links.new.heap c.sever_links.ensures c.requires.pinned
+    (severed-keeps c.in-Some.o.birth)
 
 pub returns-clause-book : goal.returns-clause-book
 returns-clause-book g c = c.sever_links.ensures.book

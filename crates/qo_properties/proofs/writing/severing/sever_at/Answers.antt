@@ -1,6 +1,6 @@
 -- A strong link is let go, any other slot stays.
 use Rattle.std.proofs.Common.{sym, ◌∙◌}
-use Rattle.qo_properties.proofs.SeverLemmas.{goes-severed, goes-unsevered}
+use Rattle.qo_properties.proofs.SeveringLemmas.{goes-severed, goes-unsevered}
 use Rattle.qo_properties.proofs.writing.severing.sever_at.Goals as goal
 
 pub returns-then-is_strong_at : goal.returns-then-is_strong_at

@@ -1,13 +1,13 @@
 use Rattle.std.proofs.Common.{refl, subst, ◌∙◌}
 use Rattle.qo_table.specs.Rows.{IsLive}
 use Rattle.qo_object.specs.Content.{dropped_at}
-use Rattle.qo_object.specs.Shown.{birth_of}
+use Rattle.qo_object.specs.BoardObject.{birth_of}
 use Rattle.qo_model.specs.Board.{Board}
 use Rattle.qo_model.specs.Properties.{pointed_at}
 use Rattle.qo_model.specs.Release.{drop_slot}
 use Rattle.qo_heap.specs.Board.{Shows}
 use Rattle.qo_heap.proofs.HeapLemmas.{live-edit}
-use Rattle.qo_heap.proofs.ShowsEdits.{shows-drop_slot}
+use Rattle.qo_heap.proofs.BoardEdits.{shows-drop_slot}
 use Rattle.qo_properties.proofs.ClaimLemmas.{edit-keeps}
 use Rattle.qo_properties.proofs.PinLemmas.{edited-pins, hold-pins}
 use Rattle.qo_properties.proofs.WriteLemmas.{emptied-link, held-live, relinked-is, some-live}
@@ -18,7 +18,8 @@ point_at-requires-clause-live g c = rw c.empty.ensures.now (live-edit c.args.o.b
 
 pub point_at-requires-clause-target : goal.point_at-requires-clause-target
 point_at-requires-clause-target g c =
-    some-live (IsLive c.args.heap.now.rows) (IsLive c.empty.new.self.rows) (λ key live. rw c.empty.ensures.now (live-edit c.args.o.birth (dropped_at c.args.at) c.args.heap.now.rows key live)) c.args.target c.requires.target
+    some-live (IsLive c.args.heap.now.rows) (IsLive c.empty.new.self.rows)
+    (λ key live. rw c.empty.ensures.now (live-edit c.args.o.birth (dropped_at c.args.at) c.args.heap.now.rows key live)) c.args.target c.requires.target
 
 pub point_at-requires-clause-link : goal.point_at-requires-clause-link
 point_at-requires-clause-link g c = rw c.empty.ensures.now (emptied-link c.args.heap.now c.args.o c.args.at c.requires.live c.requires.link)
@@ -30,9 +31,11 @@ drop_hold-requires g c =
 
 pub returns-clause-shown : goal.returns-clause-shown
 returns-clause-shown g c = λ b s.
-    let dropped : Shows (drop_slot b c.args.o.birth c.args.at) c.empty.new.self = rw c.empty.ensures.now (shows-drop_slot b c.args.heap.now s c.args.o.birth c.args.at) in
+    let dropped : Shows (drop_slot b c.args.o.birth c.args.at) c.empty.new.self =
+    rw c.empty.ensures.now (shows-drop_slot b c.args.heap.now s c.args.o.birth c.args.at) in
     let there = c.point_at.ensures.shown (drop_slot b c.args.o.birth c.args.at) dropped in
-    subst (λ (x : Board). Shows x c.drop_hold.new.heap) (relinked-is b c.args.heap.now s c.args.o.birth c.args.at (birth_of c.args.target) c.held_at-held.result c.requires.link c.held_at-held.ensures)
+    subst (λ (x : Board). Shows x c.drop_hold.new.heap)
+    (relinked-is b c.args.heap.now s c.args.o.birth c.args.at (birth_of c.args.target) c.held_at-held.result c.requires.link c.held_at-held.ensures)
     (c.drop_hold.ensures.release (pointed_at (birth_of c.args.target) c.args.o.birth c.args.at (drop_slot b c.args.o.birth c.args.at)) there)
 
 pub returns-clause-pins : goal.returns-clause-pins

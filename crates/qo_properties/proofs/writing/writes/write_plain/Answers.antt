@@ -1,7 +1,7 @@
 use Rattle.std.proofs.Common.{◌≡◌, refl, true, false, sym, ◌∙◌}
 use Rattle.qo_values.specs.Properties.{admits}
 use Rattle.qo_model.specs.Changes.{set}
-use Rattle.qo_heap.proofs.ShowsChanges.{shows-set}
+use Rattle.qo_heap.proofs.BoardChanges.{shows-set}
 use Rattle.qo_object.specs.Content.{set_at}
 use Rattle.qo_properties.proofs.ClaimLemmas.{edit-keeps}
 use Rattle.qo_properties.proofs.PinLemmas.{edited-pins}
@@ -19,8 +19,11 @@ returns-in-Err-clause-written g c = λ b s.
 
 pub returns-clause-written : goal.returns-clause-written
 returns-clause-written g c = λ b s.
-    let fits : admits c.args.ty c.args.val.now ≡ true = sym c.in_default.ensures in
-    (set c.args.o.birth c.args.at c.args.val.now b, plain-is b c.args.heap.now s c.args.o.birth c.args.at c.args.val.now c.args.ty true (sym c.is_plain.ensures ∙ c.if-not-is_plain.false) ∙ rw fits refl, rw (c.set.ensures.now, c.in_ok-copy.ensures) (shows-set b c.args.heap.now s c.args.o.birth c.args.at c.args.val.now))
+    let fits : admits c.args.ty c.args.val.now ≡ true = sym c.in_default.ensures in (
+      set c.args.o.birth c.args.at c.args.val.now b,
+      plain-is b c.args.heap.now s c.args.o.birth c.args.at c.args.val.now c.args.ty true (sym c.is_plain.ensures ∙ c.if-not-is_plain.false) ∙ rw fits refl,
+      rw (c.set.ensures.now, c.in_ok-copy.ensures) (shows-set b c.args.heap.now s c.args.o.birth c.args.at c.args.val.now),
+    )
 
 pub returns-clause-pins : goal.returns-clause-pins
 returns-clause-pins g c = edited-pins c.args.heap.now c.set.new.self c.args.o.birth (set_at c.in_ok-copy.copy c.args.at) (λ d. refl) c.set.ensures.now

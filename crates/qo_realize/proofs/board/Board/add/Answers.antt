@@ -1,11 +1,11 @@
 -- The device is added, or what refuses it is told.
 use Rattle.std.proofs.Common.{sym, subst, Ok, Err}
 use Rattle.std.specs.Prelude.{option_map}
-use Rattle.qo_plug.specs.Added.{wanted}
+use Rattle.qo_plug.specs.Admission.{wanted}
 use Rattle.qo_realize.specs.Parts.{Parts, parts_of}
-use Rattle.qo_realize.specs.Stands.{Stands}
+use Rattle.qo_realize.specs.Representation.{Stands}
 use Rattle.qo_realize.proofs.PlugLemmas.{added-stands, barred-stands, is_shown, plugs-good, stands-pinned}
-use Rattle.qo_realize.proofs.SoundLemmas.{good-of}
+use Rattle.qo_realize.proofs.GoodBoardLemmas.{good-of}
 use Rattle.qo_realize.proofs.board.Board.add.Goals as goal
 
 pub invariant_of-self : goal.invariant_of-self

@@ -1,9 +1,9 @@
 -- The board at the later moment stands.
 use Rattle.std.proofs.Common.{◌≤◌, ℕ, sym, subst, ◌∙◌}
 use Rattle.qo_heap.specs.Objects.{Objects}
-use Rattle.qo_properties.specs.Pinned.{OnlyRootPinned}
+use Rattle.qo_properties.specs.Pins.{OnlyRootPinned}
 use Rattle.qo_realize.specs.Parts.{parts_of}
-use Rattle.qo_realize.specs.Stands.{StandsForGood}
+use Rattle.qo_realize.specs.Representation.{StandsForGood}
 use Rattle.qo_realize.proofs.TimeLemmas.{later-is, timed-for-good}
 use Rattle.qo_realize.proofs.board.Board.advance.Goals as goal
 

@@ -1,7 +1,7 @@
 -- The board with the removal that is asked for stands.
 use Rattle.qo_model.specs.Hotplug.{asked}
-use Rattle.qo_realize.proofs.AskLemmas.{asks-sound, is_asked}
-use Rattle.qo_realize.proofs.SoundLemmas.{asked-good}
+use Rattle.qo_realize.proofs.RemovalLemmas.{asks-sound, is_asked}
+use Rattle.qo_realize.proofs.GoodBoardLemmas.{asked-good}
 use Rattle.qo_realize.proofs.board.Board.ask_removal.Goals as goal
 
 pub invariant_of-self : goal.invariant_of-self

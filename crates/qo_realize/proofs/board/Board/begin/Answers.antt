@@ -1,9 +1,9 @@
 -- The device is begun on the board that stood, or what refuses it is told.
 use Rattle.std.proofs.Common.{Err}
 use Rattle.std.specs.Prelude.{option_map}
-use Rattle.qo_plug.specs.Added.{wanted}
+use Rattle.qo_plug.specs.Admission.{wanted}
 use Rattle.qo_realize.proofs.PlugLemmas.{plugs-good}
-use Rattle.qo_realize.proofs.SoundLemmas.{good-of}
+use Rattle.qo_realize.proofs.GoodBoardLemmas.{good-of}
 use Rattle.qo_realize.proofs.StageLemmas.{begun-barred, begun-drafted}
 use Rattle.qo_realize.proofs.board.Board.begin.Goals as goal
 

@@ -2,7 +2,7 @@
 use Rattle.std.proofs.Common.{sym, subst, ℕ}
 use Rattle.qo_realize.specs.Chardevs.{ChangesRings, chardev_added, ring_added}
 use Rattle.qo_realize.specs.Parts.{Parts, parts_of}
-use Rattle.qo_realize.specs.Stands.{Stands}
+use Rattle.qo_realize.specs.Representation.{Stands}
 use Rattle.qo_realize.proofs.ChardevLemmas.{rings-change, rings-sound}
 use Rattle.qo_realize.proofs.board.Board.chardev_add.Goals as goal
 

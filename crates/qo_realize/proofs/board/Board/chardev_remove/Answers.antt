@@ -2,7 +2,7 @@
 use Rattle.std.proofs.Common.{sym, subst}
 use Rattle.qo_realize.specs.Chardevs.{chardev_removed}
 use Rattle.qo_realize.specs.Parts.{Parts, parts_of}
-use Rattle.qo_realize.specs.Stands.{Stands}
+use Rattle.qo_realize.specs.Representation.{Stands}
 use Rattle.qo_realize.proofs.ChardevLemmas.{rings-answer, rings-sound}
 use Rattle.qo_realize.proofs.board.Board.chardev_remove.Goals as goal
 

@@ -1,11 +1,11 @@
 -- The board without its events stands.
 use Rattle.std.proofs.Common.{sym, subst, []}
 use Rattle.qo_heap.specs.Objects.{Objects}
-use Rattle.qo_properties.specs.Pinned.{OnlyRootPinned}
+use Rattle.qo_properties.specs.Pins.{OnlyRootPinned}
 use Rattle.qo_realize.specs.Parts.{parts_of}
-use Rattle.qo_realize.specs.Stands.{StandsForGood}
-use Rattle.qo_realize.proofs.SoundLemmas.{cleared-good}
-use Rattle.qo_realize.proofs.StandsLemmas.{cleared-stands}
+use Rattle.qo_realize.specs.Representation.{StandsForGood}
+use Rattle.qo_realize.proofs.GoodBoardLemmas.{cleared-good}
+use Rattle.qo_realize.proofs.RepresentationLemmas.{cleared-stands}
 use Rattle.qo_realize.proofs.board.Board.clear_events.Goals as goal
 
 pub invariant_of-self : goal.invariant_of-self

@@ -2,10 +2,10 @@
 use Rattle.std.proofs.Common.{ap, sym, subst, ◌∙◌}
 use Rattle.qo_model.specs.Depth.{among}
 use Rattle.qo_realize.specs.Parts.{Parts, parts_of}
-use Rattle.qo_realize.specs.Stands.{Stands}
-use Rattle.qo_unplug.proofs.DetachLemmas.{once-pinned}
-use Rattle.qo_realize.proofs.CompleteLemmas.{completed-sound, completed-stands, is_beside, timely-heap}
-use Rattle.qo_realize.proofs.SoundLemmas.{good-of}
+use Rattle.qo_realize.specs.Representation.{Stands}
+use Rattle.qo_unplug.proofs.DetachmentLemmas.{once-pinned}
+use Rattle.qo_realize.proofs.CompletionLemmas.{completed-sound, completed-stands, is_beside, timely-heap}
+use Rattle.qo_realize.proofs.GoodBoardLemmas.{good-of}
 use Rattle.qo_realize.proofs.board.Board.complete.Goals as goal
 
 pub detach-requires-clause-timely : goal.detach-requires-clause-timely

@@ -2,7 +2,7 @@
 use Rattle.std.proofs.Common.{sym, subst, ◌+◌, ◌∙◌}
 use Rattle.qo_model.specs.Hotplug.{all_completed}
 use Rattle.qo_realize.specs.Parts.{Parts}
-use Rattle.qo_realize.specs.Stands.{Stands}
+use Rattle.qo_realize.specs.Representation.{Stands}
 use Rattle.qo_realize.proofs.ResetLemmas.{more-none, more-some, none-told}
 use Rattle.qo_realize.proofs.board.Board.complete_all.Goals as goal
 use Rattle.qo_realize.proofs.board.Board.complete_all.Goals.{in-Some, in_default}

@@ -1,7 +1,7 @@
 -- As many removals as were gone through have come to their end.
 use Rattle.qo_model.specs.Board.{Board}
 use Rattle.qo_model.specs.Hotplug.{all_completed}
-use Rattle.qo_realize.specs.Stands.{Stands}
+use Rattle.qo_realize.specs.Representation.{Stands}
 use Rattle.qo_realize.proofs.board.Board.complete_all.Given as goal
 
 abbrev pub invariant-loop-turn : goal.invariant-loop-turn

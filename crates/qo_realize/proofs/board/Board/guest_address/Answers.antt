@@ -2,7 +2,7 @@
 use Rattle.std.proofs.Common.{sym, subst, ap, ◌∙◌, List, ℕ}
 use Rattle.qo_guest.specs.declared.addresses.Addr.TheVariants.{Slots}
 use Rattle.qo_realize.specs.Parts.{Parts}
-use Rattle.qo_realize.specs.Stands.{Stands}
+use Rattle.qo_realize.specs.Representation.{Stands}
 use Rattle.qo_realize.proofs.GuestLemmas.{gone-address}
 use Rattle.qo_realize.proofs.board.Board.guest_address.Goals as goal
 

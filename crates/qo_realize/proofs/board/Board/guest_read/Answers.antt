@@ -7,9 +7,9 @@ use Rattle.qo_table.specs.Rows.{IsLive}
 use Rattle.qo_model.specs.Clocks.{device_period}
 use Rattle.qo_realize.specs.Registers.{registers_at}
 use Rattle.qo_realize.specs.Parts.{Parts, parts_of}
-use Rattle.qo_realize.specs.Stands.{Stands}
+use Rattle.qo_realize.specs.Representation.{Stands}
 use Rattle.qo_realize.proofs.RegisterLemmas.{board-call, body-timely, timely-there}
-use Rattle.qo_realize.proofs.SoundLemmas.{good-of}
+use Rattle.qo_realize.proofs.GoodBoardLemmas.{good-of}
 use Rattle.qo_realize.proofs.board.Board.guest_read.Goals as goal
 
 pub read-requires : goal.read-requires

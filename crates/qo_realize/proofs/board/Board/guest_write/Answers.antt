@@ -1,9 +1,9 @@
--- The board behind the write stands, or the board as it was.
+-- The board after the write stands, or the board as it was.
 use Rattle.std.proofs.Common.{sym, subst}
 use Rattle.qo_realize.specs.Parts.{Parts, parts_of}
-use Rattle.qo_realize.specs.Stands.{Stands}
+use Rattle.qo_realize.specs.Representation.{Stands}
 use Rattle.qo_realize.proofs.RegisterLemmas.{timely-there, write-keeps, write-stands}
-use Rattle.qo_realize.proofs.SoundLemmas.{good-of}
+use Rattle.qo_realize.proofs.GoodBoardLemmas.{good-of}
 use Rattle.qo_realize.proofs.board.Board.guest_write.Goals as goal
 
 pub write_through-requires-clause-timely : goal.write_through-requires-clause-timely

@@ -1,8 +1,8 @@
 -- An object that is not there lists nothing.
 use Rattle.std.proofs.Common.{sym, subst}
 use Rattle.qo_realize.specs.Parts.{Parts}
-use Rattle.qo_realize.specs.Stands.{Stands}
-use Rattle.qo_realize.proofs.StandsLemmas.{none-listed}
+use Rattle.qo_realize.specs.Representation.{Stands}
+use Rattle.qo_realize.proofs.RepresentationLemmas.{none-listed}
 use Rattle.qo_realize.proofs.board.Board.object.Goals as goal
 
 pub returns-clause-none : goal.returns-clause-none

@@ -1,10 +1,10 @@
 use Rattle.std.proofs.Common.{sym, subst, ◌∙◌}
 use Rattle.qo_model.specs.FinalNotesRuns.{deleted}
-use Rattle.qo_realize.proofs.SoundLemmas.{changed-good}
+use Rattle.qo_realize.proofs.GoodBoardLemmas.{changed-good}
 use Rattle.qo_realize.specs.Parts.{Parts}
 use Rattle.qo_realize.proofs.UserLemmas.{answered-free, answered-used}
-use Rattle.qo_realize.specs.Stands.{Stands}
-use Rattle.qo_realize.proofs.StandsLemmas.{answered-sound, err-stays, del-stands}
+use Rattle.qo_realize.specs.Representation.{Stands}
+use Rattle.qo_realize.proofs.RepresentationLemmas.{answered-sound, err-stays, del-stands}
 use Rattle.qo_realize.proofs.board.Board.object_del.Goals as goal
 
 pub returns-then-is_used-clause-change : goal.returns-then-is_used-clause-change
@@ -26,5 +26,8 @@ returns-clause-err g c =
 
 pub invariant_of-self : goal.invariant_of-self
 invariant_of-self g c =
-    let (b, s, sound) = c.self.invariant.1 in
-    (c.remove.ensures.pins ∙ c.self.invariant.0, answered-sound _ c.remove.result _ (changed-good b (deleted c.args.id.now) sound) (del-stands b _ c.remove.new.heap c.args.id.now c.remove.result s (c.remove.ensures.change b s.shows) c.remove.ensures.book))
+    let (b, s, sound) = c.self.invariant.1 in (
+      c.remove.ensures.pins ∙ c.self.invariant.0,
+      answered-sound _ c.remove.result _ (changed-good b (deleted c.args.id.now) sound)
+          (del-stands b _ c.remove.new.heap c.args.id.now c.remove.result s (c.remove.ensures.change b s.shows) c.remove.ensures.book),
+    )

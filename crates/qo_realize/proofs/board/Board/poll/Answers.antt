@@ -1,11 +1,11 @@
 -- The board without the notice stands.
 use Rattle.std.proofs.Common.{sym, subst}
-use Rattle.qo_hotplug.specs.Asked.{Asked}
+use Rattle.qo_hotplug.specs.Hotplug.{Asked}
 use Rattle.qo_realize.specs.Parts.{parts_of}
-use Rattle.qo_realize.specs.Stands.{StandsForGood}
+use Rattle.qo_realize.specs.Representation.{StandsForGood}
 use Rattle.qo_realize.specs.Guest.{polled}
-use Rattle.qo_realize.proofs.AskLemmas.{polled-stands}
-use Rattle.qo_realize.proofs.SoundLemmas.{polled-good}
+use Rattle.qo_realize.proofs.RemovalLemmas.{polled-stands}
+use Rattle.qo_realize.proofs.GoodBoardLemmas.{polled-good}
 use Rattle.qo_realize.proofs.board.Board.poll.Goals as goal
 
 pub invariant_of-self : goal.invariant_of-self

@@ -2,7 +2,7 @@
 use Rattle.std.proofs.Common.{sym, subst, ℕ}
 use Rattle.qo_model.specs.Reset.{pulse}
 use Rattle.qo_realize.specs.Parts.{Parts, parts_of}
-use Rattle.qo_realize.specs.Stands.{Stands}
+use Rattle.qo_realize.specs.Representation.{Stands}
 use Rattle.qo_realize.proofs.HoldLemmas.{acts-keep, pulse-keeps, pulse-stands}
 use Rattle.qo_realize.proofs.ResetLemmas.{machine-there, none-said}
 use Rattle.qo_realize.proofs.board.Board.pulse_machine.Goals as goal

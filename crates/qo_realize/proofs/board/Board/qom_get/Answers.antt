@@ -1,7 +1,7 @@
 use Rattle.std.proofs.Common.{sym, subst}
 use Rattle.qo_realize.specs.Parts.{Parts}
-use Rattle.qo_realize.specs.Stands.{Stands}
-use Rattle.qo_realize.proofs.SoundLemmas.{good-of}
+use Rattle.qo_realize.specs.Representation.{Stands}
+use Rattle.qo_realize.proofs.GoodBoardLemmas.{good-of}
 use Rattle.qo_realize.proofs.board.Board.qom_get.Goals as goal
 
 pub returns : goal.returns

@@ -1,7 +1,7 @@
 -- The object at a path, by its birth.
 use Rattle.std.proofs.Common.{sym, subst}
 use Rattle.qo_realize.specs.Parts.{Parts}
-use Rattle.qo_realize.specs.Stands.{Stands}
+use Rattle.qo_realize.specs.Representation.{Stands}
 use Rattle.qo_realize.proofs.board.Board.qom_list.Goals as goal
 
 pub returns-in-Ok : goal.returns-in-Ok

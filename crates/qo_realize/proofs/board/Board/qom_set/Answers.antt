@@ -1,9 +1,9 @@
 use Rattle.std.proofs.Common.{sym, subst, ◌∙◌}
 use Rattle.qo_realize.specs.Parts.{Parts}
-use Rattle.qo_realize.specs.Stands.{Stands}
-use Rattle.qo_realize.proofs.SoundLemmas.{good-of}
-use Rattle.qo_realize.proofs.StandsLemmas.{err-stays, write-stands, written-sound}
-use Rattle.qo_unplug.proofs.TimelyLemmas.{times-timely}
+use Rattle.qo_realize.specs.Representation.{Stands}
+use Rattle.qo_realize.proofs.GoodBoardLemmas.{good-of}
+use Rattle.qo_realize.proofs.RepresentationLemmas.{err-stays, write-stands, written-sound}
+use Rattle.qo_unplug.proofs.MomentLemmas.{times-timely}
 use Rattle.qo_realize.proofs.board.Board.qom_set.Goals as goal
 
 pub set-requires : goal.set-requires
@@ -23,5 +23,8 @@ returns-clause-err g c =
 
 pub invariant_of-self : goal.invariant_of-self
 invariant_of-self g c =
-    let (b, s, sound) = c.self.invariant.1 in
-    (c.set.ensures.pins ∙ c.self.invariant.0, written-sound b _ c.set.new.heap c.args.path.now c.args.name.now c.args.val.now c.set.result s sound (write-stands b _ c.set.new.heap c.args.path.now c.args.name.now c.args.val.now c.set.result s (c.set.ensures.written b s.shows (λ clock. sound.clocks.fit)) c.set.ensures.book) c.set.ensures.err)
+    let (b, s, sound) = c.self.invariant.1 in (
+      c.set.ensures.pins ∙ c.self.invariant.0,
+      written-sound b _ c.set.new.heap c.args.path.now c.args.name.now c.args.val.now c.set.result s sound (write-stands b _ c.set.new.heap c.args.path.now
+          c.args.name.now c.args.val.now c.set.result s (c.set.ensures.written b s.shows (λ clock. sound.clocks.fit)) c.set.ensures.book) c.set.ensures.err,
+    )

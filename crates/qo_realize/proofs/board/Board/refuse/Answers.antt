@@ -1,8 +1,8 @@
 -- The board whose device stays stands.
 use Rattle.std.proofs.Common.{sym, subst}
 use Rattle.qo_realize.specs.Parts.{Parts}
-use Rattle.qo_realize.specs.Stands.{Stands}
-use Rattle.qo_realize.proofs.RefuseLemmas.{refuse-invariant, refuse-returns}
+use Rattle.qo_realize.specs.Representation.{Stands}
+use Rattle.qo_realize.proofs.RefusalLemmas.{refuse-invariant, refuse-returns}
 use Rattle.qo_realize.proofs.board.Board.refuse.Goals as goal
 
 pub invariant_of-self : goal.invariant_of-self

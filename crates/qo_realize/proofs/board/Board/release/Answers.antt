@@ -1,7 +1,7 @@
 -- The board without the hold stands, or the board as it was.
 use Rattle.std.proofs.Common.{sym, subst}
 use Rattle.qo_realize.specs.Parts.{Parts}
-use Rattle.qo_realize.specs.Stands.{Stands}
+use Rattle.qo_realize.specs.Representation.{Stands}
 use Rattle.qo_realize.proofs.HoldLemmas.{acts-keep, release-answers, release-keeps}
 use Rattle.qo_realize.proofs.board.Board.release.Goals as goal
 

@@ -3,7 +3,7 @@ use Rattle.std.proofs.Common.{sym, subst}
 use Rattle.qo_values.specs.declared.forms.Form.{Form}
 use Rattle.qo_realize.specs.Chardevs.{ChangesRings, ring_written, ringbuf_written}
 use Rattle.qo_realize.specs.Parts.{Parts, parts_of}
-use Rattle.qo_realize.specs.Stands.{Stands}
+use Rattle.qo_realize.specs.Representation.{Stands}
 use Rattle.qo_realize.proofs.ChardevLemmas.{rings-change, rings-sound}
 use Rattle.qo_realize.proofs.board.Board.ringbuf_write.Goals as goal
 

@@ -1,9 +1,9 @@
 use Rattle.std.proofs.Common.{sym, subst}
 use Rattle.qo_model.specs.FinalNotesRuns.{severed}
-use Rattle.qo_realize.proofs.SoundLemmas.{changed-good}
+use Rattle.qo_realize.proofs.GoodBoardLemmas.{changed-good}
 use Rattle.qo_realize.specs.Parts.{Parts}
-use Rattle.qo_realize.specs.Stands.{Stands}
-use Rattle.qo_realize.proofs.StandsLemmas.{answered-sound, err-stays, sever-stands}
+use Rattle.qo_realize.specs.Representation.{Stands}
+use Rattle.qo_realize.proofs.RepresentationLemmas.{answered-sound, err-stays, sever-stands}
 use Rattle.qo_realize.proofs.board.Board.sever.Goals as goal
 
 pub returns-clause-change : goal.returns-clause-change
@@ -19,5 +19,8 @@ returns-clause-err g c =
 
 pub invariant_of-self : goal.invariant_of-self
 invariant_of-self g c =
-    let (b, s, sound) = c.self.invariant.1 in
-    (c.sever.ensures.pinned, answered-sound _ c.sever.result _ (changed-good b (severed c.args.birth) sound) (sever-stands b _ c.sever.new.heap c.args.birth c.sever.result s (c.sever.ensures.change b s.shows) c.sever.ensures.book))
+    let (b, s, sound) = c.self.invariant.1 in (
+      c.sever.ensures.pinned,
+      answered-sound _ c.sever.result _ (changed-good b (severed c.args.birth) sound)
+          (sever-stands b _ c.sever.new.heap c.args.birth c.sever.result s (c.sever.ensures.change b s.shows) c.sever.ensures.book),
+    )

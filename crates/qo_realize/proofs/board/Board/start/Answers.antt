@@ -1,6 +1,6 @@
 use Rattle.qo_model.specs.Opening.{opening_board}
-use Rattle.qo_realize.proofs.SoundLemmas.{opening-good}
-use Rattle.qo_realize.proofs.StandsLemmas.{opens}
+use Rattle.qo_realize.proofs.GoodBoardLemmas.{opening-good}
+use Rattle.qo_realize.proofs.RepresentationLemmas.{opens}
 use Rattle.qo_realize.proofs.board.Board.start.Goals as goal
 
 pub returns : goal.returns

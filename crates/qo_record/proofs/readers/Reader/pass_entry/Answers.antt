@@ -2,7 +2,7 @@
 use Rattle.std.proofs.Common.{List, ◌+◌, ◌∷◌, ◌∙◌, ap, sym, subst, option_map, drop}
 use Rattle.qo_causes.specs.declared.inputs.Input.{Input}
 use Rattle.qo_record.proofs.ReplayLemmas.{first_bad, first_inputs, first_some, first_went, passed_is}
-use Rattle.qo_record.specs.Replays.{Progress, Went, bad_ahead, inputs_ahead, told_place}
+use Rattle.qo_record.specs.Replays.{Progress, Went, bad_ahead, inputs_ahead, capped_offset}
 use Rattle.qo_record.proofs.readers.Reader.pass_entry.Goals as goal
 
 pub returns-clause-some : goal.returns-clause-some
@@ -14,7 +14,7 @@ returns-clause-inputs c =
     let f = c.args.first in
     let on = ap (λ (q : Progress). q.headed) c.self.view_is ∙ c.requires.headed in
     let kept = c.let_go.ensures ∙ ap (λ (q : Progress). drop f.size q.held) c.self.view_is in
-    let moved = c.saturating_add-self-inside.ensures ∙ ap (λ (q : Progress). told_place (q.place + f.size)) c.self.view_is in
+    let moved = c.saturating_add-self-inside.ensures ∙ ap (λ (q : Progress). capped_offset (q.place + f.size)) c.self.view_is in
     let is = passed_is p f _ _ _ on c.requires.first kept moved in
     λ left. first_inputs p f left c.requires.headed c.requires.first ∙ ap (λ (q : Progress). option_map (λ (l : List Input). f.input ∷ l)
     (inputs_ahead q left)) (sym is)
@@ -25,7 +25,7 @@ returns-clause-bad c =
     let f = c.args.first in
     let on = ap (λ (q : Progress). q.headed) c.self.view_is ∙ c.requires.headed in
     let kept = c.let_go.ensures ∙ ap (λ (q : Progress). drop f.size q.held) c.self.view_is in
-    let moved = c.saturating_add-self-inside.ensures ∙ ap (λ (q : Progress). told_place (q.place + f.size)) c.self.view_is in
+    let moved = c.saturating_add-self-inside.ensures ∙ ap (λ (q : Progress). capped_offset (q.place + f.size)) c.self.view_is in
     let is = passed_is p f _ _ _ on c.requires.first kept moved in
     λ left. ap (λ (q : Progress). bad_ahead q left) is ∙ first_bad p f left c.requires.headed c.requires.first
 
@@ -35,6 +35,6 @@ returns-clause-went c =
     let f = c.args.first in
     let on = ap (λ (q : Progress). q.headed) c.self.view_is ∙ c.requires.headed in
     let kept = c.let_go.ensures ∙ ap (λ (q : Progress). drop f.size q.held) c.self.view_is in
-    let moved = c.saturating_add-self-inside.ensures ∙ ap (λ (q : Progress). told_place (q.place + f.size)) c.self.view_is in
+    let moved = c.saturating_add-self-inside.ensures ∙ ap (λ (q : Progress). capped_offset (q.place + f.size)) c.self.view_is in
     let is = passed_is p f _ _ _ on c.requires.first kept moved in
     λ left. subst (λ (q : Progress). Went p q left left) (sym is) (first_went p f left c.requires.headed c.requires.first)

@@ -6,4 +6,5 @@ use Rattle.qo_replies.proofs.properties.PropertyList.push.Goals as goal
 pub returns : goal.returns
 returns c =
     λ rows h.
-    written_more rows (c.args.name.now, text_of c.args.ty) c.args.self.now _ h (rw (← c.self.view_is) c.in_ok-push_property.ensures.bytes) (rw (← c.self.view_is) c.in_ok-push_property.ensures.spelled) refl
+    written_more rows (c.args.name.now, text_of c.args.ty) c.args.self.now _ h (rw (← c.self.view_is) c.in_ok-push_property.ensures.bytes)
+    (rw (← c.self.view_is) c.in_ok-push_property.ensures.spelled) refl

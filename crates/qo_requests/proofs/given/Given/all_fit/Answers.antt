@@ -1,5 +1,5 @@
 use Rattle.std.proofs.Common.{◌∙◌}
-use Rattle.qo_requests.proofs.GivenLemmas.{fit_by_three}
+use Rattle.qo_requests.proofs.ArgumentMemberLemmas.{fit_by_three}
 use Rattle.qo_requests.proofs.given.Given.all_fit.Goals as goal
 
 pub returns : goal.returns

@@ -1,5 +1,5 @@
 use Rattle.std.proofs.Common.{◌∙◌}
-use Rattle.qo_requests.proofs.GivenLemmas.{stand_by_three}
+use Rattle.qo_requests.proofs.ArgumentMemberLemmas.{stand_by_three}
 use Rattle.qo_requests.proofs.given.Given.all_stand.Goals as goal
 
 pub returns : goal.returns

@@ -5,8 +5,8 @@ use Rattle.std.specs.Prelude.{slice_get}
 use Rattle.qo_json.proofs.MemberLemmas.{Member}
 use Rattle.qo_json.specs.View.{members_view}
 use Rattle.qo_requests.specs.Arguments.{all_named, all_plain}
-use Rattle.qo_requests.specs.Given.{member_of}
-use Rattle.qo_requests.proofs.GivenLemmas.{part_on, plain_by}
+use Rattle.qo_requests.specs.ArgumentMembers.{member_of}
+use Rattle.qo_requests.proofs.ArgumentMemberLemmas.{part_on, plain_by}
 use Rattle.qo_requests.proofs.MemberLemmas.{beside_three, others_on}
 use Rattle.qo_requests.proofs.given.Given.among.Goals as goal
 

@@ -3,7 +3,7 @@ use Rattle.std.proofs.Common.{◌≡◌, drop, not, option_map}
 use Rattle.std.specs.Prelude.{◌&&◌, slice_get}
 use Rattle.qo_json.specs.View.{members_view, view}
 use Rattle.qo_requests.specs.Arguments.{all_named, all_plain}
-use Rattle.qo_requests.proofs.GivenLemmas.{IsJoined}
+use Rattle.qo_requests.proofs.ArgumentMemberLemmas.{IsJoined}
 use Rattle.qo_requests.proofs.given.Given.among.Given as goal
 
 abbrev pub invariant-loop-member : goal.invariant-loop-member

@@ -3,13 +3,13 @@ use Rattle.qo_model.specs.Depth.{among}
 use Rattle.qo_model.specs.Release.{without_first}
 use Rattle.qo_reset.specs.Phases.{births_of}
 use Rattle.qo_reset.proofs.BoardLemmas.{released-holds}
-use Rattle.qo_reset.proofs.HoldLemmas.{less-hold, place-none, place-some, place_of}
+use Rattle.qo_reset.proofs.HoldLemmas.{less-hold, place-none, place-some, hold_index}
 use Rattle.qo_reset.proofs.resets.Resets.release.Goals as goal
 
 pub returns-clause-shown : goal.returns-clause-shown
 returns-clause-shown g c = λ b s.
     let eq : c.args.self.now.births ≡ births_of c.deref.result.now = search rules in
-    let place : place_of c.args.root.birth c.deref.result.now ≡ Some c.in-Some.at = sym c.in-Some.ensures in
+    let place : hold_index c.args.root.birth c.deref.result.now ≡ Some c.in-Some.at = sym c.in-Some.ensures in
     let now : c.deref-2.result.now ≡ remove c.deref.result.now c.in-Some.at = search rules in
     let less : births_of (remove c.deref.result.now c.in-Some.at) ≡ without_first c.args.root.birth (births_of c.deref.result.now) =
     less-hold c.args.root.birth c.deref.result.now c.in-Some.at place in
@@ -21,7 +21,7 @@ returns-clause-shown g c = λ b s.
 pub returns-clause-holds : goal.returns-clause-holds
 returns-clause-holds g c =
     let eq : c.args.self.now.births ≡ births_of c.deref.result.now = search rules in
-    let place : place_of c.args.root.birth c.deref.result.now ≡ Some c.in-Some.at = sym c.in-Some.ensures in
+    let place : hold_index c.args.root.birth c.deref.result.now ≡ Some c.in-Some.at = sym c.in-Some.ensures in
     let now : c.deref-2.result.now ≡ remove c.deref.result.now c.in-Some.at = search rules in
     let view : births_of c.deref-2.result.now ≡ births_of c.remove.new.self.items = search rules in
     sym view
@@ -32,7 +32,7 @@ returns-clause-holds g c =
 pub returns-clause-answer : goal.returns-clause-answer
 returns-clause-answer g c =
     let eq : c.args.self.now.births ≡ births_of c.deref.result.now = search rules in
-    let place : place_of c.args.root.birth c.deref.result.now ≡ Some c.in-Some.at = sym c.in-Some.ensures in
+    let place : hold_index c.args.root.birth c.deref.result.now ≡ Some c.in-Some.at = sym c.in-Some.ensures in
     let there : among c.args.self.now.births c.args.root.birth ≡ true =
     ap (λ (l : List ℕ). among l c.args.root.birth) eq ∙ place-some c.args.root.birth c.deref.result.now c.in-Some.at place in
     rw there refl
@@ -40,7 +40,7 @@ returns-clause-answer g c =
 pub returns-in_default-clause-answer : goal.returns-in_default-clause-answer
 returns-in_default-clause-answer g c =
     let eq : c.args.self.now.births ≡ births_of c.deref.result.now = search rules in
-    let none : place_of c.args.root.birth c.deref.result.now ≡ None = sym c.place_of.ensures ∙ c.in_default.is in
+    let none : hold_index c.args.root.birth c.deref.result.now ≡ None = sym c.hold_index.ensures ∙ c.in_default.is in
     let there : among c.args.self.now.births c.args.root.birth ≡ false =
     ap (λ (l : List ℕ). among l c.args.root.birth) eq ∙ place-none c.args.root.birth c.deref.result.now none in
     rw there refl

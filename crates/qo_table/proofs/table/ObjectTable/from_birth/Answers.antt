@@ -1,7 +1,7 @@
 use Rattle.std.proofs.Common.{◌∙◌, ap, ap₂, List, ℕ, leb, nat_lt}
 use Rattle.std.specs.List.{slice_get}
 use Rattle.qo_slots.specs.declared.keys.Key.{Key}
-use Rattle.qo_table.specs.Ordered.{front}
+use Rattle.qo_table.specs.Order.{front}
 use Rattle.qo_table.proofs.RowsLemmas.{rows-find, at-end-of-front, not-below}
 use Rattle.qo_table.proofs.table.ObjectTable.from_birth.Goals as goal
 
@@ -12,5 +12,7 @@ pub returns : goal.returns
 returns g c =
     rw (← c.self.view_is, rows-find c.self.inside.slots c.self.inside.order.items c.self.invariant.stored (λ (k : Key). leb c.args.birth k.birth))
     (c.key_in.ensures
-    ∙ ap₂ (λ (l : List Key) (n : ℕ). slice_get l n) c.as_slice-2.ensures.value (c.place_of-place.ensures ∙ ap (λ (l : List Key). front (λ (k : Key). nat_lt k.birth c.args.birth) l) c.as_slice.ensures.value)
-    ∙ at-end-of-front (λ (k : Key). nat_lt k.birth c.args.birth) (λ (k : Key). leb c.args.birth k.birth) (λ k. not-below c.args.birth k.birth) c.self.inside.order.items)
+    ∙ ap₂ (λ (l : List Key) (n : ℕ). slice_get l n) c.as_slice-2.ensures.value
+    (c.place_of-place.ensures ∙ ap (λ (l : List Key). front (λ (k : Key). nat_lt k.birth c.args.birth) l) c.as_slice.ensures.value)
+    ∙ at-end-of-front (λ (k : Key). nat_lt k.birth c.args.birth) (λ (k : Key). leb c.args.birth k.birth) (λ k. not-below c.args.birth k.birth)
+    c.self.inside.order.items)

@@ -7,4 +7,5 @@ look-requires g c =
 
 pub returns-clause-object : goal.returns-clause-object
 returns-clause-object g c =
-    rw (← c.self.view_is) (object-found c.self.inside.slots c.self.inside.order.items c.self.invariant.stored c.args.key (rw (← c.self.view_is) at c.requires) c.look.result.now c.look.ensures.value)
+    rw (← c.self.view_is) (object-found c.self.inside.slots c.self.inside.order.items c.self.invariant.stored c.args.key (rw (← c.self.view_is) at c.requires)
+    c.look.result.now c.look.ensures.value)

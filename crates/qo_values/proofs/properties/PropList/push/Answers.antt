@@ -1,6 +1,6 @@
 use Rattle.std.proofs.Common.{◌≡◌, true, rules}
-use Rattle.qo_values.specs.PropLists.{names_of, is_above}
-use Rattle.qo_values.proofs.Rising.{pairs_push}
+use Rattle.qo_values.specs.PropertyLists.{names_of, is_above}
+use Rattle.qo_values.proofs.NameOrder.{pairs_push}
 use Rattle.qo_values.proofs.properties.PropList.push.Goals as goal
 
 pub invariant_of-self-2 : goal.invariant_of-self-2

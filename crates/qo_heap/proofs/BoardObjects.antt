@@ -1,0 +1,130 @@
+-- Who is there, where one object of the heap is changed or ends.
+use Rattle.std.proofs.Common.{◌≡◌, refl, ap, subst, ◌∙◌, ℕ, zero, suc, Bool, true, false, eqb, List, [], ◌∷◌, map, Option, Some, None, option_map, IsSomeAnd, arith}
+use Rattle.std.specs.List.{AllByRecursion, cons_option}
+use Rattle.std.proofs.lemmas.Bool.{eqb-true}
+use Rattle.qo_slots.specs.declared.keys.Key.{Key}
+use Rattle.qo_table.specs.Rows.{IsLive, edit, object_at, row_at, without}
+use Rattle.qo_object.specs.Slots.{Named, named_in, target_of}
+use Rattle.qo_object.specs.Content.{Content, named_at, dropped_at, with_pin, without_pin, forgotten}
+use Rattle.qo_heap.specs.Objects.{IsHeap, Objects, content_of, with_edit, ended, forgets}
+use Rattle.qo_heap.proofs.HeapLemmas.{AreThere, dropped-there, linked-at, live-edit, targets_in, edit-is, heap-edited}
+
+-- what slots name
+
+module _ (P : Key → Type 0) where
+  first-of : (o : Option Key) (keys : List Key) (key : Key) → AllByRecursion P (cons_option o keys) → o ≡ Some key → P key
+  first-of None keys key all e = cc
+  first-of (Some k) keys key all e = let same : k ≡ key = cc in subst P same all.0
+
+  rest-of : (o : Option Key) (keys : List Key) → AllByRecursion P (cons_option o keys) → AllByRecursion P keys
+  rest-of None keys all = all
+  rest-of (Some k) keys all = all.1
+
+  named-has : (i : ℕ) (slots : List Named) (key : Key) → AllByRecursion P (targets_in slots) → named_in slots i ≡ Some key → P key
+  named-has i [] key all e = cc
+  named-has zero (s ∷ slots) key all e = first-of (target_of s.1) (targets_in slots) key all e
+  named-has (suc i) (s ∷ slots) key all e = named-has i slots key (rest-of (target_of s.1) (targets_in slots) all) e
+
+-- what a slot names is there
+pub named-live : (v : Objects) → IsHeap v → (n i : ℕ) (c : Content) → content_of v n ≡ Some c → (key : Key) → named_at c i ≡ Some key → IsLive v.rows key
+named-live v good n i c there key e = named-has (IsLive v.rows) i c.slots key (linked-at v good n c there) e
+
+-- and it is there where the slot is let go
+pub named-live_dropped : (v : Objects) → IsHeap v → (n i : ℕ) (c : Content) → content_of v n ≡ Some c → (key : Key) → named_at c i ≡ Some key
+    → IsLive (with_edit n (dropped_at i) v).rows key
+named-live_dropped v good n i c there key e = live-edit n (dropped_at i) v.rows key (named-live v good n i c there key e)
+
+-- a heap with a slot let go, with a pin more, with a pin less
+
+heap-changed : (v : Objects) → IsHeap v → (n : ℕ) (f : Content → Content) (c : Content) → content_of v n ≡ Some c
+    → ((x : Content) → AreThere v x → AreThere v (f x)) → IsHeap (with_edit n f v)
+heap-changed v good n f c there keeps =
+    subst (λ (w : Objects). IsHeap w) (edit-is v good n f c (f c) there refl) (heap-edited v good n (f c) (keeps c (linked-at v good n c there)))
+
+pub heap-dropped : (v : Objects) → IsHeap v → (n i : ℕ) (c : Content) → content_of v n ≡ Some c → IsHeap (with_edit n (dropped_at i) v)
+heap-dropped v good n i c there = heap-changed v good n (dropped_at i) c there (λ x all. dropped-there v i x all)
+
+pub heap-pinned : (v : Objects) → IsHeap v → (n : ℕ) (c : Content) → content_of v n ≡ Some c → IsHeap (with_edit n with_pin v)
+heap-pinned v good n c there = heap-changed v good n with_pin c there (λ x all. all)
+
+pub heap-unpinned : (v : Objects) → IsHeap v → (n : ℕ) (c : Content) → content_of v n ≡ Some c → IsHeap (with_edit n without_pin v)
+heap-unpinned v good n c there = heap-changed v good n without_pin c there (λ x all. all)
+
+-- objects by birth
+
+object-edited : (n : ℕ) (f : Content → Content) (rows : List (Key × Content)) → object_at (edit n f rows) n ≡ option_map f (object_at rows n)
+object-edited n f [] = refl
+object-edited n f (row ∷ rows) = go (eqb row.0.birth n) refl (object-edited n f rows)
+  where
+    go : (b : Bool) → eqb row.0.birth n ≡ b → object_at (edit n f rows) n ≡ option_map f (object_at rows n)
+        → object_at (edit n f (row ∷ rows)) n ≡ option_map f (object_at (row ∷ rows) n)
+    go true is rest = rw (is, is) refl
+    go false is rest = rw (is, is) rest
+
+pub content-edited : (v : Objects) (n : ℕ) (f : Content → Content) → content_of (with_edit n f v) n ≡ option_map f (content_of v n)
+content-edited v n f = object-edited n f v.rows
+
+object-other : (n m : ℕ) (f : Content → Content) → eqb m n ≡ false → (rows : List (Key × Content)) → object_at (edit n f rows) m ≡ object_at rows m
+object-other n m f other [] = refl
+object-other n m f other (row ∷ rows) = go (eqb row.0.birth n) refl (eqb row.0.birth m) refl (object-other n m f other rows)
+  where
+    go : (b : Bool) → eqb row.0.birth n ≡ b → (d : Bool) → eqb row.0.birth m ≡ d → object_at (edit n f rows) m ≡ object_at rows m
+        → object_at (edit n f (row ∷ rows)) m ≡ object_at (row ∷ rows) m
+    go true is true at rest =
+        absurd (let same : row.0.birth ≡ n = eqb-true row.0.birth n is in let both : row.0.birth ≡ m = eqb-true row.0.birth m at in grind arith)
+    go true is false at rest = rw (is, at) rest
+    go false is true at rest = rw (is, at) refl
+    go false is false at rest = rw (is, at) rest
+
+pub content-other : (v : Objects) (n m : ℕ) (f : Content → Content) → eqb m n ≡ false → content_of (with_edit n f v) m ≡ content_of v m
+content-other v n m f other = object-other n m f other v.rows
+
+-- after an end
+
+object-gone : (n : ℕ) (rows : List (Key × Content)) → object_at (map (forgets n) (without n rows)) n ≡ None
+object-gone n [] = refl
+object-gone n (row ∷ rows) = go (eqb row.0.birth n) refl (object-gone n rows)
+  where
+    go : (b : Bool) → eqb row.0.birth n ≡ b → object_at (map (forgets n) (without n rows)) n ≡ None
+        → object_at (map (forgets n) (without n (row ∷ rows))) n ≡ None
+    go true is rest = rw is rest
+    go false is rest = rw (is, is) rest
+
+pub content-gone : (v : Objects) (n : ℕ) (x : Content) → content_of (ended n x v) n ≡ None
+content-gone v n x = object-gone n v.rows
+
+-- the row of another
+row-left : (n m : ℕ) → eqb m n ≡ false → (rows : List (Key × Content)) → row_at (map (forgets n) (without n rows)) m ≡ option_map (forgets n) (row_at rows m)
+row-left n m other [] = refl
+row-left n m other (row ∷ rows) = go (eqb row.0.birth n) refl (eqb row.0.birth m) refl (row-left n m other rows)
+  where
+    go : (b : Bool) → eqb row.0.birth n ≡ b → (d : Bool) → eqb row.0.birth m ≡ d → row_at (map (forgets n) (without n rows)) m
+        ≡ option_map (forgets n) (row_at rows m) → row_at (map (forgets n) (without n (row ∷ rows))) m ≡ option_map (forgets n) (row_at (row ∷ rows) m)
+    go true is true at rest =
+        absurd (let same : row.0.birth ≡ n = eqb-true row.0.birth n is in let both : row.0.birth ≡ m = eqb-true row.0.birth m at in grind arith)
+    go true is false at rest = rw (is, at) rest
+    go false is true at rest = rw (is, at) refl
+    go false is false at rest = rw (is, at) rest
+
+pub content-left : (v : Objects) (n m : ℕ) (x : Content) → eqb m n ≡ false → content_of (ended n x v) m ≡ option_map (forgotten n) (content_of v m)
+content-left v n m x other = ap (option_map (λ (row : Key × Content). row.1)) (row-left n m other v.rows) ∙ go (row_at v.rows m)
+  where
+    go : (o : Option (Key × Content))
+        → option_map (λ (row : Key × Content). row.1) (option_map (forgets n) o) ≡ option_map (forgotten n) (option_map (λ (row : Key × Content). row.1) o)
+    go None = refl
+    go (Some row) = refl
+
+pub live-left : (v : Objects) (n : ℕ) (x : Content) (key : Key) → eqb key.birth n ≡ false → IsLive v.rows key → IsLive (ended n x v).rows key
+live-left v n x key other live = rw (row-left n key.birth other v.rows) (go (row_at v.rows key.birth) live)
+  where
+    go : (o : Option (Key × Content)) → IsSomeAnd o (λ row. row.0.index ≡ key.index) → IsSomeAnd (option_map (forgets n) o) (λ row. row.0.index ≡ key.index)
+    go None none = none
+    go (Some row) some = some
+
+-- what a name that is live names
+pub live-content : (v : Objects) (key : Key) → IsLive v.rows key → (c : Content) × (content_of v key.birth ≡ Some c)
+live-content v key live = go (row_at v.rows key.birth) live
+  where
+    go : (o : Option (Key × Content)) → IsSomeAnd o (λ row. row.0.index ≡ key.index) → (c : Content) × (option_map (λ (row : Key × Content). row.1) o ≡ Some c)
+    go None none = absurd none
+    go (Some row) some = (row.1, refl)

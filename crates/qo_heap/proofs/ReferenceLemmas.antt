@@ -1,0 +1,78 @@
+-- Whether an object is held: by the first that holds it, and as the references are counted.
+use Rattle.std.proofs.Common.{◌≡◌, refl, ap, ap₂, sym, ◌∙◌, ℕ, zero, suc, ◌+◌, Bool, true, false, cond, ◌||◌, List, [], ◌∷◌, ◌≤◌, length, drop, sum_by, slice_get, nat_lt, arith}
+use Rattle.std.specs.List.{list_any}
+use Rattle.std.specs.Option.{option_map_or}
+use Rattle.std.proofs.lemmas.Bool.Decides.{nat_tests}
+use Rattle.std.proofs.lemmas.List.Sums.{sum_by-cons}
+use Rattle.qo_slots.specs.declared.keys.Key.{Key}
+use Rattle.qo_object.specs.Content.{Content, holding, is_holder}
+use Rattle.qo_object.specs.declared.slots.Slot.{Slot}
+use Rattle.qo_object.specs.Slots.{holds}
+use Rattle.qo_heap.specs.Objects.{Objects, pins_of, refs_of}
+
+-- whether a sum has a part
+either-part : (n m : ℕ) → (nat_lt 0 n || nat_lt 0 m) ≡ nat_lt 0 (n + m)
+either-part n m = go (nat_lt 0 n) refl (nat_lt 0 m) refl (nat_lt 0 (n + m)) refl
+  where
+    go : (a : Bool) → nat_lt 0 n ≡ a → (b : Bool) → nat_lt 0 m ≡ b → (c : Bool) → nat_lt 0 (n + m) ≡ c → (a || b) ≡ c
+    go true p b q true r = refl
+    go true p b q false r = absurd (grind (arith, nat_tests))
+    go false p true q true r = refl
+    go false p true q false r = absurd (grind (arith, nat_tests))
+    go false p false q true r = absurd (grind (arith, nat_tests))
+    go false p false q false r = refl
+
+part-either : (n m : ℕ) → (nat_lt 0 n || nat_lt 0 m) ≡ nat_lt 0 (m + n)
+part-either n m = let turned : n + m ≡ m + n = omega arith in either-part n m ∙ ap (nat_lt 0) turned
+
+module _ {X : Type 0} (p : X → Bool) where
+  -- a search goes on after a member that does not pass, and ends with one that does, and with the list
+  any-drop : (i : ℕ) (xs : List X) → option_map_or p (slice_get xs i) false ≡ false → list_any p (drop i xs) ≡ list_any p (drop (suc i) xs)
+  any-drop i [] none = drop-nil i
+    where
+      drop-nil : (i : ℕ) → list_any p (drop i []) ≡ list_any p (drop (suc i) [])
+      drop-nil zero = refl
+      drop-nil (suc i) = refl
+  any-drop zero (x ∷ xs) none = rw none refl
+  any-drop (suc i) (x ∷ xs) none = any-drop i xs none
+
+  pub any-from : (i : ℕ) (xs : List X) → option_map_or p (slice_get xs i) false ≡ false → list_any p (drop i xs) ≡ list_any p (drop (i + 1) xs)
+  any-from i xs none = let next : suc i ≡ i + 1 = omega arith in any-drop i xs none ∙ ap (λ (n : ℕ). list_any p (drop n xs)) next
+
+  pub any-here : (i : ℕ) (xs : List X) → option_map_or p (slice_get xs i) false ≡ true → list_any p (drop i xs) ≡ true
+  any-here i [] here = cc
+  any-here zero (x ∷ xs) here = rw here refl
+  any-here (suc i) (x ∷ xs) here = any-here i xs here
+
+  pub any-past : (xs : List X) → list_any p (drop (length xs) xs) ≡ false
+  any-past [] = refl
+  any-past (x ∷ xs) = any-past xs
+
+  -- whether one passes, by a weight that those have that pass, and no others
+  any-summed : (weight : X → ℕ) → ((x : X) → p x ≡ nat_lt 0 (weight x)) → (xs : List X) → list_any p xs ≡ nat_lt 0 (sum_by weight xs)
+  any-summed weight weighs [] = refl
+  any-summed weight weighs (x ∷ xs) =
+      ap₂ (λ (a b : Bool). a || b) (weighs x) (any-summed weight weighs xs) ∙ either-part (weight x) (sum_by weight xs)
+      ∙ ap (nat_lt 0) (sym (sum_by-cons weight x xs))
+
+one-counts : (b : Bool) → b ≡ nat_lt 0 (cond b 1 0)
+one-counts true = refl
+one-counts false = refl
+
+holder-weighs : (birth : ℕ) (row : Key × Content) → is_holder birth row.1 ≡ nat_lt 0 (holding birth row.1)
+holder-weighs birth row =
+    any-summed (λ (s : List ℕ × Slot). holds birth s.1) (λ (s : List ℕ × Slot). cond (holds birth s.1) 1 0) (λ s. one-counts (holds birth s.1)) row.1.slots
+
+-- pinned, or held by a slot: it has references
+pub held-refs : (v : Objects) (n : ℕ) → (nat_lt 0 (pins_of v n) || list_any (λ (row : Key × Content). is_holder n row.1) v.rows) ≡ nat_lt 0 (refs_of v n)
+held-refs v n =
+    ap (λ (b : Bool). nat_lt 0 (pins_of v n) || b)
+    (any-summed (λ (row : Key × Content). is_holder n row.1) (λ (row : Key × Content). holding n row.1) (holder-weighs n) v.rows)
+    ∙ part-either (pins_of v n) (sum_by (λ (row : Key × Content). holding n row.1) v.rows)
+
+-- of an object that is not pinned, a slot that holds it is its reference
+pub unpinned-refs : (v : Objects) (n pins : ℕ) → pins ≡ pins_of v n → pins ≤ 0
+    → list_any (λ (row : Key × Content). is_holder n row.1) v.rows ≡ nat_lt 0 (refs_of v n)
+unpinned-refs v n pins are none =
+    let bare : pins_of v n ≡ 0 = omega arith in
+    sym (ap (λ (k : ℕ). nat_lt 0 k || list_any (λ (row : Key × Content). is_holder n row.1) v.rows) bare) ∙ held-refs v n

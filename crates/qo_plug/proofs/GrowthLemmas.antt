@@ -1,0 +1,171 @@
+-- What keeps who was there, but for slots.
+use Rattle.std.proofs.Common.{◌≡◌, refl, ap, sym, subst, ◌∙◌, ℕ, ◌+◌, ◌≤◌, Bool, true, false, eqb, List, [], ◌∷◌, ◌++◌, Option, Some, None, option_map, inl, inr, IsSome, IsSomeAnd, IfSome, arith}
+use Rattle.std.proofs.lemmas.Bool.{eqb-true}
+use Rattle.qo_values.specs.declared.kinds.TypeId.{TypeId}
+use Rattle.qo_values.specs.declared.kinds.TypeId.TheVariants.{SlotTimer, SlotUart, MemDimm, SlotBridge, Bus, SlotBus, MemBus, Clock, MemoryBackend, MemoryBackendRam}
+use Rattle.qo_kinds.specs.Bodies.{IsTimely, body_of, kept_of, none_kept}
+use Rattle.qo_slots.specs.declared.keys.Key.{Key}
+use Rattle.qo_notes.specs.Log.{noted_all}
+use Rattle.qo_table.specs.Rows.{IsLive, Rises, births, row_at}
+use Rattle.qo_table.proofs.RowsLemmas.{rises-up}
+use Rattle.qo_life.specs.Life.{init_notes}
+use Rattle.qo_object.specs.Content.{Content}
+use Rattle.qo_heap.specs.Book.{IsBook}
+use Rattle.qo_heap.specs.Objects.{IsHeap, Objects, content_of, with_edit}
+use Rattle.qo_heap.proofs.HeapLemmas.{live-edit}
+use Rattle.qo_heap.proofs.BoardObjects.{content-edited, content-other}
+use Rattle.qo_properties.specs.Additions.{IsTried, with_newest}
+use Rattle.qo_properties.proofs.AddLemmas.{newest-keeps}
+use Rattle.qo_properties.proofs.ClaimLemmas.{edit-keeps, more-keeps, tried-keeps}
+use Rattle.qo_plug.specs.Drafts.{Grows, IsQuiet, bare}
+
+pub grows-none : (v w : Objects) → w ≡ v → Grows v w
+grows-none v w same =
+    record {
+      names = λ key live. subst (λ (x : Objects). IsLive x.rows key) (sym same) live;
+      rest = λ n low. ap (λ (x : Objects). option_map bare (content_of x n)) same;
+      born = let its : w.born ≡ v.born = ap (λ (x : Objects). x.born) same in omega (arith, its);
+      book = λ out h. subst (λ (x : Objects). IsBook out x) (sym same) h;
+      quiet = λ n q. subst (λ (x : Objects). IsQuiet x n) (sym same) q;
+      events = ap (λ (x : Objects). x.events) same;
+      time = ap (λ (x : Objects). x.time) same;
+    }
+
+pub grows-then : (v u w : Objects) → Grows v u → Grows u w → Grows v w
+grows-then v u w g h =
+    record {
+      names = λ key live. h.names key (g.names key live);
+      rest = λ n low. h.rest n (let more : v.born ≤ u.born = g.born in omega (arith, low, more)) ∙ g.rest n low;
+      born = let first : v.born ≤ u.born = g.born in let next : u.born ≤ w.born = h.born in omega (arith, first, next);
+      book = λ out b. h.book out (g.book out b);
+      quiet = λ n q. h.quiet n (g.quiet n q);
+      events = h.events ∙ g.events;
+      time = h.time ∙ g.time;
+    }
+
+-- an object has other slots
+abbrev AreQuiet : ℕ → Option Content → Type 0
+AreQuiet now o = IfSome o (λ (c : Content). IsTimely now c.body)
+
+pub grows-edit : (v w : Objects) (n : ℕ) (f : Content → Content) → ((c : Content) → bare (f c) ≡ bare c) → w ≡ with_edit n f v → Grows v w
+grows-edit v w n f same is =
+    record {
+      names = λ key live. subst (λ (x : Objects). IsLive x.rows key) (sym is) (live-edit n f v.rows key live);
+      rest = λ m low. ap (λ (x : Objects). option_map bare (content_of x m)) is ∙ go m (eqb m n) refl;
+      born = let its : w.born ≡ v.born = ap (λ (x : Objects). x.born) is in omega (arith, its);
+      book = edit-keeps v w n f (λ c. ap (λ (d : Content). (d.body, d.device_id)) (same c)) is;
+      quiet = λ m q. subst (λ (x : Objects). IsQuiet x m) (sym is) (stays m (eqb m n) refl q);
+      events = ap (λ (x : Objects). x.events) is;
+      time = ap (λ (x : Objects). x.time) is;
+    }
+  where
+    bares : (o : Option Content) → option_map bare (option_map f o) ≡ option_map bare o
+    bares None = refl
+    bares (Some c) = ap Some (same c)
+
+    go : (m : ℕ) (t : Bool) → eqb m n ≡ t → option_map bare (content_of (with_edit n f v) m) ≡ option_map bare (content_of v m)
+    go m true p = subst (λ (k : ℕ). option_map bare (content_of (with_edit n f v) k) ≡ option_map bare (content_of v k)) (sym (eqb-true m n p))
+        (ap (option_map bare) (content-edited v n f) ∙ bares (content_of v n))
+    go m false p = ap (option_map bare) (content-other v n m f p)
+
+    changed : (o : Option Content) → AreQuiet v.time o → AreQuiet v.time (option_map f o)
+    changed None q = tt
+    changed (Some c) q = subst (λ (d : Content). IsTimely v.time d.body) (sym (same c)) q
+
+    stays : (m : ℕ) (t : Bool) → eqb m n ≡ t → IsQuiet v m → IsQuiet (with_edit n f v) m
+    stays m true p q =
+        subst (λ (k : ℕ). IsQuiet (with_edit n f v) k) (sym (eqb-true m n p))
+        (subst (AreQuiet v.time) (sym (content-edited v n f)) (changed (content_of v n) (subst (IsQuiet v) (eqb-true m n p) q)))
+    stays m false p q = subst (AreQuiet v.time) (sym (content-other v n m f p)) q
+
+-- one object more
+pub row-before : (rows : List (Key × Content)) (o : Key) (c : Content) (n : ℕ) → eqb o.birth n ≡ false → row_at (rows ++ (o, c) ∷ []) n ≡ row_at rows n
+row-before [] o c n other = rw other refl
+row-before (row ∷ rows) o c n other = go (eqb row.0.birth n) refl (row-before rows o c n other)
+  where
+    go : (t : Bool) → eqb row.0.birth n ≡ t → row_at (rows ++ (o, c) ∷ []) n ≡ row_at rows n → row_at ((row ∷ rows) ++ (o, c) ∷ []) n ≡ row_at (row ∷ rows) n
+    go true p rest = rw p refl
+    go false p rest = rw p rest
+
+-- a new body has begun no segment
+pub fresh-quiet : (t : TypeId) (now : ℕ) → IsTimely now (body_of t)
+fresh-quiet SlotTimer now = omega arith
+fresh-quiet SlotUart now = tt
+fresh-quiet MemDimm now = tt
+fresh-quiet SlotBridge now = tt
+fresh-quiet Bus now = tt
+fresh-quiet SlotBus now = tt
+fresh-quiet MemBus now = tt
+fresh-quiet Clock now = tt
+fresh-quiet MemoryBackend now = tt
+fresh-quiet MemoryBackendRam now = tt
+fresh-quiet t now = tt
+
+more-quiet : (P : Content → Type 0) (o : Key) (c : Content) (n : ℕ) → P c → (rows : List (Key × Content))
+    → IfSome (option_map (λ (row : Key × Content). row.1) (row_at rows n)) P
+    → IfSome (option_map (λ (row : Key × Content). row.1) (row_at (rows ++ (o, c) ∷ []) n)) P
+more-quiet P o c n here [] q = go (eqb o.birth n) refl
+  where
+    go : (t : Bool) → eqb o.birth n ≡ t → IfSome (option_map (λ (row : Key × Content). row.1) (row_at ((o, c) ∷ []) n)) P
+    go true p = rw p here
+    go false p = rw p tt
+more-quiet P o c n here (row ∷ rows) q = go (eqb row.0.birth n) refl (more-quiet P o c n here rows)
+  where
+    go : (t : Bool) → eqb row.0.birth n ≡ t
+        → (IfSome (option_map (λ (r : Key × Content). r.1) (row_at rows n)) P
+        → IfSome (option_map (λ (r : Key × Content). r.1) (row_at (rows ++ (o, c) ∷ []) n)) P)
+        → IfSome (option_map (λ (r : Key × Content). r.1) (row_at ((row ∷ rows) ++ (o, c) ∷ []) n)) P
+    go true p rest = rw p (rw p at q)
+    go false p rest = rw p (rest (rw p at q))
+
+pub grows-newest : (v : Objects) (o : Key) (c : Content) → o.birth ≡ v.born + 1 → kept_of c.body ≡ none_kept → c.device_id ≡ None → IsTimely v.time c.body
+    → Grows v (with_newest o c v)
+grows-newest v o c birth none unnamed timely =
+    record {
+      names = newest-keeps v (with_newest o c v) o c refl;
+      rest = λ n low. let other : eqb o.birth n ≡ false = grind (arith, birth, low) in
+          ap (λ (r : Option (Key × Content)). option_map bare (option_map (λ (row : Key × Content). row.1) r)) (row-before v.rows o c n other);
+      born = omega arith;
+      book = more-keeps v o c (v.born + 1) (noted_all (init_notes o.birth c.kind) v.log) none unnamed;
+      quiet = λ n q. more-quiet (λ (d : Content). IsTimely v.time d.body) o c n timely v.rows q;
+      events = refl;
+      time = refl;
+    }
+
+-- an attempt leaves a birth and notes
+pub grows-tried : (v w : Objects) (t : TypeId) → IsTried t v w → Grows v w
+grows-tried v w t (inl same) = grows-none v w same
+grows-tried v w t (inr is) =
+    record {
+      names = λ key live. subst (λ (x : Objects). IsLive x.rows key) (sym is) live;
+      rest = λ n low. ap (λ (x : Objects). option_map bare (content_of x n)) is;
+      born = let its : w.born ≡ v.born + 1 = ap (λ (x : Objects). x.born) is in omega (arith, its);
+      book = tried-keeps v w t (inr is);
+      quiet = λ n q. subst (λ (x : Objects). IsQuiet x n) (sym is) q;
+      events = ap (λ (x : Objects). x.events) is;
+      time = ap (λ (x : Objects). x.time) is;
+    }
+
+-- who is there was born
+row-low : (above last : ℕ) (rows : List (Key × Content)) (n : ℕ) → Rises above (births rows) last → IsSome (row_at rows n) → n ≤ last
+row-low above last [] n rises some = cc
+row-low above last (row ∷ rows) n rises some = go (eqb row.0.birth n) refl (row-low row.0.birth last rows n rises.1)
+  where
+    go : (t : Bool) → eqb row.0.birth n ≡ t → (IsSome (row_at rows n) → n ≤ last) → n ≤ last
+    go true p rest = let up = rises-up row.0.birth last (births rows) rises.1 in let same : row.0.birth ≡ n = eqb-true row.0.birth n p in omega arith
+    go false p rest = rest (rw p at some)
+
+pub live-low : (v : Objects) → IsHeap v → (o : Key) → IsLive v.rows o → o.birth ≤ v.born
+live-low v good o live = row-low 0 v.born v.rows o.birth good.rising (go (row_at v.rows o.birth) live)
+  where
+    go : (r : Option (Key × Content)) → IsSomeAnd r (λ x. x.0.index ≡ o.index) → IsSome r
+    go None h = absurd h
+    go (Some x) h = refl
+
+-- and who was not born is quiet
+pub unborn-quiet : (v : Objects) → IsHeap v → (n : ℕ) → v.born + 1 ≤ n → IsQuiet v n
+unborn-quiet v good n late = go (row_at v.rows n) refl
+  where
+    go : (r : Option (Key × Content)) → row_at v.rows n ≡ r → IfSome (option_map (λ (row : Key × Content). row.1) r) (λ (c : Content). IsTimely v.time c.body)
+    go None p = tt
+    go (Some row) p = absurd (let low : n ≤ v.born = row-low 0 v.born v.rows n good.rising (subst IsSome (sym p) refl) in omega (arith, low, late))

@@ -1,0 +1,157 @@
+-- What bars a device from its properties on, stage by stage.
+use Rattle.std.proofs.Common.{◌≡◌, refl, ap, ap₂, sym, subst, ◌∙◌, ℕ, zero, suc, ◌+◌, ◌==◌, Bool, true, false, not, List, [], ◌∷◌, codes, nat_le, nat_lt, length, Option, Some, None, option_map, Result, Ok, Err}
+use Rattle.std.specs.Prelude.{if◌then◌else◌}
+use Rattle.std.specs.List.{list_any}
+use Rattle.std.specs.Option.{option_or}
+use Rattle.std.proofs.lemmas.Option.{same_Some}
+use Rattle.qo_values.specs.Placing.{least}
+use Rattle.qo_values.specs.declared.codes.Code.{Code}
+use Rattle.qo_values.specs.declared.codes.Code.TheVariants.{E28, E29, E30, E36, E37, E44}
+use Rattle.qo_values.specs.declared.kinds.TypeId.{TypeId}
+use Rattle.qo_values.specs.declared.limits.TheConstants.{BUS_SLOTS, NOTICES_MAX}
+use Rattle.qo_values.specs.declared.ranges.Range.{Range}
+use Rattle.qo_model.specs.Board.{Board}
+use Rattle.qo_model.specs.Devices.{kid_name}
+use Rattle.qo_model.specs.Objects.{Given, has_slot, refusal_of}
+use Rattle.qo_model.specs.Plug.{at_stage, barred_late, claims_ring, code_in, first_of, has_ring, is_free, kind_barred, notice_barred, number_for, ok_or_zero, place_barred, range_of}
+use Rattle.qo_model.specs.Plug.{realize_barred, ring_barred, bus_slot_for, spot_of}
+use Rattle.qo_plug.specs.declared.refusals.AddRefusal.{AddRefusal}
+use Rattle.qo_plug.specs.declared.refusals.AddRefusal.TheVariants.{Refused, Memory as NoMemory}
+use Rattle.qo_standing.specs.declared.spots.Memory.{Memory}
+use Rattle.qo_plug.specs.Admission.{IfRefused}
+use Rattle.qo_plug.specs.Stages.{spot_barred}
+use Rattle.qo_standing.specs.Placement.{spot_in}
+
+-- the least number that passes does pass
+least-passes : (test : ℕ → Bool) (first n k : ℕ) → least test first n ≡ Some k → test k ≡ true
+unfolding least
+least-passes test first zero k e = cc
+least-passes test first (suc n) k e = go (test first) refl (least-passes test (first + 1) n k)
+  where
+    go : (t : Bool) → test first ≡ t → (least test (first + 1) n ≡ Some k → test k ≡ true) → test k ≡ true
+    go true p rest = let same : first ≡ k = same_Some first k (rw p at e) in ap test (sym same) ∙ p
+    go false p rest = rest (rw p at e)
+
+flipped : (t : Bool) → not t ≡ true → t ≡ false
+flipped true e = absurd (let clash : false ≡ true = e in cc)
+flipped false e = refl
+
+-- what a refusal tells, another call's refusal tells too
+pub refused-map : (T U : Type 0) (P Q : ℕ → Code → Type 0) (r : AddRefusal) → ((stage : ℕ) (code : Code) → P stage code → Q stage code)
+    → IfRefused {T = T} (Err r) P → IfRefused {T = U} (Err r) Q
+refused-map T U P Q (Refused stage code) f h = f stage code h
+refused-map T U P Q NoMemory f h = tt
+
+pub refused-told : (T : Type 0) (P : ℕ → Code → Type 0) (r : AddRefusal) (stage : ℕ) (code : Code) → r ≡ Refused stage code → IfRefused {T = T} (Err r) P
+    → P stage code
+refused-told T P r stage code is h = subst (λ (x : AddRefusal). IfRefused {T = T} (Err x) P) is h
+
+-- of a ring that is named it is asked whether it is there, and whether a UART has it
+abbrev pub ring_as : Bool → Bool → Option Code
+ring_as has claimed = if not has then Some E36 else if claimed then Some E37 else None
+
+pub ring-named : (b : Board) (name : List ℕ) → (length name == 0) ≡ false
+    → ring_barred b name ≡ ring_as (has_ring b name) (list_any (claims_ring b name) b.records)
+ring-named b [] filled = absurd (let clash : true ≡ false = filled in cc)
+ring-named b (c ∷ cs) filled = refl
+
+-- what bars it where the notices are full, or not
+abbrev pub notice_as : Bool → Option Code
+notice_as full = if full then Some E44 else None
+
+module _ (b : Board) (bus : ℕ) where
+  pub least-free : (slot : ℕ) → Some slot ≡ least (is_free b bus) 0 BUS_SLOTS → has_slot b bus (kid_name slot) ≡ false
+  least-free slot e = flipped (has_slot b bus (kid_name slot)) (least-passes (is_free b bus) 0 BUS_SLOTS slot (sym e))
+
+  -- the slot
+  abbrev chosen_as : ℕ → Bool → Bool → Result ℕ Code
+  chosen_as slot within free = if within then (if free then Ok slot else Err E29) else Err E28
+
+  pub slot-high : (slot : ℕ) → nat_lt slot BUS_SLOTS ≡ false → bus_slot_for b bus (Some slot) ≡ Err E28
+  slot-high slot over = ap (λ (t : Bool). chosen_as slot t (is_free b bus slot)) over
+
+  pub slot-taken : (slot : ℕ) → nat_lt slot BUS_SLOTS ≡ true → has_slot b bus (kid_name slot) ≡ true → bus_slot_for b bus (Some slot) ≡ Err E29
+  slot-taken slot within taken = ap₂ (chosen_as slot) within (ap not taken)
+
+  pub slot-own : (slot : ℕ) → nat_lt slot BUS_SLOTS ≡ true → has_slot b bus (kid_name slot) ≡ false → bus_slot_for b bus (Some slot) ≡ Ok slot
+  slot-own slot within free = ap₂ (chosen_as slot) within (ap not free)
+
+  pub slot-least : (o : Option ℕ) → o ≡ least (is_free b bus) 0 BUS_SLOTS
+      → bus_slot_for b bus None ≡ (elim o as (λ _. Result ℕ Code) [ None ↦ Err E30 | Some slot ↦ Ok slot ])
+  slot-least o e = ap (λ (p : Option ℕ). elim p as (λ _. Result ℕ Code) [ None ↦ Err E30 | Some slot ↦ Ok slot ]) (sym e)
+
+  -- the spot of a device of a type
+  module _ (t : TypeId) (props : List Given) where
+    abbrev asked : Option ℕ
+    asked = number_for props (codes "slot")
+
+    abbrev spot_as : Option Code → Option Code → Option Code → Option (ℕ × Code)
+    spot_as slot kind ring = option_or (at_stage 5 (option_or slot kind)) (at_stage 6 ring)
+
+    slot-code : (r : Result ℕ Code) → bus_slot_for b bus asked ≡ r → code_in (bus_slot_for b bus asked) ≡ code_in r
+    slot-code r e = ap (λ (q : Result ℕ Code). code_in q) e
+
+    pub spot-slot : (code : Code) → bus_slot_for b bus asked ≡ Err code → spot_barred b t bus props ≡ Some (5, code)
+    spot-slot code e = ap (λ (o : Option Code). spot_as o (kind_barred b t bus props) (realize_barred b t props)) (slot-code (Err code) e)
+
+    pub spot-kind : (slot : ℕ) (code : Code) → bus_slot_for b bus asked ≡ Ok slot → kind_barred b t bus props ≡ Some code
+        → spot_barred b t bus props ≡ Some (5, code)
+    spot-kind slot code e barred = ap₂ (λ (o p : Option Code). spot_as o p (realize_barred b t props)) (slot-code (Ok slot) e) barred
+
+    pub spot-ring : (slot : ℕ) (o : Option Code) → bus_slot_for b bus asked ≡ Ok slot → kind_barred b t bus props ≡ None → realize_barred b t props ≡ o
+        → spot_barred b t bus props ≡ at_stage 6 o
+    spot-ring slot o e open_is barred =
+        ap₂ (λ (p q : Option Code). spot_as p q (realize_barred b t props)) (slot-code (Ok slot) e) open_is ∙ ap (λ (p : Option Code). at_stage 6 p) barred
+
+    pub spot-is : (slot : ℕ) (ring : Option (List ℕ)) (memory : Option Memory) → bus_slot_for b bus asked ≡ Ok slot
+        → option_map (λ (m : Memory). m.range) memory ≡ range_of b t props
+        → spot_of b t bus props ≡ spot_in bus (record { slot = slot; ring = ring; memory = memory })
+    spot-is slot ring memory e range =
+        ap₂ (λ (r : Result ℕ Code) (o : Option Range). record { bus = bus; slot = ok_or_zero r; range = o }) e (sym range)
+
+  -- what a call on the kind or on the ring of a device tells of its spot
+  module _ (t : TypeId) (props : List Given) (slot : ℕ) (has : bus_slot_for b bus (number_for props (codes "slot")) ≡ Ok slot) where
+    pub kind-refused : (T U : Type 0) (r : AddRefusal) → IfRefused {T = T} (Err r) (λ stage code. (stage ≡ 5) × (kind_barred b t bus props ≡ Some code))
+        → IfRefused {T = U} (Err r) (λ stage code. spot_barred b t bus props ≡ Some (stage, code))
+    kind-refused T U (Refused stage code) h = spot-kind t props slot code has h.1 ∙ ap (λ (k : ℕ). Some (k, code)) (sym h.0)
+    kind-refused T U NoMemory h = tt
+
+    pub ring-refused : (T U : Type 0) (r : AddRefusal) → kind_barred b t bus props ≡ None
+        → IfRefused {T = T} (Err r) (λ stage code. (stage ≡ 6) × (realize_barred b t props ≡ Some code))
+        → IfRefused {T = U} (Err r) (λ stage code. spot_barred b t bus props ≡ Some (stage, code))
+    ring-refused T U (Refused stage code) open_is h = spot-ring t props slot (Some code) has open_is h.1 ∙ ap (λ (k : ℕ). Some (k, code)) (sym h.0)
+    ring-refused T U NoMemory open_is h = tt
+
+  -- what bars a device from its properties on, in order
+  module _ (t : TypeId) (props : List Given) where
+    abbrev late_by : Option Code → Option Code → Option Code → Option Code → Option (ℕ × Code)
+    late_by given place ring notices = first_of (at_stage 4 given ∷ at_stage 5 place ∷ at_stage 6 ring ∷ at_stage 8 notices ∷ [])
+
+    pub late-given : (code : Code) → Some code ≡ refusal_of b t props → Some (4, code) ≡ barred_late b t bus props
+    late-given code e = ap (λ (o : Option Code). late_by o (place_barred b t bus props) (realize_barred b t props) (notice_barred b)) e
+
+    abbrev then_notices : Option (ℕ × Code) → Option (ℕ × Code)
+    then_notices spot = option_or spot (option_or (at_stage 8 (notice_barred b)) None)
+
+    after-given : (place ring : Option Code) → late_by None place ring (notice_barred b) ≡ then_notices (option_or (at_stage 5 place) (at_stage 6 ring))
+    after-given (Some code) ring = refl
+    after-given None (Some code) = refl
+    after-given None None = refl
+
+    late-after : None ≡ refusal_of b t props → barred_late b t bus props ≡ then_notices (spot_barred b t bus props)
+    late-after given =
+        ap (λ (o : Option Code). late_by o (place_barred b t bus props) (realize_barred b t props) (notice_barred b)) (sym given)
+        ∙ after-given (place_barred b t bus props) (realize_barred b t props)
+
+    pub late-spot : (r : ℕ × Code) → None ≡ refusal_of b t props → Some r ≡ spot_barred b t bus props → Some r ≡ barred_late b t bus props
+    late-spot r given e = sym (late-after given ∙ ap then_notices (sym e))
+
+    -- nothing but the notices is left
+    pub late-notices : (full : Bool) → None ≡ refusal_of b t props → None ≡ spot_barred b t bus props
+        → nat_le NOTICES_MAX (length b.notices) ≡ full → barred_late b t bus props ≡ at_stage 8 (notice_as full)
+    late-notices full given spot e =
+        late-after given ∙ ap then_notices (sym spot) ∙ ap (λ (u : Bool). option_or (at_stage 8 (notice_as u)) None) e ∙ alone (notice_as full)
+      where
+        alone : (o : Option Code) → option_or (at_stage 8 o) None ≡ at_stage 8 o
+        alone None = refl
+        alone (Some code) = refl

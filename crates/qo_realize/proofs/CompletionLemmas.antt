@@ -1,0 +1,58 @@
+-- What stands where the guest lets a device go.
+use Rattle.std.proofs.Common.{◌≡◌, ap, ◌∙◌, ℕ, Bool, true, List, []}
+use Rattle.qo_hotplug.specs.Hotplug.{Asked}
+use Rattle.qo_model.specs.Board.{Board, Ring}
+use Rattle.qo_model.specs.Depth.{among}
+use Rattle.qo_model.specs.Hotplug.{completed}
+use Rattle.qo_model.specs.Unplug.{detach}
+use Rattle.qo_heap.specs.Objects.{Objects}
+use Rattle.qo_heap.specs.Moments.{Timely}
+use Rattle.qo_properties.specs.Claims.{KeepsBook}
+use Rattle.qo_properties.specs.Pins.{OnlyRootPinned}
+use Rattle.qo_reset.specs.HoldList.{HoldList}
+use Rattle.qo_sound.specs.DeviceScope.{DetachLeaves}
+use Rattle.qo_sound.specs.TreeKept.{SoundTree}
+use Rattle.qo_sound.proofs.DeviceScopeLemmas.{devices_stay_lem}
+use Rattle.qo_sound_clocks.specs.SoundClocks.{SoundClocks}
+use Rattle.qo_unplug.specs.BoardParts.{Beside}
+use Rattle.qo_unplug.proofs.MomentLemmas.{times-timely}
+use Rattle.qo_realize.specs.GoodBoard.{Good}
+use Rattle.qo_realize.specs.Parts.{Parts, parts_of}
+use Rattle.qo_realize.specs.Representation.{Stands, StandsForGood}
+use Rattle.qo_realize.proofs.GoodBoardLemmas.{completed-good, root-pinned}
+
+-- no timer of the heap is ahead of its time
+pub timely-heap : (p : Parts) → StandsForGood p → Timely p.objects
+timely-heap p (b, s, good) = times-timely b p.objects s.shows good.times
+
+-- what is beside the heap is the board's
+pub is_beside : (b : Board) (rings : List Ring) (anonymous : ℕ) (running : Bool) (holds : HoldList) (asked : Asked) (v : Objects)
+    → Stands b (parts_of rings anonymous running holds asked v) → Beside b v holds.births asked
+is_beside b rings anonymous running holds asked v s = record { shown = s.shows; holds = s.holds; pending = s.pending; notices = s.notices }
+
+-- the board without the device stands
+pub completed-stands : (b : Board) (n : ℕ) (rings : List Ring) (anonymous : ℕ) (running : Bool) (held holds : HoldList) (old new : Asked) (v w : Objects)
+    → Stands b (parts_of rings anonymous running held old v) → Beside (detach b n) w holds.births new → KeepsBook v w
+    → Stands (completed b n) (parts_of rings anonymous running holds new w)
+completed-stands b n rings anonymous running held holds old new v w s beside keeps =
+    let l : DetachLeaves b (detach b n) = devices_stay_lem.detached b n in
+    record {
+      shows = beside.shown;
+      anonymous = l.anonymous ∙ s.anonymous;
+      running = l.running ∙ s.running;
+      holds = beside.holds;
+      pending = beside.pending;
+      notices = beside.notices;
+      rings = l.rings ∙ s.rings;
+      book = keeps [] s.book;
+    }
+
+pub completed-sound : (n : ℕ) (rings : List Ring) (anonymous : ℕ) (running : Bool) (held holds : HoldList) (old new : Asked) (v w : Objects)
+    → among old.pending n ≡ true → StandsForGood (parts_of rings anonymous running held old v)
+    → ((b : Board) → SoundTree b → SoundClocks b → Beside b v held.births old → Beside (detach b n) w holds.births new) → KeepsBook v w
+    → OnlyRootPinned w × StandsForGood (parts_of rings anonymous running holds new w)
+completed-sound n rings anonymous running held holds old new v w pending (b, s, good) detaches keeps =
+    let after : Good (completed b n) = completed-good b n (ap (λ (ns : List ℕ). among ns n) s.pending ∙ pending) good in
+    let stands : Stands (completed b n) (parts_of rings anonymous running holds new w) = completed-stands b n rings anonymous running held holds old new v w s
+    (detaches b good.devices.tree good.clocks (is_beside b rings anonymous running held old v s)) keeps in
+    (root-pinned (completed b n) (parts_of rings anonymous running holds new w) stands after, (completed b n, stands, after))

@@ -1,0 +1,181 @@
+-- Places after a step that takes a device out: what has to be shown of such a step.
+use Rattle.std.proofs.Common.{◌≡◌, ◌≢◌, refl, ap, sym, subst, ◌∙◌, ℕ, ◌<◌, Bool, true, false, ◌==◌, List, [], ◌∷◌, Option, Some, codes}
+use Rattle.std.specs.List.{AllByRecursion}
+use Rattle.std.proofs.lemmas.Bool.{eq-eqb}
+use Rattle.std.proofs.Math.Bool.{or-true}
+use Rattle.qo_values.specs.declared.births.TheConstants.{ANONYMOUS_BIRTH, MACHINE_BIRTH, MEMORY_BUS_BIRTH, OBJECTS_BIRTH, PERIPHERAL_BIRTH, ROOT_BUS_BIRTH, SYSTEM_CLOCK_BIRTH}
+use Rattle.qo_model.specs.Board.{Board, is_live, slots_at}
+use Rattle.qo_model.specs.Depth.{among}
+use Rattle.qo_model.specs.Devices.{bus_of, is_realized, bus_slot_of}
+use Rattle.qo_model.specs.Paths.{is_of}
+use Rattle.qo_sound.proofs.FirmBoardLemmas.{Firm}
+use Rattle.qo_sound.proofs.RecordLemmas.{all-both, all-imply}
+use Rattle.qo_sound_devices.specs.SoundPlaces.{child_entries, HasOwner, machines, bridges, IsAnonymous, IsHome, IsKid, IsPeripheral, IsShallow, kid_entries, listed, owns, PlacesBut, stands}
+use Rattle.qo_sound_devices.proofs.PlacesLemmas.{all-within, bus-listed, child-live, children-there, children-within, rooted-same, id-alike, id-live, IsThere, kid-live, linked-at, more, nothing, of-alike, of-live, or-cases, realized-live, same, SameBody, stands-live, suits-alike, Within, peripheral-alike, anonymous-alike}
+
+pub within-listed : (d : ℕ) {xs ys : List (List ℕ × ℕ)} → Within xs ys → listed d xs ≡ true → listed d ys ≡ true
+within-listed d (nothing ys) e = cc
+within-listed d (same {xs} {ys} x w) e = go (x.1 == d) refl (within-listed d w)
+  where
+    go : (t : Bool) → (x.1 == d) ≡ t → (listed d xs ≡ true → listed d ys ≡ true) → listed d (x ∷ ys) ≡ true
+    go true p rest = rw p refl
+    go false p rest = rw p (rest (rw p at e))
+within-listed d (more {xs} {ys} y w) e = rw (within-listed d w e) (or-true (y.1 == d))
+
+-- each entry is listed
+pub all-in : (es : List (List ℕ × ℕ)) → AllByRecursion (λ (e : List ℕ × ℕ). listed e.1 es ≡ true) es
+all-in [] = tt
+all-in (x ∷ es) = (
+  rw (eq-eqb x.1 x.1 refl) refl,
+  all-imply (λ (e : List ℕ × ℕ). listed e.1 es ≡ true) (λ (e : List ℕ × ℕ). listed e.1 (x ∷ es) ≡ true) (λ e k. rw k (or-true (x.1 == e.1))) es (all-in es),
+)
+
+-- a step: fewer devices stand, on fewer buses, and what stays is as before, but that `left` may have left its bus
+pub record Moved (left : Option ℕ) (b c : Board) : Type 0 where
+  pub firm : Firm c
+  pub root : is_live c 1 ≡ true
+  pub anonymous : c.anonymous ≡ b.anonymous
+  pub body : (x : ℕ) → is_live c x ≡ true → SameBody b c x
+  pub fixed : (x : ℕ) → is_live c x ≡ true → among (1 ∷ MACHINE_BIRTH ∷ []) x ≡ true → child_entries c x ≡ child_entries b x
+  pub shelves : (x : ℕ) → is_live c x ≡ true → among (PERIPHERAL_BIRTH ∷ ANONYMOUS_BIRTH ∷ []) x ≡ true → Within (child_entries c x) (child_entries b x)
+  pub fading : (x : ℕ) → is_live c x ≡ true → is_realized c x ≡ true → is_realized b x ≡ true
+  pub place : (x : ℕ) → stands c x ≡ true → bus_slot_of c x ≡ bus_slot_of b x
+  pub bus_back : (x q : ℕ) → stands c x ≡ true → bus_of c x ≡ Some q → bus_of b x ≡ Some q
+  pub bus_on : (x : ℕ) → stands c x ≡ true → left ≢ Some x → bus_of c x ≡ bus_of b x
+  pub kid : (q x : ℕ) → is_of b (codes "bus") q ≡ true → listed x (kid_entries c q) ≡ true → (stands c x ≡ true) × (bus_of c x ≡ bus_of b x)
+  pub fewer : (q : ℕ) → is_live c q ≡ true → is_of b (codes "bus") q ≡ true → Within (kid_entries c q) (kid_entries b q)
+  pub within : (x : ℕ) → is_live c x ≡ true → Within (child_entries c x) (child_entries b x)
+  pub hold : (q x : ℕ) → is_of b (codes "bus") q ≡ true → is_live c q ≡ true → stands c x ≡ true → left ≢ Some x → listed x (kid_entries b q) ≡ true
+      → listed x (kid_entries c q) ≡ true
+  pub owned : (x q : ℕ) → stands c x ≡ true → bus_of c x ≡ Some q → HasOwner b q → HasOwner c q
+  pub owns_back : (p q : ℕ) → stands c p ≡ true → owns c p q ≡ true → owns b p q ≡ true
+
+module _ (b c : Board) (depth : ℕ → ℕ) (left before : Option ℕ) (out out_before : ℕ → Bool) (m : Moved left b c) (h : PlacesBut depth before out_before b)
+    (apart : (x : ℕ) → stands c x ≡ true → left ≢ Some x → before ≢ Some x)
+    (only : (x : ℕ) → is_live c x ≡ true → is_realized c x ≡ true → stands b x ≡ true → stands c x ≡ true)
+    (each : (x : ℕ) → stands c x ≡ true → out x ≡ false → is_realized c x ≡ true) where
+  machine : listed MACHINE_BIRTH (child_entries c 1) ≡ true
+  machine = ap (listed MACHINE_BIRTH) (m.fixed 1 m.root refl) ∙ h.machine
+
+  machine-live : is_live c MACHINE_BIRTH ≡ true
+  machine-live = child-live c m.firm 1 MACHINE_BIRTH machine
+
+  part : (n : ℕ) → listed n (child_entries b MACHINE_BIRTH) ≡ true → listed n (child_entries c MACHINE_BIRTH) ≡ true
+  part n e = ap (listed n) (m.fixed MACHINE_BIRTH machine-live refl) ∙ e
+
+  part-live : (n : ℕ) → listed n (child_entries b MACHINE_BIRTH) ≡ true → is_live c n ≡ true
+  part-live n e = child-live c m.firm MACHINE_BIRTH n (part n e)
+
+  peripherals : Within (child_entries c PERIPHERAL_BIRTH) (child_entries b PERIPHERAL_BIRTH)
+  peripherals = m.shelves PERIPHERAL_BIRTH (part-live PERIPHERAL_BIRTH h.parts.0) refl
+
+  anonymouses : Within (child_entries c ANONYMOUS_BIRTH) (child_entries b ANONYMOUS_BIRTH)
+  anonymouses = m.shelves ANONYMOUS_BIRTH (part-live ANONYMOUS_BIRTH h.parts.1.0) refl
+
+  pub stood : (d : ℕ) → stands c d ≡ true → stands b d ≡ true
+  stood d e =
+      or-cases (listed d (child_entries c PERIPHERAL_BIRTH)) (listed d (child_entries c ANONYMOUS_BIRTH)) e
+      (λ k. rw (within-listed d peripherals k) refl)
+      (λ k. rw (within-listed d anonymouses k) (or-true (listed d (child_entries b PERIPHERAL_BIRTH))))
+
+  there : (d : ℕ) → stands c d ≡ true → is_live c d ≡ true
+  there d e = stands-live c m.firm d e
+
+  peripheral : AllByRecursion (IsPeripheral c) (child_entries c PERIPHERAL_BIRTH)
+  peripheral =
+      all-imply (λ (e : List ℕ × ℕ). IsThere c e × IsPeripheral b e) (IsPeripheral c) one (child_entries c PERIPHERAL_BIRTH)
+      (all-both (IsThere c) (IsPeripheral b) (child_entries c PERIPHERAL_BIRTH)
+      (children-there c (slots_at c PERIPHERAL_BIRTH) (linked-at c m.firm PERIPHERAL_BIRTH)) (all-within (IsPeripheral b) peripherals h.peripheral))
+    where
+      one : (e : List ℕ × ℕ) → IsThere c e × IsPeripheral b e → IsPeripheral c e
+      one e k = peripheral-alike b c e (m.body e.1 k.0) k.1
+
+  anonymous : AllByRecursion (IsAnonymous c) (child_entries c ANONYMOUS_BIRTH)
+  anonymous =
+      all-imply (λ (e : List ℕ × ℕ). IsThere c e × IsAnonymous b e) (IsAnonymous c) one (child_entries c ANONYMOUS_BIRTH)
+      (all-both (IsThere c) (IsAnonymous b) (child_entries c ANONYMOUS_BIRTH)
+      (children-there c (slots_at c ANONYMOUS_BIRTH) (linked-at c m.firm ANONYMOUS_BIRTH)) (all-within (IsAnonymous b) anonymouses h.anonymous))
+    where
+      one : (e : List ℕ × ℕ) → IsThere c e × IsAnonymous b e → IsAnonymous c e
+      one e k = anonymous-alike b c e (λ n low. subst (λ (x : ℕ). n < x) (sym m.anonymous) low) (m.body e.1 k.0) k.1
+
+  kids : (q : ℕ) → is_of c (codes "bus") q ≡ true → AllByRecursion (IsKid c q) (kid_entries c q)
+  kids q e =
+      let live : is_live c q ≡ true = of-live c (codes "bus") q e in
+      let was : is_of b (codes "bus") q ≡ true = sym (of-alike b c q (codes "bus") (m.body q live)) ∙ e in
+      all-imply (λ (x : List ℕ × ℕ). (listed x.1 (kid_entries c q) ≡ true) × IsKid b q x) (IsKid c q) (one live was) (kid_entries c q)
+      (all-both (λ (x : List ℕ × ℕ). listed x.1 (kid_entries c q) ≡ true) (IsKid b q) (kid_entries c q) (all-in (kid_entries c q))
+      (all-within (IsKid b q) (m.fewer q live was) (h.kids q was)))
+    where
+      one : is_live c q ≡ true → is_of b (codes "bus") q ≡ true → (x : List ℕ × ℕ) → (listed x.1 (kid_entries c q) ≡ true) × IsKid b q x → IsKid c q x
+      one live was x k =
+          let (n, (low, (place, name))) = k.1.slot in
+          let stays : (stands c x.1 ≡ true) × (bus_of c x.1 ≡ bus_of b x.1) = m.kid q x.1 was k.0 in
+          record {
+            there = stays.0;
+            on = stays.1 ∙ k.1.on;
+            fits = suits-alike b c q x.1 (m.body q live) (m.body x.1 (there x.1 stays.0)) ∙ k.1.fits;
+            slot = (n, (low, (m.place x.1 stays.0 ∙ place, name)));
+          }
+
+  home : (d : ℕ) → stands c d ≡ true → left ≢ Some d → IsHome c d
+  home d e stays =
+      let old : IsHome b d = h.home d (stood d e) (apart d e stays) in
+      let on : bus_of c d ≡ Some old.bus = m.bus_on d e stays ∙ old.on in
+      let live : is_live c old.bus ≡ true = kid-live c m.firm d old.bus (bus-listed old.bus (slots_at c d) on) in
+      record {
+        bus = old.bus;
+        on = on;
+        is_bus = of-alike b c old.bus (codes "bus") (m.body old.bus live) ∙ old.is_bus;
+        kid = m.hold old.bus d old.is_bus live e stays old.kid;
+      }
+
+  owner-back : (q : ℕ) → HasOwner c q → HasOwner b q
+  owner-back q (machines k) = machines k
+  owner-back q (bridges p s o) = bridges p (stood p s) (m.owns_back p q s o)
+
+  shallow : IsShallow depth c
+  shallow =
+      record {
+        top = h.shallow.top;
+        below = λ p q n e on o. h.shallow.below p q n (stood p e) (m.bus_back p q e on) (m.owns_back p n e o);
+        most = λ q o. h.shallow.most q (owner-back q o);
+      }
+
+  pub places-moved : PlacesBut depth left out c
+  places-moved =
+      record {
+        machine = machine;
+        objects = ap (listed OBJECTS_BIRTH) (m.fixed 1 m.root refl) ∙ h.objects;
+        parts = (
+          part PERIPHERAL_BIRTH h.parts.0,
+          (
+            part ANONYMOUS_BIRTH h.parts.1.0,
+            (part ROOT_BUS_BIRTH h.parts.1.1.0, (part MEMORY_BUS_BIRTH h.parts.1.1.1.0, (part SYSTEM_CLOCK_BIRTH h.parts.1.1.1.1.0, tt))),
+          ),
+        );
+        rooted = rooted-same b c (m.body 1 m.root) (m.fixed 1 m.root refl) (m.fixed MACHINE_BIRTH machine-live refl) h.rooted;
+        children = children-within b c m.firm m.body m.within h.children;
+        aside =
+            all-imply (λ n. stands b n ≡ false) (λ n. stands c n ≡ false) no_more
+            (1 ∷ MACHINE_BIRTH ∷ PERIPHERAL_BIRTH ∷ ANONYMOUS_BIRTH ∷ ROOT_BUS_BIRTH ∷ MEMORY_BUS_BIRTH ∷ OBJECTS_BIRTH ∷ []) h.aside;
+        peripheral = peripheral;
+        anonymous = anonymous;
+        kids = kids;
+        home = home;
+        owner = λ d q e on. m.owned d q e on (h.owner d q (stood d e) (m.bus_back d q e on));
+        shallow = shallow;
+        only = λ d e. only d (realized-live c d e) e (h.only d (m.fading d (realized-live c d e) e));
+        each = each;
+        ids = λ d id e.
+            let a : SameBody b c d = m.body d (id-live c d id e) in
+            of-alike b c d (codes "device") a ∙ h.ids d id (sym (id-alike b c d a) ∙ e);
+        once = λ d x id e q. h.once d x id (sym (id-alike b c d (m.body d (id-live c d id e))) ∙ e) (sym (id-alike b c x (m.body x (id-live c x id q))) ∙ q);
+      }
+    where
+      no_more : (n : ℕ) → stands b n ≡ false → stands c n ≡ false
+      no_more n e = go (stands c n) refl
+        where
+          go : (t : Bool) → stands c n ≡ t → stands c n ≡ false
+          go false p = p
+          go true p = absurd (let clash : true ≡ false = sym (stood n p) ∙ e in cc)

@@ -1,0 +1,379 @@
+-- What changes no slots, and values that are set by name, keep the shape.
+use Rattle.std.proofs.Common.{◌≡◌, inr, refl, ap, sym, subst, ◌∙◌, ℕ, ◌<◌, ◌≤◌, ◌-◌, ◌^◌, Bool, true, false, ◌==◌, eqb, List, [], ◌∷◌, ◌++◌, filter, slice_get, codes, Option, Some, None, is_some, option_map, Ok, Err, arith}
+use Rattle.std.specs.Prelude.{nat_le}
+use Rattle.std.specs.Bool.{⊤}
+use Rattle.std.specs.Option.{option_map_or}
+use Rattle.std.specs.Str.{bytes_eq}
+use Rattle.std.proofs.lemmas.Bool.Decides.{nat_tests}
+use Rattle.std.proofs.Math.Nat.{mod-one}
+use Rattle.std.proofs.lemmas.Option.{same_Some}
+use Rattle.std.proofs.lemmas.Slice.Eq.{bytes_eq-Decides}
+use Rattle.qo_values.specs.Bodies.{Effect, body_act, body_write}
+use Rattle.qo_values.specs.Properties.{admits, is_multiple}
+use Rattle.qo_values.specs.Registers.{Registers, bare, bridge, dimm, fresh_registers, timer, uart}
+use Rattle.qo_values.specs.declared.codes.Code.TheVariants.{E45, E46}
+use Rattle.qo_values.specs.declared.kinds.Act.{Act}
+use Rattle.qo_values.specs.declared.kinds.Act.TheVariants.{Init, Realize, Unrealize, Enter, Hold, Exit, Pre, Update}
+use Rattle.qo_values.specs.declared.kinds.TypeId.{TypeId}
+use Rattle.qo_values.specs.declared.kinds.TypeId.TheVariants.{Object, Container, Machine, Device, SlotDevice, SlotUart, SlotTimer, SlotBridge, MemDimm, Bus, SlotBus, MemBus, Clock, MemoryBackend, MemoryBackendRam, Tag}
+use Rattle.qo_values.specs.declared.properties.PropType.TheVariants as ty
+use Rattle.qo_values.specs.declared.properties.Val.{Val}
+use Rattle.qo_values.specs.declared.properties.Val.TheVariants as val
+use Rattle.qo_model.specs.Board.{Board, Record, Slot, plain, child, strong, weak, alias, is_live, record_of, slots_at}
+use Rattle.qo_model.specs.Changes.{set, with_changed, with_val}
+use Rattle.qo_model.specs.ClockChanges.{clock_scaled, clock_set}
+use Rattle.qo_model.specs.Clocks.{acted, source_of, with_act_on}
+use Rattle.qo_model.specs.Depth.{among}
+use Rattle.qo_model.specs.Hotplug.{asked, asked_of, device_at}
+use Rattle.qo_model.specs.Objects.{index_from}
+use Rattle.qo_model.specs.Opening.{opening_board}
+use Rattle.qo_model.specs.Paths.{attached}
+use Rattle.qo_model.specs.Plug.{notice_barred}
+use Rattle.qo_model.specs.Properties.{property_named}
+use Rattle.qo_model.specs.Release.{edit, edited, without_first}
+use Rattle.qo_model.specs.Reset.{held, is_out, phased, post, pulse, released}
+use Rattle.qo_model.specs.RowNames.{property_name}
+use Rattle.qo_model.specs.Types.{types}
+use Rattle.qo_model.specs.Unplug.{is_named, set_named}
+use Rattle.qo_model.specs.declared.properties.Property.{Property}
+use Rattle.qo_model.specs.declared.properties.PropertyRole.{PropertyRole}
+use Rattle.qo_model.specs.declared.properties.PropertyRole.TheVariants as row
+use Rattle.qo_model.proofs.FirstSlotLemmas.{Found, found-at}
+use Rattle.qo_model.proofs.StepLemmas.{found-edited, found_at, is_some-map}
+use Rattle.qo_sound.proofs.FirmBoardLemmas.{edited-kind}
+use Rattle.qo_sound.proofs.RecordLemmas.{all-imply}
+use Rattle.qo_sound.proofs.SlotLemmas.{names-changed, names_in}
+use Rattle.qo_sound_clocks.specs.RegisterWrites.{registers_set, with_registers}
+use Rattle.qo_sound_clocks.proofs.StepsLemmas.{kept-written, calls-kept}
+use Rattle.qo_sound_phases.proofs.FixedObjectLemmas.{child-val}
+use Rattle.qo_sound_clocks.proofs.BecomesLemmas.{Becomes, written-becomes, uart_to, timer_to, dimm_stays, bridge_to}
+use Rattle.qo_sound_shapes.specs.SoundShape.{is_like, HasRole, IsOfProperty, SoundShape}
+use Rattle.qo_sound_shapes.proofs.BoardLemmas.{all-edit, all-same, good-all, OpeningLive, shape-all, shape-live}
+use Rattle.qo_sound_shapes.proofs.ShapeLemmas.{Good, good-changed, mild-val}
+use Rattle.qo_sound_shapes.proofs.RowLemmas.{IsRowOf}
+use Rattle.qo_sound_shapes.proofs.CompletenessLemmas.{edit-read, entries-changed, entries_in, whole-same}
+
+-- the machine's objects stay there
+
+pub live-same : (b c : Board) → ((x : ℕ) → is_live c x ≡ is_live b x) → OpeningLive b → OpeningLive c
+live-same b c same h =
+    all-imply (λ (o : Record). is_live b o.birth ≡ true) (λ (o : Record). is_live c o.birth ≡ true) (λ o k. same o.birth ∙ k) opening_board.records h
+
+edit-live : (n : ℕ) (change : Record → Record) → ((r : Record) → (change r).birth ≡ r.birth) → (b : Board) (x : ℕ) → is_live (edit n change b) x ≡ is_live b x
+edit-live n change same b x = ap is_some (found-edited n change same x b.records) ∙ is_some-map (edited n change) (record_of b x)
+
+-- what changes none of the objects
+pub same-shape : (b c : Board) → c.records ≡ b.records → SoundShape b → SoundShape c
+same-shape b c e h =
+    shape-all c (live-same b c (λ x. ap (λ (rs : List Record). is_some (found_at x rs)) e) (shape-live b h))
+    (whole-same b c (λ x. ap (λ (rs : List Record). names_in (option_map_or (λ (r : Record). r.slots) (found_at x rs) [])) e)
+    (λ x. ap (λ (rs : List Record). entries_in (option_map_or (λ (r : Record). r.slots) (found_at x rs) [])) e)
+    (λ x. ap (λ (rs : List Record). option_map (λ (r : Record). r.kind) (found_at x rs)) e) h.whole) (all-same Good b c e (good-all b h))
+
+pub edit-shape : (n : ℕ) (change : Record → Record) → ((r : Record) → (change r).birth ≡ r.birth) → ((r : Record) → (change r).kind ≡ r.kind)
+    → ((r : Record) → names_in (change r).slots ≡ names_in r.slots) → ((r : Record) → entries_in (change r).slots ≡ entries_in r.slots) → (b : Board)
+    → ((r : Record) → record_of b n ≡ Some r → Good r → Good (change r)) → SoundShape b → SoundShape (edit n change b)
+edit-shape n change same kind names entries b keeps h =
+    shape-all (edit n change b) (live-same b (edit n change b) (edit-live n change same b) (shape-live b h))
+    (whole-same b (edit n change b) (edit-read names_in n change same names b) (edit-read entries_in n change same entries b) (edited-kind n change same kind b)
+    h.whole)
+    (all-edit Good n change same b (λ r e own k. keeps r e k) (good-all b h))
+
+-- acts
+
+like-act : (act : Act) (now period : ℕ) (r s : Registers) → is_like (body_act act now period r) s ≡ is_like r s
+like-act (Init k) now period (uart u) s = refl
+like-act (Init k) now period (timer t) s = refl
+like-act (Init k) now period (dimm d) s = refl
+like-act (Init k) now period (bridge b) s = refl
+like-act (Init k) now period bare s = refl
+like-act Realize now period (uart u) s = refl
+like-act Realize now period (timer t) s = refl
+like-act Realize now period (dimm d) s = refl
+like-act Realize now period (bridge b) s = refl
+like-act Realize now period bare s = refl
+like-act Unrealize now period (uart u) s = refl
+like-act Unrealize now period (timer t) s = refl
+like-act Unrealize now period (dimm d) s = refl
+like-act Unrealize now period (bridge b) s = refl
+like-act Unrealize now period bare s = refl
+like-act Enter now period (uart u) s = refl
+like-act Enter now period (timer t) s = refl
+like-act Enter now period (dimm d) s = refl
+like-act Enter now period (bridge b) s = refl
+like-act Enter now period bare s = refl
+like-act Hold now period (uart u) s = refl
+like-act Hold now period (timer t) s = refl
+like-act Hold now period (dimm d) s = refl
+like-act Hold now period (bridge b) s = refl
+like-act Hold now period bare s = refl
+like-act Exit now period (uart u) s = refl
+like-act Exit now period (timer t) s = refl
+like-act Exit now period (dimm d) s = refl
+like-act Exit now period (bridge b) s = refl
+like-act Exit now period bare s = refl
+like-act Pre now period (uart u) s = refl
+like-act Pre now period (timer t) s = refl
+like-act Pre now period (dimm d) s = refl
+like-act Pre now period (bridge b) s = refl
+like-act Pre now period bare s = refl
+like-act Update now period (uart u) s = refl
+like-act Update now period (timer t) s = refl
+like-act Update now period (dimm d) s = refl
+like-act Update now period (bridge b) s = refl
+like-act Update now period bare s = refl
+
+pub good-act : (act : Act) (now period : ℕ) (r : Record) → Good r → Good (with_act_on act now period r)
+good-act act now period r h =
+    record {
+      shaped = record { slots = h.shaped.slots; registers = like-act act now period r.registers (fresh_registers r.kind) ∙ h.shaped.registers };
+      kind = h.kind;
+      fixed = h.fixed;
+    }
+
+pub acted-shape : (act : Act) (n period : ℕ) (b : Board) → SoundShape b → SoundShape (acted act n period b)
+unfolding acted
+acted-shape act n period b h =
+    same-shape (edit n (with_act_on act b.now period) b) (acted act n period b) refl
+    (edit-shape n (with_act_on act b.now period) (λ r. refl) (λ r. refl) (λ r. refl) (λ r. refl) b (λ r e k. good-act act b.now period r k) h)
+
+pub phased-shape : (act : Act) (ns : List ℕ) (b : Board) → SoundShape b → SoundShape (phased act ns b)
+phased-shape act [] b h = h
+phased-shape act (n ∷ ns) b h = phased-shape act ns (acted act n 0 b) (acted-shape act n 0 b h)
+
+pub held-shape : (b : Board) (n : ℕ) → SoundShape b → SoundShape (held b n)
+unfolding held
+held-shape b n h =
+    let entered : Board = phased Enter (filter (is_out b) (post b n)) b in
+    let c : Board = phased Hold (filter (is_out b) (post b n)) entered in
+    same-shape c (record c { holds = b.holds ++ n ∷ [] }) refl
+    (phased-shape Hold (filter (is_out b) (post b n)) entered (phased-shape Enter (filter (is_out b) (post b n)) b h))
+
+pub released-shape : (b : Board) (n : ℕ) → SoundShape b → SoundShape (released b n)
+unfolding released
+released-shape b n h =
+    let c : Board = record b { holds = without_first n b.holds } in
+    phased-shape Exit (filter (is_out c) (post c n)) c (same-shape b c refl h)
+
+pub pulse-shape : (b : Board) (n : ℕ) → SoundShape b → SoundShape (pulse b n)
+unfolding pulse
+pulse-shape b n h = released-shape (held b n) n (held-shape b n h)
+
+-- a removal that is asked for
+
+asked_of-shape : (b : Board) (d : ℕ) → SoundShape b → SoundShape (asked_of b d).board
+asked_of-shape b d h = go (attached b d) refl (among b.pending d) refl (is_some (notice_barred b)) refl
+  where
+    go : (home : Bool) → attached b d ≡ home → (pending : Bool) → among b.pending d ≡ pending → (full : Bool) → is_some (notice_barred b) ≡ full
+        → SoundShape (asked_of b d).board
+    go false p pending q full r = rw (asked_of, p) h
+    go true p true q full r = rw (asked_of, p, q) h
+    go true p false q true r = rw (asked_of, p, q, r) h
+    go true p false q false r = rw (asked_of, p, q, r) (same-shape b _ refl h)
+
+pub asked-shape : (b : Board) (id : List ℕ) → SoundShape b → SoundShape (asked b id).board
+asked-shape b id h = go (device_at b id) refl
+  where
+    go : (o : Option ℕ) → device_at b id ≡ o → SoundShape (asked b id).board
+    go None e = rw (asked, e) h
+    go (Some d) e = rw (asked, e) (asked_of-shape b d h)
+
+-- registers that are written
+
+like-same : (r s f : Registers) → is_like r s ≡ true → is_like s f ≡ is_like r f
+like-same (uart u) (uart v) f k = refl
+like-same (uart u) (timer x) f k = absurd (let clash : false ≡ true = k in cc)
+like-same (uart u) (dimm e) f k = absurd (let clash : false ≡ true = k in cc)
+like-same (uart u) (bridge c) f k = absurd (let clash : false ≡ true = k in cc)
+like-same (uart u) bare f k = absurd (let clash : false ≡ true = k in cc)
+like-same (timer t) (uart v) f k = absurd (let clash : false ≡ true = k in cc)
+like-same (timer t) (timer x) f k = refl
+like-same (timer t) (dimm e) f k = absurd (let clash : false ≡ true = k in cc)
+like-same (timer t) (bridge c) f k = absurd (let clash : false ≡ true = k in cc)
+like-same (timer t) bare f k = absurd (let clash : false ≡ true = k in cc)
+like-same (dimm d) (uart v) f k = absurd (let clash : false ≡ true = k in cc)
+like-same (dimm d) (timer x) f k = absurd (let clash : false ≡ true = k in cc)
+like-same (dimm d) (dimm e) f k = refl
+like-same (dimm d) (bridge c) f k = absurd (let clash : false ≡ true = k in cc)
+like-same (dimm d) bare f k = absurd (let clash : false ≡ true = k in cc)
+like-same (bridge b) (uart v) f k = absurd (let clash : false ≡ true = k in cc)
+like-same (bridge b) (timer x) f k = absurd (let clash : false ≡ true = k in cc)
+like-same (bridge b) (dimm e) f k = absurd (let clash : false ≡ true = k in cc)
+like-same (bridge b) (bridge c) f k = refl
+like-same (bridge b) bare f k = absurd (let clash : false ≡ true = k in cc)
+like-same bare (uart v) f k = absurd (let clash : false ≡ true = k in cc)
+like-same bare (timer x) f k = absurd (let clash : false ≡ true = k in cc)
+like-same bare (dimm e) f k = absurd (let clash : false ≡ true = k in cc)
+like-same bare (bridge c) f k = absurd (let clash : false ≡ true = k in cc)
+like-same bare bare f k = refl
+
+pub registers-shape : (b : Board) (n : ℕ) (registers : Registers) → ((r : Record) → record_of b n ≡ Some r → is_like registers r.registers ≡ true)
+    → SoundShape b
+    → SoundShape (registers_set b n registers)
+registers-shape b n registers like h =
+    edit-shape n (with_registers registers) (λ r. refl) (λ r. refl) (λ r. refl) (λ r. refl) b
+    (λ r e k.
+    record {
+      shaped =
+          record {
+            slots = k.shaped.slots;
+            registers = sym (like-same registers r.registers (fresh_registers r.kind) (like r e)) ∙ k.shaped.registers;
+          };
+      kind = k.kind;
+      fixed = k.fixed;
+    }) h
+
+-- a guest's write gives registers of the same kind
+pub write-like : (r s : Registers) (effect : Effect) (reg value : ℕ) (ring : Bool) (now period : ℕ) → body_write r reg value ring now period ≡ Some (s, effect)
+    → is_like s r ≡ true
+write-like r s effect reg value ring now period e = by r s (written-becomes r s effect reg value ring now period e)
+  where
+    by : (x y : Registers) → Becomes reg value now period x y → is_like y x ≡ true
+    by x y (uart_to u v) = refl
+    by x y (timer_to t v q) = refl
+    by x y (dimm_stays d) = refl
+    by x y (bridge_to g v) = refl
+
+-- a value that is set by name: the row of this name, if it is a plain one, admits it
+
+abbrev pub RowTakes : PropertyRole → Val → Type 0
+RowTakes (row.Plain type first) v = admits type v ≡ true
+RowTakes kind v = ⊤
+
+abbrev pub Takes : TypeId → List ℕ → Val → Type 0
+Takes t name v = elim (property_named t name) as (λ _. Type 0) [ None ↦ ⊤ | Some p ↦ RowTakes p.role v ]
+
+val-row : (kind : PropertyRole) (v : Val) (s : Slot) → RowTakes kind v → HasRole kind s → HasRole kind (with_val v s)
+val-row (row.Plain type first) v (plain w) takes h = inr takes
+val-row (row.Child type) v (plain w) takes h = h
+val-row (row.Link t true) v (plain w) takes h = h
+val-row (row.Link t false) v (plain w) takes h = h
+val-row (row.Alias owner of) v (plain w) takes h = h
+val-row kind v (child m) takes h = h
+val-row kind v (strong t target) takes h = h
+val-row kind v (weak t target) takes h = h
+val-row kind v (alias m property) takes h = h
+
+pub good-set : (name : List ℕ) (v : Val) (i : ℕ) (r : Record) (entry : List ℕ × Slot) → slice_get r.slots i ≡ Some entry → bytes_eq entry.0 name ≡ true
+    → Takes r.kind name v → Good r → Good (with_changed (with_val v) i r)
+good-set name v i r entry at named takes h = good-changed (with_val v) (mild-val v) i r rows h
+  where
+    rows : (p : Property) (s : List ℕ × Slot) → IsRowOf r.kind p → slice_get r.slots i ≡ Some s → IsOfProperty p s → HasRole p.role (with_val v s.1)
+    rows p s own there is =
+        let same : entry ≡ s = same_Some entry s (sym at ∙ there) in
+        let its : name ≡ property_name p.name = sym ((bytes_eq-Decides entry.0 name).0 named) ∙ ap (λ (x : List ℕ × Slot). x.0) same ∙ is.name in
+        let found : property_named r.kind name ≡ Some p = ap (property_named r.kind) its ∙ own in
+        val-row p.role v s.1
+        (subst (λ (o : Option Property). elim o as (λ _. Type 0) [ None ↦ ⊤ | Some x ↦ RowTakes x.kind v ]) found takes) is.fits
+
+pub slot-of : (c : Board) (n i : ℕ) (r : Record) (entry : List ℕ × Slot) → record_of c n ≡ Some r → slice_get (slots_at c n) i ≡ Some entry
+    → slice_get r.slots i ≡ Some entry
+slot-of c n i r entry e at = sym (ap (λ (o : Option Record). slice_get (option_map_or (λ (y : Record). y.slots) o []) i) e) ∙ at
+
+pub set-shape : (n : ℕ) (name : List ℕ) (v : Val) → ((t : TypeId) → Takes t name v) → (b : Board) → SoundShape b → SoundShape (set_named n name v b)
+unfolding set
+set-shape n name v takes b h = go (index_from (is_named name) 0 (slots_at b n)) refl
+  where
+    go : (o : Option ℕ) → index_from (is_named name) 0 (slots_at b n) ≡ o → SoundShape (set_named n name v b)
+    go None e = rw (set_named, e) h
+    go (Some i) e =
+        let f : Found (is_named name) (slots_at b n) i = found-at (is_named name) i (slots_at b n) e in
+        rw (set_named, e)
+        (edit-shape n (with_changed (with_val v) i) (λ r. refl) (λ r. refl) (λ r. names-changed (with_val v) i r.slots)
+        (λ r. entries-changed (with_val v) (child-val v) i r.slots) b
+        (λ r q k. good-set name v i r f.entry (slot-of b n i r f.entry q f.at) f.passes (takes r.kind) k) h)
+
+-- numbers of clocks
+
+pub admits-up_to : (hi n : ℕ) → n ≤ hi → admits (ty.Uint 0 hi 1) (val.Uint n) ≡ true
+admits-up_to hi n le =
+    let low : nat_le 0 n ≡ true = grind (arith, nat_tests) in
+    let high : nat_le n hi ≡ true = grind (arith, nat_tests, le) in
+    let step : is_multiple 1 n ≡ true = ap (λ (k : ℕ). k == 0) (mod-one n) in
+    rw (low, high, step) refl
+
+pub takes-period : (t : TypeId) (n : ℕ) → n < 2 ^ 64 → Takes t (codes "period") (val.Uint n)
+unfolding types
+takes-period Object n le = tt
+takes-period Container n le = tt
+takes-period Machine n le = tt
+takes-period Device n le = tt
+takes-period SlotDevice n le = tt
+takes-period SlotUart n le = tt
+takes-period SlotTimer n le = tt
+takes-period SlotBridge n le = tt
+takes-period MemDimm n le = tt
+takes-period Bus n le = tt
+takes-period SlotBus n le = tt
+takes-period MemBus n le = tt
+takes-period Clock n le = admits-up_to (2 ^ 64 - 1) n (omega (arith, le))
+takes-period MemoryBackend n le = tt
+takes-period MemoryBackendRam n le = tt
+takes-period Tag n le = tt
+
+pub takes-mul : (t : TypeId) (n : ℕ) → n < 2 ^ 32 → Takes t (codes "mul") (val.Uint n)
+unfolding types
+takes-mul Object n le = tt
+takes-mul Container n le = tt
+takes-mul Machine n le = tt
+takes-mul Device n le = tt
+takes-mul SlotDevice n le = tt
+takes-mul SlotUart n le = tt
+takes-mul SlotTimer n le = tt
+takes-mul SlotBridge n le = tt
+takes-mul MemDimm n le = tt
+takes-mul Bus n le = tt
+takes-mul SlotBus n le = tt
+takes-mul MemBus n le = tt
+takes-mul Clock n le = admits-up_to 4294967295 n (omega (arith, le))
+takes-mul MemoryBackend n le = tt
+takes-mul MemoryBackendRam n le = tt
+takes-mul Tag n le = tt
+
+pub takes-div : (t : TypeId) (n : ℕ) → n < 2 ^ 32 → Takes t (codes "div") (val.Uint n)
+unfolding types
+takes-div Object n le = tt
+takes-div Container n le = tt
+takes-div Machine n le = tt
+takes-div Device n le = tt
+takes-div SlotDevice n le = tt
+takes-div SlotUart n le = tt
+takes-div SlotTimer n le = tt
+takes-div SlotBridge n le = tt
+takes-div MemDimm n le = tt
+takes-div Bus n le = tt
+takes-div SlotBus n le = tt
+takes-div MemBus n le = tt
+takes-div Clock n le = admits-up_to 4294967295 n (omega (arith, le))
+takes-div MemoryBackend n le = tt
+takes-div MemoryBackendRam n le = tt
+takes-div Tag n le = tt
+
+pub clock_set-shape : (b d : Board) (c period : ℕ) → period < 2 ^ 64 → clock_set b c period ≡ Ok d → SoundShape b → SoundShape d
+clock_set-shape b d c period low e h = go (is_some (source_of b c)) refl
+  where
+    new : Board
+    new = set_named c (codes "period") (val.Uint period) b
+
+    go : (t : Bool) → is_some (source_of b c) ≡ t → SoundShape d
+    go true p = absurd (let clash : Err E45 ≡ Ok d = rw (clock_set, p) at e in cc)
+    go false p =
+        kept-written SoundShape (calls-kept SoundShape acted-shape) b new d c
+        (set-shape c (codes "period") (val.Uint period) (λ t. takes-period t period low) b h)
+        (rw (clock_set, p) at e)
+
+pub clock_scaled-shape : (b d : Board) (c mul div : ℕ) → mul < 2 ^ 32 → div < 2 ^ 32 → clock_scaled b c mul div ≡ Ok d → SoundShape b → SoundShape d
+clock_scaled-shape b d c mul div low also e h = go (eqb div 0) refl
+  where
+    mid : Board
+    mid = set_named c (codes "mul") (val.Uint mul) b
+
+    new : Board
+    new = set_named c (codes "div") (val.Uint div) mid
+
+    go : (t : Bool) → eqb div 0 ≡ t → SoundShape d
+    go true p = absurd (let clash : Err E46 ≡ Ok d = rw (clock_scaled, p) at e in cc)
+    go false p =
+        kept-written SoundShape (calls-kept SoundShape acted-shape) b new d c
+        (set-shape c (codes "div") (val.Uint div) (λ t. takes-div t div also) mid
+        (set-shape c (codes "mul") (val.Uint mul) (λ t. takes-mul t mul low) b h)) (rw (clock_scaled, p) at e)

@@ -1,0 +1,85 @@
+-- The moments of timers, of a heap and of the boards that it shows; and what a heap keeps of them, and of its pins.
+use Rattle.std.proofs.Common.{◌≡◌, refl, ap, ap₂, sym, subst, ℕ, eqb, cond, Bool, true, false, List, [], ◌∷◌, ◌++◌, map, replicate}
+use Rattle.std.specs.List.{AllByRecursion}
+use Rattle.qo_kinds.specs.Bodies as bodies
+use Rattle.qo_kinds.specs.Bodies.{registers_of}
+use Rattle.qo_kinds.specs.declared.bodies.Body.{Body}
+use Rattle.qo_kinds.specs.declared.bodies.Body.TheVariants.{Uart, Timer, Dimm, Bridge, Bus, Clock, Backend, Plain}
+use Rattle.qo_slots.specs.declared.keys.Key.{Key}
+use Rattle.qo_table.specs.Rows as rows
+use Rattle.qo_model.specs.Board.{Board, Record}
+use Rattle.qo_notes.specs.Log.{empty_log, noted_all}
+use Rattle.qo_object.specs.Content.{Content}
+use Rattle.qo_heap.specs.Board.{Shows, pins_in, record_of}
+use Rattle.qo_heap.specs.Objects.{Objects}
+use Rattle.qo_heap.specs.Moments.{Timely}
+use Rattle.qo_life.specs.Life.{Goes, with_log}
+use Rattle.qo_life.proofs.TreeLemmas.{tree, tree-shows}
+use Rattle.qo_sound.proofs.RecordLemmas.{all-map, all-unmap}
+use Rattle.qo_sound_clocks.specs.SoundTimes.{IsTimely, SoundTimes}
+
+-- a body and its registers
+
+in-registers : (now : ℕ) (body : Body) → bodies.IsTimely now body → IsTimely now (registers_of body)
+in-registers now (Uart u k) h = tt
+in-registers now (Timer t k) h = h
+in-registers now (Dimm d k) h = tt
+in-registers now (Bridge raised holds k) h = tt
+in-registers now Bus h = tt
+in-registers now Clock h = tt
+in-registers now Backend h = tt
+in-registers now Plain h = tt
+
+in-body : (now : ℕ) (body : Body) → IsTimely now (registers_of body) → bodies.IsTimely now body
+in-body now (Uart u k) h = tt
+in-body now (Timer t k) h = h
+in-body now (Dimm d k) h = tt
+in-body now (Bridge raised holds k) h = tt
+in-body now Bus h = tt
+in-body now Clock h = tt
+in-body now Backend h = tt
+in-body now Plain h = tt
+
+abbrev RowIsTimely : ℕ → Key × Content → Type 0
+RowIsTimely now row = bodies.IsTimely now row.1.body
+
+abbrev RecordIsTimely : ℕ → Record → Type 0
+RecordIsTimely now r = IsTimely now r.registers
+
+-- no timer of a heap is ahead of its time exactly where none is of a board that it shows
+
+pub timely-times : (b : Board) (v : Objects) → Shows b v → Timely v → SoundTimes b
+timely-times b v s all =
+    let there : AllByRecursion (RecordIsTimely v.time) (map record_of v.rows) =
+    all-map (RowIsTimely v.time) (RecordIsTimely v.time) record_of (λ row h. in-registers v.time row.1.body h) v.rows all in
+    subst (λ (now : ℕ). AllByRecursion (RecordIsTimely now) b.records) (sym s.now)
+    (subst (AllByRecursion (RecordIsTimely v.time)) (sym s.records) there)
+
+pub times-timely : (b : Board) (v : Objects) → Shows b v → SoundTimes b → Timely v
+times-timely b v s times =
+    let there : AllByRecursion (RecordIsTimely v.time) b.records = subst (λ (now : ℕ). AllByRecursion (RecordIsTimely now) b.records) s.now times in
+    all-unmap (RowIsTimely v.time) (RecordIsTimely v.time) record_of (λ row h. in-body v.time row.1.body h) v.rows
+    (subst (AllByRecursion (RecordIsTimely v.time)) s.records there)
+
+-- two heaps that show one board
+pub same-timely : (b : Board) (v w : Objects) → Shows b v → Shows b w → Timely v → Timely w
+same-timely b v w s t all = times-timely b w t (timely-times b v s all)
+
+-- a heap goes by a step that keeps the moments sound
+pub goes-timely : (step : Board → Board) (v w : Objects) → Goes step v w → ((b : Board) → SoundTimes b → SoundTimes (step b)) → Timely v → Timely w
+goes-timely step v w goes keeps all =
+    times-timely (step (tree v)) (with_log (noted_all goes.more empty_log) w) (goes.shown (tree v) empty_log (tree-shows v))
+    (keeps (tree v) (timely-times (tree v) (with_log empty_log v) (tree-shows v) all))
+
+-- an object is changed, but not its pins
+pub edit-pins : (n : ℕ) (f : Content → Content) → ((c : Content) → (f c).pins ≡ c.pins) → (rs : List (Key × Content))
+    → pins_in (rows.edit n f rs) ≡ pins_in rs
+edit-pins n f same [] = refl
+edit-pins n f same (row ∷ rs) = ap₂ (λ (xs ys : List ℕ). xs ++ ys) (go (eqb row.0.birth n)) (edit-pins n f same rs)
+  where
+    own : Key × Content → List ℕ
+    own r = replicate r.1.pins r.0.birth
+
+    go : (t : Bool) → own (cond t (row.0, f row.1) row) ≡ own row
+    go true = ap (λ (k : ℕ). replicate k row.0.birth) (same row.1)
+    go false = refl
