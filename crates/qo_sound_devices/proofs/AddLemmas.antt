@@ -95,7 +95,7 @@ module _ (depth : ℕ → ℕ) (b c : Board) (g : Grown b c) (firm : Firm b) (h 
           }
 
       at_objects : is_live b OBJECTS_BIRTH ≡ true → MoreChildren b c OBJECTS_BIRTH
-      at_objects e = record { added = g.added ∷ []; after = g.objects e; at_home = (own OBJECTS_BIRTH, tt) }
+      at_objects e = record { added = g.added ∷ []; later = g.objects e; at_home = (own OBJECTS_BIRTH, tt) }
 
       more : (p : ℕ) → is_live b p ≡ true → MoreChildren b c p
       more p e =

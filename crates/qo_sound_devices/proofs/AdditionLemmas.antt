@@ -488,10 +488,10 @@ module _ (depth : ℕ → ℕ) (b : Board) (n bus slot : ℕ) (id : Option (List
       numbered (Some i) = tt
 
       at_peripheral : MoreChildren b c PERIPHERAL_BIRTH
-      at_peripheral = record { added = named_entry id n; after = j.third; at_home = named id }
+      at_peripheral = record { added = named_entry id n; later = j.third; at_home = named id }
 
       at_anonymous : MoreChildren b c ANONYMOUS_BIRTH
-      at_anonymous = record { added = numbered_entry b id n; after = j.fourth; at_home = numbered id }
+      at_anonymous = record { added = numbered_entry b id n; later = j.fourth; at_home = numbered id }
 
       grows : (p : ℕ) → is_live b p ≡ true → MoreChildren b c p
       grows p e = go (eqb p PERIPHERAL_BIRTH) refl (eqb p ANONYMOUS_BIRTH) refl
