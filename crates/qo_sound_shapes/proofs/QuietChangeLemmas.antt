@@ -264,7 +264,7 @@ good-set name v i r entry at named takes h = good-changed (with_val v) (mild-val
         let its : name ≡ property_name p.name = sym ((bytes_eq-Decides entry.0 name).0 named) ∙ ap (λ (x : List ℕ × Slot). x.0) same ∙ is.name in
         let found : property_named r.kind name ≡ Some p = ap (property_named r.kind) its ∙ own in
         val-row p.role v s.1
-        (subst (λ (o : Option Property). elim o as (λ _. Type 0) [ None ↦ ⊤ | Some x ↦ RowTakes x.kind v ]) found takes) is.fits
+        (subst (λ (o : Option Property). elim o as (λ _. Type 0) [ None ↦ ⊤ | Some x ↦ RowTakes x.role v ]) found takes) is.fits
 
 pub slot-of : (c : Board) (n i : ℕ) (r : Record) (entry : List ℕ × Slot) → record_of c n ≡ Some r → slice_get (slots_at c n) i ≡ Some entry
     → slice_get r.slots i ≡ Some entry
