@@ -368,7 +368,7 @@ module _ (base : Board) (aside : stands base OBJECTS_BIRTH ≡ false) where
         value = λ old at type first is fits.
             val-all b h n i name (name, plain old) at ((bytes_eq-Decides name name).1 refl) v
             (λ r q.
-            subst (λ (o : Option Property). elim o as (λ _. Type 0) [ None ↦ ⊤ | Some x ↦ RowTakes x.kind v ]) (sym (row_in r q))
+            subst (λ (o : Option Property). elim o as (λ _. Type 0) [ None ↦ ⊤ | Some x ↦ RowTakes x.role v ]) (sym (row_in r q))
             (subst (λ (k : PropertyRole). RowTakes k v) (sym is) fits));
         link = λ u s left link leaves at to holds is path target told.
             relinked-all b h n i (λ r q. link-apart r.kind to holds name p (row_in r q) is) s (ap (option_map (λ (x : List ℕ × Slot). x.1)) at)
