@@ -228,22 +228,22 @@ module _ (t : TypeId) (rows : List Property) (i : ℕ) (d : Property) (below : i
   next-here : filter_map (slot_begun t) (take (i + 1) rows) ≡ before ++ more
   next-here = next-slot (slot_begun t) i rows (get_or rows i d) at-here
 
-  one-more : true ≡ is_some (begun t (get_or rows i d).kind) → (s : Named) × (more ≡ s ∷ [])
-  one-more own = by (begun t (get_or rows i d).kind) own
+  one-more : true ≡ is_some (begun t (get_or rows i d).role) → (s : Named) × (more ≡ s ∷ [])
+  one-more own = by (begun t (get_or rows i d).role) own
     where
       by : (o : Option Slot) → true ≡ is_some o
           → (s : Named) × (option_to_list {X = Named} (option_map (λ (x : Slot). (property_name (get_or rows i d).name, x)) o) ≡ s ∷ [])
       by None own = cc
       by (Some x) own = ((property_name (get_or rows i d).name, x), refl)
 
-  none-more : false ≡ is_some (begun t (get_or rows i d).kind) → more ≡ []
-  none-more own = by (begun t (get_or rows i d).kind) own
+  none-more : false ≡ is_some (begun t (get_or rows i d).role) → more ≡ []
+  none-more own = by (begun t (get_or rows i d).role) own
     where
       by : (o : Option Slot) → false ≡ is_some o → option_to_list {X = Named} (option_map (λ (x : Slot). (property_name (get_or rows i d).name, x)) o) ≡ []
       by None own = refl
       by (Some x) own = cc
 
-  pub blank-own : true ≡ is_some (begun t (get_or rows i d).kind) → (fs : List Fill) → fs ≡ map (λ (s : Named). fill.Nothing) before
+  pub blank-own : true ≡ is_some (begun t (get_or rows i d).role) → (fs : List Fill) → fs ≡ map (λ (s : Named). fill.Nothing) before
       → fs ++ fill.Nothing ∷ [] ≡ map (λ (s : Named). fill.Nothing) (filter_map (slot_begun t) (take (i + 1) rows))
   blank-own own fs is =
       let (s, one) = one-more own in
@@ -252,17 +252,17 @@ module _ (t : TypeId) (rows : List Property) (i : ℕ) (d : Property) (below : i
       ∙ sym (map-append (λ (x : Named). fill.Nothing) before more)
       ∙ ap (map (λ (x : Named). fill.Nothing)) (sym next-here)
 
-  pub blank-other : false ≡ is_some (begun t (get_or rows i d).kind) → (fs : List Fill) → fs ≡ map (λ (s : Named). fill.Nothing) before
+  pub blank-other : false ≡ is_some (begun t (get_or rows i d).role) → (fs : List Fill) → fs ≡ map (λ (s : Named). fill.Nothing) before
       → fs ≡ map (λ (s : Named). fill.Nothing) (filter_map (slot_begun t) (take (i + 1) rows))
   blank-other own fs is = is ∙ ap (map (λ (x : Named). fill.Nothing)) (sym (next-here ∙ ap (λ (l : List Named). before ++ l) (none-more own)
       ∙ append-nil before))
 
-  pub count-own : true ≡ is_some (begun t (get_or rows i d).kind) → (n : ℕ) → n ≡ length before → n + 1 ≡ length (filter_map (slot_begun t) (take (i + 1) rows))
+  pub count-own : true ≡ is_some (begun t (get_or rows i d).role) → (n : ℕ) → n ≡ length before → n + 1 ≡ length (filter_map (slot_begun t) (take (i + 1) rows))
   count-own own n is =
       let (s, one) = one-more own in
       omega (arith, is, ap (λ (l : List Named). length l) next-here, length-append before more, ap (λ (l : List Named). length l) one)
 
-  pub count-other : false ≡ is_some (begun t (get_or rows i d).kind) → (n : ℕ) → n ≡ length before → n ≡ length (filter_map (slot_begun t) (take (i + 1) rows))
+  pub count-other : false ≡ is_some (begun t (get_or rows i d).role) → (n : ℕ) → n ≡ length before → n ≡ length (filter_map (slot_begun t) (take (i + 1) rows))
   count-other own n is = is ∙ ap (λ (l : List Named). length l) (sym (next-here ∙ ap (λ (l : List Named). before ++ l) (none-more own) ∙ append-nil before))
 
   pub stands-here : (n : ℕ) → n ≡ length before → rows ≡ slots_of t → StandsAt t (record { row = get_or rows i d; place = n })
@@ -295,13 +295,13 @@ found-is {X = X} p (y ∷ xs) x found = by (p y) refl (found-is p xs x)
 
 record Seat (t : TypeId) (p : PlacedRow) : Type 0 where
   slot : Slot
-  begins : begun t p.row.kind ≡ Some slot
+  begins : begun t p.row.role ≡ Some slot
   stands : slice_get (new_slots t) p.place ≡ Some (property_name p.row.name, slot)
 
-seat : (t : TypeId) (p : PlacedRow) → StandsAt t p → is_some (begun t p.row.kind) ≡ true → Seat t p
-seat t p stands own = go (begun t p.row.kind) refl
+seat : (t : TypeId) (p : PlacedRow) → StandsAt t p → is_some (begun t p.row.role) ≡ true → Seat t p
+seat t p stands own = go (begun t p.row.role) refl
   where
-    go : (o : Option Slot) → begun t p.row.kind ≡ o → Seat t p
+    go : (o : Option Slot) → begun t p.row.role ≡ o → Seat t p
     go None e = absurd (let clash : false ≡ true = rw e at own in cc)
     go (Some s) e = record { slot = s; begins = e; stands = rw e at stands }
 
@@ -310,20 +310,20 @@ row-name t name r is =
     let same : bytes_eq (property_name r.name) name ≡ true = found-is (λ (p : Property). bytes_eq (property_name p.name) name) (slots_of t) r (sym is) in
     (bytes_eq-Decides (property_name r.name) name).0 same
 
-module _ (t : TypeId) (fs : List Fill) (p : PlacedRow) (stands : StandsAt t p) (own : is_some (begun t p.row.kind) ≡ true) where
+module _ (t : TypeId) (fs : List Fill) (p : PlacedRow) (stands : StandsAt t p) (own : is_some (begun t p.row.role) ≡ true) where
   pub put-within : (R : Fill → Named → Type 0) → AllZip R fs (new_slots t) → p.place < length fs
   put-within R all =
       let x : Seat t p = seat t p stands own in
       let low : p.place < length (new_slots t) = slice_get_within (new_slots t) p.place (property_name p.row.name, x.slot) x.stands in
       omega (arith, low, zip-length R fs (new_slots t) all)
 
-  pub put-fits : (f : Fill) → IfSome (begun t p.row.kind) (λ s. fits f s ≡ true) → AllZip Fits fs (new_slots t) → AllZip Fits (set fs p.place f) (new_slots t)
+  pub put-fits : (f : Fill) → IfSome (begun t p.row.role) (λ s. fits f s ≡ true) → AllZip Fits fs (new_slots t) → AllZip Fits (set fs p.place f) (new_slots t)
   put-fits f fit all =
       let x : Seat t p = seat t p stands own in
       zip-set Fits fs (new_slots t) p.place f (property_name p.row.name, x.slot) x.stands (rw x.begins at fit) all
 
   pub put-told : (b : Board) (given : List Given) (q : Given) → find (λ (g : Given). bytes_eq g.0 q.0) given ≡ None → Some p.row ≡ property_named t q.0
-      → (f : Fill) → IfSome (begun t p.row.kind) (HasValue b q.1 f) → AllZip (IsGiven b given) fs (new_slots t)
+      → (f : Fill) → IfSome (begun t p.row.role) (HasValue b q.1 f) → AllZip (IsGiven b given) fs (new_slots t)
       → AllZip (IsGiven b (given ++ q ∷ [])) (set fs p.place f) (new_slots t)
   put-told b given q none is f told all =
       let x : Seat t p = seat t p stands own in

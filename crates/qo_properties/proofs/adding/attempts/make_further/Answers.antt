@@ -3,7 +3,7 @@ use Rattle.qo_model.specs.Types.{slots_of}
 use Rattle.qo_properties.specs.Attempts.{MadeFurther}
 use Rattle.qo_properties.proofs.NewSlotLemmas.{few-slots, row-at}
 use Rattle.qo_properties.proofs.AttemptLemmas.{is-further, made-all, made-more, made-none, made-same}
-use Rattle.qo_properties.proofs.adding.attempts.make_further.Goals.{in-Child+in_ok-create, in_default-kind}
+use Rattle.qo_properties.proofs.adding.attempts.make_further.Goals.{in-Child+in_ok-create, in_default-role}
 use Rattle.qo_properties.proofs.adding.attempts.make_further.Goals as goal
 
 pub loop-row-init : goal.loop-row-init
@@ -32,10 +32,10 @@ loop-row-preserved g c =
           made-more c.args.kind c.loop-row.place c.in-Some.row w.in-Child.further w.in_ok-create.field-0 c.args.heap.now c.loop-row.heap c.match-row.heap
           c.in-Some.ensures w.in-Child.is
           birth (w.heap-is ∙ more) c.loop-row.invariant.0
-      | in_default-kind w ↦
+      | in_default-role w ↦
           subst (MadeFurther c.args.kind (c.loop-row.place + 1) c.args.heap.now) (sym w.heap-is)
           (made-same c.args.kind c.loop-row.place c.in-Some.row c.args.heap.now c.loop-row.heap c.in-Some.ensures
-          (is-further c.in-Some.row w.in_default-kind.not-Child) c.loop-row.invariant.0)
+          (is-further c.in-Some.row w.in_default-role.not-Child) c.loop-row.invariant.0)
     ]
 
 pub returns-clause-ok : goal.returns-clause-ok
