@@ -1,5 +1,5 @@
 -- The device at an address is there, on a board whose tree is sound; and what asking, refusing and taking notices leave of the tree.
-use Rattle.std.proofs.Common.{◌≡◌, refl, ap, sym, ◌∙◌, ℕ, Bool, true, false, List, [], ◌∷◌, filter_map, Option, Some, None, if◌then◌else◌, is_some, ◌&&◌, codes, subst}
+use Rattle.std.proofs.Common.{◌≡◌, refl, ap, sym, ◌∙◌, ℕ, Bool, true, false, List, [], ◌∷◌, filter_map, Option, Some, None, if◌then◌else◌, ◌&&◌, codes, subst}
 use Rattle.std.specs.Prelude.{find, not, option_and_then, option_map}
 use Rattle.std.specs.List.{AllByRecursion, cons_option}
 use Rattle.std.specs.Str.{bytes_eq}
@@ -7,14 +7,10 @@ use Rattle.std.proofs.lemmas.Option.{same_Some}
 use Rattle.qo_guest.specs.declared.addresses.Addr.{Addr}
 use Rattle.qo_guest.specs.declared.addresses.Addr.TheVariants.{Slots, Mem}
 use Rattle.qo_buses.specs.Addresses.{addressed}
-use Rattle.qo_values.specs.declared.codes.Code.TheVariants.{E33, E34, E35}
 use Rattle.qo_model.specs.Board.{Board, Slot, plain, child, strong, weak, alias, is_live, slots_at}
-use Rattle.qo_model.specs.Depth.{among}
 use Rattle.qo_model.specs.Devices.{bus_in, clock_name, first_bus, found_at, kid_at, kid_name, strong_in}
-use Rattle.qo_model.specs.Hotplug.{asked, asked_of, device_at, refused, with_asked}
-use Rattle.qo_model.specs.Objects.{Changed}
-use Rattle.qo_model.specs.Paths.{attached, is_of}
-use Rattle.qo_model.specs.Plug.{notice_barred}
+use Rattle.qo_model.specs.Hotplug.{refused}
+use Rattle.qo_model.specs.Paths.{is_of}
 use Rattle.qo_model.specs.SoundGraph.{graph_of}
 use Rattle.qo_model.proofs.TreeLemmas.{frame_lem}
 use Rattle.qo_realize.specs.Guest.{polled}
@@ -110,35 +106,3 @@ refused-tree b d h = beside-tree b (refused b d) refl refl h
 pub polled-tree : (b : Board) → SoundTree b → SoundTree (polled b)
 unfolding graph_of
 polled-tree b h = beside-tree b (polled b) refl refl h
-
-with_asked-tree : (b : Board) (d : ℕ) → SoundTree b → SoundTree (with_asked b d)
-unfolding graph_of
-with_asked-tree b d h = beside-tree b (with_asked b d) refl refl h
-
-abbrev when_told : Board → ℕ → Bool → Changed
-when_told b d t = if t then record { refusal = notice_barred b; board = b } else record { refusal = None; board = with_asked b d }
-
-abbrev when_pending : Board → ℕ → Bool → Changed
-when_pending b d t = if t then record { refusal = Some E34; board = b } else when_told b d (is_some (notice_barred b))
-
-abbrev when_detached : Board → ℕ → Bool → Changed
-when_detached b d t = if t then record { refusal = Some E35; board = b } else when_pending b d (among b.pending d)
-
-pub asked-tree : (b : Board) (id : List ℕ) → SoundTree b → SoundTree (asked b id).board
-asked-tree b id h = by (device_at b id)
-  where
-    told : (d : ℕ) (t : Bool) → SoundTree (when_told b d t).board
-    told d true = h
-    told d false = with_asked-tree b d h
-
-    pending : (d : ℕ) (t : Bool) → SoundTree (when_pending b d t).board
-    pending d true = h
-    pending d false = told d (is_some (notice_barred b))
-
-    detached : (d : ℕ) (t : Bool) → SoundTree (when_detached b d t).board
-    detached d true = h
-    detached d false = pending d (among b.pending d)
-
-    by : (o : Option ℕ) → SoundTree (elim o as (λ o. Changed) [ None ↦ record { refusal = Some E33; board = b } | Some d ↦ asked_of b d ]).board
-    by None = h
-    by (Some d) = detached d (not (attached b d))

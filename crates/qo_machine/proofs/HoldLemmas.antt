@@ -19,10 +19,6 @@ use Rattle.qo_machine.specs.Runs.{Turn, state_after}
 use Rattle.qo_machine.proofs.PreservationLemmas.{KeepsBoard, KeepsCommands, keeps_commands, run_keeps, step_keeps}
 use Rattle.qo_machine.proofs.PhaseLemmas.{opening_resets, phases_commands, phases_free, phases_kept}
 
--- what changes no object and no hold
-beside_held : (b c : Board) → c.records ≡ b.records → c.holds ≡ b.holds → SoundHolds b → SoundHolds c
-beside_held b c records holds h = holds_kept_lem.beside b c records holds h
-
 held_kept : KeepsBoard SoundHeld
 held_kept =
     record {
@@ -41,28 +37,28 @@ held_kept =
         holds_kept_lem.detached b d h.0.devices (among-all (IsOn b) b.pending h.0.devices.lists.pending d pending).0 h.1,
       );
       refused = λ b d h. (phases_kept.refused b d h.0, holds_kept_lem.refused_by b d h.1);
-      polled = λ b h. (phases_kept.polled b h.0, beside_held b (polled b) refl refl h.1);
+      polled = λ b h. (phases_kept.polled b h.0, holds_kept_lem.beside b (polled b) refl refl h.1);
       written = λ b at d reg value c there is h. (
         phases_kept.written b at d reg value c there is h.0,
         written-all SoundHolds b d reg value (λ registers e so. holds_kept_lem.registers b d registers h.1)
-            (λ x rings q. beside_held x (with_rings rings x) refl refl q) (λ x m on q. holds_kept_lem.pulsed x m q) c is,
+            (λ x rings q. holds_kept_lem.beside x (with_rings rings x) refl refl q) (λ x m on q. holds_kept_lem.pulsed x m q) c is,
       );
       rings =
           record {
-            added = λ b id kind size free h. (phases_kept.rings.added b id kind size free h.0, beside_held b _ refl refl h.1);
-            removed = λ b id free h. (phases_kept.rings.removed b id free h.0, beside_held b _ refl refl h.1);
-            read = λ b id most h. (phases_kept.rings.read b id most h.0, beside_held b _ refl refl h.1);
-            written = λ b id bytes h. (phases_kept.rings.written b id bytes h.0, beside_held b _ refl refl h.1);
+            added = λ b id kind size free h. (phases_kept.rings.added b id kind size free h.0, holds_kept_lem.beside b _ refl refl h.1);
+            removed = λ b id free h. (phases_kept.rings.removed b id free h.0, holds_kept_lem.beside b _ refl refl h.1);
+            read = λ b id most h. (phases_kept.rings.read b id most h.0, holds_kept_lem.beside b _ refl refl h.1);
+            written = λ b id bytes h. (phases_kept.rings.written b id bytes h.0, holds_kept_lem.beside b _ refl refl h.1);
           };
-      timed = λ b now on low h. (phases_kept.timed b now on low h.0, beside_held b (at_time now b) refl refl h.1);
-      switched = λ b on h. (phases_kept.switched b on h.0, beside_held b (with_running on b) refl refl h.1);
+      timed = λ b now on low h. (phases_kept.timed b now on low h.0, holds_kept_lem.beside b (at_time now b) refl refl h.1);
+      switched = λ b on h. (phases_kept.switched b on h.0, holds_kept_lem.beside b (with_running on b) refl refl h.1);
       held_so = λ b n is home deep h. (phases_kept.held_so b n is home deep h.0, holds_kept_lem.held_so b n deep h.1);
       released_so = λ b n is held h. (phases_kept.released_so b n is held h.0, holds_kept_lem.released_so b n h.1);
       reset = λ b h. (phases_kept.reset b h.0, holds_kept_lem.reset b h.0.devices h.1);
     }
 
 held_commands : KeepsCommands SoundHeld
-held_commands = keeps_commands SoundHeld held_kept (λ b h. (phases_free b h.0, beside_held b (without_events b) refl refl h.1))
+held_commands = keeps_commands SoundHeld held_kept (λ b h. (phases_free b h.0, holds_kept_lem.beside b (without_events b) refl refl h.1))
 
 few_in_runs : KeptInRuns SoundHeld
 few_in_runs =

@@ -20,7 +20,8 @@ use Rattle.qo_sound_devices.specs.SoundDevices.{SoundDevices}
 use Rattle.qo_sound_devices.proofs.DevicesLawLemmas.{devices_kept_lem}
 use Rattle.qo_sound_clocks.specs.ClockRuns.{SoundRun}
 use Rattle.qo_sound_clocks.proofs.RegisterLemmas.{registers_kept_lem}
-use Rattle.qo_machine.proofs.AddressLemmas.{asked-tree, polled-tree, refused-tree}
+use Rattle.qo_sound_devices.proofs.EqualObjectLemmas.{asked-tree}
+use Rattle.qo_machine.proofs.AddressLemmas.{polled-tree, refused-tree}
 use Rattle.qo_machine.proofs.BoardLemmas.{board_commands, opening_sound_board}
 use Rattle.qo_machine.proofs.ClocksLemmas.{opening_run, run_commands}
 use Rattle.qo_machine.proofs.DevicesLemmas.{devices_commands}

@@ -10,6 +10,7 @@ use Rattle.qo_values.specs.declared.kinds.TypeId.TheVariants.{Object, Container,
 use Rattle.qo_values.specs.declared.properties.Val.{Val}
 use Rattle.qo_values.specs.declared.properties.Val.TheVariants as val
 use Rattle.qo_values.specs.declared.ranges.Range.{Range}
+use Rattle.qo_model.proofs.FinalNotesGrowthLemmas.{unmapped}
 use Rattle.qo_model.specs.Board.{Board, Record, Slot, child, plain, strong, weak, alias, kind_of, record_of, slots_at}
 use Rattle.qo_model.specs.Changes.{add, changed_at, fresh, make, set, with_added, with_changed, with_val}
 use Rattle.qo_model.specs.Devices.{bus_in, buses_of, clock_name, clock_of, kid_name}
@@ -422,10 +423,6 @@ drafted-rows n t (p ∷ ps) done c d =
     (drafted-rows n t ps (done ++ option_to_list (further_in p)) (property_made n t (property_name p.name) p.role c)
     (drafted-row n t done c (property_name p.name) p.role d))
 
-none-there : (o : Option Record) → option_map (λ (r : Record). r.kind) o ≡ None → o ≡ None
-none-there None e = refl
-none-there (Some r) e = cc
-
 drafted-begun : (b : Board) (t : TypeId) → ((m : ℕ) → b.born < m → kind_of b m ≡ None) → Drafted (b.born + 1) t [] (created b t)
 unfolding make
 drafted-begun b t low =
@@ -445,7 +442,7 @@ drafted-begun b t low =
     found =
         found-last (b.born + 1) (fresh (b.born + 1) t) b.records
         ∙ ap (λ (o : Option Record). option_or o (cond ((b.born + 1) == (b.born + 1)) (Some (fresh (b.born + 1) t)) None))
-        (none-there (record_of b (b.born + 1)) (low (b.born + 1) (omega arith)))
+        (unmapped (record_of b (b.born + 1)) (low (b.born + 1) (omega arith)))
         ∙ ap (λ (x : Bool). cond x (Some (fresh (b.born + 1) t)) None) (self-is (b.born + 1))
 
 -- the buses among them
