@@ -1,7 +1,7 @@
 -- The words after the program's name.
 use Rattle.std.specs.Prelude.{ℕ, ◌-◌, ◌^◌, ◌==◌, Bool, true, false, if◌then◌else◌, List, [], ◌∷◌, length, Option, Some, None, codes}
 use Rattle.std.specs.Str.{bytes_eq}
-use Rattle.qo_record.specs.Reading.{◌>>=◌, after_front, next_of, or_else}
+use Rattle.qo_record.specs.Reading.{◌>>=◌, after_front, with_digit, or_else}
 
 -- what the program is asked to do; a socket has a path and a number of connections, a demo a seed and a number of steps
 pub data Order : Type 0 where
@@ -13,14 +13,14 @@ pub data Order : Type 0 where
 -- further digits, to the end
 abbrev pub digits_on : ℕ → ℕ → List ℕ → Option ℕ
 digits_on last n [] = Some n
-digits_on last n (b ∷ bytes) = next_of last n b >>= λ next. digits_on last next bytes
+digits_on last n (b ∷ bytes) = with_digit last n b >>= λ next. digits_on last next bytes
 
 -- a number up to the last, in digits without a leading zero
 abbrev pub number : ℕ → List ℕ → Option ℕ
 number last [] = None
 number last (b ∷ bytes) =
     if b == 48 then (if length bytes == 0 then Some 0 else None)
-    else (next_of last 0 b >>= λ first. digits_on last first bytes)
+    else (with_digit last 0 b >>= λ first. digits_on last first bytes)
 
 -- a value is not empty and begins with no `-`
 abbrev pub is_value : List ℕ → Bool

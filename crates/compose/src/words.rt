@@ -1,9 +1,11 @@
 //! The words after the program's name.
 
 ghost use Rattle.std.specs.Prelude.{◌≡◌, ◌≤◌, IfSome, map, option_map, string_bytes};
-ghost use Rattle.qo_record.specs.Reading.{after_front, next_of};
+ghost use Rattle.qo_record.specs.Reading.{after_front, with_digit};
 ghost use Rattle.compose.specs.Views.{order_of};
 ghost use Rattle.compose.specs.Words.{alone, both, demo_in, digits_on, is_value, number, option_at, options, order, serve_in, value_then};
+
+use qo_record::with_digit;
 
 /// The most connections that `serve` takes.
 const CONNECTIONS_MAX: u64 = 1_000;
@@ -31,17 +33,6 @@ fn after_front<'a>(front: &str, text: &'a str) -> Option<&'a str>
     text.strip_prefix(front)
 }
 
-/// The number with one more digit, where the byte is one and the number is not above the last.
-fn next_of(last: u64, number: u64, byte: u8) -> Option<u64>
-    ensures { result ≡ next_of last number byte }
-{
-    if !byte.is_ascii_digit() {
-        return None;
-    }
-    let next = number.checked_mul(10)?.checked_add(u64::from(byte - b'0'))?;
-    if next <= last { Some(next) } else { None }
-}
-
 /// Further digits, to the end.
 fn digits_on(last: u64, first: u64, bytes: &[u8]) -> Option<u64>
     requires { first ≤ last }
@@ -51,7 +42,7 @@ fn digits_on(last: u64, first: u64, bytes: &[u8]) -> Option<u64>
     let mut number = first;
     let mut left = bytes;
     while let [byte, rest @ ..] = left {
-        number = next_of(last, number, *byte)?;
+        number = with_digit(last, number, *byte)?;
         left = rest;
     }
     Some(number)
@@ -66,7 +57,7 @@ fn number(last: u64, text: &str) -> Option<u64>
     if *byte == b'0' {
         return if rest.is_empty() { Some(0) } else { None };
     }
-    digits_on(last, next_of(last, 0, *byte)?, rest)
+    digits_on(last, with_digit(last, 0, *byte)?, rest)
 }
 
 /// Whether a text may be a value: it is not empty and begins with no `-`.

@@ -58,6 +58,21 @@ pub struct Input {
     pub what: What,
 }
 
+impl Input {
+    /// The end of the inputs, at the moment 0.000000.
+    pub fn the_end() -> Input
+        ensures { result ≡ record { at = record { seconds = 0; micros = 0 }; what = What.End } }
+    {
+        Input {
+            at: Moment {
+                seconds: 0,
+                micros: 0,
+            },
+            what: What::End,
+        }
+    }
+}
+
 /// What came. A session is named by its number, 0 to 15; one with a higher number changes nothing.
 #[derive(Debug, Drop)]
 pub enum What {

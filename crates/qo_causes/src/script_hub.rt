@@ -79,26 +79,13 @@ fn empty_lanes(alloc: Global, room: usize) -> Result<Vec<Shelf>, AllocError>
     Ok(lanes)
 }
 
-/// The end of the inputs, at the moment 0.000000.
-fn the_end() -> Input
-    ensures { result ≡ record { at = record { seconds = 0; micros = 0 }; what = What.End } }
-{
-    Input {
-        at: Moment {
-            seconds: 0,
-            micros: 0,
-        },
-        what: What::End,
-    }
-}
-
 /// Takes the first input, or the end where none is left. Nothing is left behind an end.
 fn take_first(inputs: &mut VecDeque<Input>) -> Input
     ensures first { result ≡ first_input inputs.old.items }
     ensures left { inputs.new.items ≡ after_first inputs.old.items }
 {
     let Some(input) = inputs.pop_front() else {
-        return the_end();
+        return Input::the_end();
     };
     if let What::End = input.what {
         inputs.clear();

@@ -9,7 +9,7 @@ use Rattle.std.proofs.lemmas.Fmt.{decimal_by_steps, decimal_digit, decimal_step}
 use Rattle.std.proofs.lemmas.List.{take-append-drop}
 use Rattle.std.proofs.lemmas.Slice.Eq.{bytes_eq-Decides}
 use Rattle.std.specs.Str.{bytes_eq}
-use Rattle.qo_record.specs.Reading.{◌>>=◌, after_front, digits_of, digits_until, next_of, number_until}
+use Rattle.qo_record.specs.Reading.{◌>>=◌, after_front, digits_of, digits_until, with_digit, number_until}
 use Rattle.qo_record.specs.Spelling.{last_digits}
 
 -- Where something was read in the end, each part was read.
@@ -59,13 +59,13 @@ record IsTaken (last n byte more : ℕ) : Type 0 where
   sum : more ≡ n * 10 + (byte - 48)
   fits : more ≤ last
 
-digit_taken : (last n byte more : ℕ) → next_of last n byte ≡ Some more → IsTaken last n byte more
+digit_taken : (last n byte more : ℕ) → with_digit last n byte ≡ Some more → IsTaken last n byte more
 digit_taken last n byte more h =
     let g = when_true (nat_le 48 byte && nat_le byte 57 && nat_le (n * 10 + (byte - 48)) last) (Some (n * 10 + (byte - 48))) more h in
     let same : n * 10 + (byte - 48) ≡ more = some_is g.1 in
     record { low = grind (arith, nat_tests); high = grind (arith, nat_tests); sum = sym same; fits = grind (arith, nat_tests) }
 
-digit_takes : (last n byte more : ℕ) → IsTaken last n byte more → next_of last n byte ≡ Some more
+digit_takes : (last n byte more : ℕ) → IsTaken last n byte more → with_digit last n byte ≡ Some more
 digit_takes last n byte more t = grind (arith, nat_tests, t.low, t.high, t.sum, t.fits)
 
 -- further digits are those after the digits so far
@@ -73,14 +73,14 @@ digits_taken : (stop last : ℕ) (bytes : List ℕ) (n : ℕ) (x : ℕ × List �
     (x.0 ≤ last) × (decimal n ++ bytes ≡ decimal x.0 ++ stop ∷ x.1)
 digits_taken stop last [] n x wide some few h = absurd (none_some h)
 digits_taken stop last (b ∷ bytes) n x wide some few h =
-    elim (if_some (b == stop) (Some (n, bytes)) (next_of last n b >>= λ next. digits_until stop last next bytes) x h) [
+    elim (if_some (b == stop) (Some (n, bytes)) (with_digit last n b >>= λ next. digits_until stop last next bytes) x h) [
       | inl p ↦ (
           let is : b ≡ stop = grind (arith, nat_tests) in
           let made : (n, bytes) ≡ x = some_is p.1 in
           subst (λ (y : ℕ × List ℕ). (y.0 ≤ last) × (decimal n ++ b ∷ bytes ≡ decimal y.0 ++ stop ∷ y.1)) made (few, ap (λ (k : ℕ). decimal n ++ k ∷ bytes) is)
           )
       | inr p ↦ (
-          let s = bind_some (next_of last n b) (λ (next : ℕ). digits_until stop last next bytes) x p.1 in
+          let s = bind_some (with_digit last n b) (λ (next : ℕ). digits_until stop last next bytes) x p.1 in
           let more : ℕ = s.0 in
           let t = digit_taken last n b more s.1 in
           let front : more / 10 ≡ n = omega (arith, t.sum, t.low, t.high) in
@@ -96,7 +96,7 @@ pub number_taken : (stop last : ℕ) (bytes : List ℕ) (x : ℕ × List ℕ) �
     (x.0 ≤ last) × (bytes ≡ decimal x.0 ++ stop ∷ x.1)
 number_taken stop last [] x wide h = absurd (none_some h)
 number_taken stop last (b ∷ bytes) x wide h =
-    elim (if_some (b == 48) (after_front (stop ∷ []) bytes >>= λ rest. Some (0, rest)) (next_of last 0 b >>= λ first. digits_until stop last first bytes) x h) [
+    elim (if_some (b == 48) (after_front (stop ∷ []) bytes >>= λ rest. Some (0, rest)) (with_digit last 0 b >>= λ first. digits_until stop last first bytes) x h) [
       | inl p ↦ (
           let is : b ≡ 48 = grind (arith, nat_tests) in
           let s = bind_some (after_front (stop ∷ []) bytes) (λ (rest : List ℕ). Some (0, rest)) x p.1 in
@@ -107,7 +107,7 @@ number_taken stop last (b ∷ bytes) x wide h =
           subst (λ (y : ℕ × List ℕ). (y.0 ≤ last) × (b ∷ bytes ≡ decimal y.0 ++ stop ∷ y.1)) made (omega arith, whole)
           )
       | inr p ↦ (
-          let s = bind_some (next_of last 0 b) (λ (first : ℕ). digits_until stop last first bytes) x p.1 in
+          let s = bind_some (with_digit last 0 b) (λ (first : ℕ). digits_until stop last first bytes) x p.1 in
           let first : ℕ = s.0 in
           let t = digit_taken last 0 b first s.1 in
           let some : 0 < first = grind (arith, nat_tests, p.0, t.sum, t.low) in
@@ -160,7 +160,7 @@ digits_are_last zero bytes n x h =
     subst (λ (y : ℕ × List ℕ). (y.0 / 1 ≡ n) × (bytes ≡ y.1)) made (omega arith, refl)
 digits_are_last (suc k) [] n x h = absurd (none_some h)
 digits_are_last (suc k) (b ∷ bytes) n x h =
-    let s = bind_some (next_of 999999 n b) (λ (next : ℕ). digits_of k next bytes) x h in
+    let s = bind_some (with_digit 999999 n b) (λ (next : ℕ). digits_of k next bytes) x h in
     let more : ℕ = s.0 in
     let t = digit_taken 999999 n b more s.1 in
     let rest = digits_are_last k bytes more x s.2 in
@@ -175,6 +175,6 @@ last_are_digits zero n rest few = ap (λ (m : ℕ). Some (m, rest)) (omega arith
 last_are_digits (suc k) n rest few =
     let part : ℕ = n / 10 ^ k in
     let smaller : part ≤ n = div-le_self n (10 ^ k) in
-    let made : next_of 999999 (part / 10) (48 + part % 10) ≡ Some part =
+    let made : with_digit 999999 (part / 10) (48 + part % 10) ≡ Some part =
     digit_takes 999999 (part / 10) (48 + part % 10) part (record { low = omega arith; high = omega arith; sum = omega arith; fits = omega arith }) in
     rw (tenth n k, made) (last_are_digits k n rest few)

@@ -12,5 +12,6 @@ mod waiting;
 mod windows;
 
 pub use demos::demo_record;
+pub use reading::with_digit;
 pub use replay_hub::{ReplayHub, Unmade};
 pub use windows::AHEAD_BYTES;

@@ -108,19 +108,6 @@ fn find_entry<S: Source>(
     }
 }
 
-/// The end of the inputs, at the moment 0.000000.
-fn the_end() -> Input
-    ensures { result ≡ record { at = record { seconds = 0; micros = 0 }; what = What.End } }
-{
-    Input {
-        at: Moment {
-            seconds: 0,
-            micros: 0,
-        },
-        what: What::End,
-    }
-}
-
 /// A recorded stream that is read from a source, and how far it was read.
 #[derive(Drop)]
 pub(crate) struct Reader {
@@ -236,7 +223,7 @@ impl Reader {
             Ok(Some(first)) => Ok(self.pass_entry(first)),
             Ok(None) => {
                 if self.held_count() == 0 {
-                    return Ok(the_end());
+                    return Ok(Input::the_end());
                 }
                 Err(NextError::Bad(self.place))
             }

@@ -2,7 +2,7 @@
 
 ghost use Rattle.std.specs.Prelude.{◌≡◌, ◌≤◌, ◌-◌, ◌^◌, ◌<◌, option_map, IfSome};
 ghost use Rattle.std.specs.Option.{option_copied};
-ghost use Rattle.qo_record.specs.Reading.{after_front, next_of, digits_until, number_until, digits_of};
+ghost use Rattle.qo_record.specs.Reading.{after_front, with_digit, digits_until, number_until, digits_of};
 ghost use Rattle.qo_record.specs.Record.{moment_at, piece_at, piece_of};
 ghost use Rattle.qo_record.specs.Spelling.{FitsPiece};
 
@@ -25,8 +25,8 @@ pub(crate) fn after_front<'a>(front: &[u8], bytes: &'a [u8]) -> Option<&'a [u8]>
 }
 
 /// The number with one more digit, where the byte is one and the number is not above the last.
-fn next_of(last: u64, number: u64, byte: u8) -> Option<u64>
-    ensures { result ≡ next_of last number byte }
+pub fn with_digit(last: u64, number: u64, byte: u8) -> Option<u64>
+    ensures { result ≡ with_digit last number byte }
 {
     if !byte.is_ascii_digit() {
         return None;
@@ -47,7 +47,7 @@ fn digits_until(stop: u8, last: u64, first: u64, bytes: &[u8]) -> Option<(u64, &
         if *byte == stop {
             return Some((number, rest));
         }
-        number = next_of(last, number, *byte)?;
+        number = with_digit(last, number, *byte)?;
         left = rest;
     }
     None
@@ -62,7 +62,7 @@ pub(crate) fn number_until(stop: u8, last: u64, bytes: &[u8]) -> Option<(u64, &[
     if *byte == b'0' {
         return Some((0, after_front(&[stop], rest)?));
     }
-    digits_until(stop, last, next_of(last, 0, *byte)?, rest)
+    digits_until(stop, last, with_digit(last, 0, *byte)?, rest)
 }
 
 /// Six digits.
@@ -73,7 +73,7 @@ fn six_digits(bytes: &[u8]) -> Option<(u32, &[u8])>
     let mut left = bytes;
     for _ in 0..6u8 {
         let (byte, rest) = left.split_first()?;
-        number = next_of(999_999, number, *byte)?;
+        number = with_digit(999_999, number, *byte)?;
         left = rest;
     }
     Some((number as u32, left))

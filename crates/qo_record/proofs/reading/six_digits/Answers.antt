@@ -1,9 +1,9 @@
 -- One digit more is read.
 use Rattle.std.proofs.Common.{◌≡◌, ℕ, suc, ◌+◌, ◌-◌, ◌<◌, List, ◌∷◌, Option, Some, arith, rules}
-use Rattle.qo_record.specs.Reading.{next_of, digits_of}
+use Rattle.qo_record.specs.Reading.{with_digit, digits_of}
 use Rattle.qo_record.proofs.reading.six_digits.Goals as goal
 
-one_more : (k n b next : ℕ) (bytes rest : List ℕ) (whole : Option (ℕ × List ℕ)) → k < 6 → bytes ≡ b ∷ rest → next_of 999999 n b ≡ Some next →
+one_more : (k n b next : ℕ) (bytes rest : List ℕ) (whole : Option (ℕ × List ℕ)) → k < 6 → bytes ≡ b ∷ rest → with_digit 999999 n b ≡ Some next →
     digits_of (6 - k) n bytes ≡ whole → digits_of (6 - (k + 1)) next rest ≡ whole
 one_more k n b next bytes rest whole below is made kept =
     let e : 6 - k ≡ suc (6 - (k + 1)) = omega arith in let a = rw (is, e) at kept in rw made at a
