@@ -6,7 +6,6 @@ ghost use Rattle.qo_values.specs.declared.limits.TheConstants.{LIVE_OBJECTS_MAX}
 ghost use Rattle.qo_model.specs.Types.{has_finalizer};
 ghost use Rattle.qo_notes.specs.Log.{noted_all};
 ghost use Rattle.qo_object.specs.Content.{fresh};
-ghost use Rattle.qo_table.specs.Rows.{IsLive};
 ghost use Rattle.qo_heap.specs.declared.errors.MakeError.TheVariants.{Limit, Memory as NoMemory};
 ghost use Rattle.qo_life.specs.Life.{init_note, init_notes, with_notes};
 
@@ -16,26 +15,24 @@ use qo_values::TypeId;
 use std::alloc::Global;
 use std::sync::ledger::Ledger;
 
-/// Notes that the initializer of a type ran on an object, where the type has one.
-fn note_init(heap: &mut Heap, o: Oid, of: TypeId)
-    requires { IsLive heap.old.rows o }
-    ensures { heap.new ≡ with_notes (if has_finalizer of then init_note o.birth of ∷ [] else []) heap.old }
+/// Notes that the initializer of a type ran on the object of a birth, where the type has one.
+fn note_init(heap: &mut Heap, birth: u64, of: TypeId)
+    ensures { heap.new ≡ with_notes (if has_finalizer of then init_note birth of ∷ [] else []) heap.old }
 {
     if TypeTable::board().has_finalizer(of) {
-        heap.init(o, of);
+        heap.note_init(birth, of);
     }
 }
 
-/// Notes the initializers of an object of a type, base first.
-fn note_inits(heap: &mut Heap, o: Oid, kind: TypeId)
-    requires { IsLive heap.old.rows o }
-    ensures { heap.new ≡ with_notes (init_notes o.birth kind) heap.old }
+/// Notes the initializers of the object of a birth, of a type, base first. It takes no memory.
+pub fn note_inits(heap: &mut Heap, birth: u64, kind: TypeId)
+    ensures { heap.new ≡ with_notes (init_notes birth kind) heap.old }
 {
     let ancestry = TypeTable::board().ancestry(kind);
     let mut left = ancestry.len();
     while left > 0 {
         left -= 1;
-        note_init(heap, o, ancestry[left]);
+        note_init(heap, birth, ancestry[left]);
     }
 }
 
@@ -55,7 +52,6 @@ pub fn create<L: Ledger>(
     ensures err { OnErr result (heap.new ≡ heap.old) }
 {
     let o = heap.make(alloc, kind, steps)?;
-    heap.facts();
-    note_inits(heap, o, kind);
+    note_inits(heap, o.birth, kind);
     Ok(o)
 }

@@ -40,7 +40,7 @@ fn made<L: Ledger>(alloc: Global, blank: Blank) -> Option<usize>
     let mut heap = Heap::new(alloc).ok()?;
     heap.make(alloc, TypeId::Container, &mut steps).ok()?;
     let first = heap.by_birth(1)?;
-    heap.init(first, TypeId::Container);
+    heap.note_init(first.birth, TypeId::Container);
     heap.make(alloc, TypeId::Device, &mut steps).ok()?;
     add_first(&mut heap, alloc, &mut steps)?;
     add_second(&mut heap, alloc, &mut steps)?;

@@ -4,7 +4,7 @@ use Rattle.qo_life.proofs.BirthLemmas.{inits_in}
 use Rattle.qo_life.proofs.birth.note_inits.Given as goal
 
 abbrev pub invariant-loop-left : goal.invariant-loop-left
-invariant-loop-left l = (l.heap ≡ with_notes (inits_in l.o.birth (drop l.left l.ancestry)) l.initial.heap) × (l.left ≤ length l.ancestry)
+invariant-loop-left l = (l.heap ≡ with_notes (inits_in l.birth (drop l.left l.ancestry)) l.initial.heap) × (l.left ≤ length l.ancestry)
 
 abbrev pub decreases-loop-left : goal.decreases-loop-left
 decreases-loop-left l = l.left
