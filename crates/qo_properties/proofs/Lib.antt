@@ -1,5 +1,4 @@
 pub mod AddLemmas
-pub mod AttemptLemmas
 pub mod AnswerLemmas
 pub mod BarLemmas
 pub mod ClaimLemmas

@@ -8,11 +8,11 @@ mod reading;
 mod refusals;
 mod writing;
 
-pub use adding::attempts::attempt_whole;
+pub use adding::attempts::{attempt, attempt_whole, objects_in};
 pub use adding::barring::{Admitted, admit};
 pub use adding::filling::Fill;
 pub use adding::fresh::{add_row, furnish_new, name_of};
-pub use adding::objects::{add_object, attempt, make_child};
+pub use adding::objects::{add_object, make_child};
 pub use adding::planned::planned_for;
 pub use adding::planning::plan;
 pub use adding::start::make_all;

@@ -265,7 +265,7 @@ rises-lower low above last [] le rises = omega arith
 rises-lower low above last (n ∷ ns) le rises = let up : above < n = rises.0 in (omega arith, rises.1)
 
 -- and stay below what is above their end
-rises-higher : (above last more : ℕ) (ns : List ℕ) → last ≤ more → Rises above ns last → Rises above ns more
+pub rises-higher : (above last more : ℕ) (ns : List ℕ) → last ≤ more → Rises above ns last → Rises above ns more
 rises-higher above last more [] le h = omega (arith, le, h)
 rises-higher above last more (n ∷ ns) le h = (h.0, rises-higher n last more ns le h.1)
 

@@ -92,6 +92,7 @@ impl<T> ObjectTable<T> {
     pub fn skip(&mut self, births: u64) -> Option<u64>
         ensures from { IfSome result (λ n. n ≡ self.old.born) }
         ensures skipped { IfSome result (λ n. self.new ≡ record self.old { born = self.old.born + births }) }
+        ensures within { IfSome result (λ n. self.old.born + births < 2 ^ 64) }
         ensures none { IfNone result ((2 ^ 64 ≤ self.old.born + births) × (self.new ≡ self.old)) }
     {
         let _order = &self.order;

@@ -1,61 +1,104 @@
-//! An attempt at an object with its further objects, which is given up as soon as they are made: its
-//! births and notes are left.
+//! Attempts at objects that end as soon as they are made. Nobody sees them, but for their births and
+//! their notes, and so they are not made at all.
 
-ghost use Rattle.std.specs.Prelude.{◌≡◌, ℕ, ◌+◌, OnOk, OnErr, length};
-ghost use Rattle.qo_model.specs.Types.{slots_of};
-ghost use Rattle.qo_properties.specs.Attempts.{IsCutWhole, MadeFurther, given_up_whole};
+ghost use Rattle.std.specs.Prelude.{◌≡◌, ◌≤◌, ◌<◌, ◌+◌, ◌++◌, ◌^◌, ℕ, suc, List, length, option_to_list, OnOk, OnErr};
+ghost use Rattle.qo_values.specs.declared.kinds.TypeId.{TypeId};
+ghost use Rattle.qo_model.specs.Plug.{begun_notes, born_from, device_last, ended_notes, further_in, objects_in, types_in};
+ghost use Rattle.qo_life.specs.Life.{with_notes};
+ghost use Rattle.qo_properties.specs.Additions.{given_up};
+ghost use Rattle.qo_properties.specs.Attempts.{begun_after, ended_after, given_up_whole};
 
-use crate::adding::objects::give_up;
-use qo_heap::{Heap, Steps};
-use qo_life::create;
-use qo_model::PropertyRole;
+use qo_heap::Heap;
+use qo_life::note_inits;
+use qo_model::{Property, PropertyRole};
 use qo_types::TypeTable;
 use qo_values::TypeId;
-use std::alloc::{AllocError, Global};
-use std::sync::ledger::Ledger;
+use std::alloc::AllocError;
 
-/// Makes the further objects of a type, in the order of its properties, without slots and each held
-/// once from outside the tree. The error is want of memory, or that there are too many objects: those
-/// of the first properties were made.
-fn make_further<L: Ledger>(
-    heap: &mut Heap,
-    kind: TypeId,
-    alloc: Global,
-    steps: &mut Steps<L>,
-) -> Result<(), AllocError>
-    ensures ok { OnOk result (MadeFurther kind (length (slots_of kind)) heap.old heap.new) }
-    ensures err { OnErr result ((k : ℕ) × MadeFurther kind k heap.old heap.new) }
+/// How many objects a device of a type is: itself and its further objects.
+pub fn objects_in(kind: TypeId) -> usize
+    ensures count { result ≡ objects_in kind }
+    ensures few { result ≤ 10 }
 {
-    let mut place = 0;
-    while let Some(row) = TypeTable::board().prop(kind, place) {
-        if let PropertyRole::Child(further) = row.role {
-            create(heap, alloc, further, steps)?;
-        }
-        place += 1;
+    let rows = TypeTable::board().props(kind);
+    1 + rows.iter().filter(|row| matches!(row.role, PropertyRole::Child(_))).count()
+}
+
+/// Notes the initializers of the further object that a property with this row is, if it is one, which
+/// is of the birth after the last; answers the last birth then.
+fn begin_further(heap: &mut Heap, last: u64, row: Property) -> u64
+    requires { last + length (option_to_list (further_in row)) < 2 ^ 64 }
+    ensures last { result ≡ last + length (option_to_list (further_in row)) }
+    ensures noted { (rest : List (List ℕ × TypeId)) → with_notes (begun_after result rest) heap.new ≡ with_notes (begun_after last (option_to_list (further_in row) ++ rest)) heap.old }
+{
+    let PropertyRole::Child(kind) = row.role else {
+        return last;
+    };
+    note_inits(heap, last + 1, kind);
+    last + 1
+}
+
+/// Notes the end of the further object that a property with this row is, if it is one, which is of the
+/// birth after the last; answers the last birth then.
+fn end_further(heap: &mut Heap, last: u64, row: Property) -> u64
+    requires { last + length (option_to_list (further_in row)) < 2 ^ 64 }
+    ensures last { result ≡ last + length (option_to_list (further_in row)) }
+    ensures noted { (rest : List (List ℕ × TypeId)) → with_notes (ended_after result rest) heap.new ≡ with_notes (ended_after last (option_to_list (further_in row) ++ rest)) heap.old }
+{
+    let PropertyRole::Child(kind) = row.role else {
+        return last;
+    };
+    heap.note_end(last + 1, kind);
+    last + 1
+}
+
+/// Notes the initializers of an object of a birth, of a type, and of its further objects, which are of
+/// the births after it.
+fn note_begun(heap: &mut Heap, birth: u64, kind: TypeId)
+    requires { birth + objects_in kind ≤ 2 ^ 64 }
+    ensures { heap.new ≡ with_notes (begun_notes (born_from birth (types_in kind))) heap.old }
+{
+    note_inits(heap, birth, kind);
+    let mut last = birth;
+    for row in TypeTable::board().props(kind) {
+        last = begin_further(heap, last, *row);
     }
+}
+
+/// Notes the end of the further objects of an object of a birth, of a type, which are of the births
+/// after it, and then its own.
+fn note_ended(heap: &mut Heap, birth: u64, kind: TypeId)
+    requires { birth + objects_in kind ≤ 2 ^ 64 }
+    ensures { heap.new ≡ with_notes (ended_notes (device_last (born_from birth (types_in kind)))) heap.old }
+{
+    let mut last = birth;
+    for row in TypeTable::board().props(kind) {
+        last = end_further(heap, last, *row);
+    }
+    heap.note_end(birth, kind);
+}
+
+/// An object of a type is made and ends at once: its birth and its notes are left. The error is that
+/// no birth is left below 2^64, and leaves the heap as it was. It takes no memory.
+pub fn attempt(heap: &mut Heap, kind: TypeId) -> Result<(), AllocError>
+    ensures ok { OnOk result (heap.new ≡ given_up kind heap.old) }
+    ensures err { OnErr result ((2 ^ 64 ≤ heap.old.born + 1) × (heap.new ≡ heap.old)) }
+{
+    let born = heap.skip(1).ok_or(AllocError)?;
+    note_inits(heap, born + 1, kind);
+    heap.note_end(born + 1, kind);
     Ok(())
 }
 
-/// Makes an object of a type with its further objects, and ends them at once: first the further ones,
-/// in the order of births. None of them has slots, since nobody sees them. The error is want of
-/// memory, or that there are too many objects: the heap is as it was, or the first of them were made
-/// and ended.
-pub fn attempt_whole<L: Ledger>(
-    heap: &mut Heap,
-    kind: TypeId,
-    alloc: Global,
-    steps: &mut Steps<L>,
-) -> Result<(), AllocError>
+/// An object of a type is made with its further objects, and they end at once: first the further ones,
+/// in the order of births. Their births and their notes are left. The error is that not so many
+/// births are left below 2^64, and leaves the heap as it was. It takes no memory.
+pub fn attempt_whole(heap: &mut Heap, kind: TypeId) -> Result<(), AllocError>
     ensures ok { OnOk result (heap.new ≡ given_up_whole kind heap.old) }
-    ensures err { OnErr result (IsCutWhole kind heap.old heap.new) }
+    ensures err { OnErr result ((2 ^ 64 ≤ heap.old.born + objects_in kind) × (heap.new ≡ heap.old)) }
 {
-    heap.facts();
-    let place = heap.live();
-    let first = create(heap, alloc, kind, steps)?;
-    let made = make_further(heap, kind, alloc, steps);
-    while let Some(o) = heap.oid_at(place + 1) {
-        give_up(heap, o, steps);
-    }
-    give_up(heap, first, steps);
-    made
+    let born = heap.skip(objects_in(kind) as u64).ok_or(AllocError)?;
+    note_begun(heap, born + 1, kind);
+    note_ended(heap, born + 1, kind);
+    Ok(())
 }

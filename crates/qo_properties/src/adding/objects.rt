@@ -16,6 +16,7 @@ ghost use Rattle.qo_properties.specs.Claims.{KeepsBook};
 ghost use Rattle.qo_properties.specs.Filling.{Fits, IsGiven, target_in};
 ghost use Rattle.qo_properties.specs.NewSlots.{new_slots};
 
+use crate::adding::attempts::attempt;
 use crate::adding::barring::{Admitted, admit};
 use crate::adding::filling::Fill;
 use crate::adding::fresh::planned_slots;
@@ -37,22 +38,6 @@ pub(crate) fn give_up<L: Ledger>(heap: &mut Heap, o: Oid, steps: &mut Steps<L>)
 {
     heap.unpin(o, steps);
     heap.finish(o, steps);
-}
-
-/// Makes an object of a type and ends it at once. An error leaves the heap as it was.
-pub fn attempt<L: Ledger>(
-    heap: &mut Heap,
-    kind: TypeId,
-    alloc: Global,
-    steps: &mut Steps<L>,
-) -> Result<(), AllocError>
-    ensures ok { OnOk result (heap.new ≡ given_up kind heap.old) }
-    ensures err { OnErr result (heap.new ≡ heap.old) }
-{
-    heap.facts();
-    let o = create(heap, alloc, kind, steps)?;
-    give_up(heap, o, steps);
-    Ok(())
 }
 
 /// Makes an object of a type with these slots, whose names differ, as a child of another. It gets them
@@ -161,7 +146,7 @@ pub fn add_object<L: Ledger>(
     match plan(heap, admitted.kind, props, alloc, steps) {
         Ok(plan) => add_planned(heap, admitted, plan, alloc, steps)?,
         Err(Refusal::Refused(code)) => {
-            attempt(heap, admitted.kind, alloc, steps)?;
+            attempt(heap, admitted.kind)?;
             return Err(Refusal::Refused(code));
         }
         Err(Refusal::Memory) => return Err(Refusal::Memory),
