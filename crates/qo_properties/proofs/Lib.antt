@@ -16,3 +16,4 @@ pub mod SeveringLemmas
 pub mod SlotsLemmas
 pub mod OpeningLemmas
 pub mod WriteLemmas
+pub mod AttemptLemmas

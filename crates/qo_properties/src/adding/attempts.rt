@@ -1,7 +1,7 @@
 //! Attempts at objects that end as soon as they are made. Nobody sees them, but for their births and
 //! their notes, and so they are not made at all.
 
-ghost use Rattle.std.specs.Prelude.{◌≡◌, ◌≤◌, ◌<◌, ◌+◌, ◌++◌, ◌^◌, ℕ, suc, List, length, option_to_list, OnOk, OnErr};
+ghost use Rattle.std.specs.Prelude.{◌≡◌, ◌≤◌, ◌<◌, ◌+◌, ◌++◌, ◌^◌, ℕ, suc, List, length, is_some, option_to_list, OnOk, OnErr};
 ghost use Rattle.qo_values.specs.declared.kinds.TypeId.{TypeId};
 ghost use Rattle.qo_model.specs.Plug.{begun_notes, born_from, device_last, ended_notes, further_in, objects_in, types_in};
 ghost use Rattle.qo_life.specs.Life.{with_notes};
@@ -15,13 +15,26 @@ use qo_types::TypeTable;
 use qo_values::TypeId;
 use std::alloc::AllocError;
 
+/// Whether a property is a further object of a device.
+fn is_further(row: Property) -> bool
+    ensures { result ≡ is_some (further_in row) }
+{
+    matches!(row.role, PropertyRole::Child(_))
+}
+
 /// How many objects a device of a type is: itself and its further objects.
 pub fn objects_in(kind: TypeId) -> usize
     ensures count { result ≡ objects_in kind }
     ensures few { result ≤ 10 }
 {
     let rows = TypeTable::board().props(kind);
-    1 + rows.iter().filter(|row| matches!(row.role, PropertyRole::Child(_))).count()
+    let mut count = 1;
+    for row in rows {
+        if is_further(*row) {
+            count += 1;
+        }
+    }
+    count
 }
 
 /// Notes the initializers of the further object that a property with this row is, if it is one, which
@@ -59,8 +72,9 @@ fn note_begun(heap: &mut Heap, birth: u64, kind: TypeId)
     ensures { heap.new ≡ with_notes (begun_notes (born_from birth (types_in kind))) heap.old }
 {
     note_inits(heap, birth, kind);
+    let rows = TypeTable::board().props(kind);
     let mut last = birth;
-    for row in TypeTable::board().props(kind) {
+    for row in rows {
         last = begin_further(heap, last, *row);
     }
 }
@@ -71,8 +85,9 @@ fn note_ended(heap: &mut Heap, birth: u64, kind: TypeId)
     requires { birth + objects_in kind ≤ 2 ^ 64 }
     ensures { heap.new ≡ with_notes (ended_notes (device_last (born_from birth (types_in kind)))) heap.old }
 {
+    let rows = TypeTable::board().props(kind);
     let mut last = birth;
-    for row in TypeTable::board().props(kind) {
+    for row in rows {
         last = end_further(heap, last, *row);
     }
     heap.note_end(birth, kind);

@@ -1,6 +1,7 @@
 -- A refusal comes before the attempt, or after it; else the object is added.
 use Rattle.std.proofs.Common.{◌≡◌, ap, sym, subst, ℕ, List, inl, inr, Err, rules}
 use Rattle.std.specs.Prelude.{Result}
+use Rattle.qo_values.specs.declared.codes.Code.{Code}
 use Rattle.qo_model.specs.Objects.{with_object}
 use Rattle.qo_heap.specs.Board.{Shows}
 use Rattle.qo_heap.specs.Objects.{Objects}
@@ -26,15 +27,16 @@ returns-in_err-attempt-in-Err-Refused-clause-change g c = λ b s.
     let is : c.from_residual-in_err-attempt-in-Err-Refused.result ≡ Err Memory = search rules in
     subst (λ (r : Result (Unit {0}) Refusal). Adds b c.args.driver.now c.args.id.now c.args.props.now r c.attempt.new.heap) (sym is)
     (adds-tried b c.args.driver.now c.args.id.now c.args.props.now c.args.heap.now c.attempt.new.heap s c.in_ok-admitted.admitted.kind
-    (c.in_ok-admitted.ensures.open b s) c.in_ok-admitted.ensures.kind (inl c.in_err-attempt-in-Err-Refused.ensures.err))
+    (c.in_ok-admitted.ensures.open b s) c.in_ok-admitted.ensures.kind (inl c.in_err-attempt-in-Err-Refused.ensures.err.1))
 
 pub returns-in-Err-Refused-clause-change : goal.returns-in-Err-Refused-clause-change
 returns-in-Err-Refused-clause-change g c = λ b s.
     let is : c.plan.result ≡ Err (Refused c.in-Err-Refused.code) = cc in
-    adds-refused b c.args.driver.now c.args.id.now c.args.props.now c.attempt.new.heap c.in_ok-admitted.admitted.kind c.in-Err-Refused.code
+    subst (λ (code : Code). Adds b c.args.driver.now c.args.id.now c.args.props.now (Err (Refused code)) c.attempt.new.heap) (sym c.in-Err-Refused.code-is)
+    (adds-refused b c.args.driver.now c.args.id.now c.args.props.now c.attempt.new.heap c.in_ok-admitted.admitted.kind c.in-Err-Refused.code
     (c.in_ok-admitted.ensures.open b s) c.in_ok-admitted.ensures.kind (told-refused c.plan.result c.in-Err-Refused.code _ is (c.plan.ensures.refused b s))
     (subst (λ (x : Objects). Shows (with_attempt b c.in_ok-admitted.admitted.kind) x) (sym c.in_ok-attempt-in-Err-Refused.ensures.ok)
-    (shows-tried b c.args.heap.now s c.in_ok-admitted.admitted.kind))
+    (shows-tried b c.args.heap.now s c.in_ok-admitted.admitted.kind)))
 
 pub returns-in-Err-Memory-clause-change : goal.returns-in-Err-Memory-clause-change
 returns-in-Err-Memory-clause-change g c = λ b s. inl s
@@ -62,7 +64,7 @@ returns-in-Err-Refused-clause-book g c = tried-keeps c.args.heap.now c.attempt.n
     (inr c.in_ok-attempt-in-Err-Refused.ensures.ok)
 
 pub returns-in_err-attempt-in-Err-Refused-clause-book : goal.returns-in_err-attempt-in-Err-Refused-clause-book
-returns-in_err-attempt-in-Err-Refused-clause-book g c = keeps-none c.args.heap.now c.attempt.new.heap c.in_err-attempt-in-Err-Refused.ensures.err
+returns-in_err-attempt-in-Err-Refused-clause-book g c = keeps-none c.args.heap.now c.attempt.new.heap c.in_err-attempt-in-Err-Refused.ensures.err.1
 
 pub returns-clause-book : goal.returns-clause-book
 returns-clause-book g c = c.in_ok-add_planned-in-Ok.ensures.book

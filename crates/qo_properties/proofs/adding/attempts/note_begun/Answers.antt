@@ -1,0 +1,34 @@
+-- A property more is passed at each turn.
+use Rattle.std.proofs.Common.{◌≡◌, ◌+◌, ◌<◌, ◌∙◌, ap, List, filter_map, length, arith}
+use Rattle.qo_life.specs.Life.{with_notes}
+use Rattle.qo_model.specs.Objects.{init_notes}
+use Rattle.qo_model.specs.Plug.{further_in, further_of}
+use Rattle.qo_model.specs.declared.properties.Property.{Property}
+use Rattle.qo_properties.specs.Attempts.{begun_after}
+use Rattle.qo_properties.proofs.AttemptLemmas.{births-fit, births-next, begun-all, noted-end, noted-next}
+use Rattle.qo_properties.proofs.adding.attempts.note_begun.Goals as goal
+
+pub loop-row-init : goal.loop-row-init
+loop-row-init c = (
+      ap (λ (ps : List Property). with_notes (begun_after c.args.birth (filter_map further_in ps)) c.note_inits.new.heap) c.props-rows.ensures,
+      ap (λ (ps : List Property). c.args.birth + length (filter_map further_in ps)) c.props-rows.ensures,
+    )
+
+pub begin_further-last-requires : goal.begin_further-last-requires
+begin_further-last-requires c =
+    births-fit c.props-rows.result.now c.loop-row.row-index _ c.loop-row.last (c.args.birth + length (further_of c.args.kind)) c.loop-row-test.true
+    c.loop-row.invariant.1 (omega (arith, c.requires))
+
+pub loop-row-preserved : goal.loop-row-preserved
+loop-row-preserved c = (
+      noted-next init_notes c.props-rows.result.now c.loop-row.row-index _ c.loop-row.last c.begin_further-last.result c.loop-row.heap c.begin_further-last.new.heap _
+          c.loop-row-test.true c.begin_further-last.ensures.noted c.loop-row.invariant.0,
+      births-next c.props-rows.result.now c.loop-row.row-index _ c.loop-row.last c.begin_further-last.result _ c.loop-row-test.true c.begin_further-last.ensures.last
+          c.loop-row.invariant.1,
+    )
+
+pub returns : goal.returns
+returns c =
+    noted-end init_notes c.props-rows.result.now c.loop-row.row-index c.loop-row.last c.loop-row.heap _ c.loop-row-test.false c.loop-row.invariant.0
+    ∙ ap (with_notes (begun_after c.args.birth (further_of c.args.kind))) c.note_inits.ensures
+    ∙ begun-all c.args.birth c.args.kind c.args.heap.now
