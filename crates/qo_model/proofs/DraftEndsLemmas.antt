@@ -8,12 +8,12 @@ use Rattle.std.proofs.lemmas.Option.{same_Some}
 use Rattle.qo_values.specs.declared.kinds.TypeId.{TypeId}
 use Rattle.qo_model.specs.declared.notes.Note.{Note}
 use Rattle.qo_model.specs.Board.{Board, Record, Slot, plain, child, strong, weak, alias}
-use Rattle.qo_model.specs.Changes.{add, fresh, with_added}
+use Rattle.qo_model.specs.Changes.{add, fresh}
 use Rattle.qo_model.specs.FinalNotes.{ending}
 use Rattle.qo_model.specs.Objects.{init_notes}
 use Rattle.qo_model.specs.Opening.{first_slot, first_value, fresh_record, fresh_slots}
-use Rattle.qo_model.specs.Plug.{aliased, begun_notes, born_from, cut_attempt, cut_order, device_last, drafted, ended_notes, further_in, owned, plug_attempt, property_made, properties_made, types_in, with_ended, with_kid, with_new}
-use Rattle.qo_model.specs.Release.{edited, final_notes, finalize}
+use Rattle.qo_model.specs.Plug.{aliased, begun_notes, born_from, cut_attempt, cut_order, device_last, ended_notes, further_in, owned, plug_attempt, property_made, properties_made, types_in, with_ended, with_kid, with_new}
+use Rattle.qo_model.specs.Release.{edit, edited, final_notes, finalize}
 use Rattle.qo_model.specs.Types.{slots_of}
 use Rattle.qo_model.specs.RowNames.{property_name}
 use Rattle.qo_model.specs.declared.properties.Property.{Property}
@@ -126,24 +126,29 @@ pub record IsDraft (b : Board) (n : ℕ) (t : TypeId) (ks : List TypeId) (c : Bo
   pub star_is : IsStar n n slots (kids_from (suc n) ks)
 
 module _ (b : Board) (n : ℕ) (t : TypeId) (low : AllByRecursion (LowRecord n) b.records) where
-  -- a slot more of the device
-  star-added : (name : List ℕ) (s : Slot) (ss : List (List ℕ × Slot)) (ks : List TypeId)
-      → add n name s (with_star b n t ss ks) ≡ with_star b n t (ss ++ (name, s) ∷ []) ks
-  unfolding add
-  star-added name s ss ks = ap (λ (rs : List Record). record (with_star b n t ss ks) { records = rs }) same
+  -- the device with other slots
+  star-edited : (h : List (List ℕ × Slot) → List (List ℕ × Slot)) (ss : List (List ℕ × Slot)) (ks : List TypeId)
+      → edit n (λ (r : Record). record r { slots = h r.slots }) (with_star b n t ss ks) ≡ with_star b n t (h ss) ks
+  star-edited h ss ks = ap (λ (rs : List Record). record (with_star b n t ss ks) { records = rs }) same
     where
       f : Record → Record
-      f = with_added name s
+      f r = record r { slots = h r.slots }
 
       own : (n == n) ≡ true
       own = eq-eqb n n refl
 
-      same : map (edited n (with_added name s)) (b.records ++ record (fresh n t) { slots = ss } ∷ kids_from (suc n) ks)
-          ≡ b.records ++ record (fresh n t) { slots = ss ++ (name, s) ∷ [] } ∷ kids_from (suc n) ks
+      same : map (edited n f) (b.records ++ record (fresh n t) { slots = ss } ∷ kids_from (suc n) ks)
+          ≡ b.records ++ record (fresh n t) { slots = h ss } ∷ kids_from (suc n) ks
       same =
-          map-append (edited n (with_added name s)) b.records (record (fresh n t) { slots = ss } ∷ kids_from (suc n) ks)
-          ∙ ap₂ (λ (xs ys : List Record). xs ++ ys) (records-edited n n (omega arith) (with_added name s) b.records low) (rw (edited, own) (ap
-          (λ (rs : List Record). record (fresh n t) { slots = ss ++ (name, s) ∷ [] } ∷ rs) (kids-edited n (with_added name s) (suc n) ks (omega arith))))
+          map-append (edited n f) b.records (record (fresh n t) { slots = ss } ∷ kids_from (suc n) ks)
+          ∙ ap₂ (λ (xs ys : List Record). xs ++ ys) (records-edited n n (omega arith) f b.records low)
+          (rw (edited, own) (ap (λ (rs : List Record). record (fresh n t) { slots = h ss } ∷ rs) (kids-edited n f (suc n) ks (omega arith))))
+
+  -- a slot more of the device
+  star-added : (name : List ℕ) (s : Slot) (ss : List (List ℕ × Slot)) (ks : List TypeId)
+      → add n name s (with_star b n t ss ks) ≡ with_star b n t (ss ++ (name, s) ∷ []) ks
+  unfolding add
+  star-added name s = star-edited (λ (ss : List (List ℕ × Slot)). ss ++ (name, s) ∷ [])
 
   -- a further object more
   star-grown : (k : TypeId) (ss : List (List ℕ × Slot)) (ks : List TypeId)
@@ -167,6 +172,17 @@ module _ (b : Board) (n : ℕ) (t : TypeId) (low : AllByRecursion (LowRecord n) 
           append_assoc b.notes (begun_notes (born_from n (t ∷ ks))) (init_notes (n + length ks + 1) k)
           ∙ ap (λ (ns : List Note). b.notes ++ ns) (sym (begun-push (born_from n (t ∷ ks)) (n + length ks + 1) k))
           ∙ ap (λ (os : List (ℕ × TypeId)). b.notes ++ begun_notes ((n, t) ∷ os)) (sym (born-push (suc n) (n + length ks + 1) ks k (omega arith)))
+
+  -- each slot changed, so that stars stay stars
+  pub draft-edited : (g : List ℕ × Slot → List ℕ × Slot) (ks : List TypeId) (c : Board)
+      → ((lo : ℕ) (ss : List (List ℕ × Slot)) (ls : List Record) → IsStar n lo ss ls → IsStar n lo (map g ss) ls) → IsDraft b n t ks c
+      → IsDraft b n t ks (edit n (λ (r : Record). record r { slots = map g r.slots }) c)
+  draft-edited g ks c keeps h =
+      record {
+        slots = map g h.slots;
+        shape = ap (edit n (λ (r : Record). record r { slots = map g r.slots })) h.shape ∙ star-edited (map g) h.slots ks;
+        star_is = keeps n h.slots (kids_from (suc n) ks) h.star_is;
+      }
 
   draft-slot : (name : List ℕ) (s : Slot) (ks : List TypeId) (c : Board) → ((lo : ℕ) → IsStar n lo ((name, s) ∷ []) []) → IsDraft b n t ks c
       → IsDraft b n t ks (add n name s c)
@@ -279,11 +295,11 @@ pub add-suc : (k : ℕ) → k + 1 ≡ suc k
 add-suc k = omega arith
 
 -- all properties: an attempt that was refused
-pub drafted-ends : (b : Board) (t : TypeId) (m stage : ℕ) → AllByRecursion (LowRecord (b.born + 1)) b.records → AllByRecursion (λ p. p < b.born + 1) b.pins
-    → (stage == 8) ≡ false → finalize (drafted b t) (b.born + 1) ≡ plug_attempt b t m stage
-drafted-ends b t m stage low pins early =
-    draft-ends b t (kinds_in (slots_of t)) (drafted b t) low pins
-    (draft-rows b (b.born + 1) t low (slots_of t) [] (with_new (fresh (b.born + 1) t) b) (draft-begun b t))
+pub drafted-ends : (b : Board) (t : TypeId) (m stage : ℕ) (c : Board) → AllByRecursion (LowRecord (b.born + 1)) b.records
+    → AllByRecursion (λ p. p < b.born + 1) b.pins → (stage == 8) ≡ false → IsDraft b (b.born + 1) t (kinds_in (slots_of t)) c
+    → finalize c (b.born + 1) ≡ plug_attempt b t m stage
+drafted-ends b t m stage c low pins early h =
+    draft-ends b t (kinds_in (slots_of t)) c low pins h
     ∙ ap (λ (k : ℕ). with_ended b (born_from k (types_in t)) [] (device_last (born_from k (types_in t)))) (add-suc b.born)
     ∙ rw (plug_attempt, early) refl
 
@@ -301,13 +317,11 @@ take-born : (m : ℕ) (ks js : List TypeId) → take (length ks) (born_from m (k
 take-born m [] js = refl
 take-born m (k ∷ ks) js = ap (λ (os : List (ℕ × TypeId)). (m, k) ∷ os) (take-born (suc m) ks js)
 
-pub drafted-cut : (b : Board) (t : TypeId) (ps qs : List Property) → slots_of t ≡ ps ++ qs → AllByRecursion (LowRecord (b.born + 1)) b.records
-    → AllByRecursion (λ p. p < b.born + 1) b.pins
-    → finalize (properties_made (b.born + 1) t ps (with_new (fresh (b.born + 1) t) b)) (b.born + 1) ≡ cut_attempt b t (suc (length (kinds_in ps))) true
-drafted-cut b t ps qs split low pins =
-    draft-ends b t (kinds_in ps) (properties_made (b.born + 1) t ps (with_new (fresh (b.born + 1) t) b)) low pins
-    (draft-rows b (b.born + 1) t low ps [] (with_new (fresh (b.born + 1) t) b) (draft-begun b t))
-    ∙ ap (λ (os : List (ℕ × TypeId)). with_ended b os [] (device_last os)) objects
+pub drafted-cut : (b : Board) (t : TypeId) (ps qs : List Property) (c : Board) → slots_of t ≡ ps ++ qs → AllByRecursion (LowRecord (b.born + 1)) b.records
+    → AllByRecursion (λ p. p < b.born + 1) b.pins → IsDraft b (b.born + 1) t (kinds_in ps) c
+    → finalize c (b.born + 1) ≡ cut_attempt b t (suc (length (kinds_in ps))) true
+drafted-cut b t ps qs c split low pins h =
+    draft-ends b t (kinds_in ps) c low pins h ∙ ap (λ (os : List (ℕ × TypeId)). with_ended b os [] (device_last os)) objects
   where
     objects : born_from (b.born + 1) (t ∷ kinds_in ps) ≡ take (suc (length (kinds_in ps))) (born_from (suc b.born) (types_in t))
     objects =
