@@ -11,7 +11,7 @@ use Rattle.qo_model.specs.Board.{Board, Record, Slot, plain, child, strong, weak
 use Rattle.qo_model.specs.Changes.{add, fresh}
 use Rattle.qo_model.specs.FinalNotes.{ending}
 use Rattle.qo_model.specs.Objects.{init_notes}
-use Rattle.qo_model.specs.Opening.{first_slot, first_value, fresh_record, fresh_slots}
+use Rattle.qo_model.specs.Opening.{first_slot, first_value, fresh_record}
 use Rattle.qo_model.specs.Plug.{aliased, begun_notes, born_from, cut_attempt, cut_order, device_last, ended_notes, further_in, owned, plug_attempt, property_made, properties_made, types_in, with_ended, with_kid, with_new}
 use Rattle.qo_model.specs.Release.{edit, edited, final_notes, finalize}
 use Rattle.qo_model.specs.Types.{slots_of}
@@ -19,7 +19,7 @@ use Rattle.qo_model.specs.RowNames.{property_name}
 use Rattle.qo_model.specs.declared.properties.Property.{Property}
 use Rattle.qo_model.specs.declared.properties.PropertyRole.{PropertyRole}
 use Rattle.qo_model.specs.declared.properties.PropertyRole.TheVariants as row
-use Rattle.qo_model.proofs.AttemptLemmas.{BareKid, BareSlot, IsStar, LowRecord, LowSlot, attempt-ends, kids-unheld, pins-apart, records-edited, records-unheld, star-kids, star-unheld}
+use Rattle.qo_model.proofs.AttemptLemmas.{BareKid, BareSlot, IsStar, LowRecord, attempt-ends, kids-unheld, pins-apart, records-edited, records-unheld, star-kids, star-unheld}
 use Rattle.qo_model.specs.References.{refs, refs_in}
 use Rattle.std.proofs.lemmas.List.Sums.{sum_by-cons, sum_by-append}
 
@@ -358,96 +358,7 @@ draft-free b t ks c low pins h = ap (λ (x : Board). refs x (b.born + 1)) h.shap
           sum_by-cons (refs_in (b.born + 1)) d kids,
         )
 
--- a further object that was made and not joined
-
-slot-higher : (n m : ℕ) → n ≤ m → (s : Slot) → LowSlot n s → LowSlot m s
-slot-higher n m le (plain v) h = tt
-slot-higher n m le (child k) h = omega (arith, le, h)
-slot-higher n m le (strong t None) h = tt
-slot-higher n m le (strong t (Some k)) h = omega (arith, le, h)
-slot-higher n m le (weak t None) h = tt
-slot-higher n m le (weak t (Some k)) h = omega (arith, le, h)
-slot-higher n m le (alias k p) h = tt
-
-slots-higher : (n m : ℕ) → n ≤ m → (ss : List (List ℕ × Slot)) → AllByRecursion (λ (s : List ℕ × Slot). LowSlot n s.1) ss
-    → AllByRecursion (λ (s : List ℕ × Slot). LowSlot m s.1) ss
-slots-higher n m le [] h = tt
-slots-higher n m le (s ∷ ss) h = (slot-higher n m le s.1 h.0, slots-higher n m le ss h.1)
-
-records-higher : (n m : ℕ) → n ≤ m → (rs : List Record) → AllByRecursion (LowRecord n) rs → AllByRecursion (LowRecord m) rs
-records-higher n m le [] h = tt
-records-higher n m le (r ∷ rs) h = let low : r.birth < n = h.0.birth in
-    (record { birth = omega (arith, le, low); slots = slots-higher n m le r.slots h.0.slots }, records-higher n m le rs h.1)
-
-star-low : (n m lo : ℕ) → n ≤ m → (ss : List (List ℕ × Slot)) (ls : List Record) → AllByRecursion (λ (r : Record). r.birth < m) ls → IsStar n lo ss ls
-    → AllByRecursion (λ (s : List ℕ × Slot). LowSlot m s.1) ss
-star-low n m lo le [] ls low h = tt
-star-low n m lo le ((name, child x) ∷ ss) [] low h = absurd h
-star-low n m lo le ((name, child x) ∷ ss) (k ∷ ls) low h = (subst (λ (y : ℕ). y < m) h.1 low.0, star-low n m x le ss ls low.1 h.2.1)
-star-low n m lo le ((name, strong t None) ∷ ss) ls low h = (tt, star-low n m lo le ss ls low h)
-star-low n m lo le ((name, strong t (Some x)) ∷ ss) ls low h = absurd h
-star-low n m lo le ((name, weak t target) ∷ ss) ls low h = (slot-higher n m le (weak t target) h.0, star-low n m lo le ss ls low h.1)
-star-low n m lo le ((name, plain v) ∷ ss) ls low h = (tt, star-low n m lo le ss ls low h)
-star-low n m lo le ((name, alias x p) ∷ ss) ls low h = (tt, star-low n m lo le ss ls low h)
-
-bare-low : (m : ℕ) (ss : List (List ℕ × Slot)) → AllByRecursion (λ (s : List ℕ × Slot). BareSlot m s.1) ss
-    → AllByRecursion (λ (s : List ℕ × Slot). LowSlot m s.1) ss
-bare-low m [] h = tt
-bare-low m (s ∷ ss) h = (h.0.low, bare-low m ss h.1)
-
-kid-records : (m j : ℕ) (ks : List TypeId) → j + length ks ≤ m → AllByRecursion (LowRecord m) (kids_from j ks)
-kid-records m j [] le = tt
-kid-records m j (k ∷ ks) le =
-    (record { birth = omega (arith, le); slots = bare-low m (fresh_slots k) (bare-slots m k (slots_of k)) }, kid-records m (suc j) ks (omega (arith, le)))
-
-all-join : (P : Record → Type 0) (xs ys : List Record) → AllByRecursion P xs → AllByRecursion P ys → AllByRecursion P (xs ++ ys)
-all-join P [] ys h k = k
-all-join P (x ∷ xs) ys h k = (h.0, all-join P xs ys h.1 k)
-
--- what a draft names is below the next birth
-pub draft-low : (b : Board) (t : TypeId) (ks : List TypeId) (c : Board) → AllByRecursion (LowRecord (b.born + 1)) b.records → IsDraft b (b.born + 1) t ks c
-    → AllByRecursion (LowRecord (c.born + 1)) c.records
-draft-low b t ks c low h =
-    subst (AllByRecursion (LowRecord (c.born + 1))) (sym (ap (λ (x : Board). x.records) h.shape))
-    (all-join (LowRecord (c.born + 1)) b.records (record (fresh (b.born + 1) t) { slots = h.slots } ∷ kids_from (suc (b.born + 1)) ks)
-    (records-higher (b.born + 1) (c.born + 1) (omega (arith, born)) b.records low) (
-      record {
-        birth = omega (arith, born);
-        slots = star-low (b.born + 1) (c.born + 1) (b.born + 1) (omega (arith, born)) h.slots (kids_from (suc (b.born + 1)) ks)
-            (kids-low (c.born + 1) (suc (b.born + 1)) ks (omega (arith, born))) h.star_is;
-      },
-      kid-records (c.born + 1) (suc (b.born + 1)) ks (omega (arith, born)),
-    ))
-  where
-    born : c.born ≡ b.born + 1 + length ks
-    born = ap (λ (x : Board). x.born) h.shape
-
--- an object that was made after others that do not name it, and that holds nothing, leaves its notes
-pub kid-ends : (k : TypeId) (ss : List (List ℕ × Slot)) (c : Board) → AllByRecursion (LowRecord (c.born + 1)) c.records
-    → AllByRecursion (λ p. p < c.born + 1) c.pins → IsStar (c.born + 1) (c.born + 1) ss []
-    → finalize (with_new (record (fresh (c.born + 1) k) { slots = ss }) c) (c.born + 1)
-    ≡ record c { born = c.born + 1; notes = c.notes ++ init_notes (c.born + 1) k ++ ending (c.born + 1) k }
-kid-ends k ss c low pins star_is =
-    attempt-ends (record c { born = c.born + 1 }) (fresh (c.born + 1) k) low pins refl ss [] (c.notes ++ init_notes (c.born + 1) k) star_is
-    ∙ ap (λ (ns : List Note). record c { born = c.born + 1; notes = ns ++ ending (c.born + 1) k }) (append-nil (c.notes ++ init_notes (c.born + 1) k))
-
-pub kid-free : (k : TypeId) (ss : List (List ℕ × Slot)) (c : Board) → AllByRecursion (LowRecord (c.born + 1)) c.records
-    → AllByRecursion (λ p. p < c.born + 1) c.pins → IsStar (c.born + 1) (c.born + 1) ss []
-    → refs (with_new (record (fresh (c.born + 1) k) { slots = ss }) c) (c.born + 1) ≡ 0
-kid-free k ss c low pins star_is =
-    omega (
-      arith,
-      own,
-      records-unheld (c.born + 1) (c.born + 1) (omega arith) c.records low,
-      pins-apart (c.born + 1) (c.born + 1) (omega arith) c.pins pins,
-      sum_by-append (refs_in (c.born + 1)) c.records (record (fresh (c.born + 1) k) { slots = ss } ∷ []),
-      sum_by-cons (refs_in (c.born + 1)) (record (fresh (c.born + 1) k) { slots = ss }) [],
-    )
-  where
-    own : refs_in (c.born + 1) (record (fresh (c.born + 1) k) { slots = ss }) ≡ 0
-    own = star-unheld (c.born + 1) (c.born + 1) (c.born + 1) ss [] (omega arith) star_is
-
--- and then the device with those that were joined
+-- a further object that was made and not joined has ended, and then the device does with those that were joined
 pub unjoined-ends : (b : Board) (t : TypeId) (ks : List TypeId) (k : TypeId) (c : Board) → AllByRecursion (LowRecord (b.born + 1)) b.records
     → AllByRecursion (λ p. p < b.born + 1) b.pins → IsDraft b (b.born + 1) t ks c
     → finalize (record c { born = c.born + 1; notes = c.notes ++ init_notes (c.born + 1) k ++ ending (c.born + 1) k }) (b.born + 1)
