@@ -198,42 +198,42 @@ above-push n (m ∷ ms) h = (h.0, above-push n ms h.1)
 module _ (b : Board) (t : TypeId) (bus : ℕ) (c : Board) (low : AllByRecursion (LowRecord (b.born + 1)) b.records)
     (pins : AllByRecursion (λ p. p < b.born + 1) b.pins) (draft : IsDraft b (b.born + 1) t (kinds_in (slots_of t)) c)
   where
-  abbrev n : ℕ
-  n = b.born + 1
+    abbrev n : ℕ
+    n = b.born + 1
 
-  abbrev ks : List TypeId
-  ks = kinds_in (slots_of t)
+    abbrev ks : List TypeId
+    ks = kinds_in (slots_of t)
 
-  abbrev buses : List ℕ
-  buses = bus_births n t
+    abbrev buses : List ℕ
+    buses = bus_births n t
 
-  all_buses : AllByRecursion (λ m. n ≤ m) buses
-  all_buses = buses-above n n (omega arith) (types_in t)
+    all_buses : AllByRecursion (λ m. n ≤ m) buses
+    all_buses = buses-above n n (omega arith) (types_in t)
 
-  all_last : AllByRecursion (λ m. n ≤ m) (buses ++ n ∷ [])
-  all_last = above-push n buses all_buses
+    all_last : AllByRecursion (λ m. n ≤ m) (buses ++ n ∷ [])
+    all_last = above-push n buses all_buses
 
-  all_exits : AllByRecursion (λ m. n ≤ m) (if count b bus == 0 then buses ++ n ∷ [] else [])
-  all_exits = go (count b bus == 0) refl
-    where
-      go : (u : Bool) → (count b bus == 0) ≡ u → AllByRecursion (λ m. n ≤ m) (if count b bus == 0 then buses ++ n ∷ [] else [])
-      go true e = rw e all_last
-      go false e = rw e tt
+    all_exits : AllByRecursion (λ m. n ≤ m) (if count b bus == 0 then buses ++ n ∷ [] else [])
+    all_exits = go (count b bus == 0) refl
+      where
+        go : (u : Bool) → (count b bus == 0) ≡ u → AllByRecursion (λ m. n ≤ m) (if count b bus == 0 then buses ++ n ∷ [] else [])
+        go true e = rw e all_last
+        go false e = rw e tt
 
-  is_passed : IsPassed b n t ks (passed_notes b bus n t) (passed b bus n t c)
-  is_passed =
-      passed-all b n t ks low Unrealize (buses ++ n ∷ []) _ _ all_last
-      (passed-all b n t ks low Exit (if count b bus == 0 then buses ++ n ∷ [] else []) _ _ all_exits
-      (passed-all b n t ks low Hold (buses ++ n ∷ []) _ _ all_last
-      (passed-all b n t ks low Enter (buses ++ n ∷ []) _ _ all_last
-      (passed-all b n t ks low Realize (n ∷ buses) [] c (omega arith, all_buses)
-      (passed-begun b n t ks c draft)))))
+    is_passed : IsPassed b n t ks (passed_notes b bus n t) (passed b bus n t c)
+    is_passed =
+        passed-all b n t ks low Unrealize (buses ++ n ∷ []) _ _ all_last
+        (passed-all b n t ks low Exit (if count b bus == 0 then buses ++ n ∷ [] else []) _ _ all_exits
+        (passed-all b n t ks low Hold (buses ++ n ∷ []) _ _ all_last
+        (passed-all b n t ks low Enter (buses ++ n ∷ []) _ _ all_last
+        (passed-all b n t ks low Realize (n ∷ buses) [] c (omega arith, all_buses)
+        (passed-begun b n t ks c draft)))))
 
-  pub attempt-free : refs (passed b bus n t c) (b.born + 1) ≡ 0
-  attempt-free = passed-free b n t ks low (passed_notes b bus n t) (passed b bus n t c) pins is_passed
+    pub attempt-free : refs (passed b bus n t c) (b.born + 1) ≡ 0
+    attempt-free = passed-free b n t ks low (passed_notes b bus n t) (passed b bus n t c) pins is_passed
 
-  -- an attempt that was refused after its acts
-  pub attempt-passed : finalize (passed b bus n t c) (b.born + 1) ≡ plug_attempt b t bus 8
-  attempt-passed =
-      passed-ends b n t ks low (passed_notes b bus n t) (passed b bus n t c) refl pins is_passed
-      ∙ ap (λ (k : ℕ). with_ended b (born_from k (types_in t)) (passed_notes b bus k t) (device_last (born_from k (types_in t)))) (add-suc b.born)
+    -- an attempt that was refused after its acts
+    pub attempt-passed : finalize (passed b bus n t c) (b.born + 1) ≡ plug_attempt b t bus 8
+    attempt-passed =
+        passed-ends b n t ks low (passed_notes b bus n t) (passed b bus n t c) refl pins is_passed
+        ∙ ap (λ (k : ℕ). with_ended b (born_from k (types_in t)) (passed_notes b bus k t) (device_last (born_from k (types_in t)))) (add-suc b.born)
