@@ -2,7 +2,7 @@
 
 ghost use Rattle.std.specs.Prelude.{◌≡◌, is_some};
 ghost use Rattle.qo_values.specs.declared.kinds.TypeId.{TypeId};
-ghost use Rattle.qo_properties.specs.Filling.{spent_at, value_at};
+ghost use Rattle.qo_properties.specs.Filling.{spent, spent_at, value_alone, value_at};
 ghost use Rattle.qo_properties.specs.NewSlots.{begun};
 
 use qo_heap::Oid;
@@ -33,17 +33,25 @@ pub fn begins(role: PropertyRole) -> bool
     }
 }
 
+/// Takes the value out of what a slot is filled with, where it is one. A target stays.
+fn spend(fill: &mut Fill) -> Fill
+    ensures taken { result ≡ value_alone fill.old }
+    ensures left { fill.new ≡ spent fill.old }
+{
+    match fill {
+        Fill::Value(_) => replace(fill, Fill::Nothing),
+        _ => Fill::Nothing,
+    }
+}
+
 /// Takes the value that is planned for the slot at a place out of a plan, where one is; nothing is
 /// planned for that slot then. A target stays.
 pub fn take_value(plan: &mut [Fill], at: usize) -> Fill
     ensures taken { result ≡ value_at at plan.old }
     ensures left { plan.new ≡ spent_at at plan.old }
 {
-    match plan.get_mut(at) {
-        Some(fill) => match fill {
-            Fill::Value(_) => replace(fill, Fill::Nothing),
-            _ => Fill::Nothing,
-        },
-        None => Fill::Nothing,
+    if at >= plan.len() {
+        return Fill::Nothing;
     }
+    spend(&mut plan[at])
 }
