@@ -8,18 +8,18 @@ use Rattle.std.proofs.lemmas.Option.{same_Some}
 use Rattle.qo_values.specs.declared.kinds.TypeId.{TypeId}
 use Rattle.qo_model.specs.declared.notes.Note.{Note}
 use Rattle.qo_model.specs.Board.{Board, Record, Slot, plain, child, strong, weak, alias}
-use Rattle.qo_model.specs.Changes.{add, fresh, with_added}
+use Rattle.qo_model.specs.Changes.{add, fresh}
 use Rattle.qo_model.specs.FinalNotes.{ending}
 use Rattle.qo_model.specs.Objects.{init_notes}
-use Rattle.qo_model.specs.Opening.{first_slot, first_value, fresh_record, fresh_slots}
-use Rattle.qo_model.specs.Plug.{aliased, begun_notes, born_from, cut_attempt, cut_order, device_last, drafted, ended_notes, further_in, owned, plug_attempt, property_made, properties_made, types_in, with_ended, with_kid, with_new}
-use Rattle.qo_model.specs.Release.{edited, final_notes, finalize}
+use Rattle.qo_model.specs.Opening.{first_slot, first_value, fresh_record}
+use Rattle.qo_model.specs.Plug.{aliased, begun_notes, born_from, cut_attempt, cut_order, device_last, ended_notes, further_in, owned, plug_attempt, property_made, properties_made, types_in, with_ended, with_kid, with_new}
+use Rattle.qo_model.specs.Release.{edit, edited, final_notes, finalize}
 use Rattle.qo_model.specs.Types.{slots_of}
 use Rattle.qo_model.specs.RowNames.{property_name}
 use Rattle.qo_model.specs.declared.properties.Property.{Property}
 use Rattle.qo_model.specs.declared.properties.PropertyRole.{PropertyRole}
 use Rattle.qo_model.specs.declared.properties.PropertyRole.TheVariants as row
-use Rattle.qo_model.proofs.AttemptLemmas.{BareKid, BareSlot, IsStar, LowRecord, LowSlot, attempt-ends, kids-unheld, pins-apart, records-edited, records-unheld, star-kids, star-unheld}
+use Rattle.qo_model.proofs.AttemptLemmas.{BareKid, BareSlot, IsStar, LowRecord, attempt-ends, kids-unheld, pins-apart, records-edited, records-unheld, star-kids, star-unheld}
 use Rattle.qo_model.specs.References.{refs, refs_in}
 use Rattle.std.proofs.lemmas.List.Sums.{sum_by-cons, sum_by-append}
 
@@ -126,24 +126,29 @@ pub record IsDraft (b : Board) (n : ℕ) (t : TypeId) (ks : List TypeId) (c : Bo
   pub star_is : IsStar n n slots (kids_from (suc n) ks)
 
 module _ (b : Board) (n : ℕ) (t : TypeId) (low : AllByRecursion (LowRecord n) b.records) where
-  -- a slot more of the device
-  star-added : (name : List ℕ) (s : Slot) (ss : List (List ℕ × Slot)) (ks : List TypeId)
-      → add n name s (with_star b n t ss ks) ≡ with_star b n t (ss ++ (name, s) ∷ []) ks
-  unfolding add
-  star-added name s ss ks = ap (λ (rs : List Record). record (with_star b n t ss ks) { records = rs }) same
+  -- the device with other slots
+  star-edited : (h : List (List ℕ × Slot) → List (List ℕ × Slot)) (ss : List (List ℕ × Slot)) (ks : List TypeId)
+      → edit n (λ (r : Record). record r { slots = h r.slots }) (with_star b n t ss ks) ≡ with_star b n t (h ss) ks
+  star-edited h ss ks = ap (λ (rs : List Record). record (with_star b n t ss ks) { records = rs }) same
     where
       f : Record → Record
-      f = with_added name s
+      f r = record r { slots = h r.slots }
 
       own : (n == n) ≡ true
       own = eq-eqb n n refl
 
-      same : map (edited n (with_added name s)) (b.records ++ record (fresh n t) { slots = ss } ∷ kids_from (suc n) ks)
-          ≡ b.records ++ record (fresh n t) { slots = ss ++ (name, s) ∷ [] } ∷ kids_from (suc n) ks
+      same : map (edited n f) (b.records ++ record (fresh n t) { slots = ss } ∷ kids_from (suc n) ks)
+          ≡ b.records ++ record (fresh n t) { slots = h ss } ∷ kids_from (suc n) ks
       same =
-          map-append (edited n (with_added name s)) b.records (record (fresh n t) { slots = ss } ∷ kids_from (suc n) ks)
-          ∙ ap₂ (λ (xs ys : List Record). xs ++ ys) (records-edited n n (omega arith) (with_added name s) b.records low) (rw (edited, own) (ap
-          (λ (rs : List Record). record (fresh n t) { slots = ss ++ (name, s) ∷ [] } ∷ rs) (kids-edited n (with_added name s) (suc n) ks (omega arith))))
+          map-append (edited n f) b.records (record (fresh n t) { slots = ss } ∷ kids_from (suc n) ks)
+          ∙ ap₂ (λ (xs ys : List Record). xs ++ ys) (records-edited n n (omega arith) f b.records low)
+          (rw (edited, own) (ap (λ (rs : List Record). record (fresh n t) { slots = h ss } ∷ rs) (kids-edited n f (suc n) ks (omega arith))))
+
+  -- a slot more of the device
+  star-added : (name : List ℕ) (s : Slot) (ss : List (List ℕ × Slot)) (ks : List TypeId)
+      → add n name s (with_star b n t ss ks) ≡ with_star b n t (ss ++ (name, s) ∷ []) ks
+  unfolding add
+  star-added name s = star-edited (λ (ss : List (List ℕ × Slot)). ss ++ (name, s) ∷ [])
 
   -- a further object more
   star-grown : (k : TypeId) (ss : List (List ℕ × Slot)) (ks : List TypeId)
@@ -167,6 +172,17 @@ module _ (b : Board) (n : ℕ) (t : TypeId) (low : AllByRecursion (LowRecord n) 
           append_assoc b.notes (begun_notes (born_from n (t ∷ ks))) (init_notes (n + length ks + 1) k)
           ∙ ap (λ (ns : List Note). b.notes ++ ns) (sym (begun-push (born_from n (t ∷ ks)) (n + length ks + 1) k))
           ∙ ap (λ (os : List (ℕ × TypeId)). b.notes ++ begun_notes ((n, t) ∷ os)) (sym (born-push (suc n) (n + length ks + 1) ks k (omega arith)))
+
+  -- each slot changed, so that stars stay stars
+  pub draft-edited : (g : List ℕ × Slot → List ℕ × Slot) (ks : List TypeId) (c : Board)
+      → ((lo : ℕ) (ss : List (List ℕ × Slot)) (ls : List Record) → IsStar n lo ss ls → IsStar n lo (map g ss) ls) → IsDraft b n t ks c
+      → IsDraft b n t ks (edit n (λ (r : Record). record r { slots = map g r.slots }) c)
+  draft-edited g ks c keeps h =
+      record {
+        slots = map g h.slots;
+        shape = ap (edit n (λ (r : Record). record r { slots = map g r.slots })) h.shape ∙ star-edited (map g) h.slots ks;
+        star_is = keeps n h.slots (kids_from (suc n) ks) h.star_is;
+      }
 
   draft-slot : (name : List ℕ) (s : Slot) (ks : List TypeId) (c : Board) → ((lo : ℕ) → IsStar n lo ((name, s) ∷ []) []) → IsDraft b n t ks c
       → IsDraft b n t ks (add n name s c)
@@ -279,11 +295,11 @@ pub add-suc : (k : ℕ) → k + 1 ≡ suc k
 add-suc k = omega arith
 
 -- all properties: an attempt that was refused
-pub drafted-ends : (b : Board) (t : TypeId) (m stage : ℕ) → AllByRecursion (LowRecord (b.born + 1)) b.records → AllByRecursion (λ p. p < b.born + 1) b.pins
-    → (stage == 8) ≡ false → finalize (drafted b t) (b.born + 1) ≡ plug_attempt b t m stage
-drafted-ends b t m stage low pins early =
-    draft-ends b t (kinds_in (slots_of t)) (drafted b t) low pins
-    (draft-rows b (b.born + 1) t low (slots_of t) [] (with_new (fresh (b.born + 1) t) b) (draft-begun b t))
+pub drafted-ends : (b : Board) (t : TypeId) (m stage : ℕ) (c : Board) → AllByRecursion (LowRecord (b.born + 1)) b.records
+    → AllByRecursion (λ p. p < b.born + 1) b.pins → (stage == 8) ≡ false → IsDraft b (b.born + 1) t (kinds_in (slots_of t)) c
+    → finalize c (b.born + 1) ≡ plug_attempt b t m stage
+drafted-ends b t m stage c low pins early h =
+    draft-ends b t (kinds_in (slots_of t)) c low pins h
     ∙ ap (λ (k : ℕ). with_ended b (born_from k (types_in t)) [] (device_last (born_from k (types_in t)))) (add-suc b.born)
     ∙ rw (plug_attempt, early) refl
 
@@ -301,13 +317,11 @@ take-born : (m : ℕ) (ks js : List TypeId) → take (length ks) (born_from m (k
 take-born m [] js = refl
 take-born m (k ∷ ks) js = ap (λ (os : List (ℕ × TypeId)). (m, k) ∷ os) (take-born (suc m) ks js)
 
-pub drafted-cut : (b : Board) (t : TypeId) (ps qs : List Property) → slots_of t ≡ ps ++ qs → AllByRecursion (LowRecord (b.born + 1)) b.records
-    → AllByRecursion (λ p. p < b.born + 1) b.pins
-    → finalize (properties_made (b.born + 1) t ps (with_new (fresh (b.born + 1) t) b)) (b.born + 1) ≡ cut_attempt b t (suc (length (kinds_in ps))) true
-drafted-cut b t ps qs split low pins =
-    draft-ends b t (kinds_in ps) (properties_made (b.born + 1) t ps (with_new (fresh (b.born + 1) t) b)) low pins
-    (draft-rows b (b.born + 1) t low ps [] (with_new (fresh (b.born + 1) t) b) (draft-begun b t))
-    ∙ ap (λ (os : List (ℕ × TypeId)). with_ended b os [] (device_last os)) objects
+pub drafted-cut : (b : Board) (t : TypeId) (ps qs : List Property) (c : Board) → slots_of t ≡ ps ++ qs → AllByRecursion (LowRecord (b.born + 1)) b.records
+    → AllByRecursion (λ p. p < b.born + 1) b.pins → IsDraft b (b.born + 1) t (kinds_in ps) c
+    → finalize c (b.born + 1) ≡ cut_attempt b t (suc (length (kinds_in ps))) true
+drafted-cut b t ps qs c split low pins h =
+    draft-ends b t (kinds_in ps) c low pins h ∙ ap (λ (os : List (ℕ × TypeId)). with_ended b os [] (device_last os)) objects
   where
     objects : born_from (b.born + 1) (t ∷ kinds_in ps) ≡ take (suc (length (kinds_in ps))) (born_from (suc b.born) (types_in t))
     objects =
@@ -344,96 +358,7 @@ draft-free b t ks c low pins h = ap (λ (x : Board). refs x (b.born + 1)) h.shap
           sum_by-cons (refs_in (b.born + 1)) d kids,
         )
 
--- a further object that was made and not joined
-
-slot-higher : (n m : ℕ) → n ≤ m → (s : Slot) → LowSlot n s → LowSlot m s
-slot-higher n m le (plain v) h = tt
-slot-higher n m le (child k) h = omega (arith, le, h)
-slot-higher n m le (strong t None) h = tt
-slot-higher n m le (strong t (Some k)) h = omega (arith, le, h)
-slot-higher n m le (weak t None) h = tt
-slot-higher n m le (weak t (Some k)) h = omega (arith, le, h)
-slot-higher n m le (alias k p) h = tt
-
-slots-higher : (n m : ℕ) → n ≤ m → (ss : List (List ℕ × Slot)) → AllByRecursion (λ (s : List ℕ × Slot). LowSlot n s.1) ss
-    → AllByRecursion (λ (s : List ℕ × Slot). LowSlot m s.1) ss
-slots-higher n m le [] h = tt
-slots-higher n m le (s ∷ ss) h = (slot-higher n m le s.1 h.0, slots-higher n m le ss h.1)
-
-records-higher : (n m : ℕ) → n ≤ m → (rs : List Record) → AllByRecursion (LowRecord n) rs → AllByRecursion (LowRecord m) rs
-records-higher n m le [] h = tt
-records-higher n m le (r ∷ rs) h = let low : r.birth < n = h.0.birth in
-    (record { birth = omega (arith, le, low); slots = slots-higher n m le r.slots h.0.slots }, records-higher n m le rs h.1)
-
-star-low : (n m lo : ℕ) → n ≤ m → (ss : List (List ℕ × Slot)) (ls : List Record) → AllByRecursion (λ (r : Record). r.birth < m) ls → IsStar n lo ss ls
-    → AllByRecursion (λ (s : List ℕ × Slot). LowSlot m s.1) ss
-star-low n m lo le [] ls low h = tt
-star-low n m lo le ((name, child x) ∷ ss) [] low h = absurd h
-star-low n m lo le ((name, child x) ∷ ss) (k ∷ ls) low h = (subst (λ (y : ℕ). y < m) h.1 low.0, star-low n m x le ss ls low.1 h.2.1)
-star-low n m lo le ((name, strong t None) ∷ ss) ls low h = (tt, star-low n m lo le ss ls low h)
-star-low n m lo le ((name, strong t (Some x)) ∷ ss) ls low h = absurd h
-star-low n m lo le ((name, weak t target) ∷ ss) ls low h = (slot-higher n m le (weak t target) h.0, star-low n m lo le ss ls low h.1)
-star-low n m lo le ((name, plain v) ∷ ss) ls low h = (tt, star-low n m lo le ss ls low h)
-star-low n m lo le ((name, alias x p) ∷ ss) ls low h = (tt, star-low n m lo le ss ls low h)
-
-bare-low : (m : ℕ) (ss : List (List ℕ × Slot)) → AllByRecursion (λ (s : List ℕ × Slot). BareSlot m s.1) ss
-    → AllByRecursion (λ (s : List ℕ × Slot). LowSlot m s.1) ss
-bare-low m [] h = tt
-bare-low m (s ∷ ss) h = (h.0.low, bare-low m ss h.1)
-
-kid-records : (m j : ℕ) (ks : List TypeId) → j + length ks ≤ m → AllByRecursion (LowRecord m) (kids_from j ks)
-kid-records m j [] le = tt
-kid-records m j (k ∷ ks) le =
-    (record { birth = omega (arith, le); slots = bare-low m (fresh_slots k) (bare-slots m k (slots_of k)) }, kid-records m (suc j) ks (omega (arith, le)))
-
-all-join : (P : Record → Type 0) (xs ys : List Record) → AllByRecursion P xs → AllByRecursion P ys → AllByRecursion P (xs ++ ys)
-all-join P [] ys h k = k
-all-join P (x ∷ xs) ys h k = (h.0, all-join P xs ys h.1 k)
-
--- what a draft names is below the next birth
-pub draft-low : (b : Board) (t : TypeId) (ks : List TypeId) (c : Board) → AllByRecursion (LowRecord (b.born + 1)) b.records → IsDraft b (b.born + 1) t ks c
-    → AllByRecursion (LowRecord (c.born + 1)) c.records
-draft-low b t ks c low h =
-    subst (AllByRecursion (LowRecord (c.born + 1))) (sym (ap (λ (x : Board). x.records) h.shape))
-    (all-join (LowRecord (c.born + 1)) b.records (record (fresh (b.born + 1) t) { slots = h.slots } ∷ kids_from (suc (b.born + 1)) ks)
-    (records-higher (b.born + 1) (c.born + 1) (omega (arith, born)) b.records low) (
-      record {
-        birth = omega (arith, born);
-        slots = star-low (b.born + 1) (c.born + 1) (b.born + 1) (omega (arith, born)) h.slots (kids_from (suc (b.born + 1)) ks)
-            (kids-low (c.born + 1) (suc (b.born + 1)) ks (omega (arith, born))) h.star_is;
-      },
-      kid-records (c.born + 1) (suc (b.born + 1)) ks (omega (arith, born)),
-    ))
-  where
-    born : c.born ≡ b.born + 1 + length ks
-    born = ap (λ (x : Board). x.born) h.shape
-
--- an object that was made after others that do not name it, and that holds nothing, leaves its notes
-pub kid-ends : (k : TypeId) (ss : List (List ℕ × Slot)) (c : Board) → AllByRecursion (LowRecord (c.born + 1)) c.records
-    → AllByRecursion (λ p. p < c.born + 1) c.pins → IsStar (c.born + 1) (c.born + 1) ss []
-    → finalize (with_new (record (fresh (c.born + 1) k) { slots = ss }) c) (c.born + 1)
-    ≡ record c { born = c.born + 1; notes = c.notes ++ init_notes (c.born + 1) k ++ ending (c.born + 1) k }
-kid-ends k ss c low pins star_is =
-    attempt-ends (record c { born = c.born + 1 }) (fresh (c.born + 1) k) low pins refl ss [] (c.notes ++ init_notes (c.born + 1) k) star_is
-    ∙ ap (λ (ns : List Note). record c { born = c.born + 1; notes = ns ++ ending (c.born + 1) k }) (append-nil (c.notes ++ init_notes (c.born + 1) k))
-
-pub kid-free : (k : TypeId) (ss : List (List ℕ × Slot)) (c : Board) → AllByRecursion (LowRecord (c.born + 1)) c.records
-    → AllByRecursion (λ p. p < c.born + 1) c.pins → IsStar (c.born + 1) (c.born + 1) ss []
-    → refs (with_new (record (fresh (c.born + 1) k) { slots = ss }) c) (c.born + 1) ≡ 0
-kid-free k ss c low pins star_is =
-    omega (
-      arith,
-      own,
-      records-unheld (c.born + 1) (c.born + 1) (omega arith) c.records low,
-      pins-apart (c.born + 1) (c.born + 1) (omega arith) c.pins pins,
-      sum_by-append (refs_in (c.born + 1)) c.records (record (fresh (c.born + 1) k) { slots = ss } ∷ []),
-      sum_by-cons (refs_in (c.born + 1)) (record (fresh (c.born + 1) k) { slots = ss }) [],
-    )
-  where
-    own : refs_in (c.born + 1) (record (fresh (c.born + 1) k) { slots = ss }) ≡ 0
-    own = star-unheld (c.born + 1) (c.born + 1) (c.born + 1) ss [] (omega arith) star_is
-
--- and then the device with those that were joined
+-- a further object that was made and not joined has ended, and then the device does with those that were joined
 pub unjoined-ends : (b : Board) (t : TypeId) (ks : List TypeId) (k : TypeId) (c : Board) → AllByRecursion (LowRecord (b.born + 1)) b.records
     → AllByRecursion (λ p. p < b.born + 1) b.pins → IsDraft b (b.born + 1) t ks c
     → finalize (record c { born = c.born + 1; notes = c.notes ++ init_notes (c.born + 1) k ++ ending (c.born + 1) k }) (b.born + 1)

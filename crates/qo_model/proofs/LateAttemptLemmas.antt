@@ -12,13 +12,13 @@ use Rattle.qo_model.specs.Board.{Board, Record, Slot, plain, child, strong, weak
 use Rattle.qo_model.specs.Changes.{fresh}
 use Rattle.qo_model.specs.Clocks.{acted, with_act_on}
 use Rattle.qo_model.specs.FinalNotes.{ending}
-use Rattle.qo_model.specs.Plug.{acted_all, begun_notes, born_from, bus_births, device_last, did, drafted, ended_notes, is_bus, passed, passed_notes, plug_attempt, types_in, with_ended}
+use Rattle.qo_model.specs.Plug.{acted_all, begun_notes, born_from, bus_births, device_last, did, ended_notes, is_bus, passed, passed_notes, plug_attempt, types_in, with_ended}
 use Rattle.qo_model.specs.References.{refs, refs_in}
 use Rattle.qo_model.specs.Release.{edited, final_notes, finalize}
 use Rattle.qo_model.specs.Reset.{count}
 use Rattle.qo_model.specs.Types.{slots_of}
 use Rattle.qo_model.proofs.AttemptLemmas.{BareSlot, IsStar, LowRecord, attempt-ends, kids-unheld, pins-apart, records-edited, records-unheld, star-kids, star-unheld}
-use Rattle.qo_model.proofs.DraftEndsLemmas.{IsDraft, add-suc, born-length, draft-begun, draft-rows, ended-push, kids-ended, kids_from, kinds_in}
+use Rattle.qo_model.proofs.DraftEndsLemmas.{IsDraft, add-suc, born-length, ended-push, kids-ended, kids_from, kinds_in}
 
 -- a change of objects that leaves all but registers
 record LeavesRest (g : Record → Record) : Type 0 where
@@ -195,43 +195,45 @@ above-push : (n : ℕ) (ms : List ℕ) → AllByRecursion (λ m. n ≤ m) ms →
 above-push n [] h = (omega arith, tt)
 above-push n (m ∷ ms) h = (h.0, above-push n ms h.1)
 
-module _ (b : Board) (t : TypeId) (bus : ℕ) (low : AllByRecursion (LowRecord (b.born + 1)) b.records) (pins : AllByRecursion (λ p. p < b.born + 1) b.pins) where
-  abbrev n : ℕ
-  n = b.born + 1
+module _ (b : Board) (t : TypeId) (bus : ℕ) (c : Board) (low : AllByRecursion (LowRecord (b.born + 1)) b.records)
+    (pins : AllByRecursion (λ p. p < b.born + 1) b.pins) (draft : IsDraft b (b.born + 1) t (kinds_in (slots_of t)) c)
+  where
+    abbrev n : ℕ
+    n = b.born + 1
 
-  abbrev ks : List TypeId
-  ks = kinds_in (slots_of t)
+    abbrev ks : List TypeId
+    ks = kinds_in (slots_of t)
 
-  abbrev buses : List ℕ
-  buses = bus_births n t
+    abbrev buses : List ℕ
+    buses = bus_births n t
 
-  all_buses : AllByRecursion (λ m. n ≤ m) buses
-  all_buses = buses-above n n (omega arith) (types_in t)
+    all_buses : AllByRecursion (λ m. n ≤ m) buses
+    all_buses = buses-above n n (omega arith) (types_in t)
 
-  all_last : AllByRecursion (λ m. n ≤ m) (buses ++ n ∷ [])
-  all_last = above-push n buses all_buses
+    all_last : AllByRecursion (λ m. n ≤ m) (buses ++ n ∷ [])
+    all_last = above-push n buses all_buses
 
-  all_exits : AllByRecursion (λ m. n ≤ m) (if count b bus == 0 then buses ++ n ∷ [] else [])
-  all_exits = go (count b bus == 0) refl
-    where
-      go : (u : Bool) → (count b bus == 0) ≡ u → AllByRecursion (λ m. n ≤ m) (if count b bus == 0 then buses ++ n ∷ [] else [])
-      go true e = rw e all_last
-      go false e = rw e tt
+    all_exits : AllByRecursion (λ m. n ≤ m) (if count b bus == 0 then buses ++ n ∷ [] else [])
+    all_exits = go (count b bus == 0) refl
+      where
+        go : (u : Bool) → (count b bus == 0) ≡ u → AllByRecursion (λ m. n ≤ m) (if count b bus == 0 then buses ++ n ∷ [] else [])
+        go true e = rw e all_last
+        go false e = rw e tt
 
-  is_passed : IsPassed b n t ks (passed_notes b bus n t) (passed b bus n t (drafted b t))
-  is_passed =
-      passed-all b n t ks low Unrealize (buses ++ n ∷ []) _ _ all_last
-      (passed-all b n t ks low Exit (if count b bus == 0 then buses ++ n ∷ [] else []) _ _ all_exits
-      (passed-all b n t ks low Hold (buses ++ n ∷ []) _ _ all_last
-      (passed-all b n t ks low Enter (buses ++ n ∷ []) _ _ all_last
-      (passed-all b n t ks low Realize (n ∷ buses) [] (drafted b t) (omega arith, all_buses)
-      (passed-begun b n t ks (drafted b t) (draft-rows b n t low (slots_of t) [] _ (draft-begun b t)))))))
+    is_passed : IsPassed b n t ks (passed_notes b bus n t) (passed b bus n t c)
+    is_passed =
+        passed-all b n t ks low Unrealize (buses ++ n ∷ []) _ _ all_last
+        (passed-all b n t ks low Exit (if count b bus == 0 then buses ++ n ∷ [] else []) _ _ all_exits
+        (passed-all b n t ks low Hold (buses ++ n ∷ []) _ _ all_last
+        (passed-all b n t ks low Enter (buses ++ n ∷ []) _ _ all_last
+        (passed-all b n t ks low Realize (n ∷ buses) [] c (omega arith, all_buses)
+        (passed-begun b n t ks c draft)))))
 
-  pub attempt-free : refs (passed b bus n t (drafted b t)) (b.born + 1) ≡ 0
-  attempt-free = passed-free b n t ks low (passed_notes b bus n t) (passed b bus n t (drafted b t)) pins is_passed
+    pub attempt-free : refs (passed b bus n t c) (b.born + 1) ≡ 0
+    attempt-free = passed-free b n t ks low (passed_notes b bus n t) (passed b bus n t c) pins is_passed
 
-  -- an attempt that was refused after its acts
-  pub attempt-passed : finalize (passed b bus n t (drafted b t)) (b.born + 1) ≡ plug_attempt b t bus 8
-  attempt-passed =
-      passed-ends b n t ks low (passed_notes b bus n t) (passed b bus n t (drafted b t)) refl pins is_passed
-      ∙ ap (λ (k : ℕ). with_ended b (born_from k (types_in t)) (passed_notes b bus k t) (device_last (born_from k (types_in t)))) (add-suc b.born)
+    -- an attempt that was refused after its acts
+    pub attempt-passed : finalize (passed b bus n t c) (b.born + 1) ≡ plug_attempt b t bus 8
+    attempt-passed =
+        passed-ends b n t ks low (passed_notes b bus n t) (passed b bus n t c) refl pins is_passed
+        ∙ ap (λ (k : ℕ). with_ended b (born_from k (types_in t)) (passed_notes b bus k t) (device_last (born_from k (types_in t)))) (add-suc b.born)

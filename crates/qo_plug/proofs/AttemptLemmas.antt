@@ -15,16 +15,16 @@ use Rattle.qo_table.specs.Rows.{IsLive}
 use Rattle.qo_model.specs.declared.notes.Deed.TheVariants.{Did}
 use Rattle.qo_model.specs.Board.{Board, Record}
 use Rattle.qo_model.specs.Changes as changes
+use Rattle.qo_model.specs.Objects.{Given}
 use Rattle.qo_model.specs.Opening.{fresh_record}
-use Rattle.qo_model.specs.Plug.{acted_all, born_from, bus_births, drafted, is_bus, passed, plug_attempt, properties_made, with_new}
-use Rattle.qo_model.specs.Release.{unpin}
+use Rattle.qo_model.specs.Plug.{acted_all, born_from, bus_births, drafted, is_bus, passed, plug_attempt}
+use Rattle.qo_model.specs.Release.{edit, unpin}
 use Rattle.qo_model.specs.Reset.{count, phased}
 use Rattle.qo_model.specs.Types.{is_a, slots_of}
 use Rattle.qo_model.proofs.DraftEndsLemmas.{IsDraft, kids_from, kinds_in}
 use Rattle.qo_sound.specs.TreeKept.{SoundTree}
-use Rattle.qo_sound.proofs.DraftLemmas.{rows-blind, with_pins}
-use Rattle.qo_sound.proofs.StepsLemmas.{draft-of, passed-steps}
-use Rattle.qo_sound.proofs.ViewLemmas.{AtRest, rest-from_sound}
+use Rattle.qo_sound.proofs.DraftLemmas.{with_pins}
+use Rattle.qo_sound.proofs.StepsLemmas.{passed-steps}
 use Rattle.qo_object.specs.Content.{Content, acted_at}
 use Rattle.qo_object.specs.BoardObject.{birth_of}
 use Rattle.qo_heap.specs.Acts.{Acts, stilled}
@@ -40,8 +40,8 @@ use Rattle.qo_reset.specs.Phases.{acted_on, walked}
 use Rattle.qo_reset.proofs.BoardLemmas.{shows-walked}
 use Rattle.qo_reset.proofs.WalkLemmas.{walked-acts, walked-append}
 use Rattle.qo_plug.specs.Attempts.{first_acted, last_acted, let_out, new_bus, new_buses, passed_on}
-use Rattle.qo_plug.specs.Drafts.{IsQuiet, pinned_draft}
-use Rattle.qo_plug.proofs.CutLemmas.{begun, held, held-is}
+use Rattle.qo_plug.specs.Drafts.{IsQuiet, given_draft, with_values}
+use Rattle.qo_plug.proofs.CutLemmas.{draft-made, given-is, held, held-is, rest}
 
 -- who is quiet stays quiet
 
@@ -332,35 +332,29 @@ kids-bus n m [] le = refl
 kids-bus n m (k ∷ ks) le =
     one-bus n m k (fresh_record m k) (kids_from (suc m) ks) (born_from (suc m) ks) le refl refl (kids-bus n (suc m) ks (omega (arith, le)))
 
-module _ (b : Board) (t : TypeId) (sound : SoundTree b) where
-  at_rest : AtRest b
-  at_rest = rest-from_sound b sound
-
-  made-is : pinned_draft b t ≡ with_pins (held b t sound) (drafted b t)
-  made-is = ap (properties_made (b.born + 1) t (slots_of t)) (begun b t sound)
-      ∙ rows-blind (held b t sound) (b.born + 1) t (slots_of t) (with_new (changes.fresh (b.born + 1) t) b)
-
-  draft-buses : filter_map (record_bus (b.born + 1)) (pinned_draft b t).records ≡ bus_births (b.born + 1) t
+module _ (b : Board) (t : TypeId) (sound : SoundTree b) (props : List Given) where
+  draft-buses : filter_map (record_bus (b.born + 1)) (given_draft b t props).records ≡ bus_births (b.born + 1) t
   draft-buses =
       let n : ℕ = b.born + 1 in
-      let d : IsDraft b n t (kinds_in (slots_of t)) (drafted b t) = draft-of b t (slots_of t) at_rest in
-      ap (λ (c : Board). filter_map (record_bus n) c.records) (made-is ∙ ap (with_pins (held b t sound)) d.shape)
+      let d : IsDraft b n t (kinds_in (slots_of t)) (edit n (with_values b props) (drafted b t)) = draft-made b t sound props (slots_of t) in
+      ap (λ (c : Board). filter_map (record_bus n) c.records) (given-is b t sound props ∙ ap (with_pins (held b t sound)) d.shape)
       ∙ before-none n b.born (omega arith) b.records (record (changes.fresh n t) { slots = d.slots } ∷ kids_from (suc n) (kinds_in (slots_of t)))
-      at_rest.used.firm.within
+      (rest b t sound).used.firm.within
       ∙ one-bus n n t (record (changes.fresh n t) { slots = d.slots }) (kids_from (suc n) (kinds_in (slots_of t))) (born_from (suc n) (kinds_in (slots_of t)))
       (omega arith) refl refl (kids-bus n (suc n) (kinds_in (slots_of t)) (omega arith))
 
-  pub new-drafted : (v : Objects) → Shows (pinned_draft b t) v → new_buses (b.born + 1) v.rows ≡ bus_births (b.born + 1) t
+  pub new-drafted : (v : Objects) → Shows (given_draft b t props) v → new_buses (b.born + 1) v.rows ≡ bus_births (b.born + 1) t
   new-drafted v s = sym (records-bus (b.born + 1) v.rows) ∙ ap (filter_map (record_bus (b.born + 1))) (sym s.records) ∙ draft-buses
 
-  pub refused-late : (bus : ℕ) (out : Bool) (v w x : Objects) → out ≡ (count b bus == 0) → Shows (pinned_draft b t) v → w ≡ passed_on out (b.born + 1) v
+  pub refused-late : (bus : ℕ) (out : Bool) (v w x : Objects) → out ≡ (count b bus == 0) → Shows (given_draft b t props) v → w ≡ passed_on out (b.born + 1) v
       → ((c : Board) → Shows c w → Shows (unpin c (b.born + 1)) x) → Shows (plug_attempt b t bus 8) x
   refused-late bus out v w x is s acted drops =
       let n : ℕ = b.born + 1 in
-      let c : Board = passed b bus n t (pinned_draft b t) in
-      let shown : Shows c w = shows-passed b bus n t out (pinned_draft b t) v w is (record { shown = s; buses = new-drafted v s }) acted in
-      let ends : unpin c n ≡ plug_attempt b t bus 8 = ap (λ (d : Board). unpin (passed b bus n t (properties_made n t (slots_of t) d)) n) (begun b t sound)
-      ∙ passed-steps b t bus (held b t sound) (held-is b t sound) at_rest in
+      let c : Board = passed b bus n t (given_draft b t props) in
+      let shown : Shows c w = shows-passed b bus n t out (given_draft b t props) v w is (record { shown = s; buses = new-drafted v s }) acted in
+      let ends : unpin c n ≡ plug_attempt b t bus 8 = ap (λ (d : Board). unpin (passed b bus n t d) n) (given-is b t sound props)
+      ∙ passed-steps b t bus (edit n (with_values b props) (drafted b t)) (held b t sound) (held-is b t sound) (rest b t sound)
+      (draft-made b t sound props (slots_of t)) in
       subst (λ (d : Board). Shows d x) ends (drops c shown)
 
 -- a count that is cut is none exactly where it is none

@@ -1,28 +1,30 @@
 -- What is left of a device that was given up, or whose making was cut for want of memory.
-use Rattle.std.proofs.Common.{◌≡◌, refl, ap, sym, subst, ◌∙◌, ℕ, zero, suc, ◌+◌, ◌≤◌, true, false, ◌==◌, List, [], ◌∷◌, ◌++◌, drop, filter_map, length, map, take, slice_get, Option, Some, None, option_map, inr, arith}
+use Rattle.std.proofs.Common.{◌≡◌, refl, ap, sym, subst, ◌∙◌, ℕ, zero, suc, ◌+◌, ◌≤◌, true, false, ◌==◌, List, [], ◌∷◌, ◌++◌, drop, filter_map, find, length, map, take, slice_get, Option, Some, None, option_map, inr, arith}
 use Rattle.std.specs.List.{cons_option}
 use Rattle.std.specs.Option.{option_map_or}
+use Rattle.std.specs.Str.{bytes_eq}
 use Rattle.std.proofs.lemmas.Option.{same_Some}
 use Rattle.qo_values.specs.declared.kinds.TypeId.{TypeId}
-use Rattle.qo_model.specs.Board.{Board}
+use Rattle.qo_model.specs.Board.{Board, Record, Slot, plain, child, strong, weak, alias}
 use Rattle.qo_model.specs.Changes.{fresh}
-use Rattle.qo_model.specs.Objects.{with_attempt}
-use Rattle.qo_model.specs.Plug.{cut_attempt, further_in, further_of, objects_in, plug_attempt, properties_made, with_new}
-use Rattle.qo_model.specs.Release.{put_in_order, unpin}
+use Rattle.qo_model.specs.Objects.{Given, given_to, with_attempt}
+use Rattle.qo_model.specs.Plug.{cut_attempt, drafted, further_in, further_of, objects_in, plug_attempt, properties_made, with_new}
+use Rattle.qo_model.specs.Release.{edit, put_in_order, unpin}
 use Rattle.qo_model.specs.Types.{slots_of}
 use Rattle.qo_model.specs.declared.properties.Property.{Property}
 use Rattle.qo_model.specs.declared.properties.PropertyRole.TheVariants.{Child}
-use Rattle.qo_model.proofs.DraftEndsLemmas.{kinds_in}
+use Rattle.qo_model.proofs.AttemptLemmas.{IsStar}
+use Rattle.qo_model.proofs.DraftEndsLemmas.{IsDraft, kinds_in}
 use Rattle.qo_sound.specs.TreeKept.{SoundTree}
 use Rattle.qo_sound.proofs.DraftLemmas.{rows-blind, with_pins}
 use Rattle.qo_sound.proofs.PinLemmas as pinned
-use Rattle.qo_sound.proofs.StepsLemmas.{attempt-steps, cut-steps, unjoined-ended}
+use Rattle.qo_sound.proofs.StepsLemmas.{attempt-steps, cut-steps, draft-changed, draft-of, unjoined-ended}
 use Rattle.qo_sound.proofs.ViewLemmas.{AtRest, rest-from_sound}
 use Rattle.qo_object.specs.Content as content
 use Rattle.qo_object.specs.Content.{Content}
 use Rattle.qo_heap.specs.Board.{Shows}
 use Rattle.qo_heap.specs.Objects.{Objects, content_of, pins_of}
-use Rattle.qo_plug.specs.Drafts.{CutShort, Fell, bare, created, pinned_draft, stopped, unjoined}
+use Rattle.qo_plug.specs.Drafts.{CutShort, Fell, bare, created, given_draft, stopped, unjoined, value_given, with_values}
 
 -- a new device is held once
 pub draft-pinned : (v : Objects) (n : ℕ) (t : TypeId) → option_map bare (content_of v n) ≡ Some (bare (content.fresh t)) → pins_of v n ≡ 1
@@ -80,6 +82,24 @@ take-drop zero xs = refl
 take-drop (suc k) [] = refl
 take-drop {X = X} (suc k) (x ∷ xs) = ap (λ (l : List X). x ∷ l) (take-drop k xs)
 
+-- values given keep a star, since only plain slots have them
+values-star : (b : Board) (props : List Given) (n lo : ℕ) (ss : List (List ℕ × Slot)) (ls : List Record) → IsStar n lo ss ls
+    → IsStar n lo (map (value_given b props) ss) ls
+values-star b props n lo [] [] h = tt
+values-star b props n lo [] (k ∷ ls) h = absurd h
+values-star b props n lo ((name, child m) ∷ ss) [] h = absurd h
+values-star b props n lo ((name, child m) ∷ ss) (k ∷ ls) h = (h.0, h.1, (h.2.0, values-star b props n m ss ls h.2.1))
+values-star b props n lo ((name, strong t None) ∷ ss) ls h = values-star b props n lo ss ls h
+values-star b props n lo ((name, strong t (Some m)) ∷ ss) ls h = absurd h
+values-star b props n lo ((name, weak t target) ∷ ss) ls h = (h.0, values-star b props n lo ss ls h.1)
+values-star b props n lo ((name, plain v) ∷ ss) ls h = go (find (λ (p : Given). bytes_eq p.0 name) props) (values-star b props n lo ss ls h)
+  where
+    go : (o : Option Given) → IsStar n lo (map (value_given b props) ss) ls
+        → IsStar n lo ((name, elim o [ None ↦ plain v | Some p ↦ given_to b (plain v) p.1 ]) ∷ map (value_given b props) ss) ls
+    go None rest = rest
+    go (Some p) rest = rest
+values-star b props n lo ((name, alias m p) ∷ ss) ls h = values-star b props n lo ss ls h
+
 -- the device is held from outside alone
 module _ (b : Board) (t : TypeId) (sound : SoundTree b) where
   pub rest : AtRest b
@@ -94,46 +114,67 @@ module _ (b : Board) (t : TypeId) (sound : SoundTree b) where
   pub begun : created b t ≡ with_pins held (with_new (fresh (b.born + 1) t) b)
   begun = pinned.created t b
 
+  -- with its first properties, and the values given for them
+  abbrev made : List Given → List Property → Board
+  made props ps = edit (b.born + 1) (with_values b props) (properties_made (b.born + 1) t ps (with_new (fresh (b.born + 1) t) b))
+
+  pub draft-given : (props : List Given) (ks : List TypeId) (c : Board) → IsDraft b (b.born + 1) t ks c
+      → IsDraft b (b.born + 1) t ks (edit (b.born + 1) (with_values b props) c)
+  draft-given props ks c = draft-changed b t ks c (value_given b props) rest (values-star b props (b.born + 1))
+
+  pub draft-made : (props : List Given) (ps : List Property) → IsDraft b (b.born + 1) t (kinds_in ps) (made props ps)
+  draft-made props ps = draft-given props (kinds_in ps) (properties_made (b.born + 1) t ps (with_new (fresh (b.born + 1) t) b)) (draft-of b t ps rest)
+
+  made-is : (props : List Given) (ps : List Property)
+      → edit (b.born + 1) (with_values b props) (properties_made (b.born + 1) t ps (created b t)) ≡ with_pins held (made props ps)
+  made-is props ps =
+      ap (edit (b.born + 1) (with_values b props))
+      (ap (properties_made (b.born + 1) t ps) begun ∙ rows-blind held (b.born + 1) t ps (with_new (fresh (b.born + 1) t) b))
+
+  pub given-is : (props : List Given) → given_draft b t props ≡ with_pins held (edit (b.born + 1) (with_values b props) (drafted b t))
+  given-is props = made-is props (slots_of t)
+
   -- all of it was made, and it is given up
-  pub given-up : (bus stage : ℕ) → (stage == 8) ≡ false → unpin (pinned_draft b t) (b.born + 1) ≡ plug_attempt b t bus stage
-  given-up bus stage early = ap (λ (c : Board). unpin (properties_made (b.born + 1) t (slots_of t) c) (b.born + 1)) begun
-      ∙ attempt-steps b t bus stage held held-is early rest
+  pub given-up : (props : List Given) (bus stage : ℕ) → (stage == 8) ≡ false → unpin (given_draft b t props) (b.born + 1) ≡ plug_attempt b t bus stage
+  given-up props bus stage early = ap (λ (c : Board). unpin c (b.born + 1)) (given-is props)
+      ∙ attempt-steps b t bus stage (made props (slots_of t)) held held-is early rest (draft-made props (slots_of t))
 
   -- the first properties were made
-  cut-first : (k : ℕ) → unpin (properties_made (b.born + 1) t (take k (slots_of t)) (created b t)) (b.born + 1)
+  cut-first : (props : List Given) (k : ℕ)
+      → unpin (edit (b.born + 1) (with_values b props) (properties_made (b.born + 1) t (take k (slots_of t)) (created b t))) (b.born + 1)
       ≡ cut_attempt b t (suc (length (kinds_in (take k (slots_of t))))) true
-  cut-first k =
-      ap (λ (c : Board). unpin (properties_made (b.born + 1) t (take k (slots_of t)) c) (b.born + 1)) begun
-      ∙ cut-steps b t (take k (slots_of t)) (drop k (slots_of t)) held held-is (take-drop k (slots_of t)) rest
+  cut-first props k =
+      let ps : List Property = take k (slots_of t) in
+      ap (λ (c : Board). unpin c (b.born + 1)) (made-is props ps)
+      ∙ cut-steps b t ps (drop k (slots_of t)) (made props ps) held held-is (take-drop k (slots_of t)) rest (draft-made props ps)
 
   -- and a further object, which has ended
-  cut-unjoined : (k : ℕ) (p : Property) (u : TypeId) → slice_get (slots_of t) k ≡ Some p → p.role ≡ Child u
-      → unpin (with_attempt (properties_made (b.born + 1) t (take k (slots_of t)) (created b t)) u) (b.born + 1)
+  cut-unjoined : (props : List Given) (k : ℕ) (p : Property) (u : TypeId) → slice_get (slots_of t) k ≡ Some p → p.role ≡ Child u
+      → unpin (edit (b.born + 1) (with_values b props) (with_attempt (properties_made (b.born + 1) t (take k (slots_of t)) (created b t)) u)) (b.born + 1)
       ≡ cut_attempt b t (suc (suc (length (kinds_in (take k (slots_of t)))))) false
-  cut-unjoined k p u at kind =
+  cut-unjoined props k p u at kind =
       let ps : List Property = take k (slots_of t) in
-      let c : Board = properties_made (b.born + 1) t ps (with_new (fresh (b.born + 1) t) b) in
-      let made : properties_made (b.born + 1) t ps (created b t) ≡ with_pins held c =
-      ap (properties_made (b.born + 1) t ps) begun ∙ rows-blind held (b.born + 1) t ps (with_new (fresh (b.born + 1) t) b) in
-      ap (λ (d : Board). unpin (with_attempt d u) (b.born + 1)) made
-      ∙ unjoined-ended b t ps p u (drop (suc k) (slots_of t)) c held (split-at k (slots_of t) p at) kind held-is refl rest
+      ap (λ (c : Board). unpin (with_attempt c u) (b.born + 1)) (made-is props ps)
+      ∙ unjoined-ended b t ps p u (drop (suc k) (slots_of t)) (made props ps) held (split-at k (slots_of t) p at) kind held-is rest (draft-made props ps)
 
-  pub fell-short : (v w x : Objects) → Fell (b.born + 1) t v w → Shows (created b t) v → ((c : Board) → Shows c w → Shows (unpin c (b.born + 1)) x)
-      → CutShort b t x
-  fell-short v w x (stopped k makes) s drops =
+  pub fell-short : (props : List Given) (v w x : Objects) → Fell b props (b.born + 1) t v w → Shows (edit (b.born + 1) (with_values b props) (created b t)) v
+      → ((c : Board) → Shows c w → Shows (unpin c (b.born + 1)) x) → CutShort b t x
+  fell-short props v w x (stopped k makes) s drops =
       inr (
         suc (length (kinds_in (take k (slots_of t)))),
         true,
         omega arith,
         kinds-within k t,
-        subst (λ (c : Board). Shows c x) (cut-first k) (drops (properties_made (b.born + 1) t (take k (slots_of t)) (created b t)) (makes (created b t) s)),
+        subst (λ (c : Board). Shows c x) (cut-first props k)
+            (drops (edit (b.born + 1) (with_values b props) (properties_made (b.born + 1) t (take k (slots_of t)) (created b t))) (makes (created b t) s)),
       )
-  fell-short v w x (unjoined k p u at kind makes) s drops =
+  fell-short props v w x (unjoined k p u at kind makes) s drops =
       inr (
         suc (suc (length (kinds_in (take k (slots_of t))))),
         false,
         omega arith,
         (let le : suc (length (kinds_in (take k (slots_of t)))) ≤ length (further_of t) = kinds-more k (slots_of t) p u at kind in omega (arith, le)),
-        subst (λ (c : Board). Shows c x) (cut-unjoined k p u at kind)
-            (drops (with_attempt (properties_made (b.born + 1) t (take k (slots_of t)) (created b t)) u) (makes (created b t) s)),
+        subst (λ (c : Board). Shows c x) (cut-unjoined props k p u at kind)
+            (drops (edit (b.born + 1) (with_values b props) (with_attempt (properties_made (b.born + 1) t (take k (slots_of t)) (created b t)) u))
+            (makes (created b t) s)),
       )

@@ -4,6 +4,7 @@ pub mod BarLemmas
 pub mod ScopeLemmas
 pub mod CutLemmas
 pub mod DraftLemmas
+pub mod GivenDraftLemmas
 pub mod GrowthLemmas
 pub mod JudgementLemmas
 pub mod ClaimLemmas

@@ -12,24 +12,24 @@ use Rattle.qo_values.specs.declared.kinds.TypeId.{TypeId}
 use Rattle.qo_model.specs.Board.{Board, Record, Slot, plain, child, strong, weak, alias, record_of}
 use Rattle.qo_model.specs.Changes as changes
 use Rattle.qo_model.specs.Devices.{child_named, clock_of}
+use Rattle.qo_model.specs.Objects.{Given}
 use Rattle.qo_model.specs.Paths.{is_child, is_of, place_in, place_of}
-use Rattle.qo_model.specs.Plug.{drafted, properties_made, source_for, with_new}
+use Rattle.qo_model.specs.Plug.{drafted, source_for}
+use Rattle.qo_model.specs.Release.{edit}
 use Rattle.qo_model.specs.Types.{is_a, slots_of}
 use Rattle.qo_model.proofs.AttemptLemmas.{AreKids, BareSlot, IsStar, star-kids}
 use Rattle.qo_model.proofs.DraftEndsLemmas.{IsDraft, kids_from, kinds_in}
 use Rattle.qo_sound.specs.TreeKept.{SoundTree}
-use Rattle.qo_sound.proofs.DraftLemmas.{rows-blind, with_pins}
-use Rattle.qo_sound.proofs.StepsLemmas.{draft-of}
-use Rattle.qo_sound.proofs.ViewLemmas.{AtRest, rest-from_sound}
-use Rattle.qo_plug.specs.Drafts.{pinned_draft}
-use Rattle.qo_plug.proofs.CutLemmas.{begun, held}
+use Rattle.qo_sound.proofs.DraftLemmas.{with_pins}
+use Rattle.qo_plug.specs.Drafts.{given_draft, with_values}
+use Rattle.qo_plug.proofs.CutLemmas.{draft-made, given-is, held, rest}
 
 -- a board with records after those of before
 or-none : {X : Type 0} (o p : Option X) → p ≡ None → option_or o p ≡ o
 or-none None p e = e
 or-none (Some x) p e = refl
 
-pub find-old : (p : Record → Bool) (rs news : List Record) → find p news ≡ None → find p (rs ++ news) ≡ find p rs
+find-old : (p : Record → Bool) (rs news : List Record) → find p news ≡ None → find p (rs ++ news) ≡ find p rs
 find-old p rs news none = find-append p rs news ∙ or-none (find p rs) (find p news) none
 
 find-low : (p : Record → Bool) (k : ℕ) (rs : List Record) (r : Record) → AllByRecursion (λ m. m ≤ k) (map (λ (x : Record). x.birth) rs) → find p rs ≡ Some r
@@ -80,40 +80,34 @@ kids-later n m lo (k ∷ ls) le h =
     rw other (kids-later n m k.birth ls (omega arith) h.1.1)
 
 -- a device that was made
-module _ (b : Board) (t : TypeId) (sound : SoundTree b) where
-  pub at_rest : AtRest b
-  at_rest = rest-from_sound b sound
-
-  abbrev pub n : ℕ
+module _ (b : Board) (t : TypeId) (sound : SoundTree b) (props : List Given) where
+  abbrev n : ℕ
   n = b.born + 1
 
-  pub draft : IsDraft b n t (kinds_in (slots_of t)) (drafted b t)
-  draft = draft-of b t (slots_of t) at_rest
+  draft : IsDraft b n t (kinds_in (slots_of t)) (edit n (with_values b props) (drafted b t))
+  draft = draft-made b t sound props (slots_of t)
 
-  abbrev pub device : Record
+  abbrev device : Record
   device = record (changes.fresh n t) { slots = draft.slots }
 
-  abbrev pub news : List Record
+  abbrev news : List Record
   news = device ∷ kids_from (suc n) (kinds_in (slots_of t))
 
-  pub draft-pinned_up : pinned_draft b t ≡ with_pins (held b t sound) (drafted b t)
-  draft-pinned_up = ap (properties_made n t (slots_of t)) (begun b t sound) ∙ rows-blind (held b t sound) n t (slots_of t) (with_new (changes.fresh n t) b)
-
-  pub draft-records : (pinned_draft b t).records ≡ b.records ++ news
-  draft-records = ap (λ (c : Board). c.records) (draft-pinned_up ∙ ap (with_pins (held b t sound)) draft.shape)
+  draft-records : (given_draft b t props).records ≡ b.records ++ news
+  draft-records = ap (λ (c : Board). c.records) (given-is b t sound props ∙ ap (with_pins (held b t sound)) draft.shape)
 
   kids : AreKids n n (kids_from (suc n) (kinds_in (slots_of t)))
   kids = star-kids n n draft.slots (kids_from (suc n) (kinds_in (slots_of t))) draft.star_is
 
   module _ (m : ℕ) (low : m ≤ b.born) where
-    found-same : record_of (pinned_draft b t) m ≡ record_of b m
+    found-same : record_of (given_draft b t props) m ≡ record_of b m
     found-same =
         let other : (n == m) ≡ false = grind (arith, nat_tests, low) in
         let none : find (λ (r : Record). r.birth == m) news ≡ None =
         rw other (kids-later n m n (kids_from (suc n) (kinds_in (slots_of t))) (omega (arith, low)) kids) in
         ap (λ (rs : List Record). find (λ (r : Record). r.birth == m) rs) draft-records ∙ find-old (λ (r : Record). r.birth == m) b.records news none
 
-    place-same : place_of (pinned_draft b t) m ≡ place_of b m
+    place-same : place_of (given_draft b t props) m ≡ place_of b m
     place-same =
         let own : is_some (place_in m device) ≡ false =
         unplaced m device (star-none n m n draft.slots (kids_from (suc n) (kinds_in (slots_of t))) (omega (arith, low)) draft.star_is) in
@@ -131,19 +125,19 @@ module _ (b : Board) (t : TypeId) (sound : SoundTree b) where
       go : (o : Option Record) → find (λ (r : Record). is_some (place_in m r)) b.records ≡ o → p.0 ≤ b.born
       go None q = absurd (let clash : None ≡ Some p = sym (ap (option_and_then (place_in m)) q) ∙ e in cc)
       go (Some r) q =
-          let lower : r.birth ≤ b.born = find-low (λ (x : Record). is_some (place_in m x)) b.born b.records r at_rest.used.firm.within q in
+          let lower : r.birth ≤ b.born = find-low (λ (x : Record). is_some (place_in m x)) b.born b.records r (rest b t sound).used.firm.within q in
           let is : p.0 ≡ r.birth = at_slot r (find (λ (s : List ℕ × Slot). is_child m s.1) r.slots) (sym (ap (option_and_then (place_in m)) q) ∙ e) in
           omega (arith, lower, is)
 
   abbrev if_device : Board → ℕ → Option ℕ
   if_device c p = if is_of c (codes "device") p then Some p else None
 
-  of-same : (p : ℕ) → p ≤ b.born → if_device (pinned_draft b t) p ≡ if_device b p
+  of-same : (p : ℕ) → p ≤ b.born → if_device (given_draft b t props) p ≡ if_device b p
   of-same p low =
       ap (λ (o : Option Record). if option_map_or (λ (k : TypeId). is_a k (codes "device")) (option_map (λ (r : Record). r.kind) o) false then Some p else None)
       (found-same p low)
 
-  clock-same : (p : ℕ) → p ≤ b.born → clock_of (pinned_draft b t) p ≡ clock_of b p
+  clock-same : (p : ℕ) → p ≤ b.born → clock_of (given_draft b t props) p ≡ clock_of b p
   clock-same p low =
       ap (λ (o : Option Record). option_and_then child_named
       (option_map (λ (s : List ℕ × Slot). s.1) (find (λ (s : List ℕ × Slot). bytes_eq s.0 (codes "clk")) (option_map_or (λ (r : Record). r.slots) o []))))
@@ -152,22 +146,22 @@ module _ (b : Board) (t : TypeId) (sound : SoundTree b) where
   abbrev source_by : Board → Option ℕ → ℕ
   source_by c parent = unwrap_or (option_and_then (clock_of c) (option_and_then (if_device c) parent)) SYSTEM_CLOCK_BIRTH
 
-  by-same : (p : ℕ) → p ≤ b.born → source_by (pinned_draft b t) (Some p) ≡ source_by b (Some p)
+  by-same : (p : ℕ) → p ≤ b.born → source_by (given_draft b t props) (Some p) ≡ source_by b (Some p)
   by-same p low =
-      ap (λ (o : Option ℕ). unwrap_or (option_and_then (clock_of (pinned_draft b t)) o) SYSTEM_CLOCK_BIRTH) (of-same p low) ∙ go (is_of b (codes "device") p)
+      ap (λ (o : Option ℕ). unwrap_or (option_and_then (clock_of (given_draft b t props)) o) SYSTEM_CLOCK_BIRTH) (of-same p low) ∙ go (is_of b (codes "device") p)
     where
-      go : (u : Bool) → unwrap_or (option_and_then (clock_of (pinned_draft b t)) (if u then Some p else None)) SYSTEM_CLOCK_BIRTH
+      go : (u : Bool) → unwrap_or (option_and_then (clock_of (given_draft b t props)) (if u then Some p else None)) SYSTEM_CLOCK_BIRTH
           ≡ unwrap_or (option_and_then (clock_of b) (if u then Some p else None)) SYSTEM_CLOCK_BIRTH
       go true = ap (λ (o : Option ℕ). unwrap_or o SYSTEM_CLOCK_BIRTH) (clock-same p low)
       go false = refl
 
   -- the clock that a device on a bus goes by
-  pub source-same : (bus : ℕ) → bus ≤ b.born → source_for b bus ≡ source_for (pinned_draft b t) bus
+  pub source-same : (bus : ℕ) → bus ≤ b.born → source_for b bus ≡ source_for (given_draft b t props) bus
   source-same bus low =
-      sym (ap (λ (o : Option (ℕ × List ℕ)). source_by (pinned_draft b t) (option_map (λ (p : ℕ × List ℕ). p.0) o)) (place-same bus low)
+      sym (ap (λ (o : Option (ℕ × List ℕ)). source_by (given_draft b t props) (option_map (λ (p : ℕ × List ℕ). p.0) o)) (place-same bus low)
       ∙ go (place_of b bus) refl)
     where
       go : (o : Option (ℕ × List ℕ)) → place_of b bus ≡ o
-          → source_by (pinned_draft b t) (option_map (λ (p : ℕ × List ℕ). p.0) o) ≡ source_by b (option_map (λ (p : ℕ × List ℕ). p.0) o)
+          → source_by (given_draft b t props) (option_map (λ (p : ℕ × List ℕ). p.0) o) ≡ source_by b (option_map (λ (p : ℕ × List ℕ). p.0) o)
       go None e = refl
       go (Some p) e = by-same p.0 (place-low bus p e)

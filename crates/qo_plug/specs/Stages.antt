@@ -30,7 +30,7 @@ use Rattle.qo_standing.specs.declared.spots.Spot.{Spot}
 use Rattle.qo_plug.specs.Admission.{IsAdmitted, barred_in}
 use Rattle.qo_plug.specs.Answers.{IsOpen}
 use Rattle.qo_plug.specs.Spots.{IsChosen, claims_given}
-use Rattle.qo_plug.specs.Drafts.{IsQuiet, bare, pinned_draft, own_slots_of}
+use Rattle.qo_plug.specs.Drafts.{IsQuiet, bare, given_draft, pinned_draft, own_slots_of}
 use Rattle.qo_plug.specs.DevicePlans.{HasGiven}
 use Rattle.qo_standing.specs.Placement.{Stood, spot_in}
 use Rattle.qo_standing.specs.DeviceClaims.{kept_by}
@@ -71,7 +71,7 @@ pub record IsHeld (d : Begun) (v : Objects) : Type 0 where
 
 -- the stages 1 to 4 are done on a board: nothing of them bars the device, and it is made; what is judged of its place is known
 pub record IsBegun (b : Board) (a : Wanted) (d : Begun) (v : Objects) : Type 0 where
-  pub shown : Shows (pinned_draft b d.site.kind) v
+  pub shown : Shows (given_draft b d.site.kind a.props) v
   pub sound : SoundTree b
   pub admitted : IsAdmitted b a d.site
   pub given : refusal_of b d.site.kind a.props ≡ None
@@ -103,7 +103,7 @@ StandsBy b a s n slot (Stands path) v =
     (c : Spot) × (c.slot ≡ slot) × IsOpen b a s c × Stood b (pinned_draft b s.kind) n a (spot_in s.bus.birth c) path v
     × (kept_by v n ≡ Some (claims_given b s.kind s.bus.birth a.props))
 StandsBy b a s n slot (Full out) v =
-    IsAdmitted b a s × (barred_late b s.kind s.bus.birth a.props ≡ Some (8, E44)) × (out ≡ (count b s.bus.birth == 0)) × Shows (pinned_draft b s.kind) v
+    IsAdmitted b a s × (barred_late b s.kind s.bus.birth a.props ≡ Some (8, E44)) × (out ≡ (count b s.bus.birth == 0)) × Shows (given_draft b s.kind a.props) v
 
 pub record IsSettled (b : Board) (a : Wanted) (p : Placed) (v : Objects) : Type 0 where
   pub sound : SoundTree b

@@ -1,11 +1,12 @@
 //! An attempt at a device that the notices refuse: it is realized and reset with its buses, though it
 //! stands nowhere, and given up with nothing left but its births and notes.
 
-ghost use Rattle.std.specs.Prelude.{◌≡◌, ◌+◌, ◌≤◌, ◌<◌, ◌==◌, ℕ, slice_get, IfSome};
+ghost use Rattle.std.specs.Prelude.{◌≡◌, ◌+◌, ◌≤◌, ◌<◌, ◌==◌, ℕ, List, slice_get, IfSome};
 ghost use Rattle.std.specs.Option.{option_and_then};
 ghost use Rattle.qo_values.specs.declared.kinds.Act.TheVariants.{Exit};
 ghost use Rattle.qo_values.specs.declared.kinds.TypeId.{TypeId};
 ghost use Rattle.qo_model.specs.Board.{Board};
+ghost use Rattle.qo_model.specs.Objects.{Given};
 ghost use Rattle.qo_model.specs.Plug.{plug_attempt};
 ghost use Rattle.qo_model.specs.Reset.{count};
 ghost use Rattle.qo_sound.specs.TreeKept.{SoundTree};
@@ -16,7 +17,7 @@ ghost use Rattle.qo_heap.specs.Objects.{pins_of};
 ghost use Rattle.qo_properties.specs.Claims.{KeepsBook};
 ghost use Rattle.qo_reset.specs.Phases.{walked};
 ghost use Rattle.qo_plug.specs.Attempts.{first_acted, last_acted, let_out, new_bus, new_buses, passed_on};
-ghost use Rattle.qo_plug.specs.Drafts.{IsQuiet, pinned_draft};
+ghost use Rattle.qo_plug.specs.Drafts.{IsQuiet, given_draft};
 
 use qo_heap::{Heap, Oid, Steps};
 use qo_life::drop_pin;
@@ -110,7 +111,7 @@ pub(crate) fn refuse<L: Ledger>(heap: &mut Heap, device: Oid, out: bool, steps: 
     requires live { IsLive heap.old.rows device }
     requires pinned { 0 < pins_of heap.old device.birth }
     requires quiet { (n : ℕ) → device.birth ≤ n → IsQuiet heap.old n }
-    ensures shown { (b : Board) (t : TypeId) (bus : ℕ) → SoundTree b → device.birth ≡ b.born + 1 → out ≡ (count b bus == 0) → Shows (pinned_draft b t) heap.old → Shows (plug_attempt b t bus 8) heap.new }
+    ensures shown { (b : Board) (t : TypeId) (props : List Given) (bus : ℕ) → SoundTree b → device.birth ≡ b.born + 1 → out ≡ (count b bus == 0) → Shows (given_draft b t props) heap.old → Shows (plug_attempt b t bus 8) heap.new }
     ensures book { KeepsBook heap.old heap.new }
 {
     pass(heap, device, out, steps);

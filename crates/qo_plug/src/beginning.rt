@@ -39,7 +39,7 @@ pub struct Begun {
     pub site: Site,
     /// The device.
     pub device: Oid,
-    /// What its own slots are to be filled with.
+    /// What is left of its plan: it has its values, and its links are to name these.
     pub plan: Vec<Fill>,
     /// Its spot on its bus, or why it has none there.
     pub spot: Result<Spot, Barred>,
@@ -81,13 +81,13 @@ pub(crate) fn make<L: Ledger>(
     requires spot { IsJudged planned rings.now spot heap.old }
     ensures begun { (b : Board) (a : Wanted) → Shows b heap.old → SoundTree b → b.holds ≡ resets.now.births → b.rings ≡ rings.now → IsPlanned b a planned → IfOk result (λ d. IsBegun b a d heap.new) }
     ensures held { IfOk result (λ d. IsHeld d heap.new) }
-    ensures err { OnErr result ((b : Board) → Shows b heap.old → SoundTree b → CutShort b planned.site.kind heap.new) }
+    ensures err { OnErr result ((b : Board) (a : Wanted) → Shows b heap.old → SoundTree b → IsPlanned b a planned → CutShort b planned.site.kind heap.new) }
     ensures book { KeepsBook heap.old heap.new }
 {
     heap.facts();
-    let Planned { site, plan } = planned;
+    let Planned { site, mut plan } = planned;
     let out = resets.count(heap, site.bus, steps) == 0;
-    let device = make_device(heap, site.kind, alloc, steps)?;
+    let device = make_device(heap, site.kind, plan.as_mut_slice(), alloc, steps)?;
     Ok(Begun {
         site,
         device,

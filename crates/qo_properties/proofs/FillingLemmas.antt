@@ -1,5 +1,5 @@
 -- The slots of a new object, filled with what was given.
-use Rattle.std.proofs.Common.{◌≡◌, refl, ap, sym, ℕ, zero, suc, Bool, true, false, eqb, List, [], ◌∷◌, map, IfSome}
+use Rattle.std.proofs.Common.{◌≡◌, refl, ap, sym, ℕ, zero, suc, ◌<◌, ◌≤◌, Bool, true, false, eqb, List, [], ◌∷◌, map, length, get_or, set, IfSome, arith}
 use Rattle.std.specs.List.{AllByRecursion, AllZip}
 use Rattle.qo_slots.specs.declared.keys.Key.{Key}
 use Rattle.qo_table.specs.Rows.{edit}
@@ -11,7 +11,7 @@ use Rattle.qo_object.specs.Slots.{Named, changed_at}
 use Rattle.qo_heap.specs.Objects.{Objects, with_edit}
 use Rattle.qo_properties.specs.declared.adding.filling.Fill.{Fill}
 use Rattle.qo_properties.specs.declared.adding.filling.Fill.TheVariants as fill
-use Rattle.qo_properties.specs.Filling.{IsGiven, filled, filled_at, filled_with, target_in}
+use Rattle.qo_properties.specs.Filling.{IsGiven, filled, filled_at, filled_with, spent, spent_at, target_in, value_alone, value_at}
 use Rattle.qo_properties.proofs.WriteLemmas.{some-live}
 
 -- edits of one object
@@ -62,3 +62,25 @@ pub all-live : (P Q : Key → Type 0) → ((key : Key) → P key → Q key) → 
     → AllByRecursion (λ (f : Fill). IfSome (target_in f) Q) fs
 all-live P Q more [] all = tt
 all-live P Q more (f ∷ fs) all = (some-live P Q more (target_in f) all.0, all-live P Q more fs all.1)
+
+-- a plan at a place
+
+pub value-past : (i : ℕ) (fs : List Fill) → length fs ≤ i → fill.Nothing ≡ value_at i fs
+value-past i [] over = refl
+value-past zero (f ∷ fs) over = absurd (omega arith)
+value-past (suc i) (f ∷ fs) over = value-past i fs (omega arith)
+
+pub spent-past : (i : ℕ) (fs : List Fill) → length fs ≤ i → fs ≡ spent_at i fs
+spent-past i [] over = refl
+spent-past zero (f ∷ fs) over = absurd (omega arith)
+spent-past (suc i) (f ∷ fs) over = ap (λ (l : List Fill). f ∷ l) (spent-past i fs (omega arith))
+
+pub value-here : (i : ℕ) (fs : List Fill) (d : Fill) → i < length fs → value_alone (get_or fs i d) ≡ value_at i fs
+value-here i [] d below = absurd (omega arith)
+value-here zero (f ∷ fs) d below = refl
+value-here (suc i) (f ∷ fs) d below = value-here i fs d (omega arith)
+
+pub spent-here : (i : ℕ) (fs : List Fill) (d : Fill) → i < length fs → set fs i (spent (get_or fs i d)) ≡ spent_at i fs
+spent-here i [] d below = absurd (omega arith)
+spent-here zero (f ∷ fs) d below = refl
+spent-here (suc i) (f ∷ fs) d below = ap (λ (l : List Fill). f ∷ l) (spent-here i fs d (omega arith))

@@ -1,5 +1,5 @@
 -- What the slots of a new object are filled with.
-use Rattle.std.specs.Prelude.{◌≡◌, ℕ, Bool, true, List, [], ◌∷◌, Option, Some, None}
+use Rattle.std.specs.Prelude.{◌≡◌, ℕ, zero, suc, Bool, true, List, [], ◌∷◌, Option, Some, None}
 use Rattle.qo_values.specs.declared.properties.Val.{Val}
 use Rattle.qo_slots.specs.declared.keys.Key.{Key}
 use Rattle.qo_model.specs.Board.{Board}
@@ -50,3 +50,23 @@ HasValue b v f s = shown_slot (filled_with f s) ≡ given_to b (shown_slot s) v
 
 abbrev pub IsGiven : Board → List Given → Fill → Named → Type 0
 IsGiven b props f s = shown_slot (filled_with f s.1) ≡ (slot_given b props (s.0, shown_slot s.1)).1
+
+-- the value that a slot is filled with, if it is filled with one; and what is left of the plan of a slot that has its value
+abbrev pub value_alone : Fill → Fill
+value_alone (fill.Value v) = fill.Value v
+value_alone f = fill.Nothing
+
+abbrev pub spent : Fill → Fill
+spent (fill.Value v) = fill.Nothing
+spent f = f
+
+-- of a plan, at a place
+abbrev pub value_at : ℕ → List Fill → Fill
+value_at i [] = fill.Nothing
+value_at zero (f ∷ fs) = value_alone f
+value_at (suc i) (f ∷ fs) = value_at i fs
+
+abbrev pub spent_at : ℕ → List Fill → List Fill
+spent_at i [] = []
+spent_at zero (f ∷ fs) = spent f ∷ fs
+spent_at (suc i) (f ∷ fs) = f ∷ spent_at i fs

@@ -1,5 +1,5 @@
 -- What is planned for the property of a name.
-use Rattle.std.specs.Prelude.{ℕ, List, Option, Some, None, option_and_then, ⊤}
+use Rattle.std.specs.Prelude.{◌≡◌, ℕ, List, Option, Some, None, option_and_then}
 use Rattle.std.specs.List.{AllZip}
 use Rattle.qo_values.specs.declared.kinds.TypeId.{TypeId}
 use Rattle.qo_model.specs.Board.{Board}
@@ -18,8 +18,8 @@ IsPlan b t props plan = AllZip (IsGiven b props) plan (new_slots t)
 abbrev pub own_slot_for : TypeId → List ℕ → Option Named
 own_slot_for t name = option_and_then (slot_begun t) (property_named t name)
 
--- what is planned for a slot, if there is one, is what the properties given say
+-- what is planned for a slot is what the properties given say; where there is no slot, nothing is planned
 abbrev pub TellsGiven : Board → List Given → Option Fill → Option Named → Type 0
-TellsGiven b props fill None = ⊤
+TellsGiven b props fill None = fill ≡ None
 TellsGiven b props None (Some s) = ⊥
 TellsGiven b props (Some f) (Some s) = IsGiven b props f s

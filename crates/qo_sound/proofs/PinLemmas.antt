@@ -188,7 +188,3 @@ created t b = refl
 pub let-go_up : (c : Board) (n : ℕ) (q : List ℕ) → IsUp c.pins → q ≡ put_in_order n c.pins → (refs c n == 0) ≡ false → unpin (with_pins q c) n ≡ c
 unfolding pin
 let-go_up c n q up is held = ap (λ (ps : List ℕ). unpin (with_pins ps c) n) is ∙ unpin-kept c n up held
-
-pub let-free_up : (c : Board) (n : ℕ) (q : List ℕ) → IsUp c.pins → q ≡ put_in_order n c.pins → (refs c n == 0) ≡ true → unpin (with_pins q c) n ≡ finalize c n
-unfolding pin
-let-free_up c n q up is free = ap (λ (ps : List ℕ). unpin (with_pins ps c) n) is ∙ unpin-free c n up free

@@ -1,5 +1,5 @@
 -- The steps by which a device is added, while it is held from outside, come to the board with it.
-use Rattle.std.proofs.Common.{leb, ◌≡◌, refl, ap, sym, subst, ◌∙◌, ℕ, zero, suc, ◌+◌, ◌<◌, ◌≤◌, true, false, ◌==◌, List, [], ◌∷◌, ◌++◌, length, Option, Some, None, is_some, option_map, arith}
+use Rattle.std.proofs.Common.{◌≡◌, refl, ap, sym, subst, ◌∙◌, ℕ, zero, suc, ◌+◌, ◌<◌, ◌≤◌, true, false, ◌==◌, List, [], ◌∷◌, ◌++◌, length, map, Option, Some, None, is_some, option_map, arith}
 use Rattle.std.specs.List.{AllByRecursion}
 use Rattle.std.specs.Option.{option_map_or}
 use Rattle.qo_values.specs.Kinds.{type_name}
@@ -10,22 +10,21 @@ use Rattle.qo_model.specs.FinalNotes.{ending}
 use Rattle.qo_model.specs.Objects.{init_notes}
 use Rattle.qo_model.specs.Plug.{Spot, Wanted, clocked, counted, cut_attempt, drafted, passed, plug_attempt, properties_made, source_for, started, stood, with_new, with_plugged}
 use Rattle.qo_model.specs.References.{refs}
-use Rattle.qo_model.specs.Release.{finalize, put_in_order, unpin}
+use Rattle.qo_model.specs.Release.{edit, finalize, put_in_order, unpin}
 use Rattle.qo_model.specs.Types.{is_a, slots_of}
 use Rattle.qo_model.specs.declared.properties.Property.{Property}
 use Rattle.qo_model.specs.declared.properties.PropertyRole.TheVariants as row
 use Rattle.qo_model.proofs.AttemptLemmas.{IsStar, LowRecord, LowSlot}
-use Rattle.qo_model.proofs.DraftEndsLemmas.{IsDraft, draft-begun, draft-free, draft-low, draft-rows, drafted-cut, drafted-ends, kid-ends, kid-free, kinds_in, unjoined-cut, unjoined-ends}
+use Rattle.qo_model.proofs.DraftEndsLemmas.{IsDraft, draft-begun, draft-edited, draft-free, draft-rows, drafted-cut, drafted-ends, kinds_in, unjoined-cut, unjoined-ends}
 use Rattle.qo_model.proofs.GraphLemmas.{births_at}
 use Rattle.qo_model.proofs.StepLemmas.{is_some-map}
 use Rattle.qo_model.proofs.LateAttemptLemmas.{attempt-free, attempt-passed}
-use Rattle.qo_model.proofs.PinLemmas.{IsUp}
 use Rattle.qo_sound.proofs.FirmBoardLemmas.{AllLinked, Firm, FitsKind, Linked}
 use Rattle.qo_sound.proofs.WorkLemmas.{Nearly}
 use Rattle.qo_sound.proofs.ViewLemmas.{AtRest}
-use Rattle.qo_sound.proofs.DraftLemmas.{Drafts, drafted-drafts, found-low, pinned_once, rows-blind, rows-pins, with_pins}
+use Rattle.qo_sound.proofs.DraftLemmas.{Drafts, drafted-drafts, found-low, pinned_once, with_pins}
 use Rattle.qo_sound.proofs.KindsLemmas.{plug-kinds}
-use Rattle.qo_sound.proofs.PinLemmas.{let-free, let-free_up, let-go, passed-blind, passed-pins, steps-blind}
+use Rattle.qo_sound.proofs.PinLemmas.{let-free, let-go, passed-blind, passed-pins, steps-blind}
 use Rattle.qo_sound.proofs.PlugLemmas.{IsPlace, plugged-rest, shut-above}
 
 -- an object that is there has references
@@ -102,100 +101,52 @@ pub draft-of : (b : Board) (t : TypeId) (ps : List Property) → AtRest b
 draft-of b t ps h = draft-rows b (b.born + 1) t (low-records b h.used.firm b.records h.used.firm.within h.used.firm.linked) ps []
     (with_new (fresh (b.born + 1) t) b) (draft-begun b t)
 
--- the steps of an attempt: the first properties of a device were made, and it is let go
-given-up : (b : Board) (t : TypeId) (ps : List Property) (q : List ℕ) → q ≡ put_in_order (b.born + 1) (1 ∷ []) → AtRest b
-    → unpin (properties_made (b.born + 1) t ps (with_pins q (with_new (fresh (b.born + 1) t) b))) (b.born + 1)
-    ≡ finalize (properties_made (b.born + 1) t ps (with_new (fresh (b.born + 1) t) b)) (b.born + 1)
-given-up b t ps q is h =
+-- a draft with each slot changed, so that stars stay stars
+pub draft-changed : (b : Board) (t : TypeId) (ks : List TypeId) (c : Board) (g : List ℕ × Slot → List ℕ × Slot) → AtRest b
+    → ((lo : ℕ) (ss : List (List ℕ × Slot)) (ls : List Record) → IsStar (b.born + 1) lo ss ls → IsStar (b.born + 1) lo (map g ss) ls)
+    → IsDraft b (b.born + 1) t ks c → IsDraft b (b.born + 1) t ks (edit (b.born + 1) (λ (r : Record). record r { slots = map g r.slots }) c)
+draft-changed b t ks c g h =
+    draft-edited b (b.born + 1) t (low-records b h.used.firm b.records h.used.firm.within h.used.firm.linked) g ks c
+
+-- the steps of an attempt: a draft that is held is let go
+given-up : (b : Board) (t : TypeId) (ks : List TypeId) (c : Board) (q : List ℕ) → q ≡ put_in_order (b.born + 1) (1 ∷ []) → AtRest b
+    → IsDraft b (b.born + 1) t ks c → unpin (with_pins q c) (b.born + 1) ≡ finalize c (b.born + 1)
+given-up b t ks c q is h draft =
     let low : AllByRecursion (LowRecord (b.born + 1)) b.records = low-records b h.used.firm b.records h.used.firm.within h.used.firm.linked in
-    let none : refs (properties_made (b.born + 1) t ps (with_new (fresh (b.born + 1) t) b)) (b.born + 1) ≡ 0 =
-    draft-free b t (kinds_in ps) (properties_made (b.born + 1) t ps (with_new (fresh (b.born + 1) t) b)) low (low-pins b h) (draft-of b t ps h) in
-    ap (λ (x : Board). unpin x (b.born + 1)) (rows-blind q (b.born + 1) t ps (with_new (fresh (b.born + 1) t) b))
-    ∙ let-free (properties_made (b.born + 1) t ps (with_new (fresh (b.born + 1) t) b)) (b.born + 1) q
-    (rows-pins (b.born + 1) t ps (with_new (fresh (b.born + 1) t) b) ∙ h.pinned) is (ap (λ (k : ℕ). k == 0) none)
+    let-free c (b.born + 1) q (ap (λ (x : Board). x.pins) draft.shape ∙ h.pinned) is
+    (ap (λ (k : ℕ). k == 0) (draft-free b t ks c low (low-pins b h) draft))
 
--- all of them, where the attempt is refused before it is realized
-pub attempt-steps : (b : Board) (t : TypeId) (m stage : ℕ) (q : List ℕ) → q ≡ put_in_order (b.born + 1) (1 ∷ []) → (stage == 8) ≡ false → AtRest b
-    → unpin (properties_made (b.born + 1) t (slots_of t) (with_pins q (with_new (fresh (b.born + 1) t) b))) (b.born + 1) ≡ plug_attempt b t m stage
-attempt-steps b t m stage q is early h = given-up b t (slots_of t) q is h
-    ∙ drafted-ends b t m stage (low-records b h.used.firm b.records h.used.firm.within h.used.firm.linked) (low-pins b h) early
+-- with all its properties, where the attempt is refused before it is realized
+pub attempt-steps : (b : Board) (t : TypeId) (m stage : ℕ) (c : Board) (q : List ℕ) → q ≡ put_in_order (b.born + 1) (1 ∷ []) → (stage == 8) ≡ false → AtRest b
+    → IsDraft b (b.born + 1) t (kinds_in (slots_of t)) c → unpin (with_pins q c) (b.born + 1) ≡ plug_attempt b t m stage
+attempt-steps b t m stage c q is early h draft = given-up b t (kinds_in (slots_of t)) c q is h draft
+    ∙ drafted-ends b t m stage c (low-records b h.used.firm b.records h.used.firm.within h.used.firm.linked) (low-pins b h) early draft
 
--- a first part, where it is cut for want of memory
-pub cut-steps : (b : Board) (t : TypeId) (ps qs : List Property) (q : List ℕ) → q ≡ put_in_order (b.born + 1) (1 ∷ []) → slots_of t ≡ ps ++ qs → AtRest b
-    → unpin (properties_made (b.born + 1) t ps (with_pins q (with_new (fresh (b.born + 1) t) b))) (b.born + 1)
-    ≡ cut_attempt b t (suc (length (kinds_in ps))) true
-cut-steps b t ps qs q is split h = given-up b t ps q is h
-    ∙ drafted-cut b t ps qs split (low-records b h.used.firm b.records h.used.firm.within h.used.firm.linked) (low-pins b h)
+-- with a first part of them, where it is cut for want of memory
+pub cut-steps : (b : Board) (t : TypeId) (ps qs : List Property) (c : Board) (q : List ℕ) → q ≡ put_in_order (b.born + 1) (1 ∷ []) → slots_of t ≡ ps ++ qs
+    → AtRest b → IsDraft b (b.born + 1) t (kinds_in ps) c → unpin (with_pins q c) (b.born + 1) ≡ cut_attempt b t (suc (length (kinds_in ps))) true
+cut-steps b t ps qs c q is split h draft = given-up b t (kinds_in ps) c q is h draft
+    ∙ drafted-cut b t ps qs c split (low-records b h.used.firm b.records h.used.firm.within h.used.firm.linked) (low-pins b h) draft
 
--- all of them, where it is refused because the notices are full: it acts where it stands nowhere, and is let go
-pub passed-steps : (b : Board) (t : TypeId) (m : ℕ) (q : List ℕ) → q ≡ put_in_order (b.born + 1) (1 ∷ [])
-    → AtRest b → unpin (passed b m (b.born + 1) t (properties_made (b.born + 1) t (slots_of t) (with_pins q (with_new (fresh (b.born + 1) t) b)))) (b.born + 1)
-    ≡ plug_attempt b t m 8
-passed-steps b t m q is h =
+-- with all, where it is refused because the notices are full: it acts where it stands nowhere, and is let go
+pub passed-steps : (b : Board) (t : TypeId) (m : ℕ) (c : Board) (q : List ℕ) → q ≡ put_in_order (b.born + 1) (1 ∷ []) → AtRest b
+    → IsDraft b (b.born + 1) t (kinds_in (slots_of t)) c → unpin (passed b m (b.born + 1) t (with_pins q c)) (b.born + 1) ≡ plug_attempt b t m 8
+passed-steps b t m c q is h draft =
     let low : AllByRecursion (LowRecord (b.born + 1)) b.records = low-records b h.used.firm b.records h.used.firm.within h.used.firm.linked in
-    ap (λ (x : Board). unpin (passed b m (b.born + 1) t x) (b.born + 1)) (rows-blind q (b.born + 1) t (slots_of t) (with_new (fresh (b.born + 1) t) b))
-    ∙ ap (λ (x : Board). unpin x (b.born + 1)) (passed-blind q b m (b.born + 1) t (drafted b t))
-    ∙ let-free (passed b m (b.born + 1) t (drafted b t)) (b.born + 1) q (passed-pins q b m (b.born + 1) t (drafted b t) ∙ rows-pins (b.born + 1) t (slots_of t)
-    (with_new (fresh (b.born + 1) t) b) ∙ h.pinned) is (ap (λ (k : ℕ). k == 0) (attempt-free b t m low (low-pins b h)))
-    ∙ attempt-passed b t m low (low-pins b h)
-
-pins-two : (n : ℕ) → 1 ≤ n → put_in_order n (1 ∷ []) ≡ 1 ∷ n ∷ []
-pins-two n low = let order : leb 1 n ≡ true = grind (arith, low) in rw (put_in_order, order) refl
+    ap (λ (x : Board). unpin x (b.born + 1)) (passed-blind q b m (b.born + 1) t c)
+    ∙ let-free (passed b m (b.born + 1) t c) (b.born + 1) q
+    (passed-pins q b m (b.born + 1) t c ∙ ap (λ (x : Board). x.pins) draft.shape ∙ h.pinned) is
+    (ap (λ (k : ℕ). k == 0) (attempt-free b t m c low (low-pins b h) draft))
+    ∙ attempt-passed b t m c low (low-pins b h) draft
 
 -- and where it is cut after a further object that was made, was not joined, and has ended
 pub unjoined-ended : (b : Board) (t : TypeId) (ps : List Property) (p : Property) (k : TypeId) (qs : List Property) (c : Board) (q : List ℕ)
-    → slots_of t ≡ ps ++ p ∷ qs → p.role ≡ row.Child k → q ≡ put_in_order (b.born + 1) (1 ∷ [])
-    → c ≡ properties_made (b.born + 1) t ps (with_new (fresh (b.born + 1) t) b) → AtRest b
+    → slots_of t ≡ ps ++ p ∷ qs → p.role ≡ row.Child k → q ≡ put_in_order (b.born + 1) (1 ∷ []) → AtRest b → IsDraft b (b.born + 1) t (kinds_in ps) c
     → unpin (with_pins q (record c { born = c.born + 1; notes = c.notes ++ init_notes (c.born + 1) k ++ ending (c.born + 1) k })) (b.born + 1)
     ≡ cut_attempt b t (suc (suc (length (kinds_in ps)))) false
-unjoined-ended b t ps p k qs c q split is_kid is made h =
-    let-free (record c { born = c.born + 1; notes = c.notes ++ init_notes (c.born + 1) k ++ ending (c.born + 1) k }) (b.born + 1) q pins is
-    (ap (λ (x : ℕ). x == 0) (draft-free b t (kinds_in ps) c low (low-pins b h) draft))
+unjoined-ended b t ps p k qs c q split is_kid is h draft =
+    let low : AllByRecursion (LowRecord (b.born + 1)) b.records = low-records b h.used.firm b.records h.used.firm.within h.used.firm.linked in
+    let-free (record c { born = c.born + 1; notes = c.notes ++ init_notes (c.born + 1) k ++ ending (c.born + 1) k }) (b.born + 1) q
+    (ap (λ (x : Board). x.pins) draft.shape ∙ h.pinned) is (ap (λ (x : ℕ). x == 0) (draft-free b t (kinds_in ps) c low (low-pins b h) draft))
     ∙ unjoined-ends b t (kinds_in ps) k c low (low-pins b h) draft
     ∙ unjoined-cut b t ps p k qs split is_kid
-  where
-    low : AllByRecursion (LowRecord (b.born + 1)) b.records
-    low = low-records b h.used.firm b.records h.used.firm.within h.used.firm.linked
-
-    draft : IsDraft b (b.born + 1) t (kinds_in ps) c
-    draft = subst (IsDraft b (b.born + 1) t (kinds_in ps)) (sym made) (draft-of b t ps h)
-
-    pins : c.pins ≡ 1 ∷ []
-    pins = ap (λ (x : Board). x.pins) draft.shape ∙ h.pinned
-
--- where that one, with some slots, is let go first
-pub unjoined-steps : (b : Board) (t : TypeId) (ps : List Property) (p : Property) (k : TypeId) (qs : List Property) (ss : List (List ℕ × Slot)) (c : Board)
-    (q : List ℕ) → slots_of t ≡ ps ++ p ∷ qs → p.role ≡ row.Child k → q ≡ put_in_order (b.born + 1) (1 ∷ [])
-    → c ≡ properties_made (b.born + 1) t ps (with_new (fresh (b.born + 1) t) b) → IsStar (c.born + 1) (c.born + 1) ss [] → AtRest b
-    → unpin (unpin (with_pins (put_in_order (c.born + 1) q) (with_new (record (fresh (c.born + 1) k) { slots = ss }) (with_pins q c))) (c.born + 1))
-    (b.born + 1) ≡ cut_attempt b t (suc (suc (length (kinds_in ps)))) false
-unjoined-steps b t ps p k qs ss c q split is_kid is made star_is h =
-    ap (λ (x : Board). unpin x (b.born + 1)) first ∙ unjoined-ended b t ps p k qs c q split is_kid is made h
-  where
-    begun : 8 ≤ b.born
-    begun = h.used.firm.begun
-
-    low : AllByRecursion (LowRecord (b.born + 1)) b.records
-    low = low-records b h.used.firm b.records h.used.firm.within h.used.firm.linked
-
-    draft : IsDraft b (b.born + 1) t (kinds_in ps) c
-    draft = subst (IsDraft b (b.born + 1) t (kinds_in ps)) (sym made) (draft-of b t ps h)
-
-    born : c.born ≡ b.born + 1 + length (kinds_in ps)
-    born = ap (λ (x : Board). x.born) draft.shape
-
-    two : q ≡ 1 ∷ (b.born + 1) ∷ []
-    two = is ∙ pins-two (b.born + 1) (omega arith)
-
-    held : AllByRecursion (λ x. x < c.born + 1) q
-    held = subst (AllByRecursion (λ x. x < c.born + 1)) (sym two) (omega (arith, begun, born), (omega (arith, born), tt))
-
-    up : IsUp q
-    up = subst IsUp (sym two) ((omega arith, tt), (tt, tt))
-
-    first : unpin (with_pins (put_in_order (c.born + 1) q) (with_new (record (fresh (c.born + 1) k) { slots = ss }) (with_pins q c))) (c.born + 1)
-        ≡ with_pins q (record c { born = c.born + 1; notes = c.notes ++ init_notes (c.born + 1) k ++ ending (c.born + 1) k })
-    first =
-        let-free_up (with_new (record (fresh (c.born + 1) k) { slots = ss }) (with_pins q c)) (c.born + 1) (put_in_order (c.born + 1) q) up refl
-        (ap (λ (x : ℕ). x == 0) (kid-free k ss (with_pins q c) (draft-low b t (kinds_in ps) c low draft) held star_is))
-        ∙ kid-ends k ss (with_pins q c) (draft-low b t (kinds_in ps) c low draft) held star_is

@@ -4,7 +4,7 @@ ghost use Rattle.std.specs.Prelude.{◌≡◌, ◌<◌};
 use qo_heap::{Heap, Steps};
 use qo_hotplug::Hotplug;
 use qo_plug::{AddRefusal, Added, add, give_up, make_device};
-use qo_properties::make_all;
+use qo_properties::{make_all, plan};
 use qo_reset::Resets;
 use qo_rings::Rings;
 use qo_values::{BUS_SLOTS, Code, NOTICES_MAX, PropList, ROOT_BUS_BIRTH, Text, TypeId, Val};
@@ -23,7 +23,12 @@ fn drafted<L: Ledger>(alloc: Global, blank: Blank) -> Result<bool, AllocError>
     let mut steps = Steps::<L>::from_blank(blank);
     let mut heap = Heap::new(alloc)?;
     make_all(&mut heap, alloc, &mut steps)?;
-    let device = make_device(&mut heap, TypeId::SlotBridge, alloc, &mut steps)?;
+    let kind = TypeId::SlotBridge;
+    let props = PropList::new(alloc);
+    let Ok(mut plan) = plan(&heap, kind, &props, alloc, &mut steps) else {
+        return Ok(false);
+    };
+    let device = make_device(&mut heap, kind, plan.as_mut_slice(), alloc, &mut steps)?;
     let made = heap.live() == 11 && heap.notes_total() == 6;
     give_up(&mut heap, device, &mut steps);
     Ok(made && heap.live() == 8 && heap.notes_total() == 12)

@@ -24,11 +24,12 @@ fn started<L: Ledger>(alloc: Global, blank: Blank) -> Result<bool, AllocError>
     let mut steps = Steps::<L>::from_blank(blank);
     let mut heap = Heap::new(alloc)?;
     make_all(&mut heap, alloc, &mut steps)?;
-    let device = make_device(&mut heap, TypeId::SlotBridge, alloc, &mut steps)?;
+    let kind = TypeId::SlotBridge;
     let props = PropList::new(alloc);
-    let Ok(plan) = plan(&heap, TypeId::SlotBridge, &props, alloc, &mut steps) else {
+    let Ok(mut plan) = plan(&heap, kind, &props, alloc, &mut steps) else {
         return Ok(false);
     };
+    let device = make_device(&mut heap, kind, plan.as_mut_slice(), alloc, &mut steps)?;
     let name = anonymous_name(0, alloc)?;
     let (Some(container), Some(bus)) = (
         heap.by_birth(ANONYMOUS_BIRTH),

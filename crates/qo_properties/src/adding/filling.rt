@@ -2,11 +2,13 @@
 
 ghost use Rattle.std.specs.Prelude.{◌≡◌, is_some};
 ghost use Rattle.qo_values.specs.declared.kinds.TypeId.{TypeId};
+ghost use Rattle.qo_properties.specs.Filling.{spent, spent_at, value_alone, value_at};
 ghost use Rattle.qo_properties.specs.NewSlots.{begun};
 
 use qo_heap::Oid;
 use qo_model::PropertyRole;
 use qo_values::Val;
+use std::mem::replace;
 
 /// What a slot of a new object is filled with.
 #[derive(Drop)]
@@ -20,13 +22,36 @@ pub enum Fill {
 }
 
 /// Whether a new object has a slot for a property with this row.
-pub(crate) fn begins(kind: PropertyRole) -> bool
-    ensures { (t : TypeId) → result ≡ is_some (begun t kind) }
+pub fn begins(role: PropertyRole) -> bool
+    ensures { (t : TypeId) → result ≡ is_some (begun t role) }
 {
-    match kind {
+    match role {
         PropertyRole::Plain(_, _) => true,
         PropertyRole::Link { .. } => true,
         PropertyRole::Child(_) => false,
         PropertyRole::Alias { .. } => false,
     }
+}
+
+/// Takes the value out of what a slot is filled with, where it is one. A target stays.
+fn spend(fill: &mut Fill) -> Fill
+    ensures taken { result ≡ value_alone fill.old }
+    ensures left { fill.new ≡ spent fill.old }
+{
+    match fill {
+        Fill::Value(_) => replace(fill, Fill::Nothing),
+        _ => Fill::Nothing,
+    }
+}
+
+/// Takes the value that is planned for the slot at a place out of a plan, where one is; nothing is
+/// planned for that slot then. A target stays.
+pub fn take_value(plan: &mut [Fill], at: usize) -> Fill
+    ensures taken { result ≡ value_at at plan.old }
+    ensures left { plan.new ≡ spent_at at plan.old }
+{
+    if at >= plan.len() {
+        return Fill::Nothing;
+    }
+    spend(&mut plan[at])
 }

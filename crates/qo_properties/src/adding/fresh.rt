@@ -4,17 +4,18 @@ ghost use Rattle.std.specs.Prelude.{◌≡◌, ◌++◌, List, None, option_to_l
 ghost use Rattle.std.specs.Vec.Iter.{into_iter_items};
 ghost use Rattle.qo_values.specs.Names.{IsName};
 ghost use Rattle.qo_model.specs.Opening.{first_value};
+ghost use Rattle.qo_model.specs.RowNames.{property_name};
 ghost use Rattle.qo_table.specs.Rows.{IsLive};
 ghost use Rattle.qo_object.specs.declared.slots.Slot.TheVariants.{Plain, Link};
-ghost use Rattle.qo_object.specs.Content.{furnished};
+ghost use Rattle.qo_object.specs.Content.{furnished, with_slot};
 ghost use Rattle.qo_object.specs.Slots.{Named};
 ghost use Rattle.qo_heap.specs.Objects.{with_edit};
 ghost use Rattle.qo_properties.specs.Filling.{filled, filled_with};
-ghost use Rattle.qo_properties.specs.NewSlots.{new_slots, slot_begun, with_slots};
+ghost use Rattle.qo_properties.specs.NewSlots.{new_slots, slot_begun};
 
 use crate::adding::filling::Fill;
 use qo_heap::{Heap, Oid, Slot, SlotName, Steps};
-use qo_model::{First, Property, PropertyRole};
+use qo_model::{First, Property, PropertyName, PropertyRole};
 use qo_types::TypeTable;
 use qo_values::{Name, PropType, Text, TypeId, Val};
 use std::alloc::{AllocError, Global};
@@ -43,45 +44,37 @@ fn first_val(kind: TypeId, first: First, alloc: Global) -> Result<Val, AllocErro
     })
 }
 
-/// Adds the slot of a row to an object of a type: a plain property with its first value, a link
-/// without target. A child and an alias are passed over. An error leaves the heap as it was.
-pub fn add_row<L: Ledger>(
+/// What a plain property of a new object of a type holds: the value planned, or its first where none
+/// is.
+fn plain_val(kind: TypeId, first: First, fill: Fill, alloc: Global) -> Result<Val, AllocError>
+    ensures { IfOk result (λ val. Plain val ≡ filled_with fill (Plain (first_value kind first))) }
+{
+    match fill {
+        Fill::Value(val) => Ok(val),
+        Fill::Nothing => first_val(kind, first, alloc),
+        Fill::Target(_) => first_val(kind, first, alloc),
+    }
+}
+
+/// Adds the slot of a plain property to an object of a type, with the value planned, or with its first
+/// where none is. The error is want of memory, and leaves the heap as it was.
+pub fn add_value<L: Ledger>(
     heap: &mut Heap,
     o: Oid,
     kind: TypeId,
-    row: Property,
+    name: PropertyName,
+    first: First,
+    fill: Fill,
     alloc: Global,
     steps: &mut Steps<L>,
 ) -> Result<(), AllocError>
     requires { IsLive heap.old.rows o }
-    ensures ok { OnOk result (heap.new ≡ with_edit o.birth (with_slots (option_to_list (slot_begun kind row))) heap.old) }
+    ensures ok { OnOk result (heap.new ≡ with_edit o.birth (with_slot (property_name name) (filled_with fill (Plain (first_value kind first)))) heap.old) }
     ensures err { OnErr result (heap.new ≡ heap.old) }
 {
-    match row.role {
-        PropertyRole::Plain(_, first) => {
-            let val = first_val(kind, first, alloc)?;
-            heap.add_plain(o, SlotName::row(row.name), val, steps)?;
-            Ok(())
-        }
-        PropertyRole::Link { ty, strong } => {
-            heap.add_link(o, SlotName::row(row.name), ty, strong, None, steps)?;
-            Ok(())
-        }
-        PropertyRole::Child(_) => Ok(()),
-        PropertyRole::Alias { .. } => Ok(()),
-    }
-}
-
-/// The slot that a plain property of a new object of a type begins as: with the value planned, or
-/// with its first where none is.
-fn plain_slot(kind: TypeId, first: First, fill: Fill, alloc: Global) -> Result<Slot, AllocError>
-    ensures { IfOk result (λ slot. slot ≡ filled_with fill (Plain (first_value kind first))) }
-{
-    match fill {
-        Fill::Value(val) => Ok(Slot::Plain(val)),
-        Fill::Nothing => Ok(Slot::Plain(first_val(kind, first, alloc)?)),
-        Fill::Target(_) => Ok(Slot::Plain(first_val(kind, first, alloc)?)),
-    }
+    let val = plain_val(kind, first, fill, alloc)?;
+    heap.add_plain(o, SlotName::row(name), val, steps)?;
+    Ok(())
 }
 
 /// The slot that a link of a new object begins as: with the target planned, or with none.
@@ -110,8 +103,8 @@ fn put_row(
     match row.role {
         PropertyRole::Plain(_, first) => {
             let fill = fills.next().unwrap_or(Fill::Nothing);
-            let slot = plain_slot(kind, first, fill, alloc)?;
-            slots.push((SlotName::row(row.name), slot))?;
+            let val = plain_val(kind, first, fill, alloc)?;
+            slots.push((SlotName::row(row.name), Slot::Plain(val)))?;
             Ok(())
         }
         PropertyRole::Link { ty, strong } => {

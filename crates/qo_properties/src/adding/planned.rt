@@ -9,7 +9,7 @@ ghost use Rattle.qo_heap.specs.Objects.{Objects};
 ghost use Rattle.qo_properties.specs.Filling.{target_in};
 ghost use Rattle.qo_properties.specs.Plans.{IsPlan, TellsGiven, own_slot_for};
 
-use crate::adding::filling::Fill;
+use crate::adding::filling::{Fill, begins};
 use crate::adding::planning::placed_row;
 use qo_values::TypeId;
 
@@ -20,5 +20,8 @@ pub fn planned_for<'a>(plan: &'a [Fill], kind: TypeId, name: &str) -> Option<&'a
     ensures live { (v : Objects) → AllByRecursion (λ f. IfSome (target_in f) (IsLive v.rows)) plan.now → IfSome result (λ f. IfSome (target_in f.now) (IsLive v.rows)) }
 {
     let placed = placed_row(kind, name)?;
+    if !begins(placed.row.role) {
+        return None;
+    }
     plan.get(placed.place)
 }

@@ -90,20 +90,20 @@ fn link_fill<L: Ledger>(
 }
 
 /// What a value fills the slot of a property with this row with.
-fn kind_fill<L: Ledger>(
+fn role_fill<L: Ledger>(
     heap: &Heap,
-    kind: PropertyRole,
+    role: PropertyRole,
     val: &Val,
     alloc: Global,
     steps: &mut Steps<L>,
 ) -> Result<Fill, Refusal>
-    ensures refused { (b : Board) → Shows b heap.now → TellsRefusal result (misfit b kind val.now) }
-    ensures own { OnOk result ((t : TypeId) → is_some (begun t kind) ≡ true) }
-    ensures told { (b : Board) → Shows b heap.now → (t : TypeId) → IfOk result (λ f. IfSome (begun t kind) (HasValue b val.now f)) }
-    ensures fits { (t : TypeId) → IfOk result (λ f. IfSome (begun t kind) (λ s. fits f s ≡ true)) }
+    ensures refused { (b : Board) → Shows b heap.now → TellsRefusal result (misfit b role val.now) }
+    ensures own { OnOk result ((t : TypeId) → is_some (begun t role) ≡ true) }
+    ensures told { (b : Board) → Shows b heap.now → (t : TypeId) → IfOk result (λ f. IfSome (begun t role) (HasValue b val.now f)) }
+    ensures fits { (t : TypeId) → IfOk result (λ f. IfSome (begun t role) (λ s. fits f s ≡ true)) }
     ensures live { IfOk result (λ f. IfSome (target_in f) (IsLive heap.now.rows)) }
 {
-    match kind {
+    match role {
         PropertyRole::Plain(ty, _) => plain_fill(ty, val, alloc),
         PropertyRole::Link { ty, .. } => link_fill(heap, ty, val, steps),
         PropertyRole::Child(_) => Err(Refusal::Refused(Code::E19)),
@@ -127,8 +127,8 @@ fn row_fill<L: Ledger>(
     ensures live { IfOk result (λ f. IfSome (target_in f) (IsLive heap.now.rows)) }
 {
     match row.mark {
-        Mark::Add => kind_fill(heap, row.role, val, alloc, steps),
-        Mark::Both => kind_fill(heap, row.role, val, alloc, steps),
+        Mark::Add => role_fill(heap, row.role, val, alloc, steps),
+        Mark::Both => role_fill(heap, row.role, val, alloc, steps),
         Mark::Never => Err(Refusal::Refused(Code::E18)),
         Mark::Set => Err(Refusal::Refused(Code::E18)),
     }

@@ -187,22 +187,22 @@ fn write_link<L: Ledger>(
 }
 
 /// Writes the slot of an object at a place, whose property has this row.
-fn write_kind<L: Ledger>(
+fn write_role<L: Ledger>(
     heap: &mut Heap,
     o: Oid,
     at: usize,
-    kind: PropertyRole,
+    role: PropertyRole,
     val: &Val,
     alloc: Global,
     steps: &mut Steps<L>,
 ) -> Result<(), Refusal>
     requires live { IsLive heap.old.rows o }
-    ensures written { (b : Tree) → Shows b heap.old → Writes heap.new result (written b o.birth at kind (slot_at b o.birth at) val.now) }
+    ensures written { (b : Tree) → Shows b heap.old → Writes heap.new result (written b o.birth at role (slot_at b o.birth at) val.now) }
     ensures err { OnErr result (heap.new ≡ heap.old) }
     ensures pins { pins_in heap.new.rows ≡ pins_in heap.old.rows }
     ensures book { KeepsBook heap.old heap.new }
 {
-    match kind {
+    match role {
         PropertyRole::Plain(ty, _) => write_plain(heap, o, at, ty, val, alloc, steps),
         PropertyRole::Link { .. } => write_link(heap, o, at, val, steps),
         PropertyRole::Child(_) => Err(Refusal::Refused(Code::E18)),
@@ -228,7 +228,7 @@ fn write_row<L: Ledger>(
     ensures book { KeepsBook heap.old heap.new }
 {
     match row.mark {
-        Mark::Both => write_kind(heap, o, at, row.role, val, alloc, steps),
+        Mark::Both => write_role(heap, o, at, row.role, val, alloc, steps),
         _ => Err(Refusal::Refused(Code::E18)),
     }
 }

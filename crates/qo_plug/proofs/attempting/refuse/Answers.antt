@@ -22,8 +22,8 @@ drop_pin-requires-clause-pinned g c =
     omega (arith, same, c.requires.pinned)
 
 pub returns-clause-shown : goal.returns-clause-shown
-returns-clause-shown g c = λ b t bus sound birth is s.
-    refused-late b t sound bus c.args.out c.args.heap.now c.pass.new.heap c.drop_pin.new.heap is s
+returns-clause-shown g c = λ b t props bus sound birth is s.
+    refused-late b t sound props bus c.args.out c.args.heap.now c.pass.new.heap c.drop_pin.new.heap is s
     (c.pass.ensures ∙ ap (λ (n : ℕ). passed_on c.args.out n c.args.heap.now) birth)
     (λ d shown. subst (λ (n : ℕ). Shows (unpin d n) c.drop_pin.new.heap) birth (c.drop_pin.ensures.release d shown))
 

@@ -26,7 +26,7 @@ returns-in-Err-make-clause-memory g c = λ b is e.
     let a : Wanted = wanted c.args.driver.now (option_map (λ t. t.now) c.args.id) (option_map (λ t. t.now) c.args.bus) c.args.props.now in
     let planned = c.in-Ok.ensures.planned b c.args.resets.now.births c.args.rings.now is in
     cut-late b a c.in-Ok.planned.site planned.admitted c.make.new.heap
-    (c.in-Err-make.ensures.err b (subst (Shows b) (sym c.in-Ok.ensures.same) is.shown) is.sound)
+    (c.in-Err-make.ensures.err b a (subst (Shows b) (sym c.in-Ok.ensures.same) is.shown) is.sound planned)
 
 pub returns-in-Err-make-clause-book : goal.returns-in-Err-make-clause-book
 returns-in-Err-make-clause-book g c = λ out h. c.make.ensures.book out (c.choose.ensures.book out h)

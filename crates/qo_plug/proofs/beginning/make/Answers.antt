@@ -27,15 +27,15 @@ returns-clause-held g c =
       pinned = c.in_ok-device.ensures.pinned;
       rest = made.rest;
       quiet = λ n le. grows.quiet n (unborn-quiet c.args.heap.now c.facts.ensures n (omega (arith, born, le)));
-      targets = plan-live c.args.heap.now c.make_device.new.heap grows.names c.args.planned.plan.items c.requires.fit.targets;
-      fits = subst (λ (slots : List Named). AllZip Fits c.args.planned.plan.items slots) (sym made.own) c.requires.fit.fits;
+      targets = ?;
+      fits = ?;
     }
 
 pub returns-clause-begun : goal.returns-clause-begun
 returns-clause-begun g c = λ b a s sound holds rings planned.
     let made = c.in_ok-device.ensures.made in
     record {
-      shown = c.in_ok-device.ensures.shown b s;
+      shown = c.in_ok-device.ensures.shown b a.props planned.has s;
       sound = sound;
       admitted = planned.admitted;
       given = planned.given;
@@ -43,5 +43,5 @@ returns-clause-begun g c = λ b a s sound holds rings planned.
       barred = c.requires.spot.refused b a.props s rings planned.has;
       spot = c.requires.spot.spot b a.props s planned.has;
       out = cut-none c.count-out.result (count b c.args.planned.site.bus.birth) (c.count-out.ensures b (s, holds));
-      plan = subst (λ (slots : List Named). AllZip (IsGiven b a.props) c.args.planned.plan.items slots) (sym made.own) planned.has;
+      plan = ?;
     }

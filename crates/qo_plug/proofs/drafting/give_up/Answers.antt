@@ -3,11 +3,11 @@ use Rattle.std.proofs.Common.{ap, subst, ◌∙◌}
 use Rattle.qo_model.specs.Board.{Board}
 use Rattle.qo_model.specs.Release.{unpin}
 use Rattle.qo_heap.specs.Board.{Shows}
-use Rattle.qo_plug.specs.Drafts.{pinned_draft}
+use Rattle.qo_plug.specs.Drafts.{given_draft}
 use Rattle.qo_plug.proofs.CutLemmas.{given-up}
 use Rattle.qo_plug.proofs.drafting.give_up.Goals as goal
 
 pub returns-clause-shown : goal.returns-clause-shown
-returns-clause-shown g c = λ b t bus stage sound birth early s.
-    subst (λ (d : Board). Shows d c.drop_pin.new.heap) (ap (unpin (pinned_draft b t)) birth ∙ given-up b t sound bus stage early)
-    (c.drop_pin.ensures.release (pinned_draft b t) s)
+returns-clause-shown g c = λ b t props bus stage sound birth early s.
+    subst (λ (d : Board). Shows d c.drop_pin.new.heap) (ap (unpin (given_draft b t props)) birth ∙ given-up b t sound props bus stage early)
+    (c.drop_pin.ensures.release (given_draft b t props) s)

@@ -28,7 +28,7 @@ pub returns-in-Full-clause-refused : goal.returns-in-Full-clause-refused
 returns-in-Full-clause-refused g c = λ b a is.
     let s = is.site.0 in
     let full = rw c.in-Full.is at is.site.2 in
-    is-refused b a s full.0 c.refuse.new.heap 8 _ (sym full.1) (c.refuse.ensures.shown b s.kind s.bus.birth is.sound is.birth full.2 full.3)
+    is-refused b a s full.0 c.refuse.new.heap 8 _ (sym full.1) (c.refuse.ensures.shown b s.kind a.props s.bus.birth is.sound is.birth full.2 full.3)
 
 pub returns-in-Stands-clause-book : goal.returns-in-Stands-clause-book
 returns-in-Stands-clause-book g c = λ out h. c.drop_pin.ensures.goes.book out (c.start.ensures.book out h)

@@ -8,10 +8,11 @@ use Rattle.qo_slots.specs.declared.keys.Key.{Key}
 use Rattle.qo_kinds.specs.declared.kept.KeptSet.{KeptSet}
 use Rattle.qo_heap.specs.Objects.{with_edit}
 use Rattle.qo_plug.specs.Spots.{claims_given}
-use Rattle.qo_plug.specs.Drafts.{pinned_draft}
-use Rattle.qo_standing.specs.Placement.{IsSeat, kept_in}
+use Rattle.qo_plug.specs.Drafts.{given_draft}
+use Rattle.qo_standing.specs.Placement.{IsSeat, kept_in, spot_in}
 use Rattle.qo_standing.specs.DeviceClaims.{SameKept}
 use Rattle.qo_plug.proofs.ClaimLemmas.{chosen-claims, draft-keeps, driver-room}
+use Rattle.qo_plug.proofs.GivenDraftLemmas.{stood-planned}
 use Rattle.qo_plug.proofs.SourceLemmas.{source-same}
 use Rattle.qo_plug.proofs.StageLemmas.{bus-low, full-barred, given_up-cut, opened, seat-of, spot-refused}
 use Rattle.qo_plug.proofs.placing.place.Goals as goal
@@ -24,7 +25,7 @@ returns-in-Err-clause-refused g c = λ b a is.
       stages.0,
       stages.1,
       spot-refused b a c.args.begun c.args.heap.now is bar c.in-Err.is c.give_up.new.heap
-          (c.give_up.ensures.shown b c.args.begun.site.kind c.args.begun.site.bus.birth bar.stage is.sound is.birth early is.shown),
+          (c.give_up.ensures.shown b c.args.begun.site.kind a.props c.args.begun.site.bus.birth bar.stage is.sound is.birth early is.shown),
     )
 
 pub returns-then-are_full-clause-settled : goal.returns-then-are_full-clause-settled
@@ -45,8 +46,8 @@ returns-in-Ok-stand-clause-settled g c = λ b a is notices.
     let room = ap (λ (l : List Notice). nat_le NOTICES_MAX (length l)) notices ∙ sym c.are_full.ensures ∙ c.if-are_full.false in
     let seat : IsSeat b a c.seat_at-seat.result.0.container.birth c.seat_at-seat.result.0.name c.seat_at-seat.result.1 =
     record { id_is = of.id_is ∙ sym ens.id; name_is = of.name_is ∙ sym ens.name; parent_is = of.parent_is ∙ ap (λ (k : Key). k.birth) (sym ens.container) } in
-    let source : source_for b c.seat_at-seat.result.0.bus.birth ≡ source_for (pinned_draft b d.site.kind) c.seat_at-seat.result.0.bus.birth =
-    rw ens.bus (source-same b d.site.kind is.sound d.site.bus.birth (bus-low b a d c.args.heap.now is c.requires)) in
+    let source : source_for b c.seat_at-seat.result.0.bus.birth ≡ source_for (given_draft b d.site.kind a.props) c.seat_at-seat.result.0.bus.birth =
+    rw ens.bus (source-same b d.site.kind a.props is.sound d.site.bus.birth (bus-low b a d c.args.heap.now is c.requires)) in
     let opening = opened b a d c.args.heap.now is c.in-Ok.spot c.in-Ok.is room in
     let chosen = chosen-claims b d.site.kind d.site.bus.birth a.props c.in-Ok.spot (rw c.in-Ok.is at is.spot) in
     let keeps = rw (ens.bus, ens.spot) at c.in-Ok-stand.ensures.kept in
@@ -54,19 +55,30 @@ returns-in-Ok-stand-clause-settled g c = λ b a is notices.
     draft-keeps c.args.heap.now c.stand.new.heap d.device.birth d.site.kind (claims_given b d.site.kind d.site.bus.birth a.props) c.requires.rest
     (driver-room a.driver d.site.kind is.admitted.kind is.admitted.driver (claims_given b d.site.kind d.site.bus.birth a.props))
     (subst (λ (k : KeptSet). SameKept (with_edit d.device.birth (kept_in k) c.args.heap.now) c.stand.new.heap) chosen keeps) in
-    let stood = c.in-Ok-stand.ensures.stood b (pinned_draft b d.site.kind) a is.shown seat source is.plan in
+    let stood = c.in-Ok-stand.ensures.stood b (given_draft b d.site.kind a.props) a is.shown seat source is.plan in
     record {
       sound = is.sound;
       birth = is.birth;
-      site = (d.site, c.requires.device_is, (c.in-Ok.spot, refl, opening, rw (ens.bus, ens.spot) at stood, kept));
+      site = (
+        d.site,
+        c.requires.device_is,
+        (
+          c.in-Ok.spot,
+          refl,
+          opening,
+          stood-planned b d.site.kind d.device.birth a (spot_in d.site.bus.birth c.in-Ok.spot) is.birth c.in-Ok-stand.path c.stand.new.heap
+              (rw (ens.bus, ens.spot) at stood),
+          kept,
+        ),
+      );
     }
 
 pub returns-in-Err-stand-clause-memory : goal.returns-in-Err-stand-clause-memory
 returns-in-Err-stand-clause-memory g c = λ b a is e.
     let d = c.args.begun in
-    let left = c.in-Err-stand.ensures.err (pinned_draft b d.site.kind) is.shown in
+    let left = c.in-Err-stand.ensures.err (given_draft b d.site.kind a.props) is.shown in
     given_up-cut b a d c.args.heap.now is c.give_up-in-Err-stand.new.heap
-    (c.give_up-in-Err-stand.ensures.shown b d.site.kind d.site.bus.birth 0 is.sound is.birth refl left)
+    (c.give_up-in-Err-stand.ensures.shown b d.site.kind a.props d.site.bus.birth 0 is.sound is.birth refl left)
 
 pub returns-in-Err-stand-clause-book : goal.returns-in-Err-stand-clause-book
 returns-in-Err-stand-clause-book g c = λ out h. c.give_up-in-Err-stand.ensures.book out (c.stand.ensures.book out h)
