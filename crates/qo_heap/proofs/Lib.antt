@@ -4,6 +4,7 @@ pub mod BookLemmas
 pub mod EndLemmas
 pub mod SearchLemmas
 pub mod HeapLemmas
+mod InsideObjects
 mod ReferenceLemmas
 pub mod PlacesLemmas
 pub mod BoardActs

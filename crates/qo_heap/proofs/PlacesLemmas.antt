@@ -99,7 +99,7 @@ module _ {X : Type 0} where
   slice_get-some (x ∷ xs) zero below = (x, refl)
   slice_get-some (x ∷ xs) (suc i) below = slice_get-some xs i (omega arith)
 
-  pub position-some : (p : X → Bool) (xs : List X) (i : ℕ) → position p xs ≡ Some i → (x : X) × (slice_get xs i ≡ Some x)
+  position-some : (p : X → Bool) (xs : List X) (i : ℕ) → position p xs ≡ Some i → (x : X) × (slice_get xs i ≡ Some x)
   position-some p xs i there = go (nat_lt (position_or_len p xs) (length xs)) refl there
     where
       go : (b : Bool) → nat_lt (position_or_len p xs) (length xs) ≡ b → cond b (Some (position_or_len p xs)) None ≡ Some i → (x : X) × (slice_get xs i ≡ Some x)
@@ -107,10 +107,15 @@ module _ {X : Type 0} where
       go false lt is = cc
 
 -- what a view that is there says of itself
-pub some-at : {V W : Type 0} (f : V → W) (h : V → ℕ) (o : Option V) (w : W) (i : ℕ) → option_map f o ≡ Some w → IfSome o (λ v. h v ≡ i)
+some-at : {V W : Type 0} (f : V → W) (h : V → ℕ) (o : Option V) (w : W) (i : ℕ) → option_map f o ≡ Some w → IfSome o (λ v. h v ≡ i)
     → option_map h o ≡ Some i
 some-at f h None w i there at = cc
 some-at f h (Some v) w i there at = ap Some at
+
+-- a view of the member at a place found says the place
+pub placed-at : {V X : Type 0} (f : V → X) (h : V → ℕ) (p : X → Bool) (xs : List X) (i : ℕ) (o : Option V) → position p xs ≡ Some i
+    → option_map f o ≡ slice_get xs i → IfSome o (λ v. h v ≡ i) → option_map h o ≡ position p xs
+placed-at f h p xs i o there is at = let (x, some) = position-some p xs i there in some-at f h o x i (is ∙ some) at ∙ sym there
 
 module _ {T : Type 0} where
   -- along rising births a later row has a higher birth
