@@ -7,6 +7,7 @@ pub mod HeapLemmas
 mod InsideObjects
 mod ReferenceLemmas
 pub mod PlacesLemmas
+pub mod SlotPlaces
 pub mod BoardActs
 pub mod BoardChanges
 pub mod BoardEdits

@@ -6,7 +6,8 @@ use Rattle.qo_heap.proofs.heap.Heap.cut.Goals as goal
 
 edited : (g : _) (c : goal.After-self-1 g) → Edited (objects_inside c.self.inside) c.args.o.birth (cut_at c.args.at) c.cut.new.self
 edited g c =
-    edited-heap _ c.self.invariant c.args.o.birth (cut_at c.args.at) c.change.result.now c.cut.new.self c.change.ensures.object c.cut.ensures (λ x. cut-there (objects_inside c.self.inside) c.args.at x) (λ x. refl)
+    edited-heap _ c.self.invariant c.args.o.birth (cut_at c.args.at) c.change.result.now c.cut.new.self c.change.ensures.object c.cut.ensures
+    (λ x. cut-there (objects_inside c.self.inside) c.args.at x) (λ x. refl)
 
 pub invariant_of-self : goal.invariant_of-self
 invariant_of-self g c = (edited g c).good

@@ -6,7 +6,8 @@ use Rattle.qo_heap.proofs.heap.Heap.furnish.Goals as goal
 
 edited : (g : _) (c : goal.After-self-1 g) → Edited (objects_inside c.self.inside) c.args.o.birth (furnished c.args.slots.items) c.furnish.new.self
 edited g c =
-    edited-heap _ c.self.invariant c.args.o.birth (furnished c.args.slots.items) c.change.result.now c.furnish.new.self c.change.ensures.object c.furnish.ensures (λ x all. rw (← c.self.view_is) at c.requires.targets) (λ x. refl)
+    edited-heap _ c.self.invariant c.args.o.birth (furnished c.args.slots.items) c.change.result.now c.furnish.new.self c.change.ensures.object
+    c.furnish.ensures (λ x all. rw (← c.self.view_is) at c.requires.targets) (λ x. refl)
 
 pub invariant_of-self : goal.invariant_of-self
 invariant_of-self g c = (edited g c).good

@@ -6,7 +6,8 @@ use Rattle.qo_heap.proofs.heap.Heap.name_device.Goals as goal
 
 edited : (g : _) (c : goal.After-self-1 g) → Edited (objects_inside c.self.inside) c.args.o.birth (with_id c.args.id) c.name_device.new.self
 edited g c =
-    edited-heap _ c.self.invariant c.args.o.birth (with_id c.args.id) c.change.result.now c.name_device.new.self c.change.ensures.object (c.name_device.ensures ∙ ap (λ (id : List ℕ). with_id id c.change.result.now) c.new.ensures) (λ x all. all) (λ x. refl)
+    edited-heap _ c.self.invariant c.args.o.birth (with_id c.args.id) c.change.result.now c.name_device.new.self c.change.ensures.object
+    (c.name_device.ensures ∙ ap (λ (id : List ℕ). with_id id c.change.result.now) c.new.ensures) (λ x all. all) (λ x. refl)
 
 pub invariant_of-self : goal.invariant_of-self
 invariant_of-self g c = (edited g c).good

@@ -6,7 +6,8 @@ use Rattle.qo_heap.proofs.heap.Heap.point.Goals as goal
 
 edited : (g : _) (c : goal.After-self-1 g) → Edited (objects_inside c.self.inside) c.args.o.birth (pointed_at c.args.target c.args.at) c.point.new.self
 edited g c =
-    edited-heap _ c.self.invariant c.args.o.birth (pointed_at c.args.target c.args.at) c.change.result.now c.point.new.self c.change.ensures.object c.point.ensures (λ x. pointed-there (objects_inside c.self.inside) c.args.target c.args.at x (rw (← c.self.view_is) at c.requires.target)) (λ x. refl)
+    edited-heap _ c.self.invariant c.args.o.birth (pointed_at c.args.target c.args.at) c.change.result.now c.point.new.self c.change.ensures.object
+    c.point.ensures (λ x. pointed-there (objects_inside c.self.inside) c.args.target c.args.at x (rw (← c.self.view_is) at c.requires.target)) (λ x. refl)
 
 pub invariant_of-self : goal.invariant_of-self
 invariant_of-self g c = (edited g c).good

@@ -6,7 +6,8 @@ use Rattle.qo_heap.proofs.heap.Heap.set.Goals as goal
 
 edited : (g : _) (c : goal.After-self-1 g) → Edited (objects_inside c.self.inside) c.args.o.birth (set_at c.args.val c.args.at) c.set.new.self
 edited g c =
-    edited-heap _ c.self.invariant c.args.o.birth (set_at c.args.val c.args.at) c.change.result.now c.set.new.self c.change.ensures.object c.set.ensures (λ x. set-there (objects_inside c.self.inside) c.args.val c.args.at x) (λ x. refl)
+    edited-heap _ c.self.invariant c.args.o.birth (set_at c.args.val c.args.at) c.change.result.now c.set.new.self c.change.ensures.object c.set.ensures
+    (λ x. set-there (objects_inside c.self.inside) c.args.val c.args.at x) (λ x. refl)
 
 pub invariant_of-self : goal.invariant_of-self
 invariant_of-self g c = (edited g c).good

@@ -8,7 +8,8 @@ use Rattle.qo_heap.proofs.heap.Heap.slot.Goals as goal
 pub returns-in-Some-clause-slot : goal.returns-in-Some-clause-slot
 returns-in-Some-clause-slot g c =
     rw (← c.self.view_is, c.look-object.ensures.object)
-    (c.slot_at.ensures.slot ∙ position-find (λ (s : List ℕ × Slot). bytes_eq c.args.name.now s.0) c.look-object.result.now.slots c.in-Some.at (sym c.find.ensures ∙ c.in-Some.is))
+    (c.slot_at.ensures.slot
+    ∙ position-find (λ (s : List ℕ × Slot). bytes_eq c.args.name.now s.0) c.look-object.result.now.slots c.in-Some.at (sym c.find.ensures ∙ c.in-Some.is))
 
 pub returns-in-Some-clause-at : goal.returns-in-Some-clause-at
 returns-in-Some-clause-at g c =

@@ -6,7 +6,8 @@ use Rattle.qo_heap.proofs.heap.Heap.unpin.Goals as goal
 
 edited : (g : _) (c : goal.After-self-1 g) → Edited (objects_inside c.self.inside) c.args.o.birth without_pin c.unpin.new.self
 edited g c =
-    edited-heap _ c.self.invariant c.args.o.birth without_pin c.change.result.now c.unpin.new.self c.change.ensures.object c.unpin.ensures (λ x all. all) (λ x. refl)
+    edited-heap _ c.self.invariant c.args.o.birth without_pin c.change.result.now c.unpin.new.self c.change.ensures.object c.unpin.ensures (λ x all. all)
+    (λ x. refl)
 
 pub invariant_of-self : goal.invariant_of-self
 invariant_of-self g c = (edited g c).good
