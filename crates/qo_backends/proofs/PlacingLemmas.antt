@@ -8,18 +8,10 @@ use Rattle.std.proofs.lemmas.Bool.Decides.{nat_tests}
 use Rattle.qo_values.specs.declared.ranges.Range.{Range}
 use Rattle.qo_values.specs.declared.limits.TheConstants.{DIMM_ALIGN}
 use Rattle.qo_values.specs.Placing.{fits_at, is_in_window, overlap, overlaps_any, free_address, range_at, window_start, window_end, window_size}
-use Rattle.qo_heap.proofs.HeapLemmas.{is_some-find}
+use Rattle.qo_heap.proofs.HeapLemmas.{found-passes, is_some-find}
 use Rattle.qo_claims.proofs.LeastLemmas.{least-found, least-none}
 
--- what was found passes, and so one passes what it passes
-pub found-passes : {X : Type 0} (p : X → Bool) (xs : List X) (x : X) → find p xs ≡ Some x → p x ≡ true
-found-passes p [] x e = cc
-found-passes p (y ∷ xs) x e = go (p y) refl (found-passes p xs x)
-  where
-    go : (b : Bool) → p y ≡ b → (find p xs ≡ Some x → p x ≡ true) → p x ≡ true
-    go true is rest = let same : y ≡ x = cc (rw is at e) in ap p (sym same) ∙ is
-    go false is rest = rest (rw is at e)
-
+-- one passes what the one found passes
 pub found-any : {X : Type 0} (p q : X → Bool) (xs : List X) (x : X) → find p xs ≡ Some x → q x ≡ true → list_any q xs ≡ true
 found-any p q [] x e is = cc
 found-any p q (y ∷ xs) x e is = go (p y) refl (found-any p q xs x)

@@ -1,12 +1,7 @@
 -- A device leaves its bus: the steps of the heap are those of the boards.
-use Rattle.std.proofs.Common.{◌≡◌, refl, ap, sym, subst, ◌∙◌, ℕ, zero, suc, ◌+◌, Bool, true, false, not, cond, nat_lt, codes, List, [], ◌∷◌, length, drop}
-use Rattle.std.proofs.Common.{slice_get, position, Option, Some, None, option_map, IfSome, arith}
-use Rattle.std.specs.List.{position_or_len}
+use Rattle.std.proofs.Common.{◌≡◌, refl, ap, sym, subst, ◌∙◌, ℕ, zero, suc, Bool, true, false, codes, List, [], ◌∷◌}
+use Rattle.std.proofs.Common.{position, Option, Some, None, option_map, IfSome}
 use Rattle.std.specs.Option.{option_and_then, option_map_or}
-use Rattle.std.specs.Str.{bytes_eq}
-use Rattle.std.proofs.lemmas.Bool.Decides.{nat_tests}
-use Rattle.std.proofs.lemmas.Cmp.{nat_list_eq_equiv}
-use Rattle.std.proofs.lemmas.Option.{same_Some}
 use Rattle.qo_slots.specs.declared.keys.Key.{Key}
 use Rattle.qo_table.specs.Rows.{IsLive}
 use Rattle.qo_object.specs.declared.slots.Slot.{Slot}
@@ -30,6 +25,7 @@ use Rattle.qo_heap.proofs.BookLemmas.{book-edit}
 use Rattle.qo_heap.proofs.BoardChanges.{shows-cut}
 use Rattle.qo_heap.proofs.BoardObjects.{content-edited, live-content, named-live}
 use Rattle.qo_heap.proofs.BoardReads.{shows-slot_at, shows-slots}
+use Rattle.qo_heap.proofs.SlotPlaces.{found-place}
 use Rattle.qo_life.specs.Life.{Goes, with_log}
 use Rattle.qo_life.proofs.TreeLemmas.{edit-bodies, goes-drop, goes-none, goes-same, goes-then, live-before_edit, shows-notes}
 
@@ -124,37 +120,9 @@ goes-taken v u x w n i was strong e dropped cuts following = go (slot_in (slots_
         (λ b log t. taken-is b n i s (shows-slot_at b (with_log log v) t n i ∙ ap (option_map shown_slot) p)
         ∙ ap (λ (k : Option Key). after finalize (cut n i (drop_slot b n i)) (birth_of k)) (sym q))
 
--- the place of a slot
+-- what is taken or let go by the place of a slot
 
 module _ (p : List ℕ × board.Slot → Bool) where
-  abbrev pub place_after : ℕ → List Named → Option ℕ
-  place_after i slots = index_from p i (shown_slots (drop i slots))
-
-  step : (i k : ℕ) (slots : List Named) (s : Named) → slice_get slots i ≡ Some s
-      → index_from p k (shown_slots (drop i slots)) ≡ cond (p (s.0, shown_slot s.1)) (Some k) (index_from p (suc k) (shown_slots (drop (suc i) slots)))
-  step i k [] s e = cc
-  step zero k (x ∷ slots) s e = let same : x ≡ s = same_Some x s e in
-      ap (λ (y : Named). cond (p (y.0, shown_slot y.1)) (Some k) (index_from p (suc k) (shown_slots slots))) same
-  step (suc i) k (x ∷ slots) s e = step i k slots s e
-
-  past : (i k : ℕ) (slots : List Named) → slice_get slots i ≡ None → index_from p k (shown_slots (drop i slots)) ≡ None
-  past zero k [] e = refl
-  past (suc i) k [] e = refl
-  past zero k (x ∷ slots) e = cc
-  past (suc i) k (x ∷ slots) e = past i k slots e
-
-  pub place-here : (i : ℕ) (slots : List Named) (s : Named) → slice_get slots i ≡ Some s → p (s.0, shown_slot s.1) ≡ true → place_after i slots ≡ Some i
-  place-here i slots s e is = step i i slots s e ∙ ap (λ (b : Bool). cond b (Some i) (place_after (suc i) slots)) is
-
-  pub place-next : (i : ℕ) (slots : List Named) (s : Named) → slice_get slots i ≡ Some s → p (s.0, shown_slot s.1) ≡ false
-      → place_after i slots ≡ place_after (i + 1) slots
-  place-next i slots s e is =
-      let more : suc i ≡ i + 1 = omega arith in
-      step i i slots s e ∙ ap (λ (b : Bool). cond b (Some i) (place_after (suc i) slots)) is ∙ ap (λ (j : ℕ). place_after j slots) more
-
-  pub place-past : (i : ℕ) (slots : List Named) → slice_get slots i ≡ None → place_after i slots ≡ None
-  place-past i slots e = past i i slots e
-
   -- on the boards of the heap
   pub shows-index_from : (b : Board) (v : Objects) → Shows b v → (n : ℕ) → index_from p 0 (board.slots_at b n) ≡ index_from p 0 (shown_slots (slots_of v n))
   shows-index_from b v s n = ap (index_from p 0) (shows-slots b v s n)
@@ -204,41 +172,7 @@ goes-stayed v c t d is =
     goes-same (λ b. b) (left_bus d) v v (goes-none v)
     (λ b log s. let there : bus_of b d ≡ None = sym (is (record b { notes = c.notes }) (shows-notes b c log v s t)) in rw (left_bus, there) refl)
 
--- the place of a slot, as a look-up finds it
-
-later : (m n : ℕ) → nat_lt m n ≡ nat_lt (1 + m) (suc n)
-later m n = grind (arith, nat_tests)
-
-abbrev first_at : (Named → Bool) → ℕ → List Named → Option ℕ
-first_at q k slots = cond (nat_lt (position_or_len q slots) (length slots)) (Some (k + position_or_len q slots)) None
-
-module _ (p : List ℕ × board.Slot → Bool) (q : Named → Bool) (same : (t : Named) → p (t.0, shown_slot t.1) ≡ q t) where
-  first-place : (k : ℕ) (slots : List Named) → index_from p k (shown_slots slots) ≡ first_at q k slots
-  first-place k [] = refl
-  first-place k (t ∷ slots) = rw (same t) (go (q t) (first-place (suc k) slots))
-    where
-      go : (b : Bool) → index_from p (suc k) (shown_slots slots) ≡ first_at q (suc k) slots
-          → cond b (Some k) (index_from p (suc k) (shown_slots slots))
-          ≡ cond (nat_lt (cond {A = ℕ} (not b) (1 + position_or_len q slots) 0) (suc (length slots)))
-          (Some (k + cond {A = ℕ} (not b) (1 + position_or_len q slots) 0)) None
-      go true rest =
-          let none : k ≡ k + 0 = omega arith in
-          let low : nat_lt 0 (suc (length slots)) ≡ true = grind (arith, nat_tests) in
-          rw low (ap Some none)
-      go false rest =
-          let x : ℕ = position_or_len q slots in
-          let more : suc k + x ≡ k + (1 + x) = omega arith in
-          let low : nat_lt x (length slots) ≡ nat_lt (1 + x) (suc (length slots)) = later x (length slots) in
-          rest ∙ (λ j. cond (low j) (Some (more j)) None)
-
-  pub found-place : (slots : List Named) → index_from p 0 (shown_slots slots) ≡ position q slots
-  found-place slots =
-      let x : ℕ = position_or_len q slots in
-      let none : 0 + x ≡ x = omega arith in
-      first-place 0 slots ∙ ap (λ (k : ℕ). cond (nat_lt x (length slots)) (Some k) None) none
-
-pub named-place : (name : List ℕ) (slots : List Named) → index_from (is_named name) 0 (shown_slots slots) ≡ position (λ (t : Named). bytes_eq name t.0) slots
-named-place name slots = found-place (is_named name) (λ (t : Named). bytes_eq name t.0) (λ t. nat_list_eq_equiv.symm t.0 name) slots
+-- the place of a child, as a look-up finds it
 
 child-shown : (n : ℕ) (s : Slot) → is_child n (shown_slot s) ≡ names_child n s
 child-shown n (Plain val) = refl
@@ -253,8 +187,3 @@ child-place d slots = found-place (is_child_slot d) (λ (t : Named). names_child
 -- the slots of an object that is not there
 pub place-gone : (p : List ℕ × board.Slot → Bool) (v : Objects) (n : ℕ) → content_of v n ≡ None → index_from p 0 (shown_slots (slots_of v n)) ≡ None
 place-gone p v n gone = ap (λ (x : Option Content). index_from p 0 (shown_slots (option_map_or (λ (d : Content). d.slots) x []))) gone
-
--- who is there before is there after
-pub more-live : (P Q : Key → Type 0) → ((key : Key) → P key → Q key) → (o : Option Key) → IfSome o P → IfSome o Q
-more-live P Q more None all = tt
-more-live P Q more (Some key) all = more key all

@@ -1,15 +1,14 @@
 -- A link that is pointed where it stands empty and its target is of its type.
-use Rattle.std.proofs.Common.{◌≡◌, refl, ap, sym, ◌∙◌, ℕ, zero, suc, ◌<◌, ◌≤◌, Bool, true, false, eqb, List, [], ◌∷◌, ◌++◌, map, replicate, find}
-use Rattle.std.proofs.Common.{position, slice_get, option_map, Option, Some, None, arith}
+use Rattle.std.proofs.Common.{◌≡◌, refl, ap, sym, subst, ◌∙◌, ℕ, zero, suc, Bool, true, false, List, [], ◌∷◌, find}
+use Rattle.std.proofs.Common.{position, slice_get, option_map, Option, Some, None}
 use Rattle.std.specs.Option.{option_map_or}
 use Rattle.std.specs.Str.{bytes_eq}
-use Rattle.std.proofs.lemmas.Bool.{eqb-true}
 use Rattle.std.proofs.lemmas.Option.{same_Some}
 use Rattle.qo_values.specs.Kinds.{type_name}
 use Rattle.qo_values.specs.declared.kinds.TypeId.{TypeId}
 use Rattle.qo_values.specs.declared.properties.Val.{Val}
 use Rattle.qo_slots.specs.declared.keys.Key.{Key}
-use Rattle.qo_table.specs.Rows.{IsLive, Rises, births, edit, object_at}
+use Rattle.qo_table.specs.Rows.{IsLive}
 use Rattle.qo_object.specs.declared.slots.Slot.{Slot}
 use Rattle.qo_object.specs.declared.slots.Slot.TheVariants.{Link}
 use Rattle.qo_object.specs.Content.{Content, empty_link_at, pointed_at, set_at}
@@ -21,59 +20,23 @@ use Rattle.qo_model.specs.Changes as changes
 use Rattle.qo_model.specs.Objects.{index_from}
 use Rattle.qo_model.specs.Paths.{is_of, only_of}
 use Rattle.qo_model.specs.Plug.{fitted, link_named}
-use Rattle.qo_model.specs.Release.{edited}
+use Rattle.qo_model.specs.Release as release
 use Rattle.qo_model.specs.Types.{is_a}
 use Rattle.qo_model.specs.Unplug.{is_named, set_named}
 use Rattle.qo_notes.specs.Log.{Log, noted_all}
 use Rattle.qo_heap.specs.Objects.{IsHeap, Objects, content_of, slots_of, with_edit}
-use Rattle.qo_heap.specs.Board.{Shows, pins_in, record_of}
+use Rattle.qo_heap.specs.Board.{Shows, pins_in}
 use Rattle.qo_heap.proofs.BookLemmas.{book-edit}
-use Rattle.qo_heap.proofs.HeapLemmas.{live-edit}
+use Rattle.qo_heap.proofs.HeapLemmas.{edit-same, live-edit}
 use Rattle.qo_heap.proofs.PlacesLemmas.{position-find}
-use Rattle.qo_heap.proofs.BoardChanges.{shows-pointed, shows-set}
+use Rattle.qo_heap.proofs.BoardChanges.{shows-set}
+use Rattle.qo_heap.proofs.BoardEdits.{pins-edited, shows-at}
 use Rattle.qo_heap.proofs.BoardObjects.{live-content}
-use Rattle.qo_heap.proofs.BoardReads.{records_of}
+use Rattle.qo_heap.proofs.SlotPlaces.{named-place}
 use Rattle.qo_life.specs.Life.{Goes, with_log}
 use Rattle.qo_life.proofs.TreeLemmas.{edit-bodies, goes-none, goes-same, heap-with_log, live-before_edit}
-use Rattle.qo_buses.proofs.LeavingLemmas.{named-place, shows-index_from}
+use Rattle.qo_buses.proofs.LeavingLemmas.{shows-index_from}
 use Rattle.qo_buses.proofs.WayLemmas.{of-is}
-
--- one object edited: it alone has its birth
-module _ (n : ℕ) (f : Content → Content) (g : board.Record → board.Record) where
-  records-later : (above last : ℕ) (rows : List (Key × Content)) → n ≤ above → Rises above (births rows) last
-      → records_of (edit n f rows) ≡ map (edited n g) (records_of rows)
-  records-later above last [] le rises = refl
-  records-later above last (row ∷ rows) le rises =
-      let up : above < row.0.birth = rises.0 in
-      let other : eqb row.0.birth n ≡ false = grind arith in
-      rw other (ap (λ (rs : List board.Record). record_of row ∷ rs) (records-later row.0.birth last rows (omega arith) rises.1))
-
-  records-at : (above last : ℕ) (rows : List (Key × Content)) (c : Content) → Rises above (births rows) last → object_at rows n ≡ Some c
-      → shown n (f c) ≡ g (shown n c) → records_of (edit n f rows) ≡ map (edited n g) (records_of rows)
-  records-at above last [] c rises there same = cc
-  records-at above last (row ∷ rows) c rises there same = go (eqb row.0.birth n) refl (records-at row.0.birth last rows c rises.1)
-    where
-      go : (t : Bool) → eqb row.0.birth n ≡ t
-          → (object_at rows n ≡ Some c → shown n (f c) ≡ g (shown n c) → records_of (edit n f rows) ≡ map (edited n g) (records_of rows))
-          → records_of (edit n f (row ∷ rows)) ≡ map (edited n g) (records_of (row ∷ rows))
-      go true is rest =
-          let at : row.0.birth ≡ n = eqb-true row.0.birth n is in
-          let own : row.1 ≡ c = same_Some row.1 c (rw is at there) in
-          let here : shown row.0.birth (f row.1) ≡ g (shown row.0.birth row.1) = (λ j. shown (at j) (f (own j))) ∙ same
-          ∙ (λ j. g (shown (sym at j) (sym own j))) in
-          let later = records-later row.0.birth last rows (omega arith) rises.1 in
-          rw is (λ j. here j ∷ later j)
-      go false is rest = rw is (ap (λ (rs : List board.Record). record_of row ∷ rs) (rest (rw is at there) same))
-
--- no edit
-edit-nothing : (n : ℕ) (rows : List (Key × Content)) → records_of (edit n (λ (c : Content). c) rows) ≡ records_of rows
-edit-nothing n [] = refl
-edit-nothing n (row ∷ rows) = go (eqb row.0.birth n) refl (edit-nothing n rows)
-  where
-    go : (t : Bool) → eqb row.0.birth n ≡ t → records_of (edit n (λ (c : Content). c) rows) ≡ records_of rows
-        → records_of (edit n (λ (c : Content). c) (row ∷ rows)) ≡ records_of (row ∷ rows)
-    go true is rest = rw is (ap (λ (rs : List board.Record). record_of row ∷ rs) rest)
-    go false is rest = rw is (ap (λ (rs : List board.Record). record_of row ∷ rs) rest)
 
 -- one slot changed
 changed-shown : (f : Slot → Slot) (g : board.Slot → board.Slot) (i : ℕ) (slots : List Named) (s : Slot) → slot_in slots i ≡ Some s
@@ -105,38 +68,18 @@ module _ (b : board.Board) (v : Objects) (s : Shows b v) (good : IsHeap v) (n : 
         → Shows (link_named n name m b) v
     shows-unlinked m what is same =
         let its = kept-shown (fitted b m) i c.slots what is (sym same) in
-        let rows =
-        records-at n (λ (x : Content). x) (with_changed (fitted b m) i) 0 v.born v.rows c good.rising there
-        (ap (λ (ss : List (List ℕ × board.Slot)). record (shown n c) { slots = ss }) its) in
-        rw (link_named, at) (record {
-          records = ap (map (edited n (with_changed (fitted b m) i))) s.records ∙ sym rows
-              ∙ edit-nothing n v.rows;
-          born = s.born;
-          pins = s.pins;
-          notes = s.notes;
-          events = s.events;
-          now = s.now;
-        })
+        let all = shows-at n (λ (x : Content). x) (with_changed (fitted b m) i) b v s good c there
+        (ap (λ (ss : List (List ℕ × board.Slot)). record (shown n c) { slots = ss }) its) (λ d. refl) in
+        rw (link_named, at) (subst (Shows (release.edit n (with_changed (fitted b m) i) b)) (edit-same n v) all)
 
     -- a link that is pointed
     pub shows-linked : (key : Key) (what : Slot) → slot_in c.slots i ≡ Some what → shown_slot (pointed key what) ≡ fitted b key.birth (shown_slot what)
         → Shows (link_named n name key.birth b) (with_edit n (pointed_at key i) v)
-    unfolding changes.point
     shows-linked key what is same =
         let its = changed-shown (pointed key) (fitted b key.birth) i c.slots what is same in
-        let rows =
-        records-at n (pointed_at key i) (with_changed (fitted b key.birth) i) 0 v.born v.rows c good.rising there
-        (ap (λ (ss : List (List ℕ × board.Slot)). record (shown n c) { slots = ss }) its) in
-        let all = shows-pointed b v s n i key in
-        rw (link_named, at) (record {
-          records = ap (map (edited n (with_changed (fitted b key.birth) i))) s.records
-              ∙ sym rows;
-          born = all.born;
-          pins = all.pins;
-          notes = all.notes;
-          events = all.events;
-          now = all.now;
-        })
+        rw (link_named, at)
+        (shows-at n (pointed_at key i) (with_changed (fitted b key.birth) i) b v s good c there
+        (ap (λ (ss : List (List ℕ × board.Slot)). record (shown n c) { slots = ss }) its) (λ d. refl))
 
 -- what a link comes to
 pub fits-strong : (b : board.Board) (t : TypeId) (strong : Bool) (key : Key) → is_of b (type_name t) key.birth ≡ true
@@ -162,14 +105,6 @@ of-fits b v s n wanted t is = go (content_of v n) refl is
     go : (o : Option Content) → content_of v n ≡ o → option_map (λ (c : Content). is_a c.kind wanted) o ≡ Some t → is_of b wanted n ≡ t
     go None p q = cc
     go (Some c) p q = of-is b v s n c.kind wanted (ap (option_map (λ (d : Content). d.kind)) p) ∙ same_Some (is_a c.kind wanted) t q
-
-pins-edited : (n : ℕ) (f : Content → Content) → ((c : Content) → (f c).pins ≡ c.pins) → (rows : List (Key × Content)) → pins_in (edit n f rows) ≡ pins_in rows
-pins-edited n f same [] = refl
-pins-edited n f same (row ∷ rows) = go (eqb row.0.birth n) refl (pins-edited n f same rows)
-  where
-    go : (t : Bool) → eqb row.0.birth n ≡ t → pins_in (edit n f rows) ≡ pins_in rows → pins_in (edit n f (row ∷ rows)) ≡ pins_in (row ∷ rows)
-    go true is rest = rw is (λ j. replicate (same row.1 j) row.0.birth ++ rest j)
-    go false is rest = rw is (ap (λ (ms : List ℕ). replicate row.1.pins row.0.birth ++ ms) rest)
 
 -- the steps of the heap
 

@@ -1,17 +1,13 @@
 -- A slot of a name changed on the heap is changed on the boards that it shows.
-use Rattle.std.proofs.Common.{◌≡◌, refl, ap, ap₂, eqb, sym, ◌∙◌, ℕ, zero, suc, ◌+◌, Bool, true, false, not, cond, nat_lt, List, [], ◌∷◌, length, slice_get, Option, Some, None, option_map, codes, arith}
-use Rattle.std.specs.List.{position_or_len}
+use Rattle.std.proofs.Common.{◌≡◌, refl, ap, sym, ◌∙◌, ℕ, zero, suc, Bool, true, false, cond, List, [], ◌∷◌, slice_get, Option, Some, None, option_map, codes}
 use Rattle.std.specs.Option.{option_map_or}
-use Rattle.std.specs.Str.{bytes_eq}
-use Rattle.std.proofs.lemmas.Bool.Decides.{nat_tests}
-use Rattle.std.proofs.lemmas.Cmp.{nat_list_eq_equiv}
 use Rattle.std.proofs.lemmas.Option.{same_Some}
 use Rattle.qo_values.specs.Kinds.{type_name}
 use Rattle.qo_values.specs.declared.kinds.TypeId.{TypeId}
 use Rattle.qo_values.specs.declared.properties.Val.{Val}
 use Rattle.qo_values.specs.declared.properties.Val.TheVariants as val
 use Rattle.qo_slots.specs.declared.keys.Key.{Key}
-use Rattle.qo_table.specs.Rows.{IsLive, edit}
+use Rattle.qo_table.specs.Rows.{IsLive}
 use Rattle.qo_model.specs.Board as board
 use Rattle.qo_model.specs.Changes as changes
 use Rattle.qo_model.specs.Objects.{index_from}
@@ -23,47 +19,20 @@ use Rattle.qo_model.specs.Unplug.{disconnected, is_named, set_named, unseen, uns
 use Rattle.qo_object.specs.declared.slots.Slot.{Slot}
 use Rattle.qo_object.specs.declared.slots.Slot.TheVariants.{Plain, Child, Link, Alias}
 use Rattle.qo_object.specs.Content.{Content, dropped_at, empty_link_at, pointed_at}
-use Rattle.qo_object.specs.BoardObject.{shown, shown_slot, shown_slots}
+use Rattle.qo_object.specs.BoardObject.{shown, shown_slot}
 use Rattle.qo_object.specs.Slots.{Named, changed_at, is_empty_link, let_go_at, pointed, with_val}
 use Rattle.qo_heap.specs.Board.{Shows}
 use Rattle.qo_heap.specs.Objects.{IsHeap, Objects, content_of, slots_of, with_edit}
-use Rattle.qo_heap.proofs.HeapLemmas.{edit-is, live-edit}
-use Rattle.qo_heap.proofs.BoardChanges.{shows-set}
+use Rattle.qo_heap.proofs.HeapLemmas.{edit-is, edit-same, live-edit}
+use Rattle.qo_heap.proofs.BoardChanges.{changed-shown, shows-set}
 use Rattle.qo_heap.proofs.BoardEdits.{shows-edit}
 use Rattle.qo_heap.proofs.BoardReads.{shows-kind, shows-slots}
+use Rattle.qo_heap.proofs.SlotPlaces.{named-place}
 use Rattle.qo_clocks.specs.Links.{accepts, changed_named, fitted_on, is_of_on, is_weak, index_on, unseen_on, with_slot_changed}
 
 -- the place of a slot of a name
-
-abbrev place : List ℕ → List Named → ℕ
-place name slots = position_or_len (λ (s : Named). bytes_eq name s.0) slots
-
-place-shown : (name : List ℕ) (k : ℕ) (slots : List Named)
-    → index_from (is_named name) k (shown_slots slots) ≡ cond (nat_lt (place name slots) (length slots)) (Some (k + place name slots)) None
-place-shown name k [] = refl
-place-shown name k (s ∷ slots) = rw (nat_list_eq_equiv.symm s.0 name) (go (bytes_eq name s.0) (place-shown name (suc k) slots))
-  where
-    go : (t : Bool)
-        → index_from (is_named name) (suc k) (shown_slots slots) ≡ cond (nat_lt (place name slots) (length slots)) (Some (suc k + place name slots)) None
-        → cond t (Some k) (index_from (is_named name) (suc k) (shown_slots slots))
-        ≡ cond (nat_lt (cond (not t) (1 + place name slots) 0) (length (s ∷ slots))) (Some (k + cond (not t) (1 + place name slots) 0)) None
-    go true rest =
-        let same : k ≡ k + 0 = omega arith in
-        let test : nat_lt 0 (length (s ∷ slots)) ≡ true = grind (arith, nat_tests) in
-        ap (λ (i : ℕ). Some i) same ∙ sym (ap (λ (b : Bool). cond b (Some (k + 0)) None) test)
-    go false rest =
-        let test : nat_lt (place name slots) (length slots) ≡ nat_lt (1 + place name slots) (length (s ∷ slots)) = grind (arith, nat_tests) in
-        let at : suc k + place name slots ≡ k + (1 + place name slots) = omega arith in
-        rest
-        ∙ ap (λ (b : Bool). cond b (Some (suc k + place name slots)) None) test
-        ∙ ap (λ (i : ℕ). cond (nat_lt (1 + place name slots) (length (s ∷ slots))) (Some i) None) at
-
 place-on : (b : board.Board) (v : Objects) → Shows b v → (n : ℕ) (name : List ℕ) → index_from (is_named name) 0 (board.slots_at b n) ≡ index_on v n name
-place-on b v s n name =
-    let from : 0 + place name (slots_of v n) ≡ place name (slots_of v n) = omega arith in
-    ap (index_from (is_named name) 0) (shows-slots b v s n)
-    ∙ place-shown name 0 (slots_of v n)
-    ∙ ap (λ (i : ℕ). cond (nat_lt (place name (slots_of v n)) (length (slots_of v n))) (Some i) None) from
+place-on b v s n name = ap (index_from (is_named name) 0) (shows-slots b v s n) ∙ named-place name (slots_of v n)
 
 -- a slot of a name changed
 
@@ -75,12 +44,6 @@ shows-named n name f b v s h each = rw (place-on b v s n name) (go (index_on v n
     go : (o : Option ℕ) → Shows (elim o [ None ↦ b | Some i ↦ h i ]) (elim o [ None ↦ v | Some i ↦ with_edit n (with_slot_changed f i) v ])
     go None = s
     go (Some i) = each i
-
-changed-shown : (f : Slot → Slot) (g : board.Slot → board.Slot) → ((s : Slot) → shown_slot (f s) ≡ g (shown_slot s)) → (i : ℕ) (slots : List Named)
-    → shown_slots (changed_at f i slots) ≡ changes.changed_at g i (shown_slots slots)
-changed-shown f g same i [] = refl
-changed-shown f g same zero (s ∷ slots) = ap (λ (t : board.Slot). (s.0, t) ∷ shown_slots slots) (same s.1)
-changed-shown f g same (suc i) (s ∷ slots) = ap (λ (ss : List (List ℕ × board.Slot)). (s.0, shown_slot s.1) ∷ ss) (changed-shown f g same i slots)
 
 shows-changed : (f : Slot → Slot) (g : board.Slot → board.Slot) → ((s : Slot) → shown_slot (f s) ≡ g (shown_slot s)) → (b : board.Board) (v : Objects)
     → Shows b v → (n i : ℕ) → Shows (release.edit n (changes.with_changed g i) b) (with_edit n (with_slot_changed f i) v)
@@ -154,14 +117,6 @@ live-changed n name f v key live = go (index_on v n name)
 
 -- edits that change an object alike
 
-edit-none : (n : ℕ) (rows : List (Key × Content)) → edit n (λ (c : Content). c) rows ≡ rows
-edit-none n [] = refl
-edit-none n (row ∷ rows) = ap₂ (λ (x : Key × Content) (xs : List (Key × Content)). x ∷ xs) (go (eqb row.0.birth n)) (edit-none n rows)
-  where
-    go : (t : Bool) → cond t (row.0, row.1) row ≡ row
-    go true = refl
-    go false = refl
-
 slot-alike : (f g : Slot → Slot) (i : ℕ) (slots : List Named) (x : Named) → slice_get slots i ≡ Some x → f x.1 ≡ g x.1
     → changed_at f i slots ≡ changed_at g i slots
 slot-alike f g i [] x e alike = cc
@@ -199,7 +154,7 @@ edit-keeps v good n i x e f alike =
     sym
     (edit-alike v good n i x e (with_slot_changed f i) (λ (c : Content). c)
     (λ c q. ap (λ (slots : List Named). with_slots slots c) (slot-alike f (λ (s : Slot). s) i c.slots x q alike ∙ changed-none i c.slots))
-    ∙ ap (λ (rows : List (Key × Content)). record v { rows = rows }) (edit-none n v.rows))
+    ∙ edit-same n v)
 
 named-at : (n : ℕ) (name : List ℕ) (f : Slot → Slot) (v : Objects) (i : ℕ) → index_on v n name ≡ Some i
     → with_edit n (with_slot_changed f i) v ≡ changed_named n name f v

@@ -65,7 +65,7 @@ shows-made b v s good kind key birth =
 
 -- a slot changed
 
-changed-shown : (f : Slot → Slot) (g : board.Slot → board.Slot) → ((s : Slot) → shown_slot (f s) ≡ g (shown_slot s)) → (i : ℕ) (slots : List Named)
+pub changed-shown : (f : Slot → Slot) (g : board.Slot → board.Slot) → ((s : Slot) → shown_slot (f s) ≡ g (shown_slot s)) → (i : ℕ) (slots : List Named)
     → shown_slots (changed_at f i slots) ≡ changes.changed_at g i (shown_slots slots)
 changed-shown f g same i [] = refl
 changed-shown f g same zero (s ∷ slots) = ap (λ (t : board.Slot). (s.0, t) ∷ shown_slots slots) (same s.1)

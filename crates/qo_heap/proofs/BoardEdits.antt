@@ -5,8 +5,10 @@ use Rattle.std.specs.Option.{option_map_or}
 use Rattle.std.proofs.lemmas.Bool.{eqb-true}
 use Rattle.std.proofs.lemmas.Bool.Decides.{nat_tests}
 use Rattle.std.proofs.lemmas.List.{replicate_more}
+use Rattle.std.proofs.lemmas.Option.{same_Some}
 use Rattle.qo_slots.specs.declared.keys.Key.{Key}
 use Rattle.qo_table.specs.Rows.{Rises, births, edit, object_at}
+use Rattle.qo_table.proofs.RowsLemmas.{edit-above}
 use Rattle.qo_model.specs.Board as board
 use Rattle.qo_model.specs.declared.notes.Note.{Note}
 use Rattle.qo_model.specs.Release.{drop_slot, with_dropped, pin, without_pin, put_in_order, without_first}
@@ -34,7 +36,7 @@ module _ (n : ℕ) (f : Content → Content) where
       go false is rest = rw is (ap (λ (rs : List board.Record). record_of row ∷ rs) rest)
 
   -- an edit that does not show
-  edit-unseen : ((m : ℕ) (c : Content) → shown m (f c) ≡ shown m c) → (rows : List (Key × Content)) → records_of (edit n f rows) ≡ records_of rows
+  pub edit-unseen : ((m : ℕ) (c : Content) → shown m (f c) ≡ shown m c) → (rows : List (Key × Content)) → records_of (edit n f rows) ≡ records_of rows
   edit-unseen same [] = refl
   edit-unseen same (row ∷ rows) = go (eqb row.0.birth n) refl (edit-unseen same rows)
     where
@@ -43,9 +45,9 @@ module _ (n : ℕ) (f : Content → Content) where
       go false is rest = rw is (ap (λ (rs : List board.Record). record_of row ∷ rs) rest)
 
   -- an edit that keeps the pins
-  edit-pins : ((c : Content) → (f c).pins ≡ c.pins) → (rows : List (Key × Content)) → pins_in (edit n f rows) ≡ pins_in rows
-  edit-pins same [] = refl
-  edit-pins same (row ∷ rows) = go (eqb row.0.birth n) refl (edit-pins same rows)
+  pub pins-edited : ((c : Content) → (f c).pins ≡ c.pins) → (rows : List (Key × Content)) → pins_in (edit n f rows) ≡ pins_in rows
+  pins-edited same [] = refl
+  pins-edited same (row ∷ rows) = go (eqb row.0.birth n) refl (pins-edited same rows)
     where
       go : (b : Bool) → eqb row.0.birth n ≡ b → pins_in (edit n f rows) ≡ pins_in rows → pins_in (edit n f (row ∷ rows)) ≡ pins_in (row ∷ rows)
       go true is rest = rw is (λ j. replicate (same row.1 j) row.0.birth ++ rest j)
@@ -58,7 +60,46 @@ module _ (n : ℕ) (f : Content → Content) where
       record {
         records = ap (map (release.edited n g)) s.records ∙ sym (edit-records g same v.rows);
         born = s.born;
-        pins = s.pins ∙ sym (edit-pins kept v.rows);
+        pins = s.pins ∙ sym (pins-edited kept v.rows);
+        notes = s.notes;
+        events = s.events;
+        now = s.now;
+      }
+
+-- one object edited: it alone has its birth
+module _ (n : ℕ) (f : Content → Content) (g : board.Record → board.Record) where
+  records-later : (above last : ℕ) (rows : List (Key × Content)) → n ≤ above → Rises above (births rows) last
+      → records_of (edit n f rows) ≡ map (release.edited n g) (records_of rows)
+  records-later above last [] le rises = refl
+  records-later above last (row ∷ rows) le rises =
+      let up : above < row.0.birth = rises.0 in
+      let other : eqb row.0.birth n ≡ false = grind arith in
+      rw other (ap (λ (rs : List board.Record). record_of row ∷ rs) (records-later row.0.birth last rows (omega arith) rises.1))
+
+  records-at : (above last : ℕ) (rows : List (Key × Content)) (c : Content) → Rises above (births rows) last → object_at rows n ≡ Some c
+      → shown n (f c) ≡ g (shown n c) → records_of (edit n f rows) ≡ map (release.edited n g) (records_of rows)
+  records-at above last [] c rises there same = cc
+  records-at above last (row ∷ rows) c rises there same = go (eqb row.0.birth n) refl (records-at row.0.birth last rows c rises.1)
+    where
+      go : (t : Bool) → eqb row.0.birth n ≡ t
+          → (object_at rows n ≡ Some c → shown n (f c) ≡ g (shown n c) → records_of (edit n f rows) ≡ map (release.edited n g) (records_of rows))
+          → records_of (edit n f (row ∷ rows)) ≡ map (release.edited n g) (records_of (row ∷ rows))
+      go true is rest =
+          let at : row.0.birth ≡ n = eqb-true row.0.birth n is in
+          let own : row.1 ≡ c = same_Some row.1 c (rw is at there) in
+          let here : shown row.0.birth (f row.1) ≡ g (shown row.0.birth row.1) =
+          (λ j. shown (at j) (f (own j))) ∙ same ∙ (λ j. g (shown (sym at j) (sym own j))) in
+          let later = records-later row.0.birth last rows (omega arith) rises.1 in
+          rw is (λ j. here j ∷ later j)
+      go false is rest = rw is (ap (λ (rs : List board.Record). record_of row ∷ rs) (rest (rw is at there) same))
+
+  pub shows-at : (b : board.Board) (v : Objects) → Shows b v → IsHeap v → (c : Content) → content_of v n ≡ Some c → shown n (f c) ≡ g (shown n c)
+      → ((d : Content) → (f d).pins ≡ d.pins) → Shows (release.edit n g b) (with_edit n f v)
+  shows-at b v s good c there same pins =
+      record {
+        records = ap (map (release.edited n g)) s.records ∙ sym (records-at 0 v.born v.rows c good.rising there same);
+        born = s.born;
+        pins = s.pins ∙ sym (pins-edited n f pins v.rows);
         notes = s.notes;
         events = s.events;
         now = s.now;
@@ -86,14 +127,6 @@ there-above n above last (row ∷ rows) c rises there = go (eqb row.0.birth n) r
         let up : above < row.0.birth = rises.0 in
         let more : row.0.birth < n = later (rw is at there) in
         omega arith
-
--- objects of later births stay
-edit-later : (n : ℕ) (f : Content → Content) (above last : ℕ) (rows : List (Key × Content)) → n ≤ above → Rises above (births rows) last → edit n f rows ≡ rows
-edit-later n f above last [] le rises = refl
-edit-later n f above last (row ∷ rows) le rises =
-    let up : above < row.0.birth = rises.0 in
-    let other : eqb row.0.birth n ≡ false = grind arith in
-    rw other (ap (λ (l : List (Key × Content)). row ∷ l) (edit-later n f row.0.birth last rows (omega arith) rises.1))
 
 -- what all members have, equal ones before others have
 pub all-replicate : (P : ℕ → Type 0) (k m : ℕ) (xs : List ℕ) → P m → AllByRecursion P xs → AllByRecursion P (replicate k m ++ xs)
@@ -130,7 +163,7 @@ pins-more n above last (row ∷ rows) c rises there = go (eqb row.0.birth n) ref
         → pins_in (edit n with_pin (row ∷ rows)) ≡ put_in_order n (pins_in (row ∷ rows))
     go true is later =
         let same : row.0.birth ≡ n = eqb-true row.0.birth n is in
-        let stay = edit-later n with_pin row.0.birth last rows (omega arith) rises.1 in
+        let stay = edit-above n with_pin row.0.birth last rows (omega arith) rises.1 in
         let put = put-same n row.1.pins row.0.birth (pins_in rows) (omega arith) in
         let first = put-first n (pins_in rows) (pins-above n row.0.birth last rows (omega arith) rises.1) in
         rw (is, stay, put, first, ← replicate_more row.1.pins row.0.birth, append_assoc (replicate row.1.pins row.0.birth) (row.0.birth ∷ []) (pins_in rows))
@@ -173,7 +206,7 @@ pins-less n above last (row ∷ rows) rises some = go (eqb row.0.birth n) refl (
         → pins_in (edit n content.without_pin (row ∷ rows)) ≡ without_first n (pins_in (row ∷ rows))
     go true is later =
         let same : row.0.birth ≡ n = eqb-true row.0.birth n is in
-        let stay = edit-later n content.without_pin row.0.birth last rows (omega arith) rises.1 in
+        let stay = edit-above n content.without_pin row.0.birth last rows (omega arith) rises.1 in
         let here : 0 < row.1.pins = rw is at some in
         rw (is, stay, first-here n row.1.pins row.0.birth (pins_in rows) is here) refl
     go false is later =

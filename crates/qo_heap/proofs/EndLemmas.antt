@@ -197,7 +197,7 @@ places-ended v good places n c there =
     kept-place v.events (deleted_event (shown n c)) left (places ∙ paths-parts v good n c there ∙ ap (λ (b : Bool). cond {A = ℕ} b 1 0 + left) (sym event))
 
 -- the heap with an object more
-live-more : (rows more : List (Key × Content)) (key : Key) → IsLive rows key → IsLive (rows ++ more) key
+pub live-more : (rows more : List (Key × Content)) (key : Key) → IsLive rows key → IsLive (rows ++ more) key
 live-more [] more key live = absurd live
 live-more (row ∷ rows) more key live = go (eqb row.0.birth key.birth) refl (live-more rows more key)
   where

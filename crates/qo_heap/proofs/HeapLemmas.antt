@@ -265,6 +265,15 @@ is_some-find p (x ∷ xs) = go (p x) (is_some-find p xs)
     go true rest = refl
     go false rest = rest
 
+-- what was found passes
+pub found-passes : {X : Type 0} (p : X → Bool) (xs : List X) (x : X) → find p xs ≡ Some x → p x ≡ true
+found-passes p [] x e = cc
+found-passes p (y ∷ xs) x e = go (p y) refl (found-passes p xs x)
+  where
+    go : (b : Bool) → p y ≡ b → (find p xs ≡ Some x → p x ≡ true) → p x ≡ true
+    go true is rest = let same : y ≡ x = cc (rw is at e) in ap p (sym same) ∙ is
+    go false is rest = rest (rw is at e)
+
 -- what an option has, if anything
 pub if-some : (P : Key → Type 0) (o : Option Key) → IfSome o P → Holds P o
 if-some P None h = tt

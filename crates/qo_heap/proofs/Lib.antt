@@ -4,8 +4,10 @@ pub mod BookLemmas
 pub mod EndLemmas
 pub mod SearchLemmas
 pub mod HeapLemmas
+mod InsideObjects
 mod ReferenceLemmas
 pub mod PlacesLemmas
+pub mod SlotPlaces
 pub mod BoardActs
 pub mod BoardChanges
 pub mod BoardEdits

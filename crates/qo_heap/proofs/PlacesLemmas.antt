@@ -8,6 +8,7 @@ use Rattle.std.proofs.lemmas.Option.{slice_get_past}
 use Rattle.std.proofs.lemmas.List.Sums.{sum_by-cons}
 use Rattle.qo_slots.specs.declared.keys.Key.{Key}
 use Rattle.qo_table.specs.Rows.{IsLive, Rises, births, edit, row_at, object_at}
+use Rattle.qo_table.proofs.RowsLemmas.{edit-above}
 use Rattle.qo_heap.specs.Places.{changed_at, first_changed, sum_first}
 
 module _ {X : Type 0} where
@@ -99,7 +100,7 @@ module _ {X : Type 0} where
   slice_get-some (x ∷ xs) zero below = (x, refl)
   slice_get-some (x ∷ xs) (suc i) below = slice_get-some xs i (omega arith)
 
-  pub position-some : (p : X → Bool) (xs : List X) (i : ℕ) → position p xs ≡ Some i → (x : X) × (slice_get xs i ≡ Some x)
+  position-some : (p : X → Bool) (xs : List X) (i : ℕ) → position p xs ≡ Some i → (x : X) × (slice_get xs i ≡ Some x)
   position-some p xs i there = go (nat_lt (position_or_len p xs) (length xs)) refl there
     where
       go : (b : Bool) → nat_lt (position_or_len p xs) (length xs) ≡ b → cond b (Some (position_or_len p xs)) None ≡ Some i → (x : X) × (slice_get xs i ≡ Some x)
@@ -107,10 +108,15 @@ module _ {X : Type 0} where
       go false lt is = cc
 
 -- what a view that is there says of itself
-pub some-at : {V W : Type 0} (f : V → W) (h : V → ℕ) (o : Option V) (w : W) (i : ℕ) → option_map f o ≡ Some w → IfSome o (λ v. h v ≡ i)
+some-at : {V W : Type 0} (f : V → W) (h : V → ℕ) (o : Option V) (w : W) (i : ℕ) → option_map f o ≡ Some w → IfSome o (λ v. h v ≡ i)
     → option_map h o ≡ Some i
 some-at f h None w i there at = cc
 some-at f h (Some v) w i there at = ap Some at
+
+-- a view of the member at a place found says the place
+pub placed-at : {V X : Type 0} (f : V → X) (h : V → ℕ) (p : X → Bool) (xs : List X) (i : ℕ) (o : Option V) → position p xs ≡ Some i
+    → option_map f o ≡ slice_get xs i → IfSome o (λ v. h v ≡ i) → option_map h o ≡ position p xs
+placed-at f h p xs i o there is at = let (x, some) = position-some p xs i there in some-at f h o x i (is ∙ some) at ∙ sym there
 
 module _ {T : Type 0} where
   -- along rising births a later row has a higher birth
@@ -142,20 +148,13 @@ module _ {T : Type 0} where
   live-at-place above last rows i row rises there = rw (row-at-place above last rows i row rises there) refl
 
   -- an edit by the birth of the row at a place is an edit at the place
-  edit-high : (n : ℕ) (f : T → T) (above last : ℕ) (rows : List (Key × T)) → n ≤ above → Rises above (births rows) last → edit n f rows ≡ rows
-  edit-high n f above last [] le rises = refl
-  edit-high n f above last (row ∷ rows) le rises =
-      let up : above < row.0.birth = rises.0 in
-      let other : eqb row.0.birth n ≡ false = grind arith in
-      rw other (ap (λ (l : List (Key × T)). row ∷ l) (edit-high n f row.0.birth last rows (omega arith) rises.1))
-
   pub edit-at-place : (f : T → T) (w : T) (above last : ℕ) (rows : List (Key × T)) (i : ℕ) (row : Key × T) → Rises above (births rows) last
       → slice_get rows i ≡ Some row → w ≡ f row.1 → edit row.0.birth (λ _. w) rows ≡ changed_at (λ (r : Key × T). (r.0, f r.1)) i rows
   edit-at-place f w above last [] i row rises there is = cc
   edit-at-place f w above last (r ∷ rows) zero row rises there is =
       let same : r ≡ row = cc there in
       let here : eqb r.0.birth row.0.birth ≡ true = rw same (grind arith) in
-      rw (here, edit-high row.0.birth (λ _. w) r.0.birth last rows (rw same (omega arith)) rises.1, is, same) refl
+      rw (here, edit-above row.0.birth (λ _. w) r.0.birth last rows (rw same (omega arith)) rises.1, is, same) refl
   edit-at-place f w above last (r ∷ rows) (suc i) row rises there is =
       let more : r.0.birth < row.0.birth = later-above r.0.birth last rows i row rises.1 there in
       let other : eqb r.0.birth row.0.birth ≡ false = grind arith in

@@ -1,9 +1,9 @@
 -- The body of a new object.
-use Rattle.std.proofs.Common.{◌≡◌, refl}
+use Rattle.std.proofs.Common.{◌≡◌, refl, ℕ, arith}
 use Rattle.qo_values.specs.Registers.{fresh_registers}
 use Rattle.qo_values.specs.declared.kinds.TypeId.{TypeId}
 use Rattle.qo_values.specs.declared.kinds.TypeId.TheVariants.{Object, Container, Machine, Device, SlotDevice, SlotUart, SlotTimer, SlotBridge, MemDimm, Bus, SlotBus, MemBus, Clock, MemoryBackend, MemoryBackendRam, Tag}
-use Rattle.qo_kinds.specs.Bodies.{body_of, kept_of, none_kept, registers_of}
+use Rattle.qo_kinds.specs.Bodies.{IsTimely, body_of, kept_of, none_kept, registers_of}
 
 pub fresh-registers : (t : TypeId) → registers_of (body_of t) ≡ fresh_registers t
 fresh-registers Object = refl
@@ -40,3 +40,17 @@ fresh-bare Clock = refl
 fresh-bare MemoryBackend = refl
 fresh-bare MemoryBackendRam = refl
 fresh-bare Tag = refl
+
+-- no moment of a new body is ahead
+pub fresh-timely : (t : TypeId) (now : ℕ) → IsTimely now (body_of t)
+fresh-timely SlotTimer now = omega arith
+fresh-timely SlotUart now = tt
+fresh-timely MemDimm now = tt
+fresh-timely SlotBridge now = tt
+fresh-timely Bus now = tt
+fresh-timely SlotBus now = tt
+fresh-timely MemBus now = tt
+fresh-timely Clock now = tt
+fresh-timely MemoryBackend now = tt
+fresh-timely MemoryBackendRam now = tt
+fresh-timely t now = tt

@@ -210,14 +210,15 @@ module _ {T : Type 0} where
       let all = stored-vacant t u key.index (Some (key.birth, v)) vacant updates (k ∷ ks) stored in
       (all.0, stored-added t u key v vacant updates ks stored.1)
 
-  -- the edit of a row by what it then holds
-  edit-above : (n : ℕ) (f : T → T) (above last : ℕ) (rows : List (Key × T)) → n ≤ above → Rises above (births rows) last → edit n f rows ≡ rows
+  -- rows of later births stay
+  pub edit-above : (n : ℕ) (f : T → T) (above last : ℕ) (rows : List (Key × T)) → n ≤ above → Rises above (births rows) last → edit n f rows ≡ rows
   edit-above n f above last [] le rises = refl
   edit-above n f above last (row ∷ rows) le rises =
       let up : above < row.0.birth = rises.0 in
       let other : eqb row.0.birth n ≡ false = grind arith in
       rw other (ap (λ (l : List (Key × T)). row ∷ l) (edit-above n f row.0.birth last rows (omega arith) rises.1))
 
+  -- the edit of a row by what it then holds
   pub edit-as : (n : ℕ) (f : T → T) (v w : T) (above last : ℕ) (rows : List (Key × T)) → Rises above (births rows) last → object_at rows n ≡ Some v → w ≡ f v
       → edit n (λ _. w) rows ≡ edit n f rows
   edit-as n f v w above last [] rises there is = refl

@@ -8,7 +8,8 @@ use Rattle.qo_model.specs.Objects.{index_from}
 use Rattle.qo_model.specs.Release.{let_go}
 use Rattle.qo_model.specs.Unplug.{is_named}
 use Rattle.qo_life.specs.Life.{Goes}
-use Rattle.qo_buses.proofs.LeavingLemmas.{goes-go_none, goes-go_where, named-place}
+use Rattle.qo_buses.proofs.LeavingLemmas.{goes-go_none, goes-go_where}
+use Rattle.qo_heap.proofs.SlotPlaces.{named-place}
 use Rattle.qo_buses.proofs.leaving.let_go_named.Goals as goal
 
 pub returns-in_default : goal.returns-in_default

@@ -2,7 +2,7 @@
 use Rattle.std.proofs.Common.{◌≡◌, ◌-◌, length}
 use Rattle.qo_model.specs.Unplug.{names_kid}
 use Rattle.qo_heap.specs.Objects.{slots_of}
-use Rattle.qo_buses.proofs.LeavingLemmas.{place_after}
+use Rattle.qo_heap.proofs.SlotPlaces.{place_after}
 use Rattle.qo_buses.proofs.leaving.place_linked.Given as goal
 
 abbrev pub invariant-loop-view : goal.invariant-loop-view

@@ -1,9 +1,10 @@
 -- The link is let go, removed, and what it held ends where nothing refers to it.
+use Rattle.std.proofs.lemmas.Option.{IfSome_then}
 use Rattle.qo_table.specs.Rows.{IsLive}
 use Rattle.qo_object.specs.Content.{cut_at, dropped_at}
 use Rattle.qo_heap.specs.Objects.{with_edit}
 use Rattle.qo_heap.proofs.HeapLemmas.{live-edit}
-use Rattle.qo_buses.proofs.LeavingLemmas.{goes-taken, link-emptied, link-held, link-live, more-live}
+use Rattle.qo_buses.proofs.LeavingLemmas.{goes-taken, link-emptied, link-held, link-live}
 use Rattle.qo_buses.proofs.leaving.take_link.Goals as goal
 
 pub cut-requires-clause-live : goal.cut-requires-clause-live
@@ -14,11 +15,11 @@ cut-requires-clause-link g c = rw c.empty-held.ensures.now (link-emptied c.args.
 
 pub drop_hold-requires : goal.drop_hold-requires
 drop_hold-requires g c =
-    more-live (IsLive c.args.heap.now.rows) (IsLive c.cut.new.self.rows)
+    IfSome_then c.empty-held.result {P = IsLive c.args.heap.now.rows} {Q = IsLive c.cut.new.self.rows}
+    (link-live c.args.heap.now c.facts.ensures c.args.o c.requires.live c.args.at c.empty-held.result c.empty-held.ensures.answer)
     (λ key live. rw (c.cut.ensures.now, c.empty-held.ensures.now)
     (live-edit c.args.o.birth (cut_at c.args.at) (with_edit c.args.o.birth (dropped_at c.args.at) c.args.heap.now).rows key
     (live-edit c.args.o.birth (dropped_at c.args.at) c.args.heap.now.rows key live)))
-    c.empty-held.result (link-live c.args.heap.now c.facts.ensures c.args.o c.requires.live c.args.at c.empty-held.result c.empty-held.ensures.answer)
 
 pub returns : goal.returns
 returns g c =

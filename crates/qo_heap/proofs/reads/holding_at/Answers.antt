@@ -3,11 +3,9 @@ use Rattle.qo_heap.proofs.PlacesLemmas.{key-live, read-at-place}
 use Rattle.qo_heap.proofs.reads.holding_at.Goals as goal
 
 pub look-object-requires : goal.look-object-requires
-look-object-requires g c =
-    key-live c.args.table.now.born c.args.table.now.rows c.args.place c.in-Some.key c.facts.ensures (sym c.key_at.ensures ∙ c.in-Some.is)
+look-object-requires g c = key-live _ c.args.table.now.rows c.args.place c.in-Some.key c.facts.ensures (sym c.key_at.ensures ∙ c.in-Some.is)
 
 pub returns-in-Some-clause-count : goal.returns-in-Some-clause-count
 returns-in-Some-clause-count g c =
-    let there = read-at-place c.args.table.now.born c.args.table.now.rows c.args.place c.in-Some.key c.look-object.result.now c.facts.ensures
-    (sym c.key_at.ensures ∙ c.in-Some.is) c.look-object.ensures.object in
-    rw there c.holding.ensures
+    rw (read-at-place _ c.args.table.now.rows c.args.place c.in-Some.key c.look-object.result.now c.facts.ensures (sym c.key_at.ensures ∙ c.in-Some.is)
+    c.look-object.ensures.object) c.holding.ensures

@@ -3,11 +3,9 @@ use Rattle.qo_heap.proofs.PlacesLemmas.{key-live, read-at-place}
 use Rattle.qo_heap.proofs.reads.is_parent_at.Goals as goal
 
 pub look-requires : goal.look-requires
-look-requires g c =
-    key-live c.args.table.now.born c.args.table.now.rows c.args.place c.in-Some.key c.facts.ensures (sym c.key_at.ensures ∙ c.in-Some.is)
+look-requires g c = key-live _ c.args.table.now.rows c.args.place c.in-Some.key c.facts.ensures (sym c.key_at.ensures ∙ c.in-Some.is)
 
 pub returns-in-Some : goal.returns-in-Some
 returns-in-Some g c =
-    let there = read-at-place c.args.table.now.born c.args.table.now.rows c.args.place c.in-Some.key c.look.result.now c.facts.ensures
-    (sym c.key_at.ensures ∙ c.in-Some.is) c.look.ensures.object in
-    rw there c.is_parent.ensures
+    rw (read-at-place _ c.args.table.now.rows c.args.place c.in-Some.key c.look.result.now c.facts.ensures (sym c.key_at.ensures ∙ c.in-Some.is)
+    c.look.ensures.object) c.is_parent.ensures

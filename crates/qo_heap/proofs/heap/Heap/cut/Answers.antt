@@ -1,31 +1,16 @@
 use Rattle.std.proofs.Common.{refl}
 use Rattle.qo_object.specs.Content.{cut_at}
-use Rattle.qo_heap.specs.Objects.{Objects}
-use Rattle.qo_heap.proofs.HeapLemmas.{edited-heap, cut-there}
+use Rattle.qo_heap.proofs.HeapLemmas.{Edited, edited-heap, cut-there}
+use Rattle.qo_heap.proofs.InsideObjects.{objects_inside}
 use Rattle.qo_heap.proofs.heap.Heap.cut.Goals as goal
 
+edited : (g : _) (c : goal.After-self-1 g) → Edited (objects_inside c.self.inside) c.args.o.birth (cut_at c.args.at) c.cut.new.self
+edited g c =
+    edited-heap _ c.self.invariant c.args.o.birth (cut_at c.args.at) c.change.result.now c.cut.new.self c.change.ensures.object c.cut.ensures
+    (λ x. cut-there (objects_inside c.self.inside) c.args.at x) (λ x. refl)
+
 pub invariant_of-self : goal.invariant_of-self
-invariant_of-self g c =
-    let v : Objects = record {
-      rows = c.self.inside.table.rows;
-      born = c.self.inside.table.born;
-      log = c.self.inside.log;
-      claims = c.self.inside.claims;
-      events = c.self.inside.events;
-      time = c.self.inside.time;
-    } in
-    (edited-heap v c.self.invariant c.args.o.birth (cut_at c.args.at) c.change.result.now c.cut.new.self c.change.ensures.object c.cut.ensures
-    (λ x. cut-there v c.args.at x) (λ x. refl)).good
+invariant_of-self g c = (edited g c).good
 
 pub returns-clause-now : goal.returns-clause-now
-returns-clause-now g c =
-    let v : Objects = record {
-      rows = c.self.inside.table.rows;
-      born = c.self.inside.table.born;
-      log = c.self.inside.log;
-      claims = c.self.inside.claims;
-      events = c.self.inside.events;
-      time = c.self.inside.time;
-    } in
-    rw (← c.self.view_is) (edited-heap v c.self.invariant c.args.o.birth (cut_at c.args.at) c.change.result.now c.cut.new.self c.change.ensures.object
-    c.cut.ensures (λ x. cut-there v c.args.at x) (λ x. refl)).now
+returns-clause-now g c = rw (← c.self.view_is) (edited g c).now

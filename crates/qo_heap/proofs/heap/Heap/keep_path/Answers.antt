@@ -1,34 +1,18 @@
 use Rattle.qo_object.specs.Content.{Content}
-use Rattle.qo_heap.specs.Objects.{Objects, content_of}
-use Rattle.qo_heap.proofs.HeapLemmas.{none-of, path-heap}
+use Rattle.qo_heap.specs.Objects.{content_of}
+use Rattle.qo_heap.proofs.HeapLemmas.{KeptPath, none-of, path-heap}
+use Rattle.qo_heap.proofs.InsideObjects.{objects_inside}
 use Rattle.qo_heap.proofs.heap.Heap.keep_path.Goals as goal
 
-pub invariant_of-self : goal.invariant_of-self
-invariant_of-self g c =
-    let v : Objects = record {
-      rows = c.self.inside.table.rows;
-      born = c.self.inside.table.born;
-      log = c.self.inside.log;
-      claims = c.self.inside.claims;
-      events = c.self.inside.events;
-      time = c.self.inside.time;
-    } in
-    let none = none-of (λ (x : Content). x.kept_path) (content_of v c.args.o.birth) c.change.result.now c.change.ensures.object
+kept : (g : _) (c : goal.After-self-1 g) → KeptPath (objects_inside c.self.inside) c.args.o.birth c.args.path c.keep_path.new.self c.promise.new.self
+kept g c =
+    let none = none-of (λ (x : Content). x.kept_path) (content_of (objects_inside c.self.inside) c.args.o.birth) c.change.result.now c.change.ensures.object
     (rw (← c.self.view_is) at c.requires.pathless) in
-    (path-heap v c.self.invariant c.args.o.birth c.args.path c.change.result.now c.keep_path.new.self c.change.ensures.object c.keep_path.ensures none
-    c.promise.new.self c.promise.ensures).good
+    path-heap _ c.self.invariant c.args.o.birth c.args.path c.change.result.now c.keep_path.new.self c.change.ensures.object c.keep_path.ensures none
+    c.promise.new.self c.promise.ensures
+
+pub invariant_of-self : goal.invariant_of-self
+invariant_of-self g c = (kept g c).good
 
 pub returns-clause-now : goal.returns-clause-now
-returns-clause-now g c =
-    let v : Objects = record {
-      rows = c.self.inside.table.rows;
-      born = c.self.inside.table.born;
-      log = c.self.inside.log;
-      claims = c.self.inside.claims;
-      events = c.self.inside.events;
-      time = c.self.inside.time;
-    } in
-    let none = none-of (λ (x : Content). x.kept_path) (content_of v c.args.o.birth) c.change.result.now c.change.ensures.object
-    (rw (← c.self.view_is) at c.requires.pathless) in
-    rw (← c.self.view_is) (path-heap v c.self.invariant c.args.o.birth c.args.path c.change.result.now c.keep_path.new.self c.change.ensures.object
-    c.keep_path.ensures none c.promise.new.self c.promise.ensures).now
+returns-clause-now g c = rw (← c.self.view_is) (kept g c).now

@@ -2,22 +2,20 @@ use Rattle.std.proofs.Common.{sym, ◌∙◌, List, ℕ}
 use Rattle.std.specs.Str.{bytes_eq}
 use Rattle.qo_object.specs.declared.slots.Slot.{Slot}
 use Rattle.qo_object.specs.declared.slots.SlotView.{SlotView}
-use Rattle.qo_heap.proofs.PlacesLemmas.{position-find, position-none, position-some, some-at}
+use Rattle.qo_heap.proofs.PlacesLemmas.{position-find, position-none, placed-at}
 use Rattle.qo_heap.proofs.heap.Heap.slot.Goals as goal
 
 pub returns-in-Some-clause-slot : goal.returns-in-Some-clause-slot
 returns-in-Some-clause-slot g c =
-    let found =
-    position-find (λ (s : List ℕ × Slot). bytes_eq c.args.name.now s.0) c.look-object.result.now.slots c.in-Some.at (sym c.find.ensures ∙ c.in-Some.is) in
-    rw (← c.self.view_is, c.look-object.ensures.object) (c.slot_at.ensures.slot ∙ found)
+    rw (← c.self.view_is, c.look-object.ensures.object)
+    (c.slot_at.ensures.slot
+    ∙ position-find (λ (s : List ℕ × Slot). bytes_eq c.args.name.now s.0) c.look-object.result.now.slots c.in-Some.at (sym c.find.ensures ∙ c.in-Some.is))
 
 pub returns-in-Some-clause-at : goal.returns-in-Some-clause-at
 returns-in-Some-clause-at g c =
-    let p = λ (s : List ℕ × Slot). bytes_eq c.args.name.now s.0 in
-    let there = sym c.find.ensures ∙ c.in-Some.is in
-    let (x, is) = position-some p c.look-object.result.now.slots c.in-Some.at there in
     rw (← c.self.view_is, c.look-object.ensures.object)
-    (some-at _ (λ (v : SlotView). v.at) c.slot_at.result x c.in-Some.at (c.slot_at.ensures.slot ∙ is) c.slot_at.ensures.at ∙ sym there)
+    (placed-at _ (λ (v : SlotView). v.at) (λ (s : List ℕ × Slot). bytes_eq c.args.name.now s.0) c.look-object.result.now.slots c.in-Some.at c.slot_at.result
+    (sym c.find.ensures ∙ c.in-Some.is) c.slot_at.ensures.slot c.slot_at.ensures.at)
 
 pub returns-in-None-clause-slot : goal.returns-in-None-clause-slot
 returns-in-None-clause-slot g c =
