@@ -1,7 +1,7 @@
 -- Why a device is refused before anything of it is made.
-use Rattle.std.proofs.Common.{◌≡◌, refl, ap, ap₂, sym, ◌∙◌, ℕ, suc, ◌+◌, ◌<◌, ◌≤◌, Bool, true, false, not, ◌||◌, nat_le, List, [], ◌∷◌, ◌++◌, append-nil, length-append, codes, filter_map, find, length, option_to_list, slice_get, take, zero, Option, Some, None, is_some, option_map, arith}
+use Rattle.std.proofs.Common.{◌≡◌, refl, ap, ap₂, sym, ◌∙◌, ℕ, ◌+◌, ◌<◌, ◌≤◌, Bool, true, false, not, ◌||◌, nat_le, List, [], ◌∷◌, codes, find, length, Option, Some, None, is_some, option_map, arith}
 use Rattle.std.specs.Prelude.{if◌then◌else◌, IfNone, IfSome}
-use Rattle.std.specs.List.{cons_option, list_any}
+use Rattle.std.specs.List.{list_any}
 use Rattle.std.specs.Option.{option_map_or}
 use Rattle.std.specs.Str.{bytes_eq}
 use Rattle.std.proofs.lemmas.Bool.Decides.{nat_tests}
@@ -15,13 +15,12 @@ use Rattle.qo_values.specs.declared.kinds.TypeId.{TypeId}
 use Rattle.qo_values.specs.declared.limits.TheConstants.{LIVE_OBJECTS_MAX}
 use Rattle.qo_types.specs.Rows.{is_abstract}
 use Rattle.qo_model.specs.Board as board
-use Rattle.qo_model.specs.Board.{Board, kind_of}
+use Rattle.qo_model.specs.Board.{Board}
 use Rattle.qo_model.specs.Devices.{is_going}
 use Rattle.qo_model.specs.Objects.{has_slot}
 use Rattle.qo_model.specs.Paths.{attached, is_of}
-use Rattle.qo_model.specs.Plug.{bus_barred, bus_for, bus_type, container_barred, further_in, objects_in, room_barred, type_barred}
-use Rattle.qo_model.specs.Types.{TypeInfo, is_a, type_named, info_of, slots_of as properties_of}
-use Rattle.qo_model.specs.declared.properties.Property.{Property}
+use Rattle.qo_model.specs.Plug.{bus_barred, bus_for, bus_type, container_barred, objects_in, room_barred, type_barred}
+use Rattle.qo_model.specs.Types.{TypeInfo, is_a, type_named, info_of}
 use Rattle.qo_slots.specs.declared.keys.Key.{Key}
 use Rattle.qo_object.specs.Content.{Content}
 use Rattle.qo_object.specs.BoardObject.{shown_slots}
@@ -31,7 +30,6 @@ use Rattle.qo_heap.specs.Objects.{Objects, content_of, slots_of}
 use Rattle.qo_heap.proofs.HeapLemmas.{is_some-find}
 use Rattle.qo_heap.proofs.BoardReads.{shows-kind, shows-slots}
 use Rattle.qo_properties.proofs.BarLemmas.{row-own}
-use Rattle.qo_properties.proofs.NewSlotLemmas.{next-slot}
 
 -- the type
 module _ (name : List ℕ) (t : TypeId) (is : Some t ≡ option_map (λ (x : TypeInfo). x.id) (type_named name)) where
@@ -142,42 +140,6 @@ module _ (b : Board) (t : TypeId) (v : Objects) (s : Shows b v) where
   no-memory fails None gone =
       let none : is_of b (bus_type t) MEMORY_BUS_BIRTH ≡ false = of-gone b v s MEMORY_BUS_BIRTH (bus_type t) gone in
       ap (λ (u : Bool). bus_barred b t (Some (if u then ROOT_BUS_BIRTH else MEMORY_BUS_BIRTH))) fails ∙ bus-other b t MEMORY_BUS_BIRTH none
-
--- the objects of a device, property by property
-module _ {X Y : Type 0} (f : X → Option Y) where
-  fewer : (o : Option Y) (ys : List Y) (n : ℕ) → length ys ≤ n → length (cons_option o ys) ≤ suc n
-  fewer None ys n le = omega (arith, le)
-  fewer (Some y) ys n le = omega (arith, le)
-
-  pub passing-few : (k : ℕ) (xs : List X) → length (filter_map f (take k xs)) ≤ k
-  passing-few zero xs = omega arith
-  passing-few (suc k) [] = omega arith
-  passing-few (suc k) (x ∷ xs) = fewer (f x) (filter_map f (take k xs)) k (passing-few k xs)
-
-pub further-yes : (t : TypeId) (k n : ℕ) (p : Property) → Some p ≡ slice_get (properties_of t) k
-    → n ≡ suc (length (filter_map further_in (take k (properties_of t)))) → is_some (further_in p) ≡ true
-    → n + 1 ≡ suc (length (filter_map further_in (take (k + 1) (properties_of t))))
-further-yes t k n p at is holds = go (further_in p) refl holds
-  where
-    go : (o : Option (List ℕ × TypeId)) → further_in p ≡ o → is_some o ≡ true → n + 1 ≡ suc (length (filter_map further_in (take (k + 1) (properties_of t))))
-    go None e h = absurd (let clash : false ≡ true = h in cc)
-    go (Some x) e h =
-        let more : length (filter_map further_in (take (k + 1) (properties_of t))) ≡ length (filter_map further_in (take k (properties_of t)) ++ x ∷ []) =
-        ap (λ (l : List (List ℕ × TypeId)). length l) (next-slot further_in k (properties_of t) p (sym at)
-        ∙ ap (λ (o : Option (List ℕ × TypeId)). filter_map further_in (take k (properties_of t)) ++ option_to_list o) e) in
-        omega (arith, more, is, length-append (filter_map further_in (take k (properties_of t))) (x ∷ []))
-
-pub further-no : (t : TypeId) (k n : ℕ) (p : Property) → Some p ≡ slice_get (properties_of t) k
-    → n ≡ suc (length (filter_map further_in (take k (properties_of t)))) → is_some (further_in p) ≡ false
-    → n ≡ suc (length (filter_map further_in (take (k + 1) (properties_of t))))
-further-no t k n p at is fails = go (further_in p) refl fails
-  where
-    go : (o : Option (List ℕ × TypeId)) → further_in p ≡ o → is_some o ≡ false → n ≡ suc (length (filter_map further_in (take (k + 1) (properties_of t))))
-    go (Some x) e h = absurd (let clash : true ≡ false = h in cc)
-    go None e h =
-        is ∙ ap (λ (l : List (List ℕ × TypeId)). suc (length l))
-        (sym (next-slot further_in k (properties_of t) p (sym at) ∙ ap (λ (o : Option (List ℕ × TypeId)). filter_map further_in (take k (properties_of t))
-        ++ option_to_list o) e ∙ append-nil (filter_map further_in (take k (properties_of t)))))
 
 -- the room
 pub many-shown : (b : Board) (v : Objects) → Shows b v → length b.records ≡ length v.rows

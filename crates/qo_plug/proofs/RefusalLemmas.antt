@@ -1,17 +1,16 @@
 -- An attempt at a device that was given up before it took a place leaves the board's.
-use Rattle.std.proofs.Common.{◌≡◌, ap, sym, subst, ℕ, suc, ◌+◌, true, false, ◌==◌, List, [], ◌++◌, length, take, append-nil, inl, inr}
+use Rattle.std.proofs.Common.{◌≡◌, ap, sym, subst, ℕ, suc, ◌+◌, false, ◌==◌, List, [], ◌++◌, length, append-nil}
 use Rattle.qo_values.specs.declared.kinds.TypeId.{TypeId}
 use Rattle.qo_model.specs.Board.{Board}
-use Rattle.qo_model.specs.Plug.{begun_notes, born_from, cut_attempt, device_last, ended_notes, plug_attempt, types_in, with_ended}
+use Rattle.qo_model.specs.Plug.{begun_notes, born_from, device_last, ended_notes, plug_attempt, types_in, with_ended}
 use Rattle.qo_model.specs.declared.notes.Note.{Note}
 use Rattle.qo_notes.specs.Log.{IsLogOf, noted_all}
 use Rattle.qo_notes.proofs.Logs.{all_lem}
 use Rattle.qo_heap.specs.Board.{Shows}
 use Rattle.qo_heap.specs.Book.{IsBook}
 use Rattle.qo_heap.specs.Objects.{Objects}
-use Rattle.qo_properties.specs.Attempts.{IsCutWhole, given_up_whole, tried_all}
+use Rattle.qo_properties.specs.Attempts.{given_up_whole, tried_all}
 use Rattle.qo_properties.specs.Claims.{KeepsBook}
-use Rattle.qo_plug.specs.Drafts.{CutShort}
 
 -- objects that were made and ended leave births and notes
 all-shown : (b : Board) (v : Objects) → Shows b v → (os : List (ℕ × TypeId)) → Shows (with_ended b os [] (device_last os)) (tried_all os v)
@@ -39,24 +38,6 @@ module _ (b : Board) (v w : Objects) (t : TypeId) (s : Shows b v) where
       (tried_all (born_from (suc n) (types_in t)) v))
       s.born (all-shown b v s (born_from (suc b.born) (types_in t)))))
 
-  pub tried-cut : IsCutWhole t v w → CutShort b t w
-  tried-cut (inl is) = inl (subst (Shows b) (sym is) s)
-  tried-cut (inr (i, least, most, is)) =
-      inr (
-        i,
-        true,
-        least,
-        most,
-        subst (Shows (cut_attempt b t i true)) (sym is)
-            (subst
-            (λ (n : ℕ). Shows (cut_attempt b t i true) (tried_all (take i (born_from (suc n) (types_in t))) v))
-            s.born (all-shown b v s (take i (born_from (suc b.born) (types_in t))))),
-      )
-
 -- and the book of claims
 pub whole-book : (v w : Objects) (t : TypeId) → w ≡ given_up_whole t v → KeepsBook v w
 whole-book v w t is = λ out h. subst (λ (x : Objects). IsBook out x) (sym is) h
-
-pub cut-book : (v w : Objects) (t : TypeId) → IsCutWhole t v w → KeepsBook v w
-cut-book v w t (inl is) = λ out h. subst (λ (x : Objects). IsBook out x) (sym is) h
-cut-book v w t (inr (i, least, most, is)) = λ out h. subst (λ (x : Objects). IsBook out x) (sym is) h

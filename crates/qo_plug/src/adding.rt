@@ -64,7 +64,7 @@ pub fn add<L: Ledger>(
         Ok(spot) => spot,
         Err(AddRefusal::Refused { stage, code }) => {
             let kind = planned.site.kind;
-            return Err(turn_down(heap, kind, stage, code, alloc, steps));
+            return Err(turn_down(heap, kind, stage, code));
         }
         Err(AddRefusal::Memory) => return Err(AddRefusal::Memory),
     };

@@ -1,12 +1,12 @@
 //! Why a device is refused before anything of it is made: its type, its id, its bus, and the room
 //! for its objects. The first that stands is the refusal, decided on the board before.
 
-ghost use Rattle.std.specs.Prelude.{◌≡◌, ◌≤◌, true, Err, Some, None, IfNone, IfOk, IfSome, codes, is_some, map, option_map};
+ghost use Rattle.std.specs.Prelude.{◌≡◌, true, Err, Some, None, IfNone, IfOk, IfSome, codes, is_some, map, option_map};
 ghost use Rattle.qo_values.specs.declared.codes.Code.{Code};
 ghost use Rattle.qo_values.specs.declared.codes.Code.TheVariants.{E26};
 ghost use Rattle.qo_model.specs.Board.{Board};
 ghost use Rattle.qo_model.specs.Paths.{is_of};
-ghost use Rattle.qo_model.specs.Plug.{bus_barred, bus_for, bus_type, container_barred, further_in, objects_in, room_barred, type_barred};
+ghost use Rattle.qo_model.specs.Plug.{bus_barred, bus_for, bus_type, container_barred, objects_in, room_barred, type_barred};
 ghost use Rattle.qo_model.specs.Types.{is_a, type_named};
 ghost use Rattle.qo_table.specs.Rows.{IsLive};
 ghost use Rattle.qo_heap.specs.Board.{Shows};
@@ -14,8 +14,8 @@ ghost use Rattle.qo_properties.specs.Changes.{refusal_in};
 
 use qo_buses::{is_going, is_of};
 use qo_heap::{Heap, Oid, Steps};
-use qo_model::{Property, PropertyRole};
 use qo_paths::{is_attached, resolve};
+use qo_properties::objects_in;
 use qo_types::TypeTable;
 use qo_values::{Code, LIVE_OBJECTS_MAX, MEMORY_BUS_BIRTH, ROOT_BUS_BIRTH, TypeId};
 use std::sync::ledger::Ledger;
@@ -138,29 +138,6 @@ pub fn open_bus<L: Ledger>(
         return Err(Code::E27);
     }
     Ok(bus)
-}
-
-/// Whether a property is a further object of a device.
-fn is_further(row: Property) -> bool
-    ensures { result ≡ is_some (further_in row) }
-{
-    matches!(row.role, PropertyRole::Child(_))
-}
-
-/// How many objects a device of a type is.
-fn objects_in(kind: TypeId) -> usize
-    ensures count { result ≡ objects_in kind }
-    ensures few { result ≤ 10 }
-{
-    let mut count = 1;
-    let mut place = 0;
-    while let Some(row) = TypeTable::board().prop(kind, place) {
-        if is_further(row) {
-            count += 1;
-        }
-        place += 1;
-    }
-    count
 }
 
 /// Whether there is room for the objects of a device of a type: `E43` comes where there would be more

@@ -1,13 +1,10 @@
 //! Beginning a device, the stages 1 to 4 of adding: it is admitted, what is given for its properties
 //! is looked at, and it is made; or an attempt at it is given up. It stands nowhere yet.
 
-ghost use Rattle.std.specs.Prelude.{◌≡◌, ◌≤◌, ◌==◌, ℕ, List, true, false, codes, Err, IfOk, None, OnErr, OnOk, option_map};
+ghost use Rattle.std.specs.Prelude.{◌≡◌, ◌≤◌, ◌==◌, ℕ, List, false, Err, IfOk, OnErr, OnOk, option_map};
 ghost use Rattle.qo_model.specs.Board.{Board, Ring};
-ghost use Rattle.qo_model.specs.Objects.{refusal_of};
 ghost use Rattle.qo_model.specs.Plug.{Wanted, plug_attempt};
-ghost use Rattle.qo_model.specs.Types.{is_a};
 ghost use Rattle.qo_sound.specs.TreeKept.{SoundTree};
-ghost use Rattle.qo_table.specs.Rows.{IsLive};
 ghost use Rattle.qo_heap.specs.Board.{Shows};
 ghost use Rattle.qo_properties.specs.Claims.{KeepsBook};
 ghost use Rattle.qo_plug.specs.declared.refusals.AddRefusal.TheVariants.{Memory};
@@ -48,19 +45,13 @@ pub struct Begun {
 }
 
 /// An attempt at a device of a type that is refused before it takes a place, at a stage and with a
-/// code: its objects are made and end at once. This is the refusal, but for want of memory.
-pub(crate) fn turn_down<L: Ledger>(
-    heap: &mut Heap,
-    kind: TypeId,
-    stage: u8,
-    code: Code,
-    alloc: Global,
-    steps: &mut Steps<L>,
-) -> AddRefusal
+/// code: its objects are made and end at once. This is the refusal, but where not so many births are
+/// left below 2^64: then the heap is as it was, and memory wants.
+pub(crate) fn turn_down(heap: &mut Heap, kind: TypeId, stage: u8, code: Code) -> AddRefusal
     ensures down { (b : Board) (bus : ℕ) → Shows b heap.old → (stage == 8) ≡ false → turned_down b kind bus (record { stage = stage; code = code }) result heap.new }
     ensures book { KeepsBook heap.old heap.new }
 {
-    match attempt_whole(heap, kind, alloc, steps) {
+    match attempt_whole(heap, kind) {
         Ok(()) => AddRefusal::Refused { stage, code },
         Err(_) => AddRefusal::Memory,
     }
@@ -134,7 +125,7 @@ pub(crate) fn choose<L: Ledger>(
     };
     match plan(heap, site.kind, props, alloc, steps) {
         Ok(plan) => Ok(Planned { site, plan }),
-        Err(Refusal::Refused(code)) => Err(turn_down(heap, site.kind, 4, code, alloc, steps)),
+        Err(Refusal::Refused(code)) => Err(turn_down(heap, site.kind, 4, code)),
         Err(Refusal::Memory) => Err(AddRefusal::Memory),
     }
 }

@@ -1,17 +1,21 @@
--- The objects were made and ended.
-use Rattle.std.proofs.Common.{refl}
-use Rattle.qo_plug.proofs.RefusalLemmas.{cut-book, tried-cut, tried-shown, whole-book}
+-- The objects were made and ended; or nothing was.
+use Rattle.std.proofs.Common.{refl, inl, subst, sym, List}
+use Rattle.qo_claims.specs.declared.claims.Claimed.{Claimed}
+use Rattle.qo_heap.specs.Board.{Shows}
+use Rattle.qo_heap.specs.Book.{IsBook}
+use Rattle.qo_heap.specs.Objects.{Objects}
+use Rattle.qo_plug.proofs.RefusalLemmas.{tried-shown, whole-book}
 use Rattle.qo_plug.proofs.beginning.turn_down.Goals as goal
 
 pub returns-in-Ok-clause-down : goal.returns-in-Ok-clause-down
-returns-in-Ok-clause-down g c = λ b bus s early.
+returns-in-Ok-clause-down c = λ b bus s early.
     (refl, refl, tried-shown b c.args.heap.now c.attempt_whole.new.heap c.args.kind s bus c.args.stage early c.in-Ok.ensures.ok)
 
 pub returns-in-Ok-clause-book : goal.returns-in-Ok-clause-book
-returns-in-Ok-clause-book g c = whole-book c.args.heap.now c.attempt_whole.new.heap c.args.kind c.in-Ok.ensures.ok
+returns-in-Ok-clause-book c = whole-book c.args.heap.now c.attempt_whole.new.heap c.args.kind c.in-Ok.ensures.ok
 
 pub returns-in-Err-clause-down : goal.returns-in-Err-clause-down
-returns-in-Err-clause-down g c = λ b bus s early. tried-cut b c.args.heap.now c.attempt_whole.new.heap c.args.kind s c.in-Err.ensures.err
+returns-in-Err-clause-down c = λ b bus s early. inl (subst (λ (x : Objects). Shows b x) (sym c.in-Err.ensures.err.1) s)
 
 pub returns-in-Err-clause-book : goal.returns-in-Err-clause-book
-returns-in-Err-clause-book g c = cut-book c.args.heap.now c.attempt_whole.new.heap c.args.kind c.in-Err.ensures.err
+returns-in-Err-clause-book c = λ out h. subst (λ (x : Objects). IsBook out x) (sym c.in-Err.ensures.err.1) h
