@@ -5,7 +5,7 @@ use Rattle.std.specs.declared.alloc.AllocError.{AllocError}
 use Rattle.std.specs.List.{AllByRecursion}
 use Rattle.std.specs.Option.{option_map_or}
 use Rattle.std.proofs.lemmas.Bool.{eq-eqb}
-use Rattle.std.proofs.lemmas.List.{length-append, map-append, take-append-drop, take_all}
+use Rattle.std.proofs.lemmas.List.{length-append, length-map, map-append, take-append-drop, take_all}
 use Rattle.std.proofs.lemmas.List.Elements.{filter_map-append}
 use Rattle.std.proofs.lemmas.List.Sums.{sum_by-cons, sum_by-append}
 use Rattle.std.proofs.lemmas.Grind.{flat_map-append}
@@ -263,10 +263,6 @@ newer n m is = omega (arith, is)
 ≤-refl : (n : ℕ) → n ≤ n
 ≤-refl n = omega arith
 
-map-length : {X Y : Type 0} (f : X → Y) (xs : List X) → length (map f xs) ≡ length xs
-map-length f [] = refl
-map-length f (x ∷ xs) = ap suc (map-length f xs)
-
 next-split : (m : ℕ) (over : List (Key × TypeId)) (x : Key × TypeId) (left : List (Key × TypeId)) → AreNext m (over ++ x ∷ left)
     → (m < x.0.birth) × AreNext x.0.birth left
 next-split m [] x left next = (omega (arith, next.0), subst (λ (n : ℕ). AreNext n left) (sym next.0) next.1)
@@ -428,7 +424,7 @@ module _ (v w : Objects) (t : TypeId) (o : Key) (k : ℕ) where
 
           born : v.born + length ((o, t) ∷ e.over ++ e.left) ≡ v.born + length (by_birth ((o, t) ∷ e.over))
           born = ap (λ (os : List (Key × TypeId)). v.born + length ((o, t) ∷ os)) over-all
-              ∙ ap (λ (n : ℕ). v.born + suc n) (sym (map-length (λ (x : Key × TypeId). (x.0.birth, x.1)) e.over))
+              ∙ ap (λ (n : ℕ). v.born + suc n) (sym (length-map e.over (λ (x : Key × TypeId). (x.0.birth, x.1))))
 
           log : noted_all (final_notes o.birth t)
               (noted_all (ended_notes (by_birth e.over)) (noted_all (begun_notes (by_birth ((o, t) ∷ e.over ++ e.left))) v.log))
@@ -480,7 +476,7 @@ tried-part t k v u is =
         let all : length (further_types (slots_of t)) ≡ length (further_types (take k (slots_of t)) ++ further_types (drop k (slots_of t))) =
         ap length (further-split t k) in
         let same : length (further_types (slots_of t)) ≡ length (filter_map further_in (slots_of t)) =
-        map-length (λ (f : List ℕ × TypeId). f.1) (filter_map further_in (slots_of t)) in
+        length-map (filter_map further_in (slots_of t)) (λ (f : List ℕ × TypeId). f.1) in
         omega (arith, all, same, length-append (further_types (take k (slots_of t))) (further_types (drop k (slots_of t))))
 
     taken : take (suc (length (further_types (take k (slots_of t))))) (born_from (suc v.born) (types_in t))
