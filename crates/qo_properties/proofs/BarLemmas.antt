@@ -36,12 +36,13 @@ rows-own : AllByRecursion (λ (r : TypeInfo). info_of r.id ≡ Some r) types
 unfolding types
 rows-own = (refl, (refl, (refl, (refl, (refl, (refl, (refl, (refl, (refl, (refl, (refl, (refl, (refl, (refl, (refl, (refl, tt))))))))))))))))
 
-found-has : (P : TypeInfo → Type 0) (p : TypeInfo → Bool) (rows : List TypeInfo) (row : TypeInfo) → AllByRecursion P rows → find p rows ≡ Some row → P row
-found-has P p [] row all e = cc
-found-has P p (r ∷ rows) row all e = go (p r) refl (found-has P p rows row all.1)
+-- what all have, the one found has
+pub found-has : {X : Type 0} (P : X → Type 0) (p : X → Bool) (xs : List X) (x : X) → AllByRecursion P xs → find p xs ≡ Some x → P x
+found-has P p [] x all e = cc
+found-has {X = X} P p (y ∷ xs) x all e = go (p y) refl (found-has P p xs x all.1)
   where
-    go : (b : Bool) → p r ≡ b → (find p rows ≡ Some row → P row) → P row
-    go true is rest = let same : r ≡ row = same_Some r row (rw is at e) in subst P same all.0
+    go : (b : Bool) → p y ≡ b → (find p xs ≡ Some x → P x) → P x
+    go true is rest = let same : y ≡ x = same_Some y x (rw is at e) in subst P same all.0
     go false is rest = rest (rw is at e)
 
 pub row-own : (name : List ℕ) (row : TypeInfo) → type_named name ≡ Some row → info_of row.id ≡ Some row
@@ -87,7 +88,8 @@ taken-shown b v s n id is =
     go [] = refl
     go (t ∷ slots) = ap₂ (λ (x y : Bool). x || y) (nat_list_eq_equiv.symm t.0 id) (go slots)
 
-found-told : {A : Type 0} (f : A → Named) (o : Option A) (x : Option Named) (t : Bool) → option_map f o ≡ x → is_some o ≡ t → is_some x ≡ t
+-- what is told of a view is told of the slot
+pub found-told : {A : Type 0} (f : A → Named) (o : Option A) (x : Option Named) (t : Bool) → option_map f o ≡ x → is_some o ≡ t → is_some x ≡ t
 found-told f None x t e is = ap is_some (sym e) ∙ is
 found-told f (Some a) x t e is = ap is_some (sym e) ∙ is
 

@@ -7,7 +7,6 @@ pub mod FillingLemmas
 pub mod NewSlotLemmas
 pub mod GivenPropertyLemmas
 pub mod ListLemmas
-pub mod LookupLemmas
 pub mod PinLemmas
 pub mod PlannedLemmas
 pub mod PlanningLemmas

@@ -9,6 +9,7 @@ use Rattle.qo_kinds.proofs.BodyLemmas.{fresh-bare}
 use Rattle.qo_slots.specs.declared.keys.Key.{Key}
 use Rattle.qo_table.specs.Rows.{IsLive, Rises, births, row_at}
 use Rattle.qo_table.proofs.RowsLemmas.{rises-up}
+use Rattle.qo_table.proofs.SearchLemmas.{found-live}
 use Rattle.qo_model.specs.Board as board
 use Rattle.qo_model.specs.Changes.{make, add, set, with_fresh_slots}
 use Rattle.qo_model.specs.Opening.{opening_board}
@@ -22,6 +23,7 @@ use Rattle.qo_object.specs.Content as content
 use Rattle.qo_heap.specs.Board.{Shows}
 use Rattle.qo_heap.specs.Objects.{IsHeap, Objects, content_of, pins_of, slots_of, with_edit, no_objects_made}
 use Rattle.qo_heap.proofs.BookLemmas.{book-edit}
+use Rattle.qo_heap.proofs.EndLemmas.{live-more}
 use Rattle.qo_heap.proofs.HeapLemmas.{live-edit}
 use Rattle.qo_heap.proofs.BoardChanges.{shows-made, shows-added}
 use Rattle.qo_heap.proofs.BoardEdits.{shows-without_pin}
@@ -44,14 +46,6 @@ row-new above last (row ∷ rows) key c rises later =
     let other : eqb row.0.birth key.birth ≡ false = grind (arith, nat_tests) in
     rw other (row-new row.0.birth last rows key c rises.1 later)
 
-live-more : (rows more : List Row) (key : Key) → IsLive rows key → IsLive (rows ++ more) key
-live-more [] more key live = absurd live
-live-more (row ∷ rows) more key live = go (eqb row.0.birth key.birth) refl (live-more rows more key)
-  where
-    go : (b : Bool) → eqb row.0.birth key.birth ≡ b → (IsLive rows key → IsLive (rows ++ more) key) → IsLive (row ∷ rows ++ more) key
-    go true e later = let here : row.0.index ≡ key.index = rw e at live in rw e here
-    go false e later = rw e (later (rw e at live))
-
 -- who is there has a birth that was given
 live-born : (above last : ℕ) (rows : List Row) (key : Key) → Rises above (births rows) last → IsLive rows key → key.birth ≤ last
 live-born above last [] key rises live = absurd live
@@ -62,33 +56,11 @@ live-born above last (row ∷ rows) key rises live = go (eqb row.0.birth key.bir
         omega arith
     go false is later = later (rw is at live)
 
--- the first row that passes is live under its name, and above what all are above
-first-live : (p : Row → Bool) (above last : ℕ) (rows : List Row) (row : Row) → Rises above (births rows) last → find p rows ≡ Some row
-    → (above < row.0.birth) × IsLive rows row.0
-first-live p above last [] row rises at = let none : None ≡ Some row = at in cc
-first-live p above last (r ∷ rows) row rises at = go (p r) refl (first-live p r.0.birth last rows row rises.1)
-  where
-    up : above < r.0.birth
-    up = rises.0
-
-    go : (b : Bool) → p r ≡ b → (find p rows ≡ Some row → (r.0.birth < row.0.birth) × IsLive rows row.0) → (above < row.0.birth) × IsLive (r ∷ rows) row.0
-    go true is later =
-        let here : r ≡ row = (let at' : Some r ≡ Some row = rw is at at in cc) in
-        let same : eqb r.0.birth r.0.birth ≡ true = grind (arith, nat_tests) in
-        let live : IsLive (r ∷ rows) r.0 = rw same refl in
-        subst (λ (x : Row). (above < x.0.birth) × IsLive (r ∷ rows) x.0) here (up, live)
-    go false is later =
-        let (more, live) = later (rw is at at) in
-        let other : eqb r.0.birth row.0.birth ≡ false = grind (arith, nat_tests) in
-        (omega arith, rw other live)
-
+-- the first row of a birth or a later one is there
 pub from-live : (n : ℕ) (v : Objects) → IsHeap v → (o : Option Key) → o ≡ option_map (λ (row : Row). row.0) (find (λ (row : Row). leb n row.0.birth) v.rows)
     → IfSome o (IsLive v.rows)
-from-live n v good o is = subst (λ (x : Option Key). IfSome x (IsLive v.rows)) (sym is) (go (find (λ (row : Row). leb n row.0.birth) v.rows) refl)
-  where
-    go : (x : Option Row) → find (λ (row : Row). leb n row.0.birth) v.rows ≡ x → IfSome (option_map (λ (row : Row). row.0) x) (IsLive v.rows)
-    go None at = tt
-    go (Some row) at = (first-live (λ (r : Row). leb n r.0.birth) 0 v.born v.rows row good.rising at).1
+from-live n v good None is = tt
+from-live n v good (Some key) is = found-live (λ (row : Row). leb n row.0.birth) 0 v.born v.rows key good.rising (sym is)
 
 -- an object made
 

@@ -3,7 +3,7 @@ use Rattle.std.proofs.Common.{◌≡◌, refl, ap, sym, ◌∙◌, ℕ, zero, su
 use Rattle.std.specs.Option.{option_map_or}
 use Rattle.std.specs.List.{list_any}
 use Rattle.qo_slots.specs.declared.keys.Key.{Key}
-use Rattle.qo_table.specs.Rows.{edit, object_at}
+use Rattle.qo_table.specs.Rows.{object_at}
 use Rattle.qo_model.specs.Board.{Board, slots_at}
 use Rattle.qo_model.specs.Opening.{opening_board}
 use Rattle.qo_model.specs.Objects.{severed_from}
@@ -15,6 +15,7 @@ use Rattle.qo_notes.specs.Log.{empty_log}
 use Rattle.qo_object.specs.Content.{Content}
 use Rattle.qo_heap.specs.Board.{Shows, pins_in}
 use Rattle.qo_heap.specs.Objects.{Objects, pins_of, with_edit}
+use Rattle.qo_heap.proofs.BoardEdits.{pins-edited}
 use Rattle.qo_life.specs.Life.{Goes}
 use Rattle.qo_life.proofs.TreeLemmas.{tree, tree-shows}
 use Rattle.qo_properties.specs.Changes.{severed}
@@ -41,18 +42,10 @@ pins-room v only n =
 
 -- the same pins
 
-pub edit-pins : (n : ℕ) (f : Content → Content) → ((c : Content) → (f c).pins ≡ c.pins) → (rows : List (Key × Content)) → pins_in (edit n f rows) ≡ pins_in rows
-edit-pins n f same [] = refl
-edit-pins n f same (row ∷ rows) = go (eqb row.0.birth n) refl (edit-pins n f same rows)
-  where
-    go : (t : Bool) → eqb row.0.birth n ≡ t → pins_in (edit n f rows) ≡ pins_in rows → pins_in (edit n f (row ∷ rows)) ≡ pins_in (row ∷ rows)
-    go true p rest = rw p (λ j. replicate (same row.1 j) row.0.birth ++ rest j)
-    go false p rest = rw p (ap (λ (l : List ℕ). replicate row.1.pins row.0.birth ++ l) rest)
-
 -- an object of a heap was changed, but not its pins
 pub edited-pins : (v w : Objects) (n : ℕ) (f : Content → Content) → ((c : Content) → (f c).pins ≡ c.pins) → w ≡ with_edit n f v
     → pins_in w.rows ≡ pins_in v.rows
-edited-pins v w n f same is = ap (λ (x : Objects). pins_in x.rows) is ∙ edit-pins n f same v.rows
+edited-pins v w n f same is = ap (λ (x : Objects). pins_in x.rows) is ∙ pins-edited n f same v.rows
 
 -- what was held is let go
 pub hold-pins : (held : Option ℕ) (v w : Objects) → Goes (λ b. after finalize b held) v w → pins_in w.rows ≡ pins_in v.rows

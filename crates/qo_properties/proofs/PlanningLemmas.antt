@@ -26,6 +26,7 @@ use Rattle.qo_model.specs.declared.properties.Property.{Property}
 use Rattle.qo_object.specs.declared.slots.Slot.{Slot}
 use Rattle.qo_object.specs.BoardObject.{shown_slot}
 use Rattle.qo_object.specs.Slots.{Named}
+use Rattle.qo_heap.proofs.HeapLemmas.{found-passes}
 use Rattle.qo_properties.specs.declared.adding.filling.Fill.{Fill}
 use Rattle.qo_properties.specs.declared.adding.filling.Fill.TheVariants as fill
 use Rattle.qo_properties.specs.declared.adding.planning.PlacedRow.{PlacedRow}
@@ -283,14 +284,6 @@ module _ {X : Type 0} (p : X → Bool) (xs : List X) (i : ℕ) where
   pub found-none : length xs ≤ i → find p xs ≡ find p (drop i xs) → find p xs ≡ None
   found-none over found = found ∙ ap (find p) (drop-past xs i over)
 
-found-is : {X : Type 0} (p : X → Bool) (xs : List X) (x : X) → find p xs ≡ Some x → p x ≡ true
-found-is p [] x found = cc
-found-is {X = X} p (y ∷ xs) x found = by (p y) refl (found-is p xs x)
-  where
-    by : (t : Bool) → p y ≡ t → (find p xs ≡ Some x → p x ≡ true) → p x ≡ true
-    by true e rest = let same : y ≡ x = same_Some y x (rw e at found) in subst (λ (z : X). p z ≡ true) same e
-    by false e rest = rest (rw e at found)
-
 -- the slot that a fill is for
 
 record Seat (t : TypeId) (p : PlacedRow) : Type 0 where
@@ -307,7 +300,7 @@ seat t p stands own = go (begun t p.row.role) refl
 
 row-name : (t : TypeId) (name : List ℕ) (r : Property) → Some r ≡ property_named t name → property_name r.name ≡ name
 row-name t name r is =
-    let same : bytes_eq (property_name r.name) name ≡ true = found-is (λ (p : Property). bytes_eq (property_name p.name) name) (slots_of t) r (sym is) in
+    let same : bytes_eq (property_name r.name) name ≡ true = found-passes (λ (p : Property). bytes_eq (property_name p.name) name) (slots_of t) r (sym is) in
     (bytes_eq-Decides (property_name r.name) name).0 same
 
 module _ (t : TypeId) (fs : List Fill) (p : PlacedRow) (stands : StandsAt t p) (own : is_some (begun t p.row.role) ≡ true) where

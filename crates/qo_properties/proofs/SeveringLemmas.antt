@@ -1,19 +1,12 @@
 -- The strong links of an object let go, while it is held from outside the tree.
-use Rattle.std.proofs.Common.{◌≡◌, refl, ap, sym, subst, ◌∙◌, ℕ, zero, suc, ◌+◌, ◌-◌, ◌<◌, Bool, true, false, not, cond, nat_eq, eqb, ◌==◌, List, [], ◌∷◌, length, count_by, Option, Some, None, option_map, arith}
-use Rattle.std.specs.List.{AllByRecursion, list_any}
+use Rattle.std.proofs.Common.{◌≡◌, refl, ap, sym, subst, ◌∙◌, ℕ, zero, suc, ◌+◌, ◌-◌, ◌<◌, true, false, not, eqb, List, [], length, Option, Some, None, option_map, arith}
 use Rattle.std.specs.Option.{option_map_or}
-use Rattle.std.proofs.lemmas.Bool.{eqb-true}
-use Rattle.std.proofs.lemmas.List.Sums.{sum_by-cons}
 use Rattle.qo_slots.specs.declared.keys.Key.{Key}
 use Rattle.qo_table.specs.Rows.{IsLive}
 use Rattle.qo_model.specs.Board.{Board, is_live, slot_at, slots_at, held}
 use Rattle.qo_model.specs.Board as board
 use Rattle.qo_model.specs.Objects.{severed_from}
-use Rattle.qo_model.specs.References.{refs}
-use Rattle.qo_model.specs.Release.{drop_slot, finish, let_go, pin, unpin}
-use Rattle.qo_model.specs.ReleaseInduction.{KeepsRelease}
-use Rattle.qo_model.proofs.ReleaseInductionLemmas.{after_keeps}
-use Rattle.qo_model.proofs.StepLemmas.{drop-live, finish-live}
+use Rattle.qo_model.specs.Release.{drop_slot, let_go, pin, unpin}
 use Rattle.qo_model.proofs.PinLemmas.{put-among}
 use Rattle.qo_notes.specs.Log.{empty_log, noted_all}
 use Rattle.qo_object.specs.Content.{Content, with_pin}
@@ -28,6 +21,7 @@ use Rattle.qo_object.proofs.BoardObjectLemmas.{length-shown}
 use Rattle.qo_heap.proofs.BoardEdits.{shows-pin}
 use Rattle.qo_heap.proofs.BoardObjects.{content-edited, live-content}
 use Rattle.qo_life.specs.Life.{Goes, with_log}
+use Rattle.qo_life.proofs.HeldLemmas.{IsHeld, held-after, held-drop}
 use Rattle.qo_life.proofs.TreeLemmas.{edit-bodies, tree, tree-shows, tree-after, heap-with_log, goes-none, goes-same, goes-then, goes-names, live-before_edit}
 use Rattle.qo_properties.specs.Changes.{is_strong_in, severed, severed_at}
 
@@ -73,51 +67,7 @@ severed-first b n i k = go (slot_at b n i) refl
 
 -- an object that is there, and held from outside the tree, stays so
 
-pub record IsHeld (x : ℕ) (b : Board) : Type 0 where
-  pub live : is_live b x ≡ true
-  pub pinned : list_any (nat_eq x) b.pins ≡ true
-
-pinned-count : (x : ℕ) (pins : List ℕ) → list_any (nat_eq x) pins ≡ true → 0 < count_by (λ m. m == x) pins
-pinned-count x [] e = cc
-pinned-count x (m ∷ ms) e = rw (sum_by-cons (λ (y : ℕ). cond {A = ℕ} (eqb y x) 1 0) m ms) (go (eqb m x) refl (pinned-count x ms))
-  where
-    go : (t : Bool) → eqb m x ≡ t → (list_any (nat_eq x) ms ≡ true → 0 < count_by (λ y. y == x) ms) → 0 < cond {A = ℕ} t 1 0 + count_by (λ y. y == x) ms
-    go true p rest = omega arith
-    go false p rest =
-        let other : nat_eq x m ≡ false = grind (arith, p) in
-        let later : 0 < count_by (λ y. y == x) ms = rest (rw other at e) in
-        omega arith
-
 module _ (x : ℕ) where
-  held-drop : (b : Board) (n i : ℕ) → IsHeld x b → IsHeld x (drop_slot b n i)
-  unfolding drop_slot
-  held-drop b n i h = record { live = drop-live b n i x ∙ h.live; pinned = h.pinned }
-
-  held-finish : (b : Board) (n : ℕ) → (x == n) ≡ false → IsHeld x b → IsHeld x (finish b n)
-  unfolding finish
-  held-finish b n apart h = record { live = finish-live b n x ∙ rw (apart, h.live) refl; pinned = h.pinned }
-
-  held-apart : (b : Board) (m : ℕ) → IsHeld x b → refs b m ≡ 0 → (x == m) ≡ false
-  held-apart b m h free = go (x == m) refl
-    where
-      go : (t : Bool) → (x == m) ≡ t → t ≡ false
-      go true p =
-          let some : 0 < count_by (λ k. k == x) b.pins = pinned-count x b.pins h.pinned in
-          let none : refs b x ≡ 0 = ap (refs b) (eqb-true x m p) ∙ free in
-          absurd (omega (arith, some, none))
-      go false p = refl
-
-  abbrev Others : List (ℕ × ℕ) → Board → Type 0
-  Others work b = IsHeld x b × AllByRecursion (λ (t : ℕ × ℕ). (x == t.0) ≡ false) work
-
-  others-keep : KeepsRelease Others
-  others-keep =
-      record {
-        ended = λ b n j work p e. (held-finish b n p.1.0 p.0, p.1.1);
-        freed = λ b n j work s m p e h free. (held-drop b n j p.0, (held-apart (drop_slot b n j) m (held-drop b n j p.0) free, (p.1.0, p.1.1)));
-        kept = λ b n j work s p e held_on. (held-drop b n j p.0, (p.1.0, p.1.1));
-      }
-
   let_go-held : (b : Board) (n i : ℕ) → IsHeld x b → IsHeld x (let_go b n i)
   unfolding let_go
   let_go-held b n i h = go (slot_at b n i) refl
@@ -125,10 +75,7 @@ module _ (x : ℕ) where
       go : (o : Option board.Slot) → slot_at b n i ≡ o → IsHeld x (let_go b n i)
       go None p = rw (let_go, p) h
       go (Some s) p =
-          let own : IsHeld x (drop_slot b n i) = held-drop b n i h in
-          let after = after_keeps Others others-keep (drop_slot b n i) (held s) [] (λ m e free. (own, (held-apart (drop_slot b n i) m own free, tt)))
-          (λ held_on. (own, tt)) in
-          rw (let_go, p) after.0
+          rw (let_go, p) (held-after x (drop_slot b n i) (board.held s) (held-drop x b n i h))
 
   severed-held : (b : Board) (n i : ℕ) → IsHeld x b → IsHeld x (severed_at n i b)
   severed-held b n i h = go (slot_at b n i) refl
@@ -168,8 +115,8 @@ held-pin : (b : Board) (n : ℕ) → is_live b n ≡ true → IsHeld n (pin b n)
 unfolding pin
 held-pin b n live = record { live = live; pinned = put-among n b.pins }
 
-held-after : (step : Board → Board) (v w : Objects) → Goes step v w → (n : ℕ) → IsHeld n (step (tree v)) → IsHeld n (tree w)
-held-after step v w goes n h = subst (λ (b : Board). IsHeld n b) (tree-after step v w goes) (record { live = h.live; pinned = h.pinned })
+goes-held : (step : Board → Board) (v w : Objects) → Goes step v w → (n : ℕ) → IsHeld n (step (tree v)) → IsHeld n (tree w)
+goes-held step v w goes n h = subst (λ (b : Board). IsHeld n b) (tree-after step v w goes) (record { live = h.live; pinned = h.pinned })
 
 held-live : (v w : Objects) (step : Board → Board) → Goes step v w → (o : Key) → IsLive v.rows o → IsHeld o.birth (tree w) → IsLive w.rows o
 held-live v w step goes o live h = goes-names step v w goes o live (sym (shows-live (tree w) (with_log empty_log w) (tree-shows w) o.birth) ∙ h.live)
@@ -179,7 +126,7 @@ severing-first v u good o count live is =
     let (c, there) = live-content v o live in
     let goes : Goes (λ b. pin b o.birth) v u = subst (λ (x : Objects). Goes (λ b. pin b o.birth) v x) (sym is) (goes-pin v good o.birth c there) in
     let held =
-    held-after (λ b. pin b o.birth) v u goes o.birth (held-pin (tree v) o.birth (shows-live_key (tree v) (with_log empty_log v) (tree-shows v) o live)) in
+    goes-held (λ b. pin b o.birth) v u goes o.birth (held-pin (tree v) o.birth (shows-live_key (tree v) (with_log empty_log v) (tree-shows v) o live)) in
     record {
       step = λ b. pin b o.birth;
       goes = goes;
@@ -190,7 +137,7 @@ severing-first v u good o count live is =
 
 severing-suc : (v u w : Objects) (o : Key) (count i : ℕ) → Severing v u o count i → i < count → Goes (severed_at o.birth i) u w → Severing v w o count (suc i)
 severing-suc v u w o count i sev within goes =
-    let held = held-after (severed_at o.birth i) u w goes o.birth (severed-held o.birth (tree u) o.birth i sev.held) in
+    let held = goes-held (severed_at o.birth i) u w goes o.birth (severed-held o.birth (tree u) o.birth i sev.held) in
     let left : count - i ≡ suc (count - suc i) = omega arith in
     record {
       step = λ b. severed_at o.birth i (sev.step b);

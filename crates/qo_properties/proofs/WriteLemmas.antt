@@ -6,6 +6,7 @@ use Rattle.std.specs.List.{position_or_len}
 use Rattle.std.specs.Option.{option_and_then, option_map_or}
 use Rattle.std.specs.Str.{bytes_eq}
 use Rattle.std.proofs.lemmas.Cmp.{nat_list_eq_equiv}
+use Rattle.std.proofs.lemmas.Option.{IfSome_then}
 use Rattle.qo_values.specs.declared.codes.Code.{Code}
 use Rattle.qo_values.specs.declared.codes.Code.TheVariants.{E17, E18, E19}
 use Rattle.qo_values.specs.declared.kinds.TypeId.{TypeId}
@@ -33,9 +34,9 @@ use Rattle.qo_heap.proofs.BoardObjects.{content-edited, live-content, named-live
 use Rattle.qo_heap.proofs.BoardReads.{shows-kind, shows-slot_at, shows-slots}
 use Rattle.qo_properties.specs.Writes.{is_link_at, is_plain, is_plain_at, link_type, link_type_at, to_link, to_plain}
 
+-- who is there stays there
 pub some-live : (P Q : Key → Type 0) → ((key : Key) → P key → Q key) → (o : Option Key) → IfSome o P → IfSome o Q
-some-live P Q more None all = tt
-some-live P Q more (Some key) all = more key all
+some-live P Q more o all = IfSome_then o {P = P} {Q = Q} all more
 
 -- the place of a name
 

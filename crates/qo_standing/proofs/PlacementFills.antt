@@ -4,6 +4,7 @@ use Rattle.std.specs.List.{AllByRecursion, AllZip}
 use Rattle.std.specs.Option.{option_map_or}
 use Rattle.std.specs.Str.{bytes_eq}
 use Rattle.std.proofs.lemmas.List.{take_all}
+use Rattle.std.proofs.lemmas.Option.{IfSome_then}
 use Rattle.qo_slots.specs.declared.keys.Key.{Key}
 use Rattle.qo_table.specs.Rows.{IsLive}
 use Rattle.qo_model.specs.Board as board
@@ -20,7 +21,6 @@ use Rattle.qo_properties.specs.declared.adding.filling.Fill.{Fill}
 use Rattle.qo_properties.specs.declared.adding.filling.Fill.TheVariants as fill
 use Rattle.qo_properties.specs.Filling.{Fits, IsGiven, filled_at, filled_with, fits_at, target_in}
 use Rattle.qo_properties.proofs.FillingLemmas.{edit-same, edit-twice}
-use Rattle.qo_properties.proofs.WriteLemmas.{some-live}
 use Rattle.qo_standing.specs.OwnSlots.{is_own, own_slots, own_slots_of}
 use Rattle.qo_standing.specs.Placement.{own_filled, with_own}
 
@@ -237,8 +237,9 @@ module _ (all : List Fill) (o : Key) (at : ℕ) (left : List Fill) (v w : Object
 
       pub settled-target : AllByRecursion (λ (x : Fill). IfSome (target_in x) (IsLive v.rows)) all → IfSome (target_in f) (IsLive w.rows)
       settled-target targets =
-          some-live (IsLive v.rows) (IsLive w.rows) (settled-live all o at left v w h) (target_in f)
+          IfSome_then (target_in f) {P = IsLive v.rows} {Q = IsLive w.rows}
           (member rest (subst (λ (l : List Fill). AllByRecursion (λ (x : Fill). IfSome (target_in x) (IsLive v.rows)) l) split-here targets))
+          (settled-live all o at left v w h)
         where
           member : (xs : List Fill) → AllByRecursion (λ (x : Fill). IfSome (target_in x) (IsLive v.rows)) (xs ++ f ∷ h.done)
               → IfSome (target_in f) (IsLive v.rows)

@@ -1,15 +1,13 @@
 -- What the steps of a heap keep, by which a device takes its place.
-use Rattle.std.proofs.Common.{◌≡◌, refl, ap, sym, subst, ◌∙◌, ℕ, zero, suc, ◌≤◌, ◌<◌, Bool, true, false, eqb, nat_eq, List, [], ◌∷◌, ◌++◌, map, replicate, Option, Some, None, IfNone, option_map, unwrap_or, arith}
+use Rattle.std.proofs.Common.{◌≡◌, refl, ap, sym, subst, ◌∙◌, ℕ, zero, suc, ◌<◌, true, false, eqb, nat_eq, List, [], Option, Some, None, IfNone, option_map, unwrap_or, arith}
 use Rattle.std.specs.Prelude.{option_and_then, not}
 use Rattle.std.specs.List.{AllZip, list_any}
 use Rattle.std.specs.Option.{option_map_or}
-use Rattle.std.proofs.lemmas.Bool.{eqb-true}
-use Rattle.std.proofs.lemmas.Option.{same_Some}
 use Rattle.qo_values.specs.declared.births.TheConstants.{SYSTEM_CLOCK_BIRTH}
 use Rattle.qo_values.specs.declared.properties.Val.{Val}
 use Rattle.qo_slots.specs.declared.keys.Key.{Key}
 use Rattle.qo_claims.specs.Book.{ClaimsTaken}
-use Rattle.qo_table.specs.Rows.{IsLive, Rises, births, edit, object_at}
+use Rattle.qo_table.specs.Rows.{IsLive, edit, object_at}
 use Rattle.qo_kinds.specs.Bodies.{registers_of, with_kept}
 use Rattle.qo_kinds.specs.declared.bodies.Body.{Body}
 use Rattle.qo_kinds.specs.declared.bodies.Body.TheVariants.{Uart, Timer, Dimm, Bridge, Bus, Clock, Backend, Plain}
@@ -19,20 +17,21 @@ use Rattle.qo_model.specs.Objects.{Given}
 use Rattle.qo_model.specs.Devices.{bridge_of, clock_of}
 use Rattle.qo_model.specs.Plug.{link_named, source_for, with_given}
 use Rattle.qo_model.specs.Changes.{with_changed}
-use Rattle.qo_model.specs.Release.{edited}
 use Rattle.qo_model.specs.Release as release
 use Rattle.qo_model.specs.Unplug.{set_named}
 use Rattle.qo_object.specs.declared.slots.Slot.{Slot}
 use Rattle.qo_object.specs.Content.{Content}
 use Rattle.qo_object.specs.BoardObject.{shown}
 use Rattle.qo_object.specs.Slots.{Named}
-use Rattle.qo_heap.specs.Board.{Shows, pins_in, record_of}
+use Rattle.qo_heap.specs.Board.{Shows, pins_in}
 use Rattle.qo_heap.specs.Book.{IsBook}
 use Rattle.qo_heap.specs.Objects.{IsHeap, Objects, content_of, pins_of, slots_of, with_edit}
 use Rattle.qo_heap.proofs.BookLemmas.{book-edit}
 use Rattle.qo_heap.proofs.HeapLemmas.{live-edit}
+use Rattle.qo_heap.proofs.BoardEdits.{edit-unseen, shows-at}
+pub use Rattle.qo_heap.proofs.BoardEdits.{pins-edited}
 use Rattle.qo_heap.proofs.BoardObjects.{live-content}
-use Rattle.qo_heap.proofs.BoardReads.{records_of, shows-kind, shows-pinned, shows-record}
+use Rattle.qo_heap.proofs.BoardReads.{shows-kind, shows-pinned, shows-record}
 use Rattle.qo_life.proofs.TreeLemmas.{read-content, heap-with_log, tree, tree-shows}
 use Rattle.qo_life.specs.Life.{Goes, with_log}
 use Rattle.qo_notes.specs.Log.{empty_log}
@@ -84,17 +83,7 @@ stays-then v u w a b =
       book = λ out h. b.book out (a.book out h);
     }
 
--- an edit that keeps pins
-pub pins-edited : (n : ℕ) (f : Content → Content) → ((c : Content) → (f c).pins ≡ c.pins) → (rows : List (Key × Content))
-    → pins_in (edit n f rows) ≡ pins_in rows
-pins-edited n f same [] = refl
-pins-edited n f same (row ∷ rows) = go (eqb row.0.birth n) refl (pins-edited n f same rows)
-  where
-    go : (t : Bool) → eqb row.0.birth n ≡ t → pins_in (edit n f rows) ≡ pins_in rows → pins_in (edit n f (row ∷ rows)) ≡ pins_in (row ∷ rows)
-    go true is rest = rw is (λ j. replicate (same row.1 j) row.0.birth ++ rest j)
-    go false is rest = rw is (ap (λ (ms : List ℕ). replicate row.1.pins row.0.birth ++ ms) rest)
-
--- and paths
+-- an edit that keeps pins and paths
 pub alike-edit : (v w : Objects) (n : ℕ) (f : Content → Content) → ((c : Content) → (f c).kept_path ≡ c.kept_path) → ((c : Content) → (f c).pins ≡ c.pins)
     → w.rows ≡ edit n f v.rows → Alike v w
 alike-edit v w n f paths pins rows =
@@ -139,22 +128,10 @@ registers-kept k Clock = refl
 registers-kept k Backend = refl
 registers-kept k Plain = refl
 
-unseen : (n : ℕ) (k : KeptSet) (rows : List (Key × Content)) → records_of (edit n (kept_in k) rows) ≡ records_of rows
-unseen n k [] = refl
-unseen n k (row ∷ rows) = go (eqb row.0.birth n) refl (unseen n k rows)
-  where
-    go : (t : Bool) → eqb row.0.birth n ≡ t → records_of (edit n (kept_in k) rows) ≡ records_of rows
-        → records_of (edit n (kept_in k) (row ∷ rows)) ≡ records_of (row ∷ rows)
-    go true is rest =
-        let here : shown row.0.birth (kept_in k row.1) ≡ shown row.0.birth row.1 =
-        ap (λ (r : _). record (shown row.0.birth row.1) { registers = r }) (registers-kept k row.1.body) in
-        rw is (λ j. here j ∷ rest j)
-    go false is rest = rw is (ap (λ (rs : List board.Record). record_of row ∷ rs) rest)
-
 pub shows-kept : (b : board.Board) (v w : Objects) (h : ClaimsTaken) (n : ℕ) (k : KeptSet) → w ≡ with_book h (with_edit n (kept_in k) v) → Shows b v → Shows b w
 shows-kept b v w h n k is s =
     shows-book b (with_edit n (kept_in k) v) w h is (record {
-      records = s.records ∙ sym (unseen n k v.rows);
+      records = s.records ∙ sym (edit-unseen n (kept_in k) (λ m c. ap (λ (r : _). record (shown m c) { registers = r }) (registers-kept k c.body)) v.rows);
       born = s.born;
       pins = s.pins ∙ sym (pins-edited n (kept_in k) (λ c. refl) v.rows);
       notes = s.notes;
@@ -164,45 +141,6 @@ shows-kept b v w h n k is s =
 
 pub alike-kept : (v w : Objects) (h : ClaimsTaken) (n : ℕ) (k : KeptSet) → w ≡ with_book h (with_edit n (kept_in k) v) → Alike v w
 alike-kept v w h n k is = alike-edit v w n (kept_in k) (λ c. refl) (λ c. refl) (ap (λ (x : Objects). x.rows) is)
-
--- one object edited: it alone has its birth
-module _ (n : ℕ) (f : Content → Content) (g : board.Record → board.Record) where
-  records-later : (above last : ℕ) (rows : List (Key × Content)) → n ≤ above → Rises above (births rows) last
-      → records_of (edit n f rows) ≡ map (edited n g) (records_of rows)
-  records-later above last [] le rises = refl
-  records-later above last (row ∷ rows) le rises =
-      let up : above < row.0.birth = rises.0 in
-      let other : eqb row.0.birth n ≡ false = grind arith in
-      rw other (ap (λ (rs : List board.Record). record_of row ∷ rs) (records-later row.0.birth last rows (omega arith) rises.1))
-
-  records-at : (above last : ℕ) (rows : List (Key × Content)) (c : Content) → Rises above (births rows) last → object_at rows n ≡ Some c
-      → shown n (f c) ≡ g (shown n c) → records_of (edit n f rows) ≡ map (edited n g) (records_of rows)
-  records-at above last [] c rises there same = cc
-  records-at above last (row ∷ rows) c rises there same = go (eqb row.0.birth n) refl (records-at row.0.birth last rows c rises.1)
-    where
-      go : (t : Bool) → eqb row.0.birth n ≡ t
-          → (object_at rows n ≡ Some c → shown n (f c) ≡ g (shown n c) → records_of (edit n f rows) ≡ map (edited n g) (records_of rows))
-          → records_of (edit n f (row ∷ rows)) ≡ map (edited n g) (records_of (row ∷ rows))
-      go true is rest =
-          let at : row.0.birth ≡ n = eqb-true row.0.birth n is in
-          let own : row.1 ≡ c = same_Some row.1 c (rw is at there) in
-          let here : shown row.0.birth (f row.1) ≡ g (shown row.0.birth row.1) =
-          (λ j. shown (at j) (f (own j))) ∙ same ∙ (λ j. g (shown (sym at j) (sym own j))) in
-          let later = records-later row.0.birth last rows (omega arith) rises.1 in
-          rw is (λ j. here j ∷ later j)
-      go false is rest = rw is (ap (λ (rs : List board.Record). record_of row ∷ rs) (rest (rw is at there) same))
-
-  pub shows-at : (b : board.Board) (v : Objects) → Shows b v → IsHeap v → (c : Content) → content_of v n ≡ Some c → shown n (f c) ≡ g (shown n c)
-      → ((d : Content) → (f d).pins ≡ d.pins) → Shows (release.edit n g b) (with_edit n f v)
-  shows-at b v s good c there same pins =
-      record {
-        records = ap (map (edited n g)) s.records ∙ sym (records-at 0 v.born v.rows c good.rising there same);
-        born = s.born;
-        pins = s.pins ∙ sym (pins-edited n f pins v.rows);
-        notes = s.notes;
-        events = s.events;
-        now = s.now;
-      }
 
 -- own slots that are filled as it was given
 pub shows-given : (b c : board.Board) (v w : Objects) (o : Key) (props : List Given) (plan : List Fill) → Shows c v → IsHeap v → IsLive v.rows o

@@ -20,6 +20,7 @@ use Rattle.qo_object.specs.BoardObject.{shown}
 use Rattle.qo_heap.specs.Board.{Shows}
 use Rattle.qo_heap.specs.Book.{IsBook, kept_times, one, owned}
 use Rattle.qo_heap.specs.Objects.{IsHeap, Objects, content_of, with_edit}
+use Rattle.qo_heap.proofs.BoardEdits.{shows-at}
 use Rattle.qo_heap.proofs.BookLemmas.{sum-edit}
 use Rattle.qo_heap.proofs.BoardObjects.{live-content}
 use Rattle.qo_life.proofs.TreeLemmas.{read-content}
@@ -27,7 +28,7 @@ use Rattle.qo_properties.proofs.FillingLemmas.{edit-twice}
 use Rattle.qo_standing.specs.declared.spots.Memory.{Memory}
 use Rattle.qo_standing.specs.Placement.{Alike, IsDimm, named, range_in, ranged}
 use Rattle.qo_standing.specs.DeviceClaims.{SameKept, kept_by}
-use Rattle.qo_standing.proofs.PlacementSteps.{alike-edit, shows-at}
+use Rattle.qo_standing.proofs.PlacementSteps.{alike-edit}
 
 -- a DIMM stands on its range
 

@@ -1,6 +1,7 @@
 -- Each step keeps what the ones before it made.
 use Rattle.std.proofs.Common.{◌≡◌, ◌++◌, ℕ, List, Option, ap, sym, subst, ◌∙◌}
 use Rattle.std.specs.List.{AllZip}
+use Rattle.std.proofs.lemmas.Option.{IfSome_then}
 use Rattle.qo_kinds.specs.Bodies.{registers_of}
 use Rattle.qo_kinds.specs.declared.kept.KeptSet.{KeptSet}
 use Rattle.qo_table.specs.Rows.{IsLive}
@@ -15,7 +16,6 @@ use Rattle.qo_heap.specs.Objects.{Objects, with_edit}
 use Rattle.qo_heap.proofs.HeapLemmas.{on-err}
 use Rattle.qo_properties.specs.Filling.{Fits, IsGiven}
 use Rattle.qo_properties.proofs.FillingLemmas.{all-live}
-use Rattle.qo_properties.proofs.WriteLemmas.{some-live}
 use Rattle.qo_standing.specs.OwnSlots.{own_slots_of}
 use Rattle.qo_standing.specs.Placement.{kept_in, range_in, spot_in, with_book}
 use Rattle.qo_standing.specs.DeviceClaims.{SameKept, kept_by, kept_out, labels_out, taken_out}
@@ -105,7 +105,8 @@ connect_clock-requires-clause-live g c =
 
 pub connect_clock-requires-clause-source : goal.connect_clock-requires-clause-source
 connect_clock-requires-clause-source g c =
-    some-live (IsLive c.reserve_event.new.self.rows) (IsLive c.put_body.new.heap.rows) (λ key live. (alike-then c.args.heap.now
+    IfSome_then c.source_of-source.result {P = IsLive c.reserve_event.new.self.rows} {Q = IsLive c.put_body.new.heap.rows} c.source_of-source.ensures.live
+    (λ key live. (alike-then c.args.heap.now
     c.put_values.new.heap c.put_body.new.heap (alike-then c.args.heap.now c.keep_claims.new.heap c.put_values.new.heap (placed-alike c.args.heap.now
     c.reserve_event.new.self c.take_claims.new.heap c.join.new.heap c.keep_claims.new.heap c.reserve_event.new.self.events.spare c.args.device
     c.args.seat.container c.args.seat.bus c.args.seat.name c.args.seat.spot.slot c.in_ok-taken.taken.kept c.reserve_event.ensures.kept
@@ -113,7 +114,6 @@ connect_clock-requires-clause-source g c =
     (reserved-live c.args.heap.now c.reserve_event.new.self c.take_claims.new.heap c.join.new.heap c.keep_claims.new.heap
     c.reserve_event.new.self.events.spare c.args.device c.args.seat.container c.args.seat.bus c.args.seat.name c.args.seat.spot.slot
     c.in_ok-taken.taken.kept c.reserve_event.ensures.kept c.in_ok-taken.ensures.rest c.in-Ok.ensures.now c.keep_claims.ensures.rest key live))
-    c.source_of-source.result c.source_of-source.ensures.live
 
 pub returns-in-Ok-clause-stood : goal.returns-in-Ok-clause-stood
 returns-in-Ok-clause-stood g c = λ b d a s seat same told.

@@ -1,9 +1,8 @@
 -- The slots are looked at one after another.
-use Rattle.std.proofs.Common.{◌<◌, length, sym, ◌∙◌, arith}
-use Rattle.std.proofs.lemmas.Option.{slice_get_within}
+use Rattle.std.proofs.Common.{sym, ◌∙◌}
 use Rattle.qo_model.specs.Objects.{is_object_named}
 use Rattle.qo_heap.specs.Objects.{slots_of}
-use Rattle.qo_properties.proofs.LookupLemmas.{place-here, place-next, place-past}
+use Rattle.qo_heap.proofs.SlotPlaces.{place-here, place-next, place-past, slots-fewer}
 use Rattle.qo_properties.proofs.reading.lookup.child_place.Goals as goal
 
 pub returns-then-is_child_named : goal.returns-then-is_child_named
@@ -14,9 +13,7 @@ returns-then-is_child_named g c =
 
 pub loop-view-smaller : goal.loop-view-smaller
 loop-view-smaller g c =
-    let within : c.loop-view.at < length (slots_of c.args.heap.now c.args.o.birth) = slice_get_within (slots_of c.args.heap.now c.args.o.birth) c.loop-view.at
-    (c.in-Some.view.name.now, c.in-Some.view.what.now) (sym c.in-Some.ensures.slot) in
-    omega arith
+    slots-fewer c.loop-view.at (slots_of c.args.heap.now c.args.o.birth) (c.in-Some.view.name.now, c.in-Some.view.what.now) (sym c.in-Some.ensures.slot)
 
 pub loop-view-preserved : goal.loop-view-preserved
 loop-view-preserved g c =

@@ -2,7 +2,7 @@
 use Rattle.std.proofs.Common.{◌≡◌, ◌-◌, length}
 use Rattle.qo_model.specs.Objects.{is_object_named}
 use Rattle.qo_heap.specs.Objects.{slots_of}
-use Rattle.qo_properties.proofs.LookupLemmas.{place_after}
+use Rattle.qo_heap.proofs.SlotPlaces.{place_after}
 use Rattle.qo_properties.proofs.reading.lookup.child_place.Given as goal
 
 abbrev pub invariant-loop-view : goal.invariant-loop-view

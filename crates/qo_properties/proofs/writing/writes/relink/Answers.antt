@@ -1,4 +1,5 @@
 use Rattle.std.proofs.Common.{refl, subst, ◌∙◌}
+use Rattle.std.proofs.lemmas.Option.{IfSome_then}
 use Rattle.qo_table.specs.Rows.{IsLive}
 use Rattle.qo_object.specs.Content.{dropped_at}
 use Rattle.qo_object.specs.BoardObject.{birth_of}
@@ -10,7 +11,7 @@ use Rattle.qo_heap.proofs.HeapLemmas.{live-edit}
 use Rattle.qo_heap.proofs.BoardEdits.{shows-drop_slot}
 use Rattle.qo_properties.proofs.ClaimLemmas.{edit-keeps}
 use Rattle.qo_properties.proofs.PinLemmas.{edited-pins, hold-pins}
-use Rattle.qo_properties.proofs.WriteLemmas.{emptied-link, held-live, relinked-is, some-live}
+use Rattle.qo_properties.proofs.WriteLemmas.{emptied-link, held-live, relinked-is}
 use Rattle.qo_properties.proofs.writing.writes.relink.Goals as goal
 
 pub point_at-requires-clause-live : goal.point_at-requires-clause-live
@@ -18,16 +19,17 @@ point_at-requires-clause-live g c = rw c.empty.ensures.now (live-edit c.args.o.b
 
 pub point_at-requires-clause-target : goal.point_at-requires-clause-target
 point_at-requires-clause-target g c =
-    some-live (IsLive c.args.heap.now.rows) (IsLive c.empty.new.self.rows)
-    (λ key live. rw c.empty.ensures.now (live-edit c.args.o.birth (dropped_at c.args.at) c.args.heap.now.rows key live)) c.args.target c.requires.target
+    IfSome_then c.args.target {P = IsLive c.args.heap.now.rows} {Q = IsLive c.empty.new.self.rows} c.requires.target
+    (λ key live. rw c.empty.ensures.now (live-edit c.args.o.birth (dropped_at c.args.at) c.args.heap.now.rows key live))
 
 pub point_at-requires-clause-link : goal.point_at-requires-clause-link
 point_at-requires-clause-link g c = rw c.empty.ensures.now (emptied-link c.args.heap.now c.args.o c.args.at c.requires.live c.requires.link)
 
 pub drop_hold-requires : goal.drop_hold-requires
 drop_hold-requires g c =
-    some-live (IsLive c.empty.new.self.rows) (IsLive c.point_at.new.heap.rows) c.point_at.ensures.names c.held_at-held.result
+    IfSome_then c.held_at-held.result {P = IsLive c.empty.new.self.rows} {Q = IsLive c.point_at.new.heap.rows}
     (rw c.empty.ensures.now (held-live c.args.heap.now c.facts.ensures c.args.o c.requires.live c.args.at c.held_at-held.result c.held_at-held.ensures))
+    c.point_at.ensures.names
 
 pub returns-clause-shown : goal.returns-clause-shown
 returns-clause-shown g c = λ b s.
