@@ -9,7 +9,7 @@ use Rattle.serde_json.specs.Data.{Data, string}
 use Rattle.qo_chardev.specs.Texts.{told}
 use Rattle.qo_values.specs.Rings.{ring_add, ring_drop, ring_oldest}
 use Rattle.qo_values.specs.declared.codes.Code.{Code}
-use Rattle.qo_values.specs.declared.codes.Code.TheVariants.{E15, E32, E36, E48, E49, E53}
+use Rattle.qo_values.specs.declared.codes.Code.TheVariants.{E32, E36, E53}
 use Rattle.qo_values.specs.declared.forms.Form.{Form}
 use Rattle.qo_values.specs.declared.forms.Form.TheVariants.{Utf8}
 use Rattle.qo_values.specs.declared.kinds.TypeId.{TypeId}
@@ -65,6 +65,7 @@ use Rattle.qo_commands.specs.Changes.{attempted}
 use Rattle.qo_commands.specs.Commands.{added, altered, answered, perform, performed, without_events}
 use Rattle.qo_commands.specs.Commands as commands
 use Rattle.qo_sound.proofs.TargetLemmas.{resolved-of}
+use Rattle.qo_realize.proofs.HoldLemmas.{held_of-all, released_of-all}
 use Rattle.qo_machine.specs.Machine.{BreaksOff, BreaksOffAt, Choice, Made, Seen, State, Stepped, preceded, after_command, by_item, by_line, defined, fed_at, first, input_step, item_step, line_step, made_by, mode_of, opened, others, refused, serve, serve_by, serve_lines, serve_unless, session_of, step, taken, unchanged, with_board, with_line, with_session}
 use Rattle.qo_machine.proofs.MemoryLemmas.{fed_board}
 use Rattle.qo_machine.specs.Runs.{Turn, after, state_after}
@@ -233,28 +234,10 @@ advanced-all P b ns p q = by b.running (nat_lt TIME_MAX (b.now + ns)) refl
 
 -- holds
 held_of-keeps : (P : Board → Type 0) → KeepsBoard P → (b : Board) (n : ℕ) → is_of b (codes "resettable") n ≡ true → P b → P (held_of b n).board
-held_of-keeps P k b n is p = by (attached b n) refl (is_deep b n) refl
-  where
-    come : Bool → Bool → Changed
-    come home deep =
-        if not home then record { refusal = Some E15; board = b }
-        else if deep then record { refusal = Some E48; board = b }
-        else record { refusal = None; board = held b n }
-
-    by : (home : Bool) → attached b n ≡ home → (deep : Bool) → is_deep b n ≡ deep → P (come home deep).board
-    by false e deep d = p
-    by true e true d = p
-    by true e false d = k.held_so b n is e d p
+held_of-keeps P k b n is p = held_of-all P b n p (λ home deep. k.held_so b n is home deep p)
 
 released_of-keeps : (P : Board → Type 0) → KeepsBoard P → (b : Board) (n : ℕ) → is_of b (codes "resettable") n ≡ true → P b → P (released_of b n).board
-released_of-keeps P k b n is p = by (among b.holds n) refl
-  where
-    come : Bool → Changed
-    come stands = if stands then record { refusal = None; board = released b n } else record { refusal = Some E49; board = b }
-
-    by : (stands : Bool) → among b.holds n ≡ stands → P (come stands).board
-    by true e = k.released_so b n is e p
-    by false e = p
+released_of-keeps P k b n is p = released_of-all P b n p (λ stands. k.released_so b n is stands p)
 
 at_path-keeps : (P : Board → Type 0) (b : Board) (path : List ℕ) (change : ℕ → Changed) → P b
     → ((n : ℕ) → is_of b (codes "resettable") n ≡ true → P (change n).board)

@@ -6,8 +6,6 @@ use Rattle.std.specs.Option.{option_map_or}
 use Rattle.std.specs.Str.{bytes_eq}
 use Rattle.std.proofs.lemmas.Bool.Decides.{nat_tests}
 use Rattle.std.proofs.lemmas.Cmp.{nat_list_eq_equiv}
-use Rattle.std.proofs.lemmas.List.{length-map}
-use Rattle.std.proofs.lemmas.Option.{same_Some}
 use Rattle.qo_values.specs.declared.births.TheConstants.{MEMORY_BUS_BIRTH, ROOT_BUS_BIRTH}
 use Rattle.qo_values.specs.declared.codes.Code.{Code}
 use Rattle.qo_values.specs.declared.codes.Code.TheVariants.{E15, E20, E21, E22, E24, E26, E27, E43}
@@ -20,41 +18,31 @@ use Rattle.qo_model.specs.Devices.{is_going}
 use Rattle.qo_model.specs.Objects.{has_slot}
 use Rattle.qo_model.specs.Paths.{attached, is_of}
 use Rattle.qo_model.specs.Plug.{bus_barred, bus_for, bus_type, container_barred, objects_in, room_barred, type_barred}
-use Rattle.qo_model.specs.Types.{TypeInfo, is_a, type_named, info_of}
+use Rattle.qo_model.specs.Types.{TypeInfo, is_a, type_named}
 use Rattle.qo_slots.specs.declared.keys.Key.{Key}
 use Rattle.qo_object.specs.Content.{Content}
 use Rattle.qo_object.specs.BoardObject.{shown_slots}
 use Rattle.qo_object.specs.Slots.{Named}
-use Rattle.qo_heap.specs.Board.{Shows, record_of}
+use Rattle.qo_heap.specs.Board.{Shows}
 use Rattle.qo_heap.specs.Objects.{Objects, content_of, slots_of}
 use Rattle.qo_heap.proofs.HeapLemmas.{is_some-find}
 use Rattle.qo_heap.proofs.BoardReads.{shows-kind, shows-slots}
-use Rattle.qo_properties.proofs.BarLemmas.{row-own}
+use Rattle.qo_properties.proofs.BarLemmas.{by_row, found-told, many-shown}
 
 -- the type
 module _ (name : List ℕ) (t : TypeId) (is : Some t ≡ option_map (λ (x : TypeInfo). x.id) (type_named name)) where
-  by_row : (P : Option TypeInfo → Type 0) → ((row : TypeInfo) → row.id ≡ t → is_abstract t ≡ row.is_abstract → P (Some row)) → P (type_named name)
-  by_row P given = go (type_named name) refl
-    where
-      go : (o : Option TypeInfo) → type_named name ≡ o → P o
-      go None e = absurd (let clash : Some t ≡ None = is ∙ ap (option_map (λ (x : TypeInfo). x.id)) e in cc)
-      go (Some row) e =
-          let same : t ≡ row.id = same_Some t row.id (is ∙ ap (option_map (λ (x : TypeInfo). x.id)) e) in
-          let row_is : info_of t ≡ Some row = ap info_of same ∙ row-own name row e in
-          given row (sym same) (ap (λ (o : Option TypeInfo). option_map_or (λ (x : TypeInfo). x.is_abstract) o false) row_is)
-
   abbrev barred_as : Option TypeInfo → Option Code
   barred_as o = elim o [ None ↦ Some E20 | Some row ↦ if row.is_abstract then Some E21 else if not (is_a row.id (codes "device")) then Some E22 else None ]
 
   pub barred-abstract : is_abstract t ≡ true → Some E21 ≡ type_barred name
-  barred-abstract holds = by_row (λ o. Some E21 ≡ barred_as o) (λ row same tells. let so : row.is_abstract ≡ true = sym tells ∙ holds in rw so refl)
+  barred-abstract holds = by_row name t is (λ o. Some E21 ≡ barred_as o) (λ row e same tells. let so : row.is_abstract ≡ true = sym tells ∙ holds in rw so refl)
 
   pub barred-use : is_abstract t ≡ false → is_a t (codes "device") ≡ false → Some E22 ≡ type_barred name
-  barred-use fails other = by_row (λ o. Some E22 ≡ barred_as o) (λ row same tells. let so : row.is_abstract ≡ false = sym tells ∙ fails in
+  barred-use fails other = by_row name t is (λ o. Some E22 ≡ barred_as o) (λ row e same tells. let so : row.is_abstract ≡ false = sym tells ∙ fails in
       let its : is_a row.id (codes "device") ≡ false = ap (λ (k : TypeId). is_a k (codes "device")) same ∙ other in rw (so, its) refl)
 
   pub allowed : is_abstract t ≡ false → is_a t (codes "device") ≡ true → None ≡ type_barred name
-  allowed fails holds = by_row (λ o. None ≡ barred_as o) (λ row same tells. let so : row.is_abstract ≡ false = sym tells ∙ fails in
+  allowed fails holds = by_row name t is (λ o. None ≡ barred_as o) (λ row e same tells. let so : row.is_abstract ≡ false = sym tells ∙ fails in
       let its : is_a row.id (codes "device") ≡ true = ap (λ (k : TypeId). is_a k (codes "device")) same ∙ holds in rw (so, its) refl)
 
 -- the container
@@ -66,10 +54,6 @@ taken-shown b v s n name = ap (list_any (λ (t : List ℕ × board.Slot). bytes_
         → list_any (λ (t : List ℕ × board.Slot). bytes_eq t.0 name) (shown_slots slots) ≡ list_any (λ (t : Named). bytes_eq name t.0) slots
     go [] = refl
     go (t ∷ slots) = ap₂ (λ (x y : Bool). x || y) (nat_list_eq_equiv.symm t.0 name) (go slots)
-
-found-told : {A : Type 0} (f : A → Named) (o : Option A) (x : Option Named) (t : Bool) → option_map f o ≡ x → is_some o ≡ t → is_some x ≡ t
-found-told f None x t e is = ap is_some (sym e) ∙ is
-found-told f (Some a) x t e is = ap is_some (sym e) ∙ is
 
 pub taken-is : {A : Type 0} (f : A → Named) (o : Option A) (b : Board) (v : Objects) → Shows b v → (n : ℕ) (name : List ℕ) (t : Bool)
     → option_map f o ≡ find (λ (s : Named). bytes_eq name s.0) (slots_of v n) → is_some o ≡ t → has_slot b n name ≡ t
@@ -142,9 +126,6 @@ module _ (b : Board) (t : TypeId) (v : Objects) (s : Shows b v) where
       ap (λ (u : Bool). bus_barred b t (Some (if u then ROOT_BUS_BIRTH else MEMORY_BUS_BIRTH))) fails ∙ bus-other b t MEMORY_BUS_BIRTH none
 
 -- the room
-pub many-shown : (b : Board) (v : Objects) → Shows b v → length b.records ≡ length v.rows
-many-shown b v s = ap (λ (l : List board.Record). length l) s.records ∙ length-map v.rows record_of
-
 pub room-is : (b : Board) (v : Objects) → Shows b v → (t : TypeId) → length v.rows + objects_in t ≤ LIVE_OBJECTS_MAX → None ≡ room_barred b t
 room-is b v s t fits = let so : nat_le (length b.records + objects_in t) LIVE_OBJECTS_MAX ≡ true = grind (arith, nat_tests, many-shown b v s, fits) in
     rw (room_barred, so) refl

@@ -1,5 +1,5 @@
 -- The claims that the body of a device keeps which was made, placed and started are those of its place.
-use Rattle.std.proofs.Common.{◌≡◌, refl, ap, sym, subst, ◌∙◌, ℕ, Bool, true, false, not, eqb, codes, List, [], ◌∷◌, map, find, Option, Some, None, option_map, rules}
+use Rattle.std.proofs.Common.{◌≡◌, refl, ap, sym, subst, ◌∙◌, ℕ, Bool, true, false, not, eqb, codes, List, [], ◌∷◌, map, Option, Some, None, option_map, rules}
 use Rattle.std.specs.Prelude.{◌||◌, if◌then◌else◌, option_and_then}
 use Rattle.std.specs.List.{AllByRecursion}
 use Rattle.std.specs.Str.{bytes_eq}
@@ -22,6 +22,7 @@ use Rattle.qo_table.specs.Rows.{object_at}
 use Rattle.qo_object.specs.Content.{Content, fresh}
 use Rattle.qo_heap.specs.Acts.{Acts, stilled}
 use Rattle.qo_heap.specs.Objects.{Objects, content_of, with_edit}
+use Rattle.qo_properties.proofs.BarLemmas.{found-has}
 use Rattle.qo_plug.specs.Spots.{IsChosen, backend_given, claims_given, ring_given}
 use Rattle.qo_plug.specs.Drafts.{bare}
 use Rattle.qo_standing.specs.Placement.{kept_in}
@@ -89,14 +90,6 @@ all-roomy : AllByRecursion (λ (row : TypeInfo). is_roomy row ≡ true) types
 unfolding types
 all-roomy = search rules
 
-found-all : (P : TypeInfo → Type 0) (p : TypeInfo → Bool) (rows : List TypeInfo) (row : TypeInfo) → AllByRecursion P rows → find p rows ≡ Some row → P row
-found-all P p [] row all is = cc
-found-all P p (r ∷ rows) row all is = go (p r) refl (found-all P p rows row all.1)
-  where
-    go : (t : Bool) → p r ≡ t → (find p rows ≡ Some row → P row) → P row
-    go true e rest = subst P (same_Some r row (rw e at is)) all.0
-    go false e rest = rest (rw e at is)
-
 barred-by : (row : TypeInfo) → (if row.is_abstract then Some E21 else if not (is_a row.id (codes "device")) then Some E22 else None) ≡ None
     → is_roomy row ≡ true → has_room (body_of row.id) ≡ true
 barred-by row barred roomy = go row.is_abstract refl (is_a row.id (codes "device")) refl
@@ -115,7 +108,7 @@ driver-room driver t kind barred k = go (type_named driver) refl
     go (Some row) p =
         let same : row.id ≡ t = same_Some row.id t (rw p at kind) in
         let roomy : is_roomy row ≡ true =
-        found-all (λ (r : TypeInfo). is_roomy r ≡ true) (λ (r : TypeInfo). bytes_eq (type_name r.id) driver) types row all-roomy p in
+        found-has (λ (r : TypeInfo). is_roomy r ≡ true) (λ (r : TypeInfo). bytes_eq (type_name r.id) driver) types row all-roomy p in
         subst (λ (u : TypeId). kept_of (with_kept k (body_of u)) ≡ k) same (kept-room k (body_of row.id) (barred-by row (rw (type_barred, p) at barred) roomy))
 
 -- a device as it was made keeps the claims that it is given

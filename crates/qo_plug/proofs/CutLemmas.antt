@@ -4,6 +4,7 @@ use Rattle.std.specs.List.{cons_option}
 use Rattle.std.specs.Option.{option_map_or}
 use Rattle.std.specs.Str.{bytes_eq}
 use Rattle.std.proofs.lemmas.Option.{same_Some}
+use Rattle.std.proofs.lemmas.List.{length-map}
 use Rattle.qo_values.specs.declared.kinds.TypeId.{TypeId}
 use Rattle.qo_model.specs.Board.{Board, Record, Slot, plain, child, strong, weak, alias}
 use Rattle.qo_model.specs.Changes.{fresh}
@@ -50,14 +51,10 @@ module _ {X Y : Type 0} (f : X → Option Y) where
   passing-within (suc k) [] = omega arith
   passing-within (suc k) (x ∷ xs) = longer (f x) (filter_map f (take k xs)) (filter_map f xs) (passing-within k xs)
 
-map-length : {X Y : Type 0} (f : X → Y) (xs : List X) → length (map f xs) ≡ length xs
-map-length f [] = refl
-map-length f (x ∷ xs) = ap suc (map-length f xs)
-
 kinds-within : (k : ℕ) (t : TypeId) → suc (length (kinds_in (take k (slots_of t)))) ≤ objects_in t
 kinds-within k t =
     let same : length (kinds_in (take k (slots_of t))) ≡ length (filter_map further_in (take k (slots_of t))) =
-    map-length (λ (f : List ℕ × TypeId). f.1) (filter_map further_in (take k (slots_of t))) in
+    length-map (filter_map further_in (take k (slots_of t))) (λ (f : List ℕ × TypeId). f.1) in
     omega (arith, same, passing-within further_in k (slots_of t))
 
 kinds-more : (k : ℕ) (ps : List Property) (p : Property) (u : TypeId) → slice_get ps k ≡ Some p → p.role ≡ Child u

@@ -50,7 +50,7 @@ row-own name row e = found-has (λ (r : TypeInfo). info_of r.id ≡ Some r) (λ 
 
 -- what the row of a type says, where a name gives the type
 module _ (name : List ℕ) (t : TypeId) (is : Some t ≡ option_map (λ (x : TypeInfo). x.id) (type_named name)) where
-  by_row : (P : Option TypeInfo → Type 0) → ((row : TypeInfo) → type_named name ≡ Some row → row.id ≡ t → is_abstract t ≡ row.is_abstract → P (Some row))
+  pub by_row : (P : Option TypeInfo → Type 0) → ((row : TypeInfo) → type_named name ≡ Some row → row.id ≡ t → is_abstract t ≡ row.is_abstract → P (Some row))
       → P (type_named name)
   by_row P given = go (type_named name) refl
     where
