@@ -33,7 +33,7 @@ use Rattle.qo_heap.proofs.ActsLemmas.{acts-act, acts-book}
 use Rattle.qo_heap.proofs.BookLemmas.{book-edit, kept-without, sum-changed}
 use Rattle.qo_heap.proofs.HeapLemmas.{edit-is, live-edit}
 use Rattle.qo_heap.proofs.BoardActs.{shows-acted}
-use Rattle.qo_heap.proofs.BoardEdits.{shows-edit}
+use Rattle.qo_heap.proofs.BoardEdits.{pins-edited, shows-edit}
 use Rattle.qo_heap.proofs.BoardObjects.{content-edited, live-content}
 use Rattle.qo_heap.proofs.MomentLemmas.{acts-timely}
 use Rattle.qo_life.specs.Life.{Goes, with_log}
@@ -46,7 +46,7 @@ use Rattle.qo_sound_clocks.specs.SoundTimes.{SoundTimes}
 use Rattle.qo_sound_clocks.proofs.SlotLemmas.{OtherName}
 use Rattle.qo_sound_clocks.proofs.TimesLemmas.{times-edits}
 use Rattle.qo_unplug.specs.Unrealizing.{Parts, Undoes, parts}
-use Rattle.qo_unplug.proofs.MomentLemmas.{edit-pins, goes-timely, same-timely}
+use Rattle.qo_unplug.proofs.MomentLemmas.{goes-timely, same-timely}
 use Rattle.qo_unplug.proofs.TreeLemmas.{quiet-acted, quiet-disconnected, quiet-set_named, same-then}
 use Rattle.qo_unplug.proofs.TreeLemmas as boards
 use Rattle.qo_unplug.proofs.StepLemmas.{Stands, undoes-quiet, undoes-same, undoes-then}
@@ -67,7 +67,7 @@ undoes-act v w n period is held asked =
     (λ out h.
     subst (λ (x : Objects). IsBook out x) (sym is)
     (acts-book out v (acted_on n period v) (acts-act v (record { birth = n; deed = Did Unrealize }) n Unrealize v.time period) h))
-    (ap (λ (x : Objects). pins_in x.rows) is ∙ edit-pins n (acted_at Unrealize v.time period) (λ c. refl) v.rows)
+    (ap (λ (x : Objects). pins_in x.rows) is ∙ pins-edited n (acted_at Unrealize v.time period) (λ c. refl) v.rows)
     (λ all.
     subst (λ (x : Objects). Timely x) (sym is) (acts-timely v (record { birth = n; deed = Did Unrealize }) n Unrealize period all))
 
@@ -87,7 +87,7 @@ module _ (n : ℕ) (name : List ℕ) (f : Slot → Slot) (v : Objects) where
       go : (o : Option ℕ)
           → pins_in (elim o as (λ _. Objects) [ None ↦ v | Some i ↦ with_edit n (with_slot_changed f i) v ]).rows ≡ pins_in v.rows
       go None = refl
-      go (Some i) = edit-pins n (with_slot_changed f i) (λ c. refl) v.rows
+      go (Some i) = pins-edited n (with_slot_changed f i) (λ c. refl) v.rows
 
 pub undoes-disconnected : (v w : Objects) (n : ℕ) → ((b : Board) → Shows b v → Shows (disconnected (Some n) b) w)
     → w ≡ changed_named n (codes "period") (with_val (val.Uint 0)) (changed_named n (codes "source") unseen_on v) → (held : List ℕ) (asked : Asked)
@@ -223,7 +223,7 @@ undoes-freed v u w good n c there kept own bare frees held asked =
     boards.quiet-none
     (λ key here. subst (λ (x : Objects). IsLive x.rows key) (sym is) (live-edit n bared v.rows key here))
     (λ out h. subst (λ (x : Objects). IsBook out x) (sym is) (book-freed out v good n c there h))
-    (ap (λ (x : Objects). pins_in x.rows) is ∙ edit-pins n bared (λ d. refl) v.rows)
+    (ap (λ (x : Objects). pins_in x.rows) is ∙ pins-edited n bared (λ d. refl) v.rows)
     (λ all.
     subst (λ (x : Objects). Timely x) (sym is)
     (same-timely (tree v) (with_log empty_log v) (with_log empty_log (record (with_edit n bared v) { claims = without_kept (kept_of c.body) v.claims }))

@@ -1,16 +1,15 @@
--- The moments of timers, of a heap and of the boards that it shows; and what a heap keeps of them, and of its pins.
-use Rattle.std.proofs.Common.{◌≡◌, refl, ap, ap₂, sym, subst, ℕ, eqb, cond, Bool, true, false, List, [], ◌∷◌, ◌++◌, map, replicate}
+-- The moments of timers, of a heap and of the boards that it shows; and what a heap keeps of them.
+use Rattle.std.proofs.Common.{sym, subst, ℕ, map}
 use Rattle.std.specs.List.{AllByRecursion}
 use Rattle.qo_kinds.specs.Bodies as bodies
 use Rattle.qo_kinds.specs.Bodies.{registers_of}
 use Rattle.qo_kinds.specs.declared.bodies.Body.{Body}
 use Rattle.qo_kinds.specs.declared.bodies.Body.TheVariants.{Uart, Timer, Dimm, Bridge, Bus, Clock, Backend, Plain}
 use Rattle.qo_slots.specs.declared.keys.Key.{Key}
-use Rattle.qo_table.specs.Rows as rows
 use Rattle.qo_model.specs.Board.{Board, Record}
 use Rattle.qo_notes.specs.Log.{empty_log, noted_all}
 use Rattle.qo_object.specs.Content.{Content}
-use Rattle.qo_heap.specs.Board.{Shows, pins_in, record_of}
+use Rattle.qo_heap.specs.Board.{Shows, record_of}
 use Rattle.qo_heap.specs.Objects.{Objects}
 use Rattle.qo_heap.specs.Moments.{Timely}
 use Rattle.qo_life.specs.Life.{Goes, with_log}
@@ -70,16 +69,3 @@ pub goes-timely : (step : Board → Board) (v w : Objects) → Goes step v w →
 goes-timely step v w goes keeps all =
     times-timely (step (tree v)) (with_log (noted_all goes.more empty_log) w) (goes.shown (tree v) empty_log (tree-shows v))
     (keeps (tree v) (timely-times (tree v) (with_log empty_log v) (tree-shows v) all))
-
--- an object is changed, but not its pins
-pub edit-pins : (n : ℕ) (f : Content → Content) → ((c : Content) → (f c).pins ≡ c.pins) → (rs : List (Key × Content))
-    → pins_in (rows.edit n f rs) ≡ pins_in rs
-edit-pins n f same [] = refl
-edit-pins n f same (row ∷ rs) = ap₂ (λ (xs ys : List ℕ). xs ++ ys) (go (eqb row.0.birth n)) (edit-pins n f same rs)
-  where
-    own : Key × Content → List ℕ
-    own r = replicate r.1.pins r.0.birth
-
-    go : (t : Bool) → own (cond t (row.0, f row.1) row) ≡ own row
-    go true = ap (λ (k : ℕ). replicate k row.0.birth) (same row.1)
-    go false = refl

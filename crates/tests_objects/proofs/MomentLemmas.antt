@@ -1,9 +1,9 @@
 -- Objects and slots that are added are no timer's moment.
-use Rattle.std.proofs.Common.{◌≡◌, refl, codes, ℕ, ◌+◌, List, [], ◌∷◌, ◌++◌, arith}
+use Rattle.std.proofs.Common.{◌≡◌, refl, codes, ℕ, ◌+◌, List, [], ◌∷◌, ◌++◌}
 use Rattle.std.specs.Prelude.{IfOk, OnErr, OnOk, Result, Ok, Err}
 use Rattle.qo_values.specs.declared.kinds.TypeId.{TypeId}
-use Rattle.qo_values.specs.declared.kinds.TypeId.TheVariants.{SlotUart, SlotTimer, SlotBridge, MemDimm, Bus, SlotBus, MemBus, Clock, MemoryBackend, MemoryBackendRam}
-use Rattle.qo_kinds.specs.Bodies.{IsTimely, body_of}
+use Rattle.qo_kinds.specs.Bodies.{IsTimely}
+use Rattle.qo_kinds.proofs.BodyLemmas.{fresh-timely}
 use Rattle.qo_slots.specs.declared.keys.Key.{Key}
 use Rattle.qo_object.specs.declared.slots.Slot.{Slot}
 use Rattle.qo_object.specs.Content.{Content, fresh, with_slot}
@@ -11,19 +11,6 @@ use Rattle.qo_heap.specs.Objects.{Objects, with_edit}
 use Rattle.qo_heap.specs.Moments.{AllTimely, Timely}
 use Rattle.qo_clocks.specs.Links.{changed_named, fitted_on}
 use Rattle.qo_clocks.proofs.ScopeLemmas.{edit-timely, timely-changed}
-
-pub fresh-timely : (t : TypeId) (now : ℕ) → IsTimely now (body_of t)
-fresh-timely SlotTimer now = omega arith
-fresh-timely SlotUart now = tt
-fresh-timely MemDimm now = tt
-fresh-timely SlotBridge now = tt
-fresh-timely Bus now = tt
-fresh-timely SlotBus now = tt
-fresh-timely MemBus now = tt
-fresh-timely Clock now = tt
-fresh-timely MemoryBackend now = tt
-fresh-timely MemoryBackendRam now = tt
-fresh-timely t now = tt
 
 more-timely : (now : ℕ) (rows : List (Key × Content)) (row : Key × Content) → AllTimely now rows → IsTimely now row.1.body → AllTimely now (rows ++ row ∷ [])
 more-timely now [] row all own = (own, tt)
