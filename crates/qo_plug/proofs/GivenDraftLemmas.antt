@@ -1,10 +1,11 @@
 -- A device that was made with its values stands as one that gets them all where it stands; and what is left of its plan fits it.
-use Rattle.std.proofs.Common.{◌≡◌, refl, ap, sym, subst, ◌∙◌, ℕ, ◌+◌, Bool, true, false, ◌==◌, List, [], ◌∷◌, map, find, codes, Option, Some, None, IfSome, arith}
+use Rattle.std.proofs.Common.{◌≡◌, refl, ap, sym, subst, ◌∙◌, ℕ, ◌+◌, Bool, true, false, ◌==◌, List, [], ◌∷◌, map, find, length, codes, Option, Some, None, IfSome, Vec, arith}
 use Rattle.std.specs.List.{AllByRecursion, AllZip}
 use Rattle.std.specs.Prelude.{if◌then◌else◌}
 use Rattle.std.specs.Str.{bytes_eq}
+use Rattle.std.specs.Vec.{with_items}
 use Rattle.std.proofs.lemmas.Bool.Decides.{nat_tests}
-use Rattle.std.proofs.lemmas.List.{map-append}
+use Rattle.std.proofs.lemmas.List.{length-map, map-append, with_items_is}
 use Rattle.qo_values.specs.declared.kinds.TypeId.{TypeId}
 use Rattle.qo_values.specs.declared.kinds.TypeId.TheVariants.{Device}
 use Rattle.qo_values.specs.declared.properties.Val.{Val}
@@ -176,3 +177,7 @@ left-live P (f ∷ fs) all = (left f all.0, left-live P fs all.1)
     left fill.Nothing is = is
     left (fill.Value v) is = tt
     left (fill.Target key) is = is
+
+-- of a vector, which was handed out as a slice
+pub left-items : {Z : Type 0} (v : Vec Fill Z) (old new : List Fill) → old ≡ v.items → new ≡ map spent old → (with_items v new).items ≡ map spent v.items
+left-items v old new at left = with_items_is v new (ap length left ∙ length-map old spent ∙ ap length at ∙ v.ok.0) ∙ left ∙ ap (map spent) at
