@@ -109,10 +109,10 @@ fn around(alloc: Global, word: &str, kind: TypeId) -> Result<String, AllocError>
 
 /// The type text of a property with a row; that of an alias is the text of what it passes on to,
 /// and is empty here.
-fn role_text(alloc: Global, kind: &PropertyRole) -> Result<String, AllocError>
-    ensures { IfOk result (λ text. string_bytes text ≡ role_word kind.now) }
+fn role_text(alloc: Global, role: &PropertyRole) -> Result<String, AllocError>
+    ensures { IfOk result (λ text. string_bytes text ≡ role_word role.now) }
 {
-    match kind {
+    match role {
         PropertyRole::Plain(ty, _) => String::from_str(alloc, ty.word()),
         PropertyRole::Child(ty) => around(alloc, "child", *ty),
         PropertyRole::Link { ty, .. } => around(alloc, "link", *ty),

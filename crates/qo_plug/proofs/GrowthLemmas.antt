@@ -1,5 +1,6 @@
 -- What keeps who was there, but for slots.
 use Rattle.std.proofs.Common.{◌≡◌, refl, ap, sym, subst, ◌∙◌, ℕ, ◌+◌, ◌≤◌, Bool, true, false, eqb, List, [], ◌∷◌, ◌++◌, Option, Some, None, option_map, inl, inr, IsSome, IsSomeAnd, IfSome, arith}
+use Rattle.std.specs.Prelude.{Result, Ok, Err, OnOk, OnErr}
 use Rattle.std.proofs.lemmas.Bool.{eqb-true}
 use Rattle.qo_values.specs.declared.kinds.TypeId.{TypeId}
 use Rattle.qo_values.specs.declared.kinds.TypeId.TheVariants.{SlotTimer, SlotUart, MemDimm, SlotBridge, Bus, SlotBus, MemBus, Clock, MemoryBackend, MemoryBackendRam}
@@ -42,6 +43,11 @@ grows-then v u w g h =
       events = h.events ∙ g.events;
       time = h.time ∙ g.time;
     }
+
+-- what was done made it grow, and an error left it
+pub grows-either : {T E : Type 0} (r : Result T E) (v w : Objects) → OnOk r (Grows v w) → OnErr r (w ≡ v) → Grows v w
+grows-either (Ok x) v w done same = done
+grows-either (Err e) v w done same = grows-none v w same
 
 -- an object has other slots
 abbrev AreQuiet : ℕ → Option Content → Type 0

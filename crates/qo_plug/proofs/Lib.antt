@@ -10,9 +10,11 @@ pub mod JudgementLemmas
 pub mod ClaimLemmas
 pub mod AttemptLemmas
 pub mod PlanLemmas
+pub mod PlannedSlots
 pub mod PlugSteps
 pub mod SourceLemmas
 pub mod StageLemmas
 pub mod StartBuses
 pub mod StartLemmas
+pub mod ValueLemmas
 pub mod RefusalLemmas

@@ -113,6 +113,7 @@ fn make_property<L: Ledger>(
     ensures err { OnErr result ((heap.new ≡ heap.old) ⊎ ((further : TypeId) × (row.role ≡ Child further) × (heap.new ≡ given_up further heap.old))) }
     ensures grows { Grows heap.old heap.new }
 {
+    heap.facts();
     match row.role {
         PropertyRole::Plain(_, first) => {
             add_value(heap, device, kind, row.name, first, fill, alloc, steps)

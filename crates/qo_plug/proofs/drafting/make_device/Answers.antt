@@ -15,6 +15,7 @@ make_properties-requires g c =
     record {
       live = newest-live c.args.heap.now c.create.new.heap c.in_ok-device.device (fresh c.args.kind) c.facts.ensures c.in_ok-device.ensures.made.0
           c.in_ok-device.ensures.made.1;
+      fits = c.requires;
     }
 
 pub drop_pin-requires-clause-live : goal.drop_pin-requires-clause-live
@@ -45,13 +46,13 @@ pub returns-in-Ok-clause-made : goal.returns-in-Ok-clause-made
 returns-in-Ok-clause-made g c =
     drafted-is c.args.heap.now c.create.new.heap c.make_properties.new.heap c.in_ok-device.device c.args.kind c.facts.ensures c.in_ok-device.ensures.made.0
     c.in_ok-device.ensures.made.1
-    c.in-Ok.ensures.grows c.in-Ok.ensures.own
+    c.in-Ok.ensures.grows c.args.plan.now c.in-Ok.ensures.own
 
 pub returns-in-Ok-clause-shown : goal.returns-in-Ok-clause-shown
-returns-in-Ok-clause-shown g c =
+returns-in-Ok-clause-shown g c = λ b props has.
     drafted-shown c.args.heap.now c.create.new.heap c.make_properties.new.heap c.in_ok-device.device c.args.kind c.facts.ensures c.in_ok-device.ensures.made.0
     c.in_ok-device.ensures.made.1
-    c.in-Ok.ensures.grows c.in-Ok.ensures.ok
+    c.in-Ok.ensures.grows b props (c.in-Ok.ensures.ok b props has)
 
 pub returns-in-Ok-clause-grows : goal.returns-in-Ok-clause-grows
 returns-in-Ok-clause-grows g c =
@@ -66,16 +67,16 @@ returns-in-Ok-clause-book g c =
     c.in-Ok.ensures.grows).book
 
 pub returns-in-Err-clause-err : goal.returns-in-Err-clause-err
-returns-in-Err-clause-err g c = λ b s sound.
+returns-in-Err-clause-err g c = λ b props has s sound.
     let place : c.in_ok-device.device.birth ≡ b.born + 1 =
     at-birth c.args.heap.now c.create.new.heap c.make_properties.new.heap c.in_ok-device.device c.args.kind c.facts.ensures c.in_ok-device.ensures.made.0
     c.in_ok-device.ensures.made.1
     c.in-Err.ensures.grows b s in
-    fell-short b c.args.kind sound c.create.new.heap c.make_properties.new.heap c.drop_pin.new.heap
-    (subst (λ (n : ℕ). Fell n c.args.kind c.create.new.heap c.make_properties.new.heap) place c.in-Err.ensures.err)
+    fell-short b c.args.kind sound props c.create.new.heap c.make_properties.new.heap c.drop_pin.new.heap
+    (subst (λ (n : ℕ). Fell b props n c.args.kind c.create.new.heap c.make_properties.new.heap) place (c.in-Err.ensures.err b props has))
     (created-shown c.args.heap.now c.create.new.heap c.make_properties.new.heap c.in_ok-device.device c.args.kind c.facts.ensures c.in_ok-device.ensures.made.0
     c.in_ok-device.ensures.made.1
-    c.in-Err.ensures.grows b s)
+    c.in-Err.ensures.grows b props s)
     (λ d shown. subst (λ (n : ℕ). Shows (unpin d n) c.drop_pin.new.heap) place (c.drop_pin.ensures.release d shown))
 
 pub returns-in-Err-clause-book : goal.returns-in-Err-clause-book
