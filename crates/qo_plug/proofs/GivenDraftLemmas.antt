@@ -180,4 +180,4 @@ left-live P (f ∷ fs) all = (left f all.0, left-live P fs all.1)
 
 -- of a vector, which was handed out as a slice
 pub left-items : {Z : Type 0} (v : Vec Fill Z) (old new : List Fill) → old ≡ v.items → new ≡ map spent old → (with_items v new).items ≡ map spent v.items
-left-items v old new at left = with_items_is v new (ap length left ∙ length-map old spent ∙ ap length at ∙ v.ok.0) ∙ left ∙ ap (map spent) at
+left-items v old new at left = with_items_is v new (ap length left ∙ length-map old spent ∙ ap length at ∙ sym v.ok.0) ∙ left ∙ ap (map spent) at

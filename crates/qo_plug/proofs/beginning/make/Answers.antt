@@ -2,8 +2,8 @@
 use Rattle.std.proofs.Common.{◌≡◌, ◌≤◌, ◌+◌, ap, sym, ◌∙◌, ℕ, arith}
 use Rattle.qo_model.specs.Reset.{count}
 use Rattle.qo_table.specs.Rows.{IsLive}
+use Rattle.qo_heap.proofs.HeapLemmas.{on-err}
 use Rattle.qo_properties.specs.NewSlots.{new_slots}
-use Rattle.qo_properties.proofs.AnswerLemmas.{on-err}
 use Rattle.qo_plug.specs.Drafts.{valued_slots}
 use Rattle.qo_plug.proofs.AddLemmas.{plan-live}
 use Rattle.qo_plug.proofs.GivenDraftLemmas.{left-fits, left-given, left-items, left-live}
