@@ -148,7 +148,8 @@ module _ (b : Board) (t : TypeId) (sound : SoundTree b) (props : List Given) whe
 
   by-same : (p : ℕ) → p ≤ b.born → source_by (given_draft b t props) (Some p) ≡ source_by b (Some p)
   by-same p low =
-      ap (λ (o : Option ℕ). unwrap_or (option_and_then (clock_of (given_draft b t props)) o) SYSTEM_CLOCK_BIRTH) (of-same p low) ∙ go (is_of b (codes "device") p)
+      ap (λ (o : Option ℕ). unwrap_or (option_and_then (clock_of (given_draft b t props)) o) SYSTEM_CLOCK_BIRTH) (of-same p low)
+      ∙ go (is_of b (codes "device") p)
     where
       go : (u : Bool) → unwrap_or (option_and_then (clock_of (given_draft b t props)) (if u then Some p else None)) SYSTEM_CLOCK_BIRTH
           ≡ unwrap_or (option_and_then (clock_of b) (if u then Some p else None)) SYSTEM_CLOCK_BIRTH
