@@ -53,7 +53,7 @@ module _ (b : Board) (props : List Given) where
   by-again None s = refl
   by-again (Some p) s = given_to-again b s p.1
 
-  pub given-again : (s : List ℕ × Slot) → slot_given b props (slot_given b props s) ≡ slot_given b props s
+  given-again : (s : List ℕ × Slot) → slot_given b props (slot_given b props s) ≡ slot_given b props s
   given-again s = λ j. (s.0, by-again (find (λ (p : Given). bytes_eq p.0 s.0) props) s.1 j)
 
   -- so it is after the values that were given
@@ -116,7 +116,7 @@ module _ (b : Board) (props : List Given) where
   added-alike n m name s c d e = given-added n m name s c ∙ ap (add m name (added_slot n m name s)) e ∙ sym (given-added n m name s d)
 
 -- a device that was made with its values stands as one that gets them as it stands
-pub stood-given : (b : Board) (n : ℕ) (a : Wanted) (spot : Spot) (c : Board) → stood b n a spot (edit n (with_values b a.props) c) ≡ stood b n a spot c
+stood-given : (b : Board) (n : ℕ) (a : Wanted) (spot : Spot) (c : Board) → stood b n a spot (edit n (with_values b a.props) c) ≡ stood b n a spot c
 stood-given b n a spot c =
     ap (λ (d : Board). edit n (with_body_of a.id spot.range) (addressed_at n spot.range (set_named n (codes "realized") (val.Bool true)
     (link_named n (codes "parent_bus") spot.bus (set_named n (codes "slot") (val.Uint spot.slot) d)))))
