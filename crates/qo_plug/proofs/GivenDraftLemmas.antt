@@ -1,10 +1,11 @@
 -- A device that was made with its values stands as one that gets them all where it stands; and what is left of its plan fits it.
-use Rattle.std.proofs.Common.{◌≡◌, refl, ap, sym, subst, ◌∙◌, ℕ, ◌+◌, Bool, true, false, ◌==◌, List, [], ◌∷◌, map, find, codes, Option, Some, None, IfSome, arith}
+use Rattle.std.proofs.Common.{◌≡◌, refl, ap, sym, subst, ◌∙◌, ℕ, ◌+◌, Bool, true, false, ◌==◌, List, [], ◌∷◌, map, find, length, codes, Option, Some, None, IfSome, Vec, arith}
 use Rattle.std.specs.List.{AllByRecursion, AllZip}
 use Rattle.std.specs.Prelude.{if◌then◌else◌}
 use Rattle.std.specs.Str.{bytes_eq}
+use Rattle.std.specs.Vec.{with_items}
 use Rattle.std.proofs.lemmas.Bool.Decides.{nat_tests}
-use Rattle.std.proofs.lemmas.List.{map-append}
+use Rattle.std.proofs.lemmas.List.{length-map, map-append, with_items_is}
 use Rattle.qo_values.specs.declared.kinds.TypeId.{TypeId}
 use Rattle.qo_values.specs.declared.kinds.TypeId.TheVariants.{Device}
 use Rattle.qo_values.specs.declared.properties.Val.{Val}
@@ -52,7 +53,7 @@ module _ (b : Board) (props : List Given) where
   by-again None s = refl
   by-again (Some p) s = given_to-again b s p.1
 
-  pub given-again : (s : List ℕ × Slot) → slot_given b props (slot_given b props s) ≡ slot_given b props s
+  given-again : (s : List ℕ × Slot) → slot_given b props (slot_given b props s) ≡ slot_given b props s
   given-again s = λ j. (s.0, by-again (find (λ (p : Given). bytes_eq p.0 s.0) props) s.1 j)
 
   -- so it is after the values that were given
@@ -115,7 +116,7 @@ module _ (b : Board) (props : List Given) where
   added-alike n m name s c d e = given-added n m name s c ∙ ap (add m name (added_slot n m name s)) e ∙ sym (given-added n m name s d)
 
 -- a device that was made with its values stands as one that gets them as it stands
-pub stood-given : (b : Board) (n : ℕ) (a : Wanted) (spot : Spot) (c : Board) → stood b n a spot (edit n (with_values b a.props) c) ≡ stood b n a spot c
+stood-given : (b : Board) (n : ℕ) (a : Wanted) (spot : Spot) (c : Board) → stood b n a spot (edit n (with_values b a.props) c) ≡ stood b n a spot c
 stood-given b n a spot c =
     ap (λ (d : Board). edit n (with_body_of a.id spot.range) (addressed_at n spot.range (set_named n (codes "realized") (val.Bool true)
     (link_named n (codes "parent_bus") spot.bus (set_named n (codes "slot") (val.Uint spot.slot) d)))))
@@ -176,3 +177,7 @@ left-live P (f ∷ fs) all = (left f all.0, left-live P fs all.1)
     left fill.Nothing is = is
     left (fill.Value v) is = tt
     left (fill.Target key) is = is
+
+-- of a vector, which was handed out as a slice
+pub left-items : {Z : Type 0} (v : Vec Fill Z) (old new : List Fill) → old ≡ v.items → new ≡ map spent old → (with_items v new).items ≡ map spent v.items
+left-items v old new at left = with_items_is v new (ap length left ∙ length-map old spent ∙ ap length at ∙ sym v.ok.0) ∙ left ∙ ap (map spent) at

@@ -1,5 +1,5 @@
 -- The newest object of a heap.
-use Rattle.std.proofs.Common.{◌≡◌, refl, ap, sym, subst, ◌∙◌, ℕ, ◌+◌, ◌-◌, ◌<◌, ◌≤◌, Bool, true, false, cond, ◌==◌, eqb, List, [], ◌∷◌, ◌++◌, map, filter_map, count_by, sum_by, length, take, Option, Some, None, is_some, option_map, IsSomeAnd, inl, inr, replicate, arith}
+use Rattle.std.proofs.Common.{◌≡◌, refl, ap, sym, subst, ◌∙◌, ℕ, ◌+◌, ◌-◌, ◌<◌, ◌≤◌, Bool, true, false, cond, ◌==◌, eqb, List, [], ◌∷◌, ◌++◌, map, filter_map, count_by, sum_by, Option, Some, None, is_some, option_map, IsSomeAnd, inl, inr, replicate, arith}
 use Rattle.std.specs.List.{AllByRecursion, cons_option}
 use Rattle.std.specs.Option.{option_map_or}
 use Rattle.std.proofs.lemmas.Bool.{eqb-true, eq-eqb}
@@ -17,13 +17,6 @@ use Rattle.qo_model.specs.Board as board
 use Rattle.qo_model.specs.Board.{Board}
 use Rattle.qo_model.specs.Changes.{add, with_added}
 use Rattle.qo_model.specs.Release.{edited}
-use Rattle.qo_model.specs.Opening.{first_value}
-use Rattle.qo_model.specs.Types.{slots_of}
-use Rattle.qo_model.specs.RowNames.{property_name}
-use Rattle.qo_model.specs.declared.properties.Property.{Property}
-use Rattle.qo_model.specs.declared.properties.PropertyRole.{PropertyRole}
-use Rattle.qo_model.specs.declared.properties.PropertyRole.TheVariants as row
-use Rattle.qo_properties.specs.NewSlots.{first_slots, new_slots, slot_begun}
 use Rattle.qo_model.specs.Objects.{Given, given_slots, with_attempt, with_object}
 use Rattle.qo_notes.proofs.Logs.{all_lem}
 use Rattle.qo_object.specs.Content.{Content, fresh, furnished, reference_count, holding, with_slot, without_pin, as_made}
@@ -318,37 +311,6 @@ newest-beside v w u o key c f good birth live is change =
     let rows = edit-more key.birth f v.rows (o, c) other in
     change ∙ ap (λ (x : Objects). with_edit key.birth f x) is
     ∙ (λ j. record v { rows = rows j; born = v.born + 1; log = noted_all (init_notes o.birth c.kind) v.log })
-
--- first slots hold nothing
-
-begun-bare : (t : TypeId) (p : Property) (slots : List Named)
-    → count_by (λ (s : Named). is_some (held s.1)) (cons_option (slot_begun t p) slots) ≡ count_by (λ (s : Named). is_some (held s.1)) slots
-begun-bare t p slots = go p.role refl
-  where
-    go : (k : PropertyRole) → p.role ≡ k → count_by (λ (s : Named). is_some (held s.1)) (cons_option (slot_begun t p) slots)
-        ≡ count_by (λ (s : Named). is_some (held s.1)) slots
-    go (row.Plain type first) e =
-        rw e (omega (arith, sum_by-cons (λ (s : Named). cond {A = ℕ} (is_some (held s.1)) 1 0) (property_name p.name, Plain (first_value t first)) slots))
-    go (row.Child child) e = rw e refl
-    go (row.Link target true) e =
-        rw e (omega (arith, sum_by-cons (λ (s : Named). cond {A = ℕ} (is_some (held s.1)) 1 0) (property_name p.name, Link target true None) slots))
-    go (row.Link target false) e =
-        rw e (omega (arith, sum_by-cons (λ (s : Named). cond {A = ℕ} (is_some (held s.1)) 1 0) (property_name p.name, Link target false None) slots))
-    go (row.Alias owner property) e = rw e refl
-
-all-bare : (t : TypeId) (ps : List Property) → count_by (λ (s : Named). is_some (held s.1)) (filter_map (slot_begun t) ps) ≡ 0
-all-bare t [] = refl
-all-bare t (p ∷ ps) = begun-bare t p (filter_map (slot_begun t) ps) ∙ all-bare t ps
-
-pub first-bare : (k : ℕ) (t : TypeId) → count_by (λ (s : Named). is_some (held s.1)) (first_slots k t) ≡ 0
-first-bare k t = all-bare t (take k (slots_of t))
-
-pub all-first : (t : TypeId) → new_slots t ≡ first_slots (length (slots_of t)) t
-all-first t = ap (filter_map (slot_begun t)) (go (slots_of t))
-  where
-    go : (ps : List Property) → ps ≡ take (length ps) ps
-    go [] = refl
-    go (p ∷ ps) = ap (λ (l : List Property). p ∷ l) (go ps)
 
 -- a new object that became a child is given its slots
 

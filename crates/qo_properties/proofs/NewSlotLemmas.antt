@@ -1,13 +1,11 @@
 -- The slots of a new object, row by row.
-use Rattle.std.proofs.Common.{◌≡◌, refl, ap, sym, ◌∙◌, ℕ, ◌+◌, ◌<◌, ◌≤◌, Bool, true, false, eqb, List, [], ◌∷◌, ◌++◌, length, take, filter_map, slice_get, get_or, ◌⊎◌, inl, inr, Option, Some, None, option_map, option_to_list, append-nil, arith}
+use Rattle.std.proofs.Common.{◌≡◌, refl, ap, sym, ◌∙◌, ℕ, ◌+◌, ◌<◌, ◌≤◌, true, false, List, [], ◌∷◌, ◌++◌, length, take, filter_map, slice_get, get_or, ◌⊎◌, inl, inr, Option, Some, None, option_map, option_to_list, arith}
 use Rattle.std.specs.List.{cons_option}
 use Rattle.std.proofs.lemmas.List.{map-append, take_more}
 use Rattle.std.proofs.lemmas.Option.{get_or_from_slice_get, slice_get_cases}
 use Rattle.std.proofs.lemmas.List.Elements.{filter_map-append}
 use Rattle.qo_values.specs.declared.kinds.TypeId.{TypeId}
 use Rattle.qo_values.specs.declared.kinds.TypeId.TheVariants.{Object, Container, Machine, Device, SlotDevice, SlotUart, SlotTimer, SlotBridge, MemDimm, Bus, SlotBus, MemBus, Clock, MemoryBackend, MemoryBackendRam, Tag}
-use Rattle.qo_slots.specs.declared.keys.Key.{Key}
-use Rattle.qo_table.specs.Rows.{edit}
 use Rattle.qo_model.specs.Board as board
 use Rattle.qo_model.specs.Changes.{with_fresh, with_fresh_slots}
 use Rattle.qo_model.specs.Opening.{first_slot, first_value}
@@ -17,26 +15,11 @@ use Rattle.qo_model.specs.declared.properties.Property.{Property}
 use Rattle.qo_model.specs.declared.properties.PropertyRole.{PropertyRole}
 use Rattle.qo_model.specs.declared.properties.PropertyRole.TheVariants as row
 use Rattle.qo_object.specs.Slots.{Named}
-use Rattle.qo_object.specs.Content.{Content}
 use Rattle.qo_object.specs.BoardObject.{shown, shown_slot, shown_slots}
 use Rattle.qo_heap.specs.Board.{Shows}
 use Rattle.qo_heap.specs.Objects.{Objects, with_edit}
 use Rattle.qo_heap.proofs.BoardEdits.{shows-edit}
 use Rattle.qo_properties.specs.NewSlots.{first_slots, new_slots, slot_begun, with_slots}
-
--- an object with slots more
-
-module _ (n : ℕ) where
-  edit-none : (rows : List (Key × Content)) → edit n (with_slots []) rows ≡ rows
-  edit-none [] = refl
-  edit-none (row ∷ rows) = go (eqb row.0.birth n) refl (edit-none rows)
-    where
-      go : (b : Bool) → eqb row.0.birth n ≡ b → edit n (with_slots []) rows ≡ rows → edit n (with_slots []) (row ∷ rows) ≡ row ∷ rows
-      go true is rest = rw is (λ j. (row.0, record row.1 { slots = append-nil row.1.slots j }) ∷ rest j)
-      go false is rest = rw is (ap (λ (l : List (Key × Content)). row ∷ l) rest)
-
-  pub with-none : (v : Objects) → v ≡ with_edit n (with_slots []) v
-  with-none v = ap (λ (rows : List (Key × Content)). record v { rows = rows }) (sym (edit-none v.rows))
 
 -- the slots of the first properties, one by one
 

@@ -4,15 +4,15 @@ use Rattle.qo_model.specs.Types.{slots_of}
 use Rattle.qo_heap.proofs.HeapLemmas.{on-err}
 use Rattle.qo_properties.proofs.NewSlotLemmas.{few-slots, row-at}
 use Rattle.qo_properties.proofs.PlanningLemmas.{count-few}
-use Rattle.qo_plug.proofs.DraftLemmas.{NextValue, all-left, all-own, all-shown, fell-at, reached-more, reached-none}
+use Rattle.qo_plug.proofs.DraftLemmas.{all-left, all-own, all-shown, fell-at, reached-more, reached-none}
 use Rattle.qo_plug.proofs.GrowthLemmas.{grows-then}
 use Rattle.qo_plug.proofs.drafting.make_properties.Goals as goal
 
 pub loop-row-init : goal.loop-row-init
 loop-row-init g c = reached-none c.args.device c.args.kind c.args.plan.now c.args.heap.now
 
-pub next_value-requires : goal.next_value-requires
-next_value-requires g c =
+pub next_value-fill-requires : goal.next_value-fill-requires
+next_value-fill-requires g c =
     let few : c.loop-row.at ≤ 9 = count-few c.args.kind (slots_of c.args.kind) c.loop-row.place c.loop-row.at c.loop-row.invariant.place refl in
     omega (arith, few)
 

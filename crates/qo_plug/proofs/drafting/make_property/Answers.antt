@@ -51,7 +51,8 @@ linked : (g : _) (c : goal.Joined-fill-3 g) → begun c.args.kind c.args.row.rol
 linked g c = ap (begun c.args.kind) c.in-Link.is
 
 joined : (g : _) (c : goal.Joined-fill-3 g) → c.add_link.new.self
-    ≡ with_edit c.args.device.birth (with_slot (property_name c.args.row.name) (filled_with (value_alone c.args.fill) (Link c.in-Link.ty c.in-Link.strong None)))
+    ≡ with_edit c.args.device.birth
+    (with_slot (property_name c.args.row.name) (filled_with (value_alone c.args.fill) (Link c.in-Link.ty c.in-Link.strong None)))
     c.args.heap.now
 joined g c =
     c.in_ok-add_link-in-Link.ensures.added

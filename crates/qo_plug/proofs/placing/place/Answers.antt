@@ -47,7 +47,7 @@ returns-in-Ok-stand-clause-settled g c = λ b a is notices.
     let seat : IsSeat b a c.seat_at-seat.result.0.container.birth c.seat_at-seat.result.0.name c.seat_at-seat.result.1 =
     record { id_is = of.id_is ∙ sym ens.id; name_is = of.name_is ∙ sym ens.name; parent_is = of.parent_is ∙ ap (λ (k : Key). k.birth) (sym ens.container) } in
     let source : source_for b c.seat_at-seat.result.0.bus.birth ≡ source_for (given_draft b d.site.kind a.props) c.seat_at-seat.result.0.bus.birth =
-    rw ens.bus (source-same b d.site.kind a.props is.sound d.site.bus.birth (bus-low b a d c.args.heap.now is c.requires)) in
+    rw ens.bus (source-same b d.site.kind is.sound a.props d.site.bus.birth (bus-low b a d c.args.heap.now is c.requires)) in
     let opening = opened b a d c.args.heap.now is c.in-Ok.spot c.in-Ok.is room in
     let chosen = chosen-claims b d.site.kind d.site.bus.birth a.props c.in-Ok.spot (rw c.in-Ok.is at is.spot) in
     let keeps = rw (ens.bus, ens.spot) at c.in-Ok-stand.ensures.kept in
