@@ -19,6 +19,7 @@ use Rattle.qo_model.specs.Paths.{canonical}
 use Rattle.qo_model.specs.Plug.{Spot, Wanted, addressed_at, clocked, link_named, name_for, parent_for, source_for, stood, with_body_of, with_given}
 use Rattle.qo_model.specs.Release.{edit, edited}
 use Rattle.qo_model.specs.Unplug.{set_named}
+use Rattle.qo_table.specs.Rows.{IsLive}
 use Rattle.qo_object.specs.BoardObject.{shown_slot}
 use Rattle.qo_object.specs.Slots.{Named}
 use Rattle.qo_heap.specs.Board.{Shows}
@@ -26,8 +27,12 @@ use Rattle.qo_heap.specs.Objects.{Objects}
 use Rattle.qo_properties.specs.Filling.{Fits, IsGiven, filled, filled_with, spent, target_in, value_alone}
 use Rattle.qo_properties.specs.declared.adding.filling.Fill.{Fill}
 use Rattle.qo_properties.specs.declared.adding.filling.Fill.TheVariants as fill
-use Rattle.qo_plug.specs.Drafts.{given_draft, pinned_draft, value_given, with_values}
+use Rattle.qo_properties.specs.NewSlots.{new_slots}
+use Rattle.qo_properties.specs.OpeningSteps.{KeepsNames}
+use Rattle.qo_properties.specs.Plans.{IsPlan}
+use Rattle.qo_plug.specs.Drafts.{given_draft, pinned_draft, value_given, valued_slots, with_values}
 use Rattle.qo_standing.specs.Placement.{Stood, seated}
+use Rattle.qo_plug.proofs.AddLemmas.{plan-live}
 
 -- what is given for a slot is so however often it is given
 given_to-again : (b : Board) (s : Slot) (v : Val) → given_to b (given_to b s v) v ≡ given_to b s v
@@ -142,23 +147,23 @@ module _ (b : Board) (t : TypeId) (n : ℕ) (a : Wanted) (spot : Spot) (birth : 
 
 -- what is left of a plan, over the slots that have its values
 module _ (R : Fill → Named → Type 0) (left : (f : Fill) (s : Named) → R f s → R (spent f) (s.0, filled_with (value_alone f) s.1)) where
-  zip-left : (plan : List Fill) (slots : List Named) → AllZip R plan slots → AllZip R (map spent plan) (filled (map value_alone plan) slots)
-  zip-left [] [] all = tt
-  zip-left [] (s ∷ slots) all = absurd all
-  zip-left (f ∷ fs) [] all = absurd all
-  zip-left (f ∷ fs) (s ∷ slots) all = (left f s all.0, zip-left fs slots all.1)
+  zip-spent : (plan : List Fill) (slots : List Named) → AllZip R plan slots → AllZip R (map spent plan) (filled (map value_alone plan) slots)
+  zip-spent [] [] all = tt
+  zip-spent [] (s ∷ slots) all = absurd all
+  zip-spent (f ∷ fs) [] all = absurd all
+  zip-spent (f ∷ fs) (s ∷ slots) all = (left f s all.0, zip-spent fs slots all.1)
 
-pub left-fits : (plan : List Fill) (slots : List Named) → AllZip Fits plan slots → AllZip Fits (map spent plan) (filled (map value_alone plan) slots)
-left-fits = zip-left Fits left
+spent-fits : (plan : List Fill) (slots : List Named) → AllZip Fits plan slots → AllZip Fits (map spent plan) (filled (map value_alone plan) slots)
+spent-fits = zip-spent Fits left
   where
     left : (f : Fill) (s : Named) → Fits f s → Fits (spent f) (s.0, filled_with (value_alone f) s.1)
     left fill.Nothing s is = is
     left (fill.Value v) s is = refl
     left (fill.Target key) s is = is
 
-pub left-given : (b : Board) (props : List Given) (plan : List Fill) (slots : List Named) → AllZip (IsGiven b props) plan slots
+spent-given : (b : Board) (props : List Given) (plan : List Fill) (slots : List Named) → AllZip (IsGiven b props) plan slots
     → AllZip (IsGiven b props) (map spent plan) (filled (map value_alone plan) slots)
-left-given b props = zip-left (IsGiven b props) left
+spent-given b props = zip-spent (IsGiven b props) left
   where
     left : (f : Fill) (s : Named) → IsGiven b props f s → IsGiven b props (spent f) (s.0, filled_with (value_alone f) s.1)
     left fill.Nothing s is = is
@@ -168,10 +173,10 @@ left-given b props = zip-left (IsGiven b props) left
         ∙ ap (λ (x : Slot). (slot_given b props (s.0, x)).1) (sym is)
     left (fill.Target key) s is = is
 
-pub left-live : (P : Key → Type 0) (plan : List Fill) → AllByRecursion (λ (f : Fill). IfSome (target_in f) P) plan
+spent-live : (P : Key → Type 0) (plan : List Fill) → AllByRecursion (λ (f : Fill). IfSome (target_in f) P) plan
     → AllByRecursion (λ (f : Fill). IfSome (target_in f) P) (map spent plan)
-left-live P [] all = tt
-left-live P (f ∷ fs) all = (left f all.0, left-live P fs all.1)
+spent-live P [] all = tt
+spent-live P (f ∷ fs) all = (left f all.0, spent-live P fs all.1)
   where
     left : (f : Fill) → IfSome (target_in f) P → IfSome (target_in (spent f)) P
     left fill.Nothing is = is
@@ -179,5 +184,20 @@ left-live P (f ∷ fs) all = (left f all.0, left-live P fs all.1)
     left (fill.Target key) is = is
 
 -- of a vector, which was handed out as a slice
-pub left-items : {Z : Type 0} (v : Vec Fill Z) (old new : List Fill) → old ≡ v.items → new ≡ map spent old → (with_items v new).items ≡ map spent v.items
-left-items v old new at left = with_items_is v new (ap length left ∙ length-map old spent ∙ ap length at ∙ sym v.ok.0) ∙ left ∙ ap (map spent) at
+module _ {Z : Type 0} (plan : Vec Fill Z) (old new : List Fill) (at : old ≡ plan.items) (left : new ≡ map spent old) where
+  left-items : (with_items plan new).items ≡ map spent plan.items
+  left-items = with_items_is plan new (ap length left ∙ length-map old spent ∙ ap length at ∙ sym plan.ok.0) ∙ left ∙ ap (map spent) at
+
+  pub left-targets : (v w : Objects) → KeepsNames v w → AllByRecursion (λ (f : Fill). IfSome (target_in f) (IsLive v.rows)) plan.items
+      → AllByRecursion (λ (f : Fill). IfSome (target_in f) (IsLive w.rows)) (with_items plan new).items
+  left-targets v w keeps live = rw left-items (spent-live (IsLive w.rows) plan.items (plan-live v w keeps plan.items live))
+
+  module _ (t : TypeId) (own : List Named) (made : own ≡ valued_slots t old) where
+    own-is : own ≡ valued_slots t plan.items
+    own-is = made ∙ ap (valued_slots t) at
+
+    pub left-fits : AllZip Fits plan.items (new_slots t) → AllZip Fits (with_items plan new).items own
+    left-fits fits = rw (left-items, own-is) (spent-fits plan.items (new_slots t) fits)
+
+    pub left-given : (b : Board) (props : List Given) → IsPlan b t props plan.items → AllZip (IsGiven b props) (with_items plan new).items own
+    left-given b props given = rw (left-items, own-is) (spent-given b props plan.items (new_slots t) given)

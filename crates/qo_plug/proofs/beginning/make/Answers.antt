@@ -1,12 +1,9 @@
 -- The device is new, and what was learnt before it was made stays so.
 use Rattle.std.proofs.Common.{◌≡◌, ◌≤◌, ◌+◌, ap, sym, ◌∙◌, ℕ, arith}
 use Rattle.qo_model.specs.Reset.{count}
-use Rattle.qo_table.specs.Rows.{IsLive}
 use Rattle.qo_heap.proofs.HeapLemmas.{on-err}
-use Rattle.qo_properties.specs.NewSlots.{new_slots}
-use Rattle.qo_plug.specs.Drafts.{valued_slots}
-use Rattle.qo_plug.proofs.AddLemmas.{plan-live}
-use Rattle.qo_plug.proofs.GivenDraftLemmas.{left-fits, left-given, left-items, left-live}
+use Rattle.qo_plug.specs.Drafts.{own_slots_of}
+use Rattle.qo_plug.proofs.GivenDraftLemmas.{left-fits, left-given, left-targets}
 use Rattle.qo_plug.proofs.GrowthLemmas.{live-low, unborn-quiet}
 use Rattle.qo_plug.proofs.AttemptLemmas.{cut-none}
 use Rattle.qo_plug.proofs.beginning.make.Goals as goal
@@ -17,10 +14,9 @@ returns-clause-held g c =
     let grows = c.in_ok-device.ensures.grows in
     let born : c.in_ok-device.device.birth ≡ c.args.heap.now.born + 1 = made.birth in
     let low : c.args.planned.site.bus.birth ≤ c.args.heap.now.born = live-low c.args.heap.now c.facts.ensures c.args.planned.site.bus c.requires.fit.bus in
-    let p = c.args.planned in
-    let w = c.make_device.new.heap in
-    let left = left-items p.plan c.as_mut_slice.result.now c.make_device.new.plan c.as_mut_slice.ensures.value c.in_ok-device.ensures.left in
-    let own = made.own ∙ ap (valued_slots p.site.kind) c.as_mut_slice.ensures.value in
+    let plan = c.args.planned.plan in
+    let value = c.as_mut_slice.ensures.value in
+    let left = c.in_ok-device.ensures.left in
     record {
       device_is = c.requires.fit.device;
       live = made.live;
@@ -33,17 +29,18 @@ returns-clause-held g c =
       pinned = c.in_ok-device.ensures.pinned;
       rest = made.rest;
       quiet = λ n le. grows.quiet n (unborn-quiet c.args.heap.now c.facts.ensures n (omega (arith, born, le)));
-      targets = rw left (left-live (IsLive w.rows) p.plan.items (plan-live c.args.heap.now w grows.names p.plan.items c.requires.fit.targets));
-      fits = rw (left, own) (left-fits p.plan.items (new_slots p.site.kind) c.requires.fit.fits);
+      targets =
+          left-targets plan c.as_mut_slice.result.now c.make_device.new.plan value left c.args.heap.now c.make_device.new.heap grows.names
+          c.requires.fit.targets;
+      fits =
+          left-fits plan c.as_mut_slice.result.now c.make_device.new.plan value left c.args.planned.site.kind
+          (own_slots_of c.make_device.new.heap c.in_ok-device.device.birth) made.own c.requires.fit.fits;
     }
 
 pub returns-clause-begun : goal.returns-clause-begun
 returns-clause-begun g c = λ b a s sound holds rings planned.
     let made = c.in_ok-device.ensures.made in
-    let p = c.args.planned in
     let value = c.as_mut_slice.ensures.value in
-    let left = left-items p.plan c.as_mut_slice.result.now c.make_device.new.plan value c.in_ok-device.ensures.left in
-    let own = made.own ∙ ap (valued_slots p.site.kind) value in
     record {
       shown = c.in_ok-device.ensures.shown b a.props (rw value planned.has) s;
       sound = sound;
@@ -53,7 +50,9 @@ returns-clause-begun g c = λ b a s sound holds rings planned.
       barred = c.requires.spot.refused b a.props s rings planned.has;
       spot = c.requires.spot.spot b a.props s planned.has;
       out = cut-none c.count-out.result (count b c.args.planned.site.bus.birth) (c.count-out.ensures b (s, holds));
-      plan = rw (left, own) (left-given b a.props p.plan.items (new_slots p.site.kind) planned.has);
+      plan =
+          left-given c.args.planned.plan c.as_mut_slice.result.now c.make_device.new.plan value c.in_ok-device.ensures.left c.args.planned.site.kind
+          (own_slots_of c.make_device.new.heap c.in_ok-device.device.birth) made.own b a.props planned.has;
     }
 
 pub returns-in_err-device-clause-err : goal.returns-in_err-device-clause-err
