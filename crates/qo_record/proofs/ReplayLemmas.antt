@@ -228,7 +228,7 @@ entry_went held rest opened i place now left h =
 headed_is : (p : Progress) → p.headed ≡ true → p ≡ headed p.held p.place p.opened
 headed_is p on = ap (λ (b : Bool). record { held = p.held; headed = b; place = p.place; opened = p.opened }) on
 
-abbrev passed : Progress → First → Progress
+abbrev pub passed : Progress → First → Progress
 passed p f = headed (drop f.size p.held) (capped_offset (p.place + f.size)) (opened_by p.opened f.input.what)
 
 -- the progress after an entry, as the code has it

@@ -29,10 +29,15 @@ plain_piece : (old now after p left whole : List ℕ) → IsLeft old now (p ++ l
 plain_piece old now after p left whole was is plain =
     piece old now after p left whole was (is ∙ ap (λ t. now ++ t) (sym (ascii-plain p plain))) (IsUtf8-from_ascii p plain)
 
+-- the whole text is written
+pub record IsWritten (old after whole : List ℕ) : Type 0 where
+  pub bytes : after ≡ old ++ ascii whole
+  pub spelled : IsUtf8 whole
+
 -- the last piece
-last_piece : (old now after p whole : List ℕ) → IsLeft old now p whole → after ≡ now ++ p → IsAscii p → (after ≡ old ++ ascii whole) × IsUtf8 whole
+last_piece : (old now after p whole : List ℕ) → IsLeft old now p whole → after ≡ now ++ p → IsAscii p → IsWritten old after whole
 last_piece old now after p whole was is plain =
-    (is ∙ ap (λ t. now ++ t) (sym (ascii-plain p plain)) ∙ was.bytes, was.spelled (IsUtf8-from_ascii p plain))
+    record { bytes = is ∙ ap (λ t. now ++ t) (sym (ascii-plain p plain)) ∙ was.bytes; spelled = was.spelled (IsUtf8-from_ascii p plain) }
 
 comma-ascii : (later : Bool) → IsAscii (comma_if later)
 comma-ascii true = small-ascii (comma_if true) refl
@@ -65,7 +70,7 @@ item_written all d ds later old now comma after was before is spelled none =
     (whole_numbers.1, piece old comma after (compact_text d) (items_text true ds) whole then (is whole_numbers.0) (spelled whole_numbers.0))
 
 pub items_end : (all : Items) (later : Bool) (old now after : List ℕ) → ItemsLeft all no_items later old now → after ≡ now ++ 93 ∷ []
-    → items_have_float all ≡ false → (after ≡ old ++ ascii (91 ∷ items_text false all)) × IsUtf8 (91 ∷ items_text false all)
+    → items_have_float all ≡ false → IsWritten old after (91 ∷ items_text false all)
 items_end all later old now after was is none =
     last_piece old now after (93 ∷ []) (91 ∷ items_text false all) (was none).1 is (small-ascii (93 ∷ []) refl)
 
@@ -97,6 +102,6 @@ member_written all k d ms later old now comma name colon after was before named 
     )
 
 pub members_end : (all : Members) (later : Bool) (old now after : List ℕ) → MembersLeft all no_members later old now → after ≡ now ++ 125 ∷ []
-    → members_have_float all ≡ false → (after ≡ old ++ ascii (123 ∷ members_text false all)) × IsUtf8 (123 ∷ members_text false all)
+    → members_have_float all ≡ false → IsWritten old after (123 ∷ members_text false all)
 members_end all later old now after was is none =
     last_piece old now after (125 ∷ []) (123 ∷ members_text false all) (was none).1 is (small-ascii (125 ∷ []) refl)

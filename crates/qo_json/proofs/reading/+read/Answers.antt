@@ -158,14 +158,10 @@ read_members-returns-in_err-name-clause-invalid t c refused =
 
 pub read_members-returns-in_err-member-clause-invalid : goal.read_members-returns-in_err-member-clause-invalid
 read_members-returns-in_err-member-clause-invalid t c refused =
-    let p = value c.args.depth in
     let l = c.members in
-    let n = l.invariant.0 in
-    let old = members_view l.found.items in
-    let k = c.in-Some.name.now in
-    let s = c.next_key.new.self in
-    let named : read_key l.reader ≡ Some (Some k, s) = grind arith in
-    l.invariant.2 ∙ member_refused p old n k l.reader s named (c.read.ensures.invalid (grind arith))
+    let named : read_key l.reader ≡ Some (Some c.in-Some.name.now, c.next_key.new.self) = grind arith in
+    l.invariant.2 ∙ member_refused (value c.args.depth) (members_view l.found.items) l.invariant.0 c.in-Some.name.now l.reader c.next_key.new.self named
+    (c.read.ensures.invalid (grind arith))
 
 pub read_members-members-preserved : goal.read_members-members-preserved
 read_members-members-preserved t c =

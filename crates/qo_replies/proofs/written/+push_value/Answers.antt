@@ -7,13 +7,13 @@ use Rattle.json.specs.Ascii.{null_text}
 use Rattle.serde_json.specs.Data.{null, number}
 use Rattle.serde_json.specs.Find.{is_float}
 use Rattle.serde_json.specs.View.{number_view}
-use Rattle.serde_json.specs.Written.{number_text}
+use Rattle.serde_json.specs.Written.{items_have_float, items_text, members_have_float, members_text, number_text}
 use Rattle.qo_json.specs.View.{view, items_view, members_view}
 use Rattle.qo_json.specs.declared.values.Json.{Json, Null, the_lemmas}
 use Rattle.qo_json.proofs.MemberLemmas.{Member}
 use Rattle.qo_replies.proofs.AsciiLemmas.{ascii-plain}
 use Rattle.qo_replies.proofs.QuoteLemmas.{small-ascii}
-use Rattle.qo_replies.proofs.TextLemmas.{ItemsLeft, items_begin, item_written, items_end, MembersLeft, members_begin, member_written, members_end}
+use Rattle.qo_replies.proofs.TextLemmas.{IsWritten, ItemsLeft, items_begin, item_written, items_end, MembersLeft, members_begin, member_written, members_end}
 use Rattle.qo_replies.proofs.written.+push_value.Goals as goal
 
 pub push_value-returns-in-Null-clause-spelled : goal.push_value-returns-in-Null-clause-spelled
@@ -78,42 +78,38 @@ push_members-loop-member-preserved t c =
     c.in_ok-push_comma.ensures c.in_ok-push_quoted.ensures.bytes c.in_ok-push_quoted.ensures.spelled c.in_ok-push_str-2.ensures.bytes
     c.in_ok-push_value.ensures.bytes c.in_ok-push_value.ensures.spelled
 
-pub push_items-returns-clause-bytes : goal.push_items-returns-clause-bytes
-push_items-returns-clause-bytes t c whole =
+-- the whole text of a list and of an object
+
+items_written : (t : _) (c : goal.push_items-In_ok-push_str-2 t) → items_have_float (items_view c.args.items.now.items) ≡ false
+    → IsWritten (string_bytes c.args.text.now) (string_bytes c.push_str-2.new.self) (91 ∷ items_text false (items_view c.args.items.now.items))
+items_written t c whole =
     let all = items_view c.args.items.now.items in
     let l = c.loop-item in
     let old = string_bytes c.args.text.now in
     let now = string_bytes l.text in
     let none : drop l.item-index c.deref-item-items.result.now ≡ [] = drop_of_length-le c.deref-item-items.result.now (omega arith) in
     let was = subst (λ vs. ItemsLeft all (items_view vs) l.later old now) none l.invariant in
-    (items_end all l.later old now (string_bytes c.push_str-2.new.self) was c.in_ok-push_str-2.ensures.bytes whole).0
+    items_end all l.later old now (string_bytes c.push_str-2.new.self) was c.in_ok-push_str-2.ensures.bytes whole
+
+pub push_items-returns-clause-bytes : goal.push_items-returns-clause-bytes
+push_items-returns-clause-bytes t c whole = (items_written t c whole).bytes
 
 pub push_items-returns-clause-spelled : goal.push_items-returns-clause-spelled
-push_items-returns-clause-spelled t c whole =
-    let all = items_view c.args.items.now.items in
-    let l = c.loop-item in
+push_items-returns-clause-spelled t c whole = (items_written t c whole).spelled
+
+members_written : (t : _) (c : goal.push_members-In_ok-push_str-3 t) → members_have_float (members_view c.args.members.now.items) ≡ false
+    → IsWritten (string_bytes c.args.text.now) (string_bytes c.push_str-2.new.self) (123 ∷ members_text false (members_view c.args.members.now.items))
+members_written t c whole =
+    let all = members_view c.args.members.now.items in
+    let l = c.loop-member in
     let old = string_bytes c.args.text.now in
     let now = string_bytes l.text in
-    let none : drop l.item-index c.deref-item-items.result.now ≡ [] = drop_of_length-le c.deref-item-items.result.now (omega arith) in
-    let was = subst (λ vs. ItemsLeft all (items_view vs) l.later old now) none l.invariant in
-    (items_end all l.later old now (string_bytes c.push_str-2.new.self) was c.in_ok-push_str-2.ensures.bytes whole).1
+    let none : drop l.member-index c.deref-member-items.result.now ≡ [] = drop_of_length-le c.deref-member-items.result.now (omega arith) in
+    let was = subst (λ ms. MembersLeft all (members_view ms) l.later old now) none l.invariant in
+    members_end all l.later old now (string_bytes c.push_str-2.new.self) was c.in_ok-push_str-3.ensures.bytes whole
 
 pub push_members-returns-clause-bytes : goal.push_members-returns-clause-bytes
-push_members-returns-clause-bytes t c whole =
-    let all = members_view c.args.members.now.items in
-    let l = c.loop-member in
-    let old = string_bytes c.args.text.now in
-    let now = string_bytes l.text in
-    let none : drop l.member-index c.deref-member-items.result.now ≡ [] = drop_of_length-le c.deref-member-items.result.now (omega arith) in
-    let was = subst (λ ms. MembersLeft all (members_view ms) l.later old now) none l.invariant in
-    (members_end all l.later old now (string_bytes c.push_str-2.new.self) was c.in_ok-push_str-3.ensures.bytes whole).0
+push_members-returns-clause-bytes t c whole = (members_written t c whole).bytes
 
 pub push_members-returns-clause-spelled : goal.push_members-returns-clause-spelled
-push_members-returns-clause-spelled t c whole =
-    let all = members_view c.args.members.now.items in
-    let l = c.loop-member in
-    let old = string_bytes c.args.text.now in
-    let now = string_bytes l.text in
-    let none : drop l.member-index c.deref-member-items.result.now ≡ [] = drop_of_length-le c.deref-member-items.result.now (omega arith) in
-    let was = subst (λ ms. MembersLeft all (members_view ms) l.later old now) none l.invariant in
-    (members_end all l.later old now (string_bytes c.push_str-2.new.self) was c.in_ok-push_str-3.ensures.bytes whole).1
+push_members-returns-clause-spelled t c whole = (members_written t c whole).spelled
