@@ -23,11 +23,13 @@ returns-in-Err-Refused-clause-refused g c = λ b is.
     let stages : (5 ≤ stage) × (stage ≤ 6) =
     refused-told ℕ (λ at told. (5 ≤ at) × (at ≤ 6)) c.in-Err-Refused.field-0 stage code is_refused c.in-Err-Refused.ensures.stages in
     let early : (stage == 8) ≡ false = grind (arith, nat_tests, stages.1) in
+    let down =
+    rw (c.in-Err-Refused.stage-is, c.in-Err-Refused.code-is) at (c.turn_down.ensures.down b c.in-Ok.planned.site.bus.birth shown
+        (subst (λ (k : ℕ). (k == 8) ≡ false) (sym c.in-Err-Refused.stage-is) early)) in
     spot-refused b a c.in-Ok.planned.site planned.admitted c.turn_down.new.heap (record { stage = stage; code = code }) (sym planned.given)
     (sym (refused-told ℕ (λ at told. spot_barred b c.in-Ok.planned.site.kind c.in-Ok.planned.site.bus.birth c.args.props.now ≡ Some (at, told))
     c.in-Err-Refused.field-0
-    stage code is_refused (c.in-Err-Refused.ensures.refused b c.args.props.now shown is.rings_are planned.has))) ℕ c.turn_down.result
-    (c.turn_down.ensures.down b c.in-Ok.planned.site.bus.birth shown early)
+    stage code is_refused (c.in-Err-Refused.ensures.refused b c.args.props.now shown is.rings_are planned.has))) ℕ c.turn_down.result down
 
 pub returns-in-Err-Refused-clause-memory : goal.returns-in-Err-Refused-clause-memory
 returns-in-Err-Refused-clause-memory g c = λ b is e.
@@ -40,8 +42,10 @@ returns-in-Err-Refused-clause-memory g c = λ b is e.
     let stages : (5 ≤ stage) × (stage ≤ 6) =
     refused-told ℕ (λ at told. (5 ≤ at) × (at ≤ 6)) c.in-Err-Refused.field-0 stage code is_refused c.in-Err-Refused.ensures.stages in
     let early : (stage == 8) ≡ false = grind (arith, nat_tests, stages.1) in
-    spot-cut b a c.in-Ok.planned.site planned.admitted c.turn_down.new.heap (record { stage = stage; code = code }) c.turn_down.result
-    (c.turn_down.ensures.down b c.in-Ok.planned.site.bus.birth shown early) (cc e)
+    let down =
+    rw (c.in-Err-Refused.stage-is, c.in-Err-Refused.code-is) at (c.turn_down.ensures.down b c.in-Ok.planned.site.bus.birth shown
+        (subst (λ (k : ℕ). (k == 8) ≡ false) (sym c.in-Err-Refused.stage-is) early)) in
+    spot-cut b a c.in-Ok.planned.site planned.admitted c.turn_down.new.heap (record { stage = stage; code = code }) c.turn_down.result down (cc e)
 
 pub returns-in-Err-Refused-clause-book : goal.returns-in-Err-Refused-clause-book
 returns-in-Err-Refused-clause-book g c = λ out h. c.turn_down.ensures.book out (c.choose.ensures.book out h)
