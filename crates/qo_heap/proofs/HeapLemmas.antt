@@ -295,7 +295,8 @@ parent-live v good n key e = found-live (λ (row : Key × Content). is_parent n 
 
 -- a heap of which births are passed over
 pub skipped-heap : (v : Objects) (u : Rows Content) (more : ℕ) (from : Option ℕ) → IsHeap v × HasPlaces v
-    → IfSome from (λ n. u ≡ record { rows = v.rows; born = v.born + more }) → IfNone from ((2 ^ 64 ≤ v.born + more) × (u ≡ record { rows = v.rows; born = v.born }))
+    → IfSome from (λ n. u ≡ record { rows = v.rows; born = v.born + more })
+    → IfNone from ((2 ^ 64 ≤ v.born + more) × (u ≡ record { rows = v.rows; born = v.born }))
     → IsHeap (record v { rows = u.rows; born = u.born }) × HasPlaces (record v { rows = u.rows; born = u.born })
 skipped-heap v u more None good some none =
     subst (λ (x : Rows Content). IsHeap (record v { rows = x.rows; born = x.born }) × HasPlaces (record v { rows = x.rows; born = x.born })) (sym none.1) good

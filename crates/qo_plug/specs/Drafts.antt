@@ -79,7 +79,8 @@ pub record Grows (v w : Objects) : Type 0 where
   pub events : w.events ≡ v.events
   pub time : w.time ≡ v.time
 
--- a device of a type was made as planned: it is there, of the next birth, held once, with a new body, without id and path; its own slots have the values planned,
+-- a device of a type was made as planned: it is there, of the next birth, held once, with a new body, without id and path; its own slots have the values
+-- planned,
 -- and its links are empty
 pub record IsDraft (t : TypeId) (plan : List Fill) (v w : Objects) (o : Key) : Type 0 where
   pub birth : o.birth ≡ v.born + 1
@@ -87,7 +88,8 @@ pub record IsDraft (t : TypeId) (plan : List Fill) (v w : Objects) (o : Key) : T
   pub rest : option_map bare (content_of w o.birth) ≡ Some (bare (fresh t))
   pub own : own_slots_of w o.birth ≡ valued_slots t plan
 
--- how far the properties of a device came, for which this was given: the first of them were made; or a further object of the next one was made too, and has ended
+-- how far the properties of a device came, for which this was given: the first of them were made; or a further object of the next one was made too, and has
+-- ended
 pub data Fell (b : Board) (props : List Given) (n : ℕ) (t : TypeId) (v w : Objects) : Type 0 where
   stopped : (k : ℕ) → MakesGiven b props n (properties_made n t (take k (types.slots_of t))) v w → Fell b props n t v w
   unjoined : (k : ℕ) (p : Property) (further : TypeId) → slice_get (types.slots_of t) k ≡ Some p → p.role ≡ Child further

@@ -83,8 +83,10 @@ ended-all n t v =
 
 -- what is left to note after so many properties
 pub noted-next : (f : ℕ → TypeId → List Note) (ps : List Property) (i : ℕ) (d : Property) (n m : ℕ) (v w goal : Objects) → i < length ps
-    → ((rest : List (List ℕ × TypeId)) → with_notes (notes_after f m rest) w ≡ with_notes (notes_after f n (option_to_list (further_in (get_or ps i d)) ++ rest)) v)
-    → with_notes (notes_after f n (filter_map further_in (drop i ps))) v ≡ goal → with_notes (notes_after f m (filter_map further_in (drop (i + 1) ps))) w ≡ goal
+    → ((rest : List (List ℕ × TypeId))
+    → with_notes (notes_after f m rest) w ≡ with_notes (notes_after f n (option_to_list (further_in (get_or ps i d)) ++ rest)) v)
+    → with_notes (notes_after f n (filter_map further_in (drop i ps))) v ≡ goal
+    → with_notes (notes_after f m (filter_map further_in (drop (i + 1) ps))) w ≡ goal
 noted-next f ps i d n m v w goal below one is =
     one (filter_map further_in (drop (i + 1) ps))
     ∙ ap (λ (fs : List (List ℕ × TypeId)). with_notes (notes_after f n fs) v) (sym (rows-next further_in ps i d below))
@@ -141,7 +143,8 @@ few-further t = let few : length (slots_of t) ≤ 9 = few-slots t in omega (arit
     fewer [] = omega arith
     fewer (p ∷ ps) = go (further_in p) (fewer ps)
       where
-        go : (o : Option (List ℕ × TypeId)) → length (filter_map further_in ps) ≤ length ps → length (cons_option o (filter_map further_in ps)) ≤ suc (length ps)
+        go : (o : Option (List ℕ × TypeId)) → length (filter_map further_in ps) ≤ length ps
+            → length (cons_option o (filter_map further_in ps)) ≤ suc (length ps)
         go None le = omega (arith, le)
         go (Some x) le = omega (arith, le)
 

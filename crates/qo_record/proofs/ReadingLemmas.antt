@@ -96,7 +96,8 @@ pub number_taken : (stop last : ℕ) (bytes : List ℕ) (x : ℕ × List ℕ) �
     (x.0 ≤ last) × (bytes ≡ decimal x.0 ++ stop ∷ x.1)
 number_taken stop last [] x wide h = absurd (none_some h)
 number_taken stop last (b ∷ bytes) x wide h =
-    elim (if_some (b == 48) (after_front (stop ∷ []) bytes >>= λ rest. Some (0, rest)) (with_digit last 0 b >>= λ first. digits_until stop last first bytes) x h) [
+    elim (if_some (b == 48) (after_front (stop ∷ []) bytes >>= λ rest. Some (0, rest)) (with_digit last 0 b >>= λ first. digits_until stop last first bytes) x
+    h) [
       | inl p ↦ (
           let is : b ≡ 48 = grind (arith, nat_tests) in
           let s = bind_some (after_front (stop ∷ []) bytes) (λ (rest : List ℕ). Some (0, rest)) x p.1 in

@@ -25,7 +25,7 @@ returns-in-Err-Refused-clause-refused g c = λ b is.
     let early : (stage == 8) ≡ false = grind (arith, nat_tests, stages.1) in
     let down =
     rw (c.in-Err-Refused.stage-is, c.in-Err-Refused.code-is) at (c.turn_down.ensures.down b c.in-Ok.planned.site.bus.birth shown
-        (subst (λ (k : ℕ). (k == 8) ≡ false) (sym c.in-Err-Refused.stage-is) early)) in
+    (subst (λ (k : ℕ). (k == 8) ≡ false) (sym c.in-Err-Refused.stage-is) early)) in
     spot-refused b a c.in-Ok.planned.site planned.admitted c.turn_down.new.heap (record { stage = stage; code = code }) (sym planned.given)
     (sym (refused-told ℕ (λ at told. spot_barred b c.in-Ok.planned.site.kind c.in-Ok.planned.site.bus.birth c.args.props.now ≡ Some (at, told))
     c.in-Err-Refused.field-0
@@ -44,7 +44,7 @@ returns-in-Err-Refused-clause-memory g c = λ b is e.
     let early : (stage == 8) ≡ false = grind (arith, nat_tests, stages.1) in
     let down =
     rw (c.in-Err-Refused.stage-is, c.in-Err-Refused.code-is) at (c.turn_down.ensures.down b c.in-Ok.planned.site.bus.birth shown
-        (subst (λ (k : ℕ). (k == 8) ≡ false) (sym c.in-Err-Refused.stage-is) early)) in
+    (subst (λ (k : ℕ). (k == 8) ≡ false) (sym c.in-Err-Refused.stage-is) early)) in
     spot-cut b a c.in-Ok.planned.site planned.admitted c.turn_down.new.heap (record { stage = stage; code = code }) c.turn_down.result down (cc e)
 
 pub returns-in-Err-Refused-clause-book : goal.returns-in-Err-Refused-clause-book

@@ -1,6 +1,5 @@
 -- The objects were made and ended; or nothing was.
-use Rattle.std.proofs.Common.{refl, inl, subst, sym, List}
-use Rattle.qo_claims.specs.declared.claims.Claimed.{Claimed}
+use Rattle.std.proofs.Common.{refl, inl, subst, sym}
 use Rattle.qo_heap.specs.Board.{Shows}
 use Rattle.qo_heap.specs.Book.{IsBook}
 use Rattle.qo_heap.specs.Objects.{Objects}

@@ -1,7 +1,6 @@
 -- The births are passed over, and the notes are added.
 use Rattle.std.proofs.Common.{◌≡◌, ◌+◌, ◌∙◌, ap, subst, ℕ, Some, rules}
-use Rattle.qo_heap.specs.Objects.{Objects}
-use Rattle.qo_model.specs.Plug.{begun_notes, born_from, device_last, ended_notes, objects_in, types_in}
+use Rattle.qo_model.specs.Plug.{begun_notes, born_from, device_last, ended_notes, types_in}
 use Rattle.qo_life.specs.Life.{with_notes}
 use Rattle.qo_properties.proofs.AttemptLemmas.{whole-tried}
 use Rattle.qo_properties.proofs.adding.attempts.attempt_whole.Goals as goal

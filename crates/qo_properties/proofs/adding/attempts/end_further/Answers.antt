@@ -1,7 +1,6 @@
 -- The further object is noted, if the property is one.
-use Rattle.std.proofs.Common.{ap}
 use Rattle.qo_model.specs.FinalNotes.{ending}
-use Rattle.qo_properties.proofs.AttemptLemmas.{births-kid, births-none, kid-fits, no-further, noted-kid, noted-none}
+use Rattle.qo_properties.proofs.AttemptLemmas.{births-kid, noted-kid}
 use Rattle.qo_properties.proofs.adding.attempts.end_further.Goals as goal
 
 pub returns-clause-last : goal.returns-clause-last

@@ -1,5 +1,5 @@
 -- A property more is passed at each turn.
-use Rattle.std.proofs.Common.{◌≡◌, ◌+◌, ◌<◌, ◌∙◌, ap, List, filter_map, length, arith}
+use Rattle.std.proofs.Common.{◌+◌, ◌∙◌, ap, List, filter_map, length, arith}
 use Rattle.qo_life.specs.Life.{with_notes}
 use Rattle.qo_model.specs.Objects.{init_notes}
 use Rattle.qo_model.specs.Plug.{further_in, further_of}
@@ -10,9 +10,9 @@ use Rattle.qo_properties.proofs.adding.attempts.note_begun.Goals as goal
 
 pub loop-row-init : goal.loop-row-init
 loop-row-init c = (
-      ap (λ (ps : List Property). with_notes (begun_after c.args.birth (filter_map further_in ps)) c.note_inits.new.heap) c.props-rows.ensures,
-      ap (λ (ps : List Property). c.args.birth + length (filter_map further_in ps)) c.props-rows.ensures,
-    )
+  ap (λ (ps : List Property). with_notes (begun_after c.args.birth (filter_map further_in ps)) c.note_inits.new.heap) c.props-rows.ensures,
+  ap (λ (ps : List Property). c.args.birth + length (filter_map further_in ps)) c.props-rows.ensures,
+)
 
 pub begin_further-last-requires : goal.begin_further-last-requires
 begin_further-last-requires c =
@@ -21,11 +21,13 @@ begin_further-last-requires c =
 
 pub loop-row-preserved : goal.loop-row-preserved
 loop-row-preserved c = (
-      noted-next init_notes c.props-rows.result.now c.loop-row.row-index _ c.loop-row.last c.begin_further-last.result c.loop-row.heap c.begin_further-last.new.heap _
-          c.loop-row-test.true c.begin_further-last.ensures.noted c.loop-row.invariant.0,
-      births-next c.props-rows.result.now c.loop-row.row-index _ c.loop-row.last c.begin_further-last.result _ c.loop-row-test.true c.begin_further-last.ensures.last
-          c.loop-row.invariant.1,
-    )
+  noted-next init_notes c.props-rows.result.now c.loop-row.row-index _ c.loop-row.last c.begin_further-last.result c.loop-row.heap c.begin_further-last.new.heap
+      _
+      c.loop-row-test.true c.begin_further-last.ensures.noted c.loop-row.invariant.0,
+  births-next c.props-rows.result.now c.loop-row.row-index _ c.loop-row.last c.begin_further-last.result _ c.loop-row-test.true
+      c.begin_further-last.ensures.last
+      c.loop-row.invariant.1,
+)
 
 pub returns : goal.returns
 returns c =

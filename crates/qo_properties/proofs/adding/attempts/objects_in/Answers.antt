@@ -1,5 +1,5 @@
 -- A further object is counted at each of its properties.
-use Rattle.std.proofs.Common.{◌≡◌, ◌+◌, ◌≤◌, ◌∙◌, ap, sym, subst, drop, filter_map, length, List, ℕ, arith}
+use Rattle.std.proofs.Common.{◌≡◌, ◌+◌, ◌≤◌, ◌∙◌, ap, sym, drop, filter_map, length, List, arith}
 use Rattle.qo_model.specs.Plug.{further_in, further_of, objects_in}
 use Rattle.qo_model.specs.declared.properties.Property.{Property}
 use Rattle.qo_properties.proofs.AttemptLemmas.{counted, few-further}
