@@ -1,7 +1,8 @@
 -- The members of a message that were read in one pass.
-use Rattle.std.proofs.Common.{◌≡◌, ◌≤◌, length, arith, ℕ, Bool, true, false, not, List, [], ◌∷◌, refl, sym, ◌∙◌, ap, Option, None, Some, is_some, unwrap_or, option_and_then, if◌then◌else◌}
+use Rattle.std.proofs.Common.{◌≡◌, ◌<◌, ◌≤◌, ◌+◌, length, drop, get_or, arith, ℕ, Bool, true, false, not, List, [], ◌∷◌, refl, sym, ◌∙◌, ap, Option, None, Some, is_some, unwrap_or, option_and_then, if◌then◌else◌}
 use Rattle.std.specs.Prelude.{◌&&◌, ◌||◌, slice_get}
 use Rattle.std.specs.Option.{option_map_or, option_or}
+use Rattle.std.proofs.lemmas.List.{drop_more}
 use Rattle.std.specs.Str.{bytes_eq}
 use Rattle.qo_json.proofs.MemberLemmas.{Member, member_here, member_later}
 use Rattle.serde_json.specs.Data.{Data, null}
@@ -41,6 +42,10 @@ found_on key whole before now name left e es was steps same is =
     was ∙ ap (λ (l : List Member). option_or before (get_member key (members_view l))) steps ∙ first_on key before e es
     ∙ ap (λ (n : List ℕ). option_or (if bytes_eq key n then option_or before (Some (view e.1)) else before) (get_member key (members_view es))) (sym same)
     ∙ ap (λ (o : Option Data). option_or o (get_member key (members_view es))) (sym is)
+
+-- what is left of the members begins with the next
+pub next_left : (all : List Member) (i : ℕ) (e : Member) → i < length all → e ≡ get_or all i e → drop i all ≡ e ∷ drop (i + 1) all
+next_left all i e below is = drop_more all i e below ∙ ap (λ (m : Member). m ∷ drop (i + 1) all) (sym is)
 
 pub found_by : (key : List ℕ) (whole before now : Option Data) (is_it : Bool) (name : List ℕ) (left : List Member) (e : Member) (es : List Member)
     → whole ≡ option_or before (get_member key (members_view left)) → left ≡ e ∷ es → name ≡ e.0.now → is_it ≡ bytes_eq key name

@@ -12,8 +12,7 @@ returns-then-links_to-clause-place g c =
     ∙ c.loop-view.invariant
 
 pub loop-view-smaller : goal.loop-view-smaller
-loop-view-smaller g c =
-    slots-fewer c.loop-view.at (slots_of c.args.heap.now c.args.o.birth) (c.in-Some.view.name.now, c.in-Some.view.what.now) (sym c.in-Some.ensures.slot)
+loop-view-smaller g c = slots-fewer c.loop-view.at _ _ (sym c.in-Some.ensures.slot)
 
 pub loop-view-preserved : goal.loop-view-preserved
 loop-view-preserved g c =
