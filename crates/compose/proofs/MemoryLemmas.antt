@@ -1,7 +1,7 @@
 -- A run that sends no reply or answer that is refused for want of memory is the run in which each command and each line has its memory.
 use Rattle.std.proofs.Common.{◌≡◌, ℕ, suc, Bool, true, false, if◌then◌else◌, ◌||◌, List, [], ◌∷◌, ◌++◌, map, refl, sym, ◌∙◌}
 use Rattle.std.proofs.Common.{ap, subst, append-nil, Option, None, Some, slice_index_or}
-use Rattle.std.proofs.lemmas.Bool.{true≢false}
+use Rattle.std.proofs.lemmas.Bool.{true≢false, or_parts}
 use Rattle.std.proofs.lemmas.List.{map-append}
 use Rattle.std.proofs.lemmas.List.Elements.{filter_map-append}
 use Rattle.std.specs.List.{AllByRecursion, cons_option}
@@ -28,7 +28,7 @@ use Rattle.qo_lane.specs.Lines.{lines_of, without_return}
 use Rattle.qo_machine.specs.Machine.{Choice, Made, Message, State, Stepped, answer_line, preceded, by_item, by_line, defined, finished, input_step, item_step, line_made, line_step}
 use Rattle.qo_machine.specs.Machine.{made_by, mode_of, opened, opening, refused, serve_by, serve_unless, step, taken, unchanged, with_line, with_session}
 use Rattle.qo_machine.specs.Runs.{EndsAtLast, Turn, after, closed_where, has_end, outs_at, outs_of, state_after, turn_inputs}
-use Rattle.compose.proofs.ReplayLemmas.{going_on, no_end}
+use Rattle.compose.proofs.ReplayLemmas.{going_on}
 use Rattle.compose.specs.Demo.{as_defined}
 use Rattle.compose.specs.Replay.{NoneLost}
 
@@ -186,7 +186,7 @@ record SameRun (s : State) (ts us : List Turn) : Type 0 where
 run_same : (ts : List Turn) (s : State) → NoneLost ts → has_end ts ≡ false → NoneRefused (outs_of s ts) → SameRun s ts (plain (turn_inputs ts))
 run_same [] s lost none h = record { outs = refl; state = refl }
 run_same (t ∷ ts) s lost none h =
-    let ends = no_end (is_end t.input.what) (has_end ts) none in
+    let ends = or_parts (is_end t.input.what) (has_end ts) none in
     let here = none_before (outs_at s t) (outs_of (after s t) ts) h in
     let on : after s t ≡ after s (as_defined t.input) = turn_state s t lost.0 here in
     let r = run_same ts (after s t) lost.1 ends.1 (none_after (outs_at s t) (outs_of (after s t) ts) h) in
@@ -240,7 +240,7 @@ or_false false = refl
 end_of : (ts : List Turn) (t : Turn) → has_end ts ≡ false → has_end (ts ++ t ∷ []) ≡ is_end t.input.what
 end_of [] t none = or_false (is_end t.input.what)
 end_of (u ∷ ts) t none =
-    let ends = no_end (is_end u.input.what) (has_end ts) none in
+    let ends = or_parts (is_end u.input.what) (has_end ts) none in
     ap (λ (b : Bool). b || has_end (ts ++ t ∷ [])) ends.0 ∙ end_of ts t ends.1
 
 lost_before : (ts us : List Turn) → NoneLost (ts ++ us) → NoneLost ts

@@ -1,15 +1,15 @@
 -- What a run over the inputs of a stream did.
-use Rattle.std.proofs.Common.{◌≡◌, ℕ, ◌+◌, ◌<◌, ◌≤◌, Bool, true, false, if◌then◌else◌, ◌||◌, List, [], ◌∷◌, ◌++◌, length, take, refl, sym, ◌∙◌}
-use Rattle.std.proofs.Common.{ap, subst, arith, append_assoc, Option, None, Some, IfSome, option_map, slice_index_or}
+use Rattle.std.proofs.Common.{◌≡◌, ℕ, ◌+◌, ◌<◌, ◌≤◌, Bool, true, false, if◌then◌else◌, List, [], ◌∷◌, ◌++◌, length, take, refl, sym, ◌∙◌}
+use Rattle.std.proofs.Common.{ap, subst, arith, Option, None, Some, IfSome, option_map, slice_index_or}
 use Rattle.std.proofs.Math.Seq.{take-append_seam}
-use Rattle.std.proofs.lemmas.Bool.{true≢false}
+use Rattle.std.proofs.lemmas.Bool.{true≢false, or_parts}
 use Rattle.std.proofs.lemmas.List.{append-nil}
 use Rattle.std.specs.List.{cons_option}
 use Rattle.std.specs.Io.KnownBytes.{prepend_known}
 use Rattle.qo_causes.specs.Hub.{AtEnd, is_end}
 use Rattle.qo_causes.specs.declared.hubs.Lane.{Lane}
 use Rattle.qo_causes.specs.declared.inputs.Input.{Input}
-use Rattle.qo_machine.proofs.RunLemmas.{has_end_ends, nothing_appended}
+use Rattle.qo_machine.proofs.RunLemmas.{has_end_ends, nothing_appended, took_twice}
 use Rattle.qo_machine.specs.Machine.{opening}
 use Rattle.qo_machine.specs.Runs.{CutRun, OpenRun, RunMeets, Turn, has_end, last_input, risen, risen_by, state_after, told, turn_inputs}
 use Rattle.qo_machine.specs.declared.running.Ending.{Ending}
@@ -46,10 +46,6 @@ none_lost (t ∷ ts) h = (here, none_lost ts (λ n. subst (λ (f : Bool). risen_
 
 -- Each turn but the end takes an input.
 
-pub no_end : (e more : Bool) → (e || more) ≡ false → (e ≡ false) × (more ≡ false)
-no_end true more h = absurd (true≢false h)
-no_end false more h = (refl, h)
-
 first_length : (e : Bool) (i : Input) (rest : List Input) → e ≡ false → length (cons_option (if e then None else Some i) rest) ≡ length rest + 1
 first_length true i rest over = absurd (true≢false over)
 first_length false i rest over = omega arith
@@ -57,7 +53,7 @@ first_length false i rest over = omega arith
 each_taken : (ts : List Turn) → has_end ts ≡ false → length (turn_inputs ts) ≡ length ts
 each_taken [] none = refl
 each_taken (t ∷ ts) none =
-    let ends = no_end (is_end t.input.what) (has_end ts) none in
+    let ends = or_parts (is_end t.input.what) (has_end ts) none in
     omega (arith, first_length (is_end t.input.what) t.input (turn_inputs ts) ends.0, each_taken ts ends.1)
 
 by_going : (e : Bool) → (e ≡ true → ⊥) → e ≡ false
@@ -76,12 +72,6 @@ one_input false i = omega arith
 one_taken : (last : Option Turn) → length (last_input last) ≤ 1
 one_taken None = omega arith
 one_taken (Some t) = one_input (is_end t.input.what) t.input
-
-taken_twice : (a b c : Option (List Input)) (xs ys : List Input) → a ≡ option_map (λ (r : List Input). xs ++ r) b →
-    b ≡ option_map (λ (r : List Input). ys ++ r) c → a ≡ option_map (λ (r : List Input). (xs ++ ys) ++ r) c
-taken_twice a b None xs ys p q = p ∙ ap (option_map (λ (r : List Input). xs ++ r)) q
-taken_twice a b (Some zs) xs ys p q =
-    p ∙ ap (option_map (λ (r : List Input). xs ++ r)) q ∙ ap (λ (l : List Input). Some l) (sym (append_assoc xs ys zs))
 
 taken_all : (a b : Option (List Input)) (xs : List Input) → a ≡ option_map (λ (r : List Input). xs ++ r) b →
     a ≡ option_map (λ (r : List Input). (xs ++ []) ++ r) b
@@ -151,7 +141,7 @@ cut_run : (p : Progress) (lo ln ho hn : Option (List ℕ)) (bytes : List ℕ) (g
 cut_run p lo ln ho hn bytes given og ng few read h =
     let whole_part = h.3.0 in
     let cut_part = h.4 in
-    let took = taken_twice (inputs_ahead unread lo) h.0.inputs (inputs_ahead p ln) (turn_inputs h.1) (last_input h.2) whole_part.took cut_part.took in (
+    let took = took_twice (inputs_ahead unread lo) h.0.inputs (inputs_ahead p ln) (turn_inputs h.1) (last_input h.2) whole_part.took cut_part.took in (
       h.1,
       h.2,
       record {

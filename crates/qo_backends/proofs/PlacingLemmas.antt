@@ -3,12 +3,13 @@ use Rattle.std.proofs.Common.{◌≡◌, refl, ap, sym, ◌∙◌, ℕ, ◌+◌,
 use Rattle.std.proofs.Common.{Some, None, is_some, arith, ⊎_elim}
 use Rattle.std.specs.List.{list_any}
 use Rattle.std.proofs.Math.Bool.{or-true}
-use Rattle.std.proofs.lemmas.Bool.{cases_lt, eqb-true}
+use Rattle.std.proofs.lemmas.Bool.{and_right, cases_lt, eqb-true}
 use Rattle.std.proofs.lemmas.Bool.Decides.{nat_tests}
 use Rattle.qo_values.specs.declared.ranges.Range.{Range}
 use Rattle.qo_values.specs.declared.limits.TheConstants.{DIMM_ALIGN}
 use Rattle.qo_values.specs.Placing.{fits_at, is_in_window, overlap, overlaps_any, free_address, range_at, window_start, window_end, window_size}
-use Rattle.qo_heap.proofs.HeapLemmas.{found-passes, is_some-find}
+use Rattle.qo_heap.proofs.HeapLemmas.{is_some-find}
+use Rattle.qo_values.proofs.ListLemmas.{found-passes}
 use Rattle.qo_claims.proofs.LeastLemmas.{least-found, least-none}
 
 -- one passes what the one found passes
@@ -21,10 +22,6 @@ found-any p q (y ∷ xs) x e is = go (p y) refl (found-any p q xs x)
     go false at rest = ap (λ (t : Bool). q y || t) (rest (rw at at e) is) ∙ or-true (q y)
 
 -- what does not fit
-and-false : (a b : Bool) → b ≡ false → (a && b) ≡ false
-and-false true b is = is
-and-false false b is = refl
-
 module _ (ranges : List Range) (size at : ℕ) where
   pub uneven : (eqb (at % DIMM_ALIGN) 0) ≡ false → fits_at ranges size DIMM_ALIGN at ≡ false
   uneven is = ap (λ (t : Bool). (t && is_in_window (range_at at size)) && not (overlaps_any (range_at at size) ranges)) is
@@ -32,10 +29,10 @@ module _ (ranges : List Range) (size at : ℕ) where
   pub outside : window_end < at + size → fits_at ranges size DIMM_ALIGN at ≡ false
   outside past =
       let out : is_in_window (range_at at size) ≡ false = grind (arith, nat_tests) in
-      ap (λ (t : Bool). t && not (overlaps_any (range_at at size) ranges)) (ap (λ (t : Bool). eqb (at % DIMM_ALIGN) 0 && t) out ∙ and-false _ false refl)
+      ap (λ (t : Bool). t && not (overlaps_any (range_at at size) ranges)) (ap (λ (t : Bool). eqb (at % DIMM_ALIGN) 0 && t) out ∙ and_right _ false refl)
 
   pub overlapping : overlaps_any (range_at at size) ranges ≡ true → fits_at ranges size DIMM_ALIGN at ≡ false
-  overlapping is = and-false (eqb (at % DIMM_ALIGN) 0 && is_in_window (range_at at size)) (not (overlaps_any (range_at at size) ranges)) (ap not is)
+  overlapping is = and_right (eqb (at % DIMM_ALIGN) 0 && is_in_window (range_at at size)) (not (overlaps_any (range_at at size) ranges)) (ap not is)
 
   pub fitting : at % DIMM_ALIGN ≡ 0 → window_start ≤ at → at + size ≤ window_end → overlaps_any (range_at at size) ranges ≡ false
       → fits_at ranges size DIMM_ALIGN at ≡ true

@@ -1,10 +1,8 @@
 -- The records of a board by place, and what a walk over them says.
-use Rattle.std.proofs.Common.{◌≡◌, refl, ap, sym, ◌∙◌, ℕ, zero, suc, ◌+◌, ◌≤◌, Bool, true, false, ◌||◌, List, [], ◌∷◌, length, drop, slice_get}
-use Rattle.std.proofs.Common.{Option, Some, None, is_some, option_map, arith}
+use Rattle.std.proofs.Common.{◌≡◌, ap, sym, ◌∙◌, ℕ, true, List, length, slice_get}
+use Rattle.std.proofs.Common.{Option, Some, None, is_some, option_map}
 use Rattle.std.proofs.lemmas.Option.{slice_get-map}
 use Rattle.std.proofs.lemmas.List.{length-map}
-use Rattle.std.specs.List.{list_any}
-use Rattle.std.specs.Option.{option_map_or}
 use Rattle.qo_slots.specs.declared.keys.Key.{Key}
 use Rattle.qo_table.specs.Rows.{IsLive}
 use Rattle.qo_object.specs.Content.{Content}
@@ -44,26 +42,3 @@ record-past b v s place e =
 -- as many records as objects
 pub records-length : (b : board.Board) (v : Objects) → Shows b v → length b.records ≡ length v.rows
 records-length b v s = ap length s.records ∙ length-map v.rows record_of
-
--- whether one from a place on passes
-module _ {X : Type 0} (p : X → Bool) where
-  any-drop : (xs : List X) (place : ℕ) → list_any p (drop place xs) ≡ (option_map_or p (slice_get xs place) false || list_any p (drop (suc place) xs))
-  any-drop [] zero = refl
-  any-drop [] (suc place) = refl
-  any-drop (x ∷ xs) zero = refl
-  any-drop (x ∷ xs) (suc place) = any-drop xs place
-
-  pub any-here : (xs : List X) (place : ℕ) → option_map_or p (slice_get xs place) false ≡ true → list_any p (drop place xs) ≡ true
-  any-here xs place is = any-drop xs place ∙ ap (λ (t : Bool). t || list_any p (drop (suc place) xs)) is
-
-  pub any-next : (xs : List X) (place : ℕ) → option_map_or p (slice_get xs place) false ≡ false
-      → list_any p (drop place xs) ≡ list_any p (drop (place + 1) xs)
-  any-next xs place is =
-      let more : suc place ≡ place + 1 = omega arith in
-      any-drop xs place ∙ ap (λ (t : Bool). t || list_any p (drop (suc place) xs)) is ∙ ap (λ (i : ℕ). list_any p (drop i xs)) more
-
-  pub any-past : (xs : List X) (place : ℕ) → length xs ≤ place → list_any p (drop place xs) ≡ false
-  any-past [] zero past = refl
-  any-past [] (suc place) past = refl
-  any-past (x ∷ xs) zero past = absurd (omega arith)
-  any-past (x ∷ xs) (suc place) past = any-past xs place (omega arith)

@@ -1,5 +1,6 @@
 -- Whether an object has claimed a ring, by what is read of it.
-use Rattle.std.proofs.Common.{◌≡◌, refl, ap, sym, ◌∙◌, ℕ, Bool, true, false, ◌&&◌, List, codes, Option, option_map}
+use Rattle.std.proofs.Common.{◌≡◌, ap, sym, ◌∙◌, ℕ, Bool, true, false, ◌&&◌, List, codes, Option, option_map}
+use Rattle.std.proofs.lemmas.Bool.{and_left, and_right}
 use Rattle.std.specs.Option.{option_map_or}
 use Rattle.std.specs.Str.{bytes_eq}
 use Rattle.qo_values.specs.declared.kinds.TypeId.{TypeId}
@@ -13,10 +14,6 @@ use Rattle.qo_model.specs.Types.{is_a}
 use Rattle.qo_heap.specs.Objects.{Objects}
 use Rattle.qo_heap.specs.Board.{Shows}
 use Rattle.qo_backends.proofs.RecordLemmas.{record-there}
-
-and-false : (a b c : Bool) → b ≡ false → (a && b && c) ≡ false
-and-false true b c is = ap (λ (t : Bool). t && c) is
-and-false false b c is = refl
 
 and-true : (a b c : Bool) → a ≡ true → b ≡ true → (a && b && c) ≡ c
 and-true a b c is same = ap (λ (t : Bool). t && b && c) is ∙ ap (λ (t : Bool). t && c) same
@@ -35,7 +32,9 @@ module _ (b : board.Board) (v : Objects) (s : Shows b v) (key : Key) (live : IsL
       && is_realized b key.birth && names_it) there)
 
   pub unrealized : is_realized b key.birth ≡ false → false ≡ option_map_or (claims_ring b id) (board.record_of b key.birth) false
-  unrealized is = sym (claims-by ∙ and-false (is_of b (codes "slot-uart") key.birth) (is_realized b key.birth) names_it is)
+  unrealized is =
+      sym (claims-by ∙ and_left (is_of b (codes "slot-uart") key.birth && is_realized b key.birth) names_it
+      (and_right (is_of b (codes "slot-uart") key.birth) (is_realized b key.birth) is))
 
   pub claims-text : is_of b (codes "slot-uart") key.birth ≡ true → is_realized b key.birth ≡ true
       → option_map_or (bytes_eq id) (text_at b key.birth (codes "chardev")) false ≡ option_map_or (claims_ring b id) (board.record_of b key.birth) false

@@ -1,6 +1,6 @@
 -- The ids of devices, by place.
-use Rattle.std.proofs.Common.{◌≡◌, refl, ap, sym, ◌∙◌, ℕ, zero, suc, ◌+◌, ◌≤◌, Bool, true, false, ◌||◌, List, [], ◌∷◌, map, length, drop, slice_get}
-use Rattle.std.proofs.Common.{Option, Some, None, option_map, arith}
+use Rattle.std.proofs.Common.{◌≡◌, refl, ap, sym, ◌∙◌, ℕ, Bool, false, ◌||◌, List, [], ◌∷◌, map, drop, slice_get}
+use Rattle.std.proofs.Common.{Option, Some, None, option_map}
 use Rattle.std.specs.List.{list_any}
 use Rattle.std.specs.Option.{option_and_then, option_map_or}
 use Rattle.std.specs.Str.{bytes_eq}
@@ -28,34 +28,12 @@ pub id-past : (rows : List (Key × Content)) (place : ℕ) (id : List ℕ) → N
     → false ≡ option_map_or (λ (row : Key × Content). has_id id (record_of row)) (slice_get rows place) false
 id-past rows place id e = rw (past-last rows place (sym e)) refl
 
--- whether any after a place has it
+-- whether an object has it, and whether any after a place has it
+abbrev pub has_it : List ℕ → Key × Content → Bool
+has_it id row = has_id id (record_of row)
+
 abbrev pub any_after : List ℕ → List (Key × Content) → ℕ → Bool
-any_after id rows place = list_any (λ (row : Key × Content). has_id id (record_of row)) (drop place rows)
-
-any-drop : (id : List ℕ) (rows : List (Key × Content)) (place : ℕ)
-    → any_after id rows place ≡
-    (option_map_or (λ (row : Key × Content). has_id id (record_of row)) (slice_get rows place) false || any_after id rows (suc place))
-any-drop id [] zero = refl
-any-drop id [] (suc place) = refl
-any-drop id (row ∷ rows) zero = refl
-any-drop id (row ∷ rows) (suc place) = any-drop id rows place
-
-pub any-here : (id : List ℕ) (rows : List (Key × Content)) (place : ℕ)
-    → option_map_or (λ (row : Key × Content). has_id id (record_of row)) (slice_get rows place) false ≡ true → any_after id rows place ≡ true
-any-here id rows place is = any-drop id rows place ∙ ap (λ (t : Bool). t || any_after id rows (suc place)) is
-
-pub any-next : (id : List ℕ) (rows : List (Key × Content)) (place : ℕ)
-    → option_map_or (λ (row : Key × Content). has_id id (record_of row)) (slice_get rows place) false ≡ false
-    → any_after id rows place ≡ any_after id rows (place + 1)
-any-next id rows place is =
-    let more : suc place ≡ place + 1 = omega arith in
-    any-drop id rows place ∙ ap (λ (t : Bool). t || any_after id rows (suc place)) is ∙ ap (any_after id rows) more
-
-pub any-past : (id : List ℕ) (rows : List (Key × Content)) (place : ℕ) → length rows ≤ place → any_after id rows place ≡ false
-any-past id [] zero past = refl
-any-past id [] (suc place) past = refl
-any-past id (row ∷ rows) zero past = absurd (omega arith)
-any-past id (row ∷ rows) (suc place) past = any-past id rows place (omega arith)
+any_after id rows place = list_any (has_it id) (drop place rows)
 
 any-rows : (id : List ℕ) (rows : List (Key × Content))
     → list_any (has_id id) (map record_of rows) ≡ list_any (λ (row : Key × Content). has_id id (record_of row)) rows

@@ -3,11 +3,11 @@ use Rattle.std.proofs.Common.{◌≡◌, refl, ap, sym, ◌∙◌, ℕ, zero, su
 use Rattle.std.proofs.Common.{Option, Some, None, is_some, option_map, arith}
 use Rattle.std.specs.Prelude.{filter_map}
 use Rattle.std.specs.List.{cons_option, list_any}
-use Rattle.std.specs.Option.{option_and_then, option_map_or}
+use Rattle.std.specs.Option.{option_and_then}
 use Rattle.std.specs.Str.{bytes_eq}
 use Rattle.qo_values.specs.Placing.{least}
 use Rattle.qo_object.specs.BoardObject.{shown_slots}
-use Rattle.qo_object.specs.Slots.{Named, target_of}
+use Rattle.qo_object.specs.Slots.{Named}
 use Rattle.qo_model.specs.Board as board
 use Rattle.qo_model.specs.Devices.{buses_of, first_bus, kid_name}
 use Rattle.qo_paths.proofs.EndLemmas.{given-drop}
@@ -15,14 +15,10 @@ use Rattle.std.proofs.lemmas.Cmp.{nat_list_eq_equiv}
 use Rattle.std.proofs.lemmas.Option.{slice_get_within}
 use Rattle.qo_model.specs.Objects.{has_slot}
 use Rattle.qo_model.specs.Unplug.{first_of}
-use Rattle.std.proofs.Common.{get_or, IfSome}
+use Rattle.std.proofs.Common.{get_or}
 use Rattle.std.specs.Bool.{Decides}
 use Rattle.std.proofs.lemmas.Slice.Eq.{bytes_eq-Decides}
-use Rattle.qo_slots.specs.declared.keys.Key.{Key}
-use Rattle.qo_table.specs.Rows.{IsLive}
-use Rattle.qo_object.specs.Content.{Content}
-use Rattle.qo_heap.specs.Objects.{IsHeap, Objects, content_of, slots_of}
-use Rattle.qo_heap.proofs.BoardObjects.{named-live}
+use Rattle.qo_heap.specs.Objects.{Objects, slots_of}
 use Rattle.qo_heap.specs.Board.{Shows}
 use Rattle.qo_heap.proofs.HeapLemmas.{is_some-find}
 use Rattle.qo_heap.proofs.BoardReads.{shows-slots}
@@ -115,16 +111,3 @@ first-is b n = go (buses_of b n)
     go : (xs : List ℕ) → first_of xs ≡ elim xs as (λ _. Option ℕ) [ [] ↦ None | m ∷ _ ↦ Some m ]
     go [] = refl
     go (m ∷ ms) = refl
-
--- what an object names in its slots is there
-pub slot-live : (v : Objects) → IsHeap v → (n i : ℕ) (t : Named) → Some t ≡ slice_get (slots_of v n) i → IfSome (target_of t.1) (IsLive v.rows)
-slot-live v good n i t e = go (content_of v n) refl (sym e)
-  where
-    go : (o : Option Content) → content_of v n ≡ o → slice_get (option_map_or (λ (c : Content). c.slots) o []) i ≡ Some t
-        → IfSome (target_of t.1) (IsLive v.rows)
-    go None is found = cc
-    go (Some c) is found = by (target_of t.1) refl
-      where
-        by : (o : Option Key) → target_of t.1 ≡ o → IfSome o (IsLive v.rows)
-        by None q = tt
-        by (Some key) q = named-live v good n i c is key (ap (λ (o : Option Named). option_and_then target_of (option_map (λ (u : Named). u.1) o)) found ∙ q)

@@ -28,7 +28,7 @@ use Rattle.qo_heap.specs.Objects.{IsHeap, Objects, content_of, slots_of, with_ed
 use Rattle.qo_heap.specs.Board.{Shows, pins_in}
 use Rattle.qo_heap.proofs.BookLemmas.{book-edit}
 use Rattle.qo_heap.proofs.HeapLemmas.{edit-same, live-edit}
-use Rattle.qo_heap.proofs.PlacesLemmas.{position-find}
+use Rattle.qo_values.proofs.ListLemmas.{position-find}
 use Rattle.qo_heap.proofs.BoardChanges.{shows-set}
 use Rattle.qo_heap.proofs.BoardEdits.{pins-edited, shows-at}
 use Rattle.qo_heap.proofs.BoardObjects.{live-content}

@@ -1,5 +1,5 @@
 -- The least number that passes a test.
-use Rattle.std.proofs.Common.{◌≡◌, ℕ, zero, suc, ◌+◌, ◌<◌, ◌≤◌, Bool, true, false, not, if◌then◌else◌, Some, None, refl, arith, ⊎_elim}
+use Rattle.std.proofs.Common.{◌≡◌, ℕ, zero, suc, ◌+◌, ◌<◌, ◌≤◌, Bool, true, false, Some, None, refl, arith, ⊎_elim}
 use Rattle.std.proofs.lemmas.Bool.{cases_lt}
 use Rattle.qo_values.specs.Placing.{least}
 
@@ -21,18 +21,3 @@ unfolding least
 least-none test first zero none = refl
 least-none test first (suc more) none =
     rw (none first (omega arith) (omega arith)) (least-none test (first + 1) more (λ at from below. none at (omega arith) (omega arith)))
-
--- the least passes
-pub least-passes : (test : ℕ → Bool) (first more at : ℕ) → least test first more ≡ Some at → test at ≡ true
-unfolding least
-least-passes test first zero at found = cc
-least-passes test first (suc more) at found = by (test first) refl found (least-passes test (first + 1) more at)
-  where
-    by : (b : Bool) → test first ≡ b
-        → (if b then Some first else least test (first + 1) more) ≡ Some at → (least test (first + 1) more ≡ Some at → test at ≡ true) → test at ≡ true
-    by true is same later = let here : first ≡ at = cc in rw (← here) is
-    by false is same later = later same
-
-pub not-true : (b : Bool) → not b ≡ true → b ≡ false
-not-true true is = cc
-not-true false is = refl

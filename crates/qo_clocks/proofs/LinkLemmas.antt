@@ -3,7 +3,6 @@ use Rattle.std.proofs.Common.{◌≡◌, refl, ap, sym, ◌∙◌, ℕ, zero, su
 use Rattle.std.specs.Option.{option_map_or}
 use Rattle.std.proofs.lemmas.Option.{same_Some}
 use Rattle.qo_values.specs.Kinds.{type_name}
-use Rattle.qo_values.specs.declared.kinds.TypeId.{TypeId}
 use Rattle.qo_values.specs.declared.properties.Val.{Val}
 use Rattle.qo_values.specs.declared.properties.Val.TheVariants as val
 use Rattle.qo_slots.specs.declared.keys.Key.{Key}
@@ -11,10 +10,8 @@ use Rattle.qo_table.specs.Rows.{IsLive}
 use Rattle.qo_model.specs.Board as board
 use Rattle.qo_model.specs.Changes as changes
 use Rattle.qo_model.specs.Objects.{index_from}
-use Rattle.qo_model.specs.Paths.{is_of}
 use Rattle.qo_model.specs.Plug.{fitted, link_named}
 use Rattle.qo_model.specs.Release as release
-use Rattle.qo_model.specs.Types.{is_a}
 use Rattle.qo_model.specs.Unplug.{disconnected, is_named, set_named, unseen, unseen_named}
 use Rattle.qo_object.specs.declared.slots.Slot.{Slot}
 use Rattle.qo_object.specs.declared.slots.Slot.TheVariants.{Plain, Child, Link, Alias}
@@ -26,7 +23,7 @@ use Rattle.qo_heap.specs.Objects.{IsHeap, Objects, content_of, slots_of, with_ed
 use Rattle.qo_heap.proofs.HeapLemmas.{edit-is, edit-same, live-edit}
 use Rattle.qo_heap.proofs.BoardChanges.{changed-shown, shows-set}
 use Rattle.qo_heap.proofs.BoardEdits.{shows-edit}
-use Rattle.qo_heap.proofs.BoardReads.{shows-kind, shows-slots}
+use Rattle.qo_heap.proofs.BoardReads.{shows-of, shows-slots}
 use Rattle.qo_heap.proofs.SlotPlaces.{named-place}
 use Rattle.qo_clocks.specs.Links.{accepts, changed_named, fitted_on, is_of_on, is_weak, index_on, unseen_on, with_slot_changed}
 
@@ -53,23 +50,15 @@ shows-changed f g same b v s n i =
 
 -- a link to a source
 
-kind-mapped : (name : List ℕ) (o : Option Content)
-    → option_map_or (λ (t : TypeId). is_a t name) (option_map (λ (c : Content). c.kind) o) false ≡ option_map_or (λ (c : Content). is_a c.kind name) o false
-kind-mapped name None = refl
-kind-mapped name (Some c) = refl
-
-of-shown : (b : board.Board) (v : Objects) → Shows b v → (name : List ℕ) (n : ℕ) → is_of b name n ≡ is_of_on v name n
-of-shown b v s name n = ap (λ (o : Option TypeId). option_map_or (λ (t : TypeId). is_a t name) o false) (shows-kind b v s n) ∙ kind-mapped name (content_of v n)
-
 fitted-shown : (b : board.Board) (v : Objects) → Shows b v → (key : Key) (x : Slot) → shown_slot (fitted_on v key x) ≡ fitted b key.birth (shown_slot x)
 fitted-shown b v s key (Plain p) = refl
 fitted-shown b v s key (Child k) = refl
-fitted-shown b v s key (Link ty true None) = rw (of-shown b v s (type_name ty) key.birth) (go (is_of_on v (type_name ty) key.birth))
+fitted-shown b v s key (Link ty true None) = rw (shows-of b v s (type_name ty) key.birth) (go (is_of_on v (type_name ty) key.birth))
   where
     go : (t : Bool) → shown_slot (cond t (Link ty true (Some key)) (Link ty true None)) ≡ board.strong ty (cond t (Some key.birth) None)
     go true = refl
     go false = refl
-fitted-shown b v s key (Link ty false None) = rw (of-shown b v s (type_name ty) key.birth) (go (is_of_on v (type_name ty) key.birth))
+fitted-shown b v s key (Link ty false None) = rw (shows-of b v s (type_name ty) key.birth) (go (is_of_on v (type_name ty) key.birth))
   where
     go : (t : Bool) → shown_slot (cond t (Link ty false (Some key)) (Link ty false None)) ≡ board.weak ty (cond t (Some key.birth) None)
     go true = refl
@@ -143,17 +132,18 @@ edit-slot v good n i x e f g alike =
     edit-alike v good n i x e (with_slot_changed f i) (with_slot_changed g i)
     (λ c q. ap (λ (slots : List Named). with_slots slots c) (slot-alike f g i c.slots x q alike))
 
-changed-none : (i : ℕ) (slots : List Named) → changed_at (λ (s : Slot). s) i slots ≡ slots
-changed-none i [] = refl
-changed-none zero (s ∷ slots) = refl
-changed-none (suc i) (s ∷ slots) = ap (λ (l : List Named). s ∷ l) (changed-none i slots)
+pub changed-nothing : (f : Slot → Slot) → ((s : Slot) → f s ≡ s) → (i : ℕ) (slots : List Named) → changed_at f i slots ≡ slots
+changed-nothing f same i [] = refl
+changed-nothing f same zero (s ∷ slots) = ap (λ (x : Slot). (s.0, x) ∷ slots) (same s.1)
+changed-nothing f same (suc i) (s ∷ slots) = ap (λ (l : List Named). s ∷ l) (changed-nothing f same i slots)
 
 edit-keeps : (v : Objects) → IsHeap v → (n i : ℕ) (x : Named) → slice_get (slots_of v n) i ≡ Some x → (f : Slot → Slot) → f x.1 ≡ x.1
     → v ≡ with_edit n (with_slot_changed f i) v
 edit-keeps v good n i x e f alike =
     sym
     (edit-alike v good n i x e (with_slot_changed f i) (λ (c : Content). c)
-    (λ c q. ap (λ (slots : List Named). with_slots slots c) (slot-alike f (λ (s : Slot). s) i c.slots x q alike ∙ changed-none i c.slots))
+    (λ c q. ap (λ (slots : List Named). with_slots slots c)
+    (slot-alike f (λ (s : Slot). s) i c.slots x q alike ∙ changed-nothing (λ (s : Slot). s) (λ s. refl) i c.slots))
     ∙ edit-same n v)
 
 named-at : (n : ℕ) (name : List ℕ) (f : Slot → Slot) (v : Objects) (i : ℕ) → index_on v n name ≡ Some i

@@ -1,10 +1,7 @@
 -- What is read of a clock on the heap is what the boards that it shows have.
-use Rattle.std.proofs.Common.{◌≡◌, refl, ap, sym, ◌∙◌, ℕ, Bool, true, false, cond, List, [], ◌∷◌, find, Option, Some, None, option_map, unwrap_or, IfSome, codes}
+use Rattle.std.proofs.Common.{◌≡◌, refl, ap, sym, subst, ◌∙◌, ℕ, Bool, true, false, List, find, Option, Some, None, option_map, unwrap_or, IfSome, codes}
 use Rattle.std.specs.Prelude.{option_and_then}
-use Rattle.std.specs.List.{AllByRecursion, cons_option}
-use Rattle.std.specs.Option.{option_map_or}
 use Rattle.std.specs.Str.{bytes_eq}
-use Rattle.std.proofs.lemmas.Option.{same_Some}
 use Rattle.qo_values.specs.declared.properties.Val.TheVariants as val
 use Rattle.qo_slots.specs.declared.keys.Key.{Key}
 use Rattle.qo_table.specs.Rows.{IsLive}
@@ -13,46 +10,24 @@ use Rattle.qo_model.specs.Clocks.{div_of, mul_of, own_period, source_of, weak_in
 use Rattle.qo_model.specs.Devices.{child_named, clock_of, number_at, number_in, plain_in}
 use Rattle.qo_object.specs.declared.slots.Slot.{Slot}
 use Rattle.qo_object.specs.declared.slots.Slot.TheVariants.{Plain, Child, Link, Alias}
-use Rattle.qo_object.specs.Content.{Content}
 use Rattle.qo_object.specs.BoardObject.{birth_of, shown_slot}
 use Rattle.qo_object.specs.Slots.{Named, target_of}
 use Rattle.qo_heap.specs.Board.{Shows}
-use Rattle.qo_heap.specs.Objects.{IsHeap, Objects, content_of}
-use Rattle.qo_heap.proofs.HeapLemmas.{linked-at, targets_in}
+use Rattle.qo_heap.specs.Objects.{IsHeap, Objects, slots_of}
+use Rattle.qo_heap.proofs.HeapLemmas.{target-live}
 use Rattle.qo_heap.proofs.BoardReads.{shows-slot_named}
 use Rattle.qo_clocks.specs.Reads.{child_in, clock_on, div_on, mul_on, number_in_slot, number_on, own_on, slot_on, source_on, weak_target}
 
 -- what a slot that is found names is there
 
-first-of : (P : Key → Type 0) (o : Option Key) (keys : List Key) (key : Key) → AllByRecursion P (cons_option o keys) → o ≡ Some key → P key
-first-of P None keys key all e = cc
-first-of P (Some k) keys key all e = let same : k ≡ key = same_Some k key e in rw (sym same) all.0
-
-rest-of : (P : Key → Type 0) (o : Option Key) (keys : List Key) → AllByRecursion P (cons_option o keys) → AllByRecursion P keys
-rest-of P None keys all = all
-rest-of P (Some k) keys all = all.1
-
-abbrev slot_by : (Named → Bool) → List Named → Option Slot
-slot_by p slots = option_map (λ (s : Named). s.1) (find p slots)
-
-found-has : (P : Key → Type 0) (p : Named → Bool) (slots : List Named) → AllByRecursion P (targets_in slots) → (key : Key)
-    → option_and_then target_of (slot_by p slots) ≡ Some key → P key
-found-has P p [] all key e = cc
-found-has P p (s ∷ slots) all key e = go (p s) e (found-has P p slots (rest-of P (target_of s.1) (targets_in slots) all) key)
-  where
-    go : (t : Bool) → option_and_then target_of (option_map (λ (x : Named). x.1) (cond t (Some s) (find p slots))) ≡ Some key
-        → (option_and_then target_of (slot_by p slots) ≡ Some key → P key) → P key
-    go true q rest = first-of P (target_of s.1) (targets_in slots) key all q
-    go false q rest = rest q
-
 slot-has : (v : Objects) → IsHeap v → (n : ℕ) (name : List ℕ) (key : Key) → option_and_then target_of (slot_on v n name) ≡ Some key → IsLive v.rows key
-slot-has v good n name key e = go (content_of v n) refl e
+slot-has v good n name key e = go (find (λ (s : Named). bytes_eq name s.0) (slots_of v n)) refl e
   where
-    go : (o : Option Content) → content_of v n ≡ o
-        → option_and_then target_of (slot_by (λ (s : Named). bytes_eq name s.0) (option_map_or (λ (c : Content). c.slots) o [])) ≡ Some key
-        → IsLive v.rows key
+    go : (o : Option Named) → find (λ (s : Named). bytes_eq name s.0) (slots_of v n) ≡ o
+        → option_and_then target_of (option_map (λ (s : Named). s.1) o) ≡ Some key → IsLive v.rows key
     go None p q = cc
-    go (Some c) p q = found-has (IsLive v.rows) (λ (s : Named). bytes_eq name s.0) c.slots (linked-at v good n c p) key q
+    go (Some t) p q =
+        subst (λ (o : Option Key). IfSome o (IsLive v.rows)) q (target-live v good n (λ (s : Named). bytes_eq name s.0) t (sym p))
 
 weak-names : (o : Option Slot) (key : Key) → option_and_then weak_target o ≡ Some key → option_and_then target_of o ≡ Some key
 weak-names None key e = cc

@@ -1,5 +1,6 @@
 -- Calls of devices leave who goes by whom, and a change spreads place by place.
 use Rattle.std.proofs.Common.{◌≡◌, refl, ap, ap₂, sym, ◌∙◌, ℕ, zero, suc, ◌+◌, ◌≤◌, Bool, true, false, eqb, List, [], ◌∷◌, ◌++◌, map, take, length, filter, find, cond, slice_get, append-nil, Option, Some, None, option_map, option_and_then, IfSome, arith}
+use Rattle.std.proofs.lemmas.List.{take_all}
 use Rattle.std.specs.List.{cons_option, flat_map}
 use Rattle.std.specs.Option.{option_map_or}
 use Rattle.std.proofs.Math.Path.{fun_ext}
@@ -24,7 +25,7 @@ use Rattle.qo_clocks.specs.Subtree.{fed_in, goes_by}
 use Rattle.qo_clocks.specs.Periods.{scaled_on}
 use Rattle.qo_clocks.specs.Reads.{source_on}
 use Rattle.qo_clocks.specs.Spread.{Change, acted_on, all_called_on, called_on, change_at, changes_on, spread_on, spread_to}
-use Rattle.qo_clocks.proofs.SubtreeLemmas.{at_place, fed-more, take-all}
+use Rattle.qo_clocks.proofs.SubtreeLemmas.{at_place, fed-more}
 
 -- a timer may act
 
@@ -222,7 +223,7 @@ pub to-all : (v w : Objects) (all levels c before after i : ℕ) → all ≡ suc
 unfolding spread_on spread_to changes_on
 to-all v w all levels c before after i more le now =
     now
-    ∙ ap (λ (l : List (Key × Content)). all_called_on (flat_map (change_at v (changes_on v levels) before after) (fed_in v c l)) v) (take-all i v.rows le)
+    ∙ ap (λ (l : List (Key × Content)). all_called_on (flat_map (change_at v (changes_on v levels) before after) (fed_in v c l)) v) (take_all i v.rows le)
     ∙ ap (λ (d : ℕ). all_called_on (changes_on v d c before after) v) (sym more)
 
 pub none-spread : (v : Objects) (c before after : ℕ) → v ≡ spread_on v 0 c before after

@@ -1,5 +1,6 @@
 -- The clocks that go by a clock, place by place, and whether a period below overflows.
 use Rattle.std.proofs.Common.{◌≡◌, refl, ap, sym, ◌∙◌, ℕ, zero, suc, ◌+◌, ◌^◌, ◌≤◌, Bool, true, false, ◌||◌, nat_le, cond, List, [], ◌∷◌, ◌++◌, take, length, slice_get, Option, Some, None, option_map, option_and_then, arith}
+use Rattle.std.proofs.lemmas.List.{take_all}
 use Rattle.std.specs.List.{cons_option, list_any}
 use Rattle.std.proofs.Math.Bool.{or-false}
 use Rattle.std.proofs.lemmas.List.Folds.{list_any-append}
@@ -37,12 +38,6 @@ fed-more v c (suc i) (r ∷ rows) o e = go (goes_by v c r.0.birth) (fed-more v c
         ≡ cond t (r.0.birth ∷ fed_in v c (take i rows)) (fed_in v c (take i rows)) ++ cons_option (birth_of o) []
     go true rest = ap (λ (l : List ℕ). r.0.birth ∷ l) rest
     go false rest = rest
-
-pub take-all : (i : ℕ) (rows : Rows) → length rows ≤ i → take i rows ≡ rows
-take-all zero [] le = refl
-take-all (suc i) [] le = refl
-take-all zero (r ∷ rows) le = absurd (let no : ⊥ = omega (arith, le) in no)
-take-all (suc i) (r ∷ rows) le = let rest : length rows ≤ i = omega (arith, le) in ap (λ (l : Rows). r ∷ l) (take-all i rows rest)
 
 -- overflows, among the clocks in the first places
 
@@ -111,7 +106,7 @@ unfolding overflows_on
 over-all v all levels c period i more le none =
     sym
     (ap (λ (d : ℕ). overflows_on v d c period) more
-    ∙ ap (λ (l : Rows). list_any (over_at v (overflows_on v levels) period) (fed_in v c l)) (sym (take-all i v.rows le))
+    ∙ ap (λ (l : Rows). list_any (over_at v (overflows_on v levels) period) (fed_in v c l)) (sym (take_all i v.rows le))
     ∙ none)
 
 pub over-none : (v : Objects) (c period : ℕ) → false ≡ overflows_on v 0 c period

@@ -16,7 +16,7 @@ use crate::rings::{add_ring, read_ring, remove_ring, write_ring};
 use qo_guest::GuestAnswer;
 use qo_heap::Steps;
 use qo_lane::{Heard, hear};
-use qo_plug::AddRefusal;
+use qo_plug::{AddRefusal, DeviceOptions};
 use qo_realize::Board;
 use qo_replies::Event;
 use qo_requests::{Addition, Alteration, Change};
@@ -89,9 +89,13 @@ fn plug<L: Ledger>(
 ) -> Result<Done, AllocError>
     ensures { (b : Tree) → Stands b board.old → Changes b (change.Add (addition.DeviceAdd driver.now (option_map (λ t. t.now) id.entry) (option_map (λ t. t.now) bus.entry) props.now)) result board.new }
 {
-    let id = words_of(id);
-    let bus = words_of(bus);
-    match board.add(driver, id, bus, props, alloc, steps) {
+    let options = DeviceOptions {
+        driver,
+        id: words_of(id),
+        bus: words_of(bus),
+        props,
+    };
+    match board.add(&options, alloc, steps) {
         Ok(_) => Ok(returned(Body::Empty)),
         Err(AddRefusal::Refused { code, .. }) => Ok(refused(code)),
         Err(AddRefusal::Memory) => Err(AllocError),

@@ -25,10 +25,6 @@ chosen : {A : Type 0} (b : Bool) (x : A) (o : Option A) (y : A) → cond b (Some
 chosen true x o y e = let same : x ≡ y = cc in inl (refl, same)
 chosen false x o y e = inr e
 
--- a word that was compared
-word_is : (word text : List ℕ) → bytes_eq word text ≡ true → word ≡ text
-word_is word text e = (bytes_eq-Decides word text).0 e
-
 -- words and the line of them
 abbrev line_of : List (List ℕ) → List ℕ
 line_of words = join_with_byte 32 words
@@ -36,19 +32,19 @@ line_of words = join_with_byte 32 words
 lone_taken : (verb : List ℕ) (act : GuestAct) → lone_act verb ≡ Some act → Spells verb act
 lone_taken verb act e =
     let reset : Option GuestAct = cond (bytes_eq verb (codes "reset")) (Some Reset) (cond (bytes_eq verb (codes "shutdown")) (Some Shutdown) None) in
-    ⊎_elim (λ poll. subst (λ (a : GuestAct). Spells verb a) poll.1 (word_is verb (codes "poll") poll.0))
-    (λ others. ⊎_elim (λ reset. subst (λ (a : GuestAct). Spells verb a) reset.1 (word_is verb (codes "reset") reset.0))
+    ⊎_elim (λ poll. subst (λ (a : GuestAct). Spells verb a) poll.1 ((bytes_eq-Decides verb (codes "poll")).0 poll.0))
+    (λ others. ⊎_elim (λ reset. subst (λ (a : GuestAct). Spells verb a) reset.1 ((bytes_eq-Decides verb (codes "reset")).0 reset.0))
     (λ last. let shutdown = guard_some (bytes_eq verb (codes "shutdown")) Shutdown act last in
-    subst (λ (a : GuestAct). Spells verb a) shutdown.1 (word_is verb (codes "shutdown") shutdown.0))
+    subst (λ (a : GuestAct). Spells verb a) shutdown.1 ((bytes_eq-Decides verb (codes "shutdown")).0 shutdown.0))
     (chosen (bytes_eq verb (codes "reset")) Reset (cond (bytes_eq verb (codes "shutdown")) (Some Shutdown) None) act others))
     (chosen (bytes_eq verb (codes "poll")) Poll reset act e)
 
 pending_taken : (verb : List ℕ) (at : Addr) (act : GuestAct) → IsAddress at → pending_act verb at ≡ Some act → Spells (verb ++ 32 ∷ address_text at) act
 pending_taken verb at act is e =
     let after : List ℕ → List ℕ = λ word. word ++ 32 ∷ address_text at in
-    ⊎_elim (λ ack. subst (λ (a : GuestAct). Spells (after verb) a) ack.1 (is, ap after (word_is verb (codes "ack") ack.0)))
+    ⊎_elim (λ ack. subst (λ (a : GuestAct). Spells (after verb) a) ack.1 (is, ap after ((bytes_eq-Decides verb (codes "ack")).0 ack.0)))
     (λ last. let nack = guard_some (bytes_eq verb (codes "nack")) (Nack at) act last in
-    subst (λ (a : GuestAct). Spells (after verb) a) nack.1 (is, ap after (word_is verb (codes "nack") nack.0)))
+    subst (λ (a : GuestAct). Spells (after verb) a) nack.1 (is, ap after ((bytes_eq-Decides verb (codes "nack")).0 nack.0)))
     (chosen (bytes_eq verb (codes "ack")) (Ack at) (cond (bytes_eq verb (codes "nack")) (Some (Nack at)) None) act e)
 
 register_taken : (verb : List ℕ) (at : Addr) (register : ℕ) (words : List (List ℕ)) (act : GuestAct) → IsAddress at → register ≤ 255
@@ -56,15 +52,20 @@ register_taken : (verb : List ℕ) (at : Addr) (register : ℕ) (words : List (L
 register_taken verb at register [] act is few e =
     let read = guard_some (bytes_eq verb (codes "read")) (Read at register) act e in
     let after : List ℕ → List ℕ = λ word. word ++ 32 ∷ (address_text at ++ 32 ∷ decimal register) in
-    subst (λ (a : GuestAct). Spells (after verb) a) read.1 (is, few, ap after (word_is verb (codes "read") read.0))
+    subst (λ (a : GuestAct). Spells (after verb) a) read.1 (is, few, ap after ((bytes_eq-Decides verb (codes "read")).0 read.0))
 register_taken verb at register (word ∷ []) act is few e =
     let write = guard_then (bytes_eq verb (codes "write")) (option_and_then (λ value. Some (Write at register value)) (value_of word)) act e in
     let read = then_some (value_of word) (λ value. Some (Write at register value)) act write.1 in
     let value = value_taken word read.0 read.1 in
     let same : Write at register read.0 ≡ act = let whole = read.2 in cc in
     let line : List ℕ → List ℕ → List ℕ = λ front back. front ++ 32 ∷ (address_text at ++ (32 ∷ (decimal register ++ 32 ∷ back))) in
-    subst (λ (a : GuestAct). Spells (line verb word) a) same
-    (value.0, is, few, value.1, ap (λ (front : List ℕ). line front word) (word_is verb (codes "write") write.0) ∙ ap (line (codes "write")) value.2)
+    subst (λ (a : GuestAct). Spells (line verb word) a) same (
+      value.0,
+      is,
+      few,
+      value.1,
+      ap (λ (front : List ℕ). line front word) ((bytes_eq-Decides verb (codes "write")).0 write.0) ∙ ap (line (codes "write")) value.2,
+    )
 register_taken verb at register (word ∷ next ∷ words) act is few e = cc
 
 aimed_taken : (verb : List ℕ) (at : Addr) (words : List (List ℕ)) (act : GuestAct) → IsAddress at → aimed_act verb at words ≡ Some act

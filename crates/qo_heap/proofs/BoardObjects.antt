@@ -1,38 +1,25 @@
 -- Who is there, where one object of the heap is changed or ends.
-use Rattle.std.proofs.Common.{◌≡◌, refl, ap, subst, ◌∙◌, ℕ, zero, suc, Bool, true, false, eqb, List, [], ◌∷◌, map, Option, Some, None, option_map, IsSomeAnd, arith}
-use Rattle.std.specs.List.{AllByRecursion, cons_option}
+use Rattle.std.proofs.Common.{◌≡◌, refl, ap, subst, ◌∙◌, ℕ, Bool, true, false, eqb, List, [], ◌∷◌, map, slice_get, Option, Some, None, option_map, IfSome, IsSomeAnd, arith}
+use Rattle.std.specs.Option.{option_and_then}
 use Rattle.std.proofs.lemmas.Bool.{eqb-true}
+use Rattle.qo_values.proofs.ListLemmas.{all-at}
 use Rattle.qo_slots.specs.declared.keys.Key.{Key}
 use Rattle.qo_table.specs.Rows.{IsLive, edit, object_at, row_at, without}
-use Rattle.qo_object.specs.Slots.{Named, named_in, target_of}
+use Rattle.qo_object.specs.Slots.{Named, target_of}
 use Rattle.qo_object.specs.Content.{Content, named_at, dropped_at, with_pin, without_pin, forgotten}
 use Rattle.qo_heap.specs.Objects.{IsHeap, Objects, content_of, with_edit, ended, forgets}
-use Rattle.qo_heap.proofs.HeapLemmas.{AreThere, dropped-there, linked-at, live-edit, targets_in, edit-is, heap-edited}
-
--- what slots name
-
-module _ (P : Key → Type 0) where
-  first-of : (o : Option Key) (keys : List Key) (key : Key) → AllByRecursion P (cons_option o keys) → o ≡ Some key → P key
-  first-of None keys key all e = cc
-  first-of (Some k) keys key all e = let same : k ≡ key = cc in subst P same all.0
-
-  rest-of : (o : Option Key) (keys : List Key) → AllByRecursion P (cons_option o keys) → AllByRecursion P keys
-  rest-of None keys all = all
-  rest-of (Some k) keys all = all.1
-
-  named-has : (i : ℕ) (slots : List Named) (key : Key) → AllByRecursion P (targets_in slots) → named_in slots i ≡ Some key → P key
-  named-has i [] key all e = cc
-  named-has zero (s ∷ slots) key all e = first-of (target_of s.1) (targets_in slots) key all e
-  named-has (suc i) (s ∷ slots) key all e = named-has i slots key (rest-of (target_of s.1) (targets_in slots) all) e
+use Rattle.qo_heap.proofs.HeapLemmas.{AreThere, dropped-there, each-names, linked-at, edit-is, heap-edited}
 
 -- what a slot names is there
-pub named-live : (v : Objects) → IsHeap v → (n i : ℕ) (c : Content) → content_of v n ≡ Some c → (key : Key) → named_at c i ≡ Some key → IsLive v.rows key
-named-live v good n i c there key e = named-has (IsLive v.rows) i c.slots key (linked-at v good n c there) e
+named-has : (P : Key → Type 0) (o : Option Named) (key : Key) → IfSome o (λ (s : Named). IfSome (target_of s.1) P)
+    → option_and_then target_of (option_map (λ (s : Named). s.1) o) ≡ Some key → P key
+named-has P None key has e = cc
+named-has P (Some s) key has e = subst (λ (t : Option Key). IfSome t P) e has
 
--- and it is there where the slot is let go
-pub named-live_dropped : (v : Objects) → IsHeap v → (n i : ℕ) (c : Content) → content_of v n ≡ Some c → (key : Key) → named_at c i ≡ Some key
-    → IsLive (with_edit n (dropped_at i) v).rows key
-named-live_dropped v good n i c there key e = live-edit n (dropped_at i) v.rows key (named-live v good n i c there key e)
+pub named-live : (v : Objects) → IsHeap v → (n i : ℕ) (c : Content) → content_of v n ≡ Some c → (key : Key) → named_at c i ≡ Some key → IsLive v.rows key
+named-live v good n i c there key e =
+    named-has (IsLive v.rows) (slice_get c.slots i) key (all-at (λ (s : Named). IfSome (target_of s.1) (IsLive v.rows)) c.slots i
+    (each-names (IsLive v.rows) c.slots (linked-at v good n c there))) e
 
 -- a heap with a slot let go, with a pin more, with a pin less
 

@@ -9,11 +9,13 @@ use Rattle.std.proofs.lemmas.Cmp.{nat_list_eq_equiv}
 use Rattle.std.proofs.lemmas.List.{length-map}
 use Rattle.std.proofs.lemmas.List.Sums.{sum_by-cons, sum_by-append}
 use Rattle.std.proofs.lemmas.List.Folds.{sum_by-replicate}
+use Rattle.qo_values.specs.declared.kinds.TypeId.{TypeId}
 use Rattle.qo_slots.specs.declared.keys.Key.{Key}
 use Rattle.qo_table.specs.Rows.{IsLive, Rises, births, row_at, object_at}
 use Rattle.qo_model.specs.Board as board
 use Rattle.qo_model.specs.References as references
 use Rattle.qo_model.specs.Paths as paths
+use Rattle.qo_model.specs.Types.{is_a}
 use Rattle.qo_model.specs.Release as release
 use Rattle.qo_model.proofs.StepLemmas.{is_some-map}
 use Rattle.qo_object.specs.declared.slots.Slot.{Slot}
@@ -24,6 +26,7 @@ use Rattle.qo_object.specs.BoardObject.{birth_of, shown_slot, shown_slots, shown
 use Rattle.qo_object.proofs.BoardObjectLemmas.{shown-target, shown-held, slice_get-shown, refs-shown, parent-shown, length-shown, reference_count-shown}
 use Rattle.qo_heap.specs.Objects.{IsHeap, Objects, content_of, slots_of, pins_of, refs_of, parent_of}
 use Rattle.qo_heap.specs.Board.{Shows, record_of, pins_in}
+use Rattle.qo_values.proofs.ListLemmas.{found-passes}
 
 -- the records that show rows
 abbrev pub records_of : List (Key × Content) → List board.Record
@@ -61,6 +64,17 @@ pub shows-kind : (b : board.Board) (v : Objects) → Shows b v → (n : ℕ) →
 shows-kind b v s n = ap (option_map (λ (r : board.Record). r.kind)) (shows-record b v s n) ∙ go (content_of v n)
   where
     go : (o : Option Content) → option_map (λ (r : board.Record). r.kind) (option_map (shown n) o) ≡ option_map (λ (c : Content). c.kind) o
+    go None = refl
+    go (Some c) = refl
+
+-- whether it is of a type
+pub shows-of : (b : board.Board) (v : Objects) → Shows b v → (wanted : List ℕ) (n : ℕ)
+    → paths.is_of b wanted n ≡ option_map_or (λ (c : Content). is_a c.kind wanted) (content_of v n) false
+shows-of b v s wanted n = ap (λ (o : Option TypeId). option_map_or (λ (t : TypeId). is_a t wanted) o false) (shows-kind b v s n) ∙ go (content_of v n)
+  where
+    go : (o : Option Content)
+        → option_map_or (λ (t : TypeId). is_a t wanted) (option_map (λ (c : Content). c.kind) o) false
+        ≡ option_map_or (λ (c : Content). is_a c.kind wanted) o false
     go None = refl
     go (Some c) = refl
 
@@ -250,15 +264,6 @@ shows-place b v s n =
     go None = refl
     go (Some row) = place-shown n row
 
--- what was found passes
-find-passes : {A : Type 0} (p : A → Bool) (xs : List A) (x : A) → find p xs ≡ Some x → p x ≡ true
-find-passes p [] x e = cc
-find-passes p (y ∷ xs) x e = go (p y) refl (find-passes p xs x)
-  where
-    go : (b : Bool) → p y ≡ b → (find p xs ≡ Some x → p x ≡ true) → p x ≡ true
-    go true is rest = let same : y ≡ x = cc (rw is at e) in ap p (sym same) ∙ is
-    go false is rest = rest (rw is at e)
-
 -- a parent is the owner of its place
 place-owner : (n : ℕ) (row : Key × Content) → is_parent n row.1 ≡ true → option_map (λ (p : ℕ × List ℕ). p.0) (place_under n row) ≡ Some row.0.birth
 place-owner n row is = go (find (λ (t : Named). names_child n t.1) row.1.slots) (ap is_some (sym (place-shown n row)) ∙ parent-shown row.0.birth n row.1 ∙ is)
@@ -270,7 +275,7 @@ place-owner n row is = go (find (λ (t : Named). names_child n t.1) row.1.slots)
 
 pub shows-parent : (b : board.Board) (v : Objects) → Shows b v → (n : ℕ) → paths.parent_of b n ≡ birth_of (parent_of v n)
 shows-parent b v s n = ap (option_map (λ (p : ℕ × List ℕ). p.0)) (shows-place b v s n)
-    ∙ go (find (λ (row : Key × Content). is_parent n row.1) v.rows) (find-passes (λ (row : Key × Content). is_parent n row.1) v.rows)
+    ∙ go (find (λ (row : Key × Content). is_parent n row.1) v.rows) (found-passes (λ (row : Key × Content). is_parent n row.1) v.rows)
   where
     go : (o : Option (Key × Content)) → ((row : Key × Content) → o ≡ Some row → is_parent n row.1 ≡ true)
         → option_map (λ (p : ℕ × List ℕ). p.0) (option_and_then (place_under n) o) ≡ birth_of (option_map (λ (row : Key × Content). row.0) o)

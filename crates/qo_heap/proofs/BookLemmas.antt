@@ -45,9 +45,6 @@ module _ {K : Type 0} (eq : K → K → Bool) (same : (a b : K) → eq a b ≡ t
             sum_by-cons (λ (x : K). cond {A = ℕ} (eq b x) 1 0) k (remove_key (eq a) ks),
           )
 
-bytes-same : (a b : List ℕ) → bytes_eq a b ≡ true → a ≡ b
-bytes-same a b e = (bytes_eq-Decides a b).0 e
-
 slot-same : (a b : BusSlot) → slot_eq a b ≡ true → a ≡ b
 slot-same a b e =
     let split = and_parts (eqb a.bus b.bus) (eqb a.slot b.slot) e in
@@ -64,14 +61,14 @@ range-same a b e =
 
 -- one claim ends that is held
 counted-without : (x y : Claimed) (h : ClaimsTaken) → 0 < counted x h → cond (claim_eq y x) 1 0 + counted y (without_claim x h) ≡ counted y h
-counted-without (on.Device a) (on.Device b) h there = taken bytes_eq bytes-same a b h.devices there
+counted-without (on.Device a) (on.Device b) h there = taken bytes_eq (λ x y. (bytes_eq-Decides x y).0) a b h.devices there
 counted-without (on.Device a) (on.RingId b) h there = omega arith
 counted-without (on.Device a) (on.Slot b) h there = omega arith
 counted-without (on.Device a) (on.Ring b) h there = omega arith
 counted-without (on.Device a) (on.Backend b) h there = omega arith
 counted-without (on.Device a) (on.Range b) h there = omega arith
 counted-without (on.RingId a) (on.Device b) h there = omega arith
-counted-without (on.RingId a) (on.RingId b) h there = taken bytes_eq bytes-same a b h.ring_ids there
+counted-without (on.RingId a) (on.RingId b) h there = taken bytes_eq (λ x y. (bytes_eq-Decides x y).0) a b h.ring_ids there
 counted-without (on.RingId a) (on.Slot b) h there = omega arith
 counted-without (on.RingId a) (on.Ring b) h there = omega arith
 counted-without (on.RingId a) (on.Backend b) h there = omega arith
@@ -85,7 +82,7 @@ counted-without (on.Slot a) (on.Range b) h there = omega arith
 counted-without (on.Ring a) (on.Device b) h there = omega arith
 counted-without (on.Ring a) (on.RingId b) h there = omega arith
 counted-without (on.Ring a) (on.Slot b) h there = omega arith
-counted-without (on.Ring a) (on.Ring b) h there = taken bytes_eq bytes-same a b h.rings there
+counted-without (on.Ring a) (on.Ring b) h there = taken bytes_eq (λ x y. (bytes_eq-Decides x y).0) a b h.rings there
 counted-without (on.Ring a) (on.Backend b) h there = omega arith
 counted-without (on.Ring a) (on.Range b) h there = omega arith
 counted-without (on.Backend a) (on.Device b) h there = omega arith

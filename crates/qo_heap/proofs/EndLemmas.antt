@@ -20,7 +20,8 @@ use Rattle.qo_events.specs.Queue.{Waiting}
 use Rattle.qo_object.specs.BoardObject.{shown}
 use Rattle.qo_model.specs.Board.{DeviceEvent}
 use Rattle.qo_model.specs.Release.{deleted_event}
-use Rattle.qo_heap.proofs.HeapLemmas.{all-weaker, targets_in}
+use Rattle.qo_heap.proofs.HeapLemmas.{targets_in}
+use Rattle.qo_values.proofs.ListLemmas.{all-imply}
 use Rattle.qo_values.specs.declared.kinds.TypeId.{TypeId}
 use Rattle.qo_model.specs.declared.notes.Deed.TheVariants.{Final}
 use Rattle.qo_model.specs.declared.notes.Note.{Note}
@@ -143,7 +144,7 @@ linked-without n by (row ∷ rows) linked none = go (eqb row.0.birth n) refl (li
   where
     there : AllByRecursion (IsLive (map (forgets n) (without n by))) (targets (forgotten n row.1))
     there =
-        all-weaker (λ (key : Key). IsLive by key × (eqb key.birth n ≡ false)) (IsLive (map (forgets n) (without n by)))
+        all-imply (λ (key : Key). IsLive by key × (eqb key.birth n ≡ false)) (IsLive (map (forgets n) (without n by)))
         (λ key both. live-without n by key both.0 both.1) (targets (forgotten n row.1)) (targets-forgotten (IsLive by) n row.1.slots linked.0 none.0)
 
     go : (b : Bool) → eqb row.0.birth n ≡ b → AllByRecursion (λ (r : Key × Content). AllByRecursion (IsLive (map (forgets n) (without n by))) (targets r.1))
@@ -227,9 +228,9 @@ heap-more v good key kind is below =
       few = let size = length-more v.rows (key, fresh kind) in omega arith;
       linked =
           all-more (λ (row : Key × Content). AllByRecursion (IsLive (v.rows ++ (key, fresh kind) ∷ [])) (targets row.1)) v.rows (key, fresh kind)
-          (all-weaker (λ (row : Key × Content). AllByRecursion (IsLive v.rows) (targets row.1))
+          (all-imply (λ (row : Key × Content). AllByRecursion (IsLive v.rows) (targets row.1))
           (λ (row : Key × Content). AllByRecursion (IsLive (v.rows ++ (key, fresh kind) ∷ [])) (targets row.1))
-          (λ row all. all-weaker (IsLive v.rows) (IsLive (v.rows ++ (key, fresh kind) ∷ [])) (λ k live. live-more v.rows ((key, fresh kind) ∷ []) k live)
+          (λ row all. all-imply (IsLive v.rows) (IsLive (v.rows ++ (key, fresh kind) ∷ [])) (λ k live. live-more v.rows ((key, fresh kind) ∷ []) k live)
           (targets row.1) all)
           v.rows good.linked)
           tt;

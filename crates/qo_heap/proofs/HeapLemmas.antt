@@ -1,19 +1,19 @@
 -- What an edit of one object leaves of the heap.
-use Rattle.std.proofs.Common.{◌≡◌, refl, ap, sym, subst, ◌∙◌, ℕ, zero, suc, Bool, true, false, cond, List, [], ◌∷◌, ◌++◌, length, filter_map, eqb, Option, Some, None, find, option_map, remove, is_some, ◌||◌, Result, Ok, Err, OnErr, IfSome, IfNone, ◌+◌, ◌≤◌, ◌^◌, sum_by, count_by, arith}
-use Rattle.std.specs.Prelude.{option_and_then}
-use Rattle.std.specs.Bool.{⊤}
+use Rattle.std.proofs.Common.{◌≡◌, refl, ap, sym, subst, ◌∙◌, ℕ, zero, suc, Bool, true, false, cond, List, [], ◌∷◌, ◌++◌, length, filter_map, eqb, Option, Some, None, find, option_map, remove, is_some, slice_get, ◌||◌, Result, Ok, Err, OnErr, IfSome, IfNone, ◌+◌, ◌≤◌, ◌^◌, sum_by, count_by, arith}
+use Rattle.std.specs.Option.{option_and_then, option_map_or}
 use Rattle.std.specs.List.{AllByRecursion, cons_option, list_any}
+use Rattle.qo_values.proofs.ListLemmas.{all-at, all-imply, found-has}
 use Rattle.qo_values.specs.declared.properties.Val.{Val}
 use Rattle.qo_slots.specs.declared.keys.Key.{Key}
 use Rattle.qo_object.specs.declared.slots.Slot.{Slot}
 use Rattle.qo_object.specs.declared.slots.Slot.TheVariants.{Plain, Child, Link, Alias}
 use Rattle.std.specs.Str.{bytes_eq}
-use Rattle.qo_object.specs.Slots.{has_name, target_of, changed_at, let_go_at, pointed, with_val}
+use Rattle.qo_object.specs.Slots.{Named, has_name, target_of, changed_at, let_go_at, pointed, with_val}
 use Rattle.qo_object.specs.Content.{Content, is_parent, with_path, with_slot, dropped_at, pointed_at, set_at, cut_at}
 use Rattle.qo_table.specs.Rows.{IsLive, Rows, births, edited, edit, is_at, object_at}
 use Rattle.qo_table.proofs.SearchLemmas.{found-live}
 use Rattle.qo_table.proofs.RowsLemmas.{edit-as, rises-higher}
-use Rattle.qo_heap.specs.Objects.{HasPlaces, IsHeap, Objects, content_of, has_path, parent_of, targets, with_edit}
+use Rattle.qo_heap.specs.Objects.{HasPlaces, IsHeap, Objects, content_of, has_path, parent_of, slots_of, targets, with_edit}
 use Rattle.qo_events.specs.Queue.{Waiting, promised}
 use Rattle.qo_heap.proofs.BookLemmas.{sum-changed, sum-edit}
 
@@ -43,26 +43,26 @@ module _ {T : Type 0} (n : ℕ) (f : T → T) where
       by true is rest = let here : row.0.index ≡ key.index = rw is at live in rw (edited-key row, is, edited-key row) here
       by false is rest = rw (edited-key row, is) (rest (rw is at live))
 
--- what an option has, if anything, has a property
-abbrev pub Holds : (Key → Type 0) → Option Key → Type 0
-Holds P None = ⊤
-Holds P (Some key) = P key
-
 -- the targets of slots
 abbrev pub targets_in : List (List ℕ × Slot) → List Key
 targets_in slots = filter_map (λ (s : List ℕ × Slot). target_of s.1) slots
 
 module _ (P : Key → Type 0) where
-  holds-first : (o : Option Key) (keys : List Key) → AllByRecursion P (cons_option o keys) → Holds P o × AllByRecursion P keys
+  pub holds-first : (o : Option Key) (keys : List Key) → AllByRecursion P (cons_option o keys) → IfSome o P × AllByRecursion P keys
   holds-first None keys all = (tt, all)
   holds-first (Some key) keys all = (all.0, all.1)
 
-  holds-cons : (o : Option Key) (keys : List Key) → Holds P o → AllByRecursion P keys → AllByRecursion P (cons_option o keys)
+  pub holds-cons : (o : Option Key) (keys : List Key) → IfSome o P → AllByRecursion P keys → AllByRecursion P (cons_option o keys)
   holds-cons None keys here rest = rest
   holds-cons (Some key) keys here rest = (here, rest)
 
+  -- each slot names what has the property
+  pub each-names : (slots : List Named) → AllByRecursion P (targets_in slots) → AllByRecursion (λ (s : Named). IfSome (target_of s.1) P) slots
+  each-names [] all = tt
+  each-names (s ∷ slots) all = let (here, rest) = holds-first (target_of s.1) (targets_in slots) all in (here, each-names slots rest)
+
   -- targets of a slot that was changed, let go, added, removed
-  pub targets-changed : (g : Slot → Slot) → ((s : Slot) → Holds P (target_of s) → Holds P (target_of (g s))) → (i : ℕ) (slots : List (List ℕ × Slot))
+  pub targets-changed : (g : Slot → Slot) → ((s : Slot) → IfSome (target_of s) P → IfSome (target_of (g s)) P) → (i : ℕ) (slots : List (List ℕ × Slot))
       → AllByRecursion P (targets_in slots) → AllByRecursion P (targets_in (changed_at g i slots))
   targets-changed g keeps i [] all = all
   targets-changed g keeps zero (s ∷ slots) all =
@@ -94,7 +94,7 @@ module _ (P : Key → Type 0) where
       let (here, rest) = holds-first (target_of s.1) (targets_in slots) all in
       holds-cons (target_of s.1) (targets_in (remove slots i)) here (targets-removed i slots rest)
 
-  pub targets-added : (name : List ℕ) (slot : Slot) (slots : List (List ℕ × Slot)) → AllByRecursion P (targets_in slots) → Holds P (target_of slot)
+  pub targets-added : (name : List ℕ) (slot : Slot) (slots : List (List ℕ × Slot)) → AllByRecursion P (targets_in slots) → IfSome (target_of slot) P
       → AllByRecursion P (targets_in (slots ++ (name, slot) ∷ []))
   targets-added name slot [] all new = holds-cons (target_of slot) [] new tt
   targets-added name slot (s ∷ slots) all new =
@@ -102,22 +102,17 @@ module _ (P : Key → Type 0) where
       holds-cons (target_of s.1) (targets_in (slots ++ (name, slot) ∷ [])) here (targets-added name slot slots rest new)
 
   -- a link pointed at what has the property; a value set
-  pub pointed-holds : (key : Key) → P key → (s : Slot) → Holds P (target_of s) → Holds P (target_of (pointed key s))
+  pub pointed-holds : (key : Key) → P key → (s : Slot) → IfSome (target_of s) P → IfSome (target_of (pointed key s)) P
   pointed-holds key new (Plain val) h = h
   pointed-holds key new (Child k) h = h
   pointed-holds key new (Link ty strong target) h = new
   pointed-holds key new (Alias k of) h = h
 
-  pub valued-holds : (val : Val) (s : Slot) → Holds P (target_of s) → Holds P (target_of (with_val val s))
+  pub valued-holds : (val : Val) (s : Slot) → IfSome (target_of s) P → IfSome (target_of (with_val val s)) P
   valued-holds val (Plain old) h = h
   valued-holds val (Child k) h = h
   valued-holds val (Link ty strong target) h = h
   valued-holds val (Alias k of) h = h
-
--- what all have, all have by a weaker property
-pub all-weaker : {X : Type 0} (P Q : X → Type 0) → ((x : X) → P x → Q x) → (xs : List X) → AllByRecursion P xs → AllByRecursion Q xs
-all-weaker P Q weaker [] all = tt
-all-weaker P Q weaker (x ∷ xs) all = (weaker x all.0, all-weaker P Q weaker xs all.1)
 
 -- the targets of an object of linked ones
 abbrev LinkedBy : List (Key × Content) → List (Key × Content) → Type 0
@@ -133,6 +128,24 @@ linked-at-by by (row ∷ rows) linked n c there = go (eqb row.0.birth n) refl (l
 
 pub linked-at : (v : Objects) → IsHeap v → (n : ℕ) (c : Content) → content_of v n ≡ Some c → AllByRecursion (IsLive v.rows) (targets c)
 linked-at v good n c there = linked-at-by v.rows v.rows good.linked n c there
+
+-- what the slots of an object name is there
+slots-live : (v : Objects) → IsHeap v → (n : ℕ) → AllByRecursion (λ (s : Named). IfSome (target_of s.1) (IsLive v.rows)) (slots_of v n)
+slots-live v good n = go (content_of v n) refl
+  where
+    go : (o : Option Content) → content_of v n ≡ o
+        → AllByRecursion (λ (s : Named). IfSome (target_of s.1) (IsLive v.rows)) (option_map_or (λ (c : Content). c.slots) o [])
+    go None is = tt
+    go (Some c) is = each-names (IsLive v.rows) c.slots (linked-at v good n c is)
+
+-- so is what the slot at a place names, and what a slot that a search finds names
+pub slot-live : (v : Objects) → IsHeap v → (n i : ℕ) (t : Named) → Some t ≡ slice_get (slots_of v n) i → IfSome (target_of t.1) (IsLive v.rows)
+slot-live v good n i t e =
+    subst (λ (o : Option Named). IfSome o (λ (s : Named). IfSome (target_of s.1) (IsLive v.rows))) (sym e)
+    (all-at (λ (s : Named). IfSome (target_of s.1) (IsLive v.rows)) (slots_of v n) i (slots-live v good n))
+
+pub target-live : (v : Objects) → IsHeap v → (n : ℕ) (p : Named → Bool) (t : Named) → Some t ≡ find p (slots_of v n) → IfSome (target_of t.1) (IsLive v.rows)
+target-live v good n p t e = found-has (λ (s : Named). IfSome (target_of s.1) (IsLive v.rows)) p (slots_of v n) t (slots-live v good n) (sym e)
 
 linked-edit-by : (by rows : List (Key × Content)) (n : ℕ) (d : Content) → LinkedBy by rows → AllByRecursion (IsLive by) (targets d)
     → LinkedBy by (edit n (λ _. d) rows)
@@ -151,9 +164,9 @@ heap-edited v good n d new =
       rising = rw (births-edit n (λ _. d) v.rows) good.rising;
       few = rw (length-edit n (λ _. d) v.rows) good.few;
       linked =
-          all-weaker (λ (row : Key × Content). AllByRecursion (IsLive v.rows) (targets row.1))
+          all-imply (λ (row : Key × Content). AllByRecursion (IsLive v.rows) (targets row.1))
           (λ (row : Key × Content). AllByRecursion (IsLive (edit n (λ _. d) v.rows)) (targets row.1))
-          (λ row all. all-weaker (IsLive v.rows) (IsLive (edit n (λ _. d) v.rows)) (λ key live. live-edit n (λ _. d) v.rows key live) (targets row.1) all)
+          (λ row all. all-imply (IsLive v.rows) (IsLive (edit n (λ _. d) v.rows)) (λ key live. live-edit n (λ _. d) v.rows key live) (targets row.1) all)
           (edit n (λ _. d) v.rows)
           (linked-edit-by v.rows v.rows n d good.linked new);
     }
@@ -179,7 +192,7 @@ set-there v val i c all = targets-changed (IsLive v.rows) (with_val val) (valued
 pub cut-there : (v : Objects) (i : ℕ) (c : Content) → AreThere v c → AreThere v (cut_at i c)
 cut-there v i c all = targets-removed (IsLive v.rows) i c.slots all
 
-pub added-there : (v : Objects) (name : List ℕ) (slot : Slot) (c : Content) → Holds (IsLive v.rows) (target_of slot) → AreThere v c
+pub added-there : (v : Objects) (name : List ℕ) (slot : Slot) (c : Content) → IfSome (target_of slot) (IsLive v.rows) → AreThere v c
     → AreThere v (with_slot name slot c)
 added-there v name slot c new all = targets-added (IsLive v.rows) name slot c.slots all new
 
@@ -240,16 +253,19 @@ pub none-of : {T : Type 0} (get : Content → Option T) (o : Option Content) (c 
 none-of {T = T} get o c is none = subst (λ (x : Option Content). option_and_then get x ≡ None) is none
 
 -- an edit that changes nothing
-edit-same-rows : (n : ℕ) (rows : List (Key × Content)) → edit n (λ (x : Content). x) rows ≡ rows
-edit-same-rows n [] = refl
-edit-same-rows n (row ∷ rows) = go (eqb row.0.birth n) refl (edit-same-rows n rows)
+pub edit-nothing : (n : ℕ) (f : Content → Content) → ((c : Content) → f c ≡ c) → (v : Objects) → with_edit n f v ≡ v
+edit-nothing n f same v = ap (λ (rows : List (Key × Content)). record v { rows = rows }) (go v.rows)
   where
-    go : (b : Bool) → eqb row.0.birth n ≡ b → edit n (λ (x : Content). x) rows ≡ rows → edit n (λ (x : Content). x) (row ∷ rows) ≡ row ∷ rows
-    go true e rest = rw e (ap (λ (l : List (Key × Content)). row ∷ l) rest)
-    go false e rest = rw e (ap (λ (l : List (Key × Content)). row ∷ l) rest)
+    go : (rows : List (Key × Content)) → edit n f rows ≡ rows
+    go [] = refl
+    go (row ∷ rows) = by (eqb row.0.birth n) refl (go rows)
+      where
+        by : (t : Bool) → eqb row.0.birth n ≡ t → edit n f rows ≡ rows → edit n f (row ∷ rows) ≡ row ∷ rows
+        by true is rest = rw is (λ j. (row.0, same row.1 j) ∷ rest j)
+        by false is rest = rw is (ap (λ (l : List (Key × Content)). row ∷ l) rest)
 
 pub edit-same : (n : ℕ) (v : Objects) → with_edit n (λ (x : Content). x) v ≡ v
-edit-same n v = ap (λ (rows : List (Key × Content)). record v { rows = rows }) (edit-same-rows n v.rows)
+edit-same n v = edit-nothing n (λ (x : Content). x) (λ c. refl) v
 
 -- what holds anyway holds where there is an error
 pub on-err : {T E : Type 0} {P : Type 0} (r : Result T E) → P → OnErr r P
@@ -264,20 +280,6 @@ is_some-find p (x ∷ xs) = go (p x) (is_some-find p xs)
     go : (b : Bool) → is_some (find p xs) ≡ list_any p xs → is_some (cond b (Some x) (find p xs)) ≡ (b || list_any p xs)
     go true rest = refl
     go false rest = rest
-
--- what was found passes
-pub found-passes : {X : Type 0} (p : X → Bool) (xs : List X) (x : X) → find p xs ≡ Some x → p x ≡ true
-found-passes p [] x e = cc
-found-passes p (y ∷ xs) x e = go (p y) refl (found-passes p xs x)
-  where
-    go : (b : Bool) → p y ≡ b → (find p xs ≡ Some x → p x ≡ true) → p x ≡ true
-    go true is rest = let same : y ≡ x = cc (rw is at e) in ap p (sym same) ∙ is
-    go false is rest = rest (rw is at e)
-
--- what an option has, if anything
-pub if-some : (P : Key → Type 0) (o : Option Key) → IfSome o P → Holds P o
-if-some P None h = tt
-if-some P (Some key) h = h
 
 -- a slot was found by name exactly where there is one of that name
 pub found-named : {X : Type 0} (f : X → List ℕ × Slot) (o : Option X) (slots : List (List ℕ × Slot)) (name : List ℕ) (b : Bool)

@@ -1,8 +1,9 @@
 -- Acts at the heap's time leave no timer with a later moment.
-use Rattle.std.proofs.Common.{ℕ, ◌≤◌, Bool, true, false, cond, eqb, List, [], ◌∷◌, None, arith}
+use Rattle.std.proofs.Common.{ℕ, ◌≤◌, Bool, true, false, cond, eqb, List, [], ◌∷◌, arith}
+use Rattle.qo_values.proofs.TimerLemmas.{end-timely}
 use Rattle.qo_values.specs.Bodies.{body_act}
 use Rattle.qo_values.specs.Registers.{Registers, TimerRegisters, uart, timer, dimm, bridge, bare}
-use Rattle.qo_values.specs.Timer.{after_begin, after_end, is_open, timer_ticks}
+use Rattle.qo_values.specs.Timer.{after_begin}
 use Rattle.qo_values.specs.declared.kinds.Act.{Act}
 use Rattle.qo_values.specs.declared.kinds.Act.TheVariants.{Init, Realize, Unrealize, Enter, Hold, Exit, Pre, Update}
 use Rattle.qo_kinds.specs.Bodies.{IsTimely, acted, registers_of, with_registers}
@@ -72,13 +73,6 @@ plain-none now bare = tt
 
 -- a segment that ends, or begins, does so at the time
 
-ended-timely : (t : TimerRegisters) (now p : ℕ) → t.last ≤ now → (after_end t now p).last ≤ now
-ended-timely t now p le = go (is_open t)
-  where
-    go : (open_now : Bool) → (cond open_now (record t { done = timer_ticks t now p; began = None; last = now }) t).last ≤ now
-    go true = omega arith
-    go false = le
-
 begun-timely : (t : TimerRegisters) (now : ℕ) → t.last ≤ now → (cond t.enabled (after_begin t now) t).last ≤ now
 begun-timely t now le = go t.enabled
   where
@@ -89,11 +83,11 @@ begun-timely t now le = go t.enabled
 timer-timely : (act : Act) (now p : ℕ) (t : TimerRegisters) (k : KeptSet) → t.last ≤ now → IsTimely now (acted act now p (Timer t k))
 timer-timely (Init ty) now p t k le = le
 timer-timely Realize now p t k le = le
-timer-timely Unrealize now p t k le = ended-timely t now p le
+timer-timely Unrealize now p t k le = end-timely t now p le
 timer-timely Enter now p t k le = le
 timer-timely Hold now p t k le = le
 timer-timely Exit now p t k le = le
-timer-timely Pre now p t k le = ended-timely t now p le
+timer-timely Pre now p t k le = end-timely t now p le
 timer-timely Update now p t k le = begun-timely t now le
 
 body-timely : (act : Act) (now p : ℕ) (b : Body) → IsTimely now b → IsTimely now (acted act now p b)

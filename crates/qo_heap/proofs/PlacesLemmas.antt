@@ -1,10 +1,9 @@
 -- Lists by place, and rows by place and by birth.
-use Rattle.std.proofs.Common.{◌≡◌, refl, ap, sym, subst, ◌∙◌, ℕ, zero, suc, ◌+◌, ◌<◌, ◌≤◌, Bool, true, false, cond, List, [], ◌∷◌, map, length, drop, eqb, Option, Some, None, find, sum_by, option_map, slice_get, position, nat_lt, IfSome, arith}
+use Rattle.std.proofs.Common.{◌≡◌, refl, ap, sym, subst, ◌∙◌, ℕ, zero, suc, ◌+◌, ◌<◌, ◌≤◌, Bool, true, false, cond, ◌||◌, List, [], ◌∷◌, map, length, drop, eqb, Option, Some, None, find, sum_by, option_map, slice_get, position, nat_lt, IfSome, arith}
 use Rattle.std.specs.Option.{option_map_or}
 use Rattle.std.proofs.lemmas.Bool.Decides.{nat_tests}
-use Rattle.std.specs.List.{position_or_len}
-use Rattle.std.proofs.lemmas.List.Folds.{find_at}
-use Rattle.std.proofs.lemmas.Option.{slice_get_past}
+use Rattle.std.specs.List.{list_any, position_or_len}
+use Rattle.std.proofs.Math.ListN.{drop_of_length-le}
 use Rattle.std.proofs.lemmas.List.Sums.{sum_by-cons}
 use Rattle.qo_slots.specs.declared.keys.Key.{Key}
 use Rattle.qo_table.specs.Rows.{IsLive, Rises, births, edit, row_at, object_at}
@@ -80,22 +79,26 @@ module _ {X : Type 0} where
   pub find-from : (p : X → Bool) (i : ℕ) (xs : List X) → option_map_or p (slice_get xs i) false ≡ false → find p (drop i xs) ≡ find p (drop (i + 1) xs)
   find-from p i xs none = let next : suc i ≡ i + 1 = omega arith in find-drop p i xs none ∙ ap (λ (n : ℕ). find p (drop n xs)) next
 
-  -- the first place of a member that passes has the member that a search finds
-  pub position-find : (p : X → Bool) (xs : List X) (i : ℕ) → position p xs ≡ Some i → slice_get xs i ≡ find p xs
-  position-find p xs i there = go (nat_lt (position_or_len p xs) (length xs)) there
-    where
-      go : (b : Bool) → cond b (Some (position_or_len p xs)) None ≡ Some i → slice_get xs i ≡ find p xs
-      go true is = let same : position_or_len p xs ≡ i = cc is in rw (← same) (sym (find_at p xs))
-      go false is = cc
+  -- whether any passes from a place on: the one there passes, or one after it, or there is none left
+  any-drop : (p : X → Bool) (i : ℕ) (xs : List X) → list_any p (drop i xs) ≡ (option_map_or p (slice_get xs i) false || list_any p (drop (suc i) xs))
+  any-drop p zero [] = refl
+  any-drop p (suc i) [] = refl
+  any-drop p zero (x ∷ xs) = refl
+  any-drop p (suc i) (x ∷ xs) = any-drop p i xs
 
-  pub position-none : (p : X → Bool) (xs : List X) → position p xs ≡ None → find p xs ≡ None
-  position-none p xs none = go (nat_lt (position_or_len p xs) (length xs)) refl none
-    where
-      go : (b : Bool) → nat_lt (position_or_len p xs) (length xs) ≡ b → cond b (Some (position_or_len p xs)) None ≡ None → find p xs ≡ None
-      go true lt is = cc
-      go false lt is = find_at p xs ∙ slice_get_past xs (position_or_len p xs) (grind (arith, nat_tests))
+  pub any-here : (p : X → Bool) (i : ℕ) (xs : List X) → option_map_or p (slice_get xs i) false ≡ true → list_any p (drop i xs) ≡ true
+  any-here p i xs here = any-drop p i xs ∙ ap (λ (t : Bool). t || list_any p (drop (suc i) xs)) here
 
-  slice_get-some : (xs : List X) (i : ℕ) → i < length xs → (x : X) × (slice_get xs i ≡ Some x)
+  pub any-from : (p : X → Bool) (i : ℕ) (xs : List X) → option_map_or p (slice_get xs i) false ≡ false → list_any p (drop i xs) ≡ list_any p (drop (i + 1) xs)
+  any-from p i xs none =
+      let next : suc i ≡ i + 1 = omega arith in
+      any-drop p i xs ∙ ap (λ (t : Bool). t || list_any p (drop (suc i) xs)) none ∙ ap (λ (n : ℕ). list_any p (drop n xs)) next
+
+  pub any-past : (p : X → Bool) (i : ℕ) (xs : List X) → length xs ≤ i → list_any p (drop i xs) ≡ false
+  any-past p i xs past = ap (list_any p) (drop_of_length-le xs past)
+
+  -- a place before the end has a member, and so has one that is found
+  pub slice_get-some : (xs : List X) (i : ℕ) → i < length xs → (x : X) × (slice_get xs i ≡ Some x)
   slice_get-some [] i below = absurd (omega arith)
   slice_get-some (x ∷ xs) zero below = (x, refl)
   slice_get-some (x ∷ xs) (suc i) below = slice_get-some xs i (omega arith)

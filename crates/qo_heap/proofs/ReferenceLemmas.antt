@@ -1,7 +1,6 @@
 -- Whether an object is held: by the first that holds it, and as the references are counted.
-use Rattle.std.proofs.Common.{◌≡◌, refl, ap, ap₂, sym, ◌∙◌, ℕ, zero, suc, ◌+◌, Bool, true, false, cond, ◌||◌, List, [], ◌∷◌, ◌≤◌, length, drop, sum_by, slice_get, nat_lt, arith}
+use Rattle.std.proofs.Common.{◌≡◌, refl, ap, ap₂, sym, ◌∙◌, ℕ, ◌+◌, Bool, true, false, cond, ◌||◌, List, [], ◌∷◌, ◌≤◌, sum_by, nat_lt, arith}
 use Rattle.std.specs.List.{list_any}
-use Rattle.std.specs.Option.{option_map_or}
 use Rattle.std.proofs.lemmas.Bool.Decides.{nat_tests}
 use Rattle.std.proofs.lemmas.List.Sums.{sum_by-cons}
 use Rattle.qo_slots.specs.declared.keys.Key.{Key}
@@ -26,28 +25,6 @@ part-either : (n m : ℕ) → (nat_lt 0 n || nat_lt 0 m) ≡ nat_lt 0 (m + n)
 part-either n m = let turned : n + m ≡ m + n = omega arith in either-part n m ∙ ap (nat_lt 0) turned
 
 module _ {X : Type 0} (p : X → Bool) where
-  -- a search goes on after a member that does not pass, and ends with one that does, and with the list
-  any-drop : (i : ℕ) (xs : List X) → option_map_or p (slice_get xs i) false ≡ false → list_any p (drop i xs) ≡ list_any p (drop (suc i) xs)
-  any-drop i [] none = drop-nil i
-    where
-      drop-nil : (i : ℕ) → list_any p (drop i []) ≡ list_any p (drop (suc i) [])
-      drop-nil zero = refl
-      drop-nil (suc i) = refl
-  any-drop zero (x ∷ xs) none = rw none refl
-  any-drop (suc i) (x ∷ xs) none = any-drop i xs none
-
-  pub any-from : (i : ℕ) (xs : List X) → option_map_or p (slice_get xs i) false ≡ false → list_any p (drop i xs) ≡ list_any p (drop (i + 1) xs)
-  any-from i xs none = let next : suc i ≡ i + 1 = omega arith in any-drop i xs none ∙ ap (λ (n : ℕ). list_any p (drop n xs)) next
-
-  pub any-here : (i : ℕ) (xs : List X) → option_map_or p (slice_get xs i) false ≡ true → list_any p (drop i xs) ≡ true
-  any-here i [] here = cc
-  any-here zero (x ∷ xs) here = rw here refl
-  any-here (suc i) (x ∷ xs) here = any-here i xs here
-
-  pub any-past : (xs : List X) → list_any p (drop (length xs) xs) ≡ false
-  any-past [] = refl
-  any-past (x ∷ xs) = any-past xs
-
   -- whether one passes, by a weight that those have that pass, and no others
   any-summed : (weight : X → ℕ) → ((x : X) → p x ≡ nat_lt 0 (weight x)) → (xs : List X) → list_any p xs ≡ nat_lt 0 (sum_by weight xs)
   any-summed weight weighs [] = refl

@@ -1,16 +1,17 @@
 -- What a release leaves to an object to which nothing refers: it is there, and its slots before a place hold nothing.
-use Rattle.std.proofs.Common.{◌≡◌, refl, ap, sym, ◌∙◌, ℕ, zero, suc, ◌<◌, Bool, true, false, cond, ◌==◌, List, [], ◌∷◌, map, find, slice_get, count_by, Option, Some, None, is_some, option_map, arith}
+use Rattle.std.proofs.Common.{◌≡◌, refl, ap, sym, ◌∙◌, ℕ, zero, suc, ◌<◌, Bool, true, false, cond, ◌==◌, List, [], ◌∷◌, map, slice_get, count_by, Option, Some, None, is_some, option_map, arith}
 use Rattle.std.specs.List.{AllByRecursion}
 use Rattle.std.specs.Option.{option_map_or}
-use Rattle.std.proofs.lemmas.Bool.{eqb-true, eq-eqb}
+use Rattle.std.proofs.lemmas.Bool.{eqb-true}
 use Rattle.std.proofs.lemmas.Option.{same_Some}
 use Rattle.std.proofs.lemmas.List.Sums.{sum_by-cons}
+use Rattle.qo_model.proofs.AttemptLemmas.{drop-other, drop-own}
 use Rattle.qo_model.specs.Board.{Board, Record, Slot, plain, child, strong, weak, alias, record_of, is_live, slots_at, slot_at, held}
 use Rattle.qo_model.specs.References.{refs}
-use Rattle.qo_model.specs.Release.{edited, emptied, without_hold, with_dropped, drop_slot, next_index, forgotten_in, forgotten, finish, let_go}
+use Rattle.qo_model.specs.Release.{emptied, without_hold, drop_slot, next_index, forgotten_in, forgotten, finish, let_go}
 use Rattle.qo_model.specs.ReleaseInduction.{KeepsRelease}
 use Rattle.qo_model.proofs.EditLemmas.{held-forgotten}
-use Rattle.qo_model.proofs.StepLemmas.{drop-record, drop-live, drop-refs, finish-record, finish-live, finish-refs, unheld-apart}
+use Rattle.qo_model.proofs.StepLemmas.{drop-live, drop-refs, finish-record, finish-live, finish-refs, unheld-apart}
 use Rattle.qo_model.proofs.ReleaseInductionLemmas.{after_keeps}
 
 -- what stands in a slot at a place
@@ -56,38 +57,6 @@ module _ (n : ℕ) where
       go (Some t) p =
           let same : forgotten_in n t ≡ s = same_Some (forgotten_in n t) s (ap (option_map (forgotten_in n)) (sym p) ∙ sym (at-forgotten slots j) ∙ e) in
           ap held (sym same) ∙ held-forgotten n t ∙ bare j below t p
-
--- slots after a slot let go
-
-found-birth : (x : ℕ) (rs : List Record) (r : Record) → find (λ (y : Record). y.birth == x) rs ≡ Some r → r.birth ≡ x
-found-birth x [] r e = cc
-found-birth x (y ∷ rs) r e = go (y.birth == x) refl (found-birth x rs r)
-  where
-    go : (t : Bool) → (y.birth == x) ≡ t → (find (λ (z : Record). z.birth == x) rs ≡ Some r → r.birth ≡ x) → r.birth ≡ x
-    go true p rest =
-        let same : y ≡ r = same_Some y r (rw p at e) in
-        ap (λ (z : Record). z.birth) (sym same) ∙ eqb-true y.birth x p
-    go false p rest = rest (rw p at e)
-
-drop-other : (b : Board) (n i x : ℕ) → (x == n) ≡ false → slots_at (drop_slot b n i) x ≡ slots_at b x
-drop-other b n i x apart = ap (λ (o : Option Record). option_map_or (λ (r : Record). r.slots) o []) (drop-record b n i x) ∙ go (record_of b x) refl
-  where
-    go : (o : Option Record) → record_of b x ≡ o
-        → option_map_or (λ (r : Record). r.slots) (option_map (edited n (with_dropped i)) o) [] ≡ option_map_or (λ (r : Record). r.slots) o []
-    go None p = refl
-    go (Some r) p =
-        let other : (r.birth == n) ≡ false = rw (found-birth x b.records r p) apart in
-        rw (edited, other) refl
-
-drop-own : (b : Board) (n i : ℕ) → slots_at (drop_slot b n i) n ≡ without_hold i (slots_at b n)
-drop-own b n i = ap (λ (o : Option Record). option_map_or (λ (r : Record). r.slots) o []) (drop-record b n i n) ∙ go (record_of b n) refl
-  where
-    go : (o : Option Record) → record_of b n ≡ o
-        → option_map_or (λ (r : Record). r.slots) (option_map (edited n (with_dropped i)) o) [] ≡ without_hold i (option_map_or (λ (r : Record). r.slots) o [])
-    go None p = refl
-    go (Some r) p =
-        let same : (r.birth == n) ≡ true = eq-eqb r.birth n (found-birth n b.records r p) in
-        rw (edited, same) refl
 
 -- what is left of a slot holds nothing
 left-bare : (s left : Slot) → emptied s ≡ Some left → held left ≡ None

@@ -1,7 +1,7 @@
 -- The steps of a release over a heap.
 use Rattle.std.proofs.lemmas.Bool.Decides.{nat_tests}
-use Rattle.std.proofs.Common.{◌≡◌, refl, ap, sym, subst, ◌∙◌, ℕ, zero, suc, ◌+◌, ◌-◌, ◌*◌, ◌<◌, ◌≤◌, Bool, true, false, not, ◌==◌, eqb, nat_eq, nat_lt, List, [], ◌∷◌, filter_map, count_by, Option, Some, None, is_some, option_map, IfSome, arith}
-use Rattle.std.specs.List.{AllByRecursion, cons_option, list_any}
+use Rattle.std.proofs.Common.{◌≡◌, refl, ap, sym, subst, ◌∙◌, ℕ, suc, ◌+◌, ◌-◌, ◌*◌, ◌<◌, ◌≤◌, Bool, true, false, not, ◌==◌, eqb, nat_eq, nat_lt, slice_get, List, [], count_by, Option, Some, None, is_some, option_map, IfSome, arith}
+use Rattle.std.specs.List.{list_any}
 use Rattle.std.specs.Option.{option_map_or}
 use Rattle.std.proofs.lemmas.Bool.{eqb-true, eq-eqb}
 use Rattle.std.proofs.lemmas.Option.{same_Some}
@@ -23,7 +23,7 @@ use Rattle.qo_object.specs.BoardObject.{birth_of, shown, shown_slot}
 use Rattle.qo_object.proofs.BoardObjectLemmas.{shown-held, reference_count-shown}
 use Rattle.qo_heap.specs.Board.{Shows}
 use Rattle.qo_heap.specs.Objects.{IsHeap, Objects, content_of, ended, pins_of, refs_of, slots_of, with_edit}
-use Rattle.qo_heap.proofs.HeapLemmas.{linked-at, live-edit}
+use Rattle.qo_heap.proofs.HeapLemmas.{live-edit, slot-live}
 use Rattle.qo_heap.proofs.BoardReads.{shows-live, shows-live_key, shows-pinned, shows-record, shows-refs, shows-slot_at}
 use Rattle.qo_life.specs.Life.{Goes, next_at, with_log}
 use Rattle.qo_life.proofs.BoardLemmas.{Stays, let_go-stays, none-held}
@@ -99,39 +99,20 @@ turn-falls v u n i (Some key) t e is decreases =
     omega arith
 
 -- what a slot holds is there
-named-held : (s : Slot) (key : Key) → held s ≡ Some key → target_of s ≡ Some key
-named-held (Plain val) key e = cc
-named-held (Child k) key e = e
-named-held (Link ty true target) key e = e
-named-held (Link ty false target) key e = cc
-named-held (Alias k name) key e = cc
-
-target-holds : (P : Key → Type 0) (slots : List Named) (i : ℕ) (s : Slot) (key : Key) → slot_in slots i ≡ Some s → target_of s ≡ Some key
-    → AllByRecursion P (filter_map (λ (t : Named). target_of t.1) slots) → P key
-target-holds P [] i s key e h all = cc
-target-holds P (t ∷ slots) zero s key e h all = go (target_of t.1) (ap target_of (same_Some t.1 s e) ∙ h) all
-  where
-    go : (o : Option Key) → o ≡ Some key → AllByRecursion P (cons_option o (filter_map (λ (u : Named). target_of u.1) slots)) → P key
-    go None q given = cc
-    go (Some k) q given = subst P (same_Some k key q) given.0
-target-holds P (t ∷ slots) (suc i) s key e h all = target-holds P slots i s key e h (rest (target_of t.1) all)
-  where
-    rest : (o : Option Key) → AllByRecursion P (cons_option o (filter_map (λ (u : Named). target_of u.1) slots))
-        → AllByRecursion P (filter_map (λ (u : Named). target_of u.1) slots)
-    rest None given = given
-    rest (Some k) given = given.1
+held-named : (P : Key → Type 0) (s : Slot) → IfSome (target_of s) P → IfSome (held s) P
+held-named P (Plain val) named = tt
+held-named P (Child k) named = named
+held-named P (Link ty true target) named = named
+held-named P (Link ty false target) named = tt
+held-named P (Alias k name) named = tt
 
 pub held-live : (v : Objects) → IsHeap v → (n i : ℕ) (s : Slot) → slot_in (slots_of v n) i ≡ Some s → IfSome (held s) (IsLive v.rows)
-held-live v good n i s is = go (held s) refl
+held-live v good n i s is = go (slice_get (slots_of v n) i) refl is
   where
-    there : (o : Option Content) → content_of v n ≡ o → slot_in (option_map_or (λ (c : Content). c.slots) o []) i ≡ Some s → (key : Key) → held s ≡ Some key
-        → IsLive v.rows key
-    there None p e key h = cc
-    there (Some c) p e key h = target-holds (IsLive v.rows) c.slots i s key e (named-held s key h) (linked-at v good n c p)
-
-    go : (o : Option Key) → held s ≡ o → IfSome o (IsLive v.rows)
-    go None p = tt
-    go (Some key) p = there (content_of v n) refl is key p
+    go : (o : Option Named) → slice_get (slots_of v n) i ≡ o → option_map (λ (t : Named). t.1) o ≡ Some s → IfSome (held s) (IsLive v.rows)
+    go None p q = cc
+    go (Some t) p q =
+        subst (λ (x : Slot). IfSome (held x) (IsLive v.rows)) (same_Some t.1 s q) (held-named (IsLive v.rows) t.1 (slot-live v good n i t (sym p)))
 
 pub turn-live : (v u : Objects) → IsHeap v → (n i : ℕ) (was : Option Key) → Some was ≡ option_map held (slot_in (slots_of v n) i)
     → u ≡ with_edit n (dropped_at i) v → IfSome was (IsLive u.rows)

@@ -32,7 +32,7 @@ use Rattle.qo_sound_claims.proofs.LawLemmas.{claims_kept_lem}
 use Rattle.qo_sound_clocks.specs.ClockRuns.{SoundRun}
 use Rattle.qo_sound_clocks.specs.RegisterWrites.{registers_set}
 use Rattle.qo_sound_devices.specs.SoundLists.{IsOn}
-use Rattle.qo_sound_devices.proofs.PlugLemmas.{among-all}
+use Rattle.qo_model.proofs.AmongLemmas.{among-all}
 use Rattle.qo_sound_owners.proofs.LawLemmas.{owners_kept_lem}
 use Rattle.qo_sound_shapes.specs.SoundShape.{is_like}
 use Rattle.qo_sound_shapes.proofs.LawLemmas.{shapes_kept_lem}

@@ -12,7 +12,8 @@ use Rattle.qo_replies.specs.declared.events.Event.{Event}
 use Rattle.qo_commands.specs.Commands.{event_of, without_events}
 use Rattle.qo_machine.specs.declared.machines.Replied.{Replied}
 use Rattle.qo_machine.proofs.MemoryLemmas.{front_one_by}
-use Rattle.qo_machine.proofs.MachineLemmas.{by_board, if_ok, in_at, serve_all_by, serves_one_by}
+use Rattle.qo_machine.proofs.MachineLemmas.{by_board, in_at, serve_all_by, serves_one_by}
+use Rattle.std.proofs.lemmas.Result.{IfOk-weaker}
 use Rattle.qo_machine.specs.Machine.{Choice, IsIn, Made, Message, Seen, State, answer_line, after_command, by_line, defined, event_outs, input_step, line_step, refused, state_with, with_board, with_line}
 use Rattle.qo_machine.specs.Serving.{CameTo, LinesFront, LinesTo, ServesBy, Tells}
 
@@ -128,7 +129,7 @@ served_lines r at m mid to bytes lines cuts move same served s here =
     (λ (x : State). IfOk r
     (λ outs. (choices : List Choice) × (t : State) × IsIn t to × (input_step x at (Guest bytes) choices ≡ record { outs = outs; state = t; rest = [] }))) m
     (λ b stands.
-    if_ok r
+    IfOk-weaker r _ _
     (λ outs h.
     lines_taken at (state_with b m) to bytes lines outs cuts
     (h (with_line (state_with b m) (lines_of m.guest_line bytes).rest)

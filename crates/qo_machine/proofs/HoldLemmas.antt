@@ -1,7 +1,6 @@
 -- Steps keep it so that no object has more holds on it and above it than may be.
-use Rattle.std.proofs.Common.{refl, ◌≡◌, List}
+use Rattle.std.proofs.Common.{refl, List}
 use Rattle.qo_commands.specs.Commands.{without_events}
-use Rattle.qo_model.specs.Board.{Board}
 use Rattle.qo_model.specs.Clocks.{div_of, mul_of}
 use Rattle.qo_realize.specs.Chardevs.{with_rings}
 use Rattle.qo_realize.specs.Guest.{polled}
@@ -12,7 +11,7 @@ use Rattle.qo_sound_bounds.proofs.HoldsLemmas.{holds_kept_lem}
 use Rattle.qo_sound_phases.specs.PhaseRuns.{SoundResets}
 use Rattle.qo_sound_phases.proofs.LawLemmas.{phases_say_lem}
 use Rattle.qo_sound_devices.specs.SoundLists.{IsOn}
-use Rattle.qo_sound_devices.proofs.PlugLemmas.{among-all}
+use Rattle.qo_model.proofs.AmongLemmas.{among-all}
 use Rattle.qo_machine.specs.Laws.{KeptInRuns, PhasesInRuns, SoundHeld}
 use Rattle.qo_machine.specs.Machine.{opening}
 use Rattle.qo_machine.specs.Runs.{Turn, state_after}

@@ -1,5 +1,6 @@
 -- One step of the machine.
-use Rattle.std.proofs.Common.{◌≡◌, ◌<◌, ◌+◌, ℕ, zero, suc, Bool, true, false, List, [], ◌∷◌, ◌++◌, length, map, option_to_list, refl, sym, subst, ◌∙◌, ap, append_assoc, Option, Result, Ok, Err, inl, inr, IfOk, OnErr, OnOk, nat_lt, ◌≤◌, replicate, arith, slice_set, slice_index_or, take}
+use Rattle.std.proofs.lemmas.Result.{IfOk-weaker}
+use Rattle.std.proofs.Common.{◌≡◌, ◌<◌, ◌+◌, ℕ, zero, suc, Bool, true, false, List, [], ◌∷◌, ◌++◌, length, map, option_to_list, refl, sym, subst, ◌∙◌, ap, append_assoc, Option, Result, inl, inr, IfOk, nat_lt, ◌≤◌, replicate, arith, slice_set, slice_index_or, take}
 use Rattle.std.proofs.lemmas.Bool.{lt-ltb, ltb-true}
 use Rattle.std.proofs.lemmas.List.Elements.{filter-append}
 use Rattle.std.proofs.lemmas.Grind.{flat_map-append}
@@ -74,11 +75,6 @@ leaves s outs none = ap (λ (o : List Message). record { outs = o; state = s; re
 pub answers_ended : (s : State) (i : Input) (outs : List Message) (m : Seen) → s.ended ≡ true → outs ≡ [] → IsIn s m → Answers s i outs m
 answers_ended s i outs m over none at =
     answers_by s s i outs m [] [] (step_ended s i [] over ∙ leaves s outs none) at
-
--- a fact on what came
-pub if_ok : {T E : Type 0} {P Q : T → Type 0} (r : Result T E) → ((x : T) → P x → Q x) → IfOk r P → IfOk r Q
-if_ok (Ok x) f h = f x h
-if_ok (Err e) f h = tt
 
 -- a session put where it was
 pub set_same : (ss : List sessions.State) (n : ℕ) → slice_set ss n (slice_index_or ss n closed) ≡ ss
@@ -388,7 +384,7 @@ pub served_beside : {E : Type 0} (r : Result (List Message) E) (i : Input) (w : 
 served_beside r i w m to going what is same s here =
     by_board (λ (x : State). IfOk r (λ outs. Answers x i outs to)) m
     (λ b stands.
-    if_ok r (λ outs h. answers_on (state_with b m) (state_with b to) i w outs to [] [] going what h (in_at b to (subst (Stands b) (sym same) stands)))
+    IfOk-weaker r _ _ (λ outs h. answers_on (state_with b m) (state_with b to) i w outs to [] [] going what h (in_at b to (subst (Stands b) (sym same) stands)))
     (is b i.at)) s here
 
 -- bytes of a session
@@ -396,7 +392,7 @@ pub served_bytes : {E : Type 0} (r : Result (List Message) E) (i : Input) (w : W
     → ((s : State) → IsIn s m
     → IfOk r (λ outs. (choices : List Choice) × (t : State) × IsIn t to × (input_step s i.at w choices ≡ record { outs = outs; state = t; rest = [] })))
     → (s : State) → IsIn s m → IfOk r (λ outs. Answers s i outs to)
-served_bytes r i w m to going what is s here = if_ok r (λ outs p. answers_taken i w outs m to going what s here p) (is s here)
+served_bytes r i w m to going what is s here = IfOk-weaker r _ _ (λ outs p. answers_taken i w outs m to going what s here p) (is s here)
 
 -- the items that bytes complete
 pub served_items : {E : Type 0} (r : Result (List Message) E) (at : Moment) (n : ℕ) (m mid to : Seen) (bytes : List ℕ) (items : List Item) → n < SESSIONS
@@ -410,7 +406,7 @@ served_items r at n m mid to bytes items below cuts move same served s here =
     (λ (x : State). IfOk r (λ outs. (choices : List Choice) × (t : State) × IsIn t to
     × (input_step x at (Bytes n bytes) choices ≡ record { outs = outs; state = t; rest = [] }))) m
     (λ b stands.
-    if_ok r
+    IfOk-weaker r _ _
     (λ outs h.
     bytes_taken at n (state_with b m) to bytes items outs below (cuts b)
     (h (with_session (state_with b m) n (fed (session_of (state_with b m) n) bytes).session)
@@ -435,15 +431,6 @@ starts m stands shut empty_line going =
           ∙ ap (λ (line : List ℕ). record { board = opening_board; sessions = m.sessions; guest_line = line; ended = false }) (sym empty_line)
           ∙ ap (λ (e : Bool). record { board = opening_board; sessions = m.sessions; guest_line = m.guest_line; ended = e }) (sym going);
     }
-
-pub on_ok : {T E P Q : Type 0} (r : Result T E) → (P → Q) → OnOk r P → OnOk r Q
-on_ok (Ok x) f p = f p
-on_ok (Err e) f p = tt
-
--- what holds where memory ran out
-pub on_err : {T E P : Type 0} (r : Result T E) → P → OnErr r P
-on_err (Ok x) p = tt
-on_err (Err e) p = p
 
 -- a board by the view of the machine that has it
 pub stands_in : (b : Board) (v : Parts) (m : Seen) → v ≡ m.board → Stands b m.board → Stands b v

@@ -89,7 +89,7 @@ inputs_more (t ∷ ts) us = first (given_by t.input) (turn_inputs ts) (turn_inpu
     first None xs ys zs h = h
     first (Some x) xs ys zs h = ap (λ (l : List Input). x ∷ l) h
 
-took_twice : (a b c : Option (List Input)) (xs ys : List Input) → a ≡ option_map (λ (r : List Input). xs ++ r) b
+pub took_twice : (a b c : Option (List Input)) (xs ys : List Input) → a ≡ option_map (λ (r : List Input). xs ++ r) b
     → b ≡ option_map (λ (r : List Input). ys ++ r) c → a ≡ option_map (λ (r : List Input). (xs ++ ys) ++ r) c
 took_twice a b None xs ys p q = p ∙ ap (option_map (λ (r : List Input). xs ++ r)) q
 took_twice a b (Some zs) xs ys p q =

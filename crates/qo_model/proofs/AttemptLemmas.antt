@@ -4,19 +4,18 @@ use Rattle.std.specs.Prelude.{option_and_then, option_to_list}
 use Rattle.std.specs.Bool.{⊤}
 use Rattle.std.specs.List.{AllByRecursion, flat_map}
 use Rattle.std.specs.Option.{option_map_or, option_or}
-use Rattle.std.proofs.lemmas.Bool.{eqb-true, eq-eqb}
+use Rattle.std.proofs.lemmas.Bool.{eq-eqb}
 use Rattle.std.proofs.lemmas.List.{map-append}
 use Rattle.std.proofs.lemmas.List.Elements.{filter-append}
 use Rattle.std.proofs.lemmas.List.Folds.{find-append}
 use Rattle.std.proofs.lemmas.List.Sums.{sum_by-cons, sum_by-append}
-use Rattle.std.proofs.lemmas.Option.{same_Some}
 use Rattle.qo_model.specs.declared.notes.Note.{Note}
 use Rattle.qo_model.specs.Board.{Board, Record, Slot, DeviceEvent, plain, child, strong, weak, alias, record_of, slots_at, slot_at, held, target_of}
 use Rattle.qo_model.specs.References.{refs, refs_in, holds_it}
 use Rattle.qo_model.specs.Release.{after, deleted_event, drop_slot, edited, emptied, final_notes, finalize, finish, forgotten, forgotten_in, next_index, with_dropped, without_hold}
 use Rattle.qo_model.proofs.ReleaseLemmas.{end_of, end_of-first, end_of-none, end_of-some}
 use Rattle.qo_model.proofs.ReleaseRulesLemmas.{after-free}
-use Rattle.qo_model.proofs.StepLemmas.{drop-record, found_at, found-edited}
+use Rattle.qo_model.proofs.StepLemmas.{drop-record, found-birth, found_at, found-edited}
 
 -- what a slot names is below a number
 abbrev pub LowSlot : ℕ → Slot → Type 0
@@ -138,21 +137,22 @@ finish-drop c m i =
         go None = refl
         go (Some r) = ap (λ (o : Option DeviceEvent). option_to_list o) (told r)
 
-drop-own : (c : Board) (m i : ℕ) → slots_at (drop_slot c m i) m ≡ without_hold i (slots_at c m)
+-- the slots of an object that lets one go, and those of the others
+pub drop-own : (c : Board) (m i : ℕ) → slots_at (drop_slot c m i) m ≡ without_hold i (slots_at c m)
 drop-own c m i = ap (λ (o : Option Record). option_map_or (λ (r : Record). r.slots) o []) (drop-record c m i m) ∙ go (record_of c m) refl
   where
-    born : (rs : List Record) (r : Record) → found_at m rs ≡ Some r → r.birth ≡ m
-    born [] r e = cc
-    born (x ∷ rs) r e = by (x.birth == m) refl (born rs r)
-      where
-        by : (t : Bool) → (x.birth == m) ≡ t → (found_at m rs ≡ Some r → r.birth ≡ m) → r.birth ≡ m
-        by true p rest = let same : x ≡ r = same_Some x r (rw p at e) in ap (λ (y : Record). y.birth) (sym same) ∙ eqb-true x.birth m p
-        by false p rest = rest (rw p at e)
-
     go : (o : Option Record) → record_of c m ≡ o
         → option_map_or (λ (r : Record). r.slots) (option_map (edited m (with_dropped i)) o) [] ≡ without_hold i (option_map_or (λ (r : Record). r.slots) o [])
     go None p = refl
-    go (Some r) p = let same : (r.birth == m) ≡ true = eq-eqb r.birth m (born c.records r p) in rw (edited, same) refl
+    go (Some r) p = let same : (r.birth == m) ≡ true = eq-eqb r.birth m (found-birth m c.records r p) in rw (edited, same) refl
+
+pub drop-other : (c : Board) (m i k : ℕ) → (k == m) ≡ false → slots_at (drop_slot c m i) k ≡ slots_at c k
+drop-other c m i k apart = ap (λ (o : Option Record). option_map_or (λ (r : Record). r.slots) o []) (drop-record c m i k) ∙ go (record_of c k) refl
+  where
+    go : (o : Option Record) → record_of c k ≡ o
+        → option_map_or (λ (r : Record). r.slots) (option_map (edited m (with_dropped i)) o) [] ≡ option_map_or (λ (r : Record). r.slots) o []
+    go None p = refl
+    go (Some r) p = let other : (r.birth == m) ≡ false = rw (found-birth k c.records r p) apart in rw (edited, other) refl
 
 slot-here : (c : Board) (m i : ℕ) (ss : List (List ℕ × Slot)) (o : Option (List ℕ × Slot)) → slots_at c m ≡ ss → slice_get ss i ≡ o
     → slot_at c m i ≡ option_map (λ (s : List ℕ × Slot). s.1) o

@@ -1,9 +1,10 @@
 -- What `qom-set` does: it writes as the command that adds an object does, or the number of a clock, no wider than its property.
-use Rattle.std.proofs.Common.{◌≡◌, refl, subst, ℕ, ◌^◌, ◌-◌, ◌%◌, ◌<◌, ◌≤◌, Bool, true, false, ◌&&◌, nat_le, cond, List, [], ◌∷◌, find, Option, Some, None, is_some, Result, Ok, Err, arith}
+use Rattle.std.proofs.Common.{◌≡◌, refl, subst, ℕ, ◌^◌, ◌-◌, ◌%◌, ◌<◌, ◌≤◌, Bool, true, false, ◌&&◌, nat_le, cond, List, Option, Some, None, is_some, Result, Ok, Err, arith}
 use Rattle.std.specs.Prelude.{◌==◌, option_and_then}
 use Rattle.std.specs.List.{AllByRecursion}
 use Rattle.std.specs.Str.{bytes_eq}
 use Rattle.std.proofs.lemmas.Bool.{leb-true}
+use Rattle.qo_values.proofs.ListLemmas.{found-has}
 use Rattle.qo_values.specs.Properties.{admits}
 use Rattle.qo_values.specs.declared.codes.Code.{Code}
 use Rattle.qo_values.specs.declared.codes.Code.TheVariants.{E17, E19}
@@ -84,15 +85,6 @@ rows-fit type.MemoryBackendRam = (tt, (tt, tt))
 rows-fit type.Tag = (tt, (tt, (tt, (tt, (tt, (tt, tt))))))
 
 -- so does that of the property that is found
-
-found : {X : Type 0} (P : X → Type 0) (p : X → Bool) (xs : List X) (x : X) → AllByRecursion P xs → find p xs ≡ Some x → P x
-found P p [] x all e = cc
-found {X} P p (y ∷ ys) x (own, rest) e = go (p y) (found P p ys x rest) e
-  where
-    go : (t : Bool) → (find p ys ≡ Some x → P x) → cond t (Some y) (find p ys) ≡ Some x → P x
-    go true more q = let same : y ≡ x = cc in subst P same own
-    go false more q = more q
-
 abbrev FitsProperty : Property → Type 0
 FitsProperty p = FitsKind p.name p.role
 
@@ -110,7 +102,7 @@ row-fits b n name p e = of (kind_of b n) e
   where
     by : (t : TypeId) (o : Option Property) → property_named t name ≡ o → option_and_then only_set o ≡ Some p → FitsProperty p
     by t None is q = cc
-    by t (Some row) is q = only-fits row p (found FitsRow (λ (x : Property). bytes_eq (property_name x.name) name) (slots_of t) row (rows-fit t) is) q
+    by t (Some row) is q = only-fits row p (found-has FitsRow (λ (x : Property). bytes_eq (property_name x.name) name) (slots_of t) row (rows-fit t) is) q
 
     of : (k : Option TypeId) → option_and_then (λ t. option_and_then only_set (property_named t name)) k ≡ Some p → FitsProperty p
     of None q = cc

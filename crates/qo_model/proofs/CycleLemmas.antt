@@ -1,8 +1,8 @@
 -- A detached object of a sound board is held from a cycle or from an attached object: its holders are followed until one is met again.
-use Rattle.std.proofs.Common.{◌≡◌, ◌≢◌, refl, ap, sym, subst, ◌∙◌, ℕ, zero, suc, ◌+◌, ◌<◌, ◌≤◌, Bool, true, false, ◌==◌, eqb, List, [], ◌∷◌, map, length, filter_map, sum_by, count_by, Option, Some, None, is_some, arith}
+use Rattle.std.proofs.Common.{◌≡◌, ◌≢◌, refl, ap, sym, ◌∙◌, ℕ, zero, suc, ◌+◌, ◌<◌, ◌≤◌, Bool, true, false, ◌==◌, eqb, List, [], ◌∷◌, map, length, filter_map, sum_by, count_by, Option, Some, None, is_some, arith}
 use Rattle.std.specs.List.{AllByRecursion, IsDistinct}
 use Rattle.std.specs.Cmp.{nat_eq_equiv}
-use Rattle.std.proofs.lemmas.Bool.{eqb-true, eq-eqb}
+use Rattle.std.proofs.lemmas.Bool.{eq-eqb}
 use Rattle.std.proofs.lemmas.List.Sums.{sum_by-cons}
 use Rattle.std.proofs.lemmas.Map.Made.{length-le_from_is_member}
 use Rattle.std.proofs.Math.Bool.{or-true}
@@ -13,18 +13,10 @@ use Rattle.qo_model.specs.Laws.{CycleLaw}
 use Rattle.qo_model.specs.Paths.{births, attached, attached_turn}
 use Rattle.qo_model.specs.References.{refs, refs_in, holds_it}
 use Rattle.qo_model.specs.SoundGraph.{graph_of, without_value, without_values, Rises, SoundGraph}
+use Rattle.qo_model.proofs.AmongLemmas.{among-all, among-apart}
 use Rattle.qo_model.proofs.EditLemmas.{sum-held, one_is}
 use Rattle.qo_model.proofs.GraphLemmas.{among-above, births-graph_of, births_at}
 use Rattle.qo_model.proofs.StepLemmas.{found_at, found-among, live-among, one_of}
-
--- a fact of each number holds of one that is among them
-pub all-at : (P : ℕ → Type 0) (xs : List ℕ) → AllByRecursion P xs → (n : ℕ) → among xs n ≡ true → P n
-all-at P [] h n e = cc
-all-at P (x ∷ xs) h n e = go (eqb n x) refl (all-at P xs h.1 n)
-  where
-    go : (t : Bool) → eqb n x ≡ t → (among xs n ≡ true → P n) → P n
-    go true p rest = subst P (sym (eqb-true n x p)) h.0
-    go false p rest = rest (rw p at e)
 
 -- without plain values the references stay
 pub refs-graph_of : (b : Board) (n : ℕ) → refs (graph_of b) n ≡ refs b n
@@ -110,7 +102,7 @@ unfolding graph_of
 has-holder b sound n there e =
     let other : n ≢ 1 = detached-other b n e in
     let some : 0 < refs (graph_of b) n =
-    all-at (λ (m : ℕ). m ≢ 1 → 0 < refs (graph_of b) m) (births (graph_of b)) sound.referred n (rw births-graph_of there) other in
+    among-all (λ (m : ℕ). m ≢ 1 → 0 < refs (graph_of b) m) (births (graph_of b)) sound.referred n (rw births-graph_of there) other in
     let pins : b.pins ≡ 1 ∷ [] = sound.pinned in
     let not_one : (1 == n) ≡ false = grind arith in
     let unpinned : count_by (λ (m : ℕ). m == n) b.pins ≡ 0 = rw (pins, not_one) refl in
@@ -134,23 +126,11 @@ all-back : (b : Board) (k m : ℕ) (passed : List ℕ) → leads (held_by b) k m
 all-back b k m [] e h = tt
 all-back b k m (x ∷ xs) e h = (more e h.0, all-back b k m xs e h.1)
 
--- what is not among numbers differs from each
-apart : (m : ℕ) (xs : List ℕ) → among xs m ≡ false → AllByRecursion (λ x. eqb m x ≡ false) xs
-apart m [] e = tt
-apart m (x ∷ xs) e = go (eqb m x) refl (apart m xs)
-  where
-    go : (t : Bool) → eqb m x ≡ t → (among xs m ≡ false → AllByRecursion (λ x. eqb m x ≡ false) xs) → AllByRecursion (λ x. eqb m x ≡ false) (x ∷ xs)
-    go true p rest = absurd (let clash : true ≡ false = rw p at e in cc)
-    go false p rest = (p, rest (rw p at e))
-
-there-each : (all xs : List ℕ) → AllByRecursion (λ x. among all x ≡ true) xs → (q : ℕ) → among xs q ≡ true → among all q ≡ true
-there-each all xs h q e = all-at (λ (x : ℕ). among all x ≡ true) xs h q e
-
 back-more : (b : Board) (k m : ℕ) (passed : List ℕ) → IsBack b passed m → among passed m ≡ false → among (births b) m ≡ true → leads (held_by b) k m ≡ true
     → IsBack b (m ∷ passed) k
 unfolding IsDistinct
 back-more b k m passed w new there e =
-    record { distinct = (apart m passed new, w.distinct); there = (there, w.there); ahead = (one e, all-back b k m passed e w.ahead) }
+    record { distinct = (among-apart m passed new, w.distinct); there = (there, w.there); ahead = (one e, all-back b k m passed e w.ahead) }
 
 -- with a new one they are no more than all objects
 back-length : (b : Board) (m : ℕ) (passed : List ℕ) → IsBack b passed m → among passed m ≡ false → among (births b) m ≡ true
@@ -158,12 +138,13 @@ back-length : (b : Board) (m : ℕ) (passed : List ℕ) → IsBack b passed m �
 unfolding IsDistinct
 back-length b m passed w new there =
     let short : length (m ∷ passed) ≤ length (births b) =
-    length-le_from_is_member nat_eq_equiv (m ∷ passed) (births b) (apart m passed new, w.distinct) (there-each (births b) (m ∷ passed) (there, w.there)) in
+    length-le_from_is_member nat_eq_equiv (m ∷ passed) (births b) (among-apart m passed new, w.distinct)
+    (among-all (λ (x : ℕ). among (births b) x ≡ true) (m ∷ passed) (there, w.there)) in
     omega arith
 
 -- an object that was passed closes a cycle
 closed : (b : Board) (n m : ℕ) (passed : List ℕ) → IsBack b passed m → among passed m ≡ true → Leads (held_by b) m n → HeldFrom b n
-closed b n m passed w met way = a_cycle m (all-at (λ (x : ℕ). Leads (held_by b) m x) passed w.ahead m met) way
+closed b n m passed w met way = a_cycle m (among-all (λ (x : ℕ). Leads (held_by b) m x) passed w.ahead m met) way
 
 -- from m, which leads to n, back along holders, as long as there is room for objects that were not passed
 follow : (b : Board) → SoundGraph b → (n : ℕ) (room : ℕ) (m : ℕ) (passed : List ℕ) → length (births b) ≤ length passed + room → IsBack b passed m

@@ -5,6 +5,7 @@ use Rattle.std.proofs.lemmas.Bool.{eqb-true}
 use Rattle.std.proofs.lemmas.Map.Made.{length-le_from_is_member}
 use Rattle.std.specs.Cmp.{nat_eq_equiv}
 use Rattle.qo_model.specs.Depth.{by_depth, by_objects, among, leads, Leads, one, more, IsTree, IsLocal}
+use Rattle.qo_model.proofs.AmongLemmas.{among-all}
 
 -- one level less, where there are levels
 pub one-less : (n : ℕ) → (n ≡ 0 → ⊥) → n ≡ suc (n - 1)
@@ -62,21 +63,13 @@ module _ (next : ℕ → List ℕ) (all : List ℕ) (tree : IsTree next all) whe
   unfolding IsDistinct
   way-none m h = record { distinct = tt; live = tt; ahead = tt; here = h }
 
-  -- what is among a list of such is such
-  live-among : (xs : List ℕ) → AllByRecursion (λ x. among all x ≡ true) xs → (q : ℕ) → among xs q ≡ true → among all q ≡ true
-  live-among [] h q e = cc
-  live-among (x ∷ xs) h q e = go (eqb q x) refl (live-among xs h.1 q)
-    where
-      go : (t : Bool) → eqb q x ≡ t → (among xs q ≡ true → among all q ≡ true) → among all q ≡ true
-      go true p rest = subst (λ k. among all k ≡ true) (sym (eqb-true q x p)) h.0
-      go false p rest = rest (rw p at e)
-
   -- with m itself there are no more of them than objects
   way-length : (m : ℕ) (passed : List ℕ) → IsWay passed m → length passed + 1 ≤ length all
   unfolding IsDistinct
   way-length m passed w =
       let short : length (m ∷ passed) ≤ length all =
-      length-le_from_is_member nat_eq_equiv (m ∷ passed) all (apart m passed w.ahead, w.distinct) (live-among (m ∷ passed) (w.here, w.live)) in
+      length-le_from_is_member nat_eq_equiv (m ∷ passed) all (apart m passed w.ahead, w.distinct)
+      (among-all (λ k. among all k ≡ true) (m ∷ passed) (w.here, w.live)) in
       omega arith
 
 module _ {A : Type 0} (next : ℕ → List ℕ) (turn : (ℕ → A) → ℕ → A) (base : ℕ → A) (all : List ℕ) (local : IsLocal next turn) (tree : IsTree next all) where

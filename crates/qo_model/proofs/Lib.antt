@@ -1,3 +1,4 @@
+pub mod AmongLemmas
 pub mod AttemptLemmas
 pub mod ClockFitLemmas
 pub mod ClockPropertyLemmas

@@ -17,6 +17,7 @@ use Rattle.qo_model.specs.Devices.{number_in, plain_in}
 use Rattle.qo_model.specs.Laws.{PeriodsLaw}
 use Rattle.qo_model.specs.Paths.{births}
 use Rattle.qo_model.proofs.DepthLemmas.{Leads-push}
+use Rattle.qo_model.proofs.AmongLemmas.{among-apart}
 
 pub scaled-zero : (mul div : ℕ) → scaled_by mul div 0 ≡ 0
 scaled-zero mul div = go (eqb div 0)
@@ -119,15 +120,6 @@ module _ (b : Board) where
   unfolding IsDistinct
   none-passed m = record { distinct = tt; live = tt; ahead = tt }
 
-  apart : (m : ℕ) (passed : List ℕ) → among passed m ≡ false → AllByRecursion (λ x. eqb m x ≡ false) passed
-  apart m [] e = tt
-  apart m (x ∷ xs) e = go (eqb m x) refl e (apart m xs)
-    where
-      go : (t : Bool) → eqb m x ≡ t → (t || among xs m) ≡ false → (among xs m ≡ false → AllByRecursion (λ y. eqb m y ≡ false) xs)
-          → AllByRecursion (λ y. eqb m y ≡ false) (x ∷ xs)
-      go true p q rest = cc
-      go false p q rest = (p, rest q)
-
   passed-round : (m : ℕ) (passed : List ℕ) → among passed m ≡ true → AllByRecursion (λ x. Leads sources x m) passed → Leads sources m m
   passed-round m [] e all = cc
   passed-round m (x ∷ xs) e all = go (eqb m x) refl e (passed-round m xs)
@@ -147,7 +139,7 @@ module _ (b : Board) where
   passed-more m s passed w not q =
       let step : leads sources m s ≡ true = leads-source m s q in
       record {
-        distinct = (apart m passed not, w.distinct);
+        distinct = (among-apart m passed not, w.distinct);
         live = (with-source m s q, w.live);
         ahead = (one step, further m s passed step w.ahead);
       }
@@ -164,7 +156,7 @@ module _ (b : Board) where
   unfolding IsDistinct
   few m passed w not live =
       let short : length (m ∷ passed) ≤ length (births b) =
-      length-le_from_is_member nat_eq_equiv (m ∷ passed) (births b) (apart m passed not, w.distinct) (live-among (m ∷ passed) (live, w.live)) in
+      length-le_from_is_member nat_eq_equiv (m ∷ passed) (births b) (among-apart m passed not, w.distinct) (live-among (m ∷ passed) (live, w.live)) in
       omega arith
 
   -- after as many clocks as there are objects nothing follows but rounds

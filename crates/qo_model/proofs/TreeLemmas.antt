@@ -2,7 +2,7 @@
 use Rattle.std.proofs.Common.{◌≡◌, refl, ap, sym, subst, ◌∙◌, ℕ, zero, suc, ◌<◌, Bool, true, false, List, [], ◌∷◌, ◌++◌, length, ◌==◌, eqb, Option, Some, None, find, option_map, is_some, arith}
 use Rattle.std.specs.Option.{option_and_then, option_to_list, option_map_or}
 use Rattle.std.proofs.lemmas.Bool.{eqb-true, eq-eqb}
-use Rattle.std.proofs.Math.Bool.{or-true, or-false}
+use Rattle.std.proofs.Math.Bool.{or-true}
 use Rattle.qo_model.specs.Types.{types}
 use Rattle.qo_model.specs.Board.{Board, Record, Slot, plain, child, strong, weak, alias}
 use Rattle.qo_model.specs.Depth.{among, leads, IsTree, IsLocal, by_depth}
@@ -15,6 +15,7 @@ use Rattle.qo_model.specs.Laws.{PathsLaw, FrameLaw}
 use Rattle.qo_model.proofs.DepthLemmas.{Leads-back, by_objects_is}
 use Rattle.qo_model.proofs.GraphLemmas.{among-above, children_at, children_of-graph_of, births-graph_of, births_at}
 use Rattle.qo_model.proofs.StepLemmas.{is_some-map}
+use Rattle.qo_model.proofs.AmongLemmas.{among-one}
 
 -- the place of n among records
 abbrev pub place_at : List Record → ℕ → Option (ℕ × List ℕ)
@@ -76,9 +77,6 @@ parent-at (r ∷ rs) h n p e = go (is_some (place_in n r)) refl (parent-at rs h.
 abbrev pub parents : Board → ℕ → List ℕ
 parents b n = option_to_list (parent_of b n)
 
-only-one : (m k : ℕ) → among (k ∷ []) m ≡ true → m ≡ k
-only-one m k e = eqb-true m k (sym (or-false (eqb m k)) ∙ e)
-
 parent-of : (b : Board) → Rises (births b) → (n m : ℕ) → leads (parents b) n m ≡ true → IsParent b.records n m
 parent-of b h n m e = go (place_of b n) refl e
   where
@@ -86,7 +84,7 @@ parent-of b h n m e = go (place_of b n) refl e
     go None q s = cc
     go (Some p) q s =
         let parent : IsParent b.records n p.0 = parent-at b.records h n p q in
-        let is : m ≡ p.0 = only-one m p.0 s in
+        let is : m ≡ p.0 = among-one m p.0 s in
         subst (IsParent b.records n) (sym is) parent
 
 -- on a sound board parents make a tree

@@ -15,7 +15,7 @@ use Rattle.qo_model.proofs.StepLemmas.{is_some-map}
 use Rattle.qo_object.specs.declared.slots.Slot.{Slot}
 use Rattle.qo_object.specs.declared.slots.Slot.TheVariants.{Plain, Child, Link, Alias}
 use Rattle.qo_object.specs.Slots.{Named, names_of, slot_in, target_of, held, holds, names_child, unless_born, forgotten_in, left_of, let_go_at, each_changed}
-use Rattle.qo_object.proofs.SlotLemmas.{find-at_place}
+use Rattle.qo_values.proofs.ListLemmas.{find-at_place}
 use Rattle.qo_object.specs.Content.{Content, with_slot, dropped_at, forgotten, holding, is_parent, reference_count}
 use Rattle.qo_object.specs.BoardObject.{birth_of, shown_slot, shown_slots, shown}
 

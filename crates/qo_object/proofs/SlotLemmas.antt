@@ -1,7 +1,5 @@
 -- Slots by place.
-use Rattle.std.proofs.Common.{◌≡◌, ℕ, zero, suc, ◌+◌, ◌≤◌, ◌<◌, nat_lt, Bool, true, false, not, cond, ◌||◌, ◌==◌, List, [], ◌∷◌, position, slice_get, slice_set, get_or, find, length, remove, Some, None, is_some, count_by, refl, sym, ap, ap₂, ◌∙◌, arith}
-use Rattle.std.proofs.lemmas.Bool.{ltb-false}
-use Rattle.std.proofs.lemmas.List.Folds.{find_at}
+use Rattle.std.proofs.Common.{◌≡◌, ℕ, zero, suc, ◌+◌, ◌≤◌, ◌<◌, nat_lt, Bool, true, false, not, cond, ◌||◌, ◌==◌, List, [], ◌∷◌, position, slice_set, get_or, length, remove, Some, None, is_some, count_by, refl, sym, ap, ap₂, ◌∙◌, arith}
 use Rattle.std.proofs.lemmas.List.Sums.{sum_by-cons}
 use Rattle.std.specs.List.{list_any, position_or_len}
 use Rattle.std.specs.Option.{option_and_then}
@@ -119,20 +117,6 @@ none-counted test (x ∷ xs) = rw (sum_by-cons (λ y. cond {A = ℕ} (test y) 1 
     by : (b : Bool) → not (list_any test xs) ≡ (count_by test xs == 0) → not (b || list_any test xs) ≡ (cond {A = ℕ} b 1 0 + count_by test xs == 0)
     by true rest = some (count_by test xs)
     by false rest = rest ∙ none (count_by test xs)
-
--- the first that passes stands at its place
-pub find-at_place : {X : Type 0} (test : X → Bool) (xs : List X) → find test xs ≡ option_and_then (slice_get xs) (position test xs)
-find-at_place {X} test xs = find_at test xs ∙ by (nat_lt (position_or_len test xs) (length xs)) refl
-  where
-    past : (ys : List X) (n : ℕ) → length ys ≤ n → slice_get ys n ≡ None
-    past [] n low = refl
-    past (y ∷ ys) zero low = absurd (omega arith)
-    past (y ∷ ys) (suc n) low = past ys n (omega arith)
-
-    by : (b : Bool) → nat_lt (position_or_len test xs) (length xs) ≡ b
-        → slice_get xs (position_or_len test xs) ≡ option_and_then (slice_get xs) (cond b (Some (position_or_len test xs)) None)
-    by true is = refl
-    by false is = past xs (position_or_len test xs) (ltb-false (position_or_len test xs) (length xs) is)
 
 -- where no weak link names the object of a birth, nothing is emptied
 kept-slot : (birth : ℕ) (s : Slot) → names_weakly birth s ≡ false → forgotten_in birth s ≡ s

@@ -1,5 +1,6 @@
 -- The ends of a path: from birth 1, and from each attached object.
 use Rattle.std.proofs.Common.{◌≡◌, refl, ap, ◌∙◌, ℕ, zero, suc, ◌+◌, ◌<◌, ◌≤◌, Bool, true, false, cond, List, [], ◌∷◌, filter, length, drop, slice_get, eqb, Option, Some, None, find, option_map, is_some, arith}
+use Rattle.std.proofs.Math.ListN.{drop_of_length-le}
 use Rattle.std.specs.Prelude.{filter_map, ok_or}
 use Rattle.std.specs.Option.{option_and_then, option_map_or}
 use Rattle.std.specs.List.{cons_option}
@@ -77,7 +78,8 @@ pub ends-all : (b : Board) (v : Objects) → Shows b v → (path wanted : List �
     → ends b path wanted ≡ ends_after b path wanted v.rows 0
 ends-all b v s path wanted is = rw (is, shows-births b v s) (ends-from b path wanted v.rows)
 
-module _ {X : Type 0} (f : X → Option ℕ) where
+-- what the rows from a place on give: first what the row at the place gives, if anything
+module _ {X Y : Type 0} (f : X → Option Y) where
   given-first : (xs : List X) (i : ℕ) → filter_map f (drop i xs) ≡ cons_option (option_and_then f (slice_get xs i)) (filter_map f (drop (suc i) xs))
   given-first [] zero = refl
   given-first [] (suc i) = refl
@@ -89,10 +91,7 @@ module _ {X : Type 0} (f : X → Option ℕ) where
       given-first xs i ∙ ap (λ (k : ℕ). cons_option (option_and_then f (slice_get xs i)) (filter_map f (drop k xs))) next
 
   pub given-past : (xs : List X) (i : ℕ) → length xs ≤ i → filter_map f (drop i xs) ≡ []
-  given-past [] zero past = refl
-  given-past [] (suc i) past = refl
-  given-past (x ∷ xs) zero past = absurd (omega arith)
-  given-past (x ∷ xs) (suc i) past = given-past xs i (omega arith)
+  given-past xs i past = ap (filter_map f) (drop_of_length-le xs past)
 
 -- an object is given where it is of the wanted type
 pub only-is : (b : Board) (v : Objects) → Shows b v → (n : ℕ) (kind : TypeId) (wanted : List ℕ) (t : Bool)

@@ -130,10 +130,6 @@ module _ (b : Board) (a : Wanted) where
           (omega (arith, its_stage), omega (arith, its_stage), rw (its_stage, its_code) (is-refused 4 code late h.2))
       turned-refused T Memory h = tt
 
-      pub turned-cut : (r : AddRefusal) → turned_down b site.kind site.bus.birth (record { stage = 4; code = code }) r w → r ≡ Memory → IsCut b a w
-      turned-cut (Refused stage told) h e = cc
-      turned-cut Memory h e = cut-late h
-
     -- or as it has no spot on its bus
     module _ (bar : Barred) (given : None ≡ refusal_of b site.kind a.props)
         (barred : Some (bar.stage, bar.code) ≡ spot_barred b site.kind site.bus.birth a.props) where
@@ -144,10 +140,6 @@ module _ (b : Board) (a : Wanted) where
           let its_code : told ≡ bar.code = h.1 in
           rw (its_stage, its_code) (is-refused bar.stage bar.code (late-spot b site.bus.birth site.kind a.props (bar.stage, bar.code) given barred) h.2)
       spot-refused T Memory h = tt
-
-    pub spot-cut : (bar : Barred) (r : AddRefusal) → turned_down b site.kind site.bus.birth bar r w → r ≡ Memory → IsCut b a w
-    spot-cut bar (Refused stage told) h e = cc
-    spot-cut bar Memory h e = cut-late h
 
 -- a refusal of some stages is one
 pub refused-within : (b : Board) (a : Wanted) (first last : ℕ) (T U : Type 0) (r : AddRefusal) (w : Objects)

@@ -223,6 +223,18 @@ out-leaves false n v w is = subst (Leaves v) (sym is) (record { acts = acts-none
 pub leaves-live : (v w : Objects) → Leaves v w → (key : Key) → IsLive v.rows key → IsLive w.rows key
 leaves-live v w l key live = rw (acts-live v w l.acts key) live
 
+-- all of these, one after another
+
+pub entered-leaves : (n : ℕ) (v a b : Objects) → a ≡ first_acted Realize n v → b ≡ last_acted Enter n a → Leaves v b
+entered-leaves n v a b first enter = leaves-then v a b (first-leaves Realize n v a first) (last-leaves Enter n a b enter)
+
+pub held-leaves : (n : ℕ) (v a b c : Objects) → a ≡ first_acted Realize n v → b ≡ last_acted Enter n a → c ≡ last_acted Hold n b → Leaves v c
+held-leaves n v a b c first enter hold = leaves-then v b c (entered-leaves n v a b first enter) (last-leaves Hold n b c hold)
+
+pub let_out-leaves : (out : Bool) (n : ℕ) (v a b c d : Objects) → a ≡ first_acted Realize n v → b ≡ last_acted Enter n a → c ≡ last_acted Hold n b
+    → d ≡ let_out out n c → Leaves v d
+let_out-leaves out n v a b c d first enter hold exit = leaves-then v c d (held-leaves n v a b c first enter hold) (out-leaves out n c d exit)
+
 pub passed-leaves : (out : Bool) (n : ℕ) (v w : Objects) → w ≡ passed_on out n v → Leaves v w
 unfolding passed_on
 passed-leaves out n v w is =
@@ -230,10 +242,7 @@ passed-leaves out n v w is =
     let b : Objects = last_acted Enter n a in
     let c : Objects = last_acted Hold n b in
     let d : Objects = let_out out n c in
-    leaves-then v d w
-    (leaves-then v c d (leaves-then v b c (leaves-then v a b (first-leaves Realize n v a refl) (last-leaves Enter n a b refl)) (last-leaves Hold n b c refl))
-    (out-leaves out n c d refl))
-    (last-leaves Unrealize n d w is)
+    leaves-then v d w (let_out-leaves out n v a b c d refl refl refl refl) (last-leaves Unrealize n d w is)
 
 -- on the board
 

@@ -1,18 +1,14 @@
 -- Why a device is refused before anything of it is made.
-use Rattle.std.proofs.Common.{◌≡◌, refl, ap, ap₂, sym, ◌∙◌, ℕ, ◌+◌, ◌<◌, ◌≤◌, Bool, true, false, not, ◌||◌, nat_le, List, [], ◌∷◌, codes, find, length, Option, Some, None, is_some, option_map, arith}
+use Rattle.std.proofs.Common.{◌≡◌, refl, ap, sym, ◌∙◌, ℕ, ◌+◌, ◌<◌, ◌≤◌, Bool, true, false, not, ◌||◌, nat_le, List, codes, length, Option, Some, None, option_map, arith}
 use Rattle.std.specs.Prelude.{if◌then◌else◌, IfNone, IfSome}
-use Rattle.std.specs.List.{list_any}
 use Rattle.std.specs.Option.{option_map_or}
-use Rattle.std.specs.Str.{bytes_eq}
 use Rattle.std.proofs.lemmas.Bool.Decides.{nat_tests}
-use Rattle.std.proofs.lemmas.Cmp.{nat_list_eq_equiv}
 use Rattle.qo_values.specs.declared.births.TheConstants.{MEMORY_BUS_BIRTH, ROOT_BUS_BIRTH}
 use Rattle.qo_values.specs.declared.codes.Code.{Code}
 use Rattle.qo_values.specs.declared.codes.Code.TheVariants.{E15, E20, E21, E22, E24, E26, E27, E43}
 use Rattle.qo_values.specs.declared.kinds.TypeId.{TypeId}
 use Rattle.qo_values.specs.declared.limits.TheConstants.{LIVE_OBJECTS_MAX}
 use Rattle.qo_types.specs.Rows.{is_abstract}
-use Rattle.qo_model.specs.Board as board
 use Rattle.qo_model.specs.Board.{Board}
 use Rattle.qo_model.specs.Devices.{is_going}
 use Rattle.qo_model.specs.Objects.{has_slot}
@@ -21,13 +17,10 @@ use Rattle.qo_model.specs.Plug.{bus_barred, bus_for, bus_type, container_barred,
 use Rattle.qo_model.specs.Types.{TypeInfo, is_a, type_named}
 use Rattle.qo_slots.specs.declared.keys.Key.{Key}
 use Rattle.qo_object.specs.Content.{Content}
-use Rattle.qo_object.specs.BoardObject.{shown_slots}
-use Rattle.qo_object.specs.Slots.{Named}
 use Rattle.qo_heap.specs.Board.{Shows}
-use Rattle.qo_heap.specs.Objects.{Objects, content_of, slots_of}
-use Rattle.qo_heap.proofs.HeapLemmas.{is_some-find}
-use Rattle.qo_heap.proofs.BoardReads.{shows-kind, shows-slots}
-use Rattle.qo_properties.proofs.BarLemmas.{by_row, found-told, many-shown}
+use Rattle.qo_heap.specs.Objects.{Objects, content_of}
+use Rattle.qo_heap.proofs.BoardReads.{shows-kind}
+use Rattle.qo_properties.proofs.BarLemmas.{by_row, many-shown}
 
 -- the type
 module _ (name : List ℕ) (t : TypeId) (is : Some t ≡ option_map (λ (x : TypeInfo). x.id) (type_named name)) where
@@ -46,20 +39,6 @@ module _ (name : List ℕ) (t : TypeId) (is : Some t ≡ option_map (λ (x : Typ
       let its : is_a row.id (codes "device") ≡ true = ap (λ (k : TypeId). is_a k (codes "device")) same ∙ holds in rw (so, its) refl)
 
 -- the container
-
-taken-shown : (b : Board) (v : Objects) → Shows b v → (n : ℕ) (name : List ℕ) → has_slot b n name ≡ list_any (λ (s : Named). bytes_eq name s.0) (slots_of v n)
-taken-shown b v s n name = ap (list_any (λ (t : List ℕ × board.Slot). bytes_eq t.0 name)) (shows-slots b v s n) ∙ go (slots_of v n)
-  where
-    go : (slots : List Named)
-        → list_any (λ (t : List ℕ × board.Slot). bytes_eq t.0 name) (shown_slots slots) ≡ list_any (λ (t : Named). bytes_eq name t.0) slots
-    go [] = refl
-    go (t ∷ slots) = ap₂ (λ (x y : Bool). x || y) (nat_list_eq_equiv.symm t.0 name) (go slots)
-
-pub taken-is : {A : Type 0} (f : A → Named) (o : Option A) (b : Board) (v : Objects) → Shows b v → (n : ℕ) (name : List ℕ) (t : Bool)
-    → option_map f o ≡ find (λ (s : Named). bytes_eq name s.0) (slots_of v n) → is_some o ≡ t → has_slot b n name ≡ t
-taken-is f o b v s n name t e some =
-    taken-shown b v s n name ∙ sym (is_some-find (λ (x : Named). bytes_eq name x.0) (slots_of v n))
-    ∙ found-told f o (find (λ (x : Named). bytes_eq name x.0) (slots_of v n)) t e some
 
 -- nobody is of a type where nobody is
 pub of-gone : (b : Board) (v : Objects) → Shows b v → (n : ℕ) (wanted : List ℕ) → content_of v n ≡ None → is_of b wanted n ≡ false

@@ -22,7 +22,7 @@ use Rattle.qo_table.specs.Rows.{object_at}
 use Rattle.qo_object.specs.Content.{Content, fresh}
 use Rattle.qo_heap.specs.Acts.{Acts, stilled}
 use Rattle.qo_heap.specs.Objects.{Objects, content_of, with_edit}
-use Rattle.qo_properties.proofs.BarLemmas.{found-has}
+use Rattle.qo_values.proofs.ListLemmas.{found-has}
 use Rattle.qo_plug.specs.Spots.{IsChosen, backend_given, claims_given, ring_given}
 use Rattle.qo_plug.specs.Drafts.{bare}
 use Rattle.qo_standing.specs.Placement.{kept_in}

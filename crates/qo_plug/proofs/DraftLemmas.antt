@@ -1,11 +1,11 @@
 -- A device that is made over the heap, property by property, is the board's.
 use Rattle.std.proofs.Common.{◌≡◌, refl, ap, sym, subst, ◌∙◌, ℕ, zero, suc, ◌+◌, ◌<◌, ◌≤◌, true, false, eqb, is_some, option_to_list, append-nil, length-append, Bool, List, [], ◌∷◌, ◌++◌, length, map, filter_map, take, slice_get, append_assoc, inl, inr, Option, Some, None, option_map, replicate, arith}
-use Rattle.std.specs.Prelude.{◌⊎◌, IfSome, Result, Ok, Err, OnOk}
+use Rattle.std.specs.Prelude.{◌⊎◌, IfSome}
 use Rattle.std.specs.List.{AllZip}
 use Rattle.std.specs.Option.{option_map_or}
 use Rattle.std.proofs.lemmas.List.{map-append, take_all}
 use Rattle.qo_values.specs.declared.kinds.TypeId.{TypeId}
-use Rattle.qo_kinds.proofs.BodyLemmas.{fresh-bare, fresh-registers}
+use Rattle.qo_kinds.proofs.BodyLemmas.{fresh-bare, fresh-registers, fresh-timely}
 use Rattle.qo_slots.specs.declared.keys.Key.{Key}
 use Rattle.qo_table.specs.Rows.{IsLive}
 use Rattle.qo_model.specs.Board as board
@@ -37,23 +37,17 @@ use Rattle.qo_heap.proofs.BoardChanges.{shows-added, shows-made}
 use Rattle.qo_properties.specs.Additions.{IsChild, given_up, with_newest}
 use Rattle.qo_properties.specs.declared.adding.filling.Fill.{Fill}
 use Rattle.qo_properties.specs.declared.adding.filling.Fill.TheVariants as fill
-use Rattle.qo_properties.specs.Filling.{Fits, IsGiven, filled, filled_with, spent, spent_at, value_alone, value_at}
+use Rattle.qo_properties.specs.Filling.{Fits, filled, filled_with, spent, spent_at, value_alone, value_at}
 use Rattle.qo_properties.specs.NewSlots.{begun, first_slots, new_slots, slot_begun}
-use Rattle.qo_properties.specs.Plans.{IsPlan}
 use Rattle.qo_properties.proofs.AddLemmas.{child-unpinned, newest-beside, newest-content, newest-live, shows-tried}
 use Rattle.qo_properties.proofs.NewSlotLemmas.{RowAt, new-shown, past, row-at}
 use Rattle.qo_properties.proofs.PlannedLemmas.{zip-at}
 use Rattle.qo_properties.proofs.PlanningLemmas.{placed-at, zip-length}
 use Rattle.qo_properties.proofs.SlotsLemmas.{filled-end}
 use Rattle.qo_plug.specs.Drafts.{Fell, Grows, HasPlanned, IsDraft, Makes, MakesGiven, bare, created, given_draft, stopped, unjoined, is_own, own_slots, own_slots_of, value_given, valued_slots, with_values}
-use Rattle.qo_plug.proofs.GrowthLemmas.{fresh-quiet, grows-edit, grows-newest, grows-none, grows-then, live-low, row-before}
-use Rattle.qo_plug.proofs.PlannedSlots.{alone-twice, begun-made, begun-own, filled-more, given-planned, spent-all, spent-next, spent_until, value-got, value-next}
+use Rattle.qo_plug.proofs.GrowthLemmas.{grows-edit, grows-newest, grows-none, grows-then, live-low, row-before}
+use Rattle.qo_plug.proofs.PlannedSlots.{alone-twice, begun-made, begun-own, filled-more, spent-all, spent-next, spent_until, value-got, value-next}
 use Rattle.qo_plug.proofs.ValueLemmas.{created-given, values-add, values-alias, values-kid, values-owned}
-
--- what is so of a step that was done
-pub ok-then : {T E P Q : Type 0} (r : Result T E) → (P → Q) → OnOk r P → OnOk r Q
-ok-then (Ok x) f p = f p
-ok-then (Err e) f p = tt
 
 -- what is no child names none as a child
 pub no-child : (s : Slot) → ((key : Key) → s ≡ Child key → ⊥) → child_named (shown_slot s) ≡ None
@@ -200,7 +194,7 @@ module _ {v w : Objects} {o parent : Key} {name : List ℕ} {t : TypeId} (good :
       let beside : Objects = with_edit parent.birth (with_slot name (Child o)) v in
       subst (Grows v) (sym kid-is)
       (grows-then v beside (with_newest o (as_made t (new_slots t) 0) beside) (grows-edit v beside parent.birth (with_slot name (Child o)) (λ c. refl) refl)
-      (grows-newest beside o (as_made t (new_slots t) 0) made.birth (fresh-bare t) refl (fresh-quiet t v.time)))
+      (grows-newest beside o (as_made t (new_slots t) 0) made.birth (fresh-bare t) refl (fresh-timely t v.time)))
 
 -- a device as it is created
 pub shows-created : (b : Board) (v : Objects) → Shows b v → IsHeap v → (t : TypeId) (o : Key) → o.birth ≡ v.born + 1
@@ -258,7 +252,8 @@ alias-given b props v w n t p owner of kind makes c s =
 pub record Reached (o : Key) (t : TypeId) (plan : List Fill) (k at : ℕ) (v w : Objects) (left : List Fill) : Type 0 where
   pub within : k ≤ length (types.slots_of t)
   pub place : at ≡ length (first_slots k t)
-  pub shown : (b : Board) (props : List Given) → IsPlan b t props plan → MakesGiven b props o.birth (properties_made o.birth t (take k (types.slots_of t))) v w
+  pub shown : (b : Board) (props : List Given) → AllZip (HasPlanned b props) plan (new_slots t)
+      → MakesGiven b props o.birth (properties_made o.birth t (take k (types.slots_of t))) v w
   pub own : own_slots_of w o.birth ≡ own_slots_of v o.birth ++ filled (map value_alone plan) (first_slots k t)
   pub left_is : left ≡ spent_until at plan
   pub grows : Grows v w
@@ -306,12 +301,11 @@ module _ (o : Key) (t : TypeId) (plan : List Fill) (fitting : AllZip Fits plan (
     value-is : f ≡ value_at at plan
     value-is = taken.0 ∙ ap (value_at at) r.left_is ∙ value-next at plan
 
-    own-told : (b : Board) (props : List Given) → IsPlan b t props plan → HasPlanned b props f slot
+    own-told : (b : Board) (props : List Given) → AllZip (HasPlanned b props) plan (new_slots t) → HasPlanned b props f slot
     own-told b props has =
-        let (g, got, given) = zip-at (IsGiven b props) plan (new_slots t) at slot has stands in
+        let (g, got, planned) = zip-at (HasPlanned b props) plan (new_slots t) at slot has stands in
         let same : value_alone f ≡ value_alone g = ap value_alone (value-is ∙ value-got at plan g got) ∙ alone-twice g in
-        subst (λ (h : Fill). (slot.0, shown_slot (filled_with h slot.1)) ≡ value_given b props (slot.0, shown_slot slot.1)) (sym same)
-        (given-planned b props g slot given)
+        subst (λ (h : Fill). (slot.0, shown_slot (filled_with h slot.1)) ≡ value_given b props (slot.0, shown_slot slot.1)) (sym same) planned
 
     own-more : filled (map value_alone plan) (first_slots k t) ++ filled (value_alone f ∷ []) (option_to_list (slot_begun t p))
         ≡ filled (map value_alone plan) (first_slots (k + 1) t)
@@ -361,7 +355,7 @@ module _ (o : Key) (t : TypeId) (plan : List Fill) (fitting : AllZip Fits plan (
     other-left : less ≡ spent_until next plan
     other-left = passed.2 ∙ r.left_is ∙ ap (λ (n : ℕ). spent_until n plan) (sym passed.1)
 
-  row-told : (b : Board) (props : List Given) → IsPlan b t props plan → IfSome (slot_begun t p) (HasPlanned b props f)
+  row-told : (b : Board) (props : List Given) → AllZip (HasPlanned b props) plan (new_slots t) → IfSome (slot_begun t p) (HasPlanned b props f)
   row-told b props has = go (begun t p.role) refl
     where
       go : (y : Option Slot) → begun t p.role ≡ y → IfSome (slot_begun t p) (HasPlanned b props f)
@@ -399,7 +393,7 @@ module _ (o : Key) (t : TypeId) (plan : List Fill) (fitting : AllZip Fits plan (
           go (Some x) e = some x e
 
   -- memory wants for it
-  pub fell-at : (b : Board) (props : List Given) → IsPlan b t props plan
+  pub fell-at : (b : Board) (props : List Given) → AllZip (HasPlanned b props) plan (new_slots t)
       → (w ≡ u) ⊎ ((further : TypeId) × (p.role ≡ row.Child further) × (w ≡ given_up further u)) → Fell b props o.birth t v w
   fell-at b props has (inl same) =
       stopped k (λ c s.
@@ -424,7 +418,8 @@ module _ (o : Key) (t : TypeId) (plan : List Fill) (fitting : AllZip Fits plan (
   all-first : first_slots k t ≡ new_slots t
   all-first = ap (filter_map (slot_begun t)) all-rows
 
-  pub all-shown : (b : Board) (props : List Given) → IsPlan b t props plan → MakesGiven b props o.birth (properties_made o.birth t (types.slots_of t)) v w
+  pub all-shown : (b : Board) (props : List Given) → AllZip (HasPlanned b props) plan (new_slots t)
+      → MakesGiven b props o.birth (properties_made o.birth t (types.slots_of t)) v w
   all-shown b props has c s =
       subst (λ (ps : List Property). Shows (edit o.birth (with_values b props) (properties_made o.birth t ps c)) w) all-rows (r.shown b props has c s)
 
@@ -439,7 +434,7 @@ module _ (o : Key) (t : TypeId) (plan : List Fill) (fitting : AllZip Fits plan (
 -- a device that was created, and then made
 module _ (v u w : Objects) (o : Key) (t : TypeId) (good : IsHeap v) (birth : o.birth ≡ v.born + 1) (is : u ≡ with_newest o (fresh t) v) (more : Grows u w) where
   created-grows : Grows v u
-  created-grows = subst (Grows v) (sym is) (grows-newest v o (fresh t) birth (fresh-bare t) refl (fresh-quiet t v.time))
+  created-grows = subst (Grows v) (sym is) (grows-newest v o (fresh t) birth (fresh-bare t) refl (fresh-timely t v.time))
 
   pub drafting-grows : Grows v w
   drafting-grows = grows-then v u w created-grows more

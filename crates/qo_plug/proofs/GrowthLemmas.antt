@@ -3,8 +3,7 @@ use Rattle.std.proofs.Common.{◌≡◌, refl, ap, sym, subst, ◌∙◌, ℕ, �
 use Rattle.std.specs.Prelude.{Result, Ok, Err, OnOk, OnErr}
 use Rattle.std.proofs.lemmas.Bool.{eqb-true}
 use Rattle.qo_values.specs.declared.kinds.TypeId.{TypeId}
-use Rattle.qo_values.specs.declared.kinds.TypeId.TheVariants.{SlotTimer, SlotUart, MemDimm, SlotBridge, Bus, SlotBus, MemBus, Clock, MemoryBackend, MemoryBackendRam}
-use Rattle.qo_kinds.specs.Bodies.{IsTimely, body_of, kept_of, none_kept}
+use Rattle.qo_kinds.specs.Bodies.{IsTimely, kept_of, none_kept}
 use Rattle.qo_slots.specs.declared.keys.Key.{Key}
 use Rattle.qo_notes.specs.Log.{noted_all}
 use Rattle.qo_table.specs.Rows.{IsLive, Rises, births, row_at}
@@ -92,20 +91,6 @@ row-before (row ∷ rows) o c n other = go (eqb row.0.birth n) refl (row-before 
     go : (t : Bool) → eqb row.0.birth n ≡ t → row_at (rows ++ (o, c) ∷ []) n ≡ row_at rows n → row_at ((row ∷ rows) ++ (o, c) ∷ []) n ≡ row_at (row ∷ rows) n
     go true p rest = rw p refl
     go false p rest = rw p rest
-
--- a new body has begun no segment
-pub fresh-quiet : (t : TypeId) (now : ℕ) → IsTimely now (body_of t)
-fresh-quiet SlotTimer now = omega arith
-fresh-quiet SlotUart now = tt
-fresh-quiet MemDimm now = tt
-fresh-quiet SlotBridge now = tt
-fresh-quiet Bus now = tt
-fresh-quiet SlotBus now = tt
-fresh-quiet MemBus now = tt
-fresh-quiet Clock now = tt
-fresh-quiet MemoryBackend now = tt
-fresh-quiet MemoryBackendRam now = tt
-fresh-quiet t now = tt
 
 more-quiet : (P : Content → Type 0) (o : Key) (c : Content) (n : ℕ) → P c → (rows : List (Key × Content))
     → IfSome (option_map (λ (row : Key × Content). row.1) (row_at rows n)) P

@@ -1,9 +1,10 @@
 -- What bars a device from its properties on, stage by stage.
-use Rattle.std.proofs.Common.{◌≡◌, refl, ap, ap₂, sym, subst, ◌∙◌, ℕ, zero, suc, ◌+◌, ◌==◌, Bool, true, false, not, List, [], ◌∷◌, codes, nat_le, nat_lt, length, Option, Some, None, option_map, Result, Ok, Err}
+use Rattle.std.proofs.lemmas.Bool.{not-true}
+use Rattle.std.proofs.Common.{◌≡◌, refl, ap, ap₂, sym, subst, ◌∙◌, ℕ, ◌==◌, Bool, true, false, not, List, [], ◌∷◌, codes, nat_le, nat_lt, length, Option, Some, None, option_map, Result, Ok, Err}
 use Rattle.std.specs.Prelude.{if◌then◌else◌}
 use Rattle.std.specs.List.{list_any}
 use Rattle.std.specs.Option.{option_or}
-use Rattle.std.proofs.lemmas.Option.{same_Some}
+use Rattle.qo_values.proofs.PlacingLemmas.{least-passes}
 use Rattle.qo_values.specs.Placing.{least}
 use Rattle.qo_values.specs.declared.codes.Code.{Code}
 use Rattle.qo_values.specs.declared.codes.Code.TheVariants.{E28, E29, E30, E36, E37, E44}
@@ -21,20 +22,6 @@ use Rattle.qo_standing.specs.declared.spots.Memory.{Memory}
 use Rattle.qo_plug.specs.Admission.{IfRefused}
 use Rattle.qo_plug.specs.Stages.{spot_barred}
 use Rattle.qo_standing.specs.Placement.{spot_in}
-
--- the least number that passes does pass
-least-passes : (test : ℕ → Bool) (first n k : ℕ) → least test first n ≡ Some k → test k ≡ true
-unfolding least
-least-passes test first zero k e = cc
-least-passes test first (suc n) k e = go (test first) refl (least-passes test (first + 1) n k)
-  where
-    go : (t : Bool) → test first ≡ t → (least test (first + 1) n ≡ Some k → test k ≡ true) → test k ≡ true
-    go true p rest = let same : first ≡ k = same_Some first k (rw p at e) in ap test (sym same) ∙ p
-    go false p rest = rest (rw p at e)
-
-flipped : (t : Bool) → not t ≡ true → t ≡ false
-flipped true e = absurd (let clash : false ≡ true = e in cc)
-flipped false e = refl
 
 -- what a refusal tells, another call's refusal tells too
 pub refused-map : (T U : Type 0) (P Q : ℕ → Code → Type 0) (r : AddRefusal) → ((stage : ℕ) (code : Code) → P stage code → Q stage code)
@@ -61,7 +48,7 @@ notice_as full = if full then Some E44 else None
 
 module _ (b : Board) (bus : ℕ) where
   pub least-free : (slot : ℕ) → Some slot ≡ least (is_free b bus) 0 BUS_SLOTS → has_slot b bus (kid_name slot) ≡ false
-  least-free slot e = flipped (has_slot b bus (kid_name slot)) (least-passes (is_free b bus) 0 BUS_SLOTS slot (sym e))
+  least-free slot e = not-true (has_slot b bus (kid_name slot)) (least-passes (is_free b bus) 0 BUS_SLOTS slot (sym e))
 
   -- the slot
   abbrev chosen_as : ℕ → Bool → Bool → Result ℕ Code

@@ -1,5 +1,8 @@
 -- The slots of a device, with the values planned for them, one after another.
-use Rattle.std.proofs.Common.{◌≡◌, refl, ap, sym, subst, ◌∙◌, ℕ, zero, suc, Bool, true, false, List, [], ◌∷◌, ◌++◌, length, map, slice_get, Option, Some, None}
+use Rattle.std.proofs.Common.{◌≡◌, refl, ap, sym, subst, ◌∙◌, ℕ, zero, suc, Bool, true, false, List, [], ◌∷◌, ◌++◌, length, map, slice_get, find, Option, Some, None, arith}
+use Rattle.std.specs.List.{AllByRecursion, AllZip, IsDistinct}
+use Rattle.std.specs.Str.{bytes_eq}
+use Rattle.std.proofs.lemmas.Cmp.{nat_list_eq_equiv}
 use Rattle.std.proofs.lemmas.Option.{same_Some}
 use Rattle.qo_values.specs.declared.kinds.TypeId.{TypeId}
 use Rattle.qo_values.specs.declared.properties.Val.{Val}
@@ -15,7 +18,7 @@ use Rattle.qo_model.specs.declared.properties.PropertyRole.TheVariants as row
 use Rattle.qo_object.specs.declared.slots.Slot.{Slot}
 use Rattle.qo_object.specs.declared.slots.Slot.TheVariants.{Plain, Child, Link, Alias}
 use Rattle.qo_object.specs.BoardObject.{shown_slot}
-use Rattle.qo_object.specs.Slots.{Named}
+use Rattle.qo_object.specs.Slots.{Named, names_of}
 use Rattle.qo_properties.specs.declared.adding.filling.Fill.{Fill}
 use Rattle.qo_properties.specs.declared.adding.filling.Fill.TheVariants as fill
 use Rattle.qo_properties.specs.Filling.{IsGiven, filled, filled_with, spent, spent_at, value_alone, value_at}
@@ -126,3 +129,81 @@ filled-more (g ∷ fs) [] s f at =
     ap (λ (l : List Named). (s.0, filled_with (value_alone g) s.1) ∷ l) (filled-end (map value_alone fs))
     ∙ ap (λ (h : Fill). (s.0, filled_with (value_alone h) s.1) ∷ []) (same_Some g f at)
 filled-more (g ∷ fs) (x ∷ xs) s f at = ap (λ (l : List Named). (x.0, filled_with (value_alone g) x.1) ∷ l) (filled-more fs xs s f at)
+
+-- what properties that are given plan, values alone
+pub plan-planned : (b : Board) (props : List Given) (plan : List Fill) (slots : List Named) → AllZip (IsGiven b props) plan slots
+    → AllZip (HasPlanned b props) plan slots
+plan-planned b props [] [] all = tt
+plan-planned b props [] (s ∷ slots) all = absurd all
+plan-planned b props (f ∷ fs) [] all = absurd all
+plan-planned b props (f ∷ fs) (s ∷ slots) all = (given-planned b props f s all.0, plan-planned b props fs slots all.1)
+
+-- properties that give the values of a plan: with these, any plan is what is given, values alone
+abbrev pub given_by : List Fill → List Named → List Given
+given_by [] slots = []
+given_by (f ∷ fs) [] = []
+given_by (fill.Value v ∷ fs) (s ∷ slots) = (s.0, v) ∷ given_by fs slots
+given_by (fill.Nothing ∷ fs) (s ∷ slots) = given_by fs slots
+given_by (fill.Target key ∷ fs) (s ∷ slots) = given_by fs slots
+
+abbrev Differs : List ℕ → List Named → Type 0
+Differs name slots = AllByRecursion (λ (n : List ℕ). bytes_eq name n ≡ false) (names_of slots)
+
+abbrev found_in : List ℕ → List Given → Option Given
+found_in name props = find (λ (p : Given). bytes_eq p.0 name) props
+
+none-given : (name : List ℕ) (fs : List Fill) (slots : List Named) → Differs name slots → found_in name (given_by fs slots) ≡ None
+none-given name [] slots apart = refl
+none-given name (f ∷ fs) [] apart = refl
+none-given name (fill.Value v ∷ fs) (s ∷ slots) apart =
+    let other : bytes_eq s.0 name ≡ false = nat_list_eq_equiv.symm s.0 name ∙ apart.0 in
+    rw other (none-given name fs slots apart.1)
+none-given name (fill.Nothing ∷ fs) (s ∷ slots) apart = none-given name fs slots apart.1
+none-given name (fill.Target key ∷ fs) (s ∷ slots) apart = none-given name fs slots apart.1
+
+-- what is given for another slot changes nothing here
+planned-beside : (b : Board) (p : Given) (props : List Given) (f : Fill) (s : Named) → bytes_eq p.0 s.0 ≡ false → HasPlanned b props f s
+    → HasPlanned b (p ∷ props) f s
+planned-beside b p props f (name, Plain v) apart has = rw apart has
+planned-beside b p props f (name, Child key) apart has = has
+planned-beside b p props f (name, Link t true to) apart has = has
+planned-beside b p props f (name, Link t false to) apart has = has
+planned-beside b p props f (name, Alias key of) apart has = has
+
+all-beside : (b : Board) (p : Given) (props : List Given) (fs : List Fill) (slots : List Named) → Differs p.0 slots → AllZip (HasPlanned b props) fs slots
+    → AllZip (HasPlanned b (p ∷ props)) fs slots
+all-beside b p props [] [] apart all = tt
+all-beside b p props [] (s ∷ slots) apart all = absurd all
+all-beside b p props (f ∷ fs) [] apart all = absurd all
+all-beside b p props (f ∷ fs) (s ∷ slots) apart all =
+    (planned-beside b p props f s apart.0 all.0, all-beside b p props fs slots apart.1 all.1)
+
+-- where no value is planned, none is given
+planned-none : (b : Board) (props : List Given) (s : Named) → found_in s.0 props ≡ None → HasPlanned b props fill.Nothing s
+planned-none b props (name, Plain v) none = rw none refl
+planned-none b props (name, Child key) none = refl
+planned-none b props (name, Link t true to) none = refl
+planned-none b props (name, Link t false to) none = refl
+planned-none b props (name, Alias key of) none = refl
+
+planned-own : (b : Board) (props : List Given) (v : Val) (s : Named) → HasPlanned b ((s.0, v) ∷ props) (fill.Value v) s
+planned-own b props v (name, Plain old) = rw (nat_list_eq_equiv.refl name) refl
+planned-own b props v (name, Child key) = refl
+planned-own b props v (name, Link t true to) = refl
+planned-own b props v (name, Link t false to) = refl
+planned-own b props v (name, Alias key of) = refl
+
+pub planned-by : (b : Board) (fs : List Fill) (slots : List Named) → IsDistinct bytes_eq (names_of slots) → length fs ≡ length slots
+    → AllZip (HasPlanned b (given_by fs slots)) fs slots
+unfolding IsDistinct
+planned-by b [] [] apart long = tt
+planned-by b [] (s ∷ slots) apart long = cc
+planned-by b (f ∷ fs) [] apart long = cc
+planned-by b (fill.Value v ∷ fs) (s ∷ slots) apart long = (
+  planned-own b (given_by fs slots) v s,
+  all-beside b (s.0, v) (given_by fs slots) fs slots apart.0 (planned-by b fs slots apart.1 (omega (arith, long))),
+)
+planned-by b (fill.Nothing ∷ fs) (s ∷ slots) apart long =
+    (planned-none b (given_by fs slots) s (none-given s.0 fs slots apart.0), planned-by b fs slots apart.1 (omega (arith, long)))
+planned-by b (fill.Target key ∷ fs) (s ∷ slots) apart long =
+    (planned-none b (given_by fs slots) s (none-given s.0 fs slots apart.0), planned-by b fs slots apart.1 (omega (arith, long)))

@@ -16,7 +16,6 @@ use Rattle.qo_model.specs.Devices.{bus_in, buses_of, clock_name}
 use Rattle.qo_model.specs.Paths.{canonical}
 use Rattle.qo_model.specs.Plug.{acted_all, bus_births, started, notified_plug}
 use Rattle.qo_model.specs.Plug as plug
-use Rattle.qo_model.specs.Release.{edited}
 use Rattle.qo_model.specs.Release as release
 use Rattle.qo_model.specs.Reset.{is_out, phased, plugged, post}
 use Rattle.qo_model.specs.Types.{is_a}
@@ -39,13 +38,13 @@ use Rattle.qo_life.proofs.TreeLemmas.{read-content}
 use Rattle.qo_reset.specs.Phases.{Holds}
 use Rattle.qo_standing.specs.DeviceClaims.{SameKept, kept_by}
 use Rattle.qo_standing.proofs.PlacementSteps.{pins-edited}
-use Rattle.qo_standing.proofs.TreeLemmas.{SameTree, canonical-same, read-edit, tree-edit, tree-same, tree-then}
+use Rattle.qo_standing.proofs.TreeLemmas.{SamePlaces, canonical-same, read-edit, tree-edit, tree-same, tree-then}
 
 -- types, slots, places, holds and notices stay
 
 pub record Still (b c : Board) : Type 0 where
   pub slots : (n : ℕ) → slots_at c n ≡ slots_at b n
-  pub tree : SameTree b c
+  pub tree : SamePlaces b c
   pub holds : c.holds ≡ b.holds
   pub notices : c.notices ≡ b.notices
 
@@ -65,7 +64,7 @@ pub acted-still : (act : Act) (n p : ℕ) (b : Board) → Still b (acted act n p
 unfolding acted
 acted-still act n p b =
     let change : Record → Record = with_act_on act b.now p in
-    let tree : SameTree b (release.edit n change b) = tree-edit b n change (λ r. refl) (λ r. refl) (λ k r. refl) in
+    let tree : SamePlaces b (release.edit n change b) = tree-edit b n change (λ r. refl) (λ r. refl) (λ k r. refl) in
     record {
       slots = λ m. read-edit n change (λ r. refl) (λ (o : Option Record). option_map_or (λ (r : Record). r.slots) o []) (λ r. refl) m b.records;
       tree = record { size = tree.size; places = tree.places; kinds = tree.kinds };

@@ -7,6 +7,7 @@ use Rattle.qo_model.specs.Plug.{Wanted, barred_early, bus_for, name_for, parent_
 use Rattle.qo_model.specs.Types.{TypeInfo, type_named}
 use Rattle.qo_plug.specs.declared.admitting.Place.{Place}
 use Rattle.qo_plug.specs.declared.admitting.Site.{Site}
+use Rattle.qo_plug.specs.declared.options.DeviceOptions.{DeviceOptions}
 use Rattle.qo_plug.specs.declared.refusals.AddRefusal.{AddRefusal}
 use Rattle.qo_plug.specs.declared.refusals.AddRefusal.TheVariants.{Refused, Memory}
 use Rattle.qo_plug.specs.declared.refusals.Barred.{Barred}
@@ -14,6 +15,10 @@ use Rattle.qo_plug.specs.declared.refusals.Barred.{Barred}
 -- what is asked for, in its parts
 abbrev pub wanted : List ℕ → Option (List ℕ) → Option (List ℕ) → List Given → Wanted
 wanted driver id bus props = record { driver = driver; id = id; bus = bus; props = props }
+
+-- the options of a device as they are given to a call
+abbrev pub as_wanted : DeviceOptions → Wanted
+as_wanted o = wanted o.driver.now (option_map (λ t. t.now) o.id) (option_map (λ t. t.now) o.bus) o.props.now
 
 -- a call was refused at a stage by a code; want of memory is no refusal
 abbrev pub IfRefused : {T : Type 0} → Result T AddRefusal → (ℕ → Code → Type 0) → Type 0

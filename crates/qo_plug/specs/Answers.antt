@@ -1,5 +1,5 @@
 -- What adding a device answers and leaves.
-use Rattle.std.specs.Prelude.{◌≡◌, ℕ, ◌+◌, List, Some, None, option_map, ◌⊎◌}
+use Rattle.std.specs.Prelude.{◌≡◌, ℕ, ◌+◌, List, Some, None, option_map, ◌⊎◌, ⊤}
 use Rattle.qo_values.specs.declared.codes.Code.{Code}
 use Rattle.qo_values.specs.declared.kinds.TypeId.{TypeId}
 use Rattle.qo_model.specs.Board.{Board, Ring}
@@ -71,7 +71,7 @@ IsCut b a w =
     ⊎ ((t : TypeId) × (option_map (λ (row : TypeInfo). row.id) (type_named a.driver) ≡ Some t) × (type_barred a.driver ≡ None) × (barred_early b t a ≡ None)
     × CutShort b t w)
 
--- an attempt was refused as it is barred, or cut
+-- an attempt was refused as it is barred
 abbrev pub turned_down : Board → TypeId → ℕ → Barred → AddRefusal → Objects → Type 0
 turned_down b t bus bar (Refused stage code) w = (stage ≡ bar.stage) × (code ≡ bar.code) × Shows (plug_attempt b t bus bar.stage) w
-turned_down b t bus bar Memory w = CutShort b t w
+turned_down b t bus bar Memory w = ⊤

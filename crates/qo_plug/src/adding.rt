@@ -4,19 +4,19 @@ ghost use Rattle.std.specs.Prelude.{◌≡◌, Err, IfOk, OnErr, option_map};
 ghost use Rattle.qo_model.specs.Board.{Board};
 ghost use Rattle.qo_properties.specs.Claims.{KeepsBook};
 ghost use Rattle.qo_plug.specs.declared.refusals.AddRefusal.TheVariants.{Memory};
-ghost use Rattle.qo_plug.specs.Admission.{IfRefused, wanted};
+ghost use Rattle.qo_plug.specs.Admission.{IfRefused, as_wanted};
 ghost use Rattle.qo_plug.specs.Answers.{IsAdded, IsCut, IsRefused, IsShown};
 
 use crate::beginning::{choose, make, turn_down};
 use crate::finishing::finish;
 use crate::judging::judge;
+use crate::options::DeviceOptions;
 use crate::placing::place;
 use crate::refusals::{AddRefusal, Barred};
 use qo_heap::{Heap, Steps};
 use qo_hotplug::Hotplug;
 use qo_reset::Resets;
 use qo_rings::Rings;
-use qo_values::PropList;
 use std::alloc::Global;
 use std::sync::ledger::Ledger;
 
@@ -29,34 +29,28 @@ pub struct Added {
     pub slot: u8,
 }
 
-/// Adds a device of a type's name, with an id, the path of its bus and properties, where these are
-/// given: by the stages of `begin`, `place` and `finish`, but that a device which has no spot on its
-/// bus is not furnished first. `anonymous` is how many devices without an id were added before. A
-/// refusal is the first in the order of the stages: those of `admit`, before which nothing of the
-/// device is made, and then the others, after which its births and notes are left. Want of memory
-/// leaves all as it was, or an attempt that was cut.
+/// Adds a device that is asked for: by the stages of `begin`, `place` and `finish`, but that a device
+/// which has no spot on its bus is not furnished first. `anonymous` is how many devices without an id
+/// were added before. A refusal is the first in the order of the stages: those of `admit`, before
+/// which nothing of the device is made, and then the others, after which its births and notes are
+/// left. Want of memory leaves all as it was, or an attempt that was cut.
 pub fn add<L: Ledger>(
     heap: &mut Heap,
     resets: &Resets,
     hotplug: &mut Hotplug,
     rings: &Rings,
     anonymous: u64,
-    driver: &str,
-    id: Option<&str>,
-    bus: Option<&str>,
-    props: &PropList,
+    options: &DeviceOptions<'_>,
     alloc: Global,
     steps: &mut Steps<L>,
 ) -> Result<Added, AddRefusal>
-    ensures ok { (b : Board) → IsShown b anonymous resets.now.births rings.now hotplug.old heap.old → IfOk result (λ x. IsAdded b (wanted driver.now (option_map (λ t. t.now) id.entry) (option_map (λ t. t.now) bus.entry) props.now) x hotplug.new heap.new) }
-    ensures refused { (b : Board) → IsShown b anonymous resets.now.births rings.now hotplug.old heap.old → IfRefused result (λ stage code. IsRefused b (wanted driver.now (option_map (λ t. t.now) id.entry) (option_map (λ t. t.now) bus.entry) props.now) stage code heap.new) }
-    ensures memory { (b : Board) → IsShown b anonymous resets.now.births rings.now hotplug.old heap.old → result ≡ Err Memory → IsCut b (wanted driver.now (option_map (λ t. t.now) id.entry) (option_map (λ t. t.now) bus.entry) props.now) heap.new }
+    ensures ok { (b : Board) → IsShown b anonymous resets.now.births rings.now hotplug.old heap.old → IfOk result (λ x. IsAdded b (as_wanted options.now) x hotplug.new heap.new) }
+    ensures refused { (b : Board) → IsShown b anonymous resets.now.births rings.now hotplug.old heap.old → IfRefused result (λ stage code. IsRefused b (as_wanted options.now) stage code heap.new) }
+    ensures memory { (b : Board) → IsShown b anonymous resets.now.births rings.now hotplug.old heap.old → result ≡ Err Memory → IsCut b (as_wanted options.now) heap.new }
     ensures asked { OnErr result (hotplug.new ≡ hotplug.old) }
     ensures book { KeepsBook heap.old heap.new }
 {
-    let planned = match choose(
-        heap, hotplug, anonymous, driver, id, bus, props, alloc, steps,
-    ) {
+    let planned = match choose(heap, hotplug, anonymous, options, alloc, steps) {
         Ok(planned) => planned,
         Err(refusal) => return Err(refusal),
     };

@@ -1,14 +1,14 @@
 //! Beginning a device, the stages 1 to 4 of adding: it is admitted, what is given for its properties
 //! is looked at, and it is made; or an attempt at it is given up. It stands nowhere yet.
 
-ghost use Rattle.std.specs.Prelude.{◌≡◌, ◌≤◌, ◌==◌, ℕ, List, false, Err, IfOk, OnErr, OnOk, option_map};
+ghost use Rattle.std.specs.Prelude.{◌≡◌, ◌≤◌, ◌+◌, ◌^◌, ◌==◌, ℕ, List, false, Err, IfOk, OnErr, OnOk, option_map};
 ghost use Rattle.qo_model.specs.Board.{Board, Ring};
-ghost use Rattle.qo_model.specs.Plug.{Wanted, plug_attempt};
+ghost use Rattle.qo_model.specs.Plug.{Wanted, objects_in, plug_attempt};
 ghost use Rattle.qo_sound.specs.TreeKept.{SoundTree};
 ghost use Rattle.qo_heap.specs.Board.{Shows};
 ghost use Rattle.qo_properties.specs.Claims.{KeepsBook};
 ghost use Rattle.qo_plug.specs.declared.refusals.AddRefusal.TheVariants.{Memory};
-ghost use Rattle.qo_plug.specs.Admission.{IfRefused, wanted};
+ghost use Rattle.qo_plug.specs.Admission.{IfRefused, as_wanted};
 ghost use Rattle.qo_plug.specs.Answers.{IsCut, IsRefused, IsShown, turned_down};
 ghost use Rattle.qo_plug.specs.Drafts.{CutShort};
 ghost use Rattle.qo_plug.specs.DevicePlans.{IsFit, IsPlanned};
@@ -17,6 +17,7 @@ ghost use Rattle.qo_plug.specs.Stages.{IsBegun, IsHeld, IsJudged};
 use crate::admitting::{Site, admit};
 use crate::drafting::{give_up, make_device};
 use crate::judging::judge;
+use crate::options::DeviceOptions;
 use crate::planning::Planned;
 use crate::refusals::{AddRefusal, Barred};
 use qo_heap::{Heap, Oid, Steps};
@@ -25,7 +26,7 @@ use qo_properties::{Fill, Refusal, attempt_whole, plan};
 use qo_reset::Resets;
 use qo_rings::Rings;
 use qo_standing::Spot;
-use qo_values::{Code, PropList, TypeId};
+use qo_values::{Code, TypeId};
 use std::alloc::{AllocError, Global};
 use std::sync::ledger::Ledger;
 
@@ -49,6 +50,7 @@ pub struct Begun {
 /// left below 2^64: then the heap is as it was, and memory wants.
 pub(crate) fn turn_down(heap: &mut Heap, kind: TypeId, stage: u8, code: Code) -> AddRefusal
     ensures down { (b : Board) (bus : ℕ) → Shows b heap.old → (stage == 8) ≡ false → turned_down b kind bus (record { stage = stage; code = code }) result heap.new }
+    ensures memory { result ≡ Memory → (2 ^ 64 ≤ heap.old.born + objects_in kind) × (heap.new ≡ heap.old) }
     ensures book { KeepsBook heap.old heap.new }
 {
     match attempt_whole(heap, kind) {
@@ -72,7 +74,7 @@ pub(crate) fn make<L: Ledger>(
     requires spot { IsJudged planned rings.now spot heap.old }
     ensures begun { (b : Board) (a : Wanted) → Shows b heap.old → SoundTree b → b.holds ≡ resets.now.births → b.rings ≡ rings.now → IsPlanned b a planned → IfOk result (λ d. IsBegun b a d heap.new) }
     ensures held { IfOk result (λ d. IsHeld d heap.new) }
-    ensures err { OnErr result ((b : Board) (a : Wanted) → Shows b heap.old → SoundTree b → IsPlanned b a planned → CutShort b planned.site.kind heap.new) }
+    ensures err { OnErr result ((b : Board) → Shows b heap.old → SoundTree b → CutShort b planned.site.kind heap.new) }
     ensures book { KeepsBook heap.old heap.new }
 {
     heap.facts();
@@ -96,34 +98,31 @@ pub(crate) fn choose<L: Ledger>(
     heap: &mut Heap,
     hotplug: &Hotplug,
     anonymous: u64,
-    driver: &str,
-    id: Option<&str>,
-    bus: Option<&str>,
-    props: &PropList,
+    options: &DeviceOptions<'_>,
     alloc: Global,
     steps: &mut Steps<L>,
 ) -> Result<Planned, AddRefusal>
     ensures fit { IfOk result (λ p. IsFit p heap.new) }
     ensures same { OnOk result (heap.new ≡ heap.old) }
-    ensures planned { (b : Board) (holds : List ℕ) (rings : List Ring) → IsShown b anonymous holds rings hotplug.now heap.old → IfOk result (λ p. IsPlanned b (wanted driver.now (option_map (λ t. t.now) id.entry) (option_map (λ t. t.now) bus.entry) props.now) p) }
-    ensures refused { (b : Board) (holds : List ℕ) (rings : List Ring) → IsShown b anonymous holds rings hotplug.now heap.old → IfRefused result (λ stage code. (1 ≤ stage) × (stage ≤ 4) × IsRefused b (wanted driver.now (option_map (λ t. t.now) id.entry) (option_map (λ t. t.now) bus.entry) props.now) stage code heap.new) }
-    ensures memory { (b : Board) (holds : List ℕ) (rings : List Ring) → IsShown b anonymous holds rings hotplug.now heap.old → result ≡ Err Memory → IsCut b (wanted driver.now (option_map (λ t. t.now) id.entry) (option_map (λ t. t.now) bus.entry) props.now) heap.new }
+    ensures planned { (b : Board) (holds : List ℕ) (rings : List Ring) → IsShown b anonymous holds rings hotplug.now heap.old → IfOk result (λ p. IsPlanned b (as_wanted options.now) p) }
+    ensures refused { (b : Board) (holds : List ℕ) (rings : List Ring) → IsShown b anonymous holds rings hotplug.now heap.old → IfRefused result (λ stage code. (1 ≤ stage) × (stage ≤ 4) × IsRefused b (as_wanted options.now) stage code heap.new) }
+    ensures memory { (b : Board) (holds : List ℕ) (rings : List Ring) → IsShown b anonymous holds rings hotplug.now heap.old → result ≡ Err Memory → IsCut b (as_wanted options.now) heap.new }
     ensures book { KeepsBook heap.old heap.new }
 {
     let site = match admit(
         heap,
         hotplug.pending(),
         anonymous,
-        driver,
-        id,
-        bus,
+        options.driver,
+        options.id,
+        options.bus,
         alloc,
         steps,
     ) {
         Ok(site) => site,
         Err(refusal) => return Err(refusal),
     };
-    match plan(heap, site.kind, props, alloc, steps) {
+    match plan(heap, site.kind, options.props, alloc, steps) {
         Ok(plan) => Ok(Planned { site, plan }),
         Err(Refusal::Refused(code)) => Err(turn_down(heap, site.kind, 4, code)),
         Err(Refusal::Memory) => Err(AddRefusal::Memory),
@@ -149,33 +148,27 @@ fn judged<L: Ledger>(
     }
 }
 
-/// Begins a device of a type's name, with an id, the path of its bus and properties, where these are
-/// given: the stages 1 to 4. `anonymous` is how many devices without an id were added before. A
-/// refusal is the first in the order of the stages: those of `admit`, before which nothing of the
-/// device is made, and then those of `plan` (stage 4), after which its births and notes are left.
-/// Want of memory leaves all as it was, or an attempt that was cut.
+/// Begins a device that is asked for: the stages 1 to 4. `anonymous` is how many devices without an id
+/// were added before. A refusal is the first in the order of the stages: those of `admit`, before
+/// which nothing of the device is made, and then those of `plan` (stage 4), after which its births and
+/// notes are left. Want of memory leaves all as it was, or an attempt that was cut.
 pub fn begin<L: Ledger>(
     heap: &mut Heap,
     resets: &Resets,
     hotplug: &Hotplug,
     rings: &Rings,
     anonymous: u64,
-    driver: &str,
-    id: Option<&str>,
-    bus: Option<&str>,
-    props: &PropList,
+    options: &DeviceOptions<'_>,
     alloc: Global,
     steps: &mut Steps<L>,
 ) -> Result<Begun, AddRefusal>
-    ensures begun { (b : Board) → IsShown b anonymous resets.now.births rings.now hotplug.now heap.old → IfOk result (λ d. IsBegun b (wanted driver.now (option_map (λ t. t.now) id.entry) (option_map (λ t. t.now) bus.entry) props.now) d heap.new) }
+    ensures begun { (b : Board) → IsShown b anonymous resets.now.births rings.now hotplug.now heap.old → IfOk result (λ d. IsBegun b (as_wanted options.now) d heap.new) }
     ensures held { IfOk result (λ d. IsHeld d heap.new) }
-    ensures refused { (b : Board) → IsShown b anonymous resets.now.births rings.now hotplug.now heap.old → IfRefused result (λ stage code. (1 ≤ stage) × (stage ≤ 4) × IsRefused b (wanted driver.now (option_map (λ t. t.now) id.entry) (option_map (λ t. t.now) bus.entry) props.now) stage code heap.new) }
-    ensures memory { (b : Board) → IsShown b anonymous resets.now.births rings.now hotplug.now heap.old → result ≡ Err Memory → IsCut b (wanted driver.now (option_map (λ t. t.now) id.entry) (option_map (λ t. t.now) bus.entry) props.now) heap.new }
+    ensures refused { (b : Board) → IsShown b anonymous resets.now.births rings.now hotplug.now heap.old → IfRefused result (λ stage code. (1 ≤ stage) × (stage ≤ 4) × IsRefused b (as_wanted options.now) stage code heap.new) }
+    ensures memory { (b : Board) → IsShown b anonymous resets.now.births rings.now hotplug.now heap.old → result ≡ Err Memory → IsCut b (as_wanted options.now) heap.new }
     ensures book { KeepsBook heap.old heap.new }
 {
-    let planned = match choose(
-        heap, hotplug, anonymous, driver, id, bus, props, alloc, steps,
-    ) {
+    let planned = match choose(heap, hotplug, anonymous, options, alloc, steps) {
         Ok(planned) => planned,
         Err(refusal) => return Err(refusal),
     };

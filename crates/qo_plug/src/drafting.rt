@@ -158,10 +158,10 @@ fn make_properties<L: Ledger>(
 ) -> Result<(), AllocError>
     requires live { IsLive heap.old.rows device }
     requires fits { AllZip Fits plan.old (new_slots kind) }
-    ensures ok { OnOk result ((b : Board) (props : List Given) → IsPlan b kind props plan.old → MakesGiven b props device.birth (properties_made device.birth kind (slots_of kind)) heap.old heap.new) }
+    ensures ok { OnOk result ((b : Board) (props : List Given) → AllZip (HasPlanned b props) plan.old (new_slots kind) → MakesGiven b props device.birth (properties_made device.birth kind (slots_of kind)) heap.old heap.new) }
     ensures own { OnOk result (own_slots_of heap.new device.birth ≡ own_slots_of heap.old device.birth ++ valued_slots kind plan.old) }
     ensures left { OnOk result (plan.new ≡ map spent plan.old) }
-    ensures err { OnErr result ((b : Board) (props : List Given) → IsPlan b kind props plan.old → Fell b props device.birth kind heap.old heap.new) }
+    ensures err { OnErr result ((b : Board) (props : List Given) → AllZip (HasPlanned b props) plan.old (new_slots kind) → Fell b props device.birth kind heap.old heap.new) }
     ensures grows { Grows heap.old heap.new }
 {
     let mut place = 0;
@@ -191,7 +191,7 @@ pub fn make_device<L: Ledger>(
     ensures pinned { IfOk result (λ o. 0 < pins_of heap.new o.birth) }
     ensures shown { OnOk result ((b : Board) (props : List Given) → IsPlan b kind props plan.old → Shows b heap.old → Shows (given_draft b kind props) heap.new) }
     ensures grows { OnOk result (Grows heap.old heap.new) }
-    ensures err { OnErr result ((b : Board) (props : List Given) → IsPlan b kind props plan.old → Shows b heap.old → SoundTree b → CutShort b kind heap.new) }
+    ensures err { OnErr result ((b : Board) → Shows b heap.old → SoundTree b → CutShort b kind heap.new) }
     ensures book { KeepsBook heap.old heap.new }
 {
     heap.facts();

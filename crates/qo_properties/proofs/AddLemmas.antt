@@ -1,6 +1,6 @@
 -- The newest object of a heap.
-use Rattle.std.proofs.Common.{◌≡◌, refl, ap, sym, subst, ◌∙◌, ℕ, ◌+◌, ◌-◌, ◌<◌, ◌≤◌, Bool, true, false, cond, ◌==◌, eqb, List, [], ◌∷◌, ◌++◌, map, filter_map, count_by, sum_by, Option, Some, None, is_some, option_map, IsSomeAnd, inl, inr, replicate, arith}
-use Rattle.std.specs.List.{AllByRecursion, cons_option}
+use Rattle.std.proofs.Common.{◌≡◌, refl, ap, sym, subst, ◌∙◌, ℕ, ◌+◌, ◌-◌, ◌<◌, ◌≤◌, Bool, true, false, cond, ◌==◌, eqb, List, [], ◌∷◌, ◌++◌, map, filter_map, count_by, sum_by, Option, Some, None, is_some, option_map, IfSome, IsSomeAnd, inl, inr, replicate, arith}
+use Rattle.std.specs.List.{AllByRecursion}
 use Rattle.std.specs.Option.{option_map_or}
 use Rattle.std.proofs.lemmas.Bool.{eqb-true, eq-eqb}
 use Rattle.std.proofs.lemmas.List.Sums.{sum_by-cons, sum_by-append}
@@ -26,7 +26,8 @@ use Rattle.qo_object.specs.declared.slots.Slot.TheVariants.{Plain, Child, Link, 
 use Rattle.qo_object.specs.BoardObject.{shown_slots}
 use Rattle.std.proofs.lemmas.List.{map-append}
 use Rattle.qo_heap.specs.Board.{Shows, pins_in, record_of}
-use Rattle.qo_heap.proofs.HeapLemmas.{live-edit}
+use Rattle.qo_heap.proofs.HeapLemmas.{each-names, live-edit}
+use Rattle.qo_values.proofs.ListLemmas.{all-imply}
 use Rattle.qo_heap.proofs.BoardChanges.{shows-added}
 use Rattle.qo_heap.specs.Objects.{IsHeap, Objects, content_of, ended, final_notes, forgets, pins_of, refs_of, targets, with_edit}
 use Rattle.qo_heap.proofs.BoardObjects.{content-edited, live-content}
@@ -109,14 +110,9 @@ upto m above last (row ∷ rows) c rises e = go (eqb row.0.birth m) refl (upto m
 
 unnamed-all : (n : ℕ) (P : Key → Type 0) → ((key : Key) → P key → eqb key.birth n ≡ false) → (slots : List Named)
     → AllByRecursion P (filter_map (λ (s : Named). target_of s.1) slots) → Unnamed n slots
-unnamed-all n P apart [] all = tt
-unnamed-all n P apart (s ∷ slots) all = go (target_of s.1) refl all (unnamed-all n P apart slots)
-  where
-    go : (o : Option Key) → target_of s.1 ≡ o → AllByRecursion P (cons_option o (filter_map (λ (x : Named). target_of x.1) slots))
-        → (AllByRecursion P (filter_map (λ (x : Named). target_of x.1) slots) → Unnamed n slots) → Unnamed n (s ∷ slots)
-    go None p given rest = ((λ key e. absurd (let clash : None ≡ Some key = sym p ∙ e in cc)), rest given)
-    go (Some k) p given rest =
-        ((λ key e. let same : k ≡ key = same_Some k key (sym p ∙ e) in ap (λ (x : Key). eqb x.birth n) (sym same) ∙ apart k given.0), rest given.1)
+unnamed-all n P apart slots all =
+    all-imply (λ (s : Named). IfSome (target_of s.1) P) (λ (s : Named). (key : Key) → target_of s.1 ≡ Some key → eqb key.birth n ≡ false)
+    (λ s named key e. apart key (subst (λ (o : Option Key). IfSome o P) e named)) slots (each-names P slots all)
 
 pub apart-from : (v : Objects) (n : ℕ) → v.born < n → IsHeap v → Apart n v.rows
 apart-from v n high good = go 0 v.rows good.rising good.linked

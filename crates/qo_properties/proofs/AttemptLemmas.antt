@@ -19,7 +19,8 @@ use Rattle.qo_life.specs.Life.{with_notes}
 use Rattle.qo_life.proofs.BirthLemmas.{with_notes-none}
 use Rattle.qo_properties.specs.Attempts.{given_up_whole}
 use Rattle.qo_properties.proofs.NewSlotLemmas.{few-slots}
-use Rattle.qo_properties.proofs.SlotsLemmas.{rows-end, rows-next}
+use Rattle.qo_properties.proofs.SlotsLemmas.{rows-next}
+use Rattle.qo_paths.proofs.EndLemmas.{given-past}
 
 -- a property that is no further object, and one that is
 pub no-further : (p : Property) → ((u : TypeId) → p.role ≡ row.Child u → ⊥) → further_in p ≡ None
@@ -95,7 +96,7 @@ noted-next f ps i d n m v w goal below one is =
 pub noted-end : (f : ℕ → TypeId → List Note) (ps : List Property) (i : ℕ) (n : ℕ) (v goal : Objects) → length ps ≤ i
     → with_notes (notes_after f n (filter_map further_in (drop i ps))) v ≡ goal → v ≡ goal
 noted-end f ps i n v goal over is =
-    sym (ap (λ (fs : List (List ℕ × TypeId)). with_notes (notes_after f n fs) v) (rows-end further_in ps i over) ∙ with_notes-none v) ∙ is
+    sym (ap (λ (fs : List (List ℕ × TypeId)). with_notes (notes_after f n fs) v) (given-past further_in ps i over) ∙ with_notes-none v) ∙ is
 
 -- and how many births are left
 pub births-next : (ps : List Property) (i : ℕ) (d : Property) (n m all : ℕ) → i < length ps → m ≡ n + length (option_to_list (further_in (get_or ps i d)))

@@ -1,7 +1,8 @@
 -- The row of a type that a name gives, and what it refuses.
-use Rattle.std.proofs.Common.{◌≡◌, refl, ap, sym, subst, ◌∙◌, ap₂, ◌<◌, ◌≤◌, leb, cond, Bool, true, false, ◌||◌, List, [], ◌∷◌, length, ℕ, codes, find}
+use Rattle.std.proofs.Common.{◌≡◌, refl, ap, sym, ◌∙◌, ap₂, ◌<◌, ◌≤◌, leb, cond, Bool, true, false, ◌||◌, List, [], ◌∷◌, length, ℕ, codes, find}
 use Rattle.std.proofs.Common.{Option, Some, None, is_some, option_map, arith}
 use Rattle.std.specs.List.{AllByRecursion, list_any}
+use Rattle.qo_values.proofs.ListLemmas.{found-has}
 use Rattle.qo_values.specs.Ids.{is_id}
 use Rattle.std.proofs.lemmas.Bool.Decides.{nat_tests}
 use Rattle.std.proofs.lemmas.Cmp.{nat_list_eq_equiv}
@@ -35,15 +36,6 @@ use Rattle.qo_properties.specs.Changes.{place_refusal, info_refusal, type_refusa
 rows-own : AllByRecursion (λ (r : TypeInfo). info_of r.id ≡ Some r) types
 unfolding types
 rows-own = (refl, (refl, (refl, (refl, (refl, (refl, (refl, (refl, (refl, (refl, (refl, (refl, (refl, (refl, (refl, (refl, tt))))))))))))))))
-
--- what all have, the one found has
-pub found-has : {X : Type 0} (P : X → Type 0) (p : X → Bool) (xs : List X) (x : X) → AllByRecursion P xs → find p xs ≡ Some x → P x
-found-has P p [] x all e = cc
-found-has {X = X} P p (y ∷ xs) x all e = go (p y) refl (found-has P p xs x all.1)
-  where
-    go : (b : Bool) → p y ≡ b → (find p xs ≡ Some x → P x) → P x
-    go true is rest = let same : y ≡ x = same_Some y x (rw is at e) in subst P same all.0
-    go false is rest = rest (rw is at e)
 
 pub row-own : (name : List ℕ) (row : TypeInfo) → type_named name ≡ Some row → info_of row.id ≡ Some row
 row-own name row e = found-has (λ (r : TypeInfo). info_of r.id ≡ Some r) (λ (r : TypeInfo). bytes_eq (type_name r.id) name) types row rows-own e
@@ -79,25 +71,25 @@ module _ (name : List ℕ) (t : TypeId) (is : Some t ≡ option_map (λ (x : Typ
 
 -- the slots of `/objects`, and the objects
 
-taken-shown : (b : Board) (v : Objects) → Shows b v → (n : ℕ) (id : List ℕ) → n ≡ OBJECTS_BIRTH
-    → has_slot b OBJECTS_BIRTH id ≡ list_any (λ (s : Named). bytes_eq id s.0) (slots_of v n)
-taken-shown b v s n id is =
-    ap (λ (m : ℕ). has_slot b m id) (sym is) ∙ ap (list_any (λ (t : List ℕ × board.Slot). bytes_eq t.0 id)) (shows-slots b v s n) ∙ go (slots_of v n)
+taken-shown : (b : Board) (v : Objects) → Shows b v → (n : ℕ) (name : List ℕ) → has_slot b n name ≡ list_any (λ (s : Named). bytes_eq name s.0) (slots_of v n)
+taken-shown b v s n name = ap (list_any (λ (t : List ℕ × board.Slot). bytes_eq t.0 name)) (shows-slots b v s n) ∙ go (slots_of v n)
   where
-    go : (slots : List Named) → list_any (λ (t : List ℕ × board.Slot). bytes_eq t.0 id) (shown_slots slots) ≡ list_any (λ (t : Named). bytes_eq id t.0) slots
+    go : (slots : List Named)
+        → list_any (λ (t : List ℕ × board.Slot). bytes_eq t.0 name) (shown_slots slots) ≡ list_any (λ (t : Named). bytes_eq name t.0) slots
     go [] = refl
-    go (t ∷ slots) = ap₂ (λ (x y : Bool). x || y) (nat_list_eq_equiv.symm t.0 id) (go slots)
+    go (t ∷ slots) = ap₂ (λ (x y : Bool). x || y) (nat_list_eq_equiv.symm t.0 name) (go slots)
 
 -- what is told of a view is told of the slot
 pub found-told : {A : Type 0} (f : A → Named) (o : Option A) (x : Option Named) (t : Bool) → option_map f o ≡ x → is_some o ≡ t → is_some x ≡ t
 found-told f None x t e is = ap is_some (sym e) ∙ is
 found-told f (Some a) x t e is = ap is_some (sym e) ∙ is
 
-pub taken-is : {A : Type 0} (f : A → Named) (o : Option A) (b : Board) (v : Objects) → Shows b v → (n : ℕ) (id : List ℕ) (t : Bool) → n ≡ OBJECTS_BIRTH
-    → option_map f o ≡ find (λ (s : Named). bytes_eq id s.0) (slots_of v n) → is_some o ≡ t → has_slot b OBJECTS_BIRTH id ≡ t
-taken-is f o b v s n id t is e some =
-    taken-shown b v s n id is ∙ sym (is_some-find (λ (x : Named). bytes_eq id x.0) (slots_of v n))
-    ∙ found-told f o (find (λ (x : Named). bytes_eq id x.0) (slots_of v n)) t e some
+-- a slot of a name is taken where a look-up by the name finds one
+pub taken-is : {A : Type 0} (f : A → Named) (o : Option A) (b : Board) (v : Objects) → Shows b v → (n : ℕ) (name : List ℕ) (t : Bool)
+    → option_map f o ≡ find (λ (s : Named). bytes_eq name s.0) (slots_of v n) → is_some o ≡ t → has_slot b n name ≡ t
+taken-is f o b v s n name t e some =
+    taken-shown b v s n name ∙ sym (is_some-find (λ (x : Named). bytes_eq name x.0) (slots_of v n))
+    ∙ found-told f o (find (λ (x : Named). bytes_eq name x.0) (slots_of v n)) t e some
 
 pub many-shown : (b : Board) (v : Objects) → Shows b v → length b.records ≡ length v.rows
 many-shown b v s = ap (λ (l : List board.Record). length l) s.records ∙ length-map v.rows record_of
@@ -112,18 +104,21 @@ module _ (b : Board) (v : Objects) (s : Shows b v) (key : Key) (live : IsLive v.
   lives : is_live b OBJECTS_BIRTH ≡ true
   lives = ap (is_live b) (sym is) ∙ shows-live_key b v s key live
 
-  pub place-taken : has_slot b OBJECTS_BIRTH id ≡ true → Some E24 ≡ place_refusal b id
-  place-taken taken = rw (place_refusal, lives, taken) refl
+  at-objects : (t : Bool) → has_slot b key.birth id ≡ t → has_slot b OBJECTS_BIRTH id ≡ t
+  at-objects t e = ap (λ (n : ℕ). has_slot b n id) (sym is) ∙ e
 
-  pub place-full : has_slot b OBJECTS_BIRTH id ≡ false → LIVE_OBJECTS_MAX ≤ length v.rows → Some E43 ≡ place_refusal b id
+  pub place-taken : has_slot b key.birth id ≡ true → Some E24 ≡ place_refusal b id
+  place-taken taken = rw (place_refusal, lives, at-objects true taken) refl
+
+  pub place-full : has_slot b key.birth id ≡ false → LIVE_OBJECTS_MAX ≤ length v.rows → Some E43 ≡ place_refusal b id
   place-full none many =
       let so : leb LIVE_OBJECTS_MAX (length b.records) ≡ true = grind (arith, nat_tests, many-shown b v s, many) in
-      rw (place_refusal, lives, none, so) refl
+      rw (place_refusal, lives, at-objects false none, so) refl
 
-  pub place-vacant : has_slot b OBJECTS_BIRTH id ≡ false → length v.rows < LIVE_OBJECTS_MAX → None ≡ place_refusal b id
+  pub place-vacant : has_slot b key.birth id ≡ false → length v.rows < LIVE_OBJECTS_MAX → None ≡ place_refusal b id
   place-vacant none few =
       let so : leb LIVE_OBJECTS_MAX (length b.records) ≡ false = grind (arith, nat_tests, many-shown b v s, few) in
-      rw (place_refusal, lives, none, so) refl
+      rw (place_refusal, lives, at-objects false none, so) refl
 
 -- the refusals in order
 

@@ -7,25 +7,16 @@ use Rattle.qo_model.specs.Board as board
 use Rattle.qo_model.specs.Objects.{Given, slot_given}
 use Rattle.qo_object.specs.Content.{Content}
 use Rattle.qo_object.specs.BoardObject.{shown_slots}
-use Rattle.qo_object.specs.Slots.{Named, changed_at}
+use Rattle.qo_object.specs.Slots.{Named}
 use Rattle.qo_heap.specs.Objects.{Objects, with_edit}
 use Rattle.qo_properties.specs.declared.adding.filling.Fill.{Fill}
 use Rattle.qo_properties.specs.declared.adding.filling.Fill.TheVariants as fill
 use Rattle.qo_properties.specs.Filling.{IsGiven, filled, filled_at, filled_with, spent, spent_at, target_in, value_alone, value_at}
+use Rattle.qo_heap.proofs.HeapLemmas.{edit-nothing}
+use Rattle.qo_clocks.proofs.LinkLemmas.{changed-nothing}
 use Rattle.qo_properties.proofs.WriteLemmas.{some-live}
 
 -- edits of one object
-
-pub edit-same : (n : ℕ) (f : Content → Content) → ((c : Content) → f c ≡ c) → (v : Objects) → with_edit n f v ≡ v
-edit-same n f same v = ap (λ (rows : List (Key × Content)). record v { rows = rows }) (go v.rows)
-  where
-    go : (rows : List (Key × Content)) → edit n f rows ≡ rows
-    go [] = refl
-    go (row ∷ rows) = by (eqb row.0.birth n) refl (go rows)
-      where
-        by : (t : Bool) → eqb row.0.birth n ≡ t → edit n f rows ≡ rows → edit n f (row ∷ rows) ≡ row ∷ rows
-        by true is rest = rw is (λ j. (row.0, same row.1 j) ∷ rest j)
-        by false is rest = rw is (ap (λ (l : List (Key × Content)). row ∷ l) rest)
 
 pub edit-twice : (n : ℕ) (f g h : Content → Content) → ((c : Content) → f (g c) ≡ h c) → (v : Objects) → with_edit n f (with_edit n g v) ≡ with_edit n h v
 edit-twice n f g h same v = ap (λ (rows : List (Key × Content)). record v { rows = rows }) (go v.rows)
@@ -40,13 +31,9 @@ edit-twice n f g h same v = ap (λ (rows : List (Key × Content)). record v { ro
 
 -- filling nothing
 
-changed-none : (i : ℕ) (slots : List Named) → changed_at (filled_with fill.Nothing) i slots ≡ slots
-changed-none i [] = refl
-changed-none zero (s ∷ slots) = refl
-changed-none (suc i) (s ∷ slots) = ap (λ (ss : List Named). s ∷ ss) (changed-none i slots)
-
 pub fill-nothing : (n i : ℕ) (v : Objects) → v ≡ with_edit n (filled_at fill.Nothing i) v
-fill-nothing n i v = sym (edit-same n (filled_at fill.Nothing i) (λ c. ap (λ (slots : List Named). record c { slots = slots }) (changed-none i c.slots)) v)
+fill-nothing n i v = sym (edit-nothing n (filled_at fill.Nothing i)
+    (λ c. ap (λ (slots : List Named). record c { slots = slots }) (changed-nothing (filled_with fill.Nothing) (λ s. refl) i c.slots)) v)
 
 -- the slots as they are given
 

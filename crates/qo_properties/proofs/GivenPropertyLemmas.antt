@@ -1,6 +1,5 @@
 -- Why the properties given to a new object are refused, by the rows of the code.
-use Rattle.std.proofs.Common.{◌≡◌, refl, ap, sym, ◌∙◌, ℕ, ◌+◌, ◌<◌, ◌≤◌, Bool, true, false, List, [], ◌∷◌, length, drop, get_or, find, Option, Some, None}
-use Rattle.std.proofs.Math.ListN.{drop_of_length-le}
+use Rattle.std.proofs.Common.{◌≡◌, refl, ap, sym, ◌∙◌, ℕ, ◌+◌, ◌<◌, Bool, true, false, List, ◌∷◌, length, drop, get_or, find, Option, Some, None}
 use Rattle.std.proofs.lemmas.List.{drop_more}
 use Rattle.qo_values.specs.declared.codes.Code.{Code}
 use Rattle.qo_values.specs.declared.kinds.TypeId.{TypeId}
@@ -20,9 +19,6 @@ module _ (b : Board) where
 module _ {X : Type 0} where
   pub drop-at : (xs : List X) (i : ℕ) (x : X) → i < length xs → x ≡ get_or xs i x → drop i xs ≡ x ∷ drop (i + 1) xs
   drop-at xs i x below is = drop_more xs i x below ∙ ap (λ (y : X). y ∷ drop (i + 1) xs) (sym is)
-
-  pub drop-past : (xs : List X) (i : ℕ) → length xs ≤ i → drop i xs ≡ []
-  drop-past xs i over = drop_of_length-le xs over
 
   pub find-here : (p : X → Bool) (x : X) (xs : List X) → p x ≡ true → find p (x ∷ xs) ≡ Some x
   find-here p x xs is = rw is refl

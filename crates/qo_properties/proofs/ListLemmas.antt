@@ -1,20 +1,18 @@
 -- How the slots of an object are listed, by the heap.
-use Rattle.std.proofs.Common.{◌≡◌, refl, ap, sym, ◌∙◌, ℕ, zero, suc, ◌<◌, List, [], ◌∷◌, map, length, slice_get, Option, Some, None, IfSome, option_map, codes, arith}
-use Rattle.std.specs.Option.{option_and_then, option_map_or}
+use Rattle.std.proofs.Common.{◌≡◌, refl, ap, sym, ◌∙◌, ℕ, zero, suc, List, [], ◌∷◌, map, slice_get, Option, Some, option_map, codes}
+use Rattle.std.specs.Option.{option_map_or}
 use Rattle.qo_values.specs.declared.properties.Val.{Val}
 use Rattle.qo_values.specs.declared.kinds.TypeId.{TypeId}
 use Rattle.qo_slots.specs.declared.keys.Key.{Key}
-use Rattle.qo_table.specs.Rows.{IsLive}
 use Rattle.qo_object.specs.declared.slots.Slot.{Slot}
 use Rattle.qo_object.specs.declared.slots.Slot.TheVariants.{Plain, Child}
 use Rattle.qo_object.specs.Content.{Content}
 use Rattle.qo_object.specs.BoardObject.{shown_slot, shown_slots}
-use Rattle.qo_object.specs.Slots.{Named, slot_in, target_of}
+use Rattle.qo_object.specs.Slots.{Named}
 use Rattle.qo_model.specs.Board as board
 use Rattle.qo_model.specs.Listing.{around, listing, own_text, plain_word, type_text}
-use Rattle.qo_heap.specs.Objects.{IsHeap, Objects, content_of, slots_of}
+use Rattle.qo_heap.specs.Objects.{Objects, content_of, slots_of}
 use Rattle.qo_heap.specs.Board.{Shows}
-use Rattle.qo_heap.proofs.BoardObjects.{live-content, named-live}
 use Rattle.qo_heap.proofs.BoardReads.{shows-kind, shows-slots}
 
 -- a slot that is no alias
@@ -55,23 +53,3 @@ pub line-at : (b : board.Board) (v : Objects) → Shows b v → (n i : ℕ) (o :
 line-at b v s n i o is =
     ap (option_map (line b n)) is ∙ sym (at-mapped (line b n) (slots_of v n) i)
     ∙ sym (ap (λ (l : List (List ℕ × List ℕ)). slice_get l i) (lines-all b v s n))
-
-pub before-end : {X : Type 0} (xs : List X) (i : ℕ) (x : X) → Some x ≡ slice_get xs i → i < length xs
-before-end [] i x e = cc
-before-end (y ∷ xs) zero x e = omega arith
-before-end (y ∷ xs) (suc i) x e = let more = before-end xs i x e in omega arith
-
--- what a slot at a place names is there
-pub target-at : (v : Objects) → IsHeap v → (o : Key) → IsLive v.rows o → (i : ℕ) (t : Named) → Some t ≡ slice_get (slots_of v o.birth) i
-    → IfSome (target_of t.1) (IsLive v.rows)
-target-at v good o live i t e = go (target_of t.1) refl
-  where
-    its : option_and_then target_of (slot_in (slots_of v o.birth) i) ≡ target_of t.1
-    its = ap (λ (x : Option Named). option_and_then target_of (option_map (λ (s : Named). s.1) x)) (sym e)
-
-    go : (x : Option Key) → target_of t.1 ≡ x → IfSome x (IsLive v.rows)
-    go None is = tt
-    go (Some key) is =
-        let (c, there) = live-content v o live in
-        let slots : slots_of v o.birth ≡ c.slots = ap (λ (x : Option Content). option_map_or (λ (d : Content). d.slots) x []) there in
-        named-live v good o.birth i c there key (ap (λ (l : List Named). option_and_then target_of (slot_in l i)) (sym slots) ∙ its ∙ is)

@@ -1,7 +1,6 @@
 -- What is planned for the slot of a property, by its place.
 use Rattle.std.proofs.Common.{◌≡◌, refl, sym, subst, ℕ, zero, suc, ◌<◌, ◌≤◌, true, false, List, [], ◌∷◌, length, slice_get, Option, Some, None, is_some, option_map, Bor, arith}
-use Rattle.std.specs.Prelude.{IfSome}
-use Rattle.std.specs.List.{AllByRecursion, AllZip}
+use Rattle.std.specs.List.{AllZip}
 use Rattle.std.specs.Slice.{IsItemAt}
 use Rattle.std.proofs.lemmas.Bool.Decides.{nat_tests}
 use Rattle.std.proofs.lemmas.Option.{same_Some, slice_get_past, slice_get_read}
@@ -24,11 +23,6 @@ zip-at R xs [] i y all at = absurd (let clash : None ≡ Some y = at in cc)
 zip-at R [] (z ∷ ys) i y all at = absurd all
 zip-at R (x ∷ xs) (z ∷ ys) zero y all at = (x, refl, subst (R x) (same_Some z y at) all.0)
 zip-at R (x ∷ xs) (z ∷ ys) (suc i) y all at = zip-at R xs ys i y all.1 at
-
-pub all-at : {X : Type 0} (P : X → Type 0) (xs : List X) (i : ℕ) → AllByRecursion P xs → IfSome (slice_get xs i) P
-all-at P [] i all = tt
-all-at P (x ∷ xs) zero all = all.0
-all-at P (x ∷ xs) (suc i) all = all-at P xs i all.1
 
 pub got : {X : Type 0} (xs : List X) (i : ℕ) (r : Option (Bor X)) → IsItemAt xs i r → option_map (λ (x : Bor X). x.now) r ≡ slice_get xs i
 got xs i None at = let over : length xs ≤ i = grind (arith, nat_tests, at.0) in sym (slice_get_past xs i over)

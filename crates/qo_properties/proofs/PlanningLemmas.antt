@@ -6,6 +6,7 @@ use Rattle.std.specs.Ordering.{is_eq, is_lt, nat_cmp}
 use Rattle.std.specs.Str.{bytes_eq}
 use Rattle.std.specs.declared.cmp.Ordering.{Ordering}
 use Rattle.std.specs.declared.cmp.Ordering.TheVariants.{Less, Equal, Greater}
+use Rattle.std.proofs.Math.ListN.{drop_of_length-le}
 use Rattle.std.proofs.lemmas.Cmp.{nat_list_eq_equiv}
 use Rattle.std.proofs.lemmas.List.{drop_more, length-take, map-append, take-append-drop}
 use Rattle.std.proofs.lemmas.Map.Text.{is_eq-slice_cmp}
@@ -15,7 +16,8 @@ use Rattle.qo_values.specs.PropertyLists.{NamesRise, is_above, names_of}
 use Rattle.qo_values.specs.declared.codes.Code.{Code}
 use Rattle.qo_values.specs.declared.kinds.TypeId.{TypeId}
 use Rattle.qo_values.specs.declared.kinds.TypeId.TheVariants.{Object, Container, Machine, Device, SlotDevice, SlotUart, SlotTimer, SlotBridge, MemDimm, Bus, SlotBus, MemBus, Clock, MemoryBackend, MemoryBackendRam, Tag}
-use Rattle.qo_values.proofs.NameOrder.{above_those_before, both_true}
+use Rattle.qo_values.proofs.NameOrder.{above_those_before}
+use Rattle.std.proofs.lemmas.Bool.{and_parts, not-true}
 use Rattle.qo_model.specs.Board.{Board}
 use Rattle.qo_model.specs.Board as board
 use Rattle.qo_model.specs.Objects.{Given, given_to}
@@ -26,7 +28,7 @@ use Rattle.qo_model.specs.declared.properties.Property.{Property}
 use Rattle.qo_object.specs.declared.slots.Slot.{Slot}
 use Rattle.qo_object.specs.BoardObject.{shown_slot}
 use Rattle.qo_object.specs.Slots.{Named}
-use Rattle.qo_heap.proofs.HeapLemmas.{found-passes}
+use Rattle.qo_values.proofs.ListLemmas.{found-passes}
 use Rattle.qo_properties.specs.declared.adding.filling.Fill.{Fill}
 use Rattle.qo_properties.specs.declared.adding.filling.Fill.TheVariants as fill
 use Rattle.qo_properties.specs.declared.adding.planning.PlacedRow.{PlacedRow}
@@ -36,7 +38,7 @@ use Rattle.qo_properties.specs.NewSlots.{begun, new_slots, slot_begun}
 use Rattle.qo_properties.specs.Filling.{Fits, HasValue, IsGiven, fits}
 use Rattle.qo_properties.specs.Planning.{StandsAt, TellsRefusal}
 use Rattle.qo_properties.proofs.NewSlotLemmas.{few-slots, next-slot}
-use Rattle.qo_properties.proofs.GivenPropertyLemmas.{drop-at, drop-past, find-here, find-later}
+use Rattle.qo_properties.proofs.GivenPropertyLemmas.{drop-at, find-here, find-later}
 
 -- the slots of a new object have different names
 
@@ -123,8 +125,8 @@ module _ {X : Type 0} (f : X → Bool) where
 
   all-at : (xs : List X) (i : ℕ) (x : X) → list_all f xs ≡ true → slice_get xs i ≡ Some x → f x ≡ true
   all-at [] i x all at = cc
-  all-at (y ∷ xs) zero x all at = subst (λ (z : X). f z ≡ true) (same_Some y x at) (both_true (f y) (list_all f xs) all).0
-  all-at (y ∷ xs) (suc i) x all at = all-at xs i x (both_true (f y) (list_all f xs) all).1 at
+  all-at (y ∷ xs) zero x all at = subst (λ (z : X). f z ≡ true) (same_Some y x at) (and_parts (f y) (list_all f xs) all).0
+  all-at (y ∷ xs) (suc i) x all at = all-at xs i x (and_parts (f y) (list_all f xs) all).1 at
 
 -- a value more is given, of a name for which none was
 
@@ -136,10 +138,6 @@ module _ (b : Board) (given : List Given) (p : Given) (none : find (λ (q : Give
   given-other f s other is =
       let differ : bytes_eq p.0 s.0 ≡ false = nat_list_eq_equiv.symm p.0 s.0 ∙ not-true (bytes_eq s.0 p.0) other in
       is ∙ ap (found_as s) (sym (find-other (λ (q : Given). bytes_eq q.0 s.0) given p differ))
-    where
-      not-true : (t : Bool) → not t ≡ true → t ≡ false
-      not-true true e = cc
-      not-true false e = refl
 
   given-here : (f : Fill) (s : Named) → s.0 ≡ p.0 → HasValue b p.1 f s.1 → IsGiven b (given ++ p ∷ []) f s
   given-here f s same is =
@@ -154,7 +152,7 @@ module _ (b : Board) (given : List Given) (p : Given) (none : find (λ (q : Give
   zip-others [] (s ∷ slots) others all = absurd all
   zip-others (f ∷ fs) [] others all = absurd all
   zip-others (f ∷ fs) (s ∷ slots) others all =
-      let both = both_true (not (bytes_eq s.0 p.0)) (list_all (λ (t : Named). not (bytes_eq t.0 p.0)) slots) others in
+      let both = and_parts (not (bytes_eq s.0 p.0)) (list_all (λ (t : Named). not (bytes_eq t.0 p.0)) slots) others in
       (given-other f s both.0 all.0, zip-others fs slots both.1 all.1)
 
   pub told-set : (fs : List Fill) (slots : List Named) (i : ℕ) (f : Fill) (s : Named) → are_apart slots ≡ true → slice_get slots i ≡ Some s → s.0 ≡ p.0
@@ -163,14 +161,14 @@ module _ (b : Board) (given : List Given) (p : Given) (none : find (λ (q : Give
   told-set [] (t ∷ slots) i f s apart at same is all = absurd all
   told-set (g ∷ fs) [] i f s apart at same is all = absurd all
   told-set (g ∷ fs) (t ∷ slots) zero f s apart at same is all =
-      let both = both_true (list_all (λ (u : Named). not (bytes_eq u.0 t.0)) slots) (are_apart slots) apart in
+      let both = and_parts (list_all (λ (u : Named). not (bytes_eq u.0 t.0)) slots) (are_apart slots) apart in
       let here : t ≡ s = same_Some t s at in
       let name : t.0 ≡ p.0 = ap (λ (u : Named). u.0) here ∙ same in (
         given-here f t name (subst (λ (u : Named). HasValue b p.1 f u.1) (sym here) is),
         zip-others fs slots (subst (λ (n : List ℕ). list_all (λ (u : Named). not (bytes_eq u.0 n)) slots ≡ true) name both.0) all.1,
       )
   told-set (g ∷ fs) (t ∷ slots) (suc i) f s apart at same is all =
-      let both = both_true (list_all (λ (u : Named). not (bytes_eq u.0 t.0)) slots) (are_apart slots) apart in
+      let both = and_parts (list_all (λ (u : Named). not (bytes_eq u.0 t.0)) slots) (are_apart slots) apart in
       let after : not (bytes_eq s.0 t.0) ≡ true = all-at (λ (u : Named). not (bytes_eq u.0 t.0)) slots i s both.0 at in
       let other : not (bytes_eq t.0 p.0) ≡ true = ap not (nat_list_eq_equiv.symm t.0 p.0 ∙ ap (λ (n : List ℕ). bytes_eq n t.0) (sym same)) ∙ after in
       (given-other g t other all.0, told-set fs slots i f s both.1 at same is all.1)
@@ -188,7 +186,7 @@ less-apart a k less = sym (is_eq-slice_cmp a k) ∙ by (slice_cmp nat_cmp a k) l
 above-none : (given : List Given) (k : List ℕ) → is_above (names_of given) k ≡ true → find (λ (q : Given). bytes_eq q.0 k) given ≡ None
 above-none [] k above = refl
 above-none (q ∷ given) k above =
-    let both = both_true (is_lt (slice_cmp nat_cmp q.0 k)) (is_above (names_of given) k) above in
+    let both = and_parts (is_lt (slice_cmp nat_cmp q.0 k)) (is_above (names_of given) k) above in
     rw (less-apart q.0 k both.0) (above-none given k both.1)
 
 pub none-before : (given : List Given) (i : ℕ) (p : Given) → NamesRise (names_of given) → i < length given → p ≡ get_or given i p
@@ -282,7 +280,7 @@ module _ {X : Type 0} (p : X → Bool) (xs : List X) (i : ℕ) where
   found-later d below found is = found ∙ ap (find p) (drop_more xs i d below) ∙ find-later p (get_or xs i d) (drop (i + 1) xs) is
 
   pub found-none : length xs ≤ i → find p xs ≡ find p (drop i xs) → find p xs ≡ None
-  found-none over found = found ∙ ap (find p) (drop-past xs i over)
+  found-none over found = found ∙ ap (find p) (drop_of_length-le xs over)
 
 -- the slot that a fill is for
 

@@ -1,5 +1,5 @@
 -- What is read of the board, by its heap.
-use Rattle.std.proofs.Common.{◌≡◌, refl, ap, sym, ◌∙◌, ℕ, zero, suc, ◌+◌, ◌≤◌, Bool, true, false, not, ◌&&◌, eqb, List, [], ◌∷◌, map, filter, length, drop, find, slice_get, Option, Some, None, is_some, is_none, option_map, arith}
+use Rattle.std.proofs.Common.{◌≡◌, refl, ap, sym, ◌∙◌, ℕ, ◌+◌, Bool, true, false, not, ◌&&◌, eqb, List, [], ◌∷◌, map, filter, drop, find, slice_get, Option, Some, None, is_some, is_none, option_map, arith}
 use Rattle.std.specs.Prelude.{filter_map}
 use Rattle.std.specs.Option.{option_and_then, option_map_or}
 use Rattle.std.specs.List.{cons_option}
@@ -22,6 +22,7 @@ use Rattle.qo_heap.specs.Objects.{IsHeap, Objects, content_of, refs_of, slots_of
 use Rattle.qo_heap.specs.Board.{Shows, record_of}
 use Rattle.qo_heap.proofs.PlacesLemmas.{at-key, object-at-place}
 use Rattle.qo_heap.proofs.BoardReads.{shows-parent, shows-refs, shows-slot_named}
+use Rattle.qo_paths.proofs.EndLemmas.{given-drop}
 use Rattle.qo_properties.specs.Reads.{derived_in, detached_in, is_derived, reads_derived}
 
 -- objects without a parent
@@ -82,23 +83,10 @@ detached-all b v s =
     ap (λ (rs : List board.Record). map (told b) (filter (λ (r : board.Record). not (eqb r.birth 1) && is_none (place_of b r.birth)) rs)) s.records
     ∙ detached-rows b v.rows
 
-module _ {X Y : Type 0} (f : X → Option Y) where
-  given-first : (xs : List X) (i : ℕ) → filter_map f (drop i xs) ≡ cons_option (option_and_then f (slice_get xs i)) (filter_map f (drop (suc i) xs))
-  given-first [] zero = refl
-  given-first [] (suc i) = refl
-  given-first (x ∷ xs) zero = refl
-  given-first (x ∷ xs) (suc i) = given-first xs i
-
-  pub given-next : (xs : List X) (i : ℕ) (o : Option Y) → o ≡ option_and_then f (slice_get xs i)
-      → filter_map f (drop i xs) ≡ cons_option o (filter_map f (drop (i + 1) xs))
-  given-next xs i o e = let next : suc i ≡ i + 1 = omega arith in
-      rw e (given-first xs i ∙ ap (λ (k : ℕ). cons_option (option_and_then f (slice_get xs i)) (filter_map f (drop k xs))) next)
-
-  pub given-past : (xs : List X) (i : ℕ) → length xs ≤ i → filter_map f (drop i xs) ≡ []
-  given-past [] zero past = refl
-  given-past [] (suc i) past = refl
-  given-past (x ∷ xs) zero past = absurd (omega arith)
-  given-past (x ∷ xs) (suc i) past = given-past xs i (omega arith)
+-- those from a place on: first the one of the row at the place, if it gives one
+pub given-next : {X Y : Type 0} (f : X → Option Y) (xs : List X) (i : ℕ) (o : Option Y) → o ≡ option_and_then f (slice_get xs i)
+    → filter_map f (drop i xs) ≡ cons_option o (filter_map f (drop (i + 1) xs))
+given-next f xs i o e = rw e (given-drop f xs i)
 
 -- values
 

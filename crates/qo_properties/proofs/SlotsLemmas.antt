@@ -1,11 +1,11 @@
 -- The slots of a new object, as they are planned.
-use Rattle.std.proofs.Common.{◌≡◌, refl, ap, sym, subst, ◌∙◌, ℕ, ◌+◌, ◌<◌, ◌≤◌, ◌^◌, drop, get_or, Bool, true, false, not, List, [], ◌∷◌, ◌++◌, length, filter_map, Option, Some, None, IfSome, option_to_list, suc, arith}
+use Rattle.std.proofs.Common.{◌≡◌, refl, ap, sym, subst, ◌∙◌, ℕ, ◌+◌, ◌<◌, ◌≤◌, ◌^◌, drop, get_or, true, false, not, List, [], ◌∷◌, ◌++◌, length, filter_map, Option, Some, None, IfSome, option_to_list, suc, arith}
 use Rattle.std.specs.List.{AllByRecursion, IsDistinct, cons_option, list_all}
 use Rattle.std.specs.Str.{bytes_eq}
 use Rattle.std.proofs.lemmas.Cmp.{nat_list_eq_equiv}
 use Rattle.std.proofs.lemmas.List.{drop_more}
 use Rattle.qo_values.specs.declared.kinds.TypeId.{TypeId}
-use Rattle.qo_values.proofs.NameOrder.{both_true}
+use Rattle.std.proofs.lemmas.Bool.{and_parts, not-true}
 use Rattle.qo_slots.specs.declared.keys.Key.{Key}
 use Rattle.qo_model.specs.Types.{slots_of}
 use Rattle.qo_model.specs.declared.properties.Property.{Property}
@@ -14,12 +14,12 @@ use Rattle.qo_model.specs.declared.properties.PropertyRole.TheVariants as row
 use Rattle.qo_object.specs.declared.slots.Slot.{Slot}
 use Rattle.qo_object.specs.declared.slots.Slot.TheVariants.{Plain, Child, Link, Alias}
 use Rattle.qo_object.specs.Slots.{Named, names_of, target_of}
+use Rattle.qo_heap.proofs.HeapLemmas.{holds-cons}
 use Rattle.qo_properties.specs.declared.adding.filling.Fill.{Fill}
 use Rattle.qo_properties.specs.declared.adding.filling.Fill.TheVariants as fill
 use Rattle.qo_properties.specs.Filling.{filled, filled_with, target_in}
 use Rattle.qo_properties.specs.NewSlots.{new_slots, slot_begun}
 use Rattle.qo_properties.proofs.NewSlotLemmas.{few-slots}
-use Rattle.qo_properties.proofs.GivenPropertyLemmas.{drop-past}
 use Rattle.qo_properties.proofs.PlanningLemmas.{are_apart, fewer, new-apart}
 
 -- filling changes no name, and adds no slot
@@ -38,18 +38,14 @@ distinct-from : (slots : List Named) → are_apart slots ≡ true → IsDistinct
 unfolding IsDistinct
 distinct-from [] apart = tt
 distinct-from (s ∷ slots) apart =
-    let both = both_true (list_all (λ (t : Named). not (bytes_eq t.0 s.0)) slots) (are_apart slots) apart in
+    let both = and_parts (list_all (λ (t : Named). not (bytes_eq t.0 s.0)) slots) (are_apart slots) apart in
     (others slots both.0, distinct-from slots both.1)
   where
-    not-true : (t : Bool) → not t ≡ true → t ≡ false
-    not-true true e = cc
-    not-true false e = refl
-
     others : (ts : List Named) → list_all (λ (t : Named). not (bytes_eq t.0 s.0)) ts ≡ true
         → AllByRecursion (λ (name : List ℕ). bytes_eq s.0 name ≡ false) (names_of ts)
     others [] all = tt
     others (t ∷ ts) all =
-        let two = both_true (not (bytes_eq t.0 s.0)) (list_all (λ (u : Named). not (bytes_eq u.0 s.0)) ts) all in
+        let two = and_parts (not (bytes_eq t.0 s.0)) (list_all (λ (u : Named). not (bytes_eq u.0 s.0)) ts) all in
         (nat_list_eq_equiv.symm s.0 t.0 ∙ not-true (bytes_eq t.0 s.0) two.0, others ts two.1)
 
 new-differ : (fs : List Fill) (t : TypeId) → IsDistinct bytes_eq (names_of (filled fs (new_slots t)))
@@ -61,10 +57,6 @@ new-few fs t = omega (arith, filled-length fs (new_slots t), fewer (slot_begun t
 -- what they name is what is planned
 
 module _ (P : Key → Type 0) where
-  cons-all : (o : Option Key) (keys : List Key) → IfSome o P → AllByRecursion P keys → AllByRecursion P (cons_option o keys)
-  cons-all None keys is all = all
-  cons-all (Some key) keys is all = (is, all)
-
   named-in : (f : Fill) (s : Slot) → target_of s ≡ None → IfSome (target_in f) P → IfSome (target_of (filled_with f s)) P
   named-in fill.Nothing s none is = subst (λ (o : Option Key). IfSome o P) (sym none) tt
   named-in (fill.Value v) (Plain old) none is = tt
@@ -79,11 +71,11 @@ module _ (P : Key → Type 0) where
   filled-targets : (fs : List Fill) (slots : List Named) → AllByRecursion (λ (s : Named). target_of s.1 ≡ None) slots
       → AllByRecursion (λ (f : Fill). IfSome (target_in f) P) fs → AllByRecursion P (filter_map (λ (s : Named). target_of s.1) (filled fs slots))
   filled-targets [] [] none all = tt
-  filled-targets [] (s ∷ slots) none all = cons-all (target_of s.1) (filter_map (λ (t : Named). target_of t.1) slots) (subst (λ
+  filled-targets [] (s ∷ slots) none all = holds-cons P (target_of s.1) (filter_map (λ (t : Named). target_of t.1) slots) (subst (λ
       (o : Option Key). IfSome o P) (sym none.0) tt) (filled-targets [] slots none.1 tt)
   filled-targets (f ∷ fs) [] none all = tt
   filled-targets (f ∷ fs) (s ∷ slots) none all =
-      cons-all (target_of (filled_with f s.1)) (filter_map (λ (t : Named). target_of t.1) (filled fs slots)) (named-in f s.1 none.0 all.0)
+      holds-cons P (target_of (filled_with f s.1)) (filter_map (λ (t : Named). target_of t.1) (filled fs slots)) (named-in f s.1 none.0 all.0)
       (filled-targets fs slots none.1 all.1)
 
   new-none : (t : TypeId) (ps : List Property) → AllByRecursion (λ (s : Named). target_of s.1 ≡ None) (filter_map (slot_begun t) ps)
@@ -115,9 +107,6 @@ rows-next {X = X} {Y = Y} f xs i d below = ap (filter_map f) (drop_more xs i d b
     by None = refl
     by (Some y) = refl
 
-pub rows-end : {X Y : Type 0} (f : X → Option Y) (xs : List X) (i : ℕ) → length xs ≤ i → filter_map f (drop i xs) ≡ []
-rows-end f xs i over = ap (filter_map f) (drop-past xs i over)
-
 -- what is so of the slots of a new object that are planned
 
 module _ (t : TypeId) (fs : List Fill) (slots : List Named) (is : slots ≡ filled fs (new_slots t)) where
@@ -136,7 +125,3 @@ module _ (t : TypeId) (fs : List Fill) (slots : List Named) (is : slots ≡ fill
 
   pub slots-first : fs ≡ [] → slots ≡ new_slots t
   slots-first none = is ∙ ap (λ (l : List Fill). filled l (new_slots t)) none
-
-pub all-keys : (P Q : Key → Type 0) → ((key : Key) → P key → Q key) → (keys : List Key) → AllByRecursion P keys → AllByRecursion Q keys
-all-keys P Q more [] all = tt
-all-keys P Q more (key ∷ keys) all = (more key all.0, all-keys P Q more keys all.1)

@@ -1,5 +1,5 @@
 -- What is written to the board, by its heap.
-use Rattle.std.proofs.Common.{◌≡◌, refl, ap, sym, ◌∙◌, ℕ, zero, suc, Bool, true, false, cond, nat_lt, List, [], ◌∷◌, Option, Some, None, is_some, IfSome}
+use Rattle.std.proofs.Common.{◌≡◌, refl, ap, sym, subst, ◌∙◌, ℕ, zero, suc, Bool, true, false, cond, nat_lt, List, [], ◌∷◌, Option, Some, None, is_some, IfSome}
 use Rattle.std.proofs.Common.{option_map}
 use Rattle.std.specs.Prelude.{position, Result, Ok, Err}
 use Rattle.std.specs.List.{position_or_len}
@@ -20,7 +20,7 @@ use Rattle.qo_object.specs.declared.slots.Slot.{Slot}
 use Rattle.qo_object.specs.declared.slots.Slot.TheVariants.{Plain, Child, Link, Alias}
 use Rattle.qo_object.specs.Content.{Content, dropped_at, empty_link_at}
 use Rattle.qo_object.specs.BoardObject.{birth_of, shown_slot, shown_slots}
-use Rattle.qo_object.specs.Slots.{Named, held, is_empty_link, let_go_at, slot_in, target_of}
+use Rattle.qo_object.specs.Slots.{Named, held, is_empty_link, let_go_at, slot_in}
 use Rattle.qo_object.proofs.BoardObjectLemmas.{length-shown, shown-held}
 use Rattle.qo_model.specs.Board as board
 use Rattle.qo_model.specs.Changes.{set}
@@ -30,7 +30,9 @@ use Rattle.qo_model.specs.declared.properties.Property.{Property}
 use Rattle.qo_heap.specs.Objects as heap
 use Rattle.qo_heap.specs.Objects.{IsHeap, Objects, content_of, with_edit}
 use Rattle.qo_heap.specs.Board.{Shows}
-use Rattle.qo_heap.proofs.BoardObjects.{content-edited, live-content, named-live_dropped}
+use Rattle.qo_heap.proofs.BoardObjects.{content-edited, live-content}
+use Rattle.qo_heap.proofs.HeapLemmas.{live-edit}
+use Rattle.qo_life.proofs.ReleaseLemmas.{held-live}
 use Rattle.qo_heap.proofs.BoardReads.{shows-kind, shows-slot_at, shows-slots}
 use Rattle.qo_properties.specs.Writes.{is_link_at, is_plain, is_plain_at, link_type, link_type_at, to_link, to_plain}
 
@@ -145,23 +147,16 @@ relinked-is b v s n i target was link e =
     ap (after finalize (pointed_at target n i (drop_slot b n i))) (sym its)
     ∙ sym (ap (λ (o : Option board.Slot). elim o [ None ↦ b | Some x ↦ after finalize (pointed_at target n i (drop_slot b n i)) (board.held x) ]) shown)
 
--- what is held is named, and stays there when it is let go
-held-named : (o : Option Slot) (key : Key) → option_and_then held o ≡ Some key → option_and_then target_of o ≡ Some key
-held-named None key e = cc
-held-named (Some (Plain val)) key e = cc
-held-named (Some (Child k)) key e = e
-held-named (Some (Link ty true target)) key e = e
-held-named (Some (Link ty false target)) key e = cc
-held-named (Some (Alias k of)) key e = cc
-
-pub held-live : (v : Objects) → IsHeap v → (o : Key) → IsLive v.rows o → (i : ℕ) (was : Option Key)
-    → was ≡ option_and_then held (slot_in (heap.slots_of v o.birth) i) → IfSome was (IsLive (with_edit o.birth (dropped_at i) v).rows)
-held-live v good o live i None e = tt
-held-live v good o live i (Some key) e =
-    let (c, there) = live-content v o live in
-    let slots : heap.slots_of v o.birth ≡ c.slots = ap (λ (x : Option Content). option_map_or (λ (d : Content). d.slots) x []) there in
-    named-live_dropped v good o.birth i c there key
-    (held-named (slot_in c.slots i) key (ap (λ (l : List Named). option_and_then held (slot_in l i)) (sym slots) ∙ sym e))
+-- what is held is there, also once it was let go
+pub held-live_dropped : (v : Objects) → IsHeap v → (n i : ℕ) (was : Option Key) → was ≡ option_and_then held (slot_in (heap.slots_of v n) i)
+    → IfSome was (IsLive (with_edit n (dropped_at i) v).rows)
+held-live_dropped v good n i was e = go (slot_in (heap.slots_of v n) i) refl e
+  where
+    go : (o : Option Slot) → slot_in (heap.slots_of v n) i ≡ o → was ≡ option_and_then held o → IfSome was (IsLive (with_edit n (dropped_at i) v).rows)
+    go None p q = subst (λ (x : Option Key). IfSome x (IsLive (with_edit n (dropped_at i) v).rows)) (sym q) tt
+    go (Some s) p q =
+        subst (λ (x : Option Key). IfSome x (IsLive (with_edit n (dropped_at i) v).rows)) (sym q)
+        (IfSome_then (held s) (held-live v good n i s p) (live-edit n (dropped_at i) v.rows))
 
 -- a link that was let go has no target
 emptied : (slots : List Named) (i : ℕ) → is_some (option_and_then link_type (slot_in slots i)) ≡ true

@@ -19,7 +19,7 @@ use Rattle.qo_unplug.proofs.MomentLemmas.{times-timely}
 use Rattle.qo_realize.specs.GoodBoard.{Good}
 use Rattle.qo_realize.specs.Parts.{Parts, parts_of}
 use Rattle.qo_realize.specs.Representation.{Stands, StandsForGood}
-use Rattle.qo_realize.proofs.GoodBoardLemmas.{completed-good, root-pinned}
+use Rattle.qo_realize.proofs.GoodBoardLemmas.{completed-good, good-pinned}
 
 -- no timer of the heap is ahead of its time
 pub timely-heap : (p : Parts) → StandsForGood p → Timely p.objects
@@ -55,4 +55,4 @@ completed-sound n rings anonymous running held holds old new v w pending (b, s, 
     let after : Good (completed b n) = completed-good b n (ap (λ (ns : List ℕ). among ns n) s.pending ∙ pending) good in
     let stands : Stands (completed b n) (parts_of rings anonymous running holds new w) = completed-stands b n rings anonymous running held holds old new v w s
     (detaches b good.devices.tree good.clocks (is_beside b rings anonymous running held old v s)) keeps in
-    (root-pinned (completed b n) (parts_of rings anonymous running holds new w) stands after, (completed b n, stands, after))
+    good-pinned (completed b n) (parts_of rings anonymous running holds new w) stands after

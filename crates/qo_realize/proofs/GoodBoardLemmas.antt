@@ -23,7 +23,7 @@ use Rattle.qo_properties.specs.Pins.{OnlyRootPinned}
 use Rattle.qo_sound_devices.specs.SoundDevices.{SoundDevices}
 use Rattle.qo_sound_devices.specs.SoundLists.{IsOn}
 use Rattle.qo_sound_devices.proofs.DevicesLawLemmas.{devices_kept_lem}
-use Rattle.qo_sound_devices.proofs.PlugLemmas.{among-all}
+use Rattle.qo_model.proofs.AmongLemmas.{among-all}
 use Rattle.qo_sound_clocks.specs.RegisterWrites.{registers_set}
 use Rattle.qo_sound_clocks.specs.SoundTimes.{IsTimely, SoundTimes}
 use Rattle.qo_sound_clocks.proofs.LawLemmas.{clocks_kept_lem}
@@ -265,3 +265,6 @@ good-of p (c, s, good) b t =
 pub root-pinned : (b : Board) (p : Parts) → Stands b p → Good b → OnlyRootPinned p.objects
 unfolding graph_of
 root-pinned b p s good = sym s.shows.pins ∙ good.devices.tree.0.pinned
+
+pub good-pinned : (b : Board) (p : Parts) → Stands b p → Good b → OnlyRootPinned p.objects × StandsForGood p
+good-pinned b p s good = (root-pinned b p s good, (b, s, good))

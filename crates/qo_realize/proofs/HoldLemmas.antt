@@ -24,7 +24,7 @@ use Rattle.qo_realize.specs.GoodBoard.{Good}
 use Rattle.qo_realize.specs.Parts.{Parts, parts_of}
 use Rattle.qo_realize.specs.Resets.{Releases, Resets, at_path, held_at, held_of, released_at, released_of, resettable_at}
 use Rattle.qo_realize.specs.Representation.{Stands, StandsForGood}
-use Rattle.qo_realize.proofs.GoodBoardLemmas.{held-good, pulsed-good, released-good, root-pinned}
+use Rattle.qo_realize.proofs.GoodBoardLemmas.{held-good, pulsed-good, released-good, good-pinned}
 
 -- what is so of the board and of the board with the hold, or without it, is so after the change
 
@@ -131,14 +131,11 @@ module _ (rings : List Ring) (anonymous : ℕ) (running : Bool) (old new : HoldL
 
   -- the board that stands is good
 
-  pub good-pinned : (b : Board) → Stands b after → Good b → OnlyRootPinned w × StandsForGood after
-  good-pinned b s good = (root-pinned b after s good, (b, s, good))
-
   hold-good : (b : Board) (path : List ℕ) (result : Result Unit Refusal) → Good b → Changes (held_at b path) b result after
       → OnlyRootPinned w × StandsForGood after
-  hold-good b path (Ok u) good h = good-pinned (held_at b path).board h.1 (held_at-good b path good)
-  hold-good b path (Err (Refused code)) good h = good-pinned b h.1 good
-  hold-good b path (Err Memory) good h = good-pinned b h good
+  hold-good b path (Ok u) good h = good-pinned (held_at b path).board after h.1 (held_at-good b path good)
+  hold-good b path (Err (Refused code)) good h = good-pinned b after h.1 good
+  hold-good b path (Err Memory) good h = good-pinned b after h good
 
   pub hold-keeps : (path : List ℕ) (result : Result Unit Refusal) → StandsForGood before → ((b : Board) → Holds b old.births v
       → Resets b (held_at b path) result new.births w)
@@ -149,11 +146,11 @@ module _ (rings : List Ring) (anonymous : ℕ) (running : Bool) (old new : HoldL
       → Releases b (released_at b path) result new.births w)
       → OnErr result ((w ≡ v) × (new.births ≡ old.births)) → OnlyRootPinned w × StandsForGood after
   release-keeps path result (b, s, good) h same =
-      good-pinned (released_at b path).board (release-answers b path result s (h b (s.shows, s.holds)) same).board (released_at-good b path good)
+      good-pinned (released_at b path).board after (release-answers b path result s (h b (s.shows, s.holds)) same).board (released_at-good b path good)
 
   pub pulse-stands : (b : Board) (n : ℕ) → Stands b before → Holds (pulse b n) new.births w → Stands (pulse b n) after
   pulse-stands b n s h = reset-stands b (pulse b n) s (devices_stay_lem.pulsed b n) h
 
   pub pulse-keeps : (n : ℕ) → StandsForGood before → ((b : Board) → Holds b old.births v → Holds (pulse b n) new.births w)
       → OnlyRootPinned w × StandsForGood after
-  pulse-keeps n (b, s, good) h = good-pinned (pulse b n) (pulse-stands b n s (h b (s.shows, s.holds))) (pulsed-good b n good)
+  pulse-keeps n (b, s, good) h = good-pinned (pulse b n) after (pulse-stands b n s (h b (s.shows, s.holds))) (pulsed-good b n good)

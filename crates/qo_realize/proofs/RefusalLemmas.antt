@@ -22,7 +22,7 @@ use Rattle.qo_realize.specs.Parts.{parts_of}
 use Rattle.qo_realize.specs.Removals.{IsAsked}
 use Rattle.qo_realize.specs.Representation.{Stands, StandsForGood}
 use Rattle.qo_realize.proofs.RemovalLemmas.{is_asked}
-use Rattle.qo_realize.proofs.GoodBoardLemmas.{refused-good, root-pinned}
+use Rattle.qo_realize.proofs.GoodBoardLemmas.{refused-good, good-pinned}
 use Rattle.qo_properties.specs.Pins.{OnlyRootPinned}
 
 -- the heap with the event of a device that stays
@@ -108,7 +108,7 @@ refuse-invariant rings anonymous running holds old new v w n (Ok u) h told keeps
     let (b, s, sound) = h.1 in
     let stands : Stands (refused b n) (parts_of rings anonymous running holds new w) =
     refuse-returns b rings anonymous running holds old new v w n (the (Result Unit Unit) (Ok tt)) s told keeps in
-    (root-pinned (refused b n) (parts_of rings anonymous running holds new w) stands (refused-good b n sound), (refused b n, stands, refused-good b n sound))
+    good-pinned (refused b n) (parts_of rings anonymous running holds new w) stands (refused-good b n sound)
   where
     the : (T : Type 0) → T → T
     the T x = x

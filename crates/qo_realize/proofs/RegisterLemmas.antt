@@ -36,11 +36,10 @@ use Rattle.qo_sound.proofs.DeviceScopeLemmas.{devices_stay_lem}
 use Rattle.qo_sound_clocks.specs.RegisterWrites.{registers_set, with_registers}
 use Rattle.qo_sound_clocks.specs.SoundTimes as boards
 use Rattle.qo_sound_clocks.proofs.TimesLemmas.{times_kept_lem}
-use Rattle.qo_realize.specs.GoodBoard.{Good}
 use Rattle.qo_realize.specs.Parts.{Parts, parts_of}
 use Rattle.qo_realize.specs.Registers.{GuestWrites, HasWritten, IsHeld, Written, after_effect, guest_written, registers_at, registers_written}
 use Rattle.qo_realize.specs.Representation.{Stands, StandsForGood}
-use Rattle.qo_realize.proofs.GoodBoardLemmas.{root-pinned, written-good}
+use Rattle.qo_realize.proofs.GoodBoardLemmas.{good-pinned, written-good}
 use Rattle.qo_realize.proofs.RegisterWriteLemmas.{WriteLeaves, written-leaves}
 
 -- the body of an object that is there
@@ -198,13 +197,10 @@ module _ (rings others : List Ring) (anonymous : ℕ) (running : Bool) (old new 
   write-stands b (Some u) s (c, is, held) = (c, is, written-stands b c s (written-leaves b d reg value c is) held)
   write-stands b None s is = is
 
-  stands-pinned : (b : Board) → Stands b after → Good b → OnlyRootPinned w × StandsForGood after
-  stands-pinned b s good = (root-pinned b after s good, (b, s, good))
-
   pub write-keeps : (result : Option (Unit {0})) → StandsForGood before
       → ((b : Board) → IsHeld b old.births rings v → ClocksFit b → Written (guest_written b d reg value) result new.births others w)
       → IfNone result ((w ≡ v) × (new.births ≡ old.births) × (others ≡ rings)) → OnlyRootPinned w × StandsForGood after
-  write-keeps None (b, s, good) h same = stands-pinned b (subst (λ (p : Parts). Stands b p) (sym (same-parts same)) s) good
+  write-keeps None (b, s, good) h same = good-pinned b after (subst (λ (p : Parts). Stands b p) (sym (same-parts same)) s) good
   write-keeps (Some u) (b, s, good) h same =
       let (c, is, held) = h b (record { held = (s.shows, s.holds); rings_are = s.rings }) good.clocks.fit in
-      stands-pinned c (written-stands b c s (written-leaves b d reg value c is) held) (written-good b d reg value c is good)
+      good-pinned c after (written-stands b c s (written-leaves b d reg value c is) held) (written-good b d reg value c is good)

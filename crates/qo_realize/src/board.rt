@@ -13,7 +13,7 @@ use qo_guest::{Addr, Steps9};
 use qo_heap::{Heap, Oid, Steps};
 use qo_hotplug::{Hotplug, Notice};
 use qo_model::{Detached, Note};
-use qo_plug::{AddRefusal, Added, add};
+use qo_plug::{AddRefusal, Added, DeviceOptions, add};
 use qo_properties::{
     Refusal, add_object, detached_list, get, make_all, object_at, object_of, property_at, remove,
     set, sever,
@@ -93,7 +93,7 @@ impl Board {
     ghost use Rattle.qo_model.specs.Depth.{among};
     ghost use Rattle.qo_model.specs.Hotplug.{asked, completed, refused};
     ghost use Rattle.qo_object.specs.BoardObject.{birth_of};
-    ghost use Rattle.qo_plug.specs.Admission.{wanted};
+    ghost use Rattle.qo_plug.specs.Admission.{as_wanted};
     ghost use Rattle.qo_realize.specs.Answers.{Adds, Changes, IsAnswered, Plugs, Writes};
     ghost use Rattle.qo_realize.specs.Guest.{address_of, first_notice, polled};
     ghost use Rattle.qo_realize.specs.Representation.{Stands, StandsForGood};
@@ -342,16 +342,13 @@ impl Board {
     /// the board is as it was, or an attempt was cut.
     pub fn add<L: Ledger>(
         &mut self,
-        driver: &str,
-        id: Option<&str>,
-        bus: Option<&str>,
-        props: &PropList,
+        options: &DeviceOptions<'_>,
         alloc: Global,
         steps: &mut Steps<L>,
     ) -> Result<Added, AddRefusal>
-        ensures change { (b : model.Board) → Stands b self.old → Plugs b (wanted driver.now (option_map (λ t. t.now) id.entry) (option_map (λ t. t.now) bus.entry) props.now) result self.new }
+        ensures change { (b : model.Board) → Stands b self.old → Plugs b (as_wanted options.now) result self.new }
     {
-        let Some(next) = next_anonymous(self.anonymous, id) else {
+        let Some(next) = next_anonymous(self.anonymous, options.id) else {
             return Err(AddRefusal::Memory);
         };
         match add(
@@ -360,10 +357,7 @@ impl Board {
             &mut self.hotplug,
             &self.rings,
             self.anonymous,
-            driver,
-            id,
-            bus,
-            props,
+            options,
             alloc,
             steps,
         ) {

@@ -4,7 +4,7 @@
 ghost use Rattle.std.specs.Prelude.{◌≡◌, option_map};
 ghost use Rattle.qo_model.specs.Board as model;
 ghost use Rattle.qo_model.specs.Plug.{Wanted};
-ghost use Rattle.qo_plug.specs.Admission.{wanted};
+ghost use Rattle.qo_plug.specs.Admission.{as_wanted};
 ghost use Rattle.qo_realize.specs.Parts.{parts_of};
 ghost use Rattle.qo_realize.specs.Stages.{Begins, Finishes, IsDrafted, IsPlugged, Places, given_up};
 ghost use Rattle.qo_realize.specs.Representation.{Stands, StandsForGood};
@@ -12,10 +12,11 @@ ghost use Rattle.qo_realize.specs.Representation.{Stands, StandsForGood};
 use crate::board::{Board, next_anonymous};
 use qo_heap::{Heap, Steps};
 use qo_hotplug::Hotplug;
-use qo_plug::{AddRefusal, Added, Barred, Begun, Placed, abandon, begin, finish, place};
+use qo_plug::{
+    AddRefusal, Added, Barred, Begun, DeviceOptions, Placed, abandon, begin, finish, place,
+};
 use qo_reset::Resets;
 use qo_rings::Rings;
-use qo_values::PropList;
 use std::alloc::Global;
 use std::marker::Model;
 use std::sync::ledger::Ledger;
@@ -135,17 +136,14 @@ impl Board {
     /// memory wants, the board is as it was, or an attempt was cut.
     pub fn begin<L: Ledger>(
         self,
-        driver: &str,
-        id: Option<&str>,
-        bus: Option<&str>,
-        props: &PropList,
+        options: &DeviceOptions<'_>,
         alloc: Global,
         steps: &mut Steps<L>,
     ) -> Result<Draft, NotAdded>
-        ensures { (b : model.Board) → Stands b self → Begins b (wanted driver.now (option_map (λ t. t.now) id.entry) (option_map (λ t. t.now) bus.entry) props.now) result }
+        ensures { (b : model.Board) → Stands b self → Begins b (as_wanted options.now) result }
     {
         let (mut heap, beside) = parts(self);
-        let Some(next) = next_anonymous(beside.anonymous, id) else {
+        let Some(next) = next_anonymous(beside.anonymous, options.id) else {
             return Err(NotAdded {
                 board: board_of(heap, beside),
                 refusal: AddRefusal::Memory,
@@ -157,10 +155,7 @@ impl Board {
             &beside.hotplug,
             &beside.rings,
             beside.anonymous,
-            driver,
-            id,
-            bus,
-            props,
+            options,
             alloc,
             steps,
         ) {

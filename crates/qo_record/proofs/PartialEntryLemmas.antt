@@ -1,9 +1,9 @@
 -- Bytes at whose front no entry will stand.
-use Rattle.std.proofs.Common.{◌≡◌, ℕ, zero, suc, ◌+◌, ◌/◌, ◌%◌, ◌^◌, ◌≤◌, ◌<◌, ◌==◌, ◌||◌, ◌&&◌, not, nat_le, Bool, true, false, List, [], ◌∷◌}
+use Rattle.std.proofs.Common.{◌≡◌, ℕ, zero, suc, ◌+◌, ◌/◌, ◌%◌, ◌^◌, ◌≤◌, ◌<◌, ◌==◌, ◌||◌, nat_le, Bool, true, false, List, [], ◌∷◌}
 use Rattle.std.proofs.Common.{◌++◌, length, drop, refl, sym, ◌∙◌, ap, arith, length-append, append_assoc, Option, None, Some, IfSome, codes}
 use Rattle.std.proofs.Common.{decimal, ◌⊎◌, inl, inr}
 use Rattle.std.proofs.lemmas.Bool.Decides.{nat_tests}
-use Rattle.std.proofs.lemmas.Bool.{true≢false}
+use Rattle.std.proofs.lemmas.Bool.{true≢false, and_parts, not-true, or_parts}
 use Rattle.std.proofs.lemmas.Fmt.{decimal_by_steps, length-decimal-le}
 use Rattle.std.proofs.lemmas.List.Folds.{list_any-append}
 use Rattle.qo_causes.specs.declared.inputs.Input.{Input}
@@ -40,12 +40,8 @@ last_line (suc k) n = rw (digit_line ((n / 10 ^ k) % 10), last_line k n) refl
 moment_line : (m : Moment) → FitsMoment m → has_line (moment_text m) ≡ false
 moment_line m fits = no_line (decimal m.seconds) (46 ∷ last_digits 6 m.micros) (decimal_line m.seconds (omega (arith, fits.0))) (last_line 6 m.micros)
 
-or_false : (p q : Bool) → (p || q) ≡ false → p ≡ false
-or_false true q h = absurd (true≢false h)
-or_false false q h = refl
-
 front_line : (a b : List ℕ) → has_line (a ++ b) ≡ false → has_line a ≡ false
-front_line a b h = or_false (has_line a) (has_line b) (sym (list_any-append (λ (x : ℕ). x == 10) a b) ∙ h)
+front_line a b h = (or_parts (has_line a) (has_line b) (sym (list_any-append (λ (x : ℕ). x == 10) a b) ∙ h)).0
 
 not_long : (n : ℕ) → n < 52 → nat_le 52 n ≡ false
 not_long n below = grind (arith, nat_tests)
@@ -223,15 +219,6 @@ longer opened at (Bytes s piece) bytes more rest m fits same less ended session 
     (omega (arith, less, ap (length {A = ℕ}) text)) (λ tail. session_promised opened at s piece tail m fits) (omega (arith, fits.2.0)) session
 longer opened at End bytes more rest m fits same less ended session guest = absurd fits
 
-and_true : (p q : Bool) → (p && q) ≡ true → (p ≡ true) × (q ≡ true)
-and_true true q h = (refl, h)
-and_true false q h = absurd (true≢false (sym h))
-
-neither : (p q : Bool) → not (p || q) ≡ true → (p ≡ false) × (q ≡ false)
-neither true q h = absurd (true≢false (sym h))
-neither false true h = absurd (true≢false (sym h))
-neither false false h = (refl, refl)
-
 -- no entry comes where bytes are wrong
 wrong_stays : (opened : List Bool) (bytes more : List ℕ) → is_wrong opened bytes ≡ true → entry_at opened bytes ≡ None → entry_at opened (bytes ++ more) ≡ None
 unfolding is_wrong
@@ -246,8 +233,8 @@ wrong_stays opened bytes more wrong none = go (entry_at opened (bytes ++ more)) 
         let is = front_within (entry_text e.0) e.1 bytes more same few in
         none_some (sym none ∙ ap (entry_at opened) is ∙ entry_again opened e.0 (drop (length (entry_text e.0)) bytes) fits)
     by_size e same fits (inr less) =
-        let p = and_true (nat_le 52 (length bytes) || has_line bytes) _ wrong in
-        let q = neither (are_to_come (promised_by_session opened bytes)) (are_to_come (promised_by_guest bytes)) p.1 in
+        let p = and_parts (nat_le 52 (length bytes) || has_line bytes) _ wrong in
+        let q = or_parts (are_to_come (promised_by_session opened bytes)) (are_to_come (promised_by_guest bytes)) (not-true _ p.1) in
         longer opened e.0.at e.0.what bytes more e.1 fits.0 fits.1 same less p.0 q.0 q.1
 
     go : (r : Option (Input × List ℕ)) → entry_at opened (bytes ++ more) ≡ r → entry_at opened (bytes ++ more) ≡ None

@@ -1,7 +1,7 @@
 -- A text that is written piece by piece.
+use Rattle.std.proofs.lemmas.Bool.{or_parts}
 use Rattle.std.proofs.Common.{◌≡◌, ℕ, Bool, true, false, List, [], ◌∷◌, ◌++◌, refl, sym, ap, ◌∙◌, append_assoc, IsUtf8}
 use Rattle.std.specs.Str.{IsAscii}
-use Rattle.std.specs.Prelude.{◌||◌}
 use Rattle.std.proofs.lemmas.Str.{IsUtf8-append, IsUtf8-from_ascii}
 use Rattle.json.specs.Print.{quoted}
 use Rattle.serde_json.specs.Data.{Data, Items, no_items, item, Members, no_members, member}
@@ -43,10 +43,6 @@ comma-ascii : (later : Bool) → IsAscii (comma_if later)
 comma-ascii true = small-ascii (comma_if true) refl
 comma-ascii false = small-ascii (comma_if false) refl
 
-neither : (a b : Bool) → (a || b) ≡ false → (a ≡ false) × (b ≡ false)
-neither true b e = absurd (cc)
-neither false b e = (refl, e)
-
 -- ---- items
 
 -- where no item is a float, none of those left is, and their text is left
@@ -65,7 +61,7 @@ pub item_written : (all : Items) (d : Data) (ds : Items) (later : Bool) (old now
 item_written all d ds later old now comma after was before is spelled none =
     let whole : List ℕ = 91 ∷ items_text false all in
     let left : List ℕ = compact_text d ++ items_text true ds in
-    let whole_numbers = neither (has_float d) (items_have_float ds) (was none).0 in
+    let whole_numbers = or_parts (has_float d) (items_have_float ds) (was none).0 in
     let then = plain_piece old now comma (comma_if later) left whole (was none).1 before (comma-ascii later) in
     (whole_numbers.1, piece old comma after (compact_text d) (items_text true ds) whole then (is whole_numbers.0) (spelled whole_numbers.0))
 
@@ -93,7 +89,7 @@ member_written all k d ms later old now comma name colon after was before named 
     let whole : List ℕ = 123 ∷ members_text false all in
     let after_name : List ℕ = 58 ∷ (compact_text d ++ members_text true ms) in
     let after_colon : List ℕ = compact_text d ++ members_text true ms in
-    let whole_numbers = neither (has_float d) (members_have_float ms) (was none).0 in
+    let whole_numbers = or_parts (has_float d) (members_have_float ms) (was none).0 in
     let first = plain_piece old now comma (comma_if later) (quoted k ++ after_name) whole (was none).1 before (comma-ascii later) in
     let second = piece old comma name (quoted k) after_name whole first named spelled in
     let third = plain_piece old name colon (58 ∷ []) after_colon whole second then (small-ascii (58 ∷ []) refl) in (

@@ -1,10 +1,8 @@
 -- Phases on a heap are those on the boards that it shows.
-use Rattle.std.proofs.Common.{◌≡◌, refl, ap, ap₂, sym, subst, ◌∙◌, ℕ, suc, not, ◌&&◌, cond, Bool, true, false, eqb, if◌then◌else◌, List, [], ◌∷◌, ◌++◌, length, filter, filter_map, count_by, nat_lt, Option, Some, None, option_map, codes, ◌+◌, arith}
+use Rattle.std.proofs.Common.{◌≡◌, refl, ap, ap₂, sym, subst, ◌∙◌, ℕ, suc, not, ◌&&◌, cond, Bool, true, false, eqb, if◌then◌else◌, List, [], ◌∷◌, ◌++◌, length, filter, filter_map, count_by, nat_lt, Option, Some, None, codes, ◌+◌, arith}
 use Rattle.std.specs.List.{cons_option, flat_map, list_any}
-use Rattle.std.specs.Option.{option_map_or}
 use Rattle.std.specs.Str.{bytes_eq}
 use Rattle.std.proofs.Math.Path.{fun_ext}
-use Rattle.qo_values.specs.declared.kinds.TypeId.{TypeId}
 use Rattle.qo_values.specs.declared.kinds.Act.{Act}
 use Rattle.qo_values.specs.declared.kinds.Act.TheVariants.{Enter, Hold, Exit}
 use Rattle.qo_values.specs.declared.limits.TheConstants.{HOLD_COUNT_MAX}
@@ -16,19 +14,17 @@ use Rattle.qo_model.specs.Devices.{buses_of, bus_in, clock_name, kids_of, strong
 use Rattle.qo_model.specs.Paths.{is_of}
 use Rattle.qo_model.specs.Release.{without_first}
 use Rattle.qo_model.specs.Reset.{below, count, held, is_deep, is_out, phased, plugged, post, pulse, released}
-use Rattle.qo_model.specs.Types.{is_a}
 use Rattle.qo_object.specs.declared.slots.Slot.{Slot}
 use Rattle.qo_object.specs.declared.slots.Slot.TheVariants.{Plain, Child, Link, Alias}
-use Rattle.qo_object.specs.Content.{Content}
 use Rattle.qo_object.specs.BoardObject.{birth_of, shown_slot, shown_slots}
 use Rattle.qo_object.specs.Slots.{Named}
 use Rattle.qo_heap.specs.Acts.{Acts}
 use Rattle.qo_heap.specs.Board.{Shows}
-use Rattle.qo_heap.specs.Objects.{Objects, content_of, slots_of}
+use Rattle.qo_heap.specs.Objects.{Objects, slots_of}
 use Rattle.qo_heap.proofs.ActsLemmas.{acts-then}
 use Rattle.qo_heap.proofs.ActsReads.{acts-length}
 use Rattle.qo_heap.proofs.BoardActs.{shows-acted}
-use Rattle.qo_heap.proofs.BoardReads.{shows-kind, shows-size, shows-slots}
+use Rattle.qo_heap.proofs.BoardReads.{shows-of, shows-size, shows-slots}
 use Rattle.qo_reset.specs.Phases.{acted_on, below_on, chosen, count_on, is_bus, is_crowded, kids_in, phase_on, picked, picks, post_by, turned_to, visited, walked}
 use Rattle.qo_reset.proofs.WalkLemmas.{acts-below, acts-chosen, walked-acts}
 
@@ -67,15 +63,8 @@ buses-shown : (b : Board) (slots : List Named) → filter_map (bus_in b) (shown_
 buses-shown b [] = refl
 buses-shown b (s ∷ slots) = ap₂ (λ (o : Option ℕ) (l : List ℕ). cons_option o l) (bus-shown b s.0 s.1) (buses-shown b slots)
 
-kind-mapped : (o : Option Content)
-    → option_map_or (λ (t : TypeId). is_a t (codes "bus")) (option_map (λ (c : Content). c.kind) o) false
-    ≡ option_map_or (λ (c : Content). is_a c.kind (codes "bus")) o false
-kind-mapped None = refl
-kind-mapped (Some c) = refl
-
 shows-bus : (b : Board) (v : Objects) → Shows b v → is_of b (codes "bus") ≡ is_bus v
-shows-bus b v s =
-    fun_ext (λ n. ap (λ (o : Option TypeId). option_map_or (λ (t : TypeId). is_a t (codes "bus")) o false) (shows-kind b v s n) ∙ kind-mapped (content_of v n))
+shows-bus b v s = fun_ext (shows-of b v s (codes "bus"))
 
 shows-below : (b : Board) (v : Objects) → Shows b v → below b ≡ below_on v
 shows-below b v s = fun_ext (λ n. go n (is_of b (codes "bus") n) ∙ ap (λ (bus : ℕ → Bool). kids_in bus (bus n) (slots_of v n)) (shows-bus b v s))

@@ -1,8 +1,9 @@
 -- Phases on a heap: acts leave who is below whom, and phases go piece by piece.
 use Rattle.std.proofs.Common.{◌≡◌, refl, ap, ap₂, sym, ◌∙◌, ℕ, zero, suc, ◌+◌, ◌-◌, ◌<◌, ◌≤◌, Bool, true, false, not, ◌&&◌, cond, eqb, List, [], ◌∷◌, ◌++◌, take, length, filter, filter_map, slice_get, append-nil, count_by, subst, ◌||◌, nat_eq, Option, Some, None, option_map, IfSome, codes, arith}
 use Rattle.std.specs.List.{cons_option, flat_map, list_any}
-use Rattle.std.specs.Option.{option_and_then, option_map_or}
+use Rattle.std.specs.Option.{option_map_or}
 use Rattle.std.specs.Str.{bytes_eq}
+use Rattle.std.proofs.Math.Bool.{or-false}
 use Rattle.std.proofs.Math.Path.{fun_ext}
 use Rattle.std.proofs.lemmas.List.Concat.{flat_map-append}
 use Rattle.std.proofs.lemmas.List.Elements.{filter-append}
@@ -18,12 +19,12 @@ use Rattle.qo_model.specs.Types.{is_a}
 use Rattle.qo_object.specs.declared.slots.Slot.TheVariants.{Plain, Child, Link, Alias}
 use Rattle.qo_object.specs.Content.{Content}
 use Rattle.qo_object.specs.BoardObject.{birth_of}
-use Rattle.qo_object.specs.Slots.{Named, child_of, target_of}
+use Rattle.qo_object.specs.Slots.{Named, child_of}
 use Rattle.qo_heap.specs.Acts.{Acts}
 use Rattle.qo_heap.specs.Objects.{IsHeap, Objects, content_of, slots_of}
 use Rattle.qo_heap.proofs.ActsLemmas.{acts-act, acts-none, acts-then, acts-live}
 use Rattle.qo_heap.proofs.ActsReads.{acts-length, acts-read, acts-slots}
-use Rattle.qo_heap.proofs.BoardObjects.{named-live}
+use Rattle.qo_heap.proofs.HeapLemmas.{slot-live}
 use Rattle.qo_heap.proofs.MomentLemmas.{acts-timely}
 use Rattle.qo_heap.specs.Moments.{Timely}
 use Rattle.qo_reset.specs.Phases.{acted_on, below_on, births_of, bus_child, chosen, count_on, is_bus, is_under, kids_in, out_on, post_by, strong_target, turned, turned_to, visited, visited_to, walked}
@@ -33,27 +34,16 @@ use Rattle.qo_reset.specs.Phases.{acted_on, below_on, births_of, bus_child, chos
 abbrev pub IfLive : Objects → Option Key → Type 0
 IfLive v o = IfSome o (IsLive v.rows)
 
-slot-live : (v : Objects) → IsHeap v → (n i : ℕ) (s : Named) → slice_get (slots_of v n) i ≡ Some s → IfLive v (target_of s.1)
-slot-live v good n i s e = go (content_of v n) refl e
-  where
-    go : (o : Option Content) → content_of v n ≡ o → slice_get (option_map_or (λ (c : Content). c.slots) o []) i ≡ Some s → IfLive v (target_of s.1)
-    go None p q = cc
-    go (Some c) p q = by (target_of s.1) refl
-      where
-        by : (t : Option Key) → target_of s.1 ≡ t → IfLive v t
-        by None r = tt
-        by (Some k) r = named-live v good n i c p k (ap (λ (o : Option Named). option_and_then target_of (option_map (λ (t : Named). t.1) o)) q ∙ r)
-
 pub child-live : (v : Objects) → IsHeap v → (n i : ℕ) (s : Named) → slice_get (slots_of v n) i ≡ Some s → IfLive v (child_of s.1)
 child-live v good n i (name, Plain val) e = tt
-child-live v good n i (name, Child key) e = slot-live v good n i (name, Child key) e
+child-live v good n i (name, Child key) e = slot-live v good n i (name, Child key) (sym e)
 child-live v good n i (name, Link ty strong target) e = tt
 child-live v good n i (name, Alias key of) e = tt
 
 pub strong-live : (v : Objects) → IsHeap v → (n i : ℕ) (s : Named) → slice_get (slots_of v n) i ≡ Some s → IfLive v (strong_target s.1)
 strong-live v good n i (name, Plain val) e = tt
 strong-live v good n i (name, Child key) e = tt
-strong-live v good n i (name, Link ty true target) e = slot-live v good n i (name, Link ty true target) e
+strong-live v good n i (name, Link ty true target) e = slot-live v good n i (name, Link ty true target) (sym e)
 strong-live v good n i (name, Link ty false target) e = tt
 strong-live v good n i (name, Alias key of) e = tt
 
@@ -62,7 +52,7 @@ bus-live v good n i (name, Plain val) e = tt
 bus-live v good n i (name, Child key) e = go (is_bus v key.birth && not (bytes_eq name clock_name))
   where
     go : (t : Bool) → IfLive v (cond t (Some key) None)
-    go true = slot-live v good n i (name, Child key) e
+    go true = slot-live v good n i (name, Child key) (sym e)
     go false = tt
 bus-live v good n i (name, Link ty strong target) e = tt
 bus-live v good n i (name, Alias key of) e = tt
@@ -299,11 +289,7 @@ found-last v all levels n i m bus more e none =
     ∙ list_any-append m (flat_map (post_by (below_on v) levels) (below_on v n)) (n ∷ [])
     ∙ ap (λ (b : Bool). b || list_any m (n ∷ []))
     (ap (λ (l : List Named). list_any m (flat_map (post_by (below_on v) levels) (kids_in (is_bus v) (is_bus v n) l))) (sym kids) ∙ none)
-    ∙ one (m n)
-  where
-    one : (t : Bool) → (t || false) ≡ t
-    one true = refl
-    one false = refl
+    ∙ or-false (m n)
 
 pub none-found : (v : Objects) (n : ℕ) (m : ℕ → Bool) → list_any m (post_by (below_on v) 0 n) ≡ false
 unfolding post_by
@@ -334,11 +320,7 @@ pub gone-under : (v : Objects) (n m levels : ℕ) → content_of v n ≡ None �
 unfolding post_by
 gone-under v n m levels gone =
     let none : slots_of v n ≡ [] = ap (λ (o : Option Content). option_map_or (λ (c : Content). c.slots) o []) gone in
-    sym (ap (λ (l : List Named). among (flat_map (post_by (below_on v) levels) (kids_in (is_bus v) (is_bus v n) l) ++ n ∷ []) m) none ∙ one (nat_eq m n))
-  where
-    one : (t : Bool) → (t || false) ≡ t
-    one true = refl
-    one false = refl
+    sym (ap (λ (l : List Named). among (flat_map (post_by (below_on v) levels) (kids_in (is_bus v) (is_bus v n) l) ++ n ∷ []) m) none ∙ or-false (nat_eq m n))
 
 abbrev pub counted_to : Objects → List Key → ℕ → ℕ → ℕ
 counted_to v holds n i = count_by (is_under v n) (births_of (take i holds))

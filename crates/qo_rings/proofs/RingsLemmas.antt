@@ -1,12 +1,12 @@
 -- The rings of a board: the first of an id is the only one.
-use Rattle.std.proofs.Common.{◌≡◌, ◌∙◌, ℕ, zero, suc, ◌+◌, ◌<◌, Bool, true, false, not, cond, ◌||◌, if◌then◌else◌, List, [], ◌∷◌, ◌++◌, length, get_or, position, slice_set, set, find, Some, None, option_map, Result, Ok, Err, IfOk, OnOk, OnErr, nat_lt, refl, ap, sym, arith, ◌≤◌}
+use Rattle.std.proofs.Common.{◌≡◌, ◌∙◌, ℕ, zero, suc, ◌+◌, ◌<◌, Bool, true, false, not, cond, ◌||◌, if◌then◌else◌, List, [], ◌∷◌, ◌++◌, length, get_or, position, slice_set, set, find, Some, None, option_map, Result, Ok, Err, OnOk, OnErr, nat_lt, refl, ap, sym, arith}
 use Rattle.std.proofs.lemmas.Bool.{or_parts}
 use Rattle.std.proofs.lemmas.Bool.Decides.{nat_tests}
-use Rattle.std.proofs.lemmas.List.Folds.{find_at}
-use Rattle.std.proofs.lemmas.Option.{none-some, same_Some, slice_get-get_or, slice_get_past}
+use Rattle.std.proofs.lemmas.Option.{none-some, same_Some, slice_get-get_or}
 use Rattle.std.proofs.lemmas.Slice.Eq.{bytes_eq-Decides}
 use Rattle.std.specs.List.{list_any, position_or_len}
 use Rattle.std.specs.Str.{bytes_eq}
+use Rattle.qo_values.proofs.ListLemmas.{position-find, position-none}
 use Rattle.qo_values.specs.Rings.{RingBytes, ring_oldest}
 use Rattle.qo_values.specs.declared.forms.Form.{Form}
 use Rattle.qo_chardev.specs.Texts.{told}
@@ -125,20 +125,7 @@ module _ {X : Type 0} (test : X → Bool) (xs : List X) where
       by false is same = absurd (none-some at same)
 
   pub named-at : (at : ℕ) (x : X) → position test xs ≡ Some at → x ≡ get_or xs at x → find test xs ≡ Some x
-  named-at at x found is =
-      let place = placed at found in
-      find_at test xs ∙ rw (← place.0) (slice_get-get_or xs at x place.1) ∙ ap Some (sym is)
-
-  past : position test xs ≡ None → length xs ≤ position_or_len test xs
-  past none = by (nat_lt (position_or_len test xs) (length xs)) refl none
-    where
-      by : (b : Bool) → nat_lt (position_or_len test xs) (length xs) ≡ b → cond b (Some (position_or_len test xs)) None ≡ None
-          → length xs ≤ position_or_len test xs
-      by true is same = absurd (none-some (position_or_len test xs) (sym same))
-      by false is same = grind (arith, nat_tests)
-
-  pub named-none : position test xs ≡ None → find test xs ≡ None
-  named-none none = find_at test xs ∙ slice_get_past xs (position_or_len test xs) (past none)
+  named-at at x found is = sym (position-find test xs at found) ∙ slice_get-get_or xs at x (placed at found).1 ∙ ap Some (sym is)
 
 pub changed-at : (f : RingBytes → RingBytes) (id : List ℕ) (rings : List Ring) (at : ℕ) (r : Ring) → IdsDiffer rings → position (is_ring id) rings ≡ Some at
     → r ≡ get_or rings at r → slice_set rings at (with_bytes f r) ≡ ring_changed f id rings
@@ -152,7 +139,7 @@ pub changed-to : (f : RingBytes → RingBytes) (id : List ℕ) (rings : List Rin
 changed-to f id rings at r new differ found is to = ap (λ x. slice_set rings at x) to ∙ changed-at f id rings at r differ found is
 
 pub changed-none : (f : RingBytes → RingBytes) (id : List ℕ) (rings : List Ring) → position (is_ring id) rings ≡ None → ring_changed f id rings ≡ rings
-changed-none f id rings none = unchanged f id rings (any-none (is_ring id) rings (named-none (is_ring id) rings none))
+changed-none f id rings none = unchanged f id rings (any-none (is_ring id) rings (position-none (is_ring id) rings none))
 
 pub differ-set : (f : RingBytes → RingBytes) (id : List ℕ) (rings : List Ring) (at : ℕ) (r : Ring) → IdsDiffer rings → position (is_ring id) rings ≡ Some at
     → r ≡ get_or rings at r → IdsDiffer (slice_set rings at (with_bytes f r))
@@ -170,16 +157,7 @@ pub text-at : (id : List ℕ) (most : ℕ) (form : Form) (rings : List Ring) (at
 text-at id most form rings at r found is = ap (option_map (λ (x : Ring). told form (ring_oldest (bytes_in x) most))) (named-at (is_ring id) rings at r found is)
 
 pub text-none : (id : List ℕ) (most : ℕ) (form : Form) (rings : List Ring) → position (is_ring id) rings ≡ None → ring_text id most form rings ≡ None
-text-none id most form rings none = ap (option_map (λ (x : Ring). told form (ring_oldest (bytes_in x) most))) (named-none (is_ring id) rings none)
-
--- what is said of an answer
-pub if_ok-next : {T E : Type 0} (P Q : T → Type 0) (answer : Result T E) → ((x : T) → P x → Q x) → IfOk answer P → IfOk answer Q
-if_ok-next P Q (Ok x) next is = next x is
-if_ok-next P Q (Err e) next is = is
-
-pub on_ok-next : {T E P Q : Type 0} (answer : Result T E) → (P → Q) → OnOk answer P → OnOk answer Q
-on_ok-next (Ok x) next is = next is
-on_ok-next (Err e) next is = is
+text-none id most form rings none = ap (option_map (λ (x : Ring). told form (ring_oldest (bytes_in x) most))) (position-none (is_ring id) rings none)
 
 -- a ring at a place whose bytes were changed, or which an error left
 pub differ-answered : {T E : Type 0} (answer : Result T E) (id : List ℕ) (rings : List Ring) (at : ℕ) (r new : Ring) → IdsDiffer rings

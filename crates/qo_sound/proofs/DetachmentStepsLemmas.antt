@@ -12,9 +12,9 @@ use Rattle.qo_model.specs.Devices.{bus_of, buses_of, clock_of, kids_of}
 use Rattle.qo_model.specs.Objects.{index_from}
 use Rattle.qo_model.specs.Paths.{births}
 use Rattle.qo_model.specs.Release.{after, drop_slot, finalize, let_go, pin, put_in_order, unpin, with_dropped, without_first}
-use Rattle.qo_model.specs.Unplug.{apart_within, detach, drained, each, is_bus_child, is_child_slot, is_named, left_bus, left_parent, let_go_where, lost_bus, lost_buses, names_kid, take_slot, take_where, taken_by, unheld, unnoticed, unrealize, unrealize_turn, unrealized_bus, unrealized_device, without_all}
+use Rattle.qo_model.specs.Unplug.{detach, each, is_bus_child, is_child_slot, is_named, left_bus, left_parent, let_go_where, names_kid, take_slot, take_where, unheld, unnoticed, unrealize, unrealize_turn, unrealized_bus, unrealized_device, without_all}
 use Rattle.qo_sound.proofs.AdditionStepsLemmas.{KeepsActs, KeepsEdits, step-set, step-disconnected}
-use Rattle.qo_sound.proofs.UnplugLemmas.{held-drained, held-buses}
+use Rattle.qo_sound.proofs.UnplugLemmas.{detached-keeps}
 
 -- other holds, pending removals and notices keep P
 abbrev pub KeepsLists : (Board → Type 0) → Type 0
@@ -121,25 +121,6 @@ module _ (P : Board → Type 0) (edits : KeepsEdits P) (pins : KeepsPins P) (end
   step-left_parent : (d : ℕ) (c : Board) → P c → P (left_parent d c)
   step-left_parent d c h = step-where (is_child_slot d) ANONYMOUS_BIRTH _ (step-where (is_child_slot d) PERIPHERAL_BIRTH c h)
 
-  module _ (f : ℕ → Board → Board) (keeps : (n : ℕ) (c : Board) → P c → P (f n c)) where
-    step-drained : (times m : ℕ) (c : Board) → P c → P (drained f times m c)
-    step-drained times m c h = held-drained P f keeps times m c h
-
-    step-lost_bus : (d m : ℕ) (c : Board) → P c → P (lost_bus f d m c)
-    step-lost_bus d m c h = step-where (is_bus_child m) d _ (step-drained (length (slots_at c m)) m c h)
-
-    step-lost_buses : (times d : ℕ) (c : Board) → P c → P (lost_buses f times d c)
-    step-lost_buses times d c h = held-buses P f d (step-lost_bus d) times c h
-
-    step-taken : (d : ℕ) (c : Board) → P c → P (taken_by f d c)
-    step-taken d c h = step-left_parent d _ (step-left_bus d _ (step-lost_buses (length (slots_at c d)) d c h))
-
-  step-apart : (depth d : ℕ) (c : Board) → P c → P (apart_within depth d c)
-  unfolding apart_within
-  step-apart zero d c h = h
-  step-apart (suc depth) d c h = step-unpin d _ (step-taken (apart_within depth) (step-apart depth) d (pin c d) (step-pin d c h))
-
   -- a device that was unrealized while it was held
   pub step-detach : (b : Board) (d : ℕ) → P (unrealize (pin b d) d) → P (detach b d)
-  unfolding detach
-  step-detach b d h = step-unpin d _ (step-taken (apart_within (length (births b))) (step-apart (length (births b))) d (unrealize (pin b d) d) h)
+  step-detach b d h = detached-keeps P (λ m. step-where (is_bus_child m)) step-left_bus step-left_parent step-pin step-unpin b d h

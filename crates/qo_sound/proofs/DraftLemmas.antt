@@ -33,8 +33,9 @@ use Rattle.qo_model.proofs.GraphLemmas.{births_at}
 use Rattle.qo_model.proofs.StepLemmas.{found_at, found-edited, found-birth}
 use Rattle.qo_sound.proofs.RecordLemmas.{all-append}
 use Rattle.qo_sound.proofs.SlotLemmas.{clocks_in, names_in, one_child}
-use Rattle.qo_sound.proofs.FirmBoardLemmas.{Linked, parents_of, edited-leads, firm-beside}
+use Rattle.qo_sound.proofs.FirmBoardLemmas.{Firm, Linked, parents_of, edited-leads, firm-beside}
 use Rattle.qo_sound.proofs.NewSlotLemmas.{fresh-names, new-lone}
+use Rattle.qo_sound.proofs.TestLemmas.{decide, clash}
 use Rattle.qo_sound.proofs.NewObjectLemmas.{IsNew, children-none, grown, grown-leads, grown-near, grown-new, grown-old, grown-parents, new-absent}
 use Rattle.qo_sound.proofs.ChildSlotLemmas.{IsNameless, Step, stayed, new_one, leads-first, named-near, named-parents, named-step}
 use Rattle.qo_sound.proofs.WorkLemmas.{Nearly}
@@ -143,6 +144,18 @@ found-low k x (y ∷ rs) r h e = go (y.birth == x) refl (found-low k x rs r h.1)
     go : (t : Bool) → (y.birth == x) ≡ t → (found_at x rs ≡ Some r → x ≤ k) → x ≤ k
     go true p rest = subst (λ (z : ℕ). z ≤ k) (eqb-true y.birth x p) h.0
     go false p rest = rest (rw p at e)
+
+-- above all births nothing is there
+pub absent-above : (b : Board) → Firm b → (x : ℕ) → b.born < x → record_of b x ≡ None
+absent-above b firm x high = go (record_of b x) refl
+  where
+    go : (o : Option Record) → record_of b x ≡ o → record_of b x ≡ None
+    go None e = e
+    go (Some r) e = absurd (let low : x ≤ b.born = found-low b.born x b.records r firm.within e in omega (arith, high, low))
+
+-- who is there is apart from who is not
+pub live-apart : (b : Board) (x y : ℕ) → is_live b x ≡ false → is_live b y ≡ true → (x == y) ≡ false
+live-apart b x y none there = decide (x == y) (λ p. clash (sym there ∙ sym (ap (is_live b) (eqb-true x y p)) ∙ none)) (λ p. p)
 
 -- the child of the clock's name is among the clocks
 clock-found : (slots : List (List ℕ × Slot)) (m : ℕ) → option_and_then child_named (option_map (λ (s : List ℕ × Slot). s.1) (find is_clock_slot slots)) ≡ Some m
@@ -445,12 +458,5 @@ pub drafted-drafts : (b : Board) (t : TypeId) → is_open (b.born + 1) ≡ false
     → Drafts b (b.born + 1) t [] (pinned_once (b.born + 1) (drafted b t))
 drafted-drafts b t not_open h =
     subst (Drafts b (b.born + 1) t []) (rows-pinned_once (b.born + 1) t (slots_of t) (with_new (fresh (b.born + 1) t) b))
-    (drafts-rows b (b.born + 1) t absent not_open (slots_of t) (pinned_once (b.born + 1) (with_new (fresh (b.born + 1) t) b)) (drafts-begun b t h))
-  where
-    absent : record_of b (b.born + 1) ≡ None
-    absent = go (record_of b (b.born + 1)) refl
-      where
-        go : (o : Option Record) → record_of b (b.born + 1) ≡ o → record_of b (b.born + 1) ≡ None
-        go None e = e
-        go (Some r) e = absurd (let high : b.born + 1 ≤ b.born = found-low b.born (b.born + 1) b.records r h.firm.within e in
-            let clash : 0 < 0 = omega (arith, high) in omega arith)
+    (drafts-rows b (b.born + 1) t (absent-above b h.firm (b.born + 1) (omega arith)) not_open (slots_of t)
+    (pinned_once (b.born + 1) (with_new (fresh (b.born + 1) t) b)) (drafts-begun b t h))

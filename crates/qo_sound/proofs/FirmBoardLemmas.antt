@@ -9,18 +9,21 @@ use Rattle.std.proofs.lemmas.Option.{same_Some}
 use Rattle.std.proofs.Math.Path.{fun_ext}
 use Rattle.qo_values.specs.Kinds.{type_name}
 use Rattle.qo_values.specs.declared.kinds.TypeId.{TypeId}
+use Rattle.qo_values.specs.declared.properties.Val.{Val}
 use Rattle.qo_model.specs.Board.{Board, Record, Slot, plain, child, strong, weak, alias, record_of, kind_of, slot_at}
-use Rattle.qo_model.specs.Changes.{with_changed}
+use Rattle.qo_model.specs.Changes.{with_changed, with_val}
 use Rattle.qo_model.specs.Depth.{among, leads, Leads, one, more}
 use Rattle.qo_model.specs.Paths.{births, child_of, is_child, children_in, children_of}
 use Rattle.qo_model.specs.Release.{edit, edited, emptied, with_dropped, drop_slot}
 use Rattle.qo_model.specs.SoundGraph.{Rises}
 use Rattle.qo_model.specs.Types.{is_a}
+use Rattle.qo_model.specs.Unplug.{unseen}
 use Rattle.qo_model.specs.declared.notes.Note.{Note}
 use Rattle.qo_model.proofs.EditLemmas.{sum-edit_le, sum-without_hold_le}
 use Rattle.qo_model.proofs.GraphLemmas.{births_at}
 use Rattle.qo_model.proofs.StepLemmas.{found-edited, found-birth, map-edited}
-use Rattle.qo_sound.proofs.RecordLemmas.{all-filter, all-edited, all-imply}
+use Rattle.qo_sound.proofs.RecordLemmas.{all-filter, all-edited}
+use Rattle.qo_values.proofs.ListLemmas.{all-imply}
 use Rattle.qo_sound.proofs.SlotLemmas.{names_in, distinct-dropped, names-changed, all-dropped, all-changed, children-dropped, children-changed, sum-changed_same, one_child, left-child, one_child-same}
 
 -- the target of a link is there and of the link's type, where `kinds` says the type of each object that is there
@@ -157,12 +160,27 @@ module _ (n : ℕ) (change : Record → Record) (same_birth : (r : Record) → (
       }
 
 -- what is left of a slot that was let go names nothing new
-left-linked : (kinds : ℕ → Option TypeId) (s left : Slot) → emptied s ≡ Some left → Linked kinds s → Linked kinds left
+pub left-linked : (kinds : ℕ → Option TypeId) (s left : Slot) → emptied s ≡ Some left → Linked kinds s → Linked kinds left
 left-linked kinds (plain v) left e h = subst (Linked kinds) (same_Some (plain v) left e) h
 left-linked kinds (child m) left e h = absurd (let clash : None ≡ Some left = e in cc)
 left-linked kinds (strong t target) left e h = subst (Linked kinds) (same_Some (strong t None) left e) tt
 left-linked kinds (weak t target) left e h = subst (Linked kinds) (same_Some (weak t None) left e) tt
 left-linked kinds (alias m property) left e h = subst (Linked kinds) (same_Some (alias m property) left e) h
+
+-- nor does a slot whose value is set, or whose target is seen no more
+pub val-linked : (kinds : ℕ → Option TypeId) (v : Val) (s : Slot) → Linked kinds s → Linked kinds (with_val v s)
+val-linked kinds v (plain w) h = tt
+val-linked kinds v (child m) h = h
+val-linked kinds v (strong t target) h = h
+val-linked kinds v (weak t target) h = h
+val-linked kinds v (alias m property) h = h
+
+pub unseen-linked : (kinds : ℕ → Option TypeId) (s : Slot) → Linked kinds s → Linked kinds (unseen s)
+unseen-linked kinds (plain v) h = tt
+unseen-linked kinds (child m) h = h
+unseen-linked kinds (strong t target) h = h
+unseen-linked kinds (weak t target) h = tt
+unseen-linked kinds (alias m property) h = h
 
 pub firm-drop : (b : Board) (n i : ℕ) → Firm b → Firm (drop_slot b n i)
 unfolding drop_slot

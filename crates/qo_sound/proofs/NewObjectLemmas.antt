@@ -18,7 +18,8 @@ use Rattle.qo_model.specs.Types.{is_a}
 use Rattle.qo_model.proofs.GraphLemmas.{births_at}
 use Rattle.qo_model.proofs.StepLemmas.{found_at}
 use Rattle.qo_model.specs.SoundAliases.{lasting, PassesTo}
-use Rattle.qo_sound.proofs.RecordLemmas.{all-append, all-imply}
+use Rattle.qo_sound.proofs.RecordLemmas.{all-append}
+use Rattle.qo_values.proofs.ListLemmas.{all-imply}
 use Rattle.qo_sound.proofs.SlotLemmas.{one_child}
 use Rattle.qo_sound.proofs.FirmBoardLemmas.{FitsKind, Linked, HasNames, parents_in, parents_of, Firm, Leads-within}
 use Rattle.qo_sound.proofs.NewSlotLemmas.{IsLone}

@@ -19,7 +19,8 @@ use Rattle.qo_model.specs.declared.properties.Property.{Property}
 use Rattle.qo_model.specs.declared.properties.PropertyRole.{PropertyRole}
 use Rattle.qo_model.specs.declared.properties.PropertyRole.TheVariants as row
 use Rattle.qo_model.specs.SoundAliases.{PassesTo}
-use Rattle.qo_sound.proofs.RecordLemmas.{all-imply, all-map}
+use Rattle.qo_sound.proofs.RecordLemmas.{all-map}
+use Rattle.qo_values.proofs.ListLemmas.{all-imply}
 use Rattle.qo_sound.proofs.SlotLemmas.{names_in}
 use Rattle.qo_sound.proofs.FirmBoardLemmas.{FitsKind, Linked}
 use Rattle.qo_sound.proofs.TargetLemmas.{FitsResult, target-fits}

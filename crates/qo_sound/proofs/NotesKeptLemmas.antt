@@ -43,7 +43,8 @@ use Rattle.qo_sound.proofs.KindsLemmas.{device-kinds}
 use Rattle.qo_sound.proofs.PresenceLemmas.{buses-there, IsThere, kids-there, post-there}
 use Rattle.qo_sound.proofs.AdditionStepsLemmas.{any-rows, KeepsActs, KeepsEdits, KeepsNew, LeavesAllButSlots, new_with, step-acted_all, step-drafted, step-phased, step-plugged, step-stood}
 use Rattle.qo_sound.proofs.PlugLemmas.{device-of, held-all, held-phased, IsPlace, place-of, shut-above, sits-device}
-use Rattle.qo_sound.proofs.RecordLemmas.{all-filter, all-imply}
+use Rattle.qo_sound.proofs.RecordLemmas.{all-filter}
+use Rattle.qo_values.proofs.ListLemmas.{all-imply}
 use Rattle.qo_sound.proofs.UnplugLemmas.{Sits}
 use Rattle.qo_sound.proofs.ViewLemmas.{AtRest, rest-from_sound}
 

@@ -1,11 +1,12 @@
 -- Adding a device keeps a board at rest, taken or refused, and so does an attempt that was cut.
-use Rattle.std.proofs.Common.{nat_eq, ◌≡◌, refl, ap, sym, subst, ◌∙◌, ℕ, zero, suc, ◌+◌, ◌<◌, ◌≤◌, Bool, true, false, not, ◌==◌, List, [], ◌∷◌, filter, take, length, codes, Option, Some, None, is_some, option_map, arith}
+use Rattle.std.proofs.Common.{nat_eq, ◌≡◌, refl, ap, sym, subst, ◌∙◌, ℕ, suc, ◌+◌, ◌<◌, ◌≤◌, Bool, true, false, not, ◌==◌, List, [], ◌∷◌, filter, take, length, codes, Option, Some, None, is_some, option_map, arith}
 use Rattle.std.specs.Prelude.{nat_lt, if◌then◌else◌, ◌||◌}
 use Rattle.std.specs.List.{list_any}
 use Rattle.std.specs.Option.{option_map_or, option_or}
 use Rattle.std.specs.Str.{bytes_eq}
 use Rattle.std.proofs.lemmas.Bool.{eqb-true, not-false, not-true}
 use Rattle.std.proofs.lemmas.Option.{same_Some}
+use Rattle.qo_values.proofs.PlacingLemmas.{least-passes}
 use Rattle.qo_values.specs.Placing.{least}
 use Rattle.qo_values.specs.declared.codes.Code.{Code}
 use Rattle.qo_values.specs.declared.codes.Code.TheVariants.{E15, E21, E22, E24, E26, E27, E28, E29, E30}
@@ -329,16 +330,6 @@ bus-is b t m e =
     let first : (not (is_of b (bus_type t) m) ≡ false) × (after_it ≡ None) = unbarred (not (is_of b (bus_type t) m)) E26 after_it e in
     not-false (is_of b (bus_type t) m) first.0
 
--- the slot
-pub least-passes : (p : ℕ → Bool) (times first m : ℕ) → least p first times ≡ Some m → p m ≡ true
-unfolding least
-least-passes p zero first m e = absurd (let clash : None ≡ Some m = e in cc)
-least-passes p (suc times) first m e = go (p first) refl (least-passes p times (first + 1) m)
-  where
-    go : (u : Bool) → p first ≡ u → (least p (first + 1) times ≡ Some m → p m ≡ true) → p m ≡ true
-    go true q rest = subst (λ (k : ℕ). p k ≡ true) (same_Some first m (rw q at e)) q
-    go false q rest = rest (rw q at e)
-
 slot-free : (b : Board) (bus : ℕ) (given : Option ℕ) → code_in (bus_slot_for b bus given) ≡ None
     → has_slot b bus (kid_name (ok_or_zero (bus_slot_for b bus given))) ≡ false
 slot-free b bus (Some slot) e = go (nat_lt slot BUS_SLOTS) refl (is_free b bus slot) refl
@@ -352,7 +343,7 @@ slot-free b bus None e = go (least (is_free b bus) 0 BUS_SLOTS) refl
   where
     go : (o : Option ℕ) → least (is_free b bus) 0 BUS_SLOTS ≡ o → has_slot b bus (kid_name (ok_or_zero (bus_slot_for b bus None))) ≡ false
     go None p = absurd (let clash : Some E30 ≡ None = rw (bus_slot_for, p) at e in cc)
-    go (Some slot) p = rw (bus_slot_for, p) (not-true (has_slot b bus (kid_name slot)) (least-passes (is_free b bus) BUS_SLOTS 0 slot p))
+    go (Some slot) p = rw (bus_slot_for, p) (not-true (has_slot b bus (kid_name slot)) (least-passes (is_free b bus) 0 BUS_SLOTS slot p))
 
 -- the stages
 

@@ -10,10 +10,6 @@ use Rattle.qo_model.specs.SoundGraph.{Rises}
 use Rattle.qo_model.proofs.GraphLemmas.{births_at}
 use Rattle.qo_model.proofs.StepLemmas.{found_at}
 
-pub all-imply : {A : Type 0} (P Q : A → Type 0) → ((x : A) → P x → Q x) → (xs : List A) → AllByRecursion P xs → AllByRecursion Q xs
-all-imply P Q f [] h = tt
-all-imply P Q f (x ∷ xs) h = (f x h.0, all-imply P Q f xs h.1)
-
 pub all-map : {A B : Type 0} (P : A → Type 0) (Q : B → Type 0) (f : A → B) → ((x : A) → P x → Q (f x)) → (xs : List A) → AllByRecursion P xs
     → AllByRecursion Q (map f xs)
 all-map P Q f is [] h = tt

@@ -14,7 +14,8 @@ use Rattle.qo_model.specs.Release.{edit, edited}
 use Rattle.qo_model.specs.SoundAliases.{is_clock_slot, is_open, lasting, PassesTo}
 use Rattle.qo_model.specs.SoundGraph.{Rises}
 use Rattle.qo_model.proofs.StepLemmas.{found_at, one_of}
-use Rattle.qo_sound.proofs.RecordLemmas.{all-append, all-imply, sum-edited}
+use Rattle.qo_sound.proofs.RecordLemmas.{all-append, sum-edited}
+use Rattle.qo_values.proofs.ListLemmas.{all-imply}
 use Rattle.qo_sound.proofs.SlotLemmas.{clocks_in, names_in, one_child}
 use Rattle.qo_sound.proofs.FirmBoardLemmas.{Linked, HasNames, Firm, firm-edit}
 use Rattle.qo_sound.proofs.WorkLemmas.{HasOwn, Nearly}

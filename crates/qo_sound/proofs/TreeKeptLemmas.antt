@@ -13,7 +13,7 @@ use Rattle.qo_model.specs.SoundGraph.{graph_of, SoundGraph}
 use Rattle.qo_model.specs.Unplug.{detach}
 use Rattle.qo_model.proofs.OpeningLemmas.{opening_sound}
 use Rattle.qo_sound.specs.TreeKept.{SoundKeptLaw, SoundTree}
-use Rattle.qo_sound.proofs.RecordLemmas.{all-imply}
+use Rattle.qo_values.proofs.ListLemmas.{all-imply}
 use Rattle.qo_sound.proofs.AddLemmas.{object_add-rest}
 use Rattle.qo_sound.proofs.PlugLemmas.{cut_attempt-rest, plug-rest}
 use Rattle.qo_sound.proofs.ResetLemmas.{held-rest, released-rest, reset-rest}

@@ -21,12 +21,12 @@ use Rattle.qo_model.specs.Objects.{index_from}
 use Rattle.qo_model.specs.Paths.{births, child_of, is_child}
 use Rattle.qo_model.specs.Release.{drop_slot, let_go, pin, put_in_order, unpin, without_first}
 use Rattle.qo_model.specs.SoundAliases.{is_clock_slot, is_open, PassesTo}
-use Rattle.qo_model.specs.Unplug.{apart_within, detach, disconnected, drained, each, first_of, is_bus_child, is_child_slot, is_named, left_bus, let_go_where, lost_bus, lost_buses, unseen, unseen_named, names_kid, set_named, take_slot, take_where, taken_by, unheld, unnoticed, unrealize, unrealize_turn, unrealized_device, without_all}
+use Rattle.qo_model.specs.Unplug.{apart_within, detach, disconnected, drained, each, first_of, is_bus_child, is_child_slot, is_named, left_bus, let_go_where, lost_bus, lost_buses, unseen, unseen_named, names_kid, set_named, take_slot, take_where, taken_by, unheld, unnoticed, unrealize, unrealize_turn, unrealized_device, without_all, left_parent, unrealized_bus}
 use Rattle.qo_model.proofs.FirstSlotLemmas.{Found, found-at}
 use Rattle.qo_model.proofs.PinLemmas.{IsUp, put-among, put-back, put-up, release-pins, unpin-pins}
 use Rattle.qo_model.proofs.ReleaseScopeLemmas.{let_go-leaves}
 use Rattle.qo_model.proofs.StepLemmas.{one_of}
-use Rattle.qo_sound.proofs.FirmBoardLemmas.{Linked}
+use Rattle.qo_sound.proofs.FirmBoardLemmas.{val-linked, unseen-linked}
 use Rattle.qo_sound.proofs.SlotLemmas.{IsNoClock, no_child, other_name}
 use Rattle.qo_sound.proofs.WorkLemmas.{Nearly, after-firm}
 use Rattle.qo_sound.proofs.ViewLemmas.{AtRest}
@@ -102,14 +102,65 @@ held-pinned ps up d f keeps c h =
     there : list_any (nat_eq d) (f (pin c d)).pins ≡ true
     there = ap (list_any (nat_eq d)) inner.pins ∙ put-among d ps
 
--- small steps
+-- what each step keeps, the steps for each of a list keep
+steps-keep : (P : Board → Type 0) (f : ℕ → Board → Board) → ((n : ℕ) (c : Board) → P c → P (f n c)) → (ns : List ℕ) (c : Board) → P c → P (each f ns c)
+steps-keep P f keeps [] c h = h
+steps-keep P f keeps (n ∷ ns) c h = steps-keep P f keeps ns (f n c) (keeps n c h)
 
-set-gentle : (kinds : ℕ → Option TypeId) (v : Val) (s : Slot) → Linked kinds s → Linked kinds (with_val v s)
-set-gentle kinds v (plain old) h = tt
-set-gentle kinds v (child m) h = h
-set-gentle kinds v (strong t target) h = h
-set-gentle kinds v (weak t target) h = h
-set-gentle kinds v (alias m name) h = h
+-- what a device and a bus keep as they are unrealized, a device keeps with all that is below it
+module _ (P : Board → Type 0) (device : (d : ℕ) (c : Board) → P c → P (unrealized_device d c)) (bus : (m : ℕ) (c : Board) → P c → P (unrealized_bus m c)) where
+  turns-keep : (b : Board) (depth d : ℕ) (c : Board) → P c → P (by_depth (unrealize_turn b) (λ d c. c) depth d c)
+  turns-keep b zero d c h = h
+  turns-keep b (suc depth) d c h = turn (turns-keep b depth)
+    where
+      turn : ((k : ℕ) (e : Board) → P e → P (by_depth (unrealize_turn b) (λ d c. c) depth k e))
+          → P (by_depth (unrealize_turn b) (λ d c. c) (suc depth) d c)
+      turn keeps = device d _ (steps-keep P _ (λ m e k. bus m _ (steps-keep P _ keeps (kids_of b m) e k)) (buses_of b d) c h)
+
+  pub unrealize-keeps : (c : Board) (d : ℕ) → P c → P (unrealize c d)
+  unfolding unrealize
+  unrealize-keeps c d h = turns-keep c (suc (length (births c))) d c h
+
+-- what stays as a bus is let go, and as a device leaves its bus and its container, stays as a device is taken out
+module _ (P : Board → Type 0) (bus : (m d : ℕ) (c : Board) → P c → P (let_go_where (is_bus_child m) d c))
+    (leaves : (d : ℕ) (c : Board) → P c → P (left_bus d c))
+    (parent : (d : ℕ) (c : Board) → P c → P (left_parent d c)) where
+  module _ (f : ℕ → Board → Board) (keeps : (n : ℕ) (c : Board) → P c → P (f n c)) where
+    drained-keeps : (times m : ℕ) (c : Board) → P c → P (drained f times m c)
+    drained-keeps zero m c h = h
+    drained-keeps (suc times) m c h = go (first_of (kids_of c m)) refl (drained-keeps times m)
+      where
+        go : (o : Option ℕ) → first_of (kids_of c m) ≡ o → ((e : Board) → P e → P (drained f times m e)) → P (drained f (suc times) m c)
+        go None e rest = rw (drained, e) h
+        go (Some k) e rest = rw (drained, e) (rest (f k c) (keeps k c h))
+
+    lost_bus-keeps : (d m : ℕ) (c : Board) → P c → P (lost_bus f d m c)
+    lost_bus-keeps d m c h = bus m d _ (drained-keeps (length (slots_at c m)) m c h)
+
+    lost_buses-keep : (times d : ℕ) (c : Board) → P c → P (lost_buses f times d c)
+    lost_buses-keep zero d c h = h
+    lost_buses-keep (suc times) d c h = go (first_of (buses_of c d)) refl (lost_buses-keep times d)
+      where
+        go : (o : Option ℕ) → first_of (buses_of c d) ≡ o → ((e : Board) → P e → P (lost_buses f times d e)) → P (lost_buses f (suc times) d c)
+        go None e rest = rw (lost_buses, e) h
+        go (Some m) e rest = rw (lost_buses, e) (rest (lost_bus f d m c) (lost_bus-keeps d m c h))
+
+    taken-keeps : (d : ℕ) (c : Board) → P c → P (taken_by f d c)
+    taken-keeps d c h = parent d _ (leaves d _ (lost_buses-keep (length (slots_at c d)) d c h))
+
+  module _ (held : (d : ℕ) (c : Board) → P c → P (pin c d)) (let_down : (d : ℕ) (c : Board) → P c → P (unpin c d)) where
+    apart-keeps : (depth d : ℕ) (c : Board) → P c → P (apart_within depth d c)
+    unfolding apart_within
+    apart-keeps zero d c h = h
+    apart-keeps (suc depth) d c h = let_down d _ (taken-keeps (apart_within depth) (apart-keeps depth) d (pin c d) (held d c h))
+
+    -- a device that was unrealized while it was held
+    pub detached-keeps : (b : Board) (d : ℕ) → P (unrealize (pin b d) d) → P (detach b d)
+    unfolding detach
+    detached-keeps b d h =
+        let_down d _ (taken-keeps (apart_within (length (births b))) (apart-keeps (length (births b))) d (unrealize (pin b d) d) h)
+
+-- small steps
 
 set-count : (k : ℕ) (v : Val) (s : Slot) → one_of k ([], s) ≤ one_of k ([], with_val v s)
 set-count k v (plain old) = omega arith
@@ -127,7 +178,7 @@ held-set ps n name v c h = go (index_from (is_named name) 0 (slots_at c n)) refl
     go (Some i) e =
         let f : Found (is_named name) (slots_at c n) i = found-at (is_named name) i (slots_at c n) e in
         rw (set_named, e) (record {
-          near = near-changed (with_val v) (gentle-val v) None c n i f.entry.1 (slot-of c n i f.entry f.at) (set-gentle (kind_of c) v f.entry.1)
+          near = near-changed (with_val v) (gentle-val v) None c n i f.entry.1 (slot-of c n i f.entry f.at) (val-linked (kind_of c) v f.entry.1)
               (λ k. set-count k v f.entry.1) h.near;
           pins = h.pins;
         })
@@ -165,13 +216,6 @@ unseen-gentle = record { children = children; passes = passes }
     passes ns (weak t target) h = h
     passes ns (alias m name) h = h
 
-unseen-fits : (kinds : ℕ → Option TypeId) (s : Slot) → Linked kinds s → Linked kinds (unseen s)
-unseen-fits kinds (plain v) h = tt
-unseen-fits kinds (child m) h = h
-unseen-fits kinds (strong t target) h = h
-unseen-fits kinds (weak t target) h = tt
-unseen-fits kinds (alias m name) h = h
-
 unseen-count : (k : ℕ) (s : Slot) → one_of k ([], s) ≤ one_of k ([], unseen s)
 unseen-count k (plain v) = omega arith
 unseen-count k (child m) = omega arith
@@ -187,7 +231,7 @@ held-unseen ps n name c h = go (index_from (is_named name) 0 (slots_at c n)) ref
     go (Some i) e =
         let f : Found (is_named name) (slots_at c n) i = found-at (is_named name) i (slots_at c n) e in
         rw (unseen_named, e) (record {
-          near = near-changed unseen unseen-gentle None c n i f.entry.1 (slot-of c n i f.entry f.at) (unseen-fits (kind_of c) f.entry.1)
+          near = near-changed unseen unseen-gentle None c n i f.entry.1 (slot-of c n i f.entry f.at) (unseen-linked (kind_of c) f.entry.1)
               (λ k. unseen-count k f.entry.1) h.near;
           pins = h.pins;
         })
@@ -196,48 +240,19 @@ held-disconnected : (ps : List ℕ) (o : Option ℕ) (c : Board) → Sits ps c �
 held-disconnected ps None c h = h
 held-disconnected ps (Some n) c h = held-set ps n (codes "period") (val.Uint 0) _ (held-unseen ps n (codes "source") c h)
 
-held-each : (P : Board → Type 0) (f : ℕ → Board → Board) → ((n : ℕ) (c : Board) → P c → P (f n c)) → (ns : List ℕ) (c : Board) → P c → P (each f ns c)
-held-each P f keeps [] c h = h
-held-each P f keeps (n ∷ ns) c h = held-each P f keeps ns (f n c) (keeps n c h)
-
 -- unrealizing
 
 held-device : (ps : List ℕ) (d : ℕ) (c : Board) → Sits ps c → Sits ps (unrealized_device d c)
 held-device ps d c h = held-unnoticed ps d _ (held-unheld ps d
     _ (held-set ps d (codes "realized") (val.Bool false) _ (held-disconnected ps (clock_of c d) _ (held-acted ps Unrealize d (device_period c d) c h))))
 
-held-turns : (ps : List ℕ) (b : Board) (depth d : ℕ) (c : Board) → Sits ps c → Sits ps (by_depth (unrealize_turn b) (λ d c. c) depth d c)
-held-turns ps b zero d c h = h
-held-turns ps b (suc depth) d c h = turn (held-turns ps b depth)
-  where
-    turn : ((k : ℕ) (e : Board) → Sits ps e → Sits ps (by_depth (unrealize_turn b) (λ d c. c) depth k e))
-        → Sits ps (by_depth (unrealize_turn b) (λ d c. c) (suc depth) d c)
-    turn keeps = held-device ps d _ (held-each (Sits ps)
-        _ (λ m e k. held-unheld ps m _ (held-acted ps Unrealize m 0 _ (held-each (Sits ps) _ keeps (kids_of b m) e k))) (buses_of b d) c h)
+held-bus : (ps : List ℕ) (m : ℕ) (c : Board) → Sits ps c → Sits ps (unrealized_bus m c)
+held-bus ps m c h = held-unheld ps m _ (held-acted ps Unrealize m 0 c h)
 
 pub held-unrealize : (ps : List ℕ) (d : ℕ) (c : Board) → Sits ps c → Sits ps (unrealize c d)
-unfolding unrealize
-held-unrealize ps d c h = held-turns ps c (suc (length (births c))) d c h
+held-unrealize ps d c h = unrealize-keeps (Sits ps) (held-device ps) (held-bus ps) c d h
 
 -- taking out
-
-pub held-drained : (P : Board → Type 0) (f : ℕ → Board → Board) → ((n : ℕ) (c : Board) → P c → P (f n c)) → (times m : ℕ) (c : Board) → P c
-    → P (drained f times m c)
-held-drained P f keeps zero m c h = h
-held-drained P f keeps (suc times) m c h = go (first_of (kids_of c m)) refl (held-drained P f keeps times m)
-  where
-    go : (o : Option ℕ) → first_of (kids_of c m) ≡ o → ((e : Board) → P e → P (drained f times m e)) → P (drained f (suc times) m c)
-    go None e rest = rw (drained, e) h
-    go (Some k) e rest = rw (drained, e) (rest (f k c) (keeps k c h))
-
-pub held-buses : (P : Board → Type 0) (f : ℕ → Board → Board) (d : ℕ) → ((m : ℕ) (c : Board) → P c → P (lost_bus f d m c)) → (times : ℕ) (c : Board) → P c
-    → P (lost_buses f times d c)
-held-buses P f d keeps zero c h = h
-held-buses P f d keeps (suc times) c h = go (first_of (buses_of c d)) refl (held-buses P f d keeps times)
-  where
-    go : (o : Option ℕ) → first_of (buses_of c d) ≡ o → ((e : Board) → P e → P (lost_buses f times d e)) → P (lost_buses f (suc times) d c)
-    go None e rest = rw (lost_buses, e) h
-    go (Some m) e rest = rw (lost_buses, e) (rest (lost_bus f d m c) (keeps m c h))
 
 -- a link of a bus is let go and removed
 pub kid-held : (d : ℕ) (s : List ℕ × Slot) → names_kid d s ≡ true → (t : TypeId) × (s.1 ≡ strong t (Some d))
@@ -275,14 +290,13 @@ held-left_bus ps d c h = go (bus_of c d) refl
     go None e = rw (left_bus, e) h
     go (Some m) e = rw (left_bus, e) (held-where_other ps (is_named (codes "parent_bus")) (named-apart (codes "parent_bus") refl) d _ (held-taken ps d m c h))
 
+held-left_parent : (ps : List ℕ) (d : ℕ) (c : Board) → Sits ps c → Sits ps (left_parent d c)
+held-left_parent ps d c h =
+    held-where_open ps (is_child_slot d) ANONYMOUS_BIRTH _ refl (held-where_open ps (is_child_slot d) PERIPHERAL_BIRTH c refl h)
+
 held-out : (ps : List ℕ) (f : ℕ → Board → Board) → ((n : ℕ) (c : Board) → Sits ps c → Sits ps (f n c)) → (d : ℕ) (c : Board) → Sits ps c
     → Sits ps (taken_by f d c)
-held-out ps f keeps d c h =
-    held-where_open ps (is_child_slot d) ANONYMOUS_BIRTH _ refl
-    (held-where_open ps (is_child_slot d) PERIPHERAL_BIRTH _ refl
-    (held-left_bus ps d _
-    (held-buses (Sits ps) f d (λ m e k. held-where_other ps (is_bus_child m) (bus-apart m) d _ (held-drained (Sits ps) f keeps (length (slots_at e m)) m e k))
-    (length (slots_at c d)) c h)))
+held-out ps = taken-keeps (Sits ps) (λ m. held-where_other ps (is_bus_child m) (bus-apart m)) (held-left_bus ps) (held-left_parent ps)
 
 held-apart : (depth : ℕ) (ps : List ℕ) → IsUp ps → (d : ℕ) (c : Board) → Sits ps c → Sits ps (apart_within depth d c)
 unfolding apart_within

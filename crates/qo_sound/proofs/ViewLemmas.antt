@@ -11,7 +11,8 @@ use Rattle.qo_model.specs.Depth.{among, Leads}
 use Rattle.qo_model.specs.Paths.{births, child_of, children_in, children_of}
 use Rattle.qo_model.specs.References.{refs}
 use Rattle.qo_model.specs.SoundGraph.{graph_of, without_value, without_values, NamesLive, Rises, SoundGraph}
-use Rattle.qo_model.proofs.CycleLemmas.{all-at, refs-graph_of}
+use Rattle.qo_model.proofs.CycleLemmas.{refs-graph_of}
+use Rattle.qo_model.proofs.AmongLemmas.{among-all}
 use Rattle.qo_model.proofs.FinalNotesLemmas.{kind-live}
 use Rattle.qo_model.proofs.GraphLemmas.{births-graph_of, child_of-without_value, children_of-graph_of}
 use Rattle.qo_model.proofs.StepLemmas.{found_at, live-among}
@@ -172,7 +173,7 @@ rest-from_sound b t = record { used = record { firm = firm-from_sound b t.0; ali
     others m there apart = omega (
       arith,
       refs-graph_of b m,
-      all-at (λ n. n ≢ 1 → 0 < refs (graph_of b) n) (births (graph_of b)) t.0.referred m (rw (births-graph_of b) (sym (live-among b m) ∙ there)) apart,
+      among-all (λ n. n ≢ 1 → 0 < refs (graph_of b) n) (births (graph_of b)) t.0.referred m (rw (births-graph_of b) (sym (live-among b m) ∙ there)) apart,
     )
 
     used : (m : ℕ) → is_live b m ≡ true → refs b m ≡ 0 → None ≡ Some m

@@ -18,7 +18,8 @@ use Rattle.qo_model.proofs.ReleaseInductionLemmas.{after_keeps}
 use Rattle.qo_model.proofs.StepLemmas.{drop-live, drop-refs, finish-live, finish-refs, found_at, found-birth, one_of}
 use Rattle.qo_model.specs.SoundAliases.{is_open, lasting, PassesTo}
 use Rattle.qo_sound.proofs.SlotLemmas.{clocks-each}
-use Rattle.qo_sound.proofs.RecordLemmas.{all-imply, all-map, all-passing, all-edited, sum-edited, sum-filtered}
+use Rattle.qo_sound.proofs.RecordLemmas.{all-map, all-passing, all-edited, sum-edited, sum-filtered}
+use Rattle.qo_values.proofs.ListLemmas.{all-imply}
 use Rattle.qo_sound.proofs.SlotLemmas.{each_slot, child-forgotten}
 use Rattle.qo_sound.proofs.FirmBoardLemmas.{Firm, firm-drop}
 use Rattle.qo_sound.proofs.EndLemmas.{firm-finish}

@@ -1,18 +1,17 @@
 -- What each act but Pre keeps, larger steps keep.
-use Rattle.std.proofs.Common.{◌≢◌, ℕ, zero, suc, false, List, [], ◌∷◌, filter, length, codes}
+use Rattle.std.proofs.Common.{◌≢◌, ℕ, false, List, [], ◌∷◌, filter, codes}
 use Rattle.qo_values.specs.declared.kinds.Act.{Act}
 use Rattle.qo_values.specs.declared.kinds.Act.TheVariants.{Unrealize, Enter, Hold, Exit, Pre}
 use Rattle.qo_values.specs.declared.properties.Val.TheVariants as val
 use Rattle.qo_model.specs.Board.{Board}
 use Rattle.qo_model.specs.Clocks.{acted, device_period}
-use Rattle.qo_model.specs.Depth.{by_depth}
-use Rattle.qo_model.specs.Devices.{buses_of, clock_of, kids_of}
-use Rattle.qo_model.specs.Paths.{births}
+use Rattle.qo_model.specs.Devices.{clock_of}
 use Rattle.qo_model.specs.Plug.{acted_all}
 use Rattle.qo_model.specs.Reset.{is_out, phased, plugged, post}
-use Rattle.qo_model.specs.Unplug.{each, unrealize, unrealize_turn, unrealized_bus, unrealized_device}
+use Rattle.qo_model.specs.Unplug.{unrealize, unrealized_bus, unrealized_device}
 use Rattle.qo_sound.proofs.DetachmentStepsLemmas.{KeepsLists, step-unheld, step-unnoticed}
 use Rattle.qo_sound.proofs.AdditionStepsLemmas.{KeepsEdits, step-set, step-disconnected}
+use Rattle.qo_sound.proofs.UnplugLemmas.{unrealize-keeps}
 
 -- an act that is not Pre keeps P
 abbrev pub KeepsOtherActs : (Board → Type 0) → Type 0
@@ -46,18 +45,5 @@ module _ (P : Board → Type 0) (acts : KeepsOtherActs P) where
     call-bus : (m : ℕ) (c : Board) → P c → P (unrealized_bus m c)
     call-bus m c h = step-unheld P lists m _ (acts Unrealize m 0 (λ q. cc) c h)
 
-    call-each : (f : ℕ → Board → Board) → ((n : ℕ) (c : Board) → P c → P (f n c)) → (ns : List ℕ) (c : Board) → P c → P (each f ns c)
-    call-each f keeps [] c h = h
-    call-each f keeps (n ∷ ns) c h = call-each f keeps ns (f n c) (keeps n c h)
-
-    call-turns : (b : Board) (depth d : ℕ) (c : Board) → P c → P (by_depth (unrealize_turn b) (λ d c. c) depth d c)
-    call-turns b zero d c h = h
-    call-turns b (suc depth) d c h = turn (call-turns b depth)
-      where
-        turn : ((k : ℕ) (e : Board) → P e → P (by_depth (unrealize_turn b) (λ d c. c) depth k e))
-            → P (by_depth (unrealize_turn b) (λ d c. c) (suc depth) d c)
-        turn keeps = call-device d _ (call-each _ (λ m e k. call-bus m _ (call-each _ keeps (kids_of b m) e k)) (buses_of b d) c h)
-
     pub call-unrealize : (b : Board) (d : ℕ) → P b → P (unrealize b d)
-    unfolding unrealize
-    call-unrealize b d h = call-turns b (suc (length (births b))) d b h
+    call-unrealize b d h = unrealize-keeps P call-device call-bus b d h

@@ -27,7 +27,8 @@ use Rattle.qo_sound_devices.proofs.PlacesLemmas.{child-live}
 use Rattle.qo_sound_devices.proofs.PlugLemmas.{stands-device}
 use Rattle.qo_sound_phases.proofs.ResetTreeLemmas.{Placed}
 use Rattle.qo_sound_phases.proofs.FrameLemmas.{Frame}
-use Rattle.qo_sound_phases.proofs.ReachLemmas.{machine-no_device, machines-listed}
+use Rattle.qo_sound_phases.proofs.ReachLemmas.{machines-listed}
+use Rattle.qo_sound_devices.proofs.LocationLemmas.{machine-no_device}
 use Rattle.qo_sound_bounds.specs.SoundSources.{IsDeviceClock, SoundSources}
 
 -- the first entry of a name
@@ -119,7 +120,7 @@ module _ (b : Board) (k : Placed b) where
   source-machines q u =
       let bridge : bridge_of b q ≡ None =
       ap (option_and_then (λ p. if is_of b (codes "device") p then Some p else None)) (parent-is b k.firm MACHINE_BIRTH q (machines-listed b k q u))
-      ∙ ap (λ (t : Bool). if t then Some MACHINE_BIRTH else None) (machine-no_device b k) in
+      ∙ ap (λ (t : Bool). if t then Some MACHINE_BIRTH else None) (machine-no_device k.depth None (λ x. false) b k.places) in
       ap (λ (o : Option ℕ). unwrap_or (option_and_then (clock_of b) o) SYSTEM_CLOCK_BIRTH) bridge
 
   pub source-bridge : (p q : ℕ) → stands b p ≡ true → owns b p q ≡ true → source_for b q ≡ unwrap_or (clock_of b p) SYSTEM_CLOCK_BIRTH

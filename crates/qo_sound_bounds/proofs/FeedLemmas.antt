@@ -1,6 +1,7 @@
 -- A device that is added: its clock goes by the one for its bus, and the others go by what they went by.
-use Rattle.std.proofs.Common.{◌≡◌, ◌⊎◌, inl, inr, refl, ap, sym, subst, ◌∙◌, ℕ, suc, ◌+◌, ◌<◌, ◌≤◌, Bool, true, false, ◌==◌, List, [], ◌∷◌, Option, Some, None, is_some, option_map, option_and_then, unwrap_or, codes, arith}
+use Rattle.std.proofs.Common.{◌≡◌, ◌⊎◌, inl, inr, refl, ap, sym, subst, ◌∙◌, ℕ, suc, ◌+◌, ◌<◌, ◌≤◌, Bool, true, false, ◌==◌, List, [], ◌∷◌, Option, Some, None, option_map, option_and_then, unwrap_or, codes, arith}
 use Rattle.std.specs.Prelude.{if◌then◌else◌}
+use Rattle.std.specs.Cmp.{nat_eq_equiv}
 use Rattle.std.specs.List.{AllByRecursion, list_any}
 use Rattle.std.specs.Option.{option_map_or}
 use Rattle.std.proofs.lemmas.Bool.{cases_lt, eqb-true}
@@ -26,6 +27,7 @@ use Rattle.qo_model.specs.Unplug.{is_named, set_named}
 use Rattle.qo_model.proofs.FirstSlotLemmas.{slots_in, named_in}
 use Rattle.qo_model.proofs.StepLemmas.{found-edited, map-edited}
 use Rattle.qo_sound.proofs.AdditionStepsLemmas.{link-by}
+use Rattle.qo_sound.proofs.DraftLemmas.{absent-above, live-apart}
 use Rattle.qo_sound.proofs.PlugLemmas.{plugged-rest, shut-above}
 use Rattle.qo_sound.proofs.RecordLemmas.{all-map}
 use Rattle.qo_sound.proofs.TestLemmas.{decide, clash}
@@ -35,11 +37,10 @@ use Rattle.qo_sound_devices.specs.SoundPlaces.{child_entries, HasOwner, machines
 use Rattle.qo_sound_devices.proofs.DropLemmas.{edited-slots}
 use Rattle.qo_sound_devices.proofs.DraftLemmas.{drafted-made}
 use Rattle.qo_sound_devices.proofs.AdditionLemmas.{deepened, done, Joined, old-stands, places-joined}
-use Rattle.qo_sound_devices.proofs.PlacesLemmas.{child-live, high-absent, kind-alike, of-live, stands-live}
+use Rattle.qo_sound_devices.proofs.PlacesLemmas.{child-live, high-absent, kind-alike, of-live, stands-live, aside-apart}
 use Rattle.qo_sound_devices.proofs.PlugLemmas.{Accepted, after-plug}
 use Rattle.qo_sound_devices.proofs.PlugStageLemmas.{accepted-joined}
 use Rattle.qo_sound_devices.proofs.SourceLemmas.{add-other, addressed-other, edit-other, link-other, set-other, stood-other}
-use Rattle.qo_sound_devices.proofs.UnparentingLemmas.{aside-apart}
 use Rattle.qo_sound_clocks.proofs.SlotLemmas.{sees, Slots}
 use Rattle.qo_sound_clocks.proofs.PlugLemmas.{Calm, edited-at, Growing, growing-first, growing-rows, growing-stood, rows-quiet}
 use Rattle.qo_sound_clocks.proofs.PlugStageLemmas.{growing}
@@ -221,9 +222,6 @@ kind-link n name m c x =
     ap (option_map (λ (r : Record). r.kind)) (found-edited n (with_changed (fitted c m) i) (λ r. refl) x c.records)
     ∙ map-edited (λ (r : Record). r.kind) n (with_changed (fitted c m) i) (λ r. refl) (record_of c x))
 
-sym-apart : (m x : ℕ) → (m == x) ≡ false → (x == m) ≡ false
-sym-apart m x e = grind (arith, e)
-
 -- a device that nothing refuses
 module _ (b : Board) (a : Wanted) (d : SoundDevices b) (h : SoundSources b) (t : TypeId) (at : ℕ) (k : Accepted b t at a) where
   abbrev spot : Spot
@@ -258,19 +256,8 @@ module _ (b : Board) (a : Wanted) (d : SoundDevices b) (h : SoundSources b) (t :
       (with_plugged b t a (spot_of b t at a.props))
   shape = started-shape b t a (spot_of b t at a.props)
 
-  absent : (x : ℕ) → b.born < x → record_of b x ≡ None
-  absent x high = go (record_of b x) refl
-    where
-      go : (o : Option Record) → record_of b x ≡ o → record_of b x ≡ None
-      go None q = q
-      go (Some r) q = clash (sym (ap is_some q) ∙ high-absent b kb.firm x high)
-
   dead : (x : ℕ) → b.born < x → is_live b x ≡ false
   dead x high = high-absent b kb.firm x high
-
-  -- who was there is apart from what is new
-  live-apart : (x y : ℕ) → is_live b x ≡ false → is_live b y ≡ true → (x == y) ≡ false
-  live-apart x y none there = decide (x == y) (λ p. clash (sym there ∙ sym (ap (is_live b) (eqb-true x y p)) ∙ none)) (λ p. p)
 
   bus-live : is_live b at ≡ true
   bus-live = of-live b (codes "bus") at j.goal.is_bus
@@ -292,8 +279,8 @@ module _ (b : Board) (a : Wanted) (d : SoundDevices b) (h : SoundSources b) (t :
   its-clock : (m : ℕ) → clock_of (stood b (b.born + 1) a (spot_of b t at a.props) (drafted b t)) (b.born + 1) ≡ Some m → IsNewClock (b.born + 1) (drafted b t) m
   its-clock m e =
       clock-in n (drafted b t) (slots_at made n)
-      (stood-own b a spot (drafted b t) (drafted b t) (live-apart n at new-dead bus-live) (live-apart n (parent_for a.id) new-dead parent-live)
-      (drafted-clock b absent t)) m e
+      (stood-own b a spot (drafted b t) (drafted b t) (live-apart b n at new-dead bus-live) (live-apart b n (parent_for a.id) new-dead parent-live)
+      (drafted-clock b (absent-above b kb.firm) t)) m e
     where
       n : ℕ
       n = b.born + 1
@@ -302,8 +289,8 @@ module _ (b : Board) (a : Wanted) (d : SoundDevices b) (h : SoundSources b) (t :
       → record_of (stood b (b.born + 1) a (spot_of b t at a.props) (drafted b t)) m ≡ Some i.its
   clock-record m i =
       let none : is_live b m ≡ false = dead m (omega (arith, i.young)) in
-      stood-other m b (b.born + 1) a spot (drafted b t) (young-apart (b.born + 1) m i.young) (live-apart m at none bus-live)
-      (live-apart m (parent_for a.id) none parent-live)
+      stood-other m b (b.born + 1) a spot (drafted b t) (young-apart (b.born + 1) m i.young) (live-apart b m at none bus-live)
+      (live-apart b m (parent_for a.id) none parent-live)
       ∙ i.found
 
   -- what was there goes by what it went by
@@ -318,7 +305,7 @@ module _ (b : Board) (a : Wanted) (d : SoundDevices b) (h : SoundSources b) (t :
   grown : (s : ℕ) → Growing b s (stood b (b.born + 1) a (spot_of b t at a.props) (drafted b t))
   grown s =
       growing-stood b s a spot (drafted b t)
-      (growing-rows b s t (slots_of t) (rows-quiet t k.device) (with_new (fresh (b.born + 1) t) b) (growing-first b s absent t))
+      (growing-rows b s t (slots_of t) (rows-quiet t k.device) (with_new (fresh (b.born + 1) t) b) (growing-first b s (absent-above b kb.firm) t))
 
   new-made : (x s : ℕ) → b.born < x → sees s (slots_at (stood b (b.born + 1) a (spot_of b t at a.props) (drafted b t)) x) ≡ true → ⊥
   new-made x s high e =
@@ -369,7 +356,7 @@ module _ (b : Board) (a : Wanted) (d : SoundDevices b) (h : SoundSources b) (t :
       record {
         old = λ x s there q.
             subst (λ (o : Option Record). sees s (slots_in o) ≡ true)
-            (sym (link-other x m (codes "source") source (sym-apart m x (live-apart m x none there)) made)) (old-made x s there q);
+            (sym (link-other x m (codes "source") source (nat_eq_equiv.symm x m ∙ live-apart b m x none there) made)) (old-made x s there q);
         kind = λ l q.
             let is : l ≡ m = same_Some l m (sym q ∙ same ∙ e) in
             ap (kind_of z) is ∙ kind-link m (codes "source") source made m ∙ ap (option_map (λ (r : Record). r.kind)) (clock-record m i) ∙ ap Some i.kind;
@@ -393,7 +380,7 @@ module _ (b : Board) (a : Wanted) (d : SoundDevices b) (h : SoundSources b) (t :
       same : clock_of z (b.born + 1) ≡ clock_of made (b.born + 1)
       same =
           ap (λ (o : Option Record). option_and_then child_named (named_in (codes "clk") (slots_in o)))
-          (link-other (b.born + 1) m (codes "source") source (sym-apart m (b.born + 1) (young-apart (b.born + 1) m i.young)) made)
+          (link-other (b.born + 1) m (codes "source") source (nat_eq_equiv.symm (b.born + 1) m ∙ young-apart (b.born + 1) m i.young) made)
 
   fed-now : Fed (with_plugged b t a (spot_of b t at a.props))
   fed-now =

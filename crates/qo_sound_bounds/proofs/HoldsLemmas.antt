@@ -24,7 +24,7 @@ use Rattle.qo_model.specs.Reset.{below, count, held, is_deep, post, pulse, relea
 use Rattle.qo_model.specs.Unplug.{detach, first_of}
 use Rattle.qo_model.proofs.ChangeScopeLemmas.{changed-stays}
 use Rattle.qo_sound.proofs.DeviceScopeLemmas.{devices_stay_lem}
-use Rattle.qo_sound.proofs.RecordLemmas.{all-imply}
+use Rattle.qo_values.proofs.ListLemmas.{all-imply}
 use Rattle.qo_sound.proofs.TestLemmas.{decide, clash, clash-back}
 use Rattle.qo_sound.proofs.ViewLemmas.{rest-from_sound}
 use Rattle.qo_sound_devices.specs.SoundDevices.{SoundDevices}

@@ -13,10 +13,9 @@ use Rattle.qo_model.specs.Clocks.{acted, device_period, source_of, weak_in}
 use Rattle.qo_model.specs.Devices.{bus_of, child_named, clock_of, is_realized}
 use Rattle.qo_model.specs.Hotplug.{all_completed, completed, reset_whole}
 use Rattle.qo_model.specs.Objects.{index_from}
-use Rattle.qo_model.specs.Paths.{births}
 use Rattle.qo_model.specs.Plug.{source_for}
 use Rattle.qo_model.specs.Release.{edit, pin, put_in_order}
-use Rattle.qo_model.specs.Unplug.{apart_within, detach, disconnected, first_of, is_named, set_named, taken_by, unrealize, unrealized_bus, unrealized_device, unseen, unseen_named}
+use Rattle.qo_model.specs.Unplug.{detach, disconnected, first_of, is_named, set_named, unrealize, unrealized_bus, unrealized_device, unseen, unseen_named}
 use Rattle.qo_model.proofs.FirstSlotLemmas.{named_in, first-changed, none-found, named-changed}
 use Rattle.qo_sound.proofs.TreeKeptLemmas.{sound_kept_lem}
 use Rattle.qo_sound.proofs.AdditionStepsLemmas.{set-by}
@@ -34,7 +33,7 @@ use Rattle.qo_sound_devices.proofs.PinLemmas.{pin-realized, pin-clock, pin-bus}
 use Rattle.qo_sound_devices.proofs.ResetLemmas.{detached-below, first-on}
 use Rattle.qo_sound_devices.proofs.SourceLemmas.{edit-other}
 use Rattle.qo_sound_devices.proofs.UnrealizingLemmas.{Dimmed, dimmed-none, dimmed-then, dims-bus, Fades, fades-device, reads}
-use Rattle.qo_sound_clocks.proofs.DecreaseLemmas.{Fewer, fewer-apart, fewer-none, fewer-taken_by, fewer-unpin}
+use Rattle.qo_sound_clocks.proofs.DecreaseLemmas.{Fewer, fewer-detached, fewer-none}
 use Rattle.qo_sound_clocks.proofs.ReadLemmas.{named-reads, Reads, tree-reads}
 use Rattle.qo_sound_clocks.proofs.DependenceLemmas.{acted-slots}
 use Rattle.qo_sound_phases.proofs.ResetTreeLemmas.{one-parent, Placed, placed}
@@ -42,7 +41,7 @@ use Rattle.qo_sound_phases.proofs.DetachmentLemmas.{frame, kp, lit-stands, unsto
 use Rattle.qo_sound_phases.proofs.UnrealizingLemmas.{unrealize-walk}
 use Rattle.qo_sound_bounds.specs.SoundSources.{IsDeviceClock, SoundSources}
 use Rattle.qo_sound_bounds.proofs.ClockLemmas.{clock-listed, frame-sources}
-use Rattle.qo_sound_bounds.proofs.SightLemmas.{Sight, sight-apart, sight-none, sight-taken_by, sight-unpin}
+use Rattle.qo_sound_bounds.proofs.SightLemmas.{Sight, sight-detached, sight-none}
 use Rattle.qo_sound_bounds.proofs.SourceLemmas.{pulse-sources}
 use Rattle.qo_sound_bounds.proofs.ClockWriteLemmas.{set-source}
 
@@ -266,16 +265,10 @@ module _ (b : Board) (d : ℕ) (s : SoundDevices b) (e : stands b d ≡ true) (h
   now = tree-reads (detach b d) (sound_kept_lem.detached b d s.tree)
 
   sight : Sight (unrealize (pin b d) d) (detach b d)
-  unfolding detach
-  sight =
-      sight-unpin u d (taken_by (apart_within (length (births b))) d u)
-      (sight-taken_by u (apart_within (length (births b))) (sight-apart u (length (births b))) d u (sight-none u))
+  sight = sight-detached u b d (sight-none u)
 
   fewer : Fewer (unrealize (pin b d) d) (detach b d)
-  unfolding detach
-  fewer =
-      fewer-unpin u d (taken_by (apart_within (length (births b))) d u)
-      (fewer-taken_by u (apart_within (length (births b))) (fewer-apart u (length (births b))) d u (fewer-none u))
+  fewer = fewer-detached u b d (fewer-none u)
 
   was : (x : ℕ) → is_realized (unrealize (pin b d) d) x ≡ true → is_realized b x ≡ true
   was x r = sym (pin-realized b d x) ∙ (unrealize-dimmed (pin b d) d).fading x r

@@ -26,7 +26,8 @@ use Rattle.qo_model.specs.Unplug.{detach, first_of}
 use Rattle.qo_model.proofs.ComesToLemmas.{addition-comes}
 use Rattle.qo_model.proofs.ReleaseInductionLemmas.{after_keeps}
 use Rattle.qo_sound.proofs.SearchLemmas.{all-found}
-use Rattle.qo_sound.proofs.RecordLemmas.{all-append, all-both, all-filter, all-imply, all-map}
+use Rattle.qo_sound.proofs.RecordLemmas.{all-append, all-both, all-filter, all-map}
+use Rattle.qo_values.proofs.ListLemmas.{all-imply}
 use Rattle.qo_sound.proofs.AdditionStepsLemmas.{any-rows, KeepsEdits, KeepsNew, new_with, step-drafted, step-set, step-stood}
 use Rattle.qo_sound.proofs.DetachmentStepsLemmas.{KeepsEnds, KeepsLists, KeepsPins, step-detach, step-pin}
 use Rattle.qo_sound.proofs.ChangeStepsLemmas.{step-object_del, step-sever, step-write}

@@ -15,17 +15,19 @@ use Rattle.qo_values.specs.declared.properties.Val.{Val}
 use Rattle.qo_model.specs.Board.{Board, Record, Slot, plain, child, strong, weak, alias, is_live, record_of, slots_at, slot_at, held}
 use Rattle.qo_model.specs.Changes.{changed_at, cut, point, pointed, set, with_added, with_changed, with_cut, with_val}
 use Rattle.qo_model.specs.Depth.{among}
-use Rattle.qo_model.specs.Devices.{bus_of, buses_of, kids_of}
+use Rattle.qo_model.specs.Devices.{bus_of}
 use Rattle.qo_model.specs.FinalNotesRuns.{Change, added, after_write, changed, deleted, severed, wrote}
 use Rattle.qo_model.specs.Objects.{Given, added_as, given_slots, is_object_named, object_add, object_del, index_from, sever, severed_from, with_object}
 use Rattle.qo_model.specs.Properties.{pointed_at, relinked, write}
 use Rattle.qo_model.specs.Release.{after, drop_slot, edit, edited, emptied, finalize, finish, forgotten, forgotten_in, let_go, pin, unpin, with_dropped, without_hold, without_pin}
 use Rattle.qo_model.specs.ReleaseInduction.{KeepsRelease}
-use Rattle.qo_model.specs.Unplug.{apart_within, drained, first_of, is_bus_child, is_child_slot, is_named, left_bus, left_parent, let_go_where, lost_bus, lost_buses, names_kid, take_slot, take_where, taken_by}
+use Rattle.qo_model.specs.Unplug.{is_bus_child, is_child_slot, is_named, left_bus, left_parent, let_go_where, names_kid, take_slot, take_where, unrealize, detach}
 use Rattle.qo_model.proofs.ComesToLemmas.{addition-comes, deletion-comes, sever-comes, severed-comes}
 use Rattle.qo_model.proofs.FirstSlotLemmas.{slots_in, Found, found-at}
 use Rattle.qo_model.proofs.ReleaseInductionLemmas.{after_keeps}
-use Rattle.qo_model.proofs.StepLemmas.{drop-record, finish-gone, finish-record, found_at, found-edited, is_some-map, found-birth, drop-live}
+use Rattle.qo_model.proofs.AttemptLemmas.{drop-other}
+use Rattle.qo_model.proofs.StepLemmas.{finish-gone, finish-record, found_at, found-edited, is_some-map, drop-live}
+use Rattle.qo_sound.proofs.UnplugLemmas.{detached-keeps}
 use Rattle.qo_sound.proofs.SearchLemmas.{found-append}
 use Rattle.qo_sound.proofs.ReadLemmas.{dropped-at, edit-slots}
 use Rattle.qo_sound.proofs.SlotLemmas.{each_slot, kept-slot}
@@ -154,17 +156,6 @@ record SightBut (b : Board) (work : List (ℕ × ℕ)) (c : Board) : Type 0 wher
   live : (x : ℕ) → is_live c x ≡ true → is_live b x ≡ true
   seen : (k s : ℕ) → among (map (λ (w : ℕ × ℕ). w.0) work) k ≡ false → is_live c k ≡ true → is_live c s ≡ true → sees s (slots_at b k) ≡ true
       → sees s (slots_at c k) ≡ true
-
-drop-other : (c : Board) (n i k : ℕ) → (k == n) ≡ false → slots_at (drop_slot c n i) k ≡ slots_at c k
-drop-other c n i k apart = ap slots_in (drop-record c n i k) ∙ go (record_of c k) refl
-  where
-    at_record : (r : Record) → record_of c k ≡ Some r → (t : Bool) → (r.birth == n) ≡ t → (edited n (with_dropped i) r).slots ≡ r.slots
-    at_record r q true p = clash (sym (eq-eqb k n (sym (found-birth k c.records r q) ∙ eqb-true r.birth n p)) ∙ apart)
-    at_record r q false p = rw (edited, p) refl
-
-    go : (o : Option Record) → record_of c k ≡ o → slots_in (option_map (edited n (with_dropped i)) o) ≡ slots_in o
-    go None q = refl
-    go (Some r) q = at_record r q (r.birth == n) refl
 
 head-apart : (k n : ℕ) (ns : List ℕ) → among (n ∷ ns) k ≡ false → ((k == n) ≡ false) × (among ns k ≡ false)
 head-apart k n ns e = go (k == n) refl
@@ -354,38 +345,10 @@ module _ (b : Board) where
       sight-where (is_child_slot d) (child-fine d) ANONYMOUS_BIRTH (let_go_where (is_child_slot d) PERIPHERAL_BIRTH c)
       (sight-where (is_child_slot d) (child-fine d) PERIPHERAL_BIRTH c h)
 
-  module _ (f : ℕ → Board → Board) (keeps : (n : ℕ) (c : Board) → Sight b c → Sight b (f n c)) where
-    sight-drained : (times m : ℕ) (c : Board) → Sight b c → Sight b (drained f times m c)
-    sight-drained zero m c h = h
-    sight-drained (suc times) m c h = go (first_of (kids_of c m)) refl (sight-drained times m)
-      where
-        go : (o : Option ℕ) → first_of (kids_of c m) ≡ o → ((e : Board) → Sight b e → Sight b (drained f times m e)) → Sight b (drained f (suc times) m c)
-        go None e rest = rw (drained, e) h
-        go (Some k) e rest = rw (drained, e) (rest (f k c) (keeps k c h))
-
-    sight-lost_bus : (d m : ℕ) (c : Board) → Sight b c → Sight b (lost_bus f d m c)
-    sight-lost_bus d m c h =
-        sight-where (is_bus_child m) (bus-fine m) d (drained f (length (slots_at c m)) m c) (sight-drained (length (slots_at c m)) m c h)
-
-    sight-lost_buses : (times d : ℕ) (c : Board) → Sight b c → Sight b (lost_buses f times d c)
-    sight-lost_buses zero d c h = h
-    sight-lost_buses (suc times) d c h = go (first_of (buses_of c d)) refl (sight-lost_buses times d)
-      where
-        go : (o : Option ℕ) → first_of (buses_of c d) ≡ o → ((e : Board) → Sight b e → Sight b (lost_buses f times d e))
-            → Sight b (lost_buses f (suc times) d c)
-        go None e rest = rw (lost_buses, e) h
-        go (Some m) e rest = rw (lost_buses, e) (rest (lost_bus f d m c) (sight-lost_bus d m c h))
-
-    pub sight-taken_by : (d : ℕ) (c : Board) → Sight b c → Sight b (taken_by f d c)
-    sight-taken_by d c h =
-        sight-left_parent d (left_bus d (lost_buses f (length (slots_at c d)) d c))
-        (sight-left_bus d (lost_buses f (length (slots_at c d)) d c) (sight-lost_buses (length (slots_at c d)) d c h))
-
-  pub sight-apart : (depth d : ℕ) (c : Board) → Sight b c → Sight b (apart_within depth d c)
-  unfolding apart_within
-  sight-apart zero d c h = h
-  sight-apart (suc depth) d c h =
-      sight-unpin d (taken_by (apart_within depth) d (pin c d)) (sight-taken_by (apart_within depth) (sight-apart depth) d (pin c d) (sight-pin d c h))
+  -- a device that was unrealized while it was held
+  pub sight-detached : (c : Board) (d : ℕ) → Sight b (unrealize (pin c d) d) → Sight b (detach c d)
+  sight-detached c d h =
+      detached-keeps (Sight b) (λ m. sight-where (is_bus_child m) (bus-fine m)) sight-left_bus sight-left_parent sight-pin sight-unpin c d h
 
 -- the commands on objects
 

@@ -1,5 +1,5 @@
 -- Boards whose objects claim no more than those of a board: small steps of objects that go, links that are emptied and values that are set.
-use Rattle.std.proofs.Common.{◌≡◌, ◌⊎◌, inl, refl, ap, sym, subst, ◌∙◌, ℕ, zero, suc, Bool, true, false, ◌&&◌, ◌==◌, eqb, List, [], ◌∷◌, slice_get, Option, Some, None, option_map, codes, nat_eq, length}
+use Rattle.std.proofs.Common.{◌≡◌, ◌⊎◌, inl, refl, ap, sym, subst, ◌∙◌, ℕ, Bool, true, false, ◌&&◌, ◌==◌, eqb, List, [], ◌∷◌, slice_get, Option, Some, None, option_map, codes, nat_eq}
 use Rattle.std.specs.Bool.{⊤}
 use Rattle.std.specs.List.{list_any}
 use Rattle.std.specs.Str.{bytes_eq}
@@ -14,19 +14,19 @@ use Rattle.qo_values.specs.declared.properties.Val.TheVariants as val
 use Rattle.qo_model.specs.Board.{Board, Record, Slot, record_of, slots_at, slot_at, held}
 use Rattle.qo_model.specs.Changes.{changed_at, set, with_changed, with_val}
 use Rattle.qo_model.specs.Clocks.{acted, device_period, with_act_on}
-use Rattle.qo_model.specs.Depth.{among, by_depth}
-use Rattle.qo_model.specs.Devices.{buses_of, clock_of, is_true, kids_of, strong_in}
+use Rattle.qo_model.specs.Depth.{among}
+use Rattle.qo_model.specs.Devices.{clock_of, is_true, strong_in}
 use Rattle.qo_model.specs.Objects.{index_from}
-use Rattle.qo_model.specs.Paths.{births}
 use Rattle.qo_model.specs.Plug.{range_in}
 use Rattle.qo_model.specs.Release.{after, drop_slot, edit, edited, finalize, finish, forgotten, let_go, pin, unpin, with_dropped, without_hold, without_pin}
 use Rattle.qo_model.specs.ReleaseInduction.{KeepsRelease}
 use Rattle.qo_model.specs.Reset.{phased}
 use Rattle.qo_model.specs.Types.{is_a}
-use Rattle.qo_model.specs.Unplug.{disconnected, each, is_named, let_go_where, set_named, unrealize, unrealize_turn, unrealized_bus, unrealized_device, unseen, unseen_named}
+use Rattle.qo_model.specs.Unplug.{disconnected, is_named, let_go_where, set_named, unrealize, unrealized_bus, unrealized_device, unseen, unseen_named}
 use Rattle.qo_model.proofs.FirstSlotLemmas.{slots_in, Found, found-at}
 use Rattle.qo_model.proofs.ReleaseInductionLemmas.{after_keeps}
 use Rattle.qo_model.proofs.StepLemmas.{drop-record, finish-gone, finish-record, found-edited, found-birth}
+use Rattle.qo_sound.proofs.UnplugLemmas.{unrealize-keeps}
 use Rattle.qo_sound.proofs.WorkLemmas.{births_of}
 use Rattle.qo_sound_devices.proofs.LikenessLemmas.{apart-first, other-record}
 use Rattle.qo_sound_claims.proofs.SlotLemmas.{ClaimsLess, is_memdev, less-dropped, less-forgotten, less-none, less-set, less-then, less-unseen, lit_in, OtherName, points, points-none, spared-dropped}
@@ -352,19 +352,5 @@ module _ (strict : Bool) (b : Board) where
   fewer-bus : (m : ℕ) (c : Board) → Fewer strict b c → Fewer strict b (unrealized_bus m c)
   fewer-bus m c h = fewer-acted Unrealize m 0 c h
 
-  fewer-each : (f : ℕ → Board → Board) → ((n : ℕ) (c : Board) → Fewer strict b c → Fewer strict b (f n c)) → (ns : List ℕ) (c : Board) → Fewer strict b c
-      → Fewer strict b (each f ns c)
-  fewer-each f keeps [] c h = h
-  fewer-each f keeps (n ∷ ns) c h = fewer-each f keeps ns (f n c) (keeps n c h)
-
-  fewer-turns : (o : Board) (depth d : ℕ) (c : Board) → Fewer strict b c → Fewer strict b (by_depth (unrealize_turn o) (λ d c. c) depth d c)
-  fewer-turns o zero d c h = h
-  fewer-turns o (suc depth) d c h = turn (fewer-turns o depth)
-    where
-      turn : ((k : ℕ) (e : Board) → Fewer strict b e → Fewer strict b (by_depth (unrealize_turn o) (λ d c. c) depth k e))
-          → Fewer strict b (by_depth (unrealize_turn o) (λ d c. c) (suc depth) d c)
-      turn keeps = fewer-device d _ (fewer-each _ (λ m e k. fewer-bus m _ (fewer-each _ keeps (kids_of o m) e k)) (buses_of o d) c h)
-
   pub fewer-unrealize : (c : Board) (d : ℕ) → Fewer strict b c → Fewer strict b (unrealize c d)
-  unfolding unrealize
-  fewer-unrealize c d h = fewer-turns c (suc (length (births c))) d c h
+  fewer-unrealize c d h = unrealize-keeps (Fewer strict b) fewer-device fewer-bus c d h

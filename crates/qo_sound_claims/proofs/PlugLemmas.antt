@@ -28,14 +28,15 @@ use Rattle.qo_model.proofs.StepLemmas.{found_at, found-birth}
 use Rattle.qo_sound.specs.TreeKept.{SoundTree}
 use Rattle.qo_sound.proofs.AddLemmas.{unbarred}
 use Rattle.qo_sound.proofs.DeviceScopeLemmas.{devices_stay_lem}
-use Rattle.qo_sound.proofs.PlugLemmas.{or-none, plugged-rest, shut-above, least-passes, stage-none}
+use Rattle.qo_sound.proofs.DraftLemmas.{absent-above}
+use Rattle.qo_sound.proofs.PlugLemmas.{or-none, plugged-rest, shut-above, stage-none}
+use Rattle.qo_values.proofs.PlacingLemmas.{least-passes}
 use Rattle.qo_sound.proofs.TargetLemmas.{FitsResult, target-fits}
 use Rattle.qo_sound.proofs.ViewLemmas.{AtRest, rest-from_sound, sound-from_rest}
 use Rattle.qo_sound_devices.specs.SoundDevices.{SoundDevices}
 use Rattle.qo_sound_devices.proofs.AcceptanceLemmas.{Passes, passes}
 use Rattle.qo_sound_devices.proofs.PlugLemmas.{Accepted, after-plug}
 use Rattle.qo_sound_devices.proofs.PlugStageLemmas.{accepted-joined}
-use Rattle.qo_sound_clocks.proofs.PlugStageLemmas.{absent-above}
 use Rattle.qo_sound_claims.specs.SoundBackends.{SoundBackends}
 use Rattle.qo_sound_claims.specs.SoundClaims.{HasRange, is_dimm_on, is_uart_on, NamesRing, StandsOn}
 use Rattle.qo_sound_claims.specs.SoundRings.{AreGoodRings}
@@ -208,7 +209,7 @@ range-found b size g e = go (free_address (ranges_of b) size DIMM_ALIGN) refl
     go None p = absurd (let clash : Err E41 ≡ Ok g = rw (range_for, p) at e in cc)
     go (Some at) p =
         let is : range_at at size ≡ g = same_ok (range_at at size) g (rw (range_for, p) at e) in
-        let fits : fits_at (ranges_of b) size DIMM_ALIGN at ≡ true = least-passes (fits_at (ranges_of b) size DIMM_ALIGN) window_size window_start at p in
+        let fits : fits_at (ranges_of b) size DIMM_ALIGN at ≡ true = least-passes (fits_at (ranges_of b) size DIMM_ALIGN) window_start window_size at p in
         let one = and_parts ((at % DIMM_ALIGN == 0) && is_in_window (range_at at size)) (not (overlaps_any (range_at at size) (ranges_of b))) fits in
         let two = and_parts (at % DIMM_ALIGN == 0) (is_in_window (range_at at size)) one.0 in
         subst (RangeFits b size) is

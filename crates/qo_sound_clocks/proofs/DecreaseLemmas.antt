@@ -1,5 +1,5 @@
 -- Boards whose objects read no more as clocks than those of a board: small steps of objects that go, links that are emptied and values that are set.
-use Rattle.std.proofs.Common.{◌≡◌, refl, ap, sym, subst, ◌∙◌, ℕ, zero, suc, Bool, true, false, ◌==◌, List, [], ◌∷◌, length, remove, slice_get, Option, Some, None, option_map, codes, nat_eq}
+use Rattle.std.proofs.Common.{◌≡◌, refl, ap, sym, subst, ◌∙◌, ℕ, Bool, true, false, ◌==◌, List, [], remove, slice_get, Option, Some, None, option_map, codes, nat_eq}
 use Rattle.std.specs.List.{list_any}
 use Rattle.std.proofs.lemmas.Bool.{eqb-true}
 use Rattle.std.proofs.lemmas.Slice.Eq.{bytes_eq-Decides}
@@ -12,16 +12,15 @@ use Rattle.qo_values.specs.declared.properties.Val.TheVariants as val
 use Rattle.qo_model.specs.Board.{Board, Record, Slot, plain, child, strong, weak, alias, record_of, slots_at, slot_at, held}
 use Rattle.qo_model.specs.Changes.{changed_at, cut, set, with_changed, with_cut, with_val}
 use Rattle.qo_model.specs.Clocks.{acted, device_period, with_act_on}
-use Rattle.qo_model.specs.Depth.{by_depth}
-use Rattle.qo_model.specs.Devices.{bus_of, buses_of, clock_of, kids_of}
+use Rattle.qo_model.specs.Devices.{bus_of, clock_of}
 use Rattle.qo_model.specs.Objects.{index_from}
-use Rattle.qo_model.specs.Paths.{births}
 use Rattle.qo_model.specs.Release.{after, drop_slot, edit, finalize, finish, forgotten, let_go, pin, unpin, with_dropped, without_pin}
 use Rattle.qo_model.specs.ReleaseInduction.{KeepsRelease}
-use Rattle.qo_model.specs.Unplug.{apart_within, detach, disconnected, drained, each, first_of, is_bus_child, is_child_slot, is_named, left_bus, left_parent, let_go_where, lost_bus, lost_buses, unseen, unseen_named, names_kid, set_named, take_slot, take_where, taken_by, unrealize, unrealize_turn, unrealized_bus, unrealized_device}
+use Rattle.qo_model.specs.Unplug.{detach, disconnected, is_bus_child, is_child_slot, is_named, left_bus, left_parent, let_go_where, unseen, unseen_named, names_kid, set_named, take_slot, take_where, unrealize, unrealized_bus, unrealized_device}
 use Rattle.qo_model.proofs.FirstSlotLemmas.{slots_in, Found, found-at}
 use Rattle.qo_model.proofs.ReleaseInductionLemmas.{after_keeps}
 use Rattle.qo_model.proofs.StepLemmas.{finish-gone, finish-record}
+use Rattle.qo_sound.proofs.UnplugLemmas.{detached-keeps, unrealize-keeps}
 use Rattle.qo_sound.proofs.ReadLemmas.{dropped-at, edit-slots}
 use Rattle.qo_sound.proofs.SlotLemmas.{kept-slot}
 use Rattle.qo_sound_clocks.proofs.SlotLemmas.{blank-none, Less, less-blank, less-dropped, less-forgotten, less-none, less-set, less-set_period, less-taken, less-then, less-unseen, OtherName, Slots}
@@ -156,21 +155,8 @@ module _ (b : Board) where
   fewer-bus : (m : ℕ) (c : Board) → Fewer b c → Fewer b (unrealized_bus m c)
   fewer-bus m c h = fewer-acted Unrealize m 0 c h
 
-  fewer-each : (f : ℕ → Board → Board) → ((n : ℕ) (c : Board) → Fewer b c → Fewer b (f n c)) → (ns : List ℕ) (c : Board) → Fewer b c → Fewer b (each f ns c)
-  fewer-each f keeps [] c h = h
-  fewer-each f keeps (n ∷ ns) c h = fewer-each f keeps ns (f n c) (keeps n c h)
-
-  fewer-turns : (o : Board) (depth d : ℕ) (c : Board) → Fewer b c → Fewer b (by_depth (unrealize_turn o) (λ d c. c) depth d c)
-  fewer-turns o zero d c h = h
-  fewer-turns o (suc depth) d c h = turn (fewer-turns o depth)
-    where
-      turn : ((k : ℕ) (e : Board) → Fewer b e → Fewer b (by_depth (unrealize_turn o) (λ d c. c) depth k e))
-          → Fewer b (by_depth (unrealize_turn o) (λ d c. c) (suc depth) d c)
-      turn keeps = fewer-device d _ (fewer-each _ (λ m e k. fewer-bus m _ (fewer-each _ keeps (kids_of o m) e k)) (buses_of o d) c h)
-
   fewer-unrealize : (c : Board) (d : ℕ) → Fewer b c → Fewer b (unrealize c d)
-  unfolding unrealize
-  fewer-unrealize c d h = fewer-turns c (suc (length (births c))) d c h
+  fewer-unrealize c d h = unrealize-keeps (Fewer b) fewer-device fewer-bus c d h
 
   -- taking out
 
@@ -225,41 +211,9 @@ module _ (b : Board) where
   fewer-left_parent d c h =
       fewer-where (is_child_slot d) ANONYMOUS_BIRTH (let_go_where (is_child_slot d) PERIPHERAL_BIRTH c) (fewer-where (is_child_slot d) PERIPHERAL_BIRTH c h)
 
-  module _ (f : ℕ → Board → Board) (keeps : (n : ℕ) (c : Board) → Fewer b c → Fewer b (f n c)) where
-    fewer-drained : (times m : ℕ) (c : Board) → Fewer b c → Fewer b (drained f times m c)
-    fewer-drained zero m c h = h
-    fewer-drained (suc times) m c h = go (first_of (kids_of c m)) refl (fewer-drained times m)
-      where
-        go : (o : Option ℕ) → first_of (kids_of c m) ≡ o → ((e : Board) → Fewer b e → Fewer b (drained f times m e)) → Fewer b (drained f (suc times) m c)
-        go None e rest = rw (drained, e) h
-        go (Some k) e rest = rw (drained, e) (rest (f k c) (keeps k c h))
-
-    fewer-lost_bus : (d m : ℕ) (c : Board) → Fewer b c → Fewer b (lost_bus f d m c)
-    fewer-lost_bus d m c h = fewer-where (is_bus_child m) d (drained f (length (slots_at c m)) m c) (fewer-drained (length (slots_at c m)) m c h)
-
-    fewer-lost_buses : (times d : ℕ) (c : Board) → Fewer b c → Fewer b (lost_buses f times d c)
-    fewer-lost_buses zero d c h = h
-    fewer-lost_buses (suc times) d c h = go (first_of (buses_of c d)) refl (fewer-lost_buses times d)
-      where
-        go : (o : Option ℕ) → first_of (buses_of c d) ≡ o → ((e : Board) → Fewer b e → Fewer b (lost_buses f times d e))
-            → Fewer b (lost_buses f (suc times) d c)
-        go None e rest = rw (lost_buses, e) h
-        go (Some m) e rest = rw (lost_buses, e) (rest (lost_bus f d m c) (fewer-lost_bus d m c h))
-
-    pub fewer-taken_by : (d : ℕ) (c : Board) → Fewer b c → Fewer b (taken_by f d c)
-    fewer-taken_by d c h =
-        fewer-left_parent d (left_bus d (lost_buses f (length (slots_at c d)) d c))
-        (fewer-left_bus d (lost_buses f (length (slots_at c d)) d c) (fewer-lost_buses (length (slots_at c d)) d c h))
-
-  pub fewer-apart : (depth d : ℕ) (c : Board) → Fewer b c → Fewer b (apart_within depth d c)
-  unfolding apart_within
-  fewer-apart zero d c h = h
-  fewer-apart (suc depth) d c h =
-      fewer-unpin d (taken_by (apart_within depth) d (pin c d)) (fewer-taken_by (apart_within depth) (fewer-apart depth) d (pin c d) (fewer-pin d c h))
+  -- a device that was unrealized while it was held
+  pub fewer-detached : (c : Board) (d : ℕ) → Fewer b (unrealize (pin c d) d) → Fewer b (detach c d)
+  fewer-detached c d h = detached-keeps (Fewer b) (λ m. fewer-where (is_bus_child m)) fewer-left_bus fewer-left_parent fewer-pin fewer-unpin c d h
 
   pub fewer-detach : (c : Board) (d : ℕ) → Fewer b c → Fewer b (detach c d)
-  unfolding detach
-  fewer-detach c d h =
-      let e : Board = unrealize (pin c d) d in
-      fewer-unpin d (taken_by (apart_within (length (births c))) d e)
-      (fewer-taken_by (apart_within (length (births c))) (fewer-apart (length (births c))) d e (fewer-unrealize (pin c d) d (fewer-pin d c h)))
+  fewer-detach c d h = fewer-detached c d (fewer-unrealize (pin c d) d (fewer-pin d c h))

@@ -194,38 +194,40 @@ set-numbers b d c period wide e h = go (is_some (source_of b c)) refl
     go true p = absurd (let clash : Err E45 ≡ Ok d = rw (clock_set, p) at e in cc)
     go false p = kept-written SoundNumbers (calls-kept SoundNumbers (kept-acted SoundNumbers same-numbers)) b new d c fits (rw (clock_set, p) at e)
 
+-- a number that is as wide as its property is written
+set-mul : (c mul : ℕ) (b : Board) → mul < 2 ^ 32 → SoundNumbers b → SoundNumbers (set_named c (codes "mul") (val.Uint mul) b)
+set-mul c mul b wide h n =
+    record {
+      period = set-other 64 c (codes "mul") (codes "period") mul 0 b _ at refl n (h n).period;
+      mul = set-wide 32 c (codes "mul") mul 1 b _ at wide n (h n).mul;
+      div = set-other 32 c (codes "mul") (codes "div") mul 1 b _ at refl n (h n).div;
+    }
+  where
+    at : IsSetAt c (codes "mul") (val.Uint mul) b (set_named c (codes "mul") (val.Uint mul) b)
+    at = set-at c (codes "mul") (val.Uint mul) b
+
+set-div : (c div : ℕ) (b : Board) → div < 2 ^ 32 → SoundNumbers b → SoundNumbers (set_named c (codes "div") (val.Uint div) b)
+set-div c div b wide h n =
+    record {
+      period = set-other 64 c (codes "div") (codes "period") div 0 b _ at refl n (h n).period;
+      mul = set-other 32 c (codes "div") (codes "mul") div 1 b _ at refl n (h n).mul;
+      div = set-wide 32 c (codes "div") div 1 b _ at wide n (h n).div;
+    }
+  where
+    at : IsSetAt c (codes "div") (val.Uint div) b (set_named c (codes "div") (val.Uint div) b)
+    at = set-at c (codes "div") (val.Uint div) b
+
 scaled-numbers : (b d : Board) (c mul div : ℕ) → mul < 2 ^ 32 → div < 2 ^ 32 → clock_scaled b c mul div ≡ Ok d → SoundNumbers b → SoundNumbers d
 scaled-numbers b d c mul div wide also e h = go (eqb div 0) refl
   where
     mid : Board
     mid = set_named c (codes "mul") (val.Uint mul) b
 
-    new : Board
-    new = set_named c (codes "div") (val.Uint div) mid
-
-    at : IsSetAt c (codes "mul") (val.Uint mul) b mid
-    at = set-at c (codes "mul") (val.Uint mul) b
-
-    and : IsSetAt c (codes "div") (val.Uint div) mid new
-    and = set-at c (codes "div") (val.Uint div) mid
-
-    fits : SoundNumbers new
-    fits n =
-        record {
-          period =
-              set-other 64 c (codes "div") (codes "period") div 0 mid new and refl n
-              (set-other 64 c (codes "mul") (codes "period") mul 0 b mid at refl n (h n).period);
-          mul =
-              set-other 32 c (codes "div") (codes "mul") div 1 mid new and refl n
-              (set-wide 32 c (codes "mul") mul 1 b mid at wide n (h n).mul);
-          div =
-              set-wide 32 c (codes "div") div 1 mid new and also n
-              (set-other 32 c (codes "mul") (codes "div") mul 1 b mid at refl n (h n).div);
-        }
-
     go : (t : Bool) → eqb div 0 ≡ t → SoundNumbers d
     go true p = absurd (let clash : Err E46 ≡ Ok d = rw (clock_scaled, p) at e in cc)
-    go false p = kept-written SoundNumbers (calls-kept SoundNumbers (kept-acted SoundNumbers same-numbers)) b new d c fits (rw (clock_scaled, p) at e)
+    go false p =
+        kept-written SoundNumbers (calls-kept SoundNumbers (kept-acted SoundNumbers same-numbers)) b (set_named c (codes "div") (val.Uint div) mid) d c
+        (set-div c div mid also (set-mul c mul b wide h)) (rw (clock_scaled, p) at e)
 
 pub numbers_kept_lem : NumbersKeptLaw
 numbers_kept_lem =

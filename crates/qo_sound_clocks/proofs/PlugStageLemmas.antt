@@ -1,5 +1,5 @@
 -- Adding a device, taken or refused at any stage, keeps clocks sound.
-use Rattle.std.proofs.Common.{◌≡◌, refl, ap, sym, ◌∙◌, ℕ, ◌<◌, ◌≤◌, true, false, List, Option, Some, None, is_some, codes, arith}
+use Rattle.std.proofs.Common.{◌≡◌, refl, ap, sym, ◌∙◌, ℕ, ◌≤◌, true, false, List, Option, Some, None, is_some, codes, arith}
 use Rattle.std.specs.List.{AllByRecursion}
 use Rattle.qo_values.specs.declared.codes.Code.{Code}
 use Rattle.qo_values.specs.declared.kinds.TypeId.{TypeId}
@@ -10,7 +10,7 @@ use Rattle.qo_model.specs.Types.{TypeInfo, is_a, type_named}
 use Rattle.qo_model.proofs.FirstSlotLemmas.{slots_in}
 use Rattle.qo_model.proofs.StepLemmas.{is_some-map}
 use Rattle.qo_sound.specs.TreeKept.{SoundTree}
-use Rattle.qo_sound.proofs.DraftLemmas.{found-low}
+use Rattle.qo_sound.proofs.DraftLemmas.{absent-above, found-low}
 use Rattle.qo_sound.proofs.FirmBoardLemmas.{Firm, Linked}
 use Rattle.qo_sound.proofs.SearchLemmas.{all-found}
 use Rattle.qo_sound.proofs.TreeKeptLemmas.{sound_kept_lem}
@@ -31,13 +31,6 @@ module _ (b : Board) (firm : Firm b) where
       go : (o : Option Record) → record_of b m ≡ o → m ≤ b.born
       go None q = absurd (let clash : false ≡ true = sym (ap is_some q) ∙ e in cc)
       go (Some r) q = found-low b.born m b.records r firm.within q
-
-  pub absent-above : (m : ℕ) → b.born < m → record_of b m ≡ None
-  absent-above m high = go (record_of b m) refl
-    where
-      go : (o : Option Record) → record_of b m ≡ o → record_of b m ≡ None
-      go None q = q
-      go (Some r) q = absurd (let low : m ≤ b.born = found-low b.born m b.records r firm.within q in omega (arith, high, low))
 
   clock-low : (p k : ℕ) → clock_of b p ≡ Some k → k ≤ b.born
   clock-low p k e =

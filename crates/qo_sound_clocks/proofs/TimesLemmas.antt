@@ -3,9 +3,10 @@ use Rattle.std.proofs.Common.{◌≡◌, refl, sym, subst, ◌∙◌, rules, ℕ
 use Rattle.std.specs.Bool.{⊤}
 use Rattle.std.specs.List.{AllByRecursion}
 use Rattle.std.proofs.lemmas.Option.{same_Some}
+use Rattle.qo_values.proofs.TimerLemmas.{end-timely}
 use Rattle.qo_values.specs.Bodies.{Effect, body_act, body_write}
 use Rattle.qo_values.specs.Registers.{Registers, TimerRegisters, bare, bridge, dimm, fresh_registers, timer, uart}
-use Rattle.qo_values.specs.Timer.{after_end, control_write, reload_write, timer_halt, timer_update, timer_write}
+use Rattle.qo_values.specs.Timer.{control_write, reload_write, timer_halt, timer_update, timer_write}
 use Rattle.qo_values.specs.declared.births.TheConstants.{MACHINE_BIRTH, OBJECTS_BIRTH}
 use Rattle.qo_values.specs.declared.codes.Code.{Code}
 use Rattle.qo_values.specs.declared.kinds.Act.{Act}
@@ -32,7 +33,8 @@ use Rattle.qo_model.specs.Unplug.{detach, first_of}
 use Rattle.qo_model.proofs.ComesToLemmas.{addition-comes}
 use Rattle.qo_model.proofs.ReleaseInductionLemmas.{after_keeps}
 use Rattle.qo_sound.proofs.SearchLemmas.{all-found}
-use Rattle.qo_sound.proofs.RecordLemmas.{all-append, all-filter, all-imply, all-map}
+use Rattle.qo_sound.proofs.RecordLemmas.{all-append, all-filter, all-map}
+use Rattle.qo_values.proofs.ListLemmas.{all-imply}
 use Rattle.qo_sound.proofs.AdditionStepsLemmas.{all-any, any-rows, KeepsActs, KeepsEdits, KeepsNew, new_with, step-acted_all, step-drafted, step-plugged, step-set, step-stood}
 use Rattle.qo_sound.proofs.DetachmentStepsLemmas.{KeepsEnds, KeepsLists, KeepsPins, step-detach, step-pin, step-unrealize}
 use Rattle.qo_sound.proofs.ChangeStepsLemmas.{step-object_del, step-sever, step-write}
@@ -46,13 +48,6 @@ abbrev Timely : ℕ → Record → Type 0
 Timely now r = IsTimely now r.registers
 
 -- segments that begin and end now
-
-end-timely : (t : TimerRegisters) (now period : ℕ) → t.last ≤ now → (after_end t now period).last ≤ now
-end-timely t now period le = go (is_some t.began) refl
-  where
-    go : (u : Bool) → is_some t.began ≡ u → (after_end t now period).last ≤ now
-    go true e = rw (after_end, e) (omega arith)
-    go false e = rw (after_end, e) le
 
 update-timely : (t : TimerRegisters) (now : ℕ) → t.last ≤ now → (timer_update t now).last ≤ now
 update-timely t now le = go t.enabled refl

@@ -129,7 +129,7 @@ goal-of depth b t bus a rest h k =
         let bridge : is_bridge t ≡ true = drafted-bridge b t (shut-above b.born rest.used.firm.begun) rest.used q e in
         let few : nat_le BUS_DEPTH_MAX (depth_of b bus) ≡ false = bridge-room b t bus a.props bridge p.kind in
         let is : depth bus ≡ depth_of b bus =
-        depth-is depth (λ x. false) b rest.used.firm h (machine-no_device b (sound-from_rest b rest).0 rest.used.firm depth None (λ x. false) h) bus owner in
+        depth-is depth (λ x. false) b rest.used.firm h (machine-no_device depth None (λ x. false) b h) bus owner in
         let low : depth_of b bus < 8 = grind (arith, few) in
         omega (arith, is, low)
 

@@ -1,11 +1,11 @@
 -- `object-add` keeps places, taken or refused.
-use Rattle.std.proofs.Common.{◌≡◌, refl, ap, ap₂, sym, subst, ◌∙◌, ℕ, ◌+◌, ◌<◌, Bool, true, false, ◌||◌, ◌==◌, List, [], ◌∷◌, ◌++◌, map, find, filter_map, Option, Some, None, is_some, option_map, option_and_then, arith, codes}
+use Rattle.std.proofs.Common.{◌≡◌, refl, ap, ap₂, sym, subst, ◌∙◌, ℕ, ◌+◌, ◌<◌, Bool, true, false, ◌==◌, List, [], ◌∷◌, ◌++◌, map, find, filter_map, Option, Some, None, is_some, option_map, option_and_then, arith, codes}
 use Rattle.std.specs.List.{AllByRecursion, cons_option, list_any}
 use Rattle.std.specs.Option.{option_map_or, option_or}
 use Rattle.std.proofs.lemmas.List.Folds.{find-append}
 use Rattle.std.specs.Str.{bytes_eq}
 use Rattle.std.proofs.lemmas.Bool.{eqb-true, eq-eqb}
-use Rattle.qo_values.specs.declared.births.TheConstants.{ANONYMOUS_BIRTH, MACHINE_BIRTH, MEMORY_BUS_BIRTH, OBJECTS_BIRTH, PERIPHERAL_BIRTH, ROOT_BUS_BIRTH, SYSTEM_CLOCK_BIRTH}
+use Rattle.qo_values.specs.declared.births.TheConstants.{ANONYMOUS_BIRTH, MACHINE_BIRTH, MEMORY_BUS_BIRTH, OBJECTS_BIRTH, PERIPHERAL_BIRTH, ROOT_BUS_BIRTH}
 use Rattle.qo_values.specs.Registers.{fresh_registers}
 use Rattle.qo_values.specs.declared.codes.Code.{Code}
 use Rattle.qo_values.specs.declared.kinds.TypeId.{TypeId}
@@ -24,12 +24,12 @@ use Rattle.qo_model.proofs.ComesToLemmas.{addition-comes}
 use Rattle.qo_model.proofs.StepLemmas.{found_at, found-edited, found-birth}
 use Rattle.qo_sound.proofs.AddLemmas.{attempt-rest, creatable}
 use Rattle.qo_sound.proofs.FirmBoardLemmas.{Firm}
-use Rattle.qo_sound.proofs.RecordLemmas.{all-imply}
+use Rattle.qo_values.proofs.ListLemmas.{all-imply}
 use Rattle.qo_sound.proofs.TestLemmas.{decide, clash-back}
 use Rattle.qo_sound.proofs.ViewLemmas.{AtRest}
-use Rattle.qo_sound_devices.specs.SoundPlaces.{child_entries, child_entry, HasOwner, machines, bridges, id_of, IsAnonymous, IsAtHome, IsHome, IsKid, IsPeripheral, kid_entries, kid_entry, listed, owns_it, PlacesBut, stands}
+use Rattle.qo_sound_devices.specs.SoundPlaces.{child_entries, child_entry, id_of, IsAnonymous, IsAtHome, IsHome, IsKid, IsPeripheral, kid_entries, kid_entry, listed, owns_it, PlacesBut, stands}
 use Rattle.qo_sound_devices.proofs.LikenessLemmas.{alike-record, bodiless, realized_in}
-use Rattle.qo_sound_devices.proofs.PlacesLemmas.{child-live, Keeps, keeps-none, children-grown, high-absent, MoreChildren, rooted-same, no-more, id-alike, kept-alike, of-alike, of-live, owner-live, places-kept, SameBody, stands-live, suits-alike, peripheral-alike, anonymous-alike}
+use Rattle.qo_sound_devices.proofs.PlacesLemmas.{child-live, Keeps, keeps-none, children-grown, high-absent, MoreChildren, rooted-same, no-more, id-alike, kept-alike, of-alike, of-live, owner-live, places-kept, SameBody, stands-live, suits-alike, parts-same, OwnersStay, owners-stay, stands-same, peripheral-stays, anonymous-stays}
 
 -- a board with more objects, of which places do not speak; `/objects` has a child more
 pub record Grown (b c : Board) : Type 0 where
@@ -63,7 +63,7 @@ module _ (depth : ℕ → ℕ) (b c : Board) (g : Grown b c) (firm : Firm b) (h 
   fourth = g.children ANONYMOUS_BIRTH (child-live b firm MACHINE_BIRTH ANONYMOUS_BIRTH h.parts.1.0) refl
 
   pub all-stands : (d : ℕ) → stands c d ≡ stands b d
-  all-stands d = ap₂ (λ (xs ys : List (List ℕ × ℕ)). listed d xs || listed d ys) third fourth
+  all-stands = stands-same b c third fourth
 
   there : (d : ℕ) → stands c d ≡ true → is_live b d ≡ true
   there d e = stands-live b firm d (sym (all-stands d) ∙ e)
@@ -74,15 +74,12 @@ module _ (depth : ℕ → ℕ) (b c : Board) (g : Grown b c) (firm : Firm b) (h 
       (decide (p == OBJECTS_BIRTH) {A = (p == OBJECTS_BIRTH) ≡ false}
       (λ k. absurd (let clash : true ≡ false = sym e ∙ ap (stands b) (eqb-true p OBJECTS_BIRTH k) ∙ h.aside.1.1.1.1.1.1.0 in cc)) (λ k. k))
 
-  owner-on : (q : ℕ) → HasOwner b q → HasOwner c q
-  owner-on q (machines k) = machines k
-  owner-on q (bridges p s o) = bridges p (all-stands p ∙ s) (ap (list_any (owns_it q)) (own-children p s) ∙ o)
+  owner-on : OwnersStay b c
+  owner-on = owners-stay b c (λ p s. all-stands p ∙ s) (λ p q s o. ap (list_any (owns_it q)) (own-children p s) ∙ o)
 
-  owner-back : (q : ℕ) → HasOwner c q → HasOwner b q
-  owner-back q (machines k) = machines k
-  owner-back q (bridges p s o) =
-      let e : stands b p ≡ true = sym (all-stands p) ∙ s in
-      bridges p e (sym (ap (list_any (owns_it q)) (own-children p e)) ∙ o)
+  owner-back : OwnersStay c b
+  owner-back =
+      owners-stay c b (λ p s. sym (all-stands p) ∙ s) (λ p q s o. sym (ap (list_any (owns_it q)) (own-children p (sym (all-stands p) ∙ s))) ∙ o)
 
   children : (p : ℕ) → AllByRecursion (IsAtHome c p) (child_entries c p)
   children = children-grown b c firm g.body more (λ p e. subst (AllByRecursion (IsAtHome c p)) (sym (g.no_children p e)) tt) h.children
@@ -108,10 +105,7 @@ module _ (depth : ℕ → ℕ) (b c : Board) (g : Grown b c) (firm : Firm b) (h 
       record {
         machine = ap (listed MACHINE_BIRTH) first ∙ h.machine;
         objects = ap (listed OBJECTS_BIRTH) first ∙ h.objects;
-        parts =
-            all-imply (λ n. listed n (child_entries b MACHINE_BIRTH) ≡ true) (λ n. listed n (child_entries c MACHINE_BIRTH) ≡ true)
-            (λ n k. ap (listed n) second ∙ k)
-            (PERIPHERAL_BIRTH ∷ ANONYMOUS_BIRTH ∷ ROOT_BUS_BIRTH ∷ MEMORY_BUS_BIRTH ∷ SYSTEM_CLOCK_BIRTH ∷ []) h.parts;
+        parts = parts-same b c second h.parts;
         rooted = rooted-same b c (g.body 1 (owner-live b 1 MACHINE_BIRTH h.machine)) first second h.rooted;
         children = children;
         aside =
@@ -119,10 +113,10 @@ module _ (depth : ℕ → ℕ) (b c : Board) (g : Grown b c) (firm : Firm b) (h 
             (1 ∷ MACHINE_BIRTH ∷ PERIPHERAL_BIRTH ∷ ANONYMOUS_BIRTH ∷ ROOT_BUS_BIRTH ∷ MEMORY_BUS_BIRTH ∷ OBJECTS_BIRTH ∷ []) h.aside;
         peripheral =
             subst (AllByRecursion (IsPeripheral c)) (sym third)
-            (all-imply (IsPeripheral b) (IsPeripheral c) one (child_entries b PERIPHERAL_BIRTH) h.peripheral);
+            (peripheral-stays b c g.body (child_entries b PERIPHERAL_BIRTH) h.peripheral);
         anonymous =
             subst (AllByRecursion (IsAnonymous c)) (sym fourth)
-            (all-imply (IsAnonymous b) (IsAnonymous c) two (child_entries b ANONYMOUS_BIRTH) h.anonymous);
+            (anonymous-stays b c g.body (λ n low. subst (λ (x : ℕ). n < x) (sym g.anonymous) low) (child_entries b ANONYMOUS_BIRTH) h.anonymous);
         kids = λ q e. kids q e;
         home = λ d e k. home d e;
         owner = λ d q e on. owner-on q (h.owner d q (sym (all-stands d) ∙ e) (sym (g.bus d (there d e)) ∙ on));
@@ -142,13 +136,6 @@ module _ (depth : ℕ → ℕ) (b c : Board) (g : Grown b c) (firm : Firm b) (h 
     where
       named : (d : ℕ) (id : List ℕ) → id_of c d ≡ Some id → is_live b d ≡ true
       named d id e = decide (is_live b d) (λ k. k) (λ k. absurd (let clash : None ≡ Some id = sym (g.nameless d k) ∙ e in cc))
-
-      one : (e : List ℕ × ℕ) → IsPeripheral b e → IsPeripheral c e
-      one e k = peripheral-alike b c e (g.body e.1 (of-live b (codes "device") e.1 k.device)) k
-
-      two : (e : List ℕ × ℕ) → IsAnonymous b e → IsAnonymous c e
-      two e k =
-          anonymous-alike b c e (λ n low. subst (λ (x : ℕ). n < x) (sym g.anonymous) low) (g.body e.1 (of-live b (codes "device") e.1 k.device)) k
 
       kids : (q : ℕ) → is_of c (codes "bus") q ≡ true → AllByRecursion (IsKid c q) (kid_entries c q)
       kids q e =

@@ -1,4 +1,5 @@
 -- Places after a device that was added: what has to be shown of the board after it.
+use Rattle.std.proofs.lemmas.List.Folds.{list_any-append}
 use Rattle.std.proofs.Common.{◌≡◌, refl, ap, ap₂, sym, subst, ◌∙◌, ℕ, suc, ◌<◌, ◌≤◌, Bool, true, false, ◌||◌, ◌==◌, eqb, List, [], ◌∷◌, ◌++◌, Option, Some, None, arith, codes}
 use Rattle.std.specs.Prelude.{if◌then◌else◌}
 use Rattle.std.specs.List.{AllByRecursion, list_any}
@@ -7,7 +8,7 @@ use Rattle.std.specs.Str.{bytes_eq}
 use Rattle.std.proofs.lemmas.Bool.{eqb-true, eq-eqb}
 use Rattle.std.proofs.lemmas.Option.{same_Some}
 use Rattle.std.proofs.Math.Bool.{or-true, or-false}
-use Rattle.qo_values.specs.declared.births.TheConstants.{ANONYMOUS_BIRTH, MACHINE_BIRTH, MEMORY_BUS_BIRTH, OBJECTS_BIRTH, PERIPHERAL_BIRTH, ROOT_BUS_BIRTH, SYSTEM_CLOCK_BIRTH}
+use Rattle.qo_values.specs.declared.births.TheConstants.{ANONYMOUS_BIRTH, MACHINE_BIRTH, MEMORY_BUS_BIRTH, OBJECTS_BIRTH, PERIPHERAL_BIRTH, ROOT_BUS_BIRTH}
 use Rattle.qo_values.specs.declared.kinds.TypeId.{TypeId}
 use Rattle.qo_values.specs.declared.kinds.TypeId.TheVariants.{Object, Container, Machine, Device, SlotDevice, SlotUart, SlotTimer, SlotBridge, MemDimm, Bus, SlotBus, MemBus, Clock, MemoryBackend, MemoryBackendRam, Tag}
 use Rattle.qo_values.specs.declared.limits.TheConstants.{BUS_SLOTS}
@@ -18,11 +19,12 @@ use Rattle.qo_model.specs.Paths.{is_of}
 use Rattle.qo_model.specs.Plug.{bus_type}
 use Rattle.qo_model.specs.Types.{is_a, types}
 use Rattle.qo_sound.proofs.FirmBoardLemmas.{Firm}
-use Rattle.qo_sound.proofs.RecordLemmas.{all-append, all-imply}
+use Rattle.qo_sound.proofs.RecordLemmas.{all-append}
+use Rattle.qo_values.proofs.ListLemmas.{all-imply}
 use Rattle.qo_sound.proofs.TestLemmas.{decide}
-use Rattle.qo_sound_devices.specs.SoundPlaces.{child_entries, HasOwner, machines, bridges, id_of, IsAnonymous, IsAtHome, on_device, IsHome, IsKid, IsPeripheral, IsShallow, kid_entries, listed, owns, owns_it, path_of, PlacesBut, stands}
+use Rattle.qo_sound_devices.specs.SoundPlaces.{child_entries, HasOwner, machines, bridges, id_of, IsAnonymous, IsAtHome, on_device, IsHome, IsKid, IsPeripheral, IsShallow, kid_entries, listed, owns, owns_it, path_of, PlacesBut, stands, names_it}
 use Rattle.qo_sound_devices.proofs.AttachmentLemmas.{owns-listed}
-use Rattle.qo_sound_devices.proofs.PlacesLemmas.{child-live, children-grown, id-alike, MoreChildren, rooted-same, no-more, of-alike, of-live, owner-live, SameBody, stands-live, suits-alike, peripheral-alike, anonymous-alike}
+use Rattle.qo_sound_devices.proofs.PlacesLemmas.{child-live, children-grown, id-alike, MoreChildren, rooted-same, no-more, of-alike, of-live, owner-live, SameBody, stands-live, suits-alike, parts-same, aside-apart, OwnersStay, owners-stay, peripheral-stays, anonymous-stays}
 
 -- the entry of a device with an id, and of one without
 abbrev pub named_entry : Option (List ℕ) → ℕ → List (List ℕ × ℕ)
@@ -59,6 +61,13 @@ abbrev pub IsFurther : Board → ℕ → List ℕ × ℕ → Type 0
 IsFurther c x e =
     (is_of c (codes "device") e.1 ≡ false) ×
     (is_of c (codes "bus") e.1 ≡ true → (is_of c (codes "device") x ≡ true) × (bytes_eq e.0 clock_name ≡ false))
+
+-- the children of new objects are further ones, and those of the device are new
+abbrev pub HasFurther : Board → Board → Type 0
+HasFurther b c = (x : ℕ) → is_live b x ≡ false → AllByRecursion (IsFurther c x) (child_entries c x)
+
+abbrev pub HasHeirs : Board → ℕ → Board → Type 0
+HasHeirs b n c = (q : ℕ) → listed q (child_entries c n) ≡ true → is_live b q ≡ false
 
 -- where it is to go, as nothing refuses it
 pub record Goal (depth : ℕ → ℕ) (b : Board) (n bus slot : ℕ) (id : Option (List ℕ)) (t : TypeId) (c : Board) : Type 0 where
@@ -103,7 +112,7 @@ pub record Joined (depth : ℕ → ℕ) (b : Board) (n bus slot : ℕ) (id : Opt
   pub unrealized : (x : ℕ) → is_live b x ≡ false → (x == n) ≡ false → is_realized c x ≡ false
   pub nameless : (x : ℕ) → is_live b x ≡ false → (x == n) ≡ false → id_of c x ≡ None
   pub no_kids : (x : ℕ) → is_live b x ≡ false → is_of c (codes "bus") x ≡ true → kid_entries c x ≡ []
-  pub further : (x : ℕ) → is_live b x ≡ false → AllByRecursion (IsFurther c x) (child_entries c x)
+  pub further : HasFurther b c
   -- the device
   pub kind : kind_of c n ≡ Some t
   pub its_id : id_of c n ≡ now.its
@@ -111,7 +120,7 @@ pub record Joined (depth : ℕ → ℕ) (b : Board) (n bus slot : ℕ) (id : Opt
   pub on : bus_of c n ≡ now.on
   pub at : bus_slot_of c n ≡ now.at
   pub stands_realized : is_realized c n ≡ now.realized
-  pub heirs : (q : ℕ) → listed q (child_entries c n) ≡ true → is_live b q ≡ false
+  pub heirs : HasHeirs b n c
   -- where it goes
   pub goal : Goal depth b n bus slot id t c
 
@@ -152,27 +161,11 @@ further-same c d same x children h =
           k.1 (sym (same (codes "bus") e.1) ∙ is) in (same (codes "device") x ∙ its.0, its.1),
     )
 
-any-append : (d : ℕ) (xs ys : List (List ℕ × ℕ)) → listed d (xs ++ ys) ≡ listed d xs || listed d ys
-any-append d [] ys = refl
-any-append d (x ∷ xs) ys = go (x.1 == d) refl (any-append d xs ys)
-  where
-    go : (t : Bool) → (x.1 == d) ≡ t → listed d (xs ++ ys) ≡ listed d xs || listed d ys → listed d ((x ∷ xs) ++ ys) ≡ listed d (x ∷ xs) || listed d ys
-    go true p rest = rw p refl
-    go false p rest = rw p rest
-
 own-listed : (name : List ℕ) (n : ℕ) → listed n ((name, n) ∷ []) ≡ true
 own-listed name n = rw (eq-eqb n n refl) refl
 
-pub only-listed : (name : List ℕ) (n d : ℕ) → listed d ((name, n) ∷ []) ≡ true → d ≡ n
+only-listed : (name : List ℕ) (n d : ℕ) → listed d ((name, n) ∷ []) ≡ true → d ≡ n
 only-listed name n d e = sym (eqb-true n d (sym (or-false (n == d)) ∙ e))
-
-never-among : (b : Board) (d : ℕ) (ns : List ℕ) → AllByRecursion (λ x. stands b x ≡ false) ns → stands b d ≡ true → among ns d ≡ false
-never-among b d [] h e = refl
-never-among b d (x ∷ ns) h e = go (eqb d x) refl (never-among b d ns h.1 e)
-  where
-    go : (t : Bool) → eqb d x ≡ t → among ns d ≡ false → among (x ∷ ns) d ≡ false
-    go true p rest = absurd (let clash : false ≡ true = sym h.0 ∙ sym (ap (stands b) (eqb-true d x p)) ∙ e in cc)
-    go false p rest = rw p rest
 
 module _ (depth : ℕ → ℕ) (b : Board) (n bus slot : ℕ) (id : Option (List ℕ)) (t : TypeId) (c : Board)
     (j : Joined depth b n bus slot id t (done b bus slot id) c) (firm : Firm b) (h : PlacesBut depth None (λ x. false) b) where
@@ -191,8 +184,8 @@ module _ (depth : ℕ → ℕ) (b : Board) (n bus slot : ℕ) (id : Option (List
       || (listed d (child_entries b ANONYMOUS_BIRTH) || listed d (numbered_entry b id n))
   stands-is d =
       ap₂ (λ (xs ys : List (List ℕ × ℕ)). listed d xs || listed d ys) j.third j.fourth
-      ∙ ap₂ (λ (x y : Bool). x || y) (any-append d (child_entries b PERIPHERAL_BIRTH) (named_entry id n))
-      (any-append d (child_entries b ANONYMOUS_BIRTH) (numbered_entry b id n))
+      ∙ ap₂ (λ (x y : Bool). x || y) (list_any-append (names_it d) (child_entries b PERIPHERAL_BIRTH) (named_entry id n))
+      (list_any-append (names_it d) (child_entries b ANONYMOUS_BIRTH) (numbered_entry b id n))
 
   pub old-stands : (d : ℕ) → stands b d ≡ true → stands c d ≡ true
   old-stands d e =
@@ -226,7 +219,8 @@ module _ (depth : ℕ → ℕ) (b : Board) (n bus slot : ℕ) (id : Option (List
       more false false true w k = refl
       more false false false w k = k
 
-  by-stand : (d : ℕ) → stands c d ≡ true → {A : Type 0} → (stands b d ≡ true → A) → (d ≡ n → A) → A
+  -- who did before, or the new device
+  pub by-stand : (d : ℕ) → stands c d ≡ true → {A : Type 0} → (stands b d ≡ true → A) → (d ≡ n → A) → A
   by-stand d e f g =
       decide (stands b d) f
       (λ k.
@@ -245,15 +239,14 @@ module _ (depth : ℕ → ℕ) (b : Board) (n bus slot : ℕ) (id : Option (List
   there d e = stands-live b firm d e
 
   own-children : (p : ℕ) → stands b p ≡ true → child_entries c p ≡ child_entries b p
-  own-children p e = j.children p (there p e) (never-among b p (PERIPHERAL_BIRTH ∷ ANONYMOUS_BIRTH ∷ []) (h.aside.1.1.0, (h.aside.1.1.1.0, tt)) e)
+  own-children p e = j.children p (there p e) (aside-apart b (PERIPHERAL_BIRTH ∷ ANONYMOUS_BIRTH ∷ []) (h.aside.1.1.0, (h.aside.1.1.1.0, tt)) p e)
 
   -- buses and how deep they are
   bus-live : is_live b bus ≡ true
   bus-live = of-live b (codes "bus") bus j.goal.is_bus
 
-  owner-on : (q : ℕ) → HasOwner b q → HasOwner c q
-  owner-on q (machines k) = machines k
-  owner-on q (bridges p s o) = bridges p (old-stands p s) (ap (list_any (owns_it q)) (own-children p s) ∙ o)
+  owner-on : OwnersStay b c
+  owner-on = owners-stay b c old-stands (λ p q s o. ap (list_any (owns_it q)) (own-children p s) ∙ o)
 
   by-owner : (q : ℕ) → HasOwner c q → {A : Type 0} → (HasOwner b q → A) → (owns c n q ≡ true → A) → A
   by-owner q (machines k) f g = f (machines k)
@@ -321,11 +314,8 @@ module _ (depth : ℕ → ℕ) (b : Board) (n bus slot : ℕ) (id : Option (List
   peripheral =
       subst (AllByRecursion (IsPeripheral c)) (sym j.third)
       (all-append (IsPeripheral c) (child_entries b PERIPHERAL_BIRTH) (named_entry id n)
-      (all-imply (IsPeripheral b) (IsPeripheral c) one (child_entries b PERIPHERAL_BIRTH) h.peripheral) (own id j.its_id j.its_path))
+      (peripheral-stays b c j.body (child_entries b PERIPHERAL_BIRTH) h.peripheral) (own id j.its_id j.its_path))
     where
-      one : (e : List ℕ × ℕ) → IsPeripheral b e → IsPeripheral c e
-      one e k = peripheral-alike b c e (j.body e.1 (of-live b (codes "device") e.1 k.device)) k
-
       own : (o : Option (List ℕ)) → id_of c n ≡ o → path_of c n ≡ Some (path_after b o) → AllByRecursion (IsPeripheral c) (named_entry o n)
       own None e p = tt
       own (Some i) e p = (
@@ -341,16 +331,12 @@ module _ (depth : ℕ → ℕ) (b : Board) (n bus slot : ℕ) (id : Option (List
   anonymous =
       subst (AllByRecursion (IsAnonymous c)) (sym j.fourth)
       (all-append (IsAnonymous c) (child_entries b ANONYMOUS_BIRTH) (numbered_entry b id n)
-      (all-imply (IsAnonymous b) (IsAnonymous c) one (child_entries b ANONYMOUS_BIRTH) h.anonymous) (own id j.its_id j.its_path j.anonymous))
+      (anonymous-stays b c j.body (λ m less. subst (λ (x : ℕ). m < x) (sym j.anonymous) (grows id m b.anonymous less)) (child_entries b ANONYMOUS_BIRTH)
+      h.anonymous) (own id j.its_id j.its_path j.anonymous))
     where
       grows : (o : Option (List ℕ)) (k m : ℕ) → k < m → k < count_after o m
       grows None k m l = omega (arith, l)
       grows (Some i) k m l = l
-
-      one : (e : List ℕ × ℕ) → IsAnonymous b e → IsAnonymous c e
-      one e k =
-          anonymous-alike b c e (λ m less. subst (λ (x : ℕ). m < x) (sym j.anonymous) (grows id m b.anonymous less))
-          (j.body e.1 (of-live b (codes "device") e.1 k.device)) k
 
       own : (o : Option (List ℕ)) → id_of c n ≡ o → path_of c n ≡ Some (path_after b o) → c.anonymous ≡ count_after o b.anonymous
           → AllByRecursion (IsAnonymous c) (numbered_entry b o n)
@@ -412,7 +398,7 @@ module _ (depth : ℕ → ℕ) (b : Board) (n bus slot : ℕ) (id : Option (List
       let is : q ≡ bus = eqb-true q bus p in
       subst (λ (m : ℕ). listed d (kid_entries c m) ≡ true) (sym is)
       (ap (listed d) j.kids_more
-      ∙ any-append d (kid_entries b bus) ((kid_name slot, n) ∷ [])
+      ∙ list_any-append (names_it d) (kid_entries b bus) ((kid_name slot, n) ∷ [])
       ∙ ap (λ (u : Bool). u || listed d ((kid_name slot, n) ∷ [])) (subst (λ (m : ℕ). listed d (kid_entries b m) ≡ true) is k)))
       (λ p. ap (listed d) (j.kids_same q e p) ∙ k)
 
@@ -438,7 +424,7 @@ module _ (depth : ℕ → ℕ) (b : Board) (n bus slot : ℕ) (id : Option (List
             is_bus = of-alike b c bus (codes "bus") (j.body bus bus-live) ∙ j.goal.is_bus;
             kid =
                 ap (listed n) j.kids_more
-                ∙ any-append n (kid_entries b bus) ((kid_name slot, n) ∷ [])
+                ∙ list_any-append (names_it n) (kid_entries b bus) ((kid_name slot, n) ∷ [])
                 ∙ ap (λ (u : Bool). listed n (kid_entries b bus) || u) (own-listed (kid_name slot) n)
                 ∙ or-true (listed n (kid_entries b bus));
           }
@@ -524,10 +510,7 @@ module _ (depth : ℕ → ℕ) (b : Board) (n bus slot : ℕ) (id : Option (List
       record {
         machine = ap (listed MACHINE_BIRTH) first ∙ h.machine;
         objects = ap (listed OBJECTS_BIRTH) first ∙ h.objects;
-        parts =
-            all-imply (λ n. listed n (child_entries b MACHINE_BIRTH) ≡ true) (λ n. listed n (child_entries c MACHINE_BIRTH) ≡ true)
-            (λ n k. ap (listed n) second ∙ k)
-            (PERIPHERAL_BIRTH ∷ ANONYMOUS_BIRTH ∷ ROOT_BUS_BIRTH ∷ MEMORY_BUS_BIRTH ∷ SYSTEM_CLOCK_BIRTH ∷ []) h.parts;
+        parts = parts-same b c second h.parts;
         rooted = rooted-same b c (j.body 1 (owner-live b 1 MACHINE_BIRTH h.machine)) first second h.rooted;
         children = at_home;
         aside = (

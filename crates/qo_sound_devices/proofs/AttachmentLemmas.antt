@@ -94,21 +94,14 @@ parent-is b firm p x e = go (record_of b p) refl
 pub child-attached : (b : Board) → SoundGraph b → Firm b → (p x : ℕ) → listed x (child_entries b p) ≡ true → attached b p ≡ true → attached b x ≡ true
 child-attached b sound firm p x e above = paths_lem.attached_by_parent b sound x ∙ go (x == 1) refl
   where
-    parent : option_map (λ (q : ℕ × List ℕ). q.0) (place_of b x) ≡ Some p
-    parent = at_record (record_of b p) refl
-      where
-        at_record : (o : Option Record) → record_of b p ≡ o → option_map (λ (q : ℕ × List ℕ). q.0) (place_of b x) ≡ Some p
-        at_record None q = absurd (let clash : false ≡ true = rw q at e in cc)
-        at_record (Some r) q = place-is x p r (rw q at e) b.records q (firm.one_parent x)
-
     go : (t : Bool) → (x == 1) ≡ t → attached_turn b (attached b) x ≡ true
     go true q = rw (attached_turn, q) refl
     go false q = placed (place_of b x) refl
       where
         placed : (o : Option (ℕ × List ℕ)) → place_of b x ≡ o → attached_turn b (attached b) x ≡ true
-        placed None k = absurd (let clash : None ≡ Some p = sym (ap (option_map (λ (u : ℕ × List ℕ). u.0)) k) ∙ parent in cc)
+        placed None k = absurd (let clash : None ≡ Some p = sym (ap (option_map (λ (u : ℕ × List ℕ). u.0)) k) ∙ parent-is b firm p x e in cc)
         placed (Some u) k =
-            let is : u.0 ≡ p = same_Some u.0 p (sym (ap (option_map (λ (v : ℕ × List ℕ). v.0)) k) ∙ parent) in
+            let is : u.0 ≡ p = same_Some u.0 p (sym (ap (option_map (λ (v : ℕ × List ℕ). v.0)) k) ∙ parent-is b firm p x e) in
             rw (attached_turn, q, k, is) above
 
 pub owns-listed : (q : ℕ) (es : List (List ℕ × ℕ)) → list_any (owns_it q) es ≡ true → listed q es ≡ true

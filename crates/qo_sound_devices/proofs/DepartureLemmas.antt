@@ -20,12 +20,12 @@ use Rattle.qo_sound.proofs.FirmBoardLemmas.{Firm, parents_in}
 use Rattle.qo_sound.proofs.SlotLemmas.{one_child}
 use Rattle.qo_sound.proofs.TestLemmas.{decide}
 use Rattle.qo_sound.proofs.UnplugLemmas.{held-where_open, held-where_other, named-apart, Sits}
-use Rattle.qo_sound_devices.specs.SoundPlaces.{child_entries, child_entry, IsKid, kid_entries, kid_entry, listed, owns, owns_it, PlacesBut, stands}
+use Rattle.qo_sound_devices.specs.SoundPlaces.{child_entries, child_entry, IsKid, kid_entries, kid_entry, listed, owns, owns_it, PlacesBut, stands, names_it}
 use Rattle.qo_sound_devices.proofs.DropLemmas.{edited-slots, names-at}
 use Rattle.qo_sound_devices.proofs.LeavingLemmas.{all-at, IsUnlisted, Left, Stay, stay-kept, stay-none, stay-then, strong-gone, Taken, taken-kid, unlisted-steps, unnamed}
-use Rattle.qo_sound_devices.proofs.RemovalLemmas.{within-listed}
-use Rattle.qo_sound_devices.proofs.PlacesLemmas.{after-kept, child-live, Kept, of-alike, of-live, owner-live, realized-live, stands-live}
-use Rattle.qo_sound_devices.proofs.StepsLemmas.{Steps, steps-after, steps-then, within-any}
+use Rattle.qo_sound_devices.proofs.PlacesLemmas.{within-any, stands-same}
+use Rattle.qo_sound_devices.proofs.PlacesLemmas.{after-kept, child-live, Kept, of-alike, of-live, owner-live, realized-live, stands-live, within-any}
+use Rattle.qo_sound_devices.proofs.StepsLemmas.{Steps, steps-after, steps-then}
 use Rattle.qo_sound_devices.proofs.UnparentingLemmas.{child-dropped, child-gone, dropped, for-each, is-child_slot, IsChildSlot, link-dropped, link-stands, Mid, none-listed, record-at, Went, went-let_go, went-none, bus-stays, listed-stays}
 
 pub none-of : {A : Type 0} (o : Option A) → ((x : A) → o ≡ Some x → ⊥) → o ≡ None
@@ -126,7 +126,7 @@ unlinked depth out ps d m b c t = go (index_from (is_named (codes "parent_bus"))
             same-bus x
             (λ z.
             let clash : true ≡ false =
-            sym (within-listed x (step.kids p) l) ∙ ap (λ (y : ℕ). listed y (kid_entries c p)) (sym z) ∙ t.unlisted p isb in
+            sym (within-any (names_it x) (step.kids p) l) ∙ ap (λ (y : ℕ). listed y (kid_entries c p)) (sym z) ∙ t.unlisted p isb in
             absurd cc)
 
         no_bus : is_of c (codes "bus") d ≡ true → ⊥
@@ -168,8 +168,8 @@ unlinked depth out ps d m b c t = go (index_from (is_named (codes "parent_bus"))
         stay_first : Stay d c e
         stay_first =
             record {
-              stands_on = λ x p k. ap₂ (λ (xs ys : List (List ℕ × ℕ)). listed x xs || listed x ys) (link-stands depth out (Some d) ps c h d i r owner.1 s
-                  at is.no_child PERIPHERAL_BIRTH) (link-stands depth out (Some d) ps c h d i r owner.1 s at is.no_child ANONYMOUS_BIRTH) ∙ k;
+              stands_on = λ x p k. stands-same c e (link-stands depth out (Some d) ps c h d i r owner.1 s at is.no_child PERIPHERAL_BIRTH)
+                  (link-stands depth out (Some d) ps c h d i r owner.1 s at is.no_child ANONYMOUS_BIRTH) x ∙ k;
               bus_on = λ x p u k o. same-bus x (λ z. let clash : true ≡ false = sym (eq-eqb d x z) ∙ u in absurd cc) ∙ o;
             }
 
@@ -302,7 +302,7 @@ shelved depth out ps d b h n shelf wide live loose = go (index_from (is_child_sl
               loose = loose-steps b (let_go b n i) d later.steps loose;
               gone =
                   false_from_ne_true (listed d (child_entries (let_go b n i) n))
-                  (λ k. let clash : true ≡ false = sym (within-listed d ((steps-let_go b n i s.1 slot).children n) k) ∙ gone_first in absurd cc);
+                  (λ k. let clash : true ≡ false = sym (within-any (names_it d) ((steps-let_go b n i s.1 slot).children n) k) ∙ gone_first in absurd cc);
             })
 
 -- and both
@@ -343,7 +343,7 @@ parent-left depth out ps d b h loose =
     still : listed d (child_entries e PERIPHERAL_BIRTH) ≡ false
     still =
         false_from_ne_true (listed d (child_entries e PERIPHERAL_BIRTH))
-        (λ k. let clash : true ≡ false = sym (within-listed d (two.went.steps.children PERIPHERAL_BIRTH) k) ∙ one.gone in absurd cc)
+        (λ k. let clash : true ≡ false = sym (within-any (names_it d) (two.went.steps.children PERIPHERAL_BIRTH) k) ∙ one.gone in absurd cc)
 
     gone : stands e d ≡ false
     gone = rw (still, two.gone) refl

@@ -12,7 +12,7 @@ use Rattle.qo_model.specs.Plug.{notice_barred}
 use Rattle.qo_model.specs.SoundGraph.{Rises}
 use Rattle.qo_model.proofs.StepLemmas.{found_at}
 use Rattle.qo_sound.proofs.FirmBoardLemmas.{AllLinked, Firm, HasNames, parents_in}
-use Rattle.qo_sound.proofs.RecordLemmas.{all-imply}
+use Rattle.qo_values.proofs.ListLemmas.{all-imply}
 use Rattle.qo_sound_devices.specs.SoundPlaces.{PlacesBut}
 use Rattle.qo_sound_devices.proofs.LikenessLemmas.{alike-record}
 use Rattle.qo_sound_devices.proofs.PlacesLemmas.{kept-alike, owner-live, places-kept}

@@ -1,5 +1,5 @@
 -- Places after unrealizing: the recursion goes deep enough, and what is left of places.
-use Rattle.std.proofs.Common.{◌≡◌, refl, ap, ap₂, sym, subst, ◌∙◌, ℕ, zero, suc, ◌+◌, ◌≤◌, Bool, true, false, not, ◌&&◌, ◌||◌, ◌==◌, eqb, List, [], ◌∷◌, filter_map, length, Option, Some, None, arith, codes}
+use Rattle.std.proofs.Common.{◌≡◌, refl, ap, sym, subst, ◌∙◌, ℕ, zero, suc, ◌+◌, ◌≤◌, Bool, true, false, not, ◌&&◌, ◌||◌, ◌==◌, eqb, List, [], ◌∷◌, filter_map, length, Option, Some, None, arith, codes}
 use Rattle.std.specs.Bool.{⊤}
 use Rattle.std.specs.List.{AllByRecursion, list_any}
 use Rattle.std.specs.Str.{bytes_eq}
@@ -13,10 +13,10 @@ use Rattle.qo_model.specs.Paths.{births, is_of}
 use Rattle.qo_model.specs.Unplug.{unrealize, without_all}
 use Rattle.qo_model.proofs.StepLemmas.{live-among}
 use Rattle.qo_sound.proofs.FirmBoardLemmas.{Firm}
-use Rattle.qo_sound.proofs.RecordLemmas.{all-imply}
+use Rattle.qo_values.proofs.ListLemmas.{all-imply}
 use Rattle.qo_sound_devices.specs.SoundPlaces.{child_entries, child_entry, HasOwner, machines, bridges, IsKid, kid_entries, kid_entry, listed, owns, owns_it, PlacesBut, stands}
 use Rattle.qo_sound_devices.proofs.RemovalLemmas.{Moved, places-moved}
-use Rattle.qo_sound_devices.proofs.PlacesLemmas.{all-listed, child-live, owner-live, within-same}
+use Rattle.qo_sound_devices.proofs.PlacesLemmas.{all-listed, child-live, owner-live, within-same, stands-same}
 use Rattle.qo_sound_devices.proofs.UnrealizingLemmas.{Dimmed, dimmed-live, IsLow, turns-all, turns-dimmed, turns-only, Under, here, down}
 
 -- the kids and buses that recursions go over
@@ -178,7 +178,7 @@ room depth left out b firm h =
 -- unrealizing
 
 pub stands-dimmed : (b c : Board) → Dimmed b c → (x : ℕ) → stands c x ≡ stands b x
-stands-dimmed b c h x = ap₂ (λ (xs ys : List (List ℕ × ℕ)). listed x xs || listed x ys) (h.children PERIPHERAL_BIRTH) (h.children ANONYMOUS_BIRTH)
+stands-dimmed b c h = stands-same b c (h.children PERIPHERAL_BIRTH) (h.children ANONYMOUS_BIRTH)
 
 pub moved-dimmed : (depth : ℕ → ℕ) (left : Option ℕ) (out : ℕ → Bool) (b c : Board) → Firm c → PlacesBut depth left out b → Dimmed b c → Moved left b c
 moved-dimmed depth left out b c firm h d =

@@ -21,18 +21,17 @@ use Rattle.qo_sound.proofs.SeveringLemmas.{near-pin, near-unpin, pin-pins}
 use Rattle.qo_sound.proofs.UnplugLemmas.{bus-apart, held-unrealize, held-where_other, Sits}
 use Rattle.qo_sound.proofs.ViewLemmas.{AtRest}
 use Rattle.qo_sound.proofs.WorkLemmas.{Nearly}
-use Rattle.qo_sound_devices.specs.SoundPlaces.{child_entries, child_entry, HasOwner, machines, bridges, IsHome, kid_entries, kid_entry, listed, owns, owns_it, PlacesBut, stands}
+use Rattle.qo_sound_devices.specs.SoundPlaces.{child_entries, child_entry, HasOwner, machines, bridges, IsHome, kid_entries, kid_entry, listed, owns, owns_it, PlacesBut, stands, names_it}
 use Rattle.qo_sound_devices.proofs.LikenessLemmas.{alike-record}
 use Rattle.qo_sound_devices.proofs.AttachmentLemmas.{owns-listed, parent-is}
 use Rattle.qo_sound_devices.proofs.CommandLemmas.{Goes, goes-after, goes-pins}
 use Rattle.qo_sound_devices.proofs.DropLemmas.{edited-slots, names-at, strong-dropped}
 use Rattle.qo_sound_devices.proofs.LeavingLemmas.{IsUnlisted, Left, Stay, stay-kept, stay-then, unlisted-steps}
 use Rattle.qo_sound_devices.proofs.DepthLemmas.{faded_by, is-bus_of, IsBusOf, kid-of, kids-listed, room, unrealize-all, unrealize-dimmed, unrealize-only, unrealize-places, stands-dimmed}
-use Rattle.qo_sound_devices.proofs.RemovalLemmas.{within-listed}
 use Rattle.qo_sound_devices.proofs.DepartureLemmas.{bus-left, Loose, ownless-steps, parent-left, Parted, slot-is, stay-let_go, steps-let_go, unrealized-steps}
-use Rattle.qo_sound_devices.proofs.PlacesLemmas.{after-kept, Kept, owner-live, kid-live, more, nothing, of-alike, of-live, or-cases, same, stands-live, Within}
-use Rattle.qo_sound_devices.proofs.StepsLemmas.{Steps, steps-after, steps-alike, steps-then, within-any}
-use Rattle.qo_sound_devices.proofs.UnparentingLemmas.{aside-apart, bus-dropped, dropped-read, for-each, is-child_slot, IsChildSlot, Mid, record-at, Went, went-let_go, went-none}
+use Rattle.qo_sound_devices.proofs.PlacesLemmas.{after-kept, Kept, owner-live, kid-live, more, nothing, of-alike, of-live, or-cases, same, stands-live, Within, aside-apart, within-any}
+use Rattle.qo_sound_devices.proofs.StepsLemmas.{Steps, steps-after, steps-alike, steps-then}
+use Rattle.qo_sound_devices.proofs.UnparentingLemmas.{bus-dropped, dropped-read, for-each, is-child_slot, IsChildSlot, Mid, record-at, Went, went-let_go, went-none}
 use Rattle.qo_sound_devices.proofs.UnrealizingLemmas.{Dimmed, Under, here, down}
 
 -- lengths of what is left
@@ -159,14 +158,14 @@ IsClosed c =
 pub stood-steps : (b c : Board) → Steps b c → (x : ℕ) → stands c x ≡ true → stands b x ≡ true
 stood-steps b c s x e =
     or-cases (listed x (child_entries c PERIPHERAL_BIRTH)) (listed x (child_entries c ANONYMOUS_BIRTH)) e
-    (λ k. rw (within-listed x (s.children PERIPHERAL_BIRTH) k) refl)
-    (λ k. rw (within-listed x (s.children ANONYMOUS_BIRTH) k) (or-true (listed x (child_entries b PERIPHERAL_BIRTH))))
+    (λ k. rw (within-any (names_it x) (s.children PERIPHERAL_BIRTH) k) refl)
+    (λ k. rw (within-any (names_it x) (s.children ANONYMOUS_BIRTH) k) (or-true (listed x (child_entries b PERIPHERAL_BIRTH))))
 
 pub closed-steps : (b c : Board) → Firm c → Steps b c → IsClosed b → IsClosed c
 closed-steps b c firm s h p m k e o is l dim =
     let was : is_of b (codes "bus") m ≡ true = sym (of-alike b c m (codes "bus") (s.body m (of-live c (codes "bus") m is))) ∙ is in
     s.realized k (kid-live c firm m k l)
-    ∙ h p m k (stood-steps b c s p e) (within-any (owns_it m) (s.children p) o) was (within-listed k (s.kids m) l)
+    ∙ h p m k (stood-steps b c s p e) (within-any (owns_it m) (s.children p) o) was (within-any (names_it k) (s.kids m) l)
     (sym (s.realized p (stands-live c firm p e)) ∙ dim)
 
 -- devices on buses above a depth stay
@@ -311,7 +310,7 @@ module _ (depth : ℕ → ℕ) (out : ℕ → Bool) (n : ℕ) (f : ℕ → Board
           let fewer : suc (length (kid_entries (f k b) m)) ≤ length (kid_entries b m) = within-shorter (λ (x : List ℕ × ℕ). x.1 == k) (s.kids m) away has in
           let last : Drained depth out ps m (f k b) (drained f times m (f k b)) =
           rest (f k b) one.went.mid (closed-steps b (f k b) one.went.mid.sits.near.firm s closed) isc
-          (λ j l. unrealized-steps b (f k b) j s (dim j (within-listed j (s.kids m) l)))
+          (λ j l. unrealized-steps b (f k b) j s (dim j (within-any (names_it j) (s.kids m) l)))
           (omega (arith, fewer, few)) in
           rw (drained, e) (record {
             went = record { mid = last.went.mid; steps = steps-then b (f k b) (drained f times m (f k b)) s last.went.steps };
@@ -737,6 +736,10 @@ listed-kid k ((name, strong t (Some m)) ∷ slots) e = go (m == k) refl (listed-
 listed-kid k ((name, weak t target) ∷ slots) e = listed-kid k slots e
 listed-kid k ((name, alias m property) ∷ slots) e = listed-kid k slots e
 
+-- what detaching unrealizes
+pub dims : (b : Board) (d : ℕ) → Dimmed (pin b d) (unrealize (pin b d) d)
+dims b d = unrealize-dimmed (pin b d) d
+
 -- detaching
 module _ (depth : ℕ → ℕ) (b : Board) (d : ℕ) (rest : AtRest b) (h : PlacesBut depth None (λ x. false) b) (e : stands b d ≡ true) where
   p : Board
@@ -766,9 +769,6 @@ module _ (depth : ℕ → ℕ) (b : Board) (d : ℕ) (rest : AtRest b) (h : Plac
   abbrev out : ℕ → Bool
   out = faded_by (pin b d) (unrealize (pin b d) d)
 
-  dims : Dimmed (pin b d) (unrealize (pin b d) d)
-  dims = unrealize-dimmed (pin b d) d
-
   middle : Mid depth (faded_by (pin b d) (unrealize (pin b d) d)) None (put_in_order d (1 ∷ [])) (unrealize (pin b d) d)
   middle = record { sits = sits; one = pinned.one; places = unrealize-places depth (pin b d) d sits.near.firm pinned.places }
 
@@ -777,12 +777,12 @@ module _ (depth : ℕ → ℕ) (b : Board) (d : ℕ) (rest : AtRest b) (h : Plac
 
   closed : IsClosed (unrealize (pin b d) d)
   closed x m k s o is l dim =
-      let was : stands (pin b d) x ≡ true = sym (stands-dimmed (pin b d) (unrealize (pin b d) d) dims x) ∙ s in
+      let was : stands (pin b d) x ≡ true = sym (stands-dimmed (pin b d) (unrealize (pin b d) d) (dims b d) x) ∙ s in
       let lit : is_realized (pin b d) x ≡ true = pinned.places.each x was refl in
       let under : Under (pin b d) d x = unrealize-only (pin b d) d x lit dim in
-      let bus : is_of (pin b d) (codes "bus") m ≡ true = sym (of-alike (pin b d) (unrealize (pin b d) d) m (codes "bus") (dims.body m)) ∙ is in
-      let own : owns (pin b d) x m ≡ true = sym (ap (list_any (owns_it m)) (dims.children x)) ∙ o in
-      let kid : listed k (kid_entries (pin b d) m) ≡ true = sym (ap (listed k) (dims.kids m)) ∙ l in
+      let bus : is_of (pin b d) (codes "bus") m ≡ true = sym (of-alike (pin b d) (unrealize (pin b d) d) m (codes "bus") ((dims b d).body m)) ∙ is in
+      let own : owns (pin b d) x m ≡ true = sym (ap (list_any (owns_it m)) ((dims b d).children x)) ∙ o in
+      let kid : listed k (kid_entries (pin b d) m) ≡ true = sym (ap (listed k) ((dims b d).kids m)) ∙ l in
       dark k (under-more (pin b d) d x m k under (owned-bus (pin b d) m bus (slots_at (pin b d) x) own) (listed-kid k (slots_at (pin b d) m) kid))
 
   taken_out : TakenOut depth (faded_by (pin b d) (unrealize (pin b d) d)) (put_in_order d (1 ∷ [])) d home.bus (unrealize (pin b d) d)
@@ -791,7 +791,7 @@ module _ (depth : ℕ → ℕ) (b : Board) (d : ℕ) (rest : AtRest b) (h : Plac
       taken depth (faded_by (pin b d) (unrealize (pin b d) d)) (length (births b)) (apart_within (length (births b)))
       (takes-apart depth (faded_by (pin b d) (unrealize (pin b d) d)) (length (births b))) (put_in_order d (1 ∷ [])) (put-up d (1 ∷ []) (tt, tt)) d home.bus
       (unrealize (pin b d) d) middle closed
-      (stands-dimmed (pin b d) (unrealize (pin b d) d) dims d ∙ at_home.0) (dims.bus d ∙ at_home.1) (dark d here)
+      (stands-dimmed (pin b d) (unrealize (pin b d) d) (dims b d) d ∙ at_home.0) ((dims b d).bus d ∙ at_home.1) (dark d here)
       (omega (arith, room depth None (λ x. false) b rest.used.firm h))
 
   abbrev x : Board
@@ -831,7 +831,7 @@ module _ (depth : ℕ → ℕ) (b : Board) (d : ℕ) (rest : AtRest b) (h : Plac
       its = last.mid.places.home y k (λ v. cc)
 
       same_bus : its.bus ≡ m
-      same_bus = same_Some its.bus m (sym (sym (dims.bus y) ∙ later.bus y its.bus its.on) ∙ on_before)
+      same_bus = same_Some its.bus m (sym (sym ((dims b d).bus y) ∙ later.bus y its.bus its.on) ∙ on_before)
 
       owner : HasOwner z m
       owner = subst (HasOwner z) same_bus (last.mid.places.owner y its.bus k its.on)
@@ -854,7 +854,7 @@ module _ (depth : ℕ → ℕ) (b : Board) (d : ℕ) (rest : AtRest b) (h : Plac
           choose false q true r = of-machine MEMORY_BUS_BIRTH (eqb-true m MEMORY_BUS_BIRTH r) pinned.places.parts.1.1.1.0
           choose false q false r = let clash : false ≡ true = rw (q, r) at u in absurd cc
       go none (bridges v s t) =
-          let before : owns (pin b d) v m ≡ true = sym (ap (list_any (owns_it m)) (dims.children v)) ∙ within-any (owns_it m) (later.children v) t in
+          let before : owns (pin b d) v m ≡ true = sym (ap (list_any (owns_it m)) ((dims b d).children v)) ∙ within-any (owns_it m) (later.children v) t in
           let is_mine : v ≡ w = one-owner m v w (owns-listed m (child_entries (pin b d) v) before) mine in
           none (subst (λ (j : ℕ). stands z j ≡ true) is_mine s)
 
@@ -893,7 +893,7 @@ module _ (depth : ℕ → ℕ) (b : Board) (d : ℕ) (rest : AtRest b) (h : Plac
   still-lit y s lit =
       (lit-then (unrealize (pin b d) d) x z taken_out.went.mid.sits.near.firm taken_out.went.steps taken_out.lit
       (lit-all depth None (faded_by (pin b d) (unrealize (pin b d) d)) x z taken_out.went.mid.places last.stay)).on y
-      (stands-dimmed (pin b d) (unrealize (pin b d) d) dims y ∙ stood-pin b d y s) lit
+      (stands-dimmed (pin b d) (unrealize (pin b d) d) (dims b d) y ∙ stood-pin b d y s) lit
 
 -- a device that stands is detached: places are sound, and it stands no more
 pub detach-places : (depth : ℕ → ℕ) (b : Board) (d : ℕ) → AtRest b → PlacesBut depth None (λ x. false) b → stands b d ≡ true

@@ -13,7 +13,8 @@ use Rattle.qo_sound_devices.specs.SoundDevices.{SoundDevices}
 use Rattle.qo_sound_devices.specs.SoundLists.{IsOn}
 use Rattle.qo_sound_devices.proofs.ListsKeptLemmas.{cut_attempt-lists, plugged-lists}
 use Rattle.qo_sound_devices.proofs.ListsLawLemmas.{changed-below, opening-below}
-use Rattle.qo_sound_devices.proofs.PlugLemmas.{among-all, cut_attempt-places}
+use Rattle.qo_sound_devices.proofs.PlugLemmas.{cut_attempt-places}
+use Rattle.qo_model.proofs.AmongLemmas.{among-all}
 use Rattle.qo_sound_devices.proofs.PlugStageLemmas.{plugged-places}
 use Rattle.qo_sound_devices.proofs.ResetLemmas.{acted-below, detached-below, held-below, pulse-below, released-below, reset-below}
 use Rattle.qo_sound_devices.proofs.EqualObjectLemmas.{asked-below, attempt-below, given_up-below, read-below, refused-below, same-below}

@@ -28,13 +28,14 @@ use Rattle.qo_model.proofs.StepLemmas.{found_at, found-edited}
 use Rattle.qo_sound.proofs.DraftLemmas.{Drafts, drafted-drafts, pinned_once}
 use Rattle.qo_sound.proofs.FirmBoardLemmas.{Firm}
 use Rattle.qo_sound.proofs.NewSlotLemmas.{slots_for}
-use Rattle.qo_sound.proofs.RecordLemmas.{all-append, all-imply}
+use Rattle.qo_sound.proofs.RecordLemmas.{all-append}
+use Rattle.qo_values.proofs.ListLemmas.{all-imply}
 use Rattle.qo_sound.proofs.TestLemmas.{decide}
 use Rattle.qo_sound.proofs.WorkLemmas.{Nearly}
 use Rattle.qo_sound_devices.specs.SoundPlaces.{child_entries, child_entry, id_of, kid_entry, listed, owns, owns_it}
 use Rattle.qo_sound_devices.proofs.LikenessLemmas.{other-record}
 use Rattle.qo_sound_devices.proofs.AdditionLemmas.{IsFurther}
-use Rattle.qo_sound_devices.proofs.JoiningLemmas.{added-body, added-other, Made}
+use Rattle.qo_sound_devices.proofs.JoiningLemmas.{added-body, added-other, Made, KeepsOld}
 use Rattle.qo_sound_devices.proofs.PlacesLemmas.{high-absent, id-alike, kind-alike}
 
 -- a slot that is not true, names no old object as a child, and holds nothing; and a source is none that holds
@@ -206,7 +207,7 @@ more-entries P name s own (x ∷ slots) h = go (child_entry x) h (more-entries P
 
 -- a device n that is being made
 record Draft (b : Board) (n : ℕ) (t : TypeId) (c : Board) : Type 0 where
-  old : (x : ℕ) → is_live b x ≡ true → record_of c x ≡ record_of b x
+  old : KeepsOld b c
   new : (x : ℕ) → is_live b x ≡ false → IsBlank b (slots_at c x)
   ids : (x : ℕ) → is_live b x ≡ false → id_of c x ≡ None
   childless : (x : ℕ) → is_live b x ≡ false → (x == n) ≡ false → child_entries c x ≡ []

@@ -1,5 +1,5 @@
 -- What changes no object keeps the tree, the places and the lists sound.
-use Rattle.std.proofs.Common.{◌≡◌, refl, ap, ap₂, sym, subst, ◌∙◌, ℕ, Bool, true, false, ◌||◌, ◌==◌, List, [], ◌∷◌, find, map, Option, Some, None, is_some, arith}
+use Rattle.std.proofs.Common.{◌≡◌, refl, ap, sym, subst, ◌∙◌, ℕ, Bool, true, false, ◌==◌, List, [], ◌∷◌, find, map, Option, Some, None, is_some, arith}
 use Rattle.qo_values.specs.declared.births.TheConstants.{ANONYMOUS_BIRTH, PERIPHERAL_BIRTH}
 use Rattle.qo_values.specs.declared.kinds.TypeId.{TypeId}
 use Rattle.qo_model.specs.Board.{Board, Notice, Record}
@@ -14,9 +14,9 @@ use Rattle.qo_sound.specs.TreeKept.{SoundTree}
 use Rattle.qo_sound.proofs.TreeKeptLemmas.{sound_kept_lem}
 use Rattle.qo_sound.proofs.PlugLemmas.{plug_attempt-rest}
 use Rattle.qo_sound.proofs.ViewLemmas.{rest-from_sound, sound-from_rest}
+use Rattle.qo_sound_devices.proofs.PlacesLemmas.{stands-same}
 use Rattle.qo_sound_devices.specs.SoundDevices.{SoundDevices}
 use Rattle.qo_sound_devices.specs.SoundLists.{IsOn}
-use Rattle.qo_sound_devices.specs.SoundPlaces.{listed}
 use Rattle.qo_sound_devices.proofs.AddLemmas.{attempt-places}
 use Rattle.qo_sound_devices.proofs.LikenessLemmas.{Alike, alike-record}
 use Rattle.qo_sound_devices.proofs.DependenceLemmas.{asked-places, beside-places, refused-places}
@@ -54,7 +54,7 @@ tree-same b c same born pins h = (
 -- who is on a board with the same objects
 same-on : (b c : Board) → c.records ≡ b.records → (x : ℕ) → IsOn b x → IsOn c x
 same-on b c same x on = (
-  ap₂ (λ (xs ys : List (List ℕ × ℕ)). listed x xs || listed x ys) (alike PERIPHERAL_BIRTH).children (alike ANONYMOUS_BIRTH).children ∙ on.0,
+  stands-same b c (alike PERIPHERAL_BIRTH).children (alike ANONYMOUS_BIRTH).children x ∙ on.0,
   (alike x).realized ∙ on.1,
 )
   where

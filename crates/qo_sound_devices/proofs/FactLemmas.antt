@@ -157,7 +157,7 @@ module _ (b : Board) (h : SoundDevices b) where
       let owner : HasOwner b q = attached-owner b h.tree.0 rest.used.firm h.places.0 None (λ x. false) h.places.1 q is home in
       let same : h.places.0 q ≡ depth_of b q =
       depth-is h.places.0 (λ x. false) b rest.used.firm h.places.1
-      (machine-no_device b h.tree.0 rest.used.firm h.places.0 None (λ x. false) h.places.1) q owner in
+      (machine-no_device h.places.0 None (λ x. false) b h.places.1) q owner in
       let most : h.places.0 q ≤ 8 = h.places.1.shallow.most q owner in
       omega (arith, same, most)
 

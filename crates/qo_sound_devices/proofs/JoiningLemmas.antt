@@ -1,6 +1,5 @@
 -- A device that was made is joined to its container and to its bus.
-use Rattle.std.proofs.Common.{◌≡◌, refl, ap, ap₂, sym, subst, ◌∙◌, ℕ, Bool, true, false, ◌==◌, eqb, List, [], ◌∷◌, ◌++◌, filter_map, find, Option, Some, None, is_some, option_map, option_and_then, codes}
-use Rattle.std.specs.List.{AllByRecursion}
+use Rattle.std.proofs.Common.{◌≡◌, refl, ap, ap₂, sym, subst, ◌∙◌, ℕ, Bool, true, false, ◌==◌, eqb, List, [], ◌∷◌, ◌++◌, filter_map, find, Option, Some, None, is_some, option_map, option_and_then, codes, append-nil}
 use Rattle.std.specs.Option.{option_map_or}
 use Rattle.std.specs.Str.{bytes_eq}
 use Rattle.std.proofs.lemmas.Bool.{eqb-true}
@@ -16,12 +15,13 @@ use Rattle.qo_model.specs.Plug.{joined, name_for, parent_for, Spot, Wanted}
 use Rattle.qo_model.specs.Release.{edited}
 use Rattle.qo_model.proofs.FirstSlotLemmas.{slots_in, named_in}
 use Rattle.qo_model.proofs.StepLemmas.{found-edited}
+use Rattle.qo_sound.proofs.DraftLemmas.{live-apart}
 use Rattle.qo_sound.proofs.FirmBoardLemmas.{Firm}
 use Rattle.qo_sound.proofs.TestLemmas.{decide}
 use Rattle.qo_sound_devices.specs.SoundPlaces.{child_entries, child_entry, id_of, kid_entries, kid_entry, listed, path_of, PlacesBut}
 use Rattle.qo_sound_devices.proofs.AddLemmas.{entries-added, entry-added, named-added}
 use Rattle.qo_sound_devices.proofs.LikenessLemmas.{Alike, alike-record, bodiless, other-record}
-use Rattle.qo_sound_devices.proofs.AdditionLemmas.{Goal, goal-same, further-same, IsFurther, Joined, named_entry, Now, numbered_entry}
+use Rattle.qo_sound_devices.proofs.AdditionLemmas.{Goal, goal-same, further-same, Joined, named_entry, Now, numbered_entry, HasFurther, HasHeirs}
 use Rattle.qo_sound_devices.proofs.PlacesLemmas.{child-live, id-alike, kind-alike, of-alike, of-live, SameBody}
 
 other-added : (s : List ℕ × Slot) (name : List ℕ) → bytes_eq s.0 name ≡ false → (slots : List (List ℕ × Slot))
@@ -80,16 +80,31 @@ module _ (c : Board) (m : ℕ) (name : List ℕ) (s : Slot) where
       go None e = absurd (let clash : false ≡ true = sym (ap is_some e) ∙ there in cc)
       go (Some r) e = let own : (r.birth == m) ≡ true = birth c.records r e in rw (edited, own) refl
 
+-- the objects that were there are as before
+abbrev pub KeepsOld : Board → Board → Type 0
+KeepsOld b c = (x : ℕ) → is_live b x ≡ true → record_of c x ≡ record_of b x
+
+-- the container of a device is there, whether it has an id or none
+pub parent-live : (depth : ℕ → ℕ) (left : Option ℕ) (out : ℕ → Bool) (b : Board) → Firm b → PlacesBut depth left out b → (o : Option (List ℕ))
+    → is_live b (parent_for o) ≡ true
+parent-live depth left out b firm h None = child-live b firm MACHINE_BIRTH ANONYMOUS_BIRTH h.parts.1.0
+parent-live depth left out b firm h (Some i) = child-live b firm MACHINE_BIRTH PERIPHERAL_BIRTH h.parts.0
+
+-- what was there is not the device
+pub differs : (b : Board) (n : ℕ) → is_live b n ≡ false → (x : ℕ) → is_live b x ≡ true → (x == n) ≡ false
+differs b n absent x e =
+    decide (x == n) {A = (x == n) ≡ false} (λ p. absurd (let clash : true ≡ false = sym e ∙ ap (is_live b) (eqb-true x n p) ∙ absent in cc)) (λ p. p)
+
 -- a device that was made, and stands nowhere yet
 pub record Made (b : Board) (n : ℕ) (t : TypeId) (c : Board) : Type 0 where
-  pub old : (x : ℕ) → is_live b x ≡ true → record_of c x ≡ record_of b x
+  pub old : KeepsOld b c
   pub absent : is_live b n ≡ false
   pub kind : kind_of c n ≡ Some t
   pub unrealized : (x : ℕ) → is_live b x ≡ false → is_realized c x ≡ false
   pub nameless : (x : ℕ) → is_live b x ≡ false → id_of c x ≡ None
   pub no_kids : (x : ℕ) → is_live b x ≡ false → kid_entries c x ≡ []
-  pub further : (x : ℕ) → is_live b x ≡ false → AllByRecursion (IsFurther c x) (child_entries c x)
-  pub heirs : (q : ℕ) → listed q (child_entries c n) ≡ true → is_live b q ≡ false
+  pub further : HasFurther b c
+  pub heirs : HasHeirs b n c
   pub anonymous : c.anonymous ≡ b.anonymous
 
 -- what stands on it, as it is read
@@ -113,15 +128,6 @@ module _ (depth : ℕ → ℕ) (b : Board) (n bus slot : ℕ) (id : Option (List
   same : (x : ℕ) → is_live b x ≡ true → Alike b c x
   same x e = alike-record b c x (m.old x e)
 
-  differs : (x : ℕ) → is_live b x ≡ true → (x == n) ≡ false
-  differs x e =
-      decide (x == n) {A = (x == n) ≡ false} (λ p. absurd (let clash : true ≡ false = sym e ∙ ap (is_live b) (eqb-true x n p) ∙ m.absent in cc))
-      (λ p. p)
-
-  apart-from : (x y : ℕ) → is_live b x ≡ false → is_live b y ≡ true → (x == y) ≡ false
-  apart-from x y e k =
-      decide (x == y) {A = (x == y) ≡ false} (λ p. absurd (let clash : false ≡ true = sym e ∙ ap (is_live b) (eqb-true x y p) ∙ k in cc)) (λ p. p)
-
   bus-live : is_live b bus ≡ true
   bus-live = of-live b (codes "bus") bus g.is_bus
 
@@ -131,9 +137,8 @@ module _ (depth : ℕ → ℕ) (b : Board) (n bus slot : ℕ) (id : Option (List
   live4 : is_live b ANONYMOUS_BIRTH ≡ true
   live4 = child-live b firm MACHINE_BIRTH ANONYMOUS_BIRTH h.parts.1.0
 
-  parent-live : (o : Option (List ℕ)) → is_live b (parent_for o) ≡ true
-  parent-live None = live4
-  parent-live (Some i) = live3
+  parent-there : is_live b (parent_for id) ≡ true
+  parent-there = parent-live depth None (λ x. false) b firm h id
 
   still : (x : ℕ) → is_live b x ≡ true → is_live c x ≡ true
   still x e = ap is_some (m.old x e) ∙ e
@@ -195,11 +200,11 @@ module _ (depth : ℕ → ℕ) (b : Board) (n bus slot : ℕ) (id : Option (List
   children-own : child_entries c2 parent ≡ child_entries c parent ++ (name, n) ∷ []
   children-own =
       children2 parent
-      ∙ ap (filter_map child_entry) (added-own c parent name (child n) (still parent (parent-live id)))
+      ∙ ap (filter_map child_entry) (added-own c parent name (child n) (still parent parent-there))
       ∙ entry-added child_entry (name, child n) (name, n) refl (slots_at c parent)
 
   own-children : child_entries c2 n ≡ child_entries c n
-  own-children = children-other n (apart-from n parent m.absent (parent-live id))
+  own-children = children-other n (live-apart b n parent m.absent parent-there)
 
   parent-apart : (x : ℕ) → among (PERIPHERAL_BIRTH ∷ ANONYMOUS_BIRTH ∷ []) x ≡ false → (o : Option (List ℕ)) → (x == parent_for o) ≡ false
   parent-apart x e None = go (eqb x PERIPHERAL_BIRTH) refl (eqb x ANONYMOUS_BIRTH) refl
@@ -214,15 +219,11 @@ module _ (depth : ℕ → ℕ) (b : Board) (n bus slot : ℕ) (id : Option (List
       go false p = p
       go true p = absurd (let clash : true ≡ false = rw p at e in cc)
 
-  append-none : (xs : List (List ℕ × ℕ)) → xs ≡ xs ++ []
-  append-none [] = refl
-  append-none (x ∷ xs) = ap (λ (ys : List (List ℕ × ℕ)). x ∷ ys) (append-none xs)
-
   third : (o : Option (List ℕ)) → id ≡ o → child_entries c2 PERIPHERAL_BIRTH ≡ child_entries b PERIPHERAL_BIRTH ++ named_entry o n
   third None e =
       children-other PERIPHERAL_BIRTH (ap (λ (o : Option (List ℕ)). PERIPHERAL_BIRTH == parent_for o) e)
       ∙ (same PERIPHERAL_BIRTH live3).children
-      ∙ append-none (child_entries b PERIPHERAL_BIRTH)
+      ∙ sym (append-nil (child_entries b PERIPHERAL_BIRTH))
   third (Some i) e =
       ap (child_entries c2) (sym (ap parent_for e)) ∙ children-own
       ∙ ap₂ (λ (x : ℕ) (y : List ℕ). child_entries c x ++ (y, n) ∷ []) (ap parent_for e) (ap (name_for b) e)
@@ -232,7 +233,7 @@ module _ (depth : ℕ → ℕ) (b : Board) (n bus slot : ℕ) (id : Option (List
   fourth (Some i) e =
       children-other ANONYMOUS_BIRTH (ap (λ (o : Option (List ℕ)). ANONYMOUS_BIRTH == parent_for o) e)
       ∙ (same ANONYMOUS_BIRTH live4).children
-      ∙ append-none (child_entries b ANONYMOUS_BIRTH)
+      ∙ sym (append-nil (child_entries b ANONYMOUS_BIRTH))
   fourth None e =
       ap (child_entries c2) (sym (ap parent_for e)) ∙ children-own
       ∙ ap₂ (λ (x : ℕ) (y : List ℕ). child_entries c x ++ (y, n) ∷ []) (ap parent_for e) (ap (name_for b) e)
@@ -257,9 +258,9 @@ module _ (depth : ℕ → ℕ) (b : Board) (n bus slot : ℕ) (id : Option (List
         absent = m.absent;
         unrealized = λ x e apart. realized2 x ∙ m.unrealized x e;
         nameless = λ x e apart. id-alike c c2 x (body2 x) ∙ m.nameless x e;
-        no_kids = λ x e is. kids-other x (apart-from x bus e bus-live) ∙ m.no_kids x e;
+        no_kids = λ x e is. kids-other x (live-apart b x bus e bus-live) ∙ m.no_kids x e;
         further =
-            λ x e. further-same c c2 (λ own y. of-alike c c2 y own (body2 y)) x (children-other x (apart-from x parent e (parent-live id))) (m.further x e);
+            λ x e. further-same c c2 (λ own y. of-alike c c2 y own (body2 y)) x (children-other x (live-apart b x parent e parent-there)) (m.further x e);
         kind = kind-alike c c2 n (body2 n) ∙ m.kind;
         its_id = refl;
         its_path = refl;

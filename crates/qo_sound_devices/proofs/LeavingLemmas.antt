@@ -1,5 +1,5 @@
 -- A device leaves its bus, and its container.
-use Rattle.std.proofs.Common.{inl, inr, ◌≡◌, ◌≢◌, refl, ap, ap₂, sym, subst, ◌∙◌, ℕ, zero, suc, Bool, true, false, ◌||◌, ◌==◌, List, [], ◌∷◌, filter_map, find, slice_get, Option, Some, None, option_map, option_and_then, codes}
+use Rattle.std.proofs.Common.{inl, inr, ◌≡◌, ◌≢◌, refl, ap, sym, subst, ◌∙◌, ℕ, zero, suc, Bool, true, false, ◌||◌, ◌==◌, List, [], ◌∷◌, filter_map, find, slice_get, Option, Some, None, option_map, option_and_then, codes}
 use Rattle.std.specs.List.{AllByRecursion, cons_option, IsDistinct}
 use Rattle.std.specs.Option.{option_map_or}
 use Rattle.std.specs.Str.{bytes_eq}
@@ -21,14 +21,14 @@ use Rattle.qo_model.proofs.FirstSlotLemmas.{Found, found-at, none-found}
 use Rattle.qo_sound.proofs.CutLemmas.{near-cut}
 use Rattle.qo_sound.proofs.ChangeLemmas.{emptied-at, near-drop, other-lasts}
 use Rattle.qo_sound.proofs.FirmBoardLemmas.{Firm}
-use Rattle.qo_sound.proofs.RecordLemmas.{all-imply}
+use Rattle.qo_values.proofs.ListLemmas.{all-imply}
 use Rattle.qo_sound.proofs.SlotLemmas.{IsNoClock, names_in, no_child}
 use Rattle.qo_sound.proofs.UnplugLemmas.{held-taken, kid-held, on-record, Sits, slot-of}
 use Rattle.qo_sound.proofs.WorkLemmas.{Nearly}
-use Rattle.qo_sound_devices.specs.SoundPlaces.{IsHome, IsKid, kid_entries, kid_entry, listed, PlacesBut, stands}
+use Rattle.qo_sound_devices.specs.SoundPlaces.{IsHome, IsKid, kid_entries, kid_entry, listed, PlacesBut, stands, names_it}
 use Rattle.qo_sound_devices.proofs.DropLemmas.{edited-slots, names-at, none-named, strong-dropped}
 use Rattle.qo_sound_devices.proofs.DepthLemmas.{kid-of}
-use Rattle.qo_sound_devices.proofs.RemovalLemmas.{within-listed}
+use Rattle.qo_sound_devices.proofs.PlacesLemmas.{within-any, stands-same}
 use Rattle.qo_sound_devices.proofs.PlacesLemmas.{after-kept, after-places, Kept, of-alike, of-live, owner-live, places-kept, same-stands, stands-live}
 use Rattle.qo_sound_devices.proofs.StepsLemmas.{Steps, steps-after, steps-then}
 use Rattle.qo_sound_devices.proofs.UnparentingLemmas.{any-kid_dropped, cut-kept, dropped, dropped-read, for-each, kid-gone, link-dropped, link-stands, Mid, record-at, Went}
@@ -103,7 +103,7 @@ pub unlisted-steps : (b c : Board) (d : ℕ) → Steps b c → IsUnlisted b d �
 unlisted-steps b c d s h q is =
     let live : is_live c q ≡ true = of-live c (codes "bus") q is in
     let was : is_of b (codes "bus") q ≡ true = sym (of-alike b c q (codes "bus") (s.body q live)) ∙ is in
-    false_from_ne_true (listed d (kid_entries c q)) (λ e. let clash : true ≡ false = sym (within-listed d (s.kids q) e) ∙ h q was in absurd cc)
+    false_from_ne_true (listed d (kid_entries c q)) (λ e. let clash : true ≡ false = sym (within-any (names_it d) (s.kids q) e) ∙ h q was in absurd cc)
 
 -- others stand as before, on the same bus
 pub record Stay (d : ℕ) (b c : Board) : Type 0 where
@@ -296,8 +296,8 @@ taken-kid depth out ps b h d m e on = go (index_from (names_kid d) 0 (slots_at b
         last = after finalize (cut m i c) (Some d)
 
         stands_first : (x : ℕ) → stands c x ≡ stands b x
-        stands_first x =
-            ap₂ (λ (xs ys : List (List ℕ × ℕ)). listed x xs || listed x ys)
+        stands_first =
+            stands-same b c
             (link-stands depth out None ps b h m i r owner.1 f.entry at none PERIPHERAL_BIRTH)
             (link-stands depth out None ps b h m i r owner.1 f.entry at none ANONYMOUS_BIRTH)
 

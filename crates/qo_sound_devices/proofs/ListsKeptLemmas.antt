@@ -23,7 +23,8 @@ use Rattle.qo_model.specs.Plug.{Wanted, cut_attempt, notice_barred, plug, plug_a
 use Rattle.qo_model.proofs.ChangeScopeLemmas.{stays_lem}
 use Rattle.qo_sound.proofs.AddLemmas.{unbarred}
 use Rattle.qo_sound.proofs.DeviceScopeLemmas.{devices_stay_lem}
-use Rattle.qo_sound.proofs.RecordLemmas.{all-append, all-imply}
+use Rattle.qo_sound.proofs.RecordLemmas.{all-append}
+use Rattle.qo_values.proofs.ListLemmas.{all-imply}
 use Rattle.qo_sound.proofs.ViewLemmas.{AtRest, sound-from_rest}
 use Rattle.qo_sound_devices.specs.SoundLists.{IsOn, SoundLists}
 use Rattle.qo_sound_devices.specs.SoundPlaces.{child_entry, listed, PlacesBut, stands}

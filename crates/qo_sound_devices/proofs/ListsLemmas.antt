@@ -6,7 +6,8 @@ use Rattle.std.proofs.Math.Bool.{or-true}
 use Rattle.qo_values.specs.declared.limits.TheConstants.{NOTICES_MAX}
 use Rattle.qo_model.specs.Board.{Board, Notice}
 use Rattle.qo_model.specs.Depth.{among}
-use Rattle.qo_sound.proofs.RecordLemmas.{all-both, all-imply}
+use Rattle.qo_sound.proofs.RecordLemmas.{all-both}
+use Rattle.qo_values.proofs.ListLemmas.{all-imply}
 use Rattle.qo_sound_devices.specs.SoundLists.{IsOn, SoundLists}
 use Rattle.qo_sound_devices.specs.SoundPlaces.{PlacesBut, stands}
 use Rattle.qo_sound_devices.proofs.DetachmentLemmas.{within-short}

@@ -181,6 +181,15 @@ entry-owned name q apart (x ∷ es) e = go (x.1 == q) refl (bytes_eq x.0 name) r
     go true p false k rest = rw (rest (rw (p, k) at e)) (or-true (owns_it q x))
     go false p k l rest = rw (rest (rw p at e)) (or-true (owns_it q x))
 
+-- the machine is no device
+pub machine-no_device : (depth : ℕ → ℕ) (left : Option ℕ) (out : ℕ → Bool) (b : Board) → PlacesBut depth left out b
+    → is_of b (codes "device") MACHINE_BIRTH ≡ false
+machine-no_device depth left out b h = go (is_of b (codes "device") MACHINE_BIRTH) refl
+  where
+    go : (t : Bool) → is_of b (codes "device") MACHINE_BIRTH ≡ t → is_of b (codes "device") MACHINE_BIRTH ≡ false
+    go false p = p
+    go true p = absurd (let clash : false ≡ true = (entry-of (IsAtHome b 1) MACHINE_BIRTH (child_entries b 1) (h.children 1) h.machine).holds.device p in cc)
+
 -- what is attached
 module _ (b : Board) (sound : SoundGraph b) (firm : Firm b) (depth : ℕ → ℕ) (left : Option ℕ) (out : ℕ → Bool) (h : PlacesBut depth left out b) where
   root-is : (name : List ℕ) → is_of b name 1 ≡ is_a Container name
@@ -226,11 +235,3 @@ module _ (b : Board) (sound : SoundGraph b) (firm : Firm b) (depth : ℕ → ℕ
           go : IsHosted b p (k.name, q) → HasOwner b q
           go (on_machine own) = machines own
           go (on_device device apart) = bridges p (attached-stands p device above) (entry-owned k.name q apart (child_entries b p) k.there)
-
-  -- the machine is no device
-  pub machine-no_device : is_of b (codes "device") MACHINE_BIRTH ≡ false
-  machine-no_device = go (is_of b (codes "device") MACHINE_BIRTH) refl
-    where
-      go : (t : Bool) → is_of b (codes "device") MACHINE_BIRTH ≡ t → is_of b (codes "device") MACHINE_BIRTH ≡ false
-      go false p = p
-      go true p = absurd (let clash : false ≡ true = (entry-of (IsAtHome b 1) MACHINE_BIRTH (child_entries b 1) (h.children 1) h.machine).holds.device p in cc)

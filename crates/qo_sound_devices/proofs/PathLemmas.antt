@@ -9,7 +9,7 @@ use Rattle.qo_values.specs.declared.kinds.Act.TheVariants.{Realize}
 use Rattle.qo_values.specs.declared.kinds.TypeId.{TypeId}
 use Rattle.qo_model.specs.Board.{Board, is_live}
 use Rattle.qo_model.specs.Devices.{anonymous_name}
-use Rattle.qo_model.specs.Paths.{canonical, place_of, path_down_to, path_turn}
+use Rattle.qo_model.specs.Paths.{place_of, path_down_to, path_turn}
 use Rattle.qo_model.specs.Plug.{Spot, Wanted, bus_births, clocked, drafted, source_for, stood, with_device}
 use Rattle.qo_model.specs.SoundGraph.{SoundGraph}
 use Rattle.qo_model.proofs.TreeLemmas.{paths_lem}
@@ -22,7 +22,7 @@ use Rattle.qo_sound_devices.specs.SoundPlaces.{child_entries, has_entry, IsRoote
 use Rattle.qo_sound_devices.proofs.AdditionLemmas.{Goal, Joined, named_entry, numbered_entry, Now, path_after}
 use Rattle.qo_sound_devices.proofs.PlacesLemmas.{child-live, owner-live, rooted-same}
 use Rattle.qo_sound_devices.proofs.StartLemmas.{acting, dims-acting, joined-counted, joined-dims}
-use Rattle.qo_sound_devices.proofs.ValueLemmas.{joined-stood}
+use Rattle.qo_sound_devices.proofs.ValueLemmas.{joined-stood, HasPath}
 use Rattle.qo_sound_devices.proofs.SourceLemmas.{holds-source}
 use Rattle.qo_sound_devices.proofs.LocationLemmas.{place-named}
 
@@ -114,7 +114,7 @@ module _ (depth : ℕ → ℕ) (b : Board) (t : TypeId) (a : Wanted) (spot : Spo
       decide (n == 1) {A = (n == 1) ≡ false}
       (λ p. absurd (let clash : false ≡ true = sym standing.joined.absent ∙ ap (is_live b) (eqb-true n 1 p) ∙ root_live in cc)) (λ p. p)
 
-  pub holds-path : canonical (acting (b.born + 1) t (with_device b t a spot)) (b.born + 1) ≡ Some (path_after b a.id)
+  pub holds-path : HasPath b t a spot
   holds-path = rw not_root (go a.id refl)
     where
       go : (o : Option (List ℕ)) → a.id ≡ o → path_down_to e n ≡ Some (path_after b o)

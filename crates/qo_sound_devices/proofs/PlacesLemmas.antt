@@ -1,5 +1,5 @@
 -- Places where each object that is still there is alike: a release keeps them.
-use Rattle.std.proofs.Common.{◌≡◌, ◌≢◌, refl, ap, ap₂, sym, subst, ◌∙◌, ℕ, ◌<◌, ◌≤◌, Bool, true, false, ◌||◌, ◌==◌, eqb, List, [], ◌∷◌, ◌++◌, find, filter_map, Option, Some, None, is_some, option_map, option_and_then, arith, codes}
+use Rattle.std.proofs.Common.{◌≡◌, ◌≢◌, refl, ap, ap₂, sym, subst, ◌∙◌, ℕ, ◌<◌, ◌≤◌, Bool, true, false, ◌||◌, ◌==◌, eqb, List, [], ◌∷◌, ◌++◌, find, filter_map, Option, Some, None, is_some, option_map, option_and_then, arith, codes, append-nil}
 use Rattle.std.specs.List.{AllByRecursion, list_any}
 use Rattle.std.specs.Option.{option_map_or}
 use Rattle.std.specs.Str.{bytes_eq}
@@ -24,10 +24,11 @@ use Rattle.qo_model.proofs.ReleaseScopeLemmas.{release_leaves}
 use Rattle.qo_model.proofs.StepLemmas.{drop-live, finish-live, is_some-map}
 use Rattle.qo_sound.proofs.SearchLemmas.{all-found}
 use Rattle.qo_sound.proofs.WorkLemmas.{births_of}
-use Rattle.qo_sound.proofs.RecordLemmas.{all-append, all-both, all-imply}
+use Rattle.qo_sound.proofs.RecordLemmas.{all-append, all-both}
+use Rattle.qo_values.proofs.ListLemmas.{all-imply}
 use Rattle.qo_sound.proofs.DraftLemmas.{found-low}
 use Rattle.qo_sound.proofs.FirmBoardLemmas.{FitsKind, Firm, Linked}
-use Rattle.qo_sound_devices.specs.SoundPlaces.{child_entries, child_entry, has_entry, HasOwner, machines, bridges, id_of, IsAnonymous, IsAtHome, IsHome, IsHosted, on_machine, on_device, IsRooted, IsKid, IsPeripheral, IsShallow, kid_entries, kid_entry, listed, owns_it, path_of, PlacesBut, stands, suits}
+use Rattle.qo_sound_devices.specs.SoundPlaces.{child_entries, child_entry, has_entry, HasOwner, machines, bridges, id_of, IsAnonymous, IsAtHome, IsHome, IsHosted, on_machine, on_device, IsRooted, IsKid, IsPeripheral, IsShallow, kid_entries, kid_entry, listed, owns_it, path_of, PlacesBut, stands, suits, owns}
 use Rattle.qo_sound_devices.proofs.LikenessLemmas.{bodiless, after-alike, Alike, apart-first}
 
 -- what is alike has the same type, id and path
@@ -210,6 +211,16 @@ all-within P (nothing ys) h = tt
 all-within P (same x w) h = (h.0, all-within P w h.1)
 all-within P (more y w) h = all-within P w h.1
 
+-- where a member of the shorter list passes a test, one of the longer list does
+pub within-any : {A : Type 0} (p : A → Bool) {xs ys : List A} → Within xs ys → list_any p xs ≡ true → list_any p ys ≡ true
+within-any p (nothing ys) e = absurd (let clash : false ≡ true = e in cc)
+within-any p (same {xs} {ys} x w) e = go (p x) refl (within-any p w)
+  where
+    go : (t : Bool) → p x ≡ t → (list_any p xs ≡ true → list_any p ys ≡ true) → list_any p (x ∷ ys) ≡ true
+    go true q rest = rw q refl
+    go false q rest = rw q (rest (rw q at e))
+within-any p (more y w) e = rw (within-any p w e) (or-true (p y))
+
 pub within-all : {A : Type 0} (xs : List A) → Within xs xs
 within-all [] = nothing []
 within-all (x ∷ xs) = same x (within-all xs)
@@ -231,6 +242,46 @@ rooted-same b c own root machine h =
       peripheral = ap (has_entry (codes "peripheral", PERIPHERAL_BIRTH)) machine ∙ h.peripheral;
       anonymous = ap (has_entry (codes "peripheral-anon", ANONYMOUS_BIRTH)) machine ∙ h.anonymous;
     }
+
+-- who stands is none of these
+pub aside-apart : (b : Board) (ns : List ℕ) → AllByRecursion (λ n. stands b n ≡ false) ns → (d : ℕ) → stands b d ≡ true → among ns d ≡ false
+aside-apart b [] h d e = refl
+aside-apart b (n ∷ ns) h d e = go (eqb d n) refl (aside-apart b ns h.1 d e)
+  where
+    go : (t : Bool) → eqb d n ≡ t → among ns d ≡ false → among (n ∷ ns) d ≡ false
+    go true p rest = absurd (let clash : true ≡ false = sym e ∙ ap (stands b) (eqb-true d n p) ∙ h.0 in cc)
+    go false p rest = rw p rest
+
+-- who has the same children in the containers stands as before
+pub stands-same : (b c : Board) → child_entries c PERIPHERAL_BIRTH ≡ child_entries b PERIPHERAL_BIRTH
+    → child_entries c ANONYMOUS_BIRTH ≡ child_entries b ANONYMOUS_BIRTH → (d : ℕ) → stands c d ≡ stands b d
+stands-same b c third fourth d = ap₂ (λ (xs ys : List (List ℕ × ℕ)). listed d xs || listed d ys) third fourth
+
+-- what has an owner there has one here
+abbrev pub OwnersStay : Board → Board → Type 0
+OwnersStay b c = (q : ℕ) → HasOwner b q → HasOwner c q
+
+-- so it is where who stands there stands here, and owns the same
+pub owners-stay : (b c : Board) → ((p : ℕ) → stands b p ≡ true → stands c p ≡ true)
+    → ((p q : ℕ) → stands b p ≡ true → owns b p q ≡ true → owns c p q ≡ true) → OwnersStay b c
+owners-stay b c stay own q (machines k) = machines k
+owners-stay b c stay own q (bridges p s o) = bridges p (stay p s) (own p q s o)
+
+-- the parts that the machine has
+abbrev pub HasParts : Board → Type 0
+HasParts b =
+    AllByRecursion (λ n. listed n (child_entries b MACHINE_BIRTH) ≡ true)
+    (PERIPHERAL_BIRTH ∷ ANONYMOUS_BIRTH ∷ ROOT_BUS_BIRTH ∷ MEMORY_BUS_BIRTH ∷ SYSTEM_CLOCK_BIRTH ∷ [])
+
+pub parts-same : (b c : Board) → child_entries c MACHINE_BIRTH ≡ child_entries b MACHINE_BIRTH → HasParts b → HasParts c
+parts-same b c now h =
+    all-imply (λ n. listed n (child_entries b MACHINE_BIRTH) ≡ true) (λ n. listed n (child_entries c MACHINE_BIRTH) ≡ true) (λ n k. ap (listed n) now ∙ k)
+    (PERIPHERAL_BIRTH ∷ ANONYMOUS_BIRTH ∷ ROOT_BUS_BIRTH ∷ MEMORY_BUS_BIRTH ∷ SYSTEM_CLOCK_BIRTH ∷ []) h
+
+-- a part of the machine is there
+pub part-live : (b c : Board) → Firm c → child_entries c MACHINE_BIRTH ≡ child_entries b MACHINE_BIRTH → (n : ℕ)
+    → listed n (child_entries b MACHINE_BIRTH) ≡ true → is_live c n ≡ true
+part-live b c firm now n e = child-live c firm MACHINE_BIRTH n (ap (listed n) now ∙ e)
 
 -- what places speak of is on a board as on another
 pub record Kept (b c : Board) : Type 0 where
@@ -295,12 +346,8 @@ pub record MoreChildren (b c : Board) (p : ℕ) : Type 0 where
   pub later : child_entries c p ≡ child_entries b p ++ added
   pub at_home : AllByRecursion (IsAtHome c p) added
 
-append-none : (xs : List (List ℕ × ℕ)) → xs ≡ xs ++ []
-append-none [] = refl
-append-none (x ∷ xs) = ap (λ (ys : List (List ℕ × ℕ)). x ∷ ys) (append-none xs)
-
 pub no-more : (b c : Board) (p : ℕ) → child_entries c p ≡ child_entries b p → MoreChildren b c p
-no-more b c p e = record { added = []; later = e ∙ append-none (child_entries b p); at_home = tt }
+no-more b c p e = record { added = []; later = e ∙ sym (append-nil (child_entries b p)); at_home = tt }
 
 pub children-grown : (b c : Board) → Firm b → ((x : ℕ) → is_live b x ≡ true → SameBody b c x) → ((p : ℕ) → is_live b p ≡ true → MoreChildren b c p)
     → ((p : ℕ) → is_live b p ≡ false → AllByRecursion (IsAtHome c p) (child_entries c p)) → ((p : ℕ) → AllByRecursion (IsAtHome b p) (child_entries b p))
@@ -340,6 +387,35 @@ anonymous-alike b c e raised a k =
       numbered = (n, (raised n low, name));
     }
 
+-- so does all that stands there
+module _ (b c : Board) (body : (x : ℕ) → is_live b x ≡ true → SameBody b c x) where
+  pub peripheral-stays : (es : List (List ℕ × ℕ)) → AllByRecursion (IsPeripheral b) es → AllByRecursion (IsPeripheral c) es
+  peripheral-stays =
+      all-imply (IsPeripheral b) (IsPeripheral c) (λ e k. peripheral-alike b c e (body e.1 (of-live b (codes "device") e.1 k.device)) k)
+
+  pub anonymous-stays : ((n : ℕ) → n < b.anonymous → n < c.anonymous) → (es : List (List ℕ × ℕ)) → AllByRecursion (IsAnonymous b) es
+      → AllByRecursion (IsAnonymous c) es
+  anonymous-stays raised =
+      all-imply (IsAnonymous b) (IsAnonymous c) (λ e k. anonymous-alike b c e raised (body e.1 (of-live b (codes "device") e.1 k.device)) k)
+
+-- with fewer entries, where what is there stays
+module _ (b c : Board) (firm : Firm c) (body : (x : ℕ) → is_live c x ≡ true → SameBody b c x) where
+  pub peripheral-within : (p : ℕ) → Within (child_entries c p) (child_entries b p) → AllByRecursion (IsPeripheral b) (child_entries b p)
+      → AllByRecursion (IsPeripheral c) (child_entries c p)
+  peripheral-within p within h =
+      all-imply (λ (e : List ℕ × ℕ). IsThere c e × IsPeripheral b e) (IsPeripheral c) (λ e k. peripheral-alike b c e (body e.1 k.0) k.1) (child_entries c p)
+      (all-both (IsThere c) (IsPeripheral b) (child_entries c p) (children-there c (slots_at c p) (linked-at c firm p))
+      (all-within (IsPeripheral b) within h))
+
+  pub anonymous-within : c.anonymous ≡ b.anonymous → (p : ℕ) → Within (child_entries c p) (child_entries b p)
+      → AllByRecursion (IsAnonymous b) (child_entries b p)
+      → AllByRecursion (IsAnonymous c) (child_entries c p)
+  anonymous-within count p within h =
+      all-imply (λ (e : List ℕ × ℕ). IsThere c e × IsAnonymous b e) (IsAnonymous c)
+      (λ e k. anonymous-alike b c e (λ n low. subst (λ (x : ℕ). n < x) (sym count) low) (body e.1 k.0) k.1) (child_entries c p)
+      (all-both (IsThere c) (IsAnonymous b) (child_entries c p) (children-there c (slots_at c p) (linked-at c firm p))
+      (all-within (IsAnonymous b) within h))
+
 module _ (b c : Board) (kept : Kept b c) (depth : ℕ → ℕ) (left : Option ℕ) (out : ℕ → Bool) (h : PlacesBut depth left out b) where
   machine : listed MACHINE_BIRTH (child_entries c 1) ≡ true
   machine = ap (listed MACHINE_BIRTH) (kept.children 1 kept.root refl) ∙ h.machine
@@ -347,20 +423,17 @@ module _ (b c : Board) (kept : Kept b c) (depth : ℕ → ℕ) (left : Option �
   machine-live : is_live c MACHINE_BIRTH ≡ true
   machine-live = child-live c kept.firm 1 MACHINE_BIRTH machine
 
-  part : (n : ℕ) → listed n (child_entries b MACHINE_BIRTH) ≡ true → listed n (child_entries c MACHINE_BIRTH) ≡ true
-  part n e = ap (listed n) (kept.children MACHINE_BIRTH machine-live refl) ∙ e
-
-  part-live : (n : ℕ) → listed n (child_entries b MACHINE_BIRTH) ≡ true → is_live c n ≡ true
-  part-live n e = child-live c kept.firm MACHINE_BIRTH n (part n e)
+  second : child_entries c MACHINE_BIRTH ≡ child_entries b MACHINE_BIRTH
+  second = kept.children MACHINE_BIRTH machine-live refl
 
   peripherals : child_entries c PERIPHERAL_BIRTH ≡ child_entries b PERIPHERAL_BIRTH
-  peripherals = kept.children PERIPHERAL_BIRTH (part-live PERIPHERAL_BIRTH h.parts.0) refl
+  peripherals = kept.children PERIPHERAL_BIRTH (part-live b c kept.firm second PERIPHERAL_BIRTH h.parts.0) refl
 
   anonymouses : child_entries c ANONYMOUS_BIRTH ≡ child_entries b ANONYMOUS_BIRTH
-  anonymouses = kept.children ANONYMOUS_BIRTH (part-live ANONYMOUS_BIRTH h.parts.1.0) refl
+  anonymouses = kept.children ANONYMOUS_BIRTH (part-live b c kept.firm second ANONYMOUS_BIRTH h.parts.1.0) refl
 
   pub same-stands : (d : ℕ) → stands c d ≡ stands b d
-  same-stands d = ap₂ (λ (xs ys : List (List ℕ × ℕ)). listed d xs || listed d ys) peripherals anonymouses
+  same-stands = stands-same b c peripherals anonymouses
 
   stood : (d : ℕ) → stands c d ≡ true → stands b d ≡ true
   stood d e = sym (same-stands d) ∙ e
@@ -370,26 +443,6 @@ module _ (b c : Board) (kept : Kept b c) (depth : ℕ → ℕ) (left : Option �
 
   there : (d : ℕ) → stands c d ≡ true → is_live c d ≡ true
   there d e = stands-live c kept.firm d e
-
-  peripheral : AllByRecursion (IsPeripheral c) (child_entries c PERIPHERAL_BIRTH)
-  peripheral =
-      all-imply (λ (e : List ℕ × ℕ). IsThere c e × IsPeripheral b e) (IsPeripheral c) one (child_entries c PERIPHERAL_BIRTH)
-      (all-both (IsThere c) (IsPeripheral b) (child_entries c PERIPHERAL_BIRTH)
-      (children-there c (slots_at c PERIPHERAL_BIRTH) (linked-at c kept.firm PERIPHERAL_BIRTH))
-      (subst (AllByRecursion (IsPeripheral b)) (sym peripherals) h.peripheral))
-    where
-      one : (e : List ℕ × ℕ) → IsThere c e × IsPeripheral b e → IsPeripheral c e
-      one e k = peripheral-alike b c e (kept.body e.1 k.0) k.1
-
-  anonymous : AllByRecursion (IsAnonymous c) (child_entries c ANONYMOUS_BIRTH)
-  anonymous =
-      all-imply (λ (e : List ℕ × ℕ). IsThere c e × IsAnonymous b e) (IsAnonymous c) one (child_entries c ANONYMOUS_BIRTH)
-      (all-both (IsThere c) (IsAnonymous b) (child_entries c ANONYMOUS_BIRTH)
-      (children-there c (slots_at c ANONYMOUS_BIRTH) (linked-at c kept.firm ANONYMOUS_BIRTH))
-      (subst (AllByRecursion (IsAnonymous b)) (sym anonymouses) h.anonymous))
-    where
-      one : (e : List ℕ × ℕ) → IsThere c e × IsAnonymous b e → IsAnonymous c e
-      one e k = anonymous-alike b c e (λ n low. subst (λ (x : ℕ). n < x) (sym kept.anonymous) low) (kept.body e.1 k.0) k.1
 
   kids : (q : ℕ) → is_of c (codes "bus") q ≡ true → AllByRecursion (IsKid c q) (kid_entries c q)
   kids q e =
@@ -421,15 +474,13 @@ module _ (b c : Board) (kept : Kept b c) (depth : ℕ → ℕ) (left : Option �
         kid = ap (listed d) (kept.kids old.bus live old.is_bus (h.owner d old.bus (stood d e) old.on)) ∙ old.kid;
       }
 
-  pub owner-on : (q : ℕ) → HasOwner b q → HasOwner c q
-  owner-on q (machines k) = machines k
-  owner-on q (bridges p s o) =
-      let e : stands c p ≡ true = same-stands p ∙ s in
-      bridges p e (ap (list_any (owns_it q)) (kept.children p (there p e) (keeps p e)) ∙ o)
+  pub owner-on : OwnersStay b c
+  owner-on =
+      owners-stay b c (λ p s. same-stands p ∙ s)
+      (λ p q s o. let e : stands c p ≡ true = same-stands p ∙ s in ap (list_any (owns_it q)) (kept.children p (there p e) (keeps p e)) ∙ o)
 
-  pub owner-back : (q : ℕ) → HasOwner c q → HasOwner b q
-  owner-back q (machines k) = machines k
-  owner-back q (bridges p e o) = bridges p (stood p e) (sym (ap (list_any (owns_it q)) (kept.children p (there p e) (keeps p e))) ∙ o)
+  pub owner-back : OwnersStay c b
+  owner-back = owners-stay c b stood (λ p q e o. sym (ap (list_any (owns_it q)) (kept.children p (there p e) (keeps p e))) ∙ o)
 
   shallow : IsShallow depth c
   shallow =
@@ -445,20 +496,14 @@ module _ (b c : Board) (kept : Kept b c) (depth : ℕ → ℕ) (left : Option �
       record {
         machine = machine;
         objects = ap (listed OBJECTS_BIRTH) (kept.children 1 kept.root refl) ∙ h.objects;
-        parts = (
-          part PERIPHERAL_BIRTH h.parts.0,
-          (
-            part ANONYMOUS_BIRTH h.parts.1.0,
-            (part ROOT_BUS_BIRTH h.parts.1.1.0, (part MEMORY_BUS_BIRTH h.parts.1.1.1.0, (part SYSTEM_CLOCK_BIRTH h.parts.1.1.1.1.0, tt))),
-          ),
-        );
-        rooted = rooted-same b c (kept.body 1 kept.root) (kept.children 1 kept.root refl) (kept.children MACHINE_BIRTH machine-live refl) h.rooted;
+        parts = parts-same b c second h.parts;
+        rooted = rooted-same b c (kept.body 1 kept.root) (kept.children 1 kept.root refl) second h.rooted;
         children = children-within b c kept.firm kept.body kept.within h.children;
         aside =
             all-imply (λ n. stands b n ≡ false) (λ n. stands c n ≡ false) (λ n k. same-stands n ∙ k)
             (1 ∷ MACHINE_BIRTH ∷ PERIPHERAL_BIRTH ∷ ANONYMOUS_BIRTH ∷ ROOT_BUS_BIRTH ∷ MEMORY_BUS_BIRTH ∷ OBJECTS_BIRTH ∷ []) h.aside;
-        peripheral = peripheral;
-        anonymous = anonymous;
+        peripheral = peripheral-within b c kept.firm kept.body PERIPHERAL_BIRTH (within-same peripherals) h.peripheral;
+        anonymous = anonymous-within b c kept.firm kept.body kept.anonymous ANONYMOUS_BIRTH (within-same anonymouses) h.anonymous;
         kids = kids;
         home = home;
         owner = λ d q e on. owner-on q (h.owner d q (stood d e) (sym (kept.bus d (there d e) (stood d e)) ∙ on));

@@ -1,23 +1,23 @@
 -- Adding a device, and the places of devices: refused attempts keep them, and what is known of a board on which one may be added.
-use Rattle.std.proofs.Common.{◌≡◌, refl, ap, sym, subst, ◌∙◌, ℕ, zero, suc, ◌<◌, Bool, true, false, ◌==◌, eqb, List, [], ◌∷◌, find, length, codes, Option, Some, None, option_and_then, arith}
+use Rattle.std.proofs.Common.{◌≡◌, refl, ap, sym, ◌∙◌, ℕ, zero, suc, ◌<◌, Bool, true, false, ◌==◌, List, [], ◌∷◌, find, length, codes, Option, Some, None, option_and_then, arith}
 use Rattle.std.specs.Prelude.{if◌then◌else◌}
-use Rattle.std.specs.List.{AllByRecursion, list_any}
+use Rattle.std.specs.List.{list_any}
 use Rattle.std.specs.Option.{option_map_or}
 use Rattle.std.specs.Str.{bytes_eq}
-use Rattle.std.proofs.lemmas.Bool.{eqb-true}
 use Rattle.std.proofs.lemmas.Slice.Eq.{bytes_eq-Decides}
 use Rattle.qo_values.specs.declared.births.TheConstants.{ANONYMOUS_BIRTH, MACHINE_BIRTH, MEMORY_BUS_BIRTH, PERIPHERAL_BIRTH, ROOT_BUS_BIRTH}
 use Rattle.qo_values.specs.declared.codes.Code.{Code}
 use Rattle.qo_values.specs.declared.kinds.TypeId.{TypeId}
+use Rattle.qo_model.proofs.AmongLemmas.{among-all}
 use Rattle.qo_model.specs.Board.{Board, Record}
-use Rattle.qo_model.specs.Depth.{among, by_depth}
+use Rattle.qo_model.specs.Depth.{by_depth}
 use Rattle.qo_model.specs.Devices.{bridge_of, bus_above, bus_of, depth_of, depth_turn, device_named, has_id}
 use Rattle.qo_model.specs.Paths.{births, is_of}
 use Rattle.qo_model.specs.Plug.{Wanted, barred_early, barred_late, bus_for, cut_attempt, plug, plug_as, plug_attempt, plug_by, plug_late, spot_of, type_barred, with_plugged}
 use Rattle.qo_model.specs.Types.{TypeInfo, is_a, type_named}
 use Rattle.qo_sound.proofs.FirmBoardLemmas.{Firm}
 use Rattle.qo_sound.proofs.PlugLemmas.{IsPlace, cut_attempt-rest, device-of, place-of, plug_attempt-rest}
-use Rattle.qo_sound.proofs.RecordLemmas.{all-imply}
+use Rattle.qo_values.proofs.ListLemmas.{all-imply}
 use Rattle.qo_sound.proofs.ViewLemmas.{AtRest}
 use Rattle.qo_sound_devices.specs.SoundPlaces.{child_entries, HasOwner, machines, bridges, id_of, IsAnonymous, IsHome, IsPeripheral, listed, PlacesBut, stands}
 use Rattle.qo_sound_devices.proofs.LikenessLemmas.{alike-record}
@@ -91,14 +91,6 @@ stands-device depth left out b h d e =
     (all-imply (IsPeripheral b) (λ (x : List ℕ × ℕ). is_of b (codes "device") x.1 ≡ true) (λ x k. k.device) (child_entries b PERIPHERAL_BIRTH) h.peripheral) d)
     (all-listed (λ x. is_of b (codes "device") x ≡ true) (child_entries b ANONYMOUS_BIRTH)
     (all-imply (IsAnonymous b) (λ (x : List ℕ × ℕ). is_of b (codes "device") x.1 ≡ true) (λ x k. k.device) (child_entries b ANONYMOUS_BIRTH) h.anonymous) d)
-
-pub among-all : (P : ℕ → Type 0) (ns : List ℕ) → AllByRecursion P ns → (q : ℕ) → among ns q ≡ true → P q
-among-all P [] h q e = cc
-among-all P (n ∷ ns) h q e = go (eqb q n) refl (among-all P ns h.1 q)
-  where
-    go : (t : Bool) → eqb q n ≡ t → (among ns q ≡ true → P q) → P q
-    go true p rest = subst P (sym (eqb-true q n p)) h.0
-    go false p rest = rest (rw p at e)
 
 module _ (depth : ℕ → ℕ) (out : ℕ → Bool) (b : Board) (firm : Firm b) (h : PlacesBut depth None out b) where
   module _ (machine : is_of b (codes "device") MACHINE_BIRTH ≡ false) where

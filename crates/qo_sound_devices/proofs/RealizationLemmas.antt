@@ -27,6 +27,7 @@ use Rattle.qo_model.proofs.FirstSlotLemmas.{named_in, Found, found-at, first-cha
 use Rattle.qo_model.proofs.StepLemmas.{found-edited}
 use Rattle.qo_sound.proofs.FirmBoardLemmas.{Firm}
 use Rattle.qo_sound.proofs.NewObjectLemmas.{grown-new}
+use Rattle.qo_sound.proofs.ReadLemmas.{plain-fitted}
 use Rattle.qo_sound_devices.proofs.DropLemmas.{edited-slots}
 use Rattle.qo_sound_devices.proofs.PlainSlotLemmas.{kept-append, kept-given_at, kept-link, kept-set, PlainIn, stay-add, stay-rows}
 use Rattle.qo_sound_devices.proofs.UnrealizingLemmas.{reads}
@@ -123,15 +124,6 @@ set-other : (n : ℕ) (name own : List ℕ) (v : Val) → bytes_eq own name ≡ 
     → option_and_then plain_in (named_in name (slots_at (set_named n own v c) n)) ≡ option_and_then plain_in (named_in name (slots_at c n))
 set-other n name own v apart c = ap (option_and_then plain_in) (slot-set n name own v apart c)
 
-fitted-same : (b : Board) (m : ℕ) (s : Slot) → plain_in (fitted b m s) ≡ plain_in s
-fitted-same b m (plain w) = refl
-fitted-same b m (child k) = refl
-fitted-same b m (strong t None) = refl
-fitted-same b m (strong t (Some k)) = refl
-fitted-same b m (weak t None) = refl
-fitted-same b m (weak t (Some k)) = refl
-fitted-same b m (alias k property) = refl
-
 link-other : (n : ℕ) (name own : List ℕ) (m : ℕ) (c : Board)
     → option_and_then plain_in (named_in name (slots_at (link_named n own m c) n)) ≡ option_and_then plain_in (named_in name (slots_at c n))
 link-other n name own m c = go (index_from (is_named own) 0 (slots_at c n)) refl
@@ -144,7 +136,7 @@ link-other n name own m c = go (index_from (is_named own) 0 (slots_at c n)) refl
         (found-edited n (with_changed (fitted c m) i) (λ r. refl) n c.records ∙ ap (option_map (edited n (with_changed (fitted c m) i))) q ∙ sym q)
     there i (Some r) q =
         ap (λ (ss : List (List ℕ × Slot)). option_and_then plain_in (named_in name ss)) (edited-slots c n (with_changed (fitted c m) i) (λ y. refl) r q)
-        ∙ named-changed plain_in (fitted c m) (fitted-same c m) name i r.slots
+        ∙ named-changed plain_in (fitted c m) (plain-fitted c m) name i r.slots
         ∙ sym (ap (λ (o : Option Record). option_and_then plain_in (named_in name (option_map_or (λ (y : Record). y.slots) o []))) q)
 
     go : (o : Option ℕ) → index_from (is_named own) 0 (slots_at c n) ≡ o

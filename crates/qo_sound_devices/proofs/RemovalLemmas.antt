@@ -1,26 +1,18 @@
 -- Places after a step that takes a device out: what has to be shown of such a step.
-use Rattle.std.proofs.Common.{◌≡◌, ◌≢◌, refl, ap, sym, subst, ◌∙◌, ℕ, ◌<◌, Bool, true, false, ◌==◌, List, [], ◌∷◌, Option, Some, codes}
+use Rattle.std.proofs.Common.{◌≡◌, ◌≢◌, refl, ap, sym, ◌∙◌, ℕ, Bool, true, false, ◌==◌, List, [], ◌∷◌, Option, Some, codes}
 use Rattle.std.specs.List.{AllByRecursion}
 use Rattle.std.proofs.lemmas.Bool.{eq-eqb}
 use Rattle.std.proofs.Math.Bool.{or-true}
-use Rattle.qo_values.specs.declared.births.TheConstants.{ANONYMOUS_BIRTH, MACHINE_BIRTH, MEMORY_BUS_BIRTH, OBJECTS_BIRTH, PERIPHERAL_BIRTH, ROOT_BUS_BIRTH, SYSTEM_CLOCK_BIRTH}
+use Rattle.qo_values.specs.declared.births.TheConstants.{ANONYMOUS_BIRTH, MACHINE_BIRTH, MEMORY_BUS_BIRTH, OBJECTS_BIRTH, PERIPHERAL_BIRTH, ROOT_BUS_BIRTH}
 use Rattle.qo_model.specs.Board.{Board, is_live, slots_at}
 use Rattle.qo_model.specs.Depth.{among}
 use Rattle.qo_model.specs.Devices.{bus_of, is_realized, bus_slot_of}
 use Rattle.qo_model.specs.Paths.{is_of}
 use Rattle.qo_sound.proofs.FirmBoardLemmas.{Firm}
-use Rattle.qo_sound.proofs.RecordLemmas.{all-both, all-imply}
-use Rattle.qo_sound_devices.specs.SoundPlaces.{child_entries, HasOwner, machines, bridges, IsAnonymous, IsHome, IsKid, IsPeripheral, IsShallow, kid_entries, listed, owns, PlacesBut, stands}
-use Rattle.qo_sound_devices.proofs.PlacesLemmas.{all-within, bus-listed, child-live, children-there, children-within, rooted-same, id-alike, id-live, IsThere, kid-live, linked-at, more, nothing, of-alike, of-live, or-cases, realized-live, same, SameBody, stands-live, suits-alike, Within, peripheral-alike, anonymous-alike}
-
-pub within-listed : (d : ℕ) {xs ys : List (List ℕ × ℕ)} → Within xs ys → listed d xs ≡ true → listed d ys ≡ true
-within-listed d (nothing ys) e = cc
-within-listed d (same {xs} {ys} x w) e = go (x.1 == d) refl (within-listed d w)
-  where
-    go : (t : Bool) → (x.1 == d) ≡ t → (listed d xs ≡ true → listed d ys ≡ true) → listed d (x ∷ ys) ≡ true
-    go true p rest = rw p refl
-    go false p rest = rw p (rest (rw p at e))
-within-listed d (more {xs} {ys} y w) e = rw (within-listed d w e) (or-true (y.1 == d))
+use Rattle.qo_sound.proofs.RecordLemmas.{all-both}
+use Rattle.qo_values.proofs.ListLemmas.{all-imply}
+use Rattle.qo_sound_devices.specs.SoundPlaces.{child_entries, HasOwner, IsHome, IsKid, IsShallow, kid_entries, listed, owns, PlacesBut, stands, names_it}
+use Rattle.qo_sound_devices.proofs.PlacesLemmas.{all-within, bus-listed, child-live, children-within, rooted-same, id-alike, id-live, kid-live, of-alike, of-live, or-cases, realized-live, SameBody, stands-live, suits-alike, Within, parts-same, within-any, OwnersStay, owners-stay, part-live, peripheral-within, anonymous-within}
 
 -- each entry is listed
 pub all-in : (es : List (List ℕ × ℕ)) → AllByRecursion (λ (e : List ℕ × ℕ). listed e.1 es ≡ true) es
@@ -60,44 +52,23 @@ module _ (b c : Board) (depth : ℕ → ℕ) (left before : Option ℕ) (out out
   machine-live : is_live c MACHINE_BIRTH ≡ true
   machine-live = child-live c m.firm 1 MACHINE_BIRTH machine
 
-  part : (n : ℕ) → listed n (child_entries b MACHINE_BIRTH) ≡ true → listed n (child_entries c MACHINE_BIRTH) ≡ true
-  part n e = ap (listed n) (m.fixed MACHINE_BIRTH machine-live refl) ∙ e
-
-  part-live : (n : ℕ) → listed n (child_entries b MACHINE_BIRTH) ≡ true → is_live c n ≡ true
-  part-live n e = child-live c m.firm MACHINE_BIRTH n (part n e)
+  second : child_entries c MACHINE_BIRTH ≡ child_entries b MACHINE_BIRTH
+  second = m.fixed MACHINE_BIRTH machine-live refl
 
   peripherals : Within (child_entries c PERIPHERAL_BIRTH) (child_entries b PERIPHERAL_BIRTH)
-  peripherals = m.shelves PERIPHERAL_BIRTH (part-live PERIPHERAL_BIRTH h.parts.0) refl
+  peripherals = m.shelves PERIPHERAL_BIRTH (part-live b c m.firm second PERIPHERAL_BIRTH h.parts.0) refl
 
   anonymouses : Within (child_entries c ANONYMOUS_BIRTH) (child_entries b ANONYMOUS_BIRTH)
-  anonymouses = m.shelves ANONYMOUS_BIRTH (part-live ANONYMOUS_BIRTH h.parts.1.0) refl
+  anonymouses = m.shelves ANONYMOUS_BIRTH (part-live b c m.firm second ANONYMOUS_BIRTH h.parts.1.0) refl
 
   pub stood : (d : ℕ) → stands c d ≡ true → stands b d ≡ true
   stood d e =
       or-cases (listed d (child_entries c PERIPHERAL_BIRTH)) (listed d (child_entries c ANONYMOUS_BIRTH)) e
-      (λ k. rw (within-listed d peripherals k) refl)
-      (λ k. rw (within-listed d anonymouses k) (or-true (listed d (child_entries b PERIPHERAL_BIRTH))))
+      (λ k. rw (within-any (names_it d) peripherals k) refl)
+      (λ k. rw (within-any (names_it d) anonymouses k) (or-true (listed d (child_entries b PERIPHERAL_BIRTH))))
 
   there : (d : ℕ) → stands c d ≡ true → is_live c d ≡ true
   there d e = stands-live c m.firm d e
-
-  peripheral : AllByRecursion (IsPeripheral c) (child_entries c PERIPHERAL_BIRTH)
-  peripheral =
-      all-imply (λ (e : List ℕ × ℕ). IsThere c e × IsPeripheral b e) (IsPeripheral c) one (child_entries c PERIPHERAL_BIRTH)
-      (all-both (IsThere c) (IsPeripheral b) (child_entries c PERIPHERAL_BIRTH)
-      (children-there c (slots_at c PERIPHERAL_BIRTH) (linked-at c m.firm PERIPHERAL_BIRTH)) (all-within (IsPeripheral b) peripherals h.peripheral))
-    where
-      one : (e : List ℕ × ℕ) → IsThere c e × IsPeripheral b e → IsPeripheral c e
-      one e k = peripheral-alike b c e (m.body e.1 k.0) k.1
-
-  anonymous : AllByRecursion (IsAnonymous c) (child_entries c ANONYMOUS_BIRTH)
-  anonymous =
-      all-imply (λ (e : List ℕ × ℕ). IsThere c e × IsAnonymous b e) (IsAnonymous c) one (child_entries c ANONYMOUS_BIRTH)
-      (all-both (IsThere c) (IsAnonymous b) (child_entries c ANONYMOUS_BIRTH)
-      (children-there c (slots_at c ANONYMOUS_BIRTH) (linked-at c m.firm ANONYMOUS_BIRTH)) (all-within (IsAnonymous b) anonymouses h.anonymous))
-    where
-      one : (e : List ℕ × ℕ) → IsThere c e × IsAnonymous b e → IsAnonymous c e
-      one e k = anonymous-alike b c e (λ n low. subst (λ (x : ℕ). n < x) (sym m.anonymous) low) (m.body e.1 k.0) k.1
 
   kids : (q : ℕ) → is_of c (codes "bus") q ≡ true → AllByRecursion (IsKid c q) (kid_entries c q)
   kids q e =
@@ -130,9 +101,8 @@ module _ (b c : Board) (depth : ℕ → ℕ) (left before : Option ℕ) (out out
         kid = m.hold old.bus d old.is_bus live e stays old.kid;
       }
 
-  owner-back : (q : ℕ) → HasOwner c q → HasOwner b q
-  owner-back q (machines k) = machines k
-  owner-back q (bridges p s o) = bridges p (stood p s) (m.owns_back p q s o)
+  owner-back : OwnersStay c b
+  owner-back = owners-stay c b stood m.owns_back
 
   shallow : IsShallow depth c
   shallow =
@@ -147,20 +117,14 @@ module _ (b c : Board) (depth : ℕ → ℕ) (left before : Option ℕ) (out out
       record {
         machine = machine;
         objects = ap (listed OBJECTS_BIRTH) (m.fixed 1 m.root refl) ∙ h.objects;
-        parts = (
-          part PERIPHERAL_BIRTH h.parts.0,
-          (
-            part ANONYMOUS_BIRTH h.parts.1.0,
-            (part ROOT_BUS_BIRTH h.parts.1.1.0, (part MEMORY_BUS_BIRTH h.parts.1.1.1.0, (part SYSTEM_CLOCK_BIRTH h.parts.1.1.1.1.0, tt))),
-          ),
-        );
-        rooted = rooted-same b c (m.body 1 m.root) (m.fixed 1 m.root refl) (m.fixed MACHINE_BIRTH machine-live refl) h.rooted;
+        parts = parts-same b c second h.parts;
+        rooted = rooted-same b c (m.body 1 m.root) (m.fixed 1 m.root refl) second h.rooted;
         children = children-within b c m.firm m.body m.within h.children;
         aside =
             all-imply (λ n. stands b n ≡ false) (λ n. stands c n ≡ false) no_more
             (1 ∷ MACHINE_BIRTH ∷ PERIPHERAL_BIRTH ∷ ANONYMOUS_BIRTH ∷ ROOT_BUS_BIRTH ∷ MEMORY_BUS_BIRTH ∷ OBJECTS_BIRTH ∷ []) h.aside;
-        peripheral = peripheral;
-        anonymous = anonymous;
+        peripheral = peripheral-within b c m.firm m.body PERIPHERAL_BIRTH peripherals h.peripheral;
+        anonymous = anonymous-within b c m.firm m.body m.anonymous ANONYMOUS_BIRTH anonymouses h.anonymous;
         kids = kids;
         home = home;
         owner = λ d q e on. m.owned d q e on (h.owner d q (stood d e) (m.bus_back d q e on));

@@ -6,7 +6,6 @@ use Rattle.std.specs.Str.{bytes_eq}
 use Rattle.std.proofs.lemmas.Bool.{eqb-true, eq-eqb}
 use Rattle.std.proofs.Math.Bool.{or-true}
 use Rattle.std.proofs.lemmas.Option.{same_Some}
-use Rattle.qo_values.specs.declared.births.TheConstants.{ANONYMOUS_BIRTH, MACHINE_BIRTH, PERIPHERAL_BIRTH}
 use Rattle.qo_values.specs.declared.kinds.TypeId.{TypeId}
 use Rattle.qo_values.specs.declared.kinds.TypeId.TheVariants.{Device}
 use Rattle.qo_values.specs.declared.properties.Val.{Val}
@@ -17,7 +16,7 @@ use Rattle.qo_model.specs.Changes.{add, changed_at, set, with_added, with_change
 use Rattle.qo_model.specs.Devices.{child_named, clock_of, is_true, kid_name, number_in, plain_in, strong_in}
 use Rattle.qo_model.specs.Objects.{index_from}
 use Rattle.qo_model.specs.Paths.{is_of}
-use Rattle.qo_model.specs.Plug.{Spot, Wanted, addressed_at, clocked, drafted, fitted, joined, link_named, name_for, parent_for, source_for, stood, valued, with_body_of, with_given, with_source}
+use Rattle.qo_model.specs.Plug.{Spot, Wanted, addressed_at, drafted, fitted, joined, link_named, name_for, parent_for, source_for, stood, valued, with_body_of, with_given, with_source}
 use Rattle.qo_model.specs.Release.{edit}
 use Rattle.qo_model.specs.Types.{is_a}
 use Rattle.qo_model.specs.Unplug.{is_named, set_named}
@@ -30,9 +29,9 @@ use Rattle.qo_sound_devices.specs.SoundPlaces.{child_entries, child_entry, kid_e
 use Rattle.qo_sound_devices.proofs.LikenessLemmas.{other-record}
 use Rattle.qo_sound_devices.proofs.DraftLemmas.{drafted-source, may_see}
 use Rattle.qo_sound_devices.proofs.AdditionLemmas.{Goal, IsFurther, Joined}
-use Rattle.qo_sound_devices.proofs.JoiningLemmas.{now_at}
-use Rattle.qo_sound_devices.proofs.PlacesLemmas.{child-live, of-live}
-use Rattle.qo_sound_devices.proofs.ValueLemmas.{child-fitted, joined-stood}
+use Rattle.qo_sound_devices.proofs.JoiningLemmas.{now_at, parent-live}
+use Rattle.qo_sound_devices.proofs.PlacesLemmas.{of-live}
+use Rattle.qo_sound_devices.proofs.ValueLemmas.{child-fitted, joined-stood, HasSource}
 use Rattle.qo_sound_devices.proofs.UnrealizingLemmas.{Dims, dims-none, entries-changed, reads, bodies}
 use Rattle.qo_sound_devices.proofs.LocationLemmas.{entry-of}
 
@@ -189,7 +188,8 @@ module _ (depth : ℕ → ℕ) (b : Board) (t : TypeId) (a : Wanted) (spot : Spo
   source-blank : (m : ℕ) → clock_of d n ≡ Some m → may_see (named_in (codes "source") (slots_at d m)) ≡ true
   source-blank m e =
       ap (λ (o : Option Record). may_see (named_in (codes "source") (option_map_or (λ (r : Record). r.slots) o [])))
-      (stood-other m b n a spot (drafted b t) (not_it m_new) (apart spot.bus bus_live) (apart (parent_for a.id) (parent_live a.id)))
+      (stood-other m b n a spot (drafted b t) (not_it m_new) (apart spot.bus bus_live)
+      (apart (parent_for a.id) (parent-live depth None (λ x. false) b rest.used.firm h a.id)))
       ∙ drafted-source b t (shut-above b.born rest.used.firm.begun) rest.used m m_new
     where
       j : Joined depth b n spot.bus spot.slot a.id t (record (now_at n (valued b n a.props spot (joined b n a spot (drafted b t)))) { its = a.id }) d
@@ -209,10 +209,6 @@ module _ (depth : ℕ → ℕ) (b : Board) (t : TypeId) (a : Wanted) (spot : Spo
       bus_live : is_live b spot.bus ≡ true
       bus_live = of-live b (codes "bus") spot.bus goal.is_bus
 
-      parent_live : (o : Option (List ℕ)) → is_live b (parent_for o) ≡ true
-      parent_live None = child-live b rest.used.firm MACHINE_BIRTH ANONYMOUS_BIRTH h.parts.1.0
-      parent_live (Some i) = child-live b rest.used.firm MACHINE_BIRTH PERIPHERAL_BIRTH h.parts.0
-
       is_device : is_of d (codes "device") n ≡ true
       is_device = ap (λ (o : Option TypeId). option_map_or (λ (k : TypeId). is_a k (codes "device")) o false) j.kind ∙ goal.device
 
@@ -227,7 +223,7 @@ module _ (depth : ℕ → ℕ) (b : Board) (t : TypeId) (a : Wanted) (spot : Spo
           cc))
           (λ p. p)
 
-  pub holds-source : Dims (stood b (b.born + 1) a spot (drafted b t)) (clocked (source_for b spot.bus) (b.born + 1) (stood b (b.born + 1) a spot (drafted b t)))
+  pub holds-source : HasSource b t a spot
   holds-source = go (clock_of d n) refl
     where
       go : (o : Option ℕ) → clock_of d n ≡ o → Dims d (with_source (source_for b spot.bus) o d)

@@ -19,6 +19,7 @@ use Rattle.qo_model.proofs.FirstSlotLemmas.{named_in}
 use Rattle.qo_model.proofs.StepLemmas.{found-edited, found-birth}
 use Rattle.qo_sound.proofs.FirmBoardLemmas.{Firm}
 use Rattle.qo_sound.proofs.TestLemmas.{decide}
+use Rattle.qo_sound_devices.proofs.JoiningLemmas.{differs}
 use Rattle.qo_sound_devices.specs.SoundPlaces.{child_entries, child_entry, id_of, kid_entries, listed, path_of, PlacesBut}
 use Rattle.qo_sound_devices.proofs.LikenessLemmas.{Alike, alike-record, other-record}
 use Rattle.qo_sound_devices.proofs.AdditionLemmas.{goal-same, count_after, device-no_bus, done, further-same, Joined, Now, path_after}
@@ -91,15 +92,17 @@ module _ (depth : ℕ → ℕ) (b : Board) (n bus slot : ℕ) (id : Option (List
       → IsNow n next d → Joined depth b n bus slot id t now c → Joined depth b n bus slot id t next d
   joined-beside left out firm h now next c d k is j =
       record {
-        body = λ x e. (k.others x (differs x e)).body ∙ j.body x e;
-        realized = λ x e. (k.others x (differs x e)).realized ∙ j.realized x e;
-        bus_same = λ x e. (k.others x (differs x e)).bus ∙ j.bus_same x e;
-        place_same = λ x e. (k.others x (differs x e)).place ∙ j.place_same x e;
-        kids_same = λ x e p. (k.others x (differs x e)).kids ∙ j.kids_same x e p;
-        children = λ x e p. (k.others x (differs x e)).children ∙ j.children x e p;
-        kids_more = (k.others bus (differs bus (of-live b (codes "bus") bus j.goal.is_bus))).kids ∙ j.kids_more;
-        third = (k.others PERIPHERAL_BIRTH (differs PERIPHERAL_BIRTH (child-live b firm MACHINE_BIRTH PERIPHERAL_BIRTH h.parts.0))).children ∙ j.third;
-        fourth = (k.others ANONYMOUS_BIRTH (differs ANONYMOUS_BIRTH (child-live b firm MACHINE_BIRTH ANONYMOUS_BIRTH h.parts.1.0))).children ∙ j.fourth;
+        body = λ x e. (k.others x (differs b n j.absent x e)).body ∙ j.body x e;
+        realized = λ x e. (k.others x (differs b n j.absent x e)).realized ∙ j.realized x e;
+        bus_same = λ x e. (k.others x (differs b n j.absent x e)).bus ∙ j.bus_same x e;
+        place_same = λ x e. (k.others x (differs b n j.absent x e)).place ∙ j.place_same x e;
+        kids_same = λ x e p. (k.others x (differs b n j.absent x e)).kids ∙ j.kids_same x e p;
+        children = λ x e p. (k.others x (differs b n j.absent x e)).children ∙ j.children x e p;
+        kids_more = (k.others bus (differs b n j.absent bus (of-live b (codes "bus") bus j.goal.is_bus))).kids ∙ j.kids_more;
+        third = (k.others PERIPHERAL_BIRTH (differs b n j.absent PERIPHERAL_BIRTH (child-live b firm MACHINE_BIRTH PERIPHERAL_BIRTH h.parts.0))).children
+            ∙ j.third;
+        fourth = (k.others ANONYMOUS_BIRTH (differs b n j.absent ANONYMOUS_BIRTH (child-live b firm MACHINE_BIRTH ANONYMOUS_BIRTH h.parts.1.0))).children
+            ∙ j.fourth;
         anonymous = is.anonymous;
         absent = j.absent;
         unrealized = λ x e p. (k.others x p).realized ∙ j.unrealized x e p;
@@ -116,11 +119,6 @@ module _ (depth : ℕ → ℕ) (b : Board) (n bus slot : ℕ) (id : Option (List
         goal = goal-same depth b n bus slot id t c d k.children j.goal;
       }
     where
-      differs : (x : ℕ) → is_live b x ≡ true → (x == n) ≡ false
-      differs x e =
-          decide (x == n) {A = (x == n) ≡ false} (λ p. absurd (let clash : true ≡ false = sym e ∙ ap (is_live b) (eqb-true x n p) ∙ j.absent in cc))
-          (λ p. p)
-
       at_each : (P : ℕ → Type 0) → ((x : ℕ) → Alike c d x → P x) → P n → (x : ℕ) → P x
       at_each P other its x = decide (x == n) {A = P x} (λ p. subst P (sym (eqb-true x n p)) its) (λ p. other x (k.others x p))
 

@@ -1,12 +1,11 @@
 -- Steps that only take away: objects, entries and links.
 use Rattle.std.proofs.Common.{◌≡◌, ◌≢◌, refl, ap, sym, subst, ◌∙◌, ℕ, zero, suc, Bool, true, false, ◌==◌, List, [], ◌∷◌, filter_map, remove, slice_get, Option, Some, None, is_some, option_map, option_and_then, codes}
-use Rattle.std.specs.List.{cons_option, IsDistinct, list_any}
+use Rattle.std.specs.List.{cons_option, IsDistinct}
 use Rattle.std.specs.Option.{option_map_or}
 use Rattle.std.specs.Str.{bytes_eq}
 use Rattle.std.proofs.lemmas.Bool.{eqb-true}
 use Rattle.std.proofs.lemmas.Option.{same_Some}
 use Rattle.std.proofs.lemmas.Slice.Eq.{bytes_eq-Decides}
-use Rattle.std.proofs.Math.Bool.{or-true}
 use Rattle.qo_values.specs.declared.births.TheConstants.{MACHINE_BIRTH}
 use Rattle.qo_values.specs.declared.properties.Val.{Val}
 use Rattle.qo_model.specs.Board.{Board, Record, Slot, plain, child, strong, weak, alias, record_of, is_live, slots_at}
@@ -22,7 +21,7 @@ use Rattle.qo_sound_devices.specs.SoundPlaces.{child_entries, child_entry, HasOw
 use Rattle.qo_sound_devices.proofs.LikenessLemmas.{after-alike, Alike, alike-record, bodiless, other-record}
 use Rattle.qo_sound_devices.proofs.DropLemmas.{children-fewer, edited-slots, kids-fewer, none-named, plain-dropped}
 use Rattle.qo_sound_devices.proofs.RemovalLemmas.{Moved}
-use Rattle.qo_sound_devices.proofs.PlacesLemmas.{after-anonymous, more, nothing, same, SameBody, stands-live, Within, within-all, within-same}
+use Rattle.qo_sound_devices.proofs.PlacesLemmas.{after-anonymous, more, nothing, same, SameBody, stands-live, Within, within-all, within-same, within-any}
 
 pub within-then : {A : Type 0} {xs ys zs : List A} → Within xs ys → Within ys zs → Within xs zs
 within-then (nothing ys) v = nothing _
@@ -30,15 +29,6 @@ within-then (same x w) (same y v) = same x (within-then w v)
 within-then (same x w) (more y v) = more y (within-then (same x w) v)
 within-then (more y w) (same z v) = more y (within-then w v)
 within-then (more y w) (more z v) = more z (within-then (more y w) v)
-
-pub within-any : {A : Type 0} (p : A → Bool) {xs ys : List A} → Within xs ys → list_any p xs ≡ true → list_any p ys ≡ true
-within-any p (nothing ys) e = absurd (let clash : false ≡ true = e in cc)
-within-any p (same {xs} {ys} x w) e = go (p x) refl (within-any p w)
-  where
-    go : (t : Bool) → p x ≡ t → (list_any p xs ≡ true → list_any p ys ≡ true) → list_any p (x ∷ ys) ≡ true
-    go true q rest = rw q refl
-    go false q rest = rw q (rest (rw q at e))
-within-any p (more y w) e = rw (within-any p w e) (or-true (p y))
 
 pub record Steps (b c : Board) : Type 0 where
   pub live : (x : ℕ) → is_live c x ≡ true → is_live b x ≡ true
@@ -108,11 +98,14 @@ steps-alike b c anonymous alike =
 pub steps-after : (b : Board) (o : Option ℕ) → Steps b (after finalize b o)
 steps-after b o = steps-alike b (after finalize b o) (after-anonymous b o) (after-alike b o)
 
--- slots, of which some was taken away
-
-pub record SlotSteps (xs ys : List (List ℕ × Slot)) : Type 0 where
+-- slots with fewer entries
+pub record FewerEntries (xs ys : List (List ℕ × Slot)) : Type 0 where
   pub children : Within (filter_map child_entry ys) (filter_map child_entry xs)
   pub kids : Within (filter_map kid_entry ys) (filter_map kid_entry xs)
+
+-- slots, of which some was taken away
+pub record SlotSteps (xs ys : List (List ℕ × Slot)) : Type 0 where
+  pub fewer : FewerEntries xs ys
   pub plains : (name : List ℕ) → option_and_then plain_in (named_in name ys) ≡ option_and_then plain_in (named_in name xs)
   pub strongs : (name : List ℕ) (q : ℕ) → option_and_then strong_in (named_in name ys) ≡ Some q → option_and_then strong_in (named_in name xs) ≡ Some q
 
@@ -150,8 +143,7 @@ strong-back name q zero ((own, alias m property) ∷ slots) h e = e
 pub dropped-slots : (i : ℕ) (slots : List (List ℕ × Slot)) → IsDistinct bytes_eq (names_in slots) → SlotSteps slots (without_hold i slots)
 dropped-slots i slots h =
     record {
-      children = children-fewer i slots;
-      kids = kids-fewer i slots;
+      fewer = record { children = children-fewer i slots; kids = kids-fewer i slots };
       plains = λ name. plain-dropped name i slots h;
       strongs = λ name q. strong-back name q i slots h;
     }
@@ -231,11 +223,11 @@ module _ (b : Board) (n : ℕ) (change : Record → Record) (same_birth : (r : R
         children =
             at_each (λ y. Within (child_entries c y) (child_entries b y)) (λ y a. within-same a.children)
             (subst (λ (xs : List (List ℕ × ℕ)). Within xs (child_entries b n)) (sym (ap (filter_map child_entry) now))
-            (subst (λ (ys : List (List ℕ × ℕ)). Within (filter_map child_entry (change r).slots) ys) (sym (ap (filter_map child_entry) was)) h.children));
+            (subst (λ (ys : List (List ℕ × ℕ)). Within (filter_map child_entry (change r).slots) ys) (sym (ap (filter_map child_entry) was)) h.fewer.children));
         kids =
             at_each (λ y. Within (kid_entries c y) (kid_entries b y)) (λ y a. within-same a.kids)
             (subst (λ (xs : List (List ℕ × ℕ)). Within xs (kid_entries b n)) (sym (ap (filter_map kid_entry) now))
-            (subst (λ (ys : List (List ℕ × ℕ)). Within (filter_map kid_entry (change r).slots) ys) (sym (ap (filter_map kid_entry) was)) h.kids));
+            (subst (λ (ys : List (List ℕ × ℕ)). Within (filter_map kid_entry (change r).slots) ys) (sym (ap (filter_map kid_entry) was)) h.fewer.kids));
         anonymous = refl;
       }
 

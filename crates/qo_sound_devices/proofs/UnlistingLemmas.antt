@@ -21,8 +21,8 @@ use Rattle.qo_sound_devices.specs.SoundLists.{IsOn, SoundLists}
 use Rattle.qo_sound_devices.specs.SoundPlaces.{PlacesBut, stands}
 use Rattle.qo_sound_devices.proofs.DetachmentLemmas.{detach-lit, detach-places}
 use Rattle.qo_sound_devices.proofs.ListsLemmas.{Fewer, fewer-same, lists-fewer, named, on-stands, told, within-filter}
-use Rattle.qo_sound_devices.proofs.PlacesLemmas.{or-cases, Within}
-use Rattle.qo_sound_devices.proofs.StepsLemmas.{within-any, within-then}
+use Rattle.qo_sound_devices.proofs.PlacesLemmas.{or-cases, Within, within-any}
+use Rattle.qo_sound_devices.proofs.StepsLemmas.{within-then}
 use Rattle.qo_sound_devices.proofs.UnrealizingLemmas.{dims-bus, fades-device}
 
 -- the lists are as on another board
@@ -77,9 +77,9 @@ leaves-then b c d h k =
     }
 
 -- who is taken from a list is not in it
-gone-pending : (d : ℕ) (xs : List ℕ) → among (without_all d xs) d ≡ false
-gone-pending d [] = refl
-gone-pending d (x ∷ xs) = go (x == d) refl (gone-pending d xs)
+pub without-own : (d : ℕ) (xs : List ℕ) → among (without_all d xs) d ≡ false
+without-own d [] = refl
+without-own d (x ∷ xs) = go (x == d) refl (without-own d xs)
   where
     go : (t : Bool) → (x == d) ≡ t → among (without_all d xs) d ≡ false → among (without_all d (x ∷ xs)) d ≡ false
     go true p rest = rw p rest
@@ -129,7 +129,7 @@ leaves-device d c = record { fewer = fewer; lit = lit }
 
     unnamed : named (unrealized_device d c) d ≡ false
     unnamed =
-        rw (ap (λ (xs : List ℕ). among xs d) pending ∙ gone-pending d c.pending, ap (λ (xs : List Notice). told xs d) notices ∙ gone-told d c.notices) refl
+        rw (ap (λ (xs : List ℕ). among xs d) pending ∙ without-own d c.pending, ap (λ (xs : List Notice). told xs d) notices ∙ gone-told d c.notices) refl
 
     lit : (x : ℕ) → named (unrealized_device d c) x ≡ true → is_realized c x ≡ true → is_realized (unrealized_device d c) x ≡ true
     lit x e was = go (x == d) refl

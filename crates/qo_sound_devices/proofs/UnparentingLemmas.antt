@@ -24,13 +24,13 @@ use Rattle.qo_model.proofs.StepLemmas.{drop-record, is_some-map}
 use Rattle.qo_sound.proofs.FirmBoardLemmas.{Firm, firm-drop}
 use Rattle.qo_sound.proofs.SlotLemmas.{names_in, one_child}
 use Rattle.qo_sound.proofs.UnplugLemmas.{Sits}
-use Rattle.qo_sound_devices.specs.SoundPlaces.{child_entries, child_entry, HasOwner, machines, bridges, IsHome, kid_entries, kid_entry, listed, owns, owns_it, PlacesBut, stands}
+use Rattle.qo_sound_devices.specs.SoundPlaces.{child_entries, child_entry, HasOwner, machines, bridges, IsHome, kid_entries, kid_entry, listed, owns, owns_it, PlacesBut, stands, names_it}
 use Rattle.qo_sound_devices.proofs.LikenessLemmas.{Alike}
 use Rattle.qo_sound_devices.proofs.DropLemmas.{children-kept, KeptAt, kept-edit, kids-kept, names-at, strong-dropped}
 use Rattle.qo_sound_devices.proofs.AttachmentLemmas.{found-counted, listed-found}
 use Rattle.qo_sound_devices.proofs.DepthLemmas.{kid-of}
-use Rattle.qo_sound_devices.proofs.RemovalLemmas.{Moved, places-moved, within-listed}
-use Rattle.qo_sound_devices.proofs.PlacesLemmas.{after-places, Kept, or-cases, owner-live, stands-live, within-same}
+use Rattle.qo_sound_devices.proofs.RemovalLemmas.{Moved, places-moved}
+use Rattle.qo_sound_devices.proofs.PlacesLemmas.{after-places, Kept, or-cases, owner-live, stands-live, within-same, within-any, stands-same, aside-apart}
 use Rattle.qo_sound_devices.proofs.StepsLemmas.{apart-alike, at-slots, dropped-slots, entries-removed, removed-same, SlotSteps, moved-steps, Steps, steps-after, steps-edit, steps-none, steps-then}
 
 -- a board while something is taken out of it
@@ -53,15 +53,6 @@ record-at b n e = go (record_of b n) refl
     go : (o : Option Record) → record_of b n ≡ o → (r : Record) × (record_of b n ≡ Some r)
     go None q = absurd (let clash : false ≡ true = sym (ap is_some q) ∙ e in cc)
     go (Some r) q = (r, q)
-
--- who stands is none of these
-pub aside-apart : (b : Board) (ns : List ℕ) → AllByRecursion (λ n. stands b n ≡ false) ns → (d : ℕ) → stands b d ≡ true → among ns d ≡ false
-aside-apart b [] h d e = refl
-aside-apart b (n ∷ ns) h d e = go (eqb d n) refl (aside-apart b ns h.1 d e)
-  where
-    go : (t : Bool) → eqb d n ≡ t → among ns d ≡ false → among (n ∷ ns) d ≡ false
-    go true p rest = absurd (let clash : true ≡ false = sym e ∙ ap (stands b) (eqb-true d n p) ∙ h.0 in cc)
-    go false p rest = rw p rest
 
 -- a slot that is a child slot of m
 pub record IsChildSlot (m : ℕ) (s : List ℕ × Slot) : Type 0 where
@@ -223,7 +214,7 @@ module _ (depth : ℕ → ℕ) (out : ℕ → Bool) (left : Option ℕ) (ps : Li
           (λ y p a k. a.children) (λ k. absurd (let clash : true ≡ false = sym k ∙ aside in cc)) x
 
       same-stands : (x : ℕ) → stands c x ≡ stands b x
-      same-stands x = ap₂ (λ (xs ys : List (List ℕ × ℕ)). listed x xs || listed x ys) (child-same PERIPHERAL_BIRTH refl) (child-same ANONYMOUS_BIRTH refl)
+      same-stands = stands-same b c (child-same PERIPHERAL_BIRTH refl) (child-same ANONYMOUS_BIRTH refl)
 
       still-owns : (q : ℕ) → (m == q) ≡ false → (p : ℕ) → owns b p q ≡ true → owns c p q ≡ true
       still-owns q apart =
@@ -282,7 +273,7 @@ module _ (depth : ℕ → ℕ) (out : ℕ → Bool) (left : Option ℕ) (ps : Li
       c = drop_slot b n i
 
       same-stands : (x : ℕ) → stands c x ≡ stands b x
-      same-stands x = ap₂ (λ (xs ys : List (List ℕ × ℕ)). listed x xs || listed x ys) (link-stands none PERIPHERAL_BIRTH) (link-stands none ANONYMOUS_BIRTH)
+      same-stands = stands-same b c (link-stands none PERIPHERAL_BIRTH) (link-stands none ANONYMOUS_BIRTH)
 
       owned : (q : ℕ) → HasOwner b q → HasOwner c q
       owned q (machines o) = machines o
@@ -293,7 +284,7 @@ module _ (depth : ℕ → ℕ) (out : ℕ → Bool) (left : Option ℕ) (ps : Li
           moved-steps (Some d) b c (firm-drop b n i firm) dropped-root dropped
           (λ x k. link-stands none x)
           (λ x k differs. same_bus x (λ z. differs (ap Some z)))
-          (λ q x isb l. (same-stands x ∙ (kid-of depth left out b h.places q x isb (within-listed x (dropped.kids q) l)).0, kid q x isb l))
+          (λ q x isb l. (same-stands x ∙ (kid-of depth left out b h.places q x isb (within-any (names_it x) (dropped.kids q) l)).0, kid q x isb l))
           (λ q x isb differs l. hold q x isb (λ z. differs (ap Some z)) l)
           (λ x q k on o. owned q o)
 
@@ -315,8 +306,8 @@ module _ (depth : ℕ → ℕ) (out : ℕ → Bool) (left : Option ℕ) (ps : Li
       stood : (x : ℕ) → stands c x ≡ true → stands b x ≡ true
       stood x k =
           or-cases (listed x (child_entries c PERIPHERAL_BIRTH)) (listed x (child_entries c ANONYMOUS_BIRTH)) k
-          (λ e. rw (within-listed x (dropped.children PERIPHERAL_BIRTH) e) refl)
-          (λ e. rw (within-listed x (dropped.children ANONYMOUS_BIRTH) e) (or-true (listed x (child_entries b PERIPHERAL_BIRTH))))
+          (λ e. rw (within-any (names_it x) (dropped.children PERIPHERAL_BIRTH) e) refl)
+          (λ e. rw (within-any (names_it x) (dropped.children ANONYMOUS_BIRTH) e) (or-true (listed x (child_entries b PERIPHERAL_BIRTH))))
 
       only : (x : ℕ) → is_live c x ≡ true → is_realized c x ≡ true → stands b x ≡ true → stands c x ≡ true
       only x there k e = go (d == x) refl
@@ -420,8 +411,11 @@ cut-kept b root n i firm firm_after r found s at t is =
     slots : SlotSteps r.slots (remove r.slots i)
     slots =
         record {
-          children = within-same (entries-removed child_entry i r.slots s at child_none);
-          kids = within-same (entries-removed kid_entry i r.slots s at kid);
+          fewer =
+              record {
+                children = within-same (entries-removed child_entry i r.slots s at child_none);
+                kids = within-same (entries-removed kid_entry i r.slots s at kid);
+              };
           plains = plains;
           strongs = λ name q e. sym (strongs name) ∙ e;
         }

@@ -107,6 +107,15 @@ link-count n name m c = go (index_from (is_named name) 0 (slots_at c n)) refl
 read-now : (n : ℕ) (d : Board) → IsNow n (now_at n d) d
 read-now n d = record { its_id = refl; its_path = refl; anonymous = refl; on = refl; at = refl; realized = refl }
 
+-- its clock gets its source, which leaves all that is read of places
+abbrev pub HasSource : Board → TypeId → Wanted → Spot → Type 0
+HasSource b t a spot =
+    Dims (stood b (b.born + 1) a spot (drafted b t)) (clocked (source_for b spot.bus) (b.born + 1) (stood b (b.born + 1) a spot (drafted b t)))
+
+-- its path is the one below its container
+abbrev pub HasPath : Board → TypeId → Wanted → Spot → Type 0
+HasPath b t a spot = canonical (acting (b.born + 1) t (with_device b t a spot)) (b.born + 1) ≡ Some (path_after b a.id)
+
 module _ (depth : ℕ → ℕ) (b : Board) (t : TypeId) (a : Wanted) (spot : Spot) (rest : AtRest b) (h : PlacesBut depth None (λ x. false) b)
     (goal : Goal depth b (b.born + 1) spot.bus spot.slot a.id t (drafted b t)) where
   abbrev n : ℕ
@@ -163,8 +172,8 @@ module _ (depth : ℕ → ℕ) (b : Board) (t : TypeId) (a : Wanted) (spot : Spo
   -- what is left: its link holds its bus; its clock gets its source; its path is the one below its container
   pub record Holds : Type 0 where
     pub on : bus_of (valued b (b.born + 1) a.props spot (joined b (b.born + 1) a spot (drafted b t))) (b.born + 1) ≡ Some spot.bus
-    pub source : Dims (stood b (b.born + 1) a spot (drafted b t)) (clocked (source_for b spot.bus) (b.born + 1) (stood b (b.born + 1) a spot (drafted b t)))
-    pub path : canonical (acting (b.born + 1) t (with_device b t a spot)) (b.born + 1) ≡ Some (path_after b a.id)
+    pub source : HasSource b t a spot
+    pub path : HasPath b t a spot
 
   uncounted : has_values.anonymous ≡ b.anonymous
   unfolding add

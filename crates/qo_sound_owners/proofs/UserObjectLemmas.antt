@@ -26,9 +26,11 @@ use Rattle.qo_model.specs.Unplug.{detach, set_named, unrealize}
 use Rattle.qo_model.proofs.ComesToLemmas.{addition-comes, deletion-comes, sever-comes, severed-comes}
 use Rattle.qo_model.proofs.StepLemmas.{found_at, found-edited, found-birth}
 use Rattle.qo_sound.proofs.AddLemmas.{creatable}
+use Rattle.qo_sound.proofs.DraftLemmas.{absent-above}
 use Rattle.qo_sound.proofs.FirmBoardLemmas.{edited-kind, Firm}
 use Rattle.qo_sound.proofs.SearchLemmas.{found-append}
-use Rattle.qo_sound.proofs.RecordLemmas.{all-append, all-both, all-imply}
+use Rattle.qo_sound.proofs.RecordLemmas.{all-append, all-both}
+use Rattle.qo_values.proofs.ListLemmas.{all-imply}
 use Rattle.qo_sound.proofs.TestLemmas.{decide}
 use Rattle.qo_sound.proofs.ViewLemmas.{AtRest, rest-from_sound}
 use Rattle.qo_sound_clocks.specs.RegisterWrites.{registers_set, with_registers}
@@ -38,12 +40,13 @@ use Rattle.qo_sound_devices.proofs.AddLemmas.{entry-added}
 use Rattle.qo_sound_devices.proofs.DevicesLawLemmas.{devices_kept_lem}
 use Rattle.qo_sound_devices.proofs.AdditionLemmas.{done, Joined}
 use Rattle.qo_sound_devices.proofs.PinLemmas.{pin-kind, pin-children}
-use Rattle.qo_sound_devices.proofs.PlacesLemmas.{all-within, child-live, children-there, IsThere, high-absent, kind-alike, linked-at, nothing, Within, within-all, within-same}
+use Rattle.qo_sound_devices.proofs.PlacesLemmas.{all-within, child-live, children-there, IsThere, kind-alike, linked-at, nothing, Within, within-all, within-same}
 use Rattle.qo_sound_devices.proofs.PlugLemmas.{Accepted, after-plug}
 use Rattle.qo_sound_devices.proofs.PlugStageLemmas.{accepted-joined}
 use Rattle.qo_sound_devices.proofs.UnrealizingLemmas.{Dimmed, dims-acted, dims-set}
 use Rattle.qo_sound_phases.proofs.UnparentingLemmas.{Keeps, Walked, walked-let_go, walked-none, walked-pin, walked-unpin}
-use Rattle.qo_sound_phases.proofs.DetachmentLemmas.{dims, walked}
+use Rattle.qo_sound_phases.proofs.DetachmentLemmas.{walked}
+use Rattle.qo_sound_devices.proofs.DetachmentLemmas.{dims}
 use Rattle.qo_sound_phases.proofs.FixedObjectLemmas.{Fixed, fixed-write}
 use Rattle.qo_sound_shapes.proofs.CompletenessLemmas.{edit-read}
 
@@ -228,13 +231,6 @@ module _ (b : Board) (t : TypeId) (id : List ℕ) (props : List Given) where
       let its : found_at (b.born + 1) (new ∷ []) ≡ Some new = rw own refl in
       ap (option_map (λ (r : Record). r.kind)) (none-old (b.born + 1) e ∙ its)
 
-  absent : Firm b → record_of b (b.born + 1) ≡ None
-  absent firm = go (record_of b (b.born + 1)) refl
-    where
-      go : (o : Option Record) → record_of b (b.born + 1) ≡ o → record_of b (b.born + 1) ≡ None
-      go None e = e
-      go (Some r) e = absurd (let clash : true ≡ false = sym (ap is_some e) ∙ high-absent b firm (b.born + 1) (omega arith) in cc)
-
   pub creatable-object : Firm b → is_live b OBJECTS_BIRTH ≡ true → is_a t (codes "user-creatable") ≡ true → Creatable b → Creatable (with_object b t id props)
   creatable-object firm live its h = go (record_of b OBJECTS_BIRTH) refl
     where
@@ -258,7 +254,8 @@ module _ (b : Board) (t : TypeId) (id : List ℕ) (props : List Given) where
 
           one : IsCreatable (with_object b t id props) (id, b.born + 1)
           one =
-              ap (λ (o : Option TypeId). option_map_or (λ (k : TypeId). is_a k (codes "user-creatable")) o false) (kind-new (absent firm)) ∙ its
+              ap (λ (o : Option TypeId). option_map_or (λ (k : TypeId). is_a k (codes "user-creatable")) o false)
+              (kind-new (absent-above b firm (b.born + 1) (omega arith))) ∙ its
 
 -- each change by command on objects
 creatable-added : (b : Board) (t : TypeId) (id : List ℕ) (props : List Given) (o : Option Code) → Firm b → is_live b OBJECTS_BIRTH ≡ true

@@ -18,7 +18,7 @@ use Rattle.qo_sound_devices.specs.SoundDevices.{SoundDevices}
 use Rattle.qo_sound_devices.specs.SoundPlaces.{bridges, kid_entry, listed, stands}
 use Rattle.qo_sound_devices.proofs.AttachmentLemmas.{owner-attached}
 use Rattle.qo_sound_devices.proofs.DepthLemmas.{IsBusOf, is-bus_of, kid-of}
-use Rattle.qo_sound_devices.proofs.PlugLemmas.{among-all}
+use Rattle.qo_model.proofs.AmongLemmas.{among-all}
 use Rattle.qo_sound_phases.specs.PhasesKept.{may_reset}
 use Rattle.qo_sound_phases.specs.SoundPhases.{IsReached, SoundPhases}
 use Rattle.qo_sound_phases.proofs.ResetTreeLemmas.{Placed, placed}

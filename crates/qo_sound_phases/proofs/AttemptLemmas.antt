@@ -5,6 +5,7 @@ use Rattle.std.specs.List.{AllByRecursion, IsDistinct, flat_map}
 use Rattle.std.proofs.lemmas.List.Elements.{filter_map-append}
 use Rattle.qo_values.specs.declared.kinds.Act.TheVariants.{Realize, Unrealize, Enter, Hold, Exit}
 use Rattle.qo_values.specs.declared.kinds.TypeId.{TypeId}
+use Rattle.qo_model.proofs.DraftEndsLemmas.{born-length}
 use Rattle.qo_model.specs.declared.notes.Note.{Note}
 use Rattle.qo_model.specs.declared.notes.Deed.TheVariants.{Final}
 use Rattle.qo_model.specs.Board.{Board}
@@ -15,15 +16,16 @@ use Rattle.qo_model.specs.Plug.{begun_notes, born_from, bus_births, cut_attempt,
 use Rattle.qo_model.specs.Reset.{count}
 use Rattle.qo_model.specs.Types.{finals, is_a}
 use Rattle.qo_sound.proofs.AttemptNotesLemmas.{buses-within}
-use Rattle.qo_sound.proofs.RecordLemmas.{all-append, all-imply}
+use Rattle.qo_sound.proofs.RecordLemmas.{all-append}
+use Rattle.qo_values.proofs.ListLemmas.{all-imply}
 use Rattle.qo_sound.proofs.TestLemmas.{decide}
 use Rattle.qo_sound_devices.proofs.AdditionLemmas.{device-no_bus}
-use Rattle.qo_sound_devices.proofs.PlugLemmas.{among-all}
-use Rattle.qo_sound_phases.specs.Phases.{Stage, stage_of, phase_in, phases_of}
+use Rattle.qo_model.proofs.AmongLemmas.{among-all, among-one}
+use Rattle.qo_sound_phases.specs.Phases.{stage_of, phase_in, phases_of}
 use Rattle.qo_sound_phases.specs.Phases as stage
 use Rattle.qo_sound_phases.specs.SoundPhases.{SoundPhases}
 use Rattle.qo_sound_phases.proofs.ResetTreeLemmas.{Placed}
-use Rattle.qo_sound_phases.proofs.ListLemmas.{distinct-append, among-one, phases-none}
+use Rattle.qo_sound_phases.proofs.ListLemmas.{distinct-append, phases-none}
 use Rattle.qo_sound_phases.proofs.QuietChangeLemmas.{Aside, aside-phases, phases-init, phases-made, quiet-aside}
 use Rattle.qo_sound_phases.proofs.ShapeLemmas.{shape-records}
 use Rattle.qo_sound_phases.proofs.StageLemmas.{noted-in, noted-none, noted-out}
@@ -61,11 +63,6 @@ cut-phases b t i joined k h = aside-phases b c k (quiet-aside b c (shape-records
         around b os [] (cut_order joined i os) n
         ∙ noted-none n (b.notes ++ begun_notes os) [] refl
         ∙ noted-none n b.notes (begun_notes os) (phases-begun os n)
-
--- the births of a device's buses, once each
-born-length : (n : ℕ) (ts : List TypeId) → length (born_from n ts) ≡ length ts
-born-length n [] = refl
-born-length n (t ∷ ts) = ap suc (born-length (suc n) ts)
 
 abbrev births_in : ℕ → List TypeId → List ℕ
 births_in n ts = map (λ (o : ℕ × TypeId). o.0) (filter is_bus (born_from n ts))

@@ -27,20 +27,20 @@ use Rattle.qo_sound.proofs.AdditionStepsLemmas.{KeepsEdits}
 use Rattle.qo_sound.proofs.TestLemmas.{decide, clash, clash-back}
 use Rattle.qo_sound.proofs.ViewLemmas.{rest-from_sound}
 use Rattle.qo_sound_devices.specs.SoundDevices.{SoundDevices}
-use Rattle.qo_sound_devices.specs.SoundPlaces.{child_entries, HasOwner, machines, bridges, owns_it, stands}
+use Rattle.qo_sound_devices.specs.SoundPlaces.{child_entries, HasOwner, machines, bridges, stands}
 use Rattle.qo_sound_devices.proofs.LikenessLemmas.{other-record}
 use Rattle.qo_sound_devices.proofs.AttachmentLemmas.{child-attached, owns-listed, stands-attached}
 use Rattle.qo_sound_devices.proofs.DevicesLawLemmas.{devices_kept_lem}
 use Rattle.qo_sound_devices.proofs.LawLemmas.{changed-keeps}
 use Rattle.qo_sound_devices.proofs.PlacesLemmas.{child-live, Keeps, kind-alike, of-live, stands-live}
 use Rattle.qo_sound_devices.proofs.StepsLemmas.{steps-after}
-use Rattle.qo_sound_phases.specs.SoundPhases.{IsReached, machine, device, bus, SoundPhases}
+use Rattle.qo_sound_phases.specs.SoundPhases.{SoundPhases}
 use Rattle.qo_sound_phases.proofs.ResetTreeLemmas.{Placed, placed}
 use Rattle.qo_sound_phases.proofs.FixedObjectLemmas.{Fixed, fixed-after, fixed-let_go, fixed-none, fixed-then, fixed-write, same-record, SameAt}
-use Rattle.qo_sound_phases.proofs.FrameLemmas.{Frame}
+use Rattle.qo_sound_phases.proofs.FrameLemmas.{Frame, SameKinds}
 use Rattle.qo_sound_phases.proofs.MachineLemmas.{lone-changed}
 use Rattle.qo_sound_phases.proofs.QuietChangeLemmas.{frame-phases, quiet-changed}
-use Rattle.qo_sound_phases.proofs.ReachLemmas.{machines-listed}
+use Rattle.qo_sound_phases.proofs.ReachLemmas.{machines-listed, StaysReached, stays-reached}
 
 -- the machine, and the devices in their places
 data IsKeeper (b : Board) (x : ℕ) : Type 0 where
@@ -160,15 +160,12 @@ kin-edits b n change leaves c h = (h.0, kinds)
     birth : (r : Record) → (change r).birth ≡ r.birth
     birth r = ap (λ (y : Record). y.birth) (leaves r)
 
-    found : (x : ℕ) → record_of (edit n change c) x ≡ option_map (edited n change) (record_of c x)
-    found x = found-edited n change birth x c.records
-
     kinds : (x : ℕ) → is_live (edit n change c) x ≡ true → (is_live b x ≡ true) × (kind_of (edit n change c) x ≡ kind_of b x)
     kinds x e =
         let before : (is_live b x ≡ true) × (kind_of c x ≡ kind_of b x) =
-        h.1 x (sym (ap is_some (found x) ∙ is_some-map (edited n change) (record_of c x)) ∙ e) in (
+        h.1 x (sym (ap is_some (found-edited n change birth x c.records) ∙ is_some-map (edited n change) (record_of c x)) ∙ e) in (
           before.0,
-          ap (option_map (λ (r : Record). r.kind)) (found x)
+          ap (option_map (λ (r : Record). r.kind)) (found-edited n change birth x c.records)
               ∙ map-edited (λ (r : Record). r.kind) n change (λ r. ap (λ (y : Record). y.kind) (leaves r)) (record_of c x) ∙ before.1,
         )
 
@@ -196,7 +193,7 @@ kin-ends b o c h = (
 -- what is read of types where objects may be added
 record KinAt (b c : Board) : Type 0 where
   older : b.born ≤ c.born
-  kind : (x : ℕ) → is_live b x ≡ true → is_live c x ≡ true → kind_of c x ≡ kind_of b x
+  kind : SameKinds b c
 
 kin-at : (b c : Board) → Kin b c → KinAt b c
 unfolding Kin
@@ -256,23 +253,18 @@ module _ (b : Board) (change : Change) (d : SoundDevices b) where
         machine = at-top.children;
       }
 
-  reached-on : (r : ℕ) → IsReached b r → IsReached (changed b change) r
-  reached-on r (machine at) = machine at
-  reached-on r (device s) = device (keeps.stood r ∙ s)
-  reached-on r (bus is its) = bus (same (there (owner its)) ∙ is) (owner its)
+  reached-on : StaysReached b (changed b change)
+  reached-on =
+      stays-reached b c (λ x s. keeps.stood x ∙ s) (λ x s. (at-place x (keeps.stood x ∙ s)).children)
+      (λ r was its is. same r (there r its) is ∙ is)
     where
-      owner : HasOwner b r → HasOwner (changed b change) r
-      owner (machines u) = machines u
-      owner (bridges p s w) =
-          let stays : stands (changed b change) p ≡ true = keeps.stood p ∙ s in
-          bridges p stays (ap (list_any (owns_it r)) (at-place p stays).children ∙ w)
+      there : (r : ℕ) → HasOwner (changed b change) r → is_live (changed b change) r ≡ true
+      there r (machines u) = child-live c kc.firm MACHINE_BIRTH r (machines-listed c kc r u)
+      there r (bridges p s w) = child-live c kc.firm p r (owns-listed r (child_entries c p) w)
 
-      there : HasOwner (changed b change) r → is_live (changed b change) r ≡ true
-      there (machines u) = child-live c kc.firm MACHINE_BIRTH r (machines-listed c kc r u)
-      there (bridges p s w) = child-live c kc.firm p r (owns-listed r (child_entries c p) w)
-
-      same : is_live (changed b change) r ≡ true → is_of (changed b change) (codes "bus") r ≡ is_of b (codes "bus") r
-      same live =
+      same : (r : ℕ) → is_live (changed b change) r ≡ true → is_of b (codes "bus") r ≡ true
+          → is_of (changed b change) (codes "bus") r ≡ is_of b (codes "bus") r
+      same r live is =
           ap (λ (o : Option TypeId). option_map_or (λ (t : TypeId). is_a t (codes "bus")) o false)
           (kin.kind r (of-live b (codes "bus") r is) live)
 

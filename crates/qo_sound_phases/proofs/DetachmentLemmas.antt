@@ -21,24 +21,22 @@ use Rattle.qo_model.proofs.ReleaseLemmas.{found-within}
 use Rattle.qo_model.proofs.StepLemmas.{is_some-map}
 use Rattle.qo_sound.proofs.DetachmentStepsLemmas.{step-detach}
 use Rattle.qo_sound.proofs.FirmBoardLemmas.{parents_in, firm-beside}
-use Rattle.qo_sound.proofs.RecordLemmas.{all-both, all-imply}
+use Rattle.qo_sound.proofs.RecordLemmas.{all-both}
+use Rattle.qo_values.proofs.ListLemmas.{all-imply}
 use Rattle.qo_sound.proofs.SlotLemmas.{one_child}
 use Rattle.qo_sound.proofs.TestLemmas.{decide, clash}
 use Rattle.qo_sound.proofs.ViewLemmas.{AtRest, rest-from_sound}
 use Rattle.qo_sound_devices.specs.SoundDevices.{SoundDevices}
-use Rattle.qo_sound_devices.specs.SoundPlaces.{child_entries, HasOwner, machines, bridges, IsHome, kid_entries, listed, owns, owns_it, stands}
+use Rattle.qo_sound_devices.specs.SoundPlaces.{child_entries, HasOwner, machines, bridges, IsHome, kid_entries, listed, owns, owns_it, stands, names_it}
 use Rattle.qo_sound_devices.proofs.AttachmentLemmas.{owns-listed}
 use Rattle.qo_sound_devices.proofs.CommandLemmas.{goes-pins, put-one}
-use Rattle.qo_sound_devices.proofs.DetachmentLemmas.{detach-lit, under-more, owned-bus}
+use Rattle.qo_sound_devices.proofs.DetachmentLemmas.{detach-lit, under-more, owned-bus, dims}
 use Rattle.qo_sound_devices.proofs.DevicesLawLemmas.{devices_kept_lem}
 use Rattle.qo_sound_devices.proofs.ListsLemmas.{members}
-use Rattle.qo_sound_devices.proofs.DepthLemmas.{is-bus_of, IsBusOf, kid-of, kids-listed, stands-dimmed, under-stands, unrealize-dimmed}
-use Rattle.qo_sound_devices.proofs.RemovalLemmas.{within-listed}
+use Rattle.qo_sound_devices.proofs.DepthLemmas.{is-bus_of, IsBusOf, kid-of, kids-listed, stands-dimmed, under-stands}
 use Rattle.qo_sound_devices.proofs.PinLemmas.{pin-stands, pin-bus, pin-children, pin-kind, pin-of, pin-realized}
-use Rattle.qo_sound_devices.proofs.PlacesLemmas.{child-live, of-live, or-cases, kind-alike, stands-live}
-use Rattle.qo_sound_devices.proofs.StepsLemmas.{within-any}
-use Rattle.qo_sound_devices.proofs.UnparentingLemmas.{aside-apart}
-use Rattle.qo_sound_devices.proofs.UnrealizingLemmas.{Dimmed, Under, here, down}
+use Rattle.qo_sound_devices.proofs.PlacesLemmas.{child-live, of-live, or-cases, kind-alike, stands-live, aside-apart, within-any}
+use Rattle.qo_sound_devices.proofs.UnrealizingLemmas.{Under, here, down}
 use Rattle.qo_sound_phases.specs.SoundPhases.{IsReached, machine, device, bus, SoundPhases}
 use Rattle.qo_sound_phases.specs.Phases as stage
 use Rattle.qo_sound_phases.proofs.UnparentingLemmas.{gone-apart, gone-before, gone-left_parent, Keeps, left-none, times, times-children, times-within, Walked, walked-none, walked-unpin}
@@ -77,25 +75,22 @@ turned b d x y a (down m k im ik u) = turned b d k y (further x m a im ik) u
 
 -- what a detachment walks over
 module _ (b : Board) (d : ℕ) where
-  pub dims : Dimmed (pin b d) (unrealize (pin b d) d)
-  dims = unrealize-dimmed (pin b d) d
-
   -- what was taken away
   pub before : Board
   before = left_bus d (lost_buses (apart_within (length (births b))) (length (slots_at (unrealize (pin b d) d) d)) d (unrealize (pin b d) d))
 
-  pub walked-before : Walked (unrealize (pin b d) d) (Keeps (pin b d) (unrealize (pin b d) d) dims d) before
+  pub walked-before : Walked (unrealize (pin b d) d) (Keeps (pin b d) (unrealize (pin b d) d) (dims b d) d) before
   unfolding before
   walked-before =
-      gone-before (pin b d) (unrealize (pin b d) d) dims d (apart_within (length (births b)))
-      (λ x c v h. gone-apart (pin b d) (unrealize (pin b d) d) dims d (length (births b)) x c v h) d (unrealize (pin b d) d) here
-      (walked-none (unrealize (pin b d) d) (Keeps (pin b d) (unrealize (pin b d) d) dims d))
+      gone-before (pin b d) (unrealize (pin b d) d) (dims b d) d (apart_within (length (births b)))
+      (λ x c v h. gone-apart (pin b d) (unrealize (pin b d) d) (dims b d) d (length (births b)) x c v h) d (unrealize (pin b d) d) here
+      (walked-none (unrealize (pin b d) d) (Keeps (pin b d) (unrealize (pin b d) d) (dims b d) d))
 
-  pub walked : Walked (unrealize (pin b d) d) (Keeps (pin b d) (unrealize (pin b d) d) dims d) (detach b d)
+  pub walked : Walked (unrealize (pin b d) d) (Keeps (pin b d) (unrealize (pin b d) d) (dims b d) d) (detach b d)
   unfolding detach before
   walked =
-      walked-unpin (unrealize (pin b d) d) (Keeps (pin b d) (unrealize (pin b d) d) dims d) d _
-      (gone-left_parent (pin b d) (unrealize (pin b d) d) dims d d before walked-before)
+      walked-unpin (unrealize (pin b d) d) (Keeps (pin b d) (unrealize (pin b d) d) (dims b d) d) d _
+      (gone-left_parent (pin b d) (unrealize (pin b d) d) (dims b d) d d before walked-before)
 
 module _ (b : Board) (d : ℕ) (s : SoundDevices b) (e : stands b d ≡ true) where
   rest : AtRest b
@@ -173,8 +168,9 @@ module _ (b : Board) (d : ℕ) (s : SoundDevices b) (e : stands b d ≡ true) wh
   stood x k =
       sym (stands-dimmed (pin b d) (unrealize (pin b d) d) (dims b d) x)
       ∙ or-cases (listed x (child_entries (detach b d) PERIPHERAL_BIRTH)) (listed x (child_entries (detach b d) ANONYMOUS_BIRTH)) k
-      (λ l. rw (within-listed x ((walked b d).children PERIPHERAL_BIRTH) l) refl)
-      (λ l. rw (within-listed x ((walked b d).children ANONYMOUS_BIRTH) l) (or-true (listed x (child_entries (unrealize (pin b d) d) PERIPHERAL_BIRTH))))
+      (λ l. rw (within-any (names_it x) ((walked b d).children PERIPHERAL_BIRTH) l) refl)
+      (λ l.
+      rw (within-any (names_it x) ((walked b d).children ANONYMOUS_BIRTH) l) (or-true (listed x (child_entries (unrealize (pin b d) d) PERIPHERAL_BIRTH))))
 
   kinds : (x : ℕ) → is_live (detach b d) x ≡ true → kind_of (detach b d) x ≡ kind_of (pin b d) x
   kinds x live = ((walked b d).kin x live).1 ∙ kind-alike (pin b d) (unrealize (pin b d) d) x ((dims b d).body x)
@@ -189,7 +185,8 @@ module _ (b : Board) (d : ℕ) (s : SoundDevices b) (e : stands b d ≡ true) wh
   home-before : (x : ℕ) (k : IsHome (detach b d) x) → bus_of (pin b d) x ≡ Some k.bus
   home-before x k =
       let is : is_of (pin b d) (codes "bus") k.bus ≡ true = sym (same-of (codes "bus") k.bus (of-live (detach b d) (codes "bus") k.bus k.is_bus)) ∙ k.is_bus in
-      let l : listed x (kid_entries (pin b d) k.bus) ≡ true = sym (ap (listed x) ((dims b d).kids k.bus)) ∙ within-listed x ((walked b d).kids k.bus) k.kid in
+      let l : listed x (kid_entries (pin b d) k.bus) ≡ true =
+      sym (ap (listed x) ((dims b d).kids k.bus)) ∙ within-any (names_it x) ((walked b d).kids k.bus) k.kid in
       (kid-of kp.depth None (λ y. false) (pin b d) kp.places k.bus x is l).1
 
   -- what was below the device does not stand

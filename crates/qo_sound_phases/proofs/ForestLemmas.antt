@@ -5,7 +5,8 @@ use Rattle.std.proofs.lemmas.Bool.{eqb-true, eq-eqb}
 use Rattle.qo_model.specs.Depth.{among, by_depth, by_objects, IsLocal, IsTree, leads, Leads, one, more}
 use Rattle.qo_model.proofs.DepthLemmas.{by_objects_is, Leads-push}
 use Rattle.qo_sound.proofs.TestLemmas.{decide, clash, clash-back}
-use Rattle.qo_sound_phases.proofs.ListLemmas.{among-cases, among-left, among-one, among-right, distinct-append, distinct-joined, From, from-joined, joined-among, one-among}
+use Rattle.qo_sound_phases.proofs.ListLemmas.{among-cases, among-left, among-right, distinct-append, distinct-joined, From, from-joined, joined-among, one-among}
+use Rattle.qo_model.proofs.AmongLemmas.{among-one}
 
 -- o is r, or below it
 pub data Reach (next : ℕ → List ℕ) (r : ℕ) : ℕ → Type 0 where

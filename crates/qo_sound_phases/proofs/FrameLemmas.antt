@@ -21,12 +21,16 @@ use Rattle.qo_sound_phases.specs.SoundPhases.{IsReached, machine, device, bus}
 use Rattle.qo_sound_phases.proofs.ResetTreeLemmas.{bus-leads, kid-leads, leads-cases, one-parent, Placed, post-reach, reach-post, stands-no_bus}
 use Rattle.qo_sound_phases.proofs.ForestLemmas.{Reach, itself, further}
 use Rattle.qo_sound_phases.proofs.ListLemmas.{iff}
-use Rattle.qo_sound_phases.proofs.ReachLemmas.{machine-aside, machine-no_bus, machines-listed, reached-above, reached-live}
+use Rattle.qo_sound_phases.proofs.ReachLemmas.{machine-aside, machine-no_bus, machines-listed, reached-above, reached-live, StaysReached, stays-reached}
 use Rattle.qo_sound_phases.proofs.ShapeLemmas.{counted-same}
+
+-- what is there on both is of the same types
+abbrev pub SameKinds : Board → Board → Type 0
+SameKinds b c = (x : ℕ) → is_live b x ≡ true → is_live c x ≡ true → kind_of c x ≡ kind_of b x
 
 -- what a reset reaches on c stands as on b
 pub record Frame (b c : Board) : Type 0 where
-  pub kind : (x : ℕ) → is_live b x ≡ true → is_live c x ≡ true → kind_of c x ≡ kind_of b x
+  pub kind : SameKinds b c
   pub stood : (x : ℕ) → stands c x ≡ true → stands b x ≡ true
   pub bus : (x : ℕ) → stands c x ≡ true → bus_of c x ≡ bus_of b x
   pub children : (x : ℕ) → stands c x ≡ true → child_entries c x ≡ child_entries b x
@@ -63,14 +67,9 @@ module _ (b c : Board) (kb : Placed b) (kc : Placed c) (f : Frame b c) where
   same-of : (name : List ℕ) (x : ℕ) → IsReached c x → is_of c name x ≡ is_of b name x
   same-of name x i = frame-of name x (reached-before x i) (reached-live c kc x i)
 
-  pub frame-reached : (x : ℕ) → IsReached c x → IsReached b x
-  frame-reached x (machine at) = machine at
-  frame-reached x (device s) = device (f.stood x s)
-  frame-reached x (bus is its) = bus (sym (same-of (codes "bus") x (bus is its)) ∙ is) (owner its)
-    where
-      owner : HasOwner c x → HasOwner b x
-      owner (machines u) = machines u
-      owner (bridges p s o) = bridges p (f.stood p s) (own p x s o)
+  pub frame-reached : StaysReached c b
+  frame-reached =
+      stays-reached c b f.stood (λ x s. sym (f.children x s)) (λ x its was is. sym (same-of (codes "bus") x (bus is its)) ∙ is)
 
   -- one step down
   leads-before : (p o : ℕ) → IsReached c o → leads (below c) p o ≡ true → leads (below b) p o ≡ true

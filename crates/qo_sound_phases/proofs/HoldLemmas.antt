@@ -11,12 +11,13 @@ use Rattle.qo_model.specs.Depth.{among}
 use Rattle.qo_model.specs.Plug.{did}
 use Rattle.qo_model.specs.Release.{without_first}
 use Rattle.qo_model.specs.Reset.{count, held, is_out, phased, post, pulse, released}
-use Rattle.qo_sound.proofs.RecordLemmas.{all-append, all-imply}
+use Rattle.qo_sound.proofs.RecordLemmas.{all-append}
+use Rattle.qo_values.proofs.ListLemmas.{all-imply}
 use Rattle.qo_sound.proofs.TestLemmas.{decide, clash-back}
 use Rattle.qo_sound_devices.specs.SoundDevices.{SoundDevices}
-use Rattle.qo_sound_devices.proofs.PlugLemmas.{among-all}
+use Rattle.qo_model.proofs.AmongLemmas.{among-all}
 use Rattle.qo_sound_devices.proofs.ResetLemmas.{held-below}
-use Rattle.qo_sound_phases.specs.Phases.{Stage, stage_of}
+use Rattle.qo_sound_phases.specs.Phases.{stage_of}
 use Rattle.qo_sound_phases.specs.Phases as stage
 use Rattle.qo_sound_phases.specs.SoundPhases.{IsReached, SoundPhases, stage_now}
 use Rattle.qo_sound_phases.proofs.ResetTreeLemmas.{Placed, placed, post-once}
@@ -145,7 +146,7 @@ module _ (b : Board) (r : ℕ) (k : Placed b) (reached : IsReached b r) (h : Sou
               (λ e. out-stage o e ∙ h.unborn o (subst (λ (x : ℕ). x < o) s.born high));
           reached = λ o i.
               decide (among (filter (is_out b) (post b r)) o) (λ e. in-stage o e ∙ ap Some (sym (now-held c o (some-in c o (more o e)))))
-              (λ e. out-stage o e ∙ h.reached o (back o i) ∙ ap Some (same o e));
+              (λ e. out-stage o e ∙ h.reached o (shape-reached c b (shape-back b c s.shape) o i) ∙ ap Some (same o e));
           holds =
               subst (AllByRecursion (IsReached c)) (sym s.holds)
               (all-append (IsReached c) b.holds (r ∷ []) (all-imply (IsReached b) (IsReached c) (shape-reached b c s.shape) b.holds h.holds)
@@ -154,9 +155,6 @@ module _ (b : Board) (r : ℕ) (k : Placed b) (reached : IsReached b r) (h : Sou
           lone = λ x e. h.lone x (sym (s.shape.kind x) ∙ e);
         }
       where
-        back : (o : ℕ) → IsReached c o → IsReached b o
-        back = shape-reached c b (shape-back b c s.shape)
-
         young : (o : ℕ) → among (filter (is_out b) (post b r)) o ≡ true → b.born < o → ⊥
         young o e high = live-born b k o (reached-live b k o (post-reached b k r o reached (in-out (is_out b) o (post b r) e).0)) high
 
@@ -254,20 +252,17 @@ module _ (b : Board) (r : ℕ) (k : Placed b) (on : among b.holds r ≡ true) (h
         reached = λ o i.
             decide (among (filter (is_out s.less) (post s.less r)) o)
             (λ e. less-in o e ∙ ap Some (sym (now-out c o (none-out c o (count-same o ∙ out-none s.less o (went o e).1)))))
-            (λ e. less-out o e ∙ h.reached o (back o i) ∙ ap Some (still o e));
+            (λ e. less-out o e ∙ h.reached o (shape-reached c b (shape-back b c shape) o i) ∙ ap Some (still o e));
         holds =
             subst (AllByRecursion (IsReached c)) (sym (s.holds ∙ s.fewer))
             (still-all (IsReached c) r b.holds
-            (all-imply (IsReached b) (IsReached c) forth b.holds h.holds));
-        buses = buses-stay b c forth h.buses;
+            (all-imply (IsReached b) (IsReached c) (shape-reached b c shape) b.holds h.holds));
+        buses = buses-stay b c (shape-reached b c shape) h.buses;
         lone = λ x e. h.lone x (sym (s.same.kind x) ∙ sym (s.shape.kind x) ∙ e);
       }
     where
-      forth : (o : ℕ) → IsReached b o → IsReached c o
-      forth o i = shape-reached s.less c s.shape o (shape-reached b s.less s.same o i)
-
-      back : (o : ℕ) → IsReached c o → IsReached b o
-      back o i = shape-reached s.less b (shape-back b s.less s.same) o (shape-reached c s.less (shape-back s.less c s.shape) o i)
+      shape : SameShape b c
+      shape = shape-then b s.less c s.same s.shape
 
       still : (o : ℕ) → among (filter (is_out s.less) (post s.less r)) o ≡ false → stage_now b o ≡ stage_now c o
       still o e =

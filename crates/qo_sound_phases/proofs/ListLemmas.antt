@@ -6,6 +6,7 @@ use Rattle.std.proofs.lemmas.Bool.{eqb-true, eq-eqb}
 use Rattle.std.proofs.lemmas.List.Folds.{list_any-append}
 use Rattle.std.proofs.Math.Bool.{or-true, and-false}
 use Rattle.qo_values.specs.declared.kinds.Act.{Act}
+use Rattle.qo_model.proofs.AmongLemmas.{among-apart}
 use Rattle.qo_model.specs.declared.notes.Deed.TheVariants.{Did}
 use Rattle.qo_model.specs.Depth.{among}
 use Rattle.qo_model.specs.Plug.{did}
@@ -34,10 +35,6 @@ among-cases n xs ys e f g = decide (among xs n) f (λ k. g (turn k))
   where
     turn : among xs n ≡ false → among ys n ≡ true
     turn k = let h : among xs n || among ys n ≡ true = sym (among-append n xs ys) ∙ e in rw k at h
-
--- a list of one
-pub among-one : (n m : ℕ) → among (m ∷ []) n ≡ true → n ≡ m
-among-one n m e = decide (eqb n m) (λ p. eqb-true n m p) (λ p. clash-back (rw p at e))
 
 pub one-among : (n : ℕ) → among (n ∷ []) n ≡ true
 one-among n = rw (eq-eqb n n refl) refl
@@ -68,14 +65,6 @@ distinct-filter p (x ∷ xs) h = go (p x) refl (distinct-filter p xs h.1)
 pub apart-among : (n : ℕ) (xs : List ℕ) → AllByRecursion (λ y. eqb n y ≡ false) xs → among xs n ≡ false
 apart-among n [] h = refl
 apart-among n (x ∷ xs) h = rw h.0 (apart-among n xs h.1)
-
-pub among-apart : (n : ℕ) (xs : List ℕ) → among xs n ≡ false → AllByRecursion (λ y. eqb n y ≡ false) xs
-among-apart n [] e = tt
-among-apart n (x ∷ xs) e = go (eqb n x) refl (among-apart n xs)
-  where
-    go : (t : Bool) → eqb n x ≡ t → (among xs n ≡ false → AllByRecursion (λ y. eqb n y ≡ false) xs) → AllByRecursion (λ y. eqb n y ≡ false) (x ∷ xs)
-    go true p rest = clash (rw p at e)
-    go false p rest = (p, rest (rw p at e))
 
 -- lists without repeats, one after another, with nothing in both
 pub distinct-append : (xs ys : List ℕ) → IsDistinct eqb xs → IsDistinct eqb ys → ((n : ℕ) → among xs n ≡ true → among ys n ≡ true → ⊥)

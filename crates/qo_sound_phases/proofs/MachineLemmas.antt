@@ -1,5 +1,5 @@
 -- No step makes another machine.
-use Rattle.std.proofs.Common.{◌≡◌, refl, ap, sym, subst, ◌∙◌, ℕ, ◌+◌, Bool, true, false, ◌==◌, List, [], ◌∷◌, map, Option, Some, None, is_some, option_map, rules, codes}
+use Rattle.std.proofs.Common.{◌≡◌, refl, ap, sym, subst, ◌∙◌, ℕ, ◌+◌, Bool, true, false, ◌==◌, List, [], ◌∷◌, map, Option, Some, None, option_map, rules, codes}
 use Rattle.std.specs.Bool.{⊤}
 use Rattle.std.specs.List.{AllByRecursion}
 use Rattle.std.specs.Option.{option_or}
@@ -10,7 +10,8 @@ use Rattle.qo_values.specs.declared.births.TheConstants.{OBJECTS_BIRTH}
 use Rattle.qo_values.specs.declared.codes.Code.{Code}
 use Rattle.qo_values.specs.declared.kinds.TypeId.{TypeId}
 use Rattle.qo_values.specs.declared.kinds.TypeId.TheVariants.{Object, Container, Machine, Device, SlotDevice, SlotUart, SlotTimer, SlotBridge, MemDimm, Bus, SlotBus, MemBus, Clock, MemoryBackend, MemoryBackendRam, Tag}
-use Rattle.qo_model.specs.Board.{Board, Record, child, is_live, kind_of, record_of}
+use Rattle.qo_model.proofs.FinalNotesLemmas.{live-of-kind}
+use Rattle.qo_model.specs.Board.{Board, Record, child, kind_of, record_of}
 use Rattle.qo_model.specs.Changes.{with_added}
 use Rattle.qo_model.specs.FinalNotesRuns.{Change, added, changed, deleted, severed, wrote}
 use Rattle.qo_model.specs.Objects.{Given, added_as, given_slots, with_object}
@@ -18,7 +19,7 @@ use Rattle.qo_model.specs.Plug.{Spot, Wanted, drafted, with_plugged}
 use Rattle.qo_model.specs.Release.{after, edited, finalize}
 use Rattle.qo_model.specs.Types.{is_a, slots_of, types}
 use Rattle.qo_model.proofs.ComesToLemmas.{addition-comes}
-use Rattle.qo_model.proofs.StepLemmas.{found_at, found-edited, is_some-map}
+use Rattle.qo_model.proofs.StepLemmas.{found_at, found-edited}
 use Rattle.qo_sound.proofs.AddLemmas.{creatable}
 use Rattle.qo_sound.proofs.ChangeStepsLemmas.{step-object_del, step-sever, step-write}
 use Rattle.qo_sound.proofs.DetachmentStepsLemmas.{KeepsEnds, KeepsPins}
@@ -48,11 +49,8 @@ edits n change leaves c h = λ x e.
 pins : KeepsPins LoneMachine
 pins ps c h = h
 
-kind-there : (c : Board) (x : ℕ) (t : TypeId) → kind_of c x ≡ Some t → is_live c x ≡ true
-kind-there c x t e = sym (is_some-map (λ (r : Record). r.kind) (record_of c x)) ∙ ap is_some e
-
 ends : KeepsEnds LoneMachine
-ends o c h = λ x e. h x (sym (kind-alike c (after finalize c o) x ((steps-after c o).body x (kind-there (after finalize c o) x Machine e))) ∙ e)
+ends o c h = λ x e. h x (sym (kind-alike c (after finalize c o) x ((steps-after c o).body x (live-of-kind (after finalize c o) x Machine e))) ∙ e)
 
 -- an object more, of another type
 lone-more : (o last : Option Record) → ((r : Record) → last ≡ Some r → Other r.kind) → option_map (λ (r : Record). r.kind) (option_or o last) ≡ Some Machine

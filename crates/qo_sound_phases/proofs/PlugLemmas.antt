@@ -5,9 +5,8 @@ use Rattle.std.specs.Bool.{⊤}
 use Rattle.std.specs.List.{AllByRecursion, IsDistinct, list_any}
 use Rattle.std.specs.Option.{option_or}
 use Rattle.std.proofs.lemmas.Bool.{eqb-true}
-use Rattle.std.proofs.lemmas.List.Folds.{find-append, list_any-append}
+use Rattle.std.proofs.lemmas.List.Folds.{find-append}
 use Rattle.std.proofs.lemmas.Option.{same_Some}
-use Rattle.std.proofs.Math.Bool.{or-true}
 use Rattle.qo_values.specs.declared.births.TheConstants.{ANONYMOUS_BIRTH, MACHINE_BIRTH, PERIPHERAL_BIRTH, ROOT_BIRTH}
 use Rattle.qo_values.specs.declared.codes.Code.{Code}
 use Rattle.qo_values.specs.declared.kinds.Act.{Act}
@@ -16,7 +15,7 @@ use Rattle.qo_values.specs.declared.kinds.TypeId.{TypeId}
 use Rattle.qo_model.specs.declared.notes.Note.{Note}
 use Rattle.qo_model.specs.Board.{Board, Record, is_live, record_of}
 use Rattle.qo_model.specs.Depth.{among}
-use Rattle.qo_model.specs.Devices.{anonymous_name, bus_of}
+use Rattle.qo_model.specs.Devices.{bus_of}
 use Rattle.qo_model.specs.Paths.{canonical, is_of}
 use Rattle.qo_model.specs.Plug.{Spot, Wanted, acted_all, barred_early, barred_late, bus_births, bus_for, counted, did, drafted, plug, plug_as, plug_by, plug_late, spot_of, notified_plug, type_barred, with_body_of, with_device, with_new, with_path, with_plugged}
 use Rattle.qo_model.specs.Release.{edit, edited}
@@ -27,18 +26,17 @@ use Rattle.qo_sound.specs.DeviceScope.{AddLeaves}
 use Rattle.qo_sound.proofs.DeviceScopeLemmas.{devices_stay_lem}
 use Rattle.qo_sound.proofs.AdditionStepsLemmas.{any-rows, KeepsEdits, KeepsNew, new_with, step-drafted, step-stood}
 use Rattle.qo_sound.proofs.PlugLemmas.{device-of, place-of, plugged-rest, shut-above}
-use Rattle.qo_sound.proofs.RecordLemmas.{all-imply}
+use Rattle.qo_values.proofs.ListLemmas.{all-imply}
 use Rattle.qo_sound.proofs.TestLemmas.{decide, clash, clash-back}
 use Rattle.qo_sound.proofs.ViewLemmas.{rest-from_sound}
 use Rattle.qo_sound_devices.specs.SoundDevices.{SoundDevices}
-use Rattle.qo_sound_devices.specs.SoundPlaces.{child_entries, HasOwner, machines, bridges, IsHome, listed, owns, owns_it, stands}
+use Rattle.qo_sound_devices.specs.SoundPlaces.{child_entries, machines, bridges, IsHome, owns, owns_it, stands}
 use Rattle.qo_sound_devices.proofs.AttachmentLemmas.{owns-listed}
-use Rattle.qo_sound_devices.proofs.AdditionLemmas.{deepened, done, Joined, named_entry, new-stands, numbered_entry, old-stands, places-joined, only-listed}
-use Rattle.qo_sound_devices.proofs.PlacesLemmas.{child-live, kind-alike, of-alike, of-live, or-cases, stands-live}
+use Rattle.qo_sound_devices.proofs.AdditionLemmas.{deepened, done, Joined, new-stands, old-stands, places-joined, by-stand}
+use Rattle.qo_sound_devices.proofs.PlacesLemmas.{child-live, kind-alike, of-alike, of-live, stands-live, aside-apart}
 use Rattle.qo_sound_devices.proofs.PlugLemmas.{Accepted}
 use Rattle.qo_sound_devices.proofs.PlugStageLemmas.{accepted-joined}
-use Rattle.qo_sound_devices.proofs.UnparentingLemmas.{aside-apart}
-use Rattle.qo_sound_phases.specs.Phases.{Stage, stage_of}
+use Rattle.qo_sound_phases.specs.Phases.{stage_of}
 use Rattle.qo_sound_phases.specs.Phases as stage
 use Rattle.qo_sound_phases.specs.SoundPhases.{IsReached, machine, device, bus, LoneMachine, SoundPhases, stage_now}
 use Rattle.qo_sound_phases.proofs.AttemptLemmas.{plug_attempt-phases}
@@ -48,7 +46,7 @@ use Rattle.qo_sound_phases.proofs.FrameLemmas.{Frame, frame-count}
 use Rattle.qo_sound_phases.proofs.ListLemmas.{among-filter, distinct-filter}
 use Rattle.qo_sound_phases.proofs.MachineLemmas.{lone-plugged}
 use Rattle.qo_sound_phases.proofs.QuietChangeLemmas.{Quiet, quiet-acted_all, quiet-device, quiet-then}
-use Rattle.qo_sound_phases.proofs.ReachLemmas.{buses-stay, live-born, machines-listed, reach-below, reached-live}
+use Rattle.qo_sound_phases.proofs.ReachLemmas.{buses-stay, live-born, machines-listed, reach-below, reached-live, StaysReached, stays-reached}
 use Rattle.qo_sound_phases.proofs.ShapeLemmas.{PhasedSo, phased-so, SameShape, shape-count, shape-edit, shape-post, shape-records, shape-then}
 use Rattle.qo_sound_phases.proofs.StageLemmas.{noted-in, noted-out}
 
@@ -144,26 +142,11 @@ told-so n f =
       notes = three.notes ∙ ap (λ (xs : List Note). xs ++ map (did Exit) out) (two.notes ∙ ap (λ (xs : List Note). xs ++ map (did Hold) os) one.notes);
     }
 
--- a test of entries with one more
-any-last : (d : ℕ) (xs ys : List (List ℕ × ℕ)) → listed d (xs ++ ys) ≡ true → {A : Type 0} → (listed d xs ≡ true → A) → (listed d ys ≡ true → A) → A
-any-last d xs ys e f g = or-cases (listed d xs) (listed d ys) (sym (list_any-append (λ (x : List ℕ × ℕ). x.1 == d) xs ys) ∙ e) f g
-
-named-only : (id : Option (List ℕ)) (n d : ℕ) → listed d (named_entry id n) ≡ true → d ≡ n
-named-only None n d e = clash-back e
-named-only (Some id) n d e = only-listed id n d e
-
-numbered-only : (b : Board) (id : Option (List ℕ)) (n d : ℕ) → listed d (numbered_entry b id n) ≡ true → d ≡ n
-numbered-only b None n d e = only-listed (anonymous_name b.anonymous) n d e
-numbered-only b (Some id) n d e = clash-back e
-
 module _ (b : Board) (kb : Placed b) (h : SoundPhases b) (n on slot : ℕ) (id : Option (List ℕ)) (t : TypeId) (c : Board) (kc : Placed c)
     (j : Joined kb.depth b n on slot id t (done b on slot id) c) where
   shelf-apart : (p : ℕ) → stands b p ≡ true → among (PERIPHERAL_BIRTH ∷ ANONYMOUS_BIRTH ∷ []) p ≡ false
   shelf-apart p s =
       aside-apart b (PERIPHERAL_BIRTH ∷ ANONYMOUS_BIRTH ∷ []) (kb.places.aside.1.1.0, (kb.places.aside.1.1.1.0, tt)) p s
-
-  its-live : (x : ℕ) → stands b x ≡ true → is_live b x ≡ true
-  its-live x s = stands-live b kb.firm x s
 
   -- seen from after, what was there stands as before
   pub back : Frame c b
@@ -171,36 +154,22 @@ module _ (b : Board) (kb : Placed b) (h : SoundPhases b) (n on slot : ℕ) (id :
       record {
         kind = λ x e g. sym (kind-alike b c x (j.body x g));
         stood = old-stands kb.depth b n on slot id t c j kb.firm kb.places;
-        bus = λ x s. sym (j.bus_same x (its-live x s));
-        children = λ x s. sym (j.children x (its-live x s) (shelf-apart x s));
+        bus = λ x s. sym (j.bus_same x (stands-live b kb.firm x s));
+        children = λ x s. sym (j.children x (stands-live b kb.firm x s) (shelf-apart x s));
         machine = sym (j.children MACHINE_BIRTH (child-live b kb.firm ROOT_BIRTH MACHINE_BIRTH kb.places.machine) refl);
       }
 
-  stands-cases : (d : ℕ) → stands c d ≡ true → {A : Type 0} → (stands b d ≡ true → A) → (d ≡ n → A) → A
-  stands-cases d e f g =
-      or-cases (listed d (child_entries c PERIPHERAL_BIRTH)) (listed d (child_entries c ANONYMOUS_BIRTH)) e
-      (λ i. any-last d (child_entries b PERIPHERAL_BIRTH) (named_entry id n) (sym (ap (listed d) j.third) ∙ i) (λ k. f (rw k refl))
-      (λ k. g (named-only id n d k)))
-      (λ i.
-      any-last d (child_entries b ANONYMOUS_BIRTH) (numbered_entry b id n) (sym (ap (listed d) j.fourth) ∙ i)
-      (λ k. f (rw k (or-true (listed d (child_entries b PERIPHERAL_BIRTH))))) (λ k. g (numbered-only b id n d k)))
-
-  reached-on : (o : ℕ) → IsReached b o → IsReached c o
-  reached-on o (machine at) = machine at
-  reached-on o (device s) = device (old-stands kb.depth b n on slot id t c j kb.firm kb.places o s)
-  reached-on o (bus is its) = bus (of-alike b c o (codes "bus") (j.body o (of-live b (codes "bus") o is)) ∙ is) (owner its)
-    where
-      owner : HasOwner b o → HasOwner c o
-      owner (machines u) = machines u
-      owner (bridges p s w) =
-          bridges p (old-stands kb.depth b n on slot id t c j kb.firm kb.places p s)
-          (ap (list_any (owns_it o)) (j.children p (its-live p s) (shelf-apart p s)) ∙ w)
+  reached-on : StaysReached b c
+  reached-on =
+      stays-reached b c (old-stands kb.depth b n on slot id t c j kb.firm kb.places)
+      (λ x s. j.children x (stands-live b kb.firm x s) (shelf-apart x s))
+      (λ o was its is. of-alike b c o (codes "bus") (j.body o (of-live b (codes "bus") o is)) ∙ is)
 
   pub new-there : stands c n ≡ true
   new-there = new-stands kb.depth b n on slot id t c j kb.firm kb.places
 
   old-listed : (p o : ℕ) → stands b p ≡ true → owns c p o ≡ true → owns b p o ≡ true
-  old-listed p o s w = sym (ap (list_any (owns_it o)) (j.children p (its-live p s) (shelf-apart p s))) ∙ w
+  old-listed p o s w = sym (ap (list_any (owns_it o)) (j.children p (stands-live b kb.firm p s) (shelf-apart p s))) ∙ w
 
   -- what is below the device is new
   pub below-new : (o : ℕ) → Reach (below c) n o → is_live b o ≡ false
@@ -212,13 +181,14 @@ module _ (b : Board) (kb : Placed b) (h : SoundPhases b) (n on slot : ℕ) (id :
 
       dead : is_live b p ≡ false → is_live b o ≡ false
       dead gone =
-          leads-cases c kc p o e (λ is s at. stands-cases o s (λ before. old-kid before at) (λ new. subst (λ (x : ℕ). is_live b x ≡ false) (sym new) j.absent))
+          leads-cases c kc p o e (λ is s at. by-stand kb.depth b n on slot id t c j kb.firm kb.places o s (λ before. old-kid before at)
+          (λ new. subst (λ (x : ℕ). is_live b x ≡ false) (sym new) j.absent))
           (λ apart is w. child its apart w)
         where
           old-kid : stands b o ≡ true → bus_of c o ≡ Some p → is_live b o ≡ false
           old-kid before at =
               let home : IsHome b o = kb.places.home o before (λ z. cc) in
-              let same : home.bus ≡ p = same_Some home.bus p (sym home.on ∙ sym (j.bus_same o (its-live o before)) ∙ at) in
+              let same : home.bus ≡ p = same_Some home.bus p (sym home.on ∙ sym (j.bus_same o (stands-live b kb.firm o before)) ∙ at) in
               clash (sym (of-live b (codes "bus") p (subst (λ (x : ℕ). is_of b (codes "bus") x ≡ true) same home.is_bus)) ∙ gone)
 
           child : IsReached c p → is_of c (codes "bus") p ≡ false → owns c p o ≡ true → is_live b o ≡ false
@@ -226,18 +196,19 @@ module _ (b : Board) (kb : Placed b) (h : SoundPhases b) (n on slot : ℕ) (id :
               clash (sym (child-live b kb.firm ROOT_BIRTH MACHINE_BIRTH kb.places.machine) ∙ ap (is_live b) (sym at) ∙ gone)
           child (bus is by) apart w = clash (sym is ∙ apart)
           child (device s) apart w =
-              stands-cases p s (λ before. clash (sym (its-live p before) ∙ gone))
+              by-stand kb.depth b n on slot id t c j kb.firm kb.places p s (λ before. clash (sym (stands-live b kb.firm p before) ∙ gone))
               (λ new. j.heirs o (owns-listed o (child_entries c n) (subst (λ (x : ℕ). owns c x o ≡ true) new w)))
 
   -- who is reached and is not below the device was reached
   pub reached-old : (o : ℕ) → IsReached c o → among (post c n) o ≡ false → IsReached b o
   reached-old o (machine at) apart = machine at
-  reached-old o (device s) apart = stands-cases o s device (λ new. clash (sym (reach-post c kc n o (subst (Reach (below c) n) (sym new) itself)) ∙ apart))
+  reached-old o (device s) apart = by-stand kb.depth b n on slot id t c j kb.firm kb.places o s device
+      (λ new. clash (sym (reach-post c kc n o (subst (Reach (below c) n) (sym new) itself)) ∙ apart))
   reached-old o (bus is (machines u)) apart =
       let live : is_live b o ≡ true = child-live b kb.firm MACHINE_BIRTH o (machines-listed b kb o u) in
       bus (sym (of-alike b c o (codes "bus") (j.body o live)) ∙ is) (machines u)
   reached-old o (bus is (bridges p s w)) apart =
-      stands-cases p s
+      by-stand kb.depth b n on slot id t c j kb.firm kb.places p s
       (λ before.
       let was : owns b p o ≡ true = old-listed p o before w in
       let live : is_live b o ≡ true = child-live b kb.firm p o (owns-listed o (child_entries b p) was) in

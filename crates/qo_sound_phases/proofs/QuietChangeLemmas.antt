@@ -27,13 +27,13 @@ use Rattle.qo_model.proofs.ReleaseNotesLemmas.{final_notes_lem}
 use Rattle.qo_sound.proofs.ChangeStepsLemmas.{step-object_del, step-sever, step-write}
 use Rattle.qo_sound.proofs.DetachmentStepsLemmas.{KeepsEnds, KeepsPins}
 use Rattle.qo_sound.proofs.AdditionStepsLemmas.{any-rows, new_with, KeepsEdits, KeepsNew, step-drafted, step-stood}
-use Rattle.qo_sound.proofs.RecordLemmas.{all-imply}
+use Rattle.qo_values.proofs.ListLemmas.{all-imply}
 use Rattle.qo_sound.proofs.TestLemmas.{decide}
 use Rattle.qo_sound_phases.specs.Phases.{held, out, passed_all, phase_in, phase_of, phases_of, stage_of}
 use Rattle.qo_sound_phases.specs.SoundPhases.{IsReached, LoneMachine, SoundPhases}
 use Rattle.qo_sound_phases.proofs.ResetTreeLemmas.{Placed}
 use Rattle.qo_sound_phases.proofs.FrameLemmas.{Frame, frame-count, frame-reached}
-use Rattle.qo_sound_phases.proofs.ReachLemmas.{buses-stay, live-born, reached-live, shape-reached}
+use Rattle.qo_sound_phases.proofs.ReachLemmas.{buses-stay, live-born, reached-live, shape-reached, StaysReached}
 use Rattle.qo_sound_phases.proofs.ShapeLemmas.{SameShape, shape-back, shape-count}
 use Rattle.qo_sound_phases.proofs.StageLemmas.{noted-none}
 
@@ -152,7 +152,7 @@ quiet-device b t a spot =
     count_in (Some its) c h = h
 
 -- what leaves the objects that a reset reaches, the holds and the phases
-pub frame-phases : (b c : Board) → Placed b → Placed c → Frame b c → ((r : ℕ) → IsReached b r → IsReached c r) → c.holds ≡ b.holds → b.born ≤ c.born
+pub frame-phases : (b c : Board) → Placed b → Placed c → Frame b c → StaysReached b c → c.holds ≡ b.holds → b.born ≤ c.born
     → Quiet b c → (LoneMachine b → LoneMachine c) → SoundPhases b → SoundPhases c
 frame-phases b c kb kc f stay holds older quiet lone h =
     record {
@@ -194,7 +194,7 @@ aside-phases b c k a h =
       lone = λ x e. h.lone x (sym (a.shape.kind x) ∙ e);
     }
   where
-    back : (n : ℕ) → IsReached c n → IsReached b n
+    back : StaysReached c b
     back = shape-reached c b (shape-back b c a.shape)
 
     old : (n : ℕ) → IsReached b n → n ≤ b.born

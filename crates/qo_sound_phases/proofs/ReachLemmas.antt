@@ -1,5 +1,5 @@
 -- What a reset reaches: what is below such an object is such too, and so is what is above it.
-use Rattle.std.proofs.Common.{◌≡◌, refl, ap, ap₂, sym, subst, ◌∙◌, filter_map, ℕ, ◌<◌, true, false, ◌||◌, eqb, List, [], ◌∷◌, Some, codes}
+use Rattle.std.proofs.Common.{◌≡◌, refl, ap, sym, subst, ◌∙◌, filter_map, ℕ, ◌<◌, true, false, eqb, List, [], ◌∷◌, Some, codes, None}
 use Rattle.std.specs.List.{AllByRecursion, list_any}
 use Rattle.std.proofs.lemmas.Bool.{eqb-true}
 use Rattle.qo_values.specs.declared.births.TheConstants.{ANONYMOUS_BIRTH, MACHINE_BIRTH, MEMORY_BUS_BIRTH, PERIPHERAL_BIRTH, ROOT_BIRTH, ROOT_BUS_BIRTH}
@@ -9,11 +9,12 @@ use Rattle.qo_model.specs.Depth.{among, leads}
 use Rattle.qo_model.specs.Paths.{is_of}
 use Rattle.qo_model.specs.Reset.{below, post}
 use Rattle.qo_model.specs.Types.{is_a, types}
-use Rattle.qo_sound.proofs.RecordLemmas.{all-imply}
+use Rattle.qo_values.proofs.ListLemmas.{all-imply}
 use Rattle.qo_sound.proofs.TestLemmas.{decide, clash, clash-back}
+use Rattle.qo_sound_devices.proofs.LocationLemmas.{machine-no_device}
 use Rattle.qo_sound_devices.specs.SoundPlaces.{child_entries, child_entry, HasOwner, machines, bridges, IsAtHome, IsHosted, on_machine, on_device, listed, owns, owns_it, stands}
 use Rattle.qo_sound_devices.proofs.AttachmentLemmas.{owns-listed}
-use Rattle.qo_sound_devices.proofs.PlacesLemmas.{all-listed, child-live, high-absent, of-live, stands-live}
+use Rattle.qo_sound_devices.proofs.PlacesLemmas.{all-listed, child-live, high-absent, of-live, stands-live, stands-same, owners-stay}
 use Rattle.qo_sound_phases.specs.SoundPhases.{IsReached, machine, device, bus}
 use Rattle.qo_sound_phases.proofs.ResetTreeLemmas.{leads-cases, one-parent, Placed, post-reach, stands-no_bus}
 use Rattle.qo_sound_phases.proofs.ForestLemmas.{Reach, itself, further}
@@ -26,7 +27,21 @@ two-cases q e f g =
     (λ p. decide (eqb q MEMORY_BUS_BIRTH) (λ r. g (eqb-true q MEMORY_BUS_BIRTH r)) (λ r. clash-back (rw (p, r) at e)))
 
 -- what is reached there is reached here
-pub buses-stay : (b c : Board) → ((x : ℕ) → IsReached b x → IsReached c x) → AllByRecursion (IsReached b) (ROOT_BUS_BIRTH ∷ MEMORY_BUS_BIRTH ∷ [])
+abbrev pub StaysReached : Board → Board → Type 0
+StaysReached b c = (o : ℕ) → IsReached b o → IsReached c o
+
+-- so it is where who stands there stands here with the same children, and the buses there are buses here
+pub stays-reached : (b c : Board) → ((x : ℕ) → stands b x ≡ true → stands c x ≡ true)
+    → ((x : ℕ) → stands b x ≡ true → child_entries c x ≡ child_entries b x)
+    → ((o : ℕ) → HasOwner b o → HasOwner c o → is_of b (codes "bus") o ≡ true → is_of c (codes "bus") o ≡ true) → StaysReached b c
+stays-reached b c stay children kind o (machine at) = machine at
+stays-reached b c stay children kind o (device s) = device (stay o s)
+stays-reached b c stay children kind o (bus is its) = bus (kind o its (owner its) is) (owner its)
+  where
+    owner : HasOwner b o → HasOwner c o
+    owner = owners-stay b c stay (λ p q s own. ap (list_any (owns_it q)) (children p s) ∙ own) o
+
+pub buses-stay : (b c : Board) → StaysReached b c → AllByRecursion (IsReached b) (ROOT_BUS_BIRTH ∷ MEMORY_BUS_BIRTH ∷ [])
     → AllByRecursion (IsReached c) (ROOT_BUS_BIRTH ∷ MEMORY_BUS_BIRTH ∷ [])
 buses-stay b c stay h = all-imply (IsReached b) (IsReached c) stay (ROOT_BUS_BIRTH ∷ MEMORY_BUS_BIRTH ∷ []) h
 
@@ -37,16 +52,6 @@ root-no_device = refl
 module _ (b : Board) (k : Placed b) where
   root-kind : is_of b (codes "device") ROOT_BIRTH ≡ false
   root-kind = let is : kind_of b ROOT_BIRTH ≡ Some Container = k.places.rooted.root in rw is root-no_device
-
-  pub machine-no_device : is_of b (codes "device") MACHINE_BIRTH ≡ false
-  machine-no_device = decide (is_of b (codes "device") MACHINE_BIRTH) (λ e. clash-back (at e)) (λ e. e)
-    where
-      at : is_of b (codes "device") MACHINE_BIRTH ≡ true → false ≡ true
-      at =
-          all-listed (λ x. is_of b (codes "device") x ≡ true → false ≡ true) (child_entries b ROOT_BIRTH)
-          (all-imply (IsAtHome b ROOT_BIRTH) (λ (x : List ℕ × ℕ). is_of b (codes "device") x.1 ≡ true → false ≡ true) (λ x i e. i.device e)
-          (child_entries b ROOT_BIRTH) (k.places.children ROOT_BIRTH))
-          MACHINE_BIRTH k.places.machine
 
   pub machine-no_bus : is_of b (codes "bus") MACHINE_BIRTH ≡ false
   machine-no_bus = decide (is_of b (codes "bus") MACHINE_BIRTH) (λ e. clash-back (at e)) (λ e. e)
@@ -74,7 +79,7 @@ module _ (b : Board) (k : Placed b) where
     where
       hosted : (x : List ℕ × ℕ) → IsHosted b MACHINE_BIRTH x → among (ROOT_BUS_BIRTH ∷ MEMORY_BUS_BIRTH ∷ []) x.1 ≡ true
       hosted x (on_machine u) = u
-      hosted x (on_device is apart) = clash (sym is ∙ machine-no_device)
+      hosted x (on_device is apart) = clash (sym is ∙ machine-no_device k.depth None (λ x. false) b k.places)
 
   pub machines-listed : (q : ℕ) → among (ROOT_BUS_BIRTH ∷ MEMORY_BUS_BIRTH ∷ []) q ≡ true → listed q (child_entries b MACHINE_BIRTH) ≡ true
   machines-listed q e =
@@ -141,11 +146,8 @@ module _ (b c : Board) (h : SameShape b c) where
   same-children x = ap (λ (ss : List (List ℕ × Slot)). filter_map child_entry ss) (h.slots x)
 
   pub same-stands : (x : ℕ) → stands c x ≡ stands b x
-  same-stands x = ap₂ (λ (xs ys : List (List ℕ × ℕ)). listed x xs || listed x ys) (same-children PERIPHERAL_BIRTH) (same-children ANONYMOUS_BIRTH)
+  same-stands = stands-same b c (same-children PERIPHERAL_BIRTH) (same-children ANONYMOUS_BIRTH)
 
-  pub shape-reached : (o : ℕ) → IsReached b o → IsReached c o
-  shape-reached o (machine at) = machine at
-  shape-reached o (device s) = device (same-stands o ∙ s)
-  shape-reached o (bus is (machines u)) = bus (shape-of b c h (codes "bus") o ∙ is) (machines u)
-  shape-reached o (bus is (bridges p s own)) =
-      bus (shape-of b c h (codes "bus") o ∙ is) (bridges p (same-stands p ∙ s) (ap (list_any (owns_it o)) (same-children p) ∙ own))
+  pub shape-reached : StaysReached b c
+  shape-reached =
+      stays-reached b c (λ x s. same-stands x ∙ s) (λ x s. same-children x) (λ o was its is. shape-of b c h (codes "bus") o ∙ is)

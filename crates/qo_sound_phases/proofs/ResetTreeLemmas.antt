@@ -17,7 +17,7 @@ use Rattle.qo_model.specs.Reset.{below, post}
 use Rattle.qo_model.proofs.ReleaseLemmas.{found-within}
 use Rattle.qo_model.proofs.StepLemmas.{live-among}
 use Rattle.qo_sound.proofs.FirmBoardLemmas.{Firm, parents_in}
-use Rattle.qo_sound.proofs.RecordLemmas.{all-imply}
+use Rattle.qo_values.proofs.ListLemmas.{all-imply}
 use Rattle.qo_sound.proofs.SlotLemmas.{names_in, one_child}
 use Rattle.qo_sound.proofs.TestLemmas.{decide, clash, clash-back}
 use Rattle.qo_sound.proofs.ViewLemmas.{rest-from_sound}
@@ -31,7 +31,7 @@ use Rattle.qo_sound_devices.proofs.DepthLemmas.{is-bus_of, IsBusOf, kid-of, kids
 use Rattle.qo_sound_devices.proofs.PlacesLemmas.{of-live}
 use Rattle.qo_sound_devices.proofs.PlugLemmas.{stands-device}
 use Rattle.qo_sound_phases.proofs.ForestLemmas.{IsForest, listed-once, listed-reach, Reach, reach-listed}
-use Rattle.qo_sound_phases.proofs.ListLemmas.{among-apart}
+use Rattle.qo_model.proofs.AmongLemmas.{among-apart}
 
 -- a board whose tree and places are sound
 pub record Placed (b : Board) : Type 0 where

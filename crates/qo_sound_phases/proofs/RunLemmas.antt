@@ -6,7 +6,7 @@ use Rattle.qo_model.specs.Opening.{opening_board}
 use Rattle.qo_sound_devices.specs.DeviceRuns.{DeviceStep, commands, adds, cuts, asks, refuses, lets_go, reads, acts, holds, releases, resets, sends, notice_read, stepped}
 use Rattle.qo_sound_devices.specs.SoundLists.{IsOn}
 use Rattle.qo_sound_devices.proofs.DevicesLawLemmas.{devices_kept_lem}
-use Rattle.qo_sound_devices.proofs.PlugLemmas.{among-all}
+use Rattle.qo_model.proofs.AmongLemmas.{among-all}
 use Rattle.qo_sound_phases.specs.PhaseRuns.{PhaseRunsLaw, PhaseStep, goes, pulses, after_phase_steps, is_made, phase_stepped, SoundResets}
 use Rattle.qo_sound_phases.specs.PhasesKept.{may_reset}
 use Rattle.qo_sound_phases.proofs.LawLemmas.{phases_kept_lem, phases_say_lem}

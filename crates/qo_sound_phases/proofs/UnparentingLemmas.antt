@@ -25,9 +25,9 @@ use Rattle.qo_sound_devices.proofs.LikenessLemmas.{after-alike, other-record}
 use Rattle.qo_sound_devices.proofs.DetachmentLemmas.{under-more, listed-kid, owned-bus, first-among}
 use Rattle.qo_sound_devices.proofs.DropLemmas.{children-fewer, children-kept, edited-slots, kids-fewer, within-cons}
 use Rattle.qo_sound_devices.proofs.DepthLemmas.{is-bus_of, IsBusOf, kids-listed}
-use Rattle.qo_sound_devices.proofs.RemovalLemmas.{within-listed}
-use Rattle.qo_sound_devices.proofs.PlacesLemmas.{kind-alike, more, nothing, of-alike, of-live, same, Within, within-all, within-same}
-use Rattle.qo_sound_devices.proofs.StepsLemmas.{entries-removed, steps-after, within-any, within-then}
+use Rattle.qo_sound_devices.proofs.PlacesLemmas.{within-any}
+use Rattle.qo_sound_devices.proofs.PlacesLemmas.{kind-alike, more, nothing, of-alike, of-live, same, Within, within-all, within-same, within-any}
+use Rattle.qo_sound_devices.proofs.StepsLemmas.{entries-removed, steps-after, within-then, FewerEntries}
 use Rattle.qo_sound_devices.proofs.UnparentingLemmas.{none-listed}
 use Rattle.qo_sound_devices.proofs.UnrealizingLemmas.{Dimmed, Under}
 
@@ -41,11 +41,6 @@ removed-within f zero [] = within-all []
 removed-within f (suc i) [] = within-all []
 removed-within f zero (s ∷ slots) = within-skip (f s) (filter_map f slots)
 removed-within f (suc i) (s ∷ slots) = within-cons (f s) (removed-within f i slots)
-
--- a change of slots that takes entries away
-record Fewer (xs ys : List (List ℕ × Slot)) : Type 0 where
-  children : Within (filter_map child_entry ys) (filter_map child_entry xs)
-  kids : Within (filter_map kid_entry ys) (filter_map kid_entry xs)
 
 -- from a board on: entries went, and some objects keep their children
 module _ (b : Board) (Stays : ℕ → Type 0) where
@@ -74,7 +69,7 @@ module _ (b : Board) (Stays : ℕ → Type 0) where
   walked-pins c ps h = record { children = h.children; kids = h.kids; kin = h.kin; still = h.still }
 
   walked-edit : (n : ℕ) (change : Record → Record) → ((r : Record) → (change r).birth ≡ r.birth) → ((r : Record) → (change r).kind ≡ r.kind)
-      → (c : Board) → ((r : Record) → record_of c n ≡ Some r → Fewer r.slots (change r).slots)
+      → (c : Board) → ((r : Record) → record_of c n ≡ Some r → FewerEntries r.slots (change r).slots)
       → (Stays n → (r : Record) → record_of c n ≡ Some r → filter_map child_entry (change r).slots ≡ filter_map child_entry r.slots)
       → Walked c → Walked (edit n change c)
   walked-edit n change birth kind c fewer stays h =
@@ -82,20 +77,21 @@ module _ (b : Board) (Stays : ℕ → Type 0) where
         children = λ x. within-then (entries child_entry (λ r q. (fewer r q).children) x) (h.children x);
         kids = λ x. within-then (entries kid_entry (λ r q. (fewer r q).kids) x) (h.kids x);
         kin = λ x e.
-            let was : (is_live b x ≡ true) × (kind_of c x ≡ kind_of b x) = h.kin x (live x e) in
-            (was.0, ap (option_map (λ (r : Record). r.kind)) (found x) ∙ map-edited (λ (r : Record). r.kind) n change kind (record_of c x) ∙ was.1);
+            let was : (is_live b x ≡ true) × (kind_of c x ≡ kind_of b x) = h.kin x (live x e) in (
+              was.0,
+              ap (option_map (λ (r : Record). r.kind)) (found-edited n change birth x c.records)
+                  ∙ map-edited (λ (r : Record). r.kind) n change kind (record_of c x) ∙ was.1,
+            );
         still = λ x s e. kept x s ∙ h.still x s (live x e);
       }
     where
-      found : (x : ℕ) → record_of (edit n change c) x ≡ option_map (edited n change) (record_of c x)
-      found x = found-edited n change birth x c.records
-
       live : (x : ℕ) → is_live (edit n change c) x ≡ true → is_live c x ≡ true
-      live x e = sym (ap is_some (found x) ∙ is_some-map (edited n change) (record_of c x)) ∙ e
+      live x e = sym (ap is_some (found-edited n change birth x c.records) ∙ is_some-map (edited n change) (record_of c x)) ∙ e
 
       other : (x : ℕ) → (x == n) ≡ false → slots_at (edit n change c) x ≡ slots_at c x
       other x p =
-          ap (λ (o : Option Record). option_map_or (λ (r : Record). r.slots) o []) (found x ∙ other-record n x change c refl p (record_of c x) refl)
+          ap (λ (o : Option Record). option_map_or (λ (r : Record). r.slots) o [])
+          (found-edited n change birth x c.records ∙ other-record n x change c refl p (record_of c x) refl)
 
       entries : (f : List ℕ × Slot → Option (List ℕ × ℕ))
           → ((r : Record) → record_of c n ≡ Some r → Within (filter_map f (change r).slots) (filter_map f r.slots)) → (x : ℕ)
@@ -109,7 +105,8 @@ module _ (b : Board) (Stays : ℕ → Type 0) where
           own : (o : Option Record) → record_of c n ≡ o → Within (filter_map f (slots_at (edit n change c) n)) (filter_map f (slots_at c n))
           own None q =
               within-same
-              (ap (λ (o : Option Record). filter_map f (option_map_or (λ (r : Record). r.slots) o [])) (found n ∙ ap (option_map (edited n change)) q ∙ sym q))
+              (ap (λ (o : Option Record). filter_map f (option_map_or (λ (r : Record). r.slots) o []))
+              (found-edited n change birth n c.records ∙ ap (option_map (edited n change)) q ∙ sym q))
           own (Some r) q =
               let now : slots_at (edit n change c) n ≡ (change r).slots = edited-slots c n change birth r q in
               let was : slots_at c n ≡ r.slots = ap (λ (o : Option Record). option_map_or (λ (y : Record). y.slots) o []) q in
@@ -127,7 +124,7 @@ module _ (b : Board) (Stays : ℕ → Type 0) where
           own : Stays n → (o : Option Record) → record_of c n ≡ o → child_entries (edit n change c) n ≡ child_entries c n
           own at None q =
               ap (λ (o : Option Record). filter_map child_entry (option_map_or (λ (r : Record). r.slots) o []))
-              (found n ∙ ap (option_map (edited n change)) q ∙ sym q)
+              (found-edited n change birth n c.records ∙ ap (option_map (edited n change)) q ∙ sym q)
           own at (Some r) q =
               ap (filter_map child_entry) (edited-slots c n change birth r q)
               ∙ stays at r q
@@ -259,7 +256,7 @@ module _ (p u : Board) (dims : Dimmed p u) (d : ℕ) where
   kid-before : (c : Board) → Gone c → (m k : ℕ) → first_of (kids_of c m) ≡ Some k → among (kids_of p m) k ≡ true
   kid-before c h m k e =
       let its : listed k (kid_entries c m) ≡ true = kids-listed k (slots_at c m) (first-among (kids_of c m) k e) in
-      listed-kid k (slots_at p m) (sym (ap (listed k) (dims.kids m)) ∙ within-listed k (h.kids m) its)
+      listed-kid k (slots_at p m) (sym (ap (listed k) (dims.kids m)) ∙ within-any (names_it k) (h.kids m) its)
 
   gone-left_bus : (x : ℕ) (c : Board) → Under p d x → Gone c → Gone (left_bus x c)
   gone-left_bus x c v h = go (bus_of c x) refl
@@ -426,7 +423,7 @@ unlisted-where d n c few = go (index_from (is_child_slot d) 0 (slots_at c n)) re
             dropped : (o : Option ℕ) → listed d (child_entries (after finalize (edit n (with_dropped i) c) o) n) ≡ false
             dropped o =
                 decide (listed d (child_entries (after finalize (edit n (with_dropped i) c) o) n))
-                (λ l. clash (sym (within-listed d ((steps-after (edit n (with_dropped i) c) o).children n) l) ∙ gone)) (λ l. l)
+                (λ l. clash (sym (within-any (names_it d) ((steps-after (edit n (with_dropped i) c) o).children n) l) ∙ gone)) (λ l. l)
 
 -- so a device that leaves both containers stands in none
 pub left-none : (d : ℕ) (c : Board) → times d (child_entries c PERIPHERAL_BIRTH) ≤ 1 → times d (child_entries c ANONYMOUS_BIRTH) ≤ 1
@@ -452,7 +449,7 @@ left-none d c few also = rw (third, fourth) refl
 
     none-after : (w z : Board) (n : ℕ) → Within (child_entries z n) (child_entries w n) → listed d (child_entries w n) ≡ false
         → listed d (child_entries z n) ≡ false
-    none-after w z n less e = decide (listed d (child_entries z n)) (λ l. clash (sym (within-listed d less l) ∙ e)) (λ l. l)
+    none-after w z n less e = decide (listed d (child_entries z n)) (λ l. clash (sym (within-any (names_it d) less l) ∙ e)) (λ l. l)
 
     third : listed d (child_entries (unpin two d) PERIPHERAL_BIRTH) ≡ false
     third = none-after one (unpin two d) PERIPHERAL_BIRTH (after-one.children PERIPHERAL_BIRTH) (unlisted-where d PERIPHERAL_BIRTH c few)

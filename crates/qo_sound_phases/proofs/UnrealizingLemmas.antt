@@ -14,6 +14,7 @@ use Rattle.qo_model.specs.Paths.{births}
 use Rattle.qo_model.specs.Unplug.{disconnected, each, set_named, unrealize, unrealize_turn, unrealized_bus, unrealized_device, without_all}
 use Rattle.qo_sound.proofs.AdditionStepsLemmas.{KeepsEdits, step-set, step-disconnected}
 use Rattle.qo_sound.proofs.TestLemmas.{decide, clash}
+use Rattle.qo_sound_devices.proofs.UnlistingLemmas.{without-own}
 use Rattle.qo_sound_devices.proofs.DetachmentLemmas.{under-more}
 use Rattle.qo_sound_devices.proofs.UnrealizingLemmas.{dims-bus, each-keeps, fades-device, Under, here, each-makes}
 use Rattle.qo_sound_phases.proofs.QuietChangeLemmas.{Quiet, quiet-acted, quiet-then}
@@ -63,14 +64,6 @@ without-other n x (h ∷ hs) e = go (h == n) refl (eqb x h) refl (without-other 
     go t p true q rest = clash (rw q at e)
     go true p false q rest = rw p (rest (rw q at e))
     go false p false q rest = rw (p, q) (rest (rw q at e))
-
-pub without-own : (n : ℕ) (hs : List ℕ) → among (without_all n hs) n ≡ false
-without-own n [] = refl
-without-own n (h ∷ hs) = go (h == n) refl (without-own n hs)
-  where
-    go : (t : Bool) → (h == n) ≡ t → among (without_all n hs) n ≡ false → among (without_all n (h ∷ hs)) n ≡ false
-    go true p rest = rw p rest
-    go false p rest = let other : eqb n h ≡ false = grind (arith, p) in rw (p, other) rest
 
 pub without-count : (f : ℕ → Bool) (n : ℕ) → f n ≡ false → (hs : List ℕ) → count_by f (without_all n hs) ≡ count_by f hs
 without-count f n none [] = refl

@@ -1,5 +1,5 @@
 -- Writes of a clock keep phases sound: its numbers are in no slot that is read here, and no act by which clocks are called back is a phase.
-use Rattle.std.proofs.Common.{◌≡◌, refl, ap, sym, subst, ◌∙◌, ℕ, false, eqb, List, [], ◌∷◌, codes, Option, Some, None, is_some, Ok, Err, arith}
+use Rattle.std.proofs.Common.{◌≡◌, refl, sym, subst, ◌∙◌, ℕ, false, eqb, List, [], ◌∷◌, codes, Option, Some, None, is_some, Ok, Err, arith}
 use Rattle.std.specs.List.{list_any}
 use Rattle.std.specs.Str.{bytes_eq}
 use Rattle.qo_values.specs.declared.codes.Code.TheVariants.{E45, E46, E47}
@@ -16,14 +16,14 @@ use Rattle.qo_model.specs.Paths.{parent_of}
 use Rattle.qo_model.specs.Unplug.{is_named, set_named}
 use Rattle.qo_sound.proofs.TestLemmas.{decide}
 use Rattle.qo_sound_devices.specs.SoundDevices.{SoundDevices}
-use Rattle.qo_sound_devices.specs.SoundPlaces.{HasOwner, machines, bridges, owns_it}
 use Rattle.qo_sound_devices.proofs.DepthLemmas.{stands-dimmed}
 use Rattle.qo_sound_devices.proofs.PlacesLemmas.{kind-alike, of-alike}
 use Rattle.qo_sound_devices.proofs.UnrealizingLemmas.{Dims, dims-acted, dims-none, dims-set, dims-then}
 use Rattle.qo_sound_clocks.proofs.WriteLawLemmas.{writes_keep_lem}
 use Rattle.qo_sound_clocks.proofs.StepsLemmas.{same_ok}
+use Rattle.qo_sound_phases.proofs.ReachLemmas.{StaysReached, stays-reached}
 use Rattle.qo_sound_phases.specs.Phases.{phase_of}
-use Rattle.qo_sound_phases.specs.SoundPhases.{IsReached, machine, device, bus, SoundPhases}
+use Rattle.qo_sound_phases.specs.SoundPhases.{SoundPhases}
 use Rattle.qo_sound_phases.proofs.ResetTreeLemmas.{placed}
 use Rattle.qo_sound_phases.proofs.FrameLemmas.{Frame, dims-frame}
 use Rattle.qo_sound_phases.proofs.QuietChangeLemmas.{frame-phases, Quiet, quiet-acted, quiet-then}
@@ -93,14 +93,10 @@ module _ (b d : Board) (s : SoundDevices b) (t : SoundDevices d) (h : SoundPhase
   frame : Frame b d
   frame = dims-frame b d k.dims
 
-  reached-still : (x : ℕ) → IsReached b x → IsReached d x
-  reached-still x (machine at) = machine at
-  reached-still x (device e) = device (stands-dimmed b d k.dims.dimmed x ∙ e)
-  reached-still x (bus is its) = bus (of-alike b d x (codes "bus") (k.dims.dimmed.body x) ∙ is) (owner its)
-    where
-      owner : HasOwner b x → HasOwner d x
-      owner (machines u) = machines u
-      owner (bridges p e own) = bridges p (stands-dimmed b d k.dims.dimmed p ∙ e) (ap (list_any (owns_it x)) (k.dims.dimmed.children p) ∙ own)
+  reached-still : StaysReached b d
+  reached-still =
+      stays-reached b d (λ x e. stands-dimmed b d k.dims.dimmed x ∙ e) (λ x e. k.dims.dimmed.children x)
+      (λ x was its is. of-alike b d x (codes "bus") (k.dims.dimmed.body x) ∙ is)
 
   leaves-phases : SoundPhases d
   leaves-phases =

@@ -1,9 +1,10 @@
 -- A fact of each object that is there: what edits, acts and releases keep. The shape of a board, from such a fact and back.
 use Rattle.std.proofs.Common.{◌≡◌, refl, ap, sym, subst, ◌∙◌, ℕ, Bool, true, false, ◌==◌, eqb, List, [], ◌∷◌, ◌++◌, Option, Some, None, is_some, option_map}
+use Rattle.std.specs.Cmp.{nat_eq_equiv}
 use Rattle.std.specs.List.{AllByRecursion, list_any}
 use Rattle.std.specs.Option.{option_map_or, option_or}
 use Rattle.std.specs.Prelude.{nat_eq}
-use Rattle.std.proofs.lemmas.Bool.{eqb-true, eq-eqb}
+use Rattle.std.proofs.lemmas.Bool.{eqb-true}
 use Rattle.std.proofs.lemmas.Option.{same_Some}
 use Rattle.qo_values.specs.declared.births.TheConstants.{MACHINE_BIRTH, ROOT_BIRTH}
 use Rattle.qo_values.specs.declared.kinds.TypeId.{TypeId}
@@ -15,7 +16,7 @@ use Rattle.qo_model.specs.Types.{types}
 use Rattle.qo_model.proofs.ReleaseInductionLemmas.{after_keeps}
 use Rattle.qo_model.proofs.StepLemmas.{drop-record, finish-gone, finish-record, found-edited, found_at, found-birth}
 use Rattle.qo_sound.proofs.SearchLemmas.{found-append}
-use Rattle.qo_sound.proofs.RecordLemmas.{all-imply}
+use Rattle.qo_values.proofs.ListLemmas.{all-imply}
 use Rattle.qo_sound_shapes.specs.SoundShape.{SoundShape, unvalued}
 use Rattle.qo_sound_shapes.proofs.ShapeLemmas.{Good, is_first}
 use Rattle.qo_sound_shapes.proofs.CompletenessLemmas.{Whole}
@@ -82,19 +83,12 @@ abbrev AllBut : (Record → Type 0) → List (ℕ × ℕ) → Board → Type 0
 AllBut Q work b = (x : ℕ) (r : Record) → record_of b x ≡ Some r → in_work work x ≡ false → Q r
 
 module _ (Q : Record → Type 0) (forgets : (n : ℕ) (r : Record) → Q r → Q (forgotten n r)) where
-  flipped : (x n : ℕ) → (x == n) ≡ false → (n == x) ≡ false
-  flipped x n p = go (n == x) refl
-    where
-      go : (t : Bool) → (n == x) ≡ t → (n == x) ≡ false
-      go true q = absurd (let clash : true ≡ false = sym (eq-eqb x n (sym (eqb-true n x q))) ∙ p in cc)
-      go false q = q
-
   finish-all : (c : Board) (n i : ℕ) (work : List (ℕ × ℕ)) → AllBut Q ((n, i) ∷ work) c → AllBut Q work (finish c n)
   finish-all c n i work h x r e out = go (x == n) refl
     where
       other : (x == n) ≡ false → (o : Option Record) → record_of c x ≡ o → option_map (forgotten n) o ≡ Some r → Q r
       other p None q k = absurd (let clash : None ≡ Some r = k in cc)
-      other p (Some y) q k = subst Q (same_Some (forgotten n y) r k) (forgets n y (h x y q (rw (flipped x n p) out)))
+      other p (Some y) q k = subst Q (same_Some (forgotten n y) r k) (forgets n y (h x y q (rw (nat_eq_equiv.symm n x ∙ p) out)))
 
       go : (t : Bool) → (x == n) ≡ t → Q r
       go true p =
@@ -112,7 +106,7 @@ module _ (Q : Record → Type 0) (forgets : (n : ℕ) (r : Record) → Q r → Q
       apart = by (n == x) refl
 
       same : (y : Record) → y.birth ≡ x → (y.birth == n) ≡ false
-      same y is = ap (λ (m : ℕ). m == n) is ∙ flipped n x apart
+      same y is = ap (λ (m : ℕ). m == n) is ∙ nat_eq_equiv.symm x n ∙ apart
 
       go : (o : Option Record) → record_of c x ≡ o → option_map (edited n (with_dropped i)) o ≡ Some r → Q r
       go None p q = absurd (let clash : None ≡ Some r = q in cc)

@@ -33,8 +33,9 @@ use Rattle.qo_sound.proofs.AddLemmas.{creatable, made}
 use Rattle.qo_sound.proofs.FirmBoardLemmas.{Firm}
 use Rattle.qo_sound.proofs.SlotLemmas.{names-changed, names-each, names_in}
 use Rattle.qo_sound.proofs.ViewLemmas.{rest-from_sound}
+use Rattle.qo_sound_devices.proofs.WriteLemmas.{child-entry-pointed}
 use Rattle.qo_sound_devices.specs.SoundDevices.{SoundDevices}
-use Rattle.qo_sound_devices.specs.SoundPlaces.{child_entries, child_entry, IsKid, kid_entries, kid_entry, listed, PlacesBut, stands}
+use Rattle.qo_sound_devices.specs.SoundPlaces.{child_entries, IsKid, kid_entries, kid_entry, listed, PlacesBut, stands}
 use Rattle.qo_sound_devices.proofs.LikenessLemmas.{child-entry-forgotten}
 use Rattle.qo_sound_devices.proofs.AttachmentLemmas.{owner-attached}
 use Rattle.qo_sound_devices.proofs.DevicesLawLemmas.{devices_kept_lem}
@@ -158,14 +159,7 @@ module _ (o : Board) where
   full-pointed m i r h =
       full-slots r (changed_at (pointed m) i r.slots)
       (good-changed (pointed m) (mild-pointed m) i r (λ p x row at is. rows-pointed m p.role x.1 is.fits) h.good) (names-changed (pointed m) i r.slots)
-      (entries-changed (pointed m) (entry-pointed m) i r.slots) h
-    where
-      entry-pointed : (m : ℕ) (s : List ℕ × Slot) → child_entry (s.0, pointed m s.1) ≡ child_entry s
-      entry-pointed m (name, plain v) = refl
-      entry-pointed m (name, child k) = refl
-      entry-pointed m (name, strong t target) = refl
-      entry-pointed m (name, weak t target) = refl
-      entry-pointed m (name, alias k property) = refl
+      (entries-changed (pointed m) (child-entry-pointed m) i r.slots) h
 
   full-set : (name : List ℕ) (v : Val) (i : ℕ) (r : Record) (entry : List ℕ × Slot) → slice_get r.slots i ≡ Some entry → bytes_eq entry.0 name ≡ true
       → Takes r.kind name v → Full o r → Full o (with_changed (with_val v) i r)

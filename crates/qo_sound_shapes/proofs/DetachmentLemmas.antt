@@ -16,23 +16,21 @@ use Rattle.qo_values.specs.declared.properties.Val.TheVariants as val
 use Rattle.qo_model.specs.Board.{Board, Record, Slot, plain, child, strong, weak, alias, kind_of, record_of, slot_at, slots_at}
 use Rattle.qo_model.specs.Changes.{cut, with_changed, with_cut, with_val}
 use Rattle.qo_model.specs.Clocks.{acted, device_period, with_act_on}
-use Rattle.qo_model.specs.Depth.{by_depth}
 use Rattle.qo_model.specs.Devices.{bus_in, bus_of, buses_of, clock_name, clock_of, kids_of, strong_in}
 use Rattle.qo_model.specs.Objects.{index_from}
 use Rattle.qo_model.specs.Opening.{opening_board}
 use Rattle.qo_model.specs.Paths.{births, is_child, is_of}
 use Rattle.qo_model.specs.Properties.{property_named}
-use Rattle.qo_model.specs.Release.{drop_slot, edit, emptied, forgotten, forgotten_in, let_go, pin, with_dropped, without_hold}
+use Rattle.qo_model.specs.Release.{drop_slot, edit, forgotten, forgotten_in, let_go, pin, with_dropped, without_hold}
 use Rattle.qo_model.specs.RowNames.{property_name}
 use Rattle.qo_model.specs.Types.{is_a, slots_of, types}
-use Rattle.qo_model.specs.Unplug.{apart_within, detach, disconnected, drained, each, first_of, is_bus_child, is_child_slot, is_named, left_bus, left_parent, let_go_where, lost_bus, lost_buses, names_kid, set_named, take_slot, take_where, taken_by, unrealize, unrealize_turn, unrealized_bus, unrealized_device, unseen, unseen_named}
+use Rattle.qo_model.specs.Unplug.{apart_within, detach, disconnected, drained, first_of, is_bus_child, is_child_slot, is_named, left_bus, left_parent, let_go_where, lost_bus, lost_buses, names_kid, take_slot, take_where, taken_by, unrealize, unrealized_bus, unrealized_device, unseen, unseen_named}
 use Rattle.qo_model.specs.declared.properties.Property.{Property}
 use Rattle.qo_model.specs.declared.properties.PropertyRole.{PropertyRole}
 use Rattle.qo_model.specs.declared.properties.PropertyRole.TheVariants as row
 use Rattle.qo_model.proofs.FirstSlotLemmas.{slots_in, Found, found-at}
 use Rattle.qo_model.proofs.StepLemmas.{found-birth}
-use Rattle.qo_sound.proofs.FirmBoardLemmas.{FitsKind, Linked}
-use Rattle.qo_sound.proofs.AdditionStepsLemmas.{set-by}
+use Rattle.qo_sound.proofs.FirmBoardLemmas.{FitsKind, left-linked, Linked, unseen-linked, val-linked}
 use Rattle.qo_sound.proofs.RecordLemmas.{all-both, all-map}
 use Rattle.qo_sound.proofs.SlotLemmas.{all-changed, all-dropped}
 use Rattle.qo_sound_devices.proofs.ResetLemmas.{first-on}
@@ -40,8 +38,9 @@ use Rattle.qo_sound_shapes.specs.SoundShape.{is_child_role, HasRole, IsFurther, 
 use Rattle.qo_sound_shapes.proofs.BoardLemmas.{all-after, all-becomes, all-edit, all-let_go, all-pin, all-unpin, AllOf}
 use Rattle.qo_sound_shapes.proofs.CommandLemmas.{child-row, container-kind, good-emptied}
 use Rattle.qo_sound_shapes.proofs.ShapeLemmas.{Good, good-changed, good-forgotten, good-let_go, good-slots, is_first, mild-unseen, rows-unseen}
-use Rattle.qo_sound_shapes.proofs.QuietChangeLemmas.{good-act, good-set, slot-of, Takes}
+use Rattle.qo_sound_shapes.proofs.QuietChangeLemmas.{good-act, slot-of, Takes, all-set, KeepsSet}
 use Rattle.qo_sound_shapes.proofs.RowLemmas.{bus-kid, bus-plain, has-all, has-removed, is_plain_role, IsRowOf, own-rows, plain-strong, Slots}
+use Rattle.qo_sound_phases.proofs.UnrealizingLemmas.{unrealize-walk}
 
 -- an object whose links are to objects of their types, where `kinds` says the types before
 pub record Kinded (kinds : ℕ → Option TypeId) (r : Record) : Type 0 where
@@ -172,13 +171,6 @@ container-four = refl
 module _ (kinds : ℕ → Option TypeId) where
   -- links of slots that change
 
-  left-linked : (s left : Slot) → emptied s ≡ Some left → Linked kinds s → Linked kinds left
-  left-linked (plain v) left e h = subst (Linked kinds) (same_Some (plain v) left e) h
-  left-linked (child m) left e h = absurd (let clash : None ≡ Some left = e in cc)
-  left-linked (strong t target) left e h = subst (Linked kinds) (same_Some (strong t None) left e) tt
-  left-linked (weak t target) left e h = subst (Linked kinds) (same_Some (weak t None) left e) tt
-  left-linked (alias m property) left e h = subst (Linked kinds) (same_Some (alias m property) left e) h
-
   forgotten-linked : (n : ℕ) (s : Slot) → Linked kinds s → Linked kinds (forgotten_in n s)
   forgotten-linked n (plain v) h = h
   forgotten-linked n (child m) h = h
@@ -190,20 +182,6 @@ module _ (kinds : ℕ → Option TypeId) where
       go true p = rw p tt
       go false p = rw p h
   forgotten-linked n (alias m property) h = h
-
-  val-linked : (v : Val) (s : Slot) → Linked kinds s → Linked kinds (with_val v s)
-  val-linked v (plain w) h = tt
-  val-linked v (child m) h = h
-  val-linked v (strong t target) h = h
-  val-linked v (weak t target) h = h
-  val-linked v (alias m property) h = h
-
-  unseen-linked : (s : Slot) → Linked kinds s → Linked kinds (unseen s)
-  unseen-linked (plain w) h = h
-  unseen-linked (child m) h = h
-  unseen-linked (strong t target) h = h
-  unseen-linked (weak t target) h = tt
-  unseen-linked (alias m property) h = h
 
   keeps-forgotten : (n : ℕ) (r : Record) → Kinded kinds r → Kinded kinds (forgotten n r)
   keeps-forgotten n r h =
@@ -221,7 +199,7 @@ module _ (kinds : ℕ → Option TypeId) where
       record { good = good; linked = all-changed (Linked kinds) g i r.slots (λ s at k. links s.1 k) h.linked; kind = h.kind }
 
   keeps-dropped : (i : ℕ) (r : Record) → Good (with_dropped i r) → Kinded kinds r → Kinded kinds (with_dropped i r)
-  keeps-dropped i r good h = record { good = good; linked = all-dropped (Linked kinds) left-linked i r.slots h.linked; kind = h.kind }
+  keeps-dropped i r good h = record { good = good; linked = all-dropped (Linked kinds) (left-linked kinds) i r.slots h.linked; kind = h.kind }
 
   -- an object of a kind
   of-kind : (name : List ℕ) (n : ℕ) → IsKind kinds name n → (r : Record) → r.birth ≡ n → Kinded kinds r → is_a r.kind name ≡ true
@@ -234,16 +212,8 @@ module _ (kinds : ℕ → Option TypeId) where
 
   -- unrealizing
 
-  keeps-set : (n : ℕ) (name : List ℕ) (v : Val) → ((t : TypeId) → Takes t name v) → (c : Board) → H c → H (set_named n name v c)
-  keeps-set n name v takes c h = set-by H n name c h v there
-    where
-      there : (i : ℕ) → index_from (is_named name) 0 (slots_at c n) ≡ Some i → H (edit n (with_changed (with_val v) i) c)
-      there i e =
-          let f : Found (is_named name) (slots_at c n) i = found-at (is_named name) i (slots_at c n) e in
-          all-edit (Kinded kinds) n (with_changed (with_val v) i) (λ r. refl) c
-          (λ r q own k.
-          keeps-changed (with_val v) (val-linked v) i r
-          (good-set name v i r f.entry (slot-of c n i r f.entry q f.at) f.passes (takes r.kind) k.good) k) h
+  keeps-set : KeepsSet H
+  keeps-set = all-set (Kinded kinds) (λ r k. k.good) (λ v i r good k. keeps-changed (with_val v) (val-linked kinds v) i r good k)
 
   keeps-unseen : (n : ℕ) (name : List ℕ) (c : Board) → H c → H (unseen_named n name c)
   keeps-unseen n name c h = go (index_from (is_named name) 0 (slots_at c n)) refl
@@ -254,7 +224,7 @@ module _ (kinds : ℕ → Option TypeId) where
           rw (unseen_named, e)
           (all-edit (Kinded kinds) n (with_changed unseen i) (λ r. refl) c
           (λ r q own k.
-          keeps-changed unseen unseen-linked i r (good-changed unseen mild-unseen i r (λ p s row at is. rows-unseen p.role s.1 is.fits) k.good) k) h)
+          keeps-changed unseen (unseen-linked kinds) i r (good-changed unseen mild-unseen i r (λ p s row at is. rows-unseen p.role s.1 is.fits) k.good) k) h)
 
   keeps-disconnected : (o : Option ℕ) (c : Board) → H c → H (disconnected o c)
   keeps-disconnected None c h = h
@@ -274,20 +244,8 @@ module _ (kinds : ℕ → Option TypeId) where
   keeps-bus : (m : ℕ) (c : Board) → H c → H (unrealized_bus m c)
   keeps-bus m c h = keeps-acted Unrealize m 0 c h
 
-  keeps-each : (f : ℕ → Board → Board) → ((n : ℕ) (c : Board) → H c → H (f n c)) → (ns : List ℕ) (c : Board) → H c → H (each f ns c)
-  keeps-each f keeps [] c h = h
-  keeps-each f keeps (n ∷ ns) c h = keeps-each f keeps ns (f n c) (keeps n c h)
-
-  keeps-turns : (o : Board) (depth d : ℕ) (c : Board) → H c → H (by_depth (unrealize_turn o) (λ d c. c) depth d c)
-  keeps-turns o zero d c h = h
-  keeps-turns o (suc depth) d c h = turn (keeps-turns o depth)
-    where
-      turn : ((k : ℕ) (e : Board) → H e → H (by_depth (unrealize_turn o) (λ d c. c) depth k e)) → H (by_depth (unrealize_turn o) (λ d c. c) (suc depth) d c)
-      turn keeps = keeps-device d _ (keeps-each _ (λ m e k. keeps-bus m _ (keeps-each _ keeps (kids_of o m) e k)) (buses_of o d) c h)
-
   keeps-unrealize : (c : Board) (d : ℕ) → H c → H (unrealize c d)
-  unfolding unrealize
-  keeps-unrealize c d h = keeps-turns c (suc (length (births c))) d c h
+  keeps-unrealize c d = unrealize-walk c d H (λ x e u. keeps-device x e) (λ x m e u i. keeps-bus m e)
 
   -- taking out
 

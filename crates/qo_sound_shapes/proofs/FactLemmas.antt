@@ -6,6 +6,7 @@ use Rattle.std.specs.Str.{bytes_eq}
 use Rattle.std.proofs.lemmas.Option.{same_Some}
 use Rattle.std.proofs.Math.Bool.{or-true}
 use Rattle.std.proofs.lemmas.Slice.Eq.{bytes_eq-Decides}
+use Rattle.qo_values.proofs.ListLemmas.{found-has}
 use Rattle.qo_values.specs.declared.kinds.TypeId.{TypeId}
 use Rattle.qo_values.specs.declared.kinds.TypeId.TheVariants.{Object, Container, Machine, Device, SlotDevice, SlotUart, SlotTimer, SlotBridge, MemDimm, Bus, SlotBus, MemBus, Clock, MemoryBackend, MemoryBackendRam, Tag}
 use Rattle.qo_values.specs.declared.limits.TheConstants.{BACKEND_SIZE_AT_FIRST, BACKEND_SIZE_MAX, DIMM_ALIGN}
@@ -62,22 +63,12 @@ module _ (t : TypeId) (name : List ℕ) where
   abbrev OfName : List ℕ × Slot → Type 0
   OfName s = bytes_eq s.0 name ≡ true → (p : Property) × (IsRowOf t p × IsOfProperty p s)
 
-  all-found : (P : List ℕ × Slot → Type 0) (xs : Slots) → AllByRecursion P xs → (s : List ℕ × Slot)
-      → find (λ (x : List ℕ × Slot). bytes_eq x.0 name) xs ≡ Some s
-      → P s
-  all-found P [] h s e = cc
-  all-found P (x ∷ xs) h s e = go (bytes_eq x.0 name) refl (all-found P xs h.1 s)
-    where
-      go : (u : Bool) → bytes_eq x.0 name ≡ u → (find (λ (y : List ℕ × Slot). bytes_eq y.0 name) xs ≡ Some s → P s) → P s
-      go true p rest = subst P (same_Some x s (rw p at e)) h.0
-      go false p rest = rest (rw p at e)
-
   -- where there are no further slots
   bare-row : ((s : List ℕ × Slot) → IsFurther t s → ⊥) → {slots : Slots} → HasSlots t (slots_of t) slots → (s : List ℕ × Slot)
       → find (λ (x : List ℕ × Slot). bytes_eq x.0 name) slots ≡ Some s → (p : Property) × (IsRowOf t p × IsOfProperty p s)
   bare-row none {slots} h s e =
-      all-found OfName slots
-      (has-all (IsRowOf t) OfName t (λ p x own is named. (p, (own, is))) (λ x k named. absurd (none x k)) (slots_of t) (own-rows t) h) s e
+      found-has OfName (λ (x : List ℕ × Slot). bytes_eq x.0 name) slots s
+      (has-all (IsRowOf t) OfName t (λ p x own is named. (p, (own, is))) (λ x k named. absurd (none x k)) (slots_of t) (own-rows t) h) e
       (found-passes (λ (x : List ℕ × Slot). bytes_eq x.0 name) slots s e).0
 
   -- where no row is missing: the first slot of a row's name is the row's

@@ -1,17 +1,17 @@
 -- A device that is added stands in its place, and is shaped as its type says, as all others are.
-use Rattle.std.proofs.Common.{◌≡◌, ◌⊎◌, inl, inr, refl, ap, sym, subst, ◌∙◌, ℕ, zero, suc, ◌<◌, ◌≤◌, ◌+◌, ◌-◌, ◌^◌, ◌%◌, ◌&&◌, ◌||◌, Bool, true, false, not, ◌==◌, List, [], ◌∷◌, ◌++◌, map, find, codes, Option, Some, None, is_some, option_map, option_and_then, arith}
+use Rattle.std.proofs.Common.{◌≡◌, ◌⊎◌, inl, inr, refl, ap, sym, subst, ◌∙◌, ℕ, ◌<◌, ◌≤◌, ◌+◌, ◌-◌, ◌^◌, ◌%◌, ◌&&◌, ◌||◌, Bool, true, false, not, ◌==◌, List, [], ◌∷◌, ◌++◌, map, find, codes, Option, Some, None, is_some, option_map, option_and_then, arith}
 use Rattle.std.specs.Prelude.{nat_le}
 use Rattle.std.specs.List.{list_any}
 use Rattle.std.specs.Option.{option_map_or}
 use Rattle.std.specs.Str.{bytes_eq}
 use Rattle.std.specs.Bool.{⊤}
-use Rattle.std.proofs.lemmas.Bool.{and_parts, eqb-true, or_cases}
+use Rattle.std.proofs.lemmas.Bool.{and_parts}
 use Rattle.std.proofs.lemmas.List.Folds.{list_any-append}
-use Rattle.std.proofs.Math.Bool.{or-true}
 use Rattle.std.proofs.lemmas.Bool.Decides.{nat_tests}
 use Rattle.std.proofs.lemmas.Option.{same_Some}
 use Rattle.std.proofs.lemmas.Slice.Eq.{bytes_eq-Decides}
-use Rattle.qo_values.specs.Placing.{fits_at, is_in_window, least, overlaps_any, free_address, range_at, window_end, window_size, window_start}
+use Rattle.qo_values.proofs.PlacingLemmas.{least-passes}
+use Rattle.qo_values.specs.Placing.{fits_at, is_in_window, overlaps_any, free_address, range_at, window_end, window_size, window_start}
 use Rattle.qo_values.specs.Properties.{admits}
 use Rattle.qo_values.specs.Registers.{fresh_registers}
 use Rattle.qo_values.specs.declared.births.TheConstants.{ANONYMOUS_BIRTH, PERIPHERAL_BIRTH}
@@ -23,12 +23,12 @@ use Rattle.qo_values.specs.declared.limits.TheConstants.{BUS_SLOTS, DIMM_ALIGN}
 use Rattle.qo_values.specs.declared.properties.Val.{Val}
 use Rattle.qo_values.specs.declared.properties.Val.TheVariants as val
 use Rattle.qo_values.specs.declared.ranges.Range.{Range}
-use Rattle.qo_model.specs.Board.{Board, Record, Slot, child, strong, is_live, kind_of, record_of, slots_at}
+use Rattle.qo_model.specs.Board.{Board, Record, Slot, child, strong, is_live, kind_of, record_of}
 use Rattle.qo_model.specs.Changes.{add, changed_at, with_added, with_changed, with_val}
 use Rattle.qo_model.specs.Clocks.{acted, with_act_on}
 use Rattle.qo_model.specs.Depth.{among}
-use Rattle.qo_model.specs.Devices.{anonymous_name, clock_of, kid_name, number_in}
-use Rattle.qo_model.specs.Objects.{Given, misfit, index_from, refusal_by, refusal_of, slot_given}
+use Rattle.qo_model.specs.Devices.{clock_of, kid_name, number_in}
+use Rattle.qo_model.specs.Objects.{Given, misfit, refusal_by, refusal_of, slot_given}
 use Rattle.qo_model.specs.Opening.{opening_board}
 use Rattle.qo_model.specs.Paths.{canonical}
 use Rattle.qo_model.specs.Plug.{Spot, Wanted, acted_all, addressed_at, bus_births, bus_type, clocked, counted, drafted, fitted, link_named, name_for, number_for, ok_in, parent_for, plug, range_for, range_of, ranges_of, registers_on, size_of, source_for, spot_of, stood, target_for, notified_plug, with_body_of, with_device, with_given, with_path, with_plugged, with_source}
@@ -37,29 +37,26 @@ use Rattle.qo_model.specs.Release.{edit}
 use Rattle.qo_model.specs.RowNames.{property_name}
 use Rattle.qo_model.specs.Reset.{plugged, post}
 use Rattle.qo_model.specs.Types.{is_a, multiple_of, slots_of, types}
-use Rattle.qo_model.specs.Unplug.{is_named, set_named}
 use Rattle.qo_model.specs.declared.properties.First.TheVariants as first
 use Rattle.qo_model.specs.declared.properties.Property.{Property}
 use Rattle.qo_model.specs.declared.properties.PropertyRole.{PropertyRole}
 use Rattle.qo_model.specs.declared.properties.PropertyRole.TheVariants as row
-use Rattle.qo_model.proofs.FirstSlotLemmas.{Found, found-at}
 use Rattle.qo_model.proofs.StepLemmas.{found-birth}
-use Rattle.qo_sound.proofs.AdditionStepsLemmas.{all-any, KeepsActs, link-by, set-by, stand-by, step-acted_all, step-plugged}
+use Rattle.qo_sound.proofs.AdditionStepsLemmas.{all-any, KeepsActs, link-by, stand-by, step-acted_all, step-plugged}
 use Rattle.qo_sound.proofs.PlugLemmas.{shut-above}
-use Rattle.qo_sound.proofs.RecordLemmas.{all-imply}
+use Rattle.qo_values.proofs.ListLemmas.{all-imply}
 use Rattle.qo_sound.proofs.SlotLemmas.{names-changed, names_in}
 use Rattle.qo_sound.proofs.ViewLemmas.{AtRest, rest-from_sound}
 use Rattle.qo_sound_devices.specs.SoundDevices.{SoundDevices}
-use Rattle.qo_sound_devices.specs.SoundPlaces.{child_entries, listed, names_it, stands}
+use Rattle.qo_sound_devices.specs.SoundPlaces.{stands}
 use Rattle.qo_sound_devices.proofs.AcceptanceLemmas.{goal-of, passes}
 use Rattle.qo_sound_devices.proofs.DevicesLawLemmas.{devices_kept_lem}
 use Rattle.qo_sound_devices.proofs.DraftLemmas.{drafted-made}
-use Rattle.qo_sound_devices.proofs.AdditionLemmas.{Goal, done, Joined, named_entry, numbered_entry}
+use Rattle.qo_sound_devices.proofs.AdditionLemmas.{Goal, done, Joined, by-stand}
 use Rattle.qo_sound_devices.proofs.JoiningLemmas.{Made}
-use Rattle.qo_sound_devices.proofs.PlacesLemmas.{high-absent, kind-alike, of-live, or-cases, stands-live}
+use Rattle.qo_sound_devices.proofs.PlacesLemmas.{high-absent, kind-alike, of-live, stands-live, aside-apart}
 use Rattle.qo_sound_devices.proofs.PlugLemmas.{Accepted, after-plug, stands-device}
 use Rattle.qo_sound_devices.proofs.PlugStageLemmas.{accepted-joined}
-use Rattle.qo_sound_devices.proofs.UnparentingLemmas.{aside-apart}
 use Rattle.qo_sound_shapes.specs.SoundShape.{HasEach, is_like, IsFurther, SoundShape}
 use Rattle.qo_sound_shapes.proofs.BoardLemmas.{all-edit, AllOf, good-all, shape-all}
 use Rattle.qo_sound_shapes.proofs.CommandLemmas.{begun-devices, container-kind, live-devices}
@@ -67,7 +64,7 @@ use Rattle.qo_sound_shapes.proofs.DetachmentLemmas.{bus-apart, container-four, c
 use Rattle.qo_sound_shapes.proofs.DraftLemmas.{drafted-good, drafted-rows}
 use Rattle.qo_sound_shapes.proofs.ShapeLemmas.{Good, good-added, good-changed, good-slots, is_first, mild-fitted, rows-fitted}
 use Rattle.qo_sound_shapes.proofs.NewObjectLemmas.{fits-by, found-given, given-has, late-first}
-use Rattle.qo_sound_shapes.proofs.QuietChangeLemmas.{admits-up_to, good-act, good-set, slot-of, Takes}
+use Rattle.qo_sound_shapes.proofs.QuietChangeLemmas.{admits-up_to, good-act, Takes, all-set, KeepsSet}
 use Rattle.qo_sound_shapes.proofs.RowLemmas.{Slots}
 use Rattle.qo_sound_shapes.proofs.ChildLemmas.{Stood, whole-stays}
 use Rattle.qo_sound_shapes.proofs.CompletenessLemmas.{HasRows, rows-same, Whole}
@@ -187,15 +184,6 @@ takes-address MemoryBackendRam n fits = tt
 takes-address Tag n fits = tt
 
 -- the range of a DIMM
-
-pub least-passes : (p : ℕ → Bool) (first k n : ℕ) → least p first k ≡ Some n → p n ≡ true
-unfolding least
-least-passes p first zero n e = cc
-least-passes p first (suc k) n e = go (p first) refl (least-passes p (first + 1) k n)
-  where
-    go : (u : Bool) → p first ≡ u → (least p (first + 1) k ≡ Some n → p n ≡ true) → p n ≡ true
-    go true q rest = ap p (sym (same_Some first n (rw q at e))) ∙ q
-    go false q rest = rest (rw q at e)
 
 admits-fitting : (ranges : List Range) (size at : ℕ) → fits_at ranges size DIMM_ALIGN at ≡ true → admits (multiple_of DIMM_ALIGN) (val.Uint at) ≡ true
 admits-fitting ranges size at e =
@@ -320,14 +308,10 @@ module _ (kinds : ℕ → Option TypeId) (new : ℕ) where
   placed-kind : (n : ℕ) (t : TypeId) → kinds n ≡ Some t → (r : Record) → r.birth ≡ n → Placed kinds new r → r.kind ≡ t
   placed-kind n t e r own h = same_Some r.kind t (sym h.kind ∙ ap kinds own ∙ e)
 
-  placed-set : (n : ℕ) (name : List ℕ) (v : Val) → ((t : TypeId) → Takes t name v) → (c : Board) → H c → H (set_named n name v c)
-  placed-set n name v takes c h = set-by H n name c h v there
-    where
-      there : (i : ℕ) → index_from (is_named name) 0 (slots_at c n) ≡ Some i → H (edit n (with_changed (with_val v) i) c)
-      there i e =
-          let f : Found (is_named name) (slots_at c n) i = found-at (is_named name) i (slots_at c n) e in
-          placed-edit n (with_changed (with_val v) i) (λ r. refl) (λ r. refl) (rows-changed (with_val v) i) c
-          (λ r q own k. good-set name v i r f.entry (slot-of c n i r f.entry q f.at) f.passes (takes r.kind) k.good) h
+  placed-set : KeepsSet H
+  placed-set =
+      all-set (Placed kinds new) (λ r k. k.good)
+      (λ v i r good k. record { good = good; kind = k.kind; each = λ own. rows-changed (with_val v) i r (k.each own) })
 
   placed-link : (n : ℕ) (name : List ℕ) (m : ℕ) (c : Board) → H c → H (link_named n name m c)
   placed-link n name m c h =
@@ -514,41 +498,10 @@ module _ (b : Board) (t : TypeId) (bus : ℕ) (a : Wanted) (devices : SoundDevic
       (with_plugged b t a (spot_of b t bus a.props))
   joined-so = accepted-joined devices.places.0 b a rest devices.places.1 t bus k
 
-  one-only : (name : List ℕ) (m d : ℕ) → listed d ((name, m) ∷ []) ≡ true → d ≡ m
-  one-only name m d e = go (m == d) refl
-    where
-      go : (u : Bool) → (m == d) ≡ u → d ≡ m
-      go true p = sym (eqb-true m d p)
-      go false p = absurd (let clash : false ≡ true = rw p at e in cc)
-
-  named-only : (o : Option (List ℕ)) (m d : ℕ) → listed d (named_entry o m) ≡ true → d ≡ m
-  named-only None m d e = absurd (let clash : false ≡ true = e in cc)
-  named-only (Some i) m d e = one-only i m d e
-
-  numbered-only : (o : Option (List ℕ)) (m d : ℕ) → listed d (numbered_entry b o m) ≡ true → d ≡ m
-  numbered-only None m d e = one-only (anonymous_name b.anonymous) m d e
-  numbered-only (Some i) m d e = absurd (let clash : false ≡ true = e in cc)
-
-  either : (d : ℕ) (xs ys : List (List ℕ × ℕ)) → listed d (xs ++ ys) ≡ true → (listed d xs ≡ true) ⊎ (listed d ys ≡ true)
-  either d xs ys e = or_cases (listed d xs) (listed d ys) (sym (list_any-append (names_it d) xs ys) ∙ e)
-
   stood-or-new : (d : ℕ) → stands (with_plugged b t a (spot_of b t bus a.props)) d ≡ true → (stands b d ≡ true) ⊎ (d ≡ b.born + 1)
   stood-or-new d e =
-      or-cases (listed d (child_entries c PERIPHERAL_BIRTH)) (listed d (child_entries c ANONYMOUS_BIRTH)) e
-      (λ l. third (either d (child_entries b PERIPHERAL_BIRTH) (named_entry a.id (b.born + 1)) (sym (ap (listed d) joined-so.third) ∙ l)))
-      (λ l. fourth (either d (child_entries b ANONYMOUS_BIRTH) (numbered_entry b a.id (b.born + 1)) (sym (ap (listed d) joined-so.fourth) ∙ l)))
-    where
-      c : Board
-      c = with_plugged b t a (spot_of b t bus a.props)
-
-      third : (listed d (child_entries b PERIPHERAL_BIRTH) ≡ true) ⊎ (listed d (named_entry a.id (b.born + 1)) ≡ true) → (stands b d ≡ true) ⊎ (d ≡ b.born + 1)
-      third (inl l) = inl (rw l refl)
-      third (inr l) = inr (named-only a.id (b.born + 1) d l)
-
-      fourth : (listed d (child_entries b ANONYMOUS_BIRTH) ≡ true) ⊎ (listed d (numbered_entry b a.id (b.born + 1)) ≡ true)
-          → (stands b d ≡ true) ⊎ (d ≡ b.born + 1)
-      fourth (inl l) = inl (rw l (or-true (listed d (child_entries b PERIPHERAL_BIRTH))))
-      fourth (inr l) = inr (numbered-only a.id (b.born + 1) d l)
+      by-stand devices.places.0 b (b.born + 1) bus (spot_of b t bus a.props).slot a.id t (with_plugged b t a (spot_of b t bus a.props)) joined-so
+      rest.used.firm devices.places.1 d e {A = (stands b d ≡ true) ⊎ (d ≡ b.born + 1)} (λ k. inl k) (λ is. inr is)
 
   stays-so : (x : ℕ) → stands (with_plugged b t a (spot_of b t bus a.props)) x ≡ true
       → Stood b (with_plugged b t a (spot_of b t bus a.props)) x

@@ -40,15 +40,16 @@ use Rattle.qo_model.specs.declared.properties.PropertyRole.{PropertyRole}
 use Rattle.qo_model.specs.declared.properties.PropertyRole.TheVariants as row
 use Rattle.qo_model.proofs.FirstSlotLemmas.{Found, found-at}
 use Rattle.qo_model.proofs.StepLemmas.{found-edited, found_at, is_some-map}
+use Rattle.qo_sound.proofs.AdditionStepsLemmas.{set-by}
 use Rattle.qo_sound.proofs.FirmBoardLemmas.{edited-kind}
-use Rattle.qo_sound.proofs.RecordLemmas.{all-imply}
+use Rattle.qo_values.proofs.ListLemmas.{all-imply}
 use Rattle.qo_sound.proofs.SlotLemmas.{names-changed, names_in}
 use Rattle.qo_sound_clocks.specs.RegisterWrites.{registers_set, with_registers}
 use Rattle.qo_sound_clocks.proofs.StepsLemmas.{kept-written, calls-kept}
 use Rattle.qo_sound_phases.proofs.FixedObjectLemmas.{child-val}
 use Rattle.qo_sound_clocks.proofs.BecomesLemmas.{Becomes, written-becomes, uart_to, timer_to, dimm_stays, bridge_to}
 use Rattle.qo_sound_shapes.specs.SoundShape.{is_like, HasRole, IsOfProperty, SoundShape}
-use Rattle.qo_sound_shapes.proofs.BoardLemmas.{all-edit, all-same, good-all, OpeningLive, shape-all, shape-live}
+use Rattle.qo_sound_shapes.proofs.BoardLemmas.{all-edit, all-same, good-all, OpeningLive, shape-all, shape-live, AllOf}
 use Rattle.qo_sound_shapes.proofs.ShapeLemmas.{Good, good-changed, mild-val}
 use Rattle.qo_sound_shapes.proofs.RowLemmas.{IsRowOf}
 use Rattle.qo_sound_shapes.proofs.CompletenessLemmas.{edit-read, entries-changed, entries_in, whole-same}
@@ -269,6 +270,20 @@ good-set name v i r entry at named takes h = good-changed (with_val v) (mild-val
 pub slot-of : (c : Board) (n i : ℕ) (r : Record) (entry : List ℕ × Slot) → record_of c n ≡ Some r → slice_get (slots_at c n) i ≡ Some entry
     → slice_get r.slots i ≡ Some entry
 slot-of c n i r entry e at = sym (ap (λ (o : Option Record). slice_get (option_map_or (λ (y : Record). y.slots) o []) i) e) ∙ at
+
+-- a value that an object of any type takes under a name keeps P
+abbrev pub KeepsSet : (Board → Type 0) → Type 0
+KeepsSet P = (n : ℕ) (name : List ℕ) (v : Val) → ((t : TypeId) → Takes t name v) → (c : Board) → P c → P (set_named n name v c)
+
+-- so it does where it keeps a fact of each good object
+pub all-set : (Q : Record → Type 0) → ((r : Record) → Q r → Good r)
+    → ((v : Val) (i : ℕ) (r : Record) → Good (with_changed (with_val v) i r) → Q r → Q (with_changed (with_val v) i r)) → KeepsSet (AllOf Q)
+all-set Q good keeps n name v takes c h =
+    set-by (AllOf Q) n name c h v
+    (λ i e.
+    let f : Found (is_named name) (slots_at c n) i = found-at (is_named name) i (slots_at c n) e in
+    all-edit Q n (with_changed (with_val v) i) (λ r. refl) c
+    (λ r q own k. keeps v i r (good-set name v i r f.entry (slot-of c n i r f.entry q f.at) f.passes (takes r.kind) (good r k)) k) h)
 
 pub set-shape : (n : ℕ) (name : List ℕ) (v : Val) → ((t : TypeId) → Takes t name v) → (b : Board) → SoundShape b → SoundShape (set_named n name v b)
 unfolding set

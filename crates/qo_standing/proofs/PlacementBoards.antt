@@ -18,7 +18,7 @@ use Rattle.qo_model.specs.Release.{edit, edited}
 use Rattle.qo_model.specs.Types.{is_a}
 use Rattle.qo_model.specs.Unplug.{is_named, set_named}
 use Rattle.qo_standing.specs.Placement.{seated}
-use Rattle.qo_standing.proofs.TreeLemmas.{SameTree, canonical-same, read-edit, tree-edit, tree-same, tree-then}
+use Rattle.qo_standing.proofs.TreeLemmas.{SamePlaces, canonical-same, read-edit, tree-edit, tree-same, tree-then}
 
 abbrev BoardSlots : Type 0
 BoardSlots = List (List ℕ × Slot)
@@ -93,31 +93,31 @@ find-given birth k b props (s ∷ slots) =
 
 -- the tree stays
 
-pub tree-set : (n : ℕ) (name : List ℕ) (v : Val) (b : Board) → SameTree b (set_named n name v b)
+pub tree-set : (n : ℕ) (name : List ℕ) (v : Val) (b : Board) → SamePlaces b (set_named n name v b)
 unfolding set
 tree-set n name v b = go (index_from (is_named name) 0 (slots_at b n)) refl
   where
-    go : (o : Option ℕ) → index_from (is_named name) 0 (slots_at b n) ≡ o → SameTree b (set_named n name v b)
+    go : (o : Option ℕ) → index_from (is_named name) 0 (slots_at b n) ≡ o → SamePlaces b (set_named n name v b)
     go None e = rw (set_named, e) (tree-same b)
     go (Some i) e = rw (set_named, e)
         (tree-edit b n (with_changed (with_val v) i) (λ r. refl) (λ r. refl) (λ k r. find-changed r.birth k (with_val v) (child-val k v) i r.slots))
 
-pub tree-link : (n : ℕ) (name : List ℕ) (m : ℕ) (b : Board) → SameTree b (link_named n name m b)
+pub tree-link : (n : ℕ) (name : List ℕ) (m : ℕ) (b : Board) → SamePlaces b (link_named n name m b)
 tree-link n name m b = go (index_from (is_named name) 0 (slots_at b n)) refl
   where
-    go : (o : Option ℕ) → index_from (is_named name) 0 (slots_at b n) ≡ o → SameTree b (link_named n name m b)
+    go : (o : Option ℕ) → index_from (is_named name) 0 (slots_at b n) ≡ o → SamePlaces b (link_named n name m b)
     go None e = rw (link_named, e) (tree-same b)
     go (Some i) e = rw (link_named, e)
         (tree-edit b n (with_changed (fitted b m) i) (λ r. refl) (λ r. refl) (λ k r. find-changed r.birth k (fitted b m) (child-fitted k b m) i r.slots))
 
-tree-given : (b : Board) (n : ℕ) (props : List Given) (c : Board) → SameTree c (edit n (with_given b props) c)
+tree-given : (b : Board) (n : ℕ) (props : List Given) (c : Board) → SamePlaces c (edit n (with_given b props) c)
 tree-given b n props c = tree-edit c n (with_given b props) (λ r. refl) (λ r. refl) (λ k r. find-given r.birth k b props r.slots)
 
-pub tree-source : (source : ℕ) (clock : Option ℕ) (c : Board) → SameTree c (with_source source clock c)
+pub tree-source : (source : ℕ) (clock : Option ℕ) (c : Board) → SamePlaces c (with_source source clock c)
 tree-source source None c = tree-same c
 tree-source source (Some m) c = tree-link m (codes "source") source c
 
-tree-valued : (b : Board) (n : ℕ) (props : List Given) (spot : Spot) (c : Board) → SameTree c (valued b n props spot c)
+tree-valued : (b : Board) (n : ℕ) (props : List Given) (spot : Spot) (c : Board) → SamePlaces c (valued b n props spot c)
 tree-valued b n props spot c =
     let given : Board = edit n (with_given b props) c in
     let slotted : Board = set_named n (codes "slot") (val.Uint spot.slot) given in
@@ -127,14 +127,14 @@ tree-valued b n props spot c =
     (tree-then slotted linked (valued b n props spot c) (tree-link n (codes "parent_bus") spot.bus slotted)
     (tree-set n (codes "realized") (val.Bool true) linked)))
 
-tree-addressed : (n : ℕ) (range : Option Range) (c : Board) → SameTree c (addressed_at n range c)
+tree-addressed : (n : ℕ) (range : Option Range) (c : Board) → SamePlaces c (addressed_at n range c)
 tree-addressed n None c = tree-same c
 tree-addressed n (Some r) c = tree-set n (codes "addr") (val.Uint r.at) c
 
-tree-body : (n : ℕ) (id : Option (List ℕ)) (range : Option Range) (c : Board) → SameTree c (edit n (with_body_of id range) c)
+tree-body : (n : ℕ) (id : Option (List ℕ)) (range : Option Range) (c : Board) → SamePlaces c (edit n (with_body_of id range) c)
 tree-body n id range c = tree-edit c n (with_body_of id range) (λ r. refl) (λ r. refl) (λ k r. refl)
 
-pub tree-stood : (b : Board) (n : ℕ) (a : Wanted) (spot : Spot) (c : Board) → SameTree (joined b n a spot c) (stood b n a spot c)
+pub tree-stood : (b : Board) (n : ℕ) (a : Wanted) (spot : Spot) (c : Board) → SamePlaces (joined b n a spot c) (stood b n a spot c)
 tree-stood b n a spot c =
     let there : Board = joined b n a spot c in
     let given : Board = valued b n a.props spot there in

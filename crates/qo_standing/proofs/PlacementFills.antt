@@ -20,7 +20,9 @@ use Rattle.qo_heap.proofs.BoardObjects.{content-edited, live-content}
 use Rattle.qo_properties.specs.declared.adding.filling.Fill.{Fill}
 use Rattle.qo_properties.specs.declared.adding.filling.Fill.TheVariants as fill
 use Rattle.qo_properties.specs.Filling.{Fits, IsGiven, filled_at, filled_with, fits_at, target_in}
-use Rattle.qo_properties.proofs.FillingLemmas.{edit-same, edit-twice}
+use Rattle.qo_heap.proofs.HeapLemmas.{edit-nothing}
+use Rattle.qo_heap.proofs.PlacesLemmas.{slice_get-some}
+use Rattle.qo_properties.proofs.FillingLemmas.{edit-twice}
 use Rattle.qo_standing.specs.OwnSlots.{is_own, own_slots, own_slots_of}
 use Rattle.qo_standing.specs.Placement.{own_filled, with_own}
 
@@ -120,12 +122,6 @@ module _ {X Y : Type 0} (R : X → Y → Type 0) where
   zip-last (z ∷ xs) x [] y h = absurd (zip-more xs x h.1)
   zip-last (z ∷ xs) x (w ∷ ys) y h = let (front, here) = zip-last xs x ys y h.1 in ((h.0, front), here)
 
--- a place before the end has a slot
-slot-there : (slots : List Named) (k : ℕ) → k < length slots → (s : Named) × (slice_get slots k ≡ Some s)
-slot-there [] k below = absurd (omega (arith, below))
-slot-there (s ∷ slots) zero below = (s, refl)
-slot-there (s ∷ slots) (suc k) below = slot-there slots k (omega (arith, below))
-
 abbrev own_at : List Named → ℕ → Bool
 own_at slots k = option_map_or (λ (s : Named). is_own s.1) (slice_get slots k) false
 
@@ -150,7 +146,7 @@ settled-none all o at v end fits =
       done = [];
       split = sym (append-nil all);
       fits = subst (λ (ss : List Named). AllZip Fits all (own_slots ss)) (sym (take_all at (slots_of v o.birth) (omega (arith, end)))) fits;
-      is = sym (edit-same o.birth (with_own_from at []) (λ c. ap (λ (ss : List Named). record c { slots = ss }) (from-none at c.slots)) v);
+      is = sym (edit-nothing o.birth (with_own_from at []) (λ c. ap (λ (ss : List Named). record c { slots = ss }) (from-none at c.slots)) v);
       within = omega (arith, end);
     }
 
@@ -178,10 +174,10 @@ module _ (all : List Fill) (o : Key) (at : ℕ) (left : List Fill) (v w : Object
       let same : length (slots_of v o.birth) ≡ length c.slots = ap (λ (l : List Named). length l) slots in omega (arith, most, same, less)
 
   abbrev s : Named
-  s = (slot-there c.slots k below).0
+  s = (slice_get-some c.slots k below).0
 
   at-s : slice_get c.slots k ≡ Some s
-  at-s = (slot-there c.slots k below).1
+  at-s = (slice_get-some c.slots k below).1
 
   now : w ≡ with_edit o.birth (with_own_from (suc k) h.done) v
   now = h.is ∙ ap (λ (i : ℕ). with_edit o.birth (with_own_from i h.done) v) less

@@ -11,15 +11,15 @@ use Rattle.qo_model.specs.Release as release
 
 -- the tree: how many objects there are, and the type and the place of each
 
-pub record SameTree (b c : Board) : Type 0 where
+pub record SamePlaces (b c : Board) : Type 0 where
   pub size : length (births c) ≡ length (births b)
   pub places : (n : ℕ) → place_of c n ≡ place_of b n
   pub kinds : (n : ℕ) → kind_of c n ≡ kind_of b n
 
-pub tree-same : (b : Board) → SameTree b b
+pub tree-same : (b : Board) → SamePlaces b b
 tree-same b = record { size = refl; places = λ n. refl; kinds = λ n. refl }
 
-pub tree-then : (b c d : Board) → SameTree b c → SameTree c d → SameTree b d
+pub tree-then : (b c d : Board) → SamePlaces b c → SamePlaces c d → SamePlaces b d
 tree-then b c d s t = record { size = t.size ∙ s.size; places = λ n. t.places n ∙ s.places n; kinds = λ n. t.kinds n ∙ s.kinds n }
 
 abbrev Above : Type 0
@@ -35,12 +35,12 @@ steps-depth b c same (suc k) n =
     let rest : by_depth (path_turn c) (λ _. None) k ≡ by_depth (path_turn b) (λ _. None) k = λ j m. steps-depth b c same k m j in
     ap (λ (f : Above). turn_by (place_of c n) f n) rest ∙ ap (λ (o : Option (ℕ × List ℕ)). turn_by o (by_depth (path_turn b) (λ _. None) k) n) (same n)
 
-steps-same : (b c : Board) → SameTree b c → (n : ℕ) → path_down_to c n ≡ path_down_to b n
+steps-same : (b c : Board) → SamePlaces b c → (n : ℕ) → path_down_to c n ≡ path_down_to b n
 unfolding path_down_to
 steps-same b c s n =
     ap (λ (k : ℕ). by_depth (path_turn c) (λ _. None) (suc k) n) s.size ∙ steps-depth b c s.places (suc (length (births b))) n
 
-pub canonical-same : (b c : Board) → SameTree b c → (n : ℕ) → canonical c n ≡ canonical b n
+pub canonical-same : (b c : Board) → SamePlaces b c → (n : ℕ) → canonical c n ≡ canonical b n
 canonical-same b c s n = ap (λ (o : Option (List ℕ)). if n == ROOT_BIRTH then Some (codes "/") else o) (steps-same b c s n)
 
 -- an edit of one object
@@ -99,7 +99,7 @@ place-edit k n f same (r ∷ rs) =
 
 -- an edit that keeps births and child slots keeps the tree
 pub tree-edit : (b : Board) (n : ℕ) (f : Record → Record) → ((r : Record) → (f r).birth ≡ r.birth) → ((r : Record) → (f r).kind ≡ r.kind)
-    → ((k : ℕ) (r : Record) → place_in k (f r) ≡ place_in k r) → SameTree b (release.edit n f b)
+    → ((k : ℕ) (r : Record) → place_in k (f r) ≡ place_in k r) → SamePlaces b (release.edit n f b)
 tree-edit b n f born kind same =
     record {
       size = ap (λ (l : List ℕ). length l) (births-edit n f born b.records);

@@ -19,7 +19,8 @@ use Rattle.qo_heap.specs.Board.{Shows, pins_in}
 use Rattle.qo_heap.specs.Objects.{IsHeap, Objects, content_of, pins_of, slots_of, with_edit}
 use Rattle.qo_heap.specs.Moments.{Timely}
 use Rattle.qo_heap.proofs.BookLemmas.{book-edit}
-use Rattle.qo_heap.proofs.HeapLemmas.{all-weaker, live-edit}
+use Rattle.qo_heap.proofs.HeapLemmas.{live-edit}
+use Rattle.qo_values.proofs.ListLemmas.{all-imply}
 use Rattle.qo_heap.proofs.BoardEdits.{all-replicate, pins-above, shows-pin}
 use Rattle.qo_heap.proofs.BoardObjects.{live-content}
 use Rattle.qo_heap.proofs.BoardReads.{shows-live, shows-live_key, shows-slots, times, times-pins, times-replicate}
@@ -29,6 +30,7 @@ use Rattle.qo_unplug.specs.Unparenting.{HasRoom, bus_lost, buses_lost, drained_w
 use Rattle.qo_unplug.specs.Unrealizing.{on_one}
 use Rattle.qo_unplug.proofs.MomentLemmas.{goes-timely}
 use Rattle.qo_unplug.proofs.ScopeLemmas.{Takes, put-most, takes-first_apart, takes-first_lost, takes-none, takes-then, times-own}
+use Rattle.qo_buses.proofs.KidLemmas.{first-is}
 
 -- how often an object is held
 
@@ -61,7 +63,7 @@ pin-room v n (suc levels) more room = omega (arith, room n, times-within n v.row
 first-up : (k n : ℕ) (ms : List ℕ) → AllByRecursion (λ m. n < m) ms → IsUp ms → IsUp (replicate k n ++ ms)
 first-up zero n ms low up = up
 first-up (suc k) n ms low up =
-    (all-replicate (λ m. n ≤ m) k n ms (omega arith) (all-weaker (λ m. n < m) (λ m. n ≤ m) (λ m less. omega (arith, less)) ms low), first-up k n ms low up)
+    (all-replicate (λ m. n ≤ m) k n ms (omega arith) (all-imply (λ m. n < m) (λ m. n ≤ m) (λ m less. omega (arith, less)) ms low), first-up k n ms low up)
 
 rows-up : (above last : ℕ) (rows : List (Key × Content)) → Rises above (births rows) last → IsUp (pins_in rows)
 rows-up above last [] rises = tt
@@ -250,16 +252,9 @@ goes-bus_lost v u w levels d m first then = goes-then (drained_within levels m) 
 
 -- the buses of a device
 
-first-is : (b : Board) (d : ℕ) → first_bus b d ≡ first_of (buses_of b d)
-first-is b d = go (buses_of b d)
-  where
-    go : (l : List ℕ) → (elim l as (λ _. Option ℕ) [ [] ↦ None | m ∷ _ ↦ Some m ]) ≡ first_of l
-    go [] = refl
-    go (m ∷ ms) = refl
-
 pub bus-any : (v : Objects) (c : Board) → Shows c v → (d : ℕ) (o : Option ℕ) → ((b : Board) → Shows b v → o ≡ first_bus b d)
     → (b : Board) (log : Log) → Shows b (with_log log v) → first_of (buses_of b d) ≡ o
-bus-any v c t d o is b log s = sym (first-is b d) ∙ sym (is (record b { notes = c.notes }) (shows-notes b c log v s t))
+bus-any v c t d o is b log s = first-is b d ∙ sym (is (record b { notes = c.notes }) (shows-notes b c log v s t))
 
 pub goes-first_bus : (v w : Objects) (levels d m : ℕ) → ((b : Board) (log : Log) → Shows b (with_log log v) → first_of (buses_of b d) ≡ Some m)
     → Goes (bus_lost levels d m) v w → Goes (first_lost levels d) v w

@@ -1,5 +1,6 @@
 -- The kids of a bus, and the buses of a device, are unrealized one after another.
 use Rattle.std.proofs.Common.{◌≡◌, refl, ap, sym, ◌∙◌, ℕ, zero, suc, ◌+◌, ◌-◌, ◌≤◌, List, [], ◌∷◌, length, take, filter_map, slice_get, Option, None}
+use Rattle.std.proofs.lemmas.List.{take_all}
 use Rattle.std.proofs.Common.{Some, arith}
 use Rattle.std.specs.List.{cons_option}
 use Rattle.std.specs.Option.{option_and_then}
@@ -36,12 +37,6 @@ each-more {X} g f (suc i) (x ∷ xs) c = go (f x) (each-more g f i xs)
     go None rest = rest c
     go (Some n) rest = rest (g n c)
 
-take-all : {X : Type 0} (i : ℕ) (xs : List X) → length xs ≤ i → take i xs ≡ xs
-take-all zero [] le = refl
-take-all (suc i) [] le = refl
-take-all zero (x ∷ xs) le = absurd (omega (arith, le))
-take-all {X} (suc i) (x ∷ xs) le = let rest : length xs ≤ i = omega (arith, le) in ap (λ (l : List X). x ∷ l) (take-all i xs rest)
-
 -- as many slots as the heap has there
 all-slots : (b c : Board) → SameTree b c → (v : Objects) → Shows c v → (n count : ℕ) → count ≡ length (slots_of v n) → length (slots_at b n) ≡ count
 all-slots b c same v s n count is =
@@ -77,7 +72,7 @@ kids-next s t u m levels i before next =
 kids-all : (b : Board) (levels m i : ℕ) (c : Board) → length (slots_at b m) ≤ i → bus_within b levels m c ≡ unrealized_bus m (kids_within b levels m i c)
 unfolding bus_within kids_within
 kids-all b levels m i c le =
-    ap (λ (l : List (List ℕ × Slot)). unrealized_bus m (each (device_within b levels) (filter_map kid_in l) c)) (sym (take-all i (slots_at b m) le))
+    ap (λ (l : List (List ℕ × Slot)). unrealized_bus m (each (device_within b levels) (filter_map kid_in l) c)) (sym (take_all i (slots_at b m) le))
 
 pub kids-last : (s t u : Parts) (m levels i count : ℕ) → count ≤ i → count ≡ length (slots_of s.heap m) → Undoes (λ b. kids_within b levels m i) s t
     → Undoes (λ _. unrealized_bus m) t u → Undoes (λ b. bus_within b levels m) s u
@@ -121,7 +116,7 @@ buses-all : (b : Board) (all levels d i : ℕ) (c : Board) → all ≡ suc level
 unfolding device_within bus_within buses_within
 buses-all b all levels d i c more le =
     ap (λ (k : ℕ). device_within b k d c) more
-    ∙ ap (λ (l : List (List ℕ × Slot)). unrealized_device d (each (bus_within b levels) (filter_map (bus_in b) l) c)) (sym (take-all i (slots_at b d) le))
+    ∙ ap (λ (l : List (List ℕ × Slot)). unrealized_device d (each (bus_within b levels) (filter_map (bus_in b) l) c)) (sym (take_all i (slots_at b d) le))
 
 pub buses-last : (s t u : Parts) (d levels i count : ℕ) → (levels ≡ 0 → ⊥) → count ≤ i → count ≡ length (slots_of s.heap d)
     → Undoes (λ b. buses_within b (levels - 1) d i) s t → Undoes (λ _. unrealized_device d) t u → Undoes (λ b. device_within b levels d) s u

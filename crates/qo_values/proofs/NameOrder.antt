@@ -1,4 +1,5 @@
 -- Names that rise: one more after them, one fewer among them, and the last of them, which decides whether a name comes after all.
+use Rattle.std.proofs.lemmas.Bool.{and_parts}
 use Rattle.std.proofs.Common.{◌≡◌, ℕ, Bool, true, false, List, [], ◌∷◌, ◌++◌, refl, sym, ap, ◌∙◌}
 use Rattle.std.specs.Prelude.{◌&&◌}
 use Rattle.std.specs.Cmp.Lexicographic.{slice_cmp}
@@ -37,11 +38,6 @@ less_from Less e = refl
 less_from Equal e = cc
 less_from Greater e = cc
 
--- both sides of a conjunction
-pub both_true : (a b : Bool) → (a && b) ≡ true → (a ≡ true) × (b ≡ true)
-both_true true b e = (refl, e)
-both_true false b e = cc
-
 and_false : (b : Bool) → (b && false) ≡ false
 and_false true = refl
 and_false false = refl
@@ -55,7 +51,7 @@ pub rises_push : (xs : List (List ℕ)) (k : List ℕ) → NamesRise xs → is_a
 unfolding IsStrictlySortedBy
 rises_push [] k rises above = (tt, tt)
 rises_push (x ∷ xs) k rises above =
-    let here : (is_lt (order x k) ≡ true) × (is_above xs k ≡ true) = both_true _ _ above in
+    let here : (is_lt (order x k) ≡ true) × (is_above xs k ≡ true) = and_parts _ _ above in
     (all_push (λ y. order x y ≡ Less) xs k rises.0 (less_from _ here.0), rises_push xs k rises.1 here.1)
 
 -- a name among them may go

@@ -2,7 +2,7 @@
 ghost use Rattle.std.specs.Prelude.{◌≡◌, ◌<◌};
 
 use qo_heap::Steps;
-use qo_plug::{AddRefusal, Added};
+use qo_plug::{AddRefusal, Added, DeviceOptions};
 use qo_realize::{Board, Draft, NotAdded};
 use qo_values::{BUS_SLOTS, Code, PropList, Text, Val};
 use std::alloc::{AllocError, Global};
@@ -27,6 +27,16 @@ fn slot(at: u8, alloc: Global) -> Result<PropList, AllocError> {
     }
 }
 
+/// A bridge that is asked for.
+fn bridge<'a>(id: Option<&'a str>, bus: Option<&'a str>, props: &'a PropList) -> DeviceOptions<'a> {
+    DeviceOptions {
+        driver: "slot-bridge",
+        id,
+        bus,
+        props,
+    }
+}
+
 /// A bridge is begun, with an id.
 fn begun<L: Ledger>(
     board: Board,
@@ -36,7 +46,7 @@ fn begun<L: Ledger>(
     alloc: Global,
     steps: &mut Steps<L>,
 ) -> Result<Draft, NotAdded> {
-    board.begin("slot-bridge", Some(id), bus, props, alloc, steps)
+    board.begin(&bridge(Some(id), bus, props), alloc, steps)
 }
 
 /// The board after a refusal at a stage by a code.
@@ -92,11 +102,11 @@ fn fill<L: Ledger>(
 ) -> Result<(), AddRefusal> {
     let props = PropList::new(alloc);
     for id in IDS {
-        board.add("slot-bridge", Some(id), None, &props, alloc, steps)?;
+        board.add(&bridge(Some(id), None, &props), alloc, steps)?;
     }
     for bus in BUSES {
         for _ in 0..BUS_SLOTS {
-            board.add("slot-bridge", None, Some(bus), &props, alloc, steps)?;
+            board.add(&bridge(None, Some(bus), &props), alloc, steps)?;
         }
     }
     Ok(())

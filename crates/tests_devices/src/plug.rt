@@ -3,7 +3,7 @@ ghost use Rattle.std.specs.Prelude.{◌≡◌, ◌<◌};
 
 use qo_heap::{Heap, Steps};
 use qo_hotplug::Hotplug;
-use qo_plug::{AddRefusal, Added, add, give_up, make_device};
+use qo_plug::{AddRefusal, Added, DeviceOptions, add, give_up, make_device};
 use qo_properties::{make_all, plan};
 use qo_reset::Resets;
 use qo_rings::Rings;
@@ -57,11 +57,14 @@ fn bridge<L: Ledger>(
     alloc: Global,
     steps: &mut Steps<L>,
 ) -> Result<Added, AddRefusal> {
-    let driver = "slot-bridge";
+    let options = DeviceOptions {
+        driver: "slot-bridge",
+        id: None,
+        bus: None,
+        props,
+    };
     let rings = Rings::new(alloc);
-    add(
-        heap, resets, hotplug, &rings, 0, driver, None, None, props, alloc, steps,
-    )
+    add(heap, resets, hotplug, &rings, 0, &options, alloc, steps)
 }
 
 /// The slot after the last one, as a property.

@@ -1,7 +1,7 @@
 -- What stands at the place is read, and what it names is there.
 use Rattle.std.proofs.Common.{◌≡◌, Some, None, sym, ◌∙◌, rules}
 use Rattle.qo_model.specs.Devices.{bus_in}
-use Rattle.qo_buses.proofs.KidLemmas.{slot-live}
+use Rattle.qo_heap.proofs.HeapLemmas.{slot-live}
 use Rattle.qo_buses.proofs.SlotLemmas.{read-at}
 use Rattle.qo_buses.proofs.buses.bus_in_slot.Goals as goal
 

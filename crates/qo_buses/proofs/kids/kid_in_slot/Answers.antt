@@ -3,7 +3,7 @@ use Rattle.std.proofs.Common.{◌≡◌, List, ℕ, Some, None, sym, ◌∙◌, 
 use Rattle.qo_table.specs.Rows.{IsLive}
 use Rattle.qo_model.specs.Board.{Slot}
 use Rattle.qo_model.specs.Devices.{strong_in}
-use Rattle.qo_buses.proofs.KidLemmas.{slot-live}
+use Rattle.qo_heap.proofs.HeapLemmas.{slot-live}
 use Rattle.qo_buses.proofs.SlotLemmas.{read-at, same-named}
 use Rattle.qo_buses.proofs.kids.kid_in_slot.Goals as goal
 

@@ -4,7 +4,7 @@ use Rattle.std.specs.Str.{bytes_eq}
 use Rattle.qo_table.specs.Rows.{IsLive}
 use Rattle.qo_object.specs.Slots.{Named}
 use Rattle.qo_model.specs.Devices.{strong_in}
-use Rattle.qo_paths.proofs.WalkLemmas.{target-live}
+use Rattle.qo_heap.proofs.HeapLemmas.{target-live}
 use Rattle.qo_buses.proofs.SlotLemmas.{read-named, same-named}
 use Rattle.qo_buses.proofs.slots.strong_at.Goals as goal
 

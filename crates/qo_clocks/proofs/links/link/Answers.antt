@@ -2,7 +2,7 @@ use Rattle.std.proofs.Common.{◌≡◌, ◌∙◌, Some, true, false, sym, slic
 use Rattle.std.specs.Str.{bytes_eq}
 use Rattle.qo_object.specs.Slots.{Named}
 use Rattle.qo_heap.specs.Objects.{slots_of}
-use Rattle.qo_heap.proofs.PlacesLemmas.{position-find}
+use Rattle.qo_values.proofs.ListLemmas.{position-find}
 use Rattle.qo_clocks.specs.Links.{accepts, index_on}
 use Rattle.qo_clocks.proofs.LinkLemmas.{connects, connects-not, empty-there}
 use Rattle.qo_clocks.proofs.links.link.Goals as goal

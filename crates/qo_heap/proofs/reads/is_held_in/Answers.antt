@@ -1,9 +1,7 @@
-use Rattle.std.proofs.Common.{sym, ◌∙◌, ap, ℕ, drop}
-use Rattle.std.specs.List.{list_any}
+use Rattle.std.proofs.Common.{sym, ◌∙◌, arith}
 use Rattle.qo_object.specs.Content.{Content, is_holder}
 use Rattle.qo_slots.specs.declared.keys.Key.{Key}
-use Rattle.qo_heap.proofs.ReferenceLemmas.{any-here, any-from, any-past}
-use Rattle.qo_heap.proofs.PlacesLemmas.{all-walked}
+use Rattle.qo_heap.proofs.PlacesLemmas.{all-walked, any-from, any-here, any-past}
 use Rattle.qo_heap.proofs.reads.is_held_in.Goals as goal
 
 pub returns-then-is_holder_at : goal.returns-then-is_holder_at
@@ -20,5 +18,5 @@ pub returns : goal.returns
 returns g c =
     let end =
     all-walked c.loop-place.place c.len-place-end.result c.args.table.now.rows c.loop-place.auto.place-end c.loop-place-test.false c.len-place-end.ensures in
-    let p = λ (row : Key × Content). is_holder c.args.birth row.1 in
-    sym (c.loop-place.invariant ∙ ap (λ (n : ℕ). list_any p (drop n c.args.table.now.rows)) end ∙ any-past p c.args.table.now.rows)
+    sym (c.loop-place.invariant
+    ∙ any-past (λ (row : Key × Content). is_holder c.args.birth row.1) c.loop-place.place c.args.table.now.rows (omega (arith, end)))

@@ -2,12 +2,12 @@
 use Rattle.std.proofs.Common.{ap, map, option_map, option_to_list, rules}
 use Rattle.qo_commands.specs.Commands.{event_of}
 use Rattle.qo_machine.proofs.LaneLemmas.{reply_sent}
-use Rattle.qo_machine.proofs.MachineLemmas.{on_ok}
+use Rattle.std.proofs.lemmas.Result.{on_ok_weaker}
 use Rattle.qo_machine.proofs.serving.send_reply.Goals as goal
 
 pub returns-clause-sent : goal.returns-clause-sent
 returns-clause-sent c =
-    on_ok c.push.result
+    on_ok_weaker c.push.result
     (λ more.
     reply_sent c.args.sending.now.at c.args.lane c.args.machine.now c.forget_waiting.new.self c.args.reply c.args.sending.now.outs c.tell_all-told.new.self.outs
     c.tell_own.new.self.outs c.push.new.self.outs

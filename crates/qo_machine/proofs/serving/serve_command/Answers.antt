@@ -1,12 +1,14 @@
 -- A command is done as it is defined, or refused for want of memory.
 use Rattle.std.proofs.Common.{refl}
 use Rattle.qo_machine.proofs.MemoryLemmas.{left_served}
-use Rattle.qo_machine.proofs.MachineLemmas.{left_done, on_err, on_ok, served_command, served_want}
+use Rattle.qo_machine.proofs.MachineLemmas.{left_done, served_command, served_want}
+use Rattle.qo_heap.proofs.HeapLemmas.{on-err}
+use Rattle.std.proofs.lemmas.Result.{on_ok_weaker}
 use Rattle.qo_machine.proofs.serving.serve_command.Goals as goal
 
 pub returns-in-Ok-clause-served : goal.returns-in-Ok-clause-served
 returns-in-Ok-clause-served g c =
-    on_ok c.send_reply-sent.result
+    on_ok_weaker c.send_reply-sent.result
     (λ p. (
       p.0,
       p.1,
@@ -19,14 +21,14 @@ returns-in-Ok-clause-served g c =
 
 pub returns-in-Ok-clause-left : goal.returns-in-Ok-clause-left
 returns-in-Ok-clause-left g c =
-    on_err c.send_reply-sent.result
+    on-err c.send_reply-sent.result
     (left_done c.args.sending.now.at c.args.session c.args.machine.now c.perform.new.self c.send_reply-sent.new.machine c.conclude.new.self c.args.command.now _
     c.in-Ok.reply c.in-Ok.ensures.came c.in-Ok.ensures.rest c.send_reply-sent.ensures.board c.send_reply-sent.ensures.rest
     c.conclude.ensures.state c.conclude.ensures.board)
 
 pub returns-in-Err-clause-served : goal.returns-in-Err-clause-served
 returns-in-Err-clause-served g c =
-    on_ok c.tell_want.result
+    on_ok_weaker c.tell_want.result
     (λ more. (
       _,
       more,
@@ -37,7 +39,7 @@ returns-in-Err-clause-served g c =
 
 pub returns-in-Err-clause-left : goal.returns-in-Err-clause-left
 returns-in-Err-clause-left g c =
-    on_err c.tell_want.result
+    on-err c.tell_want.result
     (λ s here.
     left_served c.args.sending.now.at c.args.session s c.args.command.now _ _ c.perform.new.self
     (served_want c.args.sending.now.at c.args.session c.args.machine.now c.perform.new.self c.args.command.now _ _ refl c.in-Err.ensures.kept

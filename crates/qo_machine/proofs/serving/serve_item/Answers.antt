@@ -3,7 +3,8 @@ use Rattle.std.proofs.Common.{ℕ, List, [], ◌∷◌, refl, sym, ap, subst, �
 use Rattle.qo_commands.proofs.CommandLemmas.{empty_written}
 use Rattle.qo_commands.specs.Commands.{empty}
 use Rattle.qo_machine.proofs.MemoryLemmas.{front_answer, front_command, front_negotiation, front_unheeded}
-use Rattle.qo_machine.proofs.MachineLemmas.{on_err, serves_answer, serves_command, serves_negotiation, serves_over_by}
+use Rattle.qo_machine.proofs.MachineLemmas.{serves_answer, serves_command, serves_negotiation, serves_over_by}
+use Rattle.qo_heap.proofs.HeapLemmas.{on-err}
 use Rattle.qo_machine.specs.Machine.{by_item, state_with}
 use Rattle.qo_machine.specs.Serving.{CommandLeft, CommandServed, moved}
 use Rattle.qo_machine.proofs.serving.serve_item.Goals as goal
@@ -56,38 +57,38 @@ returns-in_ok-serve_command-in-Do-clause-served g c =
 
 pub returns-in_err-code-clause-left : goal.returns-in_err-code-clause-left
 returns-in_err-code-clause-left g c =
-    on_err c.from_residual.result (front_unheeded c.args.sending.now.at c.args.session c.args.machine.now c.heed.new.self (c.args.item.now ∷ [])
+    on-err c.from_residual.result (front_unheeded c.args.sending.now.at c.args.session c.args.machine.now c.heed.new.self (c.args.item.now ∷ [])
     c.in_err-code.ensures.kept c.heed.ensures.board)
 
 pub returns-in_err-text-in-Answer-clause-left : goal.returns-in_err-text-in-Answer-clause-left
 returns-in_err-text-in-Answer-clause-left g c =
-    on_err c.from_residual-in_err-text-in-Answer.result
+    on-err c.from_residual-in_err-text-in-Answer.result
     (front_answer c.args.sending.now.at c.args.session c.args.machine.now c.heed.new.self (c.args.item.now ∷ []) c.in-Answer.code c.in-Answer.id
     (λ b. c.in_ok-code.ensures.state b ∙ ap (moved (state_with b c.args.machine.now) c.args.session) c.in-Answer.is) c.heed.ensures.board)
 
 pub returns-in_err-push-in-Answer-clause-left : goal.returns-in_err-push-in-Answer-clause-left
 returns-in_err-push-in-Answer-clause-left g c =
-    on_err c.from_residual-in_err-push-in-Answer.result
+    on-err c.from_residual-in_err-push-in-Answer.result
     (front_answer c.args.sending.now.at c.args.session c.args.machine.now c.heed.new.self (c.args.item.now ∷ []) c.in-Answer.code c.in-Answer.id
     (λ b. c.in_ok-code.ensures.state b ∙ ap (moved (state_with b c.args.machine.now) c.args.session) c.in-Answer.is) c.heed.ensures.board)
 
 pub returns-in_err-text-in-Negotiated-clause-left : goal.returns-in_err-text-in-Negotiated-clause-left
 returns-in_err-text-in-Negotiated-clause-left g c =
-    on_err c.from_residual-in_err-text-in-Negotiated.result
+    on-err c.from_residual-in_err-text-in-Negotiated.result
     (front_negotiation c.args.sending.now.at c.args.session c.args.machine.now c.heed.new.self c.args.item.now c.in-Negotiated.id (sym c.if-ended.ensures)
     (λ b. sym c.in-Negotiated.is ∙ c.in_ok-code.ensures.act b)
     (λ b. c.in_ok-code.ensures.state b ∙ ap (moved (state_with b c.args.machine.now) c.args.session) c.in-Negotiated.is) c.heed.ensures.board)
 
 pub returns-in_err-push-in-Negotiated-clause-left : goal.returns-in_err-push-in-Negotiated-clause-left
 returns-in_err-push-in-Negotiated-clause-left g c =
-    on_err c.from_residual-in_err-push-in-Negotiated.result
+    on-err c.from_residual-in_err-push-in-Negotiated.result
     (front_negotiation c.args.sending.now.at c.args.session c.args.machine.now c.heed.new.self c.args.item.now c.in-Negotiated.id (sym c.if-ended.ensures)
     (λ b. sym c.in-Negotiated.is ∙ c.in_ok-code.ensures.act b)
     (λ b. c.in_ok-code.ensures.state b ∙ ap (moved (state_with b c.args.machine.now) c.args.session) c.in-Negotiated.is) c.heed.ensures.board)
 
 pub returns-in_err-serve_command-in-Do-clause-left : goal.returns-in_err-serve_command-in-Do-clause-left
 returns-in_err-serve_command-in-Do-clause-left g c =
-    on_err c.from_residual-in_err-serve_command-in-Do.result
+    on-err c.from_residual-in_err-serve_command-in-Do.result
     (front_command c.args.sending.now.at c.args.session c.args.machine.now c.heed.new.self c.serve_command.new.machine c.args.item.now c.in-Do.command
     c.in-Do.id (sym c.if-ended.ensures) (λ b. sym c.in-Do.is ∙ c.in_ok-code.ensures.act b)
     (λ b. c.in_ok-code.ensures.state b ∙ ap (moved (state_with b c.args.machine.now) c.args.session) c.in-Do.is) c.heed.ensures.board

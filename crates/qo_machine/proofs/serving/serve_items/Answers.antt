@@ -4,7 +4,8 @@ use Rattle.qo_framing.specs.declared.items.Item.{Item}
 use Rattle.qo_causes.specs.declared.inputs.Moment.{Moment}
 use Rattle.qo_machine.proofs.LaneLemmas.{more_lanes}
 use Rattle.qo_machine.proofs.MemoryLemmas.{front_of_all_by, front_on_by}
-use Rattle.qo_machine.proofs.MachineLemmas.{on_err, serves_on_by, take_one}
+use Rattle.qo_machine.proofs.MachineLemmas.{serves_on_by, take_one}
+use Rattle.qo_heap.proofs.HeapLemmas.{on-err}
 use Rattle.qo_machine.specs.Machine.{IsIn, Message, State, by_item}
 use Rattle.qo_machine.specs.Sending.{AreToLanes}
 use Rattle.qo_machine.specs.Serving.{ServesFront, ServesTo}
@@ -34,7 +35,7 @@ returns-clause-lanes g c = subst AreToLanes (sym c.into_outs.ensures) c.loop-ite
 
 pub returns-in_err-serve_item-clause-left : goal.returns-in_err-serve_item-clause-left
 returns-in_err-serve_item-clause-left g c =
-    on_err c.from_residual-in_err-serve_item.result
+    on-err c.from_residual-in_err-serve_item.result
     (λ s here.
     front_of_all_by (by_item c.args.at c.args.session) s c.serve_item.new.machine c.args.items.now (c.loop-item.item-index + 1)
     (subst (λ (items : List Item). ServesFront c.args.at c.args.session s items c.serve_item.new.machine)
@@ -47,4 +48,4 @@ returns-in_err-serve_item-clause-left g c =
 -- where there is no room for the messages nothing is served
 
 pub returns-in_err-sending-clause-left : goal.returns-in_err-sending-clause-left
-returns-in_err-sending-clause-left g c = on_err c.from_residual.result (λ s here. ([], c.args.items.now, [], refl, here))
+returns-in_err-sending-clause-left g c = on-err c.from_residual.result (λ s here. ([], c.args.items.now, [], refl, here))

@@ -3,7 +3,9 @@ use Rattle.std.proofs.Common.{ℕ, List, [], refl, sym, ap, subst, ◌∙◌, ap
 use Rattle.qo_lane.specs.Hearing.{heard}
 use Rattle.qo_lane.specs.Lines.{without_return}
 use Rattle.qo_machine.proofs.GuestLemmas.{line_left, line_refused, line_refused_left, line_served}
-use Rattle.qo_machine.proofs.MachineLemmas.{on_err, on_ok, serves_over_by}
+use Rattle.qo_machine.proofs.MachineLemmas.{serves_over_by}
+use Rattle.qo_heap.proofs.HeapLemmas.{on-err}
+use Rattle.std.proofs.lemmas.Result.{on_ok_weaker}
 use Rattle.qo_machine.specs.Machine.{by_line}
 use Rattle.qo_machine.specs.Serving.{CameTo}
 use Rattle.qo_machine.proofs.serving.serve_line.Goals as goal
@@ -19,7 +21,7 @@ returns-then-ended-clause-served g c = (
 
 pub returns-in-Ok-clause-served : goal.returns-in-Ok-clause-served
 returns-in-Ok-clause-served g c =
-    on_ok c.send_reply-sent.result
+    on_ok_weaker c.send_reply-sent.result
     (λ p. (
       p.0,
       p.1,
@@ -33,7 +35,7 @@ returns-in-Ok-clause-served g c =
 
 pub returns-in-Ok-clause-left : goal.returns-in-Ok-clause-left
 returns-in-Ok-clause-left g c =
-    on_err c.send_reply-sent.result
+    on-err c.send_reply-sent.result
     (line_left c.args.sending.now.at c.args.machine.now c.hear.new.self c.send_reply-sent.new.machine c.conclude.new.self c.args.line.now c.in-Ok.reply
     (sym c.if-ended.ensures)
     (λ b s. subst (λ (line : List ℕ). CameTo (heard b line) c.in-Ok.reply c.hear.new.self.board)
@@ -42,7 +44,7 @@ returns-in-Ok-clause-left g c =
 
 pub returns-in-Err-clause-served : goal.returns-in-Err-clause-served
 returns-in-Err-clause-served g c =
-    on_ok c.tell_guest_want.result
+    on_ok_weaker c.tell_guest_want.result
     (λ more. (
       _,
       more,
@@ -53,6 +55,6 @@ returns-in-Err-clause-served g c =
 
 pub returns-in-Err-clause-left : goal.returns-in-Err-clause-left
 returns-in-Err-clause-left g c =
-    on_err c.tell_guest_want.result
+    on-err c.tell_guest_want.result
     (line_refused_left c.args.sending.now.at c.args.machine.now c.hear.new.self c.args.line.now (sym c.if-ended.ensures) c.in-Err.ensures.kept
     c.in-Err.ensures.rest)

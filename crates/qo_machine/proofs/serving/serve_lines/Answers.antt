@@ -3,7 +3,8 @@ use Rattle.std.proofs.Common.{sym, ◌∙◌, subst, ℕ, List, [], ◌∷◌, �
 use Rattle.qo_causes.specs.declared.inputs.Moment.{Moment}
 use Rattle.qo_machine.proofs.LaneLemmas.{more_lanes}
 use Rattle.qo_machine.proofs.MemoryLemmas.{front_of_all_by, front_on_by}
-use Rattle.qo_machine.proofs.MachineLemmas.{on_err, serves_on_by, take_one}
+use Rattle.qo_machine.proofs.MachineLemmas.{serves_on_by, take_one}
+use Rattle.qo_heap.proofs.HeapLemmas.{on-err}
 use Rattle.qo_machine.specs.Machine.{IsIn, Message, State, by_line}
 use Rattle.qo_machine.specs.Sending.{AreToLanes}
 use Rattle.qo_machine.specs.Serving.{LinesFront, LinesTo}
@@ -31,7 +32,7 @@ returns-clause-lanes g c = subst AreToLanes (sym c.into_outs.ensures) c.loop-lin
 
 pub returns-in_err-serve_line-clause-left : goal.returns-in_err-serve_line-clause-left
 returns-in_err-serve_line-clause-left g c =
-    on_err c.from_residual.result
+    on-err c.from_residual.result
     (λ s here.
     front_of_all_by (by_line c.args.at) s c.serve_line.new.machine c.args.lines.now (c.loop-line.line-index + 1)
     (subst (λ (lines : List (List ℕ)). LinesFront c.args.at s lines c.serve_line.new.machine)

@@ -3,7 +3,8 @@ use Rattle.std.proofs.Common.{◌≡◌, Some, None, ap, sym, ◌∙◌, rules}
 use Rattle.std.specs.Str.{bytes_eq}
 use Rattle.qo_object.specs.BoardObject.{birth_of}
 use Rattle.qo_object.specs.Slots.{Named}
-use Rattle.qo_paths.proofs.WalkLemmas.{next-is, target-live}
+use Rattle.qo_paths.proofs.WalkLemmas.{next-is}
+use Rattle.qo_heap.proofs.HeapLemmas.{target-live}
 use Rattle.qo_paths.proofs.walks.next_of.Goals as goal
 
 pub returns-in_err-slot-clause-next : goal.returns-in_err-slot-clause-next

@@ -1,12 +1,12 @@
 -- It is chosen where the device goes, its slot is judged, and it is made, placed and finished.
-use Rattle.std.proofs.Common.{◌≡◌, ◌≤◌, ◌==◌, ap, sym, subst, ◌∙◌, ℕ, false, Some, option_map, Err, arith}
+use Rattle.std.proofs.Common.{◌≡◌, ◌≤◌, ◌==◌, ap, sym, subst, ◌∙◌, ℕ, false, Some, Err, inl, arith}
 use Rattle.std.proofs.lemmas.Bool.Decides.{nat_tests}
 use Rattle.qo_model.specs.Plug.{Wanted}
 use Rattle.qo_heap.specs.Board.{Shows}
-use Rattle.qo_plug.specs.Admission.{wanted}
+use Rattle.qo_plug.specs.Admission.{as_wanted}
 use Rattle.qo_plug.specs.Stages.{spot_barred}
 use Rattle.qo_plug.proofs.JudgementLemmas.{refused-told}
-use Rattle.qo_plug.proofs.AddLemmas.{cut-late, refused-last, refused-within, spot-cut, spot-refused}
+use Rattle.qo_plug.proofs.AddLemmas.{cut-late, refused-last, refused-within, spot-refused}
 use Rattle.qo_plug.proofs.adding.add.Goals as goal
 
 pub returns-in-Err-clause-memory : goal.returns-in-Err-clause-memory
@@ -14,7 +14,7 @@ returns-in-Err-clause-memory g c = λ b is e. c.choose.ensures.memory b c.args.r
 
 pub returns-in-Err-Refused-clause-refused : goal.returns-in-Err-Refused-clause-refused
 returns-in-Err-Refused-clause-refused g c = λ b is.
-    let a : Wanted = wanted c.args.driver.now (option_map (λ t. t.now) c.args.id) (option_map (λ t. t.now) c.args.bus) c.args.props.now in
+    let a : Wanted = as_wanted c.args.options.now in
     let planned = c.in-Ok.ensures.planned b c.args.resets.now.births c.args.rings.now is in
     let shown = subst (Shows b) (sym c.in-Ok.ensures.same) is.shown in
     let stage = c.in-Err-Refused.stage in
@@ -27,49 +27,37 @@ returns-in-Err-Refused-clause-refused g c = λ b is.
     rw (c.in-Err-Refused.stage-is, c.in-Err-Refused.code-is) at (c.turn_down.ensures.down b c.in-Ok.planned.site.bus.birth shown
     (subst (λ (k : ℕ). (k == 8) ≡ false) (sym c.in-Err-Refused.stage-is) early)) in
     spot-refused b a c.in-Ok.planned.site planned.admitted c.turn_down.new.heap (record { stage = stage; code = code }) (sym planned.given)
-    (sym (refused-told ℕ (λ at told. spot_barred b c.in-Ok.planned.site.kind c.in-Ok.planned.site.bus.birth c.args.props.now ≡ Some (at, told))
+    (sym (refused-told ℕ (λ at told. spot_barred b c.in-Ok.planned.site.kind c.in-Ok.planned.site.bus.birth c.args.options.now.props.now ≡ Some (at, told))
     c.in-Err-Refused.field-0
-    stage code is_refused (c.in-Err-Refused.ensures.refused b c.args.props.now shown is.rings_are planned.has))) ℕ c.turn_down.result down
+    stage code is_refused (c.in-Err-Refused.ensures.refused b c.args.options.now.props.now shown is.rings_are planned.has))) ℕ c.turn_down.result down
 
 pub returns-in-Err-Refused-clause-memory : goal.returns-in-Err-Refused-clause-memory
 returns-in-Err-Refused-clause-memory g c = λ b is e.
-    let a : Wanted = wanted c.args.driver.now (option_map (λ t. t.now) c.args.id) (option_map (λ t. t.now) c.args.bus) c.args.props.now in
-    let planned = c.in-Ok.ensures.planned b c.args.resets.now.births c.args.rings.now is in
-    let shown = subst (Shows b) (sym c.in-Ok.ensures.same) is.shown in
-    let stage = c.in-Err-Refused.stage in
-    let code = c.in-Err-Refused.code in
-    let is_refused = c.in-Err-Refused.field-0-is in
-    let stages : (5 ≤ stage) × (stage ≤ 6) =
-    refused-told ℕ (λ at told. (5 ≤ at) × (at ≤ 6)) c.in-Err-Refused.field-0 stage code is_refused c.in-Err-Refused.ensures.stages in
-    let early : (stage == 8) ≡ false = grind (arith, nat_tests, stages.1) in
-    let down =
-    rw (c.in-Err-Refused.stage-is, c.in-Err-Refused.code-is) at (c.turn_down.ensures.down b c.in-Ok.planned.site.bus.birth shown
-    (subst (λ (k : ℕ). (k == 8) ≡ false) (sym c.in-Err-Refused.stage-is) early)) in
-    spot-cut b a c.in-Ok.planned.site planned.admitted c.turn_down.new.heap (record { stage = stage; code = code }) c.turn_down.result down (cc e)
+    inl (subst (Shows b) (sym ((c.turn_down.ensures.memory (cc e)).1 ∙ c.in-Ok.ensures.same)) is.shown)
 
 pub returns-in-Err-Refused-clause-book : goal.returns-in-Err-Refused-clause-book
 returns-in-Err-Refused-clause-book g c = λ out h. c.turn_down.ensures.book out (c.choose.ensures.book out h)
 
 pub returns-in-Err-make-clause-memory : goal.returns-in-Err-make-clause-memory
 returns-in-Err-make-clause-memory g c = λ b is e.
-    let a : Wanted = wanted c.args.driver.now (option_map (λ t. t.now) c.args.id) (option_map (λ t. t.now) c.args.bus) c.args.props.now in
+    let a : Wanted = as_wanted c.args.options.now in
     let planned = c.in-Ok.ensures.planned b c.args.resets.now.births c.args.rings.now is in
     cut-late b a c.in-Ok.planned.site planned.admitted c.make.new.heap
-    (c.in-Err-make.ensures.err b a (subst (Shows b) (sym c.in-Ok.ensures.same) is.shown) is.sound planned)
+    (c.in-Err-make.ensures.err b (subst (Shows b) (sym c.in-Ok.ensures.same) is.shown) is.sound)
 
 pub returns-in-Err-make-clause-book : goal.returns-in-Err-make-clause-book
 returns-in-Err-make-clause-book g c = λ out h. c.make.ensures.book out (c.choose.ensures.book out h)
 
 pub returns-in-Err-place-clause-refused : goal.returns-in-Err-place-clause-refused
 returns-in-Err-place-clause-refused g c = λ b is.
-    let a : Wanted = wanted c.args.driver.now (option_map (λ t. t.now) c.args.id) (option_map (λ t. t.now) c.args.bus) c.args.props.now in
+    let a : Wanted = as_wanted c.args.options.now in
     let planned = c.in-Ok.ensures.planned b c.args.resets.now.births c.args.rings.now is in
     let begun = c.in-Ok-make.ensures.begun b a (subst (Shows b) (sym c.in-Ok.ensures.same) is.shown) is.sound is.holds_are is.rings_are planned in
     refused-within b a 5 6 ℕ ℕ c.in-Err-place.refusal c.place.new.heap (c.in-Err-place.ensures.refused b a begun)
 
 pub returns-in-Err-place-clause-memory : goal.returns-in-Err-place-clause-memory
 returns-in-Err-place-clause-memory g c = λ b is e.
-    let a : Wanted = wanted c.args.driver.now (option_map (λ t. t.now) c.args.id) (option_map (λ t. t.now) c.args.bus) c.args.props.now in
+    let a : Wanted = as_wanted c.args.options.now in
     let planned = c.in-Ok.ensures.planned b c.args.resets.now.births c.args.rings.now is in
     let begun = c.in-Ok-make.ensures.begun b a (subst (Shows b) (sym c.in-Ok.ensures.same) is.shown) is.sound is.holds_are is.rings_are planned in
     c.in-Err-place.ensures.memory b a begun (ap (λ r. Err r) (cc e))
@@ -79,7 +67,7 @@ returns-in-Err-place-clause-book g c = λ out h. c.place.ensures.book out (c.mak
 
 pub returns-in-Ok-finish-clause-ok : goal.returns-in-Ok-finish-clause-ok
 returns-in-Ok-finish-clause-ok g c = λ b is.
-    let a : Wanted = wanted c.args.driver.now (option_map (λ t. t.now) c.args.id) (option_map (λ t. t.now) c.args.bus) c.args.props.now in
+    let a : Wanted = as_wanted c.args.options.now in
     let planned = c.in-Ok.ensures.planned b c.args.resets.now.births c.args.rings.now is in
     let begun = c.in-Ok-make.ensures.begun b a (subst (Shows b) (sym c.in-Ok.ensures.same) is.shown) is.sound is.holds_are is.rings_are planned in
     c.in-Ok-finish.ensures.ok b a (c.in-Ok-place.ensures.settled b a begun is.notices)
@@ -90,7 +78,7 @@ returns-in-Ok-finish-clause-book g c = λ out h. c.finish.ensures.book out (c.pl
 
 pub returns-in-Err-finish-clause-refused : goal.returns-in-Err-finish-clause-refused
 returns-in-Err-finish-clause-refused g c = λ b is.
-    let a : Wanted = wanted c.args.driver.now (option_map (λ t. t.now) c.args.id) (option_map (λ t. t.now) c.args.bus) c.args.props.now in
+    let a : Wanted = as_wanted c.args.options.now in
     let planned = c.in-Ok.ensures.planned b c.args.resets.now.births c.args.rings.now is in
     let begun = c.in-Ok-make.ensures.begun b a (subst (Shows b) (sym c.in-Ok.ensures.same) is.shown) is.sound is.holds_are is.rings_are planned in
     refused-last b a ℕ ℕ c.in-Err-finish.field-0 c.finish.new.heap c.in-Err-finish.ensures.code

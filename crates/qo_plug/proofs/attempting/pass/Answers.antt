@@ -2,76 +2,55 @@
 use Rattle.std.proofs.Common.{ap, ◌∙◌}
 use Rattle.qo_values.specs.declared.kinds.Act.TheVariants.{Realize, Unrealize, Enter, Hold}
 use Rattle.qo_plug.specs.Attempts.{last_acted, let_out, passed_on}
-use Rattle.qo_plug.proofs.AttemptLemmas.{Leaves, first-leaves, last-leaves, leaves-live, leaves-then, out-leaves}
+use Rattle.qo_plug.proofs.AttemptLemmas.{entered-leaves, first-leaves, held-leaves, leaves-live, let_out-leaves}
 use Rattle.qo_plug.proofs.attempting.pass.Goals as goal
 
 pub act_last-requires-clause-live : goal.act_last-requires-clause-live
-act_last-requires-clause-live g c = leaves-live c.args.heap.now c.act_first.new.heap
+act_last-requires-clause-live g c =
+    leaves-live c.args.heap.now c.act_first.new.heap
     (first-leaves Realize c.args.device.birth c.args.heap.now c.act_first.new.heap c.act_first.ensures) c.args.device c.requires.live
 
 pub act_last-requires-clause-quiet : goal.act_last-requires-clause-quiet
-act_last-requires-clause-quiet g c =
-    λ n le. (first-leaves Realize c.args.device.birth c.args.heap.now c.act_first.new.heap c.act_first.ensures).quiet n (c.requires.quiet n le)
+act_last-requires-clause-quiet g c = λ n le.
+    (first-leaves Realize c.args.device.birth c.args.heap.now c.act_first.new.heap c.act_first.ensures).quiet n
+    (c.requires.quiet n le)
 
 pub act_last-requires-2-clause-live : goal.act_last-requires-2-clause-live
-act_last-requires-2-clause-live g c = leaves-live c.act_first.new.heap c.act_last.new.heap
-    (last-leaves Enter c.args.device.birth c.act_first.new.heap c.act_last.new.heap c.act_last.ensures) c.args.device
-    (leaves-live c.args.heap.now c.act_first.new.heap (first-leaves Realize c.args.device.birth c.args.heap.now c.act_first.new.heap c.act_first.ensures)
-    c.args.device c.requires.live)
+act_last-requires-2-clause-live g c =
+    leaves-live c.args.heap.now c.act_last.new.heap
+    (entered-leaves c.args.device.birth c.args.heap.now c.act_first.new.heap c.act_last.new.heap c.act_first.ensures c.act_last.ensures) c.args.device
+    c.requires.live
 
 pub act_last-requires-2-clause-quiet : goal.act_last-requires-2-clause-quiet
 act_last-requires-2-clause-quiet g c = λ n le.
-    let one : Leaves c.args.heap.now c.act_first.new.heap = first-leaves Realize c.args.device.birth c.args.heap.now c.act_first.new.heap c.act_first.ensures in
-    let two : Leaves c.act_first.new.heap c.act_last.new.heap =
-    last-leaves Enter c.args.device.birth c.act_first.new.heap c.act_last.new.heap c.act_last.ensures in
-    (leaves-then c.args.heap.now c.act_first.new.heap c.act_last.new.heap one two).quiet n (c.requires.quiet n le)
+    (entered-leaves c.args.device.birth c.args.heap.now c.act_first.new.heap c.act_last.new.heap c.act_first.ensures c.act_last.ensures).quiet n
+    (c.requires.quiet n le)
 
 pub let_out-requires-clause-live : goal.let_out-requires-clause-live
 let_out-requires-clause-live g c =
-    let one : Leaves c.args.heap.now c.act_first.new.heap = first-leaves Realize c.args.device.birth c.args.heap.now c.act_first.new.heap c.act_first.ensures in
-    let two : Leaves c.act_first.new.heap c.act_last.new.heap =
-    last-leaves Enter c.args.device.birth c.act_first.new.heap c.act_last.new.heap c.act_last.ensures in
-    let three : Leaves c.act_last.new.heap c.act_last-2.new.heap =
-    last-leaves Hold c.args.device.birth c.act_last.new.heap c.act_last-2.new.heap c.act_last-2.ensures in
     leaves-live c.args.heap.now c.act_last-2.new.heap
-    (leaves-then c.args.heap.now c.act_last.new.heap c.act_last-2.new.heap (leaves-then c.args.heap.now c.act_first.new.heap c.act_last.new.heap one two) three)
-    c.args.device c.requires.live
+    (held-leaves c.args.device.birth c.args.heap.now c.act_first.new.heap c.act_last.new.heap c.act_last-2.new.heap c.act_first.ensures c.act_last.ensures
+    c.act_last-2.ensures) c.args.device c.requires.live
 
 pub let_out-requires-clause-quiet : goal.let_out-requires-clause-quiet
 let_out-requires-clause-quiet g c = λ n le.
-    let one : Leaves c.args.heap.now c.act_first.new.heap = first-leaves Realize c.args.device.birth c.args.heap.now c.act_first.new.heap c.act_first.ensures in
-    let two : Leaves c.act_first.new.heap c.act_last.new.heap =
-    last-leaves Enter c.args.device.birth c.act_first.new.heap c.act_last.new.heap c.act_last.ensures in
-    let three : Leaves c.act_last.new.heap c.act_last-2.new.heap =
-    last-leaves Hold c.args.device.birth c.act_last.new.heap c.act_last-2.new.heap c.act_last-2.ensures in
-    (leaves-then c.args.heap.now c.act_last.new.heap c.act_last-2.new.heap (leaves-then c.args.heap.now c.act_first.new.heap c.act_last.new.heap one two)
-    three).quiet n (c.requires.quiet n le)
+    (held-leaves c.args.device.birth c.args.heap.now c.act_first.new.heap c.act_last.new.heap c.act_last-2.new.heap c.act_first.ensures c.act_last.ensures
+    c.act_last-2.ensures).quiet n
+    (c.requires.quiet n le)
 
 pub act_last-requires-3-clause-live : goal.act_last-requires-3-clause-live
 act_last-requires-3-clause-live g c =
-    let one : Leaves c.args.heap.now c.act_first.new.heap = first-leaves Realize c.args.device.birth c.args.heap.now c.act_first.new.heap c.act_first.ensures in
-    let two : Leaves c.act_first.new.heap c.act_last.new.heap =
-    last-leaves Enter c.args.device.birth c.act_first.new.heap c.act_last.new.heap c.act_last.ensures in
-    let three : Leaves c.act_last.new.heap c.act_last-2.new.heap =
-    last-leaves Hold c.args.device.birth c.act_last.new.heap c.act_last-2.new.heap c.act_last-2.ensures in
-    let four : Leaves c.act_last-2.new.heap c.let_out.new.heap =
-    out-leaves c.args.out c.args.device.birth c.act_last-2.new.heap c.let_out.new.heap c.let_out.ensures in
-    let all : Leaves c.args.heap.now c.act_last-2.new.heap = leaves-then c.args.heap.now c.act_last.new.heap c.act_last-2.new.heap
-    (leaves-then c.args.heap.now c.act_first.new.heap c.act_last.new.heap one two) three in
-    leaves-live c.args.heap.now c.let_out.new.heap (leaves-then c.args.heap.now c.act_last-2.new.heap c.let_out.new.heap all four) c.args.device c.requires.live
+    leaves-live c.args.heap.now c.let_out.new.heap
+    (let_out-leaves c.args.out c.args.device.birth c.args.heap.now c.act_first.new.heap c.act_last.new.heap c.act_last-2.new.heap c.let_out.new.heap
+    c.act_first.ensures c.act_last.ensures c.act_last-2.ensures
+    c.let_out.ensures) c.args.device c.requires.live
 
 pub act_last-requires-3-clause-quiet : goal.act_last-requires-3-clause-quiet
 act_last-requires-3-clause-quiet g c = λ n le.
-    let one : Leaves c.args.heap.now c.act_first.new.heap = first-leaves Realize c.args.device.birth c.args.heap.now c.act_first.new.heap c.act_first.ensures in
-    let two : Leaves c.act_first.new.heap c.act_last.new.heap =
-    last-leaves Enter c.args.device.birth c.act_first.new.heap c.act_last.new.heap c.act_last.ensures in
-    let three : Leaves c.act_last.new.heap c.act_last-2.new.heap =
-    last-leaves Hold c.args.device.birth c.act_last.new.heap c.act_last-2.new.heap c.act_last-2.ensures in
-    let four : Leaves c.act_last-2.new.heap c.let_out.new.heap =
-    out-leaves c.args.out c.args.device.birth c.act_last-2.new.heap c.let_out.new.heap c.let_out.ensures in
-    let all : Leaves c.args.heap.now c.act_last-2.new.heap = leaves-then c.args.heap.now c.act_last.new.heap c.act_last-2.new.heap
-    (leaves-then c.args.heap.now c.act_first.new.heap c.act_last.new.heap one two) three in
-    (leaves-then c.args.heap.now c.act_last-2.new.heap c.let_out.new.heap all four).quiet n (c.requires.quiet n le)
+    (let_out-leaves c.args.out c.args.device.birth c.args.heap.now c.act_first.new.heap c.act_last.new.heap c.act_last-2.new.heap c.let_out.new.heap
+    c.act_first.ensures c.act_last.ensures c.act_last-2.ensures
+    c.let_out.ensures).quiet n
+    (c.requires.quiet n le)
 
 pub returns : goal.returns
 unfolding passed_on

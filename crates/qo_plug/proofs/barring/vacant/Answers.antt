@@ -1,7 +1,8 @@
 -- What bars a place in a container.
 use Rattle.std.proofs.Common.{sym, ◌∙◌, codes}
-use Rattle.qo_plug.proofs.BarLemmas.{at-container-free, at-container-none, at-container-taken, container-none, of-gone, taken-is}
+use Rattle.qo_plug.proofs.BarLemmas.{at-container-free, at-container-none, at-container-taken, container-none, of-gone}
 use Rattle.qo_plug.proofs.barring.vacant.Goals as goal
+use Rattle.qo_properties.proofs.BarLemmas.{taken-is}
 
 pub returns-in_default-clause-refused : goal.returns-in_default-clause-refused
 returns-in_default-clause-refused g c =

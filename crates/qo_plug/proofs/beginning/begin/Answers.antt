@@ -1,8 +1,8 @@
 -- It is chosen where the device goes, its slot is judged, and it is made.
-use Rattle.std.proofs.Common.{ap, sym, subst, ◌∙◌, option_map, Err}
+use Rattle.std.proofs.Common.{ap, sym, subst, ◌∙◌, Err}
 use Rattle.qo_model.specs.Plug.{Wanted}
 use Rattle.qo_heap.specs.Board.{Shows}
-use Rattle.qo_plug.specs.Admission.{wanted}
+use Rattle.qo_plug.specs.Admission.{as_wanted}
 use Rattle.qo_plug.proofs.AddLemmas.{cut-late}
 use Rattle.qo_plug.proofs.beginning.begin.Goals as goal
 
@@ -14,7 +14,7 @@ returns-in-Err-clause-memory g c = λ b is e. c.choose.ensures.memory b c.args.r
 
 pub returns-in-Ok-make-clause-begun : goal.returns-in-Ok-make-clause-begun
 returns-in-Ok-make-clause-begun g c = λ b is.
-    let a : Wanted = wanted c.args.driver.now (option_map (λ t. t.now) c.args.id) (option_map (λ t. t.now) c.args.bus) c.args.props.now in
+    let a : Wanted = as_wanted c.args.options.now in
     let planned = c.in-Ok.ensures.planned b c.args.resets.now.births c.args.rings.now is in
     c.in-Ok-make.ensures.begun b a (subst (Shows b) (sym c.in-Ok.ensures.same) is.shown) is.sound is.holds_are is.rings_are planned
 
@@ -23,10 +23,10 @@ returns-in-Ok-make-clause-book g c = λ out h. c.make.ensures.book out (c.choose
 
 pub returns-in-Err-make-clause-memory : goal.returns-in-Err-make-clause-memory
 returns-in-Err-make-clause-memory g c = λ b is e.
-    let a : Wanted = wanted c.args.driver.now (option_map (λ t. t.now) c.args.id) (option_map (λ t. t.now) c.args.bus) c.args.props.now in
+    let a : Wanted = as_wanted c.args.options.now in
     let planned = c.in-Ok.ensures.planned b c.args.resets.now.births c.args.rings.now is in
     cut-late b a c.in-Ok.planned.site planned.admitted c.make.new.heap
-    (c.in-Err-make.ensures.err b a (subst (Shows b) (sym c.in-Ok.ensures.same) is.shown) is.sound planned)
+    (c.in-Err-make.ensures.err b (subst (Shows b) (sym c.in-Ok.ensures.same) is.shown) is.sound)
 
 pub returns-in-Err-make-clause-book : goal.returns-in-Err-make-clause-book
 returns-in-Err-make-clause-book g c = λ out h. c.make.ensures.book out (c.choose.ensures.book out h)

@@ -1,17 +1,18 @@
 -- The device is admitted, and what is given for its properties is planned.
-use Rattle.std.proofs.Common.{refl, sym, ◌∙◌, ℕ, option_map}
+use Rattle.std.proofs.Common.{refl, subst, sym, ◌∙◌, ℕ, inl}
 use Rattle.qo_model.specs.Plug.{Wanted}
-use Rattle.qo_plug.specs.Admission.{IsAdmitted, wanted}
+use Rattle.qo_heap.specs.Board.{Shows}
+use Rattle.qo_plug.specs.Admission.{IsAdmitted, as_wanted}
 use Rattle.qo_model.specs.Objects.{refusal_of}
-use Rattle.qo_plug.proofs.AddLemmas.{refused-early, turned-cut, turned-refused}
+use Rattle.qo_plug.proofs.AddLemmas.{refused-early, turned-refused}
 use Rattle.qo_plug.proofs.PlanLemmas.{plan-refused}
 use Rattle.qo_plug.proofs.beginning.choose.Goals as goal
 
 pub returns-in-Err-clause-refused : goal.returns-in-Err-clause-refused
 returns-in-Err-clause-refused g c = λ b holds rings is.
-    let a : Wanted = wanted c.args.driver.now (option_map (λ t. t.now) c.args.id) (option_map (λ t. t.now) c.args.bus) c.args.props.now in
+    let a : Wanted = as_wanted c.args.options.now in
     refused-early b a ℕ ℕ c.in-Err.refusal c.args.heap.now is.shown
-    (c.in-Err.ensures.refused b c.args.props.now is.shown (is.pending ∙ sym c.pending.ensures) is.anonymous_is)
+    (c.in-Err.ensures.refused b c.args.options.now.props.now is.shown (is.pending ∙ sym c.pending.ensures) is.anonymous_is)
 
 pub returns-in-Ok-plan-clause-fit : goal.returns-in-Ok-plan-clause-fit
 returns-in-Ok-plan-clause-fit g c =
@@ -26,25 +27,22 @@ returns-in-Ok-plan-clause-fit g c =
 pub returns-in-Ok-plan-clause-planned : goal.returns-in-Ok-plan-clause-planned
 returns-in-Ok-plan-clause-planned g c = λ b holds rings is.
     record {
-      admitted = c.in-Ok.ensures.admitted b c.args.props.now is.shown (is.pending ∙ sym c.pending.ensures) is.anonymous_is;
+      admitted = c.in-Ok.ensures.admitted b c.args.options.now.props.now is.shown (is.pending ∙ sym c.pending.ensures) is.anonymous_is;
       given = c.in-Ok-plan.ensures.refused b is.shown;
       has = c.in-Ok-plan.ensures.told b is.shown;
     }
 
 pub returns-in-Err-Refused-clause-refused : goal.returns-in-Err-Refused-clause-refused
 returns-in-Err-Refused-clause-refused g c = λ b holds rings is.
-    let a : Wanted = wanted c.args.driver.now (option_map (λ t. t.now) c.args.id) (option_map (λ t. t.now) c.args.bus) c.args.props.now in
-    let admitted : IsAdmitted b a c.in-Ok.site = c.in-Ok.ensures.admitted b c.args.props.now is.shown (is.pending ∙ sym c.pending.ensures) is.anonymous_is in
-    let refused = plan-refused ℕ (refusal_of b c.in-Ok.site.kind c.args.props.now) c.in-Err-Refused.field-0 c.in-Err-Refused.code c.in-Err-Refused.field-0-is
+    let a : Wanted = as_wanted c.args.options.now in
+    let admitted : IsAdmitted b a c.in-Ok.site =
+    c.in-Ok.ensures.admitted b c.args.options.now.props.now is.shown (is.pending ∙ sym c.pending.ensures) is.anonymous_is in
+    let refused =
+    plan-refused ℕ (refusal_of b c.in-Ok.site.kind c.args.options.now.props.now) c.in-Err-Refused.field-0 c.in-Err-Refused.code c.in-Err-Refused.field-0-is
     (c.in-Err-Refused.ensures.refused b is.shown) in
     turned-refused b a c.in-Ok.site admitted c.turn_down.new.heap c.in-Err-Refused.code refused ℕ c.turn_down.result
     (c.turn_down.ensures.down b c.in-Ok.site.bus.birth is.shown refl)
 
 pub returns-in-Err-Refused-clause-memory : goal.returns-in-Err-Refused-clause-memory
 returns-in-Err-Refused-clause-memory g c = λ b holds rings is e.
-    let a : Wanted = wanted c.args.driver.now (option_map (λ t. t.now) c.args.id) (option_map (λ t. t.now) c.args.bus) c.args.props.now in
-    let admitted : IsAdmitted b a c.in-Ok.site = c.in-Ok.ensures.admitted b c.args.props.now is.shown (is.pending ∙ sym c.pending.ensures) is.anonymous_is in
-    let refused = plan-refused ℕ (refusal_of b c.in-Ok.site.kind c.args.props.now) c.in-Err-Refused.field-0 c.in-Err-Refused.code c.in-Err-Refused.field-0-is
-    (c.in-Err-Refused.ensures.refused b is.shown) in
-    turned-cut b a c.in-Ok.site admitted c.turn_down.new.heap c.in-Err-Refused.code refused c.turn_down.result
-    (c.turn_down.ensures.down b c.in-Ok.site.bus.birth is.shown refl) (cc e)
+    inl (subst (Shows b) (sym (c.turn_down.ensures.memory (cc e)).1) is.shown)

@@ -56,6 +56,4 @@ returns-clause-begun g c = λ b a s sound holds rings planned.
     }
 
 pub returns-in_err-device-clause-err : goal.returns-in_err-device-clause-err
-returns-in_err-device-clause-err g c =
-    on-err c.from_residual.result
-    (λ b a s sound planned. c.in_err-device.ensures.err b a.props (rw c.as_mut_slice.ensures.value planned.has) s sound)
+returns-in_err-device-clause-err g c = on-err c.from_residual.result c.in_err-device.ensures.err

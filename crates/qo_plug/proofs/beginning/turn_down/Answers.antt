@@ -1,6 +1,5 @@
 -- The objects were made and ended; or nothing was.
-use Rattle.std.proofs.Common.{refl, inl, subst, sym}
-use Rattle.qo_heap.specs.Board.{Shows}
+use Rattle.std.proofs.Common.{refl, subst, sym}
 use Rattle.qo_heap.specs.Book.{IsBook}
 use Rattle.qo_heap.specs.Objects.{Objects}
 use Rattle.qo_plug.proofs.RefusalLemmas.{tried-shown, whole-book}
@@ -13,8 +12,8 @@ returns-in-Ok-clause-down c = λ b bus s early.
 pub returns-in-Ok-clause-book : goal.returns-in-Ok-clause-book
 returns-in-Ok-clause-book c = whole-book c.args.heap.now c.attempt_whole.new.heap c.args.kind c.in-Ok.ensures.ok
 
-pub returns-in-Err-clause-down : goal.returns-in-Err-clause-down
-returns-in-Err-clause-down c = λ b bus s early. inl (subst (λ (x : Objects). Shows b x) (sym c.in-Err.ensures.err.1) s)
+pub returns-in-Err-clause-memory : goal.returns-in-Err-clause-memory
+returns-in-Err-clause-memory c = λ e. c.in-Err.ensures.err
 
 pub returns-in-Err-clause-book : goal.returns-in-Err-clause-book
 returns-in-Err-clause-book c = λ out h. subst (λ (x : Objects). IsBook out x) (sym c.in-Err.ensures.err.1) h

@@ -1,13 +1,21 @@
 -- The device is made, or what was made of it ends.
-use Rattle.std.proofs.Common.{◌≡◌, ◌+◌, subst, ℕ, arith}
+use Rattle.std.proofs.Common.{◌≡◌, refl, ◌+◌, subst, ℕ, List, [], arith}
+use Rattle.std.specs.List.{AllZip}
 use Rattle.qo_object.specs.Content.{fresh}
 use Rattle.qo_model.specs.Release.{unpin}
 use Rattle.qo_heap.specs.Board.{Shows}
 use Rattle.qo_heap.specs.Objects.{pins_of}
+use Rattle.qo_model.specs.Objects.{Given}
+use Rattle.qo_object.specs.Slots.{Named}
+use Rattle.qo_properties.specs.Filling.{Fits}
+use Rattle.qo_properties.specs.NewSlots.{new_slots}
 use Rattle.qo_properties.proofs.AddLemmas.{newest-live}
-use Rattle.qo_plug.specs.Drafts.{Fell}
+use Rattle.qo_properties.proofs.PlanningLemmas.{zip-length}
+use Rattle.qo_properties.proofs.SlotsLemmas.{slots-differ}
+use Rattle.qo_plug.specs.Drafts.{Fell, HasPlanned}
 use Rattle.qo_plug.proofs.CutLemmas.{draft-pinned, fell-short}
 use Rattle.qo_plug.proofs.DraftLemmas.{at-birth, created-shown, draft-live, draft-rest, drafted-is, drafted-shown, drafting-grows}
+use Rattle.qo_plug.proofs.PlannedSlots.{given_by, plan-planned, planned-by}
 use Rattle.qo_plug.proofs.drafting.make_device.Goals as goal
 
 pub make_properties-requires : goal.make_properties-requires
@@ -52,7 +60,7 @@ pub returns-in-Ok-clause-shown : goal.returns-in-Ok-clause-shown
 returns-in-Ok-clause-shown g c = λ b props has.
     drafted-shown c.args.heap.now c.create.new.heap c.make_properties.new.heap c.in_ok-device.device c.args.kind c.facts.ensures c.in_ok-device.ensures.made.0
     c.in_ok-device.ensures.made.1
-    c.in-Ok.ensures.grows b props (c.in-Ok.ensures.ok b props has)
+    c.in-Ok.ensures.grows b props (c.in-Ok.ensures.ok b props (plan-planned b props c.args.plan.now (new_slots c.args.kind) has))
 
 pub returns-in-Ok-clause-grows : goal.returns-in-Ok-clause-grows
 returns-in-Ok-clause-grows g c =
@@ -66,14 +74,19 @@ returns-in-Ok-clause-book g c =
     c.in_ok-device.ensures.made.1
     c.in-Ok.ensures.grows).book
 
+-- any plan for slots of different names is what some properties give, as far as it is values
 pub returns-in-Err-clause-err : goal.returns-in-Err-clause-err
-returns-in-Err-clause-err g c = λ b props has s sound.
+returns-in-Err-clause-err g c = λ b s sound.
+    let slots : List Named = new_slots c.args.kind in
+    let props : List Given = given_by c.args.plan.now slots in
+    let planned : AllZip (HasPlanned b props) c.args.plan.now slots =
+    planned-by b c.args.plan.now slots (slots-differ c.args.kind [] slots refl) (zip-length Fits c.args.plan.now slots c.requires) in
     let place : c.in_ok-device.device.birth ≡ b.born + 1 =
     at-birth c.args.heap.now c.create.new.heap c.make_properties.new.heap c.in_ok-device.device c.args.kind c.facts.ensures c.in_ok-device.ensures.made.0
     c.in_ok-device.ensures.made.1
     c.in-Err.ensures.grows b s in
     fell-short b c.args.kind sound props c.create.new.heap c.make_properties.new.heap c.drop_pin.new.heap
-    (subst (λ (n : ℕ). Fell b props n c.args.kind c.create.new.heap c.make_properties.new.heap) place (c.in-Err.ensures.err b props has))
+    (subst (λ (n : ℕ). Fell b props n c.args.kind c.create.new.heap c.make_properties.new.heap) place (c.in-Err.ensures.err b props planned))
     (created-shown c.args.heap.now c.create.new.heap c.make_properties.new.heap c.in_ok-device.device c.args.kind c.facts.ensures c.in_ok-device.ensures.made.0
     c.in_ok-device.ensures.made.1
     c.in-Err.ensures.grows b props s)

@@ -1,4 +1,5 @@
 -- A slot of a value or a link is added with the value planned for it; a further object and an alias leave what was given.
+use Rattle.std.proofs.lemmas.Result.{on_ok_weaker}
 use Rattle.std.proofs.Common.{◌≡◌, ap, ◌∙◌, List, ℕ, None, Some}
 use Rattle.qo_model.specs.Opening.{first_value}
 use Rattle.qo_model.specs.RowNames.{property_name}
@@ -8,7 +9,7 @@ use Rattle.qo_object.specs.declared.slots.Slot.TheVariants.{Plain, Link}
 use Rattle.qo_heap.specs.Objects.{Objects, with_edit}
 use Rattle.qo_properties.specs.Filling.{filled_with, value_alone}
 use Rattle.qo_properties.specs.NewSlots.{begun}
-use Rattle.qo_plug.proofs.DraftLemmas.{alias-given, kid-given, ok-then, slot-grows, slot-own, slot-shown}
+use Rattle.qo_plug.proofs.DraftLemmas.{alias-given, kid-given, slot-grows, slot-own, slot-shown}
 use Rattle.qo_plug.proofs.GrowthLemmas.{grows-either}
 use Rattle.qo_plug.proofs.PlannedSlots.{fills-plain, leaves-link}
 use Rattle.qo_plug.proofs.drafting.make_property.Goals as goal
@@ -26,14 +27,14 @@ added g c w is = is ∙ ap (λ (s : Slot). with_edit c.args.device.birth (with_s
 
 pub returns-in-Plain-clause-ok : goal.returns-in-Plain-clause-ok
 returns-in-Plain-clause-ok g c =
-    ok-then c.add_value.result
+    on_ok_weaker c.add_value.result
     (λ is. slot-shown c.args.heap.now c.add_value.new.heap c.args.device c.args.kind c.args.row c.args.fill (Plain (first_value c.args.kind c.in-Plain.first))
     (valued g c) (added g c c.add_value.new.heap is))
     c.add_value.ensures.ok
 
 pub returns-in-Plain-clause-own : goal.returns-in-Plain-clause-own
 returns-in-Plain-clause-own g c =
-    ok-then c.add_value.result
+    on_ok_weaker c.add_value.result
     (λ is. slot-own c.args.heap.now c.add_value.new.heap c.args.device c.args.kind c.args.row c.args.fill (Plain (first_value c.args.kind c.in-Plain.first))
     (valued g c) (added g c c.add_value.new.heap is) c.requires.live)
     c.add_value.ensures.ok
@@ -41,7 +42,7 @@ returns-in-Plain-clause-own g c =
 pub returns-in-Plain-clause-grows : goal.returns-in-Plain-clause-grows
 returns-in-Plain-clause-grows g c =
     grows-either c.add_value.result c.args.heap.now c.add_value.new.heap
-    (ok-then c.add_value.result
+    (on_ok_weaker c.add_value.result
     (λ is. slot-grows c.args.heap.now c.add_value.new.heap c.args.device c.args.kind c.args.row c.args.fill (Plain (first_value c.args.kind c.in-Plain.first))
     (valued g c) (added g c c.add_value.new.heap is))
     c.add_value.ensures.ok)
@@ -77,14 +78,14 @@ returns-in_ok-add_link-in-Link-clause-grows g c =
 
 pub returns-in-Child-clause-ok : goal.returns-in-Child-clause-ok
 returns-in-Child-clause-ok g c =
-    ok-then c.make_kid.result
+    on_ok_weaker c.make_kid.result
     (λ makes b props told. kid-given b props c.args.heap.now c.make_kid.new.heap c.args.device c.args.kind c.in-Child.further c.args.row c.in-Child.is
     c.facts.ensures c.requires.live makes)
     c.make_kid.ensures.ok
 
 pub returns-in-Alias-clause-ok : goal.returns-in-Alias-clause-ok
 returns-in-Alias-clause-ok g c =
-    ok-then c.make_alias.result
+    on_ok_weaker c.make_alias.result
     (λ makes b props told. alias-given b props c.args.heap.now c.make_alias.new.heap c.args.device.birth c.args.kind c.args.row c.in-Alias.child c.in-Alias.of
     c.in-Alias.is makes)
     c.make_alias.ensures.ok

@@ -2,7 +2,7 @@
 use Rattle.std.proofs.Common.{sym, refl}
 use Rattle.qo_values.specs.declared.limits.TheConstants.{DIMM_ALIGN}
 use Rattle.qo_values.specs.Placing.{window_start, window_size, fits_at}
-use Rattle.qo_claims.proofs.LeastLemmas.{least-passes}
+use Rattle.qo_values.proofs.PlacingLemmas.{least-passes}
 use Rattle.qo_claims.proofs.Walks.{fits-free}
 use Rattle.qo_claims.proofs.ranges.Ranges.choose.Goals as goal
 

@@ -1,7 +1,8 @@
 -- the least free slot is free
 use Rattle.std.proofs.Common.{Bool, not, sym, ℕ}
 use Rattle.qo_claims.specs.Lists.{has_bus_slot, bus_slot}
-use Rattle.qo_claims.proofs.LeastLemmas.{least-passes, not-true}
+use Rattle.std.proofs.lemmas.Bool.{not-true}
+use Rattle.qo_values.proofs.PlacingLemmas.{least-passes}
 use Rattle.qo_claims.proofs.slots.Slots.choose.Goals as goal
 
 pub returns-in-Some-least_free-clause-free : goal.returns-in-Some-least_free-clause-free

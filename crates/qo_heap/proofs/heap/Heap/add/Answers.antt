@@ -1,8 +1,8 @@
-use Rattle.std.proofs.Common.{◌∙◌, refl}
+use Rattle.std.proofs.Common.{◌∙◌, refl, IfSome}
 use Rattle.qo_object.specs.Slots.{target_of}
 use Rattle.qo_table.specs.Rows.{IsLive}
 use Rattle.qo_object.specs.Content.{Content, with_slot}
-use Rattle.qo_heap.proofs.HeapLemmas.{Edited, edited-heap, added-there, on-err, edit-same, if-some}
+use Rattle.qo_heap.proofs.HeapLemmas.{Edited, edited-heap, added-there, on-err, edit-same}
 use Rattle.qo_heap.proofs.InsideObjects.{objects_inside}
 use Rattle.qo_heap.proofs.heap.Heap.add.Goals as goal
 
@@ -20,7 +20,7 @@ returns-in_err-add-clause-err g c =
 
 added : (g : _) (c : goal.In_ok-add g) → Edited (objects_inside c.self.inside) c.args.o.birth (with_slot c.args.name c.args.slot) c.add.new.self
 added g c =
-    let target = if-some (IsLive c.self.inside.table.rows) (target_of c.args.slot) (rw (← c.self.view_is) at c.requires.target) in
+    let target : IfSome (target_of c.args.slot) (IsLive c.self.inside.table.rows) = rw (← c.self.view_is) at c.requires.target in
     edited-heap _ c.self.invariant c.args.o.birth (with_slot c.args.name c.args.slot) c.change.result.now c.add.new.self c.change.ensures.object
     c.in_ok-add.ensures.added (λ x. added-there (objects_inside c.self.inside) c.args.name c.args.slot x target) (λ x. refl)
 

@@ -2,7 +2,8 @@ use Rattle.std.proofs.Common.{sym, ◌∙◌, List, ℕ}
 use Rattle.qo_object.specs.Slots.{names_child}
 use Rattle.qo_object.specs.declared.slots.Slot.{Slot}
 use Rattle.qo_object.specs.declared.slots.SlotView.{SlotView}
-use Rattle.qo_heap.proofs.PlacesLemmas.{position-find, position-none, placed-at}
+use Rattle.qo_heap.proofs.PlacesLemmas.{placed-at}
+use Rattle.qo_values.proofs.ListLemmas.{position-find, position-none}
 use Rattle.qo_heap.proofs.heap.Heap.child_slot.Goals as goal
 
 pub returns-in-Some-clause-slot : goal.returns-in-Some-clause-slot

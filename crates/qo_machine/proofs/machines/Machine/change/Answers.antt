@@ -2,7 +2,8 @@
 use Rattle.std.proofs.Common.{ap, ◌∙◌, option_map}
 use Rattle.qo_commands.proofs.CommandLemmas.{empty_written, no_float}
 use Rattle.qo_commands.specs.Commands.{Done, empty, made}
-use Rattle.qo_machine.proofs.MachineLemmas.{if_ok, seen_board, stands_in}
+use Rattle.qo_machine.proofs.MachineLemmas.{seen_board, stands_in}
+use Rattle.std.proofs.lemmas.Result.{IfOk-weaker}
 use Rattle.qo_machine.specs.Machine.{reply}
 use Rattle.qo_machine.proofs.machines.Machine.change.Goals as goal
 
@@ -17,7 +18,7 @@ returns-clause-came g c = λ b stands.
       events = ap (λ (d : Done). d.events) did.1;
       ends = ap (λ (d : Done). d.ends) did.1;
       replied =
-          if_ok c.changed_text-text.result
+          IfOk-weaker c.changed_text-text.result _ _
           (λ text written.
           written (no_float (made b c.args.change.now).board c.in_ok-done.done.result)
           ∙ ap (λ (d : Done). reply (option_map (λ id. id.now) c.args.id) d.result) did.1) (c.changed_text-text.ensures _ did.0);

@@ -4,7 +4,8 @@ use Rattle.qo_causes.specs.declared.inputs.What.TheVariants.{Bytes, Guest}
 use Rattle.qo_causes.specs.declared.inputs.What.{What}
 use Rattle.qo_machine.specs.Machine.{BreaksOff, Message, State, state_with, unchanged}
 use Rattle.qo_machine.proofs.MemoryLemmas.{breaks_before}
-use Rattle.qo_machine.proofs.MachineLemmas.{answers_ended, answers_moved, answers_timed, leaves, on_err, seen_ended, served_beside, served_bytes}
+use Rattle.qo_machine.proofs.MachineLemmas.{answers_ended, answers_moved, answers_timed, leaves, seen_ended, served_beside, served_bytes}
+use Rattle.qo_heap.proofs.HeapLemmas.{on-err}
 use Rattle.qo_machine.proofs.machines.Machine.serve.Goals as goal
 
 pub returns-then-self-clause-answered : goal.returns-then-self-clause-answered
@@ -46,7 +47,7 @@ returns-in-Step-clause-answered g c =
 
 pub returns-in-Open-clause-breaks : goal.returns-in-Open-clause-breaks
 returns-in-Open-clause-breaks g c = λ s here.
-    on_err c.open.result (breaks_before s c.args.input.now c.args.self.now c.open.new.self c.open.ensures.board here)
+    on-err c.open.result (breaks_before s c.args.input.now c.args.self.now c.open.new.self c.open.ensures.board here)
 
 pub returns-in-Bytes-clause-breaks : goal.returns-in-Bytes-clause-breaks
 returns-in-Bytes-clause-breaks g c = λ s here.

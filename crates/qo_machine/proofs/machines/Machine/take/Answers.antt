@@ -2,7 +2,8 @@
 use Rattle.std.proofs.Common.{arith, [], ◌∙◌}
 use Rattle.qo_causes.specs.declared.inputs.What.TheVariants.{Bytes}
 use Rattle.qo_machine.proofs.MemoryLemmas.{breaks_before, breaks_in, err_more}
-use Rattle.qo_machine.proofs.MachineLemmas.{beyond, on_err, served_items}
+use Rattle.qo_machine.proofs.MachineLemmas.{beyond, served_items}
+use Rattle.qo_heap.proofs.HeapLemmas.{on-err}
 use Rattle.qo_machine.proofs.machines.Machine.take.Goals as goal
 
 pub returns-clause-answered : goal.returns-clause-answered
@@ -16,7 +17,7 @@ returns-then-session-ge-SESSIONS-clause-answered g c = λ s here.
 
 pub returns-in_err-items-clause-breaks : goal.returns-in_err-items-clause-breaks
 returns-in_err-items-clause-breaks g c = λ s here.
-    on_err c.from_residual.result
+    on-err c.from_residual.result
     (breaks_before s (record { at = c.args.at; what = Bytes c.args.session c.args.bytes.now }) c.args.self.now c.feed.new.self c.feed.ensures.board here)
 
 pub returns-clause-breaks : goal.returns-clause-breaks

@@ -3,7 +3,7 @@ use Rattle.std.proofs.Common.{◌∙◌}
 use Rattle.qo_causes.specs.declared.inputs.What.TheVariants.{Guest}
 use Rattle.qo_machine.proofs.GuestLemmas.{served_lines}
 use Rattle.qo_machine.proofs.MemoryLemmas.{breaks_before, breaks_in_lines, err_more}
-use Rattle.qo_machine.proofs.MachineLemmas.{on_err}
+use Rattle.qo_heap.proofs.HeapLemmas.{on-err}
 use Rattle.qo_machine.proofs.machines.Machine.take_guest.Goals as goal
 
 pub returns-clause-answered : goal.returns-clause-answered
@@ -13,7 +13,7 @@ returns-clause-answered g c =
 
 pub returns-in_err-lines-clause-breaks : goal.returns-in_err-lines-clause-breaks
 returns-in_err-lines-clause-breaks g c = λ s here.
-    on_err c.from_residual.result
+    on-err c.from_residual.result
     (breaks_before s (record { at = c.args.at; what = Guest c.args.bytes.now }) c.args.self.now c.cut.new.self c.cut.ensures.board here)
 
 pub returns-clause-breaks : goal.returns-clause-breaks

@@ -3,7 +3,7 @@ use Rattle.std.proofs.Common.{◌≡◌, ◌+◌, ◌≤◌, ◌∙◌, ap, sym,
 use Rattle.qo_model.specs.Plug.{further_in, further_of, objects_in}
 use Rattle.qo_model.specs.declared.properties.Property.{Property}
 use Rattle.qo_properties.proofs.AttemptLemmas.{counted, few-further}
-use Rattle.qo_properties.proofs.SlotsLemmas.{rows-end}
+use Rattle.qo_paths.proofs.EndLemmas.{given-past}
 use Rattle.qo_properties.proofs.adding.attempts.objects_in.Goals.{then-is_further, else-is_further}
 use Rattle.qo_properties.proofs.adding.attempts.objects_in.Goals as goal
 
@@ -33,12 +33,12 @@ loop-row-preserved c = elim c.if-is_further.branch [
 pub returns-clause-count : goal.returns-clause-count
 returns-clause-count c =
     let none : length (filter_map further_in (drop c.loop-row.row-index c.props-rows.result.now)) ≡ 0 =
-    ap length (rows-end further_in c.props-rows.result.now c.loop-row.row-index c.loop-row-test.false) in
+    ap length (given-past further_in c.props-rows.result.now c.loop-row.row-index c.loop-row-test.false) in
     omega (arith, none, c.loop-row.invariant)
 
 pub returns-clause-few : goal.returns-clause-few
 returns-clause-few c =
     let none : length (filter_map further_in (drop c.loop-row.row-index c.props-rows.result.now)) ≡ 0 =
-    ap length (rows-end further_in c.props-rows.result.now c.loop-row.row-index c.loop-row-test.false) in
+    ap length (given-past further_in c.props-rows.result.now c.loop-row.row-index c.loop-row-test.false) in
     let few : objects_in c.args.kind ≤ 10 = few-further c.args.kind in
     omega (arith, few, none, c.loop-row.invariant)

@@ -4,7 +4,8 @@ use Rattle.std.specs.Vec.Iter.{into_iter_items}
 use Rattle.qo_object.specs.Slots.{Named}
 use Rattle.qo_properties.specs.Filling.{filled}
 use Rattle.qo_properties.specs.NewSlots.{slot_begun}
-use Rattle.qo_properties.proofs.SlotsLemmas.{filled-end, rows-end, rows-next}
+use Rattle.qo_properties.proofs.SlotsLemmas.{filled-end, rows-next}
+use Rattle.qo_paths.proofs.EndLemmas.{given-past}
 use Rattle.qo_properties.proofs.adding.fresh.planned_slots.Goals as goal
 
 pub loop-row-preserved : goal.loop-row-preserved
@@ -18,7 +19,7 @@ pub returns : goal.returns
 returns c =
     sym (
     ap (λ (l : List Named). c.loop-row.slots.items ++ filled (into_iter_items c.loop-row.fills) l)
-    (rows-end (slot_begun c.args.kind) c.props-rows.result.now c.loop-row.row-index c.loop-row-test.false)
+    (given-past (slot_begun c.args.kind) c.props-rows.result.now c.loop-row.row-index c.loop-row-test.false)
     ∙ ap (λ (l : List Named). c.loop-row.slots.items ++ l) (filled-end (into_iter_items c.loop-row.fills))
     ∙ append-nil c.loop-row.slots.items
     )

@@ -7,7 +7,7 @@ use Rattle.qo_object.specs.Slots.{Named, target_of}
 use Rattle.qo_object.specs.declared.slots.Slot.TheVariants.{Child}
 use Rattle.qo_heap.proofs.HeapLemmas.{live-edit}
 use Rattle.qo_properties.proofs.AddLemmas.{beside-live, furnished-child, newest-alone, newest-bare, newest-ends, newest-keeps, newest-live, newest-pinned}
-use Rattle.qo_properties.proofs.SlotsLemmas.{all-keys}
+use Rattle.qo_values.proofs.ListLemmas.{all-imply}
 use Rattle.qo_properties.proofs.adding.objects.make_with.Goals as goal
 
 pub add_child-requires-clause-live : goal.add_child-requires-clause-live
@@ -26,7 +26,7 @@ furnish-requires-clause-live g c =
 
 pub furnish-requires-clause-targets : goal.furnish-requires-clause-targets
 furnish-requires-clause-targets g c =
-    all-keys (IsLive c.args.heap.now.rows) (IsLive c.add_child.new.self.rows)
+    all-imply (IsLive c.args.heap.now.rows) (IsLive c.add_child.new.self.rows)
     (beside-live c.args.heap.now c.create.new.heap c.add_child.new.self c.in_ok-o.o (fresh c.args.kind) c.args.parent.birth
     (with_slot c.args.name (Child c.in_ok-o.o)) c.in_ok-o.ensures.made.1 c.in-Ok.ensures.added)
     (filter_map (λ (s : Named). target_of s.1) c.args.slots.items) c.requires.targets

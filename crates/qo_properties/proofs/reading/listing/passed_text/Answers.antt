@@ -6,7 +6,7 @@ use Rattle.qo_object.specs.Slots.{Named}
 use Rattle.qo_object.specs.BoardObject.{shown_slot}
 use Rattle.qo_model.specs.Board as board
 use Rattle.qo_model.specs.Listing.{own_text}
-use Rattle.qo_paths.proofs.WalkLemmas.{target-live}
+use Rattle.qo_heap.proofs.HeapLemmas.{target-live}
 use Rattle.qo_properties.proofs.ReadLemmas.{named-gone, named-is}
 use Rattle.qo_properties.proofs.reading.listing.passed_text.Goals as goal
 

@@ -1,7 +1,9 @@
 -- A slot is listed by its name and what is told of its type.
-use Rattle.std.proofs.Common.{Some, None, ap, ◌∙◌, ℕ, List}
+use Rattle.std.proofs.Common.{Some, None, ap, sym, ◌∙◌, ℕ, List}
+use Rattle.std.proofs.lemmas.Option.{slice_get_within}
 use Rattle.qo_heap.specs.Objects.{slots_of}
-use Rattle.qo_properties.proofs.ListLemmas.{before-end, line-at, target-at}
+use Rattle.qo_heap.proofs.HeapLemmas.{slot-live}
+use Rattle.qo_properties.proofs.ListLemmas.{line-at}
 use Rattle.qo_properties.proofs.reading.listing.property_at.Goals as goal
 
 pub returns-in_default-clause-listed : goal.returns-in_default-clause-listed
@@ -9,7 +11,7 @@ returns-in_default-clause-listed g c = λ b s. line-at b c.args.heap.now s c.arg
 
 pub type_text-ty-requires-clause-target : goal.type_text-ty-requires-clause-target
 type_text-ty-requires-clause-target g c =
-    target-at c.args.heap.now c.facts.ensures c.args.o c.requires c.args.at (c.in-Some.slot.name.now, c.in-Some.slot.what.now) c.in-Some.ensures.slot
+    slot-live c.args.heap.now c.facts.ensures c.args.o.birth c.args.at (c.in-Some.slot.name.now, c.in-Some.slot.what.now) c.in-Some.ensures.slot
 
 pub returns-clause-listed : goal.returns-clause-listed
 returns-clause-listed g c = λ b s.
@@ -18,4 +20,4 @@ returns-clause-listed g c = λ b s.
 
 pub returns-clause-within : goal.returns-clause-within
 returns-clause-within g c =
-    before-end (slots_of c.args.heap.now c.args.o.birth) c.args.at (c.in-Some.slot.name.now, c.in-Some.slot.what.now) c.in-Some.ensures.slot
+    slice_get_within (slots_of c.args.heap.now c.args.o.birth) c.args.at (c.in-Some.slot.name.now, c.in-Some.slot.what.now) (sym c.in-Some.ensures.slot)

@@ -11,7 +11,7 @@ use Rattle.qo_heap.proofs.HeapLemmas.{live-edit}
 use Rattle.qo_heap.proofs.BoardEdits.{shows-drop_slot}
 use Rattle.qo_properties.proofs.ClaimLemmas.{edit-keeps}
 use Rattle.qo_properties.proofs.PinLemmas.{edited-pins, hold-pins}
-use Rattle.qo_properties.proofs.WriteLemmas.{emptied-link, held-live, relinked-is}
+use Rattle.qo_properties.proofs.WriteLemmas.{emptied-link, held-live_dropped, relinked-is}
 use Rattle.qo_properties.proofs.writing.writes.relink.Goals as goal
 
 pub point_at-requires-clause-live : goal.point_at-requires-clause-live
@@ -28,7 +28,7 @@ point_at-requires-clause-link g c = rw c.empty.ensures.now (emptied-link c.args.
 pub drop_hold-requires : goal.drop_hold-requires
 drop_hold-requires g c =
     IfSome_then c.held_at-held.result {P = IsLive c.empty.new.self.rows} {Q = IsLive c.point_at.new.heap.rows}
-    (rw c.empty.ensures.now (held-live c.args.heap.now c.facts.ensures c.args.o c.requires.live c.args.at c.held_at-held.result c.held_at-held.ensures))
+    (rw c.empty.ensures.now (held-live_dropped c.args.heap.now c.facts.ensures c.args.o.birth c.args.at c.held_at-held.result c.held_at-held.ensures))
     c.point_at.ensures.names
 
 pub returns-clause-shown : goal.returns-clause-shown

@@ -1,7 +1,6 @@
 -- The device is added, or what refuses it is told.
 use Rattle.std.proofs.Common.{sym, subst, Ok, Err}
-use Rattle.std.specs.Prelude.{option_map}
-use Rattle.qo_plug.specs.Admission.{wanted}
+use Rattle.qo_plug.specs.Admission.{as_wanted}
 use Rattle.qo_realize.specs.Parts.{Parts, parts_of}
 use Rattle.qo_realize.specs.Representation.{Stands}
 use Rattle.qo_realize.proofs.PlugLemmas.{added-stands, barred-stands, is_shown, plugs-good, stands-pinned}
@@ -12,7 +11,7 @@ pub invariant_of-self : goal.invariant_of-self
 invariant_of-self g c =
     let (b, s, good) = c.self.invariant.1 in
     let inside = c.self.inside in
-    let a = wanted c.args.driver.now (option_map (λ t. t.now) c.args.id) (option_map (λ t. t.now) c.args.bus) c.args.props.now in
+    let a = as_wanted c.args.options.now in
     let h = c.in-Ok.ensures.ok b (is_shown b inside.rings inside.anonymous inside.running inside.resets inside.hotplug inside.heap s good) in
     let stands = added-stands b a inside.rings inside.anonymous c.in-Some.next inside.running inside.resets inside.hotplug c.add.new.hotplug
     inside.heap c.add.new.heap c.in-Ok.added s h c.in-Some.ensures c.in-Ok.ensures.book in
@@ -24,7 +23,7 @@ pub invariant_of-self-in-Err : goal.invariant_of-self-in-Err
 invariant_of-self-in-Err g c =
     let (b, s, good) = c.self.invariant.1 in
     let inside = c.self.inside in
-    let a = wanted c.args.driver.now (option_map (λ t. t.now) c.args.id) (option_map (λ t. t.now) c.args.bus) c.args.props.now in
+    let a = as_wanted c.args.options.now in
     let shown = is_shown b inside.rings inside.anonymous inside.running inside.resets inside.hotplug inside.heap s good in
     let stands = barred-stands b a inside.rings inside.anonymous inside.running inside.resets inside.hotplug c.add.new.hotplug inside.heap
     c.add.new.heap c.in-Err.refusal s (c.in-Err.ensures.refused b shown) (c.in-Err.ensures.memory b shown) c.in-Err.ensures.asked c.in-Err.ensures.book in
@@ -39,7 +38,7 @@ returns-in-Ok g c =
           let inside = c.self.inside in
           let seen = subst (λ (p : Parts). Stands b p) (sym c.self.view_is) s in
           let good = good-of (parts_of inside.rings inside.anonymous inside.running inside.resets inside.hotplug inside.heap) c.self.invariant.1 b seen in
-          let a = wanted c.args.driver.now (option_map (λ t. t.now) c.args.id) (option_map (λ t. t.now) c.args.bus) c.args.props.now in
+          let a = as_wanted c.args.options.now in
           let h = c.in-Ok.ensures.ok b (is_shown b inside.rings inside.anonymous inside.running inside.resets inside.hotplug inside.heap seen good) in
           added-stands b a inside.rings inside.anonymous c.in-Some.next inside.running inside.resets inside.hotplug c.add.new.hotplug inside.heap
           c.add.new.heap c.in-Ok.added seen h c.in-Some.ensures c.in-Ok.ensures.book;
@@ -52,7 +51,7 @@ returns-in-Err g c =
           let inside = c.self.inside in
           let seen = subst (λ (p : Parts). Stands b p) (sym c.self.view_is) s in
           let good = good-of (parts_of inside.rings inside.anonymous inside.running inside.resets inside.hotplug inside.heap) c.self.invariant.1 b seen in
-          let a = wanted c.args.driver.now (option_map (λ t. t.now) c.args.id) (option_map (λ t. t.now) c.args.bus) c.args.props.now in
+          let a = as_wanted c.args.options.now in
           let shown = is_shown b inside.rings inside.anonymous inside.running inside.resets inside.hotplug inside.heap seen good in
           barred-stands b a inside.rings inside.anonymous inside.running inside.resets inside.hotplug c.add.new.hotplug inside.heap c.add.new.heap
           c.in-Err.refusal seen (c.in-Err.ensures.refused b shown) (c.in-Err.ensures.memory b shown) c.in-Err.ensures.asked c.in-Err.ensures.book;

@@ -1,7 +1,6 @@
 -- The device is begun on the board that stood, or what refuses it is told.
 use Rattle.std.proofs.Common.{Err}
-use Rattle.std.specs.Prelude.{option_map}
-use Rattle.qo_plug.specs.Admission.{wanted}
+use Rattle.qo_plug.specs.Admission.{as_wanted}
 use Rattle.qo_realize.proofs.PlugLemmas.{plugs-good}
 use Rattle.qo_realize.proofs.GoodBoardLemmas.{good-of}
 use Rattle.qo_realize.proofs.StageLemmas.{begun-barred, begun-drafted}
@@ -10,7 +9,7 @@ use Rattle.qo_realize.proofs.board.Board.begin.Goals as goal
 pub invariant_of-result : goal.invariant_of-result
 invariant_of-result g c =
     let (b, s, good) = c.parts-heap.ensures.good in
-    let a = wanted c.args.driver.now (option_map (λ t. t.now) c.args.id) (option_map (λ t. t.now) c.args.bus) c.args.props.now in
+    let a = as_wanted c.args.options.now in
     let x = c.parts-heap.result.1 in
     let drafted =
     begun-drafted b a x.rings x.anonymous c.in-Some.next x.running x.resets x.hotplug c.parts-heap.result.0 c.begin.new.heap c.args.self
@@ -20,7 +19,7 @@ invariant_of-result g c =
 pub board_of-requires-in-Err : goal.board_of-requires-in-Err
 board_of-requires-in-Err g c =
     let (b, s, good) = c.parts-heap.ensures.good in
-    let a = wanted c.args.driver.now (option_map (λ t. t.now) c.args.id) (option_map (λ t. t.now) c.args.bus) c.args.props.now in
+    let a = as_wanted c.args.options.now in
     let x = c.parts-heap.result.1 in
     let barred =
     begun-barred b a x.rings x.anonymous c.in-Some.next x.running x.resets x.hotplug c.parts-heap.result.0 c.begin.new.heap c.args.self
@@ -31,7 +30,7 @@ board_of-requires-in-Err g c =
 pub returns-in-Ok : goal.returns-in-Ok
 returns-in-Ok g c = λ b s.
     let good = good-of c.args.self c.parts-heap.ensures.good b s in
-    let a = wanted c.args.driver.now (option_map (λ t. t.now) c.args.id) (option_map (λ t. t.now) c.args.bus) c.args.props.now in
+    let a = as_wanted c.args.options.now in
     let x = c.parts-heap.result.1 in
     begun-drafted b a x.rings x.anonymous c.in-Some.next x.running x.resets x.hotplug c.parts-heap.result.0 c.begin.new.heap c.args.self
     c.parts-heap.ensures.whole s good c.in-Some.ensures c.in-Ok.ensures.book c.in-Ok.begun (c.in-Ok.ensures.begun b)
@@ -39,7 +38,7 @@ returns-in-Ok g c = λ b s.
 pub returns-in-Err : goal.returns-in-Err
 returns-in-Err g c = λ b s.
     let good = good-of c.args.self c.parts-heap.ensures.good b s in
-    let a = wanted c.args.driver.now (option_map (λ t. t.now) c.args.id) (option_map (λ t. t.now) c.args.bus) c.args.props.now in
+    let a = as_wanted c.args.options.now in
     let x = c.parts-heap.result.1 in
     let barred =
     begun-barred b a x.rings x.anonymous c.in-Some.next x.running x.resets x.hotplug c.parts-heap.result.0 c.begin.new.heap c.args.self

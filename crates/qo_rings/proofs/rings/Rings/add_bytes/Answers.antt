@@ -1,12 +1,14 @@
 use Rattle.std.proofs.Common.{◌≡◌, ◌∙◌, Some, position, sym}
 use Rattle.std.proofs.lemmas.Option.{none-some}
+use Rattle.qo_values.proofs.ListLemmas.{position-none}
 use Rattle.qo_values.specs.Rings.{ring_add}
 use Rattle.qo_rings.specs.Rings.{is_ring, ring_named}
-use Rattle.qo_rings.proofs.RingsLemmas.{changed-to, differ-answered, named-at, named-none, on_ok-next}
+use Rattle.qo_rings.proofs.RingsLemmas.{changed-to, differ-answered, named-at}
+use Rattle.std.proofs.lemmas.Result.{on_ok_weaker}
 use Rattle.qo_rings.proofs.rings.Rings.add_bytes.Goals as goal
 
 pub returns-in_default-clause-only_not_found : goal.returns-in_default-clause-only_not_found
-returns-in_default-clause-only_not_found c same = named-none (is_ring c.args.id.now) c.args.self.now (sym c.place.ensures ∙ c.in_default.is)
+returns-in_default-clause-only_not_found c same = position-none (is_ring c.args.id.now) c.args.self.now (sym c.place.ensures ∙ c.in_default.is)
 
 module _ (c : goal.After-self-1) where
   found : position (is_ring c.args.id.now) c.self.inside.list.items ≡ Some c.in-Some.at
@@ -15,12 +17,12 @@ module _ (c : goal.After-self-1) where
 pub invariant_of-self : goal.invariant_of-self
 invariant_of-self c =
     differ-answered c.add_bytes.result c.args.id.now c.self.inside.list.items c.in-Some.at c.index_mut.result.now c.add_bytes.new.self c.self.invariant
-    (found c) c.index_mut.ensures.value (on_ok-next c.add_bytes.result (λ g. ((λ m. ring_add m g.bytes), g.added)) c.add_bytes.ensures.added)
+    (found c) c.index_mut.ensures.value (on_ok_weaker c.add_bytes.result (λ g. ((λ m. ring_add m g.bytes), g.added)) c.add_bytes.ensures.added)
     c.add_bytes.ensures.err
 
 pub returns-clause-added : goal.returns-clause-added
 returns-clause-added c =
-    on_ok-next c.add_bytes.result
+    on_ok_weaker c.add_bytes.result
     (λ g. record {
       bytes = g.bytes;
       given = g.given;

@@ -1,13 +1,14 @@
 use Rattle.std.proofs.Common.{◌≡◌, ◌∙◌, None, Some, position, sym, ap, option_map}
 use Rattle.qo_model.specs.Board.{Ring}
 use Rattle.qo_rings.specs.Rings.{is_ring}
-use Rattle.qo_rings.proofs.RingsLemmas.{named-at, named-none}
+use Rattle.qo_rings.proofs.RingsLemmas.{named-at}
 use Rattle.qo_rings.proofs.rings.Rings.id.Goals as goal
+use Rattle.qo_values.proofs.ListLemmas.{position-none}
 
 pub returns-in_err-at : goal.returns-in_err-at
 returns-in_err-at c =
     let none : position (is_ring c.args.id.now) c.args.self.now ≡ None = sym c.place.ensures ∙ c.in_err-at.was in
-    rw (c.from_residual.ensures) (sym (ap (option_map (λ (r : Ring). r.id)) (named-none (is_ring c.args.id.now) c.args.self.now none)))
+    rw (c.from_residual.ensures) (sym (ap (option_map (λ (r : Ring). r.id)) (position-none (is_ring c.args.id.now) c.args.self.now none)))
 
 pub returns : goal.returns
 returns c =

@@ -3,7 +3,8 @@ use Rattle.std.proofs.lemmas.Option.{none-some, same_Some}
 use Rattle.qo_values.specs.Rings.{ring_drop, ring_oldest}
 use Rattle.qo_chardev.specs.Texts.{told}
 use Rattle.qo_rings.specs.Rings.{bytes_in, is_ring, ring_text}
-use Rattle.qo_rings.proofs.RingsLemmas.{changed-to, differ-answered, if_ok-next, on_ok-next, text-at, text-none}
+use Rattle.qo_rings.proofs.RingsLemmas.{changed-to, differ-answered, text-at, text-none}
+use Rattle.std.proofs.lemmas.Result.{IfOk-weaker, on_ok_weaker}
 use Rattle.qo_rings.proofs.rings.Rings.take.Goals as goal
 
 pub returns-in_default-clause-only_not_found : goal.returns-in_default-clause-only_not_found
@@ -25,14 +26,14 @@ module _ (c : goal.After-self-1) where
 pub invariant_of-self : goal.invariant_of-self
 invariant_of-self c =
     differ-answered c.take.result c.args.id.now c.self.inside.list.items c.in-Some.at c.index_mut.result.now c.take.new.self c.self.invariant
-    (found c) c.index_mut.ensures.value (on_ok-next c.take.result (λ is. ((λ m. ring_drop m c.args.most), is)) c.take.ensures.taken) c.take.ensures.err
+    (found c) c.index_mut.ensures.value (on_ok_weaker c.take.result (λ is. ((λ m. ring_drop m c.args.most), is)) c.take.ensures.taken) c.take.ensures.err
 
 pub returns-clause-text : goal.returns-clause-text
-returns-clause-text c = if_ok-next _ _ c.take.result (λ x is. its c ∙ ap Some is) c.take.ensures.text
+returns-clause-text c = IfOk-weaker c.take.result _ _ (λ x is. its c ∙ ap Some is) c.take.ensures.text
 
 pub returns-clause-taken : goal.returns-clause-taken
 returns-clause-taken c =
-    on_ok-next c.take.result
+    on_ok_weaker c.take.result
     (λ is. rw (← c.self.view_is)
     (changed-to (λ m. ring_drop m c.args.most) c.args.id.now c.self.inside.list.items c.in-Some.at c.index_mut.result.now c.take.new.self
     c.self.invariant (found c) c.index_mut.ensures.value is))
