@@ -5,7 +5,7 @@ ghost use Rattle.qo_causes.specs.Cause.{Rose};
 ghost use Rattle.compose.specs.Demo.{Lacks, ToldDemo, demo_transcript, summary};
 
 use crate::counts::summary;
-use crate::kept::Kept;
+use crate::memory_sink::MemorySink;
 use crate::replays::replay;
 use crate::statuses::{Ran, Status};
 use memchr::memmem;
@@ -33,7 +33,7 @@ fn transcript_of(alloc: Global, seed: u64, steps: u32) -> Result<Vec<u8>, AllocE
 {
     let stream = demo_record(alloc, seed, steps)?;
     let source = ByteSource::new(stream, Vec::new(alloc));
-    let (ran, _) = replay(alloc, source, Kept::new(alloc));
+    let (ran, _) = replay(alloc, source, MemorySink::new(alloc));
     let Ran {
         status,
         source: _,

@@ -5,7 +5,7 @@ mod calls;
 mod complaints;
 mod counts;
 mod demos;
-mod kept;
+mod memory_sink;
 mod no_hub;
 mod replays;
 mod serves;

@@ -8,7 +8,7 @@ use Rattle.std.proofs.lemmas.List.Concat.{flat_map-append}
 use Rattle.qo_values.specs.declared.kinds.Act.{Act}
 use Rattle.qo_values.specs.declared.kinds.Act.TheVariants.{Pre, Update}
 use Rattle.qo_kinds.specs.Bodies.{MayAct}
-use Rattle.qo_kinds.specs.declared.kept.KeptSet.{KeptSet}
+use Rattle.qo_kinds.specs.declared.kept_set.KeptSet.{KeptSet}
 use Rattle.qo_slots.specs.declared.keys.Key.{Key}
 use Rattle.qo_table.specs.Rows.{IsLive, births, object_at}
 use Rattle.qo_model.specs.declared.notes.Deed.TheVariants.{Did}

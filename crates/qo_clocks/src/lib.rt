@@ -8,8 +8,8 @@
 //! no clause here.
 #![tactic(auto)]
 
-mod below;
 mod errors;
+mod feeding;
 mod links;
 mod periods;
 mod reads;

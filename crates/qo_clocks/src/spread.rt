@@ -5,7 +5,7 @@ ghost use Rattle.std.specs.Prelude.{◌≡◌};
 ghost use Rattle.qo_heap.specs.Moments.{Timely};
 ghost use Rattle.qo_clocks.specs.Spread.{called_on, spread_on};
 
-use crate::below::fed_at;
+use crate::feeding::fed_at;
 use crate::periods::scaled;
 use qo_heap::{Heap, Oid, Steps};
 use qo_values::Act;

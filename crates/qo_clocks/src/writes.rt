@@ -15,8 +15,8 @@ ghost use Rattle.qo_heap.specs.Book.{IsBook};
 ghost use Rattle.qo_heap.specs.Moments.{Timely};
 ghost use Rattle.qo_clocks.specs.Writes.{Answers, all_fit, with_period, with_scale, written_on};
 
-use crate::below::overflows;
 use crate::errors::ClockError;
+use crate::feeding::overflows;
 use crate::links::set_number;
 use crate::periods::{child_period, fitting, period, scaled};
 use crate::reads::{own_period, slot_of, source_of};

@@ -11,10 +11,10 @@ ghost use Rattle.qo_commands.specs.Commands.{empty, queried, refused_with, retur
 ghost use Rattle.qo_realize.specs.Representation.{Stands};
 ghost use Rattle.qo_commands.specs.Views.{body_data, done_of};
 
-use crate::built::commands;
 use crate::detached::query_detached;
 use crate::listings::list;
 use crate::notes::query_notes;
+use crate::query_commands::commands;
 use crate::types::{list_properties, list_types};
 use crate::values::get;
 use crate::whole::Whole;

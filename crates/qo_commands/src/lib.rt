@@ -2,12 +2,12 @@
 #![tactic(auto)]
 
 mod answers;
-mod built;
 mod changes;
 mod commands;
 mod detached;
 mod listings;
 mod notes;
+mod query_commands;
 mod rings;
 mod types;
 mod values;

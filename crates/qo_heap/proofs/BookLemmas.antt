@@ -15,7 +15,7 @@ use Rattle.qo_claims.proofs.ReturnedClaims.{eqb-same, slot_eq-same, range_eq-sam
 use Rattle.qo_kinds.proofs.BodyLemmas.{fresh-bare}
 use Rattle.qo_kinds.specs.Bodies.{body_of, kept_of}
 use Rattle.qo_kinds.specs.declared.bodies.Body.{Body}
-use Rattle.qo_kinds.specs.declared.kept.KeptSet.{KeptSet}
+use Rattle.qo_kinds.specs.declared.kept_set.KeptSet.{KeptSet}
 use Rattle.qo_slots.specs.declared.keys.Key.{Key}
 use Rattle.qo_object.specs.Content.{Content, fresh}
 use Rattle.qo_values.specs.declared.kinds.TypeId.{TypeId}

@@ -10,7 +10,7 @@ use Rattle.qo_kinds.specs.declared.bodies.Body.TheVariants.{Uart, Timer, Dimm, B
 use Rattle.qo_values.specs.Registers.{fresh_uart, fresh_timer}
 use Rattle.qo_values.specs.declared.kinds.TypeId.{TypeId}
 use Rattle.qo_values.specs.declared.kinds.TypeId.TheVariants as type
-use Rattle.qo_kinds.specs.declared.kept.KeptSet.{KeptSet}
+use Rattle.qo_kinds.specs.declared.kept_set.KeptSet.{KeptSet}
 
 abbrev pub none_kept : KeptSet
 none_kept = record { slot = None; ring = None; backend = None; range = None }

@@ -5,7 +5,7 @@ ghost use Rattle.qo_values.specs.Bodies.{body_act};
 ghost use Rattle.qo_values.specs.Registers as registers;
 ghost use Rattle.qo_kinds.specs.Bodies.{IsBare, MayAct, reads_moment, acted, body_of, kept_of, none_kept, with_kept};
 
-use crate::kept::{KeptSet, end_none};
+use crate::kept_set::{KeptSet, end_none};
 use qo_dimm::Dimm;
 use qo_timer::Timer;
 use qo_uart::Uart;

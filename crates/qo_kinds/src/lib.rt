@@ -2,7 +2,7 @@
 #![tactic(auto)]
 
 mod bodies;
-mod kept;
+mod kept_set;
 
 pub use bodies::{Body, Effect};
-pub use kept::KeptSet;
+pub use kept_set::KeptSet;

@@ -6,9 +6,9 @@
 mod devices;
 mod errors;
 mod index;
-mod named;
 mod names;
 mod objects;
+mod slot_map;
 mod slots;
 
 pub use devices::DeviceId;

@@ -2,8 +2,8 @@
 
 use crate::devices::{DeviceId, no_id};
 use crate::errors::AddError;
-use crate::named::SlotMap;
 use crate::names::SlotName;
+use crate::slot_map::SlotMap;
 use crate::slots::{Slot, SlotView};
 use qo_kinds::{Body, KeptSet};
 use qo_slots::Key;
@@ -314,13 +314,6 @@ impl Object {
         ensures { result ≡ is_parent birth self.now }
     {
         self.slots.is_parent(birth)
-    }
-
-    /// Whether none of its slots holds an object. It takes no memory.
-    pub fn is_bare(&self) -> bool
-        ensures { result ≡ (reference_count self.now == 0) }
-    {
-        !self.slots.holds_any()
     }
 
     /// The first place at which it has the object of a birth as a child. It takes no memory.

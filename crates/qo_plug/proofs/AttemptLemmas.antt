@@ -34,7 +34,7 @@ use Rattle.qo_heap.proofs.ActsLemmas.{acts-act, acts-live, acts-none, acts-then}
 use Rattle.qo_heap.proofs.PlacesLemmas.{at-key, object-at-place, past-last}
 use Rattle.qo_heap.proofs.BoardObjects.{content-edited, content-other}
 use Rattle.qo_heap.proofs.MomentLemmas.{acts-timely}
-use Rattle.qo_kinds.specs.declared.kept.KeptSet.{KeptSet}
+use Rattle.qo_kinds.specs.declared.kept_set.KeptSet.{KeptSet}
 use Rattle.qo_properties.proofs.NewSlotLemmas.{next-slot, past}
 use Rattle.qo_reset.specs.Phases.{acted_on, walked}
 use Rattle.qo_reset.proofs.BoardLemmas.{shows-walked}

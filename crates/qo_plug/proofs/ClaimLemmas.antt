@@ -13,7 +13,7 @@ use Rattle.qo_claims.specs.declared.claims.Claimed.TheVariants as on
 use Rattle.qo_kinds.specs.Bodies.{body_of, kept_of, with_kept}
 use Rattle.qo_kinds.specs.declared.bodies.Body.{Body}
 use Rattle.qo_kinds.specs.declared.bodies.Body.TheVariants.{Uart, Timer, Dimm, Bridge, Bus, Clock, Backend, Plain}
-use Rattle.qo_kinds.specs.declared.kept.KeptSet.{KeptSet}
+use Rattle.qo_kinds.specs.declared.kept_set.KeptSet.{KeptSet}
 use Rattle.qo_model.specs.Board.{Board}
 use Rattle.qo_model.specs.Objects.{Given}
 use Rattle.qo_model.specs.Plug.{Spot, range_of, spot_of, type_barred}

@@ -7,7 +7,7 @@ mod building;
 mod calls;
 mod commands;
 mod fields;
-mod given;
+mod given_members;
 mod members;
 mod messages;
 mod requests;

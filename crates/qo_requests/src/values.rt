@@ -12,7 +12,7 @@ ghost use Rattle.qo_requests.specs.Values.{text_of, texts_in, plain_in, form_nam
 
 use crate::arguments::{Argument, is_named};
 use crate::fields::Field;
-use crate::given::Given;
+use crate::given_members::GivenMembers;
 use qo_json::Json;
 use qo_values::{Form, PropList, PushError, Text, TextList, Val};
 use serde_json::Number;
@@ -80,7 +80,7 @@ fn form_named(name: &str) -> Option<Form>
 /// An argument that is a text, where it stands.
 pub(crate) fn text_at(
     alloc: Global,
-    args: &Given<'_, '_>,
+    args: &GivenMembers<'_, '_>,
     field: Field,
 ) -> Result<Option<Text>, AllocError>
     requires { AreGiven args.now }
@@ -93,7 +93,7 @@ pub(crate) fn text_at(
 }
 
 /// An argument that is a number, where it stands.
-pub(crate) fn number_at(args: &Given<'_, '_>, field: Field) -> Option<u64>
+pub(crate) fn number_at(args: &GivenMembers<'_, '_>, field: Field) -> Option<u64>
     requires { AreGiven args.now }
     ensures { result ≡ number_at field (view args.now.place.now) }
 {
@@ -101,7 +101,7 @@ pub(crate) fn number_at(args: &Given<'_, '_>, field: Field) -> Option<u64>
 }
 
 /// An argument that is a truth value, where it stands.
-pub(crate) fn truth_at(args: &Given<'_, '_>, field: Field) -> Option<bool>
+pub(crate) fn truth_at(args: &GivenMembers<'_, '_>, field: Field) -> Option<bool>
     requires { AreGiven args.now }
     ensures { result ≡ truth_at field (view args.now.place.now) }
 {
@@ -109,7 +109,7 @@ pub(crate) fn truth_at(args: &Given<'_, '_>, field: Field) -> Option<bool>
 }
 
 /// An argument that is a form, where it stands.
-pub(crate) fn form_at(args: &Given<'_, '_>, field: Field) -> Option<Form>
+pub(crate) fn form_at(args: &GivenMembers<'_, '_>, field: Field) -> Option<Form>
     requires { AreGiven args.now }
     ensures { result ≡ form_at field (view args.now.place.now) }
 {
@@ -119,7 +119,7 @@ pub(crate) fn form_at(args: &Given<'_, '_>, field: Field) -> Option<Form>
 /// An argument that is a list of texts, where it stands.
 pub(crate) fn texts_at(
     alloc: Global,
-    args: &Given<'_, '_>,
+    args: &GivenMembers<'_, '_>,
     field: Field,
 ) -> Result<Option<TextList>, AllocError>
     requires { AreGiven args.now }
@@ -132,7 +132,11 @@ pub(crate) fn texts_at(
 }
 
 /// An argument that is a text; empty where it does not stand there.
-pub(crate) fn text_in(alloc: Global, args: &Given<'_, '_>, field: Field) -> Result<Text, AllocError>
+pub(crate) fn text_in(
+    alloc: Global,
+    args: &GivenMembers<'_, '_>,
+    field: Field,
+) -> Result<Text, AllocError>
     requires { AreGiven args.now }
     ensures { IfOk result (λ text. text ≡ text_in field (view args.now.place.now)) }
 {
@@ -143,7 +147,7 @@ pub(crate) fn text_in(alloc: Global, args: &Given<'_, '_>, field: Field) -> Resu
 }
 
 /// An argument that is a number; 0 where it does not stand there.
-pub(crate) fn number_in(args: &Given<'_, '_>, field: Field) -> u64
+pub(crate) fn number_in(args: &GivenMembers<'_, '_>, field: Field) -> u64
     requires { AreGiven args.now }
     ensures { result ≡ number_in field (view args.now.place.now) }
 {
@@ -151,7 +155,11 @@ pub(crate) fn number_in(args: &Given<'_, '_>, field: Field) -> u64
 }
 
 /// An argument that is a plain value; nothing where it does not stand there.
-pub(crate) fn value_in(alloc: Global, args: &Given<'_, '_>, field: Field) -> Result<Val, AllocError>
+pub(crate) fn value_in(
+    alloc: Global,
+    args: &GivenMembers<'_, '_>,
+    field: Field,
+) -> Result<Val, AllocError>
     requires { AreGiven args.now }
     ensures { IfOk result (λ val. val ≡ value_in field (view args.now.place.now)) }
 {
@@ -196,7 +204,10 @@ fn properties_in(
 
 /// The arguments that no row names, as properties.
 #[tactic(auto, using(crate::proofs::ArgumentMemberLemmas::none_beside))]
-pub(crate) fn properties_beside(alloc: Global, args: &Given<'_, '_>) -> Result<PropList, AllocError>
+pub(crate) fn properties_beside(
+    alloc: Global,
+    args: &GivenMembers<'_, '_>,
+) -> Result<PropList, AllocError>
     requires given { AreGiven args.now }
     requires ordered { IsOrdered (view args.now.place.now) }
     ensures { IfOk result (λ props. props ≡ properties_beside args.now.rows.now (view args.now.place.now)) }

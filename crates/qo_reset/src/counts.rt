@@ -7,7 +7,7 @@ ghost use Rattle.qo_model.specs.Depth.{among};
 ghost use Rattle.qo_table.specs.Rows.{IsLive};
 ghost use Rattle.qo_reset.specs.Phases.{below_on, births_of, count_on, is_crowded, is_under, out_on, post_by};
 
-use crate::below::{below_at, is_bus};
+use crate::reach::{below_at, is_bus};
 use qo_heap::{Heap, Oid, Steps};
 use qo_values::HOLD_COUNT_MAX;
 use std::sync::ledger::Ledger;

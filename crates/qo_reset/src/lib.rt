@@ -5,10 +5,10 @@
 //! when it is asked for. Counts that are kept would change no clause here.
 #![tactic(auto)]
 
-mod below;
 mod counts;
 mod errors;
 mod phases;
+mod reach;
 mod resets;
 
 pub use errors::HoldError;

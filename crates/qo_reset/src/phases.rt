@@ -12,8 +12,8 @@ ghost use Rattle.qo_heap.specs.Board.{Shows};
 ghost use Rattle.qo_heap.specs.Moments.{Timely};
 ghost use Rattle.qo_reset.specs.Phases.{Holds, births_of, phase_on, turned, visited};
 
-use crate::below::{below_at, is_bus};
 use crate::counts::is_out;
+use crate::reach::{below_at, is_bus};
 use qo_heap::{Heap, Oid, Steps};
 use qo_values::Act;
 use std::sync::ledger::Ledger;

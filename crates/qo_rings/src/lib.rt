@@ -2,7 +2,7 @@
 #![tactic(auto)]
 
 mod errors;
-mod kept;
+mod named_ring;
 mod rings;
 
 pub use errors::{RingAddError, RingTakeError};

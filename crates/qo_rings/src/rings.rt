@@ -1,7 +1,7 @@
 //! The rings.
 
 use crate::errors::{RingAddError, RingTakeError};
-use crate::kept::Kept;
+use crate::named_ring::NamedRing;
 use qo_chardev::{Ring, RingError};
 use qo_values::{Form, Id, Text};
 use std::alloc::{AllocError, Global};
@@ -13,7 +13,7 @@ pub const RING_SIZE_DEFAULT: u64 = 65_536;
 /// The rings of a board, in the order of adding. No two have the same id.
 #[derive(Drop)]
 pub struct Rings {
-    list: Vec<Kept>,
+    list: Vec<NamedRing>,
 }
 
 impl Model for Rings {
@@ -80,7 +80,7 @@ impl Rings {
         ensures err { OnErr result (self.new ≡ self.old) }
     {
         let ring = Ring::new(alloc, size)?;
-        match self.list.push(Kept::new(id, ring)) {
+        match self.list.push(NamedRing::new(id, ring)) {
             Ok(()) => Ok(()),
             Err(_) => Err(RingError::Memory),
         }

@@ -9,7 +9,7 @@ use Rattle.qo_claims.specs.declared.claims.Claimed.TheVariants as on
 use Rattle.qo_table.specs.Rows.{IsLive}
 use Rattle.qo_kinds.specs.Bodies.{IsBare, kept_of}
 use Rattle.qo_kinds.specs.declared.bodies.Body.{Body}
-use Rattle.qo_kinds.specs.declared.kept.KeptSet.{KeptSet}
+use Rattle.qo_kinds.specs.declared.kept_set.KeptSet.{KeptSet}
 use Rattle.qo_object.specs.Content.{Content, with_id}
 use Rattle.qo_heap.specs.Book.{IsBook, claim_eq, kept_times, one}
 use Rattle.qo_heap.specs.Objects.{IsHeap, Objects, content_of, with_edit}

@@ -11,7 +11,7 @@ use Rattle.qo_claims.specs.declared.claims.Claimed.{Claimed}
 use Rattle.qo_table.specs.Rows.{IsLive, edit, object_at}
 use Rattle.qo_kinds.specs.Bodies.{IsBare, registers_of}
 use Rattle.qo_kinds.specs.declared.bodies.Body.{Body}
-use Rattle.qo_kinds.specs.declared.kept.KeptSet.{KeptSet}
+use Rattle.qo_kinds.specs.declared.kept_set.KeptSet.{KeptSet}
 use Rattle.qo_model.specs.Board as board
 use Rattle.qo_model.specs.Changes.{add}
 use Rattle.qo_model.specs.Devices.{clock_of, kid_name}

@@ -11,7 +11,7 @@ use Rattle.qo_table.specs.Rows.{IsLive, edit, object_at}
 use Rattle.qo_kinds.specs.Bodies.{registers_of, with_kept}
 use Rattle.qo_kinds.specs.declared.bodies.Body.{Body}
 use Rattle.qo_kinds.specs.declared.bodies.Body.TheVariants.{Uart, Timer, Dimm, Bridge, Bus, Clock, Backend, Plain}
-use Rattle.qo_kinds.specs.declared.kept.KeptSet.{KeptSet}
+use Rattle.qo_kinds.specs.declared.kept_set.KeptSet.{KeptSet}
 use Rattle.qo_model.specs.Board as board
 use Rattle.qo_model.specs.Objects.{Given}
 use Rattle.qo_model.specs.Devices.{bridge_of, clock_of}

@@ -11,7 +11,7 @@ use Rattle.qo_table.specs.Rows.{IsLive, edit}
 use Rattle.qo_kinds.specs.Bodies.{kept_of, registers_of, with_registers}
 use Rattle.qo_kinds.specs.declared.bodies.Body.{Body}
 use Rattle.qo_kinds.specs.declared.bodies.Body.TheVariants.{Uart, Timer, Dimm, Bridge, Bus, Clock, Backend, Plain}
-use Rattle.qo_kinds.specs.declared.kept.KeptSet.{KeptSet}
+use Rattle.qo_kinds.specs.declared.kept_set.KeptSet.{KeptSet}
 use Rattle.qo_model.specs.Board as board
 use Rattle.qo_model.specs.Plug.{registers_on, with_body_of}
 use Rattle.qo_model.specs.Release as release

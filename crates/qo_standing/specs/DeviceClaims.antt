@@ -4,7 +4,7 @@ use Rattle.qo_claims.specs.Lists.{bus_slot}
 use Rattle.qo_claims.specs.declared.claims.Claimed.{Claimed}
 use Rattle.qo_claims.specs.declared.claims.Claimed.TheVariants as on
 use Rattle.qo_kinds.specs.Bodies.{kept_of}
-use Rattle.qo_kinds.specs.declared.kept.KeptSet.{KeptSet}
+use Rattle.qo_kinds.specs.declared.kept_set.KeptSet.{KeptSet}
 use Rattle.qo_object.specs.Content.{Content}
 use Rattle.qo_heap.specs.Objects.{Objects, content_of}
 use Rattle.qo_standing.specs.declared.claiming.Label.{Label}

@@ -8,7 +8,7 @@ use Rattle.qo_values.specs.declared.ranges.Range.{Range}
 use Rattle.qo_kinds.specs.Bodies.{registers_of, with_kept, with_registers}
 use Rattle.qo_kinds.specs.declared.bodies.Body.{Body}
 use Rattle.qo_kinds.specs.declared.bodies.Body.TheVariants.{Dimm}
-use Rattle.qo_kinds.specs.declared.kept.KeptSet.{KeptSet}
+use Rattle.qo_kinds.specs.declared.kept_set.KeptSet.{KeptSet}
 use Rattle.qo_model.specs.Board.{Board}
 use Rattle.qo_model.specs.Devices.{kid_name}
 use Rattle.qo_model.specs.Paths.{canonical}

@@ -10,7 +10,7 @@ use Rattle.qo_claims.specs.declared.claims.Claimed.{Claimed}
 use Rattle.qo_kinds.specs.Bodies.{kept_of, none_kept, registers_of, with_kept}
 use Rattle.qo_kinds.specs.declared.bodies.Body.{Body}
 use Rattle.qo_kinds.specs.declared.bodies.Body.TheVariants.{Uart, Timer, Dimm, Bridge, Bus, Clock, Backend, Plain}
-use Rattle.qo_kinds.specs.declared.kept.KeptSet.{KeptSet}
+use Rattle.qo_kinds.specs.declared.kept_set.KeptSet.{KeptSet}
 use Rattle.qo_slots.specs.declared.keys.Key.{Key}
 use Rattle.qo_table.specs.Rows.{IsLive}
 use Rattle.qo_model.specs.Board.{Board, Record}

@@ -13,7 +13,7 @@ ghost use Rattle.qo_life.specs.Life.{KeepsNames};
 ghost use Rattle.qo_properties.specs.Claims.{KeepsBook};
 ghost use Rattle.qo_unplug.specs.BoardParts.{Beside};
 
-use crate::apart::take_out;
+use crate::unparenting::take_out;
 use crate::unrealizing::unrealize;
 use qo_heap::{Heap, Oid, Steps};
 use qo_hotplug::Hotplug;

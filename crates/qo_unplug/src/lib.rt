@@ -3,10 +3,10 @@
 //! profile's, docs/PROFILE.md). No call takes memory, and none fails.
 #![tactic(auto)]
 
-mod apart;
 mod claims;
 mod detaching;
 mod ending;
+mod unparenting;
 mod unrealizing;
 
 pub use detaching::detach;

@@ -38,13 +38,6 @@ impl Name {
     {
         self.text.as_str()
     }
-
-    /// The text of the name. It takes no memory.
-    pub fn into_string(self) -> String
-        ensures { string_bytes result ≡ self }
-    {
-        self.text
-    }
 }
 
 /// A text in UTF-8, of any length.

@@ -5,7 +5,7 @@ use Rattle.qo_values.specs.declared.limits.TheConstants.{NOTICES_MAX}
 use Rattle.qo_model.specs.Board.{Notice}
 use Rattle.qo_model.specs.Plug.{source_for}
 use Rattle.qo_slots.specs.declared.keys.Key.{Key}
-use Rattle.qo_kinds.specs.declared.kept.KeptSet.{KeptSet}
+use Rattle.qo_kinds.specs.declared.kept_set.KeptSet.{KeptSet}
 use Rattle.qo_heap.specs.Objects.{with_edit}
 use Rattle.qo_plug.specs.Spots.{claims_given}
 use Rattle.qo_plug.specs.Drafts.{given_draft}

@@ -1,6 +1,6 @@
 -- What the body has no room for is given back.
 use Rattle.std.proofs.Common.{◌++◌, sym, subst}
-use Rattle.qo_kinds.specs.declared.kept.KeptSet.{KeptSet}
+use Rattle.qo_kinds.specs.declared.kept_set.KeptSet.{KeptSet}
 use Rattle.qo_heap.specs.Book.{IsBook}
 use Rattle.qo_standing.specs.DeviceClaims.{kept_out}
 use Rattle.qo_standing.proofs.claiming.keep_claims.Goals as goal

@@ -3,7 +3,7 @@ use Rattle.std.proofs.Common.{◌≡◌, ◌++◌, ℕ, List, Option, ap, sym, s
 use Rattle.std.specs.List.{AllZip}
 use Rattle.std.proofs.lemmas.Option.{IfSome_then}
 use Rattle.qo_kinds.specs.Bodies.{registers_of}
-use Rattle.qo_kinds.specs.declared.kept.KeptSet.{KeptSet}
+use Rattle.qo_kinds.specs.declared.kept_set.KeptSet.{KeptSet}
 use Rattle.qo_table.specs.Rows.{IsLive}
 use Rattle.qo_model.specs.Board.{Board}
 use Rattle.qo_values.specs.declared.ranges.Range.{Range}
