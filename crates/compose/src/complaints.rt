@@ -1,6 +1,6 @@
 //! The lines that tell how a call ended.
 
-ghost use Rattle.std.specs.Prelude.{◌≡◌, ◌∷◌, [], ◌++◌, OnOk, codes, decimal};
+ghost use Rattle.std.specs.Prelude.{◌≡◌, ◌∷◌, [], ◌++◌, OnOk, decimal};
 ghost use Rattle.qo_causes.specs.Bytes.{PutsAll};
 ghost use Rattle.qo_causes.specs.Cause.{HasCause};
 ghost use Rattle.compose.specs.Replay.{Complained, line_of};

@@ -46,9 +46,6 @@ pub record Reached (ranges : List Range) (size at : ℕ) : Type 0 where
   pub above : window_start ≤ at
   pub none : (lower : ℕ) → window_start ≤ lower → lower < at → fits_at ranges size DIMM_ALIGN lower ≡ false
 
-pub reached-first : (ranges : List Range) (size : ℕ) → Reached ranges size window_start
-reached-first ranges size = record { even = refl; above = omega arith; none = λ lower from below. absurd (omega arith) }
-
 -- from an address at which a range is overlapped, nothing fits up to the next multiple after that range
 module _ (ranges : List Range) (size at : ℕ) (r : Range) (found : find (overlap (range_at at size)) ranges ≡ Some r) where
   meets : (lower : ℕ) → at ≤ lower → lower < r.at + r.size → overlap (range_at lower size) r ≡ true

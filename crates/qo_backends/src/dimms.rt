@@ -4,7 +4,7 @@ ghost use Rattle.std.specs.Prelude.{◌≡◌, ◌&&◌, false, [], IfOk, IfSome
 ghost use Rattle.std.specs.List.{cons_option, list_any};
 ghost use Rattle.std.specs.Option.{option_and_then, option_map_or};
 ghost use Rattle.qo_kinds.specs.Bodies.{registers_of};
-ghost use Rattle.qo_model.specs.Board.{Board, record_of};
+ghost use Rattle.qo_model.specs.Board.{Board};
 ghost use Rattle.qo_model.specs.Devices.{is_realized};
 ghost use Rattle.qo_model.specs.Paths.{is_of};
 ghost use Rattle.qo_model.specs.Plug.{dimms, has_backend, range_for, range_in, ranges_of, size_of};

@@ -1,6 +1,6 @@
 -- The ids of devices, by place.
 use Rattle.std.proofs.Common.{◌≡◌, refl, ap, sym, ◌∙◌, ℕ, Bool, false, ◌||◌, List, [], ◌∷◌, map, drop, slice_get}
-use Rattle.std.proofs.Common.{Option, Some, None, option_map}
+use Rattle.std.proofs.Common.{Option, Some, option_map}
 use Rattle.std.specs.List.{list_any}
 use Rattle.std.specs.Option.{option_and_then, option_map_or}
 use Rattle.std.specs.Str.{bytes_eq}
@@ -10,7 +10,7 @@ use Rattle.qo_model.specs.Board as board
 use Rattle.qo_model.specs.Devices.{device_named, has_id}
 use Rattle.qo_heap.specs.Objects.{IsHeap, Objects, content_of}
 use Rattle.qo_heap.specs.Board.{Shows, record_of}
-use Rattle.qo_heap.proofs.PlacesLemmas.{at-key, object-at-place, past-last}
+use Rattle.qo_heap.proofs.PlacesLemmas.{at-key, object-at-place}
 
 -- the id of the object at a place
 pub id-at : (v : Objects) → IsHeap v → (place : ℕ) (key : Key) (o : Option (List ℕ)) (id : List ℕ)
@@ -23,10 +23,6 @@ id-at v good place key o id e is =
     let own : content_of v key.birth ≡ Some c = object-at-place v.born v.rows place key c good.rising there in
     let its : o ≡ c.device_id = is ∙ ap (option_and_then (λ (d : Content). d.device_id)) own in
     rw (there, its) refl
-
-pub id-past : (rows : List (Key × Content)) (place : ℕ) (id : List ℕ) → None ≡ option_map (λ (row : Key × Content). row.0) (slice_get rows place)
-    → false ≡ option_map_or (λ (row : Key × Content). has_id id (record_of row)) (slice_get rows place) false
-id-past rows place id e = rw (past-last rows place (sym e)) refl
 
 -- whether an object has it, and whether any after a place has it
 abbrev pub has_it : List ℕ → Key × Content → Bool

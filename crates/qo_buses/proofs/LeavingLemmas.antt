@@ -150,14 +150,6 @@ module _ (p : List ℕ × board.Slot → Bool) where
       goes-same (λ b. b) (let_go_where p n) v v (goes-none v)
       (λ b log s. let at : index_from p 0 (board.slots_at b n) ≡ None = shows-index_from b (with_log log v) s n ∙ is in rw (let_go_where, at) refl)
 
--- a link to a kid is strong
-pub kid-strong : (d : ℕ) (name : List ℕ) (s : Slot) → names_kid d (name, shown_slot s) ≡ true → is_strong s ≡ true
-kid-strong d name (Plain val) is = cc
-kid-strong d name (Child key) is = cc
-kid-strong d name (Link ty true target) is = refl
-kid-strong d name (Link ty false target) is = cc
-kid-strong d name (Alias key of) is = cc
-
 -- the whole
 
 pub goes-left : (v u w : Objects) (c : Board) → Shows c v → (d m : ℕ) → ((b : Board) → Shows b v → Some m ≡ bus_of b d)

@@ -92,11 +92,6 @@ pub fits-not : (b : board.Board) (t : TypeId) (strong : Bool) (m : ℕ) → is_o
 fits-not b t true m is = rw (fitted, only_of, is) refl
 fits-not b t false m is = rw (fitted, only_of, is) refl
 
-pub closed-link : (b : board.Board) (m : ℕ) (t : TypeId) (strong : Bool) (key : Key)
-    → fitted b m (shown_slot (Link t strong (Some key))) ≡ shown_slot (Link t strong (Some key))
-closed-link b m t true key = refl
-closed-link b m t false key = refl
-
 -- the type of an object, on the boards of the heap
 of-fits : (b : board.Board) (v : Objects) → Shows b v → (n : ℕ) (wanted : List ℕ) (t : Bool)
     → option_map (λ (c : Content). is_a c.kind wanted) (content_of v n) ≡ Some t → is_of b wanted n ≡ t

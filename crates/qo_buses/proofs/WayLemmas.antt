@@ -1,5 +1,5 @@
 -- The way up from a bus, turn by turn.
-use Rattle.std.proofs.Common.{◌≡◌, refl, ap, sym, ◌∙◌, ℕ, suc, ◌+◌, ◌<◌, ◌≤◌, Bool, true, false, codes, List, [], ◌∷◌, map, length, eqb, Option, Some}
+use Rattle.std.proofs.Common.{◌≡◌, refl, ap, sym, ◌∙◌, ℕ, suc, ◌+◌, ◌<◌, Bool, true, false, codes, List, [], ◌∷◌, map, length, eqb, Option, Some}
 use Rattle.std.proofs.Common.{None, arith}
 use Rattle.std.specs.Option.{option_and_then, option_map_or}
 use Rattle.qo_values.specs.declared.kinds.TypeId.{TypeId}
@@ -14,7 +14,7 @@ use Rattle.qo_slots.specs.declared.keys.Key.{Key}
 use Rattle.qo_heap.specs.Objects.{Objects, content_of, parent_of}
 use Rattle.qo_heap.specs.Board.{Shows}
 use Rattle.qo_heap.proofs.BoardReads.{shows-kind, shows-parent, shows-size}
-use Rattle.qo_paths.proofs.DepthSteps.{left_at, depth-all, depth-turn, depth-none}
+use Rattle.qo_paths.proofs.DepthSteps.{left_at, depth-all, depth-turn}
 use Rattle.std.specs.Prelude.{if◌then◌else◌, option_map}
 use Rattle.std.specs.List.{list_any}
 
@@ -56,11 +56,6 @@ depth-up b size i n m whole below up is =
     let next : depth_left b size i n ≡ suc (depth_left b size (i + 1) m) = depth-turn (depth_turn b) (λ _. 0) size i n below ∙ rw (up, depth_turn) refl in
     omega arith
 
-pub depth-past : (b : Board) (size i n whole : ℕ) → i ≡ size + 1 → i + depth_left b size i n ≡ whole → size + 1 ≡ whole
-depth-past b size i n whole past is =
-    let last : depth_left b size i n ≡ 0 = depth-none (depth_turn b) (λ _. 0) size i n (omega arith) in
-    omega arith
-
 -- whether a removal is pending on what is left of the way
 abbrev pub going_left : Board → ℕ → ℕ → ℕ → Bool
 going_left b size i n = left_at (going_turn b) (λ _. false) size i n
@@ -83,6 +78,3 @@ going-top b size i n d below up not none = depth-turn (going_turn b) (λ _. fals
 pub going-up : (b : Board) (size i n d m : ℕ) → i < size + 1 → bridge_of b n ≡ Some d → among b.pending d ≡ false → bus_of b d ≡ Some m
     → going_left b size i n ≡ going_left b size (i + 1) m
 going-up b size i n d m below up not above = depth-turn (going_turn b) (λ _. false) size i n below ∙ rw (up, going_turn, not, above) refl
-
-pub going-past : (b : Board) (size i n : ℕ) → size + 1 ≤ i → going_left b size i n ≡ false
-going-past b size i n past = depth-none (going_turn b) (λ _. false) size i n past

@@ -3,7 +3,6 @@
 ghost use Rattle.std.specs.Prelude.{◌≡◌, ◌==◌, map, IfSome, slice_get};
 ghost use Rattle.std.specs.List.{list_any};
 ghost use Rattle.std.specs.Option.{option_and_then};
-ghost use Rattle.qo_slots.specs.declared.keys.Key.{Key};
 ghost use Rattle.qo_model.specs.Board.{Board, slots_at};
 ghost use Rattle.qo_model.specs.Devices.{bridge_of, bus_above, bus_in, depth_of, first_bus, is_going};
 ghost use Rattle.qo_object.specs.BoardObject.{birth_of, shown_slot};

@@ -1,6 +1,6 @@
 //! What is written into the slots of an object, by their names. None of these calls takes memory.
 
-ghost use Rattle.std.specs.Prelude.{◌≡◌, ℕ, Bool, true, false, Some, None, IfSome, IfNone, option_map};
+ghost use Rattle.std.specs.Prelude.{◌≡◌, ℕ, Bool, Some, None, IfSome, IfNone, option_map};
 ghost use Rattle.qo_values.specs.Kinds.{type_name};
 ghost use Rattle.qo_slots.specs.declared.keys.Key.{Key};
 ghost use Rattle.qo_model.specs.Board.{Board};

@@ -6,7 +6,7 @@ ghost use Rattle.qo_causes.specs.Script.{after_begin, after_next, after_send, be
 
 use crate::faults::Failed;
 use crate::hubs::{Hub, Lane, NextError, SendError};
-use crate::inputs::{Input, Moment, What};
+use crate::inputs::{Input, What};
 use crate::shelves::Shelf;
 use std::alloc::{AllocError, Global};
 use std::collections::VecDeque;

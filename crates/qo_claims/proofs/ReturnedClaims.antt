@@ -47,8 +47,6 @@ without_range-with r (x ∷ xs) some free =
 pub given-back : LawGivenBack
 given-back (on.Device id) h free some =
     ap (λ ids. record h { devices = ids }) (remove_key-last (bytes_eq id) id h.devices ((bytes_eq-Decides id id).1 refl) free)
-given-back (on.RingId id) h free some =
-    ap (λ ids. record h { ring_ids = ids }) (remove_key-last (bytes_eq id) id h.ring_ids ((bytes_eq-Decides id id).1 refl) free)
 given-back (on.Slot s) h free some = ap (λ slots. record h { slots = slots }) (remove_key-last (slot_eq s) s h.slots (slot_eq-same s) free)
 given-back (on.Ring id) h free some = ap (λ ids. record h { rings = ids }) (remove_key-last (bytes_eq id) id h.rings ((bytes_eq-Decides id id).1 refl) free)
 given-back (on.Backend birth) h free some =

@@ -5,7 +5,7 @@ use Rattle.std.proofs.lemmas.Bool.{cases_lt}
 use Rattle.std.proofs.Math.Seq.{drop-cons}
 use Rattle.std.proofs.Math.ListN.{drop_of_length-le}
 use Rattle.qo_values.specs.declared.ranges.Range.{Range}
-use Rattle.qo_values.specs.Placing.{window_start, window_size, window_end, is_in_window, range_at, overlap, overlaps_any, LieApartFrom, LieApart, fits_at, free_address}
+use Rattle.qo_values.specs.Placing.{window_start, window_size, window_end, is_in_window, range_at, overlap, overlaps_any, LieApartFrom, fits_at, free_address}
 use Rattle.qo_claims.specs.Gaps.{IsFirstFit}
 use Rattle.qo_claims.proofs.LeastLemmas.{least-found, least-none}
 
@@ -29,15 +29,6 @@ before-apart from (r ∷ rs) here apart before =
     let first : overlap here r ≡ false = grind (arith, nat_tests) in
     rw (first, rest) refl
 
--- at the start nothing was searched
-pub searched-none : (all : List Range) (size align : ℕ) → LieApart all → Searched all all size align window_start
-searched-none all size align apart = record {
-  start = omega arith;
-  apart = apart;
-  after = λ at from. refl;
-  below = λ at short. grind (arith, nat_tests);
-}
-
 -- no lower multiple from that address on, so nothing lower fits
 pub unfit-below : (all left : List Range) (size align from at lower : ℕ) → Searched all left size align from → ((n : ℕ) → from ≤ n → n % align ≡ 0 → at ≤ n)
     → lower < at → fits_at all size align lower ≡ false
@@ -46,31 +37,6 @@ unfit-below all left size align from at lower searched least low = ⊎_elim (λ 
     from-there : from ≤ lower → fits_at all size align lower ≡ false
     from-there above =
         ⊎_elim (λ more. grind (arith, nat_tests)) (λ none. let at-most = least lower above (omega arith) in absurd (omega arith)) (cases_lt 0 (lower % align))
-
--- nothing fits where a range is in the way
-pub overlapping-unfit : (all : List Range) (size align at : ℕ) → overlaps_any (range_at at size) all ≡ true → fits_at all size align at ≡ false
-overlapping-unfit all size align at any = rw any (grind (arith, nat_tests))
-
--- past a range before which nothing fits
-pub searched-more : (all left : List Range) (r : Range) (size align from : ℕ) → Searched all (r ∷ left) size align from → IsFirstFit from r.at size align None
-    → Searched all left size align (r.at + r.size)
-searched-more all left r size align from searched none = record {
-  start = omega (arith, searched.start, searched.apart.0);
-  apart = searched.apart.1;
-  after = λ at past.
-      let outside : overlap (range_at at size) r ≡ false = grind (arith, nat_tests) in
-      rw (searched.after at (omega (arith, searched.apart.0)), outside) refl;
-  below = λ at short. ⊎_elim (λ low. searched.below at low) (high at short) (cases_lt at from);
-}
-  where
-    hit : (at : ℕ) → at < r.at + r.size → from ≤ at → r.at < at + size → fits_at all size align at ≡ false
-    hit at short above beyond =
-        let over : overlap (range_at at size) r ≡ true = grind (arith, nat_tests) in
-        let any : overlaps_any (range_at at size) all ≡ true = rw (searched.after at above) (rw over refl) in
-        overlapping-unfit all size align at any
-
-    high : (at : ℕ) → at < r.at + r.size → from ≤ at → fits_at all size align at ≡ false
-    high at short above = ⊎_elim (λ more. grind (arith, nat_tests)) (λ none'. hit at short above (none at above (omega arith))) (cases_lt 0 (at % align))
 
 -- an address where it fits is a multiple, in the window and beside all ranges; and the other way round
 pub fits-at : (all : List Range) (size align at : ℕ) → at % align ≡ 0 → window_start ≤ at → at + size ≤ window_end → overlaps_any (range_at at size) all ≡ false

@@ -12,22 +12,11 @@ use qo_values::{Id, Range, Text};
 use std::alloc::Global;
 use std::marker::Model;
 
-/// The spaces of ids.
-#[derive(Clone, Copy, Debug, PartialEq, Eq)]
-pub enum Space {
-    /// The ids of devices.
-    Device,
-    /// The ids of rings.
-    Ring,
-}
-
 /// What a claim is on.
 #[derive(Debug, Drop)]
 pub enum Claimed {
     /// The id of a device.
     Device(Text),
-    /// The id of a ring.
-    RingId(Text),
     /// A slot of a bus.
     Slot(BusSlot),
     /// The ring of an id, for its bytes.
@@ -53,7 +42,6 @@ pub struct Kept {
 #[derive(Drop)]
 pub struct Claims {
     devices: Ids,
-    ring_ids: Ids,
     slots: Slots,
     rings: Ids,
     backends: Births,
@@ -83,7 +71,6 @@ impl Model for Claims {
 
     ghost view = { λ c. record {
       devices = c.devices;
-      ring_ids = c.ring_ids;
       slots = c.slots;
       rings = c.rings;
       backends = c.backends;
@@ -147,7 +134,7 @@ impl Claims {
     ghost use Rattle.qo_claims.specs.declared.claims.Claimed.TheVariants as on;
     ghost use Rattle.qo_claims.specs.Answers.{Took, on_whole};
     ghost use Rattle.qo_claims.specs.Lists.{id_answer, birth_answer, slot_answer, range_answer};
-    ghost use Rattle.qo_claims.specs.Book.{nothing_taken, ids_of, id_claim, with_claim, without_claim};
+    ghost use Rattle.qo_claims.specs.Book.{nothing_taken, with_claim, without_claim};
 
     /// A book in which nothing is held. It takes memory only by the calls `take_..`.
     pub fn new(alloc: Global) -> Claims
@@ -155,7 +142,6 @@ impl Claims {
     {
         Claims {
             devices: Ids::new(alloc),
-            ring_ids: Ids::new(alloc),
             slots: Slots::new(alloc),
             rings: Ids::new(alloc),
             backends: Births::new(alloc),
@@ -163,15 +149,14 @@ impl Claims {
         }
     }
 
-    /// Claims an id in a space; `Taken` exactly where it is taken. An error leaves all as it was.
-    pub fn take_id(&mut self, space: Space, id: &Id) -> Result<Claim, ClaimError>
-        ensures { Took (on_whole (id_claim space) (id_answer id.now (ids_of space self.old))) (λ claim. with_claim claim self.old) self.old self.new result }
+    /// Claims the id of a device; `Taken` exactly where it is taken. An error leaves all as it was.
+    pub fn take_id(&mut self, id: &Id) -> Result<Claim, ClaimError>
+        ensures { Took (on_whole on.Device (id_answer id.now self.old.devices)) (λ claim. with_claim claim self.old) self.old self.new result }
     {
-        let what = match space {
-            Space::Device => Claimed::Device(self.devices.take(id.as_str())?),
-            Space::Ring => Claimed::RingId(self.ring_ids.take(id.as_str())?),
-        };
-        Ok(Claim { what })
+        let id = self.devices.take(id.as_str())?;
+        Ok(Claim {
+            what: Claimed::Device(id),
+        })
     }
 
     /// Claims a slot of a bus: the named one, or the least that is free. `Range` exactly where the
@@ -242,7 +227,6 @@ impl Claims {
     {
         match what {
             Claimed::Device(id) => self.devices.give_back(id.as_str()),
-            Claimed::RingId(id) => self.ring_ids.give_back(id.as_str()),
             Claimed::Slot(slot) => self.slots.give_back(&slot),
             Claimed::Ring(id) => self.rings.give_back(id.as_str()),
             Claimed::Backend(birth) => self.backends.give_back(birth),

@@ -13,8 +13,7 @@ mod placing;
 mod ranges;
 mod slots;
 
-pub use claims::{Claim, Claims, Kept, Space, keep};
+pub use claims::{Claim, Claims, Kept, keep};
 pub use errors::ClaimError;
-pub use placing::place;
 pub use qo_values::Range;
 pub use ranges::{end, overlap};

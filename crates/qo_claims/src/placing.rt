@@ -28,7 +28,7 @@ fn fit(from: u64, end: u64, size: u64, align: u64) -> Option<u64>
 /// The least multiple of `align` in the window at which `size` bytes fit beside the ranges; `None`
 /// exactly where no gap holds them. It takes no memory. The ranges rise, lie apart and lie in the
 /// window.
-pub fn place(ranges: &[Range], size: u64, align: u64) -> Option<u64>
+pub(crate) fn place(ranges: &[Range], size: u64, align: u64) -> Option<u64>
     requires apart { LieApart ranges.now }
     requires some { 1 ≤ size }
     requires aligned { 1 ≤ align }

@@ -33,7 +33,7 @@ impl Model for Slots {
 impl Slots {
     ghost use Rattle.std.specs.Prelude.{◌≡◌, [], ◌∷◌, ◌++◌, false, IfOk, OnOk, OnErr};
     ghost use Rattle.qo_claims.specs.Answers.{Took};
-    ghost use Rattle.qo_claims.specs.Lists.{has_bus_slot, without_bus_slot, bus_slot, least_free, slot_answer};
+    ghost use Rattle.qo_claims.specs.Lists.{has_bus_slot, without_bus_slot, least_free, slot_answer};
 
     pub fn new(alloc: Global) -> Slots
         ensures { result ≡ [] }

@@ -4,7 +4,6 @@ use Rattle.std.specs.Prelude.{option_and_then}
 use Rattle.std.specs.Option.{option_map_or}
 use Rattle.std.proofs.lemmas.List.{length-map}
 use Rattle.qo_values.specs.declared.properties.Val.TheVariants as val
-use Rattle.qo_slots.specs.declared.keys.Key.{Key}
 use Rattle.qo_model.specs.Board as board
 use Rattle.qo_model.specs.Board.{Board, slot_named}
 use Rattle.qo_model.specs.Changes.{with_val}
@@ -59,9 +58,6 @@ full-depth b v s levels e =
 
 pub no-source : (b : Board) (v : Objects) → Shows b v → (c : ℕ) → source_on v c ≡ None → source_of b c ≡ None
 no-source b v s c e = shows-source b v s c ∙ ap birth_of e
-
-pub some-source : (b : Board) (v : Objects) → Shows b v → (c : ℕ) (k : Key) → source_on v c ≡ Some k → source_of b c ≡ Some k.birth
-some-source b v s c k e = shows-source b v s c ∙ ap birth_of e
 
 -- a period is written
 

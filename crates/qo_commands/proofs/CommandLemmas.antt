@@ -1,5 +1,5 @@
 -- What commands return has a text: no number has a fraction.
-use Rattle.std.proofs.Common.{◌≡◌, ℕ, Bool, true, false, List, [], ◌∷◌, map, refl, Option, None, Some, Result, Ok, Err, pos, negsuc}
+use Rattle.std.proofs.Common.{◌≡◌, ℕ, Bool, true, false, List, [], ◌∷◌, map, refl, Option, None, Some, Result, Ok, Err}
 use Rattle.std.specs.Prelude.{codes}
 use Rattle.serde_json.specs.View.{items_of}
 use Rattle.serde_json.specs.Written.{items_have_float, has_float}
@@ -7,17 +7,13 @@ use Rattle.qo_model.specs.Board.{Board}
 use Rattle.qo_model.specs.Listing.{listing}
 use Rattle.qo_model.specs.declared.notes.Note.{Note}
 use Rattle.qo_values.specs.declared.codes.Code.{Code}
-use Rattle.qo_values.specs.PlainValues.{data_of as val_data}
-use Rattle.qo_values.specs.declared.properties.Val.{Val}
-use Rattle.qo_values.specs.declared.properties.Val.TheVariants as val
 use Rattle.qo_values.specs.declared.kinds.TypeId.{TypeId}
 use Rattle.qo_model.specs.Types.{TypeInfo}
 use Rattle.qo_model.specs.declared.detached.Detached.{Detached}
-use Rattle.qo_requests.specs.declared.commands.Command.{Command}
 use Rattle.std.specs.Str.{chars}
 use Rattle.serde_json.proofs.OnLiterals.{serde_json_on_literals}
 use Rattle.qo_replies.specs.Json.{ascii, json}
-use Rattle.qo_commands.specs.Commands.{command_data, detached_data, empty, note_data, property_data, status_data, type_data}
+use Rattle.qo_commands.specs.Commands.{detached_data, empty, note_data, property_data, status_data, type_data}
 use Rattle.qo_commands.specs.Views.{body_data, data_of, has_float_in}
 use Rattle.qo_commands.specs.declared.commands.Body.{Body}
 use Rattle.qo_commands.specs.declared.commands.Body.TheVariants.{Answer, Empty, Status, Listing, Time, Told, Value}
@@ -25,14 +21,6 @@ use Rattle.qo_commands.specs.declared.commands.Body.TheVariants.{Answer, Empty, 
 pub rows_no_float : (rows : List (List ℕ × List ℕ)) → items_have_float (items_of (map property_data rows)) ≡ false
 rows_no_float [] = refl
 rows_no_float (r ∷ rs) = rows_no_float rs
-
-pub val_no_float : (v : Val) → has_float (val_data v) ≡ false
-val_no_float (val.Bool t) = refl
-val_no_float (val.Int (pos n)) = refl
-val_no_float (val.Int (negsuc n)) = refl
-val_no_float (val.Uint n) = refl
-val_no_float (val.Text t) = refl
-val_no_float val.Nothing = refl
 
 pub notes_no_float : (notes : List Note) → items_have_float (items_of (map note_data notes)) ≡ false
 notes_no_float [] = refl
@@ -52,10 +40,6 @@ types_no_float (r ∷ rs) = by r.is_abstract r.parent (types_no_float rs)
     by true (Some parent) rest = rest
     by false None rest = rest
     by false (Some parent) rest = rest
-
-pub commands_no_float : (cs : List Command) → items_have_float (items_of (map command_data cs)) ≡ false
-commands_no_float [] = refl
-commands_no_float (c ∷ cs) = commands_no_float cs
 
 -- what a command returns has no fraction, and so has a text
 body_no_float : (b : Board) (body : Body) → has_float (body_data b body) ≡ false

@@ -8,7 +8,7 @@ ghost use Rattle.qo_values.specs.TypeTexts.{around};
 ghost use Rattle.qo_model.specs.Board.{Board as Tree};
 ghost use Rattle.qo_model.specs.Objects.{may_add};
 ghost use Rattle.qo_model.specs.Types.{type_named, info_of};
-ghost use Rattle.qo_commands.specs.Commands.{adding_properties, device_properties, role_word, property_data, returned, type_data, types_of};
+ghost use Rattle.qo_commands.specs.Commands.{adding_properties, device_properties, role_word, property_data, type_data, types_of};
 ghost use Rattle.qo_commands.specs.Views.{done_of, row_data, words_for_adding};
 
 use crate::commands::{Done, refused, returned_value};

@@ -29,7 +29,7 @@ impl Model for Events {
 }
 
 impl Events {
-    ghost use Rattle.std.specs.Prelude.{◌≡◌, ◌≤◌, ◌+◌, IsOk, OnOk, OnErr, length};
+    ghost use Rattle.std.specs.Prelude.{◌≡◌, ◌≤◌, ◌+◌, IsOk, OnOk, OnErr};
     ghost use Rattle.qo_events.specs.Queue.{none_waiting, promised, kept, added, told};
 
     /// No events, and no place for any. It takes no memory.

@@ -1,6 +1,6 @@
 //! The parts of a stream: what comes first, and the rest.
 
-ghost use Rattle.std.specs.Prelude.{◌≡◌, ◌+◌, ◌<◌, ◌≤◌, [], ◌∷◌, ◌++◌, IfOk, OnOk, length, option_copied, option_to_list, take};
+ghost use Rattle.std.specs.Prelude.{◌≡◌, ◌+◌, ◌<◌, ◌≤◌, [], ◌∷◌, ◌++◌, IfOk, OnOk, length, option_copied, option_to_list};
 ghost use Rattle.qo_values.specs.declared.limits.TheConstants.{MESSAGE_MAX};
 ghost use Rattle.qo_framing.specs.Cut.{after_skipping, between_part, cut, first_part, followed, item_of, left_after, object_part, skipping_part, framing_after};
 ghost use Rattle.qo_framing.specs.Fronts.{end_after};

@@ -31,10 +31,6 @@ hex_given : (ds : List ℕ) (n value : ℕ) → AllDigits 16 ds → digits_value
 hex_given [] n value all e = ap Some e
 hex_given (byte ∷ ds) n value all e = rw (digit_of byte all.0) (hex_given ds (n * 16 + digit_value byte) value all.1 e)
 
--- a value's word
-abbrev IsValueWord : List ℕ → ℕ → Type 0
-IsValueWord word value = (digits : List ℕ) × IsHex digits value × (word ≡ codes "0x" ++ digits)
-
 -- a test in front
 pub guard_then : {A : Type 0} (b : Bool) (o : Option A) (y : A) → cond b o None ≡ Some y → (b ≡ true) × (o ≡ Some y)
 guard_then true o y e = (refl, e)

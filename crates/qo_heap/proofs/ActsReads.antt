@@ -1,8 +1,7 @@
 -- What acts leave of each object: its slots, its type, its pins and its path.
-use Rattle.std.proofs.Common.{◌≡◌, refl, ap, sym, ◌∙◌, ℕ, Bool, true, false, cond, eqb, List, [], ◌∷◌, ◌++◌, map, length, replicate, count_by, is_some, arith}
+use Rattle.std.proofs.Common.{◌≡◌, refl, ap, sym, ◌∙◌, ℕ, Bool, true, false, cond, eqb, List, [], ◌∷◌, ◌++◌, map, length, replicate}
 use Rattle.std.specs.Option.{option_map_or}
 use Rattle.std.proofs.lemmas.List.{length-map}
-use Rattle.std.proofs.lemmas.List.Sums.{sum_by-cons}
 use Rattle.qo_kinds.specs.declared.bodies.Body.TheVariants.{Plain}
 use Rattle.qo_kinds.specs.declared.kept_set.KeptSet.{KeptSet}
 use Rattle.qo_slots.specs.declared.keys.Key.{Key}
@@ -10,7 +9,7 @@ use Rattle.qo_table.specs.Rows.{object_at}
 use Rattle.qo_object.specs.Content.{Content}
 use Rattle.qo_heap.specs.Acts.{Acts, stilled}
 use Rattle.qo_heap.specs.Board.{pins_in}
-use Rattle.qo_heap.specs.Objects.{HasPlaces, Objects, content_of, has_path, pins_of, slots_of}
+use Rattle.qo_heap.specs.Objects.{Objects, content_of, pins_of, slots_of}
 
 -- what is read of an object without its body
 
@@ -63,19 +62,5 @@ acts-pins v w acts = sym (pins-still w.rows) ∙ ap still_pins acts.rows ∙ pin
 
 -- the places that are promised
 
-abbrev still_path : Stilled → Bool
-still_path row = is_some row.1.0.kept_path
-
 abbrev one_if : {X : Type 0} → (X → Bool) → X → ℕ
 one_if p x = cond {A = ℕ} (p x) 1 0
-
-paths-still : (rows : List (Key × Content)) → count_by still_path (map stilled rows) ≡ count_by has_path rows
-paths-still [] = refl
-paths-still (row ∷ rows) =
-    let rest = paths-still rows in
-    omega (arith, rest, sum_by-cons (one_if has_path) row rows, sum_by-cons (one_if still_path) (stilled row) (map stilled rows))
-
-pub acts-places : (v w : Objects) → Acts v w → HasPlaces v → HasPlaces w
-acts-places v w acts places =
-    let paths : count_by has_path w.rows ≡ count_by has_path v.rows = sym (paths-still w.rows) ∙ ap (count_by still_path) acts.rows ∙ paths-still v.rows in
-    rw (acts.events, paths) places

@@ -6,9 +6,9 @@ use Rattle.qo_values.proofs.ListLemmas.{all-at}
 use Rattle.qo_slots.specs.declared.keys.Key.{Key}
 use Rattle.qo_table.specs.Rows.{IsLive, edit, object_at, row_at, without}
 use Rattle.qo_object.specs.Slots.{Named, target_of}
-use Rattle.qo_object.specs.Content.{Content, named_at, dropped_at, with_pin, without_pin, forgotten}
+use Rattle.qo_object.specs.Content.{Content, named_at, forgotten}
 use Rattle.qo_heap.specs.Objects.{IsHeap, Objects, content_of, with_edit, ended, forgets}
-use Rattle.qo_heap.proofs.HeapLemmas.{AreThere, dropped-there, each-names, linked-at, edit-is, heap-edited}
+use Rattle.qo_heap.proofs.HeapLemmas.{each-names, linked-at}
 
 -- what a slot names is there
 named-has : (P : Key → Type 0) (o : Option Named) (key : Key) → IfSome o (λ (s : Named). IfSome (target_of s.1) P)
@@ -22,20 +22,6 @@ named-live v good n i c there key e =
     (each-names (IsLive v.rows) c.slots (linked-at v good n c there))) e
 
 -- a heap with a slot let go, with a pin more, with a pin less
-
-heap-changed : (v : Objects) → IsHeap v → (n : ℕ) (f : Content → Content) (c : Content) → content_of v n ≡ Some c
-    → ((x : Content) → AreThere v x → AreThere v (f x)) → IsHeap (with_edit n f v)
-heap-changed v good n f c there keeps =
-    subst (λ (w : Objects). IsHeap w) (edit-is v good n f c (f c) there refl) (heap-edited v good n (f c) (keeps c (linked-at v good n c there)))
-
-pub heap-dropped : (v : Objects) → IsHeap v → (n i : ℕ) (c : Content) → content_of v n ≡ Some c → IsHeap (with_edit n (dropped_at i) v)
-heap-dropped v good n i c there = heap-changed v good n (dropped_at i) c there (λ x all. dropped-there v i x all)
-
-pub heap-pinned : (v : Objects) → IsHeap v → (n : ℕ) (c : Content) → content_of v n ≡ Some c → IsHeap (with_edit n with_pin v)
-heap-pinned v good n c there = heap-changed v good n with_pin c there (λ x all. all)
-
-pub heap-unpinned : (v : Objects) → IsHeap v → (n : ℕ) (c : Content) → content_of v n ≡ Some c → IsHeap (with_edit n without_pin v)
-heap-unpinned v good n c there = heap-changed v good n without_pin c there (λ x all. all)
 
 -- objects by birth
 
@@ -100,13 +86,6 @@ content-left v n m x other = ap (option_map (λ (row : Key × Content). row.1)) 
         → option_map (λ (row : Key × Content). row.1) (option_map (forgets n) o) ≡ option_map (forgotten n) (option_map (λ (row : Key × Content). row.1) o)
     go None = refl
     go (Some row) = refl
-
-pub live-left : (v : Objects) (n : ℕ) (x : Content) (key : Key) → eqb key.birth n ≡ false → IsLive v.rows key → IsLive (ended n x v).rows key
-live-left v n x key other live = rw (row-left n key.birth other v.rows) (go (row_at v.rows key.birth) live)
-  where
-    go : (o : Option (Key × Content)) → IsSomeAnd o (λ row. row.0.index ≡ key.index) → IsSomeAnd (option_map (forgets n) o) (λ row. row.0.index ≡ key.index)
-    go None none = none
-    go (Some row) some = some
 
 -- what a name that is live names
 pub live-content : (v : Objects) (key : Key) → IsLive v.rows key → (c : Content) × (content_of v key.birth ≡ Some c)

@@ -21,9 +21,9 @@ use Rattle.qo_model.proofs.StepLemmas.{is_some-map}
 use Rattle.qo_object.specs.declared.slots.Slot.{Slot}
 use Rattle.qo_object.specs.declared.slots.Slot.TheVariants.{Plain, Child, Link, Alias}
 use Rattle.qo_object.specs.Slots.{Named, slot_in, target_of, child_of, held, names_child}
-use Rattle.qo_object.specs.Content.{Content, holding, is_parent, named_at, reference_count}
+use Rattle.qo_object.specs.Content.{Content, holding, is_parent, named_at}
 use Rattle.qo_object.specs.BoardObject.{birth_of, shown_slot, shown_slots, shown}
-use Rattle.qo_object.proofs.BoardObjectLemmas.{shown-target, shown-held, slice_get-shown, refs-shown, parent-shown, length-shown, reference_count-shown}
+use Rattle.qo_object.proofs.BoardObjectLemmas.{shown-target, shown-held, slice_get-shown, refs-shown, parent-shown}
 use Rattle.qo_heap.specs.Objects.{IsHeap, Objects, content_of, slots_of, pins_of, refs_of, parent_of}
 use Rattle.qo_heap.specs.Board.{Shows, record_of, pins_in}
 use Rattle.qo_values.proofs.ListLemmas.{found-passes}
@@ -283,42 +283,3 @@ shows-parent b v s n = ap (option_map (λ (p : ℕ × List ℕ). p.0)) (shows-pl
     go (Some row) passes = place-owner n row (passes row refl)
 
 -- how much the objects hold
-
--- how many slots of an object hold one
-pub shows-reference_count : (b : board.Board) (v : Objects) → Shows b v → (n : ℕ) (c : Content) → content_of v n ≡ Some c
-    → count_by (λ (t : List ℕ × board.Slot). is_some (board.held t.1)) (board.slots_at b n) ≡ reference_count c
-shows-reference_count b v s n c there =
-    let slots : board.slots_at b n ≡ shown_slots c.slots =
-    shows-slots b v s n ∙ ap (λ (o : Option Content). shown_slots (option_map_or (λ (d : Content). d.slots) o [])) there in
-    ap (count_by (λ (t : List ℕ × board.Slot). is_some (board.held t.1))) slots ∙ reference_count-shown n c
-
-holding-all : (rows : List (Key × Content)) → sum_by (λ (r : board.Record). count_by (λ (t : List ℕ × board.Slot). is_some (board.held t.1)) r.slots)
-    (records_of rows) ≡ sum_by (λ (row : Key × Content). reference_count row.1) rows
-holding-all [] = refl
-holding-all (row ∷ rows) =
-    omega (
-      arith,
-      holding-all rows,
-      reference_count-shown row.0.birth row.1,
-      sum_by-cons (λ (r : board.Record). count_by (λ (t : List ℕ × board.Slot). is_some (board.held t.1)) r.slots) (record_of row) (records_of rows),
-      sum_by-cons (λ (r : Key × Content). reference_count r.1) row rows,
-    )
-
-pub shows-holding : (b : board.Board) (v : Objects) → Shows b v → release.holding b ≡ sum_by (λ (row : Key × Content). reference_count row.1) v.rows
-shows-holding b v s = ap (sum_by (λ (r : board.Record). count_by (λ (t : List ℕ × board.Slot). is_some (board.held t.1)) r.slots)) s.records
-    ∙ holding-all v.rows
-
-width-all : (rows : List (Key × Content))
-    → sum_by (λ (r : board.Record). length r.slots) (records_of rows) ≡ sum_by (λ (row : Key × Content). length row.1.slots) rows
-width-all [] = refl
-width-all (row ∷ rows) =
-    omega (
-      arith,
-      width-all rows,
-      length-shown row.1.slots,
-      sum_by-cons (λ (r : board.Record). length r.slots) (record_of row) (records_of rows),
-      sum_by-cons (λ (r : Key × Content). length r.1.slots) row rows,
-    )
-
-pub shows-width : (b : board.Board) (v : Objects) → Shows b v → release.width b ≡ sum_by (λ (row : Key × Content). length row.1.slots) v.rows
-shows-width b v s = ap (sum_by (λ (r : board.Record). length r.slots)) s.records ∙ width-all v.rows

@@ -12,13 +12,11 @@ use Rattle.qo_claims.specs.declared.claims.Claimed.{Claimed}
 use Rattle.qo_claims.specs.declared.claims.Claimed.TheVariants as on
 use Rattle.qo_claims.specs.declared.slots.BusSlot.{BusSlot}
 use Rattle.qo_claims.proofs.ReturnedClaims.{eqb-same, slot_eq-same, range_eq-same}
-use Rattle.qo_kinds.proofs.BodyLemmas.{fresh-bare}
-use Rattle.qo_kinds.specs.Bodies.{body_of, kept_of}
+use Rattle.qo_kinds.specs.Bodies.{kept_of}
 use Rattle.qo_kinds.specs.declared.bodies.Body.{Body}
 use Rattle.qo_kinds.specs.declared.kept_set.KeptSet.{KeptSet}
 use Rattle.qo_slots.specs.declared.keys.Key.{Key}
-use Rattle.qo_object.specs.Content.{Content, fresh}
-use Rattle.qo_values.specs.declared.kinds.TypeId.{TypeId}
+use Rattle.qo_object.specs.Content.{Content}
 use Rattle.qo_table.specs.Rows.{Rises, births, edit, edited, object_at, without}
 use Rattle.qo_heap.specs.Book.{IsBook, claim_eq, counted, kept_times, one, owned}
 use Rattle.qo_heap.specs.Objects.{IsHeap, Objects, content_of, ended, forgets, with_edit, without_kept, without_one}
@@ -62,37 +60,26 @@ range-same a b e =
 -- one claim ends that is held
 counted-without : (x y : Claimed) (h : ClaimsTaken) → 0 < counted x h → cond (claim_eq y x) 1 0 + counted y (without_claim x h) ≡ counted y h
 counted-without (on.Device a) (on.Device b) h there = taken bytes_eq (λ x y. (bytes_eq-Decides x y).0) a b h.devices there
-counted-without (on.Device a) (on.RingId b) h there = omega arith
 counted-without (on.Device a) (on.Slot b) h there = omega arith
 counted-without (on.Device a) (on.Ring b) h there = omega arith
 counted-without (on.Device a) (on.Backend b) h there = omega arith
 counted-without (on.Device a) (on.Range b) h there = omega arith
-counted-without (on.RingId a) (on.Device b) h there = omega arith
-counted-without (on.RingId a) (on.RingId b) h there = taken bytes_eq (λ x y. (bytes_eq-Decides x y).0) a b h.ring_ids there
-counted-without (on.RingId a) (on.Slot b) h there = omega arith
-counted-without (on.RingId a) (on.Ring b) h there = omega arith
-counted-without (on.RingId a) (on.Backend b) h there = omega arith
-counted-without (on.RingId a) (on.Range b) h there = omega arith
 counted-without (on.Slot a) (on.Device b) h there = omega arith
-counted-without (on.Slot a) (on.RingId b) h there = omega arith
 counted-without (on.Slot a) (on.Slot b) h there = taken slot_eq slot-same a b h.slots there
 counted-without (on.Slot a) (on.Ring b) h there = omega arith
 counted-without (on.Slot a) (on.Backend b) h there = omega arith
 counted-without (on.Slot a) (on.Range b) h there = omega arith
 counted-without (on.Ring a) (on.Device b) h there = omega arith
-counted-without (on.Ring a) (on.RingId b) h there = omega arith
 counted-without (on.Ring a) (on.Slot b) h there = omega arith
 counted-without (on.Ring a) (on.Ring b) h there = taken bytes_eq (λ x y. (bytes_eq-Decides x y).0) a b h.rings there
 counted-without (on.Ring a) (on.Backend b) h there = omega arith
 counted-without (on.Ring a) (on.Range b) h there = omega arith
 counted-without (on.Backend a) (on.Device b) h there = omega arith
-counted-without (on.Backend a) (on.RingId b) h there = omega arith
 counted-without (on.Backend a) (on.Slot b) h there = omega arith
 counted-without (on.Backend a) (on.Ring b) h there = omega arith
 counted-without (on.Backend a) (on.Backend b) h there = taken eqb eqb-true a b h.backends there
 counted-without (on.Backend a) (on.Range b) h there = omega arith
 counted-without (on.Range a) (on.Device b) h there = omega arith
-counted-without (on.Range a) (on.RingId b) h there = omega arith
 counted-without (on.Range a) (on.Slot b) h there = omega arith
 counted-without (on.Range a) (on.Ring b) h there = omega arith
 counted-without (on.Range a) (on.Backend b) h there = omega arith
@@ -100,7 +87,6 @@ counted-without (on.Range a) (on.Range b) h there = taken range_eq range-same a 
 
 claim-self : (x : Claimed) → claim_eq x x ≡ true
 claim-self (on.Device a) = (bytes_eq-Decides a a).1 refl
-claim-self (on.RingId a) = (bytes_eq-Decides a a).1 refl
 claim-self (on.Slot a) = slot_eq-same a
 claim-self (on.Ring a) = (bytes_eq-Decides a a).1 refl
 claim-self (on.Backend a) = eqb-same a
@@ -234,22 +220,6 @@ book-put xs out v good n change c there more book x =
     + owned x (record { index = 0; birth = 0 }, change c) = sum-changed (owned x) n change 0 v.born v.rows good.rising c there (λ key d. refl) in
     omega (arith, book x, sums, more x, sum_by-append (λ (y : Claimed). cond {A = ℕ} (claim_eq x y) 1 0) xs out)
 
--- an object gives claims out: it keeps each of them once less
-pub book-out : (xs out : List Claimed) (v : Objects) → IsHeap v → (n : ℕ) (change : Content → Content) (c : Content) → content_of v n ≡ Some c
-    → ((x : Claimed) → owned x (record { index = 0; birth = 0 }, c) ≡ count_by (claim_eq x) xs + owned x (record { index = 0; birth = 0 }, change c))
-    → IsBook out v → IsBook (xs ++ out) (with_edit n change v)
-book-out xs out v good n change c there less book x =
-    let sums : sum_by (owned x) (edit n change v.rows) + owned x (record { index = 0; birth = 0 }, c) ≡ sum_by (owned x) v.rows
-    + owned x (record { index = 0; birth = 0 }, change c) = sum-changed (owned x) n change 0 v.born v.rows good.rising c there (λ key d. refl) in
-    omega (arith, book x, sums, less x, sum_by-append (λ (y : Claimed). cond {A = ℕ} (claim_eq x y) 1 0) xs out)
-
--- an object is made: it keeps no claim
-pub book-made : (out : List Claimed) (v : Objects) (key : Key) (kind : TypeId) (born : ℕ) → IsBook out v
-    → IsBook out (record v { rows = v.rows ++ (key, fresh kind) ∷ []; born = born })
-book-made out v key kind born book x =
-    let none : kept_times x (kept_of (body_of kind)) ≡ 0 = ap (kept_times x) (fresh-bare kind) in
-    omega (arith, book x, none, sum_by-append (owned x) v.rows ((key, fresh kind) ∷ []), sum_by-cons (owned x) (key, fresh kind) [])
-
 -- one key more at the end of a list
 module _ {K : Type 0} (eq : K → K → Bool) where
   one-more : (a b : K) (ks : List K) → count_by (eq b) (ks ++ a ∷ []) ≡ cond (eq b a) 1 0 + count_by (eq b) ks
@@ -273,37 +243,26 @@ range-more a b (r ∷ rs) = go (nat_lt a.at r.at) (range-more a b rs)
 -- one claim more is held
 counted-with : (x y : Claimed) (h : ClaimsTaken) → counted y (with_claim x h) ≡ cond (claim_eq y x) 1 0 + counted y h
 counted-with (on.Device a) (on.Device b) h = one-more bytes_eq a b h.devices
-counted-with (on.Device a) (on.RingId b) h = omega arith
 counted-with (on.Device a) (on.Slot b) h = omega arith
 counted-with (on.Device a) (on.Ring b) h = omega arith
 counted-with (on.Device a) (on.Backend b) h = omega arith
 counted-with (on.Device a) (on.Range b) h = omega arith
-counted-with (on.RingId a) (on.Device b) h = omega arith
-counted-with (on.RingId a) (on.RingId b) h = one-more bytes_eq a b h.ring_ids
-counted-with (on.RingId a) (on.Slot b) h = omega arith
-counted-with (on.RingId a) (on.Ring b) h = omega arith
-counted-with (on.RingId a) (on.Backend b) h = omega arith
-counted-with (on.RingId a) (on.Range b) h = omega arith
 counted-with (on.Slot a) (on.Device b) h = omega arith
-counted-with (on.Slot a) (on.RingId b) h = omega arith
 counted-with (on.Slot a) (on.Slot b) h = one-more slot_eq a b h.slots
 counted-with (on.Slot a) (on.Ring b) h = omega arith
 counted-with (on.Slot a) (on.Backend b) h = omega arith
 counted-with (on.Slot a) (on.Range b) h = omega arith
 counted-with (on.Ring a) (on.Device b) h = omega arith
-counted-with (on.Ring a) (on.RingId b) h = omega arith
 counted-with (on.Ring a) (on.Slot b) h = omega arith
 counted-with (on.Ring a) (on.Ring b) h = one-more bytes_eq a b h.rings
 counted-with (on.Ring a) (on.Backend b) h = omega arith
 counted-with (on.Ring a) (on.Range b) h = omega arith
 counted-with (on.Backend a) (on.Device b) h = omega arith
-counted-with (on.Backend a) (on.RingId b) h = omega arith
 counted-with (on.Backend a) (on.Slot b) h = omega arith
 counted-with (on.Backend a) (on.Ring b) h = omega arith
 counted-with (on.Backend a) (on.Backend b) h = one-more eqb a b h.backends
 counted-with (on.Backend a) (on.Range b) h = omega arith
 counted-with (on.Range a) (on.Device b) h = omega arith
-counted-with (on.Range a) (on.RingId b) h = omega arith
 counted-with (on.Range a) (on.Slot b) h = omega arith
 counted-with (on.Range a) (on.Ring b) h = omega arith
 counted-with (on.Range a) (on.Backend b) h = omega arith

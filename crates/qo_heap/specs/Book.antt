@@ -15,7 +15,6 @@ use Rattle.qo_heap.specs.Objects.{Objects}
 -- two claims are on the same
 abbrev pub claim_eq : Claimed → Claimed → Bool
 claim_eq (on.Device a) (on.Device b) = bytes_eq a b
-claim_eq (on.RingId a) (on.RingId b) = bytes_eq a b
 claim_eq (on.Slot a) (on.Slot b) = slot_eq a b
 claim_eq (on.Ring a) (on.Ring b) = bytes_eq a b
 claim_eq (on.Backend a) (on.Backend b) = a == b
@@ -25,7 +24,6 @@ claim_eq _ _ = false
 -- how often it is held
 abbrev pub counted : Claimed → ClaimsTaken → ℕ
 counted (on.Device a) h = count_by (bytes_eq a) h.devices
-counted (on.RingId a) h = count_by (bytes_eq a) h.ring_ids
 counted (on.Slot a) h = count_by (slot_eq a) h.slots
 counted (on.Ring a) h = count_by (bytes_eq a) h.rings
 counted (on.Backend a) h = count_by (λ b. a == b) h.backends

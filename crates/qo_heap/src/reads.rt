@@ -106,7 +106,7 @@ fn parent_place<L: Ledger>(table: &ObjectTable<Object>, birth: u64, steps: &mut 
 }
 
 impl Heap {
-    ghost use Rattle.std.specs.Prelude.{◌<◌, ◌+◌, nat_lt, Some, option_map, option_and_then, length, find, leb, slice_get, position, IfSome, IfNone, None, IfOk};
+    ghost use Rattle.std.specs.Prelude.{◌<◌, ◌+◌, nat_lt, Some, option_map, length, find, leb, slice_get, position, IfSome, IfNone, None, IfOk};
     ghost use Rattle.std.specs.Str.{bytes_eq};
     ghost use Rattle.qo_notes.specs.Log.{given_from, first_from};
     ghost use Rattle.qo_table.specs.Rows.{IsLive};

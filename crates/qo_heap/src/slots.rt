@@ -8,7 +8,7 @@ use qo_values::{TypeId, Val};
 use std::sync::ledger::Ledger;
 
 impl Heap {
-    ghost use Rattle.std.specs.Prelude.{◌≡◌, ◌≢◌, ◌≤◌, ◌^◌, true, false, Err, Some, None, IfSome, OnOk, OnErr, filter_map, is_some, length};
+    ghost use Rattle.std.specs.Prelude.{◌≡◌, ◌≢◌, ◌≤◌, ◌^◌, true, false, Err, None, IfSome, OnOk, OnErr, filter_map, is_some, length};
     ghost use Rattle.std.specs.List.{AllByRecursion, IsDistinct};
     ghost use Rattle.std.specs.Str.{bytes_eq};
     ghost use Rattle.qo_object.specs.Content.{furnished, with_slot};

@@ -1,8 +1,6 @@
 //! One line of the guest.
 
 ghost use Rattle.std.specs.Prelude.{◌≡◌, false, IfOk, None, OnErr, option_map};
-ghost use Rattle.std.specs.Result.{result_ok};
-ghost use Rattle.qo_guest.specs.Lines.{guest_line};
 ghost use Rattle.qo_model.specs.Board.{Board as Tree};
 ghost use Rattle.qo_realize.specs.Representation.{Stands};
 ghost use Rattle.qo_buses.specs.Addresses.{addressed};

@@ -1,30 +1,18 @@
 -- The messages of a step go to lanes of the sixteen sessions.
-use Rattle.std.proofs.Common.{◌≡◌, ℕ, zero, suc, ◌<◌, ◌≤◌, Bool, true, false, if◌then◌else◌, List, [], ◌∷◌, ◌++◌, map, option_to_list, Ok, ap, ◌∙◌, append_assoc, refl, subst, sym, arith, nat_lt}
-use Rattle.std.proofs.lemmas.Bool.{ltb-true}
+use Rattle.std.proofs.Common.{◌≡◌, ℕ, zero, suc, ◌<◌, ◌≤◌, Bool, true, false, if◌then◌else◌, List, [], ◌∷◌, ◌++◌, map, option_to_list, Ok, ap, ◌∙◌, append_assoc, refl, subst, sym, arith}
 use Rattle.std.proofs.lemmas.Grind.{flat_map-append}
 use Rattle.qo_values.specs.declared.limits.TheConstants.{SESSIONS}
 use Rattle.qo_causes.specs.declared.hubs.Lane.{Lane}
 use Rattle.qo_causes.specs.declared.inputs.Moment.{Moment}
-use Rattle.qo_causes.specs.declared.inputs.What.{What}
-use Rattle.qo_causes.specs.declared.inputs.What.TheVariants.{Open, Bytes, Shut, Guest as GuestLine, Step, End}
-use Rattle.qo_framing.specs.declared.items.Item.{Item}
 use Rattle.qo_replies.specs.declared.events.Event.{Event}
-use Rattle.qo_sessions.specs.Acts.{act}
-use Rattle.qo_sessions.specs.Sessions.{fed}
-use Rattle.qo_sessions.specs.declared.acts.SessionAct.{SessionAct}
-use Rattle.qo_sessions.specs.declared.acts.SessionAct.TheVariants.{Answer, Negotiated, Do}
-use Rattle.qo_sessions.specs.declared.modes.Mode.{Mode}
-use Rattle.qo_sessions.specs.declared.modes.Mode.TheVariants.{Closed, Negotiating, Commanding}
 use Rattle.qo_machine.proofs.MachineLemmas.{told_more}
-use Rattle.qo_commands.specs.Commands.{event_of, perform}
-use Rattle.qo_lane.specs.Hearing.{heard}
-use Rattle.qo_lane.specs.Lines.{lines_of, without_return}
+use Rattle.qo_commands.specs.Commands.{event_of}
 use Rattle.qo_model.specs.Board.{Board}
 use Rattle.qo_model.specs.Opening.{opening_board}
 use Rattle.qo_realize.specs.Representation.{Stands}
 use Rattle.qo_machine.specs.Serving.{Tells}
 use Rattle.qo_machine.specs.declared.machines.Replied.{Replied}
-use Rattle.qo_machine.specs.Machine.{Choice, Made, Message, Seen, State, Stepped, preceded, beside, by_item, by_line, commanding, defined, refused, event_outs, first, input_step, is_commanding, item_step, line_step, made_by, mode_of, numbers_below, opened, others, serve, serve_by, serve_unless, session_of, state_with, taken, those_commanding, event_messages, unchanged, with_line, with_session}
+use Rattle.qo_machine.specs.Machine.{Message, Seen, State, beside, commanding, event_outs, is_commanding, mode_of, numbers_below, state_with, those_commanding, event_messages}
 use Rattle.qo_machine.specs.Sending.{AreToLanes, IsLane}
 
 lanes_more : (a b : List Message) → AreToLanes a → AreToLanes b → AreToLanes (a ++ b)
@@ -49,77 +37,6 @@ events_told [] s at = tt
 events_told (e ∷ es) s at =
     lanes_more (event_messages e at (those_commanding s (numbers_below SESSIONS))) (event_outs at s es) (all_told SESSIONS s e at (omega arith))
     (events_told es s at)
-
-made_lanes : (choice : Choice) (at : Moment) (n : ℕ) (s : State) (what : SessionAct) → n < SESSIONS → AreToLanes (made_by choice at n s what).outs
-made_lanes defined at n s (Answer code id) below = (below, tt)
-made_lanes defined at n s (Negotiated id) below = (below, tt)
-made_lanes defined at n s (Do command id) below =
-    lanes_more (event_outs at s (perform s.board command).events) _ (events_told (perform s.board command).events s at) (below, tt)
-made_lanes (refused i joined) at n s (Answer code id) below = (below, tt)
-made_lanes (refused i joined) at n s (Negotiated id) below = (below, tt)
-made_lanes (refused i joined) at n s (Do command id) below = (below, tt)
-
-item_lanes : (choice : Choice) (at : Moment) (n : ℕ) (s : State) (item : Item) → n < SESSIONS → AreToLanes (item_step choice at n s item).outs
-unfolding item_step
-item_lanes choice at n s item below = made_lanes choice at n s (act (mode_of s n) item) below
-
-unless_lanes : (e : Bool) (a b : Stepped) → AreToLanes a.outs → AreToLanes b.outs → AreToLanes (serve_unless e a b).outs
-unless_lanes true a b p q = p
-unless_lanes false a b p q = q
-
-serve_lanes_by : {X : Type 0} (f : Choice → State → X → Made) → ((choice : Choice) (s : State) (x : X) → AreToLanes (f choice s x).outs)
-    → (xs : List X) (s : State) (cs : List Choice) → AreToLanes (serve_by f xs s cs).outs
-serve_lanes_by f each [] s cs = tt
-serve_lanes_by f each (x ∷ xs) s cs =
-    unless_lanes s.ended (unchanged s cs) (preceded (f (first cs) s x).outs (serve_by f xs (f (first cs) s x).state (others cs))) tt
-    (lanes_more (f (first cs) s x).outs (serve_by f xs (f (first cs) s x).state (others cs)).outs (each (first cs) s x)
-    (serve_lanes_by f each xs (f (first cs) s x).state (others cs)))
-
-items_lanes : (items : List Item) (at : Moment) (n : ℕ) (s : State) (cs : List Choice) → n < SESSIONS → AreToLanes (serve at n items s cs).outs
-items_lanes items at n s cs below = serve_lanes_by (by_item at n) (λ choice t item. item_lanes choice at n t item below) items s cs
-
-line_lanes : (choice : Choice) (at : Moment) (s : State) (line : List ℕ) → AreToLanes (line_step choice at s line).outs
-unfolding line_step
-line_lanes (refused i joined) at s line = (tt, tt)
-line_lanes defined at s line =
-    let o = heard s.board (without_return line) in
-    lanes_more (event_outs at s (map event_of o.board.events ++ o.events)) _ (events_told (map event_of o.board.events ++ o.events) s at) (tt, tt)
-
--- what an input sends goes to the lanes of the sixteen sessions
-pub input_lanes : (s : State) (at : Moment) (w : What) (cs : List Choice) → AreToLanes (input_step s at w cs).outs
-input_lanes s at w cs = what_lanes w
-  where
-    open_lanes : (n : ℕ) (mode : Mode) (t : Bool) → nat_lt n SESSIONS ≡ t → AreToLanes (if t then opened s n mode cs else unchanged s cs).outs
-    open_lanes n Closed true h = (ltb-true n SESSIONS h, tt)
-    open_lanes n Negotiating true h = tt
-    open_lanes n Commanding true h = tt
-    open_lanes n mode false h = tt
-
-    bytes_lanes : (n : ℕ) (bytes : List ℕ) (t : Bool) → nat_lt n SESSIONS ≡ t → AreToLanes (if t then taken at s n bytes cs else unchanged s cs).outs
-    bytes_lanes n bytes true h =
-        items_lanes (fed (session_of s n) bytes).items at n (with_session s n (fed (session_of s n) bytes).session) cs (ltb-true n SESSIONS h)
-    bytes_lanes n bytes false h = tt
-
-    shut_lanes : (n : ℕ) (t : Bool) (a b : State) → AreToLanes (if t then unchanged a cs else unchanged b cs).outs
-    shut_lanes n true a b = tt
-    shut_lanes n false a b = tt
-
-    what_lanes : (w : What) → AreToLanes (input_step s at w cs).outs
-    what_lanes (Open n) = open_lanes n (mode_of s n) (nat_lt n SESSIONS) refl
-    what_lanes (Bytes n bytes) = bytes_lanes n bytes (nat_lt n SESSIONS) refl
-    what_lanes (Shut n) = shut_lanes n (nat_lt n SESSIONS) _ _
-    what_lanes (GuestLine bytes) =
-        serve_lanes_by (by_line at) (λ choice t line. line_lanes choice at t line) (lines_of s.guest_line bytes).lines
-        (with_line s (lines_of s.guest_line bytes).rest) cs
-    what_lanes (Step ns) = tt
-    what_lanes End = tt
-
--- no message, one, and one after some
-pub no_lanes : (outs : List Message) → outs ≡ [] → AreToLanes outs
-no_lanes outs none = subst AreToLanes (sym none) tt
-
-pub one_lane : (lane : Lane) (text : List ℕ) → IsLane lane → AreToLanes ((lane, text) ∷ [])
-one_lane lane text is = (is, tt)
 
 pub told_lanes : (es : List Event) (s : State) (at : Moment) (lane : Lane) (text : List ℕ) (told front : List Message) → told ≡ event_outs at s es
     → front ≡ told ++ (lane, text) ∷ [] → IsLane lane → AreToLanes front

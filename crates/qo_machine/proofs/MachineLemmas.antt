@@ -116,13 +116,6 @@ pub after_twice : (a b : List Message) (r : Stepped) → preceded a (preceded b 
 after_twice a b r =
     ap (λ (outs : List Message). record { outs = outs; state = r.state; rest = r.rest }) (sym (append_assoc a b r.outs))
 
--- none
-pub serves_none_by : {X : Type 0} (f : Choice → State → X → Made) (s : State) → ServesBy f s [] [] s
-serves_none_by f s = ([], λ further rest. refl)
-
-pub serves_none : (at : Moment) (n : ℕ) (s : State) → Serves at n s [] [] s
-serves_none at n s = serves_none_by (by_item at n) s
-
 -- some, and then more
 pub serves_more_by : {X : Type 0} (f : Choice → State → X → Made) (s t u : State) (xs ys : List X) (a b : List Message) → ServesBy f s xs a t
     → ServesBy f t ys b u → ServesBy f s (xs ++ ys) (a ++ b) u
@@ -164,9 +157,6 @@ item_made : (at : Moment) (n : ℕ) (s t : State) (item : Item) (choice : Choice
     → made_by choice at n s what ≡ record { outs = outs; state = t } → item_step choice at n s item ≡ record { outs = outs; state = t }
 unfolding item_step
 item_made at n s t item choice what outs is made = ap (made_by choice at n s) (sym is) ∙ made
-
-made_of : List Message → State → Made
-made_of outs t = record { outs = outs; state = t }
 
 -- a refused item
 pub item_answered : (at : Moment) (n : ℕ) (s t : State) (item : Item) (code : Code) (id : Option (List ℕ)) (text : List ℕ) → s.ended ≡ false
@@ -230,12 +220,6 @@ bytes_taken at n s m bytes items outs below is p =
     (q.0, p.0, p.1, rw (lt-ltb n SESSIONS below) (serve_all_by (by_item at n) start p.0 f.items outs q))
 
 -- A machine that moved beside its board.
-
--- from a state that it was in it is in the one that is moved so
-pub in_moved : (f : State → State) (m to : Seen) → ((b : Board) → state_with b to ≡ f (state_with b m)) → to.board ≡ m.board → (s : State) → IsIn s m
-    → IsIn (f s) to
-in_moved f m to move same s at =
-    by_board (λ (x : State). IsIn (f x) to) m (λ b stands. subst (λ (x : State). IsIn x to) (move b) (in_at b to (subst (Stands b) (sym same) stands))) s at
 
 -- it did not move
 pub in_still : (m to : Seen) → to ≡ m → (s : State) → IsIn s m → IsIn s to

@@ -22,13 +22,6 @@ use Rattle.qo_machine.proofs.RunLemmas.{nothing_appended}
 
 -- One lane, over its flags: was its session lost, and is it the lane of the message.
 
-skip_at : (flag same : Bool) (cut : ℕ) (old mid : Option (List ℕ)) (bytes more : List ℕ) → (same ≡ true → flag ≡ true) → cut ≤ length bytes
-    → mid ≡ append_known old (cut_to flag cut bytes) → mid ≡ append_known old (cut_to flag cut (bytes ++ (if same then more else [])))
-skip_at true true cut old mid bytes more lost within is = is ∙ ap (append_known old) (sym (take-append-le cut bytes more within))
-skip_at true false cut old mid bytes more lost within is = is ∙ ap (append_known old) (sym (take-append-le cut bytes [] within))
-skip_at false true cut old mid bytes more lost within is = absurd (true≢false (sym (lost refl)))
-skip_at false false cut old mid bytes more lost within is = is ∙ ap (append_known old) (sym (append-nil bytes))
-
 ok_at : (flag same : Bool) (cut : ℕ) (old mid new : Option (List ℕ)) (bytes more : List ℕ) → (same ≡ true → flag ≡ false) → cut ≤ length bytes
     → mid ≡ append_known old (cut_to flag cut bytes) → new ≡ append_known mid (if same then more else [])
     → new ≡ append_known old (cut_to flag cut (bytes ++ (if same then more else [])))
@@ -107,57 +100,6 @@ same_lost Guest Guest lost h = refl
 none_stays : (x : Option (List ℕ)) (a b : List ℕ) → append_known x a ≡ None → append_known x b ≡ None
 none_stays None a b h = refl
 none_stays (Some xs) a b h = cc
-
--- a message for a lost session is left out
-pub sent_skip : (start : Told) (mi : Option (List Input)) (ms : Option (List ℕ)) (mg : Lane → Option (List ℕ)) (ml : ℕ → ℕ) (outs : List Message) (m : Message)
-    (lost : List Bool)
-    → is_lost lost m.0 ≡ true → Sent start (told mi ms mg ml) outs lost → Sent start (told mi ms mg ml) (outs ++ m ∷ []) lost
-sent_skip start mi ms mg ml outs m lost flag h =
-    record {
-      inputs = h.inputs;
-      sent =
-          let none = h.untold m.0 flag in
-          none ∙ sym (none_stays start.sent (transcript outs) (transcript (outs ++ m ∷ [])) (sym h.sent ∙ none));
-      lanes = (
-        h.lanes.0,
-        record {
-          within = λ l. rw (lane_bytes_more l outs m) (omega (arith, h.lanes.1.within l, length-append (lane_bytes l outs) (part l m.0 m.1)));
-          lanes =
-              λ l. rw (lane_bytes_more l outs m) (skip_at (is_lost lost l) (same_lane l m.0) (h.lanes.0 l) (start.got l) (mg l) (lane_bytes l outs) m.1
-              (λ s. same_lost l m.0 lost s ∙ flag) (h.lanes.1.within l) (h.lanes.1.lanes l));
-        },
-      );
-      losses = h.losses;
-      untold = h.untold;
-      had = λ l f. had_more l outs m (h.had l f);
-      size = h.size;
-    }
-
--- a message was sent
-pub sent_ok : (start : Told) (mi ni : Option (List Input)) (ms ns : Option (List ℕ)) (mg ng : Lane → Option (List ℕ)) (ml nl : ℕ → ℕ) (outs : List Message)
-    (m : Message) (lost : List Bool)
-    → is_lost lost m.0 ≡ false → ni ≡ mi → ns ≡ append_known ms (line m.0 m.1) → ((l : Lane) → ng l ≡ append_known (mg l) (part l m.0 m.1))
-    → ((n : ℕ) → nl n ≡ ml n) → Sent start (told mi ms mg ml) outs lost → Sent start (told ni ns ng nl) (outs ++ m ∷ []) lost
-sent_ok start mi ni ms ns mg ng ml nl outs m lost flag inputs sent got losses h =
-    record {
-      inputs = inputs ∙ h.inputs;
-      sent =
-          sent ∙ ap (λ (x : Option (List ℕ)). append_known x (line m.0 m.1)) h.sent ∙ append_known_twice start.sent (transcript outs) (line m.0 m.1)
-          ∙ ap (append_known start.sent) (sym (transcript_more outs m));
-      lanes = (
-        h.lanes.0,
-        record {
-          within = λ l. rw (lane_bytes_more l outs m) (omega (arith, h.lanes.1.within l, length-append (lane_bytes l outs) (part l m.0 m.1)));
-          lanes =
-              λ l. rw (lane_bytes_more l outs m) (ok_at (is_lost lost l) (same_lane l m.0) (h.lanes.0 l) (start.got l) (mg l) (ng l) (lane_bytes l outs) m.1
-              (λ s. same_lost l m.0 lost s ∙ flag) (h.lanes.1.within l) (h.lanes.1.lanes l) (got l));
-        },
-      );
-      losses = λ n. omega (arith, h.losses n, losses n);
-      untold = λ l f. sent ∙ ap (λ (x : Option (List ℕ)). append_known x (line m.0 m.1)) (h.untold l f);
-      had = λ l f. had_more l outs m (h.had l f);
-      size = h.size;
-    }
 
 -- a flag more
 set_flag : (lost : List Bool) (k : ℕ) (l : Lane) → k < length lost

@@ -8,11 +8,9 @@ use Rattle.qo_model.specs.Board.{Board, Record, Slot, plain, child, strong, weak
 use Rattle.qo_model.specs.Depth.{among}
 use Rattle.qo_model.specs.Paths.{births}
 use Rattle.qo_model.specs.References.{refs, refs_in, holds_it}
-use Rattle.qo_model.specs.Release.{edited, with_dropped, drop_slot, forgotten_in, forgotten, finish, finalize}
-use Rattle.qo_model.specs.ReleaseInduction.{KeepsRelease}
+use Rattle.qo_model.specs.Release.{edited, with_dropped, drop_slot, forgotten_in, forgotten, finish}
 use Rattle.qo_model.proofs.EditLemmas.{sum-held, one_is, held-forgotten, sum-edit_le, sum-filter_le, left_of, sum-without_hold_le, StandsAt, stands-at}
 use Rattle.qo_model.proofs.ReleaseLemmas.{found-within}
-use Rattle.qo_model.proofs.ReleaseInductionLemmas.{release_keeps}
 
 -- the record of x among records
 abbrev pub found_at : ℕ → List Record → Option Record
@@ -181,18 +179,6 @@ forgotten-refs n x r = omega (arith, sum-held (one_is x) (forgotten_in n) (held-
 pub finish-refs : (b : Board) (n x : ℕ) → refs (finish b n) x ≤ refs b x
 unfolding finish
 finish-refs b n x = omega (arith, sum-filter_le (refs_in x) (forgotten n) (λ (r : Record). not (r.birth == n)) (forgotten-refs n x) b.records)
-
--- a release gives no object a reference
-pub finalize-refs : (b : Board) (n x : ℕ) → refs (finalize b n) x ≤ refs b x
-finalize-refs b n x = release_keeps (λ (work : List (ℕ × ℕ)) (c : Board). refs c x ≤ refs b x) keeps b n [] (omega arith)
-  where
-    keeps : KeepsRelease (λ (work : List (ℕ × ℕ)) (c : Board). refs c x ≤ refs b x)
-    keeps =
-        record {
-          ended = λ c m j work p e. omega (arith, finish-refs c m x);
-          freed = λ c m j work s k p e h free. omega (arith, drop-refs c m j x);
-          kept = λ c m j work s p e held_on. omega (arith, drop-refs c m j x);
-        }
 
 -- what a slot holds has a reference
 pub held-refs : (b : Board) (n i m : ℕ) (s : Slot) → slot_at b n i ≡ Some s → held s ≡ Some m → 0 < refs b m

@@ -14,7 +14,7 @@ use Rattle.qo_model.specs.Paths as paths
 use Rattle.qo_model.proofs.StepLemmas.{is_some-map}
 use Rattle.qo_object.specs.declared.slots.Slot.{Slot}
 use Rattle.qo_object.specs.declared.slots.Slot.TheVariants.{Plain, Child, Link, Alias}
-use Rattle.qo_object.specs.Slots.{Named, names_of, slot_in, target_of, held, holds, names_child, unless_born, forgotten_in, left_of, let_go_at, each_changed}
+use Rattle.qo_object.specs.Slots.{Named, slot_in, target_of, held, holds, names_child, unless_born, forgotten_in, let_go_at, each_changed}
 use Rattle.qo_values.proofs.ListLemmas.{find-at_place}
 use Rattle.qo_object.specs.Content.{Content, with_slot, dropped_at, forgotten, holding, is_parent, reference_count}
 use Rattle.qo_object.specs.BoardObject.{birth_of, shown_slot, shown_slots, shown}
@@ -66,13 +66,6 @@ shown-forgotten n (Link ty false None) = refl
 shown-forgotten n (Link ty false (Some key)) = ap (board.weak ty) (unless-shown n key)
 shown-forgotten n (Alias key name) = refl
 
-pub shown-left : (s : Slot) → release.emptied (shown_slot s) ≡ option_map shown_slot (left_of s)
-shown-left (Plain val) = refl
-shown-left (Child key) = refl
-shown-left (Link ty true target) = refl
-shown-left (Link ty false target) = refl
-shown-left (Alias key name) = refl
-
 -- the slots
 
 pub length-shown : (slots : List Named) → length (shown_slots slots) ≡ length slots
@@ -83,10 +76,6 @@ pub slice_get-shown : (slots : List Named) (i : ℕ) → slice_get (shown_slots 
 slice_get-shown [] i = refl
 slice_get-shown (s ∷ slots) zero = refl
 slice_get-shown (s ∷ slots) (suc i) = slice_get-shown slots i
-
-pub names-shown : (slots : List Named) → map (λ (s : List ℕ × board.Slot). s.0) (shown_slots slots) ≡ names_of slots
-names-shown [] = refl
-names-shown (s ∷ slots) = ap (λ names. s.0 ∷ names) (names-shown slots)
 
 let_go-shown : (i : ℕ) (slots : List Named) → shown_slots (let_go_at i slots) ≡ release.without_hold i (shown_slots slots)
 let_go-shown i [] = refl

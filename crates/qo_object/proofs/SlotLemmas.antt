@@ -6,7 +6,7 @@ use Rattle.std.specs.Option.{option_and_then}
 use Rattle.qo_slots.specs.declared.keys.Key.{Key}
 use Rattle.qo_object.specs.declared.slots.Slot.{Slot}
 use Rattle.qo_object.specs.declared.slots.Slot.TheVariants.{Plain, Child, Link, Alias}
-use Rattle.qo_object.specs.Slots.{Named, slot_in, named_in, child_of, unlinked, names_weakly, forgotten_in, changed_at, let_go_at, each_changed}
+use Rattle.qo_object.specs.Slots.{Named, slot_in, child_of, unlinked, names_weakly, forgotten_in, changed_at, let_go_at, each_changed}
 
 -- a child that is let go is removed
 pub child-gone : (slots : List Named) (i : ℕ) (key : Key) → option_and_then child_of (slot_in slots i) ≡ Some key → remove slots i ≡ let_go_at i slots
@@ -16,15 +16,6 @@ child-gone ((name, Child other) ∷ slots) zero key found = refl
 child-gone ((name, Link ty strong target) ∷ slots) zero key found = cc
 child-gone ((name, Alias other property) ∷ slots) zero key found = cc
 child-gone (s ∷ slots) (suc i) key found = ap (λ ss. s ∷ ss) (child-gone slots i key found)
-
--- and names what was named
-pub child-named : (slots : List Named) (i : ℕ) (key : Key) → option_and_then child_of (slot_in slots i) ≡ Some key → named_in slots i ≡ Some key
-child-named [] i key found = cc
-child-named ((name, Plain val) ∷ slots) zero key found = cc
-child-named ((name, Child other) ∷ slots) zero key found = found
-child-named ((name, Link ty strong target) ∷ slots) zero key found = cc
-child-named ((name, Alias other property) ∷ slots) zero key found = cc
-child-named (s ∷ slots) (suc i) key found = child-named slots i key found
 
 -- anything else that is let go stays, a link without its target
 pub link-emptied : (slots : List Named) (i : ℕ) → option_and_then child_of (slot_in slots i) ≡ None → changed_at unlinked i slots ≡ let_go_at i slots

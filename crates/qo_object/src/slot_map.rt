@@ -39,11 +39,11 @@ impl Model for SlotMap {
 }
 
 impl SlotMap {
-    ghost use Rattle.std.specs.Prelude.{◌≡◌, ◌<◌, ◌^◌, ℕ, List, [], ◌∷◌, ◌++◌, None, Ok, true, false, IfSome, OnOk, OnErr, map, remove, length, count_by, position, slice_get, option_map, is_some};
+    ghost use Rattle.std.specs.Prelude.{◌≡◌, ◌<◌, ℕ, List, [], ◌∷◌, ◌++◌, None, Ok, true, false, IfSome, OnErr, remove, length, count_by, position, slice_get, option_map, is_some};
     ghost use Rattle.std.specs.List.{list_any, IsDistinct};
     ghost use Rattle.std.specs.Option.{option_and_then};
     ghost use Rattle.std.specs.Str.{bytes_eq};
-    ghost use Rattle.qo_object.specs.Slots.{names_of, has_name, slot_in, named_in, child_of, held, holds, names_child, names_weakly, changed_at, let_go_at, unlinked, pointed, with_val, forgotten_in};
+    ghost use Rattle.qo_object.specs.Slots.{names_of, has_name, slot_in, named_in, child_of, holds, names_child, names_weakly, changed_at, let_go_at, unlinked, pointed, with_val, forgotten_in};
 
     /// No slots.
     pub fn new(alloc: Global) -> SlotMap
@@ -270,12 +270,5 @@ impl SlotMap {
         ensures { result ≡ position (λ s. names_child birth s.1) self.now }
     {
         self.slots.iter().position(|slot| slot.1.names_child(birth))
-    }
-
-    /// Whether one holds an object.
-    pub fn holds_any(&self) -> bool
-        ensures { result ≡ list_any (λ s. is_some (held s.1)) self.now }
-    {
-        self.slots.iter().any(|slot| slot.1.holds_any())
     }
 }

@@ -38,7 +38,7 @@ pub struct SlotView<'a> {
 }
 
 impl Slot {
-    ghost use Rattle.std.specs.Prelude.{◌≡◌, is_some};
+    ghost use Rattle.std.specs.Prelude.{◌≡◌};
     ghost use Rattle.qo_object.specs.Slots.{target_of, is_strong, child_of, holds, names_child, names_weakly, held, unlinked, pointed, with_val, forgotten_in};
 
     /// The child that stands in it.
@@ -82,13 +82,6 @@ impl Slot {
             } => *target,
             _ => None,
         }
-    }
-
-    /// Whether it holds an object.
-    pub(crate) fn holds_any(&self) -> bool
-        ensures { result ≡ is_some (held self.now) }
-    {
-        self.held().is_some()
     }
 
     /// Whether it holds the object of a birth.

@@ -1,5 +1,5 @@
 -- The way up: places of objects, what is attached, and the steps of a canonical path.
-use Rattle.std.proofs.Common.{◌≡◌, refl, ap, sym, ◌∙◌, ℕ, suc, ◌+◌, ◌<◌, ◌≤◌, Bool, true, false, List, [], ◌∷◌, ◌++◌, length, eqb, Option, Some, None, find, option_map, append_assoc, arith}
+use Rattle.std.proofs.Common.{◌≡◌, refl, ap, sym, ◌∙◌, ℕ, suc, ◌+◌, ◌<◌, Bool, true, false, List, [], ◌∷◌, ◌++◌, length, eqb, Option, Some, None, find, option_map, append_assoc, arith}
 use Rattle.std.specs.Option.{option_and_then, option_map_or}
 use Rattle.std.specs.List.{position_or_len}
 use Rattle.std.proofs.lemmas.List.Folds.{find_at}
@@ -17,7 +17,7 @@ use Rattle.qo_heap.specs.Board.{Shows}
 use Rattle.qo_heap.proofs.PlacesLemmas.{row-at-place}
 use Rattle.qo_heap.proofs.BoardReads.{place_under, shows-place, shows-size}
 use Rattle.qo_paths.specs.Parts.{path_up}
-use Rattle.qo_paths.proofs.DepthSteps.{left_at, depth-all, depth-turn, depth-none}
+use Rattle.qo_paths.proofs.DepthSteps.{left_at, depth-all, depth-turn}
 
 -- the row that a search finds is that of its birth
 found-row : (v : Objects) → IsHeap v → (p : Key × Content → Bool) (row : Key × Content) → find p v.rows ≡ Some row → row_at v.rows row.0.birth ≡ Some row
@@ -85,9 +85,6 @@ attached-up b size i n m below is up = depth-turn (attached_turn b) (λ _. false
     go None q = cc
     go (Some p) q = let same : p.0 ≡ m = cc q in ap (attached_from b size (i + 1)) same
 
-pub attached-past : (b : Board) (size i n : ℕ) → size + 1 ≤ i → attached_from b size i n ≡ false
-attached-past b size i n past = depth-none (attached_turn b) (λ _. false) size i n past
-
 -- the names of a way up, with one more
 pub path_up-more : (names : List (List ℕ)) (name : List ℕ) → path_up (names ++ name ∷ []) ≡ (47 ∷ name) ++ path_up names
 path_up-more [] name = sym (append-nil (47 ∷ name))
@@ -145,6 +142,3 @@ steps-up b size i n names p below is up =
         ≡ option_map (λ (above : List ℕ). above ++ path_up (names ++ p.1 ∷ [])) o
     go None = refl
     go (Some above) = ap Some (append_assoc above (47 ∷ p.1) (path_up names) ∙ ap (λ (rest : List ℕ). above ++ rest) (sym (path_up-more names p.1)))
-
-pub steps-past : (b : Board) (size i n : ℕ) (names : List (List ℕ)) → size + 1 ≤ i → steps_with b size i n names ≡ None
-steps-past b size i n names past = ap (option_map (λ (above : List ℕ). above ++ path_up names)) (depth-none (path_turn b) (λ _. None) size i n past)

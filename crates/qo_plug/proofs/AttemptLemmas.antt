@@ -31,7 +31,7 @@ use Rattle.qo_heap.specs.Acts.{Acts, stilled}
 use Rattle.qo_heap.specs.Board.{Shows, record_of}
 use Rattle.qo_heap.specs.Objects.{IsHeap, Objects, content_of, no_objects_made}
 use Rattle.qo_heap.proofs.ActsLemmas.{acts-act, acts-live, acts-none, acts-then}
-use Rattle.qo_heap.proofs.PlacesLemmas.{at-key, object-at-place, past-last}
+use Rattle.qo_heap.proofs.PlacesLemmas.{at-key, object-at-place}
 use Rattle.qo_heap.proofs.BoardObjects.{content-edited, content-other}
 use Rattle.qo_heap.proofs.MomentLemmas.{acts-timely}
 use Rattle.qo_kinds.specs.declared.kept_set.KeptSet.{KeptSet}
@@ -91,10 +91,6 @@ bus-at n v good place key t bus e kind is =
     let its : c.kind ≡ t = same_Some c.kind t (sym (ap (option_map (λ (d : Content). d.kind)) own) ∙ kind) in
     let test : nat_le n key.birth && is_a c.kind (codes "bus") ≡ bus = ap (λ (k : TypeId). nat_le n key.birth && is_a k (codes "bus")) its ∙ is in
     sym (ap (option_and_then (new_bus n)) there ∙ ap (λ (b : Bool). if b then Some key else None) test)
-
-pub bus-past : (n : ℕ) (v : Objects) (place : ℕ) → None ≡ option_map (λ (row : Key × Content). row.0) (slice_get v.rows place)
-    → None ≡ option_and_then (new_bus n) (slice_get v.rows place)
-bus-past n v place e = sym (ap (option_and_then (new_bus n)) (past-last v.rows place (sym e)))
 
 abbrev birth_in : ℕ → Key × Content → Option ℕ
 birth_in n row = birth_of (new_bus n row)
@@ -171,9 +167,6 @@ reached-other act n i v w r e =
     let more : new_buses n (take (i + 1) v.rows) ≡ new_buses n (take i v.rows) =
     sym (taken-acts n (i + 1) v w r.acts) ∙ next-bus n i w.rows None e ∙ append-nil (new_buses n (take i w.rows)) ∙ taken-acts n i v w r.acts in
     record { is = r.is ∙ ap (λ (l : List ℕ). walked act l v) (sym more); acts = r.acts }
-
-pub reached-all : (act : Act) (n i : ℕ) (v w : Objects) → length v.rows ≤ i → Reached act n i v w → w ≡ walked act (new_buses n v.rows) v
-reached-all act n i v w over r = r.is ∙ ap (λ (l : List (Key × Content)). walked act (new_buses n l) v) (take_all i v.rows over)
 
 pub reached-quiet : (act : Act) (n i : ℕ) (v w : Objects) → Reached act n i v w → (m : ℕ) → IsQuiet v m → IsQuiet w m
 reached-quiet act n i v w r m q = subst (λ (x : Objects). IsQuiet x m) (sym r.is) (quiet-walked act (new_buses n (take i v.rows)) v m q)

@@ -1,26 +1,24 @@
 -- Why a device is refused before anything of it is made.
-use Rattle.std.proofs.Common.{◌≡◌, refl, ap, sym, ◌∙◌, ℕ, ◌+◌, ◌<◌, ◌≤◌, Bool, true, false, not, ◌||◌, nat_le, List, codes, length, Option, Some, None, option_map, arith}
+use Rattle.std.proofs.Common.{◌≡◌, refl, ap, sym, ◌∙◌, ℕ, Bool, true, false, not, ◌||◌, List, codes, Option, Some, None, option_map}
 use Rattle.std.specs.Prelude.{if◌then◌else◌, IfNone, IfSome}
 use Rattle.std.specs.Option.{option_map_or}
-use Rattle.std.proofs.lemmas.Bool.Decides.{nat_tests}
 use Rattle.qo_values.specs.declared.births.TheConstants.{MEMORY_BUS_BIRTH, ROOT_BUS_BIRTH}
 use Rattle.qo_values.specs.declared.codes.Code.{Code}
-use Rattle.qo_values.specs.declared.codes.Code.TheVariants.{E15, E20, E21, E22, E24, E26, E27, E43}
+use Rattle.qo_values.specs.declared.codes.Code.TheVariants.{E15, E20, E21, E22, E24, E26, E27}
 use Rattle.qo_values.specs.declared.kinds.TypeId.{TypeId}
-use Rattle.qo_values.specs.declared.limits.TheConstants.{LIVE_OBJECTS_MAX}
 use Rattle.qo_types.specs.Rows.{is_abstract}
 use Rattle.qo_model.specs.Board.{Board}
 use Rattle.qo_model.specs.Devices.{is_going}
 use Rattle.qo_model.specs.Objects.{has_slot}
 use Rattle.qo_model.specs.Paths.{attached, is_of}
-use Rattle.qo_model.specs.Plug.{bus_barred, bus_for, bus_type, container_barred, objects_in, room_barred, type_barred}
+use Rattle.qo_model.specs.Plug.{bus_barred, bus_for, bus_type, container_barred, type_barred}
 use Rattle.qo_model.specs.Types.{TypeInfo, is_a, type_named}
 use Rattle.qo_slots.specs.declared.keys.Key.{Key}
 use Rattle.qo_object.specs.Content.{Content}
 use Rattle.qo_heap.specs.Board.{Shows}
 use Rattle.qo_heap.specs.Objects.{Objects, content_of}
 use Rattle.qo_heap.proofs.BoardReads.{shows-kind}
-use Rattle.qo_properties.proofs.BarLemmas.{by_row, many-shown}
+use Rattle.qo_properties.proofs.BarLemmas.{by_row}
 
 -- the type
 module _ (name : List ℕ) (t : TypeId) (is : Some t ≡ option_map (λ (x : TypeInfo). x.id) (type_named name)) where
@@ -103,12 +101,3 @@ module _ (b : Board) (t : TypeId) (v : Objects) (s : Shows b v) where
   no-memory fails None gone =
       let none : is_of b (bus_type t) MEMORY_BUS_BIRTH ≡ false = of-gone b v s MEMORY_BUS_BIRTH (bus_type t) gone in
       ap (λ (u : Bool). bus_barred b t (Some (if u then ROOT_BUS_BIRTH else MEMORY_BUS_BIRTH))) fails ∙ bus-other b t MEMORY_BUS_BIRTH none
-
--- the room
-pub room-is : (b : Board) (v : Objects) → Shows b v → (t : TypeId) → length v.rows + objects_in t ≤ LIVE_OBJECTS_MAX → None ≡ room_barred b t
-room-is b v s t fits = let so : nat_le (length b.records + objects_in t) LIVE_OBJECTS_MAX ≡ true = grind (arith, nat_tests, many-shown b v s, fits) in
-    rw (room_barred, so) refl
-
-pub room-not : (b : Board) (v : Objects) → Shows b v → (t : TypeId) → LIVE_OBJECTS_MAX < length v.rows + objects_in t → Some E43 ≡ room_barred b t
-room-not b v s t over = let so : nat_le (length b.records + objects_in t) LIVE_OBJECTS_MAX ≡ false = grind (arith, nat_tests, many-shown b v s, over) in
-    rw (room_barred, so) refl

@@ -1,8 +1,7 @@
 -- What keeps who was there, but for slots.
-use Rattle.std.proofs.Common.{◌≡◌, refl, ap, sym, subst, ◌∙◌, ℕ, ◌+◌, ◌≤◌, Bool, true, false, eqb, List, [], ◌∷◌, ◌++◌, Option, Some, None, option_map, inl, inr, IsSome, IsSomeAnd, IfSome, arith}
+use Rattle.std.proofs.Common.{◌≡◌, refl, ap, sym, subst, ◌∙◌, ℕ, ◌+◌, ◌≤◌, Bool, true, false, eqb, List, [], ◌∷◌, ◌++◌, Option, Some, None, option_map, IsSome, IsSomeAnd, IfSome, arith}
 use Rattle.std.specs.Prelude.{Result, Ok, Err, OnOk, OnErr}
 use Rattle.std.proofs.lemmas.Bool.{eqb-true}
-use Rattle.qo_values.specs.declared.kinds.TypeId.{TypeId}
 use Rattle.qo_kinds.specs.Bodies.{IsTimely, kept_of, none_kept}
 use Rattle.qo_slots.specs.declared.keys.Key.{Key}
 use Rattle.qo_notes.specs.Log.{noted_all}
@@ -14,9 +13,9 @@ use Rattle.qo_heap.specs.Book.{IsBook}
 use Rattle.qo_heap.specs.Objects.{IsHeap, Objects, content_of, with_edit}
 use Rattle.qo_heap.proofs.HeapLemmas.{live-edit}
 use Rattle.qo_heap.proofs.BoardObjects.{content-edited, content-other}
-use Rattle.qo_properties.specs.Additions.{IsTried, with_newest}
+use Rattle.qo_properties.specs.Additions.{with_newest}
 use Rattle.qo_properties.proofs.AddLemmas.{newest-keeps}
-use Rattle.qo_properties.proofs.ClaimLemmas.{edit-keeps, more-keeps, tried-keeps}
+use Rattle.qo_properties.proofs.ClaimLemmas.{edit-keeps, more-keeps}
 use Rattle.qo_plug.specs.Drafts.{Grows, IsQuiet, bare}
 
 pub grows-none : (v w : Objects) → w ≡ v → Grows v w
@@ -121,20 +120,6 @@ grows-newest v o c birth none unnamed timely =
       quiet = λ n q. more-quiet (λ (d : Content). IsTimely v.time d.body) o c n timely v.rows q;
       events = refl;
       time = refl;
-    }
-
--- an attempt leaves a birth and notes
-pub grows-tried : (v w : Objects) (t : TypeId) → IsTried t v w → Grows v w
-grows-tried v w t (inl same) = grows-none v w same
-grows-tried v w t (inr is) =
-    record {
-      names = λ key live. subst (λ (x : Objects). IsLive x.rows key) (sym is) live;
-      rest = λ n low. ap (λ (x : Objects). option_map bare (content_of x n)) is;
-      born = let its : w.born ≡ v.born + 1 = ap (λ (x : Objects). x.born) is in omega (arith, its);
-      book = tried-keeps v w t (inr is);
-      quiet = λ n q. subst (λ (x : Objects). IsQuiet x n) (sym is) q;
-      events = ap (λ (x : Objects). x.events) is;
-      time = ap (λ (x : Objects). x.time) is;
     }
 
 -- who is there was born

@@ -29,9 +29,6 @@ use Rattle.qo_table.specs.Rows.{Rises, object_at}
 use Rattle.qo_table.specs.Rows as table
 use Rattle.qo_table.proofs.RowsLemmas.{rises-up}
 use Rattle.qo_object.specs.Content.{Content}
-use Rattle.qo_heap.specs.Board.{Shows}
-use Rattle.qo_heap.specs.Objects.{IsHeap, Objects}
-use Rattle.qo_heap.proofs.BoardReads.{shows-kind}
 use Rattle.qo_plug.specs.Drafts.{created, pinned_draft}
 use Rattle.qo_standing.specs.Placement.{seated}
 use Rattle.qo_standing.proofs.PlacementBoards.{kinds-added, kinds-stood, tree-source}
@@ -503,7 +500,3 @@ rows-low above last m (r ∷ rows) rises up =
     let most : r.0.birth ≤ last = rises-up r.0.birth last (table.births rows) rises.1 in
     let other : (r.0.birth == m) ≡ false = grind (arith, most, up) in
     rw other (rows-low r.0.birth last m rows rises.1 up)
-
-pub low-shown : (b : Board) (v : Objects) → Shows b v → IsHeap v → (m : ℕ) → b.born < m → kind_of b m ≡ None
-low-shown b v s good m up =
-    shows-kind b v s m ∙ ap (option_map (λ (c : Content). c.kind)) (rows-low 0 v.born m v.rows good.rising (subst (λ (k : ℕ). k < m) s.born up))

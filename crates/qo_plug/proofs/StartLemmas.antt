@@ -1,6 +1,6 @@
 -- What acts leave of a board: types, slots, places, holds and notices; so a device that starts keeps its path and its buses.
-use Rattle.std.proofs.Common.{◌≡◌, refl, ap, sym, subst, ◌∙◌, ℕ, zero, suc, ◌+◌, ◌≤◌, ◌<◌, true, false, codes, List, [], ◌∷◌, ◌++◌, filter, take, slice_get, Option, Some, None, option_map, option_to_list, Result, Ok, Err, OnOk, IsOk, IsErr, arith}
-use Rattle.std.specs.Prelude.{filter_map, ◌↔◌, not, ◌&&◌, if◌then◌else◌}
+use Rattle.std.proofs.Common.{◌≡◌, refl, ap, sym, subst, ◌∙◌, ℕ, zero, suc, ◌+◌, true, false, codes, List, [], ◌∷◌, ◌++◌, filter, take, slice_get, Option, Some, None, option_map, option_to_list, Result, Ok, Err, OnOk, arith}
+use Rattle.std.specs.Prelude.{filter_map, not, ◌&&◌, if◌then◌else◌}
 use Rattle.std.specs.Option.{option_and_then, option_map_or}
 use Rattle.std.specs.Str.{bytes_eq}
 use Rattle.qo_values.specs.declared.kinds.Act.{Act}
@@ -26,7 +26,7 @@ use Rattle.qo_heap.specs.Acts.{Acts}
 use Rattle.qo_heap.specs.Board.{Shows, pins_in}
 use Rattle.qo_heap.specs.Book.{IsBook}
 use Rattle.qo_heap.specs.Objects.{Objects, content_of, pins_of, with_edit, with_note}
-use Rattle.qo_heap.proofs.ActsLemmas.{acts-act, acts-live, acts-none, acts-then}
+use Rattle.qo_heap.proofs.ActsLemmas.{acts-act, acts-live, acts-then}
 use Rattle.qo_heap.proofs.ActsReads.{acts-read}
 use Rattle.qo_heap.proofs.BookLemmas.{book-edit}
 use Rattle.qo_heap.proofs.HeapLemmas.{live-edit}
@@ -156,9 +156,6 @@ pub record Realized (n at : ℕ) (v w : Objects) : Type 0 where
   pub shown : (b : Board) → Shows b v → Shows (acted_all Realize (filter_map (bus_in b) (take at (slots_at b n))) b) w
   pub acts : Acts v w
 
-pub realized-none : (n : ℕ) (v : Objects) → Realized n 0 v v
-realized-none n v = record { shown = λ b s. s; acts = acts-none v }
-
 pub realized-more : (n at : ℕ) (v u w : Objects) → Realized n at v u → BusActs n at u w → Acts u w → Realized n (at + 1) v w
 realized-more n at v u w r step acts =
     record {
@@ -241,11 +238,6 @@ pub path-book : (out : List Claimed) (v w : Objects) (n : ℕ) (path : List ℕ)
 path-book out v w n path now book =
     let all : IsBook out (with_edit n (with_path path) v) = book-edit out v n (with_path path) (λ c. refl) book in
     subst (IsBook out) (sym now) (λ x. all x)
-
--- an answer that is no error is none
-pub must-ok : {T E : Type 0} (r : Result T E) (limit size : ℕ) → (IsErr r ↔ (limit ≤ size)) → size < limit → IsOk r
-must-ok (Ok x) limit size full few = refl
-must-ok (Err e) limit size full few = absurd (let most : limit ≤ size = full.0 refl in omega (arith, most, few))
 
 -- one act
 pub act-shown : (v w : Objects) (o : Key) → w ≡ with_note (record { birth = o.birth; deed = Did Realize }) (with_edit o.birth (acted_at Realize v.time 0) v)

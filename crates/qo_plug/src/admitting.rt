@@ -1,6 +1,6 @@
 //! Whether a device is admitted: what bars it before anything of it is made, and where it is to go.
 
-ghost use Rattle.std.specs.Prelude.{◌≡◌, ◌≤◌, ℕ, List, true, codes, Some, None, IfOk, OnOk, map, option_map};
+ghost use Rattle.std.specs.Prelude.{◌≡◌, ◌≤◌, List, true, codes, Some, None, IfOk, OnOk, map, option_map};
 ghost use Rattle.qo_values.specs.declared.births.TheConstants.{ANONYMOUS_BIRTH, PERIPHERAL_BIRTH};
 ghost use Rattle.qo_values.specs.Ids.{is_id};
 ghost use Rattle.qo_model.specs.Board.{Board};

@@ -1,7 +1,7 @@
 //! Beginning a device, the stages 1 to 4 of adding: it is admitted, what is given for its properties
 //! is looked at, and it is made; or an attempt at it is given up. It stands nowhere yet.
 
-ghost use Rattle.std.specs.Prelude.{◌≡◌, ◌≤◌, ◌+◌, ◌^◌, ◌==◌, ℕ, List, false, Err, IfOk, OnErr, OnOk, option_map};
+ghost use Rattle.std.specs.Prelude.{◌≡◌, ◌≤◌, ◌+◌, ◌^◌, ◌==◌, ℕ, List, false, Err, IfOk, OnErr, OnOk};
 ghost use Rattle.qo_model.specs.Board.{Board, Ring};
 ghost use Rattle.qo_model.specs.Plug.{Wanted, objects_in, plug_attempt};
 ghost use Rattle.qo_sound.specs.TreeKept.{SoundTree};

@@ -2,7 +2,7 @@
 //! giving it up (docs/devel/qom.rst, "The QEMU Object Model": `instance_init`, children, aliases).
 
 ghost use Rattle.std.specs.Prelude.{◌≡◌, ◌+◌, ◌++◌, ◌⊎◌, ◌<◌, IfOk, IfSome, OnOk, OnErr, false, option_to_list};
-ghost use Rattle.std.specs.Prelude.{◌==◌, ◌∷◌, ℕ, Bool, true, List, [], is_some, map};
+ghost use Rattle.std.specs.Prelude.{◌==◌, ◌∷◌, ℕ, true, List, [], is_some, map};
 ghost use Rattle.std.specs.List.{AllZip};
 ghost use Rattle.qo_values.specs.declared.kinds.TypeId.{TypeId};
 ghost use Rattle.qo_model.specs.Board.{Board};

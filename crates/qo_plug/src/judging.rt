@@ -1,16 +1,15 @@
 //! What bars a device in its place: its slot, the depth of a bridge, the memory of a DIMM, and the ring
 //! of a UART.
 
-ghost use Rattle.std.specs.Prelude.{◌≡◌, ◌<◌, ◌≤◌, ℕ, List, true, false, codes, is_some, None, Some, Ok, Err, IfOk, IfSome, OnOk, option_map};
-ghost use Rattle.qo_values.specs.declared.kinds.TypeId.TheVariants.{MemDimm, MemoryBackend, SlotBridge};
+ghost use Rattle.std.specs.Prelude.{◌≡◌, ◌<◌, ◌≤◌, ℕ, List, true, false, is_some, None, Some, Ok, Err, IfOk, OnOk, option_map};
+ghost use Rattle.qo_values.specs.declared.kinds.TypeId.TheVariants.{MemDimm, SlotBridge};
 ghost use Rattle.qo_values.specs.declared.limits.TheConstants.{BUS_SLOTS};
 ghost use Rattle.qo_model.specs.Board.{Board};
 ghost use Rattle.qo_model.specs.Devices.{kid_name};
 ghost use Rattle.qo_model.specs.Objects.{has_slot};
-ghost use Rattle.qo_model.specs.Plug.{kind_barred, number_for, range_of, realize_barred, ring_barred, bus_slot_for, target_for, text_for};
+ghost use Rattle.qo_model.specs.Plug.{kind_barred, range_of, realize_barred, ring_barred, bus_slot_for};
 ghost use Rattle.qo_model.specs.Objects.{Given};
 ghost use Rattle.qo_model.specs.Plug as plug;
-ghost use Rattle.qo_object.specs.BoardObject.{birth_of};
 ghost use Rattle.qo_table.specs.Rows.{IsLive};
 ghost use Rattle.qo_heap.specs.Board.{Shows};
 ghost use Rattle.qo_backends.specs.Rings.{named_ring};

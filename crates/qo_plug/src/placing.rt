@@ -1,8 +1,8 @@
 //! Placing a device that was begun, the stages 5 to 7 of adding: it takes its place in a slot of its
 //! bus, or is given up. Where the notices will refuse it, it stands nowhere.
 
-ghost use Rattle.std.specs.Prelude.{◌≡◌, ◌<◌, ◌≤◌, Err, IfOk, OnErr, length, nat_le};
-ghost use Rattle.qo_values.specs.declared.limits.TheConstants.{BUS_SLOTS, NOTICES_MAX};
+ghost use Rattle.std.specs.Prelude.{◌≡◌, ◌<◌, ◌≤◌, Err, IfOk, length, nat_le};
+ghost use Rattle.qo_values.specs.declared.limits.TheConstants.{NOTICES_MAX};
 ghost use Rattle.qo_model.specs.Board.{Board};
 ghost use Rattle.qo_model.specs.Plug.{Wanted};
 ghost use Rattle.qo_properties.specs.Claims.{KeepsBook};

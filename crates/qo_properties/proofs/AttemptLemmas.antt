@@ -1,5 +1,5 @@
 -- What is noted of objects that end at once, property by property.
-use Rattle.std.proofs.Common.{◌≡◌, refl, ap, sym, subst, ◌∙◌, ℕ, suc, ◌+◌, ◌≤◌, ◌<◌, Bool, is_some, if◌then◌else◌, option_to_list, List, [], ◌∷◌, ◌++◌, map, drop, filter_map, get_or, length, Option, Some, None, arith}
+use Rattle.std.proofs.Common.{◌≡◌, refl, ap, sym, ◌∙◌, ℕ, suc, ◌+◌, ◌≤◌, ◌<◌, Bool, is_some, if◌then◌else◌, option_to_list, List, [], ◌∷◌, ◌++◌, map, drop, filter_map, get_or, length, Option, Some, None, arith}
 use Rattle.std.specs.List.{cons_option, flat_map}
 use Rattle.std.proofs.lemmas.List.{length-append, length-map}
 use Rattle.qo_values.specs.declared.kinds.TypeId.{TypeId}
@@ -8,7 +8,6 @@ use Rattle.qo_model.specs.Types.{slots_of}
 use Rattle.qo_model.specs.RowNames.{property_name}
 use Rattle.qo_model.specs.declared.notes.Note.{Note}
 use Rattle.qo_model.specs.declared.properties.Property.{Property}
-use Rattle.qo_model.specs.declared.properties.PropertyRole.{PropertyRole}
 use Rattle.qo_model.specs.declared.properties.PropertyRole.TheVariants as row
 use Rattle.qo_model.specs.FinalNotes.{ending}
 use Rattle.qo_model.specs.Objects.{init_notes}
@@ -21,16 +20,6 @@ use Rattle.qo_properties.specs.Attempts.{given_up_whole}
 use Rattle.qo_properties.proofs.NewSlotLemmas.{few-slots}
 use Rattle.qo_properties.proofs.SlotsLemmas.{rows-next}
 use Rattle.qo_paths.proofs.EndLemmas.{given-past}
-
--- a property that is no further object, and one that is
-pub no-further : (p : Property) → ((u : TypeId) → p.role ≡ row.Child u → ⊥) → further_in p ≡ None
-no-further p other = go p.role refl
-  where
-    go : (role : PropertyRole) → p.role ≡ role → further_in p ≡ None
-    go (row.Child u) e = absurd (other u e)
-    go (row.Plain type first) e = rw e refl
-    go (row.Link target strong) e = rw e refl
-    go (row.Alias owner of) e = rw e refl
 
 pub one-further : (p : Property) (u : TypeId) → p.role ≡ row.Child u → further_in p ≡ Some (property_name p.name, u)
 one-further p u e = rw e refl
@@ -62,14 +51,6 @@ module _ (f : ℕ → TypeId → List Note) where
 -- how many births a property takes
 pub births-kid : (n : ℕ) (p : Property) (u : TypeId) → p.role ≡ row.Child u → n + 1 ≡ n + length (option_to_list (further_in p))
 births-kid n p u role = ap (λ (o : Option (List ℕ × TypeId)). n + length (option_to_list o)) (sym (one-further p u role))
-
-pub births-none : (n : ℕ) (p : Property) → further_in p ≡ None → n ≡ n + length (option_to_list (further_in p))
-births-none n p none = let zero_more : n ≡ n + 0 = omega arith in
-    zero_more ∙ ap (λ (o : Option (List ℕ × TypeId)). n + length (option_to_list o)) (sym none)
-
-pub kid-fits : (n : ℕ) (p : Property) (u : TypeId) → p.role ≡ row.Child u → n + length (option_to_list (further_in p)) < 18446744073709551616
-    → n + 1 < 18446744073709551616
-kid-fits n p u role fits = subst (λ (m : ℕ). m < 18446744073709551616) (sym (births-kid n p u role)) fits
 
 -- of all further objects of a device, and of the device, as they begin, and as they end
 pub begun-all : (n : ℕ) (t : TypeId) (v : Objects) → with_notes (notes_after init_notes n (further_of t)) (with_notes (init_notes n t) v)

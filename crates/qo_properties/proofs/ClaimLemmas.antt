@@ -21,7 +21,6 @@ use Rattle.qo_properties.specs.Claims.{KeepsBook}
 -- nothing is held, and nothing is there
 pub book-none : IsBook [] no_objects_made
 book-none (on.Device a) = refl
-book-none (on.RingId a) = refl
 book-none (on.Slot a) = refl
 book-none (on.Ring a) = refl
 book-none (on.Backend a) = refl

@@ -99,10 +99,6 @@ clock-writes v (Err e) (Err code) h = ap (λ (k : Code). Err k) (sym h)
 clock-writes v (Ok done) (Err code) h = absurd h
 clock-writes v (Err e) (Ok b) h = absurd h
 
-pub clock-err : {T : Type 0} (P : Type 0) (r : Result T ClockError) → OnErr r P → OnErr (refused_as r) P
-clock-err P (Ok done) h = tt
-clock-err P (Err e) h = h
-
 -- the same pins
 
 named-pins : (v : Objects) (n : ℕ) (name : List ℕ) (change : Slot → Slot) → pins_in (changed_named n name change v).rows ≡ pins_in v.rows

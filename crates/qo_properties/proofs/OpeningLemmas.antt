@@ -1,5 +1,5 @@
 -- The objects of the opening board.
-use Rattle.std.proofs.Common.{◌≡◌, refl, ap, sym, subst, ◌∙◌, ℕ, ◌+◌, ◌<◌, ◌≤◌, Bool, true, false, eqb, leb, find, IfSome, List, [], ◌∷◌, ◌++◌, codes, position, Option, Some, None, option_map, arith}
+use Rattle.std.proofs.Common.{◌≡◌, refl, ap, sym, subst, ◌∙◌, ℕ, ◌+◌, ◌<◌, ◌≤◌, Bool, true, false, eqb, List, [], ◌∷◌, ◌++◌, codes, position, Some, None, option_map, arith}
 use Rattle.std.specs.Str.{bytes_eq}
 use Rattle.std.proofs.lemmas.Bool.{eqb-true}
 use Rattle.std.proofs.lemmas.Bool.Decides.{nat_tests}
@@ -9,7 +9,6 @@ use Rattle.qo_kinds.proofs.BodyLemmas.{fresh-bare}
 use Rattle.qo_slots.specs.declared.keys.Key.{Key}
 use Rattle.qo_table.specs.Rows.{IsLive, Rises, births, row_at}
 use Rattle.qo_table.proofs.RowsLemmas.{rises-up}
-use Rattle.qo_table.proofs.SearchLemmas.{found-live}
 use Rattle.qo_model.specs.Board as board
 use Rattle.qo_model.specs.Changes.{make, add, set, with_fresh_slots}
 use Rattle.qo_model.specs.Opening.{opening_board}
@@ -55,12 +54,6 @@ live-born above last (row ∷ rows) key rises live = go (eqb row.0.birth key.bir
     go true is later = let same : row.0.birth ≡ key.birth = eqb-true row.0.birth key.birth is in let up = rises-up row.0.birth last (births rows) rises.1 in
         omega arith
     go false is later = later (rw is at live)
-
--- the first row of a birth or a later one is there
-pub from-live : (n : ℕ) (v : Objects) → IsHeap v → (o : Option Key) → o ≡ option_map (λ (row : Row). row.0) (find (λ (row : Row). leb n row.0.birth) v.rows)
-    → IfSome o (IsLive v.rows)
-from-live n v good None is = tt
-from-live n v good (Some key) is = found-live (λ (row : Row). leb n row.0.birth) 0 v.born v.rows key good.rising (sym is)
 
 -- an object made
 

@@ -8,7 +8,6 @@ use Rattle.qo_hotplug.specs.Hotplug as hotplug
 use Rattle.qo_hotplug.specs.Hotplug.{Asked}
 use Rattle.qo_model.specs.Board.{Board, DeviceEvent, Notice, Record, record_of, Ring}
 use Rattle.qo_model.specs.Unplug.{without_all}
-use Rattle.qo_heap.specs.Book.{IsBook}
 use Rattle.qo_model.specs.Hotplug.{refused}
 use Rattle.qo_model.specs.Hotplug as model
 use Rattle.qo_object.specs.Content.{Content}
@@ -58,14 +57,6 @@ refused-shows b v w n spare s is = go (content_of v n) refl
 
 pub refused-asked : (b : Board) (n : ℕ) (h : Asked) → IsAsked b h → IsAsked (refused b n) (hotplug.refused n h)
 refused-asked b n h a = record { pending = ap (without_all n) a.pending; notices = ap (filter (λ (x : Notice). x.plug || not (x.birth == n))) a.notices }
-
--- claims have no part in it
-pub refused-book : (v w : Objects) (n spare : ℕ) → option_map (told_refused v spare) (content_of v n) ≡ Some w → KeepsBook v w
-refused-book v w n spare is = go (content_of v n) is
-  where
-    go : (o : Option Content) → option_map (told_refused v spare) o ≡ Some w → KeepsBook v w
-    go None none = absurd (let clash : None ≡ Some w = none in cc)
-    go (Some c) same = λ out book. subst (IsBook out) (same_Some (told_refused v spare c) w same) book
 
 -- the board's part
 pub refused-stands : (b : Board) (rings : List Ring) (anonymous : ℕ) (running : Bool) (holds : HoldList) (old new : Asked) (v w : Objects) (n : ℕ)

@@ -1,33 +1,19 @@
 -- What stands where the removal of a device is asked for, and where the guest refuses one or takes a notice.
-use Rattle.std.proofs.Common.{◌≡◌, refl, ap, sym, subst, ◌∙◌, ℕ, Bool, List, Option, None, Some, Result, Ok, Err, OnErr}
-use Rattle.std.specs.Prelude.{drop, option_and_then}
+use Rattle.std.proofs.Common.{◌≡◌, refl, ap, sym, subst, ℕ, Bool, List, Result, Ok, Err, OnErr}
+use Rattle.std.specs.Prelude.{drop}
 use Rattle.qo_hotplug.specs.Hotplug as hotplug
-use Rattle.qo_hotplug.specs.Hotplug.{Asked, ask_refusal}
-use Rattle.qo_model.specs.Board.{Board, Notice, Slot, child, slot_named, Ring}
-use Rattle.qo_model.specs.Board as model
-use Rattle.qo_model.specs.Devices.{child_named}
+use Rattle.qo_hotplug.specs.Hotplug.{Asked}
+use Rattle.qo_model.specs.Board.{Board, Notice, Ring}
 use Rattle.qo_model.specs.Objects.{Changed}
-use Rattle.qo_model.specs.Paths.{child_of}
 use Rattle.qo_heap.specs.Board.{Shows}
 use Rattle.qo_heap.specs.Objects.{Objects}
 use Rattle.qo_properties.specs.declared.refusals.Refusal.{Refusal}
-use Rattle.qo_properties.specs.declared.refusals.Refusal.TheVariants.{Refused, Memory}
 use Rattle.qo_reset.specs.HoldList.{HoldList}
 use Rattle.qo_realize.specs.GoodBoard.{Good}
-use Rattle.qo_realize.specs.Answers.{Changes}
 use Rattle.qo_realize.specs.Guest.{polled}
-use Rattle.qo_realize.specs.Parts.{Parts, parts_of}
+use Rattle.qo_realize.specs.Parts.{parts_of}
 use Rattle.qo_realize.specs.Removals.{Asks, IsAsked, with_asked}
 use Rattle.qo_realize.specs.Representation.{Stands, StandsForGood}
-
--- the child that a slot names
-pub child-alike : (o : Option Slot) → option_and_then child_named o ≡ option_and_then child_of o
-child-alike None = refl
-child-alike (Some (model.plain v)) = refl
-child-alike (Some (child n)) = refl
-child-alike (Some (model.strong t target)) = refl
-child-alike (Some (model.weak t target)) = refl
-child-alike (Some (model.alias n name)) = refl
 
 -- the board with other removals and notices
 with_asked-shows : (b : Board) (h : Asked) (v : Objects) → Shows b v → Shows (with_asked b h) v
@@ -52,21 +38,6 @@ pub is_asked : (b : Board) (rings : List Ring) (anonymous : ℕ) (running : Bool
     → Stands b (parts_of rings anonymous running holds asked v) → IsAsked b asked
 is_asked b rings anonymous running holds asked v s = record { pending = s.pending; notices = s.notices }
 
--- a removal was asked for, or refused
-pub asks-stands : (b : Board) (rings : List Ring) (anonymous : ℕ) (running : Bool) (holds : HoldList) (old new : Asked) (v : Objects)
-    (change : Changed) (result : Result Unit Refusal)
-    → Stands b (parts_of rings anonymous running holds old v) → Asks b change result new → OnErr result (new ≡ old)
-    → Changes change b result (parts_of rings anonymous running holds new v)
-asks-stands b rings anonymous running holds old new v change (Ok u) s is same = (
-  ap (λ (c : Changed). c.refusal) is,
-  subst (λ (c : Board). Stands c (parts_of rings anonymous running holds new v)) (sym (ap (λ (c : Changed). c.board) is))
-      (with_asked-stands b rings anonymous running holds old new v s),
-)
-asks-stands b rings anonymous running holds old new v change (Err (Refused code)) s is same =
-    (is, subst (λ (h : Asked). Stands b (parts_of rings anonymous running holds h v)) (sym same) s)
-asks-stands b rings anonymous running holds old new v change (Err Memory) s is same =
-    subst (λ (h : Asked). Stands b (parts_of rings anonymous running holds h v)) (sym same) s
-
 pub asks-sound : (b : Board) (rings : List Ring) (anonymous : ℕ) (running : Bool) (holds : HoldList) (old new : Asked) (v : Objects)
     (change : Changed) (result : Result Unit Refusal)
     → Stands b (parts_of rings anonymous running holds old v) → Good b → Good change.board → Asks b change result new → OnErr result (new ≡ old)
@@ -75,12 +46,6 @@ asks-sound b rings anonymous running holds old new v change (Ok u) s sound after
     (with_asked b new, with_asked-stands b rings anonymous running holds old new v s, subst Good (ap (λ (c : Changed). c.board) is) after)
 asks-sound b rings anonymous running holds old new v change (Err e) s sound after is same =
     (b, subst (λ (h : Asked). Stands b (parts_of rings anonymous running holds h v)) (sym same) s, sound)
-
-pub asks-err : {T E : Type 0} (r : Result T E) (rings : List Ring) (anonymous : ℕ) (running : Bool) (holds : HoldList) (old new : Asked)
-    (v : Objects) (p : Parts)
-    → parts_of rings anonymous running holds old v ≡ p → OnErr r (new ≡ old) → OnErr r (parts_of rings anonymous running holds new v ≡ p)
-asks-err (Ok t) rings anonymous running holds old new v p is same = tt
-asks-err (Err e) rings anonymous running holds old new v p is same = ap (λ (h : Asked). parts_of rings anonymous running holds h v) same ∙ is
 
 -- a notice was taken
 pub polled-stands : (b : Board) (rings : List Ring) (anonymous : ℕ) (running : Bool) (holds : HoldList) (old : Asked) (v : Objects)

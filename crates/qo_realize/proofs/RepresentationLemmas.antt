@@ -12,7 +12,7 @@ use Rattle.qo_model.specs.Board.{Board, Slot, Ring}
 use Rattle.qo_model.specs.Listing.{listing, type_text}
 use Rattle.qo_heap.proofs.BoardReads.{shows-slots}
 use Rattle.qo_model.specs.FinalNotesRuns.{added, deleted, severed}
-use Rattle.qo_model.specs.NoteReplies.{first_from, given_from}
+use Rattle.qo_model.specs.NoteReplies.{first_from}
 use Rattle.qo_model.specs.Notes.{kept_of, total_of}
 use Rattle.qo_model.specs.Objects.{Changed, Given, attempted_as, object_add, object_del, sever}
 use Rattle.qo_model.specs.Opening.{opening_board}
@@ -143,9 +143,6 @@ log-of notes l h = ap₂ (λ (total : ℕ) (kept : List Note). the Log (record {
 
 pub first-told : (notes : List Note) (l : Log) → IsLogOf notes l → (start : ℕ) → log.first_from start l ≡ first_from start notes
 first-told notes l h start = ap (log.first_from start) (log-of notes l h)
-
-pub notes-told : (notes : List Note) (l : Log) → IsLogOf notes l → (start : ℕ) → log.given_from start l ≡ given_from start notes
-notes-told notes l h start = ap (log.given_from start) (log-of notes l h)
 
 -- the events that waited were let go
 pub cleared-stands : (b : Board) (rings : List Ring) (anonymous : ℕ) (running : Bool) (holds : HoldList) (asked : Asked) (v : Objects)

@@ -1,7 +1,7 @@
 //! Adding a device in stages (docs/PROFILE.md): it is begun, placed and finished, or abandoned. What
 //! holds the board meanwhile is a type of its own, so that no other call comes between.
 
-ghost use Rattle.std.specs.Prelude.{◌≡◌, option_map};
+ghost use Rattle.std.specs.Prelude.{◌≡◌};
 ghost use Rattle.qo_model.specs.Board as model;
 ghost use Rattle.qo_model.specs.Plug.{Wanted};
 ghost use Rattle.qo_plug.specs.Admission.{as_wanted};

@@ -1,6 +1,6 @@
 //! Users' objects that are in use (docs/PROFILE.md, DIMMs).
 
-ghost use Rattle.std.specs.Prelude.{◌≡◌, codes};
+ghost use Rattle.std.specs.Prelude.{◌≡◌};
 ghost use Rattle.qo_model.specs.Board.{Board};
 ghost use Rattle.qo_table.specs.Rows.{IsLive};
 ghost use Rattle.qo_heap.specs.Board.{Shows};

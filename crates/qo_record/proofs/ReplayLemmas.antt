@@ -12,7 +12,7 @@ use Rattle.qo_causes.specs.declared.inputs.Moment.{Moment}
 use Rattle.qo_causes.specs.declared.inputs.What.{What}
 use Rattle.qo_causes.specs.declared.inputs.What.TheVariants.{Open, Bytes, Shut, Guest, Step, End}
 use Rattle.qo_record.proofs.EntryLemmas.{entry_again, entry_taken}
-use Rattle.qo_record.proofs.ReadingLemmas.{after_again, after_is, none_some}
+use Rattle.qo_record.proofs.ReadingLemmas.{none_some}
 use Rattle.qo_record.proofs.RecordLemmas.{entries_none, entries_some, left_few, not_end}
 use Rattle.qo_record.specs.Reading.{after_front}
 use Rattle.qo_record.specs.Record.{Read, entries_from, entry_at, offset_before}
@@ -115,23 +115,6 @@ none_found opened held now (Some more) same (inl full) none =
     (none_late opened now more (omega (arith, full)) (ap (entry_at opened) same ∙ none), λ e. absurd (omega (arith, full, ap (length {A = ℕ}) e)))
 none_found opened held now (Some more) same (inr gone) none =
     (ap (λ (l : List ℕ). entry_at opened (now ++ l)) gone ∙ ap (entry_at opened) (append-nil now ∙ same) ∙ none, λ e. gone)
-
--- bytes that differ from the header do not begin with it, whatever follows
-pub header_other : (bytes : List ℕ) → after_front header bytes ≡ None → after_front bytes header ≡ None → (more : List ℕ)
-    → after_front header (bytes ++ more) ≡ None
-header_other bytes shorter longer more = go (after_front header (bytes ++ more)) refl (order (length bytes))
-  where
-    order : (n : ℕ) → (7 ≤ n) ⊎ (n ≤ 7)
-    order n = grind arith
-
-    go : (r : Option (List ℕ)) → after_front header (bytes ++ more) ≡ r → (7 ≤ length bytes) ⊎ (length bytes ≤ 7) → after_front header (bytes ++ more) ≡ None
-    go None h o = h
-    go (Some rest) h (inl many) =
-        let is = front_within header rest bytes more (after_is header (bytes ++ more) rest h) many in
-        absurd (none_some (sym shorter ∙ ap (after_front header) is ∙ after_again header (drop 7 bytes)))
-    go (Some rest) h (inr few) =
-        let is = front_within bytes more header rest (sym (after_is header (bytes ++ more) rest h)) few in
-        absurd (none_some (sym longer ∙ ap (after_front bytes) is ∙ after_again bytes (drop (length bytes) header)))
 
 -- The header is passed.
 

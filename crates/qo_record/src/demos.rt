@@ -1,6 +1,6 @@
 //! The demo record: a recorded stream that is made of a seed.
 
-ghost use Rattle.std.specs.Prelude.{◌≡◌, ◌<◌, ◌+◌, ◌%◌, ◌^◌, ◌∷◌, [], ◌++◌, codes, decimal, IfOk, OnOk};
+ghost use Rattle.std.specs.Prelude.{◌≡◌, ◌<◌, ◌+◌, ◌%◌, ◌∷◌, [], ◌++◌, decimal, IfOk, OnOk};
 ghost use Rattle.qo_causes.specs.declared.inputs.What.TheVariants as What;
 ghost use Rattle.qo_record.specs.Demo.{at_second, demo_bytes, demo_start, demo_step, demo_what, drawn, next_number, plugging, unplugging, with_number};
 ghost use Rattle.qo_record.specs.Spelling.{entries_text, entry_text, header, moment_text, piece_text};

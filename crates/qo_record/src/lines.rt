@@ -1,6 +1,6 @@
 //! The transcript's lines, put into a sink.
 
-ghost use Rattle.std.specs.Prelude.{◌≡◌, ℕ, [], ◌∷◌, ◌++◌, decimal, OnOk};
+ghost use Rattle.std.specs.Prelude.{◌≡◌, [], ◌∷◌, ◌++◌, decimal, OnOk};
 ghost use Rattle.qo_causes.specs.Bytes.{PutsAll};
 ghost use Rattle.qo_causes.specs.Cause.{HasCause};
 ghost use Rattle.qo_causes.specs.Hub.{lane_text, line};

@@ -11,7 +11,7 @@ use crate::entries::{First, first_of};
 use crate::reading::after_front;
 use crate::waiting::is_wrong;
 use crate::windows::Window;
-use qo_causes::{Failed, Input, Moment, NextError, Source, What};
+use qo_causes::{Failed, Input, NextError, Source};
 use std::alloc::{AllocError, Global};
 use std::marker::Model;
 

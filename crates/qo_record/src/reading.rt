@@ -1,6 +1,6 @@
 //! Readers of parts of an entry. Each answers what was read and the bytes after it.
 
-ghost use Rattle.std.specs.Prelude.{◌≡◌, ◌≤◌, ◌-◌, ◌^◌, ◌<◌, option_map, IfSome};
+ghost use Rattle.std.specs.Prelude.{◌≡◌, ◌≤◌, ◌-◌, ◌<◌, option_map, IfSome};
 ghost use Rattle.std.specs.Option.{option_copied};
 ghost use Rattle.qo_record.specs.Reading.{after_front, with_digit, digits_until, number_until, digits_of};
 ghost use Rattle.qo_record.specs.Record.{moment_at, piece_at, piece_of};

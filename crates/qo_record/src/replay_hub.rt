@@ -1,6 +1,6 @@
 //! A recorded stream that is read from a source as a hub, whose transcript goes into a sink.
 
-ghost use Rattle.std.specs.Prelude.{◌≡◌, ◌<◌, ℕ, Option, None, length, IfErr, IfOk};
+ghost use Rattle.std.specs.Prelude.{◌≡◌, ◌<◌, None, length, IfErr, IfOk};
 ghost use Rattle.qo_record.specs.Replays.{Went, bad_ahead, inputs_ahead, unread, went_nowhere, went_then};
 ghost use Rattle.qo_record.specs.declared.windows.TheConstants.{AHEAD_BYTES};
 

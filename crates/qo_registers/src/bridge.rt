@@ -1,6 +1,6 @@
 //! The registers of a bridge.
 
-ghost use Rattle.std.specs.Prelude.{◌≡◌, ◌%◌, ◌==◌, ◌&&◌, ℕ, Bool, IfNone, if◌then◌else◌, not, option_map};
+ghost use Rattle.std.specs.Prelude.{◌≡◌, ◌%◌, ◌==◌, ◌&&◌, ℕ, IfNone, if◌then◌else◌, not, option_map};
 ghost use Rattle.qo_values.specs.Bodies.{bridge_read, bridge_write, nothing, pulse};
 ghost use Rattle.qo_values.specs.Registers.{bridge};
 ghost use Rattle.qo_registers.specs.Effects.{shown_effect};

@@ -66,9 +66,6 @@ plain-ascii (b ∷ bs) h (suc i) = plain-ascii bs (parts b bs h).1 i
 abbrev quote : List ℕ
 quote = 34 ∷ []
 
-quoted-parts : (bs : List ℕ) → quoted bs ≡ quote ++ (escape bs ++ quote)
-quoted-parts bs = refl
-
 quote-ascii : IsAscii quote
 quote-ascii zero = omega arith
 quote-ascii (suc i) = omega arith

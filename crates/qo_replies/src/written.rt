@@ -1,12 +1,11 @@
 //! JSON values as text in ASCII.
 
-ghost use Rattle.std.specs.Prelude.{◌≡◌, ◌++◌, ◌∷◌, [], false, string_bytes, IsAscii, IfOk, OnOk};
+ghost use Rattle.std.specs.Prelude.{◌≡◌, ◌++◌, ◌∷◌, false, string_bytes, IsAscii, IfOk, OnOk};
 ghost use Rattle.std.specs.Str.{IsUtf8};
 ghost use Rattle.serde_json.specs.Find.{is_float};
 ghost use Rattle.serde_json.specs.Data.{boolean};
 ghost use Rattle.serde_json.specs.View.{number_view};
 ghost use Rattle.serde_json.specs.Written.{comma_if, compact_text, has_float, items_have_float, items_text, members_have_float, members_text, number_text};
-ghost use Rattle.json.specs.Print.{quoted};
 ghost use Rattle.qo_json.specs.View.{view, items_view, members_view};
 ghost use Rattle.qo_replies.specs.Json.{ascii, json};
 

@@ -101,10 +101,6 @@ pub visited-timely : (act : Act) (only : Bool) (holds : List ℕ) (levels n : �
 unfolding visited
 visited-timely act only holds levels n v all = walked-timely act _ v all
 
-pub turned-acts : (act : Act) (only : Bool) (holds : List ℕ) (n : ℕ) (v : Objects) → Acts v (turned act only holds n v)
-unfolding turned
-turned-acts act only holds n v = walked-acts act _ v
-
 pub visited-acts : (act : Act) (only : Bool) (holds : List ℕ) (levels n : ℕ) (v : Objects) → Acts v (visited act only holds levels n v)
 unfolding visited
 visited-acts act only holds levels n v = walked-acts act _ v

@@ -1,7 +1,7 @@
 //! How many holds there are on an object and above it (docs/devel/reset.rst, "Triggering reset": an
 //! object is in reset while a hold on it or above it stands).
 
-ghost use Rattle.std.specs.Prelude.{◌≡◌, nat_lt, ◌==◌};
+ghost use Rattle.std.specs.Prelude.{◌≡◌, ◌==◌};
 ghost use Rattle.std.specs.List.{list_any};
 ghost use Rattle.qo_model.specs.Depth.{among};
 ghost use Rattle.qo_table.specs.Rows.{IsLive};

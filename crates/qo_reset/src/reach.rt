@@ -1,7 +1,7 @@
 //! What is below an object in a reset (docs/devel/reset.rst, "Handling reset in a resettable
 //! object", `child_foreach`): below a bus the devices on it, below any other object its buses.
 
-ghost use Rattle.std.specs.Prelude.{◌≡◌, ◌<◌, ◌^◌, option_map, slice_get, IfSome, codes};
+ghost use Rattle.std.specs.Prelude.{◌≡◌, ◌<◌, ◌^◌, option_map, slice_get, IfSome};
 ghost use Rattle.qo_object.specs.Slots.{child_of};
 ghost use Rattle.qo_table.specs.Rows.{IsLive};
 ghost use Rattle.qo_heap.specs.Objects.{slots_of};

@@ -22,7 +22,7 @@ impl Model for NamedRing {
 
 impl NamedRing {
     ghost use Rattle.std.specs.Prelude.{◌≡◌, None, Some, IfOk, OnOk, OnErr};
-    ghost use Rattle.qo_values.specs.Rings.{empty_ring, ring_add, ring_drop, ring_oldest, ring_push};
+    ghost use Rattle.qo_values.specs.Rings.{empty_ring, ring_drop, ring_oldest, ring_push};
     ghost use Rattle.qo_chardev.specs.Texts.{told};
     ghost use Rattle.qo_rings.specs.declared.errors.RingAddError.TheVariants as adding;
     ghost use Rattle.qo_rings.specs.declared.errors.RingTakeError.TheVariants as taking;

@@ -4,7 +4,7 @@ use crate::errors::{RingAddError, RingTakeError};
 use crate::named_ring::NamedRing;
 use qo_chardev::{Ring, RingError};
 use qo_values::{Form, Id, Text};
-use std::alloc::{AllocError, Global};
+use std::alloc::Global;
 use std::marker::Model;
 
 /// The size of a ring, in bytes, for which none is given.
@@ -29,9 +29,9 @@ impl Model for Rings {
 }
 
 impl Rings {
-    ghost use Rattle.std.specs.Prelude.{◌≡◌, [], ◌∷◌, ◌++◌, false, None, Some, IfOk, IfSome, OnOk, OnErr, option_map};
+    ghost use Rattle.std.specs.Prelude.{◌≡◌, [], ◌∷◌, ◌++◌, false, None, Some, IfOk, OnOk, OnErr, option_map};
     ghost use Rattle.std.specs.List.{list_any, position};
-    ghost use Rattle.qo_values.specs.Rings.{is_ring_size, ring_add, ring_drop, ring_push};
+    ghost use Rattle.qo_values.specs.Rings.{is_ring_size, ring_drop, ring_push};
     ghost use Rattle.qo_chardev.specs.declared.ring.RingError.TheVariants as bad;
     ghost use Rattle.qo_rings.specs.declared.errors.RingAddError.TheVariants as adding;
     ghost use Rattle.qo_rings.specs.declared.errors.RingTakeError.TheVariants as taking;

@@ -1,7 +1,7 @@
 //! What an item of a session comes to.
 
-ghost use Rattle.std.specs.Prelude.{◌≡◌, option_map};
-ghost use Rattle.qo_sessions.specs.Acts.{asked, demand, is_no_command, judged, negotiate, offered, refusal_code};
+ghost use Rattle.std.specs.Prelude.{◌≡◌};
+ghost use Rattle.qo_sessions.specs.Acts.{asked, demand, is_no_command, negotiate, offered, refusal_code};
 
 use crate::modes::Mode;
 use qo_requests::{Call, Parsed, Request};

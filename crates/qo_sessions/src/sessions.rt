@@ -30,10 +30,10 @@ impl Model for Session {
 }
 
 impl Session {
-    ghost use Rattle.std.specs.Prelude.{◌≡◌, ◌≢◌, IfOk, OnErr};
+    ghost use Rattle.std.specs.Prelude.{◌≡◌, IfOk, OnErr};
     ghost use Rattle.qo_replies.specs.Replies.{greeting};
     ghost use Rattle.qo_sessions.specs.Acts.{act, mode_after};
-    ghost use Rattle.qo_sessions.specs.Sessions.{Fed, begun, closed, fed, in_mode};
+    ghost use Rattle.qo_sessions.specs.Sessions.{begun, closed, fed, in_mode};
     ghost use Rattle.qo_sessions.specs.declared.modes.Mode.TheVariants as Mode;
 
     /// A session that opens: it has to negotiate.

@@ -184,7 +184,3 @@ pub created : (t : TypeId) (b : Board)
     → record (make t b) { notes = b.notes ++ init_notes (b.born + 1) t } ≡ with_pins (put_in_order (b.born + 1) b.pins) (with_new (fresh (b.born + 1) t) b)
 unfolding make
 created t b = refl
-
-pub let-go_up : (c : Board) (n : ℕ) (q : List ℕ) → IsUp c.pins → q ≡ put_in_order n c.pins → (refs c n == 0) ≡ false → unpin (with_pins q c) n ≡ c
-unfolding pin
-let-go_up c n q up is held = ap (λ (ps : List ℕ). unpin (with_pins ps c) n) is ∙ unpin-kept c n up held

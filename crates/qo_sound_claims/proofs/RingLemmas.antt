@@ -36,15 +36,6 @@ any-append p (x ∷ xs) ys e = go (p x) refl (any-append p xs ys)
     go true q rest = rw q refl
     go false q rest = rw q (rest (rw q at e))
 
-bytes-apart : (xs ys : List ℕ) → bytes_eq xs ys ≡ false → bytes_eq ys xs ≡ false
-bytes-apart xs ys e = go (bytes_eq ys xs) refl
-  where
-    go : (t : Bool) → bytes_eq ys xs ≡ t → bytes_eq ys xs ≡ false
-    go true p =
-        let is : xs ≡ ys = sym ((bytes_eq-Decides ys xs).0 p) in
-        absurd (let clash : true ≡ false = sym ((bytes_eq-Decides xs ys).1 is) ∙ e in cc)
-    go false p = p
-
 ids-append : (rings : List Ring) (r : Ring) → IsDistinct bytes_eq (ring_ids rings) → list_any (λ (x : Ring). bytes_eq x.id r.id) rings ≡ false
     → IsDistinct bytes_eq (ring_ids (rings ++ r ∷ []))
 unfolding IsDistinct

@@ -103,24 +103,6 @@ less-blank xs ys blank =
 pub blank-none : Blank []
 blank-none = record { own = refl; mul = refl; div = refl; source = λ s. refl }
 
--- blank stays blank
-pub blank-less : (xs ys : Slots) → Blank xs → Less xs ys → Blank ys
-blank-less xs ys blank h = go h.scale
-  where
-    go : ((mul_in ys ≡ mul_in xs) × (div_in ys ≡ div_in xs)) ⊎ Blank ys → Blank ys
-    go (inr is) = is
-    go (inl same) =
-        record {
-          own = let none : own_in xs ≡ 0 = blank.own in omega (arith, none, h.own);
-          mul = same.0 ∙ blank.mul;
-          div = same.1 ∙ blank.div;
-          source = λ s. none s (sees s ys) refl;
-        }
-      where
-        none : (s : ℕ) (t : Bool) → sees s ys ≡ t → sees s ys ≡ false
-        none s false e = e
-        none s true e = absurd (let clash : true ≡ false = sym (h.source s e) ∙ blank.source s in cc)
-
 -- the same values, and no more sources
 pub record SameValues (xs ys : Slots) : Type 0 where
   pub period : plain_of (codes "period") ys ≡ plain_of (codes "period") xs

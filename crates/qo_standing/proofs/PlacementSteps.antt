@@ -109,10 +109,6 @@ stays-edit v w n f slots is =
       book = λ out h. subst (λ (x : Objects). IsBook out x) (sym is) (book-edit out v n f (λ c. ap (λ (d : Content). (d.body, d.device_id)) (slots c)) h);
     }
 
--- another book
-pub alike-book : (v w : Objects) (h : ClaimsTaken) → w ≡ with_book h v → Alike v w
-alike-book v w h is = let same : Alike v (with_book h v) = record { names = λ key live. live; paths = λ n. refl; pins = refl } in subst (Alike v) (sym is) same
-
 pub shows-book : (b : board.Board) (v w : Objects) (h : ClaimsTaken) → w ≡ with_book h v → Shows b v → Shows b w
 shows-book b v w h is s =
     subst (Shows b) (sym is) (record { records = s.records; born = s.born; pins = s.pins; notes = s.notes; events = s.events; now = s.now })

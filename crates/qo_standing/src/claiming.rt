@@ -2,7 +2,7 @@
 //! backend of a DIMM and its range. They are taken before it stands, and given back where it does not
 //! come to stand.
 
-ghost use Rattle.std.specs.Prelude.{◌≡◌, ◌++◌, [], ◌∷◌, List, Some, None, IfOk, IfSome, IfNone, OnOk, OnErr, option_map, option_and_then};
+ghost use Rattle.std.specs.Prelude.{◌≡◌, ◌++◌, ◌∷◌, List, Some, None, IfOk, IfSome, IfNone, OnOk, OnErr, option_map, option_and_then};
 ghost use Rattle.qo_claims.specs.Lists.{bus_slot};
 ghost use Rattle.qo_claims.specs.declared.claims.Claimed.{Claimed};
 ghost use Rattle.qo_claims.specs.declared.claims.Claimed.TheVariants as on;
@@ -14,7 +14,7 @@ ghost use Rattle.qo_standing.specs.Placement.{kept_in, named, with_book};
 ghost use Rattle.qo_standing.specs.DeviceClaims.{kept_on, kept_out, labels_out, one_out, taken_out};
 
 use crate::spots::{Memory, Spot};
-use qo_claims::{Claim, Kept, Space, keep};
+use qo_claims::{Claim, Kept, keep};
 use qo_heap::{Heap, Oid, Steps};
 use qo_kinds::{Body, KeptSet};
 use qo_values::Id;
@@ -48,7 +48,7 @@ fn take_label(heap: &mut Heap, id: Option<Id>) -> Result<Option<Label>, AllocErr
     let Some(id) = id else {
         return Ok(None);
     };
-    match heap.claims().take_id(Space::Device, &id) {
+    match heap.claims().take_id(&id) {
         Ok(claim) => Ok(Some(Label { id, claim })),
         Err(_) => Err(AllocError),
     }

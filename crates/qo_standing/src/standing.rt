@@ -3,7 +3,7 @@
 //! (include/hw/qdev-core.h: the bus of a device; docs/devel/clocks.rst). All that takes memory comes
 //! first, and is taken back where it fails.
 
-ghost use Rattle.std.specs.Prelude.{◌≡◌, ◌==◌, ◌≤◌, ◌<◌, ◌++◌, ◌∷◌, List, true, false, Some, None, IfOk, IfSome, IfNone, OnOk, OnErr, codes, length, option_map, option_and_then, slice_get};
+ghost use Rattle.std.specs.Prelude.{◌≡◌, ◌==◌, ◌≤◌, ◌<◌, ◌++◌, List, true, false, Some, None, IfOk, IfSome, IfNone, OnOk, OnErr, codes, option_map, option_and_then, slice_get};
 ghost use Rattle.std.specs.List.{AllByRecursion, AllZip};
 ghost use Rattle.std.specs.Option.{option_map_or};
 ghost use Rattle.qo_claims.specs.declared.claims.Claimed.{Claimed};

@@ -46,9 +46,9 @@ fn key_in(order: &[Key], place: usize) -> Option<Key>
 }
 
 impl<T> ObjectTable<T> {
-    ghost use Rattle.std.specs.Prelude.{◌≡◌, ◌+◌, ◌≤◌, ◌^◌, Bool, count_by, [], ◌∷◌, ◌++◌, map, Some, None, IfOk, IfErr, IfSome, IfNone, OnOk, option_map, find, leb};
+    ghost use Rattle.std.specs.Prelude.{◌≡◌, ◌+◌, ◌≤◌, ◌^◌, Bool, count_by, [], ◌∷◌, ◌++◌, Some, IfOk, IfErr, IfSome, IfNone, OnOk, option_map, find, leb};
     ghost use Rattle.std.specs.Borrow.{sem};
-    ghost use Rattle.qo_table.specs.Rows.{IsLive, births, edit, object_at, without};
+    ghost use Rattle.qo_table.specs.Rows.{IsLive, births, object_at, without};
     ghost use Rattle.qo_table.specs.Loans.{lends_object};
 
     /// A table without objects. It takes no memory.

@@ -6,7 +6,6 @@ use Rattle.std.specs.Option.{option_map_or}
 use Rattle.std.proofs.lemmas.List.{append-nil}
 use Rattle.std.proofs.lemmas.List.Sums.{sum_by_push}
 use Rattle.std.proofs.lemmas.List.Folds.{list_any-append}
-use Rattle.std.proofs.lemmas.Bool.Decides.{nat_tests}
 use Rattle.qo_values.specs.Registers.{TimerRegisters, fresh_timer}
 use Rattle.qo_values.specs.Timer.{span_ticks, timer_ticks, is_open, after_end, after_begin, timer_pre, timer_update, timer_halt, control_write, reload_write}
 use Rattle.qo_timer.specs.Calls.{TimerCall, enter, hold, exit, pre, update, halt, read, write, after_call, after_calls, is_pre, is_update, updates_follow}

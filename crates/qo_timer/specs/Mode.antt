@@ -1,7 +1,7 @@
 -- A timer's registers in terms of what the code keeps of its segments.
 use Rattle.std.specs.Prelude.{ℕ, Bool, true, false, Option, Some, None}
 use Rattle.qo_timer.specs.declared.timer.Mode.{Mode}
-use Rattle.qo_timer.specs.declared.timer.Mode.TheVariants.{Disabled, Between, Open}
+use Rattle.qo_timer.specs.declared.timer.Mode.TheVariants.{Disabled, Open}
 
 -- whether CTRL is 1
 abbrev pub is_enabled : Mode → Bool

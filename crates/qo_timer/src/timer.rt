@@ -1,6 +1,6 @@
 //! The timer: a count that falls with each tick of a clock whose period may change.
 
-ghost use Rattle.std.specs.Prelude.{◌≡◌, ◌≤◌, ◌*◌, ◌^◌, true, IfNone, option_map};
+ghost use Rattle.std.specs.Prelude.{◌≡◌, ◌≤◌, ◌*◌, true, IfNone, option_map};
 ghost use Rattle.qo_values.specs.Registers.{fresh_timer};
 ghost use Rattle.qo_values.specs.Timer.{span_ticks, timer_ticks, timer_count, after_begin, after_end};
 ghost use Rattle.qo_values.specs.Timer.{timer_enter, timer_hold, timer_pre, timer_update, timer_halt};

@@ -15,7 +15,6 @@ use Rattle.qo_hotplug.specs.Hotplug.{Asked}
 use Rattle.qo_heap.specs.Board.{Shows, pins_in}
 use Rattle.qo_heap.specs.Objects.{IsHeap, Objects, pins_of, with_edit}
 use Rattle.qo_heap.specs.Moments.{Timely}
-use Rattle.qo_heap.proofs.HeapLemmas.{length-edit}
 use Rattle.qo_heap.proofs.BoardReads.{shows-size, times}
 use Rattle.qo_life.specs.Life.{Goes, KeepsNames}
 use Rattle.qo_life.proofs.TreeLemmas.{goes-names, goes-shows, goes-then, tree, tree-shows}
@@ -46,9 +45,6 @@ pin-beside v u held asked n goes b beside =
 
 pub pin-timely : (v u : Objects) (n : ℕ) → u ≡ with_edit n with_pin v → Timely v → Timely u
 pin-timely v u n is all = subst (λ (x : Objects). Timely x) (sym is) (edit-timely n with_pin (λ c. refl) v.time v.rows all)
-
-pin-length : (v u : Objects) (n : ℕ) → u ≡ with_edit n with_pin v → length u.rows ≡ length v.rows
-pin-length v u n is = ap (λ (x : Objects). length x.rows) is ∙ length-edit n with_pin v.rows
 
 pub pin-ticks : (b : Board) (n : ℕ) → SoundTree b → SoundClocks b → Ticks (pin b n)
 unfolding pin

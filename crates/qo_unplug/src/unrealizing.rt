@@ -1,7 +1,7 @@
 //! A device is unrealized, with all that is below it: the kids of each bus, the bus, and then the
 //! device (include/hw/qdev-core.h, "Realization").
 
-ghost use Rattle.std.specs.Prelude.{◌≡◌, ◌+◌, length};
+ghost use Rattle.std.specs.Prelude.{◌+◌, length};
 ghost use Rattle.qo_table.specs.Rows.{IsLive};
 ghost use Rattle.qo_heap.specs.Moments.{Timely};
 ghost use Rattle.qo_unplug.specs.Unrealizing.{Undoes, bus_undone, bus_within, device_within, kid_undone, parts};

@@ -1,6 +1,6 @@
 //! What no clause says: that each call that takes memory succeeds where there is enough.
 
-use qo_claims::{Claim, ClaimError, Claims, Space, keep};
+use qo_claims::{Claim, ClaimError, Claims, keep};
 use qo_values::Id;
 use std::test::Fail;
 
@@ -17,15 +17,13 @@ fn ended(claims: &mut Claims, taken: Result<Claim, ClaimError>) -> bool {
 
 /// Takes an id, a ring and a backend, and ends the claims on them.
 fn takes_names(claims: &mut Claims, id: &Id) -> bool {
-    let device = claims.take_id(Space::Device, id);
+    let device = claims.take_id(id);
     let device = ended(claims, device);
-    let ring_id = claims.take_id(Space::Ring, id);
-    let ring_id = ended(claims, ring_id);
     let ring = claims.take_ring(id);
     let ring = ended(claims, ring);
     let backend = claims.take_backend(9);
     let backend = ended(claims, backend);
-    device && ring_id && ring && backend
+    device && ring && backend
 }
 
 /// Takes a slot and a range, keeps the slot, and ends the claims on them.

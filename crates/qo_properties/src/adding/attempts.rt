@@ -1,7 +1,7 @@
 //! Attempts at objects that end as soon as they are made. Nobody sees them, but for their births and
 //! their notes, and so they are not made at all.
 
-ghost use Rattle.std.specs.Prelude.{◌≡◌, ◌≤◌, ◌<◌, ◌+◌, ◌++◌, ◌^◌, ℕ, suc, List, length, is_some, option_to_list, OnOk, OnErr};
+ghost use Rattle.std.specs.Prelude.{◌≡◌, ◌≤◌, ◌<◌, ◌+◌, ◌++◌, ◌^◌, ℕ, List, length, is_some, option_to_list, OnOk, OnErr};
 ghost use Rattle.qo_values.specs.declared.kinds.TypeId.{TypeId};
 ghost use Rattle.qo_model.specs.Plug.{begun_notes, born_from, device_last, ended_notes, further_in, objects_in, types_in};
 ghost use Rattle.qo_life.specs.Life.{with_notes};

@@ -1,8 +1,6 @@
 //! Why a user's object is refused before an attempt to make it.
 
 ghost use Rattle.std.specs.Prelude.{◌≡◌, Some, None, Err, IfOk, OnOk, option_map};
-ghost use Rattle.std.specs.Prelude.{true, false};
-ghost use Rattle.qo_values.specs.Ids.{is_id};
 ghost use Rattle.qo_values.specs.declared.births.TheConstants.{OBJECTS_BIRTH};
 ghost use Rattle.qo_values.specs.declared.codes.Code.{Code};
 ghost use Rattle.qo_values.specs.declared.codes.Code.TheVariants.{E23};

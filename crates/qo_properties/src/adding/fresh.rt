@@ -17,7 +17,7 @@ use crate::adding::filling::Fill;
 use qo_heap::{Heap, Oid, Slot, SlotName, Steps};
 use qo_model::{First, Property, PropertyName, PropertyRole};
 use qo_types::TypeTable;
-use qo_values::{Name, PropType, Text, TypeId, Val};
+use qo_values::{Name, Text, TypeId, Val};
 use std::alloc::{AllocError, Global};
 use std::sync::ledger::Ledger;
 use std::vec::IntoIter;

@@ -11,7 +11,7 @@ ghost use Rattle.qo_object.specs.Content.{reference_count, without_pin};
 ghost use Rattle.qo_object.specs.Slots.{names_of, target_of};
 ghost use Rattle.qo_heap.specs.Board.{Shows, pins_in};
 ghost use Rattle.qo_heap.specs.Objects.{content_of, ended, pins_of, refs_of, with_edit};
-ghost use Rattle.qo_properties.specs.Additions.{Adds, IsChild, IsTried, given_up};
+ghost use Rattle.qo_properties.specs.Additions.{Adds, IsChild, IsTried};
 ghost use Rattle.qo_properties.specs.Claims.{KeepsBook};
 ghost use Rattle.qo_properties.specs.Filling.{Fits, IsGiven, target_in};
 ghost use Rattle.qo_properties.specs.NewSlots.{new_slots};

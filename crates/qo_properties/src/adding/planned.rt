@@ -1,6 +1,6 @@
 //! What is planned for the property of a name.
 
-ghost use Rattle.std.specs.Prelude.{◌≡◌, IfSome, List, option_map};
+ghost use Rattle.std.specs.Prelude.{IfSome, List, option_map};
 ghost use Rattle.std.specs.List.{AllByRecursion};
 ghost use Rattle.qo_model.specs.Board.{Board};
 ghost use Rattle.qo_model.specs.Objects.{Given};

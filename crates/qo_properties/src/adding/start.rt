@@ -1,6 +1,6 @@
 //! Making the objects of the opening board, in the order of births.
 
-ghost use Rattle.std.specs.Prelude.{◌≡◌, Some, None, IfOk, OnOk};
+ghost use Rattle.std.specs.Prelude.{◌≡◌, Some, IfOk, OnOk};
 ghost use Rattle.qo_values.specs.Names.{IsName};
 ghost use Rattle.qo_values.specs.declared.kinds.TypeId.TheVariants.{Clock};
 ghost use Rattle.qo_values.specs.declared.limits.TheConstants.{SYSTEM_PERIOD};

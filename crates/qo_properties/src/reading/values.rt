@@ -1,8 +1,7 @@
 //! Reading the properties of objects (docs/devel/qom.rst, "The QEMU Object Model": properties, child
 //! and link; QEMU's QAPI, `qom-get`).
 
-ghost use Rattle.std.specs.Prelude.{◌≡◌, true, string_bytes, IfOk, is_some, option_map};
-ghost use Rattle.qo_values.specs.declared.properties.Val.TheVariants.{Text as OfText};
+ghost use Rattle.std.specs.Prelude.{◌≡◌, true, IfOk, is_some, option_map};
 ghost use Rattle.qo_model.specs.Board.{Board as Tree, slot_named};
 ghost use Rattle.qo_model.specs.Clocks.{ClocksFit, derived_period, source_of};
 ghost use Rattle.qo_model.specs.Properties.{own_value, plain_value, value_of};

@@ -1,9 +1,9 @@
 //! Cutting the links of a detached object.
 
-ghost use Rattle.std.specs.Prelude.{◌≡◌, ◌<◌, ◌^◌, length, OnErr};
-ghost use Rattle.qo_model.specs.Board.{Board, slots_at};
-ghost use Rattle.qo_model.specs.Objects.{sever, severed_from};
-ghost use Rattle.qo_model.specs.Release.{pin, unpin};
+ghost use Rattle.std.specs.Prelude.{◌≡◌, ◌<◌, ◌^◌, OnErr};
+ghost use Rattle.qo_model.specs.Board.{Board};
+ghost use Rattle.qo_model.specs.Objects.{sever};
+ghost use Rattle.qo_model.specs.Release.{pin};
 ghost use Rattle.qo_table.specs.Rows.{IsLive};
 ghost use Rattle.qo_heap.specs.Board.{Shows};
 ghost use Rattle.qo_heap.specs.Objects.{pins_of, slots_of};

@@ -1,5 +1,5 @@
 -- The first type of a name is that of the first row of the name.
-use Rattle.std.proofs.Common.{Some, None, ap, ◌∙◌, List, ℕ, slice_get}
+use Rattle.std.proofs.Common.{ap, ◌∙◌, List, ℕ, slice_get}
 use Rattle.qo_types.proofs.TableLemmas.{found_first, none_first}
 use Rattle.qo_types.proofs.table.TypeTable.find.Goals as goal
 

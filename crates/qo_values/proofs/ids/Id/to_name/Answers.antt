@@ -1,5 +1,5 @@
 -- An id is a name.
-use Rattle.std.proofs.Common.{◌≡◌, sym, subst, ℕ, List, ◌∙◌, ap}
+use Rattle.std.proofs.Common.{sym, subst, ℕ, List, ◌∙◌}
 use Rattle.qo_values.specs.Names.{IsName}
 use Rattle.qo_values.proofs.IdLemmas.{id-named}
 use Rattle.qo_values.proofs.ids.Id.to_name.Goals as goal
