@@ -1,4 +1,4 @@
--- What the code's orders are.
+-- For proofs alone. What the code's orders are.
 use Rattle.compose.specs.Words as words
 use Rattle.compose.specs.declared.words.Order.{Order}
 use Rattle.compose.specs.declared.words.Order.TheVariants.{Replay, Serve, Demo, Types}

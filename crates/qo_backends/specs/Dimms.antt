@@ -1,4 +1,4 @@
--- The DIMMs that stand on their ranges, object by object (docs/PROFILE.md, DIMMs).
+-- For proofs alone. The DIMMs that stand on their ranges, object by object (docs/PROFILE.md, DIMMs).
 use Rattle.std.specs.Prelude.{ℕ, ◌&&◌, List, [], Option, Some, None, if◌then◌else◌}
 use Rattle.std.specs.Option.{option_map_or}
 use Rattle.qo_values.specs.declared.ranges.Range.{Range}

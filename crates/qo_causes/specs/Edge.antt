@@ -1,4 +1,4 @@
--- The source over std's reader and the sink over std's writer.
+-- For proofs alone. The source over std's reader and the sink over std's writer.
 use Rattle.std.specs.Prelude.{ℕ, ◌==◌, ◌&&◌, not, if◌then◌else◌, List, length, Result, Ok, Err}
 use Rattle.qo_causes.specs.Cause.{counted}
 

@@ -1,4 +1,4 @@
--- The source and the sink in memory, whose calls fail where they are told to.
+-- For proofs alone. The source and the sink in memory, whose calls fail where they are told to.
 use Rattle.std.specs.Prelude.{ℕ, ◌-◌, ◌==◌, ◌&&◌, ◌||◌, min, Bool, not, if◌then◌else◌, List, ◌++◌, length, take, drop, Result, Ok, Err}
 use Rattle.std.specs.List.{list_any}
 use Rattle.qo_causes.specs.Cause.{counted, fault}

@@ -1,4 +1,4 @@
--- The hub in memory, whose calls fail, and whose sessions are gone, where it is told to.
+-- For proofs alone. The hub in memory, whose calls fail, and whose sessions are gone, where it is told to.
 use Rattle.std.specs.Prelude.{ℕ, ◌+◌, ◌&&◌, ◌||◌, nat_le, nat_lt, Bool, if◌then◌else◌, List, [], ◌∷◌, ◌++◌, length, replicate, slice_index_or, slice_set, is_some, Option, Some, None, Result, Ok, Err}
 use Rattle.qo_causes.specs.Cause.{counted, fault}
 use Rattle.qo_causes.specs.Hub.{is_end}

@@ -1,4 +1,4 @@
--- What the words on rings mean.
+-- For a law alone. What the words on rings mean.
 use Rattle.std.specs.Prelude.{◌≡◌, ℕ, ◌^◌, ◌≤◌, ◌↔◌, List, true, Some}
 use Rattle.base64.specs.Engines.{standard}
 use Rattle.base64.specs.GeneralPurpose.{encode_of, IsBytes}

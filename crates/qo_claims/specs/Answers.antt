@@ -1,4 +1,4 @@
--- What a take did.
+-- For proofs alone. What a take did.
 use Rattle.std.specs.Prelude.{◌≡◌, IsOk}
 use Rattle.std.specs.declared.result.Result.{Result}
 use Rattle.std.specs.declared.result.Result.TheVariants.{Ok, Err}

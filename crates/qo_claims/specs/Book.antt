@@ -1,4 +1,4 @@
--- What is held, and claims on it.
+-- For proofs alone. What is held, and claims on it.
 use Rattle.std.specs.Prelude.{ℕ, Bool, List, [], ◌∷◌, ◌++◌}
 use Rattle.qo_values.specs.declared.ranges.Range.{Range}
 use Rattle.qo_values.specs.Placing.{overlaps_any}

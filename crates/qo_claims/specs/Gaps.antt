@@ -1,4 +1,4 @@
--- How a range is fitted into a gap.
+-- For proofs alone. How a range is fitted into a gap.
 use Rattle.std.specs.Prelude.{◌≡◌, ℕ, ◌+◌, ◌≤◌, ◌<◌, ◌%◌, Option, Some, None}
 
 -- the least multiple of align from an address on, and size bytes from there end by another; or none does

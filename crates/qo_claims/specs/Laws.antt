@@ -1,4 +1,4 @@
--- What the words on claims mean together.
+-- For a law alone. What the words on claims mean together.
 use Rattle.std.specs.Prelude.{◌≡◌, Bool, false, ◌==◌}
 use Rattle.qo_claims.specs.declared.claims.Claimed.{Claimed}
 use Rattle.qo_claims.specs.declared.claims.Claimed.TheVariants as on

@@ -1,4 +1,4 @@
--- The lists of what is held, each of its own kind.
+-- For proofs alone. The lists of what is held, each of its own kind.
 use Rattle.std.specs.Prelude.{ℕ, Bool, not, ◌&&◌, ◌==◌, nat_lt, if◌then◌else◌, List, [], ◌∷◌, Option, Some, None}
 use Rattle.std.specs.List.{list_any}
 use Rattle.std.specs.Option.{option_map}

@@ -1,4 +1,4 @@
--- The link of a clock to its source on the heap: how slots of a name are changed.
+-- For proofs alone. The link of a clock to its source on the heap: how slots of a name are changed.
 use Rattle.std.specs.Prelude.{ℕ, Bool, true, false, if◌then◌else◌, List, Option, None, Some, position}
 use Rattle.std.specs.Option.{option_map_or}
 use Rattle.std.specs.Str.{bytes_eq}

@@ -1,4 +1,4 @@
--- Periods on the heap.
+-- For proofs alone. Periods on the heap.
 use Rattle.std.specs.Prelude.{ℕ, ◌^◌, ◌-◌, min, nat_le, if◌then◌else◌, Option, None, Some}
 use Rattle.qo_model.specs.Clocks.{scaled_by}
 use Rattle.qo_model.specs.Depth.{by_depth}

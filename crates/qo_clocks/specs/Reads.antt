@@ -1,4 +1,4 @@
--- What is read of a clock on the heap: its numbers, its source, and the clock of a device.
+-- For proofs alone. What is read of a clock on the heap: its numbers, its source, and the clock of a device.
 use Rattle.std.specs.Prelude.{ℕ, false, List, codes, find, Option, None, Some, option_map, unwrap_or}
 use Rattle.std.specs.Option.{option_and_then}
 use Rattle.std.specs.Str.{bytes_eq}

@@ -1,4 +1,4 @@
--- A change of a period spreads on the heap: the parents of the clocks below are called back.
+-- For proofs alone. A change of a period spreads on the heap: the parents of the clocks below are called back.
 use Rattle.std.specs.Prelude.{ℕ, true, false, ◌==◌, List, [], ◌∷◌, take, None, Some}
 use Rattle.std.specs.List.{flat_map}
 use Rattle.qo_values.specs.declared.kinds.Act.{Act}

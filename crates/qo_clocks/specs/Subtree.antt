@@ -1,4 +1,4 @@
--- The clocks below a clock on the heap, and whether the periods that they would have fit.
+-- For proofs alone. The clocks below a clock on the heap, and whether the periods that they would have fit.
 use Rattle.std.specs.Prelude.{ℕ, ◌^◌, Bool, false, ◌||◌, ◌==◌, nat_le, if◌then◌else◌, List, filter, Option, None, Some}
 use Rattle.std.specs.List.{list_any}
 use Rattle.std.specs.Option.{option_map_or}

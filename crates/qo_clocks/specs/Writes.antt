@@ -1,4 +1,4 @@
--- The writes of a clock's numbers.
+-- For proofs alone. The writes of a clock's numbers.
 use Rattle.std.specs.Prelude.{◌≡◌, ℕ, Bool, true, false, if◌then◌else◌, List, codes, Option, None, Some, option_and_then, Result, Ok, Err}
 use Rattle.std.specs.Option.{option_map_or}
 use Rattle.qo_values.specs.declared.codes.Code.{Code}

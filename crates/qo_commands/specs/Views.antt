@@ -1,4 +1,4 @@
--- What the code's outcomes of commands are.
+-- For proofs alone. What the code's outcomes of commands are.
 use Rattle.std.specs.Prelude.{option_to_list, ℕ, Bool, false, if◌then◌else◌, List, [], ◌∷◌, Option, Result, Ok, Err}
 use Rattle.serde_json.specs.Data.{Data, string}
 use Rattle.serde_json.specs.View.{view}

@@ -1,4 +1,4 @@
--- What contracts see of the events that wait.
+-- For proofs alone. What contracts see of the events that wait.
 use Rattle.std.specs.Prelude.{ℕ, ◌+◌, ◌-◌, List, [], ◌∷◌, ◌++◌, length}
 use Rattle.qo_model.specs.Board.{DeviceEvent}
 

@@ -1,4 +1,4 @@
--- The state that a framer is in.
+-- For proofs alone. The state that a framer is in.
 use Rattle.std.specs.Prelude.{ℕ, List, ⊤}
 use Rattle.qo_framing.specs.Cut.{Framing, between, inside, skipping}
 use Rattle.qo_framing.specs.Parts.{IsUnfinished}

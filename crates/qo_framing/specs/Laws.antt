@@ -1,4 +1,4 @@
--- What holds of the cut.
+-- For a law alone. What holds of the cut.
 use Rattle.std.specs.Prelude.{◌≡◌, ℕ, ◌<◌, ◌≤◌, List, [], ◌++◌, length, reverse, take, Some, None}
 use Rattle.qo_framing.specs.Fronts.{End, ending, end_after}
 use Rattle.qo_framing.specs.Cut.{Framing, cut, cut_of_part, first_part, followed}

@@ -1,4 +1,4 @@
--- How what the code finds in a stream stands to the definition of the cut.
+-- For proofs alone. How what the code finds in a stream stands to the definition of the cut.
 use Rattle.std.specs.Prelude.{◌≡◌, ℕ, ◌≤◌, List, [], ◌∷◌, length, reverse, None, ⊤}
 use Rattle.qo_values.specs.declared.limits.TheConstants.{MESSAGE_MAX}
 use Rattle.qo_framing.specs.Cut.{Cut, Framing, Part, between, inside, skipping, stops, goes_on}

@@ -1,4 +1,4 @@
--- How the scanner of an object stands to the definitions on fronts.
+-- For proofs alone. How the scanner of an object stands to the definitions on fronts.
 use Rattle.std.specs.Prelude.{◌≡◌, ℕ, ◌+◌, ◌-◌, ◌%◌, ◌<◌, ◌≤◌, ◌==◌, Bool, ◌||◌, not, if◌then◌else◌, List, ◌++◌, length, reverse, take, Some, None, nat_le, ⊤}
 use Rattle.qo_values.specs.declared.limits.TheConstants.{NESTING_MAX}
 use Rattle.qo_framing.specs.Classes.{is_opening, is_closing, is_reset}

@@ -1,4 +1,4 @@
--- The places give back the slots that they hold.
+-- For proofs alone. The places give back the slots that they hold.
 use Rattle.std.specs.Prelude.{◌≡◌, ℕ, ◌-◌, ◌≤◌, List, ◌++◌, length, take, replicate}
 use Rattle.std.proofs.Common.{sym, ap, arith}
 use Rattle.std.proofs.lemmas.List.{length-take-le}

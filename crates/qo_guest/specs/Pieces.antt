@@ -1,4 +1,4 @@
--- What is after a first piece.
+-- For proofs alone. What is after a first piece.
 use Rattle.std.specs.Prelude.{ℕ, ◌+◌, List, [], length, Option, Some, None}
 use Rattle.qo_guest.specs.Addresses.{pieces}
 

@@ -1,4 +1,4 @@
--- How a guest spells what it asks for (docs/PROFILE.md, guest lines).
+-- For a law alone. How a guest spells what it asks for (docs/PROFILE.md, guest lines).
 use Rattle.std.specs.Prelude.{◌≡◌, ℕ, ◌≤◌, ◌<◌, ◌^◌, ◌↔◌, codes, List, ◌∷◌, ◌++◌, length, Some, All}
 use Rattle.std.specs.Fmt.{decimal}
 use Rattle.std.specs.Str.Parse.{AllDigits, digits_value}

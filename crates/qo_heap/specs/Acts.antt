@@ -1,4 +1,4 @@
--- Bodies act and are noted, and nothing else changes.
+-- For proofs alone. Bodies act and are noted, and nothing else changes.
 use Rattle.std.specs.Prelude.{◌≡◌, map}
 use Rattle.qo_kinds.specs.Bodies.{kept_of}
 use Rattle.qo_kinds.specs.declared.bodies.Body.TheVariants.{Plain}

@@ -1,4 +1,4 @@
--- The heap as a part of the board.
+-- For proofs alone. The heap as a part of the board.
 use Rattle.std.specs.Prelude.{◌≡◌, ℕ, List, [], ◌∷◌, ◌++◌, map, replicate}
 use Rattle.qo_slots.specs.declared.keys.Key.{Key}
 use Rattle.qo_object.specs.Content.{Content}

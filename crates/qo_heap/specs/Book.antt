@@ -1,4 +1,4 @@
--- What is held, recounted: each claim is kept by an object or is out.
+-- For proofs alone. What is held, recounted: each claim is kept by an object or is out.
 use Rattle.std.specs.Prelude.{◌≡◌, ℕ, ◌+◌, Bool, false, ◌==◌, if◌then◌else◌, List, count_by, sum_by, Option, option_map}
 use Rattle.std.specs.Option.{option_map_or}
 use Rattle.std.specs.Str.{bytes_eq}

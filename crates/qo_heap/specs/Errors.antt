@@ -1,4 +1,4 @@
--- The errors of an object by itself, as the heap's.
+-- For proofs alone. The errors of an object by itself, as the heap's.
 use Rattle.qo_object.specs.declared.errors.AddError.{AddError}
 use Rattle.qo_object.specs.declared.errors.AddError.TheVariants as add
 use Rattle.qo_heap.specs.declared.errors.SlotError.{SlotError}

@@ -1,4 +1,4 @@
--- What a heap ends as, where a `&mut` to a part of it is returned.
+-- For proofs alone. What a heap ends as, where a `&mut` to a part of it is returned.
 use Rattle.std.specs.Borrow.{Lends, Fml, MutBor}
 use Rattle.qo_claims.specs.Book.{ClaimsTaken}
 use Rattle.qo_claims.specs.contracts.claims.Claims as claims

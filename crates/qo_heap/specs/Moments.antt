@@ -1,4 +1,4 @@
--- The moments of timers and the heap's time.
+-- For proofs alone. The moments of timers and the heap's time.
 use Rattle.std.specs.Prelude.{ℕ, List}
 use Rattle.std.specs.List.{AllByRecursion}
 use Rattle.qo_kinds.specs.Bodies.{IsTimely}

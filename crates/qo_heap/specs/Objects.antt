@@ -1,4 +1,4 @@
--- What contracts see of the heap: the objects in the order of births, and what stands beside them.
+-- For proofs alone. What contracts see of the heap: the objects in the order of births, and what stands beside them.
 use Rattle.std.specs.Prelude.{◌≡◌, ℕ, ◌+◌, ◌≤◌, Bool, false, List, [], map, length, filter_map, sum_by, count_by, find, Option, None, Some, is_some, option_map}
 use Rattle.std.specs.List.{AllByRecursion}
 use Rattle.std.specs.Option.{option_map_or}

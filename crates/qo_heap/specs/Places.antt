@@ -1,4 +1,4 @@
--- Lists by place: one member changed, and what holds of the members before a place.
+-- For proofs alone. Lists by place: one member changed, and what holds of the members before a place.
 use Rattle.std.specs.Prelude.{ℕ, zero, suc, ◌+◌, List, [], ◌∷◌}
 
 -- the member at a place is changed; nothing is past the end

@@ -1,4 +1,4 @@
--- What contracts see of the removals that are pending and of the notices that wait for the guest, as the fields of the board of these names.
+-- For proofs alone. What contracts see of the removals that are pending and of the notices that wait for the guest, as the fields of the board of these names.
 use Rattle.std.specs.Prelude.{ℕ, Bool, false, not, ◌==◌, ◌||◌, nat_le, if◌then◌else◌, List, [], ◌∷◌, ◌++◌, map, filter, length, drop, slice_get, Option, Some, None}
 use Rattle.qo_slots.specs.declared.keys.Key.{Key}
 use Rattle.qo_values.specs.declared.limits.TheConstants.{NOTICES_MAX}

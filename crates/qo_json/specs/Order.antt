@@ -1,4 +1,4 @@
--- The members of an object stand in byte order of their names.
+-- For proofs alone. The members of an object stand in byte order of their names.
 use Rattle.std.specs.Prelude.{ℕ, List, [], ◌∷◌, ⊤}
 use Rattle.std.specs.Cmp.Lexicographic.{slice_cmp}
 use Rattle.std.specs.List.Sorted.{IsStrictlySortedBy}

@@ -1,4 +1,4 @@
--- Where a name stands among members, or else where it goes.
+-- For proofs alone. Where a name stands among members, or else where it goes.
 use Rattle.std.specs.Prelude.{ℕ, suc, List, [], ◌∷◌, Result, Ok, Err}
 use Rattle.std.specs.Borrow.{Bor}
 use Rattle.std.specs.Cmp.Lexicographic.{slice_cmp}

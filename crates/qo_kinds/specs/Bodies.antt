@@ -1,4 +1,4 @@
--- What a body keeps: its registers, and the claims that it holds.
+-- For proofs alone. What a body keeps: its registers, and the claims that it holds.
 use Rattle.std.specs.Prelude.{◌≡◌, ◌≤◌, ℕ, false, None, ⊤}
 use Rattle.qo_values.specs.Bodies.{body_act}
 use Rattle.qo_values.specs.declared.kinds.Act.{Act}

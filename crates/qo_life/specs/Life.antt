@@ -1,4 +1,4 @@
--- The life of the objects of a heap: what is noted at birth, and what a release makes of a heap.
+-- For proofs alone. The life of the objects of a heap: what is noted at birth, and what a release makes of a heap.
 use Rattle.std.specs.Prelude.{◌≡◌, ℕ, suc, true, List, map, Some, is_some, option_map}
 use Rattle.qo_values.specs.declared.kinds.TypeId.{TypeId}
 use Rattle.qo_values.specs.declared.kinds.Act.TheVariants.{Init}

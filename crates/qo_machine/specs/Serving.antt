@@ -1,4 +1,4 @@
--- Items and lines served one after another, whatever choices and whatever items or lines come after.
+-- For proofs alone. Items and lines served one after another, whatever choices and whatever items or lines come after.
 use Rattle.std.specs.Prelude.{◌≡◌, ℕ, List, [], ◌∷◌, ◌++◌, map, Option, option_to_list, Ok, IfOk, ◌⊎◌}
 use Rattle.qo_causes.specs.declared.hubs.Lane.{Lane}
 use Rattle.qo_causes.specs.declared.inputs.Moment.{Moment}

@@ -1,4 +1,4 @@
--- What the commands on objects leave of a board.
+-- For a law alone. What the commands on objects leave of a board.
 use Rattle.std.specs.Prelude.{◌≡◌, List}
 use Rattle.qo_values.specs.declared.kinds.TypeId.{TypeId}
 use Rattle.qo_model.specs.Board.{Board}

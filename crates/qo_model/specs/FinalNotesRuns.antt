@@ -1,4 +1,4 @@
--- Final notes over lists of changes of the board, from the opening board on.
+-- For a law alone. Final notes over lists of changes of the board, from the opening board on.
 use Rattle.std.specs.Prelude.{◌≡◌, ℕ, true, List, [], ◌∷◌, ◌++◌, None, Result, Ok, Err}
 use Rattle.qo_values.specs.declared.codes.Code.{Code}
 use Rattle.qo_values.specs.declared.kinds.Act.{Act}

@@ -1,4 +1,4 @@
--- The laws of the definitions, each the contract of a function of `laws`.
+-- For a law alone. The laws of the definitions, each the contract of a function of `laws`.
 use Rattle.std.specs.Prelude.{◌≡◌, ℕ, true, false, List, [], ◌∷◌, map, filter, codes, Some, is_some, None}
 use Rattle.qo_model.specs.declared.notes.Deed.TheVariants.{Final}
 use Rattle.qo_model.specs.declared.notes.Note.{Note}

@@ -1,5 +1,5 @@
--- What a release keeps. The work of a release is a list: each object that is being finalized, and the place from which its slots are still to be let go, the
--- one that is finalized first at the front.
+-- For a law alone. What a release keeps. The work of a release is a list: each object that is being finalized, and the
+-- place from which its slots are still to be let go, the one that is finalized first at the front.
 use Rattle.std.specs.Prelude.{◌≡◌, ℕ, ◌<◌, Bool, true, List, [], ◌∷◌, ◌++◌, filter, Some, None, option_map, ⊤}
 use Rattle.std.specs.List.{AllByRecursion}
 use Rattle.qo_model.specs.declared.notes.Note.{Note}

@@ -1,4 +1,4 @@
--- What the log of some notes gives of them.
+-- For a law alone. What the log of some notes gives of them.
 use Rattle.std.specs.Prelude.{◌≡◌, ℕ, ◌-◌, ◌^◌, ◌<◌, List, [], ◌∷◌, ◌++◌, take, drop}
 use Rattle.qo_values.specs.declared.limits.TheConstants.{NOTES_PER_REPLY}
 use Rattle.qo_model.specs.declared.notes.Note.{Note}

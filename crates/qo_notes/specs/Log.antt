@@ -1,4 +1,4 @@
--- The log of the notes on objects: how many there were, and the last `NOTES_KEPT`.
+-- For proofs alone. The log of the notes on objects: how many there were, and the last `NOTES_KEPT`.
 use Rattle.std.specs.Prelude.{◌≡◌, ℕ, ◌+◌, ◌-◌, ◌^◌, min, max, List, [], ◌∷◌, ◌++◌, length, take, drop}
 use Rattle.qo_values.specs.declared.limits.TheConstants.{NOTES_KEPT, NOTES_PER_REPLY}
 use Rattle.qo_model.specs.Notes.{total_of, kept_of}

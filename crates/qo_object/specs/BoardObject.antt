@@ -1,4 +1,4 @@
--- An object by itself, as one of the board's.
+-- For proofs alone. An object by itself, as one of the board's.
 use Rattle.std.specs.Prelude.{ℕ, true, false, List, map, Option, option_map}
 use Rattle.qo_kinds.specs.Bodies.{registers_of}
 use Rattle.qo_slots.specs.declared.keys.Key.{Key}

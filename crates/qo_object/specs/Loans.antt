@@ -1,4 +1,4 @@
--- What an object ends as, where a `&mut` to its body is returned.
+-- For proofs alone. What an object ends as, where a `&mut` to its body is returned.
 use Rattle.std.specs.Borrow.{Lends, Fml, MutBor}
 use Rattle.qo_kinds.specs.declared.bodies.Body.{Body}
 use Rattle.qo_kinds.specs.contracts.bodies.Body as body

@@ -1,4 +1,4 @@
--- What stands for the name of a slot.
+-- For proofs alone. What stands for the name of a slot.
 use Rattle.std.specs.Prelude.{ℕ, ◌<◌, ⊤, List, length, slice_index}
 use Rattle.qo_values.specs.declared.limits.TheConstants.{BUS_SLOTS}
 use Rattle.qo_model.specs.Devices.{kid_name}

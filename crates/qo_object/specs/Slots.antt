@@ -1,4 +1,4 @@
--- What a slot names and holds, and what slots by place are once one of them changed (docs/devel/qom.rst, "The QEMU Object Model").
+-- For proofs alone. What a slot names and holds, and what slots by place are once one of them changed (docs/devel/qom.rst, "The QEMU Object Model").
 use Rattle.std.specs.Prelude.{ℕ, zero, suc, Bool, true, false, ◌==◌, if◌then◌else◌, List, [], ◌∷◌, map, slice_get, Option, Some, None, option_map}
 use Rattle.std.specs.List.{list_any}
 use Rattle.std.specs.Option.{option_and_then}

@@ -1,4 +1,4 @@
--- What the calls on paths answer.
+-- For proofs alone. What the calls on paths answer.
 use Rattle.std.specs.Prelude.{ℕ, if◌then◌else◌, List, Option, None, Result, Ok, Err}
 use Rattle.std.specs.Option.{option_and_then}
 use Rattle.qo_slots.specs.declared.keys.Key.{Key}

@@ -1,4 +1,4 @@
--- The parts of a path as text.
+-- For proofs alone. The parts of a path as text.
 use Rattle.std.specs.Prelude.{ℕ, ◌==◌, List, [], ◌∷◌, ◌++◌, Option, None, Some}
 use Rattle.std.specs.List.{slice_split}
 

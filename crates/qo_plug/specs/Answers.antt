@@ -1,4 +1,4 @@
--- What adding a device answers and leaves.
+-- For proofs alone. What adding a device answers and leaves.
 use Rattle.std.specs.Prelude.{◌≡◌, ℕ, ◌+◌, List, Some, None, option_map, ◌⊎◌, ⊤}
 use Rattle.qo_values.specs.declared.codes.Code.{Code}
 use Rattle.qo_values.specs.declared.kinds.TypeId.{TypeId}

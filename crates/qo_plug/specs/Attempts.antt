@@ -1,4 +1,5 @@
--- What a new device does over the heap where it is refused last: it acts with its buses, though it stands nowhere (include/hw/qdev-core.h, "Realization").
+-- For proofs alone. What a new device does over the heap where it is refused last: it acts with its buses, though it stands nowhere (include/hw/qdev-core.h,
+-- "Realization").
 use Rattle.std.specs.Prelude.{ℕ, nat_le, ◌&&◌, Bool, if◌then◌else◌, List, [], ◌∷◌, ◌++◌, filter_map, codes, Option, Some, None}
 use Rattle.qo_values.specs.declared.kinds.Act.{Act}
 use Rattle.qo_values.specs.declared.kinds.Act.TheVariants.{Realize, Unrealize, Enter, Hold, Exit}

@@ -1,4 +1,4 @@
--- What is planned of a device before it is made.
+-- For proofs alone. What is planned of a device before it is made.
 use Rattle.std.specs.Prelude.{◌≡◌, ℕ, List, true, codes, Option, None, IfSome}
 use Rattle.std.specs.List.{AllByRecursion, AllZip}
 use Rattle.qo_model.specs.Board.{Board}

@@ -1,4 +1,4 @@
--- A device as it is made over the heap, and what is left where memory ran out (include/hw/qdev-core.h, "Realization").
+-- For proofs alone. A device as it is made over the heap, and what is left where memory ran out (include/hw/qdev-core.h, "Realization").
 use Rattle.std.specs.Prelude.{◌≡◌, ℕ, ◌+◌, ◌≤◌, Bool, List, [], ◌++◌, ◌⊎◌, map, take, slice_get, Some, option_map, IfSome}
 use Rattle.qo_values.specs.declared.kinds.TypeId.{TypeId}
 use Rattle.qo_model.specs.Board.{Board, Record, Slot, plain}

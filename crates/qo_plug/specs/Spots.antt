@@ -1,4 +1,5 @@
--- What a device that is given properties claims in its place on a bus: its slot, a ring, a memory backend, a range (docs/PROFILE.md, rings and DIMMs).
+-- For proofs alone. What a device that is given properties claims in its place on a bus: its slot, a ring, a memory backend, a range (docs/PROFILE.md, rings
+-- and DIMMs).
 use Rattle.std.specs.Prelude.{◌≡◌, ℕ, List, codes, Option, Some, None, option_map}
 use Rattle.qo_claims.specs.Lists.{bus_slot}
 use Rattle.qo_claims.specs.declared.claims.Claimed.TheVariants as on

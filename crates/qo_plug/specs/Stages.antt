@@ -1,4 +1,4 @@
--- Adding a device in stages: how it is begun, which is made and stands nowhere, and how it is placed.
+-- For proofs alone. Adding a device in stages: how it is begun, which is made and stands nowhere, and how it is placed.
 use Rattle.std.specs.Prelude.{◌≡◌, ℕ, ◌+◌, ◌<◌, ◌≤◌, ◌==◌, List, true, codes, Option, Some, None, is_some, IfOk, IfSome, Result, Ok, Err, length, option_and_then, option_map, ⊤}
 use Rattle.std.specs.Option.{option_or}
 use Rattle.std.specs.List.{AllByRecursion, AllZip}

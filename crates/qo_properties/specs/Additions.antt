@@ -1,4 +1,4 @@
--- How a heap changes where a user's object is added.
+-- For proofs alone. How a heap changes where a user's object is added.
 use Rattle.std.specs.Prelude.{◌≡◌, ℕ, ◌+◌, List, [], ◌∷◌, ◌++◌, ◌⊎◌, Some, None, Result, Ok, Err}
 use Rattle.qo_values.specs.declared.kinds.TypeId.{TypeId}
 use Rattle.qo_slots.specs.declared.keys.Key.{Key}

@@ -1,4 +1,4 @@
--- An attempt at an object with its further objects: they are made, in the order of births, and end at once.
+-- For proofs alone. An attempt at an object with its further objects: they are made, in the order of births, and end at once.
 use Rattle.std.specs.Prelude.{ℕ, suc, ◌+◌, List, map, length}
 use Rattle.qo_values.specs.declared.kinds.TypeId.{TypeId}
 use Rattle.qo_notes.specs.Log.{noted_all}

@@ -1,4 +1,4 @@
--- What the calls that change the board answer, and the severing of an object's links.
+-- For proofs alone. What the calls that change the board answer, and the severing of an object's links.
 use Rattle.std.specs.Prelude.{◌≡◌, ℕ, Bool, false, leb, not, if◌then◌else◌, List, length, codes, Option, Some, None, Result, Ok, Err}
 use Rattle.std.specs.Option.{option_map_or}
 use Rattle.qo_values.specs.declared.births.TheConstants.{OBJECTS_BIRTH}

@@ -1,4 +1,4 @@
--- The book of claims over a change of a heap.
+-- For proofs alone. The book of claims over a change of a heap.
 use Rattle.std.specs.Prelude.{List}
 use Rattle.qo_claims.specs.declared.claims.Claimed.{Claimed}
 use Rattle.qo_heap.specs.Book.{IsBook}

@@ -1,4 +1,4 @@
--- What is written to the clocks of the board.
+-- For proofs alone. What is written to the clocks of the board.
 use Rattle.std.specs.Prelude.{ℕ, Result, Ok, Err}
 use Rattle.qo_values.specs.declared.codes.Code.{Code}
 use Rattle.qo_slots.specs.declared.keys.Key.{Key}

@@ -1,4 +1,4 @@
--- What the slots of a new object are filled with.
+-- For proofs alone. What the slots of a new object are filled with.
 use Rattle.std.specs.Prelude.{◌≡◌, ℕ, zero, suc, Bool, true, List, [], ◌∷◌, Option, Some, None}
 use Rattle.qo_values.specs.declared.properties.Val.{Val}
 use Rattle.qo_slots.specs.declared.keys.Key.{Key}

@@ -1,4 +1,4 @@
--- The properties given to a new object.
+-- For proofs alone. The properties given to a new object.
 use Rattle.std.specs.Prelude.{if◌then◌else◌, Option, Some, None}
 use Rattle.qo_values.specs.Properties.{admits}
 use Rattle.qo_values.specs.declared.codes.Code.{Code}

@@ -1,4 +1,4 @@
--- The slots of a new object: its plain properties with their first values, and its links without targets.
+-- For proofs alone. The slots of a new object: its plain properties with their first values, and its links without targets.
 use Rattle.std.specs.Prelude.{ℕ, List, ◌++◌, take, filter_map, Option, Some, None, option_map}
 use Rattle.qo_values.specs.declared.kinds.TypeId.{TypeId}
 use Rattle.qo_model.specs.Opening.{first_value}

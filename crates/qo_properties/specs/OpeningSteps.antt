@@ -1,5 +1,5 @@
--- How the opening board comes to be: object by object, in the order of births (docs/devel/qom.rst, "The QEMU Object Model"; the eight objects are the
--- profile's).
+-- For proofs alone. How the opening board comes to be: object by object, in the order of births (docs/devel/qom.rst, "The QEMU Object Model"; the eight objects
+-- are the profile's).
 use Rattle.std.specs.Prelude.{◌≡◌, ℕ, ◌+◌, true, List, [], codes, Some}
 use Rattle.qo_values.specs.declared.kinds.TypeId.{TypeId}
 use Rattle.qo_values.specs.declared.kinds.TypeId.TheVariants.{Container, Machine, Clock, SlotBus, MemBus}

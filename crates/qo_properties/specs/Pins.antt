@@ -1,4 +1,4 @@
--- What is held from outside the tree of a board, between two calls.
+-- For proofs alone. What is held from outside the tree of a board, between two calls.
 use Rattle.std.specs.Prelude.{◌≡◌, [], ◌∷◌}
 use Rattle.qo_values.specs.declared.births.TheConstants.{ROOT_BIRTH}
 use Rattle.qo_heap.specs.Board.{pins_in}

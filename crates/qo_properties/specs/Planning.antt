@@ -1,4 +1,4 @@
--- What is planned for the slots of a new object, by what is given for its properties.
+-- For proofs alone. What is planned for the slots of a new object, by what is given for its properties.
 use Rattle.std.specs.Prelude.{◌≡◌, Option, Some, None, IfSome, Result, Ok, Err}
 use Rattle.std.specs.Bool.{⊤}
 use Rattle.std.specs.List.{slice_get}

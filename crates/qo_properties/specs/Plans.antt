@@ -1,4 +1,4 @@
--- What is planned for the property of a name.
+-- For proofs alone. What is planned for the property of a name.
 use Rattle.std.specs.Prelude.{◌≡◌, ℕ, List, Option, Some, None, option_and_then}
 use Rattle.std.specs.List.{AllZip}
 use Rattle.qo_values.specs.declared.kinds.TypeId.{TypeId}

@@ -1,4 +1,4 @@
--- What is read of the board.
+-- For proofs alone. What is read of the board.
 use Rattle.std.specs.Prelude.{◌≡◌, ℕ, Bool, false, ◌==◌, ◌&&◌, not, if◌then◌else◌, List, codes, Option, Some, None, is_none, is_some, Result, Ok, Err, ⊤}
 use Rattle.std.specs.Option.{option_map_or}
 use Rattle.std.specs.Str.{bytes_eq}

@@ -1,4 +1,4 @@
--- What is written to the board.
+-- For proofs alone. What is written to the board.
 use Rattle.std.specs.Prelude.{◌≡◌, ℕ, Bool, true, false, if◌then◌else◌, List, codes, Option, Some, None, is_some, Result, Ok, Err, ⊤}
 use Rattle.std.specs.Option.{option_and_then, option_map_or}
 use Rattle.qo_values.specs.Properties.{admits}

@@ -1,4 +1,4 @@
--- What the calls that change a board answer and leave.
+-- For proofs alone. What the calls that change a board answer and leave.
 use Rattle.std.specs.Prelude.{◌≡◌, ℕ, Bool, List, ◌⊎◌, Some, None, Result, Ok, Err, ⊤}
 use Rattle.qo_values.specs.declared.codes.Code.{Code}
 use Rattle.qo_model.specs.Board.{Board}

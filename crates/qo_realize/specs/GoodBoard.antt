@@ -1,4 +1,4 @@
--- What is so of each board that the machine stands at, beside what it shows.
+-- For proofs alone. What is so of each board that the machine stands at, beside what it shows.
 use Rattle.qo_model.specs.Board.{Board}
 use Rattle.qo_sound_devices.specs.SoundDevices.{SoundDevices}
 use Rattle.qo_sound_clocks.specs.SoundClocks.{SoundClocks}

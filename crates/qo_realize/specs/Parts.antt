@@ -1,4 +1,4 @@
--- What contracts see of a board: its objects, and what stands beside them.
+-- For proofs alone. What contracts see of a board: its objects, and what stands beside them.
 use Rattle.std.specs.Prelude.{ℕ, ◌+◌, Bool, List, Option, None, Some}
 use Rattle.qo_model.specs.Board.{Notice, Ring}
 use Rattle.qo_heap.specs.Objects.{Objects}

@@ -1,4 +1,4 @@
--- What is asked for of devices, as the board has it, and how asking for a removal changes it.
+-- For proofs alone. What is asked for of devices, as the board has it, and how asking for a removal changes it.
 use Rattle.std.specs.Prelude.{◌≡◌, None, Some, Result, Ok, Err, ⊤}
 use Rattle.qo_hotplug.specs.Hotplug.{Asked}
 use Rattle.qo_model.specs.Board.{Board}

@@ -1,4 +1,4 @@
--- The board that a machine stands at.
+-- For proofs alone. The board that a machine stands at.
 use Rattle.std.specs.Prelude.{◌≡◌, []}
 use Rattle.qo_model.specs.Board.{Board}
 use Rattle.qo_heap.specs.Board.{Shows}

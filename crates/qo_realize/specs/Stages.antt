@@ -1,4 +1,4 @@
--- A board on which a device is being added in stages, and what the calls of the stages answer and leave.
+-- For proofs alone. A board on which a device is being added in stages, and what the calls of the stages answer and leave.
 use Rattle.std.specs.Prelude.{◌≡◌, ℕ, ◌<◌, ◌≤◌, IfSome, Result, Ok, Err, ⊤}
 use Rattle.qo_values.specs.declared.codes.Code.TheVariants.{E44}
 use Rattle.qo_model.specs.Board.{Board}

@@ -1,4 +1,4 @@
--- What the reading of a recorded stream is, in the words of how entries are spelled and which may stand.
+-- For a law alone. What the reading of a recorded stream is, in the words of how entries are spelled and which may stand.
 use Rattle.std.specs.Prelude.{ℕ, ◌≡◌, ◌≢◌, ◌<◌, ◌≤◌, ◌^◌, ◌↔◌, Bool, false, List, [], ◌++◌, length, Some, None}
 use Rattle.std.specs.List.{AllByRecursion}
 use Rattle.qo_causes.specs.Hub.{is_end}

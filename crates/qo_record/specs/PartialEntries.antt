@@ -1,4 +1,4 @@
--- Which bytes may still become an entry when more come.
+-- For proofs alone. Which bytes may still become an entry when more come.
 use Rattle.std.specs.Prelude.{ℕ, Bool, false, ◌&&◌, ◌||◌, ◌==◌, nat_le, nat_lt, not, if◌then◌else◌, List, length, Option, None, Some, codes}
 use Rattle.std.specs.List.{list_any}
 use Rattle.qo_record.specs.Reading.{◌>>=◌, number_until}

@@ -1,4 +1,4 @@
--- What the code's readings of a recorded stream are.
+-- For proofs alone. What the code's readings of a recorded stream are.
 use Rattle.std.specs.Prelude.{ℕ, ◌≤◌, List}
 use Rattle.std.specs.Borrow.{Bor}
 use Rattle.qo_causes.specs.declared.inputs.Input.{Input}

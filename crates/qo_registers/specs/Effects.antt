@@ -1,4 +1,4 @@
--- What a write to a register does beside it, as the code tells it (docs/PROFILE.md, device registers).
+-- For proofs alone. What a write to a register does beside it, as the code tells it (docs/PROFILE.md, device registers).
 use Rattle.qo_kinds.specs.declared.bodies.Effect.{Effect}
 use Rattle.qo_kinds.specs.declared.bodies.Effect.TheVariants.{Nothing, Byte, Pulse}
 use Rattle.qo_values.specs.Bodies as bodies

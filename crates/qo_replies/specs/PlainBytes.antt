@@ -1,4 +1,4 @@
--- What stands for itself in a JSON string.
+-- For proofs alone. What stands for itself in a JSON string.
 use Rattle.std.specs.Prelude.{ℕ, Bool, ◌&&◌, not, ◌==◌, nat_le}
 
 -- printable ASCII that is no quote and no backslash

@@ -1,4 +1,4 @@
--- What contracts see of the holds.
+-- For proofs alone. What contracts see of the holds.
 use Rattle.std.specs.Prelude.{ℕ, ◌-◌, List, [], ◌∷◌, ◌++◌}
 
 -- the births of the objects that are held, in the order of taking, repeats allowed, and how many holds more there is memory for

@@ -1,4 +1,4 @@
--- Phases of a reset over the objects of a heap.
+-- For proofs alone. Phases of a reset over the objects of a heap.
 use Rattle.std.specs.Prelude.{◌≡◌, nat_lt, not, ◌&&◌, ◌==◌, ℕ, suc, Bool, true, false, if◌then◌else◌, List, [], ◌∷◌, ◌++◌, map, take, length, filter, filter_map, count_by, codes, Option, Some, None}
 use Rattle.std.specs.List.{flat_map}
 use Rattle.std.specs.Option.{option_map_or}

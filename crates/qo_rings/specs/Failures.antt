@@ -1,4 +1,4 @@
--- What an error of a ring is as one of the rings of a board.
+-- For proofs alone. What an error of a ring is as one of the rings of a board.
 use Rattle.qo_chardev.specs.declared.ring.AddError.{AddError}
 use Rattle.qo_chardev.specs.declared.ring.AddError.TheVariants as add
 use Rattle.qo_chardev.specs.declared.ring.TakeError.{TakeError}

@@ -1,4 +1,4 @@
--- What contracts see of a table: a finite map of keys to values.
+-- For proofs alone. What contracts see of a table: a finite map of keys to values.
 use Rattle.std.specs.Prelude.{◌≡◌, ◌≢◌, ℕ, ◌+◌, ◌≤◌, ◌<◌, ◌^◌, List, Option, None, Some, IfSome, IsSomeAnd, is_some, count_by, filter_map, slice_index_or, slice_set, refl}
 use Rattle.std.specs.Option.{option_map}
 use Rattle.std.specs.Coded.{Coded, code_by, coded×, coded_ℕ, coded_list, coded_option}

@@ -1,4 +1,4 @@
--- What adding and detaching a device, and a reset, leave of a board beside its objects.
+-- For a law alone. What adding and detaching a device, and a reset, leave of a board beside its objects.
 use Rattle.std.specs.Prelude.{◌≡◌, ℕ, suc, ◌+◌, Bool, true, List, [], ◌∷◌, ◌++◌, Option, Some, None}
 use Rattle.qo_values.specs.declared.codes.Code.{Code}
 use Rattle.qo_values.specs.declared.kinds.TypeId.{TypeId}

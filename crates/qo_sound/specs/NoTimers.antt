@@ -1,4 +1,4 @@
--- Boards without timers, and what makes none.
+-- For a law alone. Boards without timers, and what makes none.
 use Rattle.std.specs.Prelude.{◌≡◌, ℕ, Bool, true, false, List, Some}
 use Rattle.std.specs.List.{AllByRecursion}
 use Rattle.std.specs.Option.{option_map_or}

@@ -1,4 +1,4 @@
--- What keeps the notes of a board in order where devices come and go.
+-- For a law alone. What keeps the notes of a board in order where devices come and go.
 use Rattle.std.specs.Prelude.{◌≡◌, ℕ, Bool, true, List}
 use Rattle.qo_values.specs.declared.kinds.TypeId.{TypeId}
 use Rattle.qo_model.specs.Board.{Board, is_live}

@@ -1,4 +1,4 @@
--- What adding a device comes to: nothing, an attempt that was given up, or a device more.
+-- For a law alone. What adding a device comes to: nothing, an attempt that was given up, or a device more.
 use Rattle.std.specs.Prelude.{◌≡◌, ◌≢◌, ℕ, ◌≤◌, None, Some}
 use Rattle.qo_values.specs.declared.codes.Code.{Code}
 use Rattle.qo_values.specs.declared.codes.Code.TheVariants.{E43}

@@ -1,4 +1,4 @@
--- What keeps a board within the profile's limits.
+-- For a law alone. What keeps a board within the profile's limits.
 use Rattle.std.specs.Prelude.{◌≡◌, ℕ, ◌≤◌, Bool, List, Ok}
 use Rattle.qo_values.specs.Registers.{Registers}
 use Rattle.qo_values.specs.declared.kinds.Act.{Act}

@@ -1,4 +1,4 @@
--- What keeps the holds of a board sound.
+-- For a law alone. What keeps the holds of a board sound.
 use Rattle.std.specs.Prelude.{◌≡◌, ℕ, Bool, true, false, List, Ok}
 use Rattle.qo_values.specs.Registers.{Registers}
 use Rattle.qo_values.specs.declared.kinds.Act.{Act}

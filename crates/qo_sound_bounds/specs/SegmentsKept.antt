@@ -1,4 +1,4 @@
--- What keeps the segments of timers sound.
+-- For a law alone. What keeps the segments of timers sound.
 use Rattle.std.specs.Prelude.{◌≡◌, ◌≢◌, ℕ, Bool, List, Some, Ok}
 use Rattle.qo_values.specs.Bodies.{Effect, body_write}
 use Rattle.qo_values.specs.Registers.{Registers}

@@ -1,4 +1,4 @@
--- What keeps the sources of clocks sound.
+-- For a law alone. What keeps the sources of clocks sound.
 use Rattle.std.specs.Prelude.{◌≡◌, ℕ, Bool, true, List, Ok}
 use Rattle.qo_values.specs.Registers.{Registers}
 use Rattle.qo_values.specs.declared.kinds.Act.{Act}

@@ -1,4 +1,4 @@
--- What keeps the backends of a board sound: its rings, and what its devices claim.
+-- For a law alone. What keeps the backends of a board sound: its rings, and what its devices claim.
 use Rattle.std.specs.Prelude.{◌≡◌, ℕ, ◌≤◌, Bool, true, false, not, List, [], ◌∷◌, ◌++◌, length, map, filter, Some, Ok}
 use Rattle.std.specs.List.{AllByRecursion, list_any}
 use Rattle.std.specs.Str.{bytes_eq}

@@ -1,4 +1,4 @@
--- What the soundness of clocks says of them.
+-- For a law alone. What the soundness of clocks says of them.
 use Rattle.std.specs.Prelude.{◌≡◌, ℕ, ◌<◌, ◌^◌, List, Some}
 use Rattle.std.specs.Option.{option_to_list}
 use Rattle.qo_model.specs.Board.{Board}

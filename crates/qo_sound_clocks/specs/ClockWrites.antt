@@ -1,4 +1,4 @@
--- What writes of clocks keep beside the clocks.
+-- For a law alone. What writes of clocks keep beside the clocks.
 use Rattle.std.specs.Prelude.{◌≡◌, ℕ, Ok}
 use Rattle.qo_model.specs.Board.{Board}
 use Rattle.qo_model.specs.ClockChanges.{clock_scaled, clock_set}

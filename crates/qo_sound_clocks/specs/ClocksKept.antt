@@ -1,4 +1,4 @@
--- What keeps the clocks of a board sound.
+-- For a law alone. What keeps the clocks of a board sound.
 use Rattle.std.specs.Prelude.{◌≡◌, ℕ, Bool, List, Ok}
 use Rattle.qo_values.specs.declared.kinds.Act.{Act}
 use Rattle.qo_values.specs.declared.kinds.TypeId.{TypeId}

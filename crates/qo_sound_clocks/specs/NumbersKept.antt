@@ -1,4 +1,4 @@
--- What keeps the numbers of clocks as wide as their properties.
+-- For a law alone. What keeps the numbers of clocks as wide as their properties.
 use Rattle.std.specs.Prelude.{◌≡◌, ℕ, ◌<◌, ◌^◌, List, Ok}
 use Rattle.qo_values.specs.declared.kinds.Act.{Act}
 use Rattle.qo_model.specs.Board.{Board}

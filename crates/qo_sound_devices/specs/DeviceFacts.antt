@@ -1,4 +1,4 @@
--- What the soundness of devices says of them, in the words of the tree.
+-- For a law alone. What the soundness of devices says of them, in the words of the tree.
 use Rattle.std.specs.Prelude.{◌≡◌, ℕ, ◌≤◌, ◌<◌, true, Some, codes, List}
 use Rattle.qo_values.specs.declared.limits.TheConstants.{BUS_DEPTH_MAX, BUS_SLOTS}
 use Rattle.qo_model.specs.Board.{Board}

@@ -1,4 +1,4 @@
--- Runs of a board: commands on objects, devices that come and go, what the guest answers, acts, holds and resets.
+-- For a law alone. Runs of a board: commands on objects, devices that come and go, what the guest answers, acts, holds and resets.
 use Rattle.std.specs.Prelude.{ℕ, Bool, if◌then◌else◌, List, [], ◌∷◌}
 use Rattle.qo_values.specs.declared.kinds.Act.{Act}
 use Rattle.qo_values.specs.declared.kinds.TypeId.{TypeId}

@@ -1,4 +1,4 @@
--- What keeps a board sound as far as devices go.
+-- For a law alone. What keeps a board sound as far as devices go.
 use Rattle.std.specs.Prelude.{◌≡◌, ℕ, Bool, true, List, ◌∷◌}
 use Rattle.qo_values.specs.declared.kinds.Act.{Act}
 use Rattle.qo_values.specs.declared.kinds.TypeId.{TypeId}

@@ -1,4 +1,4 @@
--- What keeps the lists of pending removals and of notices sound.
+-- For a law alone. What keeps the lists of pending removals and of notices sound.
 use Rattle.std.specs.Prelude.{◌≡◌, ℕ, Bool, true, List, ◌∷◌}
 use Rattle.qo_values.specs.declared.kinds.TypeId.{TypeId}
 use Rattle.qo_model.specs.Board.{Board, Notice}

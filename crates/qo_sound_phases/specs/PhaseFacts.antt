@@ -1,4 +1,4 @@
--- What the soundness of phases says of objects.
+-- For a law alone. What the soundness of phases says of objects.
 use Rattle.std.specs.Prelude.{◌≡◌, ℕ, true, nat_eq, List, [], ◌∷◌, Some}
 use Rattle.std.specs.List.{IsDistinct}
 use Rattle.qo_values.specs.declared.births.TheConstants.{MEMORY_BUS_BIRTH, ROOT_BUS_BIRTH}

@@ -1,4 +1,4 @@
--- What the shape of objects says of their properties (include/qom/object.h: properties, child and link).
+-- For a law alone. What the shape of objects says of their properties (include/qom/object.h: properties, child and link).
 use Rattle.std.specs.Prelude.{◌≡◌, ℕ, true, List, [], ◌∷◌, codes, Option, Some}
 use Rattle.std.specs.List.{AllByRecursion}
 use Rattle.qo_values.specs.declared.kinds.TypeId.{TypeId}

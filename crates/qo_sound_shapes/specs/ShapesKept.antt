@@ -1,4 +1,4 @@
--- What keeps the objects of a board shaped as their types say.
+-- For a law alone. What keeps the objects of a board shaped as their types say.
 use Rattle.std.specs.Prelude.{◌≡◌, ℕ, ◌<◌, ◌^◌, Bool, true, List, Some, Ok}
 use Rattle.qo_values.specs.Bodies.{Effect, body_write}
 use Rattle.qo_values.specs.Registers.{Registers}

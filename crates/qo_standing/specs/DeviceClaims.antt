@@ -1,4 +1,4 @@
--- The claims of a device: on its id, if it has one, and those that its body keeps.
+-- For proofs alone. The claims of a device: on its id, if it has one, and those that its body keeps.
 use Rattle.std.specs.Prelude.{◌≡◌, ℕ, List, [], ◌∷◌, ◌++◌, Option, Some, None, option_map}
 use Rattle.qo_claims.specs.Lists.{bus_slot}
 use Rattle.qo_claims.specs.declared.claims.Claimed.{Claimed}

@@ -1,4 +1,4 @@
--- The slots of an object that are its own.
+-- For proofs alone. The slots of an object that are its own.
 use Rattle.std.specs.Prelude.{ℕ, Bool, true, false, List, filter}
 use Rattle.qo_object.specs.declared.slots.Slot.{Slot}
 use Rattle.qo_object.specs.declared.slots.Slot.TheVariants.{Plain, Link}

@@ -1,5 +1,5 @@
--- A device takes its place: its container and its bus have it, its own slots have what was given, and it keeps its claims (include/hw/qdev-core.h;
--- docs/devel/qom.rst).
+-- For proofs alone. A device takes its place: its container and its bus have it, its own slots have what was given, and it keeps its claims
+-- (include/hw/qdev-core.h; docs/devel/qom.rst).
 use Rattle.std.specs.Prelude.{◌≡◌, ℕ, true, if◌then◌else◌, List, [], ◌∷◌, Option, Some, option_map, ⊤}
 use Rattle.qo_claims.specs.Book.{ClaimsTaken}
 use Rattle.qo_values.specs.declared.kinds.TypeId.TheVariants.{Device}

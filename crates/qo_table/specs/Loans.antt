@@ -1,4 +1,4 @@
--- What a table of objects ends as, where a `&mut` to one of its objects is returned.
+-- For proofs alone. What a table of objects ends as, where a `&mut` to one of its objects is returned.
 use Rattle.std.specs.Borrow.{Lends, Fml, RattleType, MutBor}
 use Rattle.qo_slots.specs.declared.keys.Key.{Key}
 use Rattle.qo_table.specs.Rows.{Rows, edit}

@@ -1,4 +1,4 @@
--- The rows that a table of slots has, in the order of a list of names.
+-- For proofs alone. The rows that a table of slots has, in the order of a list of names.
 use Rattle.std.specs.Prelude.{ℕ, suc, Bool, if◌then◌else◌, ◌≡◌, List, [], ◌∷◌, length, map, filter_map, option_map}
 use Rattle.std.specs.List.{AllByRecursion}
 use Rattle.qo_slots.specs.declared.keys.Key.{Key}

@@ -1,4 +1,4 @@
--- What contracts see of a table of objects: each object with its name, in the order of births.
+-- For proofs alone. What contracts see of a table of objects: each object with its name, in the order of births.
 use Rattle.std.specs.Prelude.{◌≡◌, ℕ, ◌<◌, ◌≤◌, ◌==◌, Bool, not, if◌then◌else◌, List, [], ◌∷◌, map, filter, find, Option, IsSomeAnd, option_map, refl}
 use Rattle.std.specs.Coded.{Coded, code_by, coded×, coded_ℕ, coded_list}
 use Rattle.qo_slots.specs.declared.keys.Key.{Key}

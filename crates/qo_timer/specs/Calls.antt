@@ -1,4 +1,4 @@
--- Lists of a timer's calls.
+-- For a law alone. Lists of a timer's calls.
 use Rattle.std.specs.Prelude.{ℕ, Bool, true, false, not, ◌&&◌, ◌||◌, List, [], ◌∷◌, unwrap_or}
 use Rattle.qo_values.specs.Registers.{TimerRegisters}
 use Rattle.qo_values.specs.Timer.{timer_enter, timer_hold, timer_pre, timer_update, timer_halt, timer_write}

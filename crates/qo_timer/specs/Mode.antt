@@ -1,4 +1,4 @@
--- A timer's registers in terms of what the code keeps of its segments.
+-- For proofs alone. A timer's registers in terms of what the code keeps of its segments.
 use Rattle.std.specs.Prelude.{ℕ, Bool, true, false, Option, Some, None}
 use Rattle.qo_timer.specs.declared.timer.Mode.{Mode}
 use Rattle.qo_timer.specs.declared.timer.Mode.TheVariants.{Disabled, Open}

@@ -1,4 +1,4 @@
--- The segments that a list of a timer's calls marks out: the spans in which the timer was enabled under one period.
+-- For a law alone. The segments that a list of a timer's calls marks out: the spans in which the timer was enabled under one period.
 use Rattle.std.specs.Prelude.{ℕ, ◌%◌, Bool, true, false, ◌==◌, if◌then◌else◌, List, [], ◌∷◌, ◌++◌}
 use Rattle.std.specs.List.{list_any}
 use Rattle.qo_timer.specs.Calls.{TimerCall, enter, pre, update, halt, write}

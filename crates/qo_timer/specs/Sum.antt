@@ -1,4 +1,4 @@
--- The law of a timer: what it counts is the sum over its segments.
+-- For a law alone. The law of a timer: what it counts is the sum over its segments.
 use Rattle.std.specs.Prelude.{◌≡◌, ℕ, ◌-◌, true, false, List, sum_by}
 use Rattle.qo_values.specs.Registers.{fresh_timer}
 use Rattle.qo_values.specs.Timer.{span_ticks, timer_ticks}

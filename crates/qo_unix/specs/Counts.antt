@@ -1,4 +1,4 @@
--- What a hub over a Unix socket counts.
+-- For proofs alone. What a hub over a Unix socket counts.
 use Rattle.std.specs.Prelude.{ℕ, Result, Ok, Err}
 use Rattle.qo_causes.specs.Cause.{counted}
 use Rattle.qo_causes.specs.declared.hubs.NextError.{NextError}

@@ -1,4 +1,4 @@
--- What a hub over a Unix socket gives.
+-- For proofs alone. What a hub over a Unix socket gives.
 use Rattle.std.specs.Prelude.{◌≡◌, ◌≤◌, ◌<◌, length, Result, Ok, Err}
 use Rattle.qo_causes.specs.declared.hubs.NextError.{NextError}
 use Rattle.qo_causes.specs.declared.hubs.NextError.TheVariants.{Failed as NextFailed, Bad, Memory}

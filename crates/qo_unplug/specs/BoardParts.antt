@@ -1,4 +1,4 @@
--- A heap, the holds, and what is asked of the guest, as parts of one board.
+-- For proofs alone. A heap, the holds, and what is asked of the guest, as parts of one board.
 use Rattle.std.specs.Prelude.{◌≡◌, ℕ, List}
 use Rattle.qo_model.specs.Board.{Board}
 use Rattle.qo_hotplug.specs.Hotplug.{Asked}

@@ -1,4 +1,4 @@
--- How what is below a device is taken apart.
+-- For proofs alone. How what is below a device is taken apart.
 use Rattle.std.specs.Prelude.{ℕ, ◌+◌, ◌≤◌, ◌^◌, ◌==◌, length, count_by}
 use Rattle.qo_model.specs.Board.{Board, slots_at}
 use Rattle.qo_model.specs.Devices.{buses_of, kids_of}

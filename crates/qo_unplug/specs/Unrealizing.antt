@@ -1,4 +1,4 @@
--- How the parts of a board are unrealized: what stays of a board meanwhile, and each step to a depth.
+-- For proofs alone. How the parts of a board are unrealized: what stays of a board meanwhile, and each step to a depth.
 use Rattle.std.specs.Prelude.{◌≡◌, ℕ, List, map, take, filter_map, slice_get, Option, None, Some}
 use Rattle.std.specs.List.{AllByRecursion, IsDistinct}
 use Rattle.std.specs.Option.{option_and_then}

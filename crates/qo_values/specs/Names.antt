@@ -1,4 +1,4 @@
--- The names of slots.
+-- For proofs alone. The names of slots.
 use Rattle.std.specs.Prelude.{◌≡◌, ℕ, ◌≤◌, Bool, ◌&&◌, not, ◌==◌, nat_le, List, length, true}
 use Rattle.std.specs.List.{list_all}
 use Rattle.qo_values.specs.declared.limits.TheConstants.{NAME_MAX}

@@ -1,4 +1,4 @@
--- Lists of properties, whose names rise in byte order.
+-- For proofs alone. Lists of properties, whose names rise in byte order.
 use Rattle.std.specs.Prelude.{ℕ, Bool, List, map}
 use Rattle.std.specs.Cmp.Lexicographic.{slice_cmp}
 use Rattle.std.specs.List.{list_all}
