@@ -1,0 +1,141 @@
+#!/usr/bin/env python3
+"""Checks docs/READING.md: that its rows count the lines of their files, that each further file of specs/ says in its
+first line what it is for, and that the list is closed: what the contracts of the headline name, and what these
+definitions name in turn, is read. It prints nothing where all is well."""
+
+import pathlib
+import re
+import sys
+
+TOP = pathlib.Path(__file__).resolve().parent.parent
+ROW = re.compile(r"^\| `(\w+)`: `(\w+)`(?:, only ([^|]*?))? \| (\d+) \|", re.M)
+MARKS = ("For proofs alone.", "For a law alone.", "; for proofs alone.")
+
+# The calls whose contracts are the headline, by their files.
+HEADLINE = {
+    "crates/compose/src/calls.rt": ["compose"],
+    "crates/qo_machine/src/machines.rt": ["start", "step"],
+    "crates/qo_machine/src/running.rt": ["run"],
+    "crates/qo_machine/src/laws.rt": ["law_lanes", "law_chunks", "law_final_once", "law_cycle", "law_sound", "law_phases"],
+}
+# How a machine of the code keeps a state: no message depends on it.
+KEPT = ("qo_realize", "Representation"), ("qo_realize", "Parts")
+
+USE = re.compile(r"^(?: *ghost |pub )? *use Rattle\.(\w+)\.specs\.(\w+)\.\{([^}]*)\}", re.M)
+ALIAS = re.compile(r"^(?: *ghost |pub )? *use Rattle\.(\w+)\.specs\.(\w+) as (\w+)", re.M)
+HEAD = re.compile(r"^(?:(?:abbrev|unfoldable|opaque|pub|record|data) )*([^\s:(){]+)")
+WORD = re.compile(r"[^\s(){}\[\],;→λ×≡⊎:]+")
+
+
+class Module:
+    """A file of specs/: its definitions by name, each with its text, and where its other names come from."""
+
+    def __init__(self, path):
+        lines = path.read_text(encoding="utf-8").splitlines()
+        self.first = lines[0]
+        self.count = sum(1 for it in lines if it.strip() and not it.startswith("use "))
+        self.names, self.aliases = imports("\n".join(lines))
+        self.texts, self.sizes = {}, {}
+        name, notes = None, 0
+        for line in lines:
+            if line.startswith("--"):
+                name, notes = None, notes + 1
+            elif not line.strip() or re.match(r"(pub )?use ", line):
+                notes = 0
+            elif not HEAD.match(line):
+                if name:
+                    self.add(name, line, 0)
+            elif not line.startswith("unfolding"):
+                name = HEAD.match(line)[1]
+                self.add(name, line, notes)
+                notes = 0
+
+    def add(self, name, line, notes):
+        self.texts[name] = self.texts.get(name, "") + "\n" + re.sub(r"\s--\s.*", "", line)
+        self.sizes[name] = self.sizes.get(name, 0) + notes + 1
+
+
+def imports(text):
+    """The names that a text uses from modules, each with its module and its name there, and the modules by alias."""
+    names = {}
+    for crate, module, listed in USE.findall(text):
+        for item in listed.split(","):
+            there, _, here = item.strip().partition(" as ")
+            names[here or there] = ((crate, module), there)
+    return names, {alias: (crate, module) for crate, module, alias in ALIAS.findall(text)}
+
+
+def named(text, names, aliases, own, modules):
+    """The definitions that a text names, as pairs of a module and a name."""
+    found = set()
+    for word in set(WORD.findall(text)):
+        head, _, rest = word.partition(".")
+        if head in aliases and rest:
+            found.add((aliases[head], rest.partition(".")[0]))
+        if head in names:
+            found.add(names[head])
+        elif own:
+            found.add((own, head))
+    holes = [it for it in names if "◌" in it and all(part in text for part in it.split("◌") if part)]
+    found.update(names[it] for it in holes)
+    if own:
+        found.update((own, it) for it in modules[own].texts if "◌" in it and all(part in text for part in it.split("◌") if part))
+    return {(module, name) for module, name in found if module in modules and name in modules[module].texts}
+
+
+def clauses(path, calls):
+    """The clauses of some public calls of a file."""
+    text = (TOP / path).read_text(encoding="utf-8")
+    for match in re.finditer(r"(?ms)^( *)pub fn (\w+).*?^\1\{", text):
+        if match[2] in calls:
+            yield "\n".join(re.findall(r"(?m)^ *(?:requires|ensures)[^\n]*$", match[0])), imports(text)
+
+
+def rested_on(modules):
+    """The definitions that the headline rests on."""
+    todo = set()
+    for path, calls in HEADLINE.items():
+        for text, (names, aliases) in clauses(path, calls):
+            todo |= named(text, names, aliases, None, modules)
+    seen = set()
+    while todo:
+        module, name = one = todo.pop()
+        if one not in seen and module not in KEPT:
+            seen.add(one)
+            it = modules[module]
+            todo |= named(it.texts[name], it.names, it.aliases, module, modules) - seen
+    return seen
+
+
+def main():
+    """Prints what is wrong, and returns the exit status."""
+    paths = [it for it in sorted(TOP.glob("crates/*/specs/*.antt")) if it.stem != "Lib"]
+    modules = {(it.parent.parent.name, it.stem): Module(it) for it in paths}
+    text = (TOP / "docs/READING.md").read_text(encoding="utf-8")
+    wrong, read = [], {}
+    for crate, name, only, count in ROW.findall(text):
+        module = modules[crate, name]
+        words = re.findall(r"`([^`]+)`", only) or list(module.texts)
+        size = sum(module.sizes[it] for it in words) if only else module.count
+        read[crate, name] = words
+        if size != int(count):
+            wrong.append(f"{crate}: {name} has {size} lines, and not {count}")
+    for part in text.split("\n## ")[1:]:
+        size = sum(int(count) for *_, count in ROW.findall(part))
+        if f" {size:,} lines." not in part:
+            wrong.append(f"{part.splitlines()[0]}: {size:,} lines")
+    size = sum(int(count) for *_, count in ROW.findall(text))
+    if f"The whole is {size:,} lines in {len(read)} files;" not in text:
+        wrong.append(f"the whole is {size:,} lines in {len(read)} files")
+    for (crate, name), module in modules.items():
+        if (crate, name) not in read and not any(mark in module.first for mark in MARKS):
+            wrong.append(f"{crate}: {name} is not read, and does not say what it is for")
+    for (crate, module), name in sorted(rested_on(modules)):
+        if name not in read.get((crate, module), ()):
+            wrong.append(f"{crate}: {module} has {name}, on which the headline rests, and which is not read")
+    print("\n".join(wrong), end="\n" if wrong else "")
+    return 1 if wrong else 0
+
+
+if __name__ == "__main__":
+    sys.exit(main())
