@@ -598,9 +598,14 @@ class Maker:
         self.end()
 
 
+def as_bytes(line):
+    """An input whose end is a blank, which a session's line would lose, as the bytes that are sent."""
+    return f"raw g {line.removeprefix('g-> ')}\\n" if line.startswith("g-> ") and line.endswith(" ") else line
+
+
 def difference(maker):
     """The first message in which the program differs from the plain machine, or None."""
-    record = QREC.write(maker.lines)
+    record = QREC.write([as_bytes(it) for it in maker.lines])
     done = subprocess.run([PROGRAM, "replay"], input=record, capture_output=True, check=False)
     wanted = [f"{it}\n" if it.startswith("g ") else f"{it}\r\n" for it in maker.machine.transcript]
     got = [it.decode("latin-1") for it in done.stdout.splitlines(keepends=True)]

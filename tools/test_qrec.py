@@ -48,7 +48,7 @@ def test_refusals():
         assert (status, out) == (3, b"") and told.startswith(f"qrec: line {text.count(chr(10)) + 1}: ".encode()), text
     for record, place in NO_ENTRIES:
         status, _, told = run("read", record)
-        assert (status, told) == (3, f"qrec: bad record at byte {place}\n".encode()), record
+        assert status == 3 and told.startswith(f"qrec: bad record at byte {place}: ".encode()), record
     assert subprocess.run([TOP / "tools" / "qrec"], capture_output=True, check=False).returncode == 2
 
 
