@@ -1,0 +1,4 @@
+pub mod Levels
+pub mod Nets
+pub mod Spreads
+pub mod WiresLemmas

@@ -1,0 +1,9 @@
+pub mod FindLemmas
+pub mod FlatLemmas
+pub mod JoinLemmas
+pub mod MapLemmas
+pub mod MergeLemmas
+pub mod RankLemmas
+pub mod ShowLemmas
+pub mod SpansLemmas
+pub mod TopLemmas

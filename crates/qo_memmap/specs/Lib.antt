@@ -1,0 +1,7 @@
+pub mod Answers
+pub mod Joins
+pub mod Laws
+pub mod Merges
+pub mod Regions
+pub mod Spans
+pub mod Windows
