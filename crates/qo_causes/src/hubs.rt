@@ -73,6 +73,9 @@ pub trait Hub {
     // How often each session was lost.
     ghost losses: { Self → ℕ → ℕ };
 
+    // What a hub says of its own state once `next` has answered Failed.
+    ghost starved: { Self → Type 0 };
+
     // What else a hub says of an earlier and a later state of its own.
     ghost later: { Self → Self → Type 0 };
 
@@ -104,6 +107,7 @@ pub trait Hub {
         ensures next_count { next_faults self.old ≤ next_faults self.new }
         ensures cause { OnNextFailed result (Rose (next_faults self.old) (next_faults self.new)) }
         ensures quiet { ButNextFailed result (next_faults self.new ≡ next_faults self.old) }
+        ensures starved { OnNextFailed result (starved self.new) }
         ensures send_count { send_faults self.new ≡ send_faults self.old }
         ensures losses { SameCounts (losses self.old) (losses self.new) }
         ensures later { later self.old self.new };

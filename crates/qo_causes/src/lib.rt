@@ -8,6 +8,7 @@ mod edge;
 mod faults;
 mod hubs;
 mod inputs;
+pub mod laws;
 mod script_hub;
 mod shelves;
 mod sinks;

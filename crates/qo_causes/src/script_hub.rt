@@ -207,6 +207,8 @@ impl Hub for ScriptHub {
 
     ghost losses = { λ h t. slice_index_or h.losses t 0 };
 
+    ghost starved = { λ _. Unit {0} };
+
     ghost later = { λ _ _. Unit {0} };
 
     /// Keeps the path and the number as asked. It fails where `begin` answered Ok before, and where the path is

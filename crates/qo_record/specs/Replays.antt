@@ -3,8 +3,9 @@ use Rattle.std.specs.Prelude.{ℕ, ◌≡◌, ◌+◌, ◌-◌, ◌^◌, min, Bo
 use Rattle.std.proofs.Common.{refl, sym, ◌∙◌, ap, append_assoc}
 use Rattle.std.specs.Io.KnownBytes.{prepend_known}
 use Rattle.qo_causes.specs.declared.inputs.Input.{Input}
+use Rattle.qo_record.specs.PartialEntries.{is_wrong}
 use Rattle.qo_record.specs.Reading.{after_front}
-use Rattle.qo_record.specs.Record.{Read, bad_place, entries_from, stopped, stream_inputs}
+use Rattle.qo_record.specs.Record.{Read, bad_place, entries_from, entry_at, stopped, stream_inputs}
 use Rattle.qo_record.specs.Spelling.{header, none_open}
 
 -- a place as it is told: as 2^64 - 1 where it is further on
@@ -30,6 +31,19 @@ unread = record { held = []; headed = false; place = 0; opened = none_open }
 -- the bytes ahead of a stream whose source has so many left, where it tells them
 abbrev pub ahead_of : List ℕ → Option (List ℕ) → Option (List ℕ)
 ahead_of held left = option_map (λ more. held ++ more) left
+
+-- neither a whole entry nor a wrong one is held
+pub record NoneHeld (opened : List Bool) (held : List ℕ) : Type 0 where
+  pub whole : entry_at opened held ≡ None
+  pub wrong : is_wrong opened held ≡ false
+
+-- what was held where the source failed: no entry after the header, and before it no header; so nothing was asked for that was there
+abbrev pub StarvedWith : Bool → List Bool → List ℕ → Type 0
+StarvedWith true opened held = NoneHeld opened held
+StarvedWith false opened held = after_front header held ≡ None
+
+abbrev pub IsStarved : Progress → Type 0
+IsStarved p = StarvedWith p.headed p.opened p.held
 
 -- a hub over a source and a sink, and how far its stream was read
 pub record Replaying (S K : Type 0) : Type 0 where

@@ -7,7 +7,7 @@ use Rattle.qo_causes.specs.declared.hubs.NextError.TheVariants.{Failed as NextFa
 use Rattle.qo_causes.specs.declared.inputs.Input.{Input}
 use Rattle.qo_record.specs.Reading.{after_front}
 use Rattle.qo_record.specs.Record.{entry_at}
-use Rattle.qo_record.specs.Replays.{ahead_of}
+use Rattle.qo_record.specs.Replays.{NoneHeld, ahead_of}
 use Rattle.qo_record.specs.Spelling.{header, opened_by}
 use Rattle.qo_record.specs.declared.entries.First.{First}
 use Rattle.qo_record.specs.declared.readers.Front.{Front}
@@ -53,7 +53,7 @@ HeaderIn bytes Short = (after_front header bytes ≡ None) × (length bytes ≤ 
 abbrev pub HeaderFound : {E : Type 0} → List ℕ → Option (List ℕ) → Result Bool E → Type 0
 HeaderFound held left (Ok true) = BeginsWithHeader held
 HeaderFound held left (Ok false) = IfSome (ahead_of held left) (λ bytes. after_front header bytes ≡ None)
-HeaderFound held left (Err e) = Unit {0}
+HeaderFound held left (Err e) = after_front header held ≡ None
 
 -- it is the first entry of some bytes, while these sessions are open
 pub record IsFirst (opened : List Bool) (bytes : List ℕ) (f : First) : Type 0 where
@@ -65,12 +65,12 @@ pub record IsFirst (opened : List Bool) (bytes : List ℕ) (f : First) : Type 0 
 abbrev pub NoEntry : List Bool → List ℕ → List ℕ → Type 0
 NoEntry opened held left = (entry_at opened (held ++ left) ≡ None) × (held ≡ [] → left ≡ [])
 
--- the first entry is held, or none stands ahead
+-- the first entry is held, or none stands ahead; where the source failed neither a whole entry nor a wrong one was held
 abbrev pub EntryFound : List Bool → List ℕ → Option (List ℕ) → Result (Option First) NextError → Type 0
 EntryFound opened held left (Ok (Some f)) = IsFirst opened held f
 EntryFound opened held left (Ok None) = IfSome left (NoEntry opened held)
 EntryFound opened held left (Err (Bad n)) = ⊥
-EntryFound opened held left (Err NextFailed) = Unit {0}
+EntryFound opened held left (Err NextFailed) = NoneHeld opened held
 EntryFound opened held left (Err Memory) = Unit {0}
 
 -- the count of faults rose where the source failed, and is as before where it did not

@@ -1,5 +1,7 @@
 //! What holds of the definitions alone: how a recorded stream is read.
 
+ghost use Rattle.std.specs.Prelude.{◌≡◌};
+ghost use Rattle.qo_record.specs.declared.windows.TheConstants.{AHEAD_BYTES};
 ghost use Rattle.qo_record.specs.Laws.{DemosAreRead, EntriesAreSpelled, FirstDraw, HeaderIsNeeded, InputsAreFew, SpelledStreamsAreRead, StreamsAreLongest};
 
 /// An entry is read exactly where it is spelled and may stand, whatever follows it.
@@ -31,4 +33,9 @@ pub fn law_inputs()
 pub fn law_demos()
     ensures read { DemosAreRead }
     ensures first { FirstDraw }
+{}
+
+/// How far a hub over a source reads ahead, in bytes: fewer than these are held.
+pub fn law_ahead()
+    ensures { AHEAD_BYTES ≡ 65700 }
 {}

@@ -1,9 +1,9 @@
 //! How a recorded stream is read from a source, entry by entry.
 
-ghost use Rattle.std.specs.Prelude.{◌≡◌, ◌≤◌, ℕ, List, Option, Some, None, Ok, false, true, ◌∷◌, length, option_map, IfOk, OnOk};
+ghost use Rattle.std.specs.Prelude.{◌≡◌, ◌≤◌, ℕ, List, Option, Some, None, Ok, false, true, ◌∷◌, length, option_map, IfOk, OnErr, OnOk};
 ghost use Rattle.qo_causes.specs.Cause.{HasCause, Rose};
 ghost use Rattle.qo_causes.specs.Hub.{AtEnd, ButNextFailed, NextGives, OnNextFailed, is_end};
-ghost use Rattle.qo_record.specs.Replays.{Went, ahead_of, bad_ahead, inputs_ahead, unread};
+ghost use Rattle.qo_record.specs.Replays.{IsStarved, Went, ahead_of, bad_ahead, inputs_ahead, unread};
 ghost use Rattle.qo_record.specs.Windows.{BeginsWithHeader, EntryFound, HeaderFound, HeaderIn, IsFirst, LookedFor, More};
 ghost use Rattle.qo_record.specs.declared.windows.TheConstants.{ROOM};
 
@@ -172,6 +172,7 @@ impl Reader {
     /// Reads the header, unless it was read before, and answers whether it is there.
     fn head<S: Source>(&mut self, source: &mut S) -> Result<bool, Failed>
         ensures headed { result ≡ Ok true → self.new.headed ≡ true }
+        ensures starved { OnErr result (IsStarved self.new) }
         ensures none { result ≡ Ok false → AtEnd (inputs_ahead self.new (S.left source.new)) (bad_ahead self.new (S.left source.new)) (Some 0) }
         ensures inputs { inputs_ahead self.new (S.left source.new) ≡ inputs_ahead self.old (S.left source.old) }
         ensures bad { bad_ahead self.new (S.left source.new) ≡ bad_ahead self.old (S.left source.old) }
@@ -218,6 +219,7 @@ impl Reader {
         ensures count { S.faults source.old ≤ S.faults source.new }
         ensures cause { OnNextFailed result (Rose (S.faults source.old) (S.faults source.new)) }
         ensures quiet { ButNextFailed result (S.faults source.new ≡ S.faults source.old) }
+        ensures starved { OnNextFailed result (IsStarved self.new) }
     {
         match find_entry(self.alloc, &self.opened, &mut self.window, source) {
             Ok(Some(first)) => Ok(self.pass_entry(first)),
@@ -241,6 +243,7 @@ impl Reader {
         ensures count { S.faults source.old ≤ S.faults source.new }
         ensures cause { OnNextFailed result (Rose (S.faults source.old) (S.faults source.new)) }
         ensures quiet { ButNextFailed result (S.faults source.new ≡ S.faults source.old) }
+        ensures starved { OnNextFailed result (IsStarved self.new) }
     {
         match self.head(source) {
             Ok(true) => self.next_entry(source),

@@ -1,7 +1,7 @@
 //! A recorded stream that is read from a source as a hub, whose transcript goes into a sink.
 
 ghost use Rattle.std.specs.Prelude.{◌≡◌, ◌<◌, None, length, IfErr, IfOk};
-ghost use Rattle.qo_record.specs.Replays.{Went, bad_ahead, inputs_ahead, unread, went_nowhere, went_then};
+ghost use Rattle.qo_record.specs.Replays.{IsStarved, Went, bad_ahead, inputs_ahead, unread, went_nowhere, went_then};
 ghost use Rattle.qo_record.specs.declared.windows.TheConstants.{AHEAD_BYTES};
 
 use crate::lines::put_message;
@@ -94,6 +94,9 @@ impl<S: Source, K: Sink> Hub for ReplayHub<S, K> {
     ghost send_faults = { λ h. K.faults h.sink };
 
     ghost losses = { λ _ _. 0 };
+
+    // Nothing that was held could be given: no entry, and no wrong one.
+    ghost starved = { λ h. IsStarved h.read };
 
     // Whole entries were given, and nothing else became of what was ahead.
     ghost later = { λ a b. Went a.read b.read (S.left a.source) (S.left b.source) };

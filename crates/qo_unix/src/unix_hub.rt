@@ -2,7 +2,7 @@
 ghost use Rattle.std.specs.Prelude.{◌≡◌, ◌≤◌, ◌<◌, ◌==◌, ℕ, None, Err, IfOk, IfSome, if◌then◌else◌, length};
 ghost use Rattle.qo_causes.specs.Cause.{HasCause, counted};
 ghost use Rattle.qo_causes.specs.Hub.{GoneOnly, Loses, is_gone};
-ghost use Rattle.qo_unix.specs.Counts.{after_begin, after_next, after_send, none_counted, with_loss};
+ghost use Rattle.qo_unix.specs.Counts.{after_begin, after_next, after_send, none_counted, with_loss, IsDue, left_after};
 ghost use Rattle.qo_unix.specs.Inputs.{IsOurs, NeverBad, OfOneSession};
 ghost use Rattle.qo_unix.specs.declared.unix_hub.TheConstants.{CHUNK_BYTES};
 
@@ -38,6 +38,7 @@ pub struct UnixHub {
 }
 
 impl Model for UnixHub {
+    ghost use Rattle.std.specs.Prelude.{◌≡◌, false, is_some};
     ghost use Rattle.qo_unix.specs.Counts.{Counts};
 
     ghost Value = { Counts };
@@ -46,7 +47,10 @@ impl Model for UnixHub {
       next_faults = h.next_faults;
       send_faults = h.send_faults;
       losses = h.losses;
+      left = h.connections;
     } };
+
+    ghost invariant = { λ h. is_some h.listener ≡ false → h.connections ≡ 0 };
 }
 
 impl Drop for UnixHub {
@@ -128,7 +132,9 @@ impl UnixHub {
     fn wait(&mut self) -> Result<What, NextError>
         ensures ours { IfOk result OfOneSession }
         ensures not_bad { NeverBad result }
-        ensures counts { self.new ≡ self.old }
+        ensures counts { record self.new { left = self.old.left } ≡ self.old }
+        ensures left { IfOk result (λ w. self.new.left ≡ left_after self.old.left w) }
+        ensures due { IfOk result (λ w. IsDue self.old.left w) }
     {
         if let Some(peer) = &mut self.peer {
             let Ok(read) = read_chunk(self.rt.alloc(), peer) else {
@@ -147,7 +153,9 @@ impl UnixHub {
     fn wait_for_client(&mut self) -> Result<What, NextError>
         ensures ours { IfOk result OfOneSession }
         ensures not_bad { NeverBad result }
-        ensures counts { self.new ≡ self.old }
+        ensures counts { record self.new { left = self.old.left } ≡ self.old }
+        ensures left { IfOk result (λ w. self.new.left ≡ left_after self.old.left w) }
+        ensures due { IfOk result (λ w. IsDue self.old.left w) }
     {
         let Some(listener) = &self.listener else {
             return Ok(What::End);
@@ -169,7 +177,9 @@ impl UnixHub {
     fn wait_for_input(&mut self) -> Result<Input, NextError>
         ensures ours { IfOk result IsOurs }
         ensures not_bad { NeverBad result }
-        ensures counts { self.new ≡ self.old }
+        ensures counts { record self.new { left = self.old.left } ≡ self.old }
+        ensures left { IfOk result (λ i. self.new.left ≡ left_after self.old.left i.what) }
+        ensures due { IfOk result (λ i. IsDue self.old.left i.what) }
     {
         let what = self.wait()?;
         match now(&self.rt) {
@@ -207,6 +217,8 @@ impl Hub for UnixHub {
 
     ghost losses = { λ h s. if s == 0 then h.losses else 0 };
 
+    ghost starved = { λ _. Unit {0} };
+
     ghost later = { λ _ _. Unit {0} };
 
     /// Listens at the path, for so many clients.
@@ -216,7 +228,7 @@ impl Hub for UnixHub {
     /// listens already; what stands at the path is then left as it was.
     fn begin(&mut self, path: &str, connections: u32) -> Result<(), Failed>
         ensures cause { HasCause self.old.next_faults self.new.next_faults result }
-        ensures after { self.new ≡ after_begin self.old result }
+        ensures after { self.new ≡ after_begin self.old connections result }
     {
         if self.listener.is_none() {
             if let Ok(listener) = self.file.listen(&self.rt, path) {
@@ -239,7 +251,9 @@ impl Hub for UnixHub {
         ensures next_count { self.old.next_faults ≤ self.new.next_faults }
         ensures ours { IfOk result IsOurs }
         ensures not_bad { NeverBad result }
-        ensures after { self.new ≡ after_next self.old result }
+        ensures after { record self.new { left = self.old.left } ≡ after_next self.old result }
+        ensures left { IfOk result (λ i. self.new.left ≡ left_after self.old.left i.what) }
+        ensures due { IfOk result (λ i. IsDue self.old.left i.what) }
     {
         let given = self.wait_for_input();
         if let Err(NextError::Failed) = given {

@@ -4,6 +4,7 @@ pub mod Counts
 pub mod Dimm
 pub mod Ids
 pub mod Kinds
+pub mod Limits
 pub mod Names
 pub mod Placing
 pub mod PlainValues

@@ -7,6 +7,7 @@ mod codes;
 mod forms;
 mod ids;
 mod kinds;
+pub mod laws;
 mod limits;
 mod names;
 mod plain;
