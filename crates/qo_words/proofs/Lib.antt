@@ -1,0 +1,2 @@
+mod MatchLemmas
+pub mod WordLemmas
