@@ -1,5 +1,5 @@
 -- What an edit of one object leaves of the heap.
-use Rattle.std.proofs.Common.{◌≡◌, refl, ap, sym, subst, ◌∙◌, ℕ, zero, suc, Bool, true, false, cond, List, [], ◌∷◌, ◌++◌, length, filter_map, eqb, Option, Some, None, find, option_map, remove, is_some, slice_get, ◌||◌, Result, Ok, Err, OnErr, IfSome, IfNone, ◌+◌, ◌≤◌, ◌^◌, sum_by, count_by, arith}
+use Rattle.std.proofs.Common.{◌≡◌, refl, ap, sym, subst, ◌∙◌, ℕ, zero, suc, Bool, true, false, cond, List, [], ◌∷◌, ◌++◌, length, filter_map, eqb, Option, Some, None, find, option_map, remove, is_some, slice_get, ◌||◌, Result, Ok, Err, OnErr, IfSome, ◌+◌, sum_by, count_by, arith}
 use Rattle.std.specs.Option.{option_and_then, option_map_or}
 use Rattle.std.specs.List.{AllByRecursion, cons_option, list_any}
 use Rattle.qo_values.proofs.ListLemmas.{all-at, all-imply, found-has}
@@ -10,9 +10,9 @@ use Rattle.qo_object.specs.declared.slots.Slot.TheVariants.{Plain, Child, Link, 
 use Rattle.std.specs.Str.{bytes_eq}
 use Rattle.qo_object.specs.Slots.{Named, has_name, target_of, changed_at, let_go_at, pointed, with_val}
 use Rattle.qo_object.specs.Content.{Content, is_parent, with_path, with_slot, dropped_at, pointed_at, set_at, cut_at}
-use Rattle.qo_table.specs.Rows.{IsLive, Rows, births, edited, edit, is_at, object_at}
+use Rattle.qo_table.specs.Rows.{IsLive, births, edited, edit, is_at, object_at}
 use Rattle.qo_table.proofs.SearchLemmas.{found-live}
-use Rattle.qo_table.proofs.RowsLemmas.{edit-as, rises-higher}
+use Rattle.qo_table.proofs.RowsLemmas.{edit-as}
 use Rattle.qo_heap.specs.Objects.{HasPlaces, IsHeap, Objects, content_of, has_path, parent_of, slots_of, targets, with_edit}
 use Rattle.qo_events.specs.Queue.{Waiting, promised}
 use Rattle.qo_heap.proofs.BookLemmas.{sum-changed, sum-edit}
@@ -294,20 +294,3 @@ found-named {X = X} f o slots name b there is =
 -- the parent of an object is there
 pub parent-live : (v : Objects) → IsHeap v → (n : ℕ) (key : Key) → parent_of v n ≡ Some key → IsLive v.rows key
 parent-live v good n key e = found-live (λ (row : Key × Content). is_parent n row.1) 0 v.born v.rows key good.rising e
-
--- a heap of which births are passed over
-pub skipped-heap : (v : Objects) (u : Rows Content) (more : ℕ) (from : Option ℕ) → IsHeap v × HasPlaces v
-    → IfSome from (λ n. u ≡ record { rows = v.rows; born = v.born + more })
-    → IfNone from ((2 ^ 64 ≤ v.born + more) × (u ≡ record { rows = v.rows; born = v.born }))
-    → IsHeap (record v { rows = u.rows; born = u.born }) × HasPlaces (record v { rows = u.rows; born = u.born })
-skipped-heap v u more None good some none =
-    subst (λ (x : Rows Content). IsHeap (record v { rows = x.rows; born = x.born }) × HasPlaces (record v { rows = x.rows; born = x.born })) (sym none.1) good
-skipped-heap v u more (Some n) good is none =
-    subst (λ (x : Rows Content). IsHeap (record v { rows = x.rows; born = x.born }) × HasPlaces (record v { rows = x.rows; born = x.born })) (sym is) (
-      record {
-        rising = rises-higher 0 v.born (v.born + more) (births v.rows) (omega arith) good.0.rising;
-        few = good.0.few;
-        linked = good.0.linked;
-      },
-      good.1,
-    )

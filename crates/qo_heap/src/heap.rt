@@ -4,11 +4,10 @@ use crate::ends::{forget_all, free_all, note_end, tell_deleted};
 use crate::errors::MakeError;
 use qo_claims::Claims;
 use qo_events::Events;
-use qo_model::{Deed, Note};
 use qo_notes::NoteLog;
 use qo_object::{Object, Oid, Remains};
 use qo_table::{ObjectTable, Steps};
-use qo_values::{Act, LIVE_OBJECTS_MAX, TypeId};
+use qo_values::{LIVE_OBJECTS_MAX, TypeId};
 use std::alloc::{AllocError, Global};
 use std::marker::Model;
 use std::sync::ledger::Ledger;
@@ -57,15 +56,12 @@ impl Drop for Heap {
 }
 
 impl Heap {
-    ghost use Rattle.std.specs.Prelude.{◌≡◌, ◌+◌, ◌≤◌, ◌<◌, ◌^◌, [], ◌∷◌, ◌++◌, length, IfOk, IfSome, IfNone, OnErr, Err, Some, option_map};
-    ghost use Rattle.qo_values.specs.declared.kinds.Act.TheVariants.{Init};
-    ghost use Rattle.qo_model.specs.declared.notes.Deed.TheVariants.{Did};
-    ghost use Rattle.qo_notes.specs.Log.{noted_all};
+    ghost use Rattle.std.specs.Prelude.{◌≡◌, ◌+◌, ◌<◌, [], ◌∷◌, ◌++◌, length, IfOk, OnErr, Err, Some, option_map};
     ghost use Rattle.qo_heap.specs.Board.{Shows};
     ghost use Rattle.qo_model.specs.Board.{Board};
     ghost use Rattle.qo_object.specs.Content.{fresh, reference_count};
     ghost use Rattle.qo_table.specs.Rows.{IsLive};
-    ghost use Rattle.qo_heap.specs.Objects.{IsHeap, content_of, ended, final_notes, no_objects_made, refs_of, with_note};
+    ghost use Rattle.qo_heap.specs.Objects.{IsHeap, content_of, ended, no_objects_made, refs_of};
     ghost use Rattle.qo_heap.specs.declared.errors.MakeError.TheVariants.{Limit, Memory as NoMemory};
 
     /// A heap without objects. The error is want of memory.
@@ -118,36 +114,6 @@ impl Heap {
             Ok(oid) => Ok(oid),
             Err(_) => Err(MakeError::Memory),
         }
-    }
-
-    /// Uses up the next births, so many, for objects that end as soon as they are made, of which
-    /// nothing is seen but their notes. Answers the birth after which they come; `None` where fewer
-    /// are left below 2^64, and the heap is as it was then. It takes no memory.
-    pub fn skip(&mut self, births: u64) -> Option<u64>
-        ensures from { IfSome result (λ n. n ≡ self.old.born) }
-        ensures skipped { IfSome result (λ n. self.new ≡ record self.old { born = self.old.born + births }) }
-        ensures within { IfSome result (λ n. self.old.born + births < 2 ^ 64) }
-        ensures none { IfNone result ((2 ^ 64 ≤ self.old.born + births) × (self.new ≡ self.old)) }
-    {
-        self.table.skip(births)
-    }
-
-    /// Notes that the initializer of a type ran on the object of a birth. It takes no memory.
-    pub fn note_init(&mut self, birth: u64, of: TypeId)
-        ensures { self.new ≡ with_note (record { birth = birth; deed = Did (Init of) }) self.old }
-    {
-        self.log.add(Note {
-            birth,
-            deed: Deed::Did(Act::Init(of)),
-        });
-    }
-
-    /// Notes the end of the object of a birth, of a type: its final notes, derived first. It takes no
-    /// memory.
-    pub fn note_end(&mut self, birth: u64, kind: TypeId)
-        ensures { self.new ≡ record self.old { log = noted_all (final_notes birth kind) self.old.log } }
-    {
-        note_end(&mut self.log, birth, kind);
     }
 
     /// Ends an object to which nothing refers and that holds nothing: adds its final notes, derived

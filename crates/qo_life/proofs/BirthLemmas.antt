@@ -2,11 +2,17 @@
 use Rattle.std.proofs.Common.{◌≡◌, refl, ap, sym, ◌∙◌, ℕ, ◌+◌, ◌<◌, Bool, true, false, cond, List, [], ◌∷◌, ◌++◌, map, filter, length, drop, get_or, reverse, arith}
 use Rattle.std.proofs.lemmas.List.{append-nil, map-append, reverse-append, drop_more, drop_all}
 use Rattle.qo_values.specs.declared.kinds.TypeId.{TypeId}
+use Rattle.qo_values.specs.declared.kinds.Act.TheVariants.{Init}
+use Rattle.qo_kinds.specs.Bodies.{acted}
+use Rattle.qo_kinds.specs.declared.bodies.Body.{Body}
+use Rattle.qo_kinds.specs.declared.bodies.Body.TheVariants.{Uart, Timer, Dimm, Bridge, Bus, Clock, Backend, Plain}
+use Rattle.qo_object.specs.Content.{acted_at}
 use Rattle.qo_model.specs.declared.notes.Note.{Note}
 use Rattle.qo_model.specs.Types.{has_finalizer}
 use Rattle.qo_notes.specs.Log.{Log, noted_all}
 use Rattle.qo_notes.proofs.Logs.{parts_lem}
-use Rattle.qo_heap.specs.Objects.{Objects, with_note}
+use Rattle.qo_heap.specs.Objects.{Objects, with_edit, with_note}
+use Rattle.qo_heap.proofs.HeapLemmas.{edit-nothing}
 use Rattle.qo_life.specs.Life.{init_note, with_notes}
 
 -- the init notes for some types, the last first
@@ -26,7 +32,7 @@ inits_in-more n t ts = go (has_finalizer t)
     go false = sym (append-nil (inits_in n ts))
 
 -- no note more
-pub with_notes-none : (v : Objects) → with_notes [] v ≡ v
+with_notes-none : (v : Objects) → with_notes [] v ≡ v
 unfolding noted_all
 with_notes-none v = refl
 
@@ -35,12 +41,29 @@ pub with_notes-one : (note : Note) (v : Objects) → with_note note v ≡ with_n
 unfolding noted_all
 with_notes-one note v = refl
 
--- the note of a type that has an initializer, and of one that has none
-pub note-had : (n : ℕ) (t : TypeId) (v w : Objects) → has_finalizer t ≡ true → w ≡ with_note (init_note n t) v → w ≡ with_notes (one_init n t) v
-note-had n t v w has is = is ∙ with_notes-one (init_note n t) v ∙ ap (λ (b : Bool). with_notes (cond b (init_note n t ∷ []) []) v) (sym has)
+-- an initializer changes no register
+init-still : (t : TypeId) (time period : ℕ) (b : Body) → acted (Init t) time period b ≡ b
+init-still t time period (Uart u k) = refl
+init-still t time period (Timer u k) = refl
+init-still t time period (Dimm u k) = refl
+init-still t time period (Bridge raised holds k) = refl
+init-still t time period Bus = refl
+init-still t time period Clock = refl
+init-still t time period Backend = refl
+init-still t time period Plain = refl
 
-pub note-none : (n : ℕ) (t : TypeId) (v : Objects) → has_finalizer t ≡ false → v ≡ with_notes (one_init n t) v
-note-none n t v none = sym (with_notes-none v) ∙ ap (λ (b : Bool). with_notes (cond b (init_note n t ∷ []) []) v) (sym none)
+-- the initializer of a type that has one, and of one that has none
+pub init-had : (n : ℕ) (t : TypeId) (time period : ℕ) (v w : Objects) → has_finalizer t ≡ true
+    → w ≡ with_note (init_note n t) (with_edit n (acted_at (Init t) time period) v) → w ≡ with_notes (one_init n t) v
+init-had n t time period v w has is =
+    is
+    ∙ ap (with_note (init_note n t))
+    (edit-nothing n (acted_at (Init t) time period) (λ c. ap (λ (b : Body). record c { body = b }) (init-still t time period c.body)) v)
+    ∙ with_notes-one (init_note n t) v
+    ∙ ap (λ (b : Bool). with_notes (cond b (init_note n t ∷ []) []) v) (sym has)
+
+pub init-none : (n : ℕ) (t : TypeId) (v : Objects) → has_finalizer t ≡ false → v ≡ with_notes (one_init n t) v
+init-none n t v none = sym (with_notes-none v) ∙ ap (λ (b : Bool). with_notes (cond b (init_note n t ∷ []) []) v) (sym none)
 
 -- the notes of the types from a place on, and of the one before it
 pub inits-step : (n : ℕ) (ts : List TypeId) (left : ℕ) (d : TypeId) (first before after : Objects) → left < length ts

@@ -6,38 +6,41 @@ ghost use Rattle.qo_values.specs.declared.limits.TheConstants.{LIVE_OBJECTS_MAX}
 ghost use Rattle.qo_model.specs.Types.{has_finalizer};
 ghost use Rattle.qo_notes.specs.Log.{noted_all};
 ghost use Rattle.qo_object.specs.Content.{fresh};
+ghost use Rattle.qo_table.specs.Rows.{IsLive};
 ghost use Rattle.qo_heap.specs.declared.errors.MakeError.TheVariants.{Limit, Memory as NoMemory};
 ghost use Rattle.qo_life.specs.Life.{init_note, init_notes, with_notes};
 
 use qo_heap::{Heap, MakeError, Oid, Steps};
 use qo_types::TypeTable;
-use qo_values::TypeId;
+use qo_values::{Act, TypeId};
 use std::alloc::Global;
 use std::sync::ledger::Ledger;
 
-/// Notes that the initializer of a type ran on the object of a birth, where the type has one.
-fn note_init(heap: &mut Heap, birth: u64, of: TypeId)
-    ensures { heap.new ≡ with_notes (if has_finalizer of then init_note birth of ∷ [] else []) heap.old }
+/// Runs the initializer of a type on an object, where the type has one, and notes it.
+fn initialize<L: Ledger>(heap: &mut Heap, o: Oid, of: TypeId, steps: &mut Steps<L>)
+    requires { IsLive heap.old.rows o }
+    ensures { heap.new ≡ with_notes (if has_finalizer of then init_note o.birth of ∷ [] else []) heap.old }
 {
     if TypeTable::board().has_finalizer(of) {
-        heap.note_init(birth, of);
+        heap.act(o, Act::Init(of), 0, steps);
     }
 }
 
-/// Notes the initializers of the object of a birth, of a type, base first. It takes no memory.
-pub fn note_inits(heap: &mut Heap, birth: u64, kind: TypeId)
-    ensures { heap.new ≡ with_notes (init_notes birth kind) heap.old }
+/// Runs the initializers of a type on an object, base first, and notes them.
+fn initialize_whole<L: Ledger>(heap: &mut Heap, o: Oid, kind: TypeId, steps: &mut Steps<L>)
+    requires { IsLive heap.old.rows o }
+    ensures { heap.new ≡ with_notes (init_notes o.birth kind) heap.old }
 {
     let ancestry = TypeTable::board().ancestry(kind);
     let mut left = ancestry.len();
     while left > 0 {
         left -= 1;
-        note_init(heap, birth, ancestry[left]);
+        initialize(heap, o, ancestry[left], steps);
     }
 }
 
-/// Makes an object of a type, without slots and pinned once, of the next birth, and notes its
-/// initializers, base first (docs/devel/qom.rst, "The QEMU Object Model": `instance_init`). `Limit`
+/// Makes an object of a type, without slots and pinned once, of the next birth, and runs its
+/// initializers, base first, each of which is noted (docs/devel/qom.rst, "The QEMU Object Model": `instance_init`). `Limit`
 /// comes exactly at `LIVE_OBJECTS_MAX` live objects. An error leaves the heap as it was.
 pub fn create<L: Ledger>(
     heap: &mut Heap,
@@ -52,6 +55,7 @@ pub fn create<L: Ledger>(
     ensures err { OnErr result (heap.new ≡ heap.old) }
 {
     let o = heap.make(alloc, kind, steps)?;
-    note_inits(heap, o.birth, kind);
+    heap.facts();
+    initialize_whole(heap, o, kind, steps);
     Ok(o)
 }

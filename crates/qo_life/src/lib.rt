@@ -6,5 +6,5 @@
 mod birth;
 mod release;
 
-pub use birth::{create, note_inits};
+pub use birth::create;
 pub use release::{drop_hold, drop_pin, let_go};

@@ -9,7 +9,7 @@ use Rattle.qo_values.specs.declared.kinds.TypeId.{TypeId}
 use Rattle.qo_model.specs.Board.{Board, Record, Slot, plain, child, strong, weak, alias}
 use Rattle.qo_model.specs.Changes.{fresh}
 use Rattle.qo_model.specs.Objects.{Given, given_to, with_attempt}
-use Rattle.qo_model.specs.Plug.{cut_attempt, drafted, further_in, further_of, objects_in, plug_attempt, properties_made, with_new}
+use Rattle.qo_model.specs.Plug.{drafted, further_in, further_of, objects_in, plug_attempt, properties_made, with_new}
 use Rattle.qo_model.specs.Release.{edit, put_in_order, unpin}
 use Rattle.qo_model.specs.Types.{slots_of}
 use Rattle.qo_model.specs.declared.properties.Property.{Property}
@@ -136,42 +136,41 @@ module _ (b : Board) (t : TypeId) (sound : SoundTree b) where
   given-up props bus stage early = ap (λ (c : Board). unpin c (b.born + 1)) (given-is props)
       ∙ attempt-steps b t bus stage (made props (slots_of t)) held held-is early rest (draft-made props (slots_of t))
 
-  -- the first properties were made
-  cut-first : (props : List Given) (k : ℕ)
-      → unpin (edit (b.born + 1) (with_values b props) (properties_made (b.born + 1) t (take k (slots_of t)) (created b t))) (b.born + 1)
-      ≡ cut_attempt b t (suc (length (kinds_in (take k (slots_of t))))) true
-  cut-first props k =
-      let ps : List Property = take k (slots_of t) in
-      ap (λ (c : Board). unpin c (b.born + 1)) (made-is props ps)
-      ∙ cut-steps b t ps (drop k (slots_of t)) (made props ps) held held-is (take-drop k (slots_of t)) rest (draft-made props ps)
+  -- it has the further objects of its first properties, and is let go
+  module _ (k : ℕ) (c d : Board) (w : Objects) (is : d ≡ with_pins held c) (draft : IsDraft b (b.born + 1) t (kinds_in (take k (slots_of t))) c) where
+    pub cut-joined : Shows (unpin d (b.born + 1)) w → CutShort b t w
+    cut-joined s =
+        inr (
+          suc (length (kinds_in (take k (slots_of t)))),
+          true,
+          omega arith,
+          kinds-within k t,
+          subst (λ (e : Board). Shows e w)
+              (ap (λ (e : Board). unpin e (b.born + 1)) is
+              ∙ cut-steps b t (take k (slots_of t)) (drop k (slots_of t)) c held held-is (take-drop k (slots_of t)) rest draft) s,
+        )
 
-  -- and a further object, which has ended
-  cut-unjoined : (props : List Given) (k : ℕ) (p : Property) (u : TypeId) → slice_get (slots_of t) k ≡ Some p → p.role ≡ Child u
-      → unpin (edit (b.born + 1) (with_values b props) (with_attempt (properties_made (b.born + 1) t (take k (slots_of t)) (created b t)) u)) (b.born + 1)
-      ≡ cut_attempt b t (suc (suc (length (kinds_in (take k (slots_of t)))))) false
-  cut-unjoined props k p u at kind =
-      let ps : List Property = take k (slots_of t) in
-      ap (λ (c : Board). unpin (with_attempt c u) (b.born + 1)) (made-is props ps)
-      ∙ unjoined-ended b t ps p u (drop (suc k) (slots_of t)) (made props ps) held (split-at k (slots_of t) p at) kind held-is rest (draft-made props ps)
+    -- after a further object that was not joined, and has ended
+    pub cut-unjoined : (p : Property) (u : TypeId) → slice_get (slots_of t) k ≡ Some p → p.role ≡ Child u → Shows (unpin (with_attempt d u) (b.born + 1)) w
+        → CutShort b t w
+    cut-unjoined p u at kind s =
+        inr (
+          suc (suc (length (kinds_in (take k (slots_of t))))),
+          false,
+          omega arith,
+          (let le : suc (length (kinds_in (take k (slots_of t)))) ≤ length (further_of t) = kinds-more k (slots_of t) p u at kind in omega (arith, le)),
+          subst (λ (e : Board). Shows e w)
+              (ap (λ (e : Board). unpin (with_attempt e u) (b.born + 1)) is
+              ∙ unjoined-ended b t (take k (slots_of t)) p u (drop (suc k) (slots_of t)) c held (split-at k (slots_of t) p at) kind held-is rest draft) s,
+        )
 
   pub fell-short : (props : List Given) (v w x : Objects) → Fell b props (b.born + 1) t v w → Shows (edit (b.born + 1) (with_values b props) (created b t)) v
       → ((c : Board) → Shows c w → Shows (unpin c (b.born + 1)) x) → CutShort b t x
   fell-short props v w x (stopped k makes) s drops =
-      inr (
-        suc (length (kinds_in (take k (slots_of t)))),
-        true,
-        omega arith,
-        kinds-within k t,
-        subst (λ (c : Board). Shows c x) (cut-first props k)
-            (drops (edit (b.born + 1) (with_values b props) (properties_made (b.born + 1) t (take k (slots_of t)) (created b t))) (makes (created b t) s)),
-      )
+      let d : Board = edit (b.born + 1) (with_values b props) (properties_made (b.born + 1) t (take k (slots_of t)) (created b t)) in
+      cut-joined k (made props (take k (slots_of t))) d x (made-is props (take k (slots_of t))) (draft-made props (take k (slots_of t)))
+      (drops d (makes (created b t) s))
   fell-short props v w x (unjoined k p u at kind makes) s drops =
-      inr (
-        suc (suc (length (kinds_in (take k (slots_of t))))),
-        false,
-        omega arith,
-        (let le : suc (length (kinds_in (take k (slots_of t)))) ≤ length (further_of t) = kinds-more k (slots_of t) p u at kind in omega (arith, le)),
-        subst (λ (c : Board). Shows c x) (cut-unjoined props k p u at kind)
-            (drops (edit (b.born + 1) (with_values b props) (with_attempt (properties_made (b.born + 1) t (take k (slots_of t)) (created b t)) u))
-            (makes (created b t) s)),
-      )
+      let d : Board = edit (b.born + 1) (with_values b props) (properties_made (b.born + 1) t (take k (slots_of t)) (created b t)) in
+      cut-unjoined k (made props (take k (slots_of t))) d x (made-is props (take k (slots_of t))) (draft-made props (take k (slots_of t))) p u at kind
+      (drops (with_attempt d u) (makes (created b t) s))

@@ -5,6 +5,7 @@ pub mod ScopeLemmas
 pub mod CutLemmas
 pub mod DraftLemmas
 pub mod GivenDraftLemmas
+pub mod FurtherLemmas
 pub mod GrowthLemmas
 pub mod JudgementLemmas
 pub mod ClaimLemmas
@@ -17,4 +18,3 @@ pub mod StageLemmas
 pub mod StartBuses
 pub mod StartLemmas
 pub mod ValueLemmas
-pub mod RefusalLemmas

@@ -4,5 +4,6 @@ pub mod Attempts
 pub mod Spots
 pub mod Cuts
 pub mod Drafts
+pub mod FurtherDrafts
 pub mod DevicePlans
 pub mod Stages

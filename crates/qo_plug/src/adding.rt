@@ -58,7 +58,7 @@ pub fn add<L: Ledger>(
         Ok(spot) => spot,
         Err(AddRefusal::Refused { stage, code }) => {
             let kind = planned.site.kind;
-            return Err(turn_down(heap, kind, stage, code));
+            return Err(turn_down(heap, kind, stage, code, alloc, steps));
         }
         Err(AddRefusal::Memory) => return Err(AddRefusal::Memory),
     };

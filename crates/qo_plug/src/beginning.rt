@@ -1,9 +1,9 @@
 //! Beginning a device, the stages 1 to 4 of adding: it is admitted, what is given for its properties
 //! is looked at, and it is made; or an attempt at it is given up. It stands nowhere yet.
 
-ghost use Rattle.std.specs.Prelude.{◌≡◌, ◌≤◌, ◌+◌, ◌^◌, ◌==◌, ℕ, List, false, Err, IfOk, OnErr, OnOk};
+ghost use Rattle.std.specs.Prelude.{◌≡◌, ◌≤◌, ◌==◌, ℕ, List, false, Err, IfOk, OnErr, OnOk};
 ghost use Rattle.qo_model.specs.Board.{Board, Ring};
-ghost use Rattle.qo_model.specs.Plug.{Wanted, objects_in, plug_attempt};
+ghost use Rattle.qo_model.specs.Plug.{Wanted, plug_attempt};
 ghost use Rattle.qo_sound.specs.TreeKept.{SoundTree};
 ghost use Rattle.qo_heap.specs.Board.{Shows};
 ghost use Rattle.qo_properties.specs.Claims.{KeepsBook};
@@ -20,9 +20,10 @@ use crate::judging::judge;
 use crate::options::DeviceOptions;
 use crate::planning::Planned;
 use crate::refusals::{AddRefusal, Barred};
+use crate::trying::attempt;
 use qo_heap::{Heap, Oid, Steps};
 use qo_hotplug::Hotplug;
-use qo_properties::{Fill, Refusal, attempt_whole, plan};
+use qo_properties::{Fill, Refusal, plan};
 use qo_reset::Resets;
 use qo_rings::Rings;
 use qo_standing::Spot;
@@ -46,14 +47,21 @@ pub struct Begun {
 }
 
 /// An attempt at a device of a type that is refused before it takes a place, at a stage and with a
-/// code: its objects are made and end at once. This is the refusal, but where not so many births are
-/// left below 2^64: then the heap is as it was, and memory wants.
-pub(crate) fn turn_down(heap: &mut Heap, kind: TypeId, stage: u8, code: Code) -> AddRefusal
-    ensures down { (b : Board) (bus : ℕ) → Shows b heap.old → (stage == 8) ≡ false → turned_down b kind bus (record { stage = stage; code = code }) result heap.new }
-    ensures memory { result ≡ Memory → (2 ^ 64 ≤ heap.old.born + objects_in kind) × (heap.new ≡ heap.old) }
+/// code: its objects are made and end at once. This is the refusal, or want of memory: then the
+/// attempt was cut.
+pub(crate) fn turn_down<L: Ledger>(
+    heap: &mut Heap,
+    kind: TypeId,
+    stage: u8,
+    code: Code,
+    alloc: Global,
+    steps: &mut Steps<L>,
+) -> AddRefusal
+    ensures down { (b : Board) (bus : ℕ) → Shows b heap.old → SoundTree b → (stage == 8) ≡ false → turned_down b kind bus (record { stage = stage; code = code }) result heap.new }
+    ensures memory { (b : Board) → Shows b heap.old → SoundTree b → result ≡ Memory → CutShort b kind heap.new }
     ensures book { KeepsBook heap.old heap.new }
 {
-    match attempt_whole(heap, kind) {
+    match attempt(heap, kind, alloc, steps) {
         Ok(()) => AddRefusal::Refused { stage, code },
         Err(_) => AddRefusal::Memory,
     }
@@ -124,7 +132,7 @@ pub(crate) fn choose<L: Ledger>(
     };
     match plan(heap, site.kind, options.props, alloc, steps) {
         Ok(plan) => Ok(Planned { site, plan }),
-        Err(Refusal::Refused(code)) => Err(turn_down(heap, site.kind, 4, code)),
+        Err(Refusal::Refused(code)) => Err(turn_down(heap, site.kind, 4, code, alloc, steps)),
         Err(Refusal::Memory) => Err(AddRefusal::Memory),
     }
 }

@@ -16,6 +16,7 @@ mod placing;
 mod planning;
 mod refusals;
 mod starting;
+mod trying;
 
 pub use adding::{Added, add};
 pub use admitting::{Place, Site, admit};

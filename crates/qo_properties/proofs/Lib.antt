@@ -1,3 +1,6 @@
+pub mod AddKept
+pub mod ActsKept
+pub mod KeptLemmas
 pub mod AddLemmas
 pub mod AnswerLemmas
 pub mod BarLemmas
@@ -15,4 +18,4 @@ pub mod SeveringLemmas
 pub mod SlotsLemmas
 pub mod OpeningLemmas
 pub mod WriteLemmas
-pub mod AttemptLemmas
+pub mod FurtherCounts

@@ -28,8 +28,10 @@ use Rattle.qo_heap.proofs.BoardChanges.{shows-made, shows-added}
 use Rattle.qo_heap.proofs.BoardEdits.{shows-without_pin}
 use Rattle.qo_heap.proofs.BoardObjects.{content-edited, content-other}
 use Rattle.qo_properties.specs.NewSlots.{new_slots, with_slots}
+use Rattle.qo_properties.proofs.AddKept.{more-kept, none-new}
 use Rattle.qo_properties.proofs.AddLemmas.{apart-from, edit-newest, others}
 use Rattle.qo_properties.proofs.ClaimLemmas.{more-keeps}
+use Rattle.qo_properties.proofs.KeptLemmas.{none-edited}
 use Rattle.qo_properties.specs.OpeningSteps.{IsMade, no_objects, with_new, with_new_child, with_all}
 
 -- rows with one more, of a later birth
@@ -78,6 +80,8 @@ module _ (v : Objects) (good : IsHeap v) (key : Key) (kind : TypeId) (birth : ke
         names = λ k live. live-edit key.birth (with_slots (new_slots kind)) (made_in v key kind).rows k (live-more v.rows ((key, fresh kind) ∷ []) k live);
         book = λ out h. book-edit out (made_in v key kind) key.birth (with_slots (new_slots kind)) (λ c. refl)
             (more-keeps v key (fresh kind) (v.born + 1) v.log (fresh-bare kind) refl out h);
+        bare = λ none. none-edited (made_in v key kind) key.birth (with_slots (new_slots kind)) (λ c. refl)
+            (none-new v (made_in v key kind) (more-kept v (made_in v key kind) key (fresh kind) (fresh-bare kind) refl) none);
       }
 
   -- it is given its slots
@@ -126,6 +130,8 @@ module _ (v w : Objects) (good : IsHeap v) (parent key : Key) (kind : TypeId) (n
         names = λ k l. live-edit key.birth content.without_pin child_in.rows k (live-edit parent.birth (with_slot name (Child key)) w.rows k (made.names k l));
         book = λ out h. book-edit out child_in key.birth content.without_pin (λ c. refl)
             (book-edit out w parent.birth (with_slot name (Child key)) (λ c. refl) (made.book out h));
+        bare = λ none. none-edited child_in key.birth content.without_pin (λ c. refl)
+            (none-edited w parent.birth (with_slot name (Child key)) (λ c. refl) (made.bare none));
       }
 
   pub shows-child : (b : board.Board) → Shows b v → Shows (with_new kind b) w → IsHeap child_in

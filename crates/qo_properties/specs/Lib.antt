@@ -1,5 +1,5 @@
+pub mod KeptClaims
 pub mod Additions
-pub mod Attempts
 pub mod Changes
 pub mod Claims
 pub mod ClockWrites

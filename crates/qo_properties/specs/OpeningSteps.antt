@@ -13,6 +13,7 @@ use Rattle.qo_values.specs.declared.limits.TheConstants.{SYSTEM_PERIOD}
 use Rattle.qo_model.specs.Release.{without_pin}
 use Rattle.qo_heap.specs.Objects.{Objects, content_of}
 use Rattle.qo_properties.specs.Claims.{KeepsBook}
+use Rattle.qo_properties.specs.KeptClaims.{NoneKept}
 use Rattle.qo_properties.specs.NewSlots.{new_slots}
 
 -- an object of a type more, with its plain properties and its links
@@ -71,3 +72,4 @@ pub record IsMade (old new : Objects) (kind : TypeId) (pins : ℕ) (o : Key) : T
   pub content : content_of new o.birth ≡ Some (as_made kind (new_slots kind) pins)
   pub names : KeepsNames old new
   pub book : KeepsBook old new
+  pub bare : NoneKept old → NoneKept new

@@ -8,7 +8,7 @@ mod reading;
 mod refusals;
 mod writing;
 
-pub use adding::attempts::{attempt, attempt_whole, objects_in};
+pub use adding::attempts::{attempt, objects_in};
 pub use adding::barring::{Admitted, admit};
 pub use adding::filling::{Fill, begins, take_value};
 pub use adding::fresh::{add_value, furnish_new, name_of};

@@ -37,7 +37,7 @@ impl<T> Model for Arena<T> {
 }
 
 impl<T> Arena<T> {
-    ghost use Rattle.std.specs.Prelude.{◌≡◌, ℕ, ◌+◌, ◌≤◌, ◌<◌, ◌^◌, [], IfSome, IfNone, IsOk, IsErr, OnOk, Some, None, slice_set};
+    ghost use Rattle.std.specs.Prelude.{◌≡◌, ℕ, ◌+◌, ◌≤◌, ◌<◌, ◌^◌, [], IfSome, IsOk, IsErr, OnOk, Some, None, slice_set};
     ghost use Rattle.std.specs.Borrow.{sem};
     ghost use Rattle.qo_slots.specs.Table.{find, live_count, values_in, HasSpare, IsLive, Updates};
     ghost use Rattle.qo_slots.specs.Loans.{lends_value};
@@ -86,20 +86,6 @@ impl<T> Arena<T> {
         let birth = self.born;
         let index = self.table.insert_reserved(Stored::new(birth, value));
         Key { index, birth }
-    }
-
-    /// Uses up the next births, so many: no value is ever under one of them. Answers the birth after
-    /// which they come; `None` where fewer are left below 2^64, and the table is as before then. It
-    /// takes no memory.
-    pub fn skip(&mut self, births: u64) -> Option<u64>
-        ensures from { IfSome result (λ n. n ≡ self.old.born) }
-        ensures skipped { IfSome result (λ n. self.new ≡ record self.old { born = self.old.born + births }) }
-        ensures within { IfSome result (λ n. self.old.born + births < 2 ^ 64) }
-        ensures none { IfNone result ((2 ^ 64 ≤ self.old.born + births) × (self.new ≡ self.old)) }
-    {
-        let born = self.born;
-        self.born = born.checked_add(births)?;
-        Some(born)
     }
 
     /// The value under a live key. It takes no memory.

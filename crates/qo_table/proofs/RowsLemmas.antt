@@ -1,5 +1,5 @@
 -- What a list of names says of the rows, and how the rows follow the table of slots.
-use Rattle.std.proofs.Common.{◌≡◌, ◌≢◌, refl, ap, ap₂, sym, subst, ◌∙◌, ℕ, suc, ◌+◌, ◌<◌, ◌≤◌, ◌^◌, Bool, true, false, not, cond, leb, nat_lt, List, [], ◌∷◌, ◌++◌, map, length, get_or, eqb, Option, Some, None, find, option_map, IfSome, IfNone, slice_get, zero, remove, arith}
+use Rattle.std.proofs.Common.{◌≡◌, ◌≢◌, refl, ap, ap₂, sym, subst, ◌∙◌, ℕ, suc, ◌+◌, ◌<◌, ◌≤◌, Bool, true, false, not, cond, leb, nat_lt, List, [], ◌∷◌, ◌++◌, map, length, get_or, eqb, Option, Some, None, find, option_map, slice_get, zero, remove, arith}
 use Rattle.std.specs.List.{AllByRecursion}
 use Rattle.std.proofs.lemmas.Bool.{eqb-true, eq-eqb}
 use Rattle.std.proofs.lemmas.Bool.Decides.{nat_tests}
@@ -265,11 +265,6 @@ pub rises-lower : (low above last : ℕ) (ns : List ℕ) → low ≤ above → R
 rises-lower low above last [] le rises = omega arith
 rises-lower low above last (n ∷ ns) le rises = let up : above < n = rises.0 in (omega arith, rises.1)
 
--- and stay below what is above their end
-pub rises-higher : (above last more : ℕ) (ns : List ℕ) → last ≤ more → Rises above ns last → Rises above ns more
-rises-higher above last more [] le h = omega (arith, le, h)
-rises-higher above last more (n ∷ ns) le h = (h.0, rises-higher n last more ns le h.1)
-
 -- a new highest birth goes after
 pub rises-added : (above last : ℕ) (key : Key) (order : List Key) → key.birth ≡ last + 1 → Rises above (births_of order) last
     → Rises above (births_of (order ++ key ∷ [])) (last + 1)
@@ -386,14 +381,6 @@ module _ {T : Type 0} where
         born = born ∙ birth ∙ ap (λ n. n + 1) same_born;
         rows = rows-added r u key v vacant updates order stored ∙ ap (λ (l : List (Key × T)). l ++ (key, v) ∷ []) same;
       })
-
--- a table of which births are passed over has its names in order
-pub skipped : {T : Type 0} (t u : Table T) (order : List Key) (births : ℕ) (from : Option ℕ) → IsOrdered t order
-    → IfSome from (λ n. u ≡ record t { born = t.born + births }) → IfNone from ((2 ^ 64 ≤ t.born + births) × (u ≡ t)) → IsOrdered u order
-skipped t u order births None good some none = subst (λ (x : Table _). IsOrdered x order) (sym none.1) good
-skipped t u order births (Some n) good is none =
-    subst (λ (x : Table _). IsOrdered x order) (sym is)
-    (record { stored = good.stored; rising = rises-higher 0 t.born (t.born + births) (births_of order) (omega arith) good.rising; all = good.all })
 
 -- along rising births a later name has no lower birth
 rises-member : (order : List Key) (above last : ℕ) → Rises above (births_of order) last → (j : ℕ) (d : Key) → j < length order

@@ -46,7 +46,7 @@ fn key_in(order: &[Key], place: usize) -> Option<Key>
 }
 
 impl<T> ObjectTable<T> {
-    ghost use Rattle.std.specs.Prelude.{◌≡◌, ◌+◌, ◌≤◌, ◌^◌, Bool, count_by, [], ◌∷◌, ◌++◌, Some, IfOk, IfErr, IfSome, IfNone, OnOk, option_map, find, leb};
+    ghost use Rattle.std.specs.Prelude.{◌≡◌, ◌+◌, ◌≤◌, Bool, count_by, [], ◌∷◌, ◌++◌, Some, IfOk, IfErr, OnOk, option_map, find, leb};
     ghost use Rattle.std.specs.Borrow.{sem};
     ghost use Rattle.qo_table.specs.Rows.{IsLive, births, object_at, without};
     ghost use Rattle.qo_table.specs.Loans.{lends_object};
@@ -84,19 +84,6 @@ impl<T> ObjectTable<T> {
         let key = self.slots.put(object, steps);
         self.order.push_reserved(key);
         Ok(key)
-    }
-
-    /// Uses up the next births, so many: no object is ever of one of them. Answers the birth after
-    /// which they come; `None` where fewer are left below 2^64, and the table is as before then. It
-    /// takes no memory.
-    pub fn skip(&mut self, births: u64) -> Option<u64>
-        ensures from { IfSome result (λ n. n ≡ self.old.born) }
-        ensures skipped { IfSome result (λ n. self.new ≡ record self.old { born = self.old.born + births }) }
-        ensures within { IfSome result (λ n. self.old.born + births < 2 ^ 64) }
-        ensures none { IfNone result ((2 ^ 64 ≤ self.old.born + births) × (self.new ≡ self.old)) }
-    {
-        let _order = &self.order;
-        self.slots.skip(births)
     }
 
     /// The object of a live name. It takes no memory.

@@ -13,6 +13,7 @@ ghost use Rattle.qo_heap.specs.Board.{Shows, pins_in};
 ghost use Rattle.qo_heap.specs.Objects.{content_of, ended, pins_of, refs_of, with_edit};
 ghost use Rattle.qo_properties.specs.Additions.{Adds, IsChild, IsTried};
 ghost use Rattle.qo_properties.specs.Claims.{KeepsBook};
+ghost use Rattle.qo_properties.specs.KeptClaims.{KeptOrNew};
 ghost use Rattle.qo_properties.specs.Filling.{Fits, IsGiven, target_in};
 ghost use Rattle.qo_properties.specs.NewSlots.{new_slots};
 
@@ -108,6 +109,7 @@ fn add_planned<L: Ledger>(
     ensures err { OnErr result (IsTried admitted.kind heap.old heap.new) }
     ensures pins { pins_in heap.new.rows ≡ pins_in heap.old.rows }
     ensures book { KeepsBook heap.old heap.new }
+    ensures kept { KeptOrNew heap.old heap.new }
 {
     let Admitted {
         objects,
@@ -141,12 +143,13 @@ pub fn add_object<L: Ledger>(
     ensures change { (b : Board) → Shows b heap.old → Adds b driver.now id.now props.now result heap.new }
     ensures pins { pins_in heap.new.rows ≡ pins_in heap.old.rows }
     ensures book { KeepsBook heap.old heap.new }
+    ensures kept { KeptOrNew heap.old heap.new }
 {
     let admitted = admit(heap, driver, id, alloc, steps)?;
     match plan(heap, admitted.kind, props, alloc, steps) {
         Ok(plan) => add_planned(heap, admitted, plan, alloc, steps)?,
         Err(Refusal::Refused(code)) => {
-            attempt(heap, admitted.kind)?;
+            attempt(heap, admitted.kind, alloc, steps)?;
             return Err(Refusal::Refused(code));
         }
         Err(Refusal::Memory) => return Err(Refusal::Memory),

@@ -11,6 +11,7 @@ ghost use Rattle.qo_object.specs.Content.{set_at, as_made};
 ghost use Rattle.qo_heap.specs.Board.{Shows};
 ghost use Rattle.qo_heap.specs.Objects.{content_of, with_edit};
 ghost use Rattle.qo_properties.specs.Claims.{KeepsBook};
+ghost use Rattle.qo_properties.specs.KeptClaims.{NoneKept};
 ghost use Rattle.qo_properties.specs.NewSlots.{new_slots};
 ghost use Rattle.qo_properties.specs.OpeningSteps.{IsMade, KeepsNames, with_new, with_new_child, with_clock, with_containers, with_buses, with_machine, with_all};
 
@@ -81,6 +82,7 @@ fn make_clock<L: Ledger>(
     requires live { IsLive heap.old.rows machine }
     ensures names { OnOk result (KeepsNames heap.old heap.new) }
     ensures book { OnOk result (KeepsBook heap.old heap.new) }
+    ensures bare { OnOk result (NoneKept heap.old → NoneKept heap.new) }
     ensures shown { OnOk result ((b : Board) → Shows b heap.old → Shows (with_clock machine.birth b) heap.new) }
 {
     let clock = make_child(heap, machine, "sysclk", TypeId::Clock, alloc, steps)?;
@@ -98,6 +100,7 @@ fn make_containers<L: Ledger>(
     requires live { IsLive heap.old.rows machine }
     ensures names { OnOk result (KeepsNames heap.old heap.new) }
     ensures book { OnOk result (KeepsBook heap.old heap.new) }
+    ensures bare { OnOk result (NoneKept heap.old → NoneKept heap.new) }
     ensures shown { OnOk result ((b : Board) → Shows b heap.old → Shows (with_containers machine.birth b) heap.new) }
 {
     make_child(heap, machine, "peripheral", TypeId::Container, alloc, steps)?;
@@ -122,6 +125,7 @@ fn make_buses<L: Ledger>(
     requires live { IsLive heap.old.rows machine }
     ensures names { OnOk result (KeepsNames heap.old heap.new) }
     ensures book { OnOk result (KeepsBook heap.old heap.new) }
+    ensures bare { OnOk result (NoneKept heap.old → NoneKept heap.new) }
     ensures shown { OnOk result ((b : Board) → Shows b heap.old → Shows (with_buses machine.birth b) heap.new) }
 {
     make_child(heap, machine, "root.0", TypeId::SlotBus, alloc, steps)?;
@@ -139,6 +143,7 @@ fn make_machine<L: Ledger>(
     requires live { IsLive heap.old.rows root }
     ensures names { OnOk result (KeepsNames heap.old heap.new) }
     ensures book { OnOk result (KeepsBook heap.old heap.new) }
+    ensures bare { OnOk result (NoneKept heap.old → NoneKept heap.new) }
     ensures shown { OnOk result ((b : Board) → Shows b heap.old → Shows (with_machine root.birth b) heap.new) }
 {
     let machine = make_child(heap, root, "machine", TypeId::Machine, alloc, steps)?;
@@ -156,6 +161,7 @@ pub fn make_all<L: Ledger>(
 ) -> Result<(), AllocError>
     ensures shown { OnOk result ((b : Board) → Shows b heap.old → Shows (with_all b) heap.new) }
     ensures book { OnOk result (KeepsBook heap.old heap.new) }
+    ensures bare { OnOk result (NoneKept heap.old → NoneKept heap.new) }
 {
     let root = make_new(heap, TypeId::Container, alloc, steps)?;
     make_machine(heap, root, alloc, steps)?;

@@ -9,6 +9,7 @@ ghost use Rattle.qo_table.specs.Rows.{IsLive};
 ghost use Rattle.qo_heap.specs.Board.{Shows, pins_in};
 ghost use Rattle.qo_heap.specs.Moments.{Timely};
 ghost use Rattle.qo_properties.specs.Claims.{KeepsBook};
+ghost use Rattle.qo_properties.specs.KeptClaims.{KeptBefore};
 ghost use Rattle.qo_properties.specs.ClockWrites.{property_told, refused_as};
 ghost use Rattle.qo_properties.specs.Writes.{Writes};
 
@@ -112,6 +113,7 @@ fn write_number<L: Ledger>(
     ensures err { OnErr result (heap.new ≡ heap.old) }
     ensures pins { pins_in heap.new.rows ≡ pins_in heap.old.rows }
     ensures book { KeepsBook heap.old heap.new }
+    ensures kept { KeptBefore heap.old heap.new }
 {
     match name {
         PropertyName::Period => refused_as(set(heap, c, number, steps)),
@@ -143,6 +145,7 @@ pub fn write_property<L: Ledger>(
     ensures err { OnErr result (heap.new ≡ heap.old) }
     ensures pins { pins_in heap.new.rows ≡ pins_in heap.old.rows }
     ensures book { KeepsBook heap.old heap.new }
+    ensures kept { KeptBefore heap.old heap.new }
 {
     let PropertyRole::Plain(ty, _) = row.role else {
         return Err(Refusal::Refused(Code::E18));

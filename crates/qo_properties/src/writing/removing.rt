@@ -6,6 +6,7 @@ ghost use Rattle.qo_model.specs.Objects.{object_del};
 ghost use Rattle.qo_heap.specs.Board.{Shows, pins_in};
 ghost use Rattle.qo_properties.specs.Changes.{IsAnswered};
 ghost use Rattle.qo_properties.specs.Claims.{KeepsBook};
+ghost use Rattle.qo_properties.specs.KeptClaims.{KeptBefore};
 
 use crate::reading::lookup::{child_place, object_of};
 use qo_heap::{Heap, Steps};
@@ -21,6 +22,7 @@ pub fn remove<L: Ledger>(heap: &mut Heap, id: &str, steps: &mut Steps<L>) -> Res
     ensures err { OnErr result (heap.new ≡ heap.old) }
     ensures pins { pins_in heap.new.rows ≡ pins_in heap.old.rows }
     ensures book { KeepsBook heap.old heap.new }
+    ensures kept { KeptBefore heap.old heap.new }
 {
     let Some(objects) = object_of(heap, OBJECTS_BIRTH) else {
         return Err(Code::E15);

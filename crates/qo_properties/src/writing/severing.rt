@@ -10,6 +10,7 @@ ghost use Rattle.qo_heap.specs.Objects.{pins_of, slots_of};
 ghost use Rattle.qo_life.specs.Life.{Goes};
 ghost use Rattle.qo_properties.specs.Changes.{IsAnswered, is_strong_in, severed, severed_at};
 ghost use Rattle.qo_properties.specs.Claims.{KeepsBook};
+ghost use Rattle.qo_properties.specs.KeptClaims.{KeptBefore};
 ghost use Rattle.qo_properties.specs.Pins.{OnlyRootPinned};
 
 use crate::reading::lookup::object_of;
@@ -65,6 +66,7 @@ pub fn sever<L: Ledger>(heap: &mut Heap, birth: u64, steps: &mut Steps<L>) -> Re
     ensures err { OnErr result (heap.new ≡ heap.old) }
     ensures pinned { OnlyRootPinned heap.new }
     ensures book { KeepsBook heap.old heap.new }
+    ensures kept { KeptBefore heap.old heap.new }
 {
     let Some(o) = object_of(heap, birth) else {
         return Err(Code::E33);

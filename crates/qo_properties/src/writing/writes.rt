@@ -16,6 +16,7 @@ ghost use Rattle.qo_heap.specs.Board.{Shows, pins_in};
 ghost use Rattle.qo_heap.specs.Objects.{content_of, slots_of};
 ghost use Rattle.qo_heap.specs.Moments.{Timely};
 ghost use Rattle.qo_properties.specs.Claims.{KeepsBook};
+ghost use Rattle.qo_properties.specs.KeptClaims.{KeptBefore};
 ghost use Rattle.qo_properties.specs.Writes.{Writes, is_link_at, is_of_clock, is_of_clock_at, is_plain_at, link_type_at, no_target, target_told, to_link, to_plain};
 
 use crate::reading::lookup::place_named;
@@ -98,6 +99,7 @@ fn point_at<L: Ledger>(
     ensures names { (key : Key) → IsLive heap.old.rows key → IsLive heap.new.rows key }
     ensures pins { pins_in heap.new.rows ≡ pins_in heap.old.rows }
     ensures book { KeepsBook heap.old heap.new }
+    ensures kept { KeptBefore heap.old heap.new }
 {
     if let Some(to) = target {
         heap.point(o, at, to, steps);
@@ -113,6 +115,7 @@ fn relink<L: Ledger>(heap: &mut Heap, o: Oid, at: usize, target: Option<Oid>, st
     ensures shown { (b : Tree) → Shows b heap.old → Shows (relinked b o.birth at (birth_of target)) heap.new }
     ensures pins { pins_in heap.new.rows ≡ pins_in heap.old.rows }
     ensures book { KeepsBook heap.old heap.new }
+    ensures kept { KeptBefore heap.old heap.new }
 {
     heap.facts();
     let held = held_at(heap, o, at, steps);
@@ -148,6 +151,7 @@ fn write_plain<L: Ledger>(
     ensures err { OnErr result (heap.new ≡ heap.old) }
     ensures pins { pins_in heap.new.rows ≡ pins_in heap.old.rows }
     ensures book { KeepsBook heap.old heap.new }
+    ensures kept { KeptBefore heap.old heap.new }
 {
     if !is_plain(heap, o, at, steps) {
         return Err(Refusal::Refused(Code::E18));
@@ -174,6 +178,7 @@ fn write_link<L: Ledger>(
     ensures err { OnErr result (heap.new ≡ heap.old) }
     ensures pins { pins_in heap.new.rows ≡ pins_in heap.old.rows }
     ensures book { KeepsBook heap.old heap.new }
+    ensures kept { KeptBefore heap.old heap.new }
 {
     let Some(ty) = link_type(heap, o, at, steps) else {
         return Err(Refusal::Refused(Code::E18));
@@ -201,6 +206,7 @@ fn write_role<L: Ledger>(
     ensures err { OnErr result (heap.new ≡ heap.old) }
     ensures pins { pins_in heap.new.rows ≡ pins_in heap.old.rows }
     ensures book { KeepsBook heap.old heap.new }
+    ensures kept { KeptBefore heap.old heap.new }
 {
     match role {
         PropertyRole::Plain(ty, _) => write_plain(heap, o, at, ty, val, alloc, steps),
@@ -226,6 +232,7 @@ fn write_row<L: Ledger>(
     ensures err { OnErr result (heap.new ≡ heap.old) }
     ensures pins { pins_in heap.new.rows ≡ pins_in heap.old.rows }
     ensures book { KeepsBook heap.old heap.new }
+    ensures kept { KeptBefore heap.old heap.new }
 {
     match row.mark {
         Mark::Both => write_role(heap, o, at, row.role, val, alloc, steps),
@@ -248,6 +255,7 @@ fn write<L: Ledger>(
     ensures err { OnErr result (heap.new ≡ heap.old) }
     ensures pins { pins_in heap.new.rows ≡ pins_in heap.old.rows }
     ensures book { KeepsBook heap.old heap.new }
+    ensures kept { KeptBefore heap.old heap.new }
 {
     let Some(at) = place_named(heap, o, name, steps) else {
         return Err(Refusal::Refused(Code::E17));
@@ -274,6 +282,7 @@ fn set_property<L: Ledger>(
     ensures err { OnErr result (heap.new ≡ heap.old) }
     ensures pins { pins_in heap.new.rows ≡ pins_in heap.old.rows }
     ensures book { KeepsBook heap.old heap.new }
+    ensures kept { KeptBefore heap.old heap.new }
 {
     if set_row(heap, o, name, steps).is_none() {
         return write(heap, o, name, val, alloc, steps);
@@ -307,6 +316,7 @@ pub fn set<L: Ledger>(
     ensures err { OnErr result (heap.new ≡ heap.old) }
     ensures pins { pins_in heap.new.rows ≡ pins_in heap.old.rows }
     ensures book { KeepsBook heap.old heap.new }
+    ensures kept { KeptBefore heap.old heap.new }
 {
     let o = object_at(heap, path, steps)?;
     set_property(heap, o, name, val, alloc, steps)

@@ -1,5 +1,5 @@
 -- It is chosen where the device goes, its slot is judged, and it is made, placed and finished.
-use Rattle.std.proofs.Common.{◌≡◌, ◌≤◌, ◌==◌, ap, sym, subst, ◌∙◌, ℕ, false, Some, Err, inl, arith}
+use Rattle.std.proofs.Common.{◌≡◌, ◌≤◌, ◌==◌, ap, sym, subst, ◌∙◌, ℕ, false, Some, Err, arith}
 use Rattle.std.proofs.lemmas.Bool.Decides.{nat_tests}
 use Rattle.qo_model.specs.Plug.{Wanted}
 use Rattle.qo_heap.specs.Board.{Shows}
@@ -24,7 +24,7 @@ returns-in-Err-Refused-clause-refused g c = λ b is.
     refused-told ℕ (λ at told. (5 ≤ at) × (at ≤ 6)) c.in-Err-Refused.field-0 stage code is_refused c.in-Err-Refused.ensures.stages in
     let early : (stage == 8) ≡ false = grind (arith, nat_tests, stages.1) in
     let down =
-    rw (c.in-Err-Refused.stage-is, c.in-Err-Refused.code-is) at (c.turn_down.ensures.down b c.in-Ok.planned.site.bus.birth shown
+    rw (c.in-Err-Refused.stage-is, c.in-Err-Refused.code-is) at (c.turn_down.ensures.down b c.in-Ok.planned.site.bus.birth shown is.sound
     (subst (λ (k : ℕ). (k == 8) ≡ false) (sym c.in-Err-Refused.stage-is) early)) in
     spot-refused b a c.in-Ok.planned.site planned.admitted c.turn_down.new.heap (record { stage = stage; code = code }) (sym planned.given)
     (sym (refused-told ℕ (λ at told. spot_barred b c.in-Ok.planned.site.kind c.in-Ok.planned.site.bus.birth c.args.options.now.props.now ≡ Some (at, told))
@@ -33,7 +33,10 @@ returns-in-Err-Refused-clause-refused g c = λ b is.
 
 pub returns-in-Err-Refused-clause-memory : goal.returns-in-Err-Refused-clause-memory
 returns-in-Err-Refused-clause-memory g c = λ b is e.
-    inl (subst (Shows b) (sym ((c.turn_down.ensures.memory (cc e)).1 ∙ c.in-Ok.ensures.same)) is.shown)
+    let a : Wanted = as_wanted c.args.options.now in
+    let planned = c.in-Ok.ensures.planned b c.args.resets.now.births c.args.rings.now is in
+    cut-late b a c.in-Ok.planned.site planned.admitted c.turn_down.new.heap
+    (c.turn_down.ensures.memory b (subst (Shows b) (sym c.in-Ok.ensures.same) is.shown) is.sound (cc e))
 
 pub returns-in-Err-Refused-clause-book : goal.returns-in-Err-Refused-clause-book
 returns-in-Err-Refused-clause-book g c = λ out h. c.turn_down.ensures.book out (c.choose.ensures.book out h)

@@ -1,10 +1,9 @@
 -- The device is admitted, and what is given for its properties is planned.
-use Rattle.std.proofs.Common.{refl, subst, sym, ◌∙◌, ℕ, inl}
+use Rattle.std.proofs.Common.{refl, sym, ◌∙◌, ℕ}
 use Rattle.qo_model.specs.Plug.{Wanted}
-use Rattle.qo_heap.specs.Board.{Shows}
 use Rattle.qo_plug.specs.Admission.{IsAdmitted, as_wanted}
 use Rattle.qo_model.specs.Objects.{refusal_of}
-use Rattle.qo_plug.proofs.AddLemmas.{refused-early, turned-refused}
+use Rattle.qo_plug.proofs.AddLemmas.{cut-late, refused-early, turned-refused}
 use Rattle.qo_plug.proofs.PlanLemmas.{plan-refused}
 use Rattle.qo_plug.proofs.beginning.choose.Goals as goal
 
@@ -41,8 +40,11 @@ returns-in-Err-Refused-clause-refused g c = λ b holds rings is.
     plan-refused ℕ (refusal_of b c.in-Ok.site.kind c.args.options.now.props.now) c.in-Err-Refused.field-0 c.in-Err-Refused.code c.in-Err-Refused.field-0-is
     (c.in-Err-Refused.ensures.refused b is.shown) in
     turned-refused b a c.in-Ok.site admitted c.turn_down.new.heap c.in-Err-Refused.code refused ℕ c.turn_down.result
-    (c.turn_down.ensures.down b c.in-Ok.site.bus.birth is.shown refl)
+    (c.turn_down.ensures.down b c.in-Ok.site.bus.birth is.shown is.sound refl)
 
 pub returns-in-Err-Refused-clause-memory : goal.returns-in-Err-Refused-clause-memory
 returns-in-Err-Refused-clause-memory g c = λ b holds rings is e.
-    inl (subst (Shows b) (sym (c.turn_down.ensures.memory (cc e)).1) is.shown)
+    let a : Wanted = as_wanted c.args.options.now in
+    let admitted : IsAdmitted b a c.in-Ok.site =
+    c.in-Ok.ensures.admitted b c.args.options.now.props.now is.shown (is.pending ∙ sym c.pending.ensures) is.anonymous_is in
+    cut-late b a c.in-Ok.site admitted c.turn_down.new.heap (c.turn_down.ensures.memory b is.shown is.sound (cc e))

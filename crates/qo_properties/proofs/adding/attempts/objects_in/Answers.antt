@@ -2,7 +2,7 @@
 use Rattle.std.proofs.Common.{◌≡◌, ◌+◌, ◌≤◌, ◌∙◌, ap, sym, drop, filter_map, length, List, arith}
 use Rattle.qo_model.specs.Plug.{further_in, further_of, objects_in}
 use Rattle.qo_model.specs.declared.properties.Property.{Property}
-use Rattle.qo_properties.proofs.AttemptLemmas.{counted, few-further}
+use Rattle.qo_properties.proofs.FurtherCounts.{counted, few-further}
 use Rattle.qo_paths.proofs.EndLemmas.{given-past}
 use Rattle.qo_properties.proofs.adding.attempts.objects_in.Goals.{then-is_further, else-is_further}
 use Rattle.qo_properties.proofs.adding.attempts.objects_in.Goals as goal

@@ -8,6 +8,7 @@ use Rattle.qo_heap.specs.Objects.{Objects}
 use Rattle.qo_properties.specs.Additions.{Adds}
 use Rattle.qo_properties.specs.declared.refusals.Refusal.{Refusal}
 use Rattle.qo_properties.specs.declared.refusals.Refusal.TheVariants.{Memory, Refused}
+use Rattle.qo_properties.proofs.AddKept.{same-kept, tried-kept}
 use Rattle.qo_properties.proofs.AddLemmas.{shows-tried}
 use Rattle.qo_properties.proofs.ClaimLemmas.{keeps-none, tried-keeps}
 use Rattle.qo_properties.proofs.AnswerLemmas.{adds-done, adds-not, adds-refused, adds-tried}
@@ -27,7 +28,7 @@ returns-in_err-attempt-in-Err-Refused-clause-change g c = λ b s.
     let is : c.from_residual-in_err-attempt-in-Err-Refused.result ≡ Err Memory = search rules in
     subst (λ (r : Result (Unit {0}) Refusal). Adds b c.args.driver.now c.args.id.now c.args.props.now r c.attempt.new.heap) (sym is)
     (adds-tried b c.args.driver.now c.args.id.now c.args.props.now c.args.heap.now c.attempt.new.heap s c.in_ok-admitted.admitted.kind
-    (c.in_ok-admitted.ensures.open b s) c.in_ok-admitted.ensures.kind (inl c.in_err-attempt-in-Err-Refused.ensures.err.1))
+    (c.in_ok-admitted.ensures.open b s) c.in_ok-admitted.ensures.kind (inl c.in_err-attempt-in-Err-Refused.ensures.err))
 
 pub returns-in-Err-Refused-clause-change : goal.returns-in-Err-Refused-clause-change
 returns-in-Err-Refused-clause-change g c = λ b s.
@@ -64,7 +65,18 @@ returns-in-Err-Refused-clause-book g c = tried-keeps c.args.heap.now c.attempt.n
     (inr c.in_ok-attempt-in-Err-Refused.ensures.ok)
 
 pub returns-in_err-attempt-in-Err-Refused-clause-book : goal.returns-in_err-attempt-in-Err-Refused-clause-book
-returns-in_err-attempt-in-Err-Refused-clause-book g c = keeps-none c.args.heap.now c.attempt.new.heap c.in_err-attempt-in-Err-Refused.ensures.err.1
+returns-in_err-attempt-in-Err-Refused-clause-book g c = keeps-none c.args.heap.now c.attempt.new.heap c.in_err-attempt-in-Err-Refused.ensures.err
 
 pub returns-clause-book : goal.returns-clause-book
 returns-clause-book g c = c.in_ok-add_planned-in-Ok.ensures.book
+
+pub returns-in-Err-Refused-clause-kept : goal.returns-in-Err-Refused-clause-kept
+returns-in-Err-Refused-clause-kept g c =
+    tried-kept c.args.heap.now c.attempt.new.heap c.in_ok-admitted.admitted.kind (inr c.in_ok-attempt-in-Err-Refused.ensures.ok)
+
+pub returns-in_err-attempt-in-Err-Refused-clause-kept : goal.returns-in_err-attempt-in-Err-Refused-clause-kept
+returns-in_err-attempt-in-Err-Refused-clause-kept g c =
+    same-kept c.args.heap.now c.attempt.new.heap c.in_err-attempt-in-Err-Refused.ensures.err
+
+pub returns-clause-kept : goal.returns-clause-kept
+returns-clause-kept g c = c.in_ok-add_planned-in-Ok.ensures.kept

@@ -7,6 +7,7 @@ use Rattle.qo_heap.specs.Objects.{Objects, pins_of}
 use Rattle.qo_model.specs.Objects.{slot_given, with_object}
 use Rattle.qo_model.specs.Types.{slots_of}
 use Rattle.qo_properties.specs.NewSlots.{new_slots}
+use Rattle.qo_properties.proofs.AddKept.{object-kept, tried-kept}
 use Rattle.qo_properties.proofs.AddLemmas.{child-live, child-pinned, child-unpinned, object-pins, shows-object, tried-pins}
 use Rattle.qo_properties.proofs.ClaimLemmas.{object-keeps, tried-keeps}
 use Rattle.qo_properties.proofs.FillingLemmas.{filled-given}
@@ -59,4 +60,12 @@ returns-in_err-made-clause-book g c = tried-keeps c.args.heap.now c.make_with.ne
 pub returns-clause-book : goal.returns-clause-book
 returns-clause-book g c =
     object-keeps c.args.heap.now c.in_ok-made.made c.args.admitted.objects c.own-name.result c.args.admitted.kind c.in_ok-slots.slots.items c.unpin.new.self
+    (child-unpinned c.facts.ensures c.in_ok-made.ensures.made c.unpin.new.self c.unpin.ensures.now)
+
+pub returns-in_err-made-clause-kept : goal.returns-in_err-made-clause-kept
+returns-in_err-made-clause-kept g c = tried-kept c.args.heap.now c.make_with.new.heap c.args.admitted.kind c.in_err-made.ensures.err
+
+pub returns-clause-kept : goal.returns-clause-kept
+returns-clause-kept g c =
+    object-kept c.args.heap.now c.in_ok-made.made c.args.admitted.objects c.own-name.result c.args.admitted.kind c.in_ok-slots.slots.items c.unpin.new.self
     (child-unpinned c.facts.ensures c.in_ok-made.ensures.made c.unpin.new.self c.unpin.ensures.now)

@@ -14,3 +14,6 @@ returns-clause-shown g c =
 pub returns-clause-book : goal.returns-clause-book
 returns-clause-book g c = λ out h.
     c.in_ok-make_child.ensures.made.book out (c.in_ok-make_machine.ensures.book out (c.in_ok-root.ensures.made.book out h))
+
+pub returns-clause-bare : goal.returns-clause-bare
+returns-clause-bare g c = λ none. c.in_ok-make_child.ensures.made.bare (c.in_ok-make_machine.ensures.bare (c.in_ok-root.ensures.made.bare none))

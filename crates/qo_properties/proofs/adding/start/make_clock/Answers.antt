@@ -8,7 +8,10 @@ use Rattle.qo_object.specs.Content.{set_at}
 use Rattle.qo_heap.specs.Board.{Shows}
 use Rattle.qo_heap.proofs.HeapLemmas.{live-edit}
 use Rattle.qo_heap.proofs.BoardChanges.{shows-set}
+use Rattle.qo_heap.specs.Objects.{Objects}
+use Rattle.qo_properties.specs.KeptClaims.{NoneKept}
 use Rattle.qo_properties.proofs.ClaimLemmas.{edit-keeps}
+use Rattle.qo_properties.proofs.KeptLemmas.{none-edited}
 use Rattle.qo_properties.specs.OpeningSteps.{with_new_child}
 use Rattle.qo_properties.proofs.adding.start.make_clock.Goals as goal
 
@@ -29,3 +32,8 @@ pub returns-clause-book : goal.returns-clause-book
 returns-clause-book g c = λ out h.
     edit-keeps c.make_child.new.heap c.set_period.new.heap c.in_ok-clock.clock.birth (set_at (Uint SYSTEM_PERIOD) 1) (λ d. refl) c.set_period.ensures out
     (c.in_ok-clock.ensures.made.book out h)
+
+pub returns-clause-bare : goal.returns-clause-bare
+returns-clause-bare g c = λ none.
+    subst (λ (x : Objects). NoneKept x) (sym c.set_period.ensures)
+    (none-edited c.make_child.new.heap c.in_ok-clock.clock.birth (set_at (Uint SYSTEM_PERIOD) 1) (λ d. refl) (c.in_ok-clock.ensures.made.bare none))

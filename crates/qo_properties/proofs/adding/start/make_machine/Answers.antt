@@ -14,3 +14,7 @@ returns-clause-shown g c =
 pub returns-clause-book : goal.returns-clause-book
 returns-clause-book g c = λ out h. c.in_ok-make_buses.ensures.book out
     (c.in_ok-make_clock.ensures.book out (c.in_ok-make_containers.ensures.book out (c.in_ok-machine.ensures.made.book out h)))
+
+pub returns-clause-bare : goal.returns-clause-bare
+returns-clause-bare g c = λ none. c.in_ok-make_buses.ensures.bare
+    (c.in_ok-make_clock.ensures.bare (c.in_ok-make_containers.ensures.bare (c.in_ok-machine.ensures.made.bare none)))

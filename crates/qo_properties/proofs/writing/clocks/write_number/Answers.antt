@@ -6,6 +6,7 @@ use Rattle.qo_model.specs.ClockChanges.{clock_scaled}
 use Rattle.qo_model.specs.Clocks.{div_of, mul_of}
 use Rattle.qo_clocks.specs.Writes.{Answers, with_period, with_scale}
 use Rattle.qo_clocks.proofs.ReadLemmas.{shows-div, shows-mul}
+use Rattle.qo_properties.proofs.ActsKept.{clock-kept, period-kept, scale-kept}
 use Rattle.qo_properties.proofs.ClockLemmas.{clock-pins, clock-writes, period-pins, scale-pins}
 use Rattle.qo_properties.proofs.writing.clocks.write_number.Goals as goal
 
@@ -41,4 +42,20 @@ pub returns-in-Div-clause-pins : goal.returns-in-Div-clause-pins
 returns-in-Div-clause-pins g c =
     clock-pins c.args.heap.now c.set_mul_div-in-Div.new.heap (with_scale c.args.c.birth c.mul-mul.result c.args.number c.args.heap.now)
     c.set_mul_div-in-Div.result (scale-pins c.args.heap.now c.args.c.birth c.mul-mul.result c.args.number) c.set_mul_div-in-Div.ensures.acts
+    c.set_mul_div-in-Div.ensures.err
+
+pub returns-in-Period-clause-kept : goal.returns-in-Period-clause-kept
+returns-in-Period-clause-kept g c =
+    clock-kept c.args.heap.now c.set.new.heap (with_period c.args.c.birth c.args.number c.args.heap.now) c.set.result
+    (period-kept c.args.heap.now c.args.c.birth c.args.number) c.set.ensures.acts c.set.ensures.err
+
+pub returns-in-Mul-clause-kept : goal.returns-in-Mul-clause-kept
+returns-in-Mul-clause-kept g c =
+    clock-kept c.args.heap.now c.set_mul_div.new.heap (with_scale c.args.c.birth c.args.number c.div-div.result c.args.heap.now) c.set_mul_div.result
+    (scale-kept c.args.heap.now c.args.c.birth c.args.number c.div-div.result) c.set_mul_div.ensures.acts c.set_mul_div.ensures.err
+
+pub returns-in-Div-clause-kept : goal.returns-in-Div-clause-kept
+returns-in-Div-clause-kept g c =
+    clock-kept c.args.heap.now c.set_mul_div-in-Div.new.heap (with_scale c.args.c.birth c.mul-mul.result c.args.number c.args.heap.now)
+    c.set_mul_div-in-Div.result (scale-kept c.args.heap.now c.args.c.birth c.mul-mul.result c.args.number) c.set_mul_div-in-Div.ensures.acts
     c.set_mul_div-in-Div.ensures.err

@@ -1,6 +1,7 @@
 -- The slot of the id is let go, where there is one.
 use Rattle.qo_properties.proofs.AnswerLemmas.{del-absent, del-done, del-none}
 use Rattle.qo_properties.proofs.PinLemmas.{let_go-same}
+use Rattle.qo_properties.proofs.KeptLemmas.{goes-kept}
 use Rattle.qo_properties.proofs.writing.removing.remove.Goals as goal
 
 pub returns-in_default-clause-change : goal.returns-in_default-clause-change
@@ -20,3 +21,6 @@ returns-clause-pins g c = let_go-same c.in-Some.objects.birth c.in-Some-child_pl
 
 pub returns-clause-book : goal.returns-clause-book
 returns-clause-book g c = c.let_go.ensures.goes.book
+
+pub returns-clause-kept : goal.returns-clause-kept
+returns-clause-kept g c = goes-kept c.args.heap.now c.let_go.new.heap c.let_go.ensures.goes

@@ -5,6 +5,7 @@ use Rattle.qo_life.proofs.TreeLemmas.{goes-shows}
 use Rattle.qo_properties.specs.Changes.{severed}
 use Rattle.qo_properties.proofs.AnswerLemmas.{sever-absent, sever-attached, sever-done}
 use Rattle.qo_properties.proofs.PinLemmas.{goes-pins, pins-room, severed-keeps}
+use Rattle.qo_properties.proofs.KeptLemmas.{goes-kept}
 use Rattle.qo_properties.proofs.writing.severing.sever.Goals as goal
 
 pub returns-in_default-clause-change : goal.returns-in_default-clause-change
@@ -31,3 +32,6 @@ returns-clause-pinned g c =
 
 pub returns-clause-book : goal.returns-clause-book
 returns-clause-book g c = c.sever_links.ensures.book
+
+pub returns-clause-kept : goal.returns-clause-kept
+returns-clause-kept g c = goes-kept c.args.heap.now c.sever_links.new.heap c.sever_links.ensures

@@ -4,6 +4,7 @@ use Rattle.qo_heap.proofs.HeapLemmas.{live-edit}
 use Rattle.qo_heap.proofs.BoardChanges.{shows-pointed}
 use Rattle.qo_properties.proofs.ClaimLemmas.{edit-keeps}
 use Rattle.qo_properties.proofs.PinLemmas.{edited-pins}
+use Rattle.qo_properties.proofs.KeptLemmas.{edit-kept}
 use Rattle.qo_properties.proofs.writing.writes.point_at.Goals as goal
 
 pub returns-in-Some-clause-shown : goal.returns-in-Some-clause-shown
@@ -20,3 +21,7 @@ returns-in-Some-clause-pins g c =
 
 pub returns-in-Some-clause-book : goal.returns-in-Some-clause-book
 returns-in-Some-clause-book g c = edit-keeps c.args.heap.now c.point.new.self c.args.o.birth (pointed_at c.in-Some.to c.args.at) (λ d. refl) c.point.ensures.now
+
+pub returns-in-Some-clause-kept : goal.returns-in-Some-clause-kept
+returns-in-Some-clause-kept g c =
+    edit-kept c.args.heap.now c.point.new.self c.args.o.birth (pointed_at c.in-Some.to c.args.at) (λ d. refl) c.point.ensures.now

@@ -12,6 +12,7 @@ use Rattle.qo_heap.proofs.BoardEdits.{shows-drop_slot}
 use Rattle.qo_properties.proofs.ClaimLemmas.{edit-keeps}
 use Rattle.qo_properties.proofs.PinLemmas.{edited-pins, hold-pins}
 use Rattle.qo_properties.proofs.WriteLemmas.{emptied-link, held-live_dropped, relinked-is}
+use Rattle.qo_properties.proofs.KeptLemmas.{edit-kept, goes-kept}
 use Rattle.qo_properties.proofs.writing.writes.relink.Goals as goal
 
 pub point_at-requires-clause-live : goal.point_at-requires-clause-live
@@ -50,3 +51,8 @@ pub returns-clause-book : goal.returns-clause-book
 returns-clause-book g c = λ out h.
     c.drop_hold.ensures.goes.book out
     (c.point_at.ensures.book out (edit-keeps c.args.heap.now c.empty.new.self c.args.o.birth (dropped_at c.args.at) (λ d. refl) c.empty.ensures.now out h))
+
+pub returns-clause-kept : goal.returns-clause-kept
+returns-clause-kept g c = λ n k e.
+    edit-kept c.args.heap.now c.empty.new.self c.args.o.birth (dropped_at c.args.at) (λ d. refl) c.empty.ensures.now n k
+    (c.point_at.ensures.kept n k (goes-kept c.point_at.new.heap c.drop_hold.new.heap c.drop_hold.ensures.goes n k e))

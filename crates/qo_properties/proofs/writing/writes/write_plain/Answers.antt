@@ -6,6 +6,7 @@ use Rattle.qo_object.specs.Content.{set_at}
 use Rattle.qo_properties.proofs.ClaimLemmas.{edit-keeps}
 use Rattle.qo_properties.proofs.PinLemmas.{edited-pins}
 use Rattle.qo_properties.proofs.WriteLemmas.{plain-is}
+use Rattle.qo_properties.proofs.KeptLemmas.{edit-kept}
 use Rattle.qo_properties.proofs.writing.writes.write_plain.Goals as goal
 
 pub returns-then-not-is_plain-clause-written : goal.returns-then-not-is_plain-clause-written
@@ -30,3 +31,7 @@ returns-clause-pins g c = edited-pins c.args.heap.now c.set.new.self c.args.o.bi
 
 pub returns-clause-book : goal.returns-clause-book
 returns-clause-book g c = edit-keeps c.args.heap.now c.set.new.self c.args.o.birth (set_at c.in_ok-copy.copy c.args.at) (λ d. refl) c.set.ensures.now
+
+pub returns-clause-kept : goal.returns-clause-kept
+returns-clause-kept g c =
+    edit-kept c.args.heap.now c.set.new.self c.args.o.birth (set_at c.in_ok-copy.copy c.args.at) (λ d. refl) c.set.ensures.now
