@@ -85,6 +85,15 @@ detach-is : (b : Board) (d : ℕ) → detach b d ≡ unpin (taken_by (apart_with
 unfolding detach
 detach-is b d = refl
 
+pub detached-same : (v u : Objects) (held : List ℕ) (asked : Asked) (d levels : ℕ) → levels ≡ length v.rows → Goes (λ b. pin b d) v u → (b : Board)
+    → Beside b v held asked → unpin (taken_within levels d (device_within (pin b d) (length u.rows + 1) d (pin b d))) d ≡ detach b d
+detached-same v u held asked d levels is pinned b beside =
+    let b1 : Board = pin b d in
+    let beside1 = pin-beside v u held asked d pinned b beside in
+    ap (λ (c : Board). unpin c d)
+    (ap (taken_within levels d) (unrealized-is b1 u beside1.shown d) ∙ taken-is b (unrealize b1 d) v beside.shown levels d is)
+    ∙ sym (detach-is b d)
+
 pub beside-detached : (v u w x y : Objects) (held after : List ℕ) (asked told : Asked) (d levels : ℕ) → levels ≡ length v.rows
     → u ≡ with_edit d with_pin v → Goes (λ b. pin b d) v u
     → Undoes (λ b. device_within b (length u.rows + 1) d) (parts u held asked) (parts w after told) → Goes (taken_within levels d) w x

@@ -1,3 +1,6 @@
+pub mod DetachedClaims
+pub mod KeptLemmas
+pub mod RealizedLemmas
 pub mod UnparentingLemmas
 pub mod DetachmentLemmas
 pub mod TreeLemmas

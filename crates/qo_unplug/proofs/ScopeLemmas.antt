@@ -1,27 +1,31 @@
 -- What taking apart leaves on each board: pins, who is held from outside the tree, and what stands beside the tree.
 use Rattle.std.proofs.Common.{◌≡◌, refl, ap, sym, subst, ◌∙◌, ℕ, zero, suc, ◌+◌, ◌<◌, ◌≤◌, ◌==◌, eqb, nat_eq, leb, cond, codes, Bool, true, false}
-use Rattle.std.proofs.Common.{List, [], ◌∷◌, length, Option, None, Some, is_some, arith}
+use Rattle.std.proofs.Common.{List, [], ◌∷◌, length, slice_get, Option, None, Some, is_some, option_map, arith}
 use Rattle.std.specs.List.{list_any}
 use Rattle.std.proofs.lemmas.Bool.{eqb-true, eq-eqb}
 use Rattle.std.proofs.lemmas.List.Sums.{sum_by-cons}
 use Rattle.qo_values.specs.declared.births.TheConstants.{ANONYMOUS_BIRTH, PERIPHERAL_BIRTH}
-use Rattle.qo_model.specs.Board.{Board, Slot, held, is_live, record_of, slot_at, slots_at}
+use Rattle.qo_values.specs.declared.kinds.TypeId.{TypeId}
+use Rattle.qo_model.specs.Board.{Board, Record, Slot, plain, child, strong, weak, alias, held, is_live, record_of, slot_at, slots_at}
 use Rattle.qo_model.specs.Changes.{cut, with_cut}
-use Rattle.qo_model.specs.Devices.{bus_of, buses_of, kids_of}
+use Rattle.qo_model.specs.Devices.{bus_of, buses_of, kids_of, plain_in}
 use Rattle.qo_model.specs.Objects.{index_from}
 use Rattle.qo_model.specs.References.{refs}
-use Rattle.qo_model.specs.Release.{after, drop_slot, edited, finalize, let_go, pin, put_in_order, unpin, without_first, without_pin}
+use Rattle.qo_model.specs.Release.{after, drop_slot, edited, finalize, let_go, pin, put_in_order, unpin, with_dropped, without_first, without_pin}
 use Rattle.qo_model.specs.Unplug.{apart_within, drained, first_of, is_bus_child, is_child_slot, is_named, left_bus, left_parent, let_go_where}
 use Rattle.qo_model.specs.Unplug.{lost_bus, lost_buses, names_kid, take_slot, take_where, taken_by}
+use Rattle.qo_model.proofs.FirstSlotLemmas.{Found, found-at, slots_in}
 use Rattle.qo_model.proofs.PinLemmas.{IsUp, put-back, put-up, release-pins}
 use Rattle.qo_model.proofs.ReleaseScopeLemmas.{release_leaves}
-use Rattle.qo_model.proofs.StepLemmas.{drop-live, found-edited, is_some-map}
+use Rattle.qo_model.proofs.StepLemmas.{drop-live, drop-record, found-birth, found-edited, is_some-map}
 use Rattle.qo_heap.proofs.BoardReads.{times}
 use Rattle.qo_life.proofs.HeldLemmas.{held-after}
 use Rattle.qo_unplug.specs.Unparenting.{bus_lost, buses_lost, drained_within, first_apart, first_lost, taken_within}
 use Rattle.qo_unplug.specs.Unrealizing.{on_one}
+use Rattle.qo_sound.proofs.SlotLemmas.{kept-slot}
 use Rattle.qo_sound_clocks.specs.SoundTimes.{SoundTimes}
 use Rattle.qo_sound_clocks.proofs.TimesLemmas.{drop-times, times-edits, times-ends}
+use Rattle.qo_unplug.proofs.RealizedLemmas.{SameLit, same_lit-after, same_lit-cut, same_lit-drop, same_lit-none, same_lit-then}
 
 -- how often a number stands in a list
 
@@ -85,12 +89,13 @@ pub record Takes (b c : Board) : Type 0 where
   pub same : IsUp b.pins → c.pins ≡ b.pins
   pub live : (x : ℕ) → is_live b x ≡ true → 0 < times x b.pins → is_live c x ≡ true
   pub moments : SoundTimes b → SoundTimes c
+  pub lit : SameLit b c
   pub holds : c.holds ≡ b.holds
   pub pending : c.pending ≡ b.pending
   pub notices : c.notices ≡ b.notices
 
 pub takes-none : (b : Board) → Takes b b
-takes-none b = record { pins = λ x. refl; same = λ up. refl; live = λ x live some. live; moments = λ h. h; holds = refl; pending = refl; notices = refl }
+takes-none b = record { pins = λ x. refl; same = λ up. refl; live = λ x live some. live; moments = λ h. h; lit = same_lit-none b; holds = refl; pending = refl; notices = refl }
 
 pub takes-then : (b c d : Board) → Takes b c → Takes c d → Takes b d
 takes-then b c d p q =
@@ -99,6 +104,7 @@ takes-then b c d p q =
       same = λ up. let first : c.pins ≡ b.pins = p.same up in q.same (subst (λ (l : List ℕ). IsUp l) (sym first) up) ∙ first;
       live = λ x live some. q.live x (p.live x live some) (omega (arith, some, p.pins x));
       moments = λ h. q.moments (p.moments h);
+      lit = same_lit-then b c d p.lit q.lit;
       holds = q.holds ∙ p.holds;
       pending = q.pending ∙ p.pending;
       notices = q.notices ∙ p.notices;
@@ -127,6 +133,7 @@ takes-after b o =
       same = λ up. release-pins b o;
       live = λ x live some. (held-after x b o (record { live = live; pinned = among-some x b.pins some })).live;
       moments = times-ends o b;
+      lit = same_lit-after b o;
       holds = beside.holds;
       pending = beside.pending;
       notices = beside.notices;
@@ -140,18 +147,20 @@ takes-drop b n i =
       same = λ up. refl;
       live = λ x live some. drop-live b n i x ∙ live;
       moments = drop-times b n i;
+      lit = same_lit-drop b n i;
       holds = refl;
       pending = refl;
       notices = refl;
     }
 
-takes-cut : (b : Board) (n i : ℕ) → Takes b (cut n i b)
+takes-cut : (b : Board) (n i : ℕ) (s : List ℕ × Slot) → slice_get (slots_at b n) i ≡ Some s → plain_in s.1 ≡ None → Takes b (cut n i b)
 unfolding cut
-takes-cut b n i =
+takes-cut b n i s at none =
     record {
       pins = λ x. refl;
       same = λ up. refl;
       moments = times-edits n (with_cut i) (λ r. refl) b;
+      lit = same_lit-cut b n i s at none;
       live = λ x live some. ap is_some (found-edited n (with_cut i) (λ r. refl) x b.records) ∙ is_some-map (edited n (with_cut i)) (record_of b x) ∙ live;
       holds = refl;
       pending = refl;
@@ -166,15 +175,26 @@ takes-let_go b n i = go (slot_at b n i)
     go None = takes-none b
     go (Some s) = takes-then b (drop_slot b n i) (after finalize (drop_slot b n i) (held s)) (takes-drop b n i) (takes-after (drop_slot b n i) (held s))
 
-takes-take_slot : (b : Board) (n i : ℕ) → Takes b (take_slot b n i)
-takes-take_slot b n i = go (slot_at b n i)
+takes-taken_link : (b : Board) (n i : ℕ) (own : List ℕ) (t : TypeId) (target : Option ℕ) → slice_get (slots_at b n) i ≡ Some (own, strong t target)
+    → Takes b (take_slot b n i)
+takes-taken_link b n i own t target at =
+    let there : slot_at b n i ≡ Some (strong t target) = ap (option_map (λ (s : List ℕ × Slot). s.1)) at in
+    let c : Board = drop_slot b n i in
+    rw (take_slot, there)
+    (takes-then b (cut n i c) (after finalize (cut n i c) target)
+    (takes-then b c (cut n i c) (takes-drop b n i) (takes-cut c n i (own, strong t None) (left (record_of b n) refl) refl))
+    (takes-after (cut n i c) target))
   where
-    go : (o : Option Slot) → Takes b (elim o as (λ _. Board) [ None ↦ b | Some s ↦ after finalize (cut n i (drop_slot b n i)) (held s) ])
-    go None = takes-none b
-    go (Some s) =
-        let c : Board = drop_slot b n i in
-        takes-then b (cut n i c) (after finalize (cut n i c) (held s)) (takes-then b c (cut n i c) (takes-drop b n i) (takes-cut c n i))
-        (takes-after (cut n i c) (held s))
+    left : (o : Option Record) → record_of b n ≡ o → slice_get (slots_at (drop_slot b n i) n) i ≡ Some (own, strong t None)
+    left None q =
+        absurd (let clash : None ≡ Some (own, strong t target) = sym (ap (λ (o : Option Record). slice_get (slots_in o) i) q) ∙ at in cc)
+    left (Some r) q =
+        let birth : (r.birth == n) ≡ true = eq-eqb r.birth n (found-birth n b.records r q) in
+        let now : record_of (drop_slot b n i) n ≡ Some (with_dropped i r) =
+        drop-record b n i n ∙ ap (option_map (edited n (with_dropped i))) q ∙ rw (edited, birth) refl in
+        ap (λ (o : Option Record). slice_get (slots_in o) i) now
+        ∙ kept-slot i r.slots own (strong t target) (strong t None)
+        (sym (ap (λ (o : Option Record). slice_get (slots_in o) i) q) ∙ at) refl
 
 takes-go_where : (p : List ℕ × Slot → Bool) (n : ℕ) (b : Board) → Takes b (let_go_where p n b)
 takes-go_where p n b = go (index_from p 0 (slots_at b n))
@@ -183,12 +203,20 @@ takes-go_where p n b = go (index_from p 0 (slots_at b n))
     go None = takes-none b
     go (Some i) = takes-let_go b n i
 
-takes-take_where : (p : List ℕ × Slot → Bool) (n : ℕ) (b : Board) → Takes b (take_where p n b)
-takes-take_where p n b = go (index_from p 0 (slots_at b n))
+takes-take_where : (d n : ℕ) (b : Board) → Takes b (take_where (names_kid d) n b)
+takes-take_where d n b = go (index_from (names_kid d) 0 (slots_at b n)) refl
   where
-    go : (o : Option ℕ) → Takes b (elim o as (λ _. Board) [ None ↦ b | Some i ↦ take_slot b n i ])
-    go None = takes-none b
-    go (Some i) = takes-take_slot b n i
+    of : (i : ℕ) (x : List ℕ × Slot) → slice_get (slots_at b n) i ≡ Some x → names_kid d x ≡ true → Takes b (take_slot b n i)
+    of i (own, plain v) at passes = absurd (let clash : false ≡ true = passes in cc)
+    of i (own, child m) at passes = absurd (let clash : false ≡ true = passes in cc)
+    of i (own, strong t None) at passes = absurd (let clash : false ≡ true = passes in cc)
+    of i (own, strong t (Some m)) at passes = takes-taken_link b n i own t (Some m) at
+    of i (own, weak t target) at passes = absurd (let clash : false ≡ true = passes in cc)
+    of i (own, alias m property) at passes = absurd (let clash : false ≡ true = passes in cc)
+
+    go : (o : Option ℕ) → index_from (names_kid d) 0 (slots_at b n) ≡ o → Takes b (take_where (names_kid d) n b)
+    go None e = rw (take_where, e) (takes-none b)
+    go (Some i) e = let f : Found (names_kid d) (slots_at b n) i = found-at (names_kid d) i (slots_at b n) e in rw (take_where, e) (of i f.entry f.at f.passes)
 
 pub takes-left_bus : (d : ℕ) (b : Board) → Takes b (left_bus d b)
 takes-left_bus d b = go (bus_of b d)
@@ -198,7 +226,7 @@ takes-left_bus d b = go (bus_of b d)
     go None = takes-none b
     go (Some m) =
         let c : Board = take_where (names_kid d) m b in
-        takes-then b c (let_go_where (is_named (codes "parent_bus")) d c) (takes-take_where (names_kid d) m b)
+        takes-then b c (let_go_where (is_named (codes "parent_bus")) d c) (takes-take_where d m b)
         (takes-go_where (is_named (codes "parent_bus")) d c)
 
 takes-left_parent : (d : ℕ) (b : Board) → Takes b (left_parent d b)
@@ -223,6 +251,7 @@ takes-unpinned b c d t =
           ∙ ap (without_first d) (t.same (put-up d b.pins up))
           ∙ put-back d b.pins up;
       moments = λ h. following.moments (t.moments h);
+      lit = same_lit-then b w (after finalize w (Some d)) (same_lit-then b c w t.lit (same_lit-none c)) following.lit;
       live = λ x live pinned. following.live x (t.live x live (omega (arith, pinned, times-put x d b.pins))) (omega (arith, pinned, pins x));
       holds = following.holds ∙ t.holds;
       pending = following.pending ∙ t.pending;

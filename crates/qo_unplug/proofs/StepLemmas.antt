@@ -10,7 +10,8 @@ use Rattle.qo_heap.specs.Objects.{Objects}
 use Rattle.qo_heap.specs.Moments.{Timely}
 use Rattle.qo_properties.specs.Claims.{KeepsBook}
 use Rattle.qo_unplug.specs.BoardParts.{Beside}
-use Rattle.qo_unplug.specs.Unrealizing.{Parts, SameTree, Undoes, parts}
+use Rattle.qo_unplug.specs.RealizedClaims.{KeepsDue}
+use Rattle.qo_unplug.specs.Unrealizing.{Ends, Parts, SameTree, Undoes, parts}
 use Rattle.qo_unplug.proofs.TreeLemmas.{Quiet, same-beside, same-then}
 
 abbrev pub Stands : Board → Parts → Type 0
@@ -107,4 +108,27 @@ undoes-unnoticed n v held asked after is =
       book = λ out h. h;
       pins = refl;
       timely = λ all. all;
+    }
+
+-- the same of what bodies keep
+
+pub ends-none : (s : Parts) → Ends (λ _ c. c) s s
+ends-none s = record { undoes = undoes-none s; claims = λ b c ticks same beside due h. h }
+
+pub ends-then : (f g : Board → Board → Board) (s t u : Parts) → Ends f s t → Ends g t u → Ends (λ b c. g b (f b c)) s u
+ends-then f g s t u first then =
+    record {
+      undoes = undoes-then f g s t u first.undoes then.undoes;
+      claims = λ b c ticks same beside due h.
+          then.claims b (f b c) ticks (first.undoes.tree b c ticks same beside) (first.undoes.shown b c ticks same beside) due
+          (first.claims b c ticks same beside due h);
+    }
+
+pub ends-same : (f g : Board → Board → Board) (s t : Parts) → Ends f s t
+    → ((b c : Board) → SameTree b c → Beside c s.heap s.held s.asked → g b c ≡ f b c) → Ends g s t
+ends-same f g s t ends is =
+    record {
+      undoes = undoes-same f g s t ends.undoes is;
+      claims = λ b c ticks same beside due h.
+          subst (λ (d : Board). KeepsDue due d t.heap) (sym (is b c same beside)) (ends.claims b c ticks same beside due h);
     }

@@ -14,9 +14,9 @@ use Rattle.qo_object.proofs.BoardObjectLemmas.{length-shown}
 use Rattle.qo_heap.specs.Board.{Shows}
 use Rattle.qo_heap.specs.Objects.{Objects, slots_of}
 use Rattle.qo_heap.proofs.BoardReads.{shows-slots}
-use Rattle.qo_unplug.specs.Unrealizing.{Parts, SameTree, Undoes, bus_at, bus_within, buses_within, device_within, kid_in, kid_in_place, kids_within, on_one}
+use Rattle.qo_unplug.specs.Unrealizing.{Parts, SameTree, Ends, bus_at, bus_within, buses_within, device_within, kid_in, kid_in_place, kids_within, on_one}
 use Rattle.qo_unplug.proofs.TreeLemmas.{same-bus, same-kid, same-length}
-use Rattle.qo_unplug.proofs.StepLemmas.{undoes-none, undoes-same, undoes-then}
+use Rattle.qo_unplug.proofs.StepLemmas.{ends-none, ends-same, ends-then}
 
 -- a slot more
 each-more : {X : Type 0} (g : ℕ → Board → Board) (f : X → Option ℕ) (i : ℕ) (xs : List X) (c : Board)
@@ -45,14 +45,14 @@ all-slots b c same v s n count is =
 -- the kids of a bus
 
 pub kid-read : (s t : Parts) (m i levels : ℕ) (o : Option Key) → ((b : Board) → Shows b s.heap → birth_of o ≡ kid_in_place b m i)
-    → Undoes (λ b. on_one (device_within b levels) (birth_of o)) s t → Undoes (λ b. on_one (device_within b levels) (kid_in_place b m i)) s t
-kid-read s t m i levels o reads undoes =
-    undoes-same (λ b. on_one (device_within b levels) (birth_of o)) (λ b. on_one (device_within b levels) (kid_in_place b m i)) s t undoes
+    → Ends (λ b. on_one (device_within b levels) (birth_of o)) s t → Ends (λ b. on_one (device_within b levels) (kid_in_place b m i)) s t
+kid-read s t m i levels o reads ends =
+    ends-same (λ b. on_one (device_within b levels) (birth_of o)) (λ b. on_one (device_within b levels) (kid_in_place b m i)) s t ends
     (λ b c same beside. ap (λ (k : Option ℕ). on_one (device_within b levels) k c) (sym (same-kid b c same m i) ∙ sym (reads c beside.shown)))
 
-pub kids-first : (s : Parts) (m levels : ℕ) → Undoes (λ b. kids_within b levels m 0) s s
+pub kids-first : (s : Parts) (m levels : ℕ) → Ends (λ b. kids_within b levels m 0) s s
 unfolding kids_within
-kids-first s m levels = undoes-none s
+kids-first s m levels = ends-none s
 
 kids-more : (b : Board) (levels m i : ℕ) (c : Board)
     → kids_within b levels m (i + 1) c ≡ on_one (device_within b levels) (kid_in_place b m i) (kids_within b levels m i c)
@@ -62,11 +62,11 @@ kids-more b levels m i c =
     ap (λ (j : ℕ). each (device_within b levels) (filter_map kid_in (take j (slots_at b m))) c) more
     ∙ each-more (device_within b levels) kid_in i (slots_at b m) c
 
-pub kids-next : (s t u : Parts) (m levels i : ℕ) → Undoes (λ b. kids_within b levels m i) s t
-    → Undoes (λ b. on_one (device_within b levels) (kid_in_place b m i)) t u → Undoes (λ b. kids_within b levels m (i + 1)) s u
+pub kids-next : (s t u : Parts) (m levels i : ℕ) → Ends (λ b. kids_within b levels m i) s t
+    → Ends (λ b. on_one (device_within b levels) (kid_in_place b m i)) t u → Ends (λ b. kids_within b levels m (i + 1)) s u
 kids-next s t u m levels i before next =
-    undoes-same (λ b c. on_one (device_within b levels) (kid_in_place b m i) (kids_within b levels m i c)) (λ b. kids_within b levels m (i + 1)) s u
-    (undoes-then (λ b. kids_within b levels m i) (λ b. on_one (device_within b levels) (kid_in_place b m i)) s t u before next)
+    ends-same (λ b c. on_one (device_within b levels) (kid_in_place b m i) (kids_within b levels m i c)) (λ b. kids_within b levels m (i + 1)) s u
+    (ends-then (λ b. kids_within b levels m i) (λ b. on_one (device_within b levels) (kid_in_place b m i)) s t u before next)
     (λ b c same beside. kids-more b levels m i c)
 
 kids-all : (b : Board) (levels m i : ℕ) (c : Board) → length (slots_at b m) ≤ i → bus_within b levels m c ≡ unrealized_bus m (kids_within b levels m i c)
@@ -74,11 +74,11 @@ unfolding bus_within kids_within
 kids-all b levels m i c le =
     ap (λ (l : List (List ℕ × Slot)). unrealized_bus m (each (device_within b levels) (filter_map kid_in l) c)) (sym (take_all i (slots_at b m) le))
 
-pub kids-last : (s t u : Parts) (m levels i count : ℕ) → count ≤ i → count ≡ length (slots_of s.heap m) → Undoes (λ b. kids_within b levels m i) s t
-    → Undoes (λ _. unrealized_bus m) t u → Undoes (λ b. bus_within b levels m) s u
+pub kids-last : (s t u : Parts) (m levels i count : ℕ) → count ≤ i → count ≡ length (slots_of s.heap m) → Ends (λ b. kids_within b levels m i) s t
+    → Ends (λ _. unrealized_bus m) t u → Ends (λ b. bus_within b levels m) s u
 kids-last s t u m levels i count le is before own =
-    undoes-same (λ b c. unrealized_bus m (kids_within b levels m i c)) (λ b. bus_within b levels m) s u
-    (undoes-then (λ b. kids_within b levels m i) (λ _. unrealized_bus m) s t u before own)
+    ends-same (λ b c. unrealized_bus m (kids_within b levels m i c)) (λ b. bus_within b levels m) s u
+    (ends-then (λ b. kids_within b levels m i) (λ _. unrealized_bus m) s t u before own)
     (λ b c same beside.
     let many : length (slots_at b m) ≡ count = all-slots b c same s.heap beside.shown m count is in
     kids-all b levels m i c (omega (arith, many, le)))
@@ -86,14 +86,14 @@ kids-last s t u m levels i count le is before own =
 -- the buses of a device
 
 pub bus-read : (s t : Parts) (d i levels : ℕ) (o : Option Key) → ((b : Board) → Shows b s.heap → birth_of o ≡ bus_at b d i)
-    → Undoes (λ b. on_one (bus_within b levels) (birth_of o)) s t → Undoes (λ b. on_one (bus_within b levels) (bus_at b d i)) s t
-bus-read s t d i levels o reads undoes =
-    undoes-same (λ b. on_one (bus_within b levels) (birth_of o)) (λ b. on_one (bus_within b levels) (bus_at b d i)) s t undoes
+    → Ends (λ b. on_one (bus_within b levels) (birth_of o)) s t → Ends (λ b. on_one (bus_within b levels) (bus_at b d i)) s t
+bus-read s t d i levels o reads ends =
+    ends-same (λ b. on_one (bus_within b levels) (birth_of o)) (λ b. on_one (bus_within b levels) (bus_at b d i)) s t ends
     (λ b c same beside. ap (λ (k : Option ℕ). on_one (bus_within b levels) k c) (sym (same-bus b c same d i) ∙ sym (reads c beside.shown)))
 
-pub buses-first : (s : Parts) (d levels : ℕ) → Undoes (λ b. buses_within b levels d 0) s s
+pub buses-first : (s : Parts) (d levels : ℕ) → Ends (λ b. buses_within b levels d 0) s s
 unfolding buses_within
-buses-first s d levels = undoes-none s
+buses-first s d levels = ends-none s
 
 buses-more : (b : Board) (levels d i : ℕ) (c : Board)
     → buses_within b levels d (i + 1) c ≡ on_one (bus_within b levels) (bus_at b d i) (buses_within b levels d i c)
@@ -103,11 +103,11 @@ buses-more b levels d i c =
     ap (λ (j : ℕ). each (bus_within b levels) (filter_map (bus_in b) (take j (slots_at b d))) c) more
     ∙ each-more (bus_within b levels) (bus_in b) i (slots_at b d) c
 
-pub buses-next : (s t u : Parts) (d levels i : ℕ) → Undoes (λ b. buses_within b levels d i) s t
-    → Undoes (λ b. on_one (bus_within b levels) (bus_at b d i)) t u → Undoes (λ b. buses_within b levels d (i + 1)) s u
+pub buses-next : (s t u : Parts) (d levels i : ℕ) → Ends (λ b. buses_within b levels d i) s t
+    → Ends (λ b. on_one (bus_within b levels) (bus_at b d i)) t u → Ends (λ b. buses_within b levels d (i + 1)) s u
 buses-next s t u d levels i before next =
-    undoes-same (λ b c. on_one (bus_within b levels) (bus_at b d i) (buses_within b levels d i c)) (λ b. buses_within b levels d (i + 1)) s u
-    (undoes-then (λ b. buses_within b levels d i) (λ b. on_one (bus_within b levels) (bus_at b d i)) s t u before next)
+    ends-same (λ b c. on_one (bus_within b levels) (bus_at b d i) (buses_within b levels d i c)) (λ b. buses_within b levels d (i + 1)) s u
+    (ends-then (λ b. buses_within b levels d i) (λ b. on_one (bus_within b levels) (bus_at b d i)) s t u before next)
     (λ b c same beside. buses-more b levels d i c)
 
 -- a level less is left below a device
@@ -119,15 +119,15 @@ buses-all b all levels d i c more le =
     ∙ ap (λ (l : List (List ℕ × Slot)). unrealized_device d (each (bus_within b levels) (filter_map (bus_in b) l) c)) (sym (take_all i (slots_at b d) le))
 
 pub buses-last : (s t u : Parts) (d levels i count : ℕ) → (levels ≡ 0 → ⊥) → count ≤ i → count ≡ length (slots_of s.heap d)
-    → Undoes (λ b. buses_within b (levels - 1) d i) s t → Undoes (λ _. unrealized_device d) t u → Undoes (λ b. device_within b levels d) s u
+    → Ends (λ b. buses_within b (levels - 1) d i) s t → Ends (λ _. unrealized_device d) t u → Ends (λ b. device_within b levels d) s u
 buses-last s t u d levels i count some le is before own =
-    undoes-same (λ b c. unrealized_device d (buses_within b (levels - 1) d i c)) (λ b. device_within b levels d) s u
-    (undoes-then (λ b. buses_within b (levels - 1) d i) (λ _. unrealized_device d) s t u before own)
+    ends-same (λ b c. unrealized_device d (buses_within b (levels - 1) d i c)) (λ b. device_within b levels d) s u
+    (ends-then (λ b. buses_within b (levels - 1) d i) (λ _. unrealized_device d) s t u before own)
     (λ b c same beside.
     let many : length (slots_at b d) ≡ count = all-slots b c same s.heap beside.shown d count is in
     buses-all b levels (levels - 1) d i c (one-less levels some) (omega (arith, many, le)))
 
-pub none-within : (s : Parts) (d levels : ℕ) → levels ≡ 0 → Undoes (λ b. device_within b levels d) s s
+pub none-within : (s : Parts) (d levels : ℕ) → levels ≡ 0 → Ends (λ b. device_within b levels d) s s
 unfolding device_within
 none-within s d levels is =
-    undoes-same (λ _ c. c) (λ b. device_within b levels d) s s (undoes-none s) (λ b c same beside. ap (λ (k : ℕ). device_within b k d c) is)
+    ends-same (λ _ c. c) (λ b. device_within b levels d) s s (ends-none s) (λ b c same beside. ap (λ (k : ℕ). device_within b k d c) is)

@@ -1,3 +1,4 @@
 pub mod Unparenting
 pub mod BoardParts
+pub mod RealizedClaims
 pub mod Unrealizing

@@ -6,6 +6,7 @@ use Rattle.std.specs.Str.{bytes_eq}
 use Rattle.qo_values.specs.Registers.{bare}
 use Rattle.qo_values.specs.declared.kinds.Act.TheVariants.{Unrealize}
 use Rattle.qo_values.specs.declared.properties.Val.TheVariants as val
+use Rattle.qo_kinds.specs.declared.kept_set.KeptSet.{KeptSet}
 use Rattle.qo_slots.specs.declared.keys.Key.{Key}
 use Rattle.qo_table.specs.Rows.{IsLive}
 use Rattle.qo_model.specs.Board.{Board, Record, Slot, plain, weak, slots_at}
@@ -20,6 +21,7 @@ use Rattle.qo_heap.specs.Moments.{Timely}
 use Rattle.qo_properties.specs.Claims.{KeepsBook}
 use Rattle.qo_sound_clocks.specs.SoundClocks.{SoundClocks}
 use Rattle.qo_unplug.specs.BoardParts.{Beside}
+use Rattle.qo_unplug.specs.RealizedClaims.{KeepsDue}
 
 -- an object without what unrealizing may change: its values, its weak links' targets, and its registers
 abbrev pub still_slot : Slot → Slot
@@ -64,7 +66,13 @@ pub record Undoes (step : Board → Board → Board) (s t : Parts) : Type 0 wher
   pub pins : pins_in t.heap.rows ≡ pins_in s.heap.rows
   pub timely : Timely s.heap → Timely t.heap
 
--- the same of a heap alone, whatever stands beside it
+-- the same, and where bodies kept what is due to what is realized, they do so after it
+pub record Ends (step : Board → Board → Board) (s t : Parts) : Type 0 where
+  pub undoes : Undoes step s t
+  pub claims : (b c : Board) → Ticks b → SameTree b c → Beside c s.heap s.held s.asked → (due : ℕ → KeptSet) → KeepsDue due c s.heap
+      → KeepsDue due (step b c) t.heap
+
+-- parts become others so by a step of a heap alone, whatever stands beside it
 abbrev pub HeapUndoes : (Board → Board → Board) → Objects → Objects → Type 0
 HeapUndoes step v w = (held : List ℕ) (asked : Asked) → Undoes step (parts v held asked) (parts w held asked)
 

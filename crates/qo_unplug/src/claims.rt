@@ -1,10 +1,12 @@
 //! The claims of a device, which are free once it is unrealized.
 
-ghost use Rattle.std.specs.Prelude.{◌≡◌, Some, option_map};
+ghost use Rattle.std.specs.Prelude.{◌≡◌, ℕ, ◌==◌, false, Some, option_map};
 ghost use Rattle.qo_kinds.specs.Bodies.{kept_of, none_kept, with_kept};
 ghost use Rattle.qo_object.specs.Content.{Content};
 ghost use Rattle.qo_table.specs.Rows.{IsLive};
 ghost use Rattle.qo_heap.specs.Objects.{content_of, with_edit};
+ghost use Rattle.qo_kinds.specs.declared.kept_set.KeptSet.{KeptSet};
+ghost use Rattle.qo_properties.specs.KeptClaims.{kept_by};
 ghost use Rattle.qo_unplug.specs.Unrealizing.{HeapUndoes};
 
 use qo_heap::{Heap, Oid, Steps, free_kept};
@@ -24,7 +26,8 @@ fn take_claims<L: Ledger>(heap: &mut Heap, o: Oid, steps: &mut Steps<L>) -> Kept
 /// Ends the claims that the body of an object keeps; no board sees it.
 pub fn free_claims<L: Ledger>(heap: &mut Heap, o: Oid, steps: &mut Steps<L>)
     requires { IsLive heap.old.rows o }
-    ensures bare { option_map (λ c. kept_of c.body) (content_of heap.new o.birth) ≡ Some none_kept }
+    ensures bare { kept_by heap.new o.birth ≡ Some none_kept }
+    ensures others { (n : ℕ) (k : KeptSet) → (n == o.birth) ≡ false → kept_by heap.new n ≡ Some k → kept_by heap.old n ≡ Some k }
     ensures undoes { HeapUndoes (λ _ c. c) heap.old heap.new }
 {
     heap.facts();

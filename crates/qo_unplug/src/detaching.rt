@@ -11,7 +11,9 @@ ghost use Rattle.qo_heap.specs.Objects.{pins_of};
 ghost use Rattle.qo_heap.specs.Moments.{Timely};
 ghost use Rattle.qo_life.specs.Life.{KeepsNames};
 ghost use Rattle.qo_properties.specs.Claims.{KeepsBook};
+ghost use Rattle.qo_kinds.specs.declared.kept_set.KeptSet.{KeptSet};
 ghost use Rattle.qo_unplug.specs.BoardParts.{Beside};
+ghost use Rattle.qo_unplug.specs.RealizedClaims.{KeepsDue};
 
 use crate::unparenting::take_out;
 use crate::unrealizing::unrealize;
@@ -39,6 +41,8 @@ pub fn detach<L: Ledger>(
     requires pins { (n : ℕ) → pins_of heap.old n ≤ 1 }
     ensures shown { (b : Board) → SoundTree b → SoundClocks b → Beside b heap.old resets.old.births hotplug.old →
         Beside (detach b dev.birth) heap.new resets.new.births hotplug.new }
+    ensures claims { (b : Board) → SoundTree b → SoundClocks b → Beside b heap.old resets.old.births hotplug.old → (due : ℕ → KeptSet) →
+        KeepsDue due b heap.old → KeepsDue due (detach b dev.birth) heap.new }
     ensures book { KeepsBook heap.old heap.new }
     ensures names { KeepsNames heap.old heap.new }
     ensures pins { pins_in heap.new.rows ≡ pins_in heap.old.rows }

@@ -1,17 +1,16 @@
 //! The own step of a bus, and of a device, that is unrealized (include/hw/qdev-core.h,
 //! "Realization").
 
-ghost use Rattle.std.specs.Prelude.{◌≡◌, false, codes, Some, option_map};
+ghost use Rattle.std.specs.Prelude.{false, codes};
 ghost use Rattle.qo_values.specs.declared.kinds.Act.TheVariants.{Unrealize};
 ghost use Rattle.qo_values.specs.declared.properties.Val.TheVariants as val;
-ghost use Rattle.qo_kinds.specs.Bodies.{kept_of, none_kept};
 ghost use Rattle.qo_model.specs.Clocks.{acted};
 ghost use Rattle.qo_model.specs.Unplug.{set_named, unrealized_bus, unrealized_device};
 ghost use Rattle.qo_hotplug.specs.Hotplug.{Asked};
 ghost use Rattle.qo_table.specs.Rows.{IsLive};
-ghost use Rattle.qo_heap.specs.Objects.{content_of};
 ghost use Rattle.qo_heap.specs.Moments.{Timely};
-ghost use Rattle.qo_unplug.specs.Unrealizing.{HeapUndoes, Undoes, parts, stopped};
+ghost use Rattle.qo_properties.specs.KeptClaims.{KeptBefore};
+ghost use Rattle.qo_unplug.specs.Unrealizing.{Ends, HeapUndoes, parts, stopped};
 
 use crate::claims::free_claims;
 use qo_buses::{clock_of, set_named};
@@ -26,7 +25,8 @@ use std::sync::ledger::Ledger;
 fn act<L: Ledger>(heap: &mut Heap, o: Oid, period: u64, steps: &mut Steps<L>)
     requires live { IsLive heap.old.rows o }
     requires timely { Timely heap.old }
-    ensures { HeapUndoes (λ _ c. acted Unrealize o.birth period c) heap.old heap.new }
+    ensures undoes { HeapUndoes (λ _ c. acted Unrealize o.birth period c) heap.old heap.new }
+    ensures kept { KeptBefore heap.old heap.new }
 {
     heap.act(o, Act::Unrealize, period, steps);
 }
@@ -35,7 +35,7 @@ fn act<L: Ledger>(heap: &mut Heap, o: Oid, period: u64, steps: &mut Steps<L>)
 pub fn end_bus<L: Ledger>(heap: &mut Heap, resets: &mut Resets, bus: Oid, steps: &mut Steps<L>)
     requires live { IsLive heap.old.rows bus }
     requires timely { Timely heap.old }
-    ensures { (asked : Asked) → Undoes (λ _. unrealized_bus bus.birth)
+    ensures { (asked : Asked) → Ends (λ _. unrealized_bus bus.birth)
         (parts heap.old resets.old.births asked) (parts heap.new resets.new.births asked) }
 {
     act(heap, bus, 0, steps);
@@ -46,7 +46,8 @@ pub fn end_bus<L: Ledger>(heap: &mut Heap, resets: &mut Resets, bus: Oid, steps:
 fn stop<L: Ledger>(heap: &mut Heap, dev: Oid, steps: &mut Steps<L>)
     requires live { IsLive heap.old.rows dev }
     requires timely { Timely heap.old }
-    ensures { HeapUndoes (λ _. stopped dev.birth) heap.old heap.new }
+    ensures undoes { HeapUndoes (λ _. stopped dev.birth) heap.old heap.new }
+    ensures kept { KeptBefore heap.old heap.new }
 {
     let clock = clock_of(heap, dev, steps);
     let period = device_period(heap, dev, steps);
@@ -59,7 +60,8 @@ fn stop<L: Ledger>(heap: &mut Heap, dev: Oid, steps: &mut Steps<L>)
 /// A device is told to be realized no more.
 fn unset<L: Ledger>(heap: &mut Heap, dev: Oid, steps: &mut Steps<L>)
     requires { IsLive heap.old.rows dev }
-    ensures { HeapUndoes (λ _. set_named dev.birth (codes "realized") (val.Bool false)) heap.old heap.new }
+    ensures undoes { HeapUndoes (λ _. set_named dev.birth (codes "realized") (val.Bool false)) heap.old heap.new }
+    ensures kept { KeptBefore heap.old heap.new }
 {
     set_named(heap, dev, "realized", Val::Bool(false), steps);
 }
@@ -75,8 +77,7 @@ pub fn end_device<L: Ledger>(
 )
     requires live { IsLive heap.old.rows dev }
     requires timely { Timely heap.old }
-    ensures bare { option_map (λ c. kept_of c.body) (content_of heap.new dev.birth) ≡ Some none_kept }
-    ensures undoes { Undoes (λ _. unrealized_device dev.birth)
+    ensures { Ends (λ _. unrealized_device dev.birth)
         (parts heap.old resets.old.births hotplug.old) (parts heap.new resets.new.births hotplug.new) }
 {
     stop(heap, dev, steps);

@@ -4,7 +4,7 @@
 ghost use Rattle.std.specs.Prelude.{◌+◌, length};
 ghost use Rattle.qo_table.specs.Rows.{IsLive};
 ghost use Rattle.qo_heap.specs.Moments.{Timely};
-ghost use Rattle.qo_unplug.specs.Unrealizing.{Undoes, bus_undone, bus_within, device_within, kid_undone, parts};
+ghost use Rattle.qo_unplug.specs.Unrealizing.{Ends, bus_undone, bus_within, device_within, kid_undone, parts};
 
 use crate::ending::{end_bus, end_device};
 use qo_buses::{bus_in_slot, kid_in_slot};
@@ -26,7 +26,7 @@ fn unrealize_kid<L: Ledger>(
 )
     requires live { IsLive heap.old.rows bus }
     requires timely { Timely heap.old }
-    ensures { Undoes (λ b. kid_undone b levels bus.birth at)
+    ensures { Ends (λ b. kid_undone b levels bus.birth at)
         (parts heap.old resets.old.births hotplug.old) (parts heap.new resets.new.births hotplug.new) }
 {
     if let Some(kid) = kid_in_slot(heap, bus, at, steps) {
@@ -46,7 +46,7 @@ fn unrealize_bus<L: Ledger>(
 )
     requires live { IsLive heap.old.rows bus }
     requires timely { Timely heap.old }
-    ensures { Undoes (λ b. bus_within b levels bus.birth)
+    ensures { Ends (λ b. bus_within b levels bus.birth)
         (parts heap.old resets.old.births hotplug.old) (parts heap.new resets.new.births hotplug.new) }
 {
     let count = heap.slot_count(bus, steps);
@@ -69,7 +69,7 @@ fn unrealize_bus_at<L: Ledger>(
 )
     requires live { IsLive heap.old.rows dev }
     requires timely { Timely heap.old }
-    ensures { Undoes (λ b. bus_undone b levels dev.birth at)
+    ensures { Ends (λ b. bus_undone b levels dev.birth at)
         (parts heap.old resets.old.births hotplug.old) (parts heap.new resets.new.births hotplug.new) }
 {
     if let Some(bus) = bus_in_slot(heap, dev, at, steps) {
@@ -89,7 +89,7 @@ fn unrealize_device<L: Ledger>(
 )
     requires live { IsLive heap.old.rows dev }
     requires timely { Timely heap.old }
-    ensures { Undoes (λ b. device_within b levels dev.birth)
+    ensures { Ends (λ b. device_within b levels dev.birth)
         (parts heap.old resets.old.births hotplug.old) (parts heap.new resets.new.births hotplug.new) }
 {
     if levels == 0 {
@@ -112,7 +112,7 @@ pub fn unrealize<L: Ledger>(
 )
     requires live { IsLive heap.old.rows dev }
     requires timely { Timely heap.old }
-    ensures { Undoes (λ b. device_within b (length heap.old.rows + 1) dev.birth)
+    ensures { Ends (λ b. device_within b (length heap.old.rows + 1) dev.birth)
         (parts heap.old resets.old.births hotplug.old) (parts heap.new resets.new.births hotplug.new) }
 {
     heap.facts();

@@ -1,5 +1,5 @@
 -- No board sees the claims of a body.
-use Rattle.std.proofs.Common.{ap, sym, ◌∙◌, option_map}
+use Rattle.std.proofs.Common.{refl, ap, sym, ◌∙◌, option_map}
 use Rattle.std.proofs.lemmas.Option.{same_Some}
 use Rattle.qo_claims.specs.Book.{ClaimsTaken}
 use Rattle.qo_kinds.specs.Bodies.{kept_of}
@@ -7,6 +7,7 @@ use Rattle.qo_object.specs.Content.{Content}
 use Rattle.qo_heap.specs.Objects.{without_kept}
 use Rattle.qo_heap.proofs.BoardObjects.{live-content}
 use Rattle.qo_unplug.proofs.EndingLemmas.{bare-now, undoes-freed}
+use Rattle.qo_unplug.proofs.KeptLemmas.{kept-freed}
 use Rattle.qo_unplug.proofs.claims.free_claims.Goals as goal
 
 pub returns-clause-undoes : goal.returns-clause-undoes
@@ -21,3 +22,8 @@ returns-clause-undoes g c = λ held asked.
 
 pub returns-clause-bare : goal.returns-clause-bare
 returns-clause-bare g c = bare-now c.args.heap.now c.take_claims-kept.new.heap c.args.o c.requires c.take_claims-kept.ensures.left
+
+pub returns-clause-others : goal.returns-clause-others
+returns-clause-others g c =
+    kept-freed c.args.heap.now c.take_claims-kept.new.heap (record c.take_claims-kept.new.heap { claims = c.free_kept.new.claims }) c.args.o.birth
+    c.free_kept.new.claims c.take_claims-kept.ensures.left refl

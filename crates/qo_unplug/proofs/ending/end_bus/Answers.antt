@@ -1,15 +1,25 @@
 -- The act, and then the holds.
 use Rattle.qo_values.specs.declared.kinds.Act.TheVariants.{Unrealize}
 use Rattle.qo_model.specs.Clocks.{acted}
-use Rattle.qo_model.specs.Unplug.{unheld}
-use Rattle.qo_unplug.specs.Unrealizing.{parts}
+use Rattle.qo_model.specs.Unplug.{unheld, unrealized_bus}
+use Rattle.qo_unplug.specs.Unrealizing.{Undoes, parts}
 use Rattle.qo_unplug.proofs.StepLemmas.{undoes-then, undoes-unheld}
+use Rattle.qo_unplug.proofs.KeptLemmas.{due-stays}
+use Rattle.qo_unplug.proofs.RealizedLemmas.{same_lit-acted}
 use Rattle.qo_unplug.proofs.ending.end_bus.Goals as goal
 
 pub returns : goal.returns
 returns g c = λ asked.
     let n = c.args.bus.birth in
     let held = c.args.resets.now.births in
-    undoes-then (λ _ d. acted Unrealize n 0 d) (λ _. unheld n) (parts c.args.heap.now held asked) (parts c.act.new.heap held asked)
-    (parts c.act.new.heap c.gone.new.self.births asked) (c.act.ensures held asked)
-    (undoes-unheld n c.act.new.heap held c.gone.new.self.births asked c.gone.ensures.holds)
+    let s = parts c.args.heap.now held asked in
+    let t = parts c.act.new.heap c.gone.new.self.births asked in
+    let undoes : Undoes (λ _. unrealized_bus n) s t =
+    undoes-then (λ _ d. acted Unrealize n 0 d) (λ _. unheld n) s (parts c.act.new.heap held asked) t (c.act.ensures.undoes held asked)
+    (undoes-unheld n c.act.new.heap held c.gone.new.self.births asked c.gone.ensures.holds) in
+    record {
+      undoes = undoes;
+      claims = λ b e ticks same beside due h.
+          due-stays due e (unrealized_bus n e) c.args.heap.now c.act.new.heap (same.ticks ticks).named ((undoes.tree b e ticks same beside).ticks ticks).named
+          (undoes.shown b e ticks same beside).shown h (same_lit-acted n 0 e) c.act.ensures.kept;
+    }

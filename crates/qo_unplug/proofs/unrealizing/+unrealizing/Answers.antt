@@ -1,7 +1,7 @@
 -- The kids of a bus and the bus, and the buses of a device and the device.
 use Rattle.std.proofs.Common.{◌-◌, Some, None}
 use Rattle.qo_unplug.specs.Unrealizing.{parts}
-use Rattle.qo_unplug.proofs.StepLemmas.{undoes-none}
+use Rattle.qo_unplug.proofs.StepLemmas.{ends-none}
 use Rattle.qo_unplug.proofs.WalkLemmas.{bus-read, buses-first, buses-last, buses-next, kid-read, kids-first, kids-last, kids-next, none-within}
 use Rattle.qo_unplug.proofs.unrealizing.+unrealizing.Goals as goal
 
@@ -14,7 +14,7 @@ unrealize_kid-returns-in-Some g t c =
 pub unrealize_kid-returns-in_default : goal.unrealize_kid-returns-in_default
 unrealize_kid-returns-in_default g t c =
     let s = parts c.args.heap.now c.args.resets.now.births c.args.hotplug.now in
-    kid-read s s c.args.bus.birth c.args.at c.args.levels None (λ b shown. c.in_default.ensures.kid b shown) (undoes-none s)
+    kid-read s s c.args.bus.birth c.args.at c.args.levels None (λ b shown. c.in_default.ensures.kid b shown) (ends-none s)
 
 pub unrealize_bus-loop-at-init : goal.unrealize_bus-loop-at-init
 unrealize_bus-loop-at-init g t c = kids-first (parts c.args.heap.now c.args.resets.now.births c.args.hotplug.now) c.args.bus.birth c.args.levels
@@ -42,7 +42,7 @@ unrealize_bus_at-returns-in-Some g t c =
 pub unrealize_bus_at-returns-in_default : goal.unrealize_bus_at-returns-in_default
 unrealize_bus_at-returns-in_default g t c =
     let s = parts c.args.heap.now c.args.resets.now.births c.args.hotplug.now in
-    bus-read s s c.args.dev.birth c.args.at c.args.levels None (λ b shown. c.in_default.ensures.bus b shown) (undoes-none s)
+    bus-read s s c.args.dev.birth c.args.at c.args.levels None (λ b shown. c.in_default.ensures.bus b shown) (ends-none s)
 
 pub unrealize_device-returns-then-levels-eq0 : goal.unrealize_device-returns-then-levels-eq0
 unrealize_device-returns-then-levels-eq0 g t c =
@@ -63,4 +63,4 @@ unrealize_device-returns g t c =
     buses-last (parts c.args.heap.now c.args.resets.now.births c.args.hotplug.now)
     (parts c.loop-at.heap c.loop-at.resets.births c.loop-at.hotplug)
     (parts c.end_device.new.heap c.end_device.new.resets.births c.end_device.new.hotplug) c.args.dev.birth c.args.levels c.loop-at.at
-    c.slot_count-count.result c.if-levels-eq0.false c.loop-at-test.false c.slot_count-count.ensures.count c.loop-at.invariant c.end_device.ensures.undoes
+    c.slot_count-count.result c.if-levels-eq0.false c.loop-at-test.false c.slot_count-count.ensures.count c.loop-at.invariant c.end_device.ensures
