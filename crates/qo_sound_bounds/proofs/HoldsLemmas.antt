@@ -1,8 +1,8 @@
 -- The law: what keeps the holds of a board sound.
-use Rattle.std.proofs.Common.{◌≡◌, refl, ap, sym, subst, ◌∙◌, ℕ, zero, suc, ◌+◌, ◌≤◌, Bool, true, false, ◌==◌, eqb, List, [], ◌∷◌, ◌++◌, length, Option, Some, None, is_some, Ok, arith}
+use Rattle.std.proofs.Common.{◌≡◌, ◌⊎◌, inl, inr, refl, ap, sym, subst, ◌∙◌, ℕ, zero, suc, ◌+◌, ◌≤◌, Bool, true, false, ◌==◌, eqb, List, [], ◌∷◌, ◌++◌, length, Option, Some, None, is_some, Ok, arith}
 use Rattle.std.specs.Prelude.{count_by, nat_lt}
 use Rattle.std.specs.List.{AllByRecursion, list_any}
-use Rattle.std.proofs.lemmas.Bool.{eqb-true}
+use Rattle.std.proofs.lemmas.Bool.{eqb-true, eq-eqb}
 use Rattle.std.proofs.lemmas.Bool.Decides.{nat_tests}
 use Rattle.std.proofs.lemmas.List.Sums.{sum_by-cons}
 use Rattle.qo_values.specs.Registers.{Registers}
@@ -24,6 +24,7 @@ use Rattle.qo_model.specs.Reset.{below, count, held, is_deep, post, pulse, relea
 use Rattle.qo_model.specs.Unplug.{detach, first_of}
 use Rattle.qo_model.proofs.ChangeScopeLemmas.{changed-stays}
 use Rattle.qo_sound.proofs.DeviceScopeLemmas.{devices_stay_lem}
+use Rattle.qo_sound.proofs.RecordLemmas.{all-append}
 use Rattle.qo_values.proofs.ListLemmas.{all-imply}
 use Rattle.qo_sound.proofs.TestLemmas.{decide, clash, clash-back}
 use Rattle.qo_sound.proofs.ViewLemmas.{rest-from_sound}
@@ -38,28 +39,54 @@ use Rattle.qo_sound_devices.proofs.ResetLemmas.{detached-below, first-on}
 use Rattle.qo_sound_clocks.specs.RegisterWrites.{registers_set, with_registers}
 use Rattle.qo_sound_clocks.proofs.WriteLawLemmas.{writes_keep_lem}
 use Rattle.qo_sound_clocks.proofs.StepsLemmas.{kept-scaled, kept-set, calls-kept}
-use Rattle.qo_sound_phases.specs.PhaseRuns.{SoundResets}
 use Rattle.qo_sound_phases.specs.SoundPhases.{IsReached, bus}
 use Rattle.qo_sound_phases.proofs.ResetTreeLemmas.{forest, kid-leads, Placed, placed, post-reach, reach-post}
-use Rattle.qo_sound_phases.proofs.CommandLemmas.{frame}
+use Rattle.qo_sound_phases.proofs.CommandLemmas.{frame, reached-on}
 use Rattle.qo_sound_phases.proofs.DetachmentLemmas as detaching
 use Rattle.qo_sound_phases.proofs.ForestLemmas.{above, before, Reach}
-use Rattle.qo_sound_phases.proofs.FrameLemmas.{Frame, frame-count, frame-reached, dims-frame}
-use Rattle.qo_sound_phases.proofs.HoldLemmas.{count-less, count-more, count-shape, held-so, HeldSo, one_if, released-so, ReleasedSo}
+use Rattle.qo_sound_phases.proofs.FrameLemmas.{Frame, frame-count, dims-frame, dims-reached}
+use Rattle.qo_sound_phases.proofs.HoldLemmas.{count-less, count-more, count-shape, held-so, HeldSo, one_if, released-so, ReleasedSo, still-all}
+use Rattle.qo_sound_phases.proofs.LawLemmas.{may-reached}
 use Rattle.qo_sound_phases.proofs.ListLemmas.{among-right, one-among}
-use Rattle.qo_sound_phases.proofs.PlugLemmas.{back, below-new, new-there, reached-old}
-use Rattle.qo_sound_phases.proofs.ReachLemmas.{reached-live, shape-reached}
-use Rattle.qo_sound_phases.proofs.ShapeLemmas.{counted-same, SameShape, shape-acted, shape-back, shape-count, shape-edit, shape-post, shape-records, shape-then}
+use Rattle.qo_sound_phases.proofs.PlugLemmas.{back, below-new, new-there, reached-on as reached-on_new, reached-old}
+use Rattle.qo_sound_phases.proofs.ReachLemmas.{post-reached, reached-live, shape-reached, StaysReached}
+use Rattle.qo_sound_phases.proofs.ShapeLemmas.{counted-same, SameShape, shape-acted, shape-count, shape-edit, shape-post, shape-records, shape-then}
 use Rattle.qo_sound_bounds.specs.HoldsKept.{HoldsKeptLaw}
 use Rattle.qo_sound_bounds.specs.SoundHolds.{SoundHolds}
 use Rattle.qo_sound_bounds.proofs.FeedLemmas.{added-placed}
 use Rattle.qo_sound_bounds.proofs.ClockWriteLemmas.{Written, written-acts, written-none, written-numbers}
 
+-- holds on what is still reached
+
+on-still : (b c : Board) → StaysReached b c → c.holds ≡ b.holds → AllByRecursion (IsReached b) b.holds → AllByRecursion (IsReached c) c.holds
+on-still b c stay holds h = subst (AllByRecursion (IsReached c)) (sym holds) (all-imply (IsReached b) (IsReached c) stay b.holds h)
+
+-- what is below a hold is reached, so no other object has one above it
+
+one-or-none : (P : ℕ → Type 0) (f : ℕ → Bool) (rs : List ℕ) → AllByRecursion P rs → (count_by f rs ≡ 0) ⊎ ((r : ℕ) × (P r × (f r ≡ true)))
+one-or-none P f [] h = inl (omega arith)
+one-or-none P f (r ∷ rs) h = decide (f r) (λ p. inr (r, (h.0, p))) (λ p. by p (one-or-none P f rs h.1))
+  where
+    by : f r ≡ false → (count_by f rs ≡ 0) ⊎ ((x : ℕ) × (P x × (f x ≡ true)))
+        → (count_by f (r ∷ rs) ≡ 0) ⊎ ((x : ℕ) × (P x × (f x ≡ true)))
+    by p (inl none) = let zero : one_if (f r) ≡ 0 = ap one_if p in inl (omega (arith, zero, none, sum_by-cons (λ y. one_if (f y)) r rs))
+    by p (inr one) = inr one
+
+all-few : (b : Board) → Placed b → AllByRecursion (IsReached b) b.holds → ((n : ℕ) → IsReached b n → count b n ≤ 49) → (n : ℕ) → count b n ≤ 49
+all-few b k on few n = go (one-or-none (IsReached b) (λ r. among (post b r) n) b.holds on)
+  where
+    go : (count b n ≡ 0) ⊎ ((r : ℕ) × (IsReached b r × (among (post b r) n ≡ true))) → count b n ≤ 49
+    go (inl none) = omega (arith, none)
+    go (inr one) = few n (post-reached b k one.0 n one.1.0 one.1.1)
+
 -- boards of one shape with the same holds
 
-shape-holds : (b c : Board) → SameShape b c → c.holds ≡ b.holds → SoundHolds b → SoundHolds c
-shape-holds b c shape holds h n i =
-    subst (λ (k : ℕ). k ≤ 49) (sym (shape-count b c shape holds n)) (h n (shape-reached c b (shape-back b c shape) n i))
+pub shape-holds : (b c : Board) → SameShape b c → c.holds ≡ b.holds → SoundHolds b → SoundHolds c
+shape-holds b c shape holds h =
+    record {
+      on = on-still b c (shape-reached b c shape) holds h.on;
+      few = λ n. subst (λ (k : ℕ). k ≤ 49) (sym (shape-count b c shape holds n)) (h.few n);
+    }
 
 beside-holds : (b c : Board) → c.records ≡ b.records → c.holds ≡ b.holds → SoundHolds b → SoundHolds c
 beside-holds b c records holds h = shape-holds b c (shape-records b c records) holds h
@@ -82,26 +109,38 @@ deep-none b n e o i = go (post b n) e i
         (λ q. subst (λ (y : ℕ). count b y ≤ 48) (sym (eqb-true o x q)) (grind (arith, nat_tests, p)))
         (λ q. go os (rw p at f) (rw q at j)))
 
-held-holds : (b : Board) (n : ℕ) → is_deep b n ≡ false → SoundHolds b → SoundHolds (held b n)
-held-holds b n e h o i =
-    decide (among (post b n) o)
-    (λ p.
-    let one : one_if (among (post b n) o) ≡ 1 = ap one_if p in
-    let few : count b o ≤ 48 = deep-none b n e o p in
-    omega (arith, counted, one, few))
-    (λ p.
-    let none : one_if (among (post b n) o) ≡ 0 = ap one_if p in
-    let few : count b o ≤ 49 = h o (shape-reached (held b n) b (shape-back b (held b n) s.shape) o i) in
-    omega (arith, counted, none, few))
+held-holds : (b : Board) (n : ℕ) → IsReached b n → is_deep b n ≡ false → SoundHolds b → SoundHolds (held b n)
+held-holds b n reached e h =
+    record {
+      on =
+          subst (AllByRecursion (IsReached (held b n))) (sym s.holds)
+          (all-append (IsReached (held b n)) b.holds (n ∷ []) (all-imply (IsReached b) (IsReached (held b n)) still b.holds h.on) (still n reached, tt));
+      few = few;
+    }
   where
     s : HeldSo b n (held b n)
     s = held-so b n
 
-    counted : count (held b n) o ≡ count b o + one_if (among (post b n) o)
-    counted =
+    still : StaysReached b (held b n)
+    still = shape-reached b (held b n) s.shape
+
+    counted : (o : ℕ) → count (held b n) o ≡ count b o + one_if (among (post b n) o)
+    counted o =
         count-shape b (held b n) s.shape o
         ∙ ap (count_by (λ x. among (post b x) o)) s.holds
         ∙ count-more (λ x. among (post b x) o) n b.holds
+
+    few : (o : ℕ) → count (held b n) o ≤ 49
+    few o =
+        decide (among (post b n) o)
+        (λ p.
+        let one : one_if (among (post b n) o) ≡ 1 = ap one_if p in
+        let low : count b o ≤ 48 = deep-none b n e o p in
+        omega (arith, counted o, one, low))
+        (λ p.
+        let none : one_if (among (post b n) o) ≡ 0 = ap one_if p in
+        let low : count b o ≤ 49 = h.few o in
+        omega (arith, counted o, none, low))
 
 -- a hold less
 
@@ -131,9 +170,19 @@ released-shape b n =
     shape-then b s.less (released b n) s.same s.shape
 
 released-holds : (b : Board) (n : ℕ) → SoundHolds b → SoundHolds (released b n)
-released-holds b n h o i =
-    let few : count b o ≤ 49 = h o (shape-reached (released b n) b (shape-back b (released b n) (released-shape b n)) o i) in
-    omega (arith, released-count b n o, fewer-counted (λ x. among (post b x) o) n b.holds, few)
+released-holds b n h =
+    record {
+      on =
+          subst (AllByRecursion (IsReached (released b n))) (sym (s.holds ∙ s.fewer))
+          (still-all (IsReached (released b n)) n b.holds
+          (all-imply (IsReached b) (IsReached (released b n)) (shape-reached b (released b n) (released-shape b n)) b.holds h.on));
+      few = λ o.
+          let low : count b o ≤ 49 = h.few o in
+          omega (arith, released-count b n o, fewer-counted (λ x. among (post b x) o) n b.holds, low);
+    }
+  where
+    s : ReleasedSo b n (released b n)
+    s = released-so b n
 
 -- both: as many holds as before
 pulse-count : (b : Board) (n o : ℕ) → count (pulse b n) o ≡ count b o
@@ -150,12 +199,32 @@ pulse-count b n o =
     let more : count_by f (b.holds ++ n ∷ []) ≡ count_by f b.holds + one_if (f n) = count-more f n b.holds in
     omega (arith, less, more))
 
+-- one more at the end, and then one less
+back-all : (P : ℕ → Type 0) (n : ℕ) (rs : List ℕ) → AllByRecursion P rs → AllByRecursion P (without_first n (rs ++ n ∷ []))
+back-all P n [] h = rw (eq-eqb n n refl) tt
+back-all P n (r ∷ rs) h = go (r == n) refl (back-all P n rs h.1)
+  where
+    go : (t : Bool) → (r == n) ≡ t → AllByRecursion P (without_first n (rs ++ n ∷ [])) → AllByRecursion P (without_first n ((r ∷ rs) ++ n ∷ []))
+    go true p rest = rw p (all-append P rs (n ∷ []) h.1 (subst P (eqb-true r n p) h.0, tt))
+    go false p rest = rw p (h.0, rest)
+
 pulse-holds : (b : Board) (n : ℕ) → SoundHolds b → SoundHolds (pulse b n)
 unfolding pulse
-pulse-holds b n h o i =
-    let shape : SameShape b (released (held b n) n) =
-    shape-then b (held b n) (released (held b n) n) (held-so b n).shape (released-shape (held b n) n) in
-    subst (λ (k : ℕ). k ≤ 49) (sym (pulse-count b n o)) (h o (shape-reached (released (held b n) n) b (shape-back b (released (held b n) n) shape) o i))
+pulse-holds b n h =
+    record {
+      on =
+          subst (AllByRecursion (IsReached (released (held b n) n)))
+          (sym (s.holds ∙ s.fewer ∙ ap (without_first n) (held-so b n).holds))
+          (back-all (IsReached (released (held b n) n)) n b.holds
+          (all-imply (IsReached b) (IsReached (released (held b n) n)) (shape-reached b (released (held b n) n) shape) b.holds h.on));
+      few = λ o. subst (λ (k : ℕ). k ≤ 49) (sym (pulse-count b n o)) (h.few o);
+    }
+  where
+    s : ReleasedSo (held b n) n (released (held b n) n)
+    s = released-so (held b n) n
+
+    shape : SameShape b (released (held b n) n)
+    shape = shape-then b (held b n) (released (held b n) n) (held-so b n).shape (released-shape (held b n) n)
 
 -- removals that are asked for
 
@@ -175,19 +244,25 @@ asked-holds b id h = go (device_at b id) refl
 
 -- where what a reset reaches is as before
 
-frame-holds : (b c : Board) → Placed b → Placed c → Frame b c → c.holds ≡ b.holds → SoundHolds b → SoundHolds c
-frame-holds b c kb kc f holds h o i = subst (λ (k : ℕ). k ≤ 49) (sym (frame-count b c kb kc f o i holds)) (h o (frame-reached b c kb kc f o i))
+frame-holds : (b c : Board) → Placed b → Placed c → Frame b c → StaysReached b c → c.holds ≡ b.holds → SoundHolds b → SoundHolds c
+frame-holds b c kb kc f stay holds h = record { on = on; few = all-few c kc on few }
+  where
+    on : AllByRecursion (IsReached c) c.holds
+    on = on-still b c stay holds h.on
+
+    few : (o : ℕ) → IsReached c o → count c o ≤ 49
+    few o i = subst (λ (k : ℕ). k ≤ 49) (sym (frame-count b c kb kc f o i holds)) (h.few o)
 
 changed-holds : (b : Board) (change : Change) → SoundDevices b → SoundHolds b → SoundHolds (changed b change)
 changed-holds b change d h =
-    frame-holds b (changed b change) (placed b d) (placed (changed b change) (devices_kept_lem.change b change d)) (frame b change d)
+    frame-holds b (changed b change) (placed b d) (placed (changed b change) (devices_kept_lem.change b change d)) (frame b change d) (reached-on b change d)
     (changed-stays b change).holds h
 
 -- writes of clocks
 written-holds : (b c : Board) → SoundDevices b → SoundDevices c → Written b c → SoundHolds b → SoundHolds c
 written-holds b c d g w h =
     frame-holds b c (placed b d) (placed c g)
-    (dims-frame b c w.dims)
+    (dims-frame b c w.dims) (dims-reached b c w.dims)
     w.holds h
 
 set-holds : (b d : Board) (c period : ℕ) → clock_set b c period ≡ Ok d → SoundDevices b → SoundHolds b → SoundHolds d
@@ -214,7 +289,7 @@ more-counted f g (r ∷ rs) h =
     let none : one_if (f r) ≡ 0 = ap one_if p in
     omega (arith, none, more-counted f g rs h.1, sum_by-cons (λ y. one_if (f y)) r rs, sum_by-cons (λ y. one_if (g y)) r rs))
 
-module _ (b : Board) (a : Wanted) (w : SoundResets b) (h : SoundHolds b) (t : TypeId) (at : ℕ) (k : Accepted b t at a) where
+module _ (b : Board) (a : Wanted) (w : SoundDevices b) (h : SoundHolds b) (t : TypeId) (at : ℕ) (k : Accepted b t at a) where
   abbrev c : Board
   c = with_plugged b t a (spot_of b t at a.props)
 
@@ -222,14 +297,14 @@ module _ (b : Board) (a : Wanted) (w : SoundResets b) (h : SoundHolds b) (t : Ty
   n = b.born + 1
 
   abbrev kb : Placed b
-  kb = record { depth = w.devices.places.0; places = w.devices.places.1; firm = (rest-from_sound b w.devices.tree).used.firm }
+  kb = record { depth = w.places.0; places = w.places.1; firm = (rest-from_sound b w.tree).used.firm }
 
   j : Joined kb.depth b (b.born + 1) at (spot_of b t at a.props).slot a.id t (done b at (spot_of b t at a.props).slot a.id)
       (with_plugged b t a (spot_of b t at a.props))
-  j = accepted-joined w.devices.places.0 b a (rest-from_sound b w.devices.tree) w.devices.places.1 t at k
+  j = accepted-joined w.places.0 b a (rest-from_sound b w.tree) w.places.1 t at k
 
   kc : Placed (with_plugged b t a (spot_of b t at a.props))
-  kc = added-placed b a w.devices t at k
+  kc = added-placed b a w t at k
 
   holds : (with_plugged b t a (spot_of b t at a.props)).holds ≡ b.holds
   holds = (devices_stay_lem.added b t a (spot_of b t at a.props)).holds
@@ -237,10 +312,10 @@ module _ (b : Board) (a : Wanted) (w : SoundResets b) (h : SoundHolds b) (t : Ty
   -- who was reached has as many
   old-count : (o : ℕ) → IsReached b o → count (with_plugged b t a (spot_of b t at a.props)) o ≡ count b o
   old-count o i =
-      sym (frame-count c b kc kb (back b kb w.phases n at (spot_of b t at a.props).slot a.id t c kc j) o i (sym holds))
+      sym (frame-count c b kc kb (back b kb n at (spot_of b t at a.props).slot a.id t c kc j) o i (sym holds))
 
   stood : stands (with_plugged b t a (spot_of b t at a.props)) (b.born + 1) ≡ true
-  stood = new-there b kb w.phases n at (spot_of b t at a.props).slot a.id t c kc j
+  stood = new-there b kb n at (spot_of b t at a.props).slot a.id t c kc j
 
   -- a hold above what is below the device is above its bus
   over-bus : (o : ℕ) → among (post (with_plugged b t a (spot_of b t at a.props)) (b.born + 1)) o ≡ true → (r : ℕ) → IsReached b r
@@ -252,7 +327,7 @@ module _ (b : Board) (a : Wanted) (w : SoundResets b) (h : SoundHolds b) (t : Ty
       there = reached-live b kb r i
 
       low : Reach (below c) n r → among (post c r) at ≡ true
-      low v = clash (sym there ∙ below-new b kb w.phases n at (spot_of b t at a.props).slot a.id t c kc j r v)
+      low v = clash (sym there ∙ below-new b kb n at (spot_of b t at a.props).slot a.id t c kc j r v)
 
       apart : eqb r n ≡ false
       apart = decide (eqb r n) (λ p. clash (sym there ∙ ap (is_live b) (eqb-true r n p) ∙ j.absent)) (λ p. p)
@@ -260,28 +335,34 @@ module _ (b : Board) (a : Wanted) (w : SoundResets b) (h : SoundHolds b) (t : Ty
       high : Reach (below c) r n → among (post c r) at ≡ true
       high v = reach-post c kc r at (before (below c) (births c) (forest c kc) r at n v (kid-leads c kc n at stood j.on) apart)
 
-  accepted-holds : SoundHolds (with_plugged b t a (spot_of b t at a.props))
-  accepted-holds o i = decide (among (post c n) o) below-it other
+  on : AllByRecursion (IsReached (with_plugged b t a (spot_of b t at a.props))) (with_plugged b t a (spot_of b t at a.props)).holds
+  on = on-still b c (reached-on_new b kb n at (spot_of b t at a.props).slot a.id t c kc j) holds h.on
+
+  reached-few : (o : ℕ) → IsReached (with_plugged b t a (spot_of b t at a.props)) o → count (with_plugged b t a (spot_of b t at a.props)) o ≤ 49
+  reached-few o i = decide (among (post c n) o) below-it other
     where
       other : among (post c n) o ≡ false → count c o ≤ 49
       other e =
-          let was : IsReached b o = reached-old b kb w.phases n at (spot_of b t at a.props).slot a.id t c kc j o i e in
+          let was : IsReached b o = reached-old b kb n at (spot_of b t at a.props).slot a.id t c kc j o i e in
           let same : count c o ≡ count b o = old-count o was in
-          let few : count b o ≤ 49 = h o was in
+          let few : count b o ≤ 49 = h.few o in
           omega (arith, same, few)
 
       below-it : among (post c n) o ≡ true → count c o ≤ 49
       below-it e =
           let its : IsReached b at = bus j.goal.is_bus j.goal.owner in
           let same : count c at ≡ count b at = old-count at its in
-          let few : count b at ≤ 49 = h at its in
+          let few : count b at ≤ 49 = h.few at in
           let less : count c o ≤ count c at =
           more-counted (λ r. among (post c r) o) (λ r. among (post c r) at) c.holds
           (subst (AllByRecursion (λ r. among (post c r) o ≡ true → among (post c r) at ≡ true)) (sym holds)
-          (all-imply (IsReached b) (λ r. among (post c r) o ≡ true → among (post c r) at ≡ true) (λ r v. over-bus o e r v) b.holds w.phases.holds)) in
+          (all-imply (IsReached b) (λ r. among (post c r) o ≡ true → among (post c r) at ≡ true) (λ r v. over-bus o e r v) b.holds h.on)) in
           omega (arith, less, same, few)
 
-plug-holds : (b : Board) (a : Wanted) → SoundResets b → SoundHolds b → SoundHolds (plug b a).board
+  accepted-holds : SoundHolds (with_plugged b t a (spot_of b t at a.props))
+  accepted-holds = record { on = on; few = all-few c kc on reached-few }
+
+plug-holds : (b : Board) (a : Wanted) → SoundDevices b → SoundHolds b → SoundHolds (plug b a).board
 plug-holds b a w h =
     after-plug SoundHolds b a h (λ t bus stage. beside-holds b (plug_attempt b t bus stage) refl refl h)
     (λ t bus k. accepted-holds b a w h t bus k)
@@ -289,12 +370,16 @@ plug-holds b a w h =
 -- a device that is detached, and the reset of the whole board
 
 detach-holds : (b : Board) (d : ℕ) → SoundDevices b → stands b d ≡ true → SoundHolds b → SoundHolds (detach b d)
-detach-holds b d s e h o i =
-    let same : count (detach b d) o ≡ count b o = detaching.counts b d s e o i in
-    let few : count b o ≤ 49 =
-    h o
-    (frame-reached b (detach b d) (placed b s) (placed (detach b d) (devices_kept_lem.detached b d s e)) (detaching.frame b d s e) o i) in
-    omega (arith, same, few)
+detach-holds b d s e h = record { on = on; few = all-few (detach b d) (placed (detach b d) (devices_kept_lem.detached b d s e)) on few }
+  where
+    on : AllByRecursion (IsReached (detach b d)) (detach b d).holds
+    on = detaching.holds-left b d s e h.on
+
+    few : (o : ℕ) → IsReached (detach b d) o → count (detach b d) o ≤ 49
+    few o i =
+        let same : count (detach b d) o ≡ count b o = detaching.counts b d s e o i in
+        let low : count b o ≤ 49 = h.few o in
+        omega (arith, same, low)
 
 completed-holds : (times : ℕ) (b : Board) → SoundDevices b → SoundHolds b → SoundHolds (all_completed times b)
 completed-holds zero b d h = h
@@ -313,7 +398,7 @@ reset-holds b d h = pulse-holds (all_completed (length b.pending) b) MACHINE_BIR
 
 opening-holds : SoundHolds opening_board
 unfolding opening_board
-opening-holds o i = omega arith
+opening-holds = record { on = tt; few = λ n. omega arith }
 
 registers-holds : (b : Board) (n : ℕ) (registers : Registers) → SoundHolds b → SoundHolds (registers_set b n registers)
 registers-holds b n registers h =
@@ -340,4 +425,5 @@ holds_kept_lem =
       plugged = plug-holds;
       detached = detach-holds;
       reset = reset-holds;
+      reached = may-reached;
     }

@@ -16,10 +16,11 @@ use Rattle.qo_model.specs.Unplug.{detach}
 use Rattle.qo_sound_devices.specs.SoundDevices.{SoundDevices}
 use Rattle.qo_sound_devices.specs.SoundPlaces.{stands}
 use Rattle.qo_sound_clocks.specs.RegisterWrites.{registers_set}
-use Rattle.qo_sound_phases.specs.PhaseRuns.{SoundResets}
+use Rattle.qo_sound_phases.specs.PhasesKept.{may_reset}
+use Rattle.qo_sound_phases.specs.SoundPhases.{IsReached, LoneMachine}
 use Rattle.qo_sound_bounds.specs.SoundHolds.{SoundHolds}
 
--- some of it where the board is sound as far as devices go, or devices and phases
+-- some of it where the board is sound as far as devices go
 pub record HoldsKeptLaw : Type 0 where
   -- they are sound on the opening board
   pub opening : SoundHolds opening_board
@@ -30,9 +31,9 @@ pub record HoldsKeptLaw : Type 0 where
   pub cut : (b : Board) (t : TypeId) (i : ℕ) (joined : Bool) → SoundHolds b → SoundHolds (cut_attempt b t i joined)
   pub asked_for : (b : Board) (id : List ℕ) → SoundHolds b → SoundHolds (asked b id).board
   pub refused_by : (b : Board) (d : ℕ) → SoundHolds b → SoundHolds (refused b d)
-  -- an act; a hold that is not one too many, a hold less, and both
+  -- an act; a hold that is not one too many on what a reset reaches, a hold less, and both
   pub acts : (act : Act) (n period : ℕ) (b : Board) → SoundHolds b → SoundHolds (acted act n period b)
-  pub held_so : (b : Board) (n : ℕ) → is_deep b n ≡ false → SoundHolds b → SoundHolds (held b n)
+  pub held_so : (b : Board) (n : ℕ) → IsReached b n → is_deep b n ≡ false → SoundHolds b → SoundHolds (held b n)
   pub released_so : (b : Board) (n : ℕ) → SoundHolds b → SoundHolds (released b n)
   pub pulsed : (b : Board) (n : ℕ) → SoundHolds b → SoundHolds (pulse b n)
   -- a write of a clock's period, and of its mul and div, that is not refused; other registers of an object, whatever they are
@@ -41,7 +42,9 @@ pub record HoldsKeptLaw : Type 0 where
   pub registers : (b : Board) (n : ℕ) (registers : Registers) → SoundHolds b → SoundHolds (registers_set b n registers)
   -- each change by command on objects, taken or refused, and adding a device, taken or refused at any stage
   pub change : (b : Board) (change : Change) → SoundDevices b → SoundHolds b → SoundHolds (changed b change)
-  pub plugged : (b : Board) (a : Wanted) → SoundResets b → SoundHolds b → SoundHolds (plug b a).board
+  pub plugged : (b : Board) (a : Wanted) → SoundDevices b → SoundHolds b → SoundHolds (plug b a).board
   -- a device that stands in a container and is detached with all that is below it, and the reset of the whole board
   pub detached : (b : Board) (d : ℕ) → SoundDevices b → stands b d ≡ true → SoundHolds b → SoundHolds (detach b d)
   pub reset : (b : Board) → SoundDevices b → SoundHolds b → SoundHolds (reset_whole b)
+  -- where there is one machine, what may be held in reset is what a reset reaches
+  pub reached : (b : Board) → SoundDevices b → LoneMachine b → (n : ℕ) → may_reset b n ≡ true → IsReached b n

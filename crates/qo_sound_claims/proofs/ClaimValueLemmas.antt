@@ -37,6 +37,7 @@ use Rattle.qo_sound_devices.proofs.BusLinkLemmas.{SlotIs, slot-none, slot-more}
 use Rattle.qo_sound_devices.proofs.PlainSlotLemmas.{stay-add, stay-rows}
 use Rattle.qo_sound_clocks.proofs.SlotLemmas.{Slots}
 use Rattle.qo_sound_clocks.proofs.DependenceLemmas.{acted-slots}
+use Rattle.qo_sound_claims.specs.ClaimsStay.{ranges_at}
 use Rattle.qo_sound_claims.proofs.DecreaseLemmas.{act-range, at-record}
 
 slot-last : (name own : List ℕ) (s : Slot) → bytes_eq own name ≡ true → (slots : Slots) → named_in name slots ≡ None → SlotIs name s (slots ++ (own, s) ∷ [])
@@ -224,8 +225,6 @@ module _ (n : ℕ) (name : List ℕ) where
       phased-is s Exit (filter (is_out c) (post c d)) c2 (phased-is s Hold (post c d) c1 (phased-is s Enter (post c d) c h))
 
 -- the range of an object
-abbrev pub ranges_at : Board → ℕ → Option (List Range)
-ranges_at c n = option_map (λ (r : Record). range_in r.registers) (record_of c n)
 
 range-edit : (n m : ℕ) (change : Record → Record) → ((r : Record) → (change r).birth ≡ r.birth)
     → ((r : Record) → range_in (change r).registers ≡ range_in r.registers) → (c : Board) → ranges_at (edit m change c) n ≡ ranges_at c n

@@ -34,7 +34,7 @@ use Rattle.qo_sound_clocks.proofs.CommandLemmas.{MaySet, may-set, set-apart}
 use Rattle.qo_sound_clocks.proofs.SlotLemmas.{Slots}
 use Rattle.qo_sound_claims.proofs.DecreaseLemmas.{at-record, Fewer, fewer-after, fewer-drop, fewer-let_go, fewer-none, fewer-pin, fewer-slots, fewer-unpin, Harmless, LessRecord, NearAt, record-none, record-slots, spares-harmless, Spares}
 use Rattle.qo_sound_claims.proofs.ReadLemmas.{realized-at}
-use Rattle.qo_sound_claims.proofs.SlotLemmas.{is_memdev, less-added, less-pointed, less-set, lit_in, OtherName}
+use Rattle.qo_sound_claims.proofs.SlotLemmas.{less-added, less-pointed, less-set, lit_in, OtherLink, OtherName}
 
 -- no property that is claimed is written by `qom-set`
 
@@ -42,32 +42,34 @@ record NeverSet (t : TypeId) : Type 0 where
   chardev : MaySet t (codes "chardev") ≡ false
   addr : MaySet t (codes "addr") ≡ false
   size : MaySet t (codes "size") ≡ false
+  slot : MaySet t (codes "slot") ≡ false
   realized : MaySet t (codes "realized") ≡ false
   memdev : MaySet t (codes "memdev") ≡ false
+  parent_bus : MaySet t (codes "parent_bus") ≡ false
 
 never-set : (t : TypeId) → NeverSet t
 unfolding types
-never-set Object = record { chardev = refl; addr = refl; size = refl; realized = refl; memdev = refl }
-never-set Container = record { chardev = refl; addr = refl; size = refl; realized = refl; memdev = refl }
-never-set Machine = record { chardev = refl; addr = refl; size = refl; realized = refl; memdev = refl }
-never-set Device = record { chardev = refl; addr = refl; size = refl; realized = refl; memdev = refl }
-never-set SlotDevice = record { chardev = refl; addr = refl; size = refl; realized = refl; memdev = refl }
-never-set SlotUart = record { chardev = refl; addr = refl; size = refl; realized = refl; memdev = refl }
-never-set SlotTimer = record { chardev = refl; addr = refl; size = refl; realized = refl; memdev = refl }
-never-set SlotBridge = record { chardev = refl; addr = refl; size = refl; realized = refl; memdev = refl }
-never-set MemDimm = record { chardev = refl; addr = refl; size = refl; realized = refl; memdev = refl }
-never-set Bus = record { chardev = refl; addr = refl; size = refl; realized = refl; memdev = refl }
-never-set SlotBus = record { chardev = refl; addr = refl; size = refl; realized = refl; memdev = refl }
-never-set MemBus = record { chardev = refl; addr = refl; size = refl; realized = refl; memdev = refl }
-never-set Clock = record { chardev = refl; addr = refl; size = refl; realized = refl; memdev = refl }
-never-set MemoryBackend = record { chardev = refl; addr = refl; size = refl; realized = refl; memdev = refl }
-never-set MemoryBackendRam = record { chardev = refl; addr = refl; size = refl; realized = refl; memdev = refl }
-never-set Tag = record { chardev = refl; addr = refl; size = refl; realized = refl; memdev = refl }
+never-set Object = record { chardev = refl; addr = refl; size = refl; slot = refl; realized = refl; memdev = refl; parent_bus = refl }
+never-set Container = record { chardev = refl; addr = refl; size = refl; slot = refl; realized = refl; memdev = refl; parent_bus = refl }
+never-set Machine = record { chardev = refl; addr = refl; size = refl; slot = refl; realized = refl; memdev = refl; parent_bus = refl }
+never-set Device = record { chardev = refl; addr = refl; size = refl; slot = refl; realized = refl; memdev = refl; parent_bus = refl }
+never-set SlotDevice = record { chardev = refl; addr = refl; size = refl; slot = refl; realized = refl; memdev = refl; parent_bus = refl }
+never-set SlotUart = record { chardev = refl; addr = refl; size = refl; slot = refl; realized = refl; memdev = refl; parent_bus = refl }
+never-set SlotTimer = record { chardev = refl; addr = refl; size = refl; slot = refl; realized = refl; memdev = refl; parent_bus = refl }
+never-set SlotBridge = record { chardev = refl; addr = refl; size = refl; slot = refl; realized = refl; memdev = refl; parent_bus = refl }
+never-set MemDimm = record { chardev = refl; addr = refl; size = refl; slot = refl; realized = refl; memdev = refl; parent_bus = refl }
+never-set Bus = record { chardev = refl; addr = refl; size = refl; slot = refl; realized = refl; memdev = refl; parent_bus = refl }
+never-set SlotBus = record { chardev = refl; addr = refl; size = refl; slot = refl; realized = refl; memdev = refl; parent_bus = refl }
+never-set MemBus = record { chardev = refl; addr = refl; size = refl; slot = refl; realized = refl; memdev = refl; parent_bus = refl }
+never-set Clock = record { chardev = refl; addr = refl; size = refl; slot = refl; realized = refl; memdev = refl; parent_bus = refl }
+never-set MemoryBackend = record { chardev = refl; addr = refl; size = refl; slot = refl; realized = refl; memdev = refl; parent_bus = refl }
+never-set MemoryBackendRam = record { chardev = refl; addr = refl; size = refl; slot = refl; realized = refl; memdev = refl; parent_bus = refl }
+never-set Tag = record { chardev = refl; addr = refl; size = refl; slot = refl; realized = refl; memdev = refl; parent_bus = refl }
 
 record Unclaimed (name : List ℕ) : Type 0 where
   values : OtherName name
   realized : bytes_eq name (codes "realized") ≡ false
-  memdev : is_memdev name ≡ false
+  links : OtherLink name
 
 set-other : (t : TypeId) (name : List ℕ) → MaySet t name ≡ true → Unclaimed name
 set-other t name e =
@@ -76,9 +78,10 @@ set-other t name e =
         chardev = set-apart t name e (codes "chardev") n.chardev;
         addr = set-apart t name e (codes "addr") n.addr;
         size = set-apart t name e (codes "size") n.size;
+        slot = set-apart t name e (codes "slot") n.slot;
       };
       realized = set-apart t name e (codes "realized") n.realized;
-      memdev = set-apart t name e (codes "memdev") n.memdev;
+      links = record { memdev = set-apart t name e (codes "memdev") n.memdev; home = set-apart t name e (codes "parent_bus") n.parent_bus };
     }
   where
     n : NeverSet t
@@ -95,7 +98,7 @@ set-fewer b n i v x at other =
 module _ (b : Board) (n i : ℕ) (own : List ℕ) (s left : Slot)
     (at : slice_get (slots_at b n) i ≡ Some (own, s)) (stays : emptied s ≡ Some left) (other : Unclaimed own) where
   link-dropped : Fewer false b (drop_slot b n i)
-  link-dropped = fewer-drop false b b n i (spares-harmless b n i (own, s) at (inr other.memdev)) (fewer-none false b)
+  link-dropped = fewer-drop false b b n i (spares-harmless b n i (own, s) at (inr other.links.memdev)) (fewer-none false b)
 
   pointed-fewer : (target : Option ℕ) → Fewer false b (pointed_at target n i (drop_slot b n i))
   unfolding point
@@ -105,7 +108,7 @@ module _ (b : Board) (n i : ℕ) (own : List ℕ) (s left : Slot)
       (λ r e.
       less-pointed (is_a r.kind (codes "mem-dimm")) false m i r.slots (own, left)
       (sym (ap (λ (xs : Slots). slice_get xs i) (dropped-at b n i (own, s) at r e)) ∙ kept-slot i (slots_at b n) own s left at stays)
-      other.memdev refl)
+      other.links refl)
       link-dropped
 
   relinked-fewer : (target : Option ℕ) → Fewer false b (relinked b n i target)

@@ -109,8 +109,10 @@ less-strict r s h =
             chardev = k.chardev;
             addr = k.addr;
             size = k.size;
+            place = k.place;
             lit = k.lit;
             back = k.back;
+            home = k.home;
             on = k.on;
             strongs = λ m d e. absurd (let clash : false ≡ true = d in cc);
           };
@@ -325,7 +327,7 @@ module _ (strict : Bool) (b : Board) where
   fewer-disconnected : (o : Option ℕ) (c : Board) → Fewer strict b c → Fewer strict b (disconnected o c)
   fewer-disconnected None c h = h
   fewer-disconnected (Some n) c h =
-      fewer-set n (codes "period") (val.Uint 0) (record { chardev = refl; addr = refl; size = refl }) (inl refl) _ (fewer-unseen n (codes "source") c h)
+      fewer-set n (codes "period") (val.Uint 0) (record { chardev = refl; addr = refl; size = refl; slot = refl }) (inl refl) _ (fewer-unseen n (codes "source") c h)
 
   pub fewer-acted : (act : Act) (n period : ℕ) (c : Board) → Fewer strict b c → Fewer strict b (acted act n period c)
   unfolding acted
@@ -346,7 +348,7 @@ module _ (strict : Bool) (b : Board) where
 
   fewer-device : (d : ℕ) (c : Board) → Fewer strict b c → Fewer strict b (unrealized_device d c)
   fewer-device d c h =
-      fewer-set d (codes "realized") (val.Bool false) (record { chardev = refl; addr = refl; size = refl }) (inl refl) _
+      fewer-set d (codes "realized") (val.Bool false) (record { chardev = refl; addr = refl; size = refl; slot = refl }) (inl refl) _
       (fewer-disconnected (clock_of c d) _ (fewer-acted Unrealize d (device_period c d) c h))
 
   fewer-bus : (m : ℕ) (c : Board) → Fewer strict b c → Fewer strict b (unrealized_bus m c)

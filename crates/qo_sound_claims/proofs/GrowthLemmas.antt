@@ -32,7 +32,7 @@ use Rattle.qo_sound.proofs.SearchLemmas.{found-append}
 use Rattle.qo_sound.proofs.AdditionStepsLemmas.{all-any, KeepsActs, link-by, set-by, stand-by, step-acted_all, step-plugged}
 use Rattle.qo_sound.proofs.ReadLemmas.{plain-fitted}
 use Rattle.qo_sound_claims.proofs.DecreaseLemmas.{act-range, at-record, LessRecord, near-none, near-step, NearAt, record-slots}
-use Rattle.qo_sound_claims.proofs.SlotLemmas.{ClaimsLess, is_memdev, less-added, less-filled, less-none, lit_in}
+use Rattle.qo_sound_claims.proofs.SlotLemmas.{ClaimsLess, is_home, is_memdev, less-added, less-filled, less-none, lit_in, OtherLink}
 
 -- an object as new is not realized
 
@@ -136,8 +136,8 @@ module _ (b : Board) (absent : (m : ℕ) → b.born < m → record_of b m ≡ No
       go x apart None true p =
           absurd (let clash : true ≡ false = sym (eq-eqb x n (sym (eqb-true n x p))) ∙ apart in cc)
 
-  -- a slot more that is not plain, and no backend's
-  growing-add : (m : ℕ) (name : List ℕ) (s : Slot) → plain_in s ≡ None → (strong_in s ≡ None) ⊎ (is_memdev name ≡ false) → (c : Board) → Growing c
+  -- a slot more that is not plain, and no link of a backend or to a device's bus
+  growing-add : (m : ℕ) (name : List ℕ) (s : Slot) → plain_in s ≡ None → (strong_in s ≡ None) ⊎ OtherLink name → (c : Board) → Growing c
       → Growing (add m name s c)
   unfolding add
   growing-add m name s none other c h =
@@ -180,7 +180,7 @@ module _ (b : Board) (absent : (m : ℕ) → b.born < m → record_of b m ≡ No
       stand-by Growing b n a spot
       (record {
         named = growing-add (parent_for a.id) (name_for b a.id) (child n) refl (inl refl);
-        on_bus = growing-add spot.bus (kid_name spot.slot) (strong Device (Some n)) refl (inr refl);
+        on_bus = growing-add spot.bus (kid_name spot.slot) (strong Device (Some n)) refl (inr (record { memdev = refl; home = refl }));
         given = growing-own (with_given b a.props) (λ r. refl);
         placed = growing-set (codes "slot") (val.Uint spot.slot);
         linked = growing-link (codes "parent_bus") spot.bus;
@@ -199,7 +199,10 @@ module _ (b : Board) (absent : (m : ℕ) → b.born < m → record_of b m ≡ No
           growing-slots m (with_changed (fitted c source) i) (λ r. refl) (λ r. refl) (λ r. refl) c
           (λ r q.
           less-filled (is_a r.kind (codes "mem-dimm")) (fitted c source) (plain-fitted c source) i r.slots f.entry (at-record c m i f.entry r f.at q)
-          (ap is_memdev ((bytes_eq-Decides f.entry.0 (codes "source")).0 f.passes))) h
+          (record {
+            memdev = ap is_memdev ((bytes_eq-Decides f.entry.0 (codes "source")).0 f.passes);
+            home = ap is_home ((bytes_eq-Decides f.entry.0 (codes "source")).0 f.passes);
+          })) h
 
   growing-clocked : (source : ℕ) (c : Board) → Growing c → Growing (clocked source n c)
   growing-clocked source c h = go (clock_of c n)

@@ -11,4 +11,6 @@ pub mod PlugLemmas
 pub mod ReadLemmas
 pub mod RingLemmas
 pub mod SlotLemmas
+pub mod StayLemmas
+pub mod StayLawLemmas
 pub mod StepsLemmas

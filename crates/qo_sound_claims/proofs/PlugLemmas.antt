@@ -17,7 +17,7 @@ use Rattle.qo_values.specs.declared.limits.TheConstants.{DIMM_ALIGN}
 use Rattle.qo_values.specs.declared.properties.Val.{Val}
 use Rattle.qo_values.specs.declared.properties.Val.TheVariants as val
 use Rattle.qo_values.specs.declared.ranges.Range.{Range}
-use Rattle.qo_model.specs.Board.{Board, Record, Ring, Slot, plain, strong, kind_of, record_of}
+use Rattle.qo_model.specs.Board.{Board, Record, Ring, Slot, plain, strong, is_live, kind_of, record_of}
 use Rattle.qo_model.specs.Devices.{is_realized, number_at, number_in, plain_in, strong_in, text_at, text_in}
 use Rattle.qo_model.specs.Objects.{Given, given_to, refusal_by, refusal_of, slot_given, target_given}
 use Rattle.qo_model.specs.Paths.{is_of}
@@ -34,9 +34,13 @@ use Rattle.qo_values.proofs.PlacingLemmas.{least-passes}
 use Rattle.qo_sound.proofs.TargetLemmas.{FitsResult, target-fits}
 use Rattle.qo_sound.proofs.ViewLemmas.{AtRest, rest-from_sound, sound-from_rest}
 use Rattle.qo_sound_devices.specs.SoundDevices.{SoundDevices}
+use Rattle.qo_sound_devices.specs.SoundPlaces.{IsHome}
 use Rattle.qo_sound_devices.proofs.AcceptanceLemmas.{Passes, passes}
+use Rattle.qo_sound_devices.proofs.AdditionLemmas.{done, Joined}
+use Rattle.qo_sound_devices.proofs.PlacesLemmas.{realized-live}
 use Rattle.qo_sound_devices.proofs.PlugLemmas.{Accepted, after-plug}
 use Rattle.qo_sound_devices.proofs.PlugStageLemmas.{accepted-joined}
+use Rattle.qo_sound_claims.specs.ClaimsStay.{ClaimsAlike, ClaimsGiven, ranges_at}
 use Rattle.qo_sound_claims.specs.SoundBackends.{SoundBackends}
 use Rattle.qo_sound_claims.specs.SoundClaims.{HasRange, is_dimm_on, is_uart_on, NamesRing, StandsOn}
 use Rattle.qo_sound_claims.specs.SoundRings.{AreGoodRings}
@@ -46,6 +50,7 @@ use Rattle.qo_sound_claims.proofs.ClaimValueLemmas.{Apart, first_row, own-addr, 
 use Rattle.qo_sound_claims.proofs.ReadLemmas.{at-backend, kind-at, target-there}
 use Rattle.qo_sound_claims.proofs.RingLemmas.{claims-it}
 use Rattle.qo_sound_claims.proofs.SlotLemmas.{is_memdev}
+use Rattle.qo_sound_claims.proofs.StayLemmas.{stay-at}
 use Rattle.qo_sound_claims.proofs.StepsLemmas.{backends-beside}
 
 -- types by their names
@@ -458,8 +463,11 @@ module _ (b : Board) (a : Wanted) (devices : SoundDevices b) (h : SoundBackends 
           absurd (let clash : false ≡ true = rw none at e in cc)
       go false p = p
 
+  joined : Joined devices.places.0 b n bus spot.slot a.id t (done b bus spot.slot a.id) c
+  joined = accepted-joined devices.places.0 b a rest devices.places.1 t bus k
+
   kind : kind_of c n ≡ Some t
-  kind = (accepted-joined devices.places.0 b a rest devices.places.1 t bus k).kind
+  kind = joined.kind
 
   kind-of : (name : List ℕ) → is_of c name n ≡ true → is_a t name ≡ true
   kind-of name e = sym (ap (λ (o : Option TypeId). option_map_or (λ (x : TypeId). is_a x name) o false) kind) ∙ e
@@ -544,9 +552,12 @@ module _ (b : Board) (a : Wanted) (devices : SoundDevices b) (h : SoundBackends 
         ap (λ (o : Option Slot). option_and_then number_in (option_and_then plain_in o))
         (own-addr b absent t a spot fits.range spot-range val.Nothing p.val first-addr p.is)
 
+    own-ranges : ranges_at c n ≡ Some (fits.range ∷ [])
+    own-ranges = own-range b absent t a spot fits.range spot-range (codes "memdev") apart-memdev refl (strong MemoryBackend None) first-memdev
+
     own-stands : StandsOn c n fits.range
     own-stands =
-        go (record_of c n) (own-range b absent t a spot fits.range spot-range (codes "memdev") apart-memdev refl (strong MemoryBackend None) first-memdev)
+        go (record_of c n) own-ranges
       where
         go : (o : Option Record) → option_map (λ (r : Record). range_in r.registers) o ≡ Some (fits.range ∷ [])
             → option_map (λ (x : Record). x.registers) o ≡ Some (dimm (record { address = fits.range.at; size = fits.range.size }))
@@ -600,6 +611,34 @@ module _ (b : Board) (a : Wanted) (devices : SoundDevices b) (h : SoundBackends 
         let was : StandsOn b e s = stands-before b c devices.tree after same h.claims e s (old e apart) on l in
         let before : is_dimm_on b e ≡ true = dimm-before b c devices.tree after same h.claims e (old e apart) on in
         subst (λ (g : Range). overlap g s ≡ false) own (clear-of b fits.range fits.fits.clear e s before was)
+
+  -- it claims what it was given
+  pub added-given : ClaimsGiven b t bus a.props (with_plugged b t a (spot_of b t bus a.props)) (b.born + 1)
+  added-given =
+      record {
+        realized = joined.stands_realized;
+        kind = kind;
+        on = joined.on;
+        slot = joined.at;
+        ring = own-uart;
+        backend = λ is. own-backend is ∙ sym (fits is).target;
+        range = λ is. own-ranges is ∙ sym (ap (option_map (λ (g : Range). g ∷ [])) (spot-range is));
+      }
+
+  -- of the others the same are realized, and claim the same
+  pub added-same : (x : ℕ) → (x == (b.born + 1)) ≡ false → is_realized (with_plugged b t a (spot_of b t bus a.props)) x ≡ is_realized b x
+  added-same x apart = go (record_of b x) refl
+    where
+      go : (o : Option Record) → record_of b x ≡ o → is_realized c x ≡ is_realized b x
+      go None q = let none : is_live b x ≡ false = ap is_some q in rw q (joined.unrealized x none apart)
+      go (Some r) q = joined.realized x (ap is_some q)
+
+  pub added-stay : (x : ℕ) → (x == (b.born + 1)) ≡ false → is_realized (with_plugged b t a (spot_of b t bus a.props)) x ≡ true
+      → ClaimsAlike b (with_plugged b t a (spot_of b t bus a.props)) x
+  added-stay x apart e =
+      let lit : is_realized b x ≡ true = sym (added-same x apart) ∙ e in
+      let home : IsHome b x = devices.places.1.home x (devices.places.1.only x lit) (λ z. cc) in
+      stay-at b c devices.tree after x (old x apart) e home.bus (joined.bus_same x (realized-live b x lit) ∙ home.on)
 
   -- each is the new device, or was there
   is-new : (x : ℕ) → (x ≡ n) ⊎ ((x == n) ≡ false)

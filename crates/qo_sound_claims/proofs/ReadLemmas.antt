@@ -8,7 +8,7 @@ use Rattle.std.proofs.lemmas.Slice.Eq.{bytes_eq-Decides}
 use Rattle.qo_values.specs.declared.kinds.TypeId.{TypeId}
 use Rattle.qo_values.specs.declared.properties.Val.{Val}
 use Rattle.qo_model.specs.Board.{Board, Record, Slot, plain, child, strong, weak, alias, kind_of, record_of}
-use Rattle.qo_model.specs.Devices.{is_realized, is_true, plain_at, plain_in, strong_in}
+use Rattle.qo_model.specs.Devices.{is_realized, is_true, plain_at, plain_in, strong_at, strong_in}
 use Rattle.qo_model.specs.Paths.{is_of}
 use Rattle.qo_model.specs.Plug.{backend_of}
 use Rattle.qo_model.specs.Types.{is_a}
@@ -23,7 +23,7 @@ use Rattle.qo_sound_clocks.proofs.ReadLemmas.{tree-named, target-seen, seen-targ
 use Rattle.qo_sound_claims.proofs.SlotLemmas.{is_memdev, lit_in, Names, points, points_it}
 
 -- names of one kind
-abbrev is_name : List ℕ → Names
+abbrev pub is_name : List ℕ → Names
 is_name name own = bytes_eq own name
 
 -- a link is seen
@@ -82,14 +82,19 @@ module _ (b : Board) (tree : SoundTree b) (n : ℕ) (r : Record) (there : record
   pub realized-at : is_realized b n ≡ lit_in r.slots
   realized-at = ap (λ (o : Option Val). option_map_or is_true o false) (plain-at (codes "realized"))
 
+  pub link-at : (name : List ℕ) (k : ℕ) → points (is_name name) k r.slots ≡ true → strong_at b n name ≡ Some k
+  link-at name k e =
+      ap (λ (o : Option Record). option_and_then strong_in (named_in name (slots_in o))) there ∙ points-read name k r.slots names e
+
+  pub at-link : (name : List ℕ) (k : ℕ) → strong_at b n name ≡ Some k → points (is_name name) k r.slots ≡ true
+  at-link name k e =
+      read-points name k r.slots (sym (ap (λ (o : Option Record). option_and_then strong_in (named_in name (slots_in o))) there) ∙ e)
+
   pub backend-at : (k : ℕ) → points is_memdev k r.slots ≡ true → backend_of b n ≡ Some k
-  backend-at k e =
-      ap (λ (o : Option Record). option_and_then strong_in (named_in (codes "memdev") (slots_in o))) there ∙ points-read (codes "memdev") k r.slots names e
+  backend-at k e = link-at (codes "memdev") k e
 
   pub at-backend : (k : ℕ) → backend_of b n ≡ Some k → points is_memdev k r.slots ≡ true
-  at-backend k e =
-      read-points (codes "memdev") k r.slots
-      (sym (ap (λ (o : Option Record). option_and_then strong_in (named_in (codes "memdev") (slots_in o))) there) ∙ e)
+  at-backend k e = at-link (codes "memdev") k e
 
 -- its type
 pub kind-at : (b : Board) (n : ℕ) (r : Record) → record_of b n ≡ Some r → (name : List ℕ) → is_of b name n ≡ is_a r.kind name

@@ -27,12 +27,22 @@ points_it p k s = p s.0 && is_target k (strong_in s.1)
 abbrev pub points : Names → ℕ → Slots → Bool
 points p k slots = list_any (points_it p k) slots
 
--- under the name of a backend's link; under any
+-- under the name of a backend's link
 abbrev pub is_memdev : Names
 is_memdev name = bytes_eq name (codes "memdev")
 
+-- under the name of a device's link to its bus
+abbrev pub is_home : Names
+is_home name = bytes_eq name (codes "parent_bus")
+
+-- under any name
 abbrev pub is_any : Names
 is_any name = true
+
+-- a name that is neither
+pub record OtherLink (name : List ℕ) : Type 0 where
+  pub memdev : is_memdev name ≡ false
+  pub home : is_home name ≡ false
 
 abbrev pub lit_in : Slots → Bool
 lit_in slots = option_map_or is_true (plain_of (codes "realized") slots) false
@@ -42,14 +52,26 @@ pub record ClaimsLess (is_dimm is_bus : Bool) (xs ys : Slots) : Type 0 where
   pub chardev : plain_of (codes "chardev") ys ≡ plain_of (codes "chardev") xs
   pub addr : plain_of (codes "addr") ys ≡ plain_of (codes "addr") xs
   pub size : plain_of (codes "size") ys ≡ plain_of (codes "size") xs
+  pub place : plain_of (codes "slot") ys ≡ plain_of (codes "slot") xs
   pub lit : lit_in ys ≡ true → lit_in xs ≡ true
   pub back : (k : ℕ) → points is_memdev k ys ≡ true → points is_memdev k xs ≡ true
+  pub home : (k : ℕ) → points is_home k ys ≡ true → points is_home k xs ≡ true
   pub on : (k : ℕ) → is_dimm ≡ true → lit_in ys ≡ true → points is_memdev k xs ≡ true → points is_memdev k ys ≡ true
   pub strongs : (k : ℕ) → is_bus ≡ true → points is_any k ys ≡ true → points is_any k xs ≡ true
 
 pub less-none : (is_dimm is_bus : Bool) (xs : Slots) → ClaimsLess is_dimm is_bus xs xs
 less-none is_dimm is_bus xs =
-    record { chardev = refl; addr = refl; size = refl; lit = λ e. e; back = λ k e. e; on = λ k d l e. e; strongs = λ k d e. e }
+    record {
+      chardev = refl;
+      addr = refl;
+      size = refl;
+      place = refl;
+      lit = λ e. e;
+      back = λ k e. e;
+      home = λ k e. e;
+      on = λ k d l e. e;
+      strongs = λ k d e. e;
+    }
 
 pub less-then : (is_dimm is_bus : Bool) (xs ys zs : Slots) → ClaimsLess is_dimm is_bus xs ys → ClaimsLess is_dimm is_bus ys zs
     → ClaimsLess is_dimm is_bus xs zs
@@ -58,8 +80,10 @@ less-then is_dimm is_bus xs ys zs h k =
       chardev = k.chardev ∙ h.chardev;
       addr = k.addr ∙ h.addr;
       size = k.size ∙ h.size;
+      place = k.place ∙ h.place;
       lit = λ e. h.lit (k.lit e);
       back = λ m e. h.back m (k.back m e);
+      home = λ m e. h.home m (k.home m e);
       on = λ m d l e. k.on m d l (h.on m d (k.lit l) e);
       strongs = λ m d e. h.strongs m d (k.strongs m d e);
     }
@@ -69,6 +93,7 @@ pub record SameValues (xs ys : Slots) : Type 0 where
   pub chardev : plain_of (codes "chardev") ys ≡ plain_of (codes "chardev") xs
   pub addr : plain_of (codes "addr") ys ≡ plain_of (codes "addr") xs
   pub size : plain_of (codes "size") ys ≡ plain_of (codes "size") xs
+  pub place : plain_of (codes "slot") ys ≡ plain_of (codes "slot") xs
   pub lit : lit_in ys ≡ true → lit_in xs ≡ true
 
 -- where values stay under every name
@@ -78,6 +103,7 @@ all-same xs ys same =
       chardev = same (codes "chardev");
       addr = same (codes "addr");
       size = same (codes "size");
+      place = same (codes "slot");
       lit = λ e. sym (ap (λ (o : Option Val). option_map_or is_true o false) (same (codes "realized"))) ∙ e;
     }
 
@@ -89,8 +115,10 @@ less-same is_dimm is_bus xs ys h same =
       chardev = h.chardev;
       addr = h.addr;
       size = h.size;
+      place = h.place;
       lit = h.lit;
       back = λ k e. sym (same is_memdev k) ∙ e;
+      home = λ k e. sym (same is_home k) ∙ e;
       on = λ k d l e. same is_memdev k ∙ e;
       strongs = λ k d e. sym (same is_any k) ∙ e;
     }
@@ -104,8 +132,10 @@ less-fewer is_dimm is_bus xs ys h fewer stays =
       chardev = h.chardev;
       addr = h.addr;
       size = h.size;
+      place = h.place;
       lit = h.lit;
       back = λ k e. fewer is_memdev k e;
+      home = λ k e. fewer is_home k e;
       on = stays;
       strongs = λ k d e. fewer is_any k e;
     }
@@ -239,6 +269,7 @@ pub record OtherName (name : List ℕ) : Type 0 where
   pub chardev : bytes_eq name (codes "chardev") ≡ false
   pub addr : bytes_eq name (codes "addr") ≡ false
   pub size : bytes_eq name (codes "size") ≡ false
+  pub slot : bytes_eq name (codes "slot") ≡ false
 
 pub less-set : (is_dimm is_bus : Bool) (v : Val) (i : ℕ) (xs : Slots) (x : List ℕ × Slot) → slice_get xs i ≡ Some x → OtherName x.0
     → (is_true v ≡ false) ⊎ (bytes_eq x.0 (codes "realized") ≡ false) → ClaimsLess is_dimm is_bus xs (changed_at (with_val v) i xs)
@@ -248,6 +279,7 @@ less-set is_dimm is_bus v i xs x e other dark =
       chardev = plain-apart (with_val v) (codes "chardev") i xs x e other.chardev;
       addr = plain-apart (with_val v) (codes "addr") i xs x e other.addr;
       size = plain-apart (with_val v) (codes "size") i xs x e other.size;
+      place = plain-apart (with_val v) (codes "slot") i xs x e other.slot;
       lit = lit dark;
     })
     (λ p k. points-changed (with_val v) (strong-val v) p k i xs)
@@ -266,30 +298,34 @@ points-apart g p k zero (y ∷ xs) x e apart =
     rw other refl
 points-apart g p k (suc i) (y ∷ xs) x e apart = ap (λ (t : Bool). points_it p k y || t) (points-apart g p k i xs x e apart)
 
-pub less-pointed : (is_dimm is_bus : Bool) (m i : ℕ) (xs : Slots) (x : List ℕ × Slot) → slice_get xs i ≡ Some x → is_memdev x.0 ≡ false → is_bus ≡ false
+pub less-pointed : (is_dimm is_bus : Bool) (m i : ℕ) (xs : Slots) (x : List ℕ × Slot) → slice_get xs i ≡ Some x → OtherLink x.0 → is_bus ≡ false
     → ClaimsLess is_dimm is_bus xs (changed_at (pointed m) i xs)
 less-pointed is_dimm is_bus m i xs x e other no_bus =
     record {
       chardev = plain-changed (pointed m) (plain-pointed m) (codes "chardev") i xs;
       addr = plain-changed (pointed m) (plain-pointed m) (codes "addr") i xs;
       size = plain-changed (pointed m) (plain-pointed m) (codes "size") i xs;
+      place = plain-changed (pointed m) (plain-pointed m) (codes "slot") i xs;
       lit = λ q. sym (ap (λ (o : Option Val). option_map_or is_true o false) (plain-changed (pointed m) (plain-pointed m) (codes "realized") i xs)) ∙ q;
-      back = λ k q. sym (points-apart (pointed m) is_memdev k i xs x e other) ∙ q;
-      on = λ k d l q. points-apart (pointed m) is_memdev k i xs x e other ∙ q;
+      back = λ k q. sym (points-apart (pointed m) is_memdev k i xs x e other.memdev) ∙ q;
+      home = λ k q. sym (points-apart (pointed m) is_home k i xs x e other.home) ∙ q;
+      on = λ k d l q. points-apart (pointed m) is_memdev k i xs x e other.memdev ∙ q;
       strongs = λ k d q. absurd (let clash : true ≡ false = sym d ∙ no_bus in cc);
     }
 
 -- a link of another name is filled
 pub less-filled : (is_dimm : Bool) (g : Slot → Slot) → ((s : Slot) → plain_in (g s) ≡ plain_in s) → (i : ℕ) (xs : Slots) (x : List ℕ × Slot)
-    → slice_get xs i ≡ Some x → is_memdev x.0 ≡ false → ClaimsLess is_dimm false xs (changed_at g i xs)
+    → slice_get xs i ≡ Some x → OtherLink x.0 → ClaimsLess is_dimm false xs (changed_at g i xs)
 less-filled is_dimm g same i xs x e other =
     record {
       chardev = plain-changed g same (codes "chardev") i xs;
       addr = plain-changed g same (codes "addr") i xs;
       size = plain-changed g same (codes "size") i xs;
+      place = plain-changed g same (codes "slot") i xs;
       lit = λ q. sym (ap (λ (o : Option Val). option_map_or is_true o false) (plain-changed g same (codes "realized") i xs)) ∙ q;
-      back = λ k q. sym (points-apart g is_memdev k i xs x e other) ∙ q;
-      on = λ k d l q. points-apart g is_memdev k i xs x e other ∙ q;
+      back = λ k q. sym (points-apart g is_memdev k i xs x e other.memdev) ∙ q;
+      home = λ k q. sym (points-apart g is_home k i xs x e other.home) ∙ q;
+      on = λ k d l q. points-apart g is_memdev k i xs x e other.memdev ∙ q;
       strongs = λ k d q. absurd (let clash : false ≡ true = d in cc);
     }
 
@@ -303,20 +339,26 @@ pub points-added : (p : Names) (k : ℕ) (x : List ℕ × Slot) → points_it p 
 points-added p k x none [] = rw none refl
 points-added p k x none (y ∷ xs) = ap (λ (t : Bool). points_it p k y || t) (points-added p k x none xs)
 
--- a slot that is not plain, and no link of a backend; to a bus, no strong link at all
-pub less-added : (is_dimm is_bus : Bool) (own : List ℕ) (t : Slot) → plain_in t ≡ None → (strong_in t ≡ None) ⊎ (is_memdev own ≡ false)
+-- a slot that is not plain, and no link of a backend or to a device's bus; to a bus, no strong link at all
+pub less-added : (is_dimm is_bus : Bool) (own : List ℕ) (t : Slot) → plain_in t ≡ None → (strong_in t ≡ None) ⊎ OtherLink own
     → (strong_in t ≡ None) ⊎ (is_bus ≡ false) → (xs : Slots) → ClaimsLess is_dimm is_bus xs (xs ++ (own, t) ∷ [])
 less-added is_dimm is_bus own t none other bus xs =
     record {
       chardev = plain-added (codes "chardev") own t none xs;
       addr = plain-added (codes "addr") own t none xs;
       size = plain-added (codes "size") own t none xs;
+      place = plain-added (codes "slot") own t none xs;
       lit = λ q. sym (ap (λ (o : Option Val). option_map_or is_true o false) (plain-added (codes "realized") own t none xs)) ∙ q;
-      back = λ k q. sym (points-added is_memdev k (own, t) (points-none is_memdev k (own, t) other) xs) ∙ q;
-      on = λ k d l q. points-added is_memdev k (own, t) (points-none is_memdev k (own, t) other) xs ∙ q;
+      back = λ k q. sym (points-added is_memdev k (own, t) (none_at is_memdev other (λ o. o.memdev) k) xs) ∙ q;
+      home = λ k q. sym (points-added is_home k (own, t) (none_at is_home other (λ o. o.home) k) xs) ∙ q;
+      on = λ k d l q. points-added is_memdev k (own, t) (none_at is_memdev other (λ o. o.memdev) k) xs ∙ q;
       strongs = λ k d q. strongs k d bus q;
     }
   where
+    none_at : (p : Names) → (strong_in t ≡ None) ⊎ OtherLink own → (OtherLink own → p own ≡ false) → (k : ℕ) → points_it p k (own, t) ≡ false
+    none_at p (inl blind) name k = points-none p k (own, t) (inl blind)
+    none_at p (inr o) name k = points-none p k (own, t) (inr (name o))
+
     strongs : (k : ℕ) → is_bus ≡ true → (strong_in t ≡ None) ⊎ (is_bus ≡ false) → points is_any k (xs ++ (own, t) ∷ []) ≡ true → points is_any k xs ≡ true
     strongs k d (inl blind) q = sym (points-added is_any k (own, t) (points-none is_any k (own, t) (inl blind)) xs) ∙ q
     strongs k d (inr other) q = absurd (let clash : true ≡ false = sym d ∙ other in cc)

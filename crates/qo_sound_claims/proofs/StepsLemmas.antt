@@ -86,19 +86,19 @@ acted-backends act n period b d h =
     (fewer-acted false b act n period b (fewer-none false b)) h
 
 module _ (b : Board) where
-  fewer-held : (c : Board) (n : ℕ) → Fewer false b c → Fewer false b (held c n)
+  pub fewer-held : (c : Board) (n : ℕ) → Fewer false b c → Fewer false b (held c n)
   unfolding held
   fewer-held c n h =
       fewer-phased false b Hold (filter (is_out c) (post c n)) (phased Enter (filter (is_out c) (post c n)) c)
       (fewer-phased false b Enter (filter (is_out c) (post c n)) c h)
 
-  fewer-released : (c : Board) (n : ℕ) → Fewer false b c → Fewer false b (released c n)
+  pub fewer-released : (c : Board) (n : ℕ) → Fewer false b c → Fewer false b (released c n)
   unfolding released
   fewer-released c n h =
       let x : Board = record c { holds = without_first n c.holds } in
       fewer-phased false b Exit (filter (is_out x) (post x n)) x h
 
-  fewer-pulse : (c : Board) (n : ℕ) → Fewer false b c → Fewer false b (pulse c n)
+  pub fewer-pulse : (c : Board) (n : ℕ) → Fewer false b c → Fewer false b (pulse c n)
   unfolding pulse
   fewer-pulse c n h = fewer-released (held c n) n (fewer-held c n h)
 
@@ -117,9 +117,9 @@ pulse-backends b n d h =
 
 -- clocks that are written
 
-record Goes (b c : Board) : Type 0 where
-  fewer : Fewer false b c
-  rings : c.rings ≡ b.rings
+pub record Goes (b c : Board) : Type 0 where
+  pub fewer : Fewer false b c
+  pub rings : c.rings ≡ b.rings
 
 goes-acted : (b : Board) (act : Act) (n period : ℕ) (c : Board) → Goes b c → Goes b (acted act n period c)
 goes-acted b act n period c h =
@@ -137,16 +137,16 @@ goes-set b n name v other c h =
 goes-none : (b : Board) → Goes b b
 goes-none b = record { fewer = fewer-none false b; rings = refl }
 
-set-goes : (b d : Board) (c period : ℕ) → clock_set b c period ≡ Ok d → Goes b d
+pub set-goes : (b d : Board) (c period : ℕ) → clock_set b c period ≡ Ok d → Goes b d
 set-goes b d c period e = go (is_some (source_of b c)) refl
   where
     go : (t : Bool) → is_some (source_of b c) ≡ t → Goes b d
     go true p = absurd (let clash : Err E45 ≡ Ok d = rw (clock_set, p) at e in cc)
     go false p =
         kept-written (Goes b) (calls-kept (Goes b) (goes-acted b)) b (set_named c (codes "period") (val.Uint period) b) d c
-        (goes-set b c (codes "period") period (record { chardev = refl; addr = refl; size = refl }) b (goes-none b)) (rw (clock_set, p) at e)
+        (goes-set b c (codes "period") period (record { chardev = refl; addr = refl; size = refl; slot = refl }) b (goes-none b)) (rw (clock_set, p) at e)
 
-scaled-goes : (b d : Board) (c mul div : ℕ) → clock_scaled b c mul div ≡ Ok d → Goes b d
+pub scaled-goes : (b d : Board) (c mul div : ℕ) → clock_scaled b c mul div ≡ Ok d → Goes b d
 scaled-goes b d c mul div e = go (eqb div 0) refl
   where
     mid : Board
@@ -156,8 +156,8 @@ scaled-goes b d c mul div e = go (eqb div 0) refl
     go true p = absurd (let clash : Err E46 ≡ Ok d = rw (clock_scaled, p) at e in cc)
     go false p =
         kept-written (Goes b) (calls-kept (Goes b) (goes-acted b)) b (set_named c (codes "div") (val.Uint div) mid) d c
-        (goes-set b c (codes "div") div (record { chardev = refl; addr = refl; size = refl }) mid
-        (goes-set b c (codes "mul") mul (record { chardev = refl; addr = refl; size = refl }) b (goes-none b)))
+        (goes-set b c (codes "div") div (record { chardev = refl; addr = refl; size = refl; slot = refl }) mid
+        (goes-set b c (codes "mul") mul (record { chardev = refl; addr = refl; size = refl; slot = refl }) b (goes-none b)))
         (rw (clock_scaled, p) at e)
 
 pub set-backends : (b d : Board) (c period : ℕ) → clock_set b c period ≡ Ok d → SoundDevices b → SoundBackends b → SoundBackends d
@@ -182,11 +182,10 @@ write-range r s effect reg value ring now period e = by r s (written-becomes r s
     by x y (dimm_stays d) = refl
     by x y (bridge_to g v) = refl
 
-pub wrote-backends : (b : Board) (n : ℕ) (r : Record) (s : Registers) (effect : Effect) (reg value : ℕ) (ring : Bool) (now period : ℕ) → record_of b n ≡ Some r
-    → body_write r.registers reg value ring now period ≡ Some (s, effect) → SoundDevices b → SoundBackends b → SoundBackends (registers_set b n s)
-wrote-backends b n r s effect reg value ring now period there e d h =
-    backends-fewer b (registers_set b n s) d (registers_kept_lem.devices b n s d) refl
-    (fewer-edit false b n (with_registers s) (λ x. refl) b
+pub wrote-fewer : (b : Board) (n : ℕ) (r : Record) (s : Registers) (effect : Effect) (reg value : ℕ) (ring : Bool) (now period : ℕ) → record_of b n ≡ Some r
+    → body_write r.registers reg value ring now period ≡ Some (s, effect) → Fewer false b (registers_set b n s)
+wrote-fewer b n r s effect reg value ring now period there e =
+    fewer-edit false b n (with_registers s) (λ x. refl) b
     (λ x q.
     record {
       kind = refl;
@@ -194,7 +193,13 @@ wrote-backends b n r s effect reg value ring now period there e d h =
           write-range r.registers s effect reg value ring now period e
           ∙ ap (λ (y : Record). range_in y.registers) (same_Some r x (sym there ∙ q));
       slots = less-none (is_a x.kind (codes "mem-dimm")) false x.slots;
-    }) (fewer-none false b)) h
+    }) (fewer-none false b)
+
+pub wrote-backends : (b : Board) (n : ℕ) (r : Record) (s : Registers) (effect : Effect) (reg value : ℕ) (ring : Bool) (now period : ℕ) → record_of b n ≡ Some r
+    → body_write r.registers reg value ring now period ≡ Some (s, effect) → SoundDevices b → SoundBackends b → SoundBackends (registers_set b n s)
+wrote-backends b n r s effect reg value ring now period there e d h =
+    backends-fewer b (registers_set b n s) d (registers_kept_lem.devices b n s d) refl
+    (wrote-fewer b n r s effect reg value ring now period there e) h
 
 -- commands on objects
 
@@ -213,7 +218,7 @@ record Both (b : Board) : Type 0 where
   devices : SoundDevices b
   backends : SoundBackends b
 
-first-on : (b : Board) → SoundDevices b → (d : ℕ) → first_of b.pending ≡ Some d → stands b d ≡ true
+pub first-on : (b : Board) → SoundDevices b → (d : ℕ) → first_of b.pending ≡ Some d → stands b d ≡ true
 first-on b h d e = go b.pending h.lists.pending e
   where
     go : (ns : List ℕ) → AllByRecursion (IsOn b) ns → first_of ns ≡ Some d → stands b d ≡ true

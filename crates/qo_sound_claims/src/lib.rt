@@ -4,6 +4,7 @@
 #![tactic(auto)]
 
 ghost use Rattle.qo_sound_claims.specs.ClaimsKept.{ClaimsKeptLaw};
+ghost use Rattle.qo_sound_claims.specs.ClaimsStay.{ClaimsStayLaw};
 
 /// Each realized UART names a ring that is there, or none, and no two name the same. Each realized DIMM
 /// stands on a range of the window, at its address and as long as its memory backend; no two stand on
@@ -16,4 +17,13 @@ ghost use Rattle.qo_sound_claims.specs.ClaimsKept.{ClaimsKeptLaw};
 #[tactic(auto, using(crate::proofs::LawLemmas::claims_kept_lem))]
 pub fn law_claims_kept()
     ensures { ClaimsKeptLaw }
+{}
+
+/// Whoever is realized after one of these changes was realized before it, and claims what it claimed by
+/// its slots and its registers: its slot on its bus, the ring that it names, of a DIMM its memory
+/// backend, and its range. Where nothing is detached, who was realized stays so. A device that is added
+/// claims what it was given.
+#[tactic(auto, using(crate::proofs::StayLawLemmas::claims_stay_lem))]
+pub fn law_claims_stay()
+    ensures { ClaimsStayLaw }
 {}

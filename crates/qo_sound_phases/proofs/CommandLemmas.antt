@@ -253,7 +253,7 @@ module _ (b : Board) (change : Change) (d : SoundDevices b) where
         machine = at-top.children;
       }
 
-  reached-on : StaysReached b (changed b change)
+  pub reached-on : StaysReached b (changed b change)
   reached-on =
       stays-reached b c (λ x s. keeps.stood x ∙ s) (λ x s. (at-place x (keeps.stood x ∙ s)).children)
       (λ r was its is. same r (there r its) is ∙ is)

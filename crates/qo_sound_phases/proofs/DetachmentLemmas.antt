@@ -342,6 +342,15 @@ module _ (b : Board) (d : ℕ) (s : SoundDevices b) (e : stands b d ≡ true) wh
   born : (detach b d).born ≡ b.born
   born = still.born ∙ unrealize-born (pin b d) d ∙ pin-still.born
 
+  pub holds-left : AllByRecursion (IsReached b) b.holds → AllByRecursion (IsReached (detach b d)) (detach b d).holds
+  holds-left h =
+      let on : AllByRecursion (IsReached b) (unrealize (pin b d) d).holds =
+      unrealize-all_holds (IsReached b) (pin b d) d (subst (AllByRecursion (IsReached b)) (sym pin-still.holds) h) in
+      subst (AllByRecursion (IsReached (detach b d))) (sym still.holds)
+      (all-imply (λ r. (among (unrealize (pin b d) d).holds r ≡ true) × IsReached b r) (IsReached (detach b d)) (λ r k. hold-stays r k.0 k.1)
+      (unrealize (pin b d) d).holds
+      (all-both (λ r. among (unrealize (pin b d) d).holds r ≡ true) (IsReached b) (unrealize (pin b d) d).holds (members (unrealize (pin b d) d).holds) on))
+
   pub detach-phases : SoundPhases b → SoundPhases (detach b d)
   detach-phases h =
       record {
@@ -350,16 +359,7 @@ module _ (b : Board) (d : ℕ) (s : SoundDevices b) (e : stands b d ≡ true) wh
         reached = λ n i.
             quiet n ∙ h.reached n (frame-reached b (detach b d) kb kz frame n i)
             ∙ ap (λ (m : ℕ). Some (if m == 0 then stage.out else stage.held)) (sym (counts n i));
-        holds = subst (AllByRecursion (IsReached (detach b d))) (sym still.holds) left;
+        holds = holds-left h.holds;
         buses = (machines-stay ROOT_BUS_BIRTH refl h.buses.0, (machines-stay MEMORY_BUS_BIRTH refl h.buses.1.0, tt));
         lone = λ n i. h.lone n (sym (kinds n (sym (is_some-map (λ (r : Record). r.kind) (record_of (detach b d) n)) ∙ ap is_some i) ∙ pin-kind b d n) ∙ i);
       }
-    where
-      on : AllByRecursion (IsReached b) (unrealize (pin b d) d).holds
-      on = unrealize-all_holds (IsReached b) (pin b d) d (subst (AllByRecursion (IsReached b)) (sym pin-still.holds) h.holds)
-
-      left : AllByRecursion (IsReached (detach b d)) (unrealize (pin b d) d).holds
-      left =
-          all-imply (λ r. (among (unrealize (pin b d) d).holds r ≡ true) × IsReached b r) (IsReached (detach b d)) (λ r k. hold-stays r k.0 k.1)
-          (unrealize (pin b d) d).holds
-          (all-both (λ r. among (unrealize (pin b d) d).holds r ≡ true) (IsReached b) (unrealize (pin b d) d).holds (members (unrealize (pin b d) d).holds) on)

@@ -15,7 +15,7 @@ use Rattle.qo_sound.proofs.TestLemmas.{clash}
 use Rattle.qo_sound_devices.specs.SoundPlaces.{child_entries, HasOwner, machines, bridges, listed, owns, owns_it, stands}
 use Rattle.qo_sound_devices.proofs.AttachmentLemmas.{owns-listed}
 use Rattle.qo_sound_devices.proofs.DepthLemmas.{stands-dimmed}
-use Rattle.qo_sound_devices.proofs.PlacesLemmas.{child-live, stands-live, kind-alike}
+use Rattle.qo_sound_devices.proofs.PlacesLemmas.{child-live, stands-live, kind-alike, of-alike}
 use Rattle.qo_sound_devices.proofs.UnrealizingLemmas.{Dims}
 use Rattle.qo_sound_phases.specs.SoundPhases.{IsReached, machine, device, bus}
 use Rattle.qo_sound_phases.proofs.ResetTreeLemmas.{bus-leads, kid-leads, leads-cases, one-parent, Placed, post-reach, reach-post, stands-no_bus}
@@ -46,6 +46,11 @@ dims-frame b c k =
       children = λ x s. k.dimmed.children x;
       machine = k.dimmed.children MACHINE_BIRTH;
     }
+
+pub dims-reached : (b c : Board) → Dims b c → StaysReached b c
+dims-reached b c k =
+    stays-reached b c (λ x s. stands-dimmed b c k.dimmed x ∙ s) (λ x s. k.dimmed.children x)
+    (λ o was its is. of-alike b c o (codes "bus") (k.dimmed.body o) ∙ is)
 
 module _ (b c : Board) (kb : Placed b) (kc : Placed c) (f : Frame b c) where
   frame-of : (name : List ℕ) (x : ℕ) → is_live b x ≡ true → is_live c x ≡ true → is_of c name x ≡ is_of b name x

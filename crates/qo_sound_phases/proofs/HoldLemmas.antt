@@ -47,7 +47,7 @@ count-less f r (x ∷ rs) e = go (x == r) refl (count-less f r rs)
         let less : count_by f (without_first r rs) + one_if (f r) ≡ count_by f rs = rest (rw other at e) in
         rw p (omega (arith, less, sum_by-cons (λ y. one_if (f y)) x rs, sum_by-cons (λ y. one_if (f y)) x (without_first r rs)))
 
-still-all : (P : ℕ → Type 0) (r : ℕ) (rs : List ℕ) → AllByRecursion P rs → AllByRecursion P (without_first r rs)
+pub still-all : (P : ℕ → Type 0) (r : ℕ) (rs : List ℕ) → AllByRecursion P rs → AllByRecursion P (without_first r rs)
 still-all P r [] h = tt
 still-all P r (x ∷ rs) h = go (x == r) refl (still-all P r rs h.1)
   where

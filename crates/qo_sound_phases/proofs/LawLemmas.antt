@@ -50,7 +50,7 @@ use Rattle.qo_sound_phases.proofs.StageLemmas.{turns-some}
 use Rattle.qo_sound_phases.proofs.WriteLemmas.{scaled-phases, set-phases}
 
 -- a board of one shape, with the same births, holds and phases
-shape-phases : (b c : Board) → SameShape b c → c.born ≡ b.born → c.holds ≡ b.holds → Quiet b c → SoundPhases b → SoundPhases c
+pub shape-phases : (b c : Board) → SameShape b c → c.born ≡ b.born → c.holds ≡ b.holds → Quiet b c → SoundPhases b → SoundPhases c
 shape-phases b c shape born holds quiet h =
     record {
       in_turn = λ n. ap is_some (quiet n) ∙ h.in_turn n;
@@ -141,8 +141,8 @@ resettable-cases MemoryBackend e f g h = clash-back e
 resettable-cases MemoryBackendRam e f g h = clash-back e
 resettable-cases Tag e f g h = clash-back e
 
-pub may-reached : (b : Board) → SoundDevices b → SoundPhases b → (n : ℕ) → may_reset b n ≡ true → IsReached b n
-may-reached b d h n e = go (kind_of b n) refl both.1
+pub may-reached : (b : Board) → SoundDevices b → LoneMachine b → (n : ℕ) → may_reset b n ≡ true → IsReached b n
+may-reached b d lone n e = go (kind_of b n) refl both.1
   where
     both : (attached b n ≡ true) × (is_of b (codes "resettable") n ≡ true)
     both = and_parts (attached b n) (is_of b (codes "resettable") n) e
@@ -156,7 +156,7 @@ may-reached b d h n e = go (kind_of b n) refl both.1
     go : (o : Option TypeId) → kind_of b n ≡ o → option_map_or (λ (t : TypeId). is_a t (codes "resettable")) o false ≡ true → IsReached b n
     go None q k = clash-back k
     go (Some t) q k =
-        resettable-cases t k (λ m. machine (h.lone n (q ∙ ap Some m)))
+        resettable-cases t k (λ m. machine (lone n (q ∙ ap Some m)))
         (λ v. device (attached-stands b d.tree.0 rest.used.firm d.places.0 None (λ x. false) d.places.1 n (is t q (codes "device") v) both.0))
         (λ v. bus (is t q (codes "bus") v) (attached-owner b d.tree.0 rest.used.firm d.places.0 None (λ x. false) d.places.1 n (is t q (codes "bus") v) both.0))
 
@@ -200,9 +200,9 @@ phases_kept_lem =
       refused_by = λ b d h. beside-phases b (refused b d) refl refl refl refl h;
       detached = λ b d s e h. detach-phases b d s e h;
       acts = acted-phases;
-      held_so = λ b n e d h. hold-phases b n d (may-reached b d h n e) h;
+      held_so = λ b n e d h. hold-phases b n d (may-reached b d h.lone n e) h;
       released_so = λ b n e d h. release-phases b n d e h;
-      pulsed = λ b n e d h. pulse-phases b n d (may-reached b d h n e) h;
+      pulsed = λ b n e d h. pulse-phases b n d (may-reached b d h.lone n e) h;
       reset = reset-phases;
       set = set-phases;
       scaled = scaled-phases;
@@ -215,7 +215,7 @@ phases_say_lem =
     record {
       in_turn = λ b h n. turns-some n b.notes (h.in_turn n);
       once = λ b d n. post-once b (placed b d) n;
-      in_reset = λ b d h n e. h.reached n (may-reached b d h n e);
+      in_reset = λ b d h n e. h.reached n (may-reached b d h.lone n e);
       addressed = addressed-stands;
       first_bus = first-may;
     }

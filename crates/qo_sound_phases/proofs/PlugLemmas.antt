@@ -142,7 +142,7 @@ told-so n f =
       notes = three.notes ∙ ap (λ (xs : List Note). xs ++ map (did Exit) out) (two.notes ∙ ap (λ (xs : List Note). xs ++ map (did Hold) os) one.notes);
     }
 
-module _ (b : Board) (kb : Placed b) (h : SoundPhases b) (n on slot : ℕ) (id : Option (List ℕ)) (t : TypeId) (c : Board) (kc : Placed c)
+module _ (b : Board) (kb : Placed b) (n on slot : ℕ) (id : Option (List ℕ)) (t : TypeId) (c : Board) (kc : Placed c)
     (j : Joined kb.depth b n on slot id t (done b on slot id) c) where
   shelf-apart : (p : ℕ) → stands b p ≡ true → among (PERIPHERAL_BIRTH ∷ ANONYMOUS_BIRTH ∷ []) p ≡ false
   shelf-apart p s =
@@ -159,7 +159,7 @@ module _ (b : Board) (kb : Placed b) (h : SoundPhases b) (n on slot : ℕ) (id :
         machine = sym (j.children MACHINE_BIRTH (child-live b kb.firm ROOT_BIRTH MACHINE_BIRTH kb.places.machine) refl);
       }
 
-  reached-on : StaysReached b c
+  pub reached-on : StaysReached b c
   reached-on =
       stays-reached b c (old-stands kb.depth b n on slot id t c j kb.firm kb.places)
       (λ x s. j.children x (stands-live b kb.firm x s) (shelf-apart x s))
@@ -217,7 +217,7 @@ module _ (b : Board) (kb : Placed b) (h : SoundPhases b) (n on slot : ℕ) (id :
       let own : owns c n o ≡ true = subst (λ (x : ℕ). owns c x o ≡ true) new w in
       clash (sym (reach-post c kc n o (further itself (bus-leads c kc n o (stands-no_bus c kc n new-there) is own))) ∙ apart))
 
-  module _ (f : Board) (s : StartedSo f n c) (younger : (x : ℕ) → is_live c x ≡ true → is_live b x ≡ false → b.born < x) (older : b.born ≤ c.born)
+  module _ (h : SoundPhases b) (f : Board) (s : StartedSo f n c) (younger : (x : ℕ) → is_live c x ≡ true → is_live b x ≡ false → b.born < x) (older : b.born ≤ c.born)
       (holds : c.holds ≡ b.holds) (quiet : Quiet b f) (lone : LoneMachine c) where
     same_post : post c n ≡ post f n
     same_post = shape-post f c s.shape n
@@ -298,7 +298,7 @@ accepted-phases : (b : Board) (a : Wanted) → SoundDevices b → SoundPhases b 
     → SoundPhases (with_plugged b t a (spot_of b t at a.props))
 unfolding Younger
 accepted-phases b a d h t at k =
-    device-phases b kb h (b.born + 1) at spot.slot a.id t c kc j f so (λ x e gone. younger x e gone) (omega (arith, so.born, acts.born, young.0)) stays.holds
+    device-phases b kb (b.born + 1) at spot.slot a.id t c kc j h f so (λ x e gone. younger x e gone) (omega (arith, so.born, acts.born, young.0)) stays.holds
     (quiet-then b made f (quiet-device b t a spot) quiet) (lone-plugged b t a spot k.device h.lone)
   where
     spot : Spot

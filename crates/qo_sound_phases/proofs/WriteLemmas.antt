@@ -16,16 +16,14 @@ use Rattle.qo_model.specs.Paths.{parent_of}
 use Rattle.qo_model.specs.Unplug.{is_named, set_named}
 use Rattle.qo_sound.proofs.TestLemmas.{decide}
 use Rattle.qo_sound_devices.specs.SoundDevices.{SoundDevices}
-use Rattle.qo_sound_devices.proofs.DepthLemmas.{stands-dimmed}
-use Rattle.qo_sound_devices.proofs.PlacesLemmas.{kind-alike, of-alike}
+use Rattle.qo_sound_devices.proofs.PlacesLemmas.{kind-alike}
 use Rattle.qo_sound_devices.proofs.UnrealizingLemmas.{Dims, dims-acted, dims-none, dims-set, dims-then}
 use Rattle.qo_sound_clocks.proofs.WriteLawLemmas.{writes_keep_lem}
 use Rattle.qo_sound_clocks.proofs.StepsLemmas.{same_ok}
-use Rattle.qo_sound_phases.proofs.ReachLemmas.{StaysReached, stays-reached}
 use Rattle.qo_sound_phases.specs.Phases.{phase_of}
 use Rattle.qo_sound_phases.specs.SoundPhases.{SoundPhases}
 use Rattle.qo_sound_phases.proofs.ResetTreeLemmas.{placed}
-use Rattle.qo_sound_phases.proofs.FrameLemmas.{Frame, dims-frame}
+use Rattle.qo_sound_phases.proofs.FrameLemmas.{dims-frame, dims-reached}
 use Rattle.qo_sound_phases.proofs.QuietChangeLemmas.{frame-phases, Quiet, quiet-acted, quiet-then}
 
 -- what a write leaves
@@ -90,17 +88,9 @@ leaves-written b new d c h e =
 
 -- a device, a bus and the machine are where they were
 module _ (b d : Board) (s : SoundDevices b) (t : SoundDevices d) (h : SoundPhases b) (k : LeavesPhases b d) where
-  frame : Frame b d
-  frame = dims-frame b d k.dims
-
-  reached-still : StaysReached b d
-  reached-still =
-      stays-reached b d (λ x e. stands-dimmed b d k.dims.dimmed x ∙ e) (λ x e. k.dims.dimmed.children x)
-      (λ x was its is. of-alike b d x (codes "bus") (k.dims.dimmed.body x) ∙ is)
-
   leaves-phases : SoundPhases d
   leaves-phases =
-      frame-phases b d (placed b s) (placed d t) frame reached-still k.holds (omega (arith, k.born)) k.quiet
+      frame-phases b d (placed b s) (placed d t) (dims-frame b d k.dims) (dims-reached b d k.dims) k.holds (omega (arith, k.born)) k.quiet
       (λ lone n e. lone n (sym (kind-alike b d n (k.dims.dimmed.body n)) ∙ e)) h
 
 pub set-phases : (b d : Board) (c period : ℕ) → clock_set b c period ≡ Ok d → SoundDevices b → SoundPhases b → SoundPhases d

@@ -6,8 +6,9 @@ use Rattle.std.specs.Option.{option_map_or, option_or}
 use Rattle.std.specs.Prelude.{nat_eq}
 use Rattle.std.proofs.lemmas.Bool.{eqb-true}
 use Rattle.std.proofs.lemmas.Option.{same_Some}
-use Rattle.qo_values.specs.declared.births.TheConstants.{MACHINE_BIRTH, ROOT_BIRTH}
+use Rattle.qo_values.specs.declared.births.TheConstants.{MACHINE_BIRTH, OBJECTS_BIRTH, ROOT_BIRTH}
 use Rattle.qo_values.specs.declared.kinds.TypeId.{TypeId}
+use Rattle.qo_values.specs.declared.kinds.TypeId.TheVariants.{Container}
 use Rattle.qo_model.specs.Board.{Board, Record, Slot, held, is_live, kind_of, record_of, slot_at, slots_at}
 use Rattle.qo_model.specs.Opening.{opening_board}
 use Rattle.qo_model.specs.Release.{after, drop_slot, edit, edited, finalize, finish, forgotten, let_go, next_index, pin, unpin, with_dropped, without_pin}
@@ -18,6 +19,7 @@ use Rattle.qo_model.proofs.StepLemmas.{drop-record, finish-gone, finish-record, 
 use Rattle.qo_sound.proofs.SearchLemmas.{found-append}
 use Rattle.qo_values.proofs.ListLemmas.{all-imply}
 use Rattle.qo_sound_shapes.specs.SoundShape.{SoundShape, unvalued}
+use Rattle.qo_sound_shapes.proofs.ChildTypeLemmas.{Typed}
 use Rattle.qo_sound_shapes.proofs.ShapeLemmas.{Good, is_first}
 use Rattle.qo_sound_shapes.proofs.CompletenessLemmas.{Whole}
 
@@ -156,6 +158,10 @@ all-pin Q n c h = h
 
 -- the shape of a board
 
+pub container-eight : kind_of opening_board OBJECTS_BIRTH ≡ Some Container
+unfolding opening_board types
+container-eight = refl
+
 -- an object of the opening board is there, with its type
 pub opening-kind : (b : Board) → AllByRecursion (λ (o : Record). kind_of b o.birth ≡ Some o.kind) opening_board.records → (n : ℕ) (t : TypeId)
     → kind_of opening_board n ≡ Some t → kind_of b n ≡ Some t
@@ -196,11 +202,12 @@ good-all b h x r e =
 abbrev pub OpeningLive : Board → Type 0
 OpeningLive b = AllByRecursion (λ (o : Record). is_live b o.birth ≡ true) opening_board.records
 
-pub shape-all : (b : Board) → OpeningLive b → Whole b → AllOf Good b → SoundShape b
+pub shape-all : (b : Board) → OpeningLive b → Whole b → Typed b → AllOf Good b → SoundShape b
 unfolding opening_board types
-shape-all b live whole h =
+shape-all b live whole typed h =
     record {
       shaped = λ n r e. (h n r e).shaped;
+      children = typed;
       whole = whole;
       opening = (
         kind 1 _ refl live.0,

@@ -43,11 +43,12 @@ use Rattle.qo_sound_devices.proofs.DepartureLemmas.{slot-is}
 use Rattle.qo_sound_devices.proofs.PlacesLemmas.{child-live, high-absent, stands-live}
 use Rattle.qo_sound_phases.proofs.FixedObjectLemmas.{child-val}
 use Rattle.qo_sound_shapes.specs.SoundShape.{HasSlots, IsChildSlot, is_child_role, HasRole, IsFurther, IsShaped, SoundShape}
-use Rattle.qo_sound_shapes.proofs.BoardLemmas.{all-after, all-edit, all-imply_of, all-let_go, all-new, all-pin, all-unpin, AllOf, good-all, OpeningLive, shape-all}
+use Rattle.qo_sound_shapes.proofs.BoardLemmas.{container-eight, all-after, all-edit, all-imply_of, all-let_go, all-new, all-pin, all-unpin, AllOf, good-all, OpeningLive, shape-all}
 use Rattle.qo_sound_shapes.proofs.ShapeLemmas.{Good, good-added, good-changed, good-dropped, good-forgotten, good-slots, is_first, mild-pointed, rows-pointed}
 use Rattle.qo_sound_shapes.proofs.NewObjectLemmas.{created-own, fresh-has, fresh-like, given-has, good-new}
 use Rattle.qo_sound_shapes.proofs.QuietChangeLemmas.{good-set, RowTakes, slot-of, Takes}
 use Rattle.qo_sound_shapes.proofs.RowLemmas.{has-dropped, held-slots, IsHolding, link-apart, NoKidLinks, none-kid, Slots}
+use Rattle.qo_sound_shapes.proofs.CommandTypeLemmas.{changed-typed}
 use Rattle.qo_sound_shapes.proofs.CompletenessLemmas.{entries-changed, entries-each, entries-let_go, entries_in, Kept, kept-of, kept-slots, names-let_go, whole-kept}
 
 -- on a board that is sound as far as devices go the machine's objects are there
@@ -121,10 +122,6 @@ good-emptied i r apart kind h = good-slots r _ h has (λ e. absurd (let clash : 
         (let clash : true ≡ false = sym (child-row p.role m (subst (HasRole p.role) is row.fits)) ∙ own in
         cc))
         (subst NoKidLinks (sym kind) (λ name to target k. k))
-
-container-eight : kind_of opening_board OBJECTS_BIRTH ≡ Some Container
-unfolding opening_board types
-container-eight = refl
 
 -- a fact of each object: it is good, and from a board on it is kept whole where it stood in a container
 pub record Full (o : Board) (r : Record) : Type 0 where
@@ -411,7 +408,7 @@ bare-devices b h n apart is = go (kid_entries b n) (h.places.1.kids n is)
 pub changed-shape : (b : Board) (change : Change) → SoundDevices b → SoundShape b → SoundShape (changed b change)
 changed-shape b change devices h =
     shape-all (changed b change) (live-devices (changed b change) (devices_kept_lem.change b change devices))
-    (whole-kept b (changed b change) (λ x r e. (all x r e).kept)) (λ x r e. (all x r e).good)
+    (whole-kept b (changed b change) (λ x r e. (all x r e).kept)) (changed-typed b change devices h) (λ x r e. (all x r e).good)
   where
     all : AllOf (Full b) (changed b change)
     all =

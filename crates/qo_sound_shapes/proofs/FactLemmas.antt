@@ -1,5 +1,5 @@
 -- The law: what the shape of objects says of their properties.
-use Rattle.std.proofs.Common.{◌≡◌, ◌⊎◌, inl, inr, refl, ap, sym, subst, ◌∙◌, rules, ℕ, zero, suc, ◌-◌, ◌^◌, Bool, true, false, List, [], ◌∷◌, find, slice_get, codes, Option, Some, None, option_map}
+use Rattle.std.proofs.Common.{◌≡◌, ◌⊎◌, inl, inr, refl, ap, sym, subst, ◌∙◌, rules, ℕ, zero, suc, ◌-◌, ◌^◌, Bool, true, false, List, [], ◌∷◌, filter_map, find, slice_get, codes, Option, Some, None, option_map, option_and_then}
 use Rattle.std.specs.List.{AllByRecursion, list_any}
 use Rattle.std.specs.Option.{option_map_or}
 use Rattle.std.specs.Str.{bytes_eq}
@@ -13,7 +13,7 @@ use Rattle.qo_values.specs.declared.limits.TheConstants.{BACKEND_SIZE_AT_FIRST, 
 use Rattle.qo_values.specs.declared.properties.PropType.TheVariants as ty
 use Rattle.qo_values.specs.declared.properties.Val.TheVariants as val
 use Rattle.qo_model.specs.Board.{Board, Record, Slot, plain, child, strong, weak, alias, kind_of, record_of, slot_at, slot_named, slots_at}
-use Rattle.qo_model.specs.Paths.{is_of}
+use Rattle.qo_model.specs.Paths.{child_of, is_of}
 use Rattle.qo_model.specs.Properties.{property_named}
 use Rattle.qo_model.specs.RowNames.{property_name}
 use Rattle.qo_model.specs.Types.{is_a, property, slots_of, types, uint64, up_to}
@@ -22,9 +22,9 @@ use Rattle.qo_model.specs.declared.properties.Mark.TheVariants.{Add, Set}
 use Rattle.qo_model.specs.declared.properties.Property.{Property}
 use Rattle.qo_model.specs.declared.properties.PropertyName.TheVariants as prop
 use Rattle.qo_model.specs.declared.properties.PropertyRole.TheVariants as row
-use Rattle.qo_sound_devices.specs.SoundPlaces.{stands}
+use Rattle.qo_sound_devices.specs.SoundPlaces.{child_entry, stands}
 use Rattle.qo_sound_shapes.specs.ShapeFacts.{HasProperty, HoldsNumber, ShapesSayLaw}
-use Rattle.qo_sound_shapes.specs.SoundShape.{further, HasSlots, HasRole, IsFurther, IsOfProperty, may_miss, missing, next, SoundShape}
+use Rattle.qo_sound_shapes.specs.SoundShape.{further, HasChildType, HasSlots, HasRole, IsFurther, IsOfProperty, may_miss, missing, next, SoundShape, type_of_child}
 use Rattle.qo_sound_shapes.proofs.RowLemmas.{each-found, has-all, held-slots, IsHolding, IsRowOf, own-rows, Slots}
 
 abbrev NoneMisses : List Property → Type 0
@@ -292,5 +292,40 @@ kid-says b h bus i to target e at =
     holding-at r.slots i to target (held-slots r.kind is (h.shaped bus r there).slots)
     (sym (ap (λ (o : Option Record). option_map (λ (s : List ℕ × Slot). s.1) (slice_get (option_map_or (λ (y : Record). y.slots) o []) i)) there) ∙ at)
 
+-- the type of a child
+
+entry-named : (name : List ℕ) (m : ℕ) (xs : Slots) (P : List ℕ × ℕ → Type 0) → AllByRecursion P (filter_map child_entry xs)
+    → option_map (λ (s : List ℕ × Slot). s.1) (find (λ (s : List ℕ × Slot). bytes_eq s.0 name) xs) ≡ Some (child m) → P (name, m)
+entry-named name m [] P h e = absurd (let clash : None ≡ Some (child m) = e in cc)
+entry-named name m (x ∷ xs) P h e = go (bytes_eq x.0 name) refl (entry-named name m xs P (after x h))
+  where
+    here : (y : List ℕ × Slot) → bytes_eq y.0 name ≡ true → y.1 ≡ child m → AllByRecursion P (filter_map child_entry (y ∷ xs)) → P (name, m)
+    here (own, plain v) p q k = absurd (let clash : plain v ≡ child m = q in cc)
+    here (own, child j) p q k =
+        let named : own ≡ name = (bytes_eq-Decides own name).0 p in
+        let same : j ≡ m = same_Some j m (ap child_of q) in
+        subst (λ (o : List ℕ). P (o, m)) named (subst (λ (i : ℕ). P (own, i)) same k.0)
+    here (own, strong t target) p q k = absurd (let clash : strong t target ≡ child m = q in cc)
+    here (own, weak t target) p q k = absurd (let clash : weak t target ≡ child m = q in cc)
+    here (own, alias j property) p q k = absurd (let clash : alias j property ≡ child m = q in cc)
+
+    after : (y : List ℕ × Slot) → AllByRecursion P (filter_map child_entry (y ∷ xs)) → AllByRecursion P (filter_map child_entry xs)
+    after (own, plain v) k = k
+    after (own, child j) k = k.1
+    after (own, strong t target) k = k
+    after (own, weak t target) k = k
+    after (own, alias j property) k = k
+
+    go : (u : Bool) → bytes_eq x.0 name ≡ u
+        → (option_map (λ (s : List ℕ × Slot). s.1) (find (λ (s : List ℕ × Slot). bytes_eq s.0 name) xs) ≡ Some (child m) → P (name, m)) → P (name, m)
+    go true p rest = here x p (same_Some x.1 (child m) (rw p at e)) h
+    go false p rest = rest (rw p at e)
+
+child-says : (b : Board) → SoundShape b → (n m : ℕ) (name : List ℕ) (p : Property) (t : TypeId) → HasProperty b n name p → p.role ≡ row.Child t
+    → slot_named b n name ≡ Some (child m) → kind_of b m ≡ Some t
+child-says b h n m name p t k role e =
+    entry-named name m (slots_at b n) (HasChildType b k.kind) (h.children n k.kind k.its) e t
+    (ap (option_and_then (λ (q : Property). type_of_child q.role)) k.row ∙ ap type_of_child role)
+
 pub shapes_say_lem : ShapesSayLaw
-shapes_say_lem = record { named = named-says; there = there-says; clock = clock-says; memory = memory-says; kid = kid-says }
+shapes_say_lem = record { named = named-says; child = child-says; there = there-says; clock = clock-says; memory = memory-says; kid = kid-says }

@@ -1,5 +1,8 @@
 pub mod BoardLemmas
+pub mod ChildTypeLemmas
 pub mod CommandLemmas
+pub mod CommandTypeLemmas
+pub mod PlugTypeLemmas
 pub mod DetachmentLemmas
 pub mod ResetLemmas
 pub mod DraftLemmas

@@ -33,6 +33,7 @@ use Rattle.qo_sound.proofs.DraftLemmas.{found-low}
 use Rattle.qo_sound.proofs.SearchLemmas.{all-found}
 use Rattle.qo_sound.proofs.NewSlotLemmas.{slots_for}
 use Rattle.qo_sound_shapes.specs.SoundShape.{further, HasSlots, is_like, HasRole, IsChildSlot, IsFurther, IsKidLink, IsOfProperty, IsShaped, MayHold, next, SoundShape}
+use Rattle.qo_sound_shapes.proofs.ChildTypeLemmas.{opening-typed}
 use Rattle.qo_sound_shapes.proofs.ShapeLemmas.{further-same, Good, is_first}
 use Rattle.qo_sound_shapes.proofs.RowLemmas.{has-added, has-each, IsRowOf, kid-rowless, own-rows, Slots}
 
@@ -380,6 +381,7 @@ unfolding opening_board types
 opening-shape =
     record {
       shaped = λ n r e. all-found IsShaped n opening_records opening-shaped r e;
+      children = opening-typed;
       whole = λ d t s k. absurd (let clash : false ≡ true = s in cc);
       opening = (refl, (refl, (refl, (refl, (refl, (refl, (refl, (refl, tt))))))));
       fixed = (refl, (refl, tt));

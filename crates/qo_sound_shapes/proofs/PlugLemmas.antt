@@ -67,6 +67,8 @@ use Rattle.qo_sound_shapes.proofs.NewObjectLemmas.{fits-by, found-given, given-h
 use Rattle.qo_sound_shapes.proofs.QuietChangeLemmas.{admits-up_to, good-act, Takes, all-set, KeepsSet}
 use Rattle.qo_sound_shapes.proofs.RowLemmas.{Slots}
 use Rattle.qo_sound_shapes.proofs.ChildLemmas.{Stood, whole-stays}
+use Rattle.qo_sound_shapes.proofs.ChildTypeLemmas.{Typed}
+use Rattle.qo_sound_shapes.proofs.PlugTypeLemmas.{plugged-typed}
 use Rattle.qo_sound_shapes.proofs.CompletenessLemmas.{HasRows, rows-same, Whole}
 
 -- an object of the kind that is said of it, which lacks no slot where it is a certain one
@@ -536,7 +538,10 @@ module _ (b : Board) (t : TypeId) (bus : ℕ) (a : Wanted) (devices : SoundDevic
 
 pub plug-shape : (b : Board) (a : Wanted) → SoundDevices b → SoundShape b → SoundShape (plug b a).board
 plug-shape b a devices h =
-    let both : AllOf Good (plug b a).board × Whole (plug b a).board =
-    after-plug (λ (c : Board). AllOf Good c × Whole c) b a (good-all b h, h.whole) (λ t bus stage. (good-all b h, h.whole))
-    (λ t bus k. (with_plugged-good b t bus a devices k h, with_plugged-whole b t bus a devices k h)) in
-    shape-all (plug b a).board (live-devices (plug b a).board (devices_kept_lem.plugged b a devices)) both.1 both.0
+    let all : AllOf Good (plug b a).board × (Whole (plug b a).board × Typed (plug b a).board) =
+    after-plug (λ (c : Board). AllOf Good c × (Whole c × Typed c)) b a (good-all b h, (h.whole, h.children)) (λ t bus stage. (good-all b h, (h.whole, h.children)))
+    (λ t bus k. (
+      with_plugged-good b t bus a devices k h,
+      (with_plugged-whole b t bus a devices k h, plugged-typed b t bus a devices k h),
+    )) in
+    shape-all (plug b a).board (live-devices (plug b a).board (devices_kept_lem.plugged b a devices)) all.1.0 all.1.1 all.0

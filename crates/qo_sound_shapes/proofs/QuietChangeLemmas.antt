@@ -19,7 +19,7 @@ use Rattle.qo_values.specs.declared.kinds.TypeId.TheVariants.{Object, Container,
 use Rattle.qo_values.specs.declared.properties.PropType.TheVariants as ty
 use Rattle.qo_values.specs.declared.properties.Val.{Val}
 use Rattle.qo_values.specs.declared.properties.Val.TheVariants as val
-use Rattle.qo_model.specs.Board.{Board, Record, Slot, plain, child, strong, weak, alias, is_live, record_of, slots_at}
+use Rattle.qo_model.specs.Board.{Board, Record, Slot, plain, child, strong, weak, alias, is_live, kind_of, record_of, slots_at}
 use Rattle.qo_model.specs.Changes.{set, with_changed, with_val}
 use Rattle.qo_model.specs.ClockChanges.{clock_scaled, clock_set}
 use Rattle.qo_model.specs.Clocks.{acted, source_of, with_act_on}
@@ -52,6 +52,7 @@ use Rattle.qo_sound_shapes.specs.SoundShape.{is_like, HasRole, IsOfProperty, Sou
 use Rattle.qo_sound_shapes.proofs.BoardLemmas.{all-edit, all-same, good-all, OpeningLive, shape-all, shape-live, AllOf}
 use Rattle.qo_sound_shapes.proofs.ShapeLemmas.{Good, good-changed, mild-val}
 use Rattle.qo_sound_shapes.proofs.RowLemmas.{IsRowOf}
+use Rattle.qo_sound_shapes.proofs.ChildTypeLemmas.{typed-same}
 use Rattle.qo_sound_shapes.proofs.CompletenessLemmas.{edit-read, entries-changed, entries_in, whole-same}
 
 -- the machine's objects stay there
@@ -69,7 +70,12 @@ same-shape b c e h =
     shape-all c (live-same b c (λ x. ap (λ (rs : List Record). is_some (found_at x rs)) e) (shape-live b h))
     (whole-same b c (λ x. ap (λ (rs : List Record). names_in (option_map_or (λ (r : Record). r.slots) (found_at x rs) [])) e)
     (λ x. ap (λ (rs : List Record). entries_in (option_map_or (λ (r : Record). r.slots) (found_at x rs) [])) e)
-    (λ x. ap (λ (rs : List Record). option_map (λ (r : Record). r.kind) (found_at x rs)) e) h.whole) (all-same Good b c e (good-all b h))
+    kinds h.whole)
+    (typed-same b c (λ x. ap (λ (rs : List Record). entries_in (option_map_or (λ (r : Record). r.slots) (found_at x rs) [])) e) kinds h.children)
+    (all-same Good b c e (good-all b h))
+  where
+    kinds : (x : ℕ) → kind_of c x ≡ kind_of b x
+    kinds x = ap (λ (rs : List Record). option_map (λ (r : Record). r.kind) (found_at x rs)) e
 
 pub edit-shape : (n : ℕ) (change : Record → Record) → ((r : Record) → (change r).birth ≡ r.birth) → ((r : Record) → (change r).kind ≡ r.kind)
     → ((r : Record) → names_in (change r).slots ≡ names_in r.slots) → ((r : Record) → entries_in (change r).slots ≡ entries_in r.slots) → (b : Board)
@@ -78,6 +84,7 @@ edit-shape n change same kind names entries b keeps h =
     shape-all (edit n change b) (live-same b (edit n change b) (edit-live n change same b) (shape-live b h))
     (whole-same b (edit n change b) (edit-read names_in n change same names b) (edit-read entries_in n change same entries b) (edited-kind n change same kind b)
     h.whole)
+    (typed-same b (edit n change b) (edit-read entries_in n change same entries b) (edited-kind n change same kind b) h.children)
     (all-edit Good n change same b (λ r e own k. keeps r e k) (good-all b h))
 
 -- acts

@@ -18,6 +18,7 @@ use Rattle.qo_sound_devices.proofs.ResetLemmas.{detached-below, first-on}
 use Rattle.qo_sound_shapes.specs.SoundShape.{SoundShape}
 use Rattle.qo_sound_shapes.proofs.BoardLemmas.{all-imply_of, AllOf, good-all, shape-all}
 use Rattle.qo_sound_shapes.proofs.CommandLemmas.{live-devices}
+use Rattle.qo_sound_shapes.proofs.CommandTypeLemmas.{detached-typed}
 use Rattle.qo_sound_shapes.proofs.DetachmentLemmas.{Kinded, keeps-detach}
 use Rattle.qo_sound_shapes.proofs.ShapeLemmas.{Good}
 use Rattle.qo_sound_shapes.proofs.QuietChangeLemmas.{pulse-shape}
@@ -37,7 +38,8 @@ keeps-all b devices h x r e =
 pub detach-shape : (b : Board) (d : ℕ) → SoundDevices b → stands b d ≡ true → SoundShape b → SoundShape (detach b d)
 detach-shape b d devices e h =
     shape-all (detach b d) (live-devices (detach b d) (detached-below b d devices e))
-    (whole-stays b (detach b d) (good-all b h) good (λ x k. inl (stays b d devices e x k)) is-device h.whole) good
+    (whole-stays b (detach b d) (good-all b h) good (λ x k. inl (stays b d devices e x k)) is-device h.whole)
+    (detached-typed b d devices e h.children) good
   where
     is-device : (x : ℕ) → stands b x ≡ true → is_of b (codes "device") x ≡ true
     is-device x k = stands-device devices.places.0 None (λ y. false) b devices.places.1 x k

@@ -4,10 +4,11 @@ use Rattle.std.specs.List.{AllByRecursion}
 use Rattle.qo_values.specs.declared.kinds.TypeId.{TypeId}
 use Rattle.qo_values.specs.declared.kinds.TypeId.TheVariants.{Clock}
 use Rattle.qo_values.specs.declared.properties.Val.TheVariants as val
-use Rattle.qo_model.specs.Board.{Board, Slot, plain, strong, kind_of, slot_at, slot_named}
+use Rattle.qo_model.specs.Board.{Board, Slot, plain, child, strong, kind_of, slot_at, slot_named}
 use Rattle.qo_model.specs.Paths.{is_of}
 use Rattle.qo_model.specs.Properties.{property_named}
 use Rattle.qo_model.specs.declared.properties.Property.{Property}
+use Rattle.qo_model.specs.declared.properties.PropertyRole.TheVariants as row
 use Rattle.qo_sound_devices.specs.SoundPlaces.{stands}
 use Rattle.qo_sound_shapes.specs.SoundShape.{HasRole, SoundShape}
 
@@ -26,6 +27,9 @@ pub record ShapesSayLaw : Type 0 where
   -- what an object has under the name of a property is as the property's row says
   pub named : (b : Board) → SoundShape b → (n : ℕ) (name : List ℕ) (p : Property) (s : Slot) → HasProperty b n name p → slot_named b n name ≡ Some s
       → HasRole p.role s
+  -- and where it is a child, it is of the row's type
+  pub child : (b : Board) → SoundShape b → (n m : ℕ) (name : List ℕ) (p : Property) (t : TypeId) → HasProperty b n name p → p.role ≡ row.Child t
+      → slot_named b n name ≡ Some (child m) → kind_of b m ≡ Some t
   -- and a device that stands in a container has something there
   pub there : (b : Board) → SoundShape b → (d : ℕ) (name : List ℕ) (p : Property) → stands b d ≡ true → HasProperty b d name p
       → (s : Slot) × ((slot_named b d name ≡ Some s) × HasRole p.role s)

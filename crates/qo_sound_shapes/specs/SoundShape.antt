@@ -1,5 +1,5 @@
 -- When the objects of a board are shaped as their types say (docs/devel/qom.rst, "The QEMU Object Model"; include/qom/object.h: properties, child and link).
-use Rattle.std.specs.Prelude.{◌≡◌, ◌⊎◌, ℕ, ◌<◌, Bool, true, false, not, ◌&&◌, List, [], ◌∷◌, map, Some, ⊤}
+use Rattle.std.specs.Prelude.{◌≡◌, ◌⊎◌, ℕ, ◌<◌, Bool, true, false, not, ◌&&◌, List, [], ◌∷◌, map, Option, Some, None, option_and_then, ⊤}
 use Rattle.std.specs.List.{AllByRecursion}
 use Rattle.std.specs.Str.{bytes_eq}
 use Rattle.qo_values.specs.Properties.{admits}
@@ -15,6 +15,7 @@ use Rattle.qo_model.specs.Board.{Board, Record, Slot, plain, child, strong, weak
 use Rattle.qo_model.specs.Devices.{clock_name, kid_name}
 use Rattle.qo_model.specs.Objects.{has_slot}
 use Rattle.qo_model.specs.Opening.{opening_board}
+use Rattle.qo_model.specs.Properties.{property_named}
 use Rattle.qo_model.specs.RowNames.{property_name}
 use Rattle.qo_model.specs.SoundGraph.{without_value}
 use Rattle.qo_model.specs.Types.{slots_of}
@@ -23,13 +24,13 @@ use Rattle.qo_model.specs.declared.properties.First.TheVariants as first
 use Rattle.qo_model.specs.declared.properties.Property.{Property}
 use Rattle.qo_model.specs.declared.properties.PropertyRole.{PropertyRole}
 use Rattle.qo_model.specs.declared.properties.PropertyRole.TheVariants as row
-use Rattle.qo_sound_devices.specs.SoundPlaces.{stands}
+use Rattle.qo_sound_devices.specs.SoundPlaces.{child_entries, stands}
 
 -- what a plain property of a type may hold: nothing where it begins with nothing, or a value that the type admits; so a clock's period, mul and div are numbers
 abbrev pub MayHold : PropType → First → Val → Type 0
 MayHold type begins v = ((begins ≡ first.Nothing) × (v ≡ val.Nothing)) ⊎ (admits type v ≡ true)
 
--- a slot is as a row says: it holds such a value, is a child, links to objects of the row's type, strongly or weakly, or is another name for the row's property
+-- a slot is as a row says: it holds such a value, is a child (of the row's type, as `SoundShape` says), links to objects of the row's type, strongly or weakly, or is another name for the row's property
 abbrev pub HasRole : PropertyRole → Slot → Type 0
 HasRole (row.Plain type begins) (plain v) = MayHold type begins v
 HasRole (row.Child type) (child m) = ⊤
@@ -90,6 +91,18 @@ pub record IsShaped (r : Record) : Type 0 where
   -- its registers are those of its type's body
   pub registers : is_like r.registers (fresh_registers r.kind) ≡ true
 
+-- the type of the child that objects of a type have under a name, where it is the name of a property that is a child
+abbrev pub type_of_child : PropertyRole → Option TypeId
+type_of_child (row.Child type) = Some type
+type_of_child kind = None
+
+abbrev pub child_type : TypeId → List ℕ → Option TypeId
+child_type t name = option_and_then (λ (p : Property). type_of_child p.role) (property_named t name)
+
+-- a child of an object of a type, under a name: where the name is that of such a property, the child is of the property's type
+abbrev pub HasChildType : Board → TypeId → List ℕ × ℕ → Type 0
+HasChildType b t e = (k : TypeId) → child_type t e.0 ≡ Some k → kind_of b e.1 ≡ Some k
+
 -- slots without their plain values
 abbrev pub unvalued : List (List ℕ × Slot) → List (List ℕ × Slot)
 unvalued slots = map (λ (s : List ℕ × Slot). (s.0, without_value s.1)) slots
@@ -102,6 +115,8 @@ HasEach b n t = AllByRecursion (λ (p : Property). has_slot b n (property_name p
 pub record SoundShape (b : Board) : Type 0 where
   -- each object that is there is
   pub shaped : (n : ℕ) (r : Record) → record_of b n ≡ Some r → IsShaped r
+  -- what it has as a child under the name of a property is of the property's type
+  pub children : (n : ℕ) (t : TypeId) → kind_of b n ≡ Some t → AllByRecursion (HasChildType b t) (child_entries b n)
   -- a device that stands in a container lacks none of its slots
   pub whole : (d : ℕ) (t : TypeId) → stands b d ≡ true → kind_of b d ≡ Some t → HasEach b d t
   -- the objects that every machine begins with are there, with their types

@@ -1,0 +1,4 @@
+pub mod Detached
+pub mod Detaching
+pub mod Gone
+pub mod Unrolled
