@@ -16,7 +16,7 @@ use Rattle.qo_requests.specs.declared.calls.Change.TheVariants.{Add, Alter}
 use Rattle.qo_commands.specs.Changes.{attempted}
 
 -- only additions make attempts
-attempted-by : (P : Board → Type 0) (b : Board) (command : Call) (i : ℕ) (joined : Bool) → P b
+pub attempted-by : (P : Board → Type 0) (b : Board) (command : Call) (i : ℕ) (joined : Bool) → P b
     → ((driver id : List ℕ) (props : List Given) → P (attempted b (call.Change (Add (ObjectAdd driver id props))) i joined))
     → ((driver : List ℕ) (id bus : Option (List ℕ)) (props : List Given) → P (attempted b (call.Change (Add (DeviceAdd driver id bus props))) i joined))
     → P (attempted b command i joined)

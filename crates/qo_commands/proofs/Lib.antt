@@ -3,3 +3,4 @@ mod ChangeLemmas
 pub mod CommandLemmas
 mod ListingLemmas
 mod NoteLemmas
+pub mod RefusedCommandLemmas

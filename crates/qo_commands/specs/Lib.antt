@@ -1,3 +1,4 @@
 pub mod Changes
 pub mod Commands
 pub mod Views
+pub mod Refusals

@@ -103,10 +103,10 @@ fn plug<L: Ledger>(
 }
 
 /// Asks for the removal of the device that a text is of.
-fn unplug<L: Ledger>(board: &mut Board, id: &str, steps: &mut Steps<L>) -> Result<Done, AllocError>
-    ensures { (b : Tree) → Stands b board.old → Alters b (altered b (alteration.DeviceDel id.now)) result board.new }
+fn unplug<L: Ledger>(board: &mut Board, id: &str, steps: &mut Steps<L>) -> Done
+    ensures { (b : Tree) → Stands b board.old → Came (altered b (alteration.DeviceDel id.now)) result board.new }
 {
-    outcome_of(board.ask_removal(id, steps))
+    done_by(board.ask_removal(id, steps))
 }
 
 /// What a line of the guest comes to as a command: one that is none is refused.
@@ -248,7 +248,7 @@ fn alter<L: Ledger>(
         } => set(alloc, board, path.as_str(), property.as_str(), value, steps),
         Alteration::ObjectDel { id } => Ok(remove(board, id.as_str(), steps)),
         Alteration::XSever { birth } => Ok(sever(board, *birth, steps)),
-        Alteration::DeviceDel { id } => unplug(board, id.as_str(), steps),
+        Alteration::DeviceDel { id } => Ok(unplug(board, id.as_str(), steps)),
         Alteration::ChardevAdd { id, kind, size } => {
             add_ring(alloc, board, id.as_str(), kind.as_str(), *size)
         }

@@ -5,6 +5,7 @@ mod answers;
 mod changes;
 mod commands;
 mod detached;
+pub mod laws;
 mod listings;
 mod notes;
 mod query_commands;

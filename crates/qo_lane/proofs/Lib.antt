@@ -1,2 +1,3 @@
 pub mod HearingLemmas
 pub mod LineLemmas
+pub mod RefusedLineLemmas

@@ -4,8 +4,9 @@ use Rattle.qo_commands.specs.Commands.{without_events}
 use Rattle.qo_model.specs.Board.{Board, Ring}
 use Rattle.qo_model.specs.Clocks.{div_of, mul_of}
 use Rattle.qo_realize.specs.Chardevs.{with_rings}
+use Rattle.qo_realize.specs.Registers.{pushed}
 use Rattle.qo_realize.specs.Time.{at_time, with_running}
-use Rattle.qo_realize.proofs.GoodBoardLemmas.{completed-devices, polled-devices}
+use Rattle.qo_realize.proofs.SoundRunLemmas.{completed-devices, polled-devices}
 use Rattle.qo_realize.proofs.RegisterWriteLemmas.{written-all}
 use Rattle.qo_sound_devices.specs.SoundDevices.{SoundDevices}
 use Rattle.qo_sound_devices.proofs.DevicesLawLemmas.{devices_kept_lem}
@@ -34,7 +35,7 @@ devices_kept =
       polled = λ b h. polled-devices b h;
       written = λ b at d reg value c there is h.
           written-all SoundDevices b d reg value (λ registers e so. registers_kept_lem.devices b d registers h)
-          (λ x rings q. ringed-devices x rings q) (λ x m on q. devices_kept_lem.pulsed x m q) c is;
+          (λ x n id q. ringed-devices x (pushed n x id).rings q) (λ x m on q. devices_kept_lem.pulsed x m q) c is;
       rings = any-rings SoundDevices (λ b rings h. ringed-devices b rings h);
       timed = λ b now on low h. devices_kept_lem.beside b (at_time now b) refl refl refl refl refl refl h;
       switched = λ b on h. devices_kept_lem.beside b (with_running on b) refl refl refl refl refl refl h;

@@ -1,9 +1,9 @@
--- Steps keep it so that no object has more holds on it and above it than may be.
+-- Steps keep holds on what a reset reaches, and no object with more holds on it and above it than may be.
 use Rattle.std.proofs.Common.{refl, List}
 use Rattle.qo_commands.specs.Commands.{without_events}
 use Rattle.qo_model.specs.Clocks.{div_of, mul_of}
-use Rattle.qo_realize.specs.Chardevs.{with_rings}
 use Rattle.qo_realize.specs.Guest.{polled}
+use Rattle.qo_realize.specs.Registers.{pushed}
 use Rattle.qo_realize.specs.Time.{at_time, with_running}
 use Rattle.qo_realize.proofs.RegisterWriteLemmas.{written-all}
 use Rattle.qo_sound_bounds.specs.SoundHolds.{SoundHolds}
@@ -16,7 +16,7 @@ use Rattle.qo_machine.specs.Laws.{KeptInRuns, PhasesInRuns, SoundHeld}
 use Rattle.qo_machine.specs.Machine.{opening}
 use Rattle.qo_machine.specs.Runs.{Turn, state_after}
 use Rattle.qo_machine.proofs.PreservationLemmas.{KeepsBoard, KeepsCommands, keeps_commands, run_keeps, step_keeps}
-use Rattle.qo_machine.proofs.PhaseLemmas.{opening_resets, phases_commands, phases_free, phases_kept}
+use Rattle.qo_machine.proofs.PhaseLemmas.{may-so, opening_resets, phases_commands, phases_free, phases_kept}
 
 held_kept : KeepsBoard SoundHeld
 held_kept =
@@ -28,7 +28,7 @@ held_kept =
       divided = λ b d c div fits is h.
           (phases_kept.divided b d c div fits is h.0, holds_kept_lem.scaled b d c (mul_of b c) div is h.0.devices h.1);
       attempt = λ b t h. (phases_kept.attempt b t h.0, holds_kept_lem.attempt b t h.1);
-      plugged = λ b a h. (phases_kept.plugged b a h.0, holds_kept_lem.plugged b a h.0 h.1);
+      plugged = λ b a h. (phases_kept.plugged b a h.0, holds_kept_lem.plugged b a h.0.devices h.1);
       cut = λ b t i joined h. (phases_kept.cut b t i joined h.0, holds_kept_lem.cut b t i joined h.1);
       asked = λ b id h. (phases_kept.asked b id h.0, holds_kept_lem.asked_for b id h.1);
       completed = λ b at d is pending h. (
@@ -40,7 +40,7 @@ held_kept =
       written = λ b at d reg value c there is h. (
         phases_kept.written b at d reg value c there is h.0,
         written-all SoundHolds b d reg value (λ registers e so. holds_kept_lem.registers b d registers h.1)
-            (λ x rings q. holds_kept_lem.beside x (with_rings rings x) refl refl q) (λ x m on q. holds_kept_lem.pulsed x m q) c is,
+            (λ x n id q. holds_kept_lem.beside x (pushed n x id) refl refl q) (λ x m on q. holds_kept_lem.pulsed x m q) c is,
       );
       rings =
           record {
@@ -51,7 +51,10 @@ held_kept =
           };
       timed = λ b now on low h. (phases_kept.timed b now on low h.0, holds_kept_lem.beside b (at_time now b) refl refl h.1);
       switched = λ b on h. (phases_kept.switched b on h.0, holds_kept_lem.beside b (with_running on b) refl refl h.1);
-      held_so = λ b n is home deep h. (phases_kept.held_so b n is home deep h.0, holds_kept_lem.held_so b n deep h.1);
+      held_so = λ b n is home deep h. (
+        phases_kept.held_so b n is home deep h.0,
+        holds_kept_lem.held_so b n (holds_kept_lem.reached b h.0.devices h.0.phases.lone n (may-so b n is home)) deep h.1,
+      );
       released_so = λ b n is held h. (phases_kept.released_so b n is held h.0, holds_kept_lem.released_so b n h.1);
       reset = λ b h. (phases_kept.reset b h.0, holds_kept_lem.reset b h.0.devices h.1);
     }

@@ -12,7 +12,6 @@ pub mod MemoryLemmas
 pub mod MachineLemmas
 pub mod NoteLemmas
 pub mod PhaseLemmas
-pub mod RingLemmas
 pub mod RunLemmas
 pub mod SendingLemmas
 pub mod SoundnessLemmas

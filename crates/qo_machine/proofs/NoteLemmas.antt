@@ -10,6 +10,7 @@ use Rattle.qo_model.specs.Hotplug.{all_completed, completed, reset_whole}
 use Rattle.qo_model.specs.Unplug.{first_of}
 use Rattle.qo_realize.specs.Chardevs.{with_rings}
 use Rattle.qo_realize.specs.Guest.{polled}
+use Rattle.qo_realize.specs.Registers.{pushed}
 use Rattle.qo_realize.specs.Time.{at_time, with_running}
 use Rattle.qo_realize.proofs.RegisterWriteLemmas.{written-all}
 use Rattle.qo_sound.proofs.NotesKeptLemmas.{notes_kept_lem}
@@ -77,7 +78,7 @@ notes_kept =
       written = λ b at d reg value c there is o.
           written-all Ordered b d reg value
           (λ registers e so. (registers_kept_lem.devices b d registers o.0, registers_kept_lem.notes b d registers o.1))
-          (λ x rings q. (ringed-devices x rings q.0, notes_kept_lem.beside x (with_rings rings x) refl refl refl q.1))
+          (λ x n id q. (ringed-devices x (pushed n x id).rings q.0, notes_kept_lem.beside x (pushed n x id) refl refl refl q.1))
           (λ x m on q. (devices_kept_lem.pulsed x m q.0, notes_kept_lem.pulsed x m q.0.tree (bus-live x d m on) q.1)) c is;
       rings = any-rings Ordered (λ b rings o. (ringed-devices b rings o.0, notes_kept_lem.beside b (with_rings rings b) refl refl refl o.1));
       timed = λ b now on low o. (devices_kept.timed b now on low o.0, notes_kept_lem.beside b (at_time now b) refl refl refl o.1);

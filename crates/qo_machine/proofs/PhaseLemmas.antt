@@ -86,7 +86,7 @@ module _ (b : Board) (d : ℕ) (there : stands b d ≡ true) (h : SoundResets b)
           subst SoundResets (same_Some (after_effect d w.1 (registers_set b d w.0)) c its) (effect-so w.0 w.1)
 
 -- who is attached and may be held in reset
-may-so : (b : Board) (n : ℕ) → is_of b (codes "resettable") n ≡ true → attached b n ≡ true → may_reset b n ≡ true
+pub may-so : (b : Board) (n : ℕ) → is_of b (codes "resettable") n ≡ true → attached b n ≡ true → may_reset b n ≡ true
 may-so b n is home = rw (home, is) refl
 
 -- changes and attempts keep them

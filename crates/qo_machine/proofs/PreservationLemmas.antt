@@ -6,11 +6,9 @@ use Rattle.qo_causes.specs.declared.inputs.What.{What}
 use Rattle.qo_causes.specs.declared.inputs.What.TheVariants.{Open, Bytes, Shut, Guest as GuestLine, Step, End}
 use Rattle.qo_framing.specs.declared.items.Item.{Item}
 use Rattle.serde_json.specs.Data.{Data, string}
-use Rattle.qo_chardev.specs.Texts.{told}
-use Rattle.qo_values.specs.Rings.{ring_add, ring_drop, ring_oldest}
+use Rattle.qo_values.specs.Rings.{ring_add, ring_drop}
 use Rattle.qo_values.specs.declared.codes.Code.{Code}
-use Rattle.qo_values.specs.declared.codes.Code.TheVariants.{E32, E36, E53}
-use Rattle.qo_values.specs.declared.forms.Form.{Form}
+use Rattle.qo_values.specs.declared.codes.Code.TheVariants.{E32, E53}
 use Rattle.qo_values.specs.declared.forms.Form.TheVariants.{Utf8}
 use Rattle.qo_values.specs.declared.kinds.TypeId.{TypeId}
 use Rattle.qo_values.specs.declared.properties.Val.{Val}
@@ -24,7 +22,7 @@ use Rattle.qo_model.proofs.ClockPropertyLemmas.{write_at-cases}
 use Rattle.qo_model.specs.Depth.{among}
 use Rattle.qo_model.specs.Hotplug.{asked, completed, reset_whole}
 use Rattle.qo_model.specs.Hotplug.{refused as refused_removal}
-use Rattle.qo_model.specs.Paths.{Resolution, attached, found, is_of, missing, resolve, several}
+use Rattle.qo_model.specs.Paths.{attached, is_of}
 use Rattle.qo_model.specs.Plug.{Plugged, Wanted, cut_attempt, plug}
 use Rattle.qo_model.specs.Reset.{held, is_deep, released}
 use Rattle.qo_buses.specs.Addresses.{addressed}
@@ -37,10 +35,10 @@ use Rattle.qo_lane.specs.Hearing.{acked, acted, fine, heard, heard_act, if_pendi
 use Rattle.qo_lane.specs.Hearing as hearing
 use Rattle.qo_lane.specs.Lines.{lines_of, without_return}
 use Rattle.qo_plug.specs.Admission.{wanted}
-use Rattle.qo_realize.specs.Chardevs.{Reading, by_code, chardev_added, chardev_barred, chardev_removed, removal_barred, ringbuf_read, ringbuf_written, taken_as, with_rings, written_as}
+use Rattle.qo_realize.specs.Chardevs.{Reading, chardev_added, chardev_barred, chardev_removed, removal_barred, ringbuf_read, ringbuf_written, with_rings}
 use Rattle.qo_realize.specs.Guest.{polled}
 use Rattle.qo_realize.specs.Registers.{guest_written}
-use Rattle.qo_realize.specs.Resets.{at_path, held_at, held_of, released_at, released_of, resettable_at}
+use Rattle.qo_realize.specs.Resets.{held_at, held_of, released_at, released_of}
 use Rattle.qo_realize.specs.Representation.{Stands}
 use Rattle.qo_realize.specs.Time.{advanced, at_time, with_running}
 use Rattle.qo_realize.specs.Users.{is_used, object_removed}
@@ -52,7 +50,7 @@ use Rattle.qo_requests.specs.declared.calls.Alteration.TheVariants.{Stop, Cont, 
 use Rattle.qo_requests.specs.declared.calls.Call.{Call}
 use Rattle.qo_requests.specs.declared.calls.Call.TheVariants as call
 use Rattle.qo_requests.specs.declared.calls.Change.TheVariants.{Add, Alter}
-use Rattle.qo_rings.specs.Rings.{bytes_in, given_bytes, new_ring, ring_changed, ring_named, without_ring}
+use Rattle.qo_rings.specs.Rings.{new_ring, ring_changed, without_ring}
 use Rattle.qo_rings.specs.declared.rings.TheConstants.{RING_SIZE_DEFAULT}
 use Rattle.qo_sessions.specs.Acts.{act}
 use Rattle.qo_sessions.specs.Sessions.{closed, fed}
@@ -64,8 +62,8 @@ use Rattle.qo_commands.proofs.AttemptLemmas.{attempted-all}
 use Rattle.qo_commands.specs.Changes.{attempted}
 use Rattle.qo_commands.specs.Commands.{added, altered, answered, perform, performed, without_events}
 use Rattle.qo_commands.specs.Commands as commands
-use Rattle.qo_sound.proofs.TargetLemmas.{resolved-of}
-use Rattle.qo_realize.proofs.HoldLemmas.{held_of-all, released_of-all}
+use Rattle.qo_realize.proofs.ChardevLemmas.{by_code-all, gained-all, taken-all}
+use Rattle.qo_realize.proofs.HoldLemmas.{at_path-all, held_of-all, released_of-all}
 use Rattle.qo_machine.specs.Machine.{BreaksOff, BreaksOffAt, Choice, Made, Seen, State, Stepped, preceded, after_command, by_item, by_line, defined, fed_at, first, input_step, item_step, line_step, made_by, mode_of, opened, others, refused, serve, serve_by, serve_lines, serve_unless, session_of, step, taken, unchanged, with_board, with_line, with_session}
 use Rattle.qo_machine.proofs.MemoryLemmas.{fed_board}
 use Rattle.qo_machine.specs.Runs.{Turn, after, state_after}
@@ -239,42 +237,6 @@ held_of-keeps P k b n is p = held_of-all P b n p (λ home deep. k.held_so b n is
 released_of-keeps : (P : Board → Type 0) → KeepsBoard P → (b : Board) (n : ℕ) → is_of b (codes "resettable") n ≡ true → P b → P (released_of b n).board
 released_of-keeps P k b n is p = released_of-all P b n p (λ stands. k.released_so b n is stands p)
 
-at_path-keeps : (P : Board → Type 0) (b : Board) (path : List ℕ) (change : ℕ → Changed) → P b
-    → ((n : ℕ) → is_of b (codes "resettable") n ≡ true → P (change n).board)
-    → P (at_path b change (resettable_at b path)).board
-at_path-keeps P b path change p q = by (resolve b path (codes "resettable")) refl
-  where
-    by : (o : Resolution) → resolve b path (codes "resettable") ≡ o → P (at_path b change (resettable_at b path)).board
-    by (found n) e = rw (resettable_at, e) (q n (resolved-of b path (codes "resettable") n e))
-    by missing e = rw (resettable_at, e) p
-    by several e = rw (resettable_at, e) p
-
--- rings
-by_code-keeps : (P : Board → Type 0) (b c : Board) (bar : Option Code) → P b → (bar ≡ None → P c) → P (by_code b c bar).board
-by_code-keeps P b c None p q = q refl
-by_code-keeps P b c (Some code) p q = p
-
-abbrev taken_of : Board → List ℕ → ℕ → Form → Option Ring → Reading
-taken_of b id most form o = elim o [ None ↦ record { text = Err E36; board = b } | Some r ↦ taken_as b id most (told form (ring_oldest (bytes_in r) most)) ]
-
-taken-keeps : (P : Board → Type 0) → KeepsBoard P → (b : Board) (id : List ℕ) (most : ℕ) (form : Form) (o : Option Ring) → P b
-    → P (taken_of b id most form o).board
-taken-keeps P k b id most form None p = p
-taken-keeps P k b id most form (Some r) p = by (told form (ring_oldest (bytes_in r) most))
-  where
-    by : (text : Option (List ℕ)) → P (taken_as b id most text).board
-    by None = p
-    by (Some text) = k.rings.read b id most p
-
-abbrev gained_of : Board → List ℕ → Option (List ℕ) → Option Ring → Changed
-gained_of b id bytes o = elim o [ None ↦ record { refusal = Some E36; board = b } | Some r ↦ written_as b id bytes ]
-
-gained-keeps : (P : Board → Type 0) → KeepsBoard P → (b : Board) (id : List ℕ) (bytes : Option (List ℕ)) (o : Option Ring) → P b
-    → P (gained_of b id bytes o).board
-gained-keeps P k b id bytes None p = p
-gained-keeps P k b id None (Some r) p = p
-gained-keeps P k b id (Some bytes) (Some r) p = k.rings.written b id bytes p
-
 -- an object is deleted, or stays as it is in use
 removed-keeps : (P : Board → Type 0) → KeepsBoard P → (b : Board) (id : List ℕ) → P b → P (object_removed b id).board
 removed-keeps P k b id p = by (is_used b id)
@@ -302,20 +264,20 @@ altered_keeps P k b (DeviceDel id) p = changed_board P (asked b id) (k.asked b i
 altered_keeps P k b (ChardevAdd id kind size) p =
     let more : List Ring = b.rings ++ new_ring id (unwrap_or size RING_SIZE_DEFAULT) ∷ [] in
     changed_board P (chardev_added b id kind size)
-    (by_code-keeps P b (with_rings more b) (chardev_barred b id kind (unwrap_or size RING_SIZE_DEFAULT)) p
+    (by_code-all P b (with_rings more b) (chardev_barred b id kind (unwrap_or size RING_SIZE_DEFAULT)) p
     (λ free. k.rings.added b id kind (unwrap_or size RING_SIZE_DEFAULT) free p))
 altered_keeps P k b (ChardevRemove id) p =
     let fewer : List Ring = without_ring id b.rings in
-    changed_board P (chardev_removed b id) (by_code-keeps P b (with_rings fewer b) (removal_barred b id) p (λ free. k.rings.removed b id free p))
+    changed_board P (chardev_removed b id) (by_code-all P b (with_rings fewer b) (removal_barred b id) p (λ free. k.rings.removed b id free p))
 altered_keeps P k b (RingbufRead device size format) p =
     let reading : Reading = ringbuf_read b device size format in
-    answered_board P reading.board string reading.text (taken-keeps P k b device size (unwrap_or format Utf8) (ring_named device b.rings) p)
+    answered_board P reading.board string reading.text (taken-all P b device size (unwrap_or format Utf8) p (k.rings.read b device size p))
 altered_keeps P k b (RingbufWrite device payload format) p =
     changed_board P (ringbuf_written b device payload format)
-    (gained-keeps P k b device (given_bytes (unwrap_or format Utf8) payload) (ring_named device b.rings) p)
-altered_keeps P k b (XResetHold path) p = changed_board P (held_at b path) (at_path-keeps P b path (held_of b) p (λ n is. held_of-keeps P k b n is p))
+    (gained-all P b device payload (unwrap_or format Utf8) p (λ bytes. k.rings.written b device bytes p))
+altered_keeps P k b (XResetHold path) p = changed_board P (held_at b path) (at_path-all P b path (held_of b) p (λ n is. held_of-keeps P k b n is p))
 altered_keeps P k b (XResetRelease path) p =
-    changed_board P (released_at b path) (at_path-keeps P b path (released_of b) p (λ n is. released_of-keeps P k b n is p))
+    changed_board P (released_at b path) (at_path-all P b path (released_of b) p (λ n is. released_of-keeps P k b n is p))
 altered_keeps P k b (XSever birth) p = changed_board P (sever b birth) (k.change b (severed birth) p)
 altered_keeps P k b (XGuest line) p = heard_keeps P k b line p
 altered_keeps P k b (XStep ns) p = timed_board P (advanced b ns) (advanced-all P b ns p (λ low. k.timed b (b.now + ns) (omega arith) low p))

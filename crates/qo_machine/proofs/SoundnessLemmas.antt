@@ -1,35 +1,53 @@
--- The boards of all states that a machine is in are sound where one is.
-use Rattle.std.proofs.Common.{◌≡◌, refl, sym, ◌∙◌, false, Result, Ok, Err, IfOk}
+-- Each board that a machine stands at is sound, and after a step no event waits.
+use Rattle.std.proofs.Common.{◌≡◌, refl, sym, ◌∙◌, List, [], Result, Ok, Err, IfOk, OnErr, false}
+use Rattle.qo_causes.specs.declared.inputs.Input.{Input}
+use Rattle.qo_commands.proofs.AttemptLemmas.{attempted-all}
 use Rattle.qo_model.specs.Board.{Board}
-use Rattle.qo_model.specs.Soundness.{IsSound}
-use Rattle.qo_model.specs.SoundGraph.{graph_of}
-use Rattle.qo_model.proofs.TreeLemmas.{frame_lem}
-use Rattle.qo_heap.specs.Board.{Shows}
-use Rattle.qo_heap.specs.Objects.{Objects}
+use Rattle.qo_model.specs.Opening.{opening_board}
 use Rattle.qo_model.proofs.OpeningLemmas.{opening_sound}
-use Rattle.qo_machine.specs.Machine.{IsIn, Seen, State, opening}
+use Rattle.qo_realize.specs.Representation.{StandsForGood}
+use Rattle.qo_realize.proofs.GoodBoardLemmas.{alike-good, good-of, opening-good}
+use Rattle.qo_machine.specs.Between.{IsSettled, IsSoundBetween}
+use Rattle.qo_machine.specs.Machine.{Answers, BreaksOff, IsIn, Message, Seen, State, opening, state_with, step}
+use Rattle.qo_machine.proofs.MachineLemmas.{in_at}
+use Rattle.qo_machine.proofs.PreservationLemmas.{KeepsCommands, advanced-all, broken_keeps, step_keeps}
 
--- boards that one heap shows have the same tree
-graph_same : (b c : Board) (v : Objects) → Shows b v → Shows c v → graph_of b ≡ graph_of c
-unfolding graph_of
-graph_same b c v p q = rw (p.records, p.born, p.pins, q.records, q.born, q.pins) refl
+-- after each command no event waits
+abbrev IsDrained : Board → Type 0
+IsDrained b = b.events ≡ []
 
-records_same : (b c : Board) (v : Objects) → Shows b v → Shows c v → b.records ≡ c.records
-records_same b c v p q = p.records ∙ sym q.records
-
-events_same : (b c : Board) (v : Objects) → Shows b v → Shows c v → c.events ≡ b.events
-events_same b c v p q = q.events ∙ sym p.events
-
--- where one such board is sound, each is
-pub sound_by : (s t : State) (m : Seen) → IsIn s m → IsIn t m → IsSound s.board → IsSound t.board
-sound_by s t m p q h =
+drained_commands : KeepsCommands IsDrained
+drained_commands =
     record {
-      graph = frame_lem.graph s.board t.board (graph_same s.board t.board m.board.objects p.stands.shows q.stands.shows) h.graph;
-      aliases = frame_lem.aliases s.board t.board (records_same s.board t.board m.board.objects p.stands.shows q.stands.shows) h.aliases;
-      events = record { none = events_same s.board t.board m.board.objects p.stands.shows q.stands.shows ∙ h.events.none };
+      command = λ b r p. refl;
+      attempt = λ b r i joined p. attempted-all IsDrained b r i joined p (λ t. p) (λ t. p);
+      advance = λ b ns p. advanced-all IsDrained b ns p (λ low. p);
     }
 
+-- so none does after a step, also after one that was broken off
+pub stepped : {E : Type 0} (old new : Seen) (i : Input) (r : Result (List Message) E) → StandsForGood old.board → IsSettled old
+    → ((s : State) → IsIn s old → IfOk r (λ outs. Answers s i outs new)) → ((s : State) → IsIn s old → OnErr r (BreaksOff s i new)) → IsSettled new
+stepped old new i (Ok outs) (b, stands, good) settled answered broken =
+    let s = state_with b old in
+    let p = answered s (in_at b old stands) in
+    sym p.2.stands.shows.events ∙ step_keeps IsDrained drained_commands s i p.0 (stands.shows.events ∙ settled)
+stepped old new i (Err e) (b, stands, good) settled answered broken =
+    let s = state_with b old in
+    let q = broken_keeps IsDrained drained_commands s i new (broken s (in_at b old stands)) (stands.shows.events ∙ settled) in
+    sym q.1.shows.events ∙ q.2
+
+-- between two inputs the board is sound
+pub sound_between : (m : Seen) → StandsForGood m.board → IsSettled m → (s : State) → IsIn s m → IsSoundBetween s.board
+sound_between m good settled s at =
+    record { board = good-of m.board good s.board at.stands; events = record { none = at.stands.shows.events ∙ settled } }
+
 -- a machine at first
-pub started_sound : {E : Type 0} (r : Result Seen E) → IfOk r (λ m. IsIn opening m × (m.spent ≡ false)) → IfOk r (λ m. (s : State) → IsIn s m → IsSound s.board)
-started_sound (Ok m) h = λ s at. sound_by opening s m h.0 at opening_sound
-started_sound (Err e) h = tt
+pub opening_settled : (m : Seen) → IsIn opening m → IsSettled m
+opening_settled m at = sym at.stands.shows.events ∙ opening_sound.events.none
+
+pub started_sound : (m : Seen) → IsIn opening m → (s : State) → IsIn s m → IsSoundBetween s.board
+started_sound m here s at =
+    record {
+      board = alike-good opening_board s.board m.board here.stands at.stands opening-good;
+      events = record { none = at.stands.shows.events ∙ opening_settled m here };
+    }

@@ -1,19 +1,19 @@
 -- Steps keep the tree of the board sound.
-use Rattle.std.proofs.Common.{◌≡◌, ℕ, Bool, List, [], refl}
-use Rattle.qo_causes.specs.declared.inputs.Input.{Input}
+use Rattle.std.proofs.Common.{ℕ, Bool, List, refl}
 use Rattle.qo_model.proofs.CycleLemmas.{cycle_lem}
 use Rattle.qo_model.proofs.OpeningLemmas.{opening_sound}
 use Rattle.qo_model.proofs.TreeLemmas.{frame_lem}
 use Rattle.qo_model.specs.Board.{Board, Ring}
 use Rattle.qo_model.specs.Clocks.{div_of, mul_of}
 use Rattle.qo_model.specs.Reset.{held, pulse}
-use Rattle.qo_model.specs.Soundness.{IsSound}
 use Rattle.qo_model.specs.SoundGraph.{graph_of}
-use Rattle.qo_commands.proofs.AttemptLemmas.{attempted-all}
 use Rattle.qo_commands.specs.Commands.{without_events}
 use Rattle.qo_realize.specs.Chardevs.{with_rings}
+use Rattle.qo_realize.specs.Registers.{pushed}
 use Rattle.qo_realize.specs.Time.{at_time, with_running}
+use Rattle.qo_realize.proofs.GoodBoardLemmas.{opening-good}
 use Rattle.qo_realize.proofs.RegisterWriteLemmas.{written-all}
+use Rattle.qo_realize.proofs.SoundRunLemmas.{opening-run}
 use Rattle.qo_sound.proofs.TreeKeptLemmas.{sound_kept_lem}
 use Rattle.qo_sound.specs.TreeKept.{SoundTree}
 use Rattle.qo_sound_devices.specs.SoundDevices.{SoundDevices}
@@ -22,17 +22,15 @@ use Rattle.qo_sound_clocks.specs.ClockRuns.{SoundRun}
 use Rattle.qo_sound_clocks.proofs.RegisterLemmas.{registers_kept_lem}
 use Rattle.qo_sound_devices.proofs.EqualObjectLemmas.{asked-tree}
 use Rattle.qo_machine.proofs.AddressLemmas.{polled-tree, refused-tree}
-use Rattle.qo_machine.proofs.BoardLemmas.{board_commands, opening_sound_board}
-use Rattle.qo_machine.proofs.ClocksLemmas.{opening_run, run_commands}
+use Rattle.qo_machine.proofs.BoardLemmas.{board_commands}
+use Rattle.qo_machine.proofs.ClocksLemmas.{run_commands}
 use Rattle.qo_machine.proofs.DevicesLemmas.{devices_commands}
 use Rattle.qo_sound_clocks.proofs.WriteLawLemmas.{writes_keep_lem}
-use Rattle.qo_machine.proofs.PreservationLemmas.{any-rings, KeepsBoard, KeepsCommands, advanced-all, broken_keeps, keeps_commands, run_keeps, step_keeps}
-use Rattle.qo_machine.proofs.MachineLemmas.{in_at}
-use Rattle.qo_machine.proofs.SoundnessLemmas.{sound_by}
-use Rattle.qo_machine.specs.SoundBoard.{SoundBoard}
+use Rattle.qo_machine.proofs.PreservationLemmas.{any-rings, KeepsBoard, KeepsCommands, keeps_commands, run_keeps, step_keeps}
+use Rattle.qo_realize.specs.SoundBoard.{SoundBoard}
 use Rattle.qo_machine.specs.Laws.{HeldInRuns, KeptInRuns, SoundInRuns}
 use Rattle.qo_machine.specs.Runs.{state_after}
-use Rattle.qo_machine.specs.Machine.{Answers, BreaksOff, IsIn, Message, Seen, State, opening, state_with, step}
+use Rattle.qo_machine.specs.Machine.{opening}
 
 -- the time and whether it goes on are no matter to the tree, nor are the rings
 timed-tree : (b : Board) (now : ℕ) → SoundTree b → SoundTree (at_time now b)
@@ -68,7 +66,7 @@ tree_kept =
       refused = λ b d h. refused-tree b d h;
       polled = λ b h. polled-tree b h;
       written = λ b at d reg value c there is h.
-          written-all SoundTree b d reg value (λ registers e so. registers_kept_lem.tree b d registers h) (λ x rings q. ringed-tree x rings q)
+          written-all SoundTree b d reg value (λ registers e so. registers_kept_lem.tree b d registers h) (λ x n id q. ringed-tree x (pushed n x id).rings q)
           (λ x m on q. pulsed-tree x m q) c is;
       rings = any-rings SoundTree (λ b rings h. ringed-tree b rings h);
       timed = λ b now on low h. timed-tree b now h;
@@ -86,22 +84,6 @@ tree_free b h = (frame_lem.graph b (without_events b) refl h.0, frame_lem.aliase
 tree_commands : KeepsCommands SoundTree
 tree_commands = keeps_commands SoundTree tree_kept tree_free
 
--- after each command no event waits
-abbrev IsDrained : Board → Type 0
-IsDrained b = b.events ≡ []
-
-drained_commands : KeepsCommands IsDrained
-drained_commands =
-    record {
-      command = λ b r p. refl;
-      attempt = λ b r i joined p. attempted-all IsDrained b r i joined p (λ t. p) (λ t. p);
-      advance = λ b ns p. advanced-all IsDrained b ns p (λ low. p);
-    }
-
--- the groups of a sound board
-sound_of : (b : Board) → SoundTree b → IsDrained b → IsSound b
-sound_of b tree none = record { graph = tree.0; aliases = tree.1; events = record { none = none } }
-
 kept_in_runs : (P : Board → Type 0) → KeepsCommands P → P opening.board → KeptInRuns P
 kept_in_runs P k first = record { step = λ s i cs h. step_keeps P k s i cs h; run = λ turns. run_keeps P k opening turns first }
 
@@ -110,35 +92,9 @@ sound_in_runs =
     record {
       tree = kept_in_runs SoundTree tree_commands (opening_sound.graph, opening_sound.aliases);
       devices = kept_in_runs SoundDevices devices_commands devices_kept_lem.opening;
-      clocks = kept_in_runs SoundRun run_commands opening_run;
-      whole = kept_in_runs SoundBoard board_commands opening_sound_board;
+      clocks = kept_in_runs SoundRun run_commands opening-run;
+      whole = kept_in_runs SoundBoard board_commands opening-good;
     }
 
 pub held_in_runs : HeldInRuns
 held_in_runs turns n there apart = cycle_lem (state_after opening turns).board (sound_in_runs.tree.run turns).0 n there apart
-
--- a step of a machine
-pub stepped_sound : (old new : Seen) (i : Input) (outs : List Message) → ((s : State) → IsIn s old → Answers s i outs new) → (s : State) → IsIn s old
-    → IsSound s.board → (t : State) → IsIn t new → IsSound t.board
-stepped_sound old new i outs answered s at sound t there =
-    let p = answered s at in
-    sound_by (step s i p.0).state t new p.2 there
-    (sound_of (step s i p.0).state.board (step_keeps SoundTree tree_commands s i p.0 (sound.graph, sound.aliases))
-    (step_keeps IsDrained drained_commands s i p.0 sound.events.none))
-
--- a step that was broken off
-abbrev IsWhole : Board → Type 0
-IsWhole b = SoundTree b × IsDrained b
-
-whole_commands : KeepsCommands IsWhole
-whole_commands =
-    record {
-      command = λ b r p. (tree_commands.command b r p.0, drained_commands.command b r p.1);
-      attempt = λ b r i joined p. (tree_commands.attempt b r i joined p.0, drained_commands.attempt b r i joined p.1);
-      advance = λ b ns p. (tree_commands.advance b ns p.0, drained_commands.advance b ns p.1);
-    }
-
-pub broken_sound : (s : State) (i : Input) (m : Seen) → IsSound s.board → BreaksOff s i m → (t : State) → IsIn t m → IsSound t.board
-broken_sound s i m sound p t there =
-    let q = broken_keeps IsWhole whole_commands s i m p ((sound.graph, sound.aliases), sound.events.none) in
-    sound_by (state_with q.0 m) t m (in_at q.0 m q.1) there (sound_of q.0 q.2.0 q.2.1)

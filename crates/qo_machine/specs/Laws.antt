@@ -11,6 +11,7 @@ use Rattle.qo_model.specs.Board.{Board, is_live}
 use Rattle.qo_model.specs.FinalNotes.{FinalOnce, NotesInOrder}
 use Rattle.qo_model.specs.Holders.{HeldFrom}
 use Rattle.qo_model.specs.Paths.{attached}
+use Rattle.qo_realize.specs.SoundBoard.{SoundBoard}
 use Rattle.qo_sound.specs.TreeKept.{SoundTree}
 use Rattle.qo_sound_devices.specs.SoundDevices.{SoundDevices}
 use Rattle.qo_sound_bounds.specs.SoundHolds.{SoundHolds}
@@ -23,7 +24,6 @@ use Rattle.qo_sessions.specs.Acts.{act}
 use Rattle.qo_sessions.specs.declared.acts.SessionAct.{SessionAct}
 use Rattle.qo_sessions.specs.declared.acts.SessionAct.TheVariants.{Answer, Negotiated, Do}
 use Rattle.qo_machine.specs.Machine.{Choice, Message, State, item_step, mode_of, opening, session_of, step}
-use Rattle.qo_machine.specs.SoundBoard.{SoundBoard}
 use Rattle.qo_machine.specs.Runs.{Turn, outs_of, state_after}
 
 -- only one session changes, and only it is sent anything

@@ -1,6 +1,6 @@
+pub mod Between
 pub mod Laws
 pub mod Machine
 pub mod Runs
 pub mod Sending
 pub mod Serving
-pub mod SoundBoard

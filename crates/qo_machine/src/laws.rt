@@ -29,7 +29,7 @@ pub fn law_final_once()
 /// is so of each board of it. With all these the whole of what a sound board is (`SoundBoard`): each object
 /// is shaped as its type says, what stands in `/objects` may be made by a user, each clock goes by the one
 /// for it, the segments of timers are sound, and so are rings and what devices claim of rings, memory and
-/// addresses, and the limits on objects and time are kept.
+/// addresses, holds are on what a reset reaches, and the limits on objects, time and holds are kept.
 pub fn law_sound()
     ensures { SoundInRuns }
 {}

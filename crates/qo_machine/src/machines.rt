@@ -65,12 +65,9 @@ pub(crate) struct Replied {
     pub(crate) ends: bool,
 }
 
-/// The machine.
-///
-/// It is driven by one input at a time. A step that runs out of memory ends it: every later one
-/// answers `AllocError`.
+/// What a machine is made of, also while a command is served and events on devices wait on the board.
 #[derive(Drop)]
-pub struct Machine {
+pub(crate) struct Core {
     board: Board,
     sessions: Vec<Session>,
     guest_line: Vec<u8>,
@@ -80,7 +77,7 @@ pub struct Machine {
     scratch: Box<Scratch>,
 }
 
-impl Model for Machine {
+impl Model for Core {
     ghost use Rattle.std.specs.Prelude.{◌≡◌, length};
     ghost use Rattle.qo_values.specs.declared.limits.TheConstants.{SESSIONS};
     ghost use Rattle.qo_machine.specs.Machine.{Seen};
@@ -92,45 +89,117 @@ impl Model for Machine {
     ghost invariant = { λ m. length m.sessions.items ≡ SESSIONS };
 }
 
+/// The machine.
+///
+/// It is driven by one input at a time. A step that runs out of memory ends it: every later one
+/// answers `AllocError`. Between two inputs no event on a device waits on its board.
+#[derive(Drop)]
+pub struct Machine {
+    core: Core,
+}
+
+impl Model for Machine {
+    ghost use Rattle.qo_machine.specs.Machine.{Seen};
+    ghost use Rattle.qo_machine.specs.Between.{IsSettled};
+
+    ghost Value = { Seen };
+
+    ghost view = { λ m. m.core };
+
+    ghost invariant = { λ m. IsSettled m.core };
+}
+
 impl Machine {
     ghost use Rattle.std.specs.Prelude.{true, false, IsErr, OnErr, OnOk};
     ghost use Rattle.qo_model.specs.Board.{Board as Tree};
-    ghost use Rattle.qo_model.specs.Soundness.{IsSound};
-    ghost use Rattle.qo_sound_clocks.specs.ClockRuns.{SoundRun};
+    ghost use Rattle.qo_machine.specs.Machine.{Answers, BreaksOff, IsIn, State, finished, opening, state_with};
+    ghost use Rattle.qo_machine.specs.Runs.{close_lost};
+    ghost use Rattle.qo_machine.specs.Sending.{AreToLanes};
+    ghost use Rattle.qo_machine.specs.Between.{IsSoundBetween};
+
+    /// The machine at first: the opening board, and all sessions closed. Each board that it stands at is
+    /// sound, and no event waits.
+    pub fn start(alloc: Global) -> Result<Machine, AllocError>
+        ensures state { IfOk result (λ m. IsIn opening m × (m.spent ≡ false)) }
+        ensures sound { IfOk result (λ m. (s : State) → IsIn s m → IsSoundBetween s.board) }
+    {
+        Ok(Machine {
+            core: Core::start(alloc)?,
+        })
+    }
+
+    /// Whether the run has ended. It takes no memory.
+    pub fn ended(&self) -> bool
+        ensures { result ≡ self.now.ended }
+    {
+        self.core.ended()
+    }
+
+    /// Does what one input does, and gives the messages that it makes.
+    ///
+    /// A reply may instead be E99, where memory runs out for the defined one; the item has then done
+    /// nothing, but that `object-add` and `device_add` may have made and ended objects. It answers `AllocError` where
+    /// memory runs out otherwise, and from then on always: the run has then ended, and all sessions
+    /// are closed. The board is then one that a front of the input's items leads to. After each step, also
+    /// after such a one, each board that the machine stands at is sound, and no event waits.
+    pub fn step(&mut self, alloc: Global, input: &Input) -> Result<Outs, AllocError>
+        ensures answered { (s : State) → IsIn s self.old → IfOk result (λ outs. Answers s input.now outs self.new) }
+        ensures lanes { IfOk result AreToLanes }
+        ensures closes { OnErr result ((b : Tree) → state_with b self.new ≡ finished (state_with b self.old)) }
+        ensures lasts { OnOk result (self.new.spent ≡ false) }
+        ensures spends { OnErr result (self.new.spent ≡ true) }
+        ensures spent { self.old.spent ≡ true → IsErr result }
+        ensures breaks { (s : State) → IsIn s self.old → OnErr result (BreaksOff s input.now self.new) }
+        ensures sound { (s : State) → IsIn s self.new → IsSoundBetween s.board }
+    {
+        self.core.shown();
+        let done = self.core.step(alloc, input);
+        self.core.shown();
+        done
+    }
+
+    /// Closes the sessions that are lost, as if each was shut. It takes no memory.
+    pub(crate) fn close_lost(&mut self, lost: &[bool; LANES])
+        ensures state { (s : State) → IsIn s self.old → IsIn (close_lost lost.now s) self.new }
+        ensures lasts { self.new.spent ≡ self.old.spent }
+    {
+        self.core.close_lost(lost);
+    }
+}
+
+impl Core {
+    ghost use Rattle.std.specs.Prelude.{true, false, IsErr, OnErr, OnOk};
+    ghost use Rattle.qo_model.specs.Board.{Board as Tree};
     ghost use Rattle.qo_sessions.specs.Acts.{act};
     ghost use Rattle.qo_sessions.specs.Sessions.{fed};
     ghost use Rattle.qo_commands.specs.Changes.{Left};
     ghost use Rattle.qo_requests.specs.declared.calls.Call.TheVariants as call;
     ghost use Rattle.qo_commands.specs.Commands.{without_events};
-    ghost use Rattle.qo_realize.specs.Representation.{Stands};
+    ghost use Rattle.qo_realize.specs.Representation.{Stands, StandsForGood};
     ghost use Rattle.qo_realize.specs.Time.{advanced};
     ghost use Rattle.qo_machine.specs.Machine.{Answers, BreaksOff, IsIn, State, after_command, beside, finished, input_step, mode_of, opening, session_of, state_with, with_line, with_session};
     ghost use Rattle.qo_machine.specs.Runs.{close_lost};
     ghost use Rattle.qo_machine.specs.Sending.{AreToLanes};
-    ghost use Rattle.qo_machine.specs.SoundBoard.{SoundBoard};
     ghost use Rattle.qo_lane.specs.Hearing.{heard};
     ghost use Rattle.qo_lane.specs.Lines.{lines_of};
     ghost use Rattle.qo_machine.specs.Serving.{Came, CameTo, moved};
 
     /// The machine at first: the opening board, and all sessions closed.
-    pub fn start(alloc: Global) -> Result<Machine, AllocError>
-        ensures state { IfOk result (λ m. IsIn opening m × (m.spent ≡ false)) }
-        ensures sound { IfOk result (λ m. (s : State) → IsIn s m → IsSound s.board) }
-        ensures kept { IfOk result (λ m. (s : State) → IsIn s m → SoundRun s.board) }
-        ensures whole { IfOk result (λ m. (s : State) → IsIn s m → SoundBoard s.board) }
+    fn start(alloc: Global) -> Result<Core, AllocError>
+        ensures { IfOk result (λ m. IsIn opening m × (m.spent ≡ false)) }
     {
-        Machine::start_counting::<Brand>(alloc, Blank::new(1))
+        Core::start_counting::<Brand>(alloc, Blank::new(1))
     }
 
     /// The machine at first, made with a counter of steps over a blank.
-    fn start_counting<L: Ledger>(alloc: Global, blank: Blank) -> Result<Machine, AllocError>
+    fn start_counting<L: Ledger>(alloc: Global, blank: Blank) -> Result<Core, AllocError>
         requires name { blank.name ≡ L.name }
         requires parts { blank.parts ≡ L.parts }
         requires some { 0 < blank.parts }
         ensures state { IfOk result (λ m. IsIn opening m × (m.spent ≡ false)) }
     {
         let mut steps = Steps::<L>::from_blank(blank);
-        Ok(Machine {
+        Ok(Core {
             board: Board::start(alloc, &mut steps)?,
             sessions: closed_sessions(alloc)?,
             guest_line: Vec::new(alloc),
@@ -140,23 +209,22 @@ impl Machine {
         })
     }
 
+    /// What its board stands for: there is a sound board that stands at it.
+    fn shown(&self)
+        ensures { StandsForGood self.now.board }
+    {
+        self.board.shown();
+    }
+
     /// Whether the run has ended. It takes no memory.
-    pub fn ended(&self) -> bool
+    pub(crate) fn ended(&self) -> bool
         ensures { result ≡ self.now.ended }
     {
         self.ended
     }
 
-    /// Does what one input does, and gives the messages that it makes.
-    ///
-    /// A reply may instead be E99, where memory runs out for the defined one; the item has then done
-    /// nothing, but that `object-add` and `device_add` may have made and ended objects. It answers `AllocError` where
-    /// memory runs out otherwise, and from then on always: the run has then ended, and all sessions
-    /// are closed. The board is then one that a front of the input's items leads to; it stays sound.
-    /// After each step devices stand in their places, the lists that name devices name those that do,
-    /// clocks with their numbers are sound, and no timer is ahead of the virtual time. A machine that has
-    /// come from `start` by steps stands at a board that is sound as a whole.
-    pub fn step(&mut self, alloc: Global, input: &Input) -> Result<Outs, AllocError>
+    /// Does what one input does, as `Machine::step` says.
+    fn step(&mut self, alloc: Global, input: &Input) -> Result<Outs, AllocError>
         ensures answered { (s : State) → IsIn s self.old → IfOk result (λ outs. Answers s input.now outs self.new) }
         ensures lanes { IfOk result AreToLanes }
         ensures closes { OnErr result ((b : Tree) → state_with b self.new ≡ finished (state_with b self.old)) }
@@ -164,11 +232,7 @@ impl Machine {
         ensures spends { OnErr result (self.new.spent ≡ true) }
         ensures spent { self.old.spent ≡ true → IsErr result }
         ensures breaks { (s : State) → IsIn s self.old → OnErr result (BreaksOff s input.now self.new) }
-        ensures sound { (s : State) → IsIn s self.old → IsSound s.board → (t : State) → IsIn t self.new → IsSound t.board }
-        ensures kept { (t : State) → IsIn t self.new → SoundRun t.board }
-        ensures whole { (s : State) → IsIn s self.old → SoundBoard s.board → (t : State) → IsIn t self.new → SoundBoard t.board }
     {
-        self.board.shown();
         if self.spent {
             self.finish();
             return Err(AllocError);
@@ -203,9 +267,10 @@ impl Machine {
     }
 
     /// Closes the sessions that are lost, as if each was shut. It takes no memory.
-    pub(crate) fn close_lost(&mut self, lost: &[bool; LANES])
+    fn close_lost(&mut self, lost: &[bool; LANES])
         ensures state { (s : State) → IsIn s self.old → IsIn (close_lost lost.now s) self.new }
         ensures lasts { self.new.spent ≡ self.old.spent }
+        ensures board { self.new.board ≡ self.old.board }
     {
         close_where(&mut self.sessions, lost);
     }

@@ -98,6 +98,7 @@ fn turn<H: Hub>(alloc: Global, hub: &mut H, machine: &mut Machine) -> Result<(),
     ensures send_count { H.send_faults hub.old ≤ H.send_faults hub.new }
     ensures next_cause { result ≡ Err Ending.NextFailed → Rose (H.next_faults hub.old) (H.next_faults hub.new) }
     ensures send_cause { result ≡ Err Ending.SendFailed → Rose (H.send_faults hub.old) (H.send_faults hub.new) }
+    ensures starved { result ≡ Err Ending.NextFailed → H.starved hub.new }
     ensures next_quiet { result ≢ Err Ending.NextFailed → H.next_faults hub.new ≡ H.next_faults hub.old }
     ensures send_quiet { result ≢ Err Ending.SendFailed → H.send_faults hub.new ≡ H.send_faults hub.old }
     ensures later { H.later hub.old hub.new }
@@ -132,6 +133,7 @@ pub fn run<H: Hub>(alloc: Global, hub: &mut H, limit: u64) -> Ending
     ensures send_count { H.send_faults hub.old ≤ H.send_faults hub.new }
     ensures next_cause { result ≡ Ending.NextFailed → Rose (H.next_faults hub.old) (H.next_faults hub.new) }
     ensures send_cause { result ≡ Ending.SendFailed → Rose (H.send_faults hub.old) (H.send_faults hub.new) }
+    ensures starved { result ≡ Ending.NextFailed → H.starved hub.new }
     ensures next_quiet { result ≢ Ending.NextFailed → H.next_faults hub.new ≡ H.next_faults hub.old }
     ensures send_quiet { result ≢ Ending.SendFailed → H.send_faults hub.new ≡ H.send_faults hub.old }
     ensures later { H.later hub.old hub.new }

@@ -13,7 +13,7 @@ ghost use Rattle.qo_values.specs.declared.limits.TheConstants.{SESSIONS};
 ghost use Rattle.qo_machine.specs.Sending.{AreToLanes, IsLane};
 ghost use Rattle.qo_machine.specs.Serving.{CommandLeft, CommandServed, LinesFront, LinesTo, ServesFront, ServesTo, Tells};
 
-use crate::machines::{Machine, Replied};
+use crate::machines::{Core, Replied};
 use crate::outs::Outs;
 use crate::replying::{EMPTY, guest_text};
 use crate::telling::Emitted;
@@ -81,7 +81,7 @@ impl Sending {
     /// One session is told of an event, if it commands.
     fn tell_one<E: Emitted>(
         &mut self,
-        machine: &Machine,
+        machine: &Core,
         session: u8,
         event: &E,
     ) -> Result<(), AllocError>
@@ -97,7 +97,7 @@ impl Sending {
     }
 
     /// Each session that commands is told of an event.
-    fn tell<E: Emitted>(&mut self, machine: &Machine, event: &E) -> Result<(), AllocError>
+    fn tell<E: Emitted>(&mut self, machine: &Core, event: &E) -> Result<(), AllocError>
         ensures moment { self.new.at ≡ self.old.at }
         ensures told { OnOk result (self.new.outs ≡ self.old.outs ++ event_messages (E.event event.now) self.old.at (commanding (beside machine.now))) }
     {
@@ -108,7 +108,7 @@ impl Sending {
     }
 
     /// Each session that commands is told of each event on a device, in their order.
-    fn tell_all(&mut self, machine: &Machine, events: &[DeviceEvent]) -> Result<(), AllocError>
+    fn tell_all(&mut self, machine: &Core, events: &[DeviceEvent]) -> Result<(), AllocError>
         ensures moment { self.new.at ≡ self.old.at }
         ensures told { OnOk result (self.new.outs ≡ self.old.outs ++ event_outs self.old.at (beside machine.now) (map event_of events.now)) }
     {
@@ -119,7 +119,7 @@ impl Sending {
     }
 
     /// Each session that commands is told of the event of a command, if it has one.
-    fn tell_own(&mut self, machine: &Machine, event: Option<&Event>) -> Result<(), AllocError>
+    fn tell_own(&mut self, machine: &Core, event: Option<&Event>) -> Result<(), AllocError>
         ensures moment { self.new.at ≡ self.old.at }
         ensures told { OnOk result (self.new.outs ≡ self.old.outs ++ event_outs self.old.at (beside machine.now) (option_to_list (option_map (λ e. e.now) event.entry))) }
     {
@@ -152,7 +152,7 @@ impl Sending {
 /// and of those of a command or a line; its reply goes to its lane.
 #[inline(always)]
 fn send_reply(
-    machine: &mut Machine,
+    machine: &mut Core,
     lane: Lane,
     reply: Replied,
     sending: &mut Sending,
@@ -173,7 +173,7 @@ fn send_reply(
 
 /// A command is done, or refused for want of memory.
 fn serve_command<L: Ledger>(
-    machine: &mut Machine,
+    machine: &mut Core,
     session: u8,
     command: &Call,
     id: Option<&Text>,
@@ -199,7 +199,7 @@ fn serve_command<L: Ledger>(
 
 /// An item of a session is served, unless the run has ended.
 fn serve_item<L: Ledger>(
-    machine: &mut Machine,
+    machine: &mut Core,
     session: u8,
     item: &Item,
     sending: &mut Sending,
@@ -232,7 +232,7 @@ fn serve_item<L: Ledger>(
 
 /// Items of a session are served in turn.
 pub(crate) fn serve_items<L: Ledger>(
-    machine: &mut Machine,
+    machine: &mut Core,
     alloc: Global,
     at: Moment,
     session: u8,
@@ -254,7 +254,7 @@ pub(crate) fn serve_items<L: Ledger>(
 
 /// A line of the guest is served, unless the run has ended.
 fn serve_line<L: Ledger>(
-    machine: &mut Machine,
+    machine: &mut Core,
     line: &Chars,
     sending: &mut Sending,
     steps: &mut Steps<L>,
@@ -280,7 +280,7 @@ fn serve_line<L: Ledger>(
 
 /// Lines of the guest are served in turn.
 pub(crate) fn serve_lines<L: Ledger>(
-    machine: &mut Machine,
+    machine: &mut Core,
     alloc: Global,
     at: Moment,
     lines: &[Chars],

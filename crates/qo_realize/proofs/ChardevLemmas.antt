@@ -1,18 +1,78 @@
 -- What stands where rings are added and removed, and where they are read and written to.
-use Rattle.std.proofs.Common.{◌≡◌, refl, ap, sym, subst, ◌∙◌, ℕ, Bool, List, Result, Ok, Err, OnErr}
+use Rattle.std.proofs.Common.{◌≡◌, refl, ap, sym, subst, ◌∙◌, ℕ, Bool, List, [], ◌∷◌, ◌++◌, Option, None, Some, Result, Ok, Err, OnErr}
+use Rattle.qo_values.specs.Rings.{ring_add, ring_drop, ring_oldest}
 use Rattle.qo_values.specs.declared.codes.Code.{Code}
+use Rattle.qo_values.specs.declared.codes.Code.TheVariants.{E36}
+use Rattle.qo_values.specs.declared.forms.Form.{Form}
+use Rattle.qo_chardev.specs.Texts.{told}
 use Rattle.qo_hotplug.specs.Hotplug.{Asked}
 use Rattle.qo_model.specs.Board.{Board, Ring}
 use Rattle.qo_model.specs.Objects.{Changed}
+use Rattle.qo_heap.specs.Board.{Shows}
 use Rattle.qo_heap.specs.Objects.{Objects}
 use Rattle.qo_properties.specs.declared.refusals.Refusal.{Refusal}
 use Rattle.qo_properties.specs.declared.refusals.Refusal.TheVariants.{Refused, Memory}
 use Rattle.qo_reset.specs.HoldList.{HoldList}
 use Rattle.qo_realize.specs.Answers.{Changes, IsAnswered}
-use Rattle.qo_realize.specs.Chardevs.{AnswersRings, ChangesRings, Reading, ReadsRing, TakesRing, with_rings}
+use Rattle.qo_rings.specs.Rings.{bytes_in, given_bytes, new_ring, ring_changed, ring_named, without_ring}
+use Rattle.qo_realize.specs.Chardevs.{AnswersRings, ChangesRings, Reading, ReadsRing, TakesRing, by_code, chardev_barred, chardev_removed, removal_barred, ring_added, ring_read, ring_written, taken_as, with_rings, written_as}
 use Rattle.qo_realize.specs.Parts.{Parts, parts_of}
 use Rattle.qo_realize.specs.Representation.{Stands, StandsForGood}
+use Rattle.qo_realize.specs.SoundBoard.{SoundBoard}
 use Rattle.qo_realize.proofs.GoodBoardLemmas.{ringed-good}
+use Rattle.qo_realize.proofs.RingLemmas.{added_backends, gained_backends, read_backends, removed_backends}
+
+-- what is so of the board, and of the board with the rings, is so after the change
+
+pub by_code-all : (P : Board → Type 0) (b c : Board) (bar : Option Code) → P b → (bar ≡ None → P c) → P (by_code b c bar).board
+by_code-all P b c None p q = q refl
+by_code-all P b c (Some code) p q = p
+
+pub taken-all : (P : Board → Type 0) (b : Board) (id : List ℕ) (most : ℕ) (form : Form) → P b
+    → P (with_rings (ring_changed (λ m. ring_drop m most) id b.rings) b) → P (ring_read b id most form).board
+taken-all P b id most form p q = go (ring_named id b.rings)
+  where
+    by : (text : Option (List ℕ)) → P (taken_as b id most text).board
+    by None = p
+    by (Some text) = q
+
+    go : (o : Option Ring)
+        → P (elim o as (λ o. Reading) [ None ↦ record { text = Err E36; board = b } | Some r ↦ taken_as b id most (told form (ring_oldest (bytes_in r) most)) ]).board
+    go None = p
+    go (Some r) = by (told form (ring_oldest (bytes_in r) most))
+
+pub gained-all : (P : Board → Type 0) (b : Board) (id text : List ℕ) (form : Form) → P b
+    → ((bytes : List ℕ) → P (with_rings (ring_changed (λ m. ring_add m bytes) id b.rings) b)) → P (ring_written b id text form).board
+gained-all P b id text form p q = go (ring_named id b.rings)
+  where
+    by : (bytes : Option (List ℕ)) → P (written_as b id bytes).board
+    by None = p
+    by (Some bytes) = q bytes
+
+    go : (o : Option Ring) → P (elim o as (λ o. Changed) [ None ↦ record { refusal = Some E36; board = b } | Some r ↦ written_as b id (given_bytes form text) ]).board
+    go None = p
+    go (Some r) = by (given_bytes form text)
+
+-- so a sound board stays sound
+
+pub ring_added-good : (b : Board) (id kind : List ℕ) (size : ℕ) → SoundBoard b → SoundBoard (ring_added b id kind size).board
+ring_added-good b id kind size h =
+    by_code-all SoundBoard b (with_rings (b.rings ++ new_ring id size ∷ []) b) (chardev_barred b id kind size) h
+    (λ free. ringed-good b (b.rings ++ new_ring id size ∷ []) (added_backends b id kind size free h.backends) h)
+
+pub ring_removed-good : (b : Board) (id : List ℕ) → SoundBoard b → SoundBoard (chardev_removed b id).board
+ring_removed-good b id h =
+    by_code-all SoundBoard b (with_rings (without_ring id b.rings) b) (removal_barred b id) h
+    (λ free. ringed-good b (without_ring id b.rings) (removed_backends b id free h.backends) h)
+
+pub ring_read-good : (b : Board) (id : List ℕ) (most : ℕ) (form : Form) → SoundBoard b → SoundBoard (ring_read b id most form).board
+ring_read-good b id most form h =
+    taken-all SoundBoard b id most form h (ringed-good b (ring_changed (λ m. ring_drop m most) id b.rings) (read_backends b id most h.backends) h)
+
+pub ring_written-good : (b : Board) (id text : List ℕ) (form : Form) → SoundBoard b → SoundBoard (ring_written b id text form).board
+ring_written-good b id text form h =
+    gained-all SoundBoard b id text form h
+    (λ bytes. ringed-good b (ring_changed (λ m. ring_add m bytes) id b.rings) (gained_backends b id bytes h.backends) h)
 
 -- the board with other rings
 
@@ -44,11 +104,31 @@ module _ (old new : List Ring) (anonymous : ℕ) (running : Bool) (holds : HoldL
         book = s.book;
       }
 
-  pub rings-sound : StandsForGood before → StandsForGood after
-  rings-sound (b, s, good) = (with_rings new b, rings-stand b s, ringed-good b new good)
-
   left-stands : (b : Board) → Stands b before → new ≡ old → Stands b after
   left-stands b s same = subst (λ (r : List Ring). Stands b (parts_of r anonymous running holds asked v)) (sym same) s
+
+  -- where the board with the rings is sound, or they are as they were
+  rings-sound : (b : Board) → Stands b before → SoundBoard (with_rings new b) → StandsForGood after
+  rings-sound b s good = (with_rings new b, rings-stand b s, good)
+
+  pub change-sound : (change : Board → Changed) (result : Result (Unit {0}) Refusal) → ((b : Board) → SoundBoard b → SoundBoard (change b).board)
+      → ((b : Board) → b.rings ≡ old → ChangesRings b (change b) result new) → OnErr result (new ≡ old) → StandsForGood before → StandsForGood after
+  change-sound change (Ok u) keeps is same (b, s, good) =
+      rings-sound b s (subst (λ (c : Changed). SoundBoard c.board) (is b s.rings) (keeps b good))
+  change-sound change (Err e) keeps is same (b, s, good) = (b, left-stands b s same, good)
+
+  pub answer-sound : (change : Board → Changed) (result : Result (Unit {0}) Code) → ((b : Board) → SoundBoard b → SoundBoard (change b).board)
+      → ((b : Board) → Shows b v → b.rings ≡ old → AnswersRings b (change b) result new) → OnErr result (new ≡ old)
+      → StandsForGood before → StandsForGood after
+  answer-sound change (Ok u) keeps is same (b, s, good) =
+      rings-sound b s (subst (λ (c : Changed). SoundBoard c.board) (is b s.shows s.rings) (keeps b good))
+  answer-sound change (Err e) keeps is same (b, s, good) = (b, left-stands b s same, good)
+
+  pub reading-sound : (reading : Board → Reading) (result : Result (List ℕ) Refusal) → ((b : Board) → SoundBoard b → SoundBoard (reading b).board)
+      → ((b : Board) → b.rings ≡ old → TakesRing b (reading b) result new) → OnErr result (new ≡ old) → StandsForGood before → StandsForGood after
+  reading-sound reading (Ok text) keeps is same (b, s, good) =
+      rings-sound b s (subst (λ (r : Reading). SoundBoard r.board) (is b s.rings) (keeps b good))
+  reading-sound reading (Err e) keeps is same (b, s, good) = (b, left-stands b s same, good)
 
   pub rings-err : {T E : Type 0} (r : Result T E) (p : Parts) → before ≡ p → OnErr r (new ≡ old) → OnErr r (after ≡ p)
   rings-err (Ok t) p is same = tt

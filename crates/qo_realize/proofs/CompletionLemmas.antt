@@ -16,14 +16,14 @@ use Rattle.qo_sound.proofs.DeviceScopeLemmas.{devices_stay_lem}
 use Rattle.qo_sound_clocks.specs.SoundClocks.{SoundClocks}
 use Rattle.qo_unplug.specs.BoardParts.{Beside}
 use Rattle.qo_unplug.proofs.MomentLemmas.{times-timely}
-use Rattle.qo_realize.specs.GoodBoard.{Good}
+use Rattle.qo_realize.specs.SoundBoard.{SoundBoard}
 use Rattle.qo_realize.specs.Parts.{Parts, parts_of}
 use Rattle.qo_realize.specs.Representation.{Stands, StandsForGood}
 use Rattle.qo_realize.proofs.GoodBoardLemmas.{completed-good, good-pinned}
 
 -- no timer of the heap is ahead of its time
 pub timely-heap : (p : Parts) → StandsForGood p → Timely p.objects
-timely-heap p (b, s, good) = times-timely b p.objects s.shows good.times
+timely-heap p (b, s, good) = times-timely b p.objects s.shows good.run.times
 
 -- what is beside the heap is the board's
 pub is_beside : (b : Board) (rings : List Ring) (anonymous : ℕ) (running : Bool) (holds : HoldList) (asked : Asked) (v : Objects)
@@ -52,7 +52,7 @@ pub completed-sound : (n : ℕ) (rings : List Ring) (anonymous : ℕ) (running :
     → ((b : Board) → SoundTree b → SoundClocks b → Beside b v held.births old → Beside (detach b n) w holds.births new) → KeepsBook v w
     → OnlyRootPinned w × StandsForGood (parts_of rings anonymous running holds new w)
 completed-sound n rings anonymous running held holds old new v w pending (b, s, good) detaches keeps =
-    let after : Good (completed b n) = completed-good b n (ap (λ (ns : List ℕ). among ns n) s.pending ∙ pending) good in
+    let after : SoundBoard (completed b n) = completed-good b n (ap (λ (ns : List ℕ). among ns n) s.pending ∙ pending) good in
     let stands : Stands (completed b n) (parts_of rings anonymous running holds new w) = completed-stands b n rings anonymous running held holds old new v w s
-    (detaches b good.devices.tree good.clocks (is_beside b rings anonymous running held old v s)) keeps in
+    (detaches b good.run.devices.tree good.run.clocks (is_beside b rings anonymous running held old v s)) keeps in
     good-pinned (completed b n) (parts_of rings anonymous running holds new w) stands after

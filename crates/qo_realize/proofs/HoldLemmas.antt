@@ -1,11 +1,11 @@
 -- What stands where an object is held in reset, or released.
-use Rattle.std.proofs.Common.{◌≡◌, refl, ap, sym, subst, ◌∙◌, ap₂, ℕ, Bool, true, false, not, if◌then◌else◌, List, [], Some, None, Result, Ok, Err, OnErr}
+use Rattle.std.proofs.Common.{◌≡◌, refl, ap, sym, subst, ◌∙◌, ap₂, ℕ, Bool, true, false, not, if◌then◌else◌, List, [], codes, Some, None, Result, Ok, Err, OnErr}
 use Rattle.qo_values.specs.declared.codes.Code.{Code}
 use Rattle.qo_values.specs.declared.codes.Code.TheVariants.{E15, E48, E49}
 use Rattle.qo_model.specs.Board.{Board, Ring}
 use Rattle.qo_model.specs.Depth.{among}
 use Rattle.qo_model.specs.Objects.{Changed}
-use Rattle.qo_model.specs.Paths.{attached}
+use Rattle.qo_model.specs.Paths.{Resolution, attached, found, is_of, missing, resolve, several}
 use Rattle.qo_model.specs.Reset.{held, is_deep, pulse, released}
 use Rattle.qo_heap.specs.Acts.{Acts}
 use Rattle.qo_heap.specs.Objects.{Objects}
@@ -19,8 +19,9 @@ use Rattle.qo_reset.specs.HoldList.{HoldList}
 use Rattle.qo_reset.specs.Phases.{Holds}
 use Rattle.qo_sound.specs.DeviceScope.{ResetLeaves}
 use Rattle.qo_sound.proofs.DeviceScopeLemmas.{devices_stay_lem}
+use Rattle.qo_sound.proofs.TargetLemmas.{resolved-of}
 use Rattle.qo_realize.specs.Answers.{Changes, IsAnswered}
-use Rattle.qo_realize.specs.GoodBoard.{Good}
+use Rattle.qo_realize.specs.SoundBoard.{SoundBoard}
 use Rattle.qo_realize.specs.Parts.{Parts, parts_of}
 use Rattle.qo_realize.specs.Resets.{Releases, Resets, at_path, held_at, held_of, released_at, released_of, resettable_at}
 use Rattle.qo_realize.specs.Representation.{Stands, StandsForGood}
@@ -28,9 +29,14 @@ use Rattle.qo_realize.proofs.GoodBoardLemmas.{held-good, pulsed-good, released-g
 
 -- what is so of the board and of the board with the hold, or without it, is so after the change
 
-at_path-all : (P : Board → Type 0) (b : Board) (change : ℕ → Changed) (r : Result ℕ Code) → P b → ((n : ℕ) → P (change n).board) → P (at_path b change r).board
-at_path-all P b change (Ok n) p q = q n
-at_path-all P b change (Err code) p q = p
+pub at_path-all : (P : Board → Type 0) (b : Board) (path : List ℕ) (change : ℕ → Changed) → P b
+    → ((n : ℕ) → is_of b (codes "resettable") n ≡ true → P (change n).board) → P (at_path b change (resettable_at b path)).board
+at_path-all P b path change p q = by (resolve b path (codes "resettable")) refl
+  where
+    by : (o : Resolution) → resolve b path (codes "resettable") ≡ o → P (at_path b change (resettable_at b path)).board
+    by (found n) e = rw (resettable_at, e) (q n (resolved-of b path (codes "resettable") n e))
+    by missing e = rw (resettable_at, e) p
+    by several e = rw (resettable_at, e) p
 
 pub held_of-all : (P : Board → Type 0) (b : Board) (n : ℕ) → P b → (attached b n ≡ true → is_deep b n ≡ false → P (held b n)) → P (held_of b n).board
 held_of-all P b n p q = by (attached b n) refl (is_deep b n) refl
@@ -56,26 +62,27 @@ released_of-all P b n p q = by (among b.holds n) refl
     by true e = q e
     by false e = p
 
-held_at-all : (P : Board → Type 0) (b : Board) (path : List ℕ) → P b → ((n : ℕ) → P (held b n)) → P (held_at b path).board
-held_at-all P b path p q = at_path-all P b (held_of b) (resettable_at b path) p (λ n. held_of-all P b n p (λ home deep. q n))
+held_at-all : (P : Board → Type 0) (b : Board) (path : List ℕ) → P b
+    → ((n : ℕ) → is_of b (codes "resettable") n ≡ true → attached b n ≡ true → is_deep b n ≡ false → P (held b n)) → P (held_at b path).board
+held_at-all P b path p q = at_path-all P b path (held_of b) p (λ n is. held_of-all P b n p (λ home deep. q n is home deep))
 
 released_at-all : (P : Board → Type 0) (b : Board) (path : List ℕ) → P b → ((n : ℕ) → P (released b n)) → P (released_at b path).board
-released_at-all P b path p q = at_path-all P b (released_of b) (resettable_at b path) p (λ n. released_of-all P b n p (λ there. q n))
+released_at-all P b path p q = at_path-all P b path (released_of b) p (λ n is. released_of-all P b n p (λ there. q n))
 
 none-leaves : (b : Board) → ResetLeaves b b
 none-leaves b = record { anonymous = refl; now = refl; running = refl; pending = refl; notices = refl; rings = refl; events = refl }
 
 held_at-leaves : (b : Board) (path : List ℕ) → ResetLeaves b (held_at b path).board
-held_at-leaves b path = held_at-all (ResetLeaves b) b path (none-leaves b) (λ n. devices_stay_lem.held_so b n)
+held_at-leaves b path = held_at-all (ResetLeaves b) b path (none-leaves b) (λ n is home deep. devices_stay_lem.held_so b n)
 
 released_at-leaves : (b : Board) (path : List ℕ) → ResetLeaves b (released_at b path).board
 released_at-leaves b path = released_at-all (ResetLeaves b) b path (none-leaves b) (λ n. devices_stay_lem.released_so b n)
 
-held_at-good : (b : Board) (path : List ℕ) → Good b → Good (held_at b path).board
-held_at-good b path good = held_at-all Good b path good (λ n. held-good b n good)
+held_at-good : (b : Board) (path : List ℕ) → SoundBoard b → SoundBoard (held_at b path).board
+held_at-good b path good = held_at-all SoundBoard b path good (λ n is home deep. held-good b n is home deep good)
 
-released_at-good : (b : Board) (path : List ℕ) → Good b → Good (released_at b path).board
-released_at-good b path good = released_at-all Good b path good (λ n. released-good b n good)
+released_at-good : (b : Board) (path : List ℕ) → SoundBoard b → SoundBoard (released_at b path).board
+released_at-good b path good = released_at-all SoundBoard b path good (λ n. released-good b n good)
 
 -- with other holds, after acts
 
@@ -131,7 +138,7 @@ module _ (rings : List Ring) (anonymous : ℕ) (running : Bool) (old new : HoldL
 
   -- the board that stands is good
 
-  hold-good : (b : Board) (path : List ℕ) (result : Result Unit Refusal) → Good b → Changes (held_at b path) b result after
+  hold-good : (b : Board) (path : List ℕ) (result : Result Unit Refusal) → SoundBoard b → Changes (held_at b path) b result after
       → OnlyRootPinned w × StandsForGood after
   hold-good b path (Ok u) good h = good-pinned (held_at b path).board after h.1 (held_at-good b path good)
   hold-good b path (Err (Refused code)) good h = good-pinned b after h.1 good

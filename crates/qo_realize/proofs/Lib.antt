@@ -1,3 +1,4 @@
+pub mod AddressLemmas
 pub mod RemovalLemmas
 pub mod ChardevLemmas
 pub mod CompletionLemmas
@@ -6,11 +7,14 @@ pub mod GuestLemmas
 pub mod HoldLemmas
 pub mod PlugLemmas
 pub mod RefusalLemmas
+pub mod RefusedDeviceLemmas
 pub mod RegisterLemmas
 pub mod ResetLemmas
 pub mod GoodBoardLemmas
 pub mod StageLemmas
 pub mod RepresentationLemmas
+pub mod RingLemmas
+pub mod SoundRunLemmas
 pub mod TimeLemmas
 pub mod WriteLemmas
 pub mod RegisterWriteLemmas

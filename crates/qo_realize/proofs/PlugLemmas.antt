@@ -27,8 +27,8 @@ use Rattle.qo_sound.proofs.DeviceScopeLemmas.{devices_stay_lem}
 use Rattle.qo_sound.proofs.PlugOutcomesLemmas.{plug_comes_to_lem}
 use Rattle.qo_values.specs.declared.codes.Code.{Code}
 use Rattle.qo_values.specs.declared.kinds.TypeId.{TypeId}
-use Rattle.qo_realize.specs.Answers.{Plugs}
-use Rattle.qo_realize.specs.GoodBoard.{Good}
+use Rattle.qo_realize.specs.Answers.{IsTold, Plugs}
+use Rattle.qo_realize.specs.SoundBoard.{SoundBoard}
 use Rattle.qo_realize.specs.Parts.{Parts, counts, parts_of}
 use Rattle.qo_realize.specs.Representation.{Stands, StandsForGood}
 use Rattle.qo_realize.proofs.RepresentationLemmas.{stands-by}
@@ -39,7 +39,7 @@ the T x = x
 
 -- what is beside the heap is the board's
 pub is_shown : (b : Board) (rings : List Ring) (anonymous : ℕ) (running : Bool) (holds : HoldList) (asked : Asked) (v : Objects)
-    → Stands b (parts_of rings anonymous running holds asked v) → Good b → IsShown b anonymous holds.births rings asked v
+    → Stands b (parts_of rings anonymous running holds asked v) → SoundBoard b → IsShown b anonymous holds.births rings asked v
 is_shown b rings anonymous running holds asked v s good =
     record {
       shown = s.shows;
@@ -48,7 +48,7 @@ is_shown b rings anonymous running holds asked v s good =
       rings_are = s.rings;
       pending = s.pending;
       notices = s.notices;
-      sound = good.devices.tree;
+      sound = good.run.devices.tree;
     }
 
 -- of an add all stays but objects, births, notes, notices and the number of accepted adds; of one that is refused the last two stay too
@@ -131,7 +131,8 @@ pub added-stands : (b : Board) (a : Wanted) (rings : List Ring) (anonymous next 
     → Plugs b a (Ok d) (parts_of rings next running holds new w)
 added-stands b a rings anonymous next running holds old new v w d s came is keeps =
     let count = taken-anonymous b a came.refusal ∙ ap (λ (n : ℕ). counts n a.id) s.anonymous ∙ sym is in
-    (came.refusal, came-stands b a rings anonymous next running holds old new v w d s came count keeps, came.kept)
+    let told : IsTold b a d w = record { birth = came.birth; slot = came.slot; kept = came.kept } in
+    (came.refusal, came-stands b a rings anonymous next running holds old new v w d s came count keeps, told)
 
 -- an attempt that was cut is that of these words
 cut_as-is : (b : Board) (a : Wanted) (t : TypeId) (i : ℕ) (joined : Bool) → option_map (λ (row : TypeInfo). row.id) (type_named a.driver) ≡ Some t
@@ -187,7 +188,7 @@ barred-stands b a rings anonymous running holds old new v w Memory s refused mem
     by (inr (t, named, unbarred, early, cut)) = short t named unbarred early cut
 
 -- so a good board stands
-pub plugs-good : (b : Board) (a : Wanted) (r : Result device.Added AddRefusal) (p : Parts) → Good b → Plugs b a r p → StandsForGood p
+pub plugs-good : (b : Board) (a : Wanted) (r : Result device.Added AddRefusal) (p : Parts) → SoundBoard b → Plugs b a r p → StandsForGood p
 plugs-good b a (Ok d) p good h = ((plug b a).board, h.1, added-good b a good)
 plugs-good b a (Err (Refused stage code)) p good h = ((plug b a).board, h.1, added-good b a good)
 plugs-good b a (Err Memory) p good (inl s) = (b, s, good)

@@ -69,7 +69,7 @@ timely-there p (b, s, good) n = go (content_of p.objects n) refl
     go (Some c) e =
         let there : record_of b n ≡ Some (shown n c) = shows-record b p.objects s.shows n ∙ ap (option_map (shown n)) e in
         same-timely p.objects.time c.body
-        (subst (λ (now : ℕ). boards.IsTimely now (registers_of c.body)) s.shows.now (times_kept_lem.there b n (shown n c) there good.times))
+        (subst (λ (now : ℕ). boards.IsTimely now (registers_of c.body)) s.shows.now (times_kept_lem.there b n (shown n c) there good.run.times))
 
 pub body-timely : (time : ℕ) (v : Objects) (o : Key) (body : Body) → IsLive v.rows o → option_map (λ (c : Content). c.body) (content_of v o.birth) ≡ Some body
     → IfSome (content_of v o.birth) (λ c. IsTimely time c.body) → IsTimely time body
@@ -202,5 +202,5 @@ module _ (rings others : List Ring) (anonymous : ℕ) (running : Bool) (old new 
       → IfNone result ((w ≡ v) × (new.births ≡ old.births) × (others ≡ rings)) → OnlyRootPinned w × StandsForGood after
   write-keeps None (b, s, good) h same = good-pinned b after (subst (λ (p : Parts). Stands b p) (sym (same-parts same)) s) good
   write-keeps (Some u) (b, s, good) h same =
-      let (c, is, held) = h b (record { held = (s.shows, s.holds); rings_are = s.rings }) good.clocks.fit in
+      let (c, is, held) = h b (record { held = (s.shows, s.holds); rings_are = s.rings }) good.run.clocks.fit in
       good-pinned c after (written-stands b c s (written-leaves b d reg value c is) held) (written-good b d reg value c is good)

@@ -5,24 +5,21 @@ use Rattle.std.proofs.lemmas.Option.{same_Some}
 use Rattle.qo_values.specs.Bodies.{Effect, byte, nothing}
 use Rattle.qo_values.specs.Bodies as effect
 use Rattle.qo_values.specs.Registers.{Registers}
-use Rattle.qo_values.specs.Rings.{ring_push}
 use Rattle.qo_backends.specs.Rings.{claimed_ring}
-use Rattle.qo_model.specs.Board.{Board, Ring}
+use Rattle.qo_model.specs.Board.{Board}
 use Rattle.qo_model.specs.Devices.{first_bus}
 use Rattle.qo_model.specs.Reset.{pulse}
-use Rattle.qo_rings.specs.Rings.{ring_changed}
 use Rattle.qo_sound.specs.DeviceScope.{ResetLeaves}
 use Rattle.qo_sound.proofs.DeviceScopeLemmas.{devices_stay_lem}
 use Rattle.qo_sound_clocks.specs.RegisterWrites.{registers_set}
-use Rattle.qo_realize.specs.Chardevs.{with_rings}
 use Rattle.qo_realize.specs.Registers.{after_effect, guest_written, pushed, registers_written}
 
--- what the board with the registers has, and other rings and a pulse of a device's bus keep, the board after the write has
+-- what the board with the registers has, and a byte that goes to a ring and a pulse of a device's bus keep, the board after the write has
 pub written-all : (P : Board → Type 0) (b : Board) (d reg value : ℕ)
     → ((registers : Registers) (e : Effect) → registers_written b d reg value ≡ Some (registers, e) → P (registers_set b d registers))
-    → ((x : Board) (rings : List Ring) → P x → P (with_rings rings x))
+    → ((x : Board) (n : ℕ) (id : List ℕ) → P x → P (pushed n x id))
     → ((x : Board) (m : ℕ) → first_bus x d ≡ Some m → P x → P (pulse x m)) → (c : Board) → guest_written b d reg value ≡ Some c → P c
-written-all P b d reg value set ringed pulsed c is = go (registers_written b d reg value) refl
+written-all P b d reg value set gains pulsed c is = go (registers_written b d reg value) refl
   where
     beside : (x : Board) (e : Effect) → P x → P (after_effect d e x)
     beside x nothing h = h
@@ -30,7 +27,7 @@ written-all P b d reg value set ringed pulsed c is = go (registers_written b d r
       where
         by : (claimed : Option (List ℕ)) → P (option_map_or (pushed n x) claimed x)
         by None = h
-        by (Some id) = ringed x (ring_changed (λ m. ring_push m n) id x.rings) h
+        by (Some id) = gains x n id h
     beside x effect.pulse h = by (first_bus x d) refl
       where
         by : (bus : Option ℕ) → first_bus x d ≡ bus → P (option_map_or (pulse x) bus x)
@@ -63,5 +60,5 @@ pub written-leaves : (b : Board) (d reg value : ℕ) (c : Board) → guest_writt
 written-leaves b d reg value =
     written-all (WriteLeaves b) b d reg value
     (λ registers e is. record { anonymous = refl; running = refl; pending = refl; notices = refl })
-    (λ x rings h. record { anonymous = h.anonymous; running = h.running; pending = h.pending; notices = h.notices })
+    (λ x n id h. record { anonymous = h.anonymous; running = h.running; pending = h.pending; notices = h.notices })
     (λ x m is h. leaves-then b x (pulse x m) h (devices_stay_lem.pulsed x m))

@@ -38,7 +38,7 @@ use Rattle.qo_properties.proofs.OpeningLemmas.{all-is_opening, shows-none}
 use Rattle.qo_realize.specs.Answers.{Adds, IsAnswered, Writes}
 use Rattle.qo_hotplug.specs.Hotplug.{Asked, nothing_asked}
 use Rattle.qo_reset.specs.HoldList.{HoldList, no_holds}
-use Rattle.qo_realize.specs.GoodBoard.{Good}
+use Rattle.qo_realize.specs.SoundBoard.{SoundBoard}
 use Rattle.qo_realize.proofs.GoodBoardLemmas.{changed-good}
 use Rattle.qo_realize.proofs.GoodBoardLemmas.{attempted-good}
 use Rattle.qo_realize.proofs.WriteLemmas.{wrote-good}
@@ -99,16 +99,16 @@ err-stays (Ok t) rings anonymous running holds asked v w p is same = tt
 err-stays (Err e) rings anonymous running holds asked v w p is same = ap (parts_of rings anonymous running holds asked) same ∙ is
 
 -- a sound board stands after each call
-pub answered-sound : (change : Changed) (result : Result (Unit {0}) Code) (p : Parts) → Good change.board → IsAnswered change result p → StandsForGood p
+pub answered-sound : (change : Changed) (result : Result (Unit {0}) Code) (p : Parts) → SoundBoard change.board → IsAnswered change result p → StandsForGood p
 answered-sound change result p sound h = (change.board, h.board, sound)
 
 pub written-sound : (b : Board) (p : Parts) (w : Objects) (path name : List ℕ) (val : Val) (result : Result (Unit {0}) Refusal)
-    → Stands b p → Good b → Writes (with_objects w p) result (write_at b path name val) → OnErr result (w ≡ p.objects) → StandsForGood (with_objects w p)
+    → Stands b p → SoundBoard b → Writes (with_objects w p) result (write_at b path name val) → OnErr result (w ≡ p.objects) → StandsForGood (with_objects w p)
 written-sound b p w path name val (Ok u) s sound (c, is, stands) same = (c, stands, wrote-good b c path name val is sound)
 written-sound b p w path name val (Err e) s sound h same = (b, subst (λ (x : Objects). Stands b (with_objects x p)) (sym same) s, sound)
 
 pub added-sound : (b : Board) (driver id : List ℕ) (props : List Given) (result : Result (Unit {0}) Refusal) (p : Parts)
-    → Good b → Adds b driver id props result p → StandsForGood p
+    → SoundBoard b → Adds b driver id props result p → StandsForGood p
 added-sound b driver id props (Ok u) p sound h = ((object_add b driver id props).board, h.1, changed-good b (added driver id props) sound)
 added-sound b driver id props (Err (Refused code)) p sound h = ((object_add b driver id props).board, h.1, changed-good b (added driver id props) sound)
 added-sound b driver id props (Err Memory) p sound (inl s) = (b, s, sound)

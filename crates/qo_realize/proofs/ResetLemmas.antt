@@ -33,13 +33,13 @@ not-gone b p s n live gone =
 
 pub machine-there : (p : Parts) → StandsForGood p → content_of p.objects MACHINE_BIRTH ≡ None → ⊥
 machine-there p (b, s, good) =
-    not-gone b p s MACHINE_BIRTH (child-live b (rest-from_sound b good.devices.tree).used.firm ROOT_BIRTH MACHINE_BIRTH good.devices.places.1.machine)
+    not-gone b p s MACHINE_BIRTH (child-live b (rest-from_sound b good.run.devices.tree).used.firm ROOT_BIRTH MACHINE_BIRTH good.run.devices.places.1.machine)
 
 -- the first device whose removal is pending
 pending-there : (p : Parts) → StandsForGood p → (d : ℕ) → first_of p.pending ≡ Some d → content_of p.objects d ≡ None → ⊥
 pending-there p (b, s, good) d is =
-    let on : IsOn b d = first-on (IsOn b) b.pending good.devices.lists.pending d (ap first_of s.pending ∙ is) in
-    not-gone b p s d (stands-live b (rest-from_sound b good.devices.tree).used.firm d on.0)
+    let on : IsOn b d = first-on (IsOn b) b.pending good.run.devices.lists.pending d (ap first_of s.pending ∙ is) in
+    not-gone b p s d (stands-live b (rest-from_sound b good.run.devices.tree).used.firm d on.0)
 
 pub first-same : (ns : List ℕ) → slice_get ns 0 ≡ first_of ns
 first-same [] = refl

@@ -24,7 +24,7 @@ use Rattle.qo_values.specs.declared.codes.Code.{Code}
 use Rattle.qo_values.specs.declared.codes.Code.TheVariants.{E44}
 use Rattle.qo_values.specs.declared.kinds.TypeId.{TypeId}
 use Rattle.qo_realize.specs.Answers.{Plugs}
-use Rattle.qo_realize.specs.GoodBoard.{Good}
+use Rattle.qo_realize.specs.SoundBoard.{SoundBoard}
 use Rattle.qo_realize.specs.Parts.{Parts, counts, parts_of}
 use Rattle.qo_realize.specs.Stages.{IsDrafted, IsPlugged, IsWithin, Since}
 use Rattle.qo_realize.specs.Representation.{Stands, StandsForGood}
@@ -40,7 +40,7 @@ module _ (b : Board) (a : Wanted) (rings : List Ring) (anonymous next : ℕ) (ru
   abbrev at : Objects → Parts
   at v = parts_of rings anonymous running holds old v
 
-  pub since-begun : (v w : Objects) → Stands b (at v) → Good b → next ≡ counts anonymous a.id → KeepsBook v w → Since b a (at w) next
+  pub since-begun : (v w : Objects) → Stands b (at v) → SoundBoard b → next ≡ counts anonymous a.id → KeepsBook v w → Since b a (at w) next
   since-begun v w s good is keeps = record { before = v; stood = s; book = keeps; good = good; counted = is ∙ ap (λ (n : ℕ). counts n a.id) (sym s.anonymous) }
 
   module _ (v : Objects) (since : Since b a (at v) next) where
@@ -103,13 +103,13 @@ module _ (b : Board) (a : Wanted) (rings : List Ring) (anonymous next : ℕ) (ru
       given_up-stands t bus s = (plug_attempt b t bus 4, since-given_up t bus s, given_up-good b t bus since.good)
 
   -- a draft, and what is plugged of it
-  pub drafted-is : (v w : Objects) (d : Begun) → Stands b (at v) → Good b → next ≡ counts anonymous a.id → KeepsBook v w → IsBegun b a d w
+  pub drafted-is : (v w : Objects) (d : Begun) → Stands b (at v) → SoundBoard b → next ≡ counts anonymous a.id → KeepsBook v w → IsBegun b a d w
       → IsDrafted b a (record { parts = at w; next = next; begun = d })
   drafted-is v w d s good is keeps begun =
       record { since = since-begun v w s good is keeps; begun = begun; passed = passed-making b a d.site begun.admitted begun.given }
 
   -- where a stage was begun on a board that stood, whatever of it is shown
-  module _ (v w : Objects) (p : Parts) (whole : at v ≡ p) (stood : Stands b p) (good : Good b) (is : next ≡ counts anonymous a.id) (keeps : KeepsBook v w) where
+  module _ (v w : Objects) (p : Parts) (whole : at v ≡ p) (stood : Stands b p) (good : SoundBoard b) (is : next ≡ counts anonymous a.id) (keeps : KeepsBook v w) where
     seen : Stands b (at v)
     seen = subst (Stands b) (sym whole) stood
 

@@ -1,4 +1,4 @@
--- Another moment, and a machine that stands still or runs again: the board of that stands, and it is good.
+-- Another moment, and a machine that stands still or runs again: the board of that stands, and it is sound.
 use Rattle.std.proofs.Common.{◌≡◌, ◌≤◌, ◌+◌, ℕ, Bool, true, false, None, Some, arith, if◌then◌else◌, refl, subst, sym, List}
 use Rattle.std.specs.Prelude.{nat_lt}
 use Rattle.qo_values.specs.declared.limits.TheConstants.{TIME_MAX}
@@ -27,20 +27,25 @@ timed-stands b rings anonymous running holds asked v time s =
       book = s.book;
     }
 
--- the moment that is told for later is no earlier
-pub later-is : (now ns time : ℕ) → Some time ≡ (if nat_lt TIME_MAX (now + ns) then None else Some (now + ns)) → now ≤ time
+-- the moment that is told for later is no earlier, and no later than the greatest
+pub later-is : (now ns time : ℕ) → Some time ≡ (if nat_lt TIME_MAX (now + ns) then None else Some (now + ns)) → (now ≤ time) × (time ≤ TIME_MAX)
 later-is now ns time is = go (nat_lt TIME_MAX (now + ns)) refl
   where
-    go : (past : Bool) → nat_lt TIME_MAX (now + ns) ≡ past → now ≤ time
+    go : (past : Bool) → nat_lt TIME_MAX (now + ns) ≡ past → (now ≤ time) × (time ≤ TIME_MAX)
     go true e = absurd (let clash : Some time ≡ None = rw e at is in cc)
-    go false e = let same : Some time ≡ Some (now + ns) = rw e at is in let its : time ≡ now + ns = cc in omega (arith, its)
+    go false e =
+        let same : Some time ≡ Some (now + ns) = rw e at is in
+        let its : time ≡ now + ns = cc in
+        let low : now + ns ≤ TIME_MAX = grind (arith, e) in
+        (omega (arith, its), subst (λ (n : ℕ). n ≤ TIME_MAX) (sym its) low)
 
 pub timed-for-good : (rings : List Ring) (anonymous : ℕ) (running : Bool) (holds : HoldList) (asked : Asked) (v : Objects) (time : ℕ) → v.time ≤ time
-    → StandsForGood (parts_of rings anonymous running holds asked v) → StandsForGood (parts_of rings anonymous running holds asked (record v { time = time }))
-timed-for-good rings anonymous running holds asked v time on (b, s, good) = (
+    → time ≤ TIME_MAX → StandsForGood (parts_of rings anonymous running holds asked v)
+    → StandsForGood (parts_of rings anonymous running holds asked (record v { time = time }))
+timed-for-good rings anonymous running holds asked v time on low (b, s, good) = (
   at_time time b,
   timed-stands b rings anonymous running holds asked v time s,
-  timed-good b time (subst (λ (now : ℕ). now ≤ time) (sym s.shows.now) on) good,
+  timed-good b time (subst (λ (now : ℕ). now ≤ time) (sym s.shows.now) on) low good,
 )
 
 -- it runs, or stands still

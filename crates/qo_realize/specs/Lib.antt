@@ -1,12 +1,14 @@
+pub mod Addresses
 pub mod Answers
 pub mod Chardevs
-pub mod GoodBoard
 pub mod Guest
 pub mod Parts
+pub mod Refusals
 pub mod Registers
 pub mod Removals
 pub mod Resets
 pub mod Stages
 pub mod Representation
+pub mod SoundBoard
 pub mod Time
 pub mod Users

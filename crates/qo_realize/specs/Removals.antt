@@ -1,10 +1,11 @@
 -- For proofs alone. What is asked for of devices, as the board has it, and how asking for a removal changes it.
-use Rattle.std.specs.Prelude.{◌≡◌, None, Some, Result, Ok, Err, ⊤}
+use Rattle.std.specs.Prelude.{◌≡◌, ◌⊎◌, ◌<◌, ℕ, true, List, length, None, Some, Result, Ok, Err}
+use Rattle.qo_values.specs.declared.codes.Code.{Code}
+use Rattle.qo_values.specs.declared.limits.TheConstants.{LIVE_OBJECTS_MAX}
 use Rattle.qo_hotplug.specs.Hotplug.{Asked}
 use Rattle.qo_model.specs.Board.{Board}
+use Rattle.qo_model.specs.Depth.{among}
 use Rattle.qo_model.specs.Objects.{Changed}
-use Rattle.qo_properties.specs.declared.refusals.Refusal.{Refusal}
-use Rattle.qo_properties.specs.declared.refusals.Refusal.TheVariants.{Refused, Memory}
 
 -- the removals that are pending and the notices are those of a board
 pub record IsAsked (b : Board) (h : Asked) : Type 0 where
@@ -15,8 +16,11 @@ pub record IsAsked (b : Board) (h : Asked) : Type 0 where
 abbrev pub with_asked : Board → Asked → Board
 with_asked b h = record b { pending = h.pending; notices = h.notices }
 
--- a change of nothing else: it is refused by its code and leaves the board, or these are its removals and notices; there may be want of memory
-abbrev pub Asks : Board → Changed → Result (Unit {0}) Refusal → Asked → Type 0
+-- a change of nothing else: it is refused by its code and leaves the board, or these are its removals and notices
+abbrev pub Asks : Board → Changed → Result (Unit {0}) Code → Asked → Type 0
 Asks b change (Ok done) h = change ≡ record { refusal = None; board = with_asked b h }
-Asks b change (Err (Refused code)) h = change ≡ record { refusal = Some code; board = b }
-Asks b change (Err Memory) h = ⊤
+Asks b change (Err code) h = change ≡ record { refusal = Some code; board = b }
+
+-- a removal is pending already, or there is room for one more
+abbrev pub HasRoom : List ℕ → ℕ → Type 0
+HasRoom pending d = (among pending d ≡ true) ⊎ (length pending < LIVE_OBJECTS_MAX)

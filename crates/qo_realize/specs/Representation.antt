@@ -3,7 +3,7 @@ use Rattle.std.specs.Prelude.{◌≡◌, []}
 use Rattle.qo_model.specs.Board.{Board}
 use Rattle.qo_heap.specs.Board.{Shows}
 use Rattle.qo_heap.specs.Book.{IsBook}
-use Rattle.qo_realize.specs.GoodBoard.{Good}
+use Rattle.qo_realize.specs.SoundBoard.{SoundBoard}
 use Rattle.qo_realize.specs.Parts.{Parts}
 
 -- the heap shows the board's objects, and what stands beside them is the board's; each claim is kept by a body
@@ -17,6 +17,6 @@ pub record Stands (b : Board) (p : Parts) : Type 0 where
   pub rings : b.rings ≡ p.rings
   pub book : IsBook [] p.objects
 
--- there is a board that they stand for, and it is good
+-- there is a board that they stand for, and it is sound
 abbrev pub StandsForGood : Parts → Type 0
-StandsForGood p = (b : Board) × Stands b p × Good b
+StandsForGood p = (b : Board) × Stands b p × SoundBoard b

@@ -12,7 +12,7 @@ use Rattle.qo_plug.specs.declared.placing.Placed.{Placed}
 use Rattle.qo_plug.specs.declared.refusals.AddRefusal.{AddRefusal}
 use Rattle.qo_plug.specs.declared.refusals.AddRefusal.TheVariants.{Refused, Memory}
 use Rattle.qo_realize.specs.Answers.{Plugs}
-use Rattle.qo_realize.specs.GoodBoard.{Good}
+use Rattle.qo_realize.specs.SoundBoard.{SoundBoard}
 use Rattle.qo_realize.specs.Parts.{Parts, counts}
 use Rattle.qo_realize.specs.Representation.{Stands}
 use Rattle.qo_realize.specs.declared.stages.NotAdded.{NotAdded}
@@ -28,12 +28,12 @@ pub record Plugging : Type 0 where
   pub next : ℕ
   pub placed : Placed
 
--- this good board stood before, and since then nothing has changed but its objects, and the book of claims was kept
+-- this sound board stood before, and since then nothing has changed but its objects, and the book of claims was kept
 pub record Since (b : Board) (a : Wanted) (p : Parts) (next : ℕ) : Type 0 where
   pub before : Objects
   pub stood : Stands b (record p { objects = before })
   pub book : KeepsBook before p.objects
-  pub good : Good b
+  pub good : SoundBoard b
   pub counted : next ≡ counts b.anonymous a.id
 
 -- on a board a device was begun as it was asked for, or placed: nothing of the stages so far refuses it

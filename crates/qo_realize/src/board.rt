@@ -1,6 +1,6 @@
 //! The board.
 
-ghost use Rattle.std.specs.Prelude.{◌≡◌, ◌+◌, None, Some, IfSome, if◌then◌else◌, nat_lt, option_map};
+ghost use Rattle.std.specs.Prelude.{◌≡◌, ◌≤◌, ◌+◌, ◌^◌, None, Some, IfNone, IfSome, if◌then◌else◌, nat_lt, option_map};
 ghost use Rattle.qo_values.specs.declared.limits.TheConstants.{TIME_MAX};
 ghost use Rattle.qo_realize.specs.Parts.{counts};
 
@@ -27,9 +27,9 @@ use std::marker::Model;
 use std::sync::ledger::Ledger;
 
 /// The board: the objects of the machine, and what stands beside them. Between two calls nothing
-/// holds the objects from outside the tree but the one pin of the root, the tree is sound, devices
-/// stand in their places, and the lists that name devices name those that do; its clocks with their
-/// numbers are sound, and no timer is ahead of the virtual time.
+/// holds the objects from outside the tree but the one pin of the root, and the board is sound as a
+/// whole: its tree, the places of devices and the lists that name them, clocks and timers, shapes,
+/// owners, rings, claims, holds and limits.
 #[derive(Drop)]
 pub struct Board {
     pub(crate) heap: Heap,
@@ -55,7 +55,8 @@ impl Model for Board {
 /// How many devices without an id there are after the add of one, with an id or without; `None` where
 /// that is more than 64 bits hold.
 pub(crate) fn next_anonymous(anonymous: u64, id: Option<&str>) -> Option<u64>
-    ensures { IfSome result (λ n. n ≡ counts anonymous (option_map (λ t. t.now) id.entry)) }
+    ensures some { IfSome result (λ n. n ≡ counts anonymous (option_map (λ t. t.now) id.entry)) }
+    ensures none { IfNone result (2 ^ 64 ≤ counts anonymous (option_map (λ t. t.now) id.entry)) }
 {
     match id {
         Some(_) => Some(anonymous),
@@ -74,7 +75,7 @@ fn later(now: u64, ns: u64) -> Option<u64>
 }
 
 impl Board {
-    ghost use Rattle.std.specs.Prelude.{◌≡◌, ◌<◌, ◌^◌, [], true, IfNone, IfOk, IfSome, OnErr, OnOk, length, option_map, slice_get};
+    ghost use Rattle.std.specs.Prelude.{◌≡◌, ◌<◌, ◌^◌, [], true, Some, IfNone, IfOk, IfSome, OnErr, OnOk, length, option_map, slice_get};
     ghost use Rattle.qo_model.specs.Access.{read, write_at};
     ghost use Rattle.qo_model.specs.Listing.{listing};
     ghost use Rattle.qo_model.specs.Properties.{object_at};
@@ -94,9 +95,10 @@ impl Board {
     ghost use Rattle.qo_model.specs.Hotplug.{asked, completed, refused};
     ghost use Rattle.qo_object.specs.BoardObject.{birth_of};
     ghost use Rattle.qo_plug.specs.Admission.{as_wanted};
-    ghost use Rattle.qo_realize.specs.Answers.{Adds, Changes, IsAnswered, Plugs, Writes};
+    ghost use Rattle.qo_realize.specs.Answers.{Adds, IsAnswered, Plugs, Writes};
     ghost use Rattle.qo_realize.specs.Guest.{address_of, first_notice, polled};
     ghost use Rattle.qo_realize.specs.Representation.{Stands, StandsForGood};
+    ghost use Rattle.qo_sound_devices.specs.SoundPlaces.{stands};
     ghost use Rattle.qo_realize.specs.Users.{object_removed};
     ghost use Rattle.qo_realize.specs.Time.{Advances, advanced, switches, with_running};
 
@@ -117,7 +119,7 @@ impl Board {
         })
     }
 
-    /// What it stands for: there is a board that stands at it, and it is good.
+    /// What it stands for: there is a board that stands at it, and it is sound.
     pub fn shown(&self)
         ensures { StandsForGood self.now }
     {
@@ -373,10 +375,9 @@ impl Board {
     /// `device_del`): of one that begins with `/` the device at that absolute path, of any other the
     /// child of that name of the container of devices with an id. `E33` comes where there is no such
     /// device, `E35` where it is detached, `E34` where its removal is pending already, and `E44` where
-    /// as many notices wait as may. The other error is want of memory. An error leaves the board as it
-    /// was.
-    pub fn ask_removal<L: Ledger>(&mut self, id: &str, steps: &mut Steps<L>) -> Result<(), Refusal>
-        ensures asked { (b : model.Board) → Stands b self.old → Changes (asked b id.now) b result self.new }
+    /// as many notices wait as may. An error leaves the board as it was. It takes no memory.
+    pub fn ask_removal<L: Ledger>(&mut self, id: &str, steps: &mut Steps<L>) -> Result<(), Code>
+        ensures asked { (b : model.Board) → Stands b self.old → IsAnswered (asked b id.now) result self.new }
         ensures err { OnErr result (self.new ≡ self.old) }
     {
         ask(&self.heap, &mut self.hotplug, id, steps)
@@ -439,9 +440,11 @@ impl Board {
     }
 
     /// The address of the object of a birth, if it is a device on a bus: its slot on the memory bus, or
-    /// else the slots on the way to it from the root bus, the outermost first. It takes no memory.
+    /// else the slots on the way to it from the root bus, the outermost first. That of a device in its
+    /// place is the one at which `guest_find` finds it. It takes no memory.
     pub fn guest_address<L: Ledger>(&self, birth: u64, steps: &mut Steps<L>) -> Addr
-        ensures { (b : model.Board) → Stands b self.now → result ≡ address_of b birth }
+        ensures address { (b : model.Board) → Stands b self.now → result ≡ address_of b birth }
+        ensures found { (b : model.Board) → Stands b self.now → stands b birth ≡ true → addressed b result ≡ Some birth }
     {
         match self.heap.by_birth(birth) {
             Some(dev) => address_of(&self.heap, dev, steps),

@@ -5,6 +5,7 @@
 mod board;
 mod chardevs;
 mod guests;
+pub mod laws;
 mod registers;
 mod removals;
 mod resets;

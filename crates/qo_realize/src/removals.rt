@@ -1,8 +1,7 @@
 //! Removals of devices that are asked for, and refused by the guest (QEMU's QAPI, `device_del`;
 //! include/hw/hotplug.h).
 
-ghost use Rattle.std.specs.Prelude.{◌≡◌, ◌⊎◌, ◌<◌, true, false, length, IfSome, OnOk, OnErr};
-ghost use Rattle.qo_values.specs.declared.limits.TheConstants.{LIVE_OBJECTS_MAX};
+ghost use Rattle.std.specs.Prelude.{◌≡◌, true, IfSome, OnOk, OnErr};
 ghost use Rattle.qo_model.specs.Board.{Board};
 ghost use Rattle.qo_model.specs.Depth.{among};
 ghost use Rattle.qo_model.specs.Hotplug.{asked, asked_of, device_at, refused};
@@ -11,14 +10,13 @@ ghost use Rattle.qo_object.specs.BoardObject.{birth_of};
 ghost use Rattle.qo_table.specs.Rows.{IsLive};
 ghost use Rattle.qo_heap.specs.Board.{Shows};
 ghost use Rattle.qo_properties.specs.Claims.{KeepsBook};
-ghost use Rattle.qo_realize.specs.Removals.{Asks, IsAsked};
+ghost use Rattle.qo_realize.specs.Removals.{Asks, HasRoom, IsAsked};
 
 use qo_buses::child_at;
 use qo_heap::{Heap, Oid, Steps};
 use qo_hotplug::{AskError, Hotplug};
 use qo_paths::{is_attached, resolve};
-use qo_properties::Refusal;
-use qo_values::{Code, LIVE_OBJECTS_MAX, PERIPHERAL_BIRTH};
+use qo_values::{Code, PERIPHERAL_BIRTH};
 use std::alloc::{AllocError, Global};
 use std::sync::ledger::Ledger;
 
@@ -45,47 +43,39 @@ fn device_at<L: Ledger>(heap: &Heap, id: &str, steps: &mut Steps<L>) -> Option<O
     child_at(heap, peripheral, id, steps)
 }
 
-/// Whether as many removals are pending as there is room for, and none of them of a device.
-fn is_full(hotplug: &Hotplug, dev: Oid) -> bool
-    ensures { result ≡ false → (among hotplug.now.pending dev.birth ≡ true) ⊎ (length hotplug.now.pending < LIVE_OBJECTS_MAX) }
-{
-    hotplug.pending().len() as u64 >= LIVE_OBJECTS_MAX && !hotplug.is_pending(dev)
-}
-
 /// Asks for the removal of a device in the tree. `E34` comes where it is pending, else `E44` where as
-/// many notices wait as may. The other error is want of memory. An error leaves all as it was.
-fn ask_attached(hotplug: &mut Hotplug, dev: Oid) -> Result<(), Refusal>
+/// many notices wait as may. An error leaves all as it was.
+fn ask_attached(hotplug: &mut Hotplug, dev: Oid) -> Result<(), Code>
+    requires { HasRoom hotplug.old.pending dev.birth }
     ensures asked { (b : Board) → IsAsked b hotplug.old → attached b dev.birth ≡ true → Asks b (asked_of b dev.birth) result hotplug.new }
     ensures err { OnErr result (hotplug.new ≡ hotplug.old) }
 {
-    if is_full(hotplug, dev) {
-        return Err(Refusal::Memory);
-    }
     match hotplug.ask(dev) {
         Ok(()) => Ok(()),
-        Err(AskError::Pending) => Err(Refusal::Refused(Code::E34)),
-        Err(AskError::NoticesFull) => Err(Refusal::Refused(Code::E44)),
+        Err(AskError::Pending) => Err(Code::E34),
+        Err(AskError::NoticesFull) => Err(Code::E44),
     }
 }
 
 /// Asks for the removal of the device that a text is of, and the guest is told so. `E33` comes where
 /// there is no such device, `E35` where it is detached, `E34` where its removal is pending already, and
-/// `E44` where as many notices wait as may. The other error is want of memory. An error leaves all as it
-/// was.
+/// `E44` where as many notices wait as may. An error leaves all as it was. There is room for the removal of
+/// each object.
 pub fn ask<L: Ledger>(
     heap: &Heap,
     hotplug: &mut Hotplug,
     id: &str,
     steps: &mut Steps<L>,
-) -> Result<(), Refusal>
+) -> Result<(), Code>
+    requires { (o : Oid) → IsLive heap.now.rows o → HasRoom hotplug.old.pending o.birth }
     ensures asked { (b : Board) → Shows b heap.now → IsAsked b hotplug.old → Asks b (asked b id.now) result hotplug.new }
     ensures err { OnErr result (hotplug.new ≡ hotplug.old) }
 {
     let Some(dev) = device_at(heap, id, steps) else {
-        return Err(Refusal::Refused(Code::E33));
+        return Err(Code::E33);
     };
     if !is_attached(heap, dev, steps) {
-        return Err(Refusal::Refused(Code::E35));
+        return Err(Code::E35);
     }
     ask_attached(hotplug, dev)
 }

@@ -1,10 +1,10 @@
 -- The removal is asked for, or what refuses it is told.
 use Rattle.qo_model.specs.Hotplug.{asked}
 use Rattle.qo_commands.specs.Commands.{altered}
-use Rattle.qo_commands.proofs.ChangeLemmas.{made-alters}
+use Rattle.qo_commands.proofs.ChangeLemmas.{answered-came}
 use Rattle.qo_commands.proofs.changes.unplug.Goals as goal
 
 pub returns : goal.returns
 unfolding altered
 returns g c = λ b s.
-    made-alters b c.ask_removal.new.self (asked b c.args.id.now) c.ask_removal.result c.outcome_of.result (c.ask_removal.ensures.asked b s) c.outcome_of.ensures
+    answered-came (asked b c.args.id.now) c.ask_removal.result c.done_by.result c.ask_removal.new.self (c.ask_removal.ensures.asked b s) c.done_by.ensures

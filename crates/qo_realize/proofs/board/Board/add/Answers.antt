@@ -14,7 +14,7 @@ invariant_of-self g c =
     let a = as_wanted c.args.options.now in
     let h = c.in-Ok.ensures.ok b (is_shown b inside.rings inside.anonymous inside.running inside.resets inside.hotplug inside.heap s good) in
     let stands = added-stands b a inside.rings inside.anonymous c.in-Some.next inside.running inside.resets inside.hotplug c.add.new.hotplug
-    inside.heap c.add.new.heap c.in-Ok.added s h c.in-Some.ensures c.in-Ok.ensures.book in
+    inside.heap c.add.new.heap c.in-Ok.added s h c.in-Some.ensures.some c.in-Ok.ensures.book in
     let held = plugs-good b a (Ok c.in-Ok.added)
     (parts_of inside.rings c.in-Some.next inside.running inside.resets c.add.new.hotplug c.add.new.heap) good stands in
     (stands-pinned _ held, held)
@@ -41,7 +41,7 @@ returns-in-Ok g c =
           let a = as_wanted c.args.options.now in
           let h = c.in-Ok.ensures.ok b (is_shown b inside.rings inside.anonymous inside.running inside.resets inside.hotplug inside.heap seen good) in
           added-stands b a inside.rings inside.anonymous c.in-Some.next inside.running inside.resets inside.hotplug c.add.new.hotplug inside.heap
-          c.add.new.heap c.in-Ok.added seen h c.in-Some.ensures c.in-Ok.ensures.book;
+          c.add.new.heap c.in-Ok.added seen h c.in-Some.ensures.some c.in-Ok.ensures.book;
     }
 
 pub returns-in-Err : goal.returns-in-Err

@@ -11,8 +11,8 @@ pub invariant_of-self : goal.invariant_of-self
 invariant_of-self c =
     let inside = c.self.inside in
     let time = c.in-Some.time in
-    let on : c.time-now.result ≤ time = later-is c.time-now.result c.args.ns time (sym c.in-Some.is ∙ c.later.ensures) in
+    let (on, low) = later-is c.time-now.result c.args.ns time (sym c.in-Some.is ∙ c.later.ensures) in
     let later : inside.heap.time ≤ time = subst (λ (now : ℕ). now ≤ time) c.time-now.ensures on in
     subst (λ (w : Objects). OnlyRootPinned w × StandsForGood (parts_of inside.rings inside.anonymous inside.running inside.resets inside.hotplug w))
     (sym c.set_time.ensures)
-    (c.self.invariant.0, timed-for-good inside.rings inside.anonymous inside.running inside.resets inside.hotplug inside.heap time later c.self.invariant.1)
+    (c.self.invariant.0, timed-for-good inside.rings inside.anonymous inside.running inside.resets inside.hotplug inside.heap time later low c.self.invariant.1)

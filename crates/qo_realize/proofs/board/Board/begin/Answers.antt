@@ -13,7 +13,7 @@ invariant_of-result g c =
     let x = c.parts-heap.result.1 in
     let drafted =
     begun-drafted b a x.rings x.anonymous c.in-Some.next x.running x.resets x.hotplug c.parts-heap.result.0 c.begin.new.heap c.args.self
-    c.parts-heap.ensures.whole s good c.in-Some.ensures c.in-Ok.ensures.book c.in-Ok.begun (c.in-Ok.ensures.begun b) in
+    c.parts-heap.ensures.whole s good c.in-Some.ensures.some c.in-Ok.ensures.book c.in-Ok.begun (c.in-Ok.ensures.begun b) in
     (c.in-Ok.ensures.held, (b, a, drafted))
 
 pub board_of-requires-in-Err : goal.board_of-requires-in-Err
@@ -23,7 +23,7 @@ board_of-requires-in-Err g c =
     let x = c.parts-heap.result.1 in
     let barred =
     begun-barred b a x.rings x.anonymous c.in-Some.next x.running x.resets x.hotplug c.parts-heap.result.0 c.begin.new.heap c.args.self
-    c.parts-heap.ensures.whole s good c.in-Some.ensures c.in-Err.ensures.book c.in-Err.refusal (c.in-Err.ensures.refused b)
+    c.parts-heap.ensures.whole s good c.in-Some.ensures.some c.in-Err.ensures.book c.in-Err.refusal (c.in-Err.ensures.refused b)
     (λ shown m. c.in-Err.ensures.memory b shown (cc m)) in
     plugs-good b a (Err c.in-Err.refusal) _ good barred.1
 
@@ -33,7 +33,7 @@ returns-in-Ok g c = λ b s.
     let a = as_wanted c.args.options.now in
     let x = c.parts-heap.result.1 in
     begun-drafted b a x.rings x.anonymous c.in-Some.next x.running x.resets x.hotplug c.parts-heap.result.0 c.begin.new.heap c.args.self
-    c.parts-heap.ensures.whole s good c.in-Some.ensures c.in-Ok.ensures.book c.in-Ok.begun (c.in-Ok.ensures.begun b)
+    c.parts-heap.ensures.whole s good c.in-Some.ensures.some c.in-Ok.ensures.book c.in-Ok.begun (c.in-Ok.ensures.begun b)
 
 pub returns-in-Err : goal.returns-in-Err
 returns-in-Err g c = λ b s.
@@ -42,6 +42,6 @@ returns-in-Err g c = λ b s.
     let x = c.parts-heap.result.1 in
     let barred =
     begun-barred b a x.rings x.anonymous c.in-Some.next x.running x.resets x.hotplug c.parts-heap.result.0 c.begin.new.heap c.args.self
-    c.parts-heap.ensures.whole s good c.in-Some.ensures c.in-Err.ensures.book c.in-Err.refusal (c.in-Err.ensures.refused b)
+    c.parts-heap.ensures.whole s good c.in-Some.ensures.some c.in-Err.ensures.book c.in-Err.refusal (c.in-Err.ensures.refused b)
     (λ shown m. c.in-Err.ensures.memory b shown (cc m)) in
     rw c.board_of-in-Err.ensures barred

@@ -3,14 +3,16 @@ use Rattle.std.proofs.Common.{sym, subst, ℕ}
 use Rattle.qo_realize.specs.Chardevs.{ChangesRings, chardev_added, ring_added}
 use Rattle.qo_realize.specs.Parts.{Parts, parts_of}
 use Rattle.qo_realize.specs.Representation.{Stands}
-use Rattle.qo_realize.proofs.ChardevLemmas.{rings-change, rings-sound}
+use Rattle.qo_realize.proofs.ChardevLemmas.{change-sound, ring_added-good, rings-change}
 use Rattle.qo_realize.proofs.board.Board.chardev_add.Goals as goal
 
 pub invariant_of-self : goal.invariant_of-self
 invariant_of-self c =
     let inside = c.self.inside in (
       c.self.invariant.0,
-      rings-sound inside.rings c.add.new.rings inside.anonymous inside.running inside.resets inside.hotplug inside.heap c.self.invariant.1,
+      change-sound inside.rings c.add.new.rings inside.anonymous inside.running inside.resets inside.hotplug inside.heap
+          (λ b. ring_added b c.args.id.now c.args.kind.now c.unwrap_or-size.result) c.add.result
+          (λ b good. ring_added-good b c.args.id.now c.args.kind.now c.unwrap_or-size.result good) c.add.ensures.change c.add.ensures.err c.self.invariant.1,
     )
 
 pub returns-clause-change : goal.returns-clause-change

@@ -3,14 +3,16 @@ use Rattle.std.proofs.Common.{sym, subst}
 use Rattle.qo_realize.specs.Chardevs.{chardev_removed}
 use Rattle.qo_realize.specs.Parts.{Parts, parts_of}
 use Rattle.qo_realize.specs.Representation.{Stands}
-use Rattle.qo_realize.proofs.ChardevLemmas.{rings-answer, rings-sound}
+use Rattle.qo_realize.proofs.ChardevLemmas.{answer-sound, ring_removed-good, rings-answer}
 use Rattle.qo_realize.proofs.board.Board.chardev_remove.Goals as goal
 
 pub invariant_of-self : goal.invariant_of-self
 invariant_of-self g c =
     let inside = c.self.inside in (
       c.self.invariant.0,
-      rings-sound inside.rings c.remove.new.rings inside.anonymous inside.running inside.resets inside.hotplug inside.heap c.self.invariant.1,
+      answer-sound inside.rings c.remove.new.rings inside.anonymous inside.running inside.resets inside.hotplug inside.heap
+          (λ b. chardev_removed b c.args.id.now) c.remove.result (λ b good. ring_removed-good b c.args.id.now good) c.remove.ensures.change
+          c.remove.ensures.err c.self.invariant.1,
     )
 
 pub returns-clause-change : goal.returns-clause-change

@@ -30,5 +30,5 @@ returns g c = λ b s.
     let good = good-of (parts_of inside.rings inside.anonymous inside.running inside.resets inside.hotplug inside.heap) c.self.invariant.1 b seen in
     completed-stands b c.args.dev.birth inside.rings inside.anonymous inside.running inside.resets c.detach.new.resets inside.hotplug
     c.detach.new.hotplug inside.heap c.detach.new.heap seen
-    (c.detach.ensures.shown b good.devices.tree good.clocks
+    (c.detach.ensures.shown b good.run.devices.tree good.run.clocks
     (is_beside b inside.rings inside.anonymous inside.running inside.resets inside.hotplug inside.heap seen)) c.detach.ensures.book

@@ -30,6 +30,6 @@ returns g c = λ b s.
     ∙ board-call (λ (r : Registers) (time period : ℕ). body_read r c.args.reg c.has_ring-ring.result time period) b inside.heap seen.shows
     c.args.dev c.body.result.now live
     c.body.ensures c.time-time.result c.device_period-period.result c.time-time.ensures
-    (c.device_period-period.ensures b seen.shows (good-of now c.self.invariant.1 b seen).clocks.fit)
+    (c.device_period-period.ensures b seen.shows (good-of now c.self.invariant.1 b seen).run.clocks.fit)
     ∙ ap (λ (ring : Bool). body_read (registers_at b c.args.dev.birth) c.args.reg ring b.now (device_period b c.args.dev.birth))
     (c.has_ring-ring.ensures b seen.shows)

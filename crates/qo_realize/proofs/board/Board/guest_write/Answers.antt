@@ -28,4 +28,4 @@ returns-clause-written g c = λ b s.
     inside.heap c.write_through.new.heap
     c.write_through.ensures.book c.args.dev.birth c.args.reg c.args.value b c.write_through.result seen
     (c.write_through.ensures.written b (record { held = (seen.shows, seen.holds); rings_are = seen.rings })
-    (good-of before c.self.invariant.1 b seen).clocks.fit)
+    (good-of before c.self.invariant.1 b seen).run.clocks.fit)

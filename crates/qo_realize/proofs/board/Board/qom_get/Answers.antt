@@ -7,4 +7,4 @@ use Rattle.qo_realize.proofs.board.Board.qom_get.Goals as goal
 pub returns : goal.returns
 returns g c = λ b s.
     let seen = subst (λ (p : Parts). Stands b p) (sym c.self.view_is) s in
-    c.get.ensures b seen.shows (λ derived. (good-of _ c.self.invariant.1 b seen).clocks.fit)
+    c.get.ensures b seen.shows (λ derived. (good-of _ c.self.invariant.1 b seen).run.clocks.fit)

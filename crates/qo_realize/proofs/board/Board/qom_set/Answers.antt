@@ -7,13 +7,13 @@ use Rattle.qo_unplug.proofs.MomentLemmas.{times-timely}
 use Rattle.qo_realize.proofs.board.Board.qom_set.Goals as goal
 
 pub set-requires : goal.set-requires
-set-requires g c = let (b, s, good) = c.self.invariant.1 in record { timely = times-timely b _ s.shows good.times }
+set-requires g c = let (b, s, good) = c.self.invariant.1 in record { timely = times-timely b _ s.shows good.run.times }
 
 pub returns-clause-written : goal.returns-clause-written
 returns-clause-written g c = λ b s.
     let seen = subst (λ (p : Parts). Stands b p) (sym c.self.view_is) s in
     write-stands b _ c.set.new.heap c.args.path.now c.args.name.now c.args.val.now c.set.result seen
-    (c.set.ensures.written b seen.shows (λ clock. (good-of _ c.self.invariant.1 b seen).clocks.fit)) c.set.ensures.book
+    (c.set.ensures.written b seen.shows (λ clock. (good-of _ c.self.invariant.1 b seen).run.clocks.fit)) c.set.ensures.book
 
 pub returns-clause-err : goal.returns-clause-err
 returns-clause-err g c =
@@ -26,5 +26,5 @@ invariant_of-self g c =
     let (b, s, sound) = c.self.invariant.1 in (
       c.set.ensures.pins ∙ c.self.invariant.0,
       written-sound b _ c.set.new.heap c.args.path.now c.args.name.now c.args.val.now c.set.result s sound (write-stands b _ c.set.new.heap c.args.path.now
-          c.args.name.now c.args.val.now c.set.result s (c.set.ensures.written b s.shows (λ clock. sound.clocks.fit)) c.set.ensures.book) c.set.ensures.err,
+          c.args.name.now c.args.val.now c.set.result s (c.set.ensures.written b s.shows (λ clock. sound.run.clocks.fit)) c.set.ensures.book) c.set.ensures.err,
     )

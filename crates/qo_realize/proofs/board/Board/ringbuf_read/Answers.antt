@@ -4,14 +4,16 @@ use Rattle.qo_values.specs.declared.forms.Form.{Form}
 use Rattle.qo_realize.specs.Chardevs.{TakesRing, ring_read, ringbuf_read}
 use Rattle.qo_realize.specs.Parts.{Parts, parts_of}
 use Rattle.qo_realize.specs.Representation.{Stands}
-use Rattle.qo_realize.proofs.ChardevLemmas.{rings-read, rings-sound}
+use Rattle.qo_realize.proofs.ChardevLemmas.{reading-sound, ring_read-good, rings-read}
 use Rattle.qo_realize.proofs.board.Board.ringbuf_read.Goals as goal
 
 pub invariant_of-self : goal.invariant_of-self
 invariant_of-self c =
     let inside = c.self.inside in (
       c.self.invariant.0,
-      rings-sound inside.rings c.take.new.rings inside.anonymous inside.running inside.resets inside.hotplug inside.heap c.self.invariant.1,
+      reading-sound inside.rings c.take.new.rings inside.anonymous inside.running inside.resets inside.hotplug inside.heap
+          (λ b. ring_read b c.args.device.now c.args.size c.unwrap_or-form.result) c.take.result
+          (λ b good. ring_read-good b c.args.device.now c.args.size c.unwrap_or-form.result good) c.take.ensures.read c.take.ensures.err c.self.invariant.1,
     )
 
 pub returns-clause-read : goal.returns-clause-read

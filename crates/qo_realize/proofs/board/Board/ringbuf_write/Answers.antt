@@ -4,14 +4,17 @@ use Rattle.qo_values.specs.declared.forms.Form.{Form}
 use Rattle.qo_realize.specs.Chardevs.{ChangesRings, ring_written, ringbuf_written}
 use Rattle.qo_realize.specs.Parts.{Parts, parts_of}
 use Rattle.qo_realize.specs.Representation.{Stands}
-use Rattle.qo_realize.proofs.ChardevLemmas.{rings-change, rings-sound}
+use Rattle.qo_realize.proofs.ChardevLemmas.{change-sound, ring_written-good, rings-change}
 use Rattle.qo_realize.proofs.board.Board.ringbuf_write.Goals as goal
 
 pub invariant_of-self : goal.invariant_of-self
 invariant_of-self c =
     let inside = c.self.inside in (
       c.self.invariant.0,
-      rings-sound inside.rings c.write.new.rings inside.anonymous inside.running inside.resets inside.hotplug inside.heap c.self.invariant.1,
+      change-sound inside.rings c.write.new.rings inside.anonymous inside.running inside.resets inside.hotplug inside.heap
+          (λ b. ring_written b c.args.device.now c.args.text.now c.unwrap_or-form.result) c.write.result
+          (λ b good. ring_written-good b c.args.device.now c.args.text.now c.unwrap_or-form.result good) c.write.ensures.change c.write.ensures.err
+          c.self.invariant.1,
     )
 
 pub returns-clause-change : goal.returns-clause-change

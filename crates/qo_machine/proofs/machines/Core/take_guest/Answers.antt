@@ -4,7 +4,7 @@ use Rattle.qo_causes.specs.declared.inputs.What.TheVariants.{Guest}
 use Rattle.qo_machine.proofs.GuestLemmas.{served_lines}
 use Rattle.qo_machine.proofs.MemoryLemmas.{breaks_before, breaks_in_lines, err_more}
 use Rattle.qo_heap.proofs.HeapLemmas.{on-err}
-use Rattle.qo_machine.proofs.machines.Machine.take_guest.Goals as goal
+use Rattle.qo_machine.proofs.machines.Core.take_guest.Goals as goal
 
 pub returns-clause-answered : goal.returns-clause-answered
 returns-clause-answered g c =

@@ -4,7 +4,7 @@ use Rattle.qo_commands.proofs.CommandLemmas.{no_float}
 use Rattle.qo_commands.specs.Commands.{Done}
 use Rattle.qo_machine.proofs.MachineLemmas.{seen_board, stands_in}
 use Rattle.qo_machine.specs.Machine.{reply}
-use Rattle.qo_machine.proofs.machines.Machine.answer.Goals as goal
+use Rattle.qo_machine.proofs.machines.Core.answer.Goals as goal
 
 pub returns : goal.returns
 returns g c =

@@ -4,7 +4,7 @@ use Rattle.qo_causes.specs.declared.inputs.What.TheVariants.{Bytes}
 use Rattle.qo_machine.proofs.MemoryLemmas.{breaks_before, breaks_in, err_more}
 use Rattle.qo_machine.proofs.MachineLemmas.{beyond, served_items}
 use Rattle.qo_heap.proofs.HeapLemmas.{on-err}
-use Rattle.qo_machine.proofs.machines.Machine.take.Goals as goal
+use Rattle.qo_machine.proofs.machines.Core.take.Goals as goal
 
 pub returns-clause-answered : goal.returns-clause-answered
 returns-clause-answered g c =

@@ -5,7 +5,7 @@ use Rattle.qo_commands.specs.Commands.{Done, empty, made}
 use Rattle.qo_machine.proofs.MachineLemmas.{seen_board, stands_in}
 use Rattle.std.proofs.lemmas.Result.{IfOk-weaker}
 use Rattle.qo_machine.specs.Machine.{reply}
-use Rattle.qo_machine.proofs.machines.Machine.change.Goals as goal
+use Rattle.qo_machine.proofs.machines.Core.change.Goals as goal
 
 pub changed_text-text-requires : goal.changed_text-text-requires
 changed_text-text-requires g c = c.in_ok-empty.ensures empty empty_written

@@ -4,7 +4,7 @@ use Rattle.qo_model.specs.Board.{Board}
 use Rattle.qo_sessions.specs.Sessions.{State as Session}
 use Rattle.qo_machine.proofs.RunLemmas.{closed_sixteen}
 use Rattle.qo_machine.specs.Machine.{State}
-use Rattle.qo_machine.proofs.machines.Machine.finish.Goals as goal
+use Rattle.qo_machine.proofs.machines.Core.finish.Goals as goal
 
 abbrev over : Board → List ℕ → List Session → State
 over b line sessions = record { board = b; sessions = sessions; guest_line = line; ended = true }

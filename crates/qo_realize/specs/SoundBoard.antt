@@ -1,6 +1,7 @@
--- When the board of a machine is sound: what holds of it between two inputs.
+-- When a board is sound: what each call of it keeps.
 use Rattle.qo_model.specs.Board.{Board}
 use Rattle.qo_sound_bounds.specs.SoundBounds.{SoundBounds}
+use Rattle.qo_sound_bounds.specs.SoundHolds.{SoundHolds}
 use Rattle.qo_sound_bounds.specs.SoundSegments.{SoundSegments}
 use Rattle.qo_sound_bounds.specs.SoundSources.{SoundSources}
 use Rattle.qo_sound_claims.specs.SoundBackends.{SoundBackends}
@@ -8,7 +9,7 @@ use Rattle.qo_sound_clocks.specs.ClockRuns.{SoundRun}
 use Rattle.qo_sound_owners.specs.SoundOwners.{SoundOwners}
 use Rattle.qo_sound_shapes.specs.SoundShape.{SoundShape}
 
--- all groups of facts but those on the events, none of which waits, and on the notes of phases
+-- all groups of facts but those on the events that wait, and on the notes of phases
 pub record SoundBoard (b : Board) : Type 0 where
   -- the tree is sound, devices stand in their places, and the lists that name devices name those; and so are the clocks with their numbers, and the moments of
   -- timers
@@ -23,5 +24,7 @@ pub record SoundBoard (b : Board) : Type 0 where
   pub segments : SoundSegments b
   -- the rings are sound, and so is what devices claim of rings, memory and addresses: what they name is there, and no two name the same
   pub backends : SoundBackends b
+  -- holds are on what a reset reaches, and no object has more on it and above it than may be
+  pub holds : SoundHolds b
   -- there are no more objects than there may be, and it is no later than it may be
   pub bounds : SoundBounds b

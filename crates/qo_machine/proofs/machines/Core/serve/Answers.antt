@@ -6,7 +6,7 @@ use Rattle.qo_machine.specs.Machine.{BreaksOff, Message, State, state_with, unch
 use Rattle.qo_machine.proofs.MemoryLemmas.{breaks_before}
 use Rattle.qo_machine.proofs.MachineLemmas.{answers_ended, answers_moved, answers_timed, leaves, seen_ended, served_beside, served_bytes}
 use Rattle.qo_heap.proofs.HeapLemmas.{on-err}
-use Rattle.qo_machine.proofs.machines.Machine.serve.Goals as goal
+use Rattle.qo_machine.proofs.machines.Core.serve.Goals as goal
 
 pub returns-then-self-clause-answered : goal.returns-then-self-clause-answered
 returns-then-self-clause-answered g c = λ s here.
