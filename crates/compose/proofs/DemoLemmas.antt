@@ -1,6 +1,6 @@
 -- The transcript of a demo, where no reply and no line is refused for want of memory.
 use Rattle.std.proofs.Common.{◌≡◌, ℕ, ◌+◌, ◌<◌, ◌^◌, List, [], ◌∷◌, ◌++◌, length, codes, refl, sym, ◌∙◌, ap, subst, arith, append_assoc, length-append}
-use Rattle.std.proofs.Common.{Bool, false, Option, None, Some, is_some}
+use Rattle.std.proofs.Common.{Bool, true, false, Option, None, Some, is_some}
 use Rattle.std.proofs.lemmas.Bool.{true≢false}
 use Rattle.std.proofs.Math.ListN.{get_or-append}
 use Rattle.std.proofs.lemmas.List.{get_or-append-add}
@@ -76,6 +76,11 @@ pub not_found : (part bytes : List ℕ) (place : Option ℕ) (found : Bool) → 
     found ≡ false → Lacks part bytes
 not_found part bytes None found is none missed = lacks_by part bytes none
 not_found part bytes (Some k) found is h missed = absurd (true≢false (sym is ∙ missed))
+
+pub is_found : (part bytes : List ℕ) (place : Option ℕ) (found : Bool) → found ≡ is_some place → FindsNeedle bytes part 0 place →
+    found ≡ true → (at : ℕ) × OccursAt bytes part at
+is_found part bytes None found is none there = absurd (true≢false (sym there ∙ is))
+is_found part bytes (Some k) found is h there = (k, h.1)
 
 -- The kept transcript of a run over the record is that of the demo.
 kept_is : (bytes kept taken : List ℕ) (left : Option (List ℕ)) (seed steps place : ℕ) → bytes ≡ demo_bytes seed steps → steps < 2 ^ 32 →

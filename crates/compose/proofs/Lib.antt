@@ -3,4 +3,3 @@ pub mod MemoryLemmas
 pub mod DemoLemmas
 pub mod ReplayLemmas
 pub mod TypeLemmas
-pub mod WordLemmas

@@ -1,5 +1,5 @@
 -- What a run over the inputs of a stream did.
-use Rattle.std.proofs.Common.{◌≡◌, ℕ, ◌+◌, ◌<◌, ◌≤◌, Bool, true, false, if◌then◌else◌, List, [], ◌∷◌, ◌++◌, length, take, refl, sym, ◌∙◌}
+use Rattle.std.proofs.Common.{◌≡◌, ℕ, zero, suc, ◌+◌, ◌<◌, ◌≤◌, Bool, true, false, if◌then◌else◌, List, [], ◌∷◌, ◌++◌, length, take, refl, sym, ◌∙◌}
 use Rattle.std.proofs.Common.{ap, subst, arith, Option, None, Some, IfSome, option_map, slice_index_or}
 use Rattle.std.proofs.Math.Seq.{take-append_seam}
 use Rattle.std.proofs.lemmas.Bool.{true≢false, or_parts}
@@ -16,9 +16,9 @@ use Rattle.qo_machine.specs.declared.running.Ending.{Ending}
 use Rattle.qo_machine.specs.declared.running.Ending.TheVariants as ending
 use Rattle.qo_record.proofs.CoverLemmas.{covered, given_first, given_whole, taken_is, took_inputs}
 use Rattle.qo_record.proofs.ReadingLemmas.{none_some}
-use Rattle.qo_record.specs.Record.{bad_place, stream_inputs}
-use Rattle.qo_record.specs.Replays.{Gave, Progress, Replaying, Went, bad_ahead, inputs_ahead, inputs_from, capped_offset, unread}
-use Rattle.compose.specs.Replay.{DidReplay, IsCut, NoneLost, OpenReplay, Replayed, TakePart, TakeToBad, TakeToEnd, TakeToLimit, offset_of, status_of}
+use Rattle.qo_record.specs.Record.{bad_place, entries_from, entries_within, entry_at, inputs_after, stream_inputs}
+use Rattle.qo_record.specs.Replays.{Gave, IsStarved, Progress, StarvedWith, Replaying, Went, bad_ahead, inputs_ahead, inputs_from, capped_offset, unread}
+use Rattle.compose.specs.Replay.{DidReplay, IsCut, NoneLost, OpenReplay, Replayed, TakeHeld, TakePart, TakeToBad, TakeToEnd, TakeToLimit, offset_of, status_of}
 use Rattle.compose.specs.declared.statuses.Status.{Status}
 use Rattle.compose.specs.declared.statuses.Status.TheVariants.{Memory}
 
@@ -129,6 +129,24 @@ part_of p (Some all) ln bytes given ts last few read took =
           covered bytes p.held given (turn_inputs ts) (last_input last) (given_whole p (Some all) ln bytes given read) few t.given_is (one_taken last);
     }
 
+-- where the source failed no whole entry is held that was not given
+none_within : (n : ℕ) (opened : List Bool) (held : List ℕ) → entry_at opened held ≡ None → (entries_within n opened held).inputs ≡ []
+none_within zero opened held none = refl
+none_within (suc n) opened held none = rw none refl
+
+none_held : (headed : Bool) (opened : List Bool) (held : List ℕ) → StarvedWith headed opened held → inputs_from headed opened held ≡ []
+unfolding entries_from
+none_held true opened held h = none_within (length held) opened held h.whole
+none_held false opened held h = ap inputs_after h
+
+held_of : (p : Progress) (lo ln : Option (List ℕ)) (bytes : List ℕ) (given : List Input) (ts : List Turn) → IsStarved p → Read p lo ln bytes given →
+    Took p lo ln (turn_inputs ts) → IfSome lo (λ _. TakeHeld (bytes ++ p.held) ts)
+held_of p None ln bytes given ts starved read took = tt
+held_of p (Some all) ln bytes given ts starved read took =
+    let t = took_inputs p all ln bytes given (turn_inputs ts) read took in
+    sym (given_first p (Some all) ln bytes given p.held read ∙ ap (λ (l : List Input). given ++ l) (none_held p.headed p.opened p.held starved)
+    ∙ append-nil given ∙ t.given_is)
+
 -- The run as a replay of the record.
 
 open_run : (oi ni : Option (List Input)) (ho hn : Option (List ℕ)) (og ng : Lane → Option (List ℕ)) (ts : List Turn) →
@@ -154,47 +172,48 @@ cut_run p lo ln ho hn bytes given og ng few read h =
     )
 
 did : (e : Ending) (p : Progress) (lo ln ho hn : Option (List ℕ)) (bytes : List ℕ) (given : List Input) (og ng : Lane → Option (List ℕ)) →
-    length p.held < 65700 → Read p lo ln bytes given →
+    length p.held < 65700 → (e ≡ ending.NextFailed → IsStarved p) → Read p lo ln bytes given →
     RunMeets e 1000000000 (told (inputs_ahead unread lo) ho og (λ n. 0)) (told (inputs_ahead p ln) hn ng (λ n. 0)) (bad_ahead unread lo) →
     DidReplay (status_of e) lo (bytes ++ p.held) ho hn (offset_of e)
-did ending.Done p lo ln ho hn bytes given og ng few read h = (
+did ending.Done p lo ln ho hn bytes given og ng few starved read h = (
   h.0,
   record { last = h.2; few = h.3; lost = none_lost h.0 h.1.losses; put = h.1.sent },
   to_end p lo ln bytes given h.0 read h.1.took h.4,
 )
-did (ending.Bad n) p lo ln ho hn bytes given og ng few read h = (
+did (ending.Bad n) p lo ln ho hn bytes given og ng few starved read h = (
   h.0,
   open_run (inputs_ahead unread lo) (inputs_ahead p ln) ho hn og ng h.0 h.1,
   h.2,
   to_bad p lo ln bytes given h.0 n read h.1.0.took h.3,
 )
-did ending.Limit p lo ln ho hn bytes given og ng few read h =
+did ending.Limit p lo ln ho hn bytes given og ng few starved read h =
     let size : length (turn_inputs h.0) ≡ 1000000000 = each_taken h.0 (going_on h.0 h.1.1) ∙ h.2 in (
       h.0,
       open_run (inputs_ahead unread lo) (inputs_ahead p ln) ho hn og ng h.0 h.1,
       h.2,
       to_limit p lo ln bytes given h.0 read h.1.0.took size,
     )
-did ending.NextFailed p lo ln ho hn bytes given og ng few read h =
+did ending.NextFailed p lo ln ho hn bytes given og ng few starved read h =
     let took = taken_all (inputs_ahead unread lo) (inputs_ahead p ln) (turn_inputs h.0) h.1.0.took in (
       h.0,
       open_run (inputs_ahead unread lo) (inputs_ahead p ln) ho hn og ng h.0 h.1,
       h.2,
       part_of p lo ln bytes given h.0 None few read took,
+      held_of p lo ln bytes given h.0 (starved refl) read h.1.0.took,
     )
-did ending.SendFailed p lo ln ho hn bytes given og ng few read h = cut_run p lo ln ho hn bytes given og ng few read h
-did ending.Memory p lo ln ho hn bytes given og ng few read h = cut_run p lo ln ho hn bytes given og ng few read h
+did ending.SendFailed p lo ln ho hn bytes given og ng few starved read h = cut_run p lo ln ho hn bytes given og ng few read h
+did ending.Memory p lo ln ho hn bytes given og ng few starved read h = cut_run p lo ln ho hn bytes given og ng few read h
 
 -- what a run over a fresh hub did
 pub replayed : (e : Ending) (q p : Progress) (lo ln ho hn : Option (List ℕ)) (og ng : Lane → Option (List ℕ)) →
-    q ≡ unread → length p.held < 65700 → Went q p lo ln →
+    q ≡ unread → length p.held < 65700 → (e ≡ ending.NextFailed → IsStarved p) → Went q p lo ln →
     RunMeets e 1000000000 (told (inputs_ahead q lo) ho og (λ n. 0)) (told (inputs_ahead p ln) hn ng (λ n. 0)) (bad_ahead q lo) →
     (taken : List ℕ) × Replayed (status_of e) lo ln ho hn taken (offset_of e)
-replayed e q p lo ln ho hn og ng fresh few went meets =
+replayed e q p lo ln ho hn og ng fresh few starved went meets =
     let w : Went unread p lo ln = subst (λ (r : Progress). Went r p lo ln) fresh went in
     let m = subst (λ (r : Progress). RunMeets e 1000000000 (told (inputs_ahead r lo) ho og (λ n. 0)) (told (inputs_ahead p ln) hn ng (λ n. 0))
     (bad_ahead r lo)) fresh meets in
-    (w.0 ++ p.held, record { took = taken_is p lo ln w.0 w.1 w.2; did = did e p lo ln ho hn w.0 w.1 og ng few w.2 m })
+    (w.0 ++ p.held, record { took = taken_is p lo ln w.0 w.1 w.2; did = did e p lo ln ho hn w.0 w.1 og ng few starved w.2 m })
 
 -- nothing was done for want of memory
 nothing_taken : (left : Option (List ℕ)) → left ≡ prepend_known [] left
@@ -221,11 +240,11 @@ not_made left held =
 pub hub_replayed : {S K : Type 0} (left : S → Option (List ℕ)) (held : K → Option (List ℕ)) (e : Ending) (status : Status) (place : ℕ) →
     (hub new : Replaying S K) (source source_new : S) (sink sink_new : K) (og ng : Lane → Option (List ℕ)) →
     hub ≡ record { source = source; sink = sink; read = unread } → status ≡ status_of e → place ≡ offset_of e →
-    source_new ≡ new.source → sink_new ≡ new.sink → length new.read.held < 65700 → Went hub.read new.read (left hub.source) (left new.source) →
+    source_new ≡ new.source → sink_new ≡ new.sink → length new.read.held < 65700 → (e ≡ ending.NextFailed → IsStarved new.read) → Went hub.read new.read (left hub.source) (left new.source) →
     RunMeets e 1000000000 (told (inputs_ahead hub.read (left hub.source)) (held hub.sink) og (λ n. 0))
     (told (inputs_ahead new.read (left new.source)) (held new.sink) ng (λ n. 0)) (bad_ahead hub.read (left hub.source)) →
     (taken : List ℕ) × Replayed status (left source) (left source_new) (held sink) (held sink_new) taken place
-hub_replayed {S} {K} left held e status place hub new source source_new sink sink_new og ng made st pl so si few went meets =
+hub_replayed {S} {K} left held e status place hub new source source_new sink sink_new og ng made st pl so si few starved went meets =
     let fresh = ap (λ (h : Replaying S K). h.read) made in
-    let h = replayed e hub.read new.read (left hub.source) (left new.source) (held hub.sink) (held new.sink) og ng fresh few went meets in
+    let h = replayed e hub.read new.read (left hub.source) (left new.source) (held hub.sink) (held new.sink) og ng fresh few starved went meets in
     rw (st, pl, so, si, sym (ap (λ (h : Replaying S K). h.source) made), sym (ap (λ (h : Replaying S K). h.sink) made)) h

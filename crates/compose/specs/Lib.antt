@@ -3,5 +3,3 @@ pub mod Exits
 pub mod Replay
 pub mod Service
 pub mod Types
-pub mod Views
-pub mod Words

@@ -69,6 +69,10 @@ pub record TakePart (taken : List ℕ) (turns : List Turn) (last : Option Turn) 
   pub stand : BeginsWith (stream_inputs taken) (turn_inputs turns ++ last_input last)
   pub covers : BeginsWith (turn_inputs turns) (inputs_before taken)
 
+-- they take all inputs whose whole entries stand in the bytes that were taken
+abbrev pub TakeHeld : List ℕ → List Turn → Type 0
+TakeHeld taken turns = turn_inputs turns ≡ stream_inputs taken
+
 -- a run of a front of the record, if the source tells it, that was cut in its last turn
 abbrev pub IsCut : Option (List ℕ) → List ℕ → Option (List ℕ) → Option (List ℕ) → Type 0
 IsCut bytes taken held_old held_new =
@@ -97,6 +101,7 @@ DidReplay InputLimit bytes taken held_old held_new place =
     (turns : List Turn) × OpenReplay held_old held_new turns × (length turns ≡ INPUTS_MAX) × IfSome bytes (TakeToLimit turns)
 DidReplay ReadFault bytes taken held_old held_new place =
     (turns : List Turn) × OpenReplay held_old held_new turns × (length turns < INPUTS_MAX) × IfSome bytes (TakePart taken turns None)
+    × IfSome bytes (λ _. TakeHeld taken turns)
 DidReplay WriteFault bytes taken held_old held_new place = IsCut bytes taken held_old held_new
 DidReplay Memory bytes taken held_old held_new place = IsCut bytes taken held_old held_new
 DidReplay Usage bytes taken held_old held_new place = ⊥

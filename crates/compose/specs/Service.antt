@@ -6,7 +6,7 @@ use Rattle.qo_machine.specs.declared.running.Ending.{Ending}
 use Rattle.qo_machine.specs.declared.running.Ending.TheVariants as ending
 use Rattle.qo_values.specs.declared.limits.TheConstants.{INPUTS_MAX}
 use Rattle.compose.specs.Replay.{offset_of}
-use Rattle.compose.specs.Words.{Order, serve}
+use Rattle.qo_words.specs.Words.{Order, serve}
 use Rattle.compose.specs.declared.statuses.Status.{Status}
 use Rattle.compose.specs.declared.statuses.Status.TheVariants.{Done, BadRecord, Memory, HubFault, InputLimit}
 
@@ -19,9 +19,9 @@ serve_status ending.NextFailed = HubFault
 serve_status ending.SendFailed = HubFault
 serve_status ending.Limit = InputLimit
 
--- the hub did not begin, and what it tells is as it was
+-- the hub did not begin, or there was not enough memory to read the words, and what it tells is as it was
 pub record NotBegun (status : Status) (asked_old asked_new : Option (Option (List ℕ × ℕ))) (old new : Told) : Type 0 where
-  pub answered : status ≡ HubFault
+  pub answered : (status ≡ HubFault) ⊎ (status ≡ Memory)
   pub asked : asked_new ≡ asked_old
   pub inputs : new.inputs ≡ old.inputs
   pub sent : new.sent ≡ old.sent

@@ -4,10 +4,11 @@ ghost use Rattle.std.specs.Prelude.{◌≡◌, ◌≢◌, ◌↔◌, ◌⊎◌, 
 ghost use Rattle.qo_causes.specs.Cause.{Rose};
 ghost use Rattle.qo_machine.specs.Runs.{told};
 ghost use Rattle.compose.specs.Demo.{ToldDemo};
+ghost use Rattle.compose.specs.Exits.{exit_code};
 ghost use Rattle.compose.specs.Replay.{Complained, Replayed, line_of};
 ghost use Rattle.compose.specs.Service.{Served, asks_hub};
 ghost use Rattle.compose.specs.Types.{ToldTypes};
-ghost use Rattle.compose.specs.Words.{demo as a_demo, order, replay as a_replay, serve as a_serve, types as a_types};
+ghost use Rattle.qo_words.specs.Words.{demo as a_demo, order, replay as a_replay, serve as a_serve, types as a_types};
 
 use crate::complaints::complain;
 use crate::demos::tell_demo;
@@ -15,9 +16,9 @@ use crate::replays::replay;
 use crate::serves::serve;
 use crate::statuses::{Ran, Status};
 use crate::type_lines::tell_types;
-use crate::words::{Order, order_in};
 use qo_causes::{Hub, Sink, Source};
-use std::alloc::Global;
+use qo_words::{Order, order_in};
+use std::alloc::{AllocError, Global};
 
 /// Runs `compose` on its words, the words after the program's name.
 ///
@@ -36,11 +37,12 @@ use std::alloc::Global;
 /// - `HubFault`: only by `serve`, and only where a count of faults of the hub rose: it did not begin, gave no
 ///   input, or sent no message; by any other status these counts are as before.
 /// - `Memory`: memory ran out; what was put or sent is a front of what the run sends. Of a demo nothing was put: its lines
-///   are those of the run in which each command has its memory.
+///   are those of the run in which each command has its memory. Where there was none for the words of `serve`, the hub
+///   did not begin.
 ///
 /// With `ReadFault`, `WriteFault` and `Memory` of `replay` the run is over a front of the stream, which has at least each
 /// entry that ends 65,700 bytes or more before the last byte taken. The whole transcript of these was put, and of the run
-/// a front; with `ReadFault` all of it.
+/// a front; with `ReadFault` all of it, and the run has each whole entry among the bytes taken.
 pub fn compose<S: Source, K: Sink, E: Sink, H: Hub>(
     alloc: Global,
     words: &[String],
@@ -49,6 +51,7 @@ pub fn compose<S: Source, K: Sink, E: Sink, H: Hub>(
     complaints: &mut E,
     hub: &mut H,
 ) -> Ran<S, K>
+    ensures code { result.code ≡ exit_code result.status }
     ensures usage { (result.status ≡ Status.Usage) ↔ (order (map string_bytes words.now) ≡ None) }
     ensures refused { order (map string_bytes words.now) ≡ None → (result.source ≡ source) × (result.sink ≡ sink) × Complained (E.held complaints.old) (E.held complaints.new) (E.faults complaints.old) (E.faults complaints.new) (line_of Status.Usage 0) }
     ensures replay { order (map string_bytes words.now) ≡ Some a_replay → (taken : List ℕ) × (place : ℕ) × Replayed result.status (S.left source) (S.left result.source) (K.held sink) (K.held result.sink) taken place × Complained (E.held complaints.old) (E.held complaints.new) (E.faults complaints.old) (E.faults complaints.new) (line_of result.status place) }
@@ -64,46 +67,34 @@ pub fn compose<S: Source, K: Sink, E: Sink, H: Hub>(
     ensures hub_later { H.later hub.old hub.new }
     ensures hub_kept { asks_hub (order (map string_bytes words.now)) ≡ false → (hub.new ≡ hub.old) × (result.status ≢ Status.HubFault) }
 {
-    match order_in(words) {
-        Some(Order::Replay) => {
+    match order_in(alloc, words) {
+        Ok(Some(Order::Replay)) => {
             let (ran, place) = replay(alloc, source, sink);
             complain(complaints, ran.status, place);
             ran
         }
-        Some(Order::Serve { path, connections }) => {
-            let (status, place) = serve(alloc, path, connections, hub);
+        Ok(Some(Order::Serve { path, connections })) => {
+            let (status, place) = serve(alloc, path.as_str(), connections, hub);
             complain(complaints, status, place);
-            Ran {
-                status,
-                source,
-                sink,
-            }
+            Ran::ended(status, source, sink)
         }
-        Some(Order::Types) => {
+        Ok(Some(Order::Types)) => {
             let status = tell_types(alloc, &mut sink);
             complain(complaints, status, 0);
-            Ran {
-                status,
-                source,
-                sink,
-            }
+            Ran::ended(status, source, sink)
         }
-        Some(Order::Demo { seed, steps }) => {
+        Ok(Some(Order::Demo { seed, steps })) => {
             let status = tell_demo(alloc, seed, steps, &mut sink);
             complain(complaints, status, 0);
-            Ran {
-                status,
-                source,
-                sink,
-            }
+            Ran::ended(status, source, sink)
         }
-        None => {
+        Ok(None) => {
             complain(complaints, Status::Usage, 0);
-            Ran {
-                status: Status::Usage,
-                source,
-                sink,
-            }
+            Ran::ended(Status::Usage, source, sink)
+        }
+        Err(AllocError) => {
+            complain(complaints, Status::Memory, 0);
+            Ran::ended(Status::Memory, source, sink)
         }
     }
 }

@@ -67,6 +67,15 @@ pub fn out_of_memory<E: Sink>(complaints: &mut E) -> Status
     Status::Memory
 }
 
+/// Tells that the words are no order before the call, as where one of them is no text, and gives the status of that.
+pub fn no_order<E: Sink>(complaints: &mut E) -> Status
+    ensures status { result ≡ Status.Usage }
+    ensures told { Complained (E.held complaints.old) (E.held complaints.new) (E.faults complaints.old) (E.faults complaints.new) (line_of Status.Usage 0) }
+{
+    complain(complaints, Status::Usage, 0);
+    Status::Usage
+}
+
 /// Tells a status, as far as the sink takes the line.
 pub(crate) fn complain<K: Sink>(sink: &mut K, status: Status, place: u64)
     ensures { Complained (K.held sink.old) (K.held sink.new) (K.faults sink.old) (K.faults sink.new) (line_of status place) }

@@ -1,6 +1,7 @@
 //! Runs the demo record in memory, and counts what is sent.
 
-ghost use Rattle.std.specs.Prelude.{◌≡◌, ◌≢◌, ◌≤◌, false, IfOk};
+ghost use Rattle.std.specs.Prelude.{◌≡◌, ◌≢◌, ◌≤◌, ℕ, false, true, IfOk};
+ghost use Rattle.memchr.specs.Find.{OccursAt};
 ghost use Rattle.qo_causes.specs.Cause.{Rose};
 ghost use Rattle.compose.specs.Demo.{Lacks, ToldDemo, demo_transcript, summary};
 
@@ -19,9 +20,10 @@ const REFUSED_REPLY: &[u8] = b"\"desc\":\"E99 ";
 /// The line of an answer to the guest that is refused for want of memory.
 const REFUSED_LINE: &[u8] = b"g no memory";
 
-/// Whether a text may stand in others.
-fn may_have(transcript: &[u8], text: &[u8]) -> bool
-    ensures { result ≡ false → Lacks text.now transcript.now }
+/// Whether a text stands in another.
+fn has(transcript: &[u8], text: &[u8]) -> bool
+    ensures lacks { result ≡ false → Lacks text.now transcript.now }
+    ensures has { result ≡ true → (at : ℕ) × OccursAt transcript.now text.now at }
 {
     memmem::find(transcript, text).is_some()
 }
@@ -36,6 +38,7 @@ fn transcript_of(alloc: Global, seed: u64, steps: u32) -> Result<Vec<u8>, AllocE
     let (ran, _) = replay(alloc, source, MemorySink::new(alloc));
     let Ran {
         status,
+        code: _,
         source: _,
         sink,
     } = ran;
@@ -43,10 +46,10 @@ fn transcript_of(alloc: Global, seed: u64, steps: u32) -> Result<Vec<u8>, AllocE
         return Err(AllocError);
     };
     let transcript = sink.bytes;
-    if may_have(&transcript, REFUSED_REPLY) {
+    if has(&transcript, REFUSED_REPLY) {
         return Err(AllocError);
     }
-    if may_have(&transcript, REFUSED_LINE) {
+    if has(&transcript, REFUSED_LINE) {
         return Err(AllocError);
     }
     Ok(transcript)

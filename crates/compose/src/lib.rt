@@ -11,9 +11,8 @@ mod replays;
 mod serves;
 mod statuses;
 mod type_lines;
-mod words;
 
 pub use calls::compose;
-pub use complaints::out_of_memory;
+pub use complaints::{no_order, out_of_memory};
 pub use no_hub::NoHub;
 pub use statuses::{Ran, Status};

@@ -25,6 +25,8 @@ impl Hub for NoHub {
 
     ghost losses = { λ _ _. 0 };
 
+    ghost starved = { λ _. Unit {0} };
+
     ghost later = { λ _ _. Unit {0} };
 
     ghost now = { λ _. tt };

@@ -2,6 +2,7 @@
 
 ghost use Rattle.std.specs.Prelude.{◌≡◌, ◌≢◌, ℕ, List};
 ghost use Rattle.qo_causes.specs.Cause.{Rose};
+ghost use Rattle.compose.specs.Exits.{exit_code};
 ghost use Rattle.compose.specs.Replay.{Replayed, offset_of, status_of};
 
 use crate::statuses::{Ran, Status};
@@ -37,6 +38,7 @@ pub(crate) fn offset_of(ending: Ending) -> u64
 
 /// Replays the recorded stream of a source into a sink, and gives the bad place, or 0.
 pub(crate) fn replay<S: Source, K: Sink>(alloc: Global, source: S, sink: K) -> (Ran<S, K>, u64)
+    ensures code { result.0.code ≡ exit_code result.0.status }
     ensures replayed { (taken : List ℕ) × Replayed result.0.status (S.left source) (S.left result.0.source) (K.held sink) (K.held result.0.sink) taken result.1 }
     ensures read_cause { result.0.status ≡ Status.ReadFault → Rose (S.faults source) (S.faults result.0.source) }
     ensures write_cause { result.0.status ≡ Status.WriteFault → Rose (K.faults sink) (K.faults result.0.sink) }
@@ -48,20 +50,9 @@ pub(crate) fn replay<S: Source, K: Sink>(alloc: Global, source: S, sink: K) -> (
         Ok(mut hub) => {
             let ending = run(alloc, &mut hub, INPUTS_MAX);
             let (source, sink) = hub.into_parts();
-            let ran = Ran {
-                status: status_of(ending),
-                source,
-                sink,
-            };
-            (ran, offset_of(ending))
+            let status = status_of(ending);
+            (Ran::ended(status, source, sink), offset_of(ending))
         }
-        Err(Unmade { source, sink }) => {
-            let ran = Ran {
-                status: Status::Memory,
-                source,
-                sink,
-            };
-            (ran, 0)
-        }
+        Err(Unmade { source, sink }) => (Ran::ended(Status::Memory, source, sink), 0),
     }
 }

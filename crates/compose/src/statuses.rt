@@ -46,8 +46,24 @@ impl Status {
 pub struct Ran<S, K> {
     /// How it ended.
     pub status: Status,
+    /// The exit status of the program, by how it ended.
+    pub code: u8,
     /// The source that was given.
     pub source: S,
     /// The sink that was given.
     pub sink: K,
+}
+
+impl<S, K> Ran<S, K> {
+    /// A call that ended so, with its source and its sink.
+    pub(crate) fn ended(status: Status, source: S, sink: K) -> Ran<S, K>
+        ensures { result ≡ record { status = status; code = exit_code status; source = source; sink = sink } }
+    {
+        Ran {
+            status,
+            code: status.code(),
+            source,
+            sink,
+        }
+    }
 }

@@ -48,6 +48,7 @@ pub(crate) fn call_with_room(
     let mut hub = NoHub;
     let Ran {
         status,
+        code: _,
         source: _,
         sink,
     } = compose(

@@ -8,4 +8,6 @@ mod calling;
 #[cfg(test)]
 mod calls;
 #[cfg(test)]
+mod readme;
+#[cfg(test)]
 mod words;

@@ -103,6 +103,7 @@ fn done(alloc: Global, line: &str, record: Vec<u8>, room: usize) -> Result<Left,
     let mut complaints = ByteSink::new(alloc, 256, Vec::new(alloc))?;
     let Ran {
         status,
+        code: _,
         source: _,
         sink,
     } = compose(
@@ -207,6 +208,7 @@ fn served(alloc: Global, line: &str, hub: &mut ScriptHub) -> Result<(Status, Vec
     let mut complaints = ByteSink::new(alloc, 256, Vec::new(alloc))?;
     let Ran {
         status,
+        code: _,
         source: _,
         sink: _,
     } = compose(alloc, words.as_slice(), source, sink, &mut complaints, hub);

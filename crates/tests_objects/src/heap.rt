@@ -3,7 +3,7 @@ ghost use Rattle.std.specs.Prelude.{◌≡◌, ◌<◌};
 
 use crate::names::name_of;
 use qo_heap::{Heap, Steps};
-use qo_values::{TypeId, Val};
+use qo_values::{Act, TypeId, Val};
 use std::alloc::Global;
 use std::marker::Brand;
 use std::sync::ledger::{Blank, Ledger};
@@ -40,7 +40,7 @@ fn made<L: Ledger>(alloc: Global, blank: Blank) -> Option<usize>
     let mut heap = Heap::new(alloc).ok()?;
     heap.make(alloc, TypeId::Container, &mut steps).ok()?;
     let first = heap.by_birth(1)?;
-    heap.note_init(first.birth, TypeId::Container);
+    heap.act(first, Act::Init(TypeId::Container), 0, &mut steps);
     heap.make(alloc, TypeId::Device, &mut steps).ok()?;
     add_first(&mut heap, alloc, &mut steps)?;
     add_second(&mut heap, alloc, &mut steps)?;

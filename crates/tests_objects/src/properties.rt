@@ -21,7 +21,7 @@ fn attempted<L: Ledger>(alloc: Global, blank: Blank) -> Result<bool, AllocError>
     heap.facts();
     let tag = heap.make(alloc, TypeId::Tag, &mut steps)?;
     furnish_new(&mut heap, tag, TypeId::Tag, alloc, &mut steps)?;
-    attempt(&mut heap, TypeId::Tag)?;
+    attempt(&mut heap, TypeId::Tag, alloc, &mut steps)?;
     let next = heap.make(alloc, TypeId::Tag, &mut steps)?;
     Ok(next.birth == 3 && heap.live() == 2 && heap.notes_total() == 2)
 }

@@ -20,6 +20,7 @@ pub(crate) fn replay(alloc: Global, record: &[u8]) -> Result<Left, AllocError> {
     let mut complaints = ByteSink::new(alloc, 4_096, Vec::new(alloc))?;
     let Ran {
         status,
+        code: _,
         source: _,
         sink,
     } = compose(

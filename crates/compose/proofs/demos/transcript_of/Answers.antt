@@ -10,5 +10,5 @@ returns c =
     let ran = c.replay-ran.ensures.replayed in
     demo_done c.replay-ran.result.0.status c.new-source.result.bytes c.new-2.result.bytes.items kept ran.0 _ c.args.seed c.args.steps _ c.in-Done.is
     (ap (λ s. s.bytes) c.new-source.ensures ∙ c.in_ok-stream.ensures) c.new-2.ensures (omega arith) ran.1
-    (subst (λ (l : List ℕ). Lacks refused_reply l) c.deref.ensures.value (c.may_have.ensures c.if-may_have.false))
-    (subst (λ (l : List ℕ). Lacks refused_line l) c.deref-2.ensures.value (c.may_have-2.ensures c.if-may_have-2.false))
+    (subst (λ (l : List ℕ). Lacks refused_reply l) c.deref.ensures.value (c.has.ensures.lacks c.if-has.false))
+    (subst (λ (l : List ℕ). Lacks refused_line l) c.deref-2.ensures.value (c.has-2.ensures.lacks c.if-has-2.false))

@@ -7,7 +7,7 @@ pub returns-in-Ok-clause-replayed : goal.returns-in-Ok-clause-replayed
 returns-in-Ok-clause-replayed g c =
     let parts = c.into_parts-source.ensures in
     hub_replayed g.S.Source.left g.K.Sink.held c.run-ending.result _ _ c.in-Ok.hub c.run-ending.new.hub _ _ _ _ _ _
-    c.in-Ok.ensures.made c.status_of.ensures c.offset_of.ensures parts.source parts.sink parts.few
+    c.in-Ok.ensures.made c.status_of.ensures c.offset_of.ensures parts.source parts.sink parts.few c.run-ending.ensures.starved
     c.run-ending.ensures.later c.run-ending.ensures.meets
 
 pub returns-in-Err-clause-replayed : goal.returns-in-Err-clause-replayed
