@@ -1,7 +1,7 @@
 #!/usr/bin/env python3
 """Runs the proved program with words and input of several kinds, and holds its exit status, what it prints and what it
 complains to what they must be. It prints nothing where all is well. The program is built by `rt ci`, or by `rt run` in
-crates/compose_program, whose stored run ends in a bad place."""
+crates/compose_program, whose stored run lists the root."""
 import json
 import pathlib
 import subprocess
@@ -126,12 +126,13 @@ def answers_late():
 
 def main():
     cycle = (TOP / "examples" / "cycle.qrec").read_bytes()
-    transcript = (HOME / "stdout").read_bytes()
+    transcript = (TOP / "examples" / "cycle.transcript").read_bytes()
     bad = f"compose: bad record at byte {len(cycle)}\n".encode()
     runs = [
         ("no words", [], b"", 2, b"", USAGE),
         ("another word", ["frobnicate"], cycle, 2, b"", USAGE),
         ("a word too many", ["replay", "replay"], cycle, 2, b"", USAGE),
+        ("a word that is no text", [b"\xff"], cycle, 2, b"", USAGE),
         ("a whole stream", ["replay"], cycle, 0, transcript, b""),
         ("a bad place after it", ["replay"], cycle + b"shut 0.000000\n", 3, transcript, bad),
         ("no stream", ["replay"], b"", 3, b"", b"compose: bad record at byte 0\n"),

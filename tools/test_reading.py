@@ -1,7 +1,8 @@
 #!/usr/bin/env python3
 """Checks docs/READING.md: that its rows count the lines of their files, that each further file of specs/ says in its
 first line what it is for, and that the list is closed: what the contracts of the headline name, and what these
-definitions name in turn, is read. It prints nothing where all is well."""
+definitions name in turn, is read. The hour before the list counts its lines too, and is of the list. It prints what is to
+be changed, and nothing where all is well."""
 
 import pathlib
 import re
@@ -9,7 +10,9 @@ import sys
 
 TOP = pathlib.Path(__file__).resolve().parent.parent
 ROW = re.compile(r"^\| `(\w+)`: `(\w+)`(?:, only ([^|]*?))? \| (\d+) \|", re.M)
-MARKS = ("For proofs alone.", "For a law alone.", "; for proofs alone.")
+SPAN = re.compile(r"^\| `(\w+)`: `(\w+)`(?:, from `([^`]+)` to `([^`]+)`)? \| (\d+) \|", re.M)
+HOUR = "An hour with the definitions"
+MARKS = ("For proofs alone.", "For a law alone.", "For laws alone.", "; for proofs alone.")
 
 # The calls whose contracts are the headline, by their files.
 HEADLINE = {
@@ -107,26 +110,65 @@ def rested_on(modules):
     return seen
 
 
+def between(module, first, last):
+    """The definitions of a file from one to another, in their order there; all of them where none is named."""
+    names = list(module.texts)
+    return names[names.index(first) : names.index(last) + 1] if first else names
+
+
+def check_hour(text, modules, read):
+    """What is wrong in the first part: its counts, and what is not of the list behind it."""
+    wrong, whole = [], 0
+    for crate, name, first, last, count in SPAN.findall(text):
+        module = modules.get((crate, name))
+        if module is None or first and not (first in module.texts and last in module.texts):
+            wrong.append(f"{HOUR}: {crate}: {name} has no part from {first or 'its begin'} to {last or 'its end'}")
+            continue
+        names = between(module, first, last)
+        size = sum(module.sizes[it] for it in names) if first else module.count
+        whole += size
+        if size != int(count) or not names:
+            wrong.append(f"{HOUR}: {crate}: {name} from {names[:1]} to {names[-1:]} has {size} lines, and not {count}")
+        wrong += [f"{HOUR}: {crate}: {name}: {it} is not in the list" for it in names if it not in read.get((crate, name), ())]
+    if f" {whole:,} lines." not in text:
+        wrong.append(f"{HOUR}: {whole:,} lines")
+    return wrong
+
+
+def check_rows(text, modules, read):
+    """What is wrong in the rows of a part, whose definitions are written to those that are read; and its lines."""
+    wrong, whole = [], 0
+    for crate, name, only, count in ROW.findall(text):
+        module = modules.get((crate, name))
+        words = re.findall(r"`([^`]+)`", only) if only else list(module.texts if module else ())
+        missing = [it for it in words if module is None or it not in module.texts]
+        if module is None or missing:
+            wrong.append(f"{crate}: {name} is not there" + "".join(f", nor its {it}" for it in missing))
+            continue
+        size = sum(module.sizes[it] for it in words) if only else module.count
+        whole += size
+        read[crate, name] = words
+        if size != int(count):
+            wrong.append(f"{crate}: {name} has {size} lines, and not {count}")
+    if whole and f" {whole:,} lines." not in text:
+        wrong.append(f"{text.splitlines()[0]}: {whole:,} lines")
+    return wrong, whole
+
+
 def main():
     """Prints what is wrong, and returns the exit status."""
     paths = [it for it in sorted(TOP.glob("crates/*/specs/*.antt")) if it.stem != "Lib"]
     modules = {(it.parent.parent.name, it.stem): Module(it) for it in paths}
     text = (TOP / "docs/READING.md").read_text(encoding="utf-8")
-    wrong, read = [], {}
-    for crate, name, only, count in ROW.findall(text):
-        module = modules[crate, name]
-        words = re.findall(r"`([^`]+)`", only) or list(module.texts)
-        size = sum(module.sizes[it] for it in words) if only else module.count
-        read[crate, name] = words
-        if size != int(count):
-            wrong.append(f"{crate}: {name} has {size} lines, and not {count}")
-    for part in text.split("\n## ")[1:]:
-        size = sum(int(count) for *_, count in ROW.findall(part))
-        if f" {size:,} lines." not in part:
-            wrong.append(f"{part.splitlines()[0]}: {size:,} lines")
-    size = sum(int(count) for *_, count in ROW.findall(text))
-    if f"The whole is {size:,} lines in {len(read)} files;" not in text:
-        wrong.append(f"the whole is {size:,} lines in {len(read)} files")
+    wrong, read, whole = [], {}, 0
+    parts = text.split("\n## ")[1:]
+    for part in parts:
+        if not part.startswith(HOUR):
+            found, size = check_rows(part, modules, read)
+            wrong, whole = wrong + found, whole + size
+    wrong += [it for part in parts if part.startswith(HOUR) for it in check_hour(part, modules, read)]
+    if f"The whole is {whole:,} lines in {len(read)} files;" not in text:
+        wrong.append(f"the whole is {whole:,} lines in {len(read)} files")
     for (crate, name), module in modules.items():
         if (crate, name) not in read and not any(mark in module.first for mark in MARKS):
             wrong.append(f"{crate}: {name} is not read, and does not say what it is for")
