@@ -27,6 +27,6 @@ fn the_example_of_the_readme(rt: HostRuntime) -> Result<(), Fail> {
     );
     assert_eq!(rt; status, Status::Done);
     let transcript = sink.held();
-    assert_eq!(rt; transcript, b"");
+    assert_eq!(rt; transcript.len(), 0);
     Ok(())
 }
