@@ -7,7 +7,7 @@ pub mod DraftLemmas
 pub mod FeedLemmas
 pub mod SourcesLawLemmas
 pub mod HoldsLemmas
-pub mod CallsLemmas
+pub mod RegisterStepsLemmas
 pub mod SegmentLemmas
 pub mod SegmentsLawLemmas
 pub mod ClockWriteLemmas
