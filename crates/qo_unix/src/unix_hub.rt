@@ -1,8 +1,8 @@
 //! The hub over a Unix socket.
-ghost use Rattle.std.specs.Prelude.{◌≡◌, ◌≤◌, ◌<◌, ◌==◌, ℕ, None, Err, IfOk, IfSome, if◌then◌else◌, length};
+ghost use Rattle.std.specs.Prelude.{◌≡◌, ◌≤◌, ◌<◌, ◌==◌, ℕ, false, None, Err, IfOk, IfSome, if◌then◌else◌, length};
 ghost use Rattle.qo_causes.specs.Cause.{HasCause, counted};
 ghost use Rattle.qo_causes.specs.Hub.{GoneOnly, Loses, is_gone};
-ghost use Rattle.qo_unix.specs.Counts.{after_begin, after_next, after_send, none_counted, with_loss, IsDue, left_after};
+ghost use Rattle.qo_unix.specs.Counts.{after_begin, after_input, after_next, after_send, none_counted, with_loss, IsDue};
 ghost use Rattle.qo_unix.specs.Inputs.{IsOurs, NeverBad, OfOneSession};
 ghost use Rattle.qo_unix.specs.declared.unix_hub.TheConstants.{CHUNK_BYTES};
 
@@ -23,7 +23,8 @@ const WRITE_SECONDS: u64 = 10;
 /// A Unix socket that serves so many clients, one after the other, each as session 0.
 ///
 /// It tells nothing of what clients send and get. Contracts see its counts: the calls of `begin` and `next`
-/// that failed, the sends that failed, and how often session 0 was lost.
+/// that failed, the sends that failed, how often session 0 was lost, and how many clients are still to come.
+/// They see too whether a client is served.
 pub struct UnixHub {
     rt: HostRuntime,
     file: SocketFile,
@@ -48,6 +49,7 @@ impl Model for UnixHub {
       send_faults = h.send_faults;
       losses = h.losses;
       left = h.connections;
+      serving = is_some h.peer;
     } };
 
     ghost invariant = { λ h. is_some h.listener ≡ false → h.connections ≡ 0 };
@@ -132,9 +134,9 @@ impl UnixHub {
     fn wait(&mut self) -> Result<What, NextError>
         ensures ours { IfOk result OfOneSession }
         ensures not_bad { NeverBad result }
-        ensures counts { record self.new { left = self.old.left } ≡ self.old }
-        ensures left { IfOk result (λ w. self.new.left ≡ left_after self.old.left w) }
-        ensures due { IfOk result (λ w. IsDue self.old.left w) }
+        ensures counts { record self.new { left = self.old.left; serving = self.old.serving } ≡ self.old }
+        ensures given { IfOk result (λ w. self.new ≡ after_input self.old w) }
+        ensures due { IfOk result (λ w. IsDue self.old w) }
     {
         if let Some(peer) = &mut self.peer {
             let Ok(read) = read_chunk(self.rt.alloc(), peer) else {
@@ -149,13 +151,14 @@ impl UnixHub {
         self.wait_for_client()
     }
 
-    /// The opening of the next client's session, or the end after the last one.
+    /// The opening of the next client's session, or the end after the last one, where none is served.
     fn wait_for_client(&mut self) -> Result<What, NextError>
+        requires { self.old.serving ≡ false }
         ensures ours { IfOk result OfOneSession }
         ensures not_bad { NeverBad result }
-        ensures counts { record self.new { left = self.old.left } ≡ self.old }
-        ensures left { IfOk result (λ w. self.new.left ≡ left_after self.old.left w) }
-        ensures due { IfOk result (λ w. IsDue self.old.left w) }
+        ensures counts { record self.new { left = self.old.left; serving = self.old.serving } ≡ self.old }
+        ensures given { IfOk result (λ w. self.new ≡ after_input self.old w) }
+        ensures due { IfOk result (λ w. IsDue self.old w) }
     {
         let Some(listener) = &self.listener else {
             return Ok(What::End);
@@ -177,9 +180,9 @@ impl UnixHub {
     fn wait_for_input(&mut self) -> Result<Input, NextError>
         ensures ours { IfOk result IsOurs }
         ensures not_bad { NeverBad result }
-        ensures counts { record self.new { left = self.old.left } ≡ self.old }
-        ensures left { IfOk result (λ i. self.new.left ≡ left_after self.old.left i.what) }
-        ensures due { IfOk result (λ i. IsDue self.old.left i.what) }
+        ensures counts { record self.new { left = self.old.left; serving = self.old.serving } ≡ self.old }
+        ensures given { IfOk result (λ i. self.new ≡ after_input self.old i.what) }
+        ensures due { IfOk result (λ i. IsDue self.old i.what) }
     {
         let what = self.wait()?;
         match now(&self.rt) {
@@ -251,9 +254,9 @@ impl Hub for UnixHub {
         ensures next_count { self.old.next_faults ≤ self.new.next_faults }
         ensures ours { IfOk result IsOurs }
         ensures not_bad { NeverBad result }
-        ensures after { record self.new { left = self.old.left } ≡ after_next self.old result }
-        ensures left { IfOk result (λ i. self.new.left ≡ left_after self.old.left i.what) }
-        ensures due { IfOk result (λ i. IsDue self.old.left i.what) }
+        ensures after { record self.new { left = self.old.left; serving = self.old.serving } ≡ after_next self.old result }
+        ensures given { IfOk result (λ i. self.new ≡ after_input self.old i.what) }
+        ensures due { IfOk result (λ i. IsDue self.old i.what) }
     {
         let given = self.wait_for_input();
         if let Err(NextError::Failed) = given {
@@ -273,6 +276,7 @@ impl Hub for UnixHub {
         ensures gone { GoneOnly lane result }
         ensures others { (lane ≡ Lane.Session 0 → ⊥) → result ≡ Err SendError.Failed }
         ensures after { self.new ≡ after_send self.old result }
+        ensures nobody { self.old.serving ≡ false → lane ≡ Lane.Session 0 → result ≡ Err (SendError.Gone 0) }
     {
         let Lane::Session(0) = lane else {
             self.send_faults = one_more(self.send_faults);
