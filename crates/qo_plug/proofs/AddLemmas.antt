@@ -3,8 +3,9 @@ use Rattle.std.proofs.Common.{◌≡◌, refl, ap, sym, subst, ◌∙◌, ℕ, �
 use Rattle.std.specs.List.{AllByRecursion}
 use Rattle.std.proofs.lemmas.Bool.Decides.{nat_tests}
 use Rattle.std.proofs.lemmas.Option.{same_Some}
+use Rattle.std.specs.Option.{option_and_then}
 use Rattle.qo_values.specs.declared.kinds.TypeId.{TypeId}
-use Rattle.qo_model.specs.Board.{Board, Record, kind_of}
+use Rattle.qo_model.specs.Board.{Board, Record, kind_of, record_of}
 use Rattle.qo_slots.specs.declared.keys.Key.{Key}
 use Rattle.qo_table.specs.Rows.{IsLive}
 use Rattle.qo_values.specs.declared.codes.Code.{Code}
@@ -19,7 +20,8 @@ use Rattle.qo_sound.proofs.PlugLemmas.{IsPlace, place-of}
 use Rattle.qo_sound.proofs.ViewLemmas.{AtRest, rest-from_sound}
 use Rattle.qo_heap.specs.Board.{Shows}
 use Rattle.qo_heap.specs.Objects.{Objects, content_of}
-use Rattle.qo_heap.proofs.BoardReads.{shows-kind}
+use Rattle.qo_heap.proofs.BoardReads.{shows-kind, shows-record}
+use Rattle.qo_object.specs.BoardObject.{shown}
 use Rattle.qo_object.specs.Content.{Content}
 use Rattle.qo_properties.specs.Filling.{target_in}
 use Rattle.qo_properties.specs.OpeningSteps.{KeepsNames}
@@ -39,15 +41,25 @@ use Rattle.qo_plug.specs.Spots.{claims_given}
 use Rattle.qo_plug.specs.Drafts.{CutShort, pinned_draft}
 use Rattle.qo_plug.specs.Stages.{spot_barred}
 use Rattle.qo_standing.specs.Placement.{Stood, spot_in}
-use Rattle.qo_standing.specs.DeviceClaims.{kept_by}
+use Rattle.qo_properties.specs.KeptClaims.{kept_by}
 use Rattle.qo_plug.proofs.AdmissionLemmas.{added-late}
 use Rattle.qo_plug.proofs.JudgementLemmas.{late-given, late-spot}
-use Rattle.qo_plug.proofs.PlugSteps.{counted-path, cut-whole, let-go, plugged-kinds, plugged-notices, plugged-pending, seat-holds, seat-notices, seated}
+use Rattle.qo_plug.proofs.PlugSteps.{counted-path, cut-whole, let-go, plugged-kinds, plugged-notices, plugged-pending, plugged-records, seat-holds, seat-notices, seated}
 use Rattle.qo_plug.proofs.StartBuses.{plugged-buses}
 
 -- all of it was made, and ended
 pub whole-cut : (b : Board) (t : TypeId) (bus : ℕ) (w : Objects) → Shows (plug_attempt b t bus 0) w → CutShort b t w
 whole-cut b t bus w s = inr (objects_in t, true, omega arith, omega arith, subst (λ (c : Board). Shows c w) (cut-whole b t bus) s)
+
+-- the path that is kept of an object
+pub shows-path : (b : Board) (v : Objects) → Shows b v → (n : ℕ)
+    → option_and_then (λ (r : Record). r.kept_path) (record_of b n) ≡ option_and_then (λ (c : Content). c.kept_path) (content_of v n)
+shows-path b v s n = ap (λ (o : Option Record). option_and_then (λ (r : Record). r.kept_path) o) (shows-record b v s n) ∙ go (content_of v n)
+  where
+    go : (o : Option Content)
+        → option_and_then (λ (r : Record). r.kept_path) (option_map (shown n) o) ≡ option_and_then (λ (c : Content). c.kept_path) o
+    go None = refl
+    go (Some c) = refl
 
 module _ (b : Board) (a : Wanted) where
   -- nothing bars the device, and it is plugged in
@@ -65,19 +77,21 @@ module _ (b : Board) (a : Wanted) where
         late_as : Spot → Plugged
         late_as spot = record { refusal = None; board = with_plugged b site.kind a spot }
 
-    pub is-added : (x : Added) (h : Asked) (w : Objects) → IsPlugged b site.kind a (spot_in site.bus.birth at) h w
-        → x ≡ record { birth = b.born + 1; slot = at.slot } → kept_by w x.birth ≡ Some (claims_given b site.kind site.bus.birth a.props) → IsAdded b a x h w
-    is-added x h w p is kept =
+    pub is-added : (x : Added) (h : Asked) (w : Objects) → IsPlugged b site.kind a (spot_in site.bus.birth at) h w → x.birth ≡ b.born + 1 → x.slot ≡ at.slot
+        → option_and_then (λ (c : Content). c.kept_path) (content_of w x.birth) ≡ Some x.path
+        → kept_by w x.birth ≡ Some (claims_given b site.kind site.bus.birth a.props) → IsAdded b a x h w
+    is-added x h w p birth slot path kept =
         record {
           refusal = ap (λ (q : Plugged). q.refusal) added-plugged;
           shown = subst (λ (q : Plugged). Shows q.board w) (sym added-plugged) p.shown;
           pending = ap (λ (q : Plugged). q.board.pending) added-plugged ∙ p.pending;
           notices = ap (λ (q : Plugged). q.board.notices) added-plugged ∙ p.notices;
-          birth = ap (λ (y : Added). y.birth) is;
+          birth = birth;
           slot = λ t bus kind goes.
-              ap (λ (y : Added). y.slot) is
+              slot
               ∙ ap (λ (s : Spot). s.slot) (sym o.chosen.spot)
               ∙ own (λ (k : TypeId) (m : ℕ). (spot_of b k m a.props).slot) t bus kind goes;
+          path = path;
           kept = λ t bus kind goes. kept ∙ own (λ (k : TypeId) (m : ℕ). Some (claims_given b k m a.props)) t bus kind goes;
         }
       where
@@ -238,6 +252,13 @@ module _ (b : Board) (t : TypeId) (sound : SoundTree b) (device : is_a t (codes 
           pending = plugged-pending b t sound a spot ∙ pending ∙ sym kept;
           notices = plugged-notices b t sound a spot ∙ told here t (seat-notices b t sound a spot ∙ notices);
         }
+
+    -- the path that is kept stays
+    pub path-in : (i : ℕ) → option_and_then (λ (c : Content). c.kept_path) (content_of y i) ≡ option_and_then (λ (c : Content). c.kept_path) (content_of x i)
+    path-in i =
+        sym (shows-path (with_plugged b t a spot) y plugged-in.shown i)
+        ∙ ap (λ (o : Option Record). option_and_then (λ (r : Record). r.kept_path) o) (plugged-records b t sound a spot i)
+        ∙ shows-path (started n t here) x started_is i
 
     -- nobody ends with the pin
     pub kinds-in : (i : ℕ) → option_map (λ (c : Content). c.kind) (content_of y i) ≡ option_map (λ (c : Content). c.kind) (content_of x i)

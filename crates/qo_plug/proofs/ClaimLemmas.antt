@@ -1,5 +1,5 @@
 -- The claims that the body of a device keeps which was made, placed and started are those of its place.
-use Rattle.std.proofs.Common.{◌≡◌, refl, ap, sym, subst, ◌∙◌, ℕ, Bool, true, false, not, eqb, codes, List, [], ◌∷◌, map, Option, Some, None, option_map, rules}
+use Rattle.std.proofs.Common.{◌≡◌, refl, ap, sym, subst, ◌∙◌, ℕ, Bool, true, false, not, codes, List, Option, Some, None, option_map, rules}
 use Rattle.std.specs.Prelude.{◌||◌, if◌then◌else◌, option_and_then}
 use Rattle.std.specs.List.{AllByRecursion}
 use Rattle.std.specs.Str.{bytes_eq}
@@ -7,7 +7,6 @@ use Rattle.std.proofs.lemmas.Option.{same_Some}
 use Rattle.qo_values.specs.Kinds.{type_name}
 use Rattle.qo_values.specs.declared.codes.Code.TheVariants.{E21, E22}
 use Rattle.qo_values.specs.declared.kinds.TypeId.{TypeId}
-use Rattle.qo_slots.specs.declared.keys.Key.{Key}
 use Rattle.qo_claims.specs.Lists.{bus_slot}
 use Rattle.qo_claims.specs.declared.claims.Claimed.TheVariants as on
 use Rattle.qo_kinds.specs.Bodies.{body_of, kept_of, with_kept}
@@ -18,36 +17,17 @@ use Rattle.qo_model.specs.Board.{Board}
 use Rattle.qo_model.specs.Objects.{Given}
 use Rattle.qo_model.specs.Plug.{Spot, range_of, spot_of, type_barred}
 use Rattle.qo_model.specs.Types.{TypeInfo, is_a, type_named, types}
-use Rattle.qo_table.specs.Rows.{object_at}
 use Rattle.qo_object.specs.Content.{Content, fresh}
-use Rattle.qo_heap.specs.Acts.{Acts, stilled}
 use Rattle.qo_heap.specs.Objects.{Objects, content_of, with_edit}
 use Rattle.qo_values.proofs.ListLemmas.{found-has}
 use Rattle.qo_plug.specs.Spots.{IsChosen, backend_given, claims_given, ring_given}
 use Rattle.qo_plug.specs.Drafts.{bare}
 use Rattle.qo_standing.specs.Placement.{kept_in}
-use Rattle.qo_standing.specs.DeviceClaims.{SameKept, kept_by, kept_on}
+use Rattle.qo_properties.specs.KeptClaims.{SameKept, kept_by}
+use Rattle.qo_standing.specs.DeviceClaims.{kept_on}
 use Rattle.qo_standing.specs.declared.spots.Memory.{Memory}
 use Rattle.qo_standing.specs.declared.spots.Spot.{Spot as Chosen}
 use Rattle.qo_standing.proofs.BodyLemmas.{given-kept}
-
--- acts leave to each body its claims
-kept-still : (n : ℕ) (rows : List (Key × Content))
-    → option_map (λ (x : Content × KeptSet). x.1) (object_at (map stilled rows) n) ≡ option_map (λ (c : Content). kept_of c.body) (object_at rows n)
-kept-still n [] = refl
-kept-still n (row ∷ rows) = go (eqb row.0.birth n) refl (kept-still n rows)
-  where
-    go : (t : Bool) → eqb row.0.birth n ≡ t
-        → option_map (λ (x : Content × KeptSet). x.1) (object_at (map stilled rows) n) ≡ option_map (λ (c : Content). kept_of c.body) (object_at rows n)
-        → option_map (λ (x : Content × KeptSet). x.1) (object_at (map stilled (row ∷ rows)) n)
-        ≡ option_map (λ (c : Content). kept_of c.body) (object_at (row ∷ rows) n)
-    go true e rest = rw e refl
-    go false e rest = rw e rest
-
-pub acts-kept : (v w : Objects) → Acts v w → SameKept v w
-acts-kept v w acts n =
-    sym (kept-still n w.rows) ∙ ap (λ (l : List (Key × (Content × KeptSet))). option_map (λ (x : Content × KeptSet). x.1) (object_at l n)) acts.rows
-    ∙ kept-still n v.rows
 
 -- the claims of the spot that was chosen are those of the device
 fused : {A B C : Type 0} (f : A → B) (g : B → C) (o : Option A) → option_map (λ x. g (f x)) o ≡ option_map g (option_map f o)

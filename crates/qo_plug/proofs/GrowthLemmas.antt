@@ -1,8 +1,9 @@
 -- What keeps who was there, but for slots.
-use Rattle.std.proofs.Common.{◌≡◌, refl, ap, sym, subst, ◌∙◌, ℕ, ◌+◌, ◌≤◌, Bool, true, false, eqb, List, [], ◌∷◌, ◌++◌, Option, Some, None, option_map, IsSome, IsSomeAnd, IfSome, arith}
+use Rattle.std.proofs.Common.{◌≡◌, ◌⊎◌, inl, inr, refl, ap, sym, subst, ◌∙◌, ℕ, ◌+◌, ◌<◌, ◌≤◌, Bool, true, false, eqb, List, [], ◌∷◌, ◌++◌, Option, Some, None, option_map, IsSome, IsSomeAnd, IfSome, arith}
 use Rattle.std.specs.Prelude.{Result, Ok, Err, OnOk, OnErr}
 use Rattle.std.proofs.lemmas.Bool.{eqb-true}
 use Rattle.qo_kinds.specs.Bodies.{IsTimely, kept_of, none_kept}
+use Rattle.qo_kinds.specs.declared.kept_set.KeptSet.{KeptSet}
 use Rattle.qo_slots.specs.declared.keys.Key.{Key}
 use Rattle.qo_notes.specs.Log.{noted_all}
 use Rattle.qo_table.specs.Rows.{IsLive, Rises, births, row_at}
@@ -15,7 +16,10 @@ use Rattle.qo_heap.proofs.HeapLemmas.{live-edit}
 use Rattle.qo_heap.proofs.BoardObjects.{content-edited, content-other}
 use Rattle.qo_properties.specs.Additions.{with_newest}
 use Rattle.qo_properties.proofs.AddLemmas.{newest-keeps}
+use Rattle.qo_properties.specs.KeptClaims.{KeptOrNew, kept_by}
+use Rattle.qo_properties.proofs.AddKept.{more-kept}
 use Rattle.qo_properties.proofs.ClaimLemmas.{edit-keeps, more-keeps}
+use Rattle.qo_properties.proofs.KeptLemmas.{edit-kept}
 use Rattle.qo_plug.specs.Drafts.{Grows, IsQuiet, bare}
 
 pub grows-none : (v w : Objects) → w ≡ v → Grows v w
@@ -25,6 +29,7 @@ grows-none v w same =
       rest = λ n low. ap (λ (x : Objects). option_map bare (content_of x n)) same;
       born = let its : w.born ≡ v.born = ap (λ (x : Objects). x.born) same in omega (arith, its);
       book = λ out h. subst (λ (x : Objects). IsBook out x) (sym same) h;
+      kept = λ n k e. inl (subst (λ (x : Objects). kept_by x n ≡ Some k) same e);
       quiet = λ n q. subst (λ (x : Objects). IsQuiet x n) (sym same) q;
       events = ap (λ (x : Objects). x.events) same;
       time = ap (λ (x : Objects). x.time) same;
@@ -37,10 +42,15 @@ grows-then v u w g h =
       rest = λ n low. h.rest n (let more : v.born ≤ u.born = g.born in omega (arith, low, more)) ∙ g.rest n low;
       born = let first : v.born ≤ u.born = g.born in let next : u.born ≤ w.born = h.born in omega (arith, first, next);
       book = λ out b. h.book out (g.book out b);
+      kept = λ n k e. by n k (h.kept n k e);
       quiet = λ n q. h.quiet n (g.quiet n q);
       events = h.events ∙ g.events;
       time = h.time ∙ g.time;
     }
+  where
+    by : (n : ℕ) (k : KeptSet) → (kept_by u n ≡ Some k) ⊎ ((u.born < n) × (k ≡ none_kept)) → (kept_by v n ≡ Some k) ⊎ ((v.born < n) × (k ≡ none_kept))
+    by n k (inl same) = g.kept n k same
+    by n k (inr new) = let more : v.born ≤ u.born = g.born in inr (omega (arith, more, new.0), new.1)
 
 -- what was done made it grow, and an error left it
 pub grows-either : {T E : Type 0} (r : Result T E) (v w : Objects) → OnOk r (Grows v w) → OnErr r (w ≡ v) → Grows v w
@@ -58,6 +68,7 @@ grows-edit v w n f same is =
       rest = λ m low. ap (λ (x : Objects). option_map bare (content_of x m)) is ∙ go m (eqb m n) refl;
       born = let its : w.born ≡ v.born = ap (λ (x : Objects). x.born) is in omega (arith, its);
       book = edit-keeps v w n f (λ c. ap (λ (d : Content). (d.body, d.device_id)) (same c)) is;
+      kept = λ m k e. inl (edit-kept v w n f (λ c. ap (λ (d : Content). kept_of d.body) (same c)) is m k e);
       quiet = λ m q. subst (λ (x : Objects). IsQuiet x m) (sym is) (stays m (eqb m n) refl q);
       events = ap (λ (x : Objects). x.events) is;
       time = ap (λ (x : Objects). x.time) is;
@@ -117,10 +128,20 @@ grows-newest v o c birth none unnamed timely =
           ap (λ (r : Option (Key × Content)). option_map bare (option_map (λ (row : Key × Content). row.1) r)) (row-before v.rows o c n other);
       born = omega arith;
       book = more-keeps v o c (v.born + 1) (noted_all (init_notes o.birth c.kind) v.log) none unnamed;
+      kept = λ n k e. by n k (eqb o.birth n) refl (more-kept v (with_newest o c v) o c none refl n k e) e;
       quiet = λ n q. more-quiet (λ (d : Content). IsTimely v.time d.body) o c n timely v.rows q;
       events = refl;
       time = refl;
     }
+  where
+    -- what stands in the last row is new
+    by : (n : ℕ) (k : KeptSet) (t : Bool) → eqb o.birth n ≡ t → (kept_by v n ≡ Some k) ⊎ ((kept_by v n ≡ None) × (k ≡ none_kept))
+        → kept_by (with_newest o c v) n ≡ Some k → (kept_by v n ≡ Some k) ⊎ ((v.born < n) × (k ≡ none_kept))
+    by n k t p (inl same) e = inl same
+    by n k true p (inr new) e = let its : o.birth ≡ n = eqb-true o.birth n p in inr (omega (arith, birth, its), new.1)
+    by n k false p (inr new) e =
+        inl (sym (ap (λ (r : Option (Key × Content)). option_map (λ (d : Content). kept_of d.body) (option_map (λ (row : Key × Content). row.1) r))
+        (row-before v.rows o c n p)) ∙ e)
 
 -- who is there was born
 row-low : (above last : ℕ) (rows : List (Key × Content)) (n : ℕ) → Rises above (births rows) last → IsSome (row_at rows n) → n ≤ last
@@ -137,6 +158,21 @@ live-low v good o live = row-low 0 v.born v.rows o.birth good.rising (go (row_at
     go : (r : Option (Key × Content)) → IsSomeAnd r (λ x. x.0.index ≡ o.index) → IsSome r
     go None h = absurd h
     go (Some x) h = refl
+
+-- who was there keeps what it kept, and who is new keeps none
+pub grows-kept : (v w : Objects) → IsHeap v → Grows v w → KeptOrNew v w
+grows-kept v w good grows n k e = by (grows.kept n k e)
+  where
+    none : v.born < n → kept_by v n ≡ None
+    none late = go (row_at v.rows n) refl
+      where
+        go : (r : Option (Key × Content)) → row_at v.rows n ≡ r → kept_by v n ≡ None
+        go None p = ap (λ (r : Option (Key × Content)). option_map (λ (d : Content). kept_of d.body) (option_map (λ (row : Key × Content). row.1) r)) p
+        go (Some row) p = absurd (let low : n ≤ v.born = row-low 0 v.born v.rows n good.rising (subst IsSome (sym p) refl) in omega (arith, low, late))
+
+    by : (kept_by v n ≡ Some k) ⊎ ((v.born < n) × (k ≡ none_kept)) → (kept_by v n ≡ Some k) ⊎ ((kept_by v n ≡ None) × (k ≡ none_kept))
+    by (inl same) = inl same
+    by (inr new) = inr (none new.0, new.1)
 
 -- and who was not born is quiet
 pub unborn-quiet : (v : Objects) → IsHeap v → (n : ℕ) → v.born + 1 ≤ n → IsQuiet v n

@@ -7,6 +7,7 @@ pub mod DraftLemmas
 pub mod GivenDraftLemmas
 pub mod FurtherLemmas
 pub mod GrowthLemmas
+pub mod KeptLemmas
 pub mod JudgementLemmas
 pub mod ClaimLemmas
 pub mod AttemptLemmas

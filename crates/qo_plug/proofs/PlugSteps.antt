@@ -2,7 +2,7 @@
 use Rattle.std.proofs.Common.{◌≡◌, refl, ap, sym, ◌∙◌, ℕ, suc, ◌+◌, ◌≤◌, true, List, [], length, Option, Some, None, arith}
 use Rattle.std.proofs.lemmas.List.{length-map, take_all}
 use Rattle.qo_values.specs.declared.kinds.TypeId.{TypeId}
-use Rattle.qo_model.specs.Board.{Board, kind_of}
+use Rattle.qo_model.specs.Board.{Board, kind_of, record_of}
 use Rattle.qo_model.specs.Paths.{canonical, path_down_to}
 use Rattle.qo_model.specs.Plug.{Spot, Wanted, born_from, clocked, counted, cut_attempt, device_last, further_of, objects_in, plug_attempt, properties_made, source_for, started, stood, types_in, with_ended, with_plugged}
 use Rattle.qo_model.specs.Release.{unpin}
@@ -65,6 +65,9 @@ module _ (b : Board) (t : TypeId) (sound : SoundTree b) (a : Wanted) (spot : Spo
 
   pub plugged-kinds : (m : ℕ) → kind_of (with_plugged b t a spot) m ≡ kind_of (started n t seated) m
   plugged-kinds m = sym (ap (λ (c : Board). kind_of c m) started-is)
+
+  pub plugged-records : (m : ℕ) → record_of (with_plugged b t a spot) m ≡ record_of (started n t seated) m
+  plugged-records m = sym (ap (λ (c : Board). record_of c m) started-is)
 
   pub plugged-pending : (with_plugged b t a spot).pending ≡ b.pending
   plugged-pending = sym (ap (λ (c : Board). c.pending) started-is) ∙ started-pending n t seated ∙ ap (λ (x : Aside). x.pending) seat-aside

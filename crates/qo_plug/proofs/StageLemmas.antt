@@ -94,5 +94,5 @@ pub passed-placing : (b : Board) (a : Wanted) (p : Placed) (v : Objects) → IsS
 passed-placing b a p v is = by p.way is.site.2
   where
     by : (w : Way) → StandsBy b a is.site.0 p.device.birth p.slot w v → IfSome (plug b a).refusal (λ (r : ℕ × Code). 7 < r.0)
-    by (Stands path) h = passed-as b a is.site.0 h.2.admitted None h.2.late tt
+    by (Stands path) h = passed-as b a is.site.0 h.3.admitted None h.3.late tt
     by (Full out) h = passed-as b a is.site.0 h.0 (Some (8, E44)) h.1 (omega arith)

@@ -1,5 +1,5 @@
 -- What acts leave of a board: types, slots, places, holds and notices; so a device that starts keeps its path and its buses.
-use Rattle.std.proofs.Common.{◌≡◌, refl, ap, sym, subst, ◌∙◌, ℕ, zero, suc, ◌+◌, true, false, codes, List, [], ◌∷◌, ◌++◌, filter, take, slice_get, Option, Some, None, option_map, option_to_list, Result, Ok, Err, OnOk, arith}
+use Rattle.std.proofs.Common.{◌≡◌, refl, ap, sym, subst, ◌∙◌, ℕ, zero, suc, ◌+◌, true, false, codes, List, [], ◌∷◌, ◌++◌, filter, take, slice_get, Option, Some, None, option_map, option_to_list, IsSomeAnd, Result, Ok, Err, OnOk, arith}
 use Rattle.std.specs.Prelude.{filter_map, not, ◌&&◌, if◌then◌else◌}
 use Rattle.std.specs.Option.{option_and_then, option_map_or}
 use Rattle.std.specs.Str.{bytes_eq}
@@ -9,7 +9,7 @@ use Rattle.qo_values.specs.declared.kinds.TypeId.{TypeId}
 use Rattle.qo_slots.specs.declared.keys.Key.{Key}
 use Rattle.qo_kinds.specs.Bodies.{kept_of}
 use Rattle.qo_claims.specs.declared.claims.Claimed.{Claimed}
-use Rattle.qo_table.specs.Rows.{IsLive}
+use Rattle.qo_table.specs.Rows.{IsLive, row_at}
 use Rattle.qo_model.specs.Board.{Board, Notice, Record, Slot, child, plain, strong, weak, alias, slots_at}
 use Rattle.qo_model.specs.Clocks.{acted, with_act_on}
 use Rattle.qo_model.specs.Devices.{bus_in, buses_of, clock_name}
@@ -36,7 +36,7 @@ use Rattle.qo_heap.proofs.BoardObjects.{content-edited}
 use Rattle.qo_hotplug.specs.Hotplug.{Asked, told}
 use Rattle.qo_life.proofs.TreeLemmas.{read-content}
 use Rattle.qo_reset.specs.Phases.{Holds}
-use Rattle.qo_standing.specs.DeviceClaims.{SameKept, kept_by}
+use Rattle.qo_properties.specs.KeptClaims.{SameKept, kept_by}
 use Rattle.qo_standing.proofs.PlacementSteps.{pins-edited}
 use Rattle.qo_standing.proofs.TreeLemmas.{SamePlaces, canonical-same, read-edit, tree-edit, tree-same, tree-then}
 
@@ -267,6 +267,19 @@ path-all_pins v w n path now = ap (λ (x : Objects). pins_in x.rows) now ∙ pin
 
 pub path-claims : (v w : Objects) (n : ℕ) (path : List ℕ) → w ≡ record (with_edit n (with_path path) v) { events = promised v.events } → SameKept v w
 path-claims v w n path now m = ap (λ (x : Objects). kept_by x m) now ∙ read-content (λ (c : Content). kept_of c.body) n (with_path path) (λ c. refl) v m
+
+-- it is kept, where the object is there
+pub path-kept : (v w : Objects) (o : Key) (path : List ℕ) → w ≡ record (with_edit o.birth (with_path path) v) { events = promised v.events } → IsLive v.rows o
+    → option_and_then (λ (c : Content). c.kept_path) (content_of w o.birth) ≡ Some path
+path-kept v w o path now live =
+    ap (λ (x : Objects). option_and_then (λ (c : Content). c.kept_path) (content_of x o.birth)) now
+    ∙ ap (λ (x : Option Content). option_and_then (λ (c : Content). c.kept_path) x) (content-edited v o.birth (with_path path))
+    ∙ go (row_at v.rows o.birth) live
+  where
+    go : (r : Option (Key × Content)) → IsSomeAnd r (λ row. row.0.index ≡ o.index)
+        → option_and_then (λ (c : Content). c.kept_path) (option_map (with_path path) (option_map (λ (row : Key × Content). row.1) r)) ≡ Some path
+    go None h = absurd h
+    go (Some row) h = refl
 
 pub path-pins : (v w : Objects) (n : ℕ) (path : List ℕ) → w ≡ record (with_edit n (with_path path) v) { events = promised v.events } → pins_of w n ≡ pins_of v n
 path-pins v w n path now = ap (λ (x : Objects). pins_of x n) now

@@ -1,13 +1,15 @@
 -- For proofs alone. What adding a device answers and leaves.
 use Rattle.std.specs.Prelude.{◌≡◌, ℕ, ◌+◌, List, Some, None, option_map, ◌⊎◌, ⊤}
+use Rattle.std.specs.Option.{option_and_then}
 use Rattle.qo_values.specs.declared.codes.Code.{Code}
 use Rattle.qo_values.specs.declared.kinds.TypeId.{TypeId}
 use Rattle.qo_model.specs.Board.{Board, Ring}
 use Rattle.qo_model.specs.Plug.{Spot, Wanted, barred_early, barred_late, bus_for, plug, plug_attempt, spot_of, type_barred, with_plugged}
 use Rattle.qo_model.specs.Types.{TypeInfo, type_named}
 use Rattle.qo_sound.specs.TreeKept.{SoundTree}
+use Rattle.qo_object.specs.Content.{Content}
 use Rattle.qo_heap.specs.Board.{Shows}
-use Rattle.qo_heap.specs.Objects.{Objects}
+use Rattle.qo_heap.specs.Objects.{Objects, content_of}
 use Rattle.qo_hotplug.specs.Hotplug.{Asked}
 use Rattle.qo_plug.specs.declared.adding.Added.{Added}
 use Rattle.qo_plug.specs.declared.admitting.Site.{Site}
@@ -18,7 +20,7 @@ use Rattle.qo_plug.specs.Admission.{IsAdmitted}
 use Rattle.qo_plug.specs.Spots.{IsChosen, claims_given}
 use Rattle.qo_standing.specs.declared.spots.Spot.{Spot as Chosen}
 use Rattle.qo_plug.specs.Drafts.{CutShort}
-use Rattle.qo_standing.specs.DeviceClaims.{kept_by}
+use Rattle.qo_properties.specs.KeptClaims.{kept_by}
 
 -- a sound board has the objects of a heap, and beside them so many devices without an id, these holds, these rings, and what is asked for
 pub record IsShown (b : Board) (anonymous : ℕ) (holds : List ℕ) (rings : List Ring) (h : Asked) (v : Objects) : Type 0 where
@@ -48,7 +50,7 @@ KeepsGiven b a x w =
     (t : TypeId) (bus : ℕ) → option_map (λ (row : TypeInfo). row.id) (type_named a.driver) ≡ Some t → bus_for b t a.bus ≡ Some bus
     → kept_by w x.birth ≡ Some (claims_given b t bus a.props)
 
--- a device was added: its birth and its slot are told, and its body keeps its claims
+-- a device was added: its birth, its slot and the path that is kept of it are told, and its body keeps its claims
 pub record IsAdded (b : Board) (a : Wanted) (x : Added) (h : Asked) (w : Objects) : Type 0 where
   pub refusal : (plug b a).refusal ≡ None
   pub shown : Shows (plug b a).board w
@@ -57,6 +59,7 @@ pub record IsAdded (b : Board) (a : Wanted) (x : Added) (h : Asked) (w : Objects
   pub birth : x.birth ≡ b.born + 1
   pub slot : (t : TypeId) (bus : ℕ) → option_map (λ (row : TypeInfo). row.id) (type_named a.driver) ≡ Some t → bus_for b t a.bus ≡ Some bus
       → x.slot ≡ (spot_of b t bus a.props).slot
+  pub path : option_and_then (λ (c : Content). c.kept_path) (content_of w x.birth) ≡ Some x.path
   pub kept : KeepsGiven b a x w
 
 -- it was refused

@@ -1,5 +1,5 @@
 -- For proofs alone. A device as it is made over the heap, and what is left where memory ran out (include/hw/qdev-core.h, "Realization").
-use Rattle.std.specs.Prelude.{◌≡◌, ℕ, ◌+◌, ◌≤◌, Bool, List, [], ◌++◌, ◌⊎◌, map, take, slice_get, Some, option_map, IfSome}
+use Rattle.std.specs.Prelude.{◌≡◌, ℕ, ◌+◌, ◌<◌, ◌≤◌, Bool, List, [], ◌++◌, ◌⊎◌, map, take, slice_get, Some, option_map, IfSome}
 use Rattle.qo_values.specs.declared.kinds.TypeId.{TypeId}
 use Rattle.qo_model.specs.Board.{Board, Record, Slot, plain}
 use Rattle.qo_model.specs.Changes.{make}
@@ -9,7 +9,8 @@ use Rattle.qo_model.specs.Release.{edit}
 use Rattle.qo_model.specs.Types as types
 use Rattle.qo_model.specs.declared.properties.Property.{Property}
 use Rattle.qo_model.specs.declared.properties.PropertyRole.TheVariants.{Child}
-use Rattle.qo_kinds.specs.Bodies.{IsTimely}
+use Rattle.qo_kinds.specs.Bodies.{IsTimely, none_kept}
+use Rattle.qo_kinds.specs.declared.kept_set.KeptSet.{KeptSet}
 use Rattle.qo_slots.specs.declared.keys.Key.{Key}
 use Rattle.qo_table.specs.Rows.{IsLive}
 use Rattle.qo_object.specs.Content.{Content, fresh}
@@ -18,6 +19,7 @@ use Rattle.qo_object.specs.Slots.{Named}
 use Rattle.qo_heap.specs.Board.{Shows}
 use Rattle.qo_heap.specs.Objects.{Objects, content_of}
 use Rattle.qo_properties.specs.Claims.{KeepsBook}
+use Rattle.qo_properties.specs.KeptClaims.{kept_by}
 use Rattle.qo_properties.specs.Filling.{filled, filled_with, value_alone}
 use Rattle.qo_properties.specs.declared.adding.filling.Fill.{Fill}
 use Rattle.qo_properties.specs.NewSlots.{new_slots}
@@ -69,12 +71,13 @@ abbrev pub IsQuiet : Objects → ℕ → Type 0
 IsQuiet v n = IfSome (content_of v n) (λ (c : Content). IsTimely v.time c.body)
 
 -- a heap has grown, or its objects have other slots: who was there is there under the same name, and has all else as before; the book of claims stays right;
--- events and the time stay; who is new has begun no segment
+-- events and the time stay; who is new keeps no claim, and has begun no segment
 pub record Grows (v w : Objects) : Type 0 where
   pub names : KeepsNames v w
   pub rest : (n : ℕ) → n ≤ v.born → option_map bare (content_of w n) ≡ option_map bare (content_of v n)
   pub born : v.born ≤ w.born
   pub book : KeepsBook v w
+  pub kept : (n : ℕ) (k : KeptSet) → kept_by w n ≡ Some k → (kept_by v n ≡ Some k) ⊎ ((v.born < n) × (k ≡ none_kept))
   pub quiet : (n : ℕ) → IsQuiet v n → IsQuiet w n
   pub events : w.events ≡ v.events
   pub time : w.time ≡ v.time

@@ -1,6 +1,7 @@
 pub mod Admission
 pub mod Answers
 pub mod Attempts
+pub mod KeptClaims
 pub mod Spots
 pub mod Cuts
 pub mod Drafts

@@ -33,7 +33,7 @@ use Rattle.qo_plug.specs.Spots.{IsChosen, claims_given}
 use Rattle.qo_plug.specs.Drafts.{IsQuiet, bare, given_draft, pinned_draft, own_slots_of}
 use Rattle.qo_plug.specs.DevicePlans.{HasGiven}
 use Rattle.qo_standing.specs.Placement.{Stood, spot_in}
-use Rattle.qo_standing.specs.DeviceClaims.{kept_by}
+use Rattle.qo_properties.specs.KeptClaims.{kept_by}
 
 -- what bars a device in its place on a bus: its slot, its depth and its memory come before its ring
 abbrev pub spot_barred : Board → TypeId → ℕ → List Given → Option (ℕ × Code)
@@ -100,7 +100,7 @@ pub record IsReady (p : Placed) (h : Asked) (v : Objects) : Type 0 where
 -- the stages 5 to 7 are done: nothing bars the device, it stands in its spot, and its body keeps its claims; or the notices alone bar it, and it stands nowhere
 abbrev pub StandsBy : Board → Wanted → Site → ℕ → ℕ → Way → Objects → Type 0
 StandsBy b a s n slot (Stands path) v =
-    (c : Spot) × (c.slot ≡ slot) × IsOpen b a s c × Stood b (pinned_draft b s.kind) n a (spot_in s.bus.birth c) path v
+    (path.told ≡ path.kept) × (c : Spot) × (c.slot ≡ slot) × IsOpen b a s c × Stood b (pinned_draft b s.kind) n a (spot_in s.bus.birth c) path.kept v
     × (kept_by v n ≡ Some (claims_given b s.kind s.bus.birth a.props))
 StandsBy b a s n slot (Full out) v =
     IsAdmitted b a s × (barred_late b s.kind s.bus.birth a.props ≡ Some (8, E44)) × (out ≡ (count b s.bus.birth == 0)) × Shows (given_draft b s.kind a.props) v

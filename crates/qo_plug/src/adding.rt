@@ -3,9 +3,11 @@
 ghost use Rattle.std.specs.Prelude.{◌≡◌, Err, IfOk, OnErr};
 ghost use Rattle.qo_model.specs.Board.{Board};
 ghost use Rattle.qo_properties.specs.Claims.{KeepsBook};
+ghost use Rattle.qo_properties.specs.KeptClaims.{KeptOrNew};
 ghost use Rattle.qo_plug.specs.declared.refusals.AddRefusal.TheVariants.{Memory};
 ghost use Rattle.qo_plug.specs.Admission.{IfRefused, as_wanted};
 ghost use Rattle.qo_plug.specs.Answers.{IsAdded, IsCut, IsRefused, IsShown};
+ghost use Rattle.qo_plug.specs.KeptClaims.{KeptOrNewBut};
 
 use crate::beginning::{choose, make, turn_down};
 use crate::finishing::finish;
@@ -17,16 +19,19 @@ use qo_heap::{Heap, Steps};
 use qo_hotplug::Hotplug;
 use qo_reset::Resets;
 use qo_rings::Rings;
+use qo_values::Text;
 use std::alloc::Global;
 use std::sync::ledger::Ledger;
 
 /// A device that was added.
-#[derive(Clone, Copy, Debug, PartialEq, Eq)]
+#[derive(Debug, Drop)]
 pub struct Added {
     /// Its birth.
     pub birth: u64,
     /// Its slot of its bus.
     pub slot: u8,
+    /// Its canonical path, which is kept for its end.
+    pub path: Text,
 }
 
 /// Adds a device that is asked for: by the stages of `begin`, `place` and `finish`, but that a device
@@ -49,6 +54,8 @@ pub fn add<L: Ledger>(
     ensures memory { (b : Board) → IsShown b anonymous resets.now.births rings.now hotplug.old heap.old → result ≡ Err Memory → IsCut b (as_wanted options.now) heap.new }
     ensures asked { OnErr result (hotplug.new ≡ hotplug.old) }
     ensures book { KeepsBook heap.old heap.new }
+    ensures kept { IfOk result (λ x. KeptOrNewBut x.birth heap.old heap.new) }
+    ensures unkept { OnErr result (KeptOrNew heap.old heap.new) }
 {
     let planned = match choose(heap, hotplug, anonymous, options, alloc, steps) {
         Ok(planned) => planned,

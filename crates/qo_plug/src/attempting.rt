@@ -14,6 +14,7 @@ ghost use Rattle.qo_table.specs.Rows.{IsLive};
 ghost use Rattle.qo_heap.specs.Board.{Shows};
 ghost use Rattle.qo_heap.specs.Objects.{pins_of};
 ghost use Rattle.qo_properties.specs.Claims.{KeepsBook};
+ghost use Rattle.qo_properties.specs.KeptClaims.{KeptBefore};
 ghost use Rattle.qo_reset.specs.Phases.{walked};
 ghost use Rattle.qo_plug.specs.Attempts.{first_acted, last_acted, let_out, new_bus, new_buses, passed_on};
 ghost use Rattle.qo_plug.specs.Drafts.{IsQuiet, given_draft};
@@ -112,6 +113,7 @@ pub(crate) fn refuse<L: Ledger>(heap: &mut Heap, device: Oid, out: bool, steps: 
     requires quiet { (n : ℕ) → device.birth ≤ n → IsQuiet heap.old n }
     ensures shown { (b : Board) (t : TypeId) (props : List Given) (bus : ℕ) → SoundTree b → device.birth ≡ b.born + 1 → out ≡ (count b bus == 0) → Shows (given_draft b t props) heap.old → Shows (plug_attempt b t bus 8) heap.new }
     ensures book { KeepsBook heap.old heap.new }
+    ensures kept { KeptBefore heap.old heap.new }
 {
     pass(heap, device, out, steps);
     drop_pin(heap, device, steps);

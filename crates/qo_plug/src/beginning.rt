@@ -7,6 +7,7 @@ ghost use Rattle.qo_model.specs.Plug.{Wanted, plug_attempt};
 ghost use Rattle.qo_sound.specs.TreeKept.{SoundTree};
 ghost use Rattle.qo_heap.specs.Board.{Shows};
 ghost use Rattle.qo_properties.specs.Claims.{KeepsBook};
+ghost use Rattle.qo_properties.specs.KeptClaims.{KeptBefore, KeptOrNew};
 ghost use Rattle.qo_plug.specs.declared.refusals.AddRefusal.TheVariants.{Memory};
 ghost use Rattle.qo_plug.specs.Admission.{IfRefused, as_wanted};
 ghost use Rattle.qo_plug.specs.Answers.{IsCut, IsRefused, IsShown, turned_down};
@@ -60,6 +61,7 @@ pub(crate) fn turn_down<L: Ledger>(
     ensures down { (b : Board) (bus : ℕ) → Shows b heap.old → SoundTree b → (stage == 8) ≡ false → turned_down b kind bus (record { stage = stage; code = code }) result heap.new }
     ensures memory { (b : Board) → Shows b heap.old → SoundTree b → result ≡ Memory → CutShort b kind heap.new }
     ensures book { KeepsBook heap.old heap.new }
+    ensures kept { KeptOrNew heap.old heap.new }
 {
     match attempt(heap, kind, alloc, steps) {
         Ok(()) => AddRefusal::Refused { stage, code },
@@ -84,6 +86,7 @@ pub(crate) fn make<L: Ledger>(
     ensures held { IfOk result (λ d. IsHeld d heap.new) }
     ensures err { OnErr result ((b : Board) → Shows b heap.old → SoundTree b → CutShort b planned.site.kind heap.new) }
     ensures book { KeepsBook heap.old heap.new }
+    ensures kept { KeptOrNew heap.old heap.new }
 {
     heap.facts();
     let Planned { site, mut plan } = planned;
@@ -116,6 +119,7 @@ pub(crate) fn choose<L: Ledger>(
     ensures refused { (b : Board) (holds : List ℕ) (rings : List Ring) → IsShown b anonymous holds rings hotplug.now heap.old → IfRefused result (λ stage code. (1 ≤ stage) × (stage ≤ 4) × IsRefused b (as_wanted options.now) stage code heap.new) }
     ensures memory { (b : Board) (holds : List ℕ) (rings : List Ring) → IsShown b anonymous holds rings hotplug.now heap.old → result ≡ Err Memory → IsCut b (as_wanted options.now) heap.new }
     ensures book { KeepsBook heap.old heap.new }
+    ensures kept { KeptOrNew heap.old heap.new }
 {
     let site = match admit(
         heap,
@@ -175,6 +179,7 @@ pub fn begin<L: Ledger>(
     ensures refused { (b : Board) → IsShown b anonymous resets.now.births rings.now hotplug.now heap.old → IfRefused result (λ stage code. (1 ≤ stage) × (stage ≤ 4) × IsRefused b (as_wanted options.now) stage code heap.new) }
     ensures memory { (b : Board) → IsShown b anonymous resets.now.births rings.now hotplug.now heap.old → result ≡ Err Memory → IsCut b (as_wanted options.now) heap.new }
     ensures book { KeepsBook heap.old heap.new }
+    ensures kept { KeptOrNew heap.old heap.new }
 {
     let planned = match choose(heap, hotplug, anonymous, options, alloc, steps) {
         Ok(planned) => planned,
@@ -192,6 +197,7 @@ pub fn abandon<L: Ledger>(heap: &mut Heap, begun: Begun, steps: &mut Steps<L>)
     requires { IsHeld begun heap.old }
     ensures given_up { (b : Board) (a : Wanted) → IsBegun b a begun heap.old → Shows (plug_attempt b begun.site.kind begun.site.bus.birth 4) heap.new }
     ensures book { KeepsBook heap.old heap.new }
+    ensures kept { KeptBefore heap.old heap.new }
 {
     let Begun {
         site: _site,

@@ -18,6 +18,7 @@ ghost use Rattle.qo_heap.specs.Board.{Shows};
 ghost use Rattle.qo_heap.specs.Objects.{pins_of};
 ghost use Rattle.qo_properties.specs.Additions.{IsTried, given_up};
 ghost use Rattle.qo_properties.specs.Claims.{KeepsBook};
+ghost use Rattle.qo_properties.specs.KeptClaims.{KeptBefore, KeptOrNew};
 ghost use Rattle.qo_properties.specs.NewSlots.{begun, new_slots, slot_begun};
 ghost use Rattle.qo_properties.specs.Filling.{Fits, filled, spent, spent_at, value_alone, value_at};
 ghost use Rattle.qo_properties.specs.Plans.{IsPlan};
@@ -193,6 +194,7 @@ pub fn make_device<L: Ledger>(
     ensures grows { OnOk result (Grows heap.old heap.new) }
     ensures err { OnErr result ((b : Board) → Shows b heap.old → SoundTree b → CutShort b kind heap.new) }
     ensures book { KeepsBook heap.old heap.new }
+    ensures kept { KeptOrNew heap.old heap.new }
 {
     heap.facts();
     let device = create(heap, alloc, kind, steps)?;
@@ -212,6 +214,7 @@ pub fn give_up<L: Ledger>(heap: &mut Heap, device: Oid, steps: &mut Steps<L>)
     requires pinned { 0 < pins_of heap.old device.birth }
     ensures shown { (b : Board) (t : TypeId) (props : List Given) (bus stage : ℕ) → SoundTree b → device.birth ≡ b.born + 1 → (stage == 8) ≡ false → Shows (given_draft b t props) heap.old → Shows (plug_attempt b t bus stage) heap.new }
     ensures book { KeepsBook heap.old heap.new }
+    ensures kept { KeptBefore heap.old heap.new }
 {
     drop_pin(heap, device, steps);
 }

@@ -1,11 +1,13 @@
 //! Finishing a device that was placed, the last stage of adding: it starts and the guest is told; or
 //! the notices refuse it, and it is given up. No call here takes memory.
 
-ghost use Rattle.std.specs.Prelude.{◌≡◌, IfOk, OnErr, Some};
+ghost use Rattle.std.specs.Prelude.{◌≡◌, Bool, IfOk, OnErr, Some};
 ghost use Rattle.qo_values.specs.declared.codes.Code.TheVariants.{E44};
 ghost use Rattle.qo_model.specs.Board.{Board};
 ghost use Rattle.qo_model.specs.Plug.{Wanted};
 ghost use Rattle.qo_properties.specs.Claims.{KeepsBook};
+ghost use Rattle.qo_properties.specs.KeptClaims.{KeptBefore};
+ghost use Rattle.qo_plug.specs.declared.placing.Way.TheVariants.{Full};
 ghost use Rattle.qo_plug.specs.Admission.{barred_in};
 ghost use Rattle.qo_plug.specs.Answers.{IsAdded, IsRefused};
 ghost use Rattle.qo_plug.specs.Stages.{IsBeside, IsReady, IsSettled};
@@ -19,6 +21,7 @@ use qo_heap::{Heap, Steps};
 use qo_hotplug::Hotplug;
 use qo_life::drop_pin;
 use qo_reset::Resets;
+use qo_standing::DevicePath;
 use qo_values::Code;
 use std::sync::ledger::Ledger;
 
@@ -36,17 +39,21 @@ pub fn finish<L: Ledger>(
     ensures ok { (b : Board) (a : Wanted) → IsSettled b a placed heap.old → IsBeside b resets.now.births hotplug.old → IfOk result (λ x. IsAdded b a x hotplug.new heap.new) }
     ensures refused { (b : Board) (a : Wanted) → IsSettled b a placed heap.old → OnErr result (IsRefused b a 8 E44 heap.new) }
     ensures code { OnErr result (barred_in result ≡ Some (8, E44)) }
+    ensures device { IfOk result (λ x. x.birth ≡ placed.device.birth) }
+    ensures full { OnErr result ((out : Bool) × (placed.way ≡ Full out)) }
     ensures asked { OnErr result (hotplug.new ≡ hotplug.old) }
     ensures book { KeepsBook heap.old heap.new }
+    ensures kept { KeptBefore heap.old heap.new }
 {
     let Placed { device, slot, way } = placed;
     match way {
-        Way::Stands(path) => {
-            start(heap, resets, hotplug, device, path, steps);
+        Way::Stands(DevicePath { kept, told }) => {
+            start(heap, resets, hotplug, device, kept, steps);
             drop_pin(heap, device, steps);
             Ok(Added {
                 birth: device.birth,
                 slot,
+                path: told,
             })
         }
         Way::Full { out } => {

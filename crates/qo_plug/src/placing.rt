@@ -1,14 +1,16 @@
 //! Placing a device that was begun, the stages 5 to 7 of adding: it takes its place in a slot of its
 //! bus, or is given up. Where the notices will refuse it, it stands nowhere.
 
-ghost use Rattle.std.specs.Prelude.{◌≡◌, ◌<◌, ◌≤◌, Err, IfOk, length, nat_le};
+ghost use Rattle.std.specs.Prelude.{◌≡◌, ◌<◌, ◌≤◌, Err, IfOk, OnErr, length, nat_le};
 ghost use Rattle.qo_values.specs.declared.limits.TheConstants.{NOTICES_MAX};
 ghost use Rattle.qo_model.specs.Board.{Board};
 ghost use Rattle.qo_model.specs.Plug.{Wanted};
 ghost use Rattle.qo_properties.specs.Claims.{KeepsBook};
+ghost use Rattle.qo_properties.specs.KeptClaims.{KeptBefore};
 ghost use Rattle.qo_plug.specs.declared.refusals.AddRefusal.TheVariants.{Memory};
 ghost use Rattle.qo_plug.specs.Admission.{IfRefused};
 ghost use Rattle.qo_plug.specs.Answers.{IsCut, IsRefused};
+ghost use Rattle.qo_plug.specs.KeptClaims.{KeptAs};
 ghost use Rattle.qo_plug.specs.Stages.{IsBegun, IsHeld, IsReady, IsSettled};
 
 use crate::admitting::{Place, Site};
@@ -17,15 +19,15 @@ use crate::drafting::give_up;
 use crate::refusals::{AddRefusal, Barred};
 use qo_heap::{Heap, Oid, Steps};
 use qo_hotplug::Hotplug;
-use qo_standing::{Seat, Spot, stand};
-use qo_values::{Id, NOTICES_MAX, Text};
+use qo_standing::{DevicePath, Seat, Spot, stand};
+use qo_values::{Id, NOTICES_MAX};
 use std::alloc::Global;
 use std::sync::ledger::Ledger;
 
 /// How a device was placed.
 pub enum Way {
     /// It stands in its place; its canonical path.
-    Stands(Text),
+    Stands(DevicePath),
     /// It stands nowhere, since as many notices wait as may; whether no hold is on its bus.
     Full {
         /// Whether no hold is on its bus.
@@ -90,6 +92,8 @@ pub fn place<L: Ledger>(
     ensures refused { (b : Board) (a : Wanted) → IsBegun b a begun heap.old → IfRefused result (λ stage code. (5 ≤ stage) × (stage ≤ 6) × IsRefused b a stage code heap.new) }
     ensures memory { (b : Board) (a : Wanted) → IsBegun b a begun heap.old → result ≡ Err Memory → IsCut b a heap.new }
     ensures book { KeepsBook heap.old heap.new }
+    ensures kept { IfOk result (λ p. KeptAs p.device.birth p.way heap.old heap.new) }
+    ensures unkept { OnErr result (KeptBefore heap.old heap.new) }
 {
     let Begun {
         site,

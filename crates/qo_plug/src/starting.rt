@@ -17,7 +17,7 @@ ghost use Rattle.qo_heap.specs.Objects.{content_of, pins_of};
 ghost use Rattle.qo_properties.specs.Claims.{KeepsBook};
 ghost use Rattle.qo_properties.specs.OpeningSteps.{KeepsNames};
 ghost use Rattle.qo_reset.specs.Phases.{Holds};
-ghost use Rattle.qo_standing.specs.DeviceClaims.{SameKept};
+ghost use Rattle.qo_properties.specs.KeptClaims.{SameKept};
 
 use qo_buses::bus_in_slot;
 use qo_heap::{Heap, Oid, Steps};
@@ -83,6 +83,7 @@ pub fn start<L: Ledger>(
     ensures names { KeepsNames heap.old heap.new }
     ensures pins { pins_in heap.new.rows ≡ pins_in heap.old.rows }
     ensures pinned { pins_of heap.new device.birth ≡ pins_of heap.old device.birth }
+    ensures path { option_and_then (λ c. c.kept_path) (content_of heap.new device.birth) ≡ Some path }
     ensures kept { SameKept heap.old heap.new }
 {
     realize(heap, device, steps);

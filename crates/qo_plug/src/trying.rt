@@ -9,6 +9,7 @@ ghost use Rattle.qo_sound.specs.TreeKept.{SoundTree};
 ghost use Rattle.qo_table.specs.Rows.{IsLive};
 ghost use Rattle.qo_heap.specs.Board.{Shows};
 ghost use Rattle.qo_properties.specs.Claims.{KeepsBook};
+ghost use Rattle.qo_properties.specs.KeptClaims.{KeptOrNew};
 ghost use Rattle.qo_plug.specs.Drafts.{CutShort, Grows, Makes};
 ghost use Rattle.qo_plug.specs.FurtherDrafts.{FurtherFell, further_made};
 
@@ -58,6 +59,7 @@ pub(crate) fn attempt<L: Ledger>(
     ensures ok { OnOk result ((b : Board) (bus stage : ℕ) → Shows b heap.old → SoundTree b → (stage == 8) ≡ false → Shows (plug_attempt b kind bus stage) heap.new) }
     ensures err { OnErr result ((b : Board) → Shows b heap.old → SoundTree b → CutShort b kind heap.new) }
     ensures book { KeepsBook heap.old heap.new }
+    ensures kept { KeptOrNew heap.old heap.new }
 {
     heap.facts();
     let device = create(heap, alloc, kind, steps)?;

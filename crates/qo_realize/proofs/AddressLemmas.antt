@@ -1,5 +1,5 @@
 -- The address of a device that stands in its place is the one at which it is found.
-use Rattle.std.proofs.Common.{◌≡◌, refl, ap, sym, subst, ◌∙◌, rules, ℕ, zero, suc, ◌+◌, ◌≤◌, ◌<◌, ◌==◌, Bool, true, false, not, ◌&&◌, eqb, if◌then◌else◌, List, [], ◌∷◌, ◌++◌, find, filter_map, codes, Option, Some, None, option_map, arith, inl, inr}
+use Rattle.std.proofs.Common.{◌≡◌, refl, ap, sym, subst, ◌∙◌, rules, ℕ, zero, suc, ◌+◌, ◌≤◌, ◌<◌, ◌==◌, Bool, true, false, not, ◌&&◌, eqb, if◌then◌else◌, List, [], ◌∷◌, ◌++◌, filter_map, codes, Option, Some, None, option_map, arith}
 use Rattle.std.specs.Prelude.{option_and_then, unwrap_or}
 use Rattle.std.specs.Bool.{⊤}
 use Rattle.std.specs.List.{AllByRecursion, IsDistinct, list_any}
@@ -17,7 +17,7 @@ use Rattle.qo_values.proofs.PlacingLemmas.{least-passes}
 use Rattle.qo_guest.specs.declared.addresses.Addr.TheVariants.{Slots, Mem}
 use Rattle.qo_guest.specs.declared.addresses.TheConstants.{STEPS_MAX}
 use Rattle.qo_buses.specs.Addresses.{addressed}
-use Rattle.qo_model.specs.Board.{Board, Record, Slot, plain, child, strong, weak, alias, kind_of, record_of, slots_at}
+use Rattle.qo_model.specs.Board.{Board, Record, Slot, plain, child, strong, weak, alias, kind_of, record_of}
 use Rattle.qo_model.specs.Depth.{among}
 use Rattle.qo_model.specs.Devices.{bridge_of, bus_in, bus_of, clock_name, first_bus, found_at, kid_at}
 use Rattle.qo_model.specs.Opening.{opening_board}
@@ -28,19 +28,19 @@ use Rattle.qo_model.specs.Types.{is_a, slots_of, types}
 use Rattle.qo_model.specs.declared.properties.Property.{Property}
 use Rattle.qo_model.specs.declared.properties.PropertyRole.{PropertyRole}
 use Rattle.qo_model.specs.declared.properties.PropertyRole.TheVariants as row
-use Rattle.qo_sound.proofs.FirmBoardLemmas.{Firm, HasNames}
+use Rattle.qo_sound.proofs.FirmBoardLemmas.{HasNames}
 use Rattle.qo_sound.proofs.SearchLemmas.{all-found}
 use Rattle.qo_sound.proofs.SlotLemmas.{names_in}
 use Rattle.qo_sound_devices.specs.DeviceFacts.{IsOnBus}
 use Rattle.qo_sound_devices.specs.SoundDevices.{SoundDevices}
-use Rattle.qo_sound_devices.specs.SoundPlaces.{HasOwner, bridges, child_entries, child_entry, listed, machines, owns, owns_it, stands, suits}
+use Rattle.qo_sound_devices.specs.SoundPlaces.{HasOwner, bridges, child_entries, child_entry, machines, owns, owns_it, stands}
 use Rattle.qo_sound_devices.proofs.AttachmentLemmas.{owns-listed, parent-is}
 use Rattle.qo_sound_devices.proofs.FactLemmas.{devices_say_lem}
 use Rattle.qo_sound_devices.proofs.LocationLemmas.{machine-no_device}
 use Rattle.qo_sound_devices.proofs.PlugLemmas.{stands-device}
 use Rattle.qo_sound_phases.proofs.ReachLemmas.{machines-listed}
 use Rattle.qo_sound_phases.proofs.ResetTreeLemmas.{Placed, placed}
-use Rattle.qo_sound_shapes.specs.SoundShape.{HasRole, HasSlots, IsFurther, IsOfProperty, SoundShape, is_child_role}
+use Rattle.qo_sound_shapes.specs.SoundShape.{HasRole, HasSlots, IsFurther, is_child_role}
 use Rattle.qo_sound_shapes.proofs.RowLemmas.{has-all}
 use Rattle.qo_realize.specs.Addresses.{AddressLaw}
 use Rattle.qo_realize.specs.Guest.{above, address_of, is_in_slot, slot_in, slot_of, slots_to}

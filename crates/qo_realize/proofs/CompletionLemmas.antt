@@ -17,6 +17,15 @@ use Rattle.qo_sound_clocks.specs.SoundClocks.{SoundClocks}
 use Rattle.qo_unplug.specs.BoardParts.{Beside}
 use Rattle.qo_unplug.proofs.MomentLemmas.{times-timely}
 use Rattle.qo_realize.specs.SoundBoard.{SoundBoard}
+use Rattle.qo_kinds.specs.declared.kept_set.KeptSet.{KeptSet}
+use Rattle.qo_model.proofs.AmongLemmas.{among-all}
+use Rattle.qo_sound_claims.proofs.StayLawLemmas.{claims_stay_lem}
+use Rattle.qo_sound_devices.specs.SoundLists.{IsOn}
+use Rattle.qo_sound_devices.specs.SoundPlaces.{stands}
+use Rattle.qo_unplug.specs.RealizedClaims.{KeepsDue}
+use Rattle.qo_realize.specs.BoardClaims.{KeepsClaims, claims_due}
+use Rattle.qo_realize.proofs.ClaimsLemmas.{all-claims}
+use Rattle.qo_realize.proofs.DueLemmas.{stay-due}
 use Rattle.qo_realize.specs.Parts.{Parts, parts_of}
 use Rattle.qo_realize.specs.Representation.{Stands, StandsForGood}
 use Rattle.qo_realize.proofs.GoodBoardLemmas.{completed-good, good-pinned}
@@ -56,3 +65,17 @@ completed-sound n rings anonymous running held holds old new v w pending (b, s, 
     let stands : Stands (completed b n) (parts_of rings anonymous running holds new w) = completed-stands b n rings anonymous running held holds old new v w s
     (detaches b good.run.devices.tree good.run.clocks (is_beside b rings anonymous running held old v s)) keeps in
     good-pinned (completed b n) (parts_of rings anonymous running holds new w) stands after
+
+-- it keeps no claim any more, and the others theirs
+pub completed-claims : (n : ℕ) (rings : List Ring) (anonymous : ℕ) (running : Bool) (held holds : HoldList) (old new : Asked) (v w : Objects)
+    → among old.pending n ≡ true → StandsForGood (parts_of rings anonymous running held old v)
+    → ((b : Board) → SoundTree b → SoundClocks b → Beside b v held.births old → Beside (detach b n) w holds.births new)
+    → ((b : Board) → SoundTree b → SoundClocks b → Beside b v held.births old → (due : ℕ → KeptSet) → KeepsDue due b v → KeepsDue due (detach b n) w)
+    → KeepsClaims v → KeepsClaims w
+completed-claims n rings anonymous running held holds old new v w pending (b, s, good) detaches claims h =
+    let beside : Beside b v held.births old = is_beside b rings anonymous running held old v s in
+    let on : stands b n ≡ true =
+    (among-all (IsOn b) b.pending good.run.devices.lists.pending n (ap (λ (ns : List ℕ). among ns n) s.pending ∙ pending)).0 in
+    all-claims (detach b n) w (detaches b good.run.devices.tree good.run.clocks beside).shown
+    (stay-due b (detach b n) w (claims_stay_lem.detached b n good.run.devices on good.backends)
+    (claims b good.run.devices.tree good.run.clocks beside (claims_due b) (h b s.shows)))

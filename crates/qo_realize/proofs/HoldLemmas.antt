@@ -22,6 +22,12 @@ use Rattle.qo_sound.proofs.DeviceScopeLemmas.{devices_stay_lem}
 use Rattle.qo_sound.proofs.TargetLemmas.{resolved-of}
 use Rattle.qo_realize.specs.Answers.{Changes, IsAnswered}
 use Rattle.qo_realize.specs.SoundBoard.{SoundBoard}
+use Rattle.qo_sound_claims.specs.ClaimsStay.{ClaimsKeep}
+use Rattle.qo_sound_claims.proofs.StayLawLemmas.{claims_stay_lem}
+use Rattle.qo_properties.proofs.ActsKept.{acts-kept}
+use Rattle.qo_properties.proofs.KeptLemmas.{before-same}
+use Rattle.qo_realize.specs.BoardClaims.{KeepsClaims}
+use Rattle.qo_realize.proofs.ClaimsLemmas.{same-claims, step-claims}
 use Rattle.qo_realize.specs.Parts.{Parts, parts_of}
 use Rattle.qo_realize.specs.Resets.{Releases, Resets, at_path, held_at, held_of, released_at, released_of, resettable_at}
 use Rattle.qo_realize.specs.Representation.{Stands, StandsForGood}
@@ -148,6 +154,25 @@ module _ (rings : List Ring) (anonymous : ℕ) (running : Bool) (old new : HoldL
       → Resets b (held_at b path) result new.births w)
       → OnErr result ((w ≡ v) × (new.births ≡ old.births)) → OnlyRootPinned w × StandsForGood after
   hold-keeps path result (b, s, good) h same = hold-good b path result good (hold-changes b path result s (h b (s.shows, s.holds)) same)
+
+  pub hold-claims : (path : List ℕ) (result : Result Unit Refusal) → StandsForGood before → Acts v w → ((b : Board) → Holds b old.births v
+      → Resets b (held_at b path) result new.births w)
+      → OnErr result ((w ≡ v) × (new.births ≡ old.births)) → KeepsClaims v → KeepsClaims w
+  hold-claims path (Ok u) (b, s, good) acts h same =
+      step-claims b (held_at b path).board v w s.shows (h b (s.shows, s.holds)).1.0
+      (held_at-all (ClaimsKeep b) b path (claims_stay_lem.beside b b refl) (λ n is home deep. claims_stay_lem.held_so b n good.run.devices))
+      (before-same v w (acts-kept v w acts))
+  hold-claims path (Err (Refused code)) (b, s, good) acts h same = same-claims v w same.0
+  hold-claims path (Err Memory) (b, s, good) acts h same = same-claims v w same.0
+
+  pub release-claims : (path : List ℕ) (result : Result Unit Code) → StandsForGood before → Acts v w → ((b : Board) → Holds b old.births v
+      → Releases b (released_at b path) result new.births w)
+      → OnErr result ((w ≡ v) × (new.births ≡ old.births)) → KeepsClaims v → KeepsClaims w
+  release-claims path (Ok u) (b, s, good) acts h same =
+      step-claims b (released_at b path).board v w s.shows (h b (s.shows, s.holds)).1.0
+      (released_at-all (ClaimsKeep b) b path (claims_stay_lem.beside b b refl) (λ n. claims_stay_lem.released_so b n good.run.devices))
+      (before-same v w (acts-kept v w acts))
+  release-claims path (Err code) (b, s, good) acts h same = same-claims v w same.0
 
   pub release-keeps : (path : List ℕ) (result : Result Unit Code) → StandsForGood before → ((b : Board) → Holds b old.births v
       → Releases b (released_at b path) result new.births w)

@@ -1,7 +1,9 @@
 pub mod AddressLemmas
 pub mod RemovalLemmas
 pub mod ChardevLemmas
+pub mod ClaimsLemmas
 pub mod CompletionLemmas
+pub mod DueLemmas
 pub mod DeviceLemmas
 pub mod GuestLemmas
 pub mod HoldLemmas

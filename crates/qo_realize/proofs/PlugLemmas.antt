@@ -11,6 +11,7 @@ use Rattle.qo_model.specs.Types.{TypeInfo, type_named}
 use Rattle.qo_model.specs.Types as rows
 use Rattle.qo_heap.specs.Board.{Shows}
 use Rattle.qo_heap.specs.Objects.{Objects}
+use Rattle.qo_plug.proofs.AddLemmas.{shows-path}
 use Rattle.qo_plug.specs.Admission.{IfRefused}
 use Rattle.qo_plug.specs.Answers.{IsAdded, IsCut, IsRefused, IsShown}
 use Rattle.qo_plug.specs.Drafts.{CutShort}
@@ -131,7 +132,7 @@ pub added-stands : (b : Board) (a : Wanted) (rings : List Ring) (anonymous next 
     → Plugs b a (Ok d) (parts_of rings next running holds new w)
 added-stands b a rings anonymous next running holds old new v w d s came is keeps =
     let count = taken-anonymous b a came.refusal ∙ ap (λ (n : ℕ). counts n a.id) s.anonymous ∙ sym is in
-    let told : IsTold b a d w = record { birth = came.birth; slot = came.slot; kept = came.kept } in
+    let told : IsTold b a d w = record { birth = came.birth; slot = came.slot; path = shows-path (plug b a).board w came.shown d.birth ∙ came.path; kept = came.kept } in
     (came.refusal, came-stands b a rings anonymous next running holds old new v w d s came count keeps, told)
 
 -- an attempt that was cut is that of these words

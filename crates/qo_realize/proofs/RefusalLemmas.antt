@@ -55,6 +55,14 @@ refused-shows b v w n spare s is = go (content_of v n) refl
         let same : Some (told_refused v spare c) ≡ Some w = sym (ap (option_map (told_refused v spare)) there) ∙ is in
         subst (Shows (refused b n)) (same_Some (told_refused v spare c) w same) (refused-shown b v n spare c s there)
 
+-- no row changes
+pub refused-rows : (v w : Objects) (n spare : ℕ) → option_map (told_refused v spare) (content_of v n) ≡ Some w → w.rows ≡ v.rows
+refused-rows v w n spare is = go (content_of v n) is
+  where
+    go : (o : Option Content) → option_map (told_refused v spare) o ≡ Some w → w.rows ≡ v.rows
+    go None e = absurd (let clash : None ≡ Some w = e in cc)
+    go (Some c) e = ap (λ (x : Objects). x.rows) (sym (same_Some (told_refused v spare c) w e))
+
 pub refused-asked : (b : Board) (n : ℕ) (h : Asked) → IsAsked b h → IsAsked (refused b n) (hotplug.refused n h)
 refused-asked b n h a = record { pending = ap (without_all n) a.pending; notices = ap (filter (λ (x : Notice). x.plug || not (x.birth == n))) a.notices }
 

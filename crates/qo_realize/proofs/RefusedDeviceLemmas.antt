@@ -1,5 +1,5 @@
 -- The law: a device that is refused, given up or cut leaves the board as it was.
-use Rattle.std.proofs.Common.{◌≡◌, refl, ap, sym, subst, arith, ◌∙◌, ℕ, suc, ◌+◌, ◌≤◌, ◌==◌, Bool, true, false, List, [], ◌∷◌, ◌++◌, length, append_assoc, Option, None, Some, Result, Ok, Err, ◌⊎◌, inl, inr, ◌&&◌, nat_le, if◌then◌else◌, not, leb, codes}
+use Rattle.std.proofs.Common.{◌≡◌, refl, sym, arith, ◌∙◌, ℕ, suc, ◌+◌, ◌==◌, Bool, true, false, List, [], ◌++◌, append_assoc, Option, None, Some, Err, ◌⊎◌, inl, inr, if◌then◌else◌}
 use Rattle.std.proofs.lemmas.List.{append-nil}
 use Rattle.std.specs.Option.{option_map_or}
 use Rattle.qo_values.specs.declared.codes.Code.{Code}

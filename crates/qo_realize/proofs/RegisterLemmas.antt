@@ -1,6 +1,7 @@
 -- The registers of a device as the guest reads and writes them: what the heap's body has is the board's, and what stands after a write.
-use Rattle.std.proofs.Common.{◌≡◌, refl, ap, ap₂, sym, subst, ◌∙◌, ℕ, Bool, List, [], count_by, Option, None, Some, IfNone, IfSome, is_some, option_map, arith}
+use Rattle.std.proofs.Common.{◌≡◌, refl, ap, ap₂, sym, subst, ◌∙◌, ℕ, Bool, true, false, eqb, List, [], count_by, Option, None, Some, IfNone, IfSome, is_some, option_map, arith}
 use Rattle.std.specs.Option.{option_map_or}
+use Rattle.std.proofs.lemmas.Bool.{eqb-true}
 use Rattle.std.proofs.lemmas.Option.{same_Some}
 use Rattle.qo_values.specs.Bodies.{Effect, body_write}
 use Rattle.qo_values.specs.Bodies as effect
@@ -8,6 +9,7 @@ use Rattle.qo_values.specs.Registers.{Registers, bare}
 use Rattle.qo_backends.specs.Rings.{claimed_ring}
 use Rattle.qo_kinds.specs.Bodies.{IsTimely, kept_of, registers_of}
 use Rattle.qo_kinds.specs.declared.bodies.Body.{Body}
+use Rattle.qo_kinds.specs.declared.kept_set.KeptSet.{KeptSet}
 use Rattle.qo_kinds.specs.declared.bodies.Body.TheVariants.{Uart, Timer, Dimm, Bridge, Bus, Clock, Backend, Plain}
 use Rattle.qo_kinds.specs.declared.bodies.Effect as told
 use Rattle.qo_slots.specs.declared.keys.Key.{Key}
@@ -24,10 +26,11 @@ use Rattle.qo_heap.specs.Objects.{IsHeap, Objects, content_of, with_edit}
 use Rattle.qo_heap.proofs.BookLemmas.{book-put}
 use Rattle.qo_heap.proofs.HeapLemmas.{edit-is, edit-same, live-edit}
 use Rattle.qo_heap.proofs.BoardEdits.{shows-edit}
-use Rattle.qo_heap.proofs.BoardObjects.{live-content}
+use Rattle.qo_heap.proofs.BoardObjects.{content-edited, content-other, live-content}
 use Rattle.qo_heap.proofs.BoardReads.{shows-record}
 use Rattle.qo_hotplug.specs.Hotplug.{Asked}
 use Rattle.qo_properties.specs.Claims.{KeepsBook}
+use Rattle.qo_properties.specs.KeptClaims.{KeptBefore, kept_by}
 use Rattle.qo_properties.specs.Pins.{OnlyRootPinned}
 use Rattle.qo_registers.specs.Effects.{shown_effect}
 use Rattle.qo_reset.specs.HoldList.{HoldList}
@@ -36,10 +39,12 @@ use Rattle.qo_sound.proofs.DeviceScopeLemmas.{devices_stay_lem}
 use Rattle.qo_sound_clocks.specs.RegisterWrites.{registers_set, with_registers}
 use Rattle.qo_sound_clocks.specs.SoundTimes as boards
 use Rattle.qo_sound_clocks.proofs.TimesLemmas.{times_kept_lem}
+use Rattle.qo_realize.specs.BoardClaims.{KeepsClaims}
 use Rattle.qo_realize.specs.Parts.{Parts, parts_of}
 use Rattle.qo_realize.specs.Registers.{GuestWrites, HasWritten, IsHeld, Written, after_effect, guest_written, registers_at, registers_written}
 use Rattle.qo_realize.specs.Representation.{Stands, StandsForGood}
 use Rattle.qo_realize.proofs.GoodBoardLemmas.{good-pinned, written-good}
+use Rattle.qo_realize.proofs.ClaimsLemmas.{guest-keep, same-claims, step-claims}
 use Rattle.qo_realize.proofs.RegisterWriteLemmas.{WriteLeaves, written-leaves}
 
 -- the body of an object that is there
@@ -131,6 +136,24 @@ put-book v good o old new live is kept out h =
     omega (arith, times, none))
     h
 
+-- each body keeps the claims that it kept
+pub put-kept : (v : Objects) (o : Key) (old new : Body) → IsLive v.rows o → option_map (λ (c : Content). c.body) (content_of v o.birth) ≡ Some old
+    → kept_of new ≡ kept_of old → KeptBefore v (with_edit o.birth (put new) v)
+put-kept v o old new live is kept n k e = go (eqb n o.birth) refl
+  where
+    held : Option Content → Option KeptSet
+    held x = option_map (λ (c : Content). kept_of c.body) x
+
+    go : (t : Bool) → eqb n o.birth ≡ t → kept_by v n ≡ Some k
+    go false p = ap held (sym (content-other v o.birth n (put new) p)) ∙ e
+    go true p =
+        let (c, there, same) = body-there v o old live is in
+        let own : n ≡ o.birth = eqb-true n o.birth p in
+        let now : held (content_of (with_edit o.birth (put new) v) o.birth) ≡ Some (kept_of new) =
+        ap held (content-edited v o.birth (put new) ∙ ap (option_map (put new)) there) in
+        let is_now : Some (kept_of new) ≡ Some k = sym now ∙ sym (ap (kept_by (with_edit o.birth (put new) v)) own) ∙ e in
+        ap (kept_by v) own ∙ ap held there ∙ ap (λ (b : Body). Some (kept_of b)) same ∙ sym (ap Some kept) ∙ is_now
+
 -- a write of what is there leaves all
 pub put-none : (v : Objects) → IsHeap v → (o : Key) (old new : Body) → IsLive v.rows o → option_map (λ (c : Content). c.body) (content_of v o.birth) ≡ Some old
     → (result : Option told.Effect) → IfNone result (new ≡ old) → IfNone result (with_edit o.birth (put new) v ≡ v)
@@ -196,6 +219,14 @@ module _ (rings others : List Ring) (anonymous : ℕ) (running : Bool) (old new 
       → GuestWrites (guest_written b d reg value) result after
   write-stands b (Some u) s (c, is, held) = (c, is, written-stands b c s (written-leaves b d reg value c is) held)
   write-stands b None s is = is
+
+  pub write-claims : (result : Option (Unit {0})) → StandsForGood before
+      → ((b : Board) → IsHeld b old.births rings v → ClocksFit b → Written (guest_written b d reg value) result new.births others w)
+      → IfNone result ((w ≡ v) × (new.births ≡ old.births) × (others ≡ rings)) → KeptBefore v w → KeepsClaims v → KeepsClaims w
+  write-claims None (b, s, good) h same kept claims = same-claims v w same.0 claims
+  write-claims (Some u) (b, s, good) h same kept claims =
+      let (c, is, held) = h b (record { held = (s.shows, s.holds); rings_are = s.rings }) good.run.clocks.fit in
+      step-claims b c v w s.shows held.held.0 (guest-keep b d reg value c is good.run.devices) kept claims
 
   pub write-keeps : (result : Option (Unit {0})) → StandsForGood before
       → ((b : Board) → IsHeld b old.births rings v → ClocksFit b → Written (guest_written b d reg value) result new.births others w)

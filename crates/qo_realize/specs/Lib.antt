@@ -1,5 +1,6 @@
 pub mod Addresses
 pub mod Answers
+pub mod BoardClaims
 pub mod Chardevs
 pub mod Guest
 pub mod Parts

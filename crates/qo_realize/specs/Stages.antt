@@ -5,6 +5,8 @@ use Rattle.qo_model.specs.Board.{Board}
 use Rattle.qo_model.specs.Plug.{Wanted, plug, plug_attempt}
 use Rattle.qo_heap.specs.Objects.{Objects}
 use Rattle.qo_properties.specs.Claims.{KeepsBook}
+use Rattle.qo_properties.specs.KeptClaims.{KeptOrNew}
+use Rattle.qo_plug.specs.KeptClaims.{KeptSoFar}
 use Rattle.qo_plug.specs.Stages.{IsBegun, IsSettled}
 use Rattle.qo_plug.specs.declared.adding.Added.{Added}
 use Rattle.qo_plug.specs.declared.beginning.Begun.{Begun}
@@ -12,6 +14,7 @@ use Rattle.qo_plug.specs.declared.placing.Placed.{Placed}
 use Rattle.qo_plug.specs.declared.refusals.AddRefusal.{AddRefusal}
 use Rattle.qo_plug.specs.declared.refusals.AddRefusal.TheVariants.{Refused, Memory}
 use Rattle.qo_realize.specs.Answers.{Plugs}
+use Rattle.qo_realize.specs.BoardClaims.{KeepsClaims}
 use Rattle.qo_realize.specs.SoundBoard.{SoundBoard}
 use Rattle.qo_realize.specs.Parts.{Parts, counts}
 use Rattle.qo_realize.specs.Representation.{Stands}
@@ -35,16 +38,19 @@ pub record Since (b : Board) (a : Wanted) (p : Parts) (next : ℕ) : Type 0 wher
   pub book : KeepsBook before p.objects
   pub good : SoundBoard b
   pub counted : next ≡ counts b.anonymous a.id
+  pub claims : KeepsClaims before
 
 -- on a board a device was begun as it was asked for, or placed: nothing of the stages so far refuses it
 pub record IsDrafted (b : Board) (a : Wanted) (d : Drafting) : Type 0 where
   pub since : Since b a d.parts d.next
   pub begun : IsBegun b a d.begun d.parts.objects
+  pub kept : KeptOrNew since.before d.parts.objects
   pub passed : IfSome (plug b a).refusal (λ refusal. 4 < refusal.0)
 
 pub record IsPlugged (b : Board) (a : Wanted) (p : Plugging) : Type 0 where
   pub since : Since b a p.parts p.next
   pub settled : IsSettled b a p.placed p.parts.objects
+  pub kept : KeptSoFar p.placed.device.birth p.placed.way since.before p.parts.objects
   pub passed : IfSome (plug b a).refusal (λ refusal. 7 < refusal.0)
 
 abbrev pub DraftOfGood : Drafting → Type 0

@@ -29,7 +29,8 @@ use std::sync::ledger::Ledger;
 /// The board: the objects of the machine, and what stands beside them. Between two calls nothing
 /// holds the objects from outside the tree but the one pin of the root, and the board is sound as a
 /// whole: its tree, the places of devices and the lists that name them, clocks and timers, shapes,
-/// owners, rings, claims, holds and limits.
+/// owners, rings, claims, holds and limits. The body of each object keeps the claims that its slots say
+/// while it is realized, and none otherwise.
 #[derive(Drop)]
 pub struct Board {
     pub(crate) heap: Heap,
@@ -42,6 +43,7 @@ pub struct Board {
 
 impl Model for Board {
     ghost use Rattle.qo_properties.specs.Pins.{OnlyRootPinned};
+    ghost use Rattle.qo_realize.specs.BoardClaims.{KeepsClaims};
     ghost use Rattle.qo_realize.specs.Parts.{Parts, parts_of};
     ghost use Rattle.qo_realize.specs.Representation.{StandsForGood};
 
@@ -49,7 +51,7 @@ impl Model for Board {
 
     ghost view = { λ b. parts_of b.rings b.anonymous b.running b.resets b.hotplug b.heap };
 
-    ghost invariant = { λ b. OnlyRootPinned b.heap × StandsForGood (parts_of b.rings b.anonymous b.running b.resets b.hotplug b.heap) };
+    ghost invariant = { λ b. OnlyRootPinned b.heap × StandsForGood (parts_of b.rings b.anonymous b.running b.resets b.hotplug b.heap) × KeepsClaims b.heap };
 }
 
 /// How many devices without an id there are after the add of one, with an id or without; `None` where
@@ -96,6 +98,7 @@ impl Board {
     ghost use Rattle.qo_object.specs.BoardObject.{birth_of};
     ghost use Rattle.qo_plug.specs.Admission.{as_wanted};
     ghost use Rattle.qo_realize.specs.Answers.{Adds, IsAnswered, Plugs, Writes};
+    ghost use Rattle.qo_realize.specs.BoardClaims.{KeepsClaims};
     ghost use Rattle.qo_realize.specs.Guest.{address_of, first_notice, polled};
     ghost use Rattle.qo_realize.specs.Representation.{Stands, StandsForGood};
     ghost use Rattle.qo_sound_devices.specs.SoundPlaces.{stands};
@@ -119,9 +122,11 @@ impl Board {
         })
     }
 
-    /// What it stands for: there is a board that stands at it, and it is sound.
+    /// What it stands for: there is a board that stands at it, and it is sound; and each body keeps the claims
+    /// of its object while that is realized, and none otherwise.
     pub fn shown(&self)
-        ensures { StandsForGood self.now }
+        ensures stands { StandsForGood self.now }
+        ensures claims { KeepsClaims self.now.objects }
     {
         let _heap = &self.heap;
     }

@@ -9,6 +9,7 @@ ghost use Rattle.qo_table.specs.Rows.{IsLive};
 ghost use Rattle.qo_heap.specs.Board.{Shows};
 ghost use Rattle.qo_heap.specs.Objects.{content_of};
 ghost use Rattle.qo_properties.specs.Claims.{KeepsBook};
+ghost use Rattle.qo_properties.specs.KeptClaims.{KeptBefore};
 ghost use Rattle.qo_registers.specs.Effects.{shown_effect};
 ghost use Rattle.qo_backends.specs.Rings.{claimed_ring};
 ghost use Rattle.qo_realize.specs.Registers.{GuestWrites, HasWritten, IsHeld, Written, after_effect, guest_read, guest_written, registers_written};
@@ -46,6 +47,7 @@ fn write_register<L: Ledger>(
     requires timely { IfSome (content_of heap.old dev.birth) (λ c. IsTimely heap.old.time c.body) }
     ensures written { (b : Tree) → Shows b heap.old → ClocksFit b → HasWritten b dev.birth (registers_written b dev.birth reg value) result heap.new }
     ensures book { KeepsBook heap.old heap.new }
+    ensures kept { KeptBefore heap.old heap.new }
     ensures live { IsLive heap.new.rows dev }
     ensures absent { IfNone result (heap.new ≡ heap.old) }
 {
@@ -71,6 +73,7 @@ fn pulse_bus<L: Ledger>(heap: &mut Heap, resets: &mut Resets, dev: Oid, steps: &
     requires { IsLive heap.old.rows dev }
     ensures shown { (b : Tree) → (rings : List Ring) → IsHeld b resets.old.births rings heap.old → IsHeld (after_effect dev.birth bodies.pulse b) resets.new.births rings heap.new }
     ensures book { KeepsBook heap.old heap.new }
+    ensures kept { KeptBefore heap.old heap.new }
 {
     if let Some(bus) = first_bus(heap, dev, steps) {
         resets.pulse(heap, bus, steps);
@@ -90,6 +93,7 @@ fn do_beside<L: Ledger>(
     requires { IsLive heap.old.rows dev }
     ensures shown { (b : Tree) → IsHeld b resets.old.births rings.old heap.old → IsHeld (after_effect dev.birth (shown_effect effect) b) resets.new.births rings.new heap.new }
     ensures book { KeepsBook heap.old heap.new }
+    ensures kept { KeptBefore heap.old heap.new }
 {
     match effect {
         Effect::Nothing => {}
@@ -113,6 +117,7 @@ fn write_through<L: Ledger>(
     requires timely { IfSome (content_of heap.old dev.birth) (λ c. IsTimely heap.old.time c.body) }
     ensures written { (b : Tree) → IsHeld b resets.old.births rings.old heap.old → ClocksFit b → Written (guest_written b dev.birth reg value) result resets.new.births rings.new heap.new }
     ensures book { KeepsBook heap.old heap.new }
+    ensures kept { KeptBefore heap.old heap.new }
     ensures absent { IfNone result ((heap.new ≡ heap.old) × (resets.new.births ≡ resets.old.births) × (rings.new ≡ rings.old)) }
 {
     let effect = write_register(heap, dev, reg, value, steps)?;

@@ -94,6 +94,7 @@ pub fn refuse<L: Ledger>(
     requires pending { among hotplug.old.pending dev.birth ≡ true }
     ensures refused { OnOk result ((b : Board) → Shows b heap.old → IsAsked b hotplug.old → Shows (refused b dev.birth) heap.new × IsAsked (refused b dev.birth) hotplug.new) }
     ensures book { KeepsBook heap.old heap.new }
+    ensures rows { heap.new.rows ≡ heap.old.rows }
     ensures err { OnErr result ((heap.new ≡ heap.old) × (hotplug.new ≡ hotplug.old)) }
 {
     heap.refused(alloc, dev, steps)?;

@@ -9,7 +9,7 @@ use Rattle.qo_object.specs.Content.{Content}
 use Rattle.qo_heap.specs.Objects.{Objects, content_of, with_edit}
 use Rattle.qo_heap.proofs.BoardObjects.{content-edited, content-other}
 use Rattle.qo_standing.specs.Placement.{kept_in}
-use Rattle.qo_standing.specs.DeviceClaims.{SameKept, kept_by}
+use Rattle.qo_properties.specs.KeptClaims.{SameKept, kept_by}
 
 -- all bodies are as before
 abbrev pub SameBodies : Objects → Objects → Type 0

@@ -33,7 +33,7 @@ use Rattle.qo_life.proofs.TreeLemmas.{read-content}
 use Rattle.qo_properties.proofs.FillingLemmas.{edit-twice}
 use Rattle.qo_standing.specs.OwnSlots.{is_own, own_slots, own_slots_of}
 use Rattle.qo_standing.specs.Placement.{Alike, IsSeat, Stood, joined_on, kept_in, named, with_book}
-use Rattle.qo_standing.specs.DeviceClaims.{SameKept, kept_by}
+use Rattle.qo_properties.specs.KeptClaims.{SameKept, kept_by}
 use Rattle.qo_standing.proofs.BodyLemmas.{SameBodies, kept-given}
 use Rattle.qo_standing.proofs.PlacementBoards.{kinds-stood, seated-path, source-missing}
 use Rattle.qo_standing.proofs.PlacementFills.{edit-on}

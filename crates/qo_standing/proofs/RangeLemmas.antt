@@ -27,7 +27,7 @@ use Rattle.qo_life.proofs.TreeLemmas.{read-content}
 use Rattle.qo_properties.proofs.FillingLemmas.{edit-twice}
 use Rattle.qo_standing.specs.declared.spots.Memory.{Memory}
 use Rattle.qo_standing.specs.Placement.{Alike, IsDimm, named, range_in, ranged}
-use Rattle.qo_standing.specs.DeviceClaims.{SameKept, kept_by}
+use Rattle.qo_properties.specs.KeptClaims.{SameKept, kept_by}
 use Rattle.qo_standing.proofs.PlacementSteps.{alike-edit}
 
 -- a DIMM stands on its range

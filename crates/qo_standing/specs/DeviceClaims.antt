@@ -1,12 +1,9 @@
 -- For proofs alone. The claims of a device: on its id, if it has one, and those that its body keeps.
-use Rattle.std.specs.Prelude.{◌≡◌, ℕ, List, [], ◌∷◌, ◌++◌, Option, Some, None, option_map}
+use Rattle.std.specs.Prelude.{ℕ, List, [], ◌∷◌, ◌++◌, Option, Some, None, option_map}
 use Rattle.qo_claims.specs.Lists.{bus_slot}
 use Rattle.qo_claims.specs.declared.claims.Claimed.{Claimed}
 use Rattle.qo_claims.specs.declared.claims.Claimed.TheVariants as on
-use Rattle.qo_kinds.specs.Bodies.{kept_of}
 use Rattle.qo_kinds.specs.declared.kept_set.KeptSet.{KeptSet}
-use Rattle.qo_object.specs.Content.{Content}
-use Rattle.qo_heap.specs.Objects.{Objects, content_of}
 use Rattle.qo_standing.specs.declared.claiming.Label.{Label}
 use Rattle.qo_standing.specs.declared.claiming.Taken.{Taken}
 use Rattle.qo_standing.specs.declared.spots.Memory.{Memory}
@@ -21,13 +18,6 @@ kept_on bus s =
       backend = option_map (λ (m : Memory). on.Backend m.backend) s.memory;
       range = option_map (λ (m : Memory). on.Range m.range) s.memory;
     }
-
--- the claims that the body of an object keeps, if it is there; and those of all objects stay
-abbrev pub kept_by : Objects → ℕ → Option KeptSet
-kept_by v n = option_map (λ (c : Content). kept_of c.body) (content_of v n)
-
-abbrev pub SameKept : Objects → Objects → Type 0
-SameKept v w = (n : ℕ) → kept_by w n ≡ kept_by v n
 
 -- the claims that are out
 abbrev pub one_out : Option Claimed → List Claimed

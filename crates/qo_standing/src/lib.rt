@@ -7,4 +7,4 @@ mod spots;
 mod standing;
 
 pub use spots::{Memory, Spot};
-pub use standing::{Seat, stand};
+pub use standing::{DevicePath, Seat, stand};

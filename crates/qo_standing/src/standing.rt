@@ -31,7 +31,8 @@ ghost use Rattle.qo_properties.specs.Filling.{Fits, IsGiven, filled_at, fits_at,
 ghost use Rattle.qo_properties.specs.OpeningSteps.{KeepsNames};
 ghost use Rattle.qo_standing.specs.OwnSlots.{is_own, own_slots_of};
 ghost use Rattle.qo_standing.specs.Placement.{Alike, IsDimm, IsSeat, Stays, Stood, joined_on, kept_in, range_in, ranged, spot_in, with_own};
-ghost use Rattle.qo_standing.specs.DeviceClaims.{SameKept, kept_on, labels_out};
+ghost use Rattle.qo_properties.specs.KeptClaims.{SameKept};
+ghost use Rattle.qo_standing.specs.DeviceClaims.{kept_on, labels_out};
 
 use crate::claiming::{Label, Taken, give_back, keep_claims, keep_label, take_claims};
 use crate::spots::{Memory, Spot};
@@ -264,19 +265,33 @@ fn connect_clock<L: Ledger>(heap: &mut Heap, device: Oid, source: Option<Oid>, s
     }
 }
 
+/// The canonical path of a device, in two texts.
+#[derive(Drop)]
+pub struct DevicePath {
+    /// The one that is kept for the end of the device.
+    pub kept: Text,
+    /// The same, to be told.
+    pub told: Text,
+}
+
 /// The canonical path of a device that stands. A device that has none counts as want of memory.
 fn path_of<L: Ledger>(
     heap: &Heap,
     device: Oid,
     alloc: Global,
     steps: &mut Steps<L>,
-) -> Result<Text, AllocError>
-    ensures { IfOk result (λ path. (b : Board) → Shows b heap.now → canonical b device.birth ≡ Some path) }
+) -> Result<DevicePath, AllocError>
+    ensures path { IfOk result (λ path. (b : Board) → Shows b heap.now → canonical b device.birth ≡ Some path.kept) }
+    ensures told { IfOk result (λ path. path.told ≡ path.kept) }
 {
-    match canonical(heap, device, alloc, steps)? {
-        Some(path) => Ok(Text::from_string(path)),
-        None => Err(AllocError),
-    }
+    let Some(path) = canonical(heap, device, alloc, steps)? else {
+        return Err(AllocError);
+    };
+    let told = String::from_str(alloc, path.as_str())?;
+    Ok(DevicePath {
+        kept: Text::from_string(path),
+        told: Text::from_string(told),
+    })
 }
 
 /// A device joins its bus, under a name there; answers its canonical path. The error is want of
@@ -288,11 +303,12 @@ fn join_to<L: Ledger>(
     link: SlotName,
     alloc: Global,
     steps: &mut Steps<L>,
-) -> Result<Text, AllocError>
+) -> Result<DevicePath, AllocError>
     requires live { IsLive heap.old.rows device }
     requires bus { IsLive heap.old.rows bus }
     ensures now { OnOk result (heap.new ≡ with_edit bus.birth (with_slot link (Link Device true (Some device))) heap.old) }
-    ensures path { IfOk result (λ path. (b : Board) → Shows b heap.new → canonical b device.birth ≡ Some path) }
+    ensures path { IfOk result (λ path. (b : Board) → Shows b heap.new → canonical b device.birth ≡ Some path.kept) }
+    ensures told { IfOk result (λ path. path.told ≡ path.kept) }
     ensures err { OnErr result (heap.new ≡ heap.old) }
 {
     heap.facts();
@@ -316,13 +332,14 @@ fn join<L: Ledger>(
     seat: Seat,
     alloc: Global,
     steps: &mut Steps<L>,
-) -> Result<Text, AllocError>
+) -> Result<DevicePath, AllocError>
     requires live { IsLive heap.old.rows device }
     requires container { IsLive heap.old.rows seat.container }
     requires bus { IsLive heap.old.rows seat.bus }
     requires slot { seat.spot.slot < BUS_SLOTS }
     ensures now { OnOk result (heap.new ≡ joined_on seat.container seat.name seat.bus seat.spot.slot device heap.old) }
-    ensures path { IfOk result (λ path. (b : Board) → Shows b heap.new → canonical b device.birth ≡ Some path) }
+    ensures path { IfOk result (λ path. (b : Board) → Shows b heap.new → canonical b device.birth ≡ Some path.kept) }
+    ensures told { IfOk result (λ path. path.told ≡ path.kept) }
     ensures err { OnErr result (heap.new ≡ heap.old) }
 {
     heap.facts();
@@ -359,7 +376,7 @@ pub fn stand<L: Ledger>(
     plan: Vec<Fill>,
     alloc: Global,
     steps: &mut Steps<L>,
-) -> Result<Text, AllocError>
+) -> Result<DevicePath, AllocError>
     requires live { IsLive heap.old.rows device }
     requires container { IsLive heap.old.rows seat.container }
     requires bus { IsLive heap.old.rows seat.bus }
@@ -369,7 +386,8 @@ pub fn stand<L: Ledger>(
     requires dimm { IfSome seat.spot.memory (λ m. IfSome (content_of heap.old device.birth) (λ c. IsDimm c.body)) }
     requires targets { AllByRecursion (λ f. IfSome (target_in f) (IsLive heap.old.rows)) plan.items }
     requires fits { AllZip Fits plan.items (own_slots_of heap.old device.birth) }
-    ensures stood { IfOk result (λ path. (b c : Board) (a : Wanted) → Shows c heap.old → IsSeat b a seat.container.birth seat.name id → source_for b seat.bus.birth ≡ source_for c seat.bus.birth → AllZip (IsGiven b a.props) plan.items (own_slots_of heap.old device.birth) → Stood b c device.birth a (spot_in seat.bus.birth seat.spot) path heap.new) }
+    ensures stood { IfOk result (λ path. (b c : Board) (a : Wanted) → Shows c heap.old → IsSeat b a seat.container.birth seat.name id → source_for b seat.bus.birth ≡ source_for c seat.bus.birth → AllZip (IsGiven b a.props) plan.items (own_slots_of heap.old device.birth) → Stood b c device.birth a (spot_in seat.bus.birth seat.spot) path.kept heap.new) }
+    ensures told { IfOk result (λ path. path.told ≡ path.kept) }
     ensures room { OnOk result (1 ≤ heap.new.events.spare) }
     ensures err { OnErr result ((b : Board) → Shows b heap.old → Shows b heap.new) }
     ensures names { KeepsNames heap.old heap.new }

@@ -140,7 +140,10 @@ fn staged<L: Ledger>(alloc: Global, blank: Blank) -> Result<bool, AddRefusal>
     let early = board.notes_total() == 12;
     let board = refused_late(board, alloc, &mut steps)?;
     let late = board.events().is_empty();
-    Ok(added.birth == 12 && added.slot == 3 && early && late)
+    let told = added.birth == 12
+        && added.slot == 3
+        && added.path.as_str() == "/machine/peripheral/x";
+    Ok(told && early && late)
 }
 
 #[test]

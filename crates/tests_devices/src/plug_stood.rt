@@ -7,7 +7,7 @@ use qo_hotplug::Hotplug;
 use qo_plug::{make_device, start};
 use qo_properties::{make_all, plan};
 use qo_reset::Resets;
-use qo_standing::{Seat, Spot, stand};
+use qo_standing::{DevicePath, Seat, Spot, stand};
 use qo_values::{ANONYMOUS_BIRTH, PropList, ROOT_BUS_BIRTH, TypeId};
 use std::alloc::{AllocError, Global};
 use std::marker::Brand;
@@ -51,11 +51,14 @@ fn started<L: Ledger>(alloc: Global, blank: Blank) -> Result<bool, AllocError>
         bus,
         spot,
     };
-    let path = stand(&mut heap, device, seat, None, plan, alloc, &mut steps)?;
-    let stands = path.as_str() == "/machine/peripheral-anon/device[0]";
+    let DevicePath { kept, told: same } = stand(
+        &mut heap, device, seat, None, plan, alloc, &mut steps,
+    )?;
+    let path = "/machine/peripheral-anon/device[0]";
+    let stands = kept.as_str() == path && same.as_str() == path;
     let resets = Resets::new(alloc);
     let mut hotplug = Hotplug::new(alloc)?;
-    start(&mut heap, &resets, &mut hotplug, device, path, &mut steps);
+    start(&mut heap, &resets, &mut hotplug, device, kept, &mut steps);
     let told = hotplug.notices().len() == 1;
     Ok(stands && told && is_realized(&heap, device, &mut steps))
 }

@@ -4,9 +4,11 @@ use Rattle.std.proofs.lemmas.Bool.Decides.{nat_tests}
 use Rattle.qo_model.specs.Plug.{Wanted}
 use Rattle.qo_heap.specs.Board.{Shows}
 use Rattle.qo_plug.specs.Admission.{as_wanted}
+use Rattle.qo_plug.specs.KeptClaims.{KeptOrNewBut}
 use Rattle.qo_plug.specs.Stages.{spot_barred}
 use Rattle.qo_plug.proofs.JudgementLemmas.{refused-told}
 use Rattle.qo_plug.proofs.AddLemmas.{cut-late, refused-last, refused-within, spot-refused}
+use Rattle.qo_plug.proofs.KeptLemmas.{far-but, far-new, new-from, new-then, so-far}
 use Rattle.qo_plug.proofs.adding.add.Goals as goal
 
 pub returns-in-Err-clause-memory : goal.returns-in-Err-clause-memory
@@ -89,3 +91,30 @@ returns-in-Err-finish-clause-refused g c = λ b is.
 
 pub returns-in-Err-finish-clause-book : goal.returns-in-Err-finish-clause-book
 returns-in-Err-finish-clause-book g c = λ out h. c.finish.ensures.book out (c.place.ensures.book out (c.make.ensures.book out (c.choose.ensures.book out h)))
+
+pub returns-in-Err-Refused-clause-unkept : goal.returns-in-Err-Refused-clause-unkept
+returns-in-Err-Refused-clause-unkept g c = new-from c.args.heap.now c.choose.new.heap c.turn_down.new.heap c.in-Ok.ensures.same c.turn_down.ensures.kept
+
+pub returns-in-Err-make-clause-unkept : goal.returns-in-Err-make-clause-unkept
+returns-in-Err-make-clause-unkept g c = new-from c.args.heap.now c.choose.new.heap c.make.new.heap c.in-Ok.ensures.same c.make.ensures.kept
+
+pub returns-in-Err-place-clause-unkept : goal.returns-in-Err-place-clause-unkept
+returns-in-Err-place-clause-unkept g c =
+    new-then c.args.heap.now c.make.new.heap c.place.new.heap
+    (new-from c.args.heap.now c.choose.new.heap c.make.new.heap c.in-Ok.ensures.same c.make.ensures.kept) c.in-Err-place.ensures.unkept
+
+pub returns-in-Ok-finish-clause-kept : goal.returns-in-Ok-finish-clause-kept
+returns-in-Ok-finish-clause-kept g c =
+    let placed = c.in-Ok-place.placed in
+    let before = new-from c.args.heap.now c.choose.new.heap c.make.new.heap c.in-Ok.ensures.same c.make.ensures.kept in
+    subst (λ (n : ℕ). KeptOrNewBut n c.args.heap.now c.finish.new.heap) (sym c.in-Ok-finish.ensures.device)
+    (far-but c.args.heap.now c.place.new.heap c.finish.new.heap placed.device.birth placed.way
+    (so-far c.args.heap.now c.make.new.heap c.place.new.heap placed.device.birth placed.way before c.in-Ok-place.ensures.kept) c.finish.ensures.kept)
+
+pub returns-in-Err-finish-clause-unkept : goal.returns-in-Err-finish-clause-unkept
+returns-in-Err-finish-clause-unkept g c =
+    let placed = c.in-Ok-place.placed in
+    let before = new-from c.args.heap.now c.choose.new.heap c.make.new.heap c.in-Ok.ensures.same c.make.ensures.kept in
+    far-new c.args.heap.now c.place.new.heap c.finish.new.heap placed.device.birth placed.way
+    (so-far c.args.heap.now c.make.new.heap c.place.new.heap placed.device.birth placed.way before c.in-Ok-place.ensures.kept) c.in-Err-finish.ensures.full
+    c.finish.ensures.kept

@@ -7,6 +7,8 @@ use Rattle.qo_heap.proofs.ActsLemmas.{acts-book}
 use Rattle.qo_heap.proofs.ActsReads.{acts-pins_of}
 use Rattle.qo_plug.specs.Attempts.{passed_on}
 use Rattle.qo_plug.proofs.AttemptLemmas.{leaves-live, passed-leaves, refused-late}
+use Rattle.qo_properties.proofs.ActsKept.{acts-kept}
+use Rattle.qo_properties.proofs.KeptLemmas.{before-same, before-then, goes-kept}
 use Rattle.qo_plug.proofs.attempting.refuse.Goals as goal
 
 pub drop_pin-requires-clause-live : goal.drop_pin-requires-clause-live
@@ -31,3 +33,10 @@ pub returns-clause-book : goal.returns-clause-book
 returns-clause-book g c = λ out h.
     c.drop_pin.ensures.goes.book out
     (acts-book out c.args.heap.now c.pass.new.heap (passed-leaves c.args.out c.args.device.birth c.args.heap.now c.pass.new.heap c.pass.ensures).acts h)
+
+pub returns-clause-kept : goal.returns-clause-kept
+returns-clause-kept g c =
+    before-then c.args.heap.now c.pass.new.heap c.drop_pin.new.heap
+    (before-same c.args.heap.now c.pass.new.heap
+    (acts-kept c.args.heap.now c.pass.new.heap (passed-leaves c.args.out c.args.device.birth c.args.heap.now c.pass.new.heap c.pass.ensures).acts))
+    (goes-kept c.pass.new.heap c.drop_pin.new.heap c.drop_pin.ensures.goes)

@@ -4,6 +4,7 @@ use Rattle.qo_model.specs.Plug.{Wanted}
 use Rattle.qo_heap.specs.Board.{Shows}
 use Rattle.qo_plug.specs.Admission.{as_wanted}
 use Rattle.qo_plug.proofs.AddLemmas.{cut-late}
+use Rattle.qo_plug.proofs.KeptLemmas.{new-from}
 use Rattle.qo_plug.proofs.beginning.begin.Goals as goal
 
 pub make-requires-clause-spot : goal.make-requires-clause-spot
@@ -30,3 +31,9 @@ returns-in-Err-make-clause-memory g c = λ b is e.
 
 pub returns-in-Err-make-clause-book : goal.returns-in-Err-make-clause-book
 returns-in-Err-make-clause-book g c = λ out h. c.make.ensures.book out (c.choose.ensures.book out h)
+
+pub returns-in-Ok-make-clause-kept : goal.returns-in-Ok-make-clause-kept
+returns-in-Ok-make-clause-kept g c = new-from c.args.heap.now c.choose.new.heap c.make.new.heap c.in-Ok.ensures.same c.make.ensures.kept
+
+pub returns-in-Err-make-clause-kept : goal.returns-in-Err-make-clause-kept
+returns-in-Err-make-clause-kept g c = new-from c.args.heap.now c.choose.new.heap c.make.new.heap c.in-Ok.ensures.same c.make.ensures.kept

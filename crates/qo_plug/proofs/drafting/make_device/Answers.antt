@@ -16,6 +16,9 @@ use Rattle.qo_plug.specs.Drafts.{Fell, HasPlanned}
 use Rattle.qo_plug.proofs.CutLemmas.{draft-pinned, fell-short}
 use Rattle.qo_plug.proofs.DraftLemmas.{at-birth, created-shown, draft-live, draft-rest, drafted-is, drafted-shown, drafting-grows}
 use Rattle.qo_plug.proofs.PlannedSlots.{given_by, plan-planned, planned-by}
+use Rattle.qo_properties.proofs.KeptLemmas.{goes-kept}
+use Rattle.qo_plug.proofs.GrowthLemmas.{grows-kept}
+use Rattle.qo_plug.proofs.KeptLemmas.{new-then}
 use Rattle.qo_plug.proofs.drafting.make_device.Goals as goal
 
 pub make_properties-requires : goal.make_properties-requires
@@ -98,3 +101,19 @@ returns-in-Err-clause-book g c = λ out h.
     ((drafting-grows c.args.heap.now c.create.new.heap c.make_properties.new.heap c.in_ok-device.device c.args.kind c.facts.ensures
     c.in_ok-device.ensures.made.0 c.in_ok-device.ensures.made.1
     c.in-Err.ensures.grows).book out h)
+
+pub returns-in-Ok-clause-kept : goal.returns-in-Ok-clause-kept
+returns-in-Ok-clause-kept g c =
+    grows-kept c.args.heap.now c.make_properties.new.heap c.facts.ensures
+    (drafting-grows c.args.heap.now c.create.new.heap c.make_properties.new.heap c.in_ok-device.device c.args.kind c.facts.ensures c.in_ok-device.ensures.made.0
+    c.in_ok-device.ensures.made.1
+    c.in-Ok.ensures.grows)
+
+pub returns-in-Err-clause-kept : goal.returns-in-Err-clause-kept
+returns-in-Err-clause-kept g c =
+    new-then c.args.heap.now c.make_properties.new.heap c.drop_pin.new.heap
+    (grows-kept c.args.heap.now c.make_properties.new.heap c.facts.ensures
+    (drafting-grows c.args.heap.now c.create.new.heap c.make_properties.new.heap c.in_ok-device.device c.args.kind c.facts.ensures c.in_ok-device.ensures.made.0
+    c.in_ok-device.ensures.made.1
+    c.in-Err.ensures.grows))
+    (goes-kept c.make_properties.new.heap c.drop_pin.new.heap c.drop_pin.ensures.goes)

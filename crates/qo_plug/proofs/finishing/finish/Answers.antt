@@ -1,28 +1,33 @@
 -- The device starts and is let go, or is refused after its acts.
-use Rattle.std.proofs.Common.{ap₂, sym, ◌∙◌, ℕ}
-use Rattle.qo_plug.proofs.AddLemmas.{is-added, is-refused, kinds-in, open-place, plugged-in}
+use Rattle.std.proofs.Common.{ap, sym, ◌∙◌, Some}
+use Rattle.qo_plug.proofs.AddLemmas.{is-added, is-refused, kinds-in, open-place, path-in, plugged-in}
 use Rattle.qo_standing.proofs.BodyLemmas.{kept-bodies, there-bodies}
+use Rattle.qo_properties.proofs.KeptLemmas.{before-same, before-then, goes-kept}
 use Rattle.qo_plug.proofs.finishing.finish.Goals as goal
 
 pub returns-in-Stands-clause-ok : goal.returns-in-Stands-clause-ok
 returns-in-Stands-clause-ok g c = λ b a is beside.
     let s = is.site.0 in
     let device = is.site.1 in
-    let (at, slot, open_is, stood, kept) = rw c.in-Stands.is at is.site.2 in
+    let (told, at, slot, open_is, stood, kept) = rw c.in-Stands.is at is.site.2 in
     let p = c.args.placed in
     let n = p.device.birth in
     let place = open-place b a s at open_is device in
     let plugged =
-    plugged-in b s.kind is.sound device a s.bus.birth at n is.birth c.in-Stands.path c.args.resets.now.births c.args.hotplug.now c.start.new.hotplug
+    plugged-in b s.kind is.sound device a s.bus.birth at n is.birth c.in-Stands.field-0.kept c.args.resets.now.births c.args.hotplug.now c.start.new.hotplug
     c.args.heap.now c.start.new.heap c.drop_pin.new.heap beside.holds_are beside.pending beside.notices place stood
     c.start.ensures.shown c.start.ensures.told c.start.ensures.pending c.drop_pin.ensures.release in
     let kinds =
-    kinds-in b s.kind is.sound device a s.bus.birth at n is.birth c.in-Stands.path c.args.resets.now.births c.args.hotplug.now c.start.new.hotplug
+    kinds-in b s.kind is.sound device a s.bus.birth at n is.birth c.in-Stands.field-0.kept c.args.resets.now.births c.args.hotplug.now c.start.new.hotplug
     c.args.heap.now c.start.new.heap c.drop_pin.new.heap beside.holds_are beside.pending beside.notices place stood
     c.start.ensures.shown c.start.ensures.told c.start.ensures.pending c.drop_pin.ensures.release in
     let left = kept-bodies c.start.new.heap c.drop_pin.new.heap (there-bodies c.start.new.heap c.drop_pin.new.heap c.drop_pin.ensures.goes.bodies kinds) n in
-    is-added b a s at open_is (record { birth = n; slot = p.slot }) c.start.new.hotplug c.drop_pin.new.heap plugged
-    (ap₂ (λ (k i : ℕ). record { birth = k; slot = i }) is.birth (sym slot)) (left ∙ c.start.ensures.kept n ∙ kept)
+    let path =
+    path-in b s.kind is.sound device a s.bus.birth at n is.birth c.in-Stands.field-0.kept c.args.resets.now.births c.args.hotplug.now c.start.new.hotplug
+    c.args.heap.now c.start.new.heap c.drop_pin.new.heap beside.holds_are beside.pending beside.notices place stood
+    c.start.ensures.shown c.start.ensures.told c.start.ensures.pending c.drop_pin.ensures.release n in
+    is-added b a s at open_is (record { birth = n; slot = p.slot; path = c.in-Stands.field-0.told }) c.start.new.hotplug c.drop_pin.new.heap plugged
+    is.birth (sym slot) (path ∙ c.start.ensures.path ∙ ap Some (sym told)) (left ∙ c.start.ensures.kept n ∙ kept)
 
 pub returns-in-Full-clause-refused : goal.returns-in-Full-clause-refused
 returns-in-Full-clause-refused g c = λ b a is.
@@ -32,3 +37,11 @@ returns-in-Full-clause-refused g c = λ b a is.
 
 pub returns-in-Stands-clause-book : goal.returns-in-Stands-clause-book
 returns-in-Stands-clause-book g c = λ out h. c.drop_pin.ensures.goes.book out (c.start.ensures.book out h)
+
+pub returns-in-Stands-clause-kept : goal.returns-in-Stands-clause-kept
+returns-in-Stands-clause-kept g c =
+    before-then c.args.heap.now c.start.new.heap c.drop_pin.new.heap (before-same c.args.heap.now c.start.new.heap c.start.ensures.kept)
+    (goes-kept c.start.new.heap c.drop_pin.new.heap c.drop_pin.ensures.goes)
+
+pub returns-in-Full-clause-full : goal.returns-in-Full-clause-full
+returns-in-Full-clause-full g c = (c.in-Full.out, c.in-Full.is)

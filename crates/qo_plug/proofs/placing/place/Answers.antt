@@ -9,12 +9,15 @@ use Rattle.qo_kinds.specs.declared.kept_set.KeptSet.{KeptSet}
 use Rattle.qo_heap.specs.Objects.{with_edit}
 use Rattle.qo_plug.specs.Spots.{claims_given}
 use Rattle.qo_plug.specs.Drafts.{given_draft}
+use Rattle.qo_standing.specs.DeviceClaims.{kept_on}
 use Rattle.qo_standing.specs.Placement.{IsSeat, kept_in, spot_in}
-use Rattle.qo_standing.specs.DeviceClaims.{SameKept}
+use Rattle.qo_properties.specs.KeptClaims.{SameKept}
 use Rattle.qo_plug.proofs.ClaimLemmas.{chosen-claims, draft-keeps, driver-room}
 use Rattle.qo_plug.proofs.GivenDraftLemmas.{stood-planned}
 use Rattle.qo_plug.proofs.SourceLemmas.{source-same}
 use Rattle.qo_plug.proofs.StageLemmas.{bus-low, full-barred, given_up-cut, opened, seat-of, spot-refused}
+use Rattle.qo_properties.proofs.KeptLemmas.{before-same, before-then}
+use Rattle.qo_plug.proofs.KeptLemmas.{given-but}
 use Rattle.qo_plug.proofs.placing.place.Goals as goal
 
 pub returns-in-Err-clause-refused : goal.returns-in-Err-clause-refused
@@ -63,10 +66,11 @@ returns-in-Ok-stand-clause-settled g c = λ b a is notices.
         d.site,
         c.requires.device_is,
         (
+          c.in-Ok-stand.ensures.told,
           c.in-Ok.spot,
           refl,
           opening,
-          stood-planned b d.site.kind d.device.birth a (spot_in d.site.bus.birth c.in-Ok.spot) is.birth c.in-Ok-stand.path c.stand.new.heap
+          stood-planned b d.site.kind d.device.birth a (spot_in d.site.bus.birth c.in-Ok.spot) is.birth c.in-Ok-stand.path.kept c.stand.new.heap
               (rw (ens.bus, ens.spot) at stood),
           kept,
         ),
@@ -82,3 +86,19 @@ returns-in-Err-stand-clause-memory g c = λ b a is e.
 
 pub returns-in-Err-stand-clause-book : goal.returns-in-Err-stand-clause-book
 returns-in-Err-stand-clause-book g c = λ out h. c.give_up-in-Err-stand.ensures.book out (c.stand.ensures.book out h)
+
+pub returns-in-Ok-stand-clause-kept : goal.returns-in-Ok-stand-clause-kept
+returns-in-Ok-stand-clause-kept g c =
+    given-but c.args.heap.now c.stand.new.heap c.args.begun.device.birth (kept_in (kept_on c.seat_at-seat.result.0.bus.birth c.seat_at-seat.result.0.spot))
+    c.in-Ok-stand.ensures.kept
+
+pub returns-in-Err-stand-clause-unkept : goal.returns-in-Err-stand-clause-unkept
+returns-in-Err-stand-clause-unkept g c =
+    before-then c.args.heap.now c.stand.new.heap c.give_up-in-Err-stand.new.heap
+    (before-same c.args.heap.now c.stand.new.heap c.in-Err-stand.ensures.unkept) c.give_up-in-Err-stand.ensures.kept
+
+pub returns-then-are_full-clause-kept : goal.returns-then-are_full-clause-kept
+returns-then-are_full-clause-kept g c = λ n k e. e
+
+pub returns-in-Err-clause-unkept : goal.returns-in-Err-clause-unkept
+returns-in-Err-clause-unkept g c = c.give_up.ensures.kept

@@ -3,8 +3,8 @@ use Rattle.std.proofs.Common.{◌≡◌, ap, ◌∙◌, true}
 use Rattle.qo_heap.proofs.ActsLemmas.{acts-book, acts-then}
 use Rattle.qo_heap.proofs.ActsReads.{acts-pins, acts-pins_of}
 use Rattle.qo_hotplug.specs.Hotplug.{Asked, told}
-use Rattle.qo_plug.proofs.ClaimLemmas.{acts-kept}
-use Rattle.qo_plug.proofs.StartLemmas.{ok-gives, path-all_pins, path-book, path-claims, path-live, path-pins, started-told, starts, still-live, still-pathless}
+use Rattle.qo_properties.proofs.ActsKept.{acts-kept}
+use Rattle.qo_plug.proofs.StartLemmas.{ok-gives, path-all_pins, path-book, path-claims, path-kept, path-live, path-pins, started-told, starts, still-live, still-pathless}
 use Rattle.qo_plug.proofs.starting.start.Goals as goal
 
 pub plugged-requires : goal.plugged-requires
@@ -60,6 +60,12 @@ returns-clause-pinned g c =
     path-pins c.plugged.new.heap c.keep_path.new.self c.args.device.birth c.args.path c.keep_path.ensures.now
     ∙ acts-pins_of c.args.heap.now c.plugged.new.heap
     (acts-then c.args.heap.now c.realize.new.heap c.plugged.new.heap c.realize.ensures.acts c.plugged.ensures.acts) c.args.device.birth
+
+pub returns-clause-path : goal.returns-clause-path
+returns-clause-path g c =
+    path-kept c.plugged.new.heap c.keep_path.new.self c.args.device c.args.path c.keep_path.ensures.now
+    (still-live c.args.heap.now c.plugged.new.heap
+    (acts-then c.args.heap.now c.realize.new.heap c.plugged.new.heap c.realize.ensures.acts c.plugged.ensures.acts) c.args.device c.requires.live)
 
 pub returns-clause-kept : goal.returns-clause-kept
 returns-clause-kept g c = λ n.

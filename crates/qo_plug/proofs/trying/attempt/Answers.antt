@@ -13,6 +13,9 @@ use Rattle.qo_plug.specs.FurtherDrafts.{FurtherFell, further_made}
 use Rattle.qo_plug.proofs.CutLemmas.{draft-pinned}
 use Rattle.qo_plug.proofs.DraftLemmas.{at-birth, draft-live, draft-rest, drafting-grows, shows-created}
 use Rattle.qo_plug.proofs.FurtherLemmas.{further-given-up, further-short}
+use Rattle.qo_properties.proofs.KeptLemmas.{goes-kept}
+use Rattle.qo_plug.proofs.GrowthLemmas.{grows-kept}
+use Rattle.qo_plug.proofs.KeptLemmas.{new-then}
 use Rattle.qo_plug.proofs.trying.attempt.Goals as goal
 
 pub make_further-made-requires : goal.make_further-made-requires
@@ -74,3 +77,12 @@ returns-clause-book g c = λ out h.
     ((drafting-grows c.args.heap.now c.create.new.heap c.make_further-made.new.heap c.in_ok-device.device c.args.kind c.facts.ensures
     c.in_ok-device.ensures.made.0 c.in_ok-device.ensures.made.1
     c.make_further-made.ensures.grows).book out h)
+
+pub returns-clause-kept : goal.returns-clause-kept
+returns-clause-kept g c =
+    new-then c.args.heap.now c.make_further-made.new.heap c.drop_pin.new.heap
+    (grows-kept c.args.heap.now c.make_further-made.new.heap c.facts.ensures
+    (drafting-grows c.args.heap.now c.create.new.heap c.make_further-made.new.heap c.in_ok-device.device c.args.kind c.facts.ensures
+    c.in_ok-device.ensures.made.0 c.in_ok-device.ensures.made.1
+    c.make_further-made.ensures.grows))
+    (goes-kept c.make_further-made.new.heap c.drop_pin.new.heap c.drop_pin.ensures.goes)

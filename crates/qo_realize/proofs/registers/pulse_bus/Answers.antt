@@ -3,6 +3,8 @@ use Rattle.std.proofs.Common.{ap, sym, ◌∙◌}
 use Rattle.qo_object.specs.BoardObject.{birth_of}
 use Rattle.qo_realize.proofs.HoldLemmas.{acts-keep}
 use Rattle.qo_realize.proofs.RegisterLemmas.{pulse-held}
+use Rattle.qo_properties.proofs.ActsKept.{acts-kept}
+use Rattle.qo_properties.proofs.KeptLemmas.{before-same}
 use Rattle.qo_realize.proofs.registers.pulse_bus.Goals as goal
 
 pub returns-in-Some-clause-shown : goal.returns-in-Some-clause-shown
@@ -12,3 +14,7 @@ returns-in-Some-clause-shown g c = λ b rings h.
 
 pub returns-in-Some-clause-book : goal.returns-in-Some-clause-book
 returns-in-Some-clause-book g c = acts-keep c.args.heap.now c.pulse.new.heap c.pulse.ensures.acts
+
+pub returns-in-Some-clause-kept : goal.returns-in-Some-clause-kept
+returns-in-Some-clause-kept g c =
+    before-same c.args.heap.now c.pulse.new.heap (acts-kept c.args.heap.now c.pulse.new.heap c.pulse.ensures.acts)

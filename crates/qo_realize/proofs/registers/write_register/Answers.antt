@@ -1,5 +1,5 @@
 -- The body that was written is what the board has.
-use Rattle.qo_realize.proofs.RegisterLemmas.{has-written, put-book, put-live, put-none}
+use Rattle.qo_realize.proofs.RegisterLemmas.{has-written, put-book, put-kept, put-live, put-none}
 use Rattle.qo_realize.proofs.registers.write_register.Goals as goal
 
 pub returns-clause-written : goal.returns-clause-written
@@ -19,3 +19,7 @@ pub returns-clause-absent : goal.returns-clause-absent
 returns-clause-absent g c =
     put-none c.args.heap.now c.facts.ensures c.args.dev c.body_mut.result.now c.write.new.body c.requires.live c.body_mut.ensures.body c.write.result
     c.write.ensures.absent
+
+pub returns-clause-kept : goal.returns-clause-kept
+returns-clause-kept g c =
+    put-kept c.args.heap.now c.args.dev c.body_mut.result.now c.write.new.body c.requires.live c.body_mut.ensures.body c.write.ensures.kept

@@ -1,5 +1,6 @@
 -- The board after the write, and after what it does beside.
 use Rattle.qo_realize.proofs.RegisterLemmas.{was-written}
+use Rattle.qo_properties.proofs.KeptLemmas.{before-then}
 use Rattle.qo_realize.proofs.registers.write_through.Goals as goal
 
 pub returns-clause-written : goal.returns-clause-written
@@ -10,3 +11,7 @@ returns-clause-written g c = λ b h fit.
 
 pub returns-clause-book : goal.returns-clause-book
 returns-clause-book g c = λ out h. c.do_beside.ensures.book out (c.write_register.ensures.book out h)
+
+pub returns-clause-kept : goal.returns-clause-kept
+returns-clause-kept g c =
+    before-then c.args.heap.now c.write_register.new.heap c.do_beside.new.heap c.write_register.ensures.kept c.do_beside.ensures.kept

@@ -18,7 +18,8 @@ use Rattle.qo_properties.specs.Filling.{Fits, IsGiven}
 use Rattle.qo_properties.proofs.FillingLemmas.{all-live}
 use Rattle.qo_standing.specs.OwnSlots.{own_slots_of}
 use Rattle.qo_standing.specs.Placement.{kept_in, range_in, spot_in, with_book}
-use Rattle.qo_standing.specs.DeviceClaims.{SameKept, kept_by, kept_out, labels_out, taken_out}
+use Rattle.qo_properties.specs.KeptClaims.{SameKept, kept_by}
+use Rattle.qo_standing.specs.DeviceClaims.{kept_out, labels_out, taken_out}
 use Rattle.qo_standing.proofs.BodyLemmas.{kept-bodies, of-bodies}
 use Rattle.qo_standing.proofs.RangeLemmas.{still-dimm}
 use Rattle.qo_standing.proofs.PlacementSteps.{alike-then, pinned-same}
@@ -137,7 +138,7 @@ returns-in-Ok-clause-stood g c = λ b d a s seat same told.
     let body_is : Shows (stood b c.args.device.birth a spot d) c.put_body.new.heap =
     subst (λ (id : Option (List ℕ)). Shows (edit c.args.device.birth (with_body_of id range) there) c.put_body.new.heap)
     (sym (seat.id_is ∙ sym c.in_ok-taken.ensures.id)) (c.put_body.ensures.shown there valued_is) in
-    stands b d a c.args.device spot c.in-Ok.path c.put_body.new.heap c.connect_clock.new.heap c.source_of-source.result
+    stands b d a c.args.device spot c.in-Ok.path.kept c.put_body.new.heap c.connect_clock.new.heap c.source_of-source.result
     (c.in-Ok.ensures.path here (placed-shown c.args.heap.now c.reserve_event.new.self c.take_claims.new.heap
     c.join.new.heap c.keep_claims.new.heap c.reserve_event.new.self.events.spare c.args.device c.args.seat.container
     c.args.seat.bus c.args.seat.name c.args.seat.spot.slot c.in_ok-taken.taken.kept c.reserve_event.ensures.kept

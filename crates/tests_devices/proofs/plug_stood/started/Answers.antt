@@ -19,4 +19,4 @@ stand-requires-clause-fits g c =
 pub start-requires-clause-pathless : goal.start-requires-clause-pathless
 start-requires-clause-pathless g c =
     draft-pathless SlotBridge (content_of c.make_device.new.heap c.in_ok-device.device.birth) (content_of c.stand.new.heap c.in_ok-device.device.birth)
-    c.in_ok-device.ensures.made.rest c.in_ok-path.ensures.paths
+    c.in_ok-device.ensures.made.rest c.in_ok-kept.ensures.paths

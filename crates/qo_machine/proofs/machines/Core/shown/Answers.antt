@@ -4,4 +4,4 @@ use Rattle.qo_machine.proofs.MachineLemmas.{seen_board}
 use Rattle.qo_machine.proofs.machines.Core.shown.Goals as goal
 
 pub returns : goal.returns
-returns c = subst StandsForGood (seen_board c.self.view_is) c.shown.ensures
+returns c = subst StandsForGood (seen_board c.self.view_is) c.shown.ensures.stands

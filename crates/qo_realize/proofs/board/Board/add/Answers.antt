@@ -5,6 +5,8 @@ use Rattle.qo_realize.specs.Parts.{Parts, parts_of}
 use Rattle.qo_realize.specs.Representation.{Stands}
 use Rattle.qo_realize.proofs.PlugLemmas.{added-stands, barred-stands, is_shown, plugs-good, stands-pinned}
 use Rattle.qo_realize.proofs.GoodBoardLemmas.{good-of}
+use Rattle.qo_plug.specs.declared.adding.Added.{Added}
+use Rattle.qo_realize.proofs.ClaimsLemmas.{barred-claims, plug-claims}
 use Rattle.qo_realize.proofs.board.Board.add.Goals as goal
 
 pub invariant_of-self : goal.invariant_of-self
@@ -16,8 +18,11 @@ invariant_of-self g c =
     let stands = added-stands b a inside.rings inside.anonymous c.in-Some.next inside.running inside.resets inside.hotplug c.add.new.hotplug
     inside.heap c.add.new.heap c.in-Ok.added s h c.in-Some.ensures.some c.in-Ok.ensures.book in
     let held = plugs-good b a (Ok c.in-Ok.added)
-    (parts_of inside.rings c.in-Some.next inside.running inside.resets c.add.new.hotplug c.add.new.heap) good stands in
-    (stands-pinned _ held, held)
+    (parts_of inside.rings c.in-Some.next inside.running inside.resets c.add.new.hotplug c.add.new.heap) good stands in (
+      stands-pinned _ held,
+      held,
+      plug-claims b a c.in-Ok.added c.add.new.hotplug inside.heap c.add.new.heap good.run.devices good.backends s.shows h c.in-Ok.ensures.kept c.self.invariant.2,
+    )
 
 pub invariant_of-self-in-Err : goal.invariant_of-self-in-Err
 invariant_of-self-in-Err g c =
@@ -28,8 +33,12 @@ invariant_of-self-in-Err g c =
     let stands = barred-stands b a inside.rings inside.anonymous inside.running inside.resets inside.hotplug c.add.new.hotplug inside.heap
     c.add.new.heap c.in-Err.refusal s (c.in-Err.ensures.refused b shown) (c.in-Err.ensures.memory b shown) c.in-Err.ensures.asked c.in-Err.ensures.book in
     let held = plugs-good b a (Err c.in-Err.refusal)
-    (parts_of inside.rings inside.anonymous inside.running inside.resets c.add.new.hotplug c.add.new.heap) good stands in
-    (stands-pinned _ held, held)
+    (parts_of inside.rings inside.anonymous inside.running inside.resets c.add.new.hotplug c.add.new.heap) good stands in (
+      stands-pinned _ held,
+      held,
+      barred-claims Added b a c.in-Err.refusal inside.heap c.add.new.heap s.shows (c.in-Err.ensures.refused b shown)
+          (λ m. c.in-Err.ensures.memory b shown (cc m)) c.in-Err.ensures.unkept c.self.invariant.2,
+    )
 
 pub returns-in-Ok : goal.returns-in-Ok
 returns-in-Ok g c =

@@ -16,6 +16,7 @@ invariant_of-self g c =
       asks-sound b inside.rings inside.anonymous inside.running inside.resets inside.hotplug c.ask.new.hotplug inside.heap (asked b c.args.id.now)
           c.ask.result s sound
           (asked-good b c.args.id.now sound) (c.ask.ensures.asked b s.shows told) c.ask.ensures.err,
+      c.self.invariant.2,
     )
 
 pub ask-requires : goal.ask-requires

@@ -1,9 +1,12 @@
 -- The device is begun on the board that stood, or what refuses it is told.
-use Rattle.std.proofs.Common.{Err}
+use Rattle.std.proofs.Common.{sym, subst, ℕ, Err}
+use Rattle.qo_realize.specs.Representation.{Stands}
 use Rattle.qo_plug.specs.Admission.{as_wanted}
-use Rattle.qo_realize.proofs.PlugLemmas.{plugs-good}
+use Rattle.qo_realize.proofs.PlugLemmas.{is_shown, plugs-good}
 use Rattle.qo_realize.proofs.GoodBoardLemmas.{good-of}
 use Rattle.qo_realize.proofs.StageLemmas.{begun-barred, begun-drafted}
+use Rattle.qo_plug.proofs.AddLemmas.{refused-within}
+use Rattle.qo_realize.proofs.ClaimsLemmas.{barred-claims}
 use Rattle.qo_realize.proofs.board.Board.begin.Goals as goal
 
 pub invariant_of-result : goal.invariant_of-result
@@ -13,7 +16,8 @@ invariant_of-result g c =
     let x = c.parts-heap.result.1 in
     let drafted =
     begun-drafted b a x.rings x.anonymous c.in-Some.next x.running x.resets x.hotplug c.parts-heap.result.0 c.begin.new.heap c.args.self
-    c.parts-heap.ensures.whole s good c.in-Some.ensures.some c.in-Ok.ensures.book c.in-Ok.begun (c.in-Ok.ensures.begun b) in
+    c.parts-heap.ensures.whole s good c.in-Some.ensures.some c.in-Ok.ensures.book c.parts-heap.ensures.claims c.in-Ok.begun
+    c.in-Ok.ensures.kept (c.in-Ok.ensures.begun b) in
     (c.in-Ok.ensures.held, (b, a, drafted))
 
 pub board_of-requires-in-Err : goal.board_of-requires-in-Err
@@ -23,9 +27,16 @@ board_of-requires-in-Err g c =
     let x = c.parts-heap.result.1 in
     let barred =
     begun-barred b a x.rings x.anonymous c.in-Some.next x.running x.resets x.hotplug c.parts-heap.result.0 c.begin.new.heap c.args.self
-    c.parts-heap.ensures.whole s good c.in-Some.ensures.some c.in-Err.ensures.book c.in-Err.refusal (c.in-Err.ensures.refused b)
+    c.parts-heap.ensures.whole s good c.in-Some.ensures.some c.in-Err.ensures.book c.parts-heap.ensures.claims c.in-Err.refusal
+    (c.in-Err.ensures.refused b)
     (λ shown m. c.in-Err.ensures.memory b shown (cc m)) in
-    plugs-good b a (Err c.in-Err.refusal) _ good barred.1
+    let seen = subst (Stands b) (sym c.parts-heap.ensures.whole) s in
+    let shown = is_shown b x.rings x.anonymous x.running x.resets x.hotplug c.parts-heap.result.0 seen good in (
+      plugs-good b a (Err c.in-Err.refusal) _ good barred.1,
+      barred-claims ℕ b a c.in-Err.refusal c.parts-heap.result.0 c.begin.new.heap seen.shows
+          (refused-within b a 1 4 ℕ ℕ c.in-Err.refusal c.begin.new.heap (c.in-Err.ensures.refused b shown))
+          (λ m. c.in-Err.ensures.memory b shown (cc m)) c.in-Err.ensures.kept c.parts-heap.ensures.claims,
+    )
 
 pub returns-in-Ok : goal.returns-in-Ok
 returns-in-Ok g c = λ b s.
@@ -33,7 +44,8 @@ returns-in-Ok g c = λ b s.
     let a = as_wanted c.args.options.now in
     let x = c.parts-heap.result.1 in
     begun-drafted b a x.rings x.anonymous c.in-Some.next x.running x.resets x.hotplug c.parts-heap.result.0 c.begin.new.heap c.args.self
-    c.parts-heap.ensures.whole s good c.in-Some.ensures.some c.in-Ok.ensures.book c.in-Ok.begun (c.in-Ok.ensures.begun b)
+    c.parts-heap.ensures.whole s good c.in-Some.ensures.some c.in-Ok.ensures.book c.parts-heap.ensures.claims c.in-Ok.begun
+    c.in-Ok.ensures.kept (c.in-Ok.ensures.begun b)
 
 pub returns-in-Err : goal.returns-in-Err
 returns-in-Err g c = λ b s.
@@ -42,6 +54,7 @@ returns-in-Err g c = λ b s.
     let x = c.parts-heap.result.1 in
     let barred =
     begun-barred b a x.rings x.anonymous c.in-Some.next x.running x.resets x.hotplug c.parts-heap.result.0 c.begin.new.heap c.args.self
-    c.parts-heap.ensures.whole s good c.in-Some.ensures.some c.in-Err.ensures.book c.in-Err.refusal (c.in-Err.ensures.refused b)
+    c.parts-heap.ensures.whole s good c.in-Some.ensures.some c.in-Err.ensures.book c.parts-heap.ensures.claims c.in-Err.refusal
+    (c.in-Err.ensures.refused b)
     (λ shown m. c.in-Err.ensures.memory b shown (cc m)) in
     rw c.board_of-in-Err.ensures barred

@@ -13,6 +13,7 @@ invariant_of-self c =
       change-sound inside.rings c.add.new.rings inside.anonymous inside.running inside.resets inside.hotplug inside.heap
           (λ b. ring_added b c.args.id.now c.args.kind.now c.unwrap_or-size.result) c.add.result
           (λ b good. ring_added-good b c.args.id.now c.args.kind.now c.unwrap_or-size.result good) c.add.ensures.change c.add.ensures.err c.self.invariant.1,
+      c.self.invariant.2,
     )
 
 pub returns-clause-change : goal.returns-clause-change

@@ -13,6 +13,7 @@ invariant_of-self g c =
       answer-sound inside.rings c.remove.new.rings inside.anonymous inside.running inside.resets inside.hotplug inside.heap
           (λ b. chardev_removed b c.args.id.now) c.remove.result (λ b good. ring_removed-good b c.args.id.now good) c.remove.ensures.change
           c.remove.ensures.err c.self.invariant.1,
+      c.self.invariant.2,
     )
 
 pub returns-clause-change : goal.returns-clause-change

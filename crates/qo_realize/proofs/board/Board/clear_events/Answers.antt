@@ -1,11 +1,14 @@
 -- The board without its events stands.
-use Rattle.std.proofs.Common.{sym, subst, []}
+use Rattle.std.proofs.Common.{refl, sym, subst, []}
 use Rattle.qo_heap.specs.Objects.{Objects}
 use Rattle.qo_properties.specs.Pins.{OnlyRootPinned}
 use Rattle.qo_realize.specs.Parts.{parts_of}
 use Rattle.qo_realize.specs.Representation.{StandsForGood}
 use Rattle.qo_realize.proofs.GoodBoardLemmas.{cleared-good}
 use Rattle.qo_realize.proofs.RepresentationLemmas.{cleared-stands}
+use Rattle.qo_events.specs.Queue.{told}
+use Rattle.qo_realize.specs.BoardClaims.{KeepsClaims}
+use Rattle.qo_realize.proofs.ClaimsLemmas.{rows-claims}
 use Rattle.qo_realize.proofs.board.Board.clear_events.Goals as goal
 
 pub invariant_of-self : goal.invariant_of-self
@@ -13,7 +16,7 @@ invariant_of-self c =
     let (b, s, sound) = c.self.invariant.1 in
     let inside = c.self.inside in
     let v : Objects = inside.heap in
-    subst (λ (w : Objects). OnlyRootPinned w × StandsForGood (parts_of inside.rings inside.anonymous inside.running inside.resets inside.hotplug w))
+    subst (λ (w : Objects). OnlyRootPinned w × StandsForGood (parts_of inside.rings inside.anonymous inside.running inside.resets inside.hotplug w) × KeepsClaims w)
     (sym c.clear_events.ensures) (
       c.self.invariant.0,
       (
@@ -21,4 +24,5 @@ invariant_of-self c =
         cleared-stands b inside.rings inside.anonymous inside.running inside.resets inside.hotplug v s,
         cleared-good b sound,
       ),
+      rows-claims b v (record v { events = told v.events }) s.shows refl c.self.invariant.2,
     )

@@ -4,7 +4,7 @@ use Rattle.qo_model.specs.Depth.{among}
 use Rattle.qo_realize.specs.Parts.{Parts, parts_of}
 use Rattle.qo_realize.specs.Representation.{Stands}
 use Rattle.qo_unplug.proofs.DetachmentLemmas.{once-pinned}
-use Rattle.qo_realize.proofs.CompletionLemmas.{completed-sound, completed-stands, is_beside, timely-heap}
+use Rattle.qo_realize.proofs.CompletionLemmas.{completed-claims, completed-sound, completed-stands, is_beside, timely-heap}
 use Rattle.qo_realize.proofs.GoodBoardLemmas.{good-of}
 use Rattle.qo_realize.proofs.board.Board.complete.Goals as goal
 
@@ -19,9 +19,16 @@ detach-requires-clause-pins g c = once-pinned c.self.inside.heap c.self.invarian
 pub invariant_of-self : goal.invariant_of-self
 invariant_of-self g c =
     let inside = c.self.inside in
+    let pending = ap (λ (p : Parts). among p.pending c.args.dev.birth) c.self.view_is ∙ c.requires.pending in
+    let stands =
     completed-sound c.args.dev.birth inside.rings inside.anonymous inside.running inside.resets c.detach.new.resets inside.hotplug
     c.detach.new.hotplug inside.heap c.detach.new.heap
-    (ap (λ (p : Parts). among p.pending c.args.dev.birth) c.self.view_is ∙ c.requires.pending) c.self.invariant.1 c.detach.ensures.shown c.detach.ensures.book
+    pending c.self.invariant.1 c.detach.ensures.shown c.detach.ensures.book in (
+      stands.0,
+      stands.1,
+      completed-claims c.args.dev.birth inside.rings inside.anonymous inside.running inside.resets c.detach.new.resets inside.hotplug c.detach.new.hotplug
+          inside.heap c.detach.new.heap pending c.self.invariant.1 c.detach.ensures.shown c.detach.ensures.claims c.self.invariant.2,
+    )
 
 pub returns : goal.returns
 returns g c = λ b s.

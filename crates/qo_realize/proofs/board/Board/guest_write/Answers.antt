@@ -2,7 +2,7 @@
 use Rattle.std.proofs.Common.{sym, subst}
 use Rattle.qo_realize.specs.Parts.{Parts, parts_of}
 use Rattle.qo_realize.specs.Representation.{Stands}
-use Rattle.qo_realize.proofs.RegisterLemmas.{timely-there, write-keeps, write-stands}
+use Rattle.qo_realize.proofs.RegisterLemmas.{timely-there, write-claims, write-keeps, write-stands}
 use Rattle.qo_realize.proofs.GoodBoardLemmas.{good-of}
 use Rattle.qo_realize.proofs.board.Board.guest_write.Goals as goal
 
@@ -14,10 +14,17 @@ write_through-requires-clause-timely g c =
 pub invariant_of-self : goal.invariant_of-self
 invariant_of-self g c =
     let inside = c.self.inside in
+    let stands =
     write-keeps inside.rings c.write_through.new.rings inside.anonymous inside.running inside.resets c.write_through.new.resets inside.hotplug
     inside.heap c.write_through.new.heap
     c.write_through.ensures.book c.args.dev.birth c.args.reg c.args.value c.write_through.result c.self.invariant.1 c.write_through.ensures.written
-    c.write_through.ensures.absent
+    c.write_through.ensures.absent in (
+      stands.0,
+      stands.1,
+      write-claims inside.rings c.write_through.new.rings inside.anonymous inside.running inside.resets c.write_through.new.resets inside.hotplug
+          inside.heap c.write_through.new.heap c.write_through.ensures.book c.args.dev.birth c.args.reg c.args.value c.write_through.result
+          c.self.invariant.1 c.write_through.ensures.written c.write_through.ensures.absent c.write_through.ensures.kept c.self.invariant.2,
+    )
 
 pub returns-clause-written : goal.returns-clause-written
 returns-clause-written g c = λ b s.

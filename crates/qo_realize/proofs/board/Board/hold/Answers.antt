@@ -2,15 +2,22 @@
 use Rattle.std.proofs.Common.{sym, subst}
 use Rattle.qo_realize.specs.Parts.{Parts}
 use Rattle.qo_realize.specs.Representation.{Stands}
-use Rattle.qo_realize.proofs.HoldLemmas.{acts-keep, hold-changes, hold-keeps}
+use Rattle.qo_realize.proofs.HoldLemmas.{acts-keep, hold-changes, hold-claims, hold-keeps}
 use Rattle.qo_realize.proofs.board.Board.hold.Goals as goal
 
 pub invariant_of-self : goal.invariant_of-self
 invariant_of-self g c =
     let inside = c.self.inside in
+    let stands =
     hold-keeps inside.rings inside.anonymous inside.running inside.resets c.hold.new.resets inside.hotplug inside.heap c.hold.new.heap
     (acts-keep inside.heap c.hold.new.heap c.hold.ensures.acts) c.args.path.now c.hold.result
-    c.self.invariant.1 c.hold.ensures.held c.hold.ensures.err
+    c.self.invariant.1 c.hold.ensures.held c.hold.ensures.err in (
+      stands.0,
+      stands.1,
+      hold-claims inside.rings inside.anonymous inside.running inside.resets c.hold.new.resets inside.hotplug inside.heap c.hold.new.heap
+          (acts-keep inside.heap c.hold.new.heap c.hold.ensures.acts) c.args.path.now c.hold.result c.self.invariant.1 c.hold.ensures.acts c.hold.ensures.held
+          c.hold.ensures.err c.self.invariant.2,
+    )
 
 pub returns-clause-held : goal.returns-clause-held
 returns-clause-held g c = λ b s.

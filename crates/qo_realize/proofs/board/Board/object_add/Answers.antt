@@ -2,6 +2,7 @@ use Rattle.std.proofs.Common.{sym, subst, ◌∙◌}
 use Rattle.qo_realize.specs.Parts.{Parts}
 use Rattle.qo_realize.specs.Representation.{Stands}
 use Rattle.qo_realize.proofs.RepresentationLemmas.{add-stands, added-sound}
+use Rattle.qo_realize.proofs.ClaimsLemmas.{add-claims}
 use Rattle.qo_realize.proofs.board.Board.object_add.Goals as goal
 
 pub returns : goal.returns
@@ -19,4 +20,6 @@ invariant_of-self g c =
       c.add_object.ensures.pins ∙ c.self.invariant.0,
       added-sound b c.args.driver.now c.args.id.now c.args.props.now c.add_object.result _ sound (add-stands b _ c.add_object.new.heap c.args.driver.now
           c.args.id.now c.args.props.now c.add_object.result s (c.add_object.ensures.change b s.shows) c.add_object.ensures.book),
+      add-claims b c.args.driver.now c.args.id.now c.args.props.now c.add_object.result c.self.inside.heap c.add_object.new.heap sound.run.devices s.shows
+          (c.add_object.ensures.change b s.shows) c.add_object.ensures.kept c.self.invariant.2,
     )

@@ -5,6 +5,7 @@ use Rattle.qo_realize.specs.Parts.{Parts}
 use Rattle.qo_realize.proofs.UserLemmas.{answered-free, answered-used}
 use Rattle.qo_realize.specs.Representation.{Stands}
 use Rattle.qo_realize.proofs.RepresentationLemmas.{answered-sound, err-stays, del-stands}
+use Rattle.qo_realize.proofs.ClaimsLemmas.{change-claims}
 use Rattle.qo_realize.proofs.board.Board.object_del.Goals as goal
 
 pub returns-then-is_used-clause-change : goal.returns-then-is_used-clause-change
@@ -30,4 +31,6 @@ invariant_of-self g c =
       c.remove.ensures.pins ∙ c.self.invariant.0,
       answered-sound _ c.remove.result _ (changed-good b (deleted c.args.id.now) sound)
           (del-stands b _ c.remove.new.heap c.args.id.now c.remove.result s (c.remove.ensures.change b s.shows) c.remove.ensures.book),
+      change-claims b (deleted c.args.id.now) c.self.inside.heap c.remove.new.heap sound.run.devices s.shows (c.remove.ensures.change b s.shows).board
+          c.remove.ensures.kept c.self.invariant.2,
     )

@@ -5,14 +5,24 @@ use Rattle.qo_realize.specs.Parts.{Parts, parts_of}
 use Rattle.qo_realize.specs.Representation.{Stands}
 use Rattle.qo_realize.proofs.HoldLemmas.{acts-keep, pulse-keeps, pulse-stands}
 use Rattle.qo_realize.proofs.ResetLemmas.{machine-there, none-said}
+use Rattle.qo_properties.proofs.ActsKept.{acts-kept}
+use Rattle.qo_properties.proofs.KeptLemmas.{before-same}
+use Rattle.qo_realize.proofs.ClaimsLemmas.{pulse-claims}
 use Rattle.qo_realize.proofs.board.Board.pulse_machine.Goals as goal
 
 pub invariant_of-self : goal.invariant_of-self
 invariant_of-self g c =
     let inside = c.self.inside in
+    let (b, s, good) = c.self.invariant.1 in
+    let stands =
     pulse-keeps inside.rings inside.anonymous inside.running inside.resets c.pulse.new.self inside.hotplug inside.heap c.pulse.new.heap
     (acts-keep inside.heap c.pulse.new.heap c.pulse.ensures.acts) c.in-Some.machine.birth
-    c.self.invariant.1 c.pulse.ensures.shown
+    c.self.invariant.1 c.pulse.ensures.shown in (
+      stands.0,
+      stands.1,
+      pulse-claims b c.in-Some.machine.birth inside.heap c.pulse.new.heap good.run.devices s.shows (c.pulse.ensures.shown b (s.shows, s.holds)).0
+          (before-same inside.heap c.pulse.new.heap (acts-kept inside.heap c.pulse.new.heap c.pulse.ensures.acts)) c.self.invariant.2,
+    )
 
 pub returns-in-Some : goal.returns-in-Some
 returns-in-Some g c = λ b s.

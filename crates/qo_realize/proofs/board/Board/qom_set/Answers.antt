@@ -4,6 +4,7 @@ use Rattle.qo_realize.specs.Representation.{Stands}
 use Rattle.qo_realize.proofs.GoodBoardLemmas.{good-of}
 use Rattle.qo_realize.proofs.RepresentationLemmas.{err-stays, write-stands, written-sound}
 use Rattle.qo_unplug.proofs.MomentLemmas.{times-timely}
+use Rattle.qo_realize.proofs.ClaimsLemmas.{write-claims}
 use Rattle.qo_realize.proofs.board.Board.qom_set.Goals as goal
 
 pub set-requires : goal.set-requires
@@ -27,4 +28,6 @@ invariant_of-self g c =
       c.set.ensures.pins ∙ c.self.invariant.0,
       written-sound b _ c.set.new.heap c.args.path.now c.args.name.now c.args.val.now c.set.result s sound (write-stands b _ c.set.new.heap c.args.path.now
           c.args.name.now c.args.val.now c.set.result s (c.set.ensures.written b s.shows (λ clock. sound.run.clocks.fit)) c.set.ensures.book) c.set.ensures.err,
+      write-claims b c.args.path.now c.args.name.now c.args.val.now c.set.result c.self.inside.heap c.set.new.heap sound.run.devices s.shows
+          (c.set.ensures.written b s.shows (λ clock. sound.run.clocks.fit)) c.set.ensures.err c.set.ensures.kept c.self.invariant.2,
     )

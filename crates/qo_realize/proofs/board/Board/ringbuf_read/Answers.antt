@@ -14,6 +14,7 @@ invariant_of-self c =
       reading-sound inside.rings c.take.new.rings inside.anonymous inside.running inside.resets inside.hotplug inside.heap
           (λ b. ring_read b c.args.device.now c.args.size c.unwrap_or-form.result) c.take.result
           (λ b good. ring_read-good b c.args.device.now c.args.size c.unwrap_or-form.result good) c.take.ensures.read c.take.ensures.err c.self.invariant.1,
+      c.self.invariant.2,
     )
 
 pub returns-clause-read : goal.returns-clause-read

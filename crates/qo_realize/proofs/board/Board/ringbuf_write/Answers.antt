@@ -15,6 +15,7 @@ invariant_of-self c =
           (λ b. ring_written b c.args.device.now c.args.text.now c.unwrap_or-form.result) c.write.result
           (λ b good. ring_written-good b c.args.device.now c.args.text.now c.unwrap_or-form.result good) c.write.ensures.change c.write.ensures.err
           c.self.invariant.1,
+      c.self.invariant.2,
     )
 
 pub returns-clause-change : goal.returns-clause-change

@@ -4,6 +4,7 @@ use Rattle.qo_realize.proofs.GoodBoardLemmas.{changed-good}
 use Rattle.qo_realize.specs.Parts.{Parts}
 use Rattle.qo_realize.specs.Representation.{Stands}
 use Rattle.qo_realize.proofs.RepresentationLemmas.{answered-sound, err-stays, sever-stands}
+use Rattle.qo_realize.proofs.ClaimsLemmas.{change-claims}
 use Rattle.qo_realize.proofs.board.Board.sever.Goals as goal
 
 pub returns-clause-change : goal.returns-clause-change
@@ -23,4 +24,6 @@ invariant_of-self g c =
       c.sever.ensures.pinned,
       answered-sound _ c.sever.result _ (changed-good b (severed c.args.birth) sound)
           (sever-stands b _ c.sever.new.heap c.args.birth c.sever.result s (c.sever.ensures.change b s.shows) c.sever.ensures.book),
+      change-claims b (severed c.args.birth) c.self.inside.heap c.sever.new.heap sound.run.devices s.shows (c.sever.ensures.change b s.shows).board
+          c.sever.ensures.kept c.self.invariant.2,
     )
