@@ -113,7 +113,7 @@ no-buses b d none = go (first_of (buses_of (unrealize (pin b d) d) d)) refl
         let had : among (buses_of (pin b d) d) m ≡ true = owned-bus (pin b d) m is (slots_at (pin b d) d) own in
         clash (sym had ∙ ap (λ (ms : List ℕ). among ms m) (pin-buses b d ∙ none))
 
-lost-none : (f : ℕ → Board → Board) (times d : ℕ) (c : Board) → first_of (buses_of c d) ≡ None → lost_buses f times d c ≡ c
+pub lost-none : (f : ℕ → Board → Board) (times d : ℕ) (c : Board) → first_of (buses_of c d) ≡ None → lost_buses f times d c ≡ c
 lost-none f zero d c e = refl
 lost-none f (suc times) d c e = rw (lost_buses, e) refl
 

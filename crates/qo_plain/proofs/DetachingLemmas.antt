@@ -111,7 +111,7 @@ child-shorter m (suc i) (x ∷ slots) s e is = go (child_entry x) (child-shorter
     go None rest = rest
     go (Some y) rest = omega (arith, rest)
 
-none-owned : (m k : ℕ) (slots : List (List ℕ × Slot)) → index_from (is_bus_child m) k slots ≡ None → list_any (owns_it m) (filter_map child_entry slots) ≡ false
+pub none-owned : (m k : ℕ) (slots : List (List ℕ × Slot)) → index_from (is_bus_child m) k slots ≡ None → list_any (owns_it m) (filter_map child_entry slots) ≡ false
 none-owned m k [] e = refl
 none-owned m k ((name, plain v) ∷ slots) e = none-owned m (suc k) slots e
 none-owned m k ((name, strong t target) ∷ slots) e = none-owned m (suc k) slots e
@@ -143,13 +143,13 @@ record Drained (depth : ℕ → ℕ) (out : ℕ → Bool) (ps : List ℕ) (m : �
   empty : kid_entries c m ≡ []
   does : Out (the_kids m) b c
 
-record LostBus (depth : ℕ → ℕ) (out : ℕ → Bool) (ps : List ℕ) (d q : ℕ) (b c : Board) : Type 0 where
-  went : Went depth out None ps b c
-  still : (stands c d ≡ true) × (bus_of c d ≡ Some q)
-  fewer : suc (length (child_entries c d)) ≤ length (child_entries b d)
+pub record LostBus (depth : ℕ → ℕ) (out : ℕ → Bool) (ps : List ℕ) (d q : ℕ) (b c : Board) : Type 0 where
+  pub went : Went depth out None ps b c
+  pub still : (stands c d ≡ true) × (bus_of c d ≡ Some q)
+  pub fewer : suc (length (child_entries c d)) ≤ length (child_entries b d)
 
 -- what takes out an unrealized device that is deep enough does so
-abbrev Does : (ℕ → ℕ) → (ℕ → Bool) → ℕ → (ℕ → Board → Board) → Type 0
+abbrev pub Does : (ℕ → ℕ) → (ℕ → Bool) → ℕ → (ℕ → Board → Board) → Type 0
 Does depth out n f =
     (ps : List ℕ) → IsUp ps → (d q : ℕ) (b : Board) → Mid depth out None ps b → IsClosed b → stands b d ≡ true → bus_of b d ≡ Some q → is_realized b d ≡ false
     → 9 ≤ n + depth q → Out (the_device d) b (f d b)
@@ -201,7 +201,7 @@ module _ (depth : ℕ → ℕ) (out : ℕ → Bool) (n : ℕ) (f : ℕ → Board
             does = kid m k e (outs ps up k m b h closed its.0 its.1 (dim k has) deep) last.does;
           })
 
-  loses : (d q m : ℕ) (b : Board) → Mid depth out None ps b → IsClosed b → stands b d ≡ true → bus_of b d ≡ Some q → is_realized b d ≡ false
+  pub loses : (d q m : ℕ) (b : Board) → Mid depth out None ps b → IsClosed b → stands b d ≡ true → bus_of b d ≡ Some q → is_realized b d ≡ false
       → 9 ≤ n + suc (depth q) → among (buses_of b d) m ≡ true
       → Out (the_kids m) b (drained f (length (slots_at b m)) m b) × LostBus depth out ps d q b (lost_bus f d m b)
   unfolding drop_slot
@@ -371,7 +371,7 @@ let-go-bare b firm d p above u dim n e =
         gone-before (pin b d) u dim d (apart_within n) (λ x c v g. gone-apart (pin b d) u dim d n x c v g) d u here
         (walked-none u (Keeps (pin b d) u dim d))
 
-does-apart : (depth : ℕ → ℕ) (out : ℕ → Bool) (n : ℕ) → Does depth out n (apart_within n)
+pub does-apart : (depth : ℕ → ℕ) (out : ℕ → Bool) (n : ℕ) → Does depth out n (apart_within n)
 unfolding apart_within
 does-apart depth out zero =
     λ ps up d q b h closed e on dim deep. absurd (let most : depth q ≤ 8 = h.places.shallow.most q (h.places.owner d q e on) in omega (arith, most, deep))

@@ -3,5 +3,11 @@ pub mod DetachedLemmas
 pub mod DetachingLemmas
 pub mod GoneLemmas
 pub mod ListLemmas
+pub mod SparedLemmas
+pub mod TakenLemmas
 pub mod UnrealizeLemmas
 pub mod UnrolledLemmas
+pub mod PluggedLemmas
+pub mod StarLemmas
+pub mod StandingLemmas
+pub mod DeviceRowsLemmas

@@ -24,7 +24,7 @@ use Rattle.qo_plain.specs.Unrolled.{Unrealizes}
 use Rattle.qo_plain.proofs.ListLemmas.{each-same, tree-rises}
 
 -- the devices on the buses of a device
-abbrev under : Board → ℕ → List ℕ
+abbrev pub under : Board → ℕ → List ℕ
 under b d = flat_map (kids_of b) (buses_of b d)
 
 module _ (b : Board) (k : Placed b) where
@@ -56,10 +56,10 @@ module _ (b : Board) (k : Placed b) where
       by (inl j) = ap (is_of b (codes "bus")) (one-parent b k d MACHINE_BIRTH m mine (machines-listed b k m j)) ∙ machine-no_bus b k
       by (inr device) = no-bus b d device
 
-  goes-bus : (d m : ℕ) → among (buses_of b d) m ≡ true → leads (below b) d m ≡ true
+  pub goes-bus : (d m : ℕ) → among (buses_of b d) m ≡ true → leads (below b) d m ≡ true
   goes-bus d m i = let none : is_of b (codes "bus") d ≡ false = host-no_bus d m i in rw (below, none) i
 
-  goes-kid : (d m x : ℕ) → among (buses_of b d) m ≡ true → among (kids_of b m) x ≡ true → leads (below b) m x ≡ true
+  pub goes-kid : (d m x : ℕ) → among (buses_of b d) m ≡ true → among (kids_of b m) x ≡ true → leads (below b) m x ≡ true
   goes-kid d m x i j = let is : is_of b (codes "bus") m ≡ true = (is-bus_of b d m i).bus in rw (below, is) j
 
   -- what a device leads to is deeper, and is there
@@ -73,7 +73,7 @@ module _ (b : Board) (k : Placed b) where
       let h : From (kids_of b) (buses_of b p) m = from-joined (kids_of b) (buses_of b p) m e in
       f.there h.source m (goes-kid p h.source m h.there h.comes)
 
-  tree : IsTree (under b) (births b)
+  pub tree : IsTree (under b) (births b)
   tree = tree-rises (under b) (births b) f.rank rises there
 
 local : (b : Board) → IsLocal (under b) (unrealize_turn b)

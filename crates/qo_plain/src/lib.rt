@@ -5,6 +5,8 @@
 ghost use Rattle.qo_plain.specs.Detached.{DetachedLaw};
 ghost use Rattle.qo_plain.specs.Detaching.{DetachLaw};
 ghost use Rattle.qo_plain.specs.Gone.{GoneLaw};
+ghost use Rattle.qo_plain.specs.Plugged.{PluggedLaw};
+ghost use Rattle.qo_plain.specs.Taken.{TakenLaw};
 ghost use Rattle.qo_plain.specs.Unrolled.{UnrolledLaw};
 
 /// What goes over objects below or above one another, to a depth that the number of objects allows, is
@@ -37,4 +39,22 @@ pub fn law_detach()
 #[tactic(auto, using(crate::proofs::GoneLemmas::gone_lem))]
 pub fn law_gone()
     ensures { GoneLaw }
+{}
+
+/// The board with a device that nothing refuses is one record, from which the device starts. Of what was
+/// there the container has the device as a child, the bus has it in its slot, and all else stays. After
+/// these stands the device, with the values that were given, on its bus, in its slot, realized, a DIMM at
+/// its address; and then its further objects, of which a clock goes by the clock for the bus.
+#[tactic(auto, using(crate::proofs::PluggedLemmas::plugged_lem))]
+pub fn law_plugged()
+    ensures { PluggedLaw }
+{}
+
+/// A device that stands in a container is detached in these steps, where all kids and buses are those of
+/// the board before: it is unrealized with all that is below it; bus after bus, each kid is taken out, and
+/// the bus is let go; then the device leaves its bus and its container. A kid is taken out in the same way,
+/// and is held meanwhile. No bound is felt, and no other way of taking out goes by these steps.
+#[tactic(auto, using(crate::proofs::TakenLemmas::taken_lem))]
+pub fn law_taken()
+    ensures { TakenLaw }
 {}
