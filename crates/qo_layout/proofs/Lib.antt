@@ -1,0 +1,13 @@
+pub mod AddLemmas
+pub mod AddedLemmas
+pub mod DimmLemmas
+pub mod LengthLemmas
+pub mod MapLemmas
+pub mod NumberingLemmas
+pub mod OpeningRows
+pub mod OrderLemmas
+pub mod PlaceLemmas
+pub mod RankLemmas
+pub mod RegionLemmas
+pub mod ShowLemmas
+pub mod WindowLemmas
