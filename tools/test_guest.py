@@ -5,6 +5,7 @@ id, CR LF behind them. It prints nothing where all is well."""
 
 import json
 import pathlib
+import signal
 import subprocess
 import sys
 import tempfile
@@ -23,7 +24,7 @@ class Guest:
 
     def __exit__(self, *_):
         self.program.terminate()
-        assert self.program.wait(SECONDS) in (0, 1)
+        assert self.program.wait(SECONDS) in (0, 1, -signal.SIGKILL)
 
 
 class Library(Client):
@@ -108,6 +109,22 @@ def test_clients_in_turn(path):
             with Library(listen) as client:
                 client.begins()
                 assert client.executes("object-add", **{"qom-type": "tag", "id": name}) == {}
+        server.ends_well()
+
+
+def test_a_path_left_after(path):
+    """A guest that was killed leaves its socket file, which the next one replaces; one at which somebody listens stays."""
+    listen = path.with_name("guest")
+    with Server(path, 2) as server:
+        with Guest(listen, path) as first, Library(listen) as client:
+            client.begins()
+            with subprocess.Popen([TOP / "tools" / "guest", listen, path], stderr=subprocess.PIPE) as other:
+                assert other.wait(SECONDS) == 1 and b"cannot listen" in other.stderr.read()
+            first.program.kill()
+            first.program.wait(SECONDS)
+        assert listen.is_socket()
+        with Guest(listen, path), Library(listen) as client:
+            client.begins()
         server.ends_well()
 
 

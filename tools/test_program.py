@@ -9,8 +9,8 @@ import sys
 import threading
 
 TOP = pathlib.Path(__file__).resolve().parent.parent
-HOME = TOP / "crates" / "compose_program"
-PROGRAM = HOME / "out" / "compose_program"
+PROGRAM = TOP / "crates" / "compose_program" / "out" / "compose_program"
+PATIENCE = 300
 TYPES = b"""\
 object - abstract -
 container object plain -
@@ -35,7 +35,7 @@ USAGE = b"usage: compose replay | serve --socket PATH --connections N | demo --s
 
 def differs(name, words, given, status, printed, complained):
     """Whether a run is not as it must be; says how."""
-    ran = subprocess.run([PROGRAM, *words], input=given, capture_output=True, timeout=60)
+    ran = subprocess.run([PROGRAM, *words], input=given, capture_output=True, timeout=PATIENCE)
     wanted = (status, printed, complained)
     got = (ran.returncode, ran.stdout, ran.stderr)
     if got == wanted:
@@ -92,7 +92,7 @@ def summary(transcript):
 
 def demo_differs(name, words, seed, steps):
     """Whether a demo, twice, does not count what is sent for its record, made and counted here; says so."""
-    replayed = subprocess.run([PROGRAM, "replay"], input=demo_record(seed, steps), capture_output=True, timeout=60)
+    replayed = subprocess.run([PROGRAM, "replay"], input=demo_record(seed, steps), capture_output=True, timeout=PATIENCE)
     if replayed.returncode != 0:
         print(f"the record of {name}: status {replayed.returncode}", file=sys.stderr)
         return True
@@ -108,7 +108,7 @@ def answers_late():
         (b'bytes 1.000000 0 26\n{"execute":"query-status"}\n', b'0 {"return":{"running":true,"status":"running"}}\r\n'),
     ]
     with subprocess.Popen([PROGRAM, "replay"], stdin=subprocess.PIPE, stdout=subprocess.PIPE) as ran:
-        patience = threading.Timer(20, ran.kill)
+        patience = threading.Timer(PATIENCE, ran.kill)
         patience.start()
         got = []
         for sent, _ in steps:

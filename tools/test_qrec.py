@@ -1,5 +1,5 @@
 #!/usr/bin/env python3
-"""Tests tools/qrec. It prints nothing where all is well."""
+"""Tests tools/qrec; what it fills in by the proved program where that is built. It prints nothing where all is well."""
 
 import pathlib
 import random
@@ -7,6 +7,7 @@ import subprocess
 import sys
 
 TOP = pathlib.Path(__file__).resolve().parent.parent
+PROGRAM = TOP / "crates" / "compose_program" / "out" / "compose_program"
 SESSIONS = {
     "": b"qrec 1\n",
     "open 0\n": b"qrec 1\nopen 0.000000 0\n",
@@ -50,6 +51,32 @@ def test_refusals():
         status, _, told = run("read", record)
         assert status == 3 and told.startswith(f"qrec: bad record at byte {place}: ".encode()), record
     assert subprocess.run([TOP / "tools" / "qrec"], capture_output=True, check=False).returncode == 2
+
+
+def test_line_ends():
+    """Blanks at the ends of a line, carriage returns and empty lines are passed over; a session that is not open is told how it opens."""
+    assert run("write", b"  open 0\r\n\r\n# a note\n\t-> {} \r\n") == run("write", b"open 0\n-> {}\n")
+    assert run("write", b"-> {}\n") == (3, b"", b"qrec: line 1: session 0 is not open: put `open 0` before it\n")
+
+
+def test_unwritable():
+    """Where what is made cannot be written it says so in one line, and is silent where nobody reads on."""
+    for word, given in (("write", b"open 0\n"), ("read", b"qrec 1\nopen 0.000000 0\n")):
+        with open("/dev/full", "wb") as full:
+            done = subprocess.run([TOP / "tools" / "qrec", word], input=given, stdout=full, stderr=subprocess.PIPE, check=False)
+        assert done.returncode == 1 and done.stderr.startswith(b"qrec: ") and done.stderr.count(b"\n") == 1, done.stderr
+        with subprocess.Popen([TOP / "tools" / "qrec", word], stdin=subprocess.PIPE, stdout=subprocess.PIPE, stderr=subprocess.PIPE) as going:
+            going.stdout.close()
+            going.stdin.write(given)
+            going.stdin.close()
+            assert going.stderr.read() == b"" and going.wait() == 1
+
+
+def test_fill():
+    """Each session of examples/ is what its own inputs are filled with."""
+    for path in sorted((TOP / "examples").glob("*.session")) if PROGRAM.exists() else ():
+        text = path.read_bytes()
+        assert run("fill", text) == (0, text, b""), path
 
 
 def test_bytes():

@@ -1,8 +1,8 @@
 #!/usr/bin/env python3
 """Checks docs/READING.md: that its rows count the lines of their files, that each further file of specs/ says in its
 first line what it is for, and that the list is closed: what the contracts of the headline name, and what these
-definitions name in turn, is read. The hour before the list counts its lines too, and is of the list. It prints what is to
-be changed, and nothing where all is well."""
+definitions name in turn, is read. The hour before the list counts its lines too, and is of the list; which of its names
+are in several files is in a table. It prints what is to be changed, and nothing where all is well."""
 
 import pathlib
 import re
@@ -12,6 +12,7 @@ TOP = pathlib.Path(__file__).resolve().parent.parent
 ROW = re.compile(r"^\| `(\w+)`: `(\w+)`(?:, only ([^|]*?))? \| (\d+) \|", re.M)
 SPAN = re.compile(r"^\| `(\w+)`: `(\w+)`(?:, from `([^`]+)` to `([^`]+)`)? \| (\d+) \|", re.M)
 HOUR = "An hour with the definitions"
+DOUBLES = "These names of the hour are in two files of the list, or more:"
 MARKS = ("For proofs alone.", "For a law alone.", "For laws alone.", "; for proofs alone.")
 
 # The calls whose contracts are the headline, by their files.
@@ -117,8 +118,8 @@ def between(module, first, last):
 
 
 def check_hour(text, modules, read):
-    """What is wrong in the first part: its counts, and what is not of the list behind it."""
-    wrong, whole = [], 0
+    """What is wrong in the first part: its counts, and what is not of the list behind it; and the names that it has."""
+    wrong, whole, known = [], 0, set()
     for crate, name, first, last, count in SPAN.findall(text):
         module = modules.get((crate, name))
         if module is None or first and not (first in module.texts and last in module.texts):
@@ -127,12 +128,22 @@ def check_hour(text, modules, read):
         names = between(module, first, last)
         size = sum(module.sizes[it] for it in names) if first else module.count
         whole += size
+        known.update(names)
         if size != int(count) or not names:
             wrong.append(f"{HOUR}: {crate}: {name} from {names[:1]} to {names[-1:]} has {size} lines, and not {count}")
         wrong += [f"{HOUR}: {crate}: {name}: {it} is not in the list" for it in names if it not in read.get((crate, name), ())]
     if f" {whole:,} lines." not in text:
         wrong.append(f"{HOUR}: {whole:,} lines")
-    return wrong
+    return wrong, known
+
+
+def check_doubles(text, known, read):
+    """What is wrong in the table of those names of the first part that several files of the list have."""
+    files = {name: {it for it, names in read.items() if name in names} for name in known}
+    wanted = {name: {file for _, file in those} for name, those in files.items() if len(those) > 1}
+    rows = re.findall(r"^\| `([^`]+)` \| (.*)$", text.partition(DOUBLES)[2].partition("\n## ")[0], re.M)
+    told = {name: set(re.findall(r"`([A-Z]\w*)`[:,]", row)) for name, row in rows}
+    return [f"the table of names: {it} is in {sorted(wanted.get(it, ()))}" for it in sorted(wanted.keys() | told.keys()) if wanted.get(it, set()) != told.get(it)]
 
 
 def check_rows(text, modules, read):
@@ -166,7 +177,8 @@ def main():
         if not part.startswith(HOUR):
             found, size = check_rows(part, modules, read)
             wrong, whole = wrong + found, whole + size
-    wrong += [it for part in parts if part.startswith(HOUR) for it in check_hour(part, modules, read)]
+    found, known = check_hour(next(it for it in parts if it.startswith(HOUR)), modules, read)
+    wrong += found + check_doubles(text, known, read)
     if f"The whole is {whole:,} lines in {len(read)} files;" not in text:
         wrong.append(f"the whole is {whole:,} lines in {len(read)} files")
     for (crate, name), module in modules.items():

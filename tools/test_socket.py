@@ -1,6 +1,6 @@
 #!/usr/bin/env python3
 """Serves clients by the proved program on a Unix socket in a temporary folder, and holds what they are sent, the exit
-status and the socket file to what they must be. It prints nothing where all is well, and ends by itself within a minute.
+status and the socket file to what they must be. It prints nothing where all is well, and takes less than a minute then.
 The program is built by `rt ci`, or by ./build."""
 
 import contextlib
@@ -18,7 +18,7 @@ VERSION = {"package": "compose", "qemu": {"major": 1, "micro": 0, "minor": 0}}
 GREETING = {"QMP": {"capabilities": [], "version": VERSION}}
 STATUS = {"return": {"running": True, "status": "running"}}
 EMPTY = {"return": {}}
-SECONDS = 20
+SECONDS = 60
 
 
 class Server:
@@ -85,16 +85,11 @@ class Client:
         """Sends a command."""
         self.socket.sendall(json.dumps({"execute": command, "arguments": arguments}).encode() + b"\n")
 
-    def fills(self):
-        """Sends commands, and reads nothing, until nothing of them has gone for three seconds."""
-        self.socket.setblocking(False)
-        commands, last = b'{"execute":"query-commands"}\n' * 100, time.monotonic()
-        while time.monotonic() < last + 3:
-            try:
-                sent = self.socket.send(commands)
-                commands, last = commands[sent:] + commands[:sent], time.monotonic()
-            except BlockingIOError:
-                time.sleep(0.01)
+    def sends_on(self):
+        """Sends commands, and reads nothing, until its connection is gone."""
+        with contextlib.suppress(BrokenPipeError, ConnectionResetError):
+            while True:
+                self.socket.sendall(b'{"execute":"query-commands"}\n' * 100)
 
     def negotiates(self):
         """Reads the greeting, and negotiates."""
@@ -172,7 +167,7 @@ def test_a_client_that_never_reads(path):
     """A client that sends and never reads is let go in the end, and the next one is served."""
     with Server(path, 2) as server, Client(path) as deaf, Client(path) as next_client:
         deaf.negotiates()
-        deaf.fills()
+        deaf.sends_on()
         next_client.negotiates()
         next_client.socket.close()
         server.ends_well()
@@ -236,10 +231,11 @@ def test_a_hundred(path):
 
 
 def test_tap(path):
-    """What `qrec tap` records of clients is replayed to what they were sent, with the cuts that they made."""
-    tapped, record = path.with_name("tapped"), path.with_name("record")
-    words = [TOP / "tools" / "qrec", "tap", tapped, path]
-    with Server(path, 2) as server, record.open("wb") as out, subprocess.Popen(words, stdout=out) as tap, contextlib.ExitStack() as ends:
+    """What `qrec tap` records of clients is replayed to what they were sent, with the cuts that they made; its log has each line."""
+    tapped, record, log = path.with_name("tapped"), path.with_name("record"), path.with_name("log")
+    words = [TOP / "tools" / "qrec", "tap", "-v", tapped, path]
+    with Server(path, 2) as server, record.open("wb") as out, log.open("wb") as told, contextlib.ExitStack() as ends:
+        tap = ends.enter_context(subprocess.Popen(words, stdout=out, stderr=told))
         ends.callback(tap.kill)
         got = []
         for name in ["one", "two"]:
@@ -260,6 +256,8 @@ def test_tap(path):
     session = subprocess.run([TOP / "tools" / "qrec", "read"], input=record.read_bytes(), capture_output=True, check=True)
     words = [line.split()[1] for line in session.stdout.decode().splitlines()]
     assert words == ["open", *["raw"] * 4, "shut"] * 2, words
+    arrows = [line.split()[0] for line in log.read_text().splitlines()]
+    assert arrows == ["<-", *["->", "<-"] * 4] * 2, arrows
 
 
 def main():
