@@ -1,4 +1,3 @@
-pub mod DeviceLemmas
 pub mod KidLemmas
 pub mod LeavingLemmas
 pub mod LinkLemmas

@@ -1,13 +1,12 @@
 //! What is read of a device (include/hw/qdev-core.h: realization; the clock of a device).
 
-ghost use Rattle.std.specs.Prelude.{◌≡◌, false, IfSome, slice_get};
-ghost use Rattle.std.specs.Option.{option_map_or};
+ghost use Rattle.std.specs.Prelude.{◌≡◌, IfSome};
 ghost use Rattle.qo_model.specs.Board.{Board};
-ghost use Rattle.qo_model.specs.Devices.{bus_of, clock_of, device_named, has_id, is_realized, is_true, bus_slot_of};
+ghost use Rattle.qo_model.specs.Devices.{bus_of, clock_of, is_realized, is_true, bus_slot_of};
 ghost use Rattle.qo_model.specs.Paths.{is_of};
 ghost use Rattle.qo_object.specs.BoardObject.{birth_of};
 ghost use Rattle.qo_table.specs.Rows.{IsLive};
-ghost use Rattle.qo_heap.specs.Board.{Shows, record_of};
+ghost use Rattle.qo_heap.specs.Board.{Shows};
 
 use crate::slots::{child_at, number_at, plain_at, strong_at};
 use qo_heap::{Heap, Oid, Steps};
@@ -68,30 +67,4 @@ pub fn clock_of<L: Ledger>(heap: &Heap, dev: Oid, steps: &mut Steps<L>) -> Optio
     ensures live { IfSome result (IsLive heap.now.rows) }
 {
     child_at(heap, dev, "clk", steps)
-}
-
-/// Whether the object at a place in the order of births has a device id; not past the last.
-fn has_id_at<L: Ledger>(heap: &Heap, place: usize, id: &str, steps: &mut Steps<L>) -> bool
-    ensures { result ≡ option_map_or (λ row. has_id id.now (record_of row)) (slice_get heap.now.rows place) false }
-{
-    heap.facts();
-    let Some(o) = heap.oid_at(place) else {
-        return false;
-    };
-    match heap.device_id(o, steps) {
-        Some(its) => its.as_str() == id,
-        None => false,
-    }
-}
-
-/// Whether a live device has an id.
-pub fn device_named<L: Ledger>(heap: &Heap, id: &str, steps: &mut Steps<L>) -> bool
-    ensures { (b : Board) → Shows b heap.now → result ≡ device_named b id.now }
-{
-    for place in 0..heap.live() {
-        if has_id_at(heap, place, id, steps) {
-            return true;
-        }
-    }
-    false
 }

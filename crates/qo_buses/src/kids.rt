@@ -1,14 +1,10 @@
 //! The kids of a bus, and its slots (docs/PROFILE.md: the slots of a bus and the names of its links).
 
-ghost use Rattle.std.specs.Prelude.{◌≡◌, ◌<◌, IfSome, find, option_map, slice_get};
+ghost use Rattle.std.specs.Prelude.{◌≡◌, IfSome, find, option_map, slice_get};
 ghost use Rattle.std.specs.Option.{option_and_then};
 ghost use Rattle.std.specs.Str.{bytes_eq};
-ghost use Rattle.qo_values.specs.Placing.{least};
-ghost use Rattle.qo_values.specs.declared.limits.TheConstants.{BUS_SLOTS};
 ghost use Rattle.qo_model.specs.Board.{Board, slots_at};
 ghost use Rattle.qo_model.specs.Devices.{kid_at, kid_name, kids_of, strong_in};
-ghost use Rattle.qo_model.specs.Objects.{has_slot};
-ghost use Rattle.qo_model.specs.Plug.{is_free};
 ghost use Rattle.qo_model.specs.Unplug.{first_of};
 ghost use Rattle.qo_object.specs.BoardObject.{birth_of};
 ghost use Rattle.qo_table.specs.Rows.{IsLive};
@@ -17,7 +13,6 @@ ghost use Rattle.qo_heap.specs.Objects.{slots_of};
 
 use crate::slots::strong_in;
 use qo_heap::{Heap, Oid, SlotView, Steps};
-use qo_values::BUS_SLOTS;
 use std::sync::ledger::Ledger;
 
 /// Whether a name is that of the link of a bus to the kid in a slot.
@@ -60,28 +55,6 @@ pub fn kid_at<L: Ledger>(heap: &Heap, bus: Oid, slot: u8, steps: &mut Steps<L>) 
     heap.facts();
     let view = kid_slot(heap, bus, slot, steps)?;
     strong_in(view.what)
-}
-
-/// Whether a bus has a link of the name of the kid in a slot, so that no device can come there.
-pub fn has_kid_slot<L: Ledger>(heap: &Heap, bus: Oid, slot: u8, steps: &mut Steps<L>) -> bool
-    requires { IsLive heap.now.rows bus }
-    ensures { (b : Board) → Shows b heap.now → result ≡ has_slot b bus.birth (kid_name slot) }
-{
-    kid_slot(heap, bus, slot, steps).is_some()
-}
-
-/// The least slot of a bus that is free; `None` exactly where the bus is full.
-pub fn least_free<L: Ledger>(heap: &Heap, bus: Oid, steps: &mut Steps<L>) -> Option<u8>
-    requires { IsLive heap.now.rows bus }
-    ensures free { (b : Board) → Shows b heap.now → result ≡ least (is_free b bus.birth) 0 BUS_SLOTS }
-    ensures within { IfSome result (λ slot. slot < BUS_SLOTS) }
-{
-    for slot in 0..BUS_SLOTS {
-        if !has_kid_slot(heap, bus, slot, steps) {
-            return Some(slot);
-        }
-    }
-    None
 }
 
 /// The kid that the slot of a bus at a place, from 0, links to; `None` where the slot is no strong

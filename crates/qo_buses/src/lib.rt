@@ -14,9 +14,9 @@ mod writing;
 
 pub use addresses::by_address;
 pub use buses::{bridge_of, bus_above, bus_in_slot, depth, first_bus, is_going};
-pub use devices::{bus_of, bus_slot_of, clock_of, device_named, is_of, is_realized};
+pub use devices::{bus_of, bus_slot_of, clock_of, is_of, is_realized};
 pub use joining::{join_bus, point_bus};
-pub use kids::{first_kid, has_kid_slot, kid_at, kid_in_slot, least_free};
+pub use kids::{first_kid, kid_at, kid_in_slot};
 pub use leaving::{leave, leave_parent, let_go_bus};
 pub use names::{anonymous_name, kid_name};
 pub use slots::{child_at, number_at, plain_at, strong_at, text_at};

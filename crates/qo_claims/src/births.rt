@@ -32,7 +32,8 @@ impl Births {
         }
     }
 
-    fn has(&self, birth: u64) -> bool
+    /// Whether a birth is held.
+    pub fn has(&self, birth: u64) -> bool
         ensures { result ≡ has_birth birth self.now }
     {
         self.set.contains(&birth)

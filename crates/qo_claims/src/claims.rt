@@ -133,8 +133,8 @@ impl Claims {
     ghost use Rattle.std.specs.Prelude.{◌≡◌, ◌≤◌};
     ghost use Rattle.qo_claims.specs.declared.claims.Claimed.TheVariants as on;
     ghost use Rattle.qo_claims.specs.Answers.{Took, on_whole};
-    ghost use Rattle.qo_claims.specs.Lists.{id_answer, birth_answer, slot_answer, range_answer};
-    ghost use Rattle.qo_claims.specs.Book.{nothing_taken, with_claim, without_claim};
+    ghost use Rattle.qo_claims.specs.Lists.{bus_slot, id_answer, birth_answer, least_free, slot_answer, range_answer};
+    ghost use Rattle.qo_claims.specs.Book.{is_taken, nothing_taken, with_claim, without_claim};
 
     /// A book in which nothing is held. It takes memory only by the calls `take_..`.
     pub fn new(alloc: Global) -> Claims
@@ -147,6 +147,49 @@ impl Claims {
             backends: Births::new(alloc),
             ranges: Ranges::new(alloc),
         }
+    }
+
+    /// Whether the id of a device is held. It takes no memory.
+    pub fn is_id_taken(&self, id: &str) -> bool
+        ensures { result ≡ is_taken (on.Device id.now) self.now }
+    {
+        self.devices.has(id)
+    }
+
+    /// Whether a slot of the bus of a birth is held. It takes no memory.
+    pub fn is_slot_taken(&self, bus: u64, slot: u8) -> bool
+        ensures { result ≡ is_taken (on.Slot (bus_slot bus slot)) self.now }
+    {
+        self.slots.has(&BusSlot { bus, slot })
+    }
+
+    /// The least slot that is free on the bus of a birth; `None` exactly where all are held. It takes no
+    /// memory.
+    pub fn free_slot(&self, bus: u64) -> Option<u8>
+        ensures { result ≡ least_free bus self.now.slots }
+    {
+        self.slots.least_free(bus)
+    }
+
+    /// Whether the ring of an id is held. It takes no memory.
+    pub fn is_ring_taken(&self, id: &str) -> bool
+        ensures { result ≡ is_taken (on.Ring id.now) self.now }
+    {
+        self.rings.has(id)
+    }
+
+    /// Whether the memory backend of a birth is held. It takes no memory.
+    pub fn is_backend_taken(&self, birth: u64) -> bool
+        ensures { result ≡ is_taken (on.Backend birth) self.now }
+    {
+        self.backends.has(birth)
+    }
+
+    /// The ranges that are held, by rising addresses. It takes no memory.
+    pub fn ranges(&self) -> &[Range]
+        ensures { result.now ≡ self.now.ranges }
+    {
+        self.ranges.list()
     }
 
     /// Claims the id of a device; `Taken` exactly where it is taken. An error leaves all as it was.

@@ -33,7 +33,8 @@ impl Ids {
         }
     }
 
-    fn has(&self, id: &str) -> bool
+    /// Whether an id is held.
+    pub fn has(&self, id: &str) -> bool
         ensures { result ≡ has_id id.now self.now }
     {
         self.set.contains(id)

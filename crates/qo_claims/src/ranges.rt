@@ -81,6 +81,13 @@ impl Ranges {
         }
     }
 
+    /// The ranges.
+    pub fn list(&self) -> &[Range]
+        ensures { result.now ≡ self.now }
+    {
+        &self.list
+    }
+
     /// Whether a range overlaps one of the ranges.
     fn overlaps_any(&self, range: Range) -> bool
         ensures { result ≡ overlaps_any range self.now }

@@ -43,14 +43,15 @@ impl Slots {
         }
     }
 
-    fn has(&self, slot: &BusSlot) -> bool
+    /// Whether a slot is held.
+    pub fn has(&self, slot: &BusSlot) -> bool
         ensures { result ≡ has_bus_slot slot.now self.now }
     {
         self.set.contains(slot)
     }
 
     /// The least slot that is free on a bus.
-    fn least_free(&self, bus: u64) -> Option<u8>
+    pub fn least_free(&self, bus: u64) -> Option<u8>
         ensures { result ≡ least_free bus self.now }
     {
         for slot in 0..BUS_SLOTS {

@@ -26,6 +26,13 @@ impl Heap {
         self.time
     }
 
+    /// The book of claims. It takes no memory.
+    pub fn book(&self) -> &Claims
+        ensures { result.now ≡ self.now.claims }
+    {
+        &self.claims
+    }
+
     /// The book of claims, for writing. It takes no memory.
     pub fn claims(&mut self) -> &mut Claims
         ensures* writes_back { sem 𝓛 (lends_claims self.entry result) }

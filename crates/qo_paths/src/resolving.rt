@@ -81,10 +81,11 @@ fn end_at<L: Ledger>(
 {
     heap.facts();
     let from = heap.oid_at(place)?;
+    let end = end_of(heap, from, path, wanted, steps)?;
     if !is_attached(heap, from, steps) {
         return None;
     }
-    end_of(heap, from, path, wanted, steps)
+    Some(end)
 }
 
 /// The object that a partial path leads to.
