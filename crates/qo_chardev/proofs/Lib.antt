@@ -1,3 +1,5 @@
 pub mod Ascii
 pub mod Encodings
+pub mod PartLemmas
+pub mod RingLemmas
 pub mod Sizes

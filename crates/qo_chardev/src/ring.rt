@@ -1,8 +1,7 @@
 //! The ring: a queue of bytes that overwrites its oldest when it is full.
 
+use crate::parts::{PART_BYTES, first_part, is_base64};
 use crate::texts::{oldest, tell};
-use base64::DecodeAllocError;
-use base64::engine::general_purpose::STANDARD;
 use circular_buffer::HeapCircularBuffer;
 use qo_values::{Form, RING_SIZE_MAX, Text};
 use std::alloc::{AllocError, Global};
@@ -51,9 +50,6 @@ pub enum AddError {
     /// The text is not the standard Base64 of any bytes.
     #[error("text not Base64")]
     BadText,
-    /// Memory ran out.
-    #[error("out of memory")]
-    Memory,
 }
 
 impl From<AllocError> for TakeError {
@@ -68,7 +64,7 @@ impl From<AllocError> for TakeError {
 }
 
 impl Ring {
-    ghost use Rattle.std.specs.Prelude.{◌≡◌, true, false, None, Some, IfOk, OnOk, OnErr};
+    ghost use Rattle.std.specs.Prelude.{◌≡◌, ◌≤◌, length, true, false, None, Some, is_some, IfOk, OnOk, OnErr};
     ghost use Rattle.qo_values.specs.Rings.{is_ring_size, empty_ring, ring_add, ring_push, ring_oldest, ring_drop};
     ghost use Rattle.qo_chardev.specs.Texts.{told, untold, Adds};
 
@@ -121,21 +117,43 @@ impl Ring {
         Ok(text)
     }
 
-    /// Adds the bytes whose standard Base64 a text is. Where there are none it fails, by `BadText`
-    /// or, where memory runs out first, by `Memory`. An error adds nothing.
+    /// What is so of every ring: it has at most as many bytes as its size.
+    fn facts(&self)
+        ensures { length self.now.bytes ≤ self.now.size }
+    {
+        let _size = self.buffer.capacity();
+    }
+
+    /// Adds the bytes of a text that is Base64, part by part.
+    fn add_parts(&mut self, text: &[u8])
+        requires { is_some (untold text.now) ≡ true }
+        ensures { Adds text.now self.old self.new }
+    {
+        self.facts();
+        let mut buffer = [0; PART_BYTES];
+        let mut rest = text;
+        while !rest.is_empty() {
+            let Some((bytes, after)) = first_part(rest, &mut buffer) else {
+                unreachable!();
+            };
+            self.add(bytes);
+            rest = after;
+        }
+    }
+
+    /// Adds the bytes whose standard Base64 a text is; `BadText` exactly where there are none. It
+    /// takes no memory. An error adds nothing.
     pub fn add_base64(&mut self, text: &str) -> Result<(), AddError>
         ensures added { OnOk result (Adds text.now self.old self.new) }
+        ensures bad_text { untold text.now ≡ None → result ≡ Err AddError.BadText }
         ensures only_bad_text { result ≡ Err AddError.BadText → untold text.now ≡ None }
         ensures err { OnErr result (self.new ≡ self.old) }
     {
-        let alloc = *self.buffer.allocator();
-        match STANDARD.decode(alloc, text.as_bytes()) {
-            Ok(bytes) => {
-                self.add(bytes.as_slice());
-                Ok(())
-            }
-            Err(DecodeAllocError::DecodeError(_)) => Err(AddError::BadText),
-            Err(DecodeAllocError::OutOfMemory) => Err(AddError::Memory),
+        let text = text.as_bytes();
+        if !is_base64(text) {
+            return Err(AddError::BadText);
         }
+        self.add_parts(text);
+        Ok(())
     }
 }

@@ -14,4 +14,3 @@ take_failure take.Memory = taking.Memory
 
 abbrev pub add_failure : AddError → RingAddError
 add_failure add.BadText = adding.BadText
-add_failure add.Memory = adding.Memory

@@ -26,9 +26,6 @@ pub enum RingAddError {
     /// The text is not the standard Base64 of any bytes.
     #[error("text not Base64")]
     BadText,
-    /// Memory ran out.
-    #[error("out of memory")]
-    Memory,
 }
 
 impl From<TakeError> for RingTakeError {
@@ -54,7 +51,6 @@ impl From<AddError> for RingAddError {
     fn from(error: AddError) -> RingAddError {
         match error {
             AddError::BadText => RingAddError::BadText,
-            AddError::Memory => RingAddError::Memory,
         }
     }
 }

@@ -69,9 +69,11 @@ impl NamedRing {
         Ok(self.ring.take(most, form)?)
     }
 
-    /// Adds the bytes that a text gives. An error adds nothing.
+    /// Adds the bytes that a text gives; `BadText` exactly where it gives none. It takes no memory. An
+    /// error adds nothing.
     pub fn add_bytes(&mut self, text: &str, form: Form) -> Result<(), RingAddError>
         ensures added { OnOk result (Gains form text.now (λ f. self.new ≡ with_bytes f self.old)) }
+        ensures bad_text { given_bytes form text.now ≡ None → result ≡ Err adding.BadText }
         ensures only_bad_text { result ≡ Err adding.BadText → given_bytes form text.now ≡ None }
         ensures found { ¬ (result ≡ Err adding.NotFound) }
         ensures err { OnErr result (self.new ≡ self.old) }

@@ -29,7 +29,7 @@ impl Model for Rings {
 }
 
 impl Rings {
-    ghost use Rattle.std.specs.Prelude.{◌≡◌, [], ◌∷◌, ◌++◌, false, None, Some, IfOk, OnOk, OnErr, option_map};
+    ghost use Rattle.std.specs.Prelude.{◌≡◌, [], ◌∷◌, ◌++◌, false, None, Some, IfOk, IsSome, OnOk, OnErr, option_map};
     ghost use Rattle.std.specs.List.{list_any, position};
     ghost use Rattle.qo_values.specs.Rings.{is_ring_size, ring_drop, ring_push};
     ghost use Rattle.qo_chardev.specs.declared.ring.RingError.TheVariants as bad;
@@ -123,12 +123,13 @@ impl Rings {
 
     /// Adds the bytes that a text gives to the ring of an id: the text's own, or those whose standard
     /// Base64 it is. Where they do not fit, the oldest go. `NotFound` exactly where there is no such
-    /// ring. Where the text is no Base64 it fails, by `BadText` or, where memory runs out first, by
-    /// `Memory`. An error adds nothing.
+    /// ring, and else `BadText` exactly where the text is no Base64. It takes no memory. An error adds
+    /// nothing.
     pub fn add_bytes(&mut self, id: &str, text: &str, form: Form) -> Result<(), RingAddError>
         ensures added { OnOk result (Gains form text.now (λ f. self.new ≡ ring_changed f id.now self.old)) }
         ensures not_found { ring_named id.now self.old ≡ None → result ≡ Err adding.NotFound }
         ensures only_not_found { result ≡ Err adding.NotFound → ring_named id.now self.old ≡ None }
+        ensures bad_text { IsSome (ring_named id.now self.old) → given_bytes form text.now ≡ None → result ≡ Err adding.BadText }
         ensures only_bad_text { result ≡ Err adding.BadText → given_bytes form text.now ≡ None }
         ensures err { OnErr result (self.new ≡ self.old) }
     {

@@ -1,5 +1,4 @@
-//! What no clause says: that calls that take memory succeed where there is enough, and that a text
-//! that is not Base64 is then told so.
+//! What no clause says: that calls that take memory succeed where there is enough.
 use qo_rings::{RING_SIZE_DEFAULT, RingAddError, RingTakeError, Rings};
 use qo_values::{Form, Id};
 use std::alloc::Global;

@@ -1,4 +1,4 @@
-use Rattle.std.proofs.Common.{◌≡◌, ◌∙◌, Some, position, sym}
+use Rattle.std.proofs.Common.{◌≡◌, ◌∙◌, None, Some, is_some, position, ap, sym}
 use Rattle.std.proofs.lemmas.Option.{none-some}
 use Rattle.qo_values.proofs.ListLemmas.{position-none}
 use Rattle.qo_values.specs.Rings.{ring_add}
@@ -9,6 +9,11 @@ use Rattle.qo_rings.proofs.rings.Rings.add_bytes.Goals as goal
 
 pub returns-in_default-clause-only_not_found : goal.returns-in_default-clause-only_not_found
 returns-in_default-clause-only_not_found c same = position-none (is_ring c.args.id.now) c.args.self.now (sym c.place.ensures ∙ c.in_default.is)
+
+pub returns-in_default-clause-bad_text : goal.returns-in_default-clause-bad_text
+returns-in_default-clause-bad_text c some bad =
+    let none : ring_named c.args.id.now c.args.self.now ≡ None = position-none (is_ring c.args.id.now) c.args.self.now (sym c.place.ensures ∙ c.in_default.is) in
+    cc (ap is_some none, some)
 
 module _ (c : goal.After-self-1) where
   found : position (is_ring c.args.id.now) c.self.inside.list.items ≡ Some c.in-Some.at
