@@ -1,5 +1,6 @@
 -- For proofs alone. The claims of a device: on its id, if it has one, and those that its body keeps.
 use Rattle.std.specs.Prelude.{ℕ, List, [], ◌∷◌, ◌++◌, Option, Some, None, option_map}
+use Rattle.qo_claims.specs.Book.{ClaimsTaken, with_claim}
 use Rattle.qo_claims.specs.Lists.{bus_slot}
 use Rattle.qo_claims.specs.declared.claims.Claimed.{Claimed}
 use Rattle.qo_claims.specs.declared.claims.Claimed.TheVariants as on
@@ -33,3 +34,8 @@ labels_out (Some l) = l.claim ∷ []
 
 abbrev pub taken_out : Taken → List Claimed
 taken_out t = kept_out t.kept ++ labels_out t.label
+
+-- one claim more is held, if there is one
+abbrev pub with_one : Option Claimed → ClaimsTaken → ClaimsTaken
+with_one None h = h
+with_one (Some claim) h = with_claim claim h

@@ -1,3 +1,4 @@
 pub mod OwnSlots
 pub mod Placement
 pub mod DeviceClaims
+pub mod FreeSpots

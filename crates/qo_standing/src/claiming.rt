@@ -2,19 +2,24 @@
 //! backend of a DIMM and its range. They are taken before it stands, and given back where it does not
 //! come to stand.
 
-ghost use Rattle.std.specs.Prelude.{◌≡◌, ◌++◌, ◌∷◌, List, Some, None, IfOk, IfSome, IfNone, OnOk, OnErr, option_map, option_and_then};
+ghost use Rattle.std.specs.Prelude.{◌≡◌, ◌≤◌, ◌<◌, ◌++◌, ◌∷◌, List, true, false, Some, None, IfOk, IfSome, IfNone, OnOk, OnErr, option_map, option_and_then};
+ghost use Rattle.qo_claims.specs.Book.{is_taken, with_claim};
 ghost use Rattle.qo_claims.specs.Lists.{bus_slot};
 ghost use Rattle.qo_claims.specs.declared.claims.Claimed.{Claimed};
 ghost use Rattle.qo_claims.specs.declared.claims.Claimed.TheVariants as on;
+ghost use Rattle.qo_claims.specs.declared.errors.ClaimError.TheVariants as refusal;
+ghost use Rattle.qo_values.specs.Placing.{is_in_window};
+ghost use Rattle.qo_values.specs.declared.limits.TheConstants.{BUS_SLOTS};
 ghost use Rattle.qo_heap.specs.Book.{IsBook};
 ghost use Rattle.qo_heap.specs.Objects.{content_of, with_edit};
 ghost use Rattle.qo_kinds.specs.Bodies.{IsBare, kept_of, none_kept, with_kept};
 ghost use Rattle.qo_table.specs.Rows.{IsLive};
 ghost use Rattle.qo_standing.specs.Placement.{kept_in, named, with_book};
-ghost use Rattle.qo_standing.specs.DeviceClaims.{kept_on, kept_out, labels_out, one_out, taken_out};
+ghost use Rattle.qo_standing.specs.DeviceClaims.{kept_on, kept_out, labels_out, one_out, taken_out, with_one};
+ghost use Rattle.qo_standing.specs.FreeSpots.{IsFreeId, IsFreeSpot};
 
 use crate::spots::{Memory, Spot};
-use qo_claims::{Claim, Kept, keep};
+use qo_claims::{Claim, ClaimError, Kept, keep};
 use qo_heap::{Heap, Oid, Steps};
 use qo_kinds::{Body, KeptSet};
 use qo_values::Id;
@@ -36,12 +41,24 @@ pub struct Taken {
     pub kept: KeptSet,
 }
 
-/// Claims the id of a device, if it has one. The error is that it is held, or want of memory, and
-/// leaves the heap as it was.
+/// The error of a claim on what is free: want of memory alone.
+fn memory_alone(error: ClaimError) -> AllocError
+    requires { error ≡ refusal.Memory }
+{
+    match error {
+        ClaimError::Memory => AllocError,
+        ClaimError::Range | ClaimError::Taken | ClaimError::Full => unreachable!(),
+    }
+}
+
+/// Claims the id of a device, if it has one, which is free. The error is want of memory, and leaves the
+/// heap as it was.
 fn take_label(heap: &mut Heap, id: Option<Id>) -> Result<Option<Label>, AllocError>
+    requires { IsFreeId id heap.old.claims }
     ensures id { IfOk result (λ label. option_map (λ l. l.id) label ≡ id) }
     ensures on { IfOk result (λ label. IfSome label (λ l. l.claim ≡ on.Device l.id)) }
     ensures rest { heap.new ≡ with_book heap.new.claims heap.old }
+    ensures claims { IfOk result (λ label. heap.new.claims ≡ with_one (option_map (λ l. l.claim) label) heap.old.claims) }
     ensures book { IfOk result (λ label. (out : List Claimed) → IsBook out heap.old → IsBook (labels_out label ++ out) heap.new) }
     ensures err { OnErr result (heap.new ≡ heap.old) }
 {
@@ -50,29 +67,33 @@ fn take_label(heap: &mut Heap, id: Option<Id>) -> Result<Option<Label>, AllocErr
     };
     match heap.claims().take_id(&id) {
         Ok(claim) => Ok(Some(Label { id, claim })),
-        Err(_) => Err(AllocError),
+        Err(error) => Err(memory_alone(error)),
     }
 }
 
-/// Claims a slot of a bus. The error is that it is held, or want of memory, and leaves the heap as it
-/// was.
+/// Claims a slot of a bus, which is free. The error is want of memory, and leaves the heap as it was.
 fn take_slot(heap: &mut Heap, bus: u64, slot: u8) -> Result<Kept, AllocError>
+    requires below { slot < BUS_SLOTS }
+    requires free { is_taken (on.Slot (bus_slot bus slot)) heap.old.claims ≡ false }
     ensures on { IfOk result (λ kept. kept ≡ on.Slot (bus_slot bus slot)) }
     ensures rest { heap.new ≡ with_book heap.new.claims heap.old }
+    ensures claims { IfOk result (λ kept. heap.new.claims ≡ with_claim kept heap.old.claims) }
     ensures book { IfOk result (λ kept. (out : List Claimed) → IsBook out heap.old → IsBook (kept ∷ out) heap.new) }
     ensures err { OnErr result (heap.new ≡ heap.old) }
 {
     match heap.claims().take_slot(bus, Some(slot)) {
         Ok(claim) => Ok(keep(claim)),
-        Err(_) => Err(AllocError),
+        Err(error) => Err(memory_alone(error)),
     }
 }
 
-/// Claims a ring, if there is one. The error is that it is held, or want of memory, and leaves the heap
-/// as it was.
+/// Claims a ring, if there is one, which is free. The error is want of memory, and leaves the heap as it
+/// was.
 fn take_ring(heap: &mut Heap, ring: &Option<Id>) -> Result<Option<Kept>, AllocError>
+    requires { IfSome ring.now (λ id. is_taken (on.Ring id) heap.old.claims ≡ false) }
     ensures on { IfOk result (λ kept. kept ≡ option_map on.Ring ring.now) }
     ensures rest { heap.new ≡ with_book heap.new.claims heap.old }
+    ensures claims { IfOk result (λ kept. heap.new.claims ≡ with_one kept heap.old.claims) }
     ensures book { IfOk result (λ kept. (out : List Claimed) → IsBook out heap.old → IsBook (one_out kept ++ out) heap.new) }
     ensures err { OnErr result (heap.new ≡ heap.old) }
 {
@@ -81,15 +102,17 @@ fn take_ring(heap: &mut Heap, ring: &Option<Id>) -> Result<Option<Kept>, AllocEr
     };
     match heap.claims().take_ring(id) {
         Ok(claim) => Ok(Some(keep(claim))),
-        Err(_) => Err(AllocError),
+        Err(error) => Err(memory_alone(error)),
     }
 }
 
-/// Claims the backend of a memory, if there is one. The error is that it is held, or want of memory,
-/// and leaves the heap as it was.
+/// Claims the backend of a memory, if there is one, which is free. The error is want of memory, and
+/// leaves the heap as it was.
 fn take_backend(heap: &mut Heap, memory: Option<Memory>) -> Result<Option<Kept>, AllocError>
+    requires { IfSome memory (λ m. is_taken (on.Backend m.backend) heap.old.claims ≡ false) }
     ensures on { IfOk result (λ kept. kept ≡ option_map (λ m. on.Backend m.backend) memory) }
     ensures rest { heap.new ≡ with_book heap.new.claims heap.old }
+    ensures claims { IfOk result (λ kept. heap.new.claims ≡ with_one kept heap.old.claims) }
     ensures book { IfOk result (λ kept. (out : List Claimed) → IsBook out heap.old → IsBook (one_out kept ++ out) heap.new) }
     ensures err { OnErr result (heap.new ≡ heap.old) }
 {
@@ -98,13 +121,16 @@ fn take_backend(heap: &mut Heap, memory: Option<Memory>) -> Result<Option<Kept>,
     };
     match heap.claims().take_backend(memory.backend) {
         Ok(claim) => Ok(Some(keep(claim))),
-        Err(_) => Err(AllocError),
+        Err(error) => Err(memory_alone(error)),
     }
 }
 
-/// Claims the range of a memory, if there is one. The error is that one is held that overlaps it, that
-/// it has no bytes or leaves the window, or want of memory, and leaves the heap as it was.
+/// Claims the range of a memory, if there is one: it lies in the window, is not empty, and overlaps none
+/// that is held. The error is want of memory, and leaves the heap as it was.
 fn take_range(heap: &mut Heap, memory: Option<Memory>) -> Result<Option<Kept>, AllocError>
+    requires free { IfSome memory (λ m. is_taken (on.Range m.range) heap.old.claims ≡ false) }
+    requires window { IfSome memory (λ m. is_in_window m.range ≡ true) }
+    requires size { IfSome memory (λ m. 1 ≤ m.range.size) }
     ensures on { IfOk result (λ kept. kept ≡ option_map (λ m. on.Range m.range) memory) }
     ensures rest { heap.new ≡ with_book heap.new.claims heap.old }
     ensures book { IfOk result (λ kept. (out : List Claimed) → IsBook out heap.old → IsBook (one_out kept ++ out) heap.new) }
@@ -113,12 +139,9 @@ fn take_range(heap: &mut Heap, memory: Option<Memory>) -> Result<Option<Kept>, A
     let Some(Memory { range, .. }) = memory else {
         return Ok(None);
     };
-    if range.size == 0 {
-        return Err(AllocError);
-    }
     match heap.claims().take_range(Some(range.at), range.size) {
         Ok(claim) => Ok(Some(keep(claim))),
-        Err(_) => Err(AllocError),
+        Err(error) => Err(memory_alone(error)),
     }
 }
 
@@ -187,10 +210,12 @@ fn put_one(place: &mut Option<Kept>, kept: Option<Kept>)
     no_claim(replace(place, kept));
 }
 
-/// Takes the claims of a device that its body is to keep, into a set without claims. The error is want
-/// of memory, or that one is held; those that were taken until then are in the set.
+/// Takes the claims of a device that its body is to keep, which are free, into a set without claims. The
+/// error is want of memory; those that were taken until then are in the set.
 fn take_into(heap: &mut Heap, bus: u64, spot: &Spot, kept: &mut KeptSet) -> Result<(), AllocError>
-    requires { kept.old ≡ none_kept }
+    requires none { kept.old ≡ none_kept }
+    requires below { spot.now.slot < BUS_SLOTS }
+    requires free { IsFreeSpot bus spot.now heap.old.claims }
     ensures on { OnOk result (kept.new ≡ kept_on bus spot.now) }
     ensures rest { heap.new ≡ with_book heap.new.claims heap.old }
     ensures book { (out : List Claimed) → IsBook out heap.old → IsBook (kept_out kept.new ++ out) heap.new }
@@ -206,14 +231,17 @@ fn take_into(heap: &mut Heap, bus: u64, spot: &Spot, kept: &mut KeptSet) -> Resu
     Ok(())
 }
 
-/// Takes the claims of a device. The error is want of memory, or that one is held; all is as it was,
-/// but that the book may have other room.
+/// Takes the claims of a device, which are free. The error is want of memory; all is as it was, but that
+/// the book may have other room.
 pub fn take_claims(
     heap: &mut Heap,
     id: Option<Id>,
     bus: u64,
     spot: &Spot,
 ) -> Result<Taken, AllocError>
+    requires below { spot.now.slot < BUS_SLOTS }
+    requires free_id { IsFreeId id heap.old.claims }
+    requires free { IsFreeSpot bus spot.now heap.old.claims }
     ensures id { IfOk result (λ taken. option_map (λ l. l.id) taken.label ≡ id) }
     ensures on { IfOk result (λ taken. IfSome taken.label (λ l. l.claim ≡ on.Device l.id)) }
     ensures kept { IfOk result (λ taken. taken.kept ≡ kept_on bus spot.now) }

@@ -33,6 +33,7 @@ ghost use Rattle.qo_standing.specs.OwnSlots.{is_own, own_slots_of};
 ghost use Rattle.qo_standing.specs.Placement.{Alike, IsDimm, IsSeat, Stays, Stood, joined_on, kept_in, range_in, ranged, spot_in, with_own};
 ghost use Rattle.qo_properties.specs.KeptClaims.{SameKept};
 ghost use Rattle.qo_standing.specs.DeviceClaims.{kept_on, labels_out};
+ghost use Rattle.qo_standing.specs.FreeSpots.{IsFreeId, IsFreeSpot};
 
 use crate::claiming::{Label, Taken, give_back, keep_claims, keep_label, take_claims};
 use crate::spots::{Memory, Spot};
@@ -364,10 +365,10 @@ fn join<L: Ledger>(
 
 /// A device that was made takes its place: it joins its container and its bus, has the values that
 /// are planned for its own slots, its id if it has one, its claims, and its clock's source, and a DIMM
-/// stands on its range; answers its canonical path. Its body keeps the claims of its seat, where it has
-/// room for claims, and each other body those that it kept. A place for an event on it is kept free. The
-/// error is want of memory, or that a claim is held or its range has no bytes, which is on no sound
-/// board; it leaves all boards as they were, and to each body its claims.
+/// stands on its range; answers its canonical path. What it claims is held by no other. Its body keeps
+/// the claims of its seat, where it has room for claims, and each other body those that it kept. A place
+/// for an event on it is kept free. The error is want of memory, and a device that has no path counts as
+/// that; it leaves all boards as they were, and to each body its claims.
 pub fn stand<L: Ledger>(
     heap: &mut Heap,
     device: Oid,
@@ -381,6 +382,8 @@ pub fn stand<L: Ledger>(
     requires container { IsLive heap.old.rows seat.container }
     requires bus { IsLive heap.old.rows seat.bus }
     requires slot { seat.spot.slot < BUS_SLOTS }
+    requires free_id { IsFreeId id heap.old.claims }
+    requires free { IsFreeSpot seat.bus.birth seat.spot heap.old.claims }
     requires apart { (device.birth == seat.bus.birth) ≡ false }
     requires new { IfSome (content_of heap.old device.birth) HasNoClaim }
     requires dimm { IfSome seat.spot.memory (λ m. IfSome (content_of heap.old device.birth) (λ c. IsDimm c.body)) }
