@@ -1,5 +1,5 @@
 -- The search for a place: below an address nothing fits.
-use Rattle.std.proofs.Common.{◌≡◌, refl, ap, sym, ◌∙◌, ℕ, ◌+◌, ◌<◌, ◌≤◌, ◌%◌, ◌^◌, Bool, true, false, not, ◌&&◌, ◌||◌, eqb, List, [], ◌∷◌, find}
+use Rattle.std.proofs.Common.{◌≡◌, refl, ap, sym, ◌∙◌, ℕ, zero, suc, ◌+◌, ◌<◌, ◌≤◌, ◌%◌, ◌^◌, Bool, true, false, not, ◌&&◌, ◌||◌, eqb, List, [], ◌∷◌, find}
 use Rattle.std.proofs.Common.{Some, None, is_some, arith, ⊎_elim}
 use Rattle.std.specs.List.{list_any}
 use Rattle.std.proofs.Math.Bool.{or-true}
@@ -7,10 +7,12 @@ use Rattle.std.proofs.lemmas.Bool.{and_right, cases_lt, eqb-true}
 use Rattle.std.proofs.lemmas.Bool.Decides.{nat_tests}
 use Rattle.qo_values.specs.declared.ranges.Range.{Range}
 use Rattle.qo_values.specs.declared.limits.TheConstants.{DIMM_ALIGN}
-use Rattle.qo_values.specs.Placing.{fits_at, is_in_window, overlap, overlaps_any, free_address, range_at, window_start, window_end, window_size}
+use Rattle.qo_values.specs.Placing.{fits_at, is_in_window, least, overlap, overlaps_any, free_address, range_at, window_start, window_end, window_size}
 use Rattle.qo_heap.proofs.HeapLemmas.{is_some-find}
 use Rattle.qo_values.proofs.ListLemmas.{found-passes}
+use Rattle.qo_values.proofs.PlacingLemmas.{least-passes}
 use Rattle.qo_claims.proofs.LeastLemmas.{least-found, least-none}
+use Rattle.qo_claims.proofs.Walks.{fits-free}
 
 -- one passes what the one found passes
 pub found-any : {X : Type 0} (p q : X → Bool) (xs : List X) (x : X) → find p xs ≡ Some x → q x ≡ true → list_any q xs ≡ true
@@ -101,3 +103,23 @@ place-out ranges size at so out =
     least-none (fits_at ranges size DIMM_ALIGN) window_start window_size
     (λ lower from below. ⊎_elim (λ before. so.none lower from before)
     (λ after. outside ranges size lower (let past : window_end < at + size = out (omega arith) in omega arith)) (cases_lt lower at))
+
+-- of two tests that tell the same, the same number is the least that passes
+pub least-same : (p q : ℕ → Bool) (first more : ℕ) → ((n : ℕ) → first ≤ n → n < first + more → p n ≡ q n) → least p first more ≡ least q first more
+unfolding least
+least-same p q first zero same = refl
+least-same p q first (suc more) same =
+    rw (same first (omega arith) (omega arith), least-same p q (first + 1) more (λ n from below. same n (omega arith) (omega arith))) refl
+
+-- beside ranges that overlap the same, the place is the same
+pub place-same : (xs ys : List Range) (size : ℕ) → ((r : Range) → overlaps_any r xs ≡ overlaps_any r ys)
+    → free_address xs size DIMM_ALIGN ≡ free_address ys size DIMM_ALIGN
+place-same xs ys size same =
+    least-same (fits_at xs size DIMM_ALIGN) (fits_at ys size DIMM_ALIGN) window_start window_size
+    (λ at from below. ap (λ (t : Bool). eqb (at % DIMM_ALIGN) 0 && is_in_window (range_at at size) && not t) (same (range_at at size)))
+
+-- a place lies in the window and overlaps none
+pub place-free : (ranges : List Range) (size at : ℕ) → free_address ranges size DIMM_ALIGN ≡ Some at
+    → (is_in_window (range_at at size) ≡ true) × (overlaps_any (range_at at size) ranges ≡ false)
+place-free ranges size at found =
+    fits-free ranges size DIMM_ALIGN at (least-passes (fits_at ranges size DIMM_ALIGN) window_start window_size at found)

@@ -1,2 +1,2 @@
-pub mod Dimms
 pub mod Rings
+pub mod Recount

@@ -252,7 +252,7 @@ fn alter<L: Ledger>(
         Alteration::ChardevAdd { id, kind, size } => {
             add_ring(alloc, board, id.as_str(), kind.as_str(), *size)
         }
-        Alteration::ChardevRemove { id } => Ok(remove_ring(board, id.as_str(), steps)),
+        Alteration::ChardevRemove { id } => Ok(remove_ring(board, id.as_str())),
         Alteration::RingbufRead {
             device,
             size,
@@ -262,7 +262,7 @@ fn alter<L: Ledger>(
             device,
             payload,
             format,
-        } => write_ring(board, device.as_str(), payload.as_str(), *format),
+        } => Ok(write_ring(board, device.as_str(), payload.as_str(), *format)),
         Alteration::XGuest { line } => guest(alloc, board, line.as_str(), steps),
         Alteration::Stop => Ok(stop(board)),
         Alteration::Cont => Ok(cont(board)),

@@ -7,12 +7,10 @@ ghost use Rattle.qo_commands.specs.Commands.{altered};
 ghost use Rattle.qo_realize.specs.Representation.{Stands};
 
 use crate::commands::{Body, Done, done_by, outcome_of, refused, returned};
-use qo_heap::Steps;
 use qo_properties::Refusal;
 use qo_realize::Board;
 use qo_values::Form;
 use std::alloc::{AllocError, Global};
-use std::sync::ledger::Ledger;
 
 /// Adds a ring under an id, by a backend of a type's name, with a size in bytes if one is given.
 pub(crate) fn add_ring(
@@ -28,10 +26,10 @@ pub(crate) fn add_ring(
 }
 
 /// Removes the ring of an id.
-pub(crate) fn remove_ring<L: Ledger>(board: &mut Board, id: &str, steps: &mut Steps<L>) -> Done
+pub(crate) fn remove_ring(board: &mut Board, id: &str) -> Done
     ensures { (b : Tree) → Stands b board.old → Came (altered b (alteration.ChardevRemove id.now)) result board.new }
 {
-    done_by(board.chardev_remove(id, steps))
+    done_by(board.chardev_remove(id))
 }
 
 /// Takes the oldest bytes of the ring of an id, at most so many, and tells them in a form.
@@ -51,13 +49,8 @@ pub(crate) fn read_ring(
 }
 
 /// Puts the bytes that a text gives in a form after those of the ring of an id.
-pub(crate) fn write_ring(
-    board: &mut Board,
-    id: &str,
-    text: &str,
-    form: Option<Form>,
-) -> Result<Done, AllocError>
-    ensures { (b : Tree) → Stands b board.old → Alters b (altered b (alteration.RingbufWrite id.now text.now form)) result board.new }
+pub(crate) fn write_ring(board: &mut Board, id: &str, text: &str, form: Option<Form>) -> Done
+    ensures { (b : Tree) → Stands b board.old → Came (altered b (alteration.RingbufWrite id.now text.now form)) result board.new }
 {
-    outcome_of(board.ringbuf_write(id, text, form))
+    done_by(board.ringbuf_write(id, text, form))
 }

@@ -5,7 +5,7 @@ use Rattle.std.proofs.lemmas.Bool.Decides.{nat_tests}
 use Rattle.std.proofs.lemmas.Option.{same_Some}
 use Rattle.std.specs.Option.{option_and_then}
 use Rattle.qo_values.specs.declared.kinds.TypeId.{TypeId}
-use Rattle.qo_model.specs.Board.{Board, Record, kind_of, record_of}
+use Rattle.qo_model.specs.Board.{Board, Record, Ring, kind_of, record_of}
 use Rattle.qo_slots.specs.declared.keys.Key.{Key}
 use Rattle.qo_table.specs.Rows.{IsLive}
 use Rattle.qo_values.specs.declared.codes.Code.{Code}
@@ -31,18 +31,20 @@ use Rattle.qo_sound.specs.TreeKept.{SoundTree}
 use Rattle.qo_hotplug.specs.Hotplug.{Asked}
 use Rattle.qo_plug.specs.declared.adding.Added.{Added}
 use Rattle.qo_plug.specs.declared.admitting.Site.{Site}
+use Rattle.qo_plug.specs.declared.planning.Planned.{Planned}
 use Rattle.qo_plug.specs.declared.refusals.AddRefusal.{AddRefusal}
 use Rattle.qo_plug.specs.declared.refusals.AddRefusal.TheVariants.{Refused, Memory}
 use Rattle.qo_plug.specs.declared.refusals.Barred.{Barred}
 use Rattle.qo_standing.specs.declared.spots.Spot.{Spot as Chosen}
 use Rattle.qo_plug.specs.Admission.{IfRefused, IsAdmitted, barred_in}
-use Rattle.qo_plug.specs.Answers.{IsAdded, IsCut, IsOpen, IsPlugged, IsRefused, turned_down}
+use Rattle.qo_plug.specs.Answers.{IsAdded, IsCut, IsOpen, IsPlugged, IsRefused, IsShown, turned_down}
 use Rattle.qo_plug.specs.Spots.{claims_given}
+use Rattle.qo_plug.specs.DevicePlans.{IsJudgedOn, IsPlanned}
 use Rattle.qo_plug.specs.Drafts.{CutShort, pinned_draft}
 use Rattle.qo_plug.specs.Stages.{spot_barred}
 use Rattle.qo_standing.specs.Placement.{Stood, spot_in}
 use Rattle.qo_properties.specs.KeptClaims.{kept_by}
-use Rattle.qo_plug.proofs.AdmissionLemmas.{added-late}
+use Rattle.qo_plug.proofs.AdmissionLemmas.{added-late, admitted-bus}
 use Rattle.qo_plug.proofs.JudgementLemmas.{late-given, late-spot}
 use Rattle.qo_plug.proofs.PlugSteps.{counted-path, cut-whole, let-go, plugged-kinds, plugged-notices, plugged-pending, plugged-records, seat-holds, seat-notices, seated}
 use Rattle.qo_plug.proofs.StartBuses.{plugged-buses}
@@ -60,6 +62,23 @@ shows-path b v s n = ap (λ (o : Option Record). option_and_then (λ (r : Record
         → option_and_then (λ (r : Record). r.kept_path) (option_map (shown n) o) ≡ option_and_then (λ (c : Content). c.kept_path) o
     go None = refl
     go (Some c) = refl
+
+-- what a heap shows, a heap that is the same shows
+module _ {b : Board} {anonymous : ℕ} {holds : List ℕ} {rings : List Ring} {h : Asked} {v w : Objects} (same : w ≡ v) where
+  pub shown-same : IsShown b anonymous holds rings h v → IsShown b anonymous holds rings h w
+  shown-same is = subst (IsShown b anonymous holds rings h) (sym same) is
+
+-- a planned device is judged on the board that is shown
+module _ {b : Board} {a : Wanted} {p : Planned} {anonymous : ℕ} {holds : List ℕ} {rings : List Ring} {h : Asked} {v : Objects} where
+  pub planned-judged : IsShown b anonymous holds rings h v → IsPlanned b a p → IsJudgedOn b a.props p rings v
+  planned-judged is planned =
+      record {
+        shown = is.shown;
+        recounted = is.recounted;
+        rings_are = is.rings_are;
+        bus = admitted-bus b a p.site planned.admitted;
+        given = planned.has;
+      }
 
 module _ (b : Board) (a : Wanted) where
   -- nothing bars the device, and it is plugged in

@@ -9,11 +9,14 @@ use Rattle.qo_values.specs.declared.codes.Code.TheVariants.{E23, E24}
 use Rattle.qo_values.specs.declared.kinds.TypeId.{TypeId}
 use Rattle.qo_model.specs.Board.{Board}
 use Rattle.qo_model.specs.Devices.{device_named}
-use Rattle.qo_model.specs.Plug.{Plugged, Wanted, at_stage, barred_early, barred_late, bus_barred, bus_for, container_barred, first_of, id_barred, id_refused, name_for, parent_for, plug, plug_as, plug_by, plug_late, type_barred, plug_on, room_barred, type_barred}
+use Rattle.qo_model.specs.Plug.{Plugged, Wanted, at_stage, barred_early, barred_late, bus_barred, bus_for, bus_type, container_barred, first_of, id_barred, id_refused, name_for, parent_for, plug, plug_as, plug_by, plug_late, type_barred, plug_on, room_barred, type_barred}
 use Rattle.qo_model.specs.Types.{TypeInfo, type_named}
 use Rattle.qo_plug.specs.declared.refusals.AddRefusal.{AddRefusal}
 use Rattle.qo_plug.specs.declared.refusals.AddRefusal.TheVariants.{Refused, Memory}
-use Rattle.qo_plug.specs.Admission.{IfRefused}
+use Rattle.qo_model.specs.Paths.{is_of}
+use Rattle.qo_plug.specs.declared.admitting.Site.{Site}
+use Rattle.qo_plug.specs.Admission.{IfRefused, IsAdmitted}
+use Rattle.qo_plug.proofs.BarLemmas.{bus-of}
 
 -- the first of two
 or-first : {X : Type 0} (o p : Option X) (x : X) → o ≡ Some x → option_or o p ≡ Some x
@@ -64,6 +67,18 @@ module _ (b : Board) (t : TypeId) (a : Wanted) where
       last : (p : Option Code) → early_as None None p ≡ at_stage 4 p
       last None = refl
       last (Some code) = refl
+
+-- the bus of an admitted device is of the kind where it goes
+no-bus-bars : (id bus room : Option Code) → first_of (at_stage 2 id ∷ at_stage 3 bus ∷ at_stage 4 room ∷ []) ≡ None → bus ≡ None
+no-bus-bars None None room none = refl
+no-bus-bars None (Some code) room none = absurd (let clash : Some (3, code) ≡ None = none in cc)
+no-bus-bars (Some code) bus room none = absurd (let clash : Some (2, code) ≡ None = none in cc)
+
+pub admitted-bus : (b : Board) (a : Wanted) (s : Site) → IsAdmitted b a s → is_of b (bus_type s.kind) s.bus.birth ≡ true
+admitted-bus b a s is =
+    let none : bus_barred b s.kind (bus_for b s.kind a.bus) ≡ None =
+    no-bus-bars (id_barred b a.id) (bus_barred b s.kind (bus_for b s.kind a.bus)) (room_barred b s.kind) is.early in
+    bus-of b s.kind s.bus.birth (ap (bus_barred b s.kind) (sym is.bus) ∙ none)
 
 -- what adding comes to
 module _ (b : Board) (a : Wanted) where

@@ -76,6 +76,14 @@ module _ (b : Board) (t : TypeId) (m : ℕ) where
   pub bus-open : is_of b (bus_type t) m ≡ true → not (attached b m) || is_going b m ≡ false → bus_barred b t (Some m) ≡ None
   bus-open holds open_is = rw (bus_barred, holds, open_is) refl
 
+  -- one that bars no device is of the kind where it goes
+  pub bus-of : bus_barred b t (Some m) ≡ None → is_of b (bus_type t) m ≡ true
+  bus-of none = go (is_of b (bus_type t) m) refl
+    where
+      go : (u : Bool) → is_of b (bus_type t) m ≡ u → u ≡ true
+      go true is = refl
+      go false is = absurd (let clash : Some E26 ≡ None = sym (bus-other is) ∙ none in cc)
+
 -- where a device goes that names no bus
 module _ (b : Board) (t : TypeId) (v : Objects) (s : Shows b v) where
   pub own-root : is_a t (codes "slot-device") ≡ true → (o : Option Key) → IfSome o (λ k. k.birth ≡ ROOT_BUS_BIRTH)

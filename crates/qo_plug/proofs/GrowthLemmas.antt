@@ -29,6 +29,7 @@ grows-none v w same =
       rest = λ n low. ap (λ (x : Objects). option_map bare (content_of x n)) same;
       born = let its : w.born ≡ v.born = ap (λ (x : Objects). x.born) same in omega (arith, its);
       book = λ out h. subst (λ (x : Objects). IsBook out x) (sym same) h;
+      claims = ap (λ (x : Objects). x.claims) same;
       kept = λ n k e. inl (subst (λ (x : Objects). kept_by x n ≡ Some k) same e);
       quiet = λ n q. subst (λ (x : Objects). IsQuiet x n) (sym same) q;
       events = ap (λ (x : Objects). x.events) same;
@@ -42,6 +43,7 @@ grows-then v u w g h =
       rest = λ n low. h.rest n (let more : v.born ≤ u.born = g.born in omega (arith, low, more)) ∙ g.rest n low;
       born = let first : v.born ≤ u.born = g.born in let next : u.born ≤ w.born = h.born in omega (arith, first, next);
       book = λ out b. h.book out (g.book out b);
+      claims = h.claims ∙ g.claims;
       kept = λ n k e. by n k (h.kept n k e);
       quiet = λ n q. h.quiet n (g.quiet n q);
       events = h.events ∙ g.events;
@@ -68,6 +70,7 @@ grows-edit v w n f same is =
       rest = λ m low. ap (λ (x : Objects). option_map bare (content_of x m)) is ∙ go m (eqb m n) refl;
       born = let its : w.born ≡ v.born = ap (λ (x : Objects). x.born) is in omega (arith, its);
       book = edit-keeps v w n f (λ c. ap (λ (d : Content). (d.body, d.device_id)) (same c)) is;
+      claims = ap (λ (x : Objects). x.claims) is;
       kept = λ m k e. inl (edit-kept v w n f (λ c. ap (λ (d : Content). kept_of d.body) (same c)) is m k e);
       quiet = λ m q. subst (λ (x : Objects). IsQuiet x m) (sym is) (stays m (eqb m n) refl q);
       events = ap (λ (x : Objects). x.events) is;
@@ -128,6 +131,7 @@ grows-newest v o c birth none unnamed timely =
           ap (λ (r : Option (Key × Content)). option_map bare (option_map (λ (row : Key × Content). row.1) r)) (row-before v.rows o c n other);
       born = omega arith;
       book = more-keeps v o c (v.born + 1) (noted_all (init_notes o.birth c.kind) v.log) none unnamed;
+      claims = refl;
       kept = λ n k e. by n k (eqb o.birth n) refl (more-kept v (with_newest o c v) o c none refl n k e) e;
       quiet = λ n q. more-quiet (λ (d : Content). IsTimely v.time d.body) o c n timely v.rows q;
       events = refl;

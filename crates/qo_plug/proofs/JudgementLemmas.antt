@@ -1,21 +1,27 @@
 -- What bars a device from its properties on, stage by stage.
-use Rattle.std.proofs.lemmas.Bool.{not-true}
-use Rattle.std.proofs.Common.{◌≡◌, refl, ap, ap₂, sym, subst, ◌∙◌, ℕ, ◌==◌, Bool, true, false, not, List, [], ◌∷◌, codes, nat_le, nat_lt, length, Option, Some, None, option_map, Result, Ok, Err}
+use Rattle.std.proofs.Common.{◌≡◌, refl, ap, ap₂, sym, subst, ◌∙◌, ℕ, zero, suc, ◌+◌, ◌<◌, ◌==◌, arith, Bool, true, false, not, List, [], ◌∷◌, codes, nat_le, length, Option, Some, None, option_map, Result, Ok, Err}
 use Rattle.std.specs.Prelude.{if◌then◌else◌}
 use Rattle.std.specs.List.{list_any}
 use Rattle.std.specs.Option.{option_or}
+use Rattle.std.proofs.lemmas.Bool.{not-true}
+use Rattle.std.proofs.lemmas.Option.{same_Some}
 use Rattle.qo_values.proofs.PlacingLemmas.{least-passes}
 use Rattle.qo_values.specs.Placing.{least}
 use Rattle.qo_values.specs.declared.codes.Code.{Code}
-use Rattle.qo_values.specs.declared.codes.Code.TheVariants.{E28, E29, E30, E36, E37, E44}
+use Rattle.qo_values.specs.declared.codes.Code.TheVariants.{E30, E36, E37, E44}
 use Rattle.qo_values.specs.declared.kinds.TypeId.{TypeId}
 use Rattle.qo_values.specs.declared.limits.TheConstants.{BUS_SLOTS, NOTICES_MAX}
 use Rattle.qo_values.specs.declared.ranges.Range.{Range}
+use Rattle.qo_claims.specs.Book.{ClaimsTaken, is_taken}
+use Rattle.qo_claims.specs.Lists.{bus_slot, has_bus_slot, least_free}
+use Rattle.qo_claims.specs.declared.claims.Claimed.TheVariants as on
 use Rattle.qo_model.specs.Board.{Board}
-use Rattle.qo_model.specs.Devices.{kid_name}
-use Rattle.qo_model.specs.Objects.{Given, has_slot, refusal_of}
-use Rattle.qo_model.specs.Plug.{at_stage, barred_late, claims_ring, code_in, first_of, has_ring, is_free, kind_barred, notice_barred, number_for, ok_or_zero, place_barred, range_of}
+use Rattle.qo_model.specs.Objects.{Given, refusal_of}
+use Rattle.qo_model.specs.Paths.{is_of}
+use Rattle.qo_model.specs.Plug.{at_stage, barred_late, bus_type, claims_ring, code_in, first_of, has_ring, is_free, kind_barred, notice_barred, number_for, ok_or_zero, place_barred, range_of}
 use Rattle.qo_model.specs.Plug.{realize_barred, ring_barred, bus_slot_for, spot_of}
+use Rattle.qo_backends.specs.Recount.{IsRecounted}
+use Rattle.qo_backends.proofs.PlacingLemmas.{least-same}
 use Rattle.qo_plug.specs.declared.refusals.AddRefusal.{AddRefusal}
 use Rattle.qo_plug.specs.declared.refusals.AddRefusal.TheVariants.{Refused, Memory as NoMemory}
 use Rattle.qo_standing.specs.declared.spots.Memory.{Memory}
@@ -46,26 +52,39 @@ ring-named b (c ∷ cs) filled = refl
 abbrev pub notice_as : Bool → Option Code
 notice_as full = if full then Some E44 else None
 
+-- the least slot of a bus that is free in the book is one of it, and is free
+least-below : (test : ℕ → Bool) (first more at : ℕ) → least test first more ≡ Some at → at < first + more
+unfolding least
+least-below test first zero at found = cc
+least-below test first (suc more) at found = go (test first) refl (least-below test (first + 1) more at)
+  where
+    go : (u : Bool) → test first ≡ u → (least test (first + 1) more ≡ Some at → at < first + 1 + more) → at < first + suc more
+    go true is later = let same : first ≡ at = same_Some first at (rw is at found) in omega (arith, same)
+    go false is later = let up : at < first + 1 + more = later (rw is at found) in omega (arith, up)
+
+pub least-within : (bus slot : ℕ) (h : ClaimsTaken) → Some slot ≡ least_free bus h.slots → slot < BUS_SLOTS
+least-within bus slot h e = least-below (λ at. not (has_bus_slot (bus_slot bus at) h.slots)) 0 BUS_SLOTS slot (sym e)
+
+pub least-free : (bus slot : ℕ) (h : ClaimsTaken) → Some slot ≡ least_free bus h.slots → is_taken (on.Slot (bus_slot bus slot)) h ≡ false
+least-free bus slot h e =
+    not-true (has_bus_slot (bus_slot bus slot) h.slots) (least-passes (λ at. not (has_bus_slot (bus_slot bus at) h.slots)) 0 BUS_SLOTS slot (sym e))
+
 module _ (b : Board) (bus : ℕ) where
-  pub least-free : (slot : ℕ) → Some slot ≡ least (is_free b bus) 0 BUS_SLOTS → has_slot b bus (kid_name slot) ≡ false
-  least-free slot e = not-true (has_slot b bus (kid_name slot)) (least-passes (is_free b bus) 0 BUS_SLOTS slot (sym e))
+  -- what the book tells of the slots of a bus
+  module _ (h : ClaimsTaken) (t : TypeId) (recounted : IsRecounted b h) (is : is_of b (bus_type t) bus ≡ true) where
+    slot-told : (slot : ℕ) → slot < BUS_SLOTS → not (is_taken (on.Slot (bus_slot bus slot)) h) ≡ is_free b bus slot
+    slot-told slot within = twice (is_free b bus slot) (is_taken (on.Slot (bus_slot bus slot)) h) (recounted.slots t bus slot is within)
+      where
+        twice : (x y : Bool) → y ≡ not x → not y ≡ x
+        twice true y e = ap not e
+        twice false y e = ap not e
 
-  -- the slot
-  abbrev chosen_as : ℕ → Bool → Bool → Result ℕ Code
-  chosen_as slot within free = if within then (if free then Ok slot else Err E29) else Err E28
-
-  pub slot-high : (slot : ℕ) → nat_lt slot BUS_SLOTS ≡ false → bus_slot_for b bus (Some slot) ≡ Err E28
-  slot-high slot over = ap (λ (t : Bool). chosen_as slot t (is_free b bus slot)) over
-
-  pub slot-taken : (slot : ℕ) → nat_lt slot BUS_SLOTS ≡ true → has_slot b bus (kid_name slot) ≡ true → bus_slot_for b bus (Some slot) ≡ Err E29
-  slot-taken slot within taken = ap₂ (chosen_as slot) within (ap not taken)
-
-  pub slot-own : (slot : ℕ) → nat_lt slot BUS_SLOTS ≡ true → has_slot b bus (kid_name slot) ≡ false → bus_slot_for b bus (Some slot) ≡ Ok slot
-  slot-own slot within free = ap₂ (chosen_as slot) within (ap not free)
-
-  pub slot-least : (o : Option ℕ) → o ≡ least (is_free b bus) 0 BUS_SLOTS
-      → bus_slot_for b bus None ≡ (elim o as (λ _. Result ℕ Code) [ None ↦ Err E30 | Some slot ↦ Ok slot ])
-  slot-least o e = ap (λ (p : Option ℕ). elim p as (λ _. Result ℕ Code) [ None ↦ Err E30 | Some slot ↦ Ok slot ]) (sym e)
+    pub slot-least : (o : Option ℕ) → o ≡ least_free bus h.slots
+        → bus_slot_for b bus None ≡ (elim o as (λ _. Result ℕ Code) [ None ↦ Err E30 | Some slot ↦ Ok slot ])
+    slot-least o e =
+        ap (λ (p : Option ℕ). elim p as (λ _. Result ℕ Code) [ None ↦ Err E30 | Some slot ↦ Ok slot ])
+        (sym (e ∙ least-same (λ slot. not (has_bus_slot (bus_slot bus slot) h.slots)) (is_free b bus) 0 BUS_SLOTS
+        (λ slot above within. slot-told slot (omega (arith, within)))))
 
   -- the spot of a device of a type
   module _ (t : TypeId) (props : List Given) where
@@ -78,17 +97,9 @@ module _ (b : Board) (bus : ℕ) where
     slot-code : (r : Result ℕ Code) → bus_slot_for b bus asked ≡ r → code_in (bus_slot_for b bus asked) ≡ code_in r
     slot-code r e = ap (λ (q : Result ℕ Code). code_in q) e
 
-    pub spot-slot : (code : Code) → bus_slot_for b bus asked ≡ Err code → spot_barred b t bus props ≡ Some (5, code)
-    spot-slot code e = ap (λ (o : Option Code). spot_as o (kind_barred b t bus props) (realize_barred b t props)) (slot-code (Err code) e)
-
     pub spot-kind : (slot : ℕ) (code : Code) → bus_slot_for b bus asked ≡ Ok slot → kind_barred b t bus props ≡ Some code
         → spot_barred b t bus props ≡ Some (5, code)
     spot-kind slot code e barred = ap₂ (λ (o p : Option Code). spot_as o p (realize_barred b t props)) (slot-code (Ok slot) e) barred
-
-    pub spot-ring : (slot : ℕ) (o : Option Code) → bus_slot_for b bus asked ≡ Ok slot → kind_barred b t bus props ≡ None → realize_barred b t props ≡ o
-        → spot_barred b t bus props ≡ at_stage 6 o
-    spot-ring slot o e open_is barred =
-        ap₂ (λ (p q : Option Code). spot_as p q (realize_barred b t props)) (slot-code (Ok slot) e) open_is ∙ ap (λ (p : Option Code). at_stage 6 p) barred
 
     pub spot-is : (slot : ℕ) (ring : Option (List ℕ)) (memory : Option Memory) → bus_slot_for b bus asked ≡ Ok slot
         → option_map (λ (m : Memory). m.range) memory ≡ range_of b t props
@@ -102,12 +113,6 @@ module _ (b : Board) (bus : ℕ) where
         → IfRefused {T = U} (Err r) (λ stage code. spot_barred b t bus props ≡ Some (stage, code))
     kind-refused T U (Refused stage code) h = spot-kind t props slot code has h.1 ∙ ap (λ (k : ℕ). Some (k, code)) (sym h.0)
     kind-refused T U NoMemory h = tt
-
-    pub ring-refused : (T U : Type 0) (r : AddRefusal) → kind_barred b t bus props ≡ None
-        → IfRefused {T = T} (Err r) (λ stage code. (stage ≡ 6) × (realize_barred b t props ≡ Some code))
-        → IfRefused {T = U} (Err r) (λ stage code. spot_barred b t bus props ≡ Some (stage, code))
-    ring-refused T U (Refused stage code) open_is h = spot-ring t props slot (Some code) has open_is h.1 ∙ ap (λ (k : ℕ). Some (k, code)) (sym h.0)
-    ring-refused T U NoMemory open_is h = tt
 
   -- what bars a device from its properties on, in order
   module _ (t : TypeId) (props : List Given) where

@@ -11,6 +11,7 @@ use Rattle.qo_object.specs.Content.{Content}
 use Rattle.qo_heap.specs.Board.{Shows}
 use Rattle.qo_heap.specs.Objects.{Objects, content_of}
 use Rattle.qo_hotplug.specs.Hotplug.{Asked}
+use Rattle.qo_backends.specs.Recount.{IsRecounted}
 use Rattle.qo_plug.specs.declared.adding.Added.{Added}
 use Rattle.qo_plug.specs.declared.admitting.Site.{Site}
 use Rattle.qo_plug.specs.declared.refusals.AddRefusal.{AddRefusal}
@@ -22,9 +23,11 @@ use Rattle.qo_standing.specs.declared.spots.Spot.{Spot as Chosen}
 use Rattle.qo_plug.specs.Drafts.{CutShort}
 use Rattle.qo_properties.specs.KeptClaims.{kept_by}
 
--- a sound board has the objects of a heap, and beside them so many devices without an id, these holds, these rings, and what is asked for
+-- a sound board has the objects of a heap, whose book of claims tells what they have, and beside them so many devices without an id, these holds, these rings,
+-- and what is asked for
 pub record IsShown (b : Board) (anonymous : ℕ) (holds : List ℕ) (rings : List Ring) (h : Asked) (v : Objects) : Type 0 where
   pub shown : Shows b v
+  pub recounted : IsRecounted b v.claims
   pub anonymous_is : b.anonymous ≡ anonymous
   pub holds_are : b.holds ≡ holds
   pub rings_are : b.rings ≡ rings

@@ -1,13 +1,17 @@
 -- For proofs alone. What is planned of a device before it is made.
 use Rattle.std.specs.Prelude.{◌≡◌, ℕ, List, true, codes, Option, None, IfSome}
 use Rattle.std.specs.List.{AllByRecursion, AllZip}
-use Rattle.qo_model.specs.Board.{Board}
+use Rattle.qo_model.specs.Board.{Board, Ring}
 use Rattle.qo_model.specs.Devices.{number_in, text_in}
 use Rattle.qo_model.specs.Objects.{Given, refusal_of}
-use Rattle.qo_model.specs.Plug.{Wanted}
+use Rattle.qo_model.specs.Paths.{is_of}
+use Rattle.qo_model.specs.Plug.{Wanted, bus_type}
 use Rattle.qo_model.specs.Types.{is_a}
 use Rattle.qo_table.specs.Rows.{IsLive}
+use Rattle.qo_heap.specs.Board.{Shows}
 use Rattle.qo_heap.specs.Objects.{Objects}
+use Rattle.qo_backends.specs.Recount.{IsRecounted}
+use Rattle.qo_standing.specs.FreeSpots.{IsFreeId}
 use Rattle.qo_properties.specs.declared.adding.filling.Fill.{Fill}
 use Rattle.qo_properties.specs.declared.adding.filling.Fill.TheVariants.{Value}
 use Rattle.qo_properties.specs.Filling.{Fits, target_in}
@@ -35,10 +39,20 @@ pub record IsPlanned (b : Board) (a : Wanted) (p : Planned) : Type 0 where
   pub given : refusal_of b p.site.kind a.props ≡ None
   pub has : HasGiven b a.props p
 
--- a heap has what a planned device needs: its container, its bus and what its links are to name; and its plan is for the slots of its type
+-- a board of a heap with these rings, on which a planned device is judged: what is held is in the book, its bus is of the kind where it goes, and it is to
+-- have these properties
+pub record IsJudgedOn (b : Board) (props : List Given) (p : Planned) (rings : List Ring) (v : Objects) : Type 0 where
+  pub shown : Shows b v
+  pub recounted : IsRecounted b v.claims
+  pub rings_are : b.rings ≡ rings
+  pub bus : is_of b (bus_type p.site.kind) p.site.bus.birth ≡ true
+  pub given : HasGiven b props p
+
+-- a heap has what a planned device needs: its container, its bus and what its links are to name; its id is free; and its plan is for the slots of its type
 pub record IsFit (p : Planned) (v : Objects) : Type 0 where
   pub device : is_a p.site.kind (codes "device") ≡ true
   pub container : IsLive v.rows p.site.place.container
   pub bus : IsLive v.rows p.site.bus
+  pub free_id : IsFreeId p.site.place.id v.claims
   pub targets : AllByRecursion (λ f. IfSome (target_in f) (IsLive v.rows)) p.plan.items
   pub fits : AllZip Fits p.plan.items (new_slots p.site.kind)

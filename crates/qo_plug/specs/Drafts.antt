@@ -70,13 +70,14 @@ bare c = record c { slots = [] }
 abbrev pub IsQuiet : Objects → ℕ → Type 0
 IsQuiet v n = IfSome (content_of v n) (λ (c : Content). IsTimely v.time c.body)
 
--- a heap has grown, or its objects have other slots: who was there is there under the same name, and has all else as before; the book of claims stays right;
--- events and the time stay; who is new keeps no claim, and has begun no segment
+-- a heap has grown, or its objects have other slots: who was there is there under the same name, and has all else as before; what is held stays, and the book
+-- of claims stays right; events and the time stay; who is new keeps no claim, and has begun no segment
 pub record Grows (v w : Objects) : Type 0 where
   pub names : KeepsNames v w
   pub rest : (n : ℕ) → n ≤ v.born → option_map bare (content_of w n) ≡ option_map bare (content_of v n)
   pub born : v.born ≤ w.born
   pub book : KeepsBook v w
+  pub claims : w.claims ≡ v.claims
   pub kept : (n : ℕ) (k : KeptSet) → kept_by w n ≡ Some k → (kept_by v n ≡ Some k) ⊎ ((v.born < n) × (k ≡ none_kept))
   pub quiet : (n : ℕ) → IsQuiet v n → IsQuiet w n
   pub events : w.events ≡ v.events

@@ -1,9 +1,11 @@
 -- For proofs alone. What a device that is given properties claims in its place on a bus: its slot, a ring, a memory backend, a range (docs/PROFILE.md, rings
 -- and DIMMs).
-use Rattle.std.specs.Prelude.{◌≡◌, ℕ, List, codes, Option, Some, None, option_map}
+use Rattle.std.specs.Prelude.{◌≡◌, ℕ, ◌≤◌, List, true, false, codes, Option, Some, None, option_map}
+use Rattle.qo_claims.specs.Book.{ClaimsTaken, is_taken}
 use Rattle.qo_claims.specs.Lists.{bus_slot}
 use Rattle.qo_claims.specs.declared.claims.Claimed.TheVariants as on
 use Rattle.qo_kinds.specs.declared.kept_set.KeptSet.{KeptSet}
+use Rattle.qo_values.specs.Placing.{is_in_window}
 use Rattle.qo_values.specs.declared.kinds.TypeId.{TypeId}
 use Rattle.qo_values.specs.declared.kinds.TypeId.TheVariants.{MemDimm, MemoryBackend, SlotUart}
 use Rattle.qo_model.specs.Board.{Board}
@@ -39,3 +41,10 @@ pub record IsChosen (b : Board) (t : TypeId) (bus : ℕ) (props : List Given) (c
   pub spot : spot_of b t bus props ≡ spot_in bus c
   pub ring : c.ring ≡ ring_given t props
   pub backend : option_map (λ (m : Memory). m.backend) c.memory ≡ backend_given b t props
+
+-- a memory of a DIMM that no other has: its backend is free, and so is its range, which lies in the window and is not empty
+pub record IsFreeMemory (m : Memory) (h : ClaimsTaken) : Type 0 where
+  pub backend : is_taken (on.Backend m.backend) h ≡ false
+  pub range : is_taken (on.Range m.range) h ≡ false
+  pub window : is_in_window m.range ≡ true
+  pub size : 1 ≤ m.range.size

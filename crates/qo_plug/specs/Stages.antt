@@ -31,7 +31,8 @@ use Rattle.qo_plug.specs.Admission.{IsAdmitted, barred_in}
 use Rattle.qo_plug.specs.Answers.{IsOpen}
 use Rattle.qo_plug.specs.Spots.{IsChosen, claims_given}
 use Rattle.qo_plug.specs.Drafts.{IsQuiet, bare, given_draft, pinned_draft, own_slots_of}
-use Rattle.qo_plug.specs.DevicePlans.{HasGiven}
+use Rattle.qo_plug.specs.DevicePlans.{IsJudgedOn}
+use Rattle.qo_standing.specs.FreeSpots.{IsFreeId, IsFreeSpot}
 use Rattle.qo_standing.specs.Placement.{Stood, spot_in}
 use Rattle.qo_properties.specs.KeptClaims.{kept_by}
 
@@ -44,16 +45,16 @@ abbrev pub IfBarred : {T : Type 0} → Result T Barred → (Barred → Type 0) �
 IfBarred (Ok x) P = ⊤
 IfBarred (Err bar) P = P bar
 
--- what was judged of the spot of a planned device on its bus is so on each board with these rings that is shown
+-- what was judged of the spot of a planned device on its bus is so on each board where it is judged; and no other has that spot
 pub record IsJudged (p : Planned) (rings : List Ring) (found : Result Spot Barred) (v : Objects) : Type 0 where
   pub within : IfOk found (λ c. c.slot < BUS_SLOTS)
   pub dimm : IfOk found (λ c. is_some c.memory ≡ true → p.site.kind ≡ MemDimm)
   pub stages : IfBarred found (λ bar. (5 ≤ bar.stage) × (bar.stage ≤ 6))
-  pub refused : (b : Board) (props : List Given) → Shows b v → b.rings ≡ rings → HasGiven b props p
-      → barred_in found ≡ spot_barred b p.site.kind p.site.bus.birth props
-  pub spot : (b : Board) (props : List Given) → Shows b v → HasGiven b props p → IfOk found (λ c. IsChosen b p.site.kind p.site.bus.birth props c)
+  pub refused : (b : Board) (props : List Given) → IsJudgedOn b props p rings v → barred_in found ≡ spot_barred b p.site.kind p.site.bus.birth props
+  pub spot : (b : Board) (props : List Given) → IsJudgedOn b props p rings v → IfOk found (λ c. IsChosen b p.site.kind p.site.bus.birth props c)
+  pub free : IfOk found (λ c. IsFreeSpot p.site.bus.birth c v.claims)
 
--- a heap has a device that was begun, as it was made and held once, with its container, its older bus, and what its plan names
+-- a heap has a device that was begun, as it was made and held once, with its container, its older bus, and what its plan names; its id and its spot are free
 pub record IsHeld (d : Begun) (v : Objects) : Type 0 where
   pub device_is : is_a d.site.kind (codes "device") ≡ true
   pub live : IsLive v.rows d.device
@@ -63,6 +64,8 @@ pub record IsHeld (d : Begun) (v : Objects) : Type 0 where
   pub within : IfOk d.spot (λ c. c.slot < BUS_SLOTS)
   pub dimm : IfOk d.spot (λ c. is_some c.memory ≡ true → d.site.kind ≡ MemDimm)
   pub stages : IfBarred d.spot (λ bar. (5 ≤ bar.stage) × (bar.stage ≤ 6))
+  pub free_id : IsFreeId d.site.place.id v.claims
+  pub free : IfOk d.spot (λ c. IsFreeSpot d.site.bus.birth c v.claims)
   pub pinned : 0 < pins_of v d.device.birth
   pub rest : option_map bare (content_of v d.device.birth) ≡ Some (bare (fresh d.site.kind))
   pub quiet : (n : ℕ) → d.device.birth ≤ n → IsQuiet v n

@@ -1,19 +1,23 @@
 //! Whether a device is admitted: what bars it before anything of it is made, and where it is to go.
 
-ghost use Rattle.std.specs.Prelude.{◌≡◌, ◌≤◌, List, true, codes, Some, None, IfOk, OnOk, map, option_map};
+ghost use Rattle.std.specs.Prelude.{◌≡◌, ◌≤◌, List, true, false, codes, Some, None, IfOk, OnOk, map, option_map};
 ghost use Rattle.qo_values.specs.declared.births.TheConstants.{ANONYMOUS_BIRTH, PERIPHERAL_BIRTH};
 ghost use Rattle.qo_values.specs.Ids.{is_id};
+ghost use Rattle.qo_claims.specs.Book.{is_taken};
+ghost use Rattle.qo_claims.specs.declared.claims.Claimed.TheVariants as on;
 ghost use Rattle.qo_model.specs.Board.{Board};
 ghost use Rattle.qo_model.specs.Objects.{Given};
 ghost use Rattle.qo_model.specs.Plug.{id_barred, id_refused, plug};
 ghost use Rattle.qo_model.specs.Types.{is_a};
 ghost use Rattle.qo_table.specs.Rows.{IsLive};
 ghost use Rattle.qo_heap.specs.Board.{Shows};
+ghost use Rattle.qo_backends.specs.Recount.{IsRecounted};
+ghost use Rattle.qo_standing.specs.FreeSpots.{IsFreeId};
 ghost use Rattle.qo_plug.specs.Admission.{IfRefused, IsAdmitted, IsPlaced, wanted};
 
 use crate::barring::{device_kind, open_bus, room, vacant};
 use crate::refusals::AddRefusal;
-use qo_buses::{anonymous_name, device_named};
+use qo_buses::anonymous_name;
 use qo_heap::{Heap, Oid, Steps};
 use qo_values::{ANONYMOUS_BIRTH, Code, Id, IdError, Name, PERIPHERAL_BIRTH, TypeId};
 use std::alloc::Global;
@@ -43,15 +47,11 @@ pub struct Site {
 
 /// The id that a text is, where no device has it. `E23` comes where the text is no id, `E24` where a
 /// device has it.
-fn free_id<L: Ledger>(
-    heap: &Heap,
-    text: &str,
-    alloc: Global,
-    steps: &mut Steps<L>,
-) -> Result<Id, AddRefusal>
+fn free_id(heap: &Heap, text: &str, alloc: Global) -> Result<Id, AddRefusal>
     ensures id { IfOk result (λ id. (id ≡ text.now) × (is_id text.now ≡ true)) }
-    ensures open { OnOk result ((b : Board) → Shows b heap.now → id_refused b (Some text.now) ≡ None) }
-    ensures refused { (b : Board) → Shows b heap.now → IfRefused result (λ stage code. (stage ≡ 2) × (id_refused b (Some text.now) ≡ Some code)) }
+    ensures open { OnOk result ((b : Board) → IsRecounted b heap.now.claims → id_refused b (Some text.now) ≡ None) }
+    ensures refused { (b : Board) → IsRecounted b heap.now.claims → IfRefused result (λ stage code. (stage ≡ 2) × (id_refused b (Some text.now) ≡ Some code)) }
+    ensures free { IfOk result (λ id. is_taken (on.Device id) heap.now.claims ≡ false) }
 {
     let id = match Id::parse(alloc, text) {
         Ok(id) => id,
@@ -63,7 +63,7 @@ fn free_id<L: Ledger>(
         }
         Err(IdError::Memory) => return Err(AddRefusal::Memory),
     };
-    if device_named(heap, text, steps) {
+    if heap.book().is_id_taken(text) {
         return Err(AddRefusal::Refused {
             stage: 2,
             code: Code::E24,
@@ -81,10 +81,11 @@ fn named_place<L: Ledger>(
 ) -> Result<Place, AddRefusal>
     ensures live { IfOk result (λ p. IsLive heap.now.rows p.container) }
     ensures place { (b : Board) → IfOk result (IsPlaced b (Some text.now)) }
-    ensures open { OnOk result ((b : Board) → Shows b heap.now → id_barred b (Some text.now) ≡ None) }
-    ensures refused { (b : Board) → Shows b heap.now → IfRefused result (λ stage code. (stage ≡ 2) × (id_barred b (Some text.now) ≡ Some code)) }
+    ensures open { OnOk result ((b : Board) → Shows b heap.now → IsRecounted b heap.now.claims → id_barred b (Some text.now) ≡ None) }
+    ensures refused { (b : Board) → Shows b heap.now → IsRecounted b heap.now.claims → IfRefused result (λ stage code. (stage ≡ 2) × (id_barred b (Some text.now) ≡ Some code)) }
+    ensures free { IfOk result (λ p. IsFreeId p.id heap.now.claims) }
 {
-    let id = match free_id(heap, text, alloc, steps) {
+    let id = match free_id(heap, text, alloc) {
         Ok(id) => id,
         Err(refusal) => return Err(refusal),
     };
@@ -113,6 +114,7 @@ fn anonymous_place<L: Ledger>(
     ensures place { (b : Board) → b.anonymous ≡ anonymous → IfOk result (IsPlaced b None) }
     ensures open { OnOk result ((b : Board) → Shows b heap.now → b.anonymous ≡ anonymous → id_barred b None ≡ None) }
     ensures refused { (b : Board) → Shows b heap.now → b.anonymous ≡ anonymous → IfRefused result (λ stage code. (stage ≡ 2) × (id_barred b None ≡ Some code)) }
+    ensures free { IfOk result (λ p. IsFreeId p.id heap.now.claims) }
 {
     let name = match anonymous_name(anonymous, alloc) {
         Ok(name) => name,
@@ -138,8 +140,9 @@ fn place_for<L: Ledger>(
 ) -> Result<Place, AddRefusal>
     ensures live { IfOk result (λ p. IsLive heap.now.rows p.container) }
     ensures place { (b : Board) → b.anonymous ≡ anonymous → IfOk result (IsPlaced b (option_map (λ t. t.now) id.entry)) }
-    ensures open { OnOk result ((b : Board) → Shows b heap.now → b.anonymous ≡ anonymous → id_barred b (option_map (λ t. t.now) id.entry) ≡ None) }
-    ensures refused { (b : Board) → Shows b heap.now → b.anonymous ≡ anonymous → IfRefused result (λ stage code. (stage ≡ 2) × (id_barred b (option_map (λ t. t.now) id.entry) ≡ Some code)) }
+    ensures open { OnOk result ((b : Board) → Shows b heap.now → IsRecounted b heap.now.claims → b.anonymous ≡ anonymous → id_barred b (option_map (λ t. t.now) id.entry) ≡ None) }
+    ensures refused { (b : Board) → Shows b heap.now → IsRecounted b heap.now.claims → b.anonymous ≡ anonymous → IfRefused result (λ stage code. (stage ≡ 2) × (id_barred b (option_map (λ t. t.now) id.entry) ≡ Some code)) }
+    ensures free { IfOk result (λ p. IsFreeId p.id heap.now.claims) }
 {
     match id {
         Some(text) => named_place(heap, text, alloc, steps),
@@ -165,8 +168,9 @@ pub fn admit<L: Ledger>(
 ) -> Result<Site, AddRefusal>
     ensures live { IfOk result (λ s. IsLive heap.now.rows s.place.container × IsLive heap.now.rows s.bus) }
     ensures device { IfOk result (λ s. is_a s.kind (codes "device") ≡ true) }
-    ensures admitted { (b : Board) (props : List Given) → Shows b heap.now → b.pending ≡ map (λ o. o.birth) pending.now → b.anonymous ≡ anonymous → IfOk result (IsAdmitted b (wanted driver.now (option_map (λ t. t.now) id.entry) (option_map (λ t. t.now) bus.entry) props)) }
-    ensures refused { (b : Board) (props : List Given) → Shows b heap.now → b.pending ≡ map (λ o. o.birth) pending.now → b.anonymous ≡ anonymous → IfRefused result (λ stage code. (1 ≤ stage) × (stage ≤ 4) × (plug b (wanted driver.now (option_map (λ t. t.now) id.entry) (option_map (λ t. t.now) bus.entry) props) ≡ record { refusal = Some (stage, code); board = b })) }
+    ensures admitted { (b : Board) (props : List Given) → Shows b heap.now → IsRecounted b heap.now.claims → b.pending ≡ map (λ o. o.birth) pending.now → b.anonymous ≡ anonymous → IfOk result (IsAdmitted b (wanted driver.now (option_map (λ t. t.now) id.entry) (option_map (λ t. t.now) bus.entry) props)) }
+    ensures refused { (b : Board) (props : List Given) → Shows b heap.now → IsRecounted b heap.now.claims → b.pending ≡ map (λ o. o.birth) pending.now → b.anonymous ≡ anonymous → IfRefused result (λ stage code. (1 ≤ stage) × (stage ≤ 4) × (plug b (wanted driver.now (option_map (λ t. t.now) id.entry) (option_map (λ t. t.now) bus.entry) props) ≡ record { refusal = Some (stage, code); board = b })) }
+    ensures free { IfOk result (λ s. IsFreeId s.place.id heap.now.claims) }
 {
     let kind = match device_kind(driver) {
         Ok(kind) => kind,

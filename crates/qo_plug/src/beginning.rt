@@ -6,6 +6,7 @@ ghost use Rattle.qo_model.specs.Board.{Board, Ring};
 ghost use Rattle.qo_model.specs.Plug.{Wanted, plug_attempt};
 ghost use Rattle.qo_sound.specs.TreeKept.{SoundTree};
 ghost use Rattle.qo_heap.specs.Board.{Shows};
+ghost use Rattle.qo_hotplug.specs.Hotplug.{Asked};
 ghost use Rattle.qo_properties.specs.Claims.{KeepsBook};
 ghost use Rattle.qo_properties.specs.KeptClaims.{KeptBefore, KeptOrNew};
 ghost use Rattle.qo_plug.specs.declared.refusals.AddRefusal.TheVariants.{Memory};
@@ -82,7 +83,7 @@ pub(crate) fn make<L: Ledger>(
 ) -> Result<Begun, AllocError>
     requires fit { IsFit planned heap.old }
     requires spot { IsJudged planned rings.now spot heap.old }
-    ensures begun { (b : Board) (a : Wanted) → Shows b heap.old → SoundTree b → b.holds ≡ resets.now.births → b.rings ≡ rings.now → IsPlanned b a planned → IfOk result (λ d. IsBegun b a d heap.new) }
+    ensures begun { (b : Board) (a : Wanted) (anonymous : ℕ) (h : Asked) → IsShown b anonymous resets.now.births rings.now h heap.old → IsPlanned b a planned → IfOk result (λ d. IsBegun b a d heap.new) }
     ensures held { IfOk result (λ d. IsHeld d heap.new) }
     ensures err { OnErr result ((b : Board) → Shows b heap.old → SoundTree b → CutShort b planned.site.kind heap.new) }
     ensures book { KeepsBook heap.old heap.new }

@@ -1,27 +1,33 @@
 //! What bars a device in its place: its slot, the depth of a bridge, the memory of a DIMM, and the ring
 //! of a UART.
 
-ghost use Rattle.std.specs.Prelude.{◌≡◌, ◌<◌, ◌≤◌, ℕ, List, true, false, is_some, None, Some, Ok, Err, IfOk, OnOk, option_map};
+ghost use Rattle.std.specs.Prelude.{◌≡◌, ◌<◌, ◌≤◌, ℕ, List, true, false, is_some, None, Some, Ok, Err, IfOk, IfSome, OnOk, option_map};
+ghost use Rattle.qo_values.specs.Placing.{is_in_window};
+ghost use Rattle.qo_values.specs.declared.kinds.TypeId.{TypeId};
 ghost use Rattle.qo_values.specs.declared.kinds.TypeId.TheVariants.{MemDimm, SlotBridge};
 ghost use Rattle.qo_values.specs.declared.limits.TheConstants.{BUS_SLOTS};
-ghost use Rattle.qo_model.specs.Board.{Board};
-ghost use Rattle.qo_model.specs.Devices.{kid_name};
-ghost use Rattle.qo_model.specs.Objects.{has_slot};
-ghost use Rattle.qo_model.specs.Plug.{kind_barred, range_of, realize_barred, ring_barred, bus_slot_for};
+ghost use Rattle.qo_claims.specs.Book.{is_taken};
+ghost use Rattle.qo_claims.specs.Lists.{bus_slot};
+ghost use Rattle.qo_claims.specs.declared.claims.Claimed.TheVariants as on;
+ghost use Rattle.qo_model.specs.Board.{Board, Ring};
+ghost use Rattle.qo_model.specs.Paths.{is_of};
+ghost use Rattle.qo_model.specs.Plug.{bus_type, kind_barred, range_of, realize_barred, ring_barred, bus_slot_for};
 ghost use Rattle.qo_model.specs.Objects.{Given};
 ghost use Rattle.qo_model.specs.Plug as plug;
 ghost use Rattle.qo_table.specs.Rows.{IsLive};
 ghost use Rattle.qo_heap.specs.Board.{Shows};
+ghost use Rattle.qo_backends.specs.Recount.{IsRecounted};
 ghost use Rattle.qo_backends.specs.Rings.{named_ring};
+ghost use Rattle.qo_standing.specs.FreeSpots.{IsFreeSpot};
 ghost use Rattle.qo_plug.specs.Admission.{IfRefused};
-ghost use Rattle.qo_plug.specs.Spots.{IsChosen, backend_given, ring_given};
-ghost use Rattle.qo_plug.specs.DevicePlans.{HasGiven, IsFit};
+ghost use Rattle.qo_plug.specs.Spots.{IsChosen, IsFreeMemory, backend_given, ring_given};
+ghost use Rattle.qo_plug.specs.DevicePlans.{HasGiven, IsFit, IsJudgedOn};
 ghost use Rattle.qo_plug.specs.Stages.{spot_barred};
 
 use crate::planning::{Planned, address_asked, backend_asked, ring_asked, slot_asked};
 use crate::refusals::AddRefusal;
-use qo_backends::{is_backend_claimed, is_ring_claimed, range_for, size_of};
-use qo_buses::{depth, has_kid_slot, least_free};
+use qo_backends::{range_for, size_of};
+use qo_buses::depth;
 use qo_heap::{Heap, Oid, Steps};
 use qo_rings::Rings;
 use qo_standing::{Memory, Spot};
@@ -31,17 +37,16 @@ use std::sync::ledger::Ledger;
 
 /// A slot of a bus that is asked for. `E28` comes where a bus has no such slot, `E29` where it is
 /// taken.
-fn own_slot<L: Ledger>(heap: &Heap, bus: Oid, slot: u64, steps: &mut Steps<L>) -> Result<u8, Code>
-    requires { IsLive heap.now.rows bus }
-    ensures slot { (b : Board) → Shows b heap.now → bus_slot_for b bus.birth (Some slot) ≡ result }
+fn own_slot(heap: &Heap, bus: Oid, slot: u64) -> Result<u8, Code>
+    ensures slot { (b : Board) (t : TypeId) → IsRecounted b heap.now.claims → is_of b (bus_type t) bus.birth ≡ true → bus_slot_for b bus.birth (Some slot) ≡ result }
     ensures within { IfOk result (λ s. s < BUS_SLOTS) }
-    ensures free { (b : Board) → Shows b heap.now → IfOk result (λ s. has_slot b bus.birth (kid_name s) ≡ false) }
+    ensures free { IfOk result (λ s. is_taken (on.Slot (bus_slot bus.birth s)) heap.now.claims ≡ false) }
 {
     if slot >= u64::from(BUS_SLOTS) {
         return Err(Code::E28);
     }
     let slot = slot as u8;
-    if has_kid_slot(heap, bus, slot, steps) {
+    if heap.book().is_slot_taken(bus.birth, slot) {
         return Err(Code::E29);
     }
     Ok(slot)
@@ -49,20 +54,14 @@ fn own_slot<L: Ledger>(heap: &Heap, bus: Oid, slot: u64, steps: &mut Steps<L>) -
 
 /// The slot of a bus where a device is to go: that which is asked for, or the least that is free.
 /// `E28` comes where a bus has no such slot, `E29` where it is taken, `E30` where none is free.
-fn slot_on<L: Ledger>(
-    heap: &Heap,
-    bus: Oid,
-    asked: Option<u64>,
-    steps: &mut Steps<L>,
-) -> Result<u8, Code>
-    requires { IsLive heap.now.rows bus }
-    ensures slot { (b : Board) → Shows b heap.now → bus_slot_for b bus.birth asked ≡ result }
+fn slot_on(heap: &Heap, bus: Oid, asked: Option<u64>) -> Result<u8, Code>
+    ensures slot { (b : Board) (t : TypeId) → IsRecounted b heap.now.claims → is_of b (bus_type t) bus.birth ≡ true → bus_slot_for b bus.birth asked ≡ result }
     ensures within { IfOk result (λ s. s < BUS_SLOTS) }
-    ensures free { (b : Board) → Shows b heap.now → IfOk result (λ s. has_slot b bus.birth (kid_name s) ≡ false) }
+    ensures free { IfOk result (λ s. is_taken (on.Slot (bus_slot bus.birth s)) heap.now.claims ≡ false) }
 {
     match asked {
-        Some(slot) => own_slot(heap, bus, slot, steps),
-        None => match least_free(heap, bus, steps) {
+        Some(slot) => own_slot(heap, bus, slot),
+        None => match heap.book().free_slot(bus.birth) {
             Some(slot) => Ok(slot),
             None => Err(Code::E30),
         },
@@ -93,28 +92,30 @@ fn check_depth<L: Ledger>(
 
 /// The range of a DIMM on a memory backend, at the address that is asked for, if one is. `E40` comes
 /// where that range is taken or leaves the window, `E41` where none is asked for and there is no gap
-/// for it.
+/// for it. A backend of no bytes, which is on no sound board, is answered as want of memory.
 fn memory_on<L: Ledger>(
     heap: &Heap,
     backend: Oid,
     asked: Option<u64>,
-    alloc: Global,
     steps: &mut Steps<L>,
 ) -> Result<Memory, AddRefusal>
     requires { IsLive heap.now.rows backend }
-    ensures range { (b : Board) → Shows b heap.now → IfOk result (λ m. Ok m.range ≡ plug.range_for b asked (plug.size_of b backend.birth)) }
-    ensures refused { (b : Board) → Shows b heap.now → IfRefused result (λ stage code. (stage ≡ 5) × (Err code ≡ plug.range_for b asked (plug.size_of b backend.birth))) }
+    ensures range { (b : Board) → Shows b heap.now → IsRecounted b heap.now.claims → IfOk result (λ m. Ok m.range ≡ plug.range_for b asked (plug.size_of b backend.birth)) }
+    ensures refused { (b : Board) → Shows b heap.now → IsRecounted b heap.now.claims → IfRefused result (λ stage code. (stage ≡ 5) × (Err code ≡ plug.range_for b asked (plug.size_of b backend.birth))) }
     ensures stage { IfRefused result (λ stage code. stage ≡ 5) }
     ensures backend { IfOk result (λ m. m.backend ≡ backend.birth) }
+    ensures free { IfOk result (λ m. (is_taken (on.Range m.range) heap.now.claims ≡ false) × (is_in_window m.range ≡ true) × (1 ≤ m.range.size)) }
 {
     let size = size_of(heap, backend, steps);
-    match range_for(heap, asked, size, alloc, steps) {
-        Ok(Ok(range)) => Ok(Memory {
+    if size == 0 {
+        return Err(AddRefusal::Memory);
+    }
+    match range_for(heap, asked, size) {
+        Ok(range) => Ok(Memory {
             backend: backend.birth,
             range,
         }),
-        Ok(Err(code)) => Err(AddRefusal::Refused { stage: 5, code }),
-        Err(_) => Err(AddRefusal::Memory),
+        Err(code) => Err(AddRefusal::Refused { stage: 5, code }),
     }
 }
 
@@ -123,16 +124,16 @@ fn memory_on<L: Ledger>(
 fn memory_for<L: Ledger>(
     heap: &Heap,
     planned: &Planned,
-    alloc: Global,
     steps: &mut Steps<L>,
 ) -> Result<Memory, AddRefusal>
     requires fit { IsFit planned.now heap.now }
     requires dimm { planned.now.site.kind ≡ MemDimm }
-    ensures open { (b : Board) (bus : ℕ) (props : List Given) → Shows b heap.now → HasGiven b props planned.now → OnOk result (kind_barred b MemDimm bus props ≡ None) }
-    ensures refused { (b : Board) (bus : ℕ) (props : List Given) → Shows b heap.now → HasGiven b props planned.now → IfRefused result (λ stage code. (stage ≡ 5) × (kind_barred b MemDimm bus props ≡ Some code)) }
+    ensures open { (b : Board) (bus : ℕ) (props : List Given) (rings : List Ring) → IsJudgedOn b props planned.now rings heap.now → OnOk result (kind_barred b MemDimm bus props ≡ None) }
+    ensures refused { (b : Board) (bus : ℕ) (props : List Given) (rings : List Ring) → IsJudgedOn b props planned.now rings heap.now → IfRefused result (λ stage code. (stage ≡ 5) × (kind_barred b MemDimm bus props ≡ Some code)) }
     ensures stage { IfRefused result (λ stage code. stage ≡ 5) }
-    ensures range { (b : Board) (props : List Given) → Shows b heap.now → HasGiven b props planned.now → IfOk result (λ m. range_of b MemDimm props ≡ Some m.range) }
-    ensures backend { (b : Board) (props : List Given) → Shows b heap.now → HasGiven b props planned.now → IfOk result (λ m. backend_given b MemDimm props ≡ Some m.backend) }
+    ensures range { (b : Board) (props : List Given) (rings : List Ring) → IsJudgedOn b props planned.now rings heap.now → IfOk result (λ m. range_of b MemDimm props ≡ Some m.range) }
+    ensures backend { (b : Board) (props : List Given) → HasGiven b props planned.now → IfOk result (λ m. backend_given b MemDimm props ≡ Some m.backend) }
+    ensures free { IfOk result (λ m. IsFreeMemory m heap.now.claims) }
 {
     let Some(backend) = backend_asked(planned) else {
         return Err(AddRefusal::Refused {
@@ -140,13 +141,13 @@ fn memory_for<L: Ledger>(
             code: Code::E38,
         });
     };
-    if is_backend_claimed(heap, backend.birth, steps) {
+    if heap.book().is_backend_taken(backend.birth) {
         return Err(AddRefusal::Refused {
             stage: 5,
             code: Code::E39,
         });
     }
-    memory_on(heap, backend, address_asked(planned), alloc, steps)
+    memory_on(heap, backend, address_asked(planned), steps)
 }
 
 /// The memory of a device, if it is to have one, as it is planned; and what bars it from a bus that
@@ -155,19 +156,19 @@ fn memory_for<L: Ledger>(
 fn check_kind<L: Ledger>(
     heap: &Heap,
     planned: &Planned,
-    alloc: Global,
     steps: &mut Steps<L>,
 ) -> Result<Option<Memory>, AddRefusal>
     requires { IsFit planned.now heap.now }
-    ensures open { (b : Board) (props : List Given) → Shows b heap.now → HasGiven b props planned.now → OnOk result (kind_barred b planned.now.site.kind planned.now.site.bus.birth props ≡ None) }
-    ensures refused { (b : Board) (props : List Given) → Shows b heap.now → HasGiven b props planned.now → IfRefused result (λ stage code. (stage ≡ 5) × (kind_barred b planned.now.site.kind planned.now.site.bus.birth props ≡ Some code)) }
+    ensures open { (b : Board) (props : List Given) (rings : List Ring) → IsJudgedOn b props planned.now rings heap.now → OnOk result (kind_barred b planned.now.site.kind planned.now.site.bus.birth props ≡ None) }
+    ensures refused { (b : Board) (props : List Given) (rings : List Ring) → IsJudgedOn b props planned.now rings heap.now → IfRefused result (λ stage code. (stage ≡ 5) × (kind_barred b planned.now.site.kind planned.now.site.bus.birth props ≡ Some code)) }
     ensures stage { IfRefused result (λ stage code. stage ≡ 5) }
-    ensures range { (b : Board) (props : List Given) → Shows b heap.now → HasGiven b props planned.now → IfOk result (λ memory. option_map (λ m. m.range) memory ≡ range_of b planned.now.site.kind props) }
-    ensures backend { (b : Board) (props : List Given) → Shows b heap.now → HasGiven b props planned.now → IfOk result (λ memory. option_map (λ m. m.backend) memory ≡ backend_given b planned.now.site.kind props) }
+    ensures range { (b : Board) (props : List Given) (rings : List Ring) → IsJudgedOn b props planned.now rings heap.now → IfOk result (λ memory. option_map (λ m. m.range) memory ≡ range_of b planned.now.site.kind props) }
+    ensures backend { (b : Board) (props : List Given) → HasGiven b props planned.now → IfOk result (λ memory. option_map (λ m. m.backend) memory ≡ backend_given b planned.now.site.kind props) }
     ensures dimm { IfOk result (λ memory. is_some memory ≡ true → planned.now.site.kind ≡ MemDimm) }
+    ensures free { IfOk result (λ memory. IfSome memory (λ m. IsFreeMemory m heap.now.claims)) }
 {
     match planned.site.kind {
-        TypeId::MemDimm => match memory_for(heap, planned, alloc, steps) {
+        TypeId::MemDimm => match memory_for(heap, planned, steps) {
             Ok(memory) => Ok(Some(memory)),
             Err(refusal) => Err(refusal),
         },
@@ -178,17 +179,17 @@ fn check_kind<L: Ledger>(
 
 /// The id of the ring of a name, where no UART has claimed it; the empty name is that of none. `E36`
 /// comes where there is no such ring, `E37` where a UART has claimed it.
-fn free_ring<L: Ledger>(
+fn free_ring(
     heap: &Heap,
     rings: &Rings,
     name: &str,
     alloc: Global,
-    steps: &mut Steps<L>,
 ) -> Result<Option<Id>, AddRefusal>
     ensures ring { IfOk result (λ ring. ring ≡ named_ring name.now) }
-    ensures open { (b : Board) → Shows b heap.now → b.rings ≡ rings.now → OnOk result (ring_barred b name.now ≡ None) }
-    ensures refused { (b : Board) → Shows b heap.now → b.rings ≡ rings.now → IfRefused result (λ stage code. (stage ≡ 6) × (ring_barred b name.now ≡ Some code)) }
+    ensures open { (b : Board) → IsRecounted b heap.now.claims → b.rings ≡ rings.now → OnOk result (ring_barred b name.now ≡ None) }
+    ensures refused { (b : Board) → IsRecounted b heap.now.claims → b.rings ≡ rings.now → IfRefused result (λ stage code. (stage ≡ 6) × (ring_barred b name.now ≡ Some code)) }
     ensures stage { IfRefused result (λ stage code. stage ≡ 6) }
+    ensures free { IfOk result (λ ring. IfSome ring (λ id. is_taken (on.Ring id) heap.now.claims ≡ false)) }
 {
     if name.is_empty() {
         return Ok(None);
@@ -199,7 +200,7 @@ fn free_ring<L: Ledger>(
             code: Code::E36,
         });
     }
-    if is_ring_claimed(heap, name, steps) {
+    if heap.book().is_ring_taken(name) {
         return Err(AddRefusal::Refused {
             stage: 6,
             code: Code::E37,
@@ -213,20 +214,20 @@ fn free_ring<L: Ledger>(
 
 /// The id of the ring of a device, if it is to have one, as it is planned. `E36` and `E37` come of the
 /// ring of a UART.
-fn ring_for<L: Ledger>(
+fn ring_for(
     heap: &Heap,
     rings: &Rings,
     planned: &Planned,
     alloc: Global,
-    steps: &mut Steps<L>,
 ) -> Result<Option<Id>, AddRefusal>
-    ensures open { (b : Board) (props : List Given) → Shows b heap.now → b.rings ≡ rings.now → HasGiven b props planned.now → OnOk result (realize_barred b planned.now.site.kind props ≡ None) }
-    ensures refused { (b : Board) (props : List Given) → Shows b heap.now → b.rings ≡ rings.now → HasGiven b props planned.now → IfRefused result (λ stage code. (stage ≡ 6) × (realize_barred b planned.now.site.kind props ≡ Some code)) }
+    ensures open { (b : Board) (props : List Given) → IsJudgedOn b props planned.now rings.now heap.now → OnOk result (realize_barred b planned.now.site.kind props ≡ None) }
+    ensures refused { (b : Board) (props : List Given) → IsJudgedOn b props planned.now rings.now heap.now → IfRefused result (λ stage code. (stage ≡ 6) × (realize_barred b planned.now.site.kind props ≡ Some code)) }
     ensures stage { IfRefused result (λ stage code. stage ≡ 6) }
     ensures ring { (b : Board) (props : List Given) → HasGiven b props planned.now → IfOk result (λ ring. ring ≡ ring_given planned.now.site.kind props) }
+    ensures free { IfOk result (λ ring. IfSome ring (λ id. is_taken (on.Ring id) heap.now.claims ≡ false)) }
 {
     match planned.site.kind {
-        TypeId::SlotUart => free_ring(heap, rings, ring_asked(planned), alloc, steps),
+        TypeId::SlotUart => free_ring(heap, rings, ring_asked(planned), alloc),
         _ => Ok(None),
     }
 }
@@ -243,22 +244,23 @@ pub(crate) fn judge<L: Ledger>(
     steps: &mut Steps<L>,
 ) -> Result<Spot, AddRefusal>
     requires { IsFit planned.now heap.now }
-    ensures open { (b : Board) (props : List Given) → Shows b heap.now → b.rings ≡ rings.now → HasGiven b props planned.now → OnOk result (spot_barred b planned.now.site.kind planned.now.site.bus.birth props ≡ None) }
-    ensures refused { (b : Board) (props : List Given) → Shows b heap.now → b.rings ≡ rings.now → HasGiven b props planned.now → IfRefused result (λ stage code. spot_barred b planned.now.site.kind planned.now.site.bus.birth props ≡ Some (stage, code)) }
+    ensures open { (b : Board) (props : List Given) → IsJudgedOn b props planned.now rings.now heap.now → OnOk result (spot_barred b planned.now.site.kind planned.now.site.bus.birth props ≡ None) }
+    ensures refused { (b : Board) (props : List Given) → IsJudgedOn b props planned.now rings.now heap.now → IfRefused result (λ stage code. spot_barred b planned.now.site.kind planned.now.site.bus.birth props ≡ Some (stage, code)) }
     ensures stages { IfRefused result (λ stage code. (5 ≤ stage) × (stage ≤ 6)) }
-    ensures spot { (b : Board) (props : List Given) → Shows b heap.now → HasGiven b props planned.now → IfOk result (λ s. IsChosen b planned.now.site.kind planned.now.site.bus.birth props s) }
+    ensures spot { (b : Board) (props : List Given) → IsJudgedOn b props planned.now rings.now heap.now → IfOk result (λ s. IsChosen b planned.now.site.kind planned.now.site.bus.birth props s) }
     ensures within { IfOk result (λ s. s.slot < BUS_SLOTS) }
     ensures dimm { IfOk result (λ s. is_some s.memory ≡ true → planned.now.site.kind ≡ MemDimm) }
+    ensures free { IfOk result (λ s. IsFreeSpot planned.now.site.bus.birth s heap.now.claims) }
 {
-    let slot = match slot_on(heap, planned.site.bus, slot_asked(planned), steps) {
+    let slot = match slot_on(heap, planned.site.bus, slot_asked(planned)) {
         Ok(slot) => slot,
         Err(code) => return Err(AddRefusal::Refused { stage: 5, code }),
     };
-    let memory = match check_kind(heap, planned, alloc, steps) {
+    let memory = match check_kind(heap, planned, steps) {
         Ok(memory) => memory,
         Err(refusal) => return Err(refusal),
     };
-    match ring_for(heap, rings, planned, alloc, steps) {
+    match ring_for(heap, rings, planned, alloc) {
         Ok(ring) => Ok(Spot { slot, ring, memory }),
         Err(refusal) => Err(refusal),
     }

@@ -1,25 +1,37 @@
 -- What stands where rings are added and removed, and where they are read and written to.
-use Rattle.std.proofs.Common.{◌≡◌, refl, ap, sym, subst, ◌∙◌, ℕ, Bool, List, [], ◌∷◌, ◌++◌, Option, None, Some, Result, Ok, Err, OnErr}
+use Rattle.std.proofs.Common.{◌≡◌, ◌≢◌, refl, ap, ap₂, sym, subst, ◌∙◌, ℕ, Bool, List, [], ◌∷◌, ◌++◌, Option, None, Some, Result, Ok, Err, OnErr, option_map, is_some, true, false, not}
+use Rattle.std.specs.Prelude.{if◌then◌else◌}
+use Rattle.std.specs.List.{list_any}
+use Rattle.std.proofs.lemmas.Option.{same_Some}
+use Rattle.std.proofs.lemmas.Slice.Eq.{bytes_eq-Decides}
+use Rattle.qo_values.proofs.ListLemmas.{found-passes}
+use Rattle.qo_values.specs.Ids.{is_id}
 use Rattle.qo_values.specs.Rings.{ring_add, ring_drop, ring_oldest}
 use Rattle.qo_values.specs.declared.codes.Code.{Code}
-use Rattle.qo_values.specs.declared.codes.Code.TheVariants.{E36}
+use Rattle.qo_values.specs.declared.codes.Code.TheVariants.{E36, E37}
 use Rattle.qo_values.specs.declared.forms.Form.{Form}
 use Rattle.qo_chardev.specs.Texts.{told}
+use Rattle.qo_backends.specs.Recount.{IsRecounted}
+use Rattle.qo_claims.specs.Book.{ClaimsTaken, is_taken}
+use Rattle.qo_claims.specs.declared.claims.Claimed.TheVariants as on
 use Rattle.qo_hotplug.specs.Hotplug.{Asked}
 use Rattle.qo_model.specs.Board.{Board, Ring}
 use Rattle.qo_model.specs.Objects.{Changed}
-use Rattle.qo_heap.specs.Board.{Shows}
+use Rattle.qo_model.specs.Plug.{claims_ring, has_ring}
 use Rattle.qo_heap.specs.Objects.{Objects}
+use Rattle.qo_heap.proofs.HeapLemmas.{is_some-find}
 use Rattle.qo_properties.specs.declared.refusals.Refusal.{Refusal}
 use Rattle.qo_properties.specs.declared.refusals.Refusal.TheVariants.{Refused, Memory}
 use Rattle.qo_reset.specs.HoldList.{HoldList}
 use Rattle.qo_realize.specs.Answers.{Changes, IsAnswered}
-use Rattle.qo_rings.specs.Rings.{bytes_in, given_bytes, new_ring, ring_changed, ring_named, without_ring}
+use Rattle.qo_realize.specs.BoardClaims.{KeepsClaims}
+use Rattle.qo_rings.specs.Rings.{bytes_in, given_bytes, is_ring, new_ring, ring_changed, ring_named, without_ring}
 use Rattle.qo_realize.specs.Chardevs.{AnswersRings, ChangesRings, Reading, ReadsRing, TakesRing, by_code, chardev_barred, chardev_removed, removal_barred, ring_added, ring_read, ring_written, taken_as, with_rings, written_as}
 use Rattle.qo_realize.specs.Parts.{Parts, parts_of}
 use Rattle.qo_realize.specs.Representation.{Stands, StandsForGood}
 use Rattle.qo_realize.specs.SoundBoard.{SoundBoard}
 use Rattle.qo_realize.proofs.GoodBoardLemmas.{ringed-good}
+use Rattle.qo_realize.proofs.RecountLemmas.{is-recounted}
 use Rattle.qo_realize.proofs.RingLemmas.{added_backends, gained_backends, read_backends, removed_backends}
 
 -- what is so of the board, and of the board with the rings, is so after the change
@@ -52,6 +64,58 @@ gained-all P b id text form p q = go (ring_named id b.rings)
     go : (o : Option Ring) → P (elim o as (λ o. Changed) [ None ↦ record { refusal = Some E36; board = b } | Some r ↦ written_as b id (given_bytes form text) ]).board
     go None = p
     go (Some r) = by (given_bytes form text)
+
+-- why a ring is not removed
+
+abbrev removed_as : Board → List ℕ → Bool → Bool → Changed
+removed_as b id there claimed =
+    by_code b (with_rings (without_ring id b.rings) b) (if not there then Some E36 else if claimed then Some E37 else None)
+
+ring-there : (b : Board) (id : List ℕ) → has_ring b id ≡ is_some (ring_named id b.rings)
+ring-there b id = sym (is_some-find (is_ring id) b.rings)
+
+abbrev pub kept_id : List ℕ → List Ring → Option (List ℕ)
+kept_id id rings = option_map (λ (r : Ring). r.id) (ring_named id rings)
+
+pub removal-none : (b : Board) (id : List ℕ) → None ≡ kept_id id b.rings → chardev_removed b id ≡ by_code b b (Some E36)
+removal-none b id e =
+    ap (λ (t : Bool). removed_as b id t (list_any (claims_ring b id) b.records)) (ring-there b id ∙ go (ring_named id b.rings) e)
+  where
+    go : (o : Option Ring) → None ≡ option_map (λ (r : Ring). r.id) o → is_some o ≡ false
+    go None e = refl
+    go (Some r) e = absurd (cc e)
+
+record IsKept (b : Board) (id kept : List ℕ) : Type 0 where
+  there : has_ring b id ≡ true
+  same : kept ≡ id
+
+kept-ring : (b : Board) (id kept : List ℕ) → Some kept ≡ kept_id id b.rings → IsKept b id kept
+kept-ring b id kept e = go (ring_named id b.rings) refl e
+  where
+    go : (o : Option Ring) → ring_named id b.rings ≡ o → Some kept ≡ option_map (λ (r : Ring). r.id) o → IsKept b id kept
+    go None q k = absurd (cc k)
+    go (Some r) q k =
+        record {
+          there = ring-there b id ∙ ap is_some q;
+          same = same_Some kept r.id k ∙ (bytes_eq-Decides r.id id).0 (found-passes (is_ring id) b.rings r q);
+        }
+
+module _ (b : Board) (id kept : List ℕ) (is : Some kept ≡ kept_id id b.rings) (named : is_id kept ≡ true) (h : ClaimsTaken) (told : IsRecounted b h) where
+  removal-as : chardev_removed b id ≡ removed_as b id true (is_taken (on.Ring kept) h)
+  removal-as =
+      let k = kept-ring b id kept is in
+      let some : kept ≢ [] = λ none. absurd (let clash : false ≡ true = subst (λ (own : List ℕ). is_id own ≡ true) none named in cc) in
+      let claimed : is_taken (on.Ring kept) h ≡ list_any (claims_ring b id) b.records =
+      told.rings kept some ∙ ap (λ (own : List ℕ). list_any (claims_ring b own) b.records) k.same in
+      ap₂ (removed_as b id) k.there (sym claimed)
+
+  pub removal-claimed : true ≡ is_taken (on.Ring kept) h → chardev_removed b id ≡ by_code b b (Some E37)
+  removal-claimed e = removal-as ∙ ap (removed_as b id true) (sym e)
+
+  pub removal-free : (left : List Ring) → left ≡ without_ring id b.rings → false ≡ is_taken (on.Ring kept) h
+      → chardev_removed b id ≡ by_code b (with_rings left b) None
+  removal-free left is_left e =
+      removal-as ∙ ap (removed_as b id true) (sym e) ∙ ap (λ (rs : List Ring). by_code b (with_rings rs b) None) (sym is_left)
 
 -- so a sound board stays sound
 
@@ -118,11 +182,11 @@ module _ (old new : List Ring) (anonymous : ℕ) (running : Bool) (holds : HoldL
   change-sound change (Err e) keeps is same (b, s, good) = (b, left-stands b s same, good)
 
   pub answer-sound : (change : Board → Changed) (result : Result (Unit {0}) Code) → ((b : Board) → SoundBoard b → SoundBoard (change b).board)
-      → ((b : Board) → Shows b v → b.rings ≡ old → AnswersRings b (change b) result new) → OnErr result (new ≡ old)
-      → StandsForGood before → StandsForGood after
-  answer-sound change (Ok u) keeps is same (b, s, good) =
-      rings-sound b s (subst (λ (c : Changed). SoundBoard c.board) (is b s.shows s.rings) (keeps b good))
-  answer-sound change (Err e) keeps is same (b, s, good) = (b, left-stands b s same, good)
+      → ((b : Board) → IsRecounted b v.claims → b.rings ≡ old → AnswersRings b (change b) result new) → OnErr result (new ≡ old)
+      → StandsForGood before → KeepsClaims v → StandsForGood after
+  answer-sound change (Ok u) keeps is same (b, s, good) kept =
+      rings-sound b s (subst (λ (c : Changed). SoundBoard c.board) (is b (is-recounted b v s.shows s.book kept good) s.rings) (keeps b good))
+  answer-sound change (Err e) keeps is same (b, s, good) kept = (b, left-stands b s same, good)
 
   pub reading-sound : (reading : Board → Reading) (result : Result (List ℕ) Refusal) → ((b : Board) → SoundBoard b → SoundBoard (reading b).board)
       → ((b : Board) → b.rings ≡ old → TakesRing b (reading b) result new) → OnErr result (new ≡ old) → StandsForGood before → StandsForGood after

@@ -21,3 +21,8 @@ pub mod TimeLemmas
 pub mod WriteLemmas
 pub mod RegisterWriteLemmas
 pub mod UserLemmas
+pub mod RecountedSlots
+pub mod RecountedRows
+pub mod RecountedClaims
+pub mod RecountedMemory
+pub mod RecountLemmas

@@ -29,9 +29,11 @@ use Rattle.qo_sound.proofs.PlugOutcomesLemmas.{plug_comes_to_lem}
 use Rattle.qo_values.specs.declared.codes.Code.{Code}
 use Rattle.qo_values.specs.declared.kinds.TypeId.{TypeId}
 use Rattle.qo_realize.specs.Answers.{IsTold, Plugs}
+use Rattle.qo_realize.specs.BoardClaims.{KeepsClaims}
 use Rattle.qo_realize.specs.SoundBoard.{SoundBoard}
 use Rattle.qo_realize.specs.Parts.{Parts, counts, parts_of}
 use Rattle.qo_realize.specs.Representation.{Stands, StandsForGood}
+use Rattle.qo_realize.proofs.RecountLemmas.{is-recounted}
 use Rattle.qo_realize.proofs.RepresentationLemmas.{stands-by}
 use Rattle.qo_realize.proofs.GoodBoardLemmas.{added-good, cut_as-good, root-pinned}
 
@@ -40,10 +42,11 @@ the T x = x
 
 -- what is beside the heap is the board's
 pub is_shown : (b : Board) (rings : List Ring) (anonymous : ℕ) (running : Bool) (holds : HoldList) (asked : Asked) (v : Objects)
-    → Stands b (parts_of rings anonymous running holds asked v) → SoundBoard b → IsShown b anonymous holds.births rings asked v
-is_shown b rings anonymous running holds asked v s good =
+    → Stands b (parts_of rings anonymous running holds asked v) → SoundBoard b → KeepsClaims v → IsShown b anonymous holds.births rings asked v
+is_shown b rings anonymous running holds asked v s good kept =
     record {
       shown = s.shows;
+      recounted = is-recounted b v s.shows s.book kept good;
       anonymous_is = s.anonymous;
       holds_are = s.holds;
       rings_are = s.rings;

@@ -124,7 +124,7 @@ module _ (b : Board) (a : Wanted) (rings : List Ring) (anonymous next : ℕ) (ru
     Shown = IsShown b anonymous holds.births rings old v
 
     shown : Shown
-    shown = is_shown b rings anonymous running holds old v seen good
+    shown = is_shown b rings anonymous running holds old v seen good claims
 
     pub begun-drafted : (d : Begun) → KeptOrNew v w → (Shown → IsBegun b a d w) → IsDrafted b a (record { parts = at w; next = next; begun = d })
     begun-drafted d own begun = drafted-is v w d seen good is keeps claims own (begun shown)

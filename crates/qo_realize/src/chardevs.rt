@@ -2,20 +2,18 @@
 //! the refusals and their order are the profile's).
 
 ghost use Rattle.std.specs.Prelude.{◌≡◌, OnErr};
+ghost use Rattle.qo_backends.specs.Recount.{IsRecounted};
 ghost use Rattle.qo_model.specs.Board.{Board as Tree};
-ghost use Rattle.qo_heap.specs.Board.{Shows};
 ghost use Rattle.qo_realize.specs.Answers.{Changes, IsAnswered};
 ghost use Rattle.qo_realize.specs.Chardevs.{AnswersRings, ChangesRings, ReadsRing, TakesRing, chardev_added, chardev_removed, ring_added, ring_read, ring_written, ringbuf_read, ringbuf_written};
 ghost use Rattle.qo_realize.specs.Representation.{Stands};
 
 use crate::board::Board;
-use qo_backends::is_ring_claimed;
-use qo_heap::{Heap, Steps};
+use qo_heap::Heap;
 use qo_properties::Refusal;
 use qo_rings::{RING_SIZE_DEFAULT, RingAddError, RingError, RingTakeError, Rings};
 use qo_values::{Code, Form, Id, IdError, Text};
 use std::alloc::Global;
-use std::sync::ledger::Ledger;
 
 /// Adds a ring of a type's name and a size under an id. Refused, in this order, with `E20` where the type
 /// is no ring, `E23` where the id is malformed, `E24` where a ring has it, and `E51` where the size is that
@@ -44,19 +42,14 @@ fn add(rings: &mut Rings, id: &str, kind: &str, size: u64, alloc: Global) -> Res
 
 /// Removes the ring of an id. Refused with `E36` where there is none, and `E37` where a UART has claimed
 /// it. It takes no memory. An error leaves all as it was.
-fn remove<L: Ledger>(
-    heap: &Heap,
-    rings: &mut Rings,
-    id: &str,
-    steps: &mut Steps<L>,
-) -> Result<(), Code>
-    ensures change { (b : Tree) → Shows b heap.now → b.rings ≡ rings.old → AnswersRings b (chardev_removed b id.now) result rings.new }
+fn remove(heap: &Heap, rings: &mut Rings, id: &str) -> Result<(), Code>
+    ensures change { (b : Tree) → IsRecounted b heap.now.claims → b.rings ≡ rings.old → AnswersRings b (chardev_removed b id.now) result rings.new }
     ensures err { OnErr result (rings.new ≡ rings.old) }
 {
-    if !rings.has(id) {
+    let Some(kept) = rings.id(id) else {
         return Err(Code::E36);
-    }
-    if is_ring_claimed(heap, id, steps) {
+    };
+    if heap.book().is_ring_taken(kept.as_str()) {
         return Err(Code::E37);
     }
     rings.remove(id);
@@ -79,16 +72,15 @@ fn take(rings: &mut Rings, id: &str, size: u64, form: Form) -> Result<Text, Refu
 }
 
 /// Adds the bytes that a text gives to the ring of an id. Refused with `E36` where there is no such ring,
-/// and `E19` where the text gives none. The other error is want of memory. An error adds nothing.
-fn write(rings: &mut Rings, id: &str, text: &str, form: Form) -> Result<(), Refusal>
-    ensures change { (b : Tree) → b.rings ≡ rings.old → ChangesRings b (ring_written b id.now text.now form) result rings.new }
+/// and else `E19` where the text gives none. It takes no memory. An error adds nothing.
+fn write(rings: &mut Rings, id: &str, text: &str, form: Form) -> Result<(), Code>
+    ensures change { (b : Tree) → b.rings ≡ rings.old → AnswersRings b (ring_written b id.now text.now form) result rings.new }
     ensures err { OnErr result (rings.new ≡ rings.old) }
 {
     match rings.add_bytes(id, text, form) {
         Ok(()) => Ok(()),
-        Err(RingAddError::NotFound) => Err(Refusal::Refused(Code::E36)),
-        Err(RingAddError::BadText) => Err(Refusal::Refused(Code::E19)),
-        Err(RingAddError::Memory) => Err(Refusal::Memory),
+        Err(RingAddError::NotFound) => Err(Code::E36),
+        Err(RingAddError::BadText) => Err(Code::E19),
     }
 }
 
@@ -114,11 +106,11 @@ impl Board {
     /// Removes the ring of an id (QEMU's QAPI, `chardev-remove`). Refused with `E36` exactly where there
     /// is none, and else `E37` exactly where a UART has claimed it. It takes no memory. An error leaves
     /// the board as it was.
-    pub fn chardev_remove<L: Ledger>(&mut self, id: &str, steps: &mut Steps<L>) -> Result<(), Code>
+    pub fn chardev_remove(&mut self, id: &str) -> Result<(), Code>
         ensures change { (b : Tree) → Stands b self.old → IsAnswered (chardev_removed b id.now) result self.new }
         ensures err { OnErr result (self.new ≡ self.old) }
     {
-        remove(&self.heap, &mut self.rings, id, steps)
+        remove(&self.heap, &mut self.rings, id)
     }
 
     /// Takes the oldest bytes of a ring, at most `size`, and tells them in a form, or in UTF-8 (QEMU's
@@ -139,16 +131,16 @@ impl Board {
     }
 
     /// Adds the bytes that a text gives, in a form, or its own, to a ring; where they do not fit, the
-    /// oldest go (QEMU's QAPI, `ringbuf-write`). Refused with `E36` where there is no such ring, and else
-    /// `E19` where the text is not the Base64 of any bytes. The other error is want of memory. An error
+    /// oldest go (QEMU's QAPI, `ringbuf-write`). Refused with `E36` exactly where there is no such ring,
+    /// and else `E19` exactly where the text is not the Base64 of any bytes. It takes no memory. An error
     /// leaves the board as it was.
     pub fn ringbuf_write(
         &mut self,
         device: &str,
         text: &str,
         format: Option<Form>,
-    ) -> Result<(), Refusal>
-        ensures change { (b : Tree) → Stands b self.old → Changes (ringbuf_written b device.now text.now format) b result self.new }
+    ) -> Result<(), Code>
+        ensures change { (b : Tree) → Stands b self.old → IsAnswered (ringbuf_written b device.now text.now format) result self.new }
         ensures err { OnErr result (self.new ≡ self.old) }
     {
         let form = format.unwrap_or(Form::Utf8);

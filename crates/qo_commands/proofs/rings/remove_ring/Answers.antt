@@ -6,6 +6,6 @@ use Rattle.qo_commands.proofs.rings.remove_ring.Goals as goal
 
 pub returns : goal.returns
 unfolding altered
-returns g c = λ b s.
+returns c = λ b s.
     answered-came (chardev_removed b c.args.id.now) c.chardev_remove.result c.done_by.result c.chardev_remove.new.self (c.chardev_remove.ensures.change b s)
     c.done_by.ensures

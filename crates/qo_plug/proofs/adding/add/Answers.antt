@@ -7,9 +7,14 @@ use Rattle.qo_plug.specs.Admission.{as_wanted}
 use Rattle.qo_plug.specs.KeptClaims.{KeptOrNewBut}
 use Rattle.qo_plug.specs.Stages.{spot_barred}
 use Rattle.qo_plug.proofs.JudgementLemmas.{refused-told}
-use Rattle.qo_plug.proofs.AddLemmas.{cut-late, refused-last, refused-within, spot-refused}
+use Rattle.qo_plug.proofs.AddLemmas.{cut-late, planned-judged, refused-last, refused-only, refused-within, shown-same, spot-refused}
 use Rattle.qo_plug.proofs.KeptLemmas.{far-but, far-new, new-from, new-then, so-far}
 use Rattle.qo_plug.proofs.adding.add.Goals as goal
+
+pub returns-in-Err-clause-refused : goal.returns-in-Err-clause-refused
+returns-in-Err-clause-refused g c = λ b is.
+    refused-only b (as_wanted c.args.options.now) ℕ ℕ c.in-Err.refusal c.choose.new.heap
+    (c.in-Err.ensures.refused b c.args.resets.now.births c.args.rings.now is)
 
 pub returns-in-Err-clause-memory : goal.returns-in-Err-clause-memory
 returns-in-Err-clause-memory g c = λ b is e. c.choose.ensures.memory b c.args.resets.now.births c.args.rings.now is (c.in-Err.is ∙ ap (λ r. Err r) (cc e))
@@ -18,7 +23,7 @@ pub returns-in-Err-Refused-clause-refused : goal.returns-in-Err-Refused-clause-r
 returns-in-Err-Refused-clause-refused g c = λ b is.
     let a : Wanted = as_wanted c.args.options.now in
     let planned = c.in-Ok.ensures.planned b c.args.resets.now.births c.args.rings.now is in
-    let shown = subst (Shows b) (sym c.in-Ok.ensures.same) is.shown in
+    let seen = shown-same c.in-Ok.ensures.same is in
     let stage = c.in-Err-Refused.stage in
     let code = c.in-Err-Refused.code in
     let is_refused = c.in-Err-Refused.field-0-is in
@@ -26,12 +31,12 @@ returns-in-Err-Refused-clause-refused g c = λ b is.
     refused-told ℕ (λ at told. (5 ≤ at) × (at ≤ 6)) c.in-Err-Refused.field-0 stage code is_refused c.in-Err-Refused.ensures.stages in
     let early : (stage == 8) ≡ false = grind (arith, nat_tests, stages.1) in
     let down =
-    rw (c.in-Err-Refused.stage-is, c.in-Err-Refused.code-is) at (c.turn_down.ensures.down b c.in-Ok.planned.site.bus.birth shown is.sound
+    rw (c.in-Err-Refused.stage-is, c.in-Err-Refused.code-is) at (c.turn_down.ensures.down b c.in-Ok.planned.site.bus.birth seen.shown is.sound
     (subst (λ (k : ℕ). (k == 8) ≡ false) (sym c.in-Err-Refused.stage-is) early)) in
     spot-refused b a c.in-Ok.planned.site planned.admitted c.turn_down.new.heap (record { stage = stage; code = code }) (sym planned.given)
     (sym (refused-told ℕ (λ at told. spot_barred b c.in-Ok.planned.site.kind c.in-Ok.planned.site.bus.birth c.args.options.now.props.now ≡ Some (at, told))
     c.in-Err-Refused.field-0
-    stage code is_refused (c.in-Err-Refused.ensures.refused b c.args.options.now.props.now shown is.rings_are planned.has))) ℕ c.turn_down.result down
+    stage code is_refused (c.in-Err-Refused.ensures.refused b c.args.options.now.props.now (planned-judged seen planned)))) ℕ c.turn_down.result down
 
 pub returns-in-Err-Refused-clause-memory : goal.returns-in-Err-Refused-clause-memory
 returns-in-Err-Refused-clause-memory g c = λ b is e.
@@ -57,14 +62,14 @@ pub returns-in-Err-place-clause-refused : goal.returns-in-Err-place-clause-refus
 returns-in-Err-place-clause-refused g c = λ b is.
     let a : Wanted = as_wanted c.args.options.now in
     let planned = c.in-Ok.ensures.planned b c.args.resets.now.births c.args.rings.now is in
-    let begun = c.in-Ok-make.ensures.begun b a (subst (Shows b) (sym c.in-Ok.ensures.same) is.shown) is.sound is.holds_are is.rings_are planned in
+    let begun = c.in-Ok-make.ensures.begun b a c.args.anonymous c.args.hotplug.now (shown-same c.in-Ok.ensures.same is) planned in
     refused-within b a 5 6 ℕ ℕ c.in-Err-place.refusal c.place.new.heap (c.in-Err-place.ensures.refused b a begun)
 
 pub returns-in-Err-place-clause-memory : goal.returns-in-Err-place-clause-memory
 returns-in-Err-place-clause-memory g c = λ b is e.
     let a : Wanted = as_wanted c.args.options.now in
     let planned = c.in-Ok.ensures.planned b c.args.resets.now.births c.args.rings.now is in
-    let begun = c.in-Ok-make.ensures.begun b a (subst (Shows b) (sym c.in-Ok.ensures.same) is.shown) is.sound is.holds_are is.rings_are planned in
+    let begun = c.in-Ok-make.ensures.begun b a c.args.anonymous c.args.hotplug.now (shown-same c.in-Ok.ensures.same is) planned in
     c.in-Err-place.ensures.memory b a begun (ap (λ r. Err r) (cc e))
 
 pub returns-in-Err-place-clause-book : goal.returns-in-Err-place-clause-book
@@ -74,7 +79,7 @@ pub returns-in-Ok-finish-clause-ok : goal.returns-in-Ok-finish-clause-ok
 returns-in-Ok-finish-clause-ok g c = λ b is.
     let a : Wanted = as_wanted c.args.options.now in
     let planned = c.in-Ok.ensures.planned b c.args.resets.now.births c.args.rings.now is in
-    let begun = c.in-Ok-make.ensures.begun b a (subst (Shows b) (sym c.in-Ok.ensures.same) is.shown) is.sound is.holds_are is.rings_are planned in
+    let begun = c.in-Ok-make.ensures.begun b a c.args.anonymous c.args.hotplug.now (shown-same c.in-Ok.ensures.same is) planned in
     c.in-Ok-finish.ensures.ok b a (c.in-Ok-place.ensures.settled b a begun is.notices)
     (record { holds_are = is.holds_are; pending = is.pending; notices = is.notices })
 
@@ -85,7 +90,7 @@ pub returns-in-Err-finish-clause-refused : goal.returns-in-Err-finish-clause-ref
 returns-in-Err-finish-clause-refused g c = λ b is.
     let a : Wanted = as_wanted c.args.options.now in
     let planned = c.in-Ok.ensures.planned b c.args.resets.now.births c.args.rings.now is in
-    let begun = c.in-Ok-make.ensures.begun b a (subst (Shows b) (sym c.in-Ok.ensures.same) is.shown) is.sound is.holds_are is.rings_are planned in
+    let begun = c.in-Ok-make.ensures.begun b a c.args.anonymous c.args.hotplug.now (shown-same c.in-Ok.ensures.same is) planned in
     refused-last b a ℕ ℕ c.in-Err-finish.field-0 c.finish.new.heap c.in-Err-finish.ensures.code
     (c.in-Err-finish.ensures.refused b a (c.in-Ok-place.ensures.settled b a begun is.notices))
 

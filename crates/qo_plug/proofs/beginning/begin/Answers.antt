@@ -1,14 +1,23 @@
 -- It is chosen where the device goes, its slot is judged, and it is made.
-use Rattle.std.proofs.Common.{ap, sym, subst, ◌∙◌, Err}
+use Rattle.std.proofs.Common.{◌≤◌, ℕ, ap, sym, subst, ◌∙◌, Err}
 use Rattle.qo_model.specs.Plug.{Wanted}
 use Rattle.qo_heap.specs.Board.{Shows}
 use Rattle.qo_plug.specs.Admission.{as_wanted}
-use Rattle.qo_plug.proofs.AddLemmas.{cut-late}
+use Rattle.qo_plug.specs.Answers.{IsRefused}
+use Rattle.qo_plug.proofs.AddLemmas.{cut-late, shown-same}
+use Rattle.qo_plug.proofs.JudgementLemmas.{refused-map}
 use Rattle.qo_plug.proofs.KeptLemmas.{new-from}
 use Rattle.qo_plug.proofs.beginning.begin.Goals as goal
 
 pub make-requires-clause-spot : goal.make-requires-clause-spot
 make-requires-clause-spot g c = c.in_ok-spot.ensures
+
+pub returns-in-Err-clause-refused : goal.returns-in-Err-clause-refused
+returns-in-Err-clause-refused g c = λ b is.
+    let a : Wanted = as_wanted c.args.options.now in
+    refused-map ℕ ℕ (λ stage code. (1 ≤ stage) × (stage ≤ 4) × IsRefused b a stage code c.choose.new.heap)
+    (λ stage code. (1 ≤ stage) × (stage ≤ 4) × IsRefused b a stage code c.choose.new.heap) c.in-Err.refusal (λ stage code h. h)
+    (c.in-Err.ensures.refused b c.args.resets.now.births c.args.rings.now is)
 
 pub returns-in-Err-clause-memory : goal.returns-in-Err-clause-memory
 returns-in-Err-clause-memory g c = λ b is e. c.choose.ensures.memory b c.args.resets.now.births c.args.rings.now is (c.in-Err.is ∙ ap (λ r. Err r) (cc e))
@@ -17,7 +26,7 @@ pub returns-in-Ok-make-clause-begun : goal.returns-in-Ok-make-clause-begun
 returns-in-Ok-make-clause-begun g c = λ b is.
     let a : Wanted = as_wanted c.args.options.now in
     let planned = c.in-Ok.ensures.planned b c.args.resets.now.births c.args.rings.now is in
-    c.in-Ok-make.ensures.begun b a (subst (Shows b) (sym c.in-Ok.ensures.same) is.shown) is.sound is.holds_are is.rings_are planned
+    c.in-Ok-make.ensures.begun b a c.args.anonymous c.args.hotplug.now (shown-same c.in-Ok.ensures.same is) planned
 
 pub returns-in-Ok-make-clause-book : goal.returns-in-Ok-make-clause-book
 returns-in-Ok-make-clause-book g c = λ out h. c.make.ensures.book out (c.choose.ensures.book out h)

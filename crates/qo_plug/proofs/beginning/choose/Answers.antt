@@ -11,7 +11,7 @@ pub returns-in-Err-clause-refused : goal.returns-in-Err-clause-refused
 returns-in-Err-clause-refused g c = λ b holds rings is.
     let a : Wanted = as_wanted c.args.options.now in
     refused-early b a ℕ ℕ c.in-Err.refusal c.args.heap.now is.shown
-    (c.in-Err.ensures.refused b c.args.options.now.props.now is.shown (is.pending ∙ sym c.pending.ensures) is.anonymous_is)
+    (c.in-Err.ensures.refused b c.args.options.now.props.now is.shown is.recounted (is.pending ∙ sym c.pending.ensures) is.anonymous_is)
 
 pub returns-in-Ok-plan-clause-fit : goal.returns-in-Ok-plan-clause-fit
 returns-in-Ok-plan-clause-fit g c =
@@ -19,6 +19,7 @@ returns-in-Ok-plan-clause-fit g c =
       device = c.in-Ok.ensures.device;
       container = c.in-Ok.ensures.live.0;
       bus = c.in-Ok.ensures.live.1;
+      free_id = c.in-Ok.ensures.free;
       targets = c.in-Ok-plan.ensures.live;
       fits = c.in-Ok-plan.ensures.fits;
     }
@@ -26,7 +27,7 @@ returns-in-Ok-plan-clause-fit g c =
 pub returns-in-Ok-plan-clause-planned : goal.returns-in-Ok-plan-clause-planned
 returns-in-Ok-plan-clause-planned g c = λ b holds rings is.
     record {
-      admitted = c.in-Ok.ensures.admitted b c.args.options.now.props.now is.shown (is.pending ∙ sym c.pending.ensures) is.anonymous_is;
+      admitted = c.in-Ok.ensures.admitted b c.args.options.now.props.now is.shown is.recounted (is.pending ∙ sym c.pending.ensures) is.anonymous_is;
       given = c.in-Ok-plan.ensures.refused b is.shown;
       has = c.in-Ok-plan.ensures.told b is.shown;
     }
@@ -35,7 +36,7 @@ pub returns-in-Err-Refused-clause-refused : goal.returns-in-Err-Refused-clause-r
 returns-in-Err-Refused-clause-refused g c = λ b holds rings is.
     let a : Wanted = as_wanted c.args.options.now in
     let admitted : IsAdmitted b a c.in-Ok.site =
-    c.in-Ok.ensures.admitted b c.args.options.now.props.now is.shown (is.pending ∙ sym c.pending.ensures) is.anonymous_is in
+    c.in-Ok.ensures.admitted b c.args.options.now.props.now is.shown is.recounted (is.pending ∙ sym c.pending.ensures) is.anonymous_is in
     let refused =
     plan-refused ℕ (refusal_of b c.in-Ok.site.kind c.args.options.now.props.now) c.in-Err-Refused.field-0 c.in-Err-Refused.code c.in-Err-Refused.field-0-is
     (c.in-Err-Refused.ensures.refused b is.shown) in
@@ -46,5 +47,5 @@ pub returns-in-Err-Refused-clause-memory : goal.returns-in-Err-Refused-clause-me
 returns-in-Err-Refused-clause-memory g c = λ b holds rings is e.
     let a : Wanted = as_wanted c.args.options.now in
     let admitted : IsAdmitted b a c.in-Ok.site =
-    c.in-Ok.ensures.admitted b c.args.options.now.props.now is.shown (is.pending ∙ sym c.pending.ensures) is.anonymous_is in
+    c.in-Ok.ensures.admitted b c.args.options.now.props.now is.shown is.recounted (is.pending ∙ sym c.pending.ensures) is.anonymous_is in
     cut-late b a c.in-Ok.site admitted c.turn_down.new.heap (c.turn_down.ensures.memory b is.shown is.sound (cc e))

@@ -1,8 +1,11 @@
 -- The device is new, and what was learnt before it was made stays so.
-use Rattle.std.proofs.Common.{◌≡◌, ◌≤◌, ◌+◌, ap, sym, ◌∙◌, ℕ, arith}
+use Rattle.std.proofs.Common.{◌≡◌, ◌≤◌, ◌+◌, ap, sym, subst, ◌∙◌, ℕ, IfOk, arith}
+use Rattle.qo_claims.specs.Book.{ClaimsTaken}
 use Rattle.qo_model.specs.Reset.{count}
 use Rattle.qo_heap.proofs.HeapLemmas.{on-err}
+use Rattle.qo_standing.specs.FreeSpots.{IsFreeId, IsFreeSpot}
 use Rattle.qo_plug.specs.Drafts.{own_slots_of}
+use Rattle.qo_plug.proofs.AddLemmas.{planned-judged}
 use Rattle.qo_plug.proofs.GivenDraftLemmas.{left-fits, left-given, left-targets}
 use Rattle.qo_plug.proofs.GrowthLemmas.{live-low, unborn-quiet}
 use Rattle.qo_plug.proofs.AttemptLemmas.{cut-none}
@@ -26,6 +29,8 @@ returns-clause-held g c =
       within = c.requires.spot.within;
       dimm = c.requires.spot.dimm;
       stages = c.requires.spot.stages;
+      free_id = subst (IsFreeId c.args.planned.site.place.id) (sym grows.claims) c.requires.fit.free_id;
+      free = subst (λ (h : ClaimsTaken). IfOk c.args.spot (λ at. IsFreeSpot c.args.planned.site.bus.birth at h)) (sym grows.claims) c.requires.spot.free;
       pinned = c.in_ok-device.ensures.pinned;
       rest = made.rest;
       quiet = λ n le. grows.quiet n (unborn-quiet c.args.heap.now c.facts.ensures n (omega (arith, born, le)));
@@ -38,18 +43,19 @@ returns-clause-held g c =
     }
 
 pub returns-clause-begun : goal.returns-clause-begun
-returns-clause-begun g c = λ b a s sound holds rings planned.
+returns-clause-begun g c = λ b a anonymous asked is planned.
     let made = c.in_ok-device.ensures.made in
     let value = c.as_mut_slice.ensures.value in
+    let judged = planned-judged is planned in
     record {
-      shown = c.in_ok-device.ensures.shown b a.props (rw value planned.has) s;
-      sound = sound;
+      shown = c.in_ok-device.ensures.shown b a.props (rw value planned.has) is.shown;
+      sound = is.sound;
       admitted = planned.admitted;
       given = planned.given;
-      birth = made.birth ∙ sym (ap (λ (k : ℕ). k + 1) s.born);
-      barred = c.requires.spot.refused b a.props s rings planned.has;
-      spot = c.requires.spot.spot b a.props s planned.has;
-      out = cut-none c.count-out.result (count b c.args.planned.site.bus.birth) (c.count-out.ensures b (s, holds));
+      birth = made.birth ∙ sym (ap (λ (k : ℕ). k + 1) is.shown.born);
+      barred = c.requires.spot.refused b a.props judged;
+      spot = c.requires.spot.spot b a.props judged;
+      out = cut-none c.count-out.result (count b c.args.planned.site.bus.birth) (c.count-out.ensures b (is.shown, is.holds_are));
       plan =
           left-given c.args.planned.plan c.as_mut_slice.result.now c.make_device.new.plan value c.in_ok-device.ensures.left c.args.planned.site.kind
           (own_slots_of c.make_device.new.heap c.in_ok-device.device.birth) made.own b a.props planned.has;

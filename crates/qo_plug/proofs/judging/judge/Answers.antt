@@ -1,6 +1,7 @@
 -- The stages are those of the place and of the ring.
-use Rattle.std.proofs.Common.{◌≡◌, ◌≤◌, ℕ, arith}
-use Rattle.qo_plug.proofs.JudgementLemmas.{refused-map}
+use Rattle.std.proofs.Common.{◌≡◌, ◌≤◌, ℕ, ap, sym, ◌∙◌, arith}
+use Rattle.qo_model.specs.Plug.{bus_slot_for}
+use Rattle.qo_plug.proofs.JudgementLemmas.{kind-refused, refused-map, spot-is}
 use Rattle.qo_plug.proofs.judging.judge.Goals as goal
 
 pub returns-in-Err-check_kind-clause-stages : goal.returns-in-Err-check_kind-clause-stages
@@ -12,3 +13,23 @@ pub returns-in-Err-ring_for-clause-stages : goal.returns-in-Err-ring_for-clause-
 returns-in-Err-ring_for-clause-stages g c =
     refused-map ℕ ℕ (λ stage code. stage ≡ 6) (λ stage code. (5 ≤ stage) × (stage ≤ 6)) c.in-Err-ring_for.refusal
     (λ stage code h. (omega (arith, h), omega (arith, h))) c.in-Err-ring_for.ensures.stage
+
+pub returns-in-Err-check_kind-clause-refused : goal.returns-in-Err-check_kind-clause-refused
+returns-in-Err-check_kind-clause-refused g c = λ b props judged.
+    let site = c.args.planned.now.site in
+    let asked = sym (c.slot_asked.ensures b props judged.given) in
+    let has = ap (bus_slot_for b site.bus.birth) asked ∙ c.in-Ok.ensures.slot b site.kind judged.recounted judged.bus in
+    kind-refused b site.bus.birth site.kind props c.in-Ok.slot has ℕ ℕ c.in-Err-check_kind.refusal
+    (c.in-Err-check_kind.ensures.refused b props c.args.rings.now judged)
+
+pub returns-in-Ok-ring_for-clause-spot : goal.returns-in-Ok-ring_for-clause-spot
+returns-in-Ok-ring_for-clause-spot g c = λ b props judged.
+    let site = c.args.planned.now.site in
+    let asked = sym (c.slot_asked.ensures b props judged.given) in
+    let has = ap (bus_slot_for b site.bus.birth) asked ∙ c.in-Ok.ensures.slot b site.kind judged.recounted judged.bus in
+    record {
+      spot = spot-is b site.bus.birth site.kind props c.in-Ok.slot c.in-Ok-ring_for.ring c.in-Ok-check_kind.memory has
+          (c.in-Ok-check_kind.ensures.range b props c.args.rings.now judged);
+      ring = c.in-Ok-ring_for.ensures.ring b props judged.given;
+      backend = c.in-Ok-check_kind.ensures.backend b props judged.given;
+    }

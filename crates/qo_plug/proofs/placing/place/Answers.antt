@@ -1,5 +1,5 @@
 -- The device is judged already: it takes its place, or is given up.
-use Rattle.std.proofs.Common.{◌≡◌, ◌≤◌, ◌==◌, refl, ap, sym, subst, ◌∙◌, List, false, length, nat_le, arith}
+use Rattle.std.proofs.Common.{◌≡◌, ℕ, Option, ◌≤◌, ◌==◌, refl, ap, sym, subst, ◌∙◌, List, false, length, nat_le, arith}
 use Rattle.std.proofs.lemmas.Bool.Decides.{nat_tests}
 use Rattle.qo_values.specs.declared.limits.TheConstants.{NOTICES_MAX}
 use Rattle.qo_model.specs.Board.{Notice}
@@ -10,6 +10,7 @@ use Rattle.qo_heap.specs.Objects.{with_edit}
 use Rattle.qo_plug.specs.Spots.{claims_given}
 use Rattle.qo_plug.specs.Drafts.{given_draft}
 use Rattle.qo_standing.specs.DeviceClaims.{kept_on}
+use Rattle.qo_standing.specs.FreeSpots.{IsFreeId}
 use Rattle.qo_standing.specs.Placement.{IsSeat, kept_in, spot_in}
 use Rattle.qo_properties.specs.KeptClaims.{SameKept}
 use Rattle.qo_plug.proofs.ClaimLemmas.{chosen-claims, draft-keeps, driver-room}
@@ -40,6 +41,13 @@ returns-then-are_full-clause-settled g c = λ b a is notices.
       birth = is.birth;
       site = (d.site, c.requires.device_is, (is.admitted, full-barred b a d c.args.heap.now is c.in-Ok.spot c.in-Ok.is full, is.out, is.shown));
     }
+
+pub stand-requires-clause-free_id : goal.stand-requires-clause-free_id
+stand-requires-clause-free_id g c =
+    subst (λ (id : Option (List ℕ)). IsFreeId id c.args.heap.now.claims) (sym c.seat_at-seat.ensures.id) c.requires.free_id
+
+pub stand-requires-clause-free : goal.stand-requires-clause-free
+stand-requires-clause-free g c = rw (c.seat_at-seat.ensures.bus, c.seat_at-seat.ensures.spot) (rw c.in-Ok.is at c.requires.free)
 
 pub returns-in-Ok-stand-clause-settled : goal.returns-in-Ok-stand-clause-settled
 returns-in-Ok-stand-clause-settled g c = λ b a is notices.

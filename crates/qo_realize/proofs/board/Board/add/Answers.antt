@@ -14,7 +14,7 @@ invariant_of-self g c =
     let (b, s, good) = c.self.invariant.1 in
     let inside = c.self.inside in
     let a = as_wanted c.args.options.now in
-    let h = c.in-Ok.ensures.ok b (is_shown b inside.rings inside.anonymous inside.running inside.resets inside.hotplug inside.heap s good) in
+    let h = c.in-Ok.ensures.ok b (is_shown b inside.rings inside.anonymous inside.running inside.resets inside.hotplug inside.heap s good c.self.invariant.2) in
     let stands = added-stands b a inside.rings inside.anonymous c.in-Some.next inside.running inside.resets inside.hotplug c.add.new.hotplug
     inside.heap c.add.new.heap c.in-Ok.added s h c.in-Some.ensures.some c.in-Ok.ensures.book in
     let held = plugs-good b a (Ok c.in-Ok.added)
@@ -29,7 +29,7 @@ invariant_of-self-in-Err g c =
     let (b, s, good) = c.self.invariant.1 in
     let inside = c.self.inside in
     let a = as_wanted c.args.options.now in
-    let shown = is_shown b inside.rings inside.anonymous inside.running inside.resets inside.hotplug inside.heap s good in
+    let shown = is_shown b inside.rings inside.anonymous inside.running inside.resets inside.hotplug inside.heap s good c.self.invariant.2 in
     let stands = barred-stands b a inside.rings inside.anonymous inside.running inside.resets inside.hotplug c.add.new.hotplug inside.heap
     c.add.new.heap c.in-Err.refusal s (c.in-Err.ensures.refused b shown) (c.in-Err.ensures.memory b shown) c.in-Err.ensures.asked c.in-Err.ensures.book in
     let held = plugs-good b a (Err c.in-Err.refusal)
@@ -48,7 +48,7 @@ returns-in-Ok g c =
           let seen = subst (λ (p : Parts). Stands b p) (sym c.self.view_is) s in
           let good = good-of (parts_of inside.rings inside.anonymous inside.running inside.resets inside.hotplug inside.heap) c.self.invariant.1 b seen in
           let a = as_wanted c.args.options.now in
-          let h = c.in-Ok.ensures.ok b (is_shown b inside.rings inside.anonymous inside.running inside.resets inside.hotplug inside.heap seen good) in
+          let h = c.in-Ok.ensures.ok b (is_shown b inside.rings inside.anonymous inside.running inside.resets inside.hotplug inside.heap seen good c.self.invariant.2) in
           added-stands b a inside.rings inside.anonymous c.in-Some.next inside.running inside.resets inside.hotplug c.add.new.hotplug inside.heap
           c.add.new.heap c.in-Ok.added seen h c.in-Some.ensures.some c.in-Ok.ensures.book;
     }
@@ -61,7 +61,7 @@ returns-in-Err g c =
           let seen = subst (λ (p : Parts). Stands b p) (sym c.self.view_is) s in
           let good = good-of (parts_of inside.rings inside.anonymous inside.running inside.resets inside.hotplug inside.heap) c.self.invariant.1 b seen in
           let a = as_wanted c.args.options.now in
-          let shown = is_shown b inside.rings inside.anonymous inside.running inside.resets inside.hotplug inside.heap seen good in
+          let shown = is_shown b inside.rings inside.anonymous inside.running inside.resets inside.hotplug inside.heap seen good c.self.invariant.2 in
           barred-stands b a inside.rings inside.anonymous inside.running inside.resets inside.hotplug c.add.new.hotplug inside.heap c.add.new.heap
           c.in-Err.refusal seen (c.in-Err.ensures.refused b shown) (c.in-Err.ensures.memory b shown) c.in-Err.ensures.asked c.in-Err.ensures.book;
     }

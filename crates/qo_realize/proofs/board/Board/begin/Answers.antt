@@ -31,7 +31,7 @@ board_of-requires-in-Err g c =
     (c.in-Err.ensures.refused b)
     (λ shown m. c.in-Err.ensures.memory b shown (cc m)) in
     let seen = subst (Stands b) (sym c.parts-heap.ensures.whole) s in
-    let shown = is_shown b x.rings x.anonymous x.running x.resets x.hotplug c.parts-heap.result.0 seen good in (
+    let shown = is_shown b x.rings x.anonymous x.running x.resets x.hotplug c.parts-heap.result.0 seen good c.parts-heap.ensures.claims in (
       plugs-good b a (Err c.in-Err.refusal) _ good barred.1,
       barred-claims ℕ b a c.in-Err.refusal c.parts-heap.result.0 c.begin.new.heap seen.shows
           (refused-within b a 1 4 ℕ ℕ c.in-Err.refusal c.begin.new.heap (c.in-Err.ensures.refused b shown))

@@ -4,6 +4,7 @@ use Rattle.qo_realize.proofs.GoodBoardLemmas.{changed-good}
 use Rattle.qo_realize.specs.Parts.{Parts}
 use Rattle.qo_realize.proofs.UserLemmas.{answered-free, answered-used}
 use Rattle.qo_realize.specs.Representation.{Stands}
+use Rattle.qo_realize.proofs.RecountLemmas.{stands-recounted}
 use Rattle.qo_realize.proofs.RepresentationLemmas.{answered-sound, err-stays, del-stands}
 use Rattle.qo_realize.proofs.ClaimsLemmas.{change-claims}
 use Rattle.qo_realize.proofs.board.Board.object_del.Goals as goal
@@ -11,13 +12,15 @@ use Rattle.qo_realize.proofs.board.Board.object_del.Goals as goal
 pub returns-then-is_used-clause-change : goal.returns-then-is_used-clause-change
 returns-then-is_used-clause-change g c = λ b s.
     let seen = subst (λ (p : Parts). Stands b p) (sym c.self.view_is) s in
-    answered-used b c.args.id.now c.args.self.now (sym (c.is_used.ensures b seen.shows) ∙ c.if-is_used.true) s
+    let told = stands-recounted _ c.self.invariant.1 c.self.invariant.2 b seen in
+    answered-used b c.args.id.now c.args.self.now (sym (c.is_used.ensures b seen.shows told) ∙ c.if-is_used.true) s
 
 pub returns-clause-change : goal.returns-clause-change
 returns-clause-change g c = λ b s.
     let seen = subst (λ (p : Parts). Stands b p) (sym c.self.view_is) s in
     let h = del-stands b _ c.remove.new.heap c.args.id.now c.remove.result seen (c.remove.ensures.change b seen.shows) c.remove.ensures.book in
-    answered-free b c.args.id.now _ c.remove.result (sym (c.is_used.ensures b seen.shows) ∙ c.if-is_used.false) h
+    let told = stands-recounted _ c.self.invariant.1 c.self.invariant.2 b seen in
+    answered-free b c.args.id.now _ c.remove.result (sym (c.is_used.ensures b seen.shows told) ∙ c.if-is_used.false) h
 
 pub returns-clause-err : goal.returns-clause-err
 returns-clause-err g c =
