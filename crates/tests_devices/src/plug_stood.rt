@@ -40,6 +40,9 @@ fn started<L: Ledger>(alloc: Global, blank: Blank) -> Result<bool, AllocError>
     if device.birth == bus.birth {
         return Ok(false);
     }
+    if heap.book().is_slot_taken(bus.birth, 0) {
+        return Ok(false);
+    }
     let spot = Spot {
         slot: 0,
         ring: None,

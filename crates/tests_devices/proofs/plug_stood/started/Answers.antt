@@ -1,4 +1,4 @@
--- A device that was made keeps no path; and what is left of its plan is for it.
+-- A device that was made is there to the end, and keeps no path; and what is left of its plan is for it.
 use Rattle.qo_values.specs.declared.kinds.TypeId.TheVariants.{SlotBridge}
 use Rattle.qo_heap.specs.Objects.{content_of}
 use Rattle.qo_plug.specs.Drafts.{own_slots_of}
@@ -20,3 +20,7 @@ pub start-requires-clause-pathless : goal.start-requires-clause-pathless
 start-requires-clause-pathless g c =
     draft-pathless SlotBridge (content_of c.make_device.new.heap c.in_ok-device.device.birth) (content_of c.stand.new.heap c.in_ok-device.device.birth)
     c.in_ok-device.ensures.made.rest c.in_ok-kept.ensures.paths
+
+pub is_realized-requires : goal.is_realized-requires
+is_realized-requires g c =
+    c.start.ensures.names c.in_ok-device.device (c.in_ok-kept.ensures.names c.in_ok-device.device c.in_ok-device.ensures.made.live)
