@@ -11,3 +11,7 @@ pub mod PluggedLemmas
 pub mod StarLemmas
 pub mod StandingLemmas
 pub mod DeviceRowsLemmas
+pub mod PlaceListLemmas
+pub mod PlacesSayLemmas
+pub mod ChildRowLemmas
+pub mod PlacesLemmas

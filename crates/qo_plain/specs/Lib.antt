@@ -4,3 +4,4 @@ pub mod Gone
 pub mod Taken
 pub mod Unrolled
 pub mod Plugged
+pub mod Places

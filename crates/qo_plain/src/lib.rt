@@ -5,6 +5,7 @@
 ghost use Rattle.qo_plain.specs.Detached.{DetachedLaw};
 ghost use Rattle.qo_plain.specs.Detaching.{DetachLaw};
 ghost use Rattle.qo_plain.specs.Gone.{GoneLaw};
+ghost use Rattle.qo_plain.specs.Places.{PlacesLaw};
 ghost use Rattle.qo_plain.specs.Plugged.{PluggedLaw};
 ghost use Rattle.qo_plain.specs.Taken.{TakenLaw};
 ghost use Rattle.qo_plain.specs.Unrolled.{UnrolledLaw};
@@ -57,4 +58,11 @@ pub fn law_plugged()
 #[tactic(auto, using(crate::proofs::TakenLemmas::taken_lem))]
 pub fn law_taken()
     ensures { TakenLaw }
+{}
+
+/// Where devices are, in the words of the tree: the soundness of places says this on a board whose tree is
+/// sound, and it says no more, where objects are shaped as their types say and the owners are sound.
+#[tactic(auto, using(crate::proofs::PlacesLemmas::places_lem))]
+pub fn law_places()
+    ensures { PlacesLaw }
 {}
