@@ -1,0 +1,47 @@
+-- Who may act in a change, of a board that is good: whoever a reset goes over, and the others that the changes go to. On any board anyone may.
+use Rattle.std.proofs.Common.{◌≡◌, ℕ, ◌+◌, ◌∷◌, Some, None}
+use Rattle.std.specs.Bool.{⊤}
+use Rattle.std.specs.List.{AllByRecursion}
+use Rattle.qo_values.specs.declared.births.TheConstants.{MACHINE_BIRTH}
+use Rattle.qo_model.specs.Board.{Board}
+use Rattle.qo_model.specs.Paths.{parent_of}
+use Rattle.qo_model.specs.Plug.{Wanted, barred_late, bus_births, spot_of, with_device}
+use Rattle.qo_model.specs.Reset.{held, post}
+use Rattle.qo_model.specs.Types.{TypeInfo}
+use Rattle.qo_model.specs.Unplug.{detach, first_of}
+use Rattle.qo_sound.specs.PlugOutcomes.{IsAttempted}
+use Rattle.qo_sound.proofs.AdditionStepsLemmas.{all-any}
+use Rattle.qo_steps.proofs.ActingLemmas.{IsSteady}
+use Rattle.qo_steps.proofs.DetachStepsLemmas.{ActsBelow}
+use Rattle.qo_steps.proofs.PlugStepsLemmas.{StartsOn}
+
+pub record Reaches (Good : Board → Type 0) (On : Board → ℕ → Type 0) : Type 0 where
+  -- who may act may where the same objects are there; and so may the parent of a clock that is called back
+  pub steady : IsSteady On
+  pub parents : (b : Board) (n d : ℕ) → parent_of b n ≡ Some d → On b d
+  -- what a reset goes over from one that may, and what is below a device
+  pub post : (b : Board) (n : ℕ) → Good b → On b n → AllByRecursion (On b) (post b n)
+  pub below : (b : Board) → Good b → ActsBelow (On b) b
+  -- a hold keeps the board good
+  pub held_so : (b : Board) (n : ℕ) → Good b → On b n → Good (held b n)
+  -- the reset of the whole board: the machine, and the first device whose removal is pending, with which the board stays good
+  pub machine : (b : Board) → Good b → On b MACHINE_BIRTH
+  pub pending : (b : Board) (d : ℕ) → Good b → first_of b.pending ≡ Some d → On b d
+  pub completed : (b : Board) (d : ℕ) → Good b → first_of b.pending ≡ Some d → Good (detach b d)
+  -- a device that is added, with what is below it
+  pub starts : (b : Board) (a : Wanted) (row : TypeInfo) (bus : ℕ) → Good b → IsAttempted b a row bus → barred_late b row.id bus a.props ≡ None
+      → StartsOn On (b.born + 1) row.id (with_device b row.id a (spot_of b row.id bus a.props))
+
+pub reach-any : Reaches (λ b. ⊤) (λ b n. ⊤)
+reach-any =
+    record {
+      steady = λ b c same n on. tt;
+      parents = λ b n d e. tt;
+      post = λ b n good on. all-any _;
+      below = λ b good. record { buses = λ d. all-any _; kids = λ m. all-any _ };
+      held_so = λ b n good on. tt;
+      machine = λ b good. tt;
+      pending = λ b d good e. tt;
+      completed = λ b d good e. tt;
+      starts = λ b a row bus good tried late. record { own = all-any ((b.born + 1) ∷ bus_births (b.born + 1) row.id); below = all-any _ };
+    }
