@@ -22,7 +22,8 @@ pub returns-then-is_ring_taken-clause-refused : goal.returns-then-is_ring_taken-
 returns-then-is_ring_taken-clause-refused c = λ b recounted rings.
     let named = ring-named b c.args.name.now (sym c.is_empty.ensures ∙ c.if-is_empty.false) in
     let has = ap (λ (l : List Ring). list_any (is_ring c.args.name.now) l) rings ∙ sym c.has.ensures ∙ c.if-not-has.false in
-    let told = sym (recounted.rings c.args.name.now (some-name c.args.name.now (sym c.is_empty.ensures ∙ c.if-is_empty.false))) ∙ ap (λ (h : ClaimsTaken). is_taken (on.Ring c.args.name.now) h) (sym c.book.ensures)
+    let told = sym (recounted.rings c.args.name.now (some-name c.args.name.now (sym c.is_empty.ensures ∙ c.if-is_empty.false)))
+    ∙ ap (λ (h : ClaimsTaken). is_taken (on.Ring c.args.name.now) h) (sym c.book.ensures)
     ∙ sym c.is_ring_taken.ensures ∙ c.if-is_ring_taken.true in
     (refl, named ∙ ap₂ ring_as has told)
 
@@ -30,6 +31,7 @@ pub returns-in-Ok-clause-open : goal.returns-in-Ok-clause-open
 returns-in-Ok-clause-open c = λ b recounted rings.
     let named = ring-named b c.args.name.now (sym c.is_empty.ensures ∙ c.if-is_empty.false) in
     let has = ap (λ (l : List Ring). list_any (is_ring c.args.name.now) l) rings ∙ sym c.has.ensures ∙ c.if-not-has.false in
-    let told = sym (recounted.rings c.args.name.now (some-name c.args.name.now (sym c.is_empty.ensures ∙ c.if-is_empty.false))) ∙ ap (λ (h : ClaimsTaken). is_taken (on.Ring c.args.name.now) h) (sym c.book.ensures)
+    let told = sym (recounted.rings c.args.name.now (some-name c.args.name.now (sym c.is_empty.ensures ∙ c.if-is_empty.false)))
+    ∙ ap (λ (h : ClaimsTaken). is_taken (on.Ring c.args.name.now) h) (sym c.book.ensures)
     ∙ sym c.is_ring_taken.ensures ∙ c.if-is_ring_taken.false in
     named ∙ ap₂ ring_as has told
