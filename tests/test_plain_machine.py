@@ -1,14 +1,14 @@
 #!/usr/bin/env python3
-"""Compares the proved program with the plain machine of tools/plain_machine.py, message by message, in random sessions.
+"""Compares the proved program with the plain machine of tests/plain_machine.py, message by message, in random sessions.
 
-    tools/test_plain_machine.py [SESSIONS [SEED]]        200 sessions, from seed 1 on, if not said
+    tests/test_plain_machine.py [SESSIONS [SEED]]        200 sessions, from seed 1 on, if not said
 
 Each session is made from a seed of its own, on a small board with few names: devices of all drivers, users' objects,
 links, rings, clocks, holds, removals, lines of the guest, time and sessions, and much that is refused. It ends with all
 that can be read: each property of each object that can be reached, registers, rings, and all notes; half of them then
 take away all that was added, and read once more. It prints nothing where all agree, and else the first seed that does
 not, with the first message that differs; exit status 1 then, and 2 where the program is not built (./build makes it).
-`tools/test_plain_machine.py 1 SEED` makes that session alone.
+`tests/test_plain_machine.py 1 SEED` makes that session alone.
 """
 
 import importlib.machinery
@@ -20,7 +20,7 @@ import subprocess
 import sys
 
 sys.dont_write_bytecode = True
-import plain_machine  # after the line above, so that nothing is left in tools/
+import plain_machine  # after the line above, so that nothing is left in tests/
 
 TOP = pathlib.Path(__file__).resolve().parent.parent
 PROGRAM = TOP / "crates" / "compose_program" / "out" / "compose_program"

@@ -335,7 +335,7 @@ COMMANDS = (
     ("tools/qrec tap ", test_tap),
     ("tools/qrec read < session.qrec", "it is run where the record is made"),
     ("tools/draw --steps < mine.session", "it is run where the record is made"),
-    ('record = "qrec 1" LF', "it is how a record is spelled, which tools/test_qrec.py tries"),
+    ('record = "qrec 1" LF', "it is how a record is spelled, which tests/test_qrec.py tries"),
     ("abbrev pub ", test_definition),
 )
 NEED_NO_PROGRAM = (test_library, test_definition)
