@@ -6,7 +6,7 @@ stands in docs/PROFILE.md, and the words are those of the glossary in docs/ARCHI
 
 `Machine.input` takes an input of a session, spelled as tools/qrec has it, and puts what is sent for it at the end of
 the transcript. Messages come whole here, as one JSON object each, and lines of the guest too: there is no framing,
-and no want of memory. Of the commands those that only list what does not change (`query-version`, `query-commands`,
+and memory never runs out. Of the commands those that only list what does not change (`query-version`, `query-commands`,
 `qom-list-types`, `device-list-properties`) are left out.
 """
 
