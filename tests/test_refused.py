@@ -79,10 +79,12 @@ class CutMachine(plain_machine.Machine):
         raise plain_machine.Refused(Want.OUT_OF_MEMORY)
 
     def attempt(self, types):
-        """Makes objects and ends them: first one that was not joined, last the device."""
+        """Makes objects, and ends them: first the last one, if it was not joined to the device, which ends last itself."""
         made = [(self.board.initialize(it), it) for it in types]
-        alone = 1 if self.cut.is_joined else max(len(made) - 1, 1)
-        for birth, type_name in made[alone:] + made[1:alone] + made[:1]:
+        device, further = made[:1], made[1:]
+        loose = [] if self.cut.is_joined else further[-1:]
+        joined = further[: len(further) - len(loose)]
+        for birth, type_name in loose + joined + device:
             self.board.note_end(birth, type_name)
 
     def hear(self, line):
