@@ -40,10 +40,10 @@ MOST_MADE = 3
 SECONDS = 60
 
 
-class Want(enum.Enum):
-    """What a command is answered for which there is no memory."""
+class NoMemory(enum.Enum):
+    """The code of a command for which there is no memory, as the plain machine has its codes."""
 
-    OUT_OF_MEMORY = 99, "out of memory"
+    CODE = 99, "out of memory"
 
 
 @dataclasses.dataclass(frozen=True)
@@ -76,7 +76,7 @@ class CutMachine(plain_machine.Machine):
         command, arguments = message["execute"], message.get("arguments", {})
         plain_machine.judge_arguments(command, arguments)
         self.attempt(made_types(self.board, command, arguments)[: self.cut.made])
-        raise plain_machine.Refused(Want.OUT_OF_MEMORY)
+        raise plain_machine.Refused(NoMemory.CODE)
 
     def attempt(self, types):
         """Makes objects, and ends them: first the last one, if it was not joined to the device, which ends last itself."""
