@@ -3,8 +3,9 @@
 
     tests/test_refused.py [SESSION..]        the sessions of examples/refused/, if none is named
 
-A session is run once for each growth, from the first on, until a run meets no refusal. The growth is refused by the
-allocator of refuse.c, which is built in a temporary folder and preloaded. Such a run ends well in one of three ways:
+A session, of messages that the plain machine takes, is run once for each growth, from the first on, until a run meets no
+refusal. The growth is refused by the allocator of refuse.c, which is built in a temporary folder and preloaded. Such a run
+ends well in one of three ways:
 
 - Its status is 4, and it was sent a front of the usual transcript, which is the one of a run without refusals.
 - One command is answered E99, or one line of the guest `no memory`, and all that follows is as the plain machine of
@@ -180,7 +181,10 @@ class Session:
         return status == 0 and said == REFUSED and (sent == self.usual or self.is_cut_once(sent))
 
     def faults(self, allocator):
-        """What is wrong, growth by growth, until a run meets no refusal."""
+        """What is wrong: without a refusal, or else growth by growth, until a run meets none."""
+        if self.run(allocator, 0) != (0, self.usual, b""):
+            yield "it is not sent what the plain machine sends, though no growth is refused"
+            return
         for number in itertools.count(1):
             status, sent, said = self.run(allocator, number)
             if not said.startswith(REFUSED):
@@ -189,8 +193,6 @@ class Session:
                 yield f"growth {number} refused: status {status}, said {said!r}, sent {sent!r}"
         if number == 1:
             yield "no growth is met, so none was refused"
-        if (status, sent, said) != (0, self.usual, b""):
-            yield f"no growth refused: status {status}, said {said!r}, sent {sent!r}"
 
 
 def main(words):
