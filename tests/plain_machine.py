@@ -6,14 +6,14 @@ stands in docs/PROFILE.md, and the words are those of the glossary in docs/ARCHI
 
 `Machine.input` takes an input of a session, spelled as tools/qrec has it, and puts what is sent for it at the end of
 the transcript. Messages come whole here, as one JSON object each, and lines of the guest too: there is no framing,
-and memory never runs out. Of the commands those that only list what does not change (`query-version`, `query-commands`,
-`qom-list-types`, `device-list-properties`) are left out.
+and memory never runs out.
 """
 
 import base64
 import binascii
 import dataclasses
 import enum
+import functools
 import json
 import re
 
@@ -244,6 +244,7 @@ TYPES = {
 }
 
 
+@functools.cache
 def lineage(type_name):
     """A type and its ancestors, itself first."""
     names = []
@@ -253,16 +254,19 @@ def lineage(type_name):
     return names
 
 
+@functools.cache
 def is_a(type_name, wanted):
     """Whether a type is another, descends from it, or has it as an interface."""
     return any(name == wanted or wanted in TYPES[name].interfaces for name in lineage(type_name))
 
 
+@functools.cache
 def noted_types(type_name):
     """The types that have a note when an object ends, in this order; when it is made, in the reverse one."""
     return [name for name in lineage(type_name) if name not in ("object", "container")]
 
 
+@functools.cache
 def properties_of(type_name):
     """The properties of a type, those of its ancestors first."""
     return [it for name in reversed(lineage(type_name)) for it in TYPES[name].properties]
@@ -1251,6 +1255,7 @@ KINDS = {
     "size": lambda it: NUMBER.fits(it) and it <= MOST_RING,
     "value": lambda it: isinstance(it, (bool, str)) or is_whole(it),
     "format": lambda it: it in ("utf8", "base64"),
+    "truth": TRUTH.fits,
     "texts": lambda it: isinstance(it, list) and all(isinstance(one, str) for one in it),
     "backend": is_backend,
 }
@@ -1258,6 +1263,8 @@ KINDS = {
 # the arguments of each command with their kinds; those with a question mark may be missing
 COMMANDS = {
     "qmp_capabilities": {"enable": "texts?"},
+    "query-version": {},
+    "query-commands": {},
     "query-status": {},
     "stop": {},
     "cont": {},
@@ -1266,6 +1273,8 @@ COMMANDS = {
     "qom-list": {"path": "text"},
     "qom-get": {"path": "text", "property": "text"},
     "qom-set": {"path": "text", "property": "text", "value": "value"},
+    "qom-list-types": {"implements": "text?", "abstract": "truth?"},
+    "device-list-properties": {"typename": "text"},
     "object-add": {"qom-type": "text", "id": "text"},
     "object-del": {"id": "text"},
     "device_add": {"driver": "text", "id": "text?", "bus": "text?"},
@@ -1311,9 +1320,8 @@ def json_text(value):
     return re.sub(r"[^\x00-\x7f]", lambda found: json.dumps(found[0])[1:-1], text)
 
 
-GREETING = {"QMP": {"capabilities": [], "version": {
-    "package": "compose", "qemu": {"major": 1, "micro": 0, "minor": 0},
-}}}
+VERSION = {"package": "compose", "qemu": {"major": 1, "micro": 0, "minor": 0}}
+GREETING = {"QMP": {"capabilities": [], "version": VERSION}}
 
 
 class Machine:
@@ -1471,6 +1479,33 @@ class Machine:
             return {}
         returned = getattr(self, "do_" + command.replace("-", "_"))(arguments)
         return {} if returned is None else returned
+
+    def do_query_version(self, _):
+        """Tells the version of the greeting."""
+        return VERSION
+
+    def do_query_commands(self, _):
+        """Lists the commands."""
+        return [{"name": it} for it in sorted(COMMANDS)]
+
+    def do_qom_list_types(self, arguments):
+        """Lists the types that are of a name, abstract ones only where they are asked for."""
+        wanted, with_abstract = arguments.get("implements", "object"), arguments.get("abstract", False)
+        return [
+            {"name": name} | ({"abstract": True} if it.is_abstract else {}) | ({"parent": it.parent} if it.parent else {})
+            for name, it in TYPES.items()
+            if is_a(name, wanted) and (with_abstract or not it.is_abstract)
+        ]
+
+    def do_device_list_properties(self, arguments):
+        """Lists the properties that a device of a type is given when it is added."""
+        name = arguments["typename"]
+        if name not in TYPES:
+            raise Refused(Code.TYPE_UNKNOWN)
+        if not is_a(name, "device"):
+            raise Refused(Code.NOT_CREATABLE)
+        given = [it for it in properties_of(name) if it.access in GIVEN_BY_ADDING]
+        return [{"name": it.name, "type": it.type.name if it.kind is Kind.PLAIN else f"link<{it.type}>"} for it in given]
 
     def do_query_status(self, _):
         """Tells whether the machine runs."""

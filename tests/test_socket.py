@@ -67,14 +67,18 @@ class Client:
     def __exit__(self, *_):
         self.socket.close()
 
-    def line(self):
-        """Reads the next line."""
+    def text(self):
+        """Reads the next line, as the text that it is."""
         while b"\r\n" not in self.lines:
             piece = self.socket.recv(65_536)
             assert piece, "the connection was shut"
             self.lines += piece
         line, self.lines = self.lines.split(b"\r\n", 1)
-        return json.loads(line)
+        return line.decode()
+
+    def line(self):
+        """Reads the next line."""
+        return json.loads(self.text())
 
     def reads(self, wanted):
         """Reads the next line, and compares it."""
