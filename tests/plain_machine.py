@@ -460,7 +460,10 @@ class Object:
 
     def slot(self, name):
         """The slot of a name, or None."""
-        return next((it for it in self.slots if it.name == name), None)
+        for slot in self.slots:
+            if slot.name == name:
+                return slot
+        return None
 
     def value(self, name):
         """The value of a plain slot."""
