@@ -20,7 +20,7 @@ HEADLINE = {
     "crates/compose/src/calls.rt": ["compose"],
     "crates/qo_machine/src/machines.rt": ["start", "step"],
     "crates/qo_machine/src/running.rt": ["run"],
-    "crates/qo_machine/src/laws.rt": ["law_lanes", "law_chunks", "law_final_once", "law_cycle", "law_sound", "law_phases"],
+    "crates/qo_machine/src/laws.rt": ["law_lanes", "law_answers", "law_chunks", "law_final_once", "law_cycle", "law_sound", "law_phases"],
 }
 # How a machine of the code keeps a state: no message depends on it.
 KEPT = ("qo_realize", "Representation"), ("qo_realize", "Parts")

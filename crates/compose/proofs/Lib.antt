@@ -1,3 +1,4 @@
+pub mod CompletenessLemmas
 pub mod ComplaintLemmas
 pub mod MemoryLemmas
 pub mod DemoLemmas

@@ -50,7 +50,7 @@ first_length : (e : Bool) (i : Input) (rest : List Input) → e ≡ false → le
 first_length true i rest over = absurd (true≢false over)
 first_length false i rest over = omega arith
 
-each_taken : (ts : List Turn) → has_end ts ≡ false → length (turn_inputs ts) ≡ length ts
+pub each_taken : (ts : List Turn) → has_end ts ≡ false → length (turn_inputs ts) ≡ length ts
 each_taken [] none = refl
 each_taken (t ∷ ts) none =
     let ends = or_parts (is_end t.input.what) (has_end ts) none in

@@ -1,5 +1,5 @@
 -- The lines of types, one after another.
-use Rattle.std.proofs.Common.{◌≡◌, ℕ, ◌+◌, ◌<◌, true, List, [], ◌∷◌, ◌++◌, length, get_or, map, filter_map, flat_map, take, append-nil, codes, Bor}
+use Rattle.std.proofs.Common.{rules, ◌≡◌, ℕ, ◌+◌, ◌<◌, true, List, [], ◌∷◌, ◌++◌, length, get_or, map, filter_map, flat_map, take, append-nil, codes, Bor}
 use Rattle.std.proofs.Common.{refl, sym, ◌∙◌, ap, arith, append_assoc, if◌then◌else◌, Result, Ok, Err, IfOk, OnOk, is_ok}
 use Rattle.std.proofs.lemmas.List.{take_more}
 use Rattle.std.proofs.lemmas.List.Concat.{flat_map-append}
@@ -8,8 +8,7 @@ use Rattle.std.specs.List.{join_by, join_with_byte}
 use Rattle.qo_values.specs.declared.kinds.TypeId.{TypeId}
 use Rattle.qo_model.specs.Types.{TypeInfo, names_text, info_of, type_line, types}
 use Rattle.qo_types.specs.Rows.{listed}
-use Rattle.qo_values.specs.declared.kinds.TypeId.TheVariants.{Object, Container, Machine, Device, SlotDevice, SlotUart, SlotTimer, SlotBridge}
-use Rattle.qo_values.specs.declared.kinds.TypeId.TheVariants.{MemDimm, Bus, SlotBus, MemBus, Clock, MemoryBackend, MemoryBackendRam, Tag}
+use Rattle.qo_values.proofs.EachLemmas.{each}
 use Rattle.compose.specs.Types.{line_told, type_lines}
 
 -- what names that are lent say
@@ -64,22 +63,7 @@ all_lines_put bytes (Err e) ids listed_ids same all is = is
 -- the line of a type is that of its row
 pub line_is : (t : TypeId) → line_told t ++ 10 ∷ [] ≡ flat_map type_line (filter_map info_of (t ∷ []))
 unfolding types
-line_is Object = refl
-line_is Container = refl
-line_is Machine = refl
-line_is Device = refl
-line_is SlotDevice = refl
-line_is SlotUart = refl
-line_is SlotTimer = refl
-line_is SlotBridge = refl
-line_is MemDimm = refl
-line_is Bus = refl
-line_is SlotBus = refl
-line_is MemBus = refl
-line_is Clock = refl
-line_is MemoryBackend = refl
-line_is MemoryBackendRam = refl
-line_is Tag = refl
+line_is = each (λ (t : TypeId). line_told t ++ 10 ∷ [] ≡ flat_map type_line (filter_map info_of (t ∷ []))) (search rules)
 
 -- a line and its end, after what there is
 pub line_added : {E : Type 0} (t : TypeId) (r : Result Unit E) (old line text mid after : List ℕ) →

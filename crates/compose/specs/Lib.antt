@@ -1,3 +1,4 @@
+pub mod Completeness
 pub mod Demo
 pub mod Exits
 pub mod Replay

@@ -1,8 +1,9 @@
 //! The top call.
 
-ghost use Rattle.std.specs.Prelude.{◌≡◌, ◌≢◌, ◌↔◌, ◌⊎◌, ℕ, false, List, None, Some, map, string_bytes};
+ghost use Rattle.std.specs.Prelude.{◌≡◌, ◌≢◌, ◌↔◌, ◌⊎◌, ℕ, false, true, List, None, Some, map, string_bytes};
 ghost use Rattle.qo_causes.specs.Cause.{Rose};
 ghost use Rattle.qo_machine.specs.Runs.{told};
+ghost use Rattle.compose.specs.Completeness.{CompletesReplay, CompletesServe, EndsWell, NoFault, puts_lines};
 ghost use Rattle.compose.specs.Demo.{ToldDemo};
 ghost use Rattle.compose.specs.Exits.{exit_code};
 ghost use Rattle.compose.specs.Replay.{Complained, Replayed, line_of};
@@ -40,6 +41,11 @@ use std::alloc::{AllocError, Global};
 ///   are those of the run in which each command has its memory. Where there was none for the words of `serve`, the hub
 ///   did not begin.
 ///
+/// Where no fault was counted, `types` and `demo` end with `Done` or `Memory`. So does `replay` of a record without a bad
+/// place, of fewer than 1,000,000,000 inputs, and `serve` where its hub tells as few and no bad place. With `Done` of
+/// these two each item of an open session before the end of the run was answered by exactly one reply, and each line of
+/// the guest by exactly one answer.
+///
 /// With `ReadFault`, `WriteFault` and `Memory` of `replay` the run is over a front of the stream, which has at least each
 /// entry that ends 65,700 bytes or more before the last byte taken. The whole transcript of these was put, and of the run
 /// a front; with `ReadFault` all of it, and the run has each whole entry among the bytes taken.
@@ -64,6 +70,9 @@ pub fn compose<S: Source, K: Sink, E: Sink, H: Hub>(
     ensures write_quiet { result.status ≢ Status.WriteFault → K.faults result.sink ≡ K.faults sink }
     ensures hub_cause { result.status ≡ Status.HubFault → Rose (H.next_faults hub.old) (H.next_faults hub.new) ⊎ Rose (H.send_faults hub.old) (H.send_faults hub.new) }
     ensures hub_quiet { result.status ≢ Status.HubFault → (H.next_faults hub.new ≡ H.next_faults hub.old) × (H.send_faults hub.new ≡ H.send_faults hub.old) }
+    ensures complete_replay { order (map string_bytes words.now) ≡ Some a_replay → NoFault (S.faults source) (S.faults result.source) → NoFault (K.faults sink) (K.faults result.sink) → CompletesReplay result.status (S.left source) (K.held sink) (K.held result.sink) }
+    ensures complete_serve { asks_hub (order (map string_bytes words.now)) ≡ true → NoFault (H.next_faults hub.old) (H.next_faults hub.new) → NoFault (H.send_faults hub.old) (H.send_faults hub.new) → CompletesServe result.status (told (H.inputs hub.old) (H.sent hub.old) (H.got hub.old) (H.losses hub.old)) (told (H.inputs hub.new) (H.sent hub.new) (H.got hub.new) (H.losses hub.new)) (H.bad hub.old) }
+    ensures complete_rest { puts_lines (order (map string_bytes words.now)) ≡ true → NoFault (K.faults sink) (K.faults result.sink) → EndsWell result.status }
     ensures hub_later { H.later hub.old hub.new }
     ensures hub_kept { asks_hub (order (map string_bytes words.now)) ≡ false → (hub.new ≡ hub.old) × (result.status ≢ Status.HubFault) }
 {

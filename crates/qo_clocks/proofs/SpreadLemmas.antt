@@ -8,7 +8,6 @@ use Rattle.std.proofs.lemmas.List.Concat.{flat_map-append}
 use Rattle.qo_values.specs.declared.kinds.Act.{Act}
 use Rattle.qo_values.specs.declared.kinds.Act.TheVariants.{Pre, Update}
 use Rattle.qo_kinds.specs.Bodies.{MayAct}
-use Rattle.qo_kinds.specs.declared.kept_set.KeptSet.{KeptSet}
 use Rattle.qo_slots.specs.declared.keys.Key.{Key}
 use Rattle.qo_table.specs.Rows.{IsLive, births, object_at}
 use Rattle.qo_model.specs.declared.notes.Deed.TheVariants.{Did}
@@ -53,13 +52,13 @@ module _ (v w : Objects) (acts : Acts v w) where
   pub acts-goes : (c : ℕ) → goes_by w c ≡ goes_by v c
   acts-goes c = fun_ext (λ n. ap (λ (o : Option Key). option_map_or (λ (s : Key). eqb s.birth c) o false) (acts-source n))
 
-  births-still : (rows : List (Key × Content)) → map (λ (x : Key × (Content × KeptSet)). x.0.birth) (map stilled rows) ≡ births rows
+  births-still : (rows : List (Key × Content)) → map (λ (x : Key × Content). x.0.birth) (map stilled rows) ≡ births rows
   births-still [] = refl
   births-still (row ∷ rows) = ap (λ (l : List ℕ). row.0.birth ∷ l) (births-still rows)
 
   pub acts-births : births w.rows ≡ births v.rows
   acts-births =
-      sym (births-still w.rows) ∙ ap (map (λ (x : Key × (Content × KeptSet)). x.0.birth)) acts.rows ∙ births-still v.rows
+      sym (births-still w.rows) ∙ ap (map (λ (x : Key × Content). x.0.birth)) acts.rows ∙ births-still v.rows
 
   acts-fed : (c : ℕ) → fed_in w c w.rows ≡ fed_in v c v.rows
   acts-fed c = ap₂ (λ (p : ℕ → Bool) (l : List ℕ). filter p l) (acts-goes c) acts-births
@@ -74,7 +73,7 @@ module _ (v w : Objects) (acts : Acts v w) where
           flat_map (λ (n : ℕ). record { clock = n; before = before; after = after } ∷ f n (scale n before) (scale n after)) (fed c)
 
   keys-still : (rows : List (Key × Content)) (i : ℕ)
-      → option_map (λ (x : Key × (Content × KeptSet)). x.0) (slice_get (map stilled rows) i) ≡ option_map (λ (row : Key × Content). row.0) (slice_get rows i)
+      → option_map (λ (x : Key × Content). x.0) (slice_get (map stilled rows) i) ≡ option_map (λ (row : Key × Content). row.0) (slice_get rows i)
   keys-still [] i = refl
   keys-still (row ∷ rows) zero = refl
   keys-still (row ∷ rows) (suc i) = keys-still rows i
@@ -83,20 +82,20 @@ module _ (v w : Objects) (acts : Acts v w) where
   acts-place c i =
       let keys : option_map (λ (row : Key × Content). row.0) (slice_get w.rows i) ≡ option_map (λ (row : Key × Content). row.0) (slice_get v.rows i) =
       sym (keys-still w.rows i)
-      ∙ ap (λ (l : List (Key × (Content × KeptSet))). option_map (λ (x : Key × (Content × KeptSet)). x.0) (slice_get l i)) acts.rows
+      ∙ ap (λ (l : List (Key × Content)). option_map (λ (x : Key × Content). x.0) (slice_get l i)) acts.rows
       ∙ keys-still v.rows i in
       ap₂ (λ (p : ℕ → Bool) (o : Option Key). option_and_then (λ (k : Key). cond (p k.birth) (Some k) None) o) (acts-goes c) keys
 
   parent-still : (n : ℕ) (rows : List (Key × Content))
-      → option_map (λ (x : Key × (Content × KeptSet)). x.0) (find (λ (x : Key × (Content × KeptSet)). is_parent n x.1.0) (map stilled rows))
+      → option_map (λ (x : Key × Content). x.0) (find (λ (x : Key × Content). is_parent n x.1) (map stilled rows))
       ≡ option_map (λ (row : Key × Content). row.0) (find (λ (row : Key × Content). is_parent n row.1) rows)
   parent-still n [] = refl
   parent-still n (row ∷ rows) = go (is_parent n row.1) refl (parent-still n rows)
     where
       go : (t : Bool) → is_parent n row.1 ≡ t
-          → option_map (λ (x : Key × (Content × KeptSet)). x.0) (find (λ (x : Key × (Content × KeptSet)). is_parent n x.1.0) (map stilled rows))
+          → option_map (λ (x : Key × Content). x.0) (find (λ (x : Key × Content). is_parent n x.1) (map stilled rows))
           ≡ option_map (λ (r : Key × Content). r.0) (find (λ (r : Key × Content). is_parent n r.1) rows)
-          → option_map (λ (x : Key × (Content × KeptSet)). x.0) (find (λ (x : Key × (Content × KeptSet)). is_parent n x.1.0) (map stilled (row ∷ rows)))
+          → option_map (λ (x : Key × Content). x.0) (find (λ (x : Key × Content). is_parent n x.1) (map stilled (row ∷ rows)))
           ≡ option_map (λ (r : Key × Content). r.0) (find (λ (r : Key × Content). is_parent n r.1) (row ∷ rows))
       go true is rest = rw is refl
       go false is rest = rw is rest
@@ -104,8 +103,8 @@ module _ (v w : Objects) (acts : Acts v w) where
   pub acts-parent : (n : ℕ) → parent_of w n ≡ parent_of v n
   acts-parent n =
       sym (parent-still n w.rows)
-      ∙ ap (λ (l : List (Key × (Content × KeptSet))). option_map (λ (x : Key × (Content × KeptSet)). x.0)
-      (find (λ (x : Key × (Content × KeptSet)). is_parent n x.1.0) l)) acts.rows
+      ∙ ap (λ (l : List (Key × Content)). option_map (λ (x : Key × Content). x.0)
+      (find (λ (x : Key × Content). is_parent n x.1) l)) acts.rows
       ∙ parent-still n v.rows
 
 -- calls act, and leave no timer with a later moment

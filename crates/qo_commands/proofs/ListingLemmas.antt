@@ -1,5 +1,5 @@
 -- Lists of types and of properties, as they are made one after another.
-use Rattle.std.proofs.Common.{◌≡◌, refl, ap, sym, ◌∙◌, ℕ, ◌+◌, ◌<◌, ◌≤◌, Bool, true, false, cond, if◌then◌else◌, List, [], ◌∷◌, ◌++◌, map, filter, filter_map, flat_map, length, slice_get, take, get_or, zero, suc, codes, Option, Some, None, option_map, arith}
+use Rattle.std.proofs.Common.{rules, ◌≡◌, refl, ap, sym, ◌∙◌, ℕ, ◌+◌, ◌<◌, ◌≤◌, Bool, true, false, cond, if◌then◌else◌, List, [], ◌∷◌, ◌++◌, map, filter, filter_map, flat_map, length, slice_get, take, get_or, zero, suc, codes, Option, Some, None, option_map, arith}
 use Rattle.std.proofs.lemmas.List.{map-append, take_more, take_all}
 use Rattle.std.proofs.lemmas.List.Concat.{flat_map-append}
 use Rattle.std.proofs.lemmas.List.Elements.{filter_map-append}
@@ -7,8 +7,7 @@ use Rattle.serde_json.specs.Data.{Data, array}
 use Rattle.serde_json.specs.View.{items_of}
 use Rattle.qo_values.specs.declared.codes.Code.TheVariants.{E20, E22}
 use Rattle.qo_values.specs.declared.kinds.TypeId.{TypeId}
-use Rattle.qo_values.specs.declared.kinds.TypeId.TheVariants.{Object, Container, Machine, Device, SlotDevice, SlotUart, SlotTimer, SlotBridge, MemDimm, Bus}
-use Rattle.qo_values.specs.declared.kinds.TypeId.TheVariants.{SlotBus, MemBus, Clock, MemoryBackend, MemoryBackendRam, Tag}
+use Rattle.qo_values.proofs.EachLemmas.{each}
 use Rattle.qo_model.specs.Board.{Board}
 use Rattle.qo_model.specs.Objects.{may_add}
 use Rattle.qo_model.specs.Types.{TypeInfo, is_a, parent_of, info_of, slots_of, types}
@@ -21,22 +20,7 @@ use Rattle.qo_commands.specs.Views.{row_data, words_for_adding}
 -- the row of a type, by the parts that are told
 pub row_told : (t : TypeId) → option_map type_data (info_of t) ≡ Some (row_data t (is_abstract t) (parent_of t))
 unfolding types
-row_told Object = refl
-row_told Container = refl
-row_told Machine = refl
-row_told Device = refl
-row_told SlotDevice = refl
-row_told SlotUart = refl
-row_told SlotTimer = refl
-row_told SlotBridge = refl
-row_told MemDimm = refl
-row_told Bus = refl
-row_told SlotBus = refl
-row_told MemBus = refl
-row_told Clock = refl
-row_told MemoryBackend = refl
-row_told MemoryBackendRam = refl
-row_told Tag = refl
+row_told = each (λ (t : TypeId). option_map type_data (info_of t) ≡ Some (row_data t (is_abstract t) (parent_of t))) (search rules)
 
 -- a type more
 pub types-more : (ids : List TypeId) (i : ℕ) (d : TypeId) (before after : List Data) → i < length ids → before ≡ map type_data (filter_map info_of (take i ids))

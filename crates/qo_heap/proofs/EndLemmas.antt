@@ -126,7 +126,7 @@ rises-without n above last (row ∷ rows) rises = go (eqb row.0.birth n) refl (r
         rw e (rises-lower above row.0.birth last (births (map (forgets n) (without n rows))) (omega arith) rest)
     go false e rest = rw e (rises.0, rest)
 
-length-without : (n : ℕ) (rows : List (Key × Content)) → length (map (forgets n) (without n rows)) ≤ length rows
+pub length-without : (n : ℕ) (rows : List (Key × Content)) → length (map (forgets n) (without n rows)) ≤ length rows
 length-without n [] = omega arith
 length-without n (row ∷ rows) = go (eqb row.0.birth n) refl (length-without n rows)
   where

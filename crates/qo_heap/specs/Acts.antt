@@ -1,15 +1,16 @@
 -- For proofs alone. Bodies act and are noted, and nothing else changes.
 use Rattle.std.specs.Prelude.{◌≡◌, map}
-use Rattle.qo_kinds.specs.Bodies.{kept_of}
-use Rattle.qo_kinds.specs.declared.bodies.Body.TheVariants.{Plain}
-use Rattle.qo_kinds.specs.declared.kept_set.KeptSet.{KeptSet}
+use Rattle.qo_kinds.specs.declared.bodies.Device.TheVariants.{Plain}
 use Rattle.qo_slots.specs.declared.keys.Key.{Key}
 use Rattle.qo_object.specs.Content.{Content}
 use Rattle.qo_heap.specs.Objects.{Objects}
 
--- an object but for the registers of its body
-abbrev pub stilled : Key × Content → Key × (Content × KeptSet)
-stilled row = (row.0, (record row.1 { body = Plain }, kept_of row.1.body))
+-- an object but for its device
+abbrev pub still : Content → Content
+still c = record c { body = record c.body { device = Plain } }
+
+abbrev pub stilled : Key × Content → Key × Content
+stilled row = (row.0, still row.1)
 
 pub record Acts (v w : Objects) : Type 0 where
   pub rows : map stilled w.rows ≡ map stilled v.rows

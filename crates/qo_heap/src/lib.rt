@@ -10,11 +10,12 @@ mod errors;
 mod heap;
 mod links;
 mod reads;
+mod room;
 mod slots;
 mod tree;
 
 pub use ends::free_kept;
 pub use errors::{MakeError, SlotError};
 pub use heap::Heap;
-pub use qo_object::{Oid, Slot, SlotName, SlotView};
+pub use qo_object::{Oid, Side, Slot, SlotName, SlotView, Work};
 pub use qo_table::Steps;

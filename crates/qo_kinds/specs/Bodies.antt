@@ -1,4 +1,4 @@
--- For proofs alone. What a body keeps: its registers, and the claims that it holds.
+-- For proofs alone. What a body keeps: its device, with the registers of that, and the claims that it holds.
 use Rattle.std.specs.Prelude.{◌≡◌, ◌≤◌, ℕ, false, None, ⊤}
 use Rattle.qo_values.specs.Bodies.{body_act}
 use Rattle.qo_values.specs.declared.kinds.Act.{Act}
@@ -6,61 +6,77 @@ use Rattle.qo_values.specs.declared.kinds.Act.TheVariants.{Unrealize, Pre, Updat
 use Rattle.std.specs.Prelude.{Bool, true}
 use Rattle.qo_values.specs.Registers.{Registers, uart, timer, dimm, bridge, bare}
 use Rattle.qo_kinds.specs.declared.bodies.Body.{Body}
-use Rattle.qo_kinds.specs.declared.bodies.Body.TheVariants.{Uart, Timer, Dimm, Bridge, Bus, Clock, Backend, Plain}
+use Rattle.qo_kinds.specs.declared.bodies.Device.{Device}
+use Rattle.qo_kinds.specs.declared.bodies.Device.TheVariants.{Uart, Timer, Dimm, Bridge, Bus, Clock, Backend, Plain}
 use Rattle.qo_values.specs.Registers.{fresh_uart, fresh_timer}
 use Rattle.qo_values.specs.declared.kinds.TypeId.{TypeId}
 use Rattle.qo_values.specs.declared.kinds.TypeId.TheVariants as type
 use Rattle.qo_kinds.specs.declared.kept_set.KeptSet.{KeptSet}
 
+-- claims
+
 abbrev pub none_kept : KeptSet
 none_kept = record { slot = None; ring = None; backend = None; range = None }
 
-abbrev pub registers_of : Body → Registers
-registers_of (Uart u k) = uart u
-registers_of (Timer t k) = timer t
-registers_of (Dimm d k) = dimm d
-registers_of (Bridge raised holds k) = bridge (record { raised = raised; holds = holds })
-registers_of _ = bare
-
 abbrev pub kept_of : Body → KeptSet
-kept_of (Uart u k) = k
-kept_of (Timer t k) = k
-kept_of (Dimm d k) = k
-kept_of (Bridge raised holds k) = k
-kept_of _ = none_kept
+kept_of b = b.kept
 
 abbrev pub with_kept : KeptSet → Body → Body
-with_kept k (Uart u old) = Uart u k
-with_kept k (Timer t old) = Timer t k
-with_kept k (Dimm d old) = Dimm d k
-with_kept k (Bridge raised holds old) = Bridge raised holds k
-with_kept k b = b
+with_kept k b = record b { kept = k }
 
 -- it holds no claim
 abbrev pub IsBare : Body → Type 0
-IsBare b = kept_of b ≡ none_kept
+IsBare b = b.kept ≡ none_kept
 
--- the body of a new object of a type
-abbrev pub body_of : TypeId → Body
-body_of type.SlotUart = Uart fresh_uart none_kept
-body_of type.SlotTimer = Timer fresh_timer none_kept
-body_of type.MemDimm = Dimm (record { address = 0; size = 0 }) none_kept
-body_of type.SlotBridge = Bridge false 0 none_kept
-body_of type.Bus = Bus
-body_of type.SlotBus = Bus
-body_of type.MemBus = Bus
-body_of type.Clock = Clock
-body_of type.MemoryBackend = Backend
-body_of type.MemoryBackendRam = Backend
-body_of _ = Plain
+-- devices
 
--- the body with other registers of its kind
+abbrev pub registers_in : Device → Registers
+registers_in (Uart u) = uart u
+registers_in (Timer t) = timer t
+registers_in (Dimm d) = dimm d
+registers_in (Bridge b) = bridge b
+registers_in _ = bare
+
+-- a device with other registers of its kind
+abbrev pub device_with : Registers → Device → Device
+device_with (uart u) (Uart old) = Uart u
+device_with (timer t) (Timer old) = Timer t
+device_with (dimm d) (Dimm old) = Dimm d
+device_with (bridge b) (Bridge old) = Bridge b
+device_with r device = device
+
+-- the device of a new object of a type
+abbrev pub device_of : TypeId → Device
+device_of type.SlotUart = Uart fresh_uart
+device_of type.SlotTimer = Timer fresh_timer
+device_of type.MemDimm = Dimm (record { address = 0; size = 0 })
+device_of type.SlotBridge = Bridge (record { raised = false; holds = 0 })
+device_of type.Bus = Bus
+device_of type.SlotBus = Bus
+device_of type.MemBus = Bus
+device_of type.Clock = Clock
+device_of type.MemoryBackend = Backend
+device_of type.MemoryBackendRam = Backend
+device_of _ = Plain
+
+-- and bodies
+
+abbrev pub registers_of : Body → Registers
+registers_of b = registers_in b.device
+
 abbrev pub with_registers : Registers → Body → Body
-with_registers (uart u) (Uart old k) = Uart u k
-with_registers (timer t) (Timer old k) = Timer t k
-with_registers (dimm d) (Dimm old k) = Dimm d k
-with_registers (bridge b) (Bridge raised holds k) = Bridge b.raised b.holds k
-with_registers r body = body
+with_registers r b = record b { device = device_with r b.device }
+
+-- no segment of a timer began or ended after a moment
+abbrev pub IsInTime : ℕ → Registers → Type 0
+IsInTime now (timer t) = t.last ≤ now
+IsInTime now r = ⊤
+
+abbrev pub IsTimely : ℕ → Body → Type 0
+IsTimely now b = IsInTime now (registers_of b)
+
+abbrev pub body_of : TypeId → Body
+body_of t = record { device = device_of t; kept = none_kept }
 
 -- a body after an act at a moment
 abbrev pub acted : Act → ℕ → ℕ → Body → Body
@@ -72,11 +88,6 @@ reads_moment Unrealize = true
 reads_moment Pre = true
 reads_moment Update = true
 reads_moment act = false
-
--- no segment of a timer began or ended after a moment
-abbrev pub IsTimely : ℕ → Body → Type 0
-IsTimely now (Timer t k) = t.last ≤ now
-IsTimely now b = ⊤
 
 -- what an act needs of it
 abbrev pub MayAct : Act → ℕ → Body → Type 0

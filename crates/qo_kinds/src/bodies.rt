@@ -3,43 +3,43 @@
 ghost use Rattle.std.specs.Prelude.{◌≡◌, ◌≤◌, ℕ, true};
 ghost use Rattle.qo_values.specs.Bodies.{body_act};
 ghost use Rattle.qo_values.specs.Registers as registers;
-ghost use Rattle.qo_kinds.specs.Bodies.{IsBare, MayAct, reads_moment, acted, body_of, kept_of, none_kept, with_kept};
+ghost use Rattle.qo_kinds.specs.Bodies.{IsBare, MayAct, reads_moment, acted, body_of, device_of, kept_of, none_kept, with_kept};
 
+use crate::bridge::Bridge;
 use crate::kept_set::{KeptSet, end_none};
 use qo_dimm::Dimm;
 use qo_timer::Timer;
 use qo_uart::Uart;
 use qo_values::{Act, TypeId};
+use std::mem::replace;
 
-/// What an object keeps beside its slots: the registers of its device, and the claims that it holds.
-pub enum Body {
-    /// Of a UART.
-    Uart(Uart, KeptSet),
-    /// Of a timer.
-    Timer(Timer, KeptSet),
-    /// Of a DIMM.
-    Dimm(Dimm, KeptSet),
-    /// Of a bridge: whether its control bit is raised, and how many hold phases there were.
-    Bridge(bool, u32, KeptSet),
-    /// Of a bus.
-    Bus,
-    /// Of a clock.
-    Clock,
-    /// Of a memory backend.
-    Backend,
-    /// Of any other object.
-    Plain,
+/// What an object keeps beside its slots: its device, and the claims that it holds.
+pub struct Body {
+    /// Its device.
+    pub device: Device,
+    /// Its claims.
+    pub kept: KeptSet,
 }
 
-/// What a write does beside the registers.
-#[derive(Clone, Copy, Debug, PartialEq, Eq)]
-pub enum Effect {
-    /// Nothing.
-    Nothing,
-    /// A byte goes to the ring.
-    Byte(u8),
-    /// The bus of the bridge is pulsed.
-    Pulse,
+/// The registers of a device, by its kind; any other object has none.
+#[derive(Debug, Drop)]
+pub enum Device {
+    /// A UART.
+    Uart(Uart),
+    /// A timer.
+    Timer(Timer),
+    /// A DIMM.
+    Dimm(Dimm),
+    /// A bridge.
+    Bridge(Bridge),
+    /// A bus.
+    Bus,
+    /// A clock.
+    Clock,
+    /// A memory backend.
+    Backend,
+    /// Any other object.
+    Plain,
 }
 
 /// An act of a UART.
@@ -69,14 +69,24 @@ fn act_timer(timer: &mut Timer, act: Act, time: u64, period: u64)
     }
 }
 
-/// An act of a bridge.
-fn act_bridge(raised: &mut bool, holds: &mut u32, act: Act)
-    ensures { (time period : ℕ) → registers.bridge (record { raised = raised.new; holds = holds.new }) ≡ body_act act time period (registers.bridge (record { raised = raised.old; holds = holds.old })) }
-{
-    match act {
-        Act::Enter => *raised = false,
-        Act::Hold => *holds = holds.saturating_add(1),
-        _ => {}
+impl Device {
+    /// The device of a new object of a type.
+    fn of(kind: TypeId) -> Device
+        ensures { result ≡ device_of kind }
+    {
+        match kind {
+            TypeId::SlotUart => Device::Uart(Uart::fresh()),
+            TypeId::SlotTimer => Device::Timer(Timer::fresh()),
+            TypeId::MemDimm => Device::Dimm(Dimm { addr: 0, size: 0 }),
+            TypeId::SlotBridge => Device::Bridge(Bridge::fresh()),
+            TypeId::Bus => Device::Bus,
+            TypeId::SlotBus => Device::Bus,
+            TypeId::MemBus => Device::Bus,
+            TypeId::Clock => Device::Clock,
+            TypeId::MemoryBackend => Device::Backend,
+            TypeId::MemoryBackendRam => Device::Backend,
+            _ => Device::Plain,
+        }
     }
 }
 
@@ -84,16 +94,8 @@ impl Drop for Body {
     fn drop(self)
         requires { IsBare self }
     {
-        match self {
-            Body::Uart(_, kept) => end_none(kept),
-            Body::Timer(_, kept) => end_none(kept),
-            Body::Dimm(_, kept) => end_none(kept),
-            Body::Bridge(_, _, kept) => end_none(kept),
-            Body::Bus => {}
-            Body::Clock => {}
-            Body::Backend => {}
-            Body::Plain => {}
-        }
+        let Body { device: _, kept } = self;
+        end_none(kept);
     }
 }
 
@@ -102,18 +104,9 @@ impl Body {
     pub fn of(kind: TypeId) -> Body
         ensures { result ≡ body_of kind }
     {
-        match kind {
-            TypeId::SlotUart => Body::Uart(Uart::fresh(), KeptSet::none()),
-            TypeId::SlotTimer => Body::Timer(Timer::fresh(), KeptSet::none()),
-            TypeId::MemDimm => Body::Dimm(Dimm { addr: 0, size: 0 }, KeptSet::none()),
-            TypeId::SlotBridge => Body::Bridge(false, 0, KeptSet::none()),
-            TypeId::Bus => Body::Bus,
-            TypeId::SlotBus => Body::Bus,
-            TypeId::MemBus => Body::Bus,
-            TypeId::Clock => Body::Clock,
-            TypeId::MemoryBackend => Body::Backend,
-            TypeId::MemoryBackendRam => Body::Backend,
-            _ => Body::Plain,
+        Body {
+            device: Device::of(kind),
+            kept: KeptSet::none(),
         }
     }
 
@@ -122,10 +115,10 @@ impl Body {
         requires { MayAct act time self.old }
         ensures { self.new ≡ acted act time period self.old }
     {
-        match self {
-            Body::Uart(uart, _) => act_uart(uart, act),
-            Body::Timer(timer, _) => act_timer(timer, act, time, period),
-            Body::Bridge(raised, holds, _) => act_bridge(raised, holds, act),
+        match &mut self.device {
+            Device::Uart(uart) => act_uart(uart, act),
+            Device::Timer(timer) => act_timer(timer, act, time, period),
+            Device::Bridge(bridge) => bridge.act(act),
             _ => {}
         }
     }
@@ -136,15 +129,14 @@ impl Body {
         ensures left { self.new ≡ with_kept none_kept self.old }
         ensures bare { IsBare self.new }
     {
-        match self {
-            Body::Uart(_, kept) => kept.take(),
-            Body::Timer(_, kept) => kept.take(),
-            Body::Dimm(_, kept) => kept.take(),
-            Body::Bridge(_, _, kept) => kept.take(),
-            Body::Bus => KeptSet::none(),
-            Body::Clock => KeptSet::none(),
-            Body::Backend => KeptSet::none(),
-            Body::Plain => KeptSet::none(),
-        }
+        self.kept.take()
+    }
+
+    /// A body without claims keeps these. It takes no memory.
+    pub fn keep_claims(&mut self, kept: KeptSet)
+        requires { IsBare self.old }
+        ensures { self.new ≡ with_kept kept self.old }
+    {
+        end_none(replace(&mut self.kept, kept));
     }
 }

@@ -1,5 +1,5 @@
 -- DIMMs stand on ranges of the memory that are not empty.
-use Rattle.std.proofs.Common.{◌≡◌, refl, ap, sym, subst, ◌∙◌, ℕ, ◌+◌, ◌≤◌, true, false, ◌&&◌, leb, option_map, option_and_then, Option, Some, None, codes, inl, inr, ◌⊎◌, arith}
+use Rattle.std.proofs.Common.{rules, ◌≡◌, refl, ap, sym, subst, ◌∙◌, ℕ, ◌+◌, ◌≤◌, true, false, ◌&&◌, leb, option_map, option_and_then, Option, Some, None, codes, inl, inr, ◌⊎◌, arith}
 use Rattle.std.specs.Prelude.{unwrap_or}
 use Rattle.std.specs.Option.{option_map_or}
 use Rattle.std.proofs.lemmas.Bool.{and_parts, leb-true}
@@ -13,6 +13,7 @@ use Rattle.qo_values.specs.declared.kinds.TypeId.TheVariants.{Object, Container,
 use Rattle.qo_values.specs.declared.limits.TheConstants.{BACKEND_SIZE_AT_FIRST, BACKEND_SIZE_MAX, DIMM_ALIGN}
 use Rattle.qo_values.specs.declared.properties.PropType.TheVariants as ty
 use Rattle.qo_values.specs.declared.properties.Val.TheVariants as val
+use Rattle.qo_values.proofs.EachLemmas.{each}
 use Rattle.qo_model.specs.Board.{Board, Record, Slot, plain, kind_of, record_of}
 use Rattle.qo_model.specs.Devices.{bus_of, is_realized, number_in, plain_in}
 use Rattle.qo_model.specs.Paths.{is_of}
@@ -42,22 +43,7 @@ use Rattle.qo_layout.proofs.MapLemmas.{memory-kind}
 
 dimm-type : (t : TypeId) → is_a t (codes "device") ≡ true → is_a MemBus (bus_type t) ≡ true → (is_a t (codes "mem-dimm") ≡ true) ⊎ (t ≡ Device)
 unfolding types
-dimm-type Object e f = clash-back e
-dimm-type Container e f = clash-back e
-dimm-type Machine e f = clash-back e
-dimm-type Device e f = inr refl
-dimm-type SlotDevice e f = clash-back f
-dimm-type SlotUart e f = clash-back f
-dimm-type SlotTimer e f = clash-back f
-dimm-type SlotBridge e f = clash-back f
-dimm-type MemDimm e f = inl refl
-dimm-type Bus e f = clash-back e
-dimm-type SlotBus e f = clash-back e
-dimm-type MemBus e f = clash-back e
-dimm-type Clock e f = clash-back e
-dimm-type MemoryBackend e f = clash-back e
-dimm-type MemoryBackendRam e f = clash-back e
-dimm-type Tag e f = clash-back e
+dimm-type = each (λ (t : TypeId). is_a t (codes "device") ≡ true → is_a MemBus (bus_type t) ≡ true → (is_a t (codes "mem-dimm") ≡ true) ⊎ (t ≡ Device)) (search rules)
 
 -- an object without registers has no range
 no-range : (registers : Registers) → is_like registers bare ≡ true → (dimm_in registers).address ≡ 0

@@ -4,10 +4,10 @@ use Rattle.std.specs.List.{flat_map, range_with_len}
 use Rattle.std.specs.Option.{option_map_or}
 use Rattle.std.proofs.lemmas.Option.{same_Some}
 use Rattle.qo_values.specs.Registers.{DimmRegisters}
-use Rattle.qo_kinds.specs.Bodies.{registers_of}
+use Rattle.qo_kinds.specs.Bodies.{registers_in, registers_of}
 use Rattle.qo_kinds.specs.declared.bodies.Body.{Body}
-use Rattle.qo_kinds.specs.declared.bodies.Body.TheVariants as of
-use Rattle.qo_kinds.specs.declared.kept_set.KeptSet.{KeptSet}
+use Rattle.qo_kinds.specs.declared.bodies.Device.{Device}
+use Rattle.qo_kinds.specs.declared.bodies.Device.TheVariants as of
 use Rattle.qo_memmap.specs.declared.region.Place.{Place}
 use Rattle.qo_model.specs.Board.{Board, Record}
 use Rattle.qo_object.specs.Content.{Content}
@@ -48,12 +48,11 @@ range-shown b v s n body e =
     go None f = absurd (let none : None ≡ Some body = f in cc)
     go (Some c) f = ap (λ (x : Body). dimm_in (registers_of x)) (same_Some c.body body f)
 
-pub range-none : (body : Body) → ((d : DimmRegisters) (kept : KeptSet) → body ≡ of.Dimm d kept → ⊥)
-    → record { address = 0; size = 0 } ≡ dimm_in (registers_of body)
-range-none (of.Uart u kept) other = refl
-range-none (of.Timer t kept) other = refl
-range-none (of.Dimm d kept) other = absurd (other d kept refl)
-range-none (of.Bridge raised holds kept) other = refl
+pub range-none : (device : Device) → ((d : DimmRegisters) → device ≡ of.Dimm d → ⊥) → record { address = 0; size = 0 } ≡ dimm_in (registers_in device)
+range-none (of.Uart u) other = refl
+range-none (of.Timer t) other = refl
+range-none (of.Dimm d) other = absurd (other d refl)
+range-none (of.Bridge b) other = refl
 range-none of.Bus other = refl
 range-none of.Clock other = refl
 range-none of.Backend other = refl

@@ -13,7 +13,7 @@ use crate::numbering::number_of;
 use qo_buses::{first_bus, kid_at};
 use qo_dimm::Dimm;
 use qo_heap::{Heap, Oid, Steps};
-use qo_kinds::Body;
+use qo_kinds::Device;
 use qo_memmap::Place;
 use qo_values::BUS_SLOTS;
 use std::alloc::{AllocError, Global};
@@ -109,8 +109,8 @@ pub(crate) fn range_of<L: Ledger>(heap: &Heap, dev: Oid, steps: &mut Steps<L>) -
     requires { IsLive heap.now.rows dev }
     ensures { (b : Board) → Shows b heap.now → result ≡ range_of b dev.birth }
 {
-    match heap.body(dev, steps) {
-        Body::Dimm(dimm, _) => *dimm,
+    match &heap.body(dev, steps).device {
+        Device::Dimm(dimm) => *dimm,
         _ => Dimm { addr: 0, size: 0 },
     }
 }

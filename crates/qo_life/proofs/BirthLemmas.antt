@@ -1,11 +1,13 @@
 -- The init notes of an object, as they are added one after another.
-use Rattle.std.proofs.Common.{◌≡◌, refl, ap, sym, ◌∙◌, ℕ, ◌+◌, ◌<◌, Bool, true, false, cond, List, [], ◌∷◌, ◌++◌, map, filter, length, drop, get_or, reverse, arith}
+use Rattle.std.proofs.Common.{◌≡◌, refl, ap, sym, ◌∙◌, ℕ, ◌+◌, ◌<◌, Bool, true, false, cond, List, [], ◌∷◌, ◌++◌, map, filter, length, drop, get_or, reverse, arith, rules}
 use Rattle.std.proofs.lemmas.List.{append-nil, map-append, reverse-append, drop_more, drop_all}
+use Rattle.qo_values.specs.Bodies.{body_act}
 use Rattle.qo_values.specs.declared.kinds.TypeId.{TypeId}
 use Rattle.qo_values.specs.declared.kinds.Act.TheVariants.{Init}
-use Rattle.qo_kinds.specs.Bodies.{acted}
+use Rattle.qo_kinds.specs.Bodies.{acted, device_with, registers_in}
 use Rattle.qo_kinds.specs.declared.bodies.Body.{Body}
-use Rattle.qo_kinds.specs.declared.bodies.Body.TheVariants.{Uart, Timer, Dimm, Bridge, Bus, Clock, Backend, Plain}
+use Rattle.qo_kinds.specs.declared.bodies.Device.{Device}
+use Rattle.qo_kinds.proofs.BodyLemmas.{each_device}
 use Rattle.qo_object.specs.Content.{acted_at}
 use Rattle.qo_model.specs.declared.notes.Note.{Note}
 use Rattle.qo_model.specs.Types.{has_finalizer}
@@ -43,14 +45,9 @@ with_notes-one note v = refl
 
 -- an initializer changes no register
 init-still : (t : TypeId) (time period : ℕ) (b : Body) → acted (Init t) time period b ≡ b
-init-still t time period (Uart u k) = refl
-init-still t time period (Timer u k) = refl
-init-still t time period (Dimm u k) = refl
-init-still t time period (Bridge raised holds k) = refl
-init-still t time period Bus = refl
-init-still t time period Clock = refl
-init-still t time period Backend = refl
-init-still t time period Plain = refl
+init-still t time period b =
+    ap (λ (d : Device). record b { device = d })
+    (each_device (λ (d : Device). device_with (body_act (Init t) time period (registers_in d)) d ≡ d) (search rules) b.device)
 
 -- the initializer of a type that has one, and of one that has none
 pub init-had : (n : ℕ) (t : TypeId) (time period : ℕ) (v w : Objects) → has_finalizer t ≡ true

@@ -105,7 +105,7 @@ bare-next slots i (alias m property) bare e = bare-more slots i (alias m propert
 bare-as : (slots left : List (List ℕ × Slot)) (i : ℕ) → left ≡ slots → IsBareTo slots i → IsBareTo left i
 bare-as slots left i is bare = rw is bare
 
-stays-other : (x i : ℕ) (b : Board) (n k : ℕ) → (x == n) ≡ false → Stays x i b → Stays x i (drop_slot b n k)
+pub stays-other : (x i : ℕ) (b : Board) (n k : ℕ) → (x == n) ≡ false → Stays x i b → Stays x i (drop_slot b n k)
 stays-other x i b n k apart stays =
     record {
       live = drop-live b n k x ∙ stays.live;
@@ -113,7 +113,7 @@ stays-other x i b n k apart stays =
       bare = bare-as (slots_at b x) (slots_at (drop_slot b n k) x) i (drop-other b n k x apart) stays.bare;
     }
 
-stays-own : (n i : ℕ) (b : Board) (s : Slot) → slot_at b n i ≡ Some s → Stays n i b → Stays n (next_index s i) (drop_slot b n i)
+pub stays-own : (n i : ℕ) (b : Board) (s : Slot) → slot_at b n i ≡ Some s → Stays n i b → Stays n (next_index s i) (drop_slot b n i)
 stays-own n i b s e stays =
     record {
       live = drop-live b n i n ∙ stays.live;
@@ -122,7 +122,7 @@ stays-own n i b s e stays =
           bare-as (without_hold i (slots_at b n)) (slots_at (drop_slot b n i) n) (next_index s i) (drop-own b n i) (bare-next (slots_at b n) i s stays.bare e);
     }
 
-stays-finish : (x i : ℕ) (b : Board) (n : ℕ) → (x == n) ≡ false → Stays x i b → Stays x i (finish b n)
+pub stays-finish : (x i : ℕ) (b : Board) (n : ℕ) → (x == n) ≡ false → Stays x i b → Stays x i (finish b n)
 stays-finish x i b n apart stays =
     record {
       live = finish-live b n x ∙ rw (apart, stays.live) refl;

@@ -4,3 +4,4 @@ pub mod ReleaseLemmas
 pub mod HeldLemmas
 pub mod NewObjectLemmas
 pub mod TreeLemmas
+mod WorkLemmas

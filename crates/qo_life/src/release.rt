@@ -9,8 +9,9 @@ ghost use Rattle.qo_table.specs.Rows.{IsLive};
 ghost use Rattle.qo_heap.specs.Board.{Shows};
 ghost use Rattle.qo_heap.specs.Objects.{pins_of, refs_of, slots_of};
 ghost use Rattle.qo_life.specs.Life.{Goes, KeepsNames, next_at};
+ghost use Rattle.qo_life.specs.Work.{GoesOn, front_at};
 
-use qo_heap::{Heap, Oid, Slot, Steps};
+use qo_heap::{Heap, Oid, Slot, Steps, Work};
 use std::sync::ledger::Ledger;
 
 /// What becomes free where a slot is let go.
@@ -20,6 +21,17 @@ struct Turn {
     held: Option<Oid>,
     /// The place of the slot after it, once it was let go.
     next: usize,
+}
+
+/// The front of the work of a release.
+#[derive(Clone, Copy)]
+struct Front {
+    /// The object that is being finalized.
+    o: Oid,
+    /// The place from which its slots are still to be let go.
+    at: usize,
+    /// The object whose release goes on after its end.
+    next: Option<Oid>,
 }
 
 /// What becomes free where the slot of an object at a place is let go; `None` exactly past the last.
@@ -41,8 +53,80 @@ fn turn_at<L: Ledger>(heap: &Heap, o: Oid, at: usize, steps: &mut Steps<L>) -> O
     Some(Turn { held, next })
 }
 
+/// How the work goes on where a slot of the front was let go: with what it held, where nothing
+/// refers to this any more, and the front then waits; else with the front's next slot.
+fn go_on<L: Ledger>(heap: &mut Heap, front: Front, turn: Turn, steps: &mut Steps<L>) -> Front
+    requires live { IsLive heap.old.rows front.o }
+    requires held { IfSome turn.held (IsLive heap.old.rows) }
+    ensures { GoesOn turn.held front turn.next heap.old heap.new result }
+{
+    let next = Front {
+        o: front.o,
+        at: turn.next,
+        next: front.next,
+    };
+    let Some(o) = turn.held else {
+        return next;
+    };
+    if heap.is_held(o, steps) {
+        return next;
+    }
+    let work = Work {
+        next: front.next,
+        at: turn.next,
+    };
+    heap.set_work(front.o, work, steps);
+    Front {
+        o,
+        at: 0,
+        next: Some(front.o),
+    }
+}
+
+/// The front of the work, where it goes on with an object.
+fn front_of<L: Ledger>(heap: &Heap, next: Option<Oid>, steps: &mut Steps<L>) -> Option<Front>
+    requires { IfSome next (IsLive heap.now.rows) }
+    ensures { result ≡ front_at heap.now next }
+{
+    let o = next?;
+    let work = heap.work(o, steps);
+    Some(Front {
+        o,
+        at: work.at,
+        next: work.next,
+    })
+}
+
+/// Ends an object to which nothing refers: lets its slots go, in order, each with what is free then,
+/// and removes it. What waits for the end of another waits in the objects themselves.
+fn finalize<L: Ledger>(heap: &mut Heap, o: Oid, steps: &mut Steps<L>)
+    requires live { IsLive heap.old.rows o }
+    requires free { refs_of heap.old o.birth ≡ 0 }
+    ensures { Goes (λ b. finalize b o.birth) heap.old heap.new }
+{
+    heap.facts();
+    let mut front = Some(Front {
+        o,
+        at: 0,
+        next: None,
+    });
+    while let Some(now) = front {
+        heap.facts();
+        match turn_at(heap, now.o, now.at, steps) {
+            Some(turn) => {
+                heap.empty(now.o, now.at, steps);
+                heap.facts();
+                front = Some(go_on(heap, now, turn, steps));
+            }
+            None => {
+                heap.finish(now.o, steps);
+                front = front_of(heap, now.next, steps);
+            }
+        }
+    }
+}
+
 /// Ends an object that was held, where nothing refers to it any more.
-#[cycle(ending)]
 fn end_unheld<L: Ledger>(heap: &mut Heap, held: Option<Oid>, steps: &mut Steps<L>)
     requires { IfSome held (IsLive heap.old.rows) }
     ensures { Goes (λ b. after finalize b (birth_of held)) heap.old heap.new }
@@ -55,36 +139,17 @@ fn end_unheld<L: Ledger>(heap: &mut Heap, held: Option<Oid>, steps: &mut Steps<L
     }
 }
 
-/// Lets the slot of an object at a place go, with what it held, and answers the place of the slot
-/// after it; `None` exactly past the last.
-#[cycle(ending)]
-fn let_go_at<L: Ledger>(heap: &mut Heap, o: Oid, at: usize, steps: &mut Steps<L>) -> Option<usize>
+/// Lets the slot of an object at a place go, with what it held; a place past the last stays.
+fn let_go_at<L: Ledger>(heap: &mut Heap, o: Oid, at: usize, steps: &mut Steps<L>)
     requires { IsLive heap.old.rows o }
-    ensures goes { Goes (λ b. let_go b o.birth at) heap.old heap.new }
-    ensures next { result ≡ option_map (next_at at) (slot_in (slots_of heap.old o.birth) at) }
-    ensures past { result ≡ None → heap.new ≡ heap.old }
+    ensures { Goes (λ b. let_go b o.birth at) heap.old heap.new }
 {
     heap.facts();
-    let turn = turn_at(heap, o, at, steps)?;
+    let Some(turn) = turn_at(heap, o, at, steps) else {
+        return;
+    };
     heap.empty(o, at, steps);
     end_unheld(heap, turn.held, steps);
-    Some(turn.next)
-}
-
-/// Ends an object to which nothing refers: lets its slots go, in order, and removes it.
-#[cycle(ending)]
-fn finalize<L: Ledger>(heap: &mut Heap, o: Oid, steps: &mut Steps<L>)
-    requires live { IsLive heap.old.rows o }
-    requires free { refs_of heap.old o.birth ≡ 0 }
-    ensures { Goes (λ b. finalize b o.birth) heap.old heap.new }
-{
-    heap.facts();
-    let mut at = 0;
-    while let Some(next) = let_go_at(heap, o, at, steps) {
-        at = next;
-    }
-    heap.facts();
-    heap.finish(o, steps);
 }
 
 /// Lets the slot of an object at a place go: a child slot is removed, a link is left without a

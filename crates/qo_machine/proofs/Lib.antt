@@ -1,9 +1,11 @@
 pub mod AddressLemmas
+pub mod AnsweringLemmas
 pub mod BoardLemmas
 pub mod ChunkLemmas
 pub mod ClocksLemmas
 pub mod DevicesLemmas
 pub mod GuestLemmas
+pub mod HistoryLemmas
 pub mod HoldLemmas
 pub mod PreservationLemmas
 pub mod LaneLemmas
@@ -12,6 +14,7 @@ pub mod MemoryLemmas
 pub mod MachineLemmas
 pub mod NoteLemmas
 pub mod PhaseLemmas
+pub mod RelationLemmas
 pub mod RunLemmas
 pub mod SendingLemmas
 pub mod SoundnessLemmas

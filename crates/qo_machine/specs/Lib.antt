@@ -1,4 +1,6 @@
+pub mod Answering
 pub mod Between
+pub mod Later
 pub mod Laws
 pub mod Machine
 pub mod Runs

@@ -1,12 +1,22 @@
-//! What holds of the machine alone: who is touched by what, that pieces of bytes may be cut anywhere, and
-//! what holds of objects over whole runs.
+//! What holds of the machine alone: who is touched by what, that each message is answered once, that pieces of bytes
+//! may be cut anywhere, and what holds of objects over whole runs.
 
+ghost use Rattle.qo_machine.specs.Answering.{AnsweredInRuns};
+ghost use Rattle.qo_machine.specs.Later.{LaterInRuns};
 ghost use Rattle.qo_machine.specs.Laws.{ChunksAreFree, FinalOnceInRuns, HeldInRuns, LanesAreApart, PhasesInRuns, SoundInRuns};
 
 /// Opening, shutting, and each item of a session that is no command leave the board, the guest line
 /// and all other sessions as they are, and send to that session alone.
 pub fn law_lanes()
     ensures { LanesAreApart }
+{}
+
+/// In any run each item of an open session before the end of the run is answered by exactly one reply, which goes
+/// to that session, and each line that the guest ends by exactly one answer. It is the defined one, after events;
+/// or, for a command or a line for which memory runs out, E99 or `no memory` alone. A session that opens is
+/// greeted. Nothing else is sent.
+pub fn law_answers()
+    ensures { AnsweredInRuns }
 {}
 
 /// In any run, bytes of a session that come whole may as well come in two pieces at the same moment,
@@ -47,4 +57,11 @@ pub fn law_phases()
 /// tree.
 pub fn law_cycle()
     ensures { HeldInRuns }
+{}
+
+/// Each step and each run lead from a board to a later one, whatever the state at first: births and the
+/// virtual time do not go back, what was noted stays, what is noted comes after it, and no birth is given
+/// twice.
+pub fn law_later()
+    ensures { LaterInRuns }
 {}

@@ -1,9 +1,8 @@
 -- What is so of numbers that are among others, and of those that are not.
 use Rattle.std.proofs.Common.{◌≡◌, refl, sym, subst, ◌∙◌, ℕ, Bool, true, false, eqb, List, [], ◌∷◌}
-use Rattle.std.specs.List.{AllByRecursion}
+use Rattle.qo_model.proofs.Common.{AllByRecursion, among}
 use Rattle.std.proofs.lemmas.Bool.{eqb-true}
 use Rattle.std.proofs.Math.Bool.{or-false}
-use Rattle.qo_model.specs.Depth.{among}
 
 -- a fact of each number holds of one that is among them
 pub among-all : (P : ℕ → Type 0) (xs : List ℕ) → AllByRecursion P xs → (n : ℕ) → among xs n ≡ true → P n

@@ -1,18 +1,15 @@
 -- A new device with its further objects that comes free: it ends with them, the further ones first, and all else is as before.
 use Rattle.std.proofs.Common.{◌≡◌, refl, ap, sym, subst, ◌∙◌, ℕ, suc, ◌<◌, ◌≤◌, Bool, true, false, cond, not, ◌==◌, List, [], ◌∷◌, ◌++◌, map, filter, length, slice_get, sum_by, count_by, append_assoc, append-nil, Option, Some, None, option_map, arith}
+use Rattle.qo_model.proofs.Common.{⊤, AllByRecursion, option_map_or, option_or, Board, Record, Slot, DeviceEvent, plain, child, strong, weak, alias, record_of, slots_at, slot_at, target_of, refs, refs_in, holds_it, after, deleted_event, drop_slot, edited, emptied, final_notes, finalize, finish, forgotten, forgotten_in, next_index, with_dropped, without_hold}
+use Rattle.qo_model.specs.declared.notes.Note.{Note}
 use Rattle.std.specs.Prelude.{option_and_then, option_to_list}
-use Rattle.std.specs.Bool.{⊤}
-use Rattle.std.specs.List.{AllByRecursion, flat_map}
-use Rattle.std.specs.Option.{option_map_or, option_or}
+use Rattle.std.specs.List.{flat_map}
 use Rattle.std.proofs.lemmas.Bool.{eq-eqb}
 use Rattle.std.proofs.lemmas.List.{map-append}
 use Rattle.std.proofs.lemmas.List.Elements.{filter-append}
 use Rattle.std.proofs.lemmas.List.Folds.{find-append}
 use Rattle.std.proofs.lemmas.List.Sums.{sum_by-cons, sum_by-append}
-use Rattle.qo_model.specs.declared.notes.Note.{Note}
-use Rattle.qo_model.specs.Board.{Board, Record, Slot, DeviceEvent, plain, child, strong, weak, alias, record_of, slots_at, slot_at, held, target_of}
-use Rattle.qo_model.specs.References.{refs, refs_in, holds_it}
-use Rattle.qo_model.specs.Release.{after, deleted_event, drop_slot, edited, emptied, final_notes, finalize, finish, forgotten, forgotten_in, next_index, with_dropped, without_hold}
+use Rattle.qo_model.specs.Board.{held}
 use Rattle.qo_model.proofs.ReleaseLemmas.{end_of, end_of-first, end_of-none, end_of-some}
 use Rattle.qo_model.proofs.ReleaseRulesLemmas.{after-free}
 use Rattle.qo_model.proofs.StepLemmas.{drop-record, found-birth, found_at, found-edited}

@@ -1,22 +1,10 @@
 -- The commands on objects leave all but objects, births, pins, notes and events.
 use Rattle.std.proofs.Common.{◌≡◌, refl, ◌∙◌, ℕ, Bool, true, false, ◌==◌, List, [], ◌∷◌, length, Option, Some, None}
-use Rattle.qo_values.specs.declared.births.TheConstants.{OBJECTS_BIRTH}
-use Rattle.qo_values.specs.declared.codes.Code.{Code}
-use Rattle.qo_values.specs.declared.kinds.TypeId.{TypeId}
-use Rattle.qo_values.specs.declared.properties.Val.{Val}
-use Rattle.qo_model.specs.Board.{Board, Slot, slot_at, slots_at, held}
-use Rattle.qo_model.specs.Changes.{point, set}
-use Rattle.qo_model.specs.FinalNotesRuns.{Change, added, deleted, wrote, severed, after_changes, after_write, changed}
-use Rattle.qo_model.specs.Objects.{Given, added_as, attempted_as, barred_by, object_add, object_del, sever, severed_from, with_attempt}
-use Rattle.qo_model.specs.Properties.{pointed_at, relinked, write}
-use Rattle.qo_model.specs.References.{refs}
-use Rattle.qo_model.specs.Release.{after, drop_slot, finalize, let_go, pin, unpin}
-use Rattle.qo_model.specs.ReleaseInduction.{Leaves}
-use Rattle.qo_model.specs.Types.{TypeInfo, type_named}
+use Rattle.qo_model.proofs.Common.{OBJECTS_BIRTH, Code, TypeId, Val, Board, Slot, slot_at, slots_at, point, set, Change, added, deleted, wrote, severed, after_changes, after_write, changed, Given, added_as, attempted_as, barred_by, object_add, object_del, sever, severed_from, with_attempt, pointed_at, relinked, write, refs, after, drop_slot, finalize, let_go, pin, unpin, Leaves, TypeInfo, type_named, Stays, StaysLaw}
+use Rattle.qo_model.specs.Board.{held}
 use Rattle.qo_model.proofs.ComesToLemmas.{addition-comes, deletion-comes, sever-comes, severed-comes}
 use Rattle.qo_model.proofs.WrittenLemmas.{write-comes}
 use Rattle.qo_model.proofs.ReleaseScopeLemmas.{let_go-leaves, release_leaves, unpin-leaves}
-use Rattle.qo_model.specs.ChangeScope.{Stays, StaysLaw}
 
 pub stays-none : (b : Board) → Stays b b
 stays-none b = record { anonymous = refl; now = refl; running = refl; holds = refl; pending = refl; notices = refl; rings = refl }

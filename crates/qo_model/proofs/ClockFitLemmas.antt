@@ -1,14 +1,10 @@
 -- Where the numbers of a clock were written, and neither its own period nor those of the clocks below pass 64 bits, all periods fit.
 use Rattle.std.proofs.Common.{◌≡◌, ◌⊎◌, inl, inr, refl, ap, ap₂, subst, sym, ◌∙◌, ℕ, zero, suc, ◌^◌, ◌<◌, ◌||◌, Bool, true, false, cond, eqb, List, [], ◌∷◌, length, filter, Option, Some, None, arith}
-use Rattle.std.specs.List.{flat_map, list_any}
-use Rattle.std.specs.Option.{option_map_or}
+use Rattle.qo_model.proofs.Common.{list_any, option_map_or, Board, ClocksFit, child_period, clocks_below, div_of, fed_turn, is_source, mul_of, overflows, own_period, period, scaled, scaled_by, source_of, among, by_depth, births}
+use Rattle.std.specs.List.{flat_map}
 use Rattle.std.proofs.lemmas.Bool.{eqb-true, eq-eqb, or_left, or_right}
 use Rattle.std.proofs.lemmas.Bool.Decides.{nat_tests}
 use Rattle.std.proofs.lemmas.List.Folds.{list_any-append}
-use Rattle.qo_model.specs.Board.{Board}
-use Rattle.qo_model.specs.Clocks.{ClocksFit, child_period, clocks_below, div_of, fed_turn, is_source, mul_of, overflows, own_period, period, scaled, scaled_by, source_of}
-use Rattle.qo_model.specs.Depth.{among, by_depth}
-use Rattle.qo_model.specs.Paths.{births}
 use Rattle.qo_model.proofs.PeriodLemmas.{to_depth, turn_by, with-source}
 
 abbrev pub with_below : (ℕ → List ℕ) → ℕ → List ℕ

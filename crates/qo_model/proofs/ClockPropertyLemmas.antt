@@ -1,33 +1,18 @@
 -- What `qom-set` does: it writes as the command that adds an object does, or the number of a clock, no wider than its property.
 use Rattle.std.proofs.Common.{◌≡◌, refl, subst, ℕ, ◌^◌, ◌-◌, ◌%◌, ◌<◌, ◌≤◌, Bool, true, false, ◌&&◌, nat_le, cond, List, Option, Some, None, is_some, Result, Ok, Err, arith}
-use Rattle.std.specs.Prelude.{◌==◌, option_and_then}
-use Rattle.std.specs.List.{AllByRecursion}
-use Rattle.std.specs.Str.{bytes_eq}
-use Rattle.std.proofs.lemmas.Bool.{leb-true}
-use Rattle.qo_values.proofs.ListLemmas.{found-has}
-use Rattle.qo_values.specs.Properties.{admits}
-use Rattle.qo_values.specs.declared.codes.Code.{Code}
-use Rattle.qo_values.specs.declared.codes.Code.TheVariants.{E17, E19}
-use Rattle.qo_values.specs.declared.kinds.TypeId.{TypeId}
-use Rattle.qo_values.specs.declared.kinds.TypeId.TheVariants as type
-use Rattle.qo_values.specs.declared.properties.PropType.{PropType}
-use Rattle.qo_values.specs.declared.properties.Val.{Val}
-use Rattle.qo_values.specs.declared.properties.Val.TheVariants as val
+use Rattle.qo_model.proofs.Common.{◌==◌, AllByRecursion, bytes_eq, admits, Code, E17, E19, TypeId, PropType, Val, write_at, Board, Slot, kind_of, slot_named, plain, child, strong, weak, alias, clock_scaled, clock_set, clock_property_written, in_slot, is_set, role_written, led_by, led_to, number_written, only_set, own_property, set_property, set_row, typed_written, div_of, mul_of, object_at, property_named, write, property_name, slots_of, types}
 use Rattle.qo_model.specs.declared.properties.Mark.{Mark}
-use Rattle.qo_model.specs.declared.properties.Mark.TheVariants as mark
 use Rattle.qo_model.specs.declared.properties.Property.{Property}
 use Rattle.qo_model.specs.declared.properties.PropertyName.{PropertyName}
-use Rattle.qo_model.specs.declared.properties.PropertyName.TheVariants as prop
 use Rattle.qo_model.specs.declared.properties.PropertyRole.{PropertyRole}
+use Rattle.std.specs.Prelude.{option_and_then}
+use Rattle.std.proofs.lemmas.Bool.{leb-true}
+use Rattle.qo_values.proofs.ListLemmas.{found-has}
+use Rattle.qo_values.specs.declared.kinds.TypeId.TheVariants as type
+use Rattle.qo_values.specs.declared.properties.Val.TheVariants as val
+use Rattle.qo_model.specs.declared.properties.Mark.TheVariants as mark
+use Rattle.qo_model.specs.declared.properties.PropertyName.TheVariants as prop
 use Rattle.qo_model.specs.declared.properties.PropertyRole.TheVariants as row
-use Rattle.qo_model.specs.Access.{write_at}
-use Rattle.qo_model.specs.Board.{Board, Slot, kind_of, slot_named, plain, child, strong, weak, alias}
-use Rattle.qo_model.specs.ClockChanges.{clock_scaled, clock_set}
-use Rattle.qo_model.specs.ClockProperties.{clock_property_written, in_slot, is_set, role_written, led_by, led_to, number_written, only_set, own_property, set_property, set_row, typed_written}
-use Rattle.qo_model.specs.Clocks.{div_of, mul_of}
-use Rattle.qo_model.specs.Properties.{object_at, property_named, write}
-use Rattle.qo_model.specs.RowNames.{property_name}
-use Rattle.qo_model.specs.Types.{slots_of, types}
 
 -- what fits in a number of a clock
 abbrev Fits : PropertyName → ℕ → Type 0

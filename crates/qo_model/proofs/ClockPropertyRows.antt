@@ -1,22 +1,7 @@
 -- Worked rows of the numbers of clocks, read and written as properties: those of the system clock, and of a UART after it.
 use Rattle.std.proofs.Common.{◌≡◌, refl, ℕ, ◌^◌, ◌-◌, true, List, [], ◌∷◌, map, drop, codes, Option, Some, None, Ok, Err}
-use Rattle.qo_values.specs.Placing.{least}
-use Rattle.qo_values.specs.declared.codes.Code.{Code}
-use Rattle.qo_values.specs.declared.codes.Code.TheVariants.{E17, E18, E19, E45, E46, E47}
-use Rattle.qo_values.specs.declared.properties.Val.{Val}
+use Rattle.qo_model.proofs.Common.{least, Code, E17, E18, E19, E45, E46, E47, Val, Board, add, set, set_property, acted, clocks_below, period, depth_of, is_going, opening_board, attached, path_down_to, plug, value_of, drop_slot, finish, let_go, pin, unpin, plugged, post, types}
 use Rattle.qo_values.specs.declared.properties.Val.TheVariants as val
-use Rattle.qo_model.specs.Board.{Board}
-use Rattle.qo_model.specs.Changes.{add, set}
-use Rattle.qo_model.specs.ClockProperties.{set_property}
-use Rattle.qo_model.specs.Clocks.{acted, clocks_below, period}
-use Rattle.qo_model.specs.Devices.{depth_of, is_going}
-use Rattle.qo_model.specs.Opening.{opening_board}
-use Rattle.qo_model.specs.Paths.{attached, path_down_to}
-use Rattle.qo_model.specs.Plug.{plug}
-use Rattle.qo_model.specs.Properties.{value_of}
-use Rattle.qo_model.specs.Release.{drop_slot, finish, let_go, pin, unpin}
-use Rattle.qo_model.specs.Reset.{plugged, post}
-use Rattle.qo_model.specs.Types.{types}
 use Rattle.qo_model.proofs.RowTerms.{told}
 
 -- a UART; a number to a property of the system clock; the code of a refusal

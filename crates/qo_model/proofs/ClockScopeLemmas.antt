@@ -1,21 +1,8 @@
 -- Writes of clocks leave all but objects and notes, and so `qom-set` leaves what the other commands on objects leave.
 use Rattle.std.proofs.Common.{◌≡◌, refl, ap, subst, ℕ, Bool, true, false, ◌==◌, cond, List, [], ◌∷◌, codes, Option, None, Some, is_some, Ok, Err}
-use Rattle.std.specs.List.{list_any}
-use Rattle.qo_values.specs.declared.codes.Code.TheVariants.{E45, E46, E47}
-use Rattle.qo_values.specs.declared.kinds.Act.{Act}
-use Rattle.qo_values.specs.declared.kinds.Act.TheVariants.{Pre, Update}
-use Rattle.qo_values.specs.declared.properties.Val.{Val}
+use Rattle.qo_model.proofs.Common.{list_any, E45, E46, E47, Act, Pre, Update, Val, write_at, Board, slots_at, clock_scaled, clock_set, acted, called, called_all, clock_written, clocks_below, div_of, mul_of, overflows, period, source_of, spread, after_write, wrote, index_from, write, Stays, is_named, set_named}
 use Rattle.qo_values.specs.declared.properties.Val.TheVariants as val
-use Rattle.qo_model.specs.Access.{write_at}
-use Rattle.qo_model.specs.Board.{Board, slots_at}
-use Rattle.qo_model.specs.ClockChanges.{clock_scaled, clock_set}
-use Rattle.qo_model.specs.Clocks.{acted, called, called_all, clock_written, clocks_below, div_of, mul_of, overflows, period, source_of, spread}
-use Rattle.qo_model.specs.FinalNotesRuns.{after_write, wrote}
-use Rattle.qo_model.specs.Objects.{index_from}
 use Rattle.qo_model.specs.Paths.{parent_of}
-use Rattle.qo_model.specs.Properties.{write}
-use Rattle.qo_model.specs.ChangeScope.{Stays}
-use Rattle.qo_model.specs.Unplug.{is_named, set_named}
 use Rattle.qo_model.proofs.ClockPropertyLemmas.{write_at-cases}
 use Rattle.qo_model.proofs.ChangeScopeLemmas.{set-stays, stays_lem, stays-none, stays-then}
 

@@ -1,14 +1,6 @@
 -- What the commands on objects come to: the board as it was, with an object or an attempt more, or with slots that were let go one after another.
 use Rattle.std.proofs.Common.{◌≡◌, refl, ℕ, zero, suc, Bool, true, false, length, Option, Some, None}
-use Rattle.std.specs.Prelude.{List}
-use Rattle.qo_values.specs.declared.births.TheConstants.{OBJECTS_BIRTH}
-use Rattle.qo_values.specs.declared.kinds.TypeId.{TypeId}
-use Rattle.qo_model.specs.Board.{Board, Slot, plain, child, strong, weak, alias, is_live, slot_at, slots_at}
-use Rattle.qo_values.specs.declared.codes.Code.{Code}
-use Rattle.qo_model.specs.Types.{TypeInfo, type_named}
-use Rattle.qo_model.specs.Objects.{Given, added_as, added_by, barred, object_add, refusal_of, is_object_named, object_del, index_from, sever, severed_from}
-use Rattle.qo_model.specs.Paths.{attached}
-use Rattle.qo_model.specs.Release.{let_go, pin, unpin}
+use Rattle.qo_model.proofs.Common.{List, OBJECTS_BIRTH, TypeId, Board, Slot, plain, child, strong, weak, alias, is_live, slot_at, slots_at, Code, TypeInfo, type_named, Given, added_as, added_by, barred, object_add, refusal_of, is_object_named, object_del, index_from, sever, severed_from, attached, let_go, pin, unpin}
 
 module _ (P : Board → Type 0) where
   pub addition-comes : (b : Board) (driver id : List ℕ) (props : List Given) → P b

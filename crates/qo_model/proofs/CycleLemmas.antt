@@ -1,18 +1,11 @@
 -- A detached object of a sound board is held from a cycle or from an attached object: its holders are followed until one is met again.
 use Rattle.std.proofs.Common.{◌≡◌, ◌≢◌, refl, ap, sym, ◌∙◌, ℕ, zero, suc, ◌+◌, ◌<◌, ◌≤◌, Bool, true, false, ◌==◌, eqb, List, [], ◌∷◌, map, length, filter_map, sum_by, count_by, Option, Some, None, is_some, arith}
-use Rattle.std.specs.List.{AllByRecursion, IsDistinct}
-use Rattle.std.specs.Cmp.{nat_eq_equiv}
+use Rattle.qo_model.proofs.Common.{AllByRecursion, IsDistinct, nat_eq_equiv, Board, Record, Slot, plain, child, strong, weak, alias, among, leads, Leads, one, more, held_by, HeldFrom, a_cycle, an_attached, CycleLaw, births, attached, attached_turn, refs, refs_in, holds_it, graph_of, without_value, without_values, Rises, SoundGraph}
 use Rattle.std.proofs.lemmas.Bool.{eq-eqb}
 use Rattle.std.proofs.lemmas.List.Sums.{sum_by-cons}
 use Rattle.std.proofs.lemmas.Map.Made.{length-le_from_is_member}
 use Rattle.std.proofs.Math.Bool.{or-true}
-use Rattle.qo_model.specs.Board.{Board, Record, Slot, plain, child, strong, weak, alias, held}
-use Rattle.qo_model.specs.Depth.{among, leads, Leads, one, more}
-use Rattle.qo_model.specs.Holders.{held_by, HeldFrom, a_cycle, an_attached}
-use Rattle.qo_model.specs.Laws.{CycleLaw}
-use Rattle.qo_model.specs.Paths.{births, attached, attached_turn}
-use Rattle.qo_model.specs.References.{refs, refs_in, holds_it}
-use Rattle.qo_model.specs.SoundGraph.{graph_of, without_value, without_values, Rises, SoundGraph}
+use Rattle.qo_model.specs.Board.{held}
 use Rattle.qo_model.proofs.AmongLemmas.{among-all, among-apart}
 use Rattle.qo_model.proofs.EditLemmas.{sum-held, one_is}
 use Rattle.qo_model.proofs.GraphLemmas.{among-above, births-graph_of, births_at}

@@ -1,10 +1,8 @@
 -- The law of recursion by objects: its answer is one turn over its own answers.
 use Rattle.std.proofs.Common.{◌≡◌, refl, sym, subst, ℕ, zero, suc, ◌+◌, ◌-◌, ◌<◌, ◌≤◌, Bool, true, false, List, [], ◌∷◌, length, eqb, arith}
-use Rattle.std.specs.List.{AllByRecursion, IsDistinct}
+use Rattle.qo_model.proofs.Common.{AllByRecursion, IsDistinct, nat_eq_equiv, by_depth, by_objects, among, leads, Leads, one, more, IsTree, IsLocal}
 use Rattle.std.proofs.lemmas.Bool.{eqb-true}
 use Rattle.std.proofs.lemmas.Map.Made.{length-le_from_is_member}
-use Rattle.std.specs.Cmp.{nat_eq_equiv}
-use Rattle.qo_model.specs.Depth.{by_depth, by_objects, among, leads, Leads, one, more, IsTree, IsLocal}
 use Rattle.qo_model.proofs.AmongLemmas.{among-all}
 
 -- one level less, where there are levels

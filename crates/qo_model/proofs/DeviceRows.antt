@@ -1,28 +1,10 @@
 -- Worked rows of devices: bridges that are added, refused and removed.
 use Rattle.std.proofs.Common.{◌≡◌, refl, ℕ, ◌^◌, ◌-◌, true, List, [], ◌∷◌, map, drop, codes, Option, Some, None, Result, Ok, Err}
-use Rattle.qo_values.specs.declared.codes.Code.{Code}
-use Rattle.qo_values.specs.declared.codes.Code.TheVariants.{E17, E18, E19, E20, E21, E22, E23, E24, E25, E26, E28, E29, E36, E38, E42, E45, E46, E47}
-use Rattle.qo_values.specs.declared.kinds.TypeId.TheVariants.{MemoryBackend}
-use Rattle.qo_values.specs.declared.properties.Val.TheVariants as val
+use Rattle.qo_model.proofs.Common.{Code, E17, E18, E19, E20, E21, E22, E23, E24, E25, E26, E28, E29, E36, E38, E42, E45, E46, E47, MemoryBackend, Board, DeviceEvent, Slot, plain, strong, slots_at, add, cut, set, clock_scaled, clock_set, acted, clocks_below, period, depth_of, is_going, deed_word, deed_type, option_map_or, type_name, Given, object_add, opening_board, attached, births, path_down_to, Wanted, Plugged, plug, drop_slot, finish, finalize, finalize_within, let_go, pin, unpin, plugged, post, pulse, released, types, apart_within, detach, unrealize, least}
 use Rattle.qo_model.specs.declared.notes.Note.{Note}
-use Rattle.qo_model.specs.Board.{Board, DeviceEvent, Slot, plain, strong, slots_at}
-use Rattle.qo_model.specs.Changes.{add, cut, set}
-use Rattle.qo_model.specs.ClockChanges.{clock_scaled, clock_set}
-use Rattle.qo_model.specs.Clocks.{acted, clocks_below, period}
-use Rattle.qo_model.specs.Devices.{depth_of, is_going}
-use Rattle.qo_model.specs.Notes.{deed_word, deed_type}
-use Rattle.std.specs.Option.{option_map_or}
-use Rattle.qo_values.specs.Kinds.{type_name}
-use Rattle.qo_model.specs.Objects.{Given, object_add}
-use Rattle.qo_model.specs.Opening.{opening_board}
-use Rattle.qo_model.specs.Paths.{attached, births, path_down_to}
-use Rattle.qo_model.specs.Plug.{Wanted, Plugged, plug}
-use Rattle.qo_model.specs.Release.{drop_slot, finish, finalize, finalize_within, let_go, pin, unpin}
-use Rattle.qo_model.specs.Reset.{held, plugged, post, pulse, released}
-use Rattle.qo_model.specs.Types.{types}
-use Rattle.qo_model.specs.Unplug.{apart_within, detach, unrealize}
+use Rattle.qo_values.specs.declared.properties.Val.TheVariants as val
+use Rattle.qo_model.specs.Reset.{held}
 use Rattle.qo_model.proofs.RowTerms.{wanted, then_set, then_scaled}
-use Rattle.qo_values.specs.Placing.{least}
 
 -- a note, as its word, its birth and its type's name
 abbrev told : Note → List ℕ × ℕ × List ℕ

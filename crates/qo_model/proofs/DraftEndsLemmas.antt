@@ -1,26 +1,15 @@
 -- A device that was made, property by property, as one record with its further objects after it; and that it leaves exactly its notes where it is given up.
 use Rattle.std.proofs.Common.{◌≡◌, refl, ap, ap₂, sym, subst, ◌∙◌, ℕ, suc, ◌+◌, ◌<◌, ◌≤◌, true, false, ◌==◌, List, [], ◌∷◌, ◌++◌, map, filter_map, length, append_assoc, append-nil, Option, Some, None, option_map, arith}
-use Rattle.std.specs.Prelude.{drop, take}
-use Rattle.std.specs.List.{AllByRecursion, flat_map}
+use Rattle.qo_model.proofs.Common.{drop, take, AllByRecursion, TypeId, Board, Record, Slot, plain, child, strong, weak, alias, add, fresh, ending, init_notes, first_slot, first_value, fresh_record, aliased, begun_notes, born_from, cut_attempt, cut_order, device_last, ended_notes, further_in, owned, plug_attempt, property_made, properties_made, types_in, with_ended, with_kid, with_new, edit, edited, final_notes, finalize, slots_of, property_name, refs, refs_in}
+use Rattle.qo_model.specs.declared.notes.Note.{Note}
+use Rattle.qo_model.specs.declared.properties.Property.{Property}
+use Rattle.qo_model.specs.declared.properties.PropertyRole.{PropertyRole}
+use Rattle.std.specs.List.{flat_map}
 use Rattle.std.proofs.lemmas.Bool.{eq-eqb}
 use Rattle.std.proofs.lemmas.List.{map-append}
 use Rattle.std.proofs.lemmas.Option.{same_Some}
-use Rattle.qo_values.specs.declared.kinds.TypeId.{TypeId}
-use Rattle.qo_model.specs.declared.notes.Note.{Note}
-use Rattle.qo_model.specs.Board.{Board, Record, Slot, plain, child, strong, weak, alias}
-use Rattle.qo_model.specs.Changes.{add, fresh}
-use Rattle.qo_model.specs.FinalNotes.{ending}
-use Rattle.qo_model.specs.Objects.{init_notes}
-use Rattle.qo_model.specs.Opening.{first_slot, first_value, fresh_record}
-use Rattle.qo_model.specs.Plug.{aliased, begun_notes, born_from, cut_attempt, cut_order, device_last, ended_notes, further_in, owned, plug_attempt, property_made, properties_made, types_in, with_ended, with_kid, with_new}
-use Rattle.qo_model.specs.Release.{edit, edited, final_notes, finalize}
-use Rattle.qo_model.specs.Types.{slots_of}
-use Rattle.qo_model.specs.RowNames.{property_name}
-use Rattle.qo_model.specs.declared.properties.Property.{Property}
-use Rattle.qo_model.specs.declared.properties.PropertyRole.{PropertyRole}
 use Rattle.qo_model.specs.declared.properties.PropertyRole.TheVariants as row
 use Rattle.qo_model.proofs.AttemptLemmas.{BareKid, BareSlot, IsStar, LowRecord, attempt-ends, kids-unheld, pins-apart, records-edited, records-unheld, star-kids, star-unheld}
-use Rattle.qo_model.specs.References.{refs, refs_in}
 use Rattle.std.proofs.lemmas.List.Sums.{sum_by-cons, sum_by-append}
 
 -- the types of the further objects of properties, and these objects from a birth on

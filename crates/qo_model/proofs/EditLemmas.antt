@@ -1,10 +1,9 @@
 -- One small change of a board, the slot of an object let go or an object ended: what it does to sums over the records.
 use Rattle.std.proofs.Common.{◌≡◌, refl, ap, sym, subst, ℕ, zero, suc, ◌+◌, ◌<◌, ◌≤◌, Bool, true, false, cond, ◌==◌, List, [], ◌∷◌, map, filter, length, find, slice_get, sum_by, Option, Some, None, is_some, option_map, arith}
-use Rattle.std.specs.Option.{option_map_or}
+use Rattle.qo_model.proofs.Common.{option_map_or, Board, Record, Slot, plain, child, strong, weak, alias, record_of, slot_at, forgotten_in, edited, emptied, without_hold}
 use Rattle.std.proofs.lemmas.List.Sums.{sum_by-cons}
 use Rattle.std.proofs.lemmas.Option.{same_Some}
-use Rattle.qo_model.specs.Board.{Board, Record, Slot, plain, child, strong, weak, alias, record_of, slot_at, held}
-use Rattle.qo_model.specs.Release.{forgotten_in, edited, emptied, without_hold}
+use Rattle.qo_model.specs.Board.{held}
 
 -- where an edit raises no record's number, it raises no sum of them
 pub sum-edit_le : (f : Record → ℕ) (n : ℕ) (change : Record → Record) → ((r : Record) → f (change r) ≤ f r) → (rs : List Record)

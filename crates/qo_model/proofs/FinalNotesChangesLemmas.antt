@@ -1,16 +1,7 @@
 -- The commands on objects keep the notes of a board in order.
 use Rattle.std.proofs.Common.{◌≡◌, refl, ℕ, true, false, List, Option, Some, None, length}
-use Rattle.qo_values.specs.declared.births.TheConstants.{OBJECTS_BIRTH}
-use Rattle.qo_values.specs.declared.codes.Code.{Code}
-use Rattle.qo_values.specs.declared.kinds.TypeId.{TypeId}
-use Rattle.qo_values.specs.declared.properties.Val.{Val}
-use Rattle.qo_model.specs.Board.{Board, Slot, slot_at, slots_at, held}
-use Rattle.qo_model.specs.Changes.{point, set, with_changed, with_val, pointed}
-use Rattle.qo_model.specs.FinalNotes.{NotesInOrder}
-use Rattle.qo_model.specs.FinalNotesRuns.{Change, added, deleted, wrote, severed, after_write, changed}
-use Rattle.qo_model.specs.Objects.{Given, added_as, object_add, object_del, sever, severed_from}
-use Rattle.qo_model.specs.Properties.{pointed_at, relinked, write}
-use Rattle.qo_model.specs.Release.{drop_slot, pin, put_in_order, with_dropped}
+use Rattle.qo_model.proofs.Common.{OBJECTS_BIRTH, Code, TypeId, Val, Board, Slot, slot_at, slots_at, point, set, with_changed, with_val, pointed, NotesInOrder, Change, added, deleted, wrote, severed, after_write, changed, Given, added_as, object_add, object_del, sever, severed_from, pointed_at, relinked, write, drop_slot, pin, put_in_order, with_dropped}
+use Rattle.qo_model.specs.Board.{held}
 use Rattle.qo_model.proofs.ComesToLemmas.{addition-comes, deletion-comes, sever-comes, severed-comes}
 use Rattle.qo_model.proofs.WrittenLemmas.{write-comes}
 use Rattle.qo_model.proofs.FinalNotesLemmas.{after-keeps, edit-keeps, let_go-keeps, pins-keep, unpin-keeps}

@@ -1,27 +1,13 @@
 -- What keeps the notes of a board in order: an act that is noted, an object that is made, and one that is made and ends at once.
 use Rattle.std.proofs.Common.{◌≡◌, refl, ap, ap₂, sym, ◌∙◌, ℕ, ◌+◌, ◌<◌, ◌≤◌, leb, Bool, true, false, ◌==◌, ◌||◌, if◌then◌else◌, List, [], ◌∷◌, ◌++◌, map, Option, Some, None, is_some, option_map, append_assoc, append-nil, arith}
+use Rattle.qo_model.proofs.Common.{option_or, OBJECTS_BIRTH, Act, Init, TypeId, Board, Record, child, is_live, kind_of, with_added, beginning, ending, is_bound, IsBorn, NotesInOrder, Story, with_act, deed_type, fresh_registers, Given, given_slots, init_notes, with_attempt, with_object, edited, notes_on, finals, inits}
+use Rattle.qo_model.specs.declared.notes.Deed.{Deed}
+use Rattle.qo_model.specs.declared.notes.Deed.TheVariants.{Did, Final}
+use Rattle.qo_model.specs.declared.notes.Note.{Note}
 use Rattle.std.proofs.lemmas.Bool.{eqb-true, eq-eqb}
 use Rattle.std.proofs.lemmas.Option.{same_Some}
 use Rattle.std.proofs.lemmas.List.Elements.{filter-append}
 use Rattle.std.proofs.lemmas.List.Folds.{find-append, list_any-append}
-use Rattle.std.specs.Option.{option_or}
-use Rattle.qo_values.specs.declared.births.TheConstants.{OBJECTS_BIRTH}
-use Rattle.qo_values.specs.declared.kinds.Act.{Act}
-use Rattle.qo_values.specs.declared.kinds.Act.TheVariants.{Init}
-use Rattle.qo_values.specs.declared.kinds.TypeId.{TypeId}
-use Rattle.qo_model.specs.declared.notes.Deed.{Deed}
-use Rattle.qo_model.specs.declared.notes.Deed.TheVariants.{Did, Final}
-use Rattle.qo_model.specs.declared.notes.Note.{Note}
-use Rattle.qo_model.specs.Board.{Board, Record, child, is_live, kind_of}
-use Rattle.qo_model.specs.Changes.{with_added}
-use Rattle.qo_model.specs.FinalNotes.{beginning, ending, is_bound, IsBorn, NotesInOrder, Story}
-use Rattle.qo_model.specs.FinalNotesRuns.{with_act}
-use Rattle.qo_model.specs.Notes.{deed_type}
-use Rattle.qo_values.specs.Registers.{fresh_registers}
-use Rattle.qo_model.specs.Objects.{Given, given_slots, init_notes, with_attempt, with_object}
-use Rattle.qo_model.specs.Release.{edited}
-use Rattle.qo_model.specs.ReleaseNotes.{notes_on}
-use Rattle.qo_model.specs.Types.{finals, inits}
 use Rattle.qo_model.proofs.FinalNotesLemmas.{kind-live, live-of-kind, story-same, edit-kind}
 use Rattle.qo_model.proofs.StepLemmas.{found_at}
 

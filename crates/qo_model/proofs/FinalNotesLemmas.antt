@@ -1,14 +1,7 @@
 -- What keeps the notes of a board in order: releases, pins, and edits of objects.
-use Rattle.std.specs.Option.{option_map_or}
 use Rattle.std.proofs.Common.{◌≡◌, refl, ap, sym, ◌∙◌, ℕ, Bool, true, false, ◌==◌, List, [], ◌++◌, Option, Some, None, is_some, option_map, append-nil}
-use Rattle.qo_values.specs.declared.kinds.TypeId.{TypeId}
+use Rattle.qo_model.proofs.Common.{option_map_or, TypeId, Board, Record, record_of, is_live, kind_of, beginning, ending, IsBorn, NotesInOrder, Story, refs, after, edit, final_notes, finalize, let_go, unpin, Leaves, without_slots, notes_on, finals_of, NotesEnds}
 use Rattle.qo_model.specs.declared.notes.Note.{Note}
-use Rattle.qo_model.specs.Board.{Board, Record, record_of, is_live, kind_of}
-use Rattle.qo_model.specs.FinalNotes.{beginning, ending, IsBorn, NotesInOrder, Story}
-use Rattle.qo_model.specs.References.{refs}
-use Rattle.qo_model.specs.Release.{after, edit, final_notes, finalize, let_go, unpin}
-use Rattle.qo_model.specs.ReleaseInduction.{Leaves, without_slots}
-use Rattle.qo_model.specs.ReleaseNotes.{notes_on, finals_of, NotesEnds}
 use Rattle.qo_model.proofs.ReleaseScopeLemmas.{release_leaves, let_go-leaves, unpin-leaves}
 use Rattle.qo_model.proofs.ReleaseNotesLemmas.{finals-none, release_notes, let_go-notes, unpin-notes}
 use Rattle.qo_model.proofs.StepLemmas.{found-edited, is_some-map, found-birth, map-edited}

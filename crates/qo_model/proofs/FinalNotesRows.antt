@@ -1,15 +1,8 @@
 -- Worked rows of changes: a tag that is added and removed, and one that is refused.
 use Rattle.std.proofs.Common.{◌≡◌, refl, true, [], ◌∷◌, codes}
-use Rattle.qo_values.specs.declared.kinds.Act.TheVariants.{Init}
-use Rattle.qo_values.specs.declared.kinds.TypeId.TheVariants.{Tag}
-use Rattle.qo_values.specs.declared.properties.Val.TheVariants as val
+use Rattle.qo_model.proofs.Common.{Init, Tag, added, deleted, after_changes, opening_board, attached, path_down_to, drop_slot, finish, finalize, finalize_within, let_go, pin, unpin, point, set, types}
 use Rattle.qo_model.specs.declared.notes.Deed.TheVariants.{Did, Final}
-use Rattle.qo_model.specs.FinalNotesRuns.{added, deleted, after_changes}
-use Rattle.qo_model.specs.Opening.{opening_board}
-use Rattle.qo_model.specs.Paths.{attached, path_down_to}
-use Rattle.qo_model.specs.Release.{drop_slot, finish, finalize, finalize_within, let_go, pin, unpin}
-use Rattle.qo_model.specs.Changes.{point, set}
-use Rattle.qo_model.specs.Types.{types}
+use Rattle.qo_values.specs.declared.properties.Val.TheVariants as val
 use Rattle.qo_model.proofs.RowTerms.{note}
 
 -- the one tag ends, and the next has another birth

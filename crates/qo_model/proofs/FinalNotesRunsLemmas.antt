@@ -1,21 +1,11 @@
 -- Final notes over lists of changes, from the opening board on.
-use Rattle.std.specs.List.{AllByRecursion, list_any}
-use Rattle.std.specs.Option.{option_map_or}
 use Rattle.std.proofs.Common.{◌≡◌, refl, ap, ap₂, sym, ◌∙◌, ℕ, zero, suc, ◌<◌, ◌≤◌, leb, Bool, true, false, ◌||◌, ◌==◌, if◌then◌else◌, List, [], ◌∷◌, ◌++◌, map, Option, Some, None, is_some, arith, rules}
-use Rattle.std.proofs.lemmas.Bool.{eqb-true}
-use Rattle.std.proofs.lemmas.List.Folds.{list_any-append}
-use Rattle.qo_values.specs.declared.kinds.Act.{Act}
-use Rattle.qo_values.specs.declared.kinds.Act.TheVariants.{Init, Realize, Unrealize, Enter, Hold, Exit, Pre, Update}
-use Rattle.qo_values.specs.declared.kinds.TypeId.{TypeId}
+use Rattle.qo_model.proofs.Common.{AllByRecursion, list_any, option_map_or, Act, Init, Realize, Unrealize, Enter, Hold, Exit, Pre, Update, TypeId, Board, Record, is_live, kind_of, beginning, ending, is_bound, is_final, FinalOnce, IsBorn, NotesInOrder, Story, Change, after_changes, changed, FinalOnceLaw, opening_board, notes_on, inits}
 use Rattle.qo_model.specs.declared.notes.Deed.{Deed}
 use Rattle.qo_model.specs.declared.notes.Deed.TheVariants.{Did, Final}
 use Rattle.qo_model.specs.declared.notes.Note.{Note}
-use Rattle.qo_model.specs.Board.{Board, Record, is_live, kind_of}
-use Rattle.qo_model.specs.FinalNotes.{beginning, ending, is_bound, is_final, FinalOnce, IsBorn, NotesInOrder, Story}
-use Rattle.qo_model.specs.FinalNotesRuns.{Change, after_changes, changed, FinalOnceLaw}
-use Rattle.qo_model.specs.Opening.{opening_board}
-use Rattle.qo_model.specs.ReleaseNotes.{notes_on}
-use Rattle.qo_model.specs.Types.{inits}
+use Rattle.std.proofs.lemmas.Bool.{eqb-true}
+use Rattle.std.proofs.lemmas.List.Folds.{list_any-append}
 use Rattle.qo_model.proofs.FinalNotesLemmas.{finalize-keeps, kind-live, let_go-keeps, live-of-kind, unpin-keeps}
 use Rattle.qo_model.proofs.FinalNotesChangesLemmas.{changed-keeps}
 use Rattle.qo_model.proofs.FinalNotesGrowthLemmas.{act-keeps}

@@ -1,13 +1,8 @@
 -- The first slot of a name, and what a change of one slot leaves of what is read by names.
 use Rattle.std.proofs.Common.{◌≡◌, refl, ap, subst, sym, ◌∙◌, ℕ, zero, suc, ◌+◌, Bool, true, false, List, [], ◌∷◌, find, slice_get, Option, Some, None, option_map, option_and_then, arith}
-use Rattle.std.specs.Option.{option_map_or}
-use Rattle.std.specs.Str.{bytes_eq}
+use Rattle.qo_model.proofs.Common.{option_map_or, bytes_eq, Record, Slot, changed_at, index_from, is_named}
 use Rattle.std.proofs.lemmas.Option.{same_Some}
 use Rattle.std.proofs.lemmas.Slice.Eq.{bytes_eq-Decides}
-use Rattle.qo_model.specs.Board.{Record, Slot}
-use Rattle.qo_model.specs.Changes.{changed_at}
-use Rattle.qo_model.specs.Objects.{index_from}
-use Rattle.qo_model.specs.Unplug.{is_named}
 
 -- the slots of an object, where it is there, and the one of a name
 abbrev pub slots_in : Option Record → List (List ℕ × Slot)

@@ -1,12 +1,7 @@
 -- Children and births: on a board without plain values, after a search, and by the order of births.
 use Rattle.std.proofs.Common.{◌≡◌, refl, ap, ap₂, ℕ, ◌<◌, Bool, true, false, List, [], ◌∷◌, map, ◌==◌, eqb, find, arith}
-use Rattle.std.specs.List.{cons_option, AllByRecursion}
-use Rattle.std.specs.Option.{option_map_or}
+use Rattle.qo_model.proofs.Common.{cons_option, AllByRecursion, option_map_or, Board, Record, Slot, plain, child, strong, weak, alias, among, Leads, births, child_of, children_in, children_of, graph_of, without_value, without_values}
 use Rattle.std.proofs.lemmas.Bool.{eqb-true}
-use Rattle.qo_model.specs.Board.{Board, Record, Slot, plain, child, strong, weak, alias}
-use Rattle.qo_model.specs.Depth.{among, Leads}
-use Rattle.qo_model.specs.Paths.{births, child_of, children_in, children_of}
-use Rattle.qo_model.specs.SoundGraph.{graph_of, without_value, without_values}
 use Rattle.qo_model.proofs.DepthLemmas.{Leads-up}
 
 -- what is among numbers above n is above n

@@ -1,19 +1,7 @@
 -- Worked rows of removals that are asked for: refused, let go, and all let go where the board is reset.
 use Rattle.std.proofs.Common.{◌≡◌, refl, ℕ, Bool, true, false, List, [], ◌∷◌, map, replicate, codes, Option, Some, None}
-use Rattle.qo_values.specs.declared.codes.Code.TheVariants.{E33, E34, E35, E44}
-use Rattle.qo_model.specs.Board.{Board, DeviceEvent, Notice}
-use Rattle.qo_model.specs.Changes.{add, cut, set}
-use Rattle.qo_model.specs.Clocks.{acted, clocks_below, period}
-use Rattle.qo_model.specs.Devices.{depth_of, is_going}
-use Rattle.qo_model.specs.Hotplug.{asked, asked_of, completed, refused, reset_whole}
-use Rattle.qo_model.specs.Opening.{opening_board}
-use Rattle.qo_model.specs.Paths.{attached, births, path_down_to}
-use Rattle.qo_model.specs.Plug.{plug}
-use Rattle.qo_model.specs.Release.{drop_slot, finish, finalize, finalize_within, let_go, pin, unpin}
-use Rattle.qo_model.specs.Reset.{held, plugged, post, pulse, released}
-use Rattle.qo_model.specs.Types.{types}
-use Rattle.qo_model.specs.Unplug.{apart_within, detach, unrealize}
-use Rattle.qo_values.specs.Placing.{least}
+use Rattle.qo_model.proofs.Common.{E33, E34, E35, E44, Board, DeviceEvent, Notice, add, cut, set, acted, clocks_below, period, depth_of, is_going, asked, asked_of, completed, refused, reset_whole, opening_board, attached, births, path_down_to, plug, drop_slot, finish, finalize, finalize_within, let_go, pin, unpin, plugged, post, pulse, released, types, apart_within, detach, unrealize, least}
+use Rattle.qo_model.specs.Reset.{held}
 
 -- a notice, as whether it is of plugging in, and its birth; an event, as whether it is of the end, its id and its path
 abbrev said : Notice → Bool × ℕ

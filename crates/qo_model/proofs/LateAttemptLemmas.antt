@@ -1,22 +1,10 @@
 -- A device that was made, and acted and was noted while it stood nowhere: it leaves exactly its notes where it is given up.
 use Rattle.std.proofs.Common.{◌≡◌, refl, ap, ap₂, sym, subst, ◌∙◌, ℕ, suc, ◌+◌, ◌<◌, ◌≤◌, Bool, true, false, ◌==◌, List, [], ◌∷◌, ◌++◌, map, filter, length, append_assoc, append-nil, Some, None, arith}
-use Rattle.std.specs.Prelude.{if◌then◌else◌}
-use Rattle.std.specs.List.{AllByRecursion, flat_map}
+use Rattle.qo_model.proofs.Common.{if◌then◌else◌, AllByRecursion, Act, Realize, Unrealize, Enter, Hold, Exit, TypeId, Board, Record, Slot, plain, child, strong, weak, alias, fresh, acted, with_act_on, ending, acted_all, begun_notes, born_from, bus_births, device_last, did, ended_notes, is_bus, passed, passed_notes, plug_attempt, types_in, with_ended, refs, refs_in, edited, final_notes, finalize, count, slots_of}
+use Rattle.qo_model.specs.declared.notes.Note.{Note}
+use Rattle.std.specs.List.{flat_map}
 use Rattle.std.proofs.lemmas.List.{map-append}
 use Rattle.std.proofs.lemmas.List.Sums.{sum_by-cons, sum_by-append}
-use Rattle.qo_values.specs.declared.kinds.Act.{Act}
-use Rattle.qo_values.specs.declared.kinds.Act.TheVariants.{Realize, Unrealize, Enter, Hold, Exit}
-use Rattle.qo_values.specs.declared.kinds.TypeId.{TypeId}
-use Rattle.qo_model.specs.declared.notes.Note.{Note}
-use Rattle.qo_model.specs.Board.{Board, Record, Slot, plain, child, strong, weak, alias}
-use Rattle.qo_model.specs.Changes.{fresh}
-use Rattle.qo_model.specs.Clocks.{acted, with_act_on}
-use Rattle.qo_model.specs.FinalNotes.{ending}
-use Rattle.qo_model.specs.Plug.{acted_all, begun_notes, born_from, bus_births, device_last, did, ended_notes, is_bus, passed, passed_notes, plug_attempt, types_in, with_ended}
-use Rattle.qo_model.specs.References.{refs, refs_in}
-use Rattle.qo_model.specs.Release.{edited, final_notes, finalize}
-use Rattle.qo_model.specs.Reset.{count}
-use Rattle.qo_model.specs.Types.{slots_of}
 use Rattle.qo_model.proofs.AttemptLemmas.{BareSlot, IsStar, LowRecord, attempt-ends, kids-unheld, pins-apart, records-edited, records-unheld, star-kids, star-unheld}
 use Rattle.qo_model.proofs.DraftEndsLemmas.{IsDraft, add-suc, born-length, ended-push, kids-ended, kids_from, kinds_in}
 

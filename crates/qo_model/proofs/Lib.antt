@@ -1,10 +1,12 @@
 pub mod AmongLemmas
 pub mod AttemptLemmas
+pub mod BoundLemmas
 pub mod ClockFitLemmas
 pub mod ClockPropertyLemmas
 mod ClockPropertyRows
 pub mod ClockScopeLemmas
 pub mod ComesToLemmas
+pub mod Common
 pub mod CycleLemmas
 pub mod DepthLemmas
 mod DeviceRows
@@ -29,6 +31,8 @@ pub mod ReleaseNotesLemmas
 mod ObjectRows
 mod ReleaseRows
 pub mod ReleaseRulesLemmas
+pub mod ReleaseWorkLemmas
+pub mod SparesLemmas
 mod Rows
 pub mod RowTerms
 pub mod ChangeScopeLemmas

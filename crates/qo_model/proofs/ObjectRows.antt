@@ -1,21 +1,8 @@
 -- Worked rows of the commands on objects: tags that link to each other, removed and severed.
 use Rattle.std.proofs.Common.{◌≡◌, refl, ℕ, List, [], ◌∷◌, map, drop, ◌++◌, decimal, codes, true, Option, Some, None, Ok, Err}
-use Rattle.qo_values.specs.declared.codes.Code.{Code}
-use Rattle.qo_values.specs.declared.codes.Code.TheVariants.{E15, E17, E18, E19, E20, E21, E22, E23, E24, E33, E50}
-use Rattle.qo_values.specs.declared.kinds.TypeId.TheVariants.{Tag}
-use Rattle.qo_values.specs.declared.properties.Val.{Val}
-use Rattle.qo_values.specs.declared.properties.Val.TheVariants as val
-use Rattle.qo_values.specs.declared.kinds.Act.TheVariants.{Init}
+use Rattle.qo_model.proofs.Common.{Code, E15, E17, E18, E19, E20, E21, E22, E23, E24, E33, E50, Tag, Val, Init, Board, Record, point, set, Given, detached, object_add, object_del, sever, opening_board, attached, births, path_down_to, value_of, write, refs, drop_slot, finish, finalize, finalize_within, let_go, pin, unpin, types}
 use Rattle.qo_model.specs.declared.notes.Deed.TheVariants.{Did, Final}
-use Rattle.qo_model.specs.Board.{Board, Record}
-use Rattle.qo_model.specs.Changes.{point, set}
-use Rattle.qo_model.specs.Objects.{Given, detached, object_add, object_del, sever}
-use Rattle.qo_model.specs.Opening.{opening_board}
-use Rattle.qo_model.specs.Paths.{attached, births, path_down_to}
-use Rattle.qo_model.specs.Properties.{value_of, write}
-use Rattle.qo_model.specs.References.{refs}
-use Rattle.qo_model.specs.Release.{drop_slot, finish, finalize, finalize_within, let_go, pin, unpin}
-use Rattle.qo_model.specs.Types.{types}
+use Rattle.qo_values.specs.declared.properties.Val.TheVariants as val
 use Rattle.qo_model.proofs.RowTerms.{note}
 
 -- a tag of a name

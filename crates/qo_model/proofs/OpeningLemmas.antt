@@ -1,10 +1,6 @@
 -- The opening board is sound.
 use Rattle.std.proofs.Common.{refl, rules}
-use Rattle.std.specs.List.{IsDistinct}
-use Rattle.qo_model.specs.Types.{types}
-use Rattle.qo_model.specs.Opening.{opening_board}
-use Rattle.qo_model.specs.SoundGraph.{graph_of}
-use Rattle.qo_model.specs.Laws.{OpeningLaw}
+use Rattle.qo_model.proofs.Common.{IsDistinct, types, opening_board, graph_of, OpeningLaw}
 use Rattle.qo_model.proofs.GraphLemmas.{HasLater, none_round-from_later}
 
 pub opening_sound : OpeningLaw

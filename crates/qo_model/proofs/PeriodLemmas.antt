@@ -1,21 +1,13 @@
 -- The period of a clock that goes by another is by that one's period, on every board, also where sources lead round.
 use Rattle.std.proofs.Common.{◌≡◌, refl, ap, subst, sym, ◌∙◌, ℕ, zero, suc, ◌+◌, ◌*◌, ◌/◌, ◌≤◌, ◌||◌, Bool, true, false, cond, eqb, nat_eq, List, [], ◌∷◌, map, length, find, Option, Some, None, option_map, unwrap_or, codes, arith}
+use Rattle.qo_model.proofs.Common.{nat_eq_equiv, AllByRecursion, IsDistinct, option_map_or, bytes_eq, Board, Record, Slot, child_period, div_of, mul_of, own_period, period, period_turn, scaled, scaled_by, source_of, among, by_depth, leads, Leads, one, more, number_in, plain_in, PeriodsLaw, births}
 use Rattle.std.specs.Prelude.{option_and_then}
-use Rattle.std.specs.Cmp.{nat_eq_equiv}
-use Rattle.std.specs.List.{AllByRecursion, IsDistinct}
-use Rattle.std.specs.Option.{option_map_or}
-use Rattle.std.specs.Str.{bytes_eq}
 use Rattle.std.proofs.Math.Nat.{zero-div}
 use Rattle.std.proofs.lemmas.Bool.{eq-eqb, eqb-true}
 use Rattle.std.proofs.lemmas.Bool.Decides.{nat_tests}
 use Rattle.std.proofs.lemmas.Map.Made.{length-le_from_is_member}
 use Rattle.std.proofs.lemmas.Option.{same_Some}
-use Rattle.qo_model.specs.Board.{Board, Record, Slot}
-use Rattle.qo_model.specs.Clocks.{child_period, div_of, mul_of, own_period, period, period_turn, scaled, scaled_by, source_of, weak_in}
-use Rattle.qo_model.specs.Depth.{among, by_depth, leads, Leads, one, more}
-use Rattle.qo_model.specs.Devices.{number_in, plain_in}
-use Rattle.qo_model.specs.Laws.{PeriodsLaw}
-use Rattle.qo_model.specs.Paths.{births}
+use Rattle.qo_model.specs.Clocks.{weak_in}
 use Rattle.qo_model.proofs.DepthLemmas.{Leads-push}
 use Rattle.qo_model.proofs.AmongLemmas.{among-apart}
 

@@ -1,12 +1,7 @@
 -- Pins: put in order and taken again, and left by what is released.
 use Rattle.std.proofs.Common.{nat_eq, ◌≡◌, refl, ap, sym, subst, ◌∙◌, ℕ, ◌≤◌, leb, Bool, true, false, ◌==◌, eqb, List, [], ◌∷◌, Option, Some, None, arith}
-use Rattle.std.specs.Bool.{⊤}
-use Rattle.std.specs.List.{AllByRecursion, list_any}
+use Rattle.qo_model.proofs.Common.{⊤, AllByRecursion, list_any, Board, severed_from, refs, after, finalize, put_in_order, unpin, without_first, without_pin}
 use Rattle.std.proofs.lemmas.Bool.{eqb-true, eq-eqb}
-use Rattle.qo_model.specs.Board.{Board}
-use Rattle.qo_model.specs.Objects.{severed_from}
-use Rattle.qo_model.specs.References.{refs}
-use Rattle.qo_model.specs.Release.{after, finalize, put_in_order, unpin, without_first, without_pin}
 use Rattle.qo_model.proofs.ComesToLemmas.{severed-comes}
 use Rattle.qo_model.proofs.ReleaseScopeLemmas.{let_go-leaves, release_leaves}
 

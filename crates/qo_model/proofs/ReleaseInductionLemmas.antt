@@ -1,11 +1,9 @@
 -- Release induction: what each turn of the work keeps, a release keeps.
 use Rattle.std.proofs.Common.{◌≡◌, refl, sym, subst, ◌∙◌, ℕ, zero, suc, ◌+◌, ◌<◌, ◌≤◌, Bool, true, false, ◌==◌, List, ◌∷◌, Option, Some, None, arith}
+use Rattle.qo_model.proofs.Common.{Board, Slot, slot_at, refs, drop_slot, next_index, finish, holding, width, after, from_index, finalize, KeepsRelease, Keeps}
 use Rattle.std.proofs.lemmas.Bool.{eqb-true}
 use Rattle.std.proofs.lemmas.Option.{same_Some}
-use Rattle.qo_model.specs.Board.{Board, Slot, slot_at, held}
-use Rattle.qo_model.specs.References.{refs}
-use Rattle.qo_model.specs.Release.{drop_slot, next_index, finish, holding, width, after, from_index, finalize}
-use Rattle.qo_model.specs.ReleaseInduction.{KeepsRelease, Keeps}
+use Rattle.qo_model.specs.Board.{held}
 use Rattle.qo_model.proofs.ReleaseLemmas.{drop-holding, drop-falls, after-holding, place-falls, past-width, from_index-none, from_index-some, finalize-shrinks, finalize-is}
 
 -- a number that is not 0

@@ -1,10 +1,9 @@
 -- The law of release: one finalization is each slot let go, in order, and the end of the object, where what comes free is finalized by the same rule.
 use Rattle.std.proofs.Common.{◌≡◌, refl, ap, sym, ◌∙◌, ℕ, zero, suc, ◌+◌, ◌<◌, ◌≤◌, Bool, true, false, not, ◌==◌, List, [], ◌∷◌, map, length, find, slice_get, sum_by, count_by, Option, Some, None, is_some, arith}
+use Rattle.qo_model.proofs.Common.{Board, Record, Slot, plain, child, strong, weak, alias, slot_at, refs, without_hold, with_dropped, drop_slot, next_index, forgotten_in, forgotten, finish, holding, width, after, from_index, finalize_by, finalize_within, finalize}
 use Rattle.std.proofs.lemmas.Option.{slice_get_within}
 use Rattle.std.proofs.lemmas.List.Sums.{sum_by-cons}
-use Rattle.qo_model.specs.Board.{Board, Record, Slot, plain, child, strong, weak, alias, slot_at, held}
-use Rattle.qo_model.specs.References.{refs}
-use Rattle.qo_model.specs.Release.{without_hold, with_dropped, drop_slot, next_index, forgotten_in, forgotten, finish, holding, width, after, from_index, finalize_by, finalize_within, finalize}
+use Rattle.qo_model.specs.Board.{held}
 use Rattle.qo_model.proofs.EditLemmas.{sum-held, one_some, held-forgotten, sum-edit_le, sum-edit_lt, sum-filter_le, left_of, sum-without_hold, sum-without_hold_le, one_held, left-held, one_slot, left-slot, length-sum, StandsAt, stands-at}
 
 -- the two numbers of one record

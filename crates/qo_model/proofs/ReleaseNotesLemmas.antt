@@ -1,19 +1,12 @@
 -- A release notes the end of each object that it ends, once, and nothing else.
-use Rattle.std.specs.List.{list_any}
 use Rattle.std.proofs.Common.{nat_eq, ◌≡◌, refl, ap, ap₂, sym, ◌∙◌, ℕ, Bool, true, false, ◌==◌, List, [], ◌∷◌, ◌++◌, map, Option, Some, None, is_some, option_map, append-nil, arith}
-use Rattle.std.specs.Option.{option_map_or}
-use Rattle.std.proofs.lemmas.Bool.{eqb-true, eq-eqb}
-use Rattle.std.proofs.lemmas.List.Elements.{filter-append}
-use Rattle.qo_values.specs.declared.kinds.TypeId.{TypeId}
+use Rattle.qo_model.proofs.Common.{list_any, option_map_or, TypeId, Board, Record, Slot, record_of, is_live, slot_at, finals, after, let_go, unpin, without_pin, edited, with_dropped, drop_slot, forgotten, finish, finalize, final_notes, KeepsRelease, FinalNotesLaw, notes_on, finals_of, NotesEnds}
 use Rattle.qo_model.specs.declared.notes.Deed.{Deed}
 use Rattle.qo_model.specs.declared.notes.Deed.TheVariants.{Final}
 use Rattle.qo_model.specs.declared.notes.Note.{Note}
-use Rattle.qo_model.specs.Board.{Board, Record, Slot, record_of, is_live, slot_at, held}
-use Rattle.qo_model.specs.Types.{finals}
-use Rattle.qo_model.specs.Release.{after, let_go, unpin, without_pin, edited, with_dropped, drop_slot, forgotten, finish, finalize, final_notes}
-use Rattle.qo_model.specs.ReleaseInduction.{KeepsRelease}
-use Rattle.qo_model.specs.Laws.{FinalNotesLaw}
-use Rattle.qo_model.specs.ReleaseNotes.{notes_on, finals_of, NotesEnds}
+use Rattle.std.proofs.lemmas.Bool.{eqb-true, eq-eqb}
+use Rattle.std.proofs.lemmas.List.Elements.{filter-append}
+use Rattle.qo_model.specs.Board.{held}
 use Rattle.qo_model.proofs.ReleaseInductionLemmas.{release_keeps, after_keeps}
 use Rattle.qo_model.proofs.StepLemmas.{drop-record, drop-live, finish-record, finish-live, found-birth}
 

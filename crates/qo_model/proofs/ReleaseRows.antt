@@ -1,14 +1,7 @@
 -- Worked rows of release: two devices that hold each other, let go one after the other, and then severed.
 use Rattle.std.proofs.Common.{◌≡◌, refl, ℕ, List, [], ◌∷◌, ◌++◌, map, codes, true, ◌==◌, if◌then◌else◌, Some, None}
-use Rattle.std.specs.Str.{bytes_eq}
-use Rattle.qo_values.specs.declared.kinds.TypeId.TheVariants.{Object, Device, SlotDevice, SlotUart, Clock, Tag}
+use Rattle.qo_model.proofs.Common.{bytes_eq, Object, Device, SlotDevice, SlotUart, Clock, Tag, Board, Record, Slot, strong, weak, slot_named, opening_board, opening_records, fresh_record, slots_with, with_child, births, refs, drop_slot, finish, finalize, finalize_within, let_go, pin, unpin, types}
 use Rattle.qo_model.specs.declared.notes.Deed.TheVariants.{Final}
-use Rattle.qo_model.specs.Board.{Board, Record, Slot, strong, weak, slot_named}
-use Rattle.qo_model.specs.Opening.{opening_board, opening_records, fresh_record, slots_with, with_child}
-use Rattle.qo_model.specs.Paths.{births}
-use Rattle.qo_model.specs.References.{refs}
-use Rattle.qo_model.specs.Release.{drop_slot, finish, finalize, finalize_within, let_go, pin, unpin}
-use Rattle.qo_model.specs.Types.{types}
 
 -- an object whose slot of a name is another
 abbrev with_slot : List ℕ → Slot → Record → Record

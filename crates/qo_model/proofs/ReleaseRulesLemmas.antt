@@ -1,12 +1,9 @@
 -- The rules of release have one result, and this is what `finalize` gives.
 use Rattle.std.proofs.Common.{◌≡◌, refl, ap, sym, subst, ◌∙◌, ℕ, zero, suc, ◌+◌, ◌<◌, ◌≤◌, Bool, true, false, ◌==◌, Option, Some, None, arith}
+use Rattle.qo_model.proofs.Common.{Board, Slot, slot_at, refs, drop_slot, next_index, finish, holding, width, after, from_index, finalize, ReleaseLaw, Finalizes, SlotsFrom, all_slots, past, kept, freed}
 use Rattle.std.proofs.lemmas.Bool.{eqb-true, eq-eqb}
 use Rattle.std.proofs.lemmas.Option.{same_Some}
-use Rattle.qo_model.specs.Board.{Board, Slot, slot_at, held}
-use Rattle.qo_model.specs.References.{refs}
-use Rattle.qo_model.specs.Release.{drop_slot, next_index, finish, holding, width, after, from_index, finalize}
-use Rattle.qo_model.specs.Laws.{ReleaseLaw}
-use Rattle.qo_model.specs.ReleaseRules.{Finalizes, SlotsFrom, all_slots, past, kept, freed}
+use Rattle.qo_model.specs.Board.{held}
 use Rattle.qo_model.proofs.ReleaseLemmas.{drop-holding, drop-falls, after-holding, place-falls, past-width, from_index-none, from_index-some, finalize-shrinks, finalize-is, slots_from, slots_from-none, slots_from-some}
 use Rattle.qo_model.proofs.ReleaseInductionLemmas.{above-zero}
 

@@ -1,16 +1,10 @@
 -- What a release leaves as it was.
-use Rattle.std.specs.List.{list_any}
 use Rattle.std.proofs.Common.{nat_eq, ◌≡◌, refl, ap, ap₂, sym, ◌∙◌, ℕ, Bool, true, false, cond, not, ◌&&◌, ◌==◌, eqb, List, [], ◌∷◌, ◌++◌, filter, Option, Some, None, option_map, option_and_then, option_to_list, append_assoc, append-nil}
-use Rattle.std.specs.Option.{option_map_or}
+use Rattle.qo_model.proofs.Common.{list_any, option_map_or, Slot, slot_at, Board, Record, record_of, is_live, DeviceEvent, among, births, after, let_go, unpin, without_pin, edited, with_dropped, drop_slot, forgotten, finish, finalize, final_notes, deleted_event, LeavesLaw, KeepsRelease, without_slots, Leaves}
+use Rattle.qo_model.specs.declared.notes.Note.{Note}
 use Rattle.std.proofs.lemmas.Bool.{eq-eqb}
 use Rattle.std.proofs.Math.Bool.{or-true}
-use Rattle.qo_model.specs.Board.{Slot, slot_at, held, Board, Record, record_of, is_live, DeviceEvent}
-use Rattle.qo_model.specs.Depth.{among}
-use Rattle.qo_model.specs.Paths.{births}
-use Rattle.qo_model.specs.Release.{after, let_go, unpin, without_pin, edited, with_dropped, drop_slot, forgotten, finish, finalize, final_notes, deleted_event}
-use Rattle.qo_model.specs.Laws.{LeavesLaw}
-use Rattle.qo_model.specs.ReleaseInduction.{KeepsRelease, without_slots, Leaves}
-use Rattle.qo_model.specs.declared.notes.Note.{Note}
+use Rattle.qo_model.specs.Board.{held}
 use Rattle.qo_model.proofs.ReleaseInductionLemmas.{release_keeps, after_keeps}
 use Rattle.qo_model.proofs.StepLemmas.{live-among, drop-record, drop-live, finish-record, finish-live, drop-births, finish-births}
 

@@ -1,12 +1,8 @@
 -- What the worked rows say: who is wanted, the numbers of clocks written one after another, and notes as words.
 use Rattle.std.proofs.Common.{ℕ, List, Some, None, [], Result, Ok, Err}
-use Rattle.qo_values.specs.declared.codes.Code.{Code}
+use Rattle.qo_model.proofs.Common.{Code, Board, clock_scaled, clock_set, deed_word, Wanted}
 use Rattle.qo_model.specs.declared.notes.Deed.{Deed}
 use Rattle.qo_model.specs.declared.notes.Note.{Note}
-use Rattle.qo_model.specs.Board.{Board}
-use Rattle.qo_model.specs.ClockChanges.{clock_scaled, clock_set}
-use Rattle.qo_model.specs.Notes.{deed_word}
-use Rattle.qo_model.specs.Plug.{Wanted}
 
 -- a note on an object, and a note as its word and its birth
 abbrev pub note : ℕ → Deed → Note

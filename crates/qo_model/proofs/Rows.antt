@@ -1,19 +1,9 @@
 -- Worked rows: what the table of types and the opening board give, by computing.
-use Rattle.std.proofs.Common.{◌≡◌, refl, ℕ, zero, suc, List, [], ◌∷◌, ◌++◌, length, map, filter, codes}
-use Rattle.std.proofs.Common.{true, false, not, ◌&&◌, if◌then◌else◌, Option, Some, None, option_map}
-use Rattle.std.specs.Str.{bytes_eq}
-use Rattle.qo_values.specs.Kinds.{type_name}
-use Rattle.qo_values.specs.declared.kinds.TypeId.{TypeId}
-use Rattle.qo_values.specs.declared.kinds.TypeId.TheVariants.{Object, Container, Machine, Device, SlotDevice, SlotUart, SlotTimer, SlotBridge, MemDimm}
-use Rattle.qo_values.specs.declared.kinds.TypeId.TheVariants.{Bus, SlotBus, MemBus, Clock, MemoryBackend, MemoryBackendRam, Tag}
-use Rattle.qo_model.specs.Board.{Board}
-use Rattle.qo_model.specs.Listing.{listing}
-use Rattle.qo_model.specs.Opening.{opening_board, opening_records, fresh_record, slots_with}
-use Rattle.qo_model.specs.Paths.{canonical, path_down_to, attached, resolve_absolute, components, walk}
-use Rattle.qo_model.specs.References.{refs}
-use Rattle.qo_model.specs.Types.{TypeInfo, type_named, types, type_line, chain, is_a, slots_of, inits, finals}
-use Rattle.qo_model.specs.RowNames.{property_name}
+use Rattle.std.proofs.Common.{rules, ◌≡◌, refl, ℕ, zero, suc, List, [], ◌∷◌, ◌++◌, length, map, filter, codes}
+use Rattle.qo_model.proofs.Common.{bytes_eq, type_name, TypeId, Object, Container, Device, SlotDevice, SlotUart, SlotBridge, MemDimm, SlotBus, Clock, MemoryBackend, MemoryBackendRam, Tag, Board, listing, opening_board, opening_records, fresh_record, slots_with, canonical, path_down_to, attached, resolve_absolute, components, walk, refs, TypeInfo, type_named, types, type_line, chain, is_a, slots_of, inits, finals, property_name}
 use Rattle.qo_model.specs.declared.properties.Property.{Property}
+use Rattle.std.proofs.Common.{true, false, not, ◌&&◌, if◌then◌else◌, Option, Some, None, option_map}
+use Rattle.qo_values.proofs.EachLemmas.{each}
 
 -- the lines of the types
 lines-of-types :
@@ -54,22 +44,7 @@ chain_named (suc steps) name =
 
 chains-by-names : (t : TypeId) → chain_named (length types) (type_name t) ≡ chain t
 unfolding types
-chains-by-names Object = refl
-chains-by-names Container = refl
-chains-by-names Machine = refl
-chains-by-names Device = refl
-chains-by-names SlotDevice = refl
-chains-by-names SlotUart = refl
-chains-by-names SlotTimer = refl
-chains-by-names SlotBridge = refl
-chains-by-names MemDimm = refl
-chains-by-names Bus = refl
-chains-by-names SlotBus = refl
-chains-by-names MemBus = refl
-chains-by-names Clock = refl
-chains-by-names MemoryBackend = refl
-chains-by-names MemoryBackendRam = refl
-chains-by-names Tag = refl
+chains-by-names = each (λ (t : TypeId). chain_named (length types) (type_name t) ≡ chain t) (search rules)
 
 bridge-is-resettable : is_a SlotBridge (codes "resettable") ≡ true
 unfolding types

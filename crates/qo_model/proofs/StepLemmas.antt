@@ -1,14 +1,10 @@
 -- What a slot let go and the end of an object do to look-ups and to references.
-use Rattle.std.specs.Option.{option_map_or}
 use Rattle.std.proofs.Common.{eqb, ◌≡◌, refl, ap, ap₂, sym, ◌∙◌, ℕ, zero, suc, ◌<◌, ◌≤◌, Bool, true, false, cond, not, ◌&&◌, ◌==◌, List, [], ◌∷◌, map, filter, find, slice_get, sum_by, Option, Some, None, is_some, option_map, arith}
+use Rattle.qo_model.proofs.Common.{option_map_or, Board, Record, Slot, plain, child, strong, weak, alias, record_of, is_live, slot_at, among, births, refs, refs_in, holds_it, edited, with_dropped, drop_slot, forgotten_in, forgotten, finish}
 use Rattle.std.proofs.lemmas.Bool.{eqb-true, eq-eqb}
 use Rattle.std.proofs.lemmas.Option.{same_Some}
 use Rattle.std.proofs.lemmas.List.Sums.{sum_by-cons}
-use Rattle.qo_model.specs.Board.{Board, Record, Slot, plain, child, strong, weak, alias, record_of, is_live, slot_at, held}
-use Rattle.qo_model.specs.Depth.{among}
-use Rattle.qo_model.specs.Paths.{births}
-use Rattle.qo_model.specs.References.{refs, refs_in, holds_it}
-use Rattle.qo_model.specs.Release.{edited, with_dropped, drop_slot, forgotten_in, forgotten, finish}
+use Rattle.qo_model.specs.Board.{held}
 use Rattle.qo_model.proofs.EditLemmas.{sum-held, one_is, held-forgotten, sum-edit_le, sum-filter_le, left_of, sum-without_hold_le, StandsAt, stands-at}
 use Rattle.qo_model.proofs.ReleaseLemmas.{found-within}
 

@@ -1,17 +1,10 @@
 -- Laws of paths: parents make a tree, and paths go along it.
 use Rattle.std.proofs.Common.{◌≡◌, refl, ap, sym, subst, ◌∙◌, ℕ, zero, suc, ◌<◌, Bool, true, false, List, [], ◌∷◌, ◌++◌, length, ◌==◌, eqb, Option, Some, None, find, option_map, is_some, arith}
-use Rattle.std.specs.Option.{option_and_then, option_to_list, option_map_or}
+use Rattle.qo_model.proofs.Common.{option_map_or, types, Board, Record, Slot, plain, child, strong, weak, alias, among, leads, IsTree, IsLocal, by_depth, opening_board, births, children_in, children_of, is_child, place_of, attached, attached_turn, path_down_to, path_turn, canonical, AllByRecursion, PassesTo, lasting, graph_of, Rises, SoundGraph, GraphFacts, PathsLaw, FrameLaw}
+use Rattle.std.specs.Option.{option_and_then, option_to_list}
 use Rattle.std.proofs.lemmas.Bool.{eqb-true, eq-eqb}
 use Rattle.std.proofs.Math.Bool.{or-true}
-use Rattle.qo_model.specs.Types.{types}
-use Rattle.qo_model.specs.Board.{Board, Record, Slot, plain, child, strong, weak, alias}
-use Rattle.qo_model.specs.Depth.{among, leads, IsTree, IsLocal, by_depth}
-use Rattle.qo_model.specs.Opening.{opening_board}
-use Rattle.qo_model.specs.Paths.{births, children_in, children_of, is_child, place_in, place_of, parent_of, attached, attached_turn, path_down_to, path_turn, canonical}
-use Rattle.std.specs.List.{AllByRecursion}
-use Rattle.qo_model.specs.SoundAliases.{PassesTo, lasting}
-use Rattle.qo_model.specs.SoundGraph.{graph_of, Rises, SoundGraph, GraphFacts}
-use Rattle.qo_model.specs.Laws.{PathsLaw, FrameLaw}
+use Rattle.qo_model.specs.Paths.{place_in, parent_of}
 use Rattle.qo_model.proofs.DepthLemmas.{Leads-back, by_objects_is}
 use Rattle.qo_model.proofs.GraphLemmas.{among-above, children_at, children_of-graph_of, births-graph_of, births_at}
 use Rattle.qo_model.proofs.StepLemmas.{is_some-map}

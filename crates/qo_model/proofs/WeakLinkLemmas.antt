@@ -1,11 +1,8 @@
 -- A release keeps that weak links see only objects that are there.
 use Rattle.std.proofs.Common.{nat_eq, ◌≡◌, refl, subst, ◌∙◌, ℕ, zero, suc, Bool, true, false, not, ◌&&◌, ◌==◌, List, [], ◌∷◌, map, filter, Option, Some, None}
-use Rattle.std.specs.List.{AllByRecursion, list_any}
+use Rattle.qo_model.proofs.Common.{AllByRecursion, list_any, Board, Record, Slot, plain, child, strong, weak, alias, is_live, slot_at, edited, emptied, without_hold, with_dropped, drop_slot, forgotten_in, forgotten, finish, after, finalize, let_go, unpin, without_pin, WeakLinksLaw, KeepsRelease, SeesOnly, WeakLinksLive}
 use Rattle.std.proofs.lemmas.Option.{same_Some}
-use Rattle.qo_model.specs.Board.{Board, Record, Slot, plain, child, strong, weak, alias, is_live, slot_at, held}
-use Rattle.qo_model.specs.Release.{edited, emptied, without_hold, with_dropped, drop_slot, forgotten_in, forgotten, finish, after, finalize, let_go, unpin, without_pin}
-use Rattle.qo_model.specs.Laws.{WeakLinksLaw}
-use Rattle.qo_model.specs.ReleaseInduction.{KeepsRelease, SeesOnly, WeakLinksLive}
+use Rattle.qo_model.specs.Board.{held}
 use Rattle.qo_model.proofs.ReleaseInductionLemmas.{release_keeps, after_keeps}
 use Rattle.qo_model.proofs.StepLemmas.{drop-live, finish-live}
 

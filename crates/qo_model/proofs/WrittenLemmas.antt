@@ -1,26 +1,15 @@
 -- What is after `qom-set`: the board as it was, the slot of the name with another value, or a link of the name with another target.
 use Rattle.std.proofs.Common.{◌≡◌, refl, ap, ◌∙◌, ℕ, ◌<◌, Bool, true, false, List, [], length, position, slice_get, Option, Some, None, Result, Ok, Err}
-use Rattle.std.specs.Prelude.{get_or, option_and_then, option_map}
-use Rattle.std.specs.Str.{bytes_eq}
-use Rattle.std.proofs.lemmas.List.Quantifiers.{position-Some}
-use Rattle.std.proofs.lemmas.Option.{slice_get-get_or}
-use Rattle.std.proofs.lemmas.Slice.Eq.{bytes_eq-Decides}
-use Rattle.qo_values.specs.Properties.{admits}
-use Rattle.qo_values.specs.declared.codes.Code.{Code}
-use Rattle.qo_values.specs.declared.kinds.TypeId.{TypeId}
-use Rattle.qo_values.specs.declared.properties.PropType.{PropType}
-use Rattle.qo_values.specs.declared.properties.Val.{Val}
-use Rattle.qo_values.specs.declared.properties.Val.TheVariants as val
-use Rattle.qo_model.specs.Board.{Board, Slot, plain, child, strong, weak, alias, kind_of, slot_at, slots_at}
-use Rattle.qo_model.specs.Changes.{set}
-use Rattle.qo_model.specs.FinalNotesRuns.{after_write}
-use Rattle.qo_model.specs.Properties.{link_target, link_written, linked, may_set, relinked, property_named, write, written, written_by}
-use Rattle.qo_model.specs.Release.{emptied}
+use Rattle.qo_model.proofs.Common.{get_or, option_map, bytes_eq, admits, Code, TypeId, PropType, Val, Board, Slot, plain, child, strong, weak, alias, kind_of, slot_at, slots_at, set, after_write, link_target, link_written, linked, may_set, relinked, property_named, write, written, written_by, emptied, child_of}
 use Rattle.qo_model.specs.declared.properties.First.{First}
 use Rattle.qo_model.specs.declared.properties.Property.{Property}
 use Rattle.qo_model.specs.declared.properties.PropertyRole.{PropertyRole}
+use Rattle.std.specs.Prelude.{option_and_then}
+use Rattle.std.proofs.lemmas.List.Quantifiers.{position-Some}
+use Rattle.std.proofs.lemmas.Option.{slice_get-get_or}
+use Rattle.std.proofs.lemmas.Slice.Eq.{bytes_eq-Decides}
+use Rattle.qo_values.specs.declared.properties.Val.TheVariants as val
 use Rattle.qo_model.specs.declared.properties.PropertyRole.TheVariants as row
-use Rattle.qo_model.specs.Paths.{child_of}
 
 -- the slots that are links to objects of a type
 pub data IsLink (t : TypeId) : Slot → Type 0 where

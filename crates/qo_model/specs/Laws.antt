@@ -11,6 +11,7 @@ use Rattle.qo_model.specs.Release.{finalize, finalize_by, final_notes, let_go, u
 use Rattle.qo_model.specs.ReleaseInduction.{Leaves, WeakLinksLive}
 use Rattle.qo_model.specs.ReleaseNotes.{NotesEnds}
 use Rattle.qo_model.specs.ReleaseRules.{Finalizes}
+use Rattle.qo_model.specs.ReleaseWork.{IsLinked, IsWork, StackTurn, thinned}
 use Rattle.qo_model.specs.Soundness.{IsSound}
 use Rattle.qo_model.specs.SoundAliases.{SoundAliases}
 use Rattle.qo_model.specs.SoundEvents.{SoundEvents}
@@ -68,6 +69,16 @@ pub record LeavesLaw : Type 0 where
   pub finalized : (b : Board) (n : ℕ) → Leaves b (finalize b n)
   pub slot_let_go : (b : Board) (owner i : ℕ) → Leaves b (let_go b owner i)
   pub unpinned : (b : Board) (n : ℕ) → Leaves (record b { pins = (unpin b n).pins }) (unpin b n)
+
+-- the work of a release, one object and place at a time, comes to the same by each turn, and what is so of the board and of the work is so again
+abbrev pub StackLaw : Type 0
+StackLaw = (b : Board) (n i : ℕ) (work : List (ℕ × ℕ)) → IsLinked b → IsWork b ((n, i) ∷ work) → StackTurn b n i work
+
+-- where no weak link sees an object that is gone, a release leaves the objects that are still there, in order, with their slots, but for the weak links to those
+-- that went, which are emptied
+abbrev pub SparesLaw : Type 0
+SparesLaw = (b : Board) (n : ℕ) → WeakLinksLive b
+    → (finalize b n).records ≡ map (thinned (is_live (finalize b n))) (filter (λ (r : Record). is_live (finalize b n) r.birth) b.records)
 
 -- where no weak link sees an object that is gone, none does after any of these
 pub record WeakLinksLaw : Type 0 where

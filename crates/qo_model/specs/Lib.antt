@@ -22,9 +22,11 @@ pub mod Plug
 pub mod Properties
 pub mod References
 pub mod Release
+pub mod ReleaseBound
 pub mod ReleaseInduction
 pub mod ReleaseNotes
 pub mod ReleaseRules
+pub mod ReleaseWork
 pub mod Reset
 pub mod RowNames
 pub mod Soundness

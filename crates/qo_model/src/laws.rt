@@ -13,7 +13,10 @@ ghost use Rattle.qo_model.specs.Laws.{
   CycleLaw,
   WeakLinksLaw,
   PeriodsLaw,
+  StackLaw,
+  SparesLaw,
 };
+ghost use Rattle.qo_model.specs.ReleaseBound.{BoundLaw};
 ghost use Rattle.qo_model.specs.ReleaseInduction.{KeepsRelease, Keeps};
 
 use std::marker::Brand;
@@ -60,6 +63,28 @@ impl Kept for Brand {
 pub fn law_release_keeps<K: Kept>()
     requires { KeepsRelease K.kept }
     ensures { Keeps K.kept }
+{}
+
+/// A release done as work on a list, whose first object lets the slot at its place go, or ends: each
+/// turn comes to the same, on a board whose births differ and whose slots name what is there, and
+/// with work on different objects that are there and to which nothing refers; and all this is so
+/// again of the board and of the work after it.
+#[tactic(auto, using(crate::proofs::ReleaseWorkLemmas::stack_lem))]
+pub fn law_stack()
+    ensures { StackLaw }
+{}
+
+/// A release leaves the objects that are still there with their slots, but for the weak links to
+/// those that went.
+#[tactic(auto, using(crate::proofs::SparesLemmas::spares_lem))]
+pub fn law_release_spares()
+    ensures { SparesLaw }
+{}
+
+/// How much a release does: what each turn leaves to do, and what it took away in all.
+#[tactic(auto, using(crate::proofs::BoundLemmas::bound_lem))]
+pub fn law_release_bound()
+    ensures { BoundLaw }
 {}
 
 /// A release leaves all but records, notes and events. It makes no object, and of an object that

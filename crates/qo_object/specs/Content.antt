@@ -9,11 +9,14 @@ use Rattle.qo_kinds.specs.Bodies.{IsBare, acted, body_of}
 use Rattle.qo_values.specs.declared.kinds.Act.{Act}
 use Rattle.qo_kinds.specs.declared.bodies.Body.{Body}
 use Rattle.qo_slots.specs.declared.keys.Key.{Key}
+use Rattle.qo_object.specs.declared.room.Side.{Side}
+use Rattle.qo_object.specs.declared.room.Work.{Work}
 use Rattle.qo_object.specs.declared.slots.Slot.{Slot}
+use Rattle.qo_object.specs.Room.{no_side, no_work}
 use Rattle.qo_object.specs.Slots.{names_of, named_in, slot_in, changed_at, let_go_at, each_changed, held, holds, names_child, is_empty_link, pointed, with_val, forgotten_in}
 
 -- its type, its slots by name in the order of adding, how often it is held from outside the tree, its body, and of a device
--- its id and the path that is kept for its end
+-- its id and the path that is kept for its end; and what others keep of it beside the tree
 pub record Content : Type 0 where
   pub kind : TypeId
   pub slots : List (List ℕ × Slot)
@@ -21,6 +24,8 @@ pub record Content : Type 0 where
   pub body : Body
   pub device_id : Option (List ℕ)
   pub kept_path : Option (List ℕ)
+  pub side : Side
+  pub work : Work
 
 -- what is so of every object: the names of its slots differ, and there are not too many slots and pins to count
 pub record IsObject (c : Content) : Type 0 where
@@ -30,7 +35,17 @@ pub record IsObject (c : Content) : Type 0 where
 
 -- an object as it was made, but for its slots and its pins
 abbrev pub as_made : TypeId → List (List ℕ × Slot) → ℕ → Content
-as_made kind slots pins = record { kind = kind; slots = slots; pins = pins; body = body_of kind; device_id = None; kept_path = None }
+as_made kind slots pins =
+    record {
+      kind = kind;
+      slots = slots;
+      pins = pins;
+      body = body_of kind;
+      device_id = None;
+      kept_path = None;
+      side = no_side;
+      work = no_work;
+    }
 
 -- a new object: no slots, held once from outside
 abbrev pub fresh : TypeId → Content
@@ -104,3 +119,10 @@ with_id id c = record c { device_id = Some id }
 
 abbrev pub with_path : List ℕ → Content → Content
 with_path path c = record c { kept_path = Some path }
+
+-- this is kept of it beside the tree, and it has this place in the work of a release
+abbrev pub with_side : Side → Content → Content
+with_side side c = record c { side = side }
+
+abbrev pub with_work : Work → Content → Content
+with_work work c = record c { work = work }

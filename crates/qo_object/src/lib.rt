@@ -8,6 +8,7 @@ mod errors;
 mod index;
 mod names;
 mod objects;
+mod room;
 mod slot_map;
 mod slots;
 
@@ -16,4 +17,5 @@ pub use errors::AddError;
 pub use names::SlotName;
 pub use objects::{Object, Remains};
 pub use qo_slots::Key as Oid;
+pub use room::{Side, Work};
 pub use slots::{Slot, SlotView};

@@ -3,6 +3,7 @@
 use crate::devices::{DeviceId, no_id};
 use crate::errors::AddError;
 use crate::names::SlotName;
+use crate::room::{Side, Work, side_at_first, work_at_first};
 use crate::slot_map::SlotMap;
 use crate::slots::{Slot, SlotView};
 use qo_kinds::{Body, KeptSet};
@@ -23,6 +24,8 @@ pub struct Object {
     body: Body,
     id: Option<DeviceId>,
     path: Option<Text>,
+    side: Side,
+    work: Work,
 }
 
 /// What has to be ended with an object: its claims, and the path that was kept for its end. It can't
@@ -51,6 +54,8 @@ impl Model for Object {
       body = o.body;
       device_id = o.id;
       kept_path = o.path;
+      side = o.side;
+      work = o.work;
     } };
 
     ghost invariant = { λ o. (length o.slots ≤ 2 ^ 32) × (o.pins ≤ 2 ^ 32) };
@@ -69,6 +74,8 @@ impl Drop for Object {
             body: _,
             id,
             path: _,
+            side: _,
+            work: _,
         } = self;
         no_id(id);
     }
@@ -82,7 +89,7 @@ impl Object {
     ghost use Rattle.qo_kinds.specs.Bodies.{MayAct, kept_of};
     ghost use Rattle.qo_object.specs.Loans.{lends_body};
     ghost use Rattle.qo_object.specs.Slots.{has_name, names_child, names_of};
-    ghost use Rattle.qo_object.specs.Content.{IsObject, acted_at, fresh, with_id, with_path, with_slot, furnished, named_at, dropped_at, empty_link_at, pointed_at, set_at, cut_at, with_pin, without_pin, forgotten, holding, is_holder, is_parent};
+    ghost use Rattle.qo_object.specs.Content.{IsObject, acted_at, fresh, with_id, with_path, with_side, with_work, with_slot, furnished, named_at, dropped_at, empty_link_at, pointed_at, set_at, cut_at, with_pin, without_pin, forgotten, holding, is_holder, is_parent};
     ghost use Rattle.qo_object.specs.declared.errors.AddError.TheVariants.{Duplicate, Memory};
 
     /// An object of a type, without slots, pinned once. It takes no memory.
@@ -96,6 +103,8 @@ impl Object {
             body: Body::of(kind),
             id: None,
             path: None,
+            side: side_at_first(),
+            work: work_at_first(),
         }
     }
 
@@ -173,6 +182,34 @@ impl Object {
         ensures { self.new ≡ with_path path self.old }
     {
         self.path = Some(path);
+    }
+
+    /// What is kept of it beside the tree. It takes no memory.
+    pub fn side(&self) -> Side
+        ensures { result ≡ self.now.side }
+    {
+        self.side
+    }
+
+    /// Keeps this of it beside the tree. It takes no memory.
+    pub fn set_side(&mut self, side: Side)
+        ensures { self.new ≡ with_side side self.old }
+    {
+        self.side = side;
+    }
+
+    /// Its place in the work of a release. It takes no memory.
+    pub fn work(&self) -> Work
+        ensures { result ≡ self.now.work }
+    {
+        self.work
+    }
+
+    /// Gives it a place in the work of a release. It takes no memory.
+    pub fn set_work(&mut self, work: Work)
+        ensures { self.new ≡ with_work work self.old }
+    {
+        self.work = work;
     }
 
     /// How many slots it has. It takes no memory.
@@ -334,6 +371,8 @@ impl Object {
             mut body,
             id,
             path,
+            side: _,
+            work: _,
         } = self;
         let kept = body.take_claims();
         Remains {

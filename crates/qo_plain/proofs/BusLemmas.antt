@@ -1,12 +1,7 @@
 -- Buses that are attached: what stands above them is counted without a bound.
 use Rattle.std.proofs.Common.{◌≡◌, refl, ap, sym, ◌∙◌, ℕ, zero, suc, ◌<◌, ◌≤◌, Bool, true, false, ◌||◌, length, Option, Some, None, option_and_then, codes, arith}
-use Rattle.std.specs.Prelude.{if◌then◌else◌}
+use Rattle.qo_model.proofs.Common.{if◌then◌else◌, MACHINE_BIRTH, Board, among, by_depth, by_objects, bridge_of, bus_above, bus_of, depth_of, depth_turn, going_turn, is_going, attached, births, is_of}
 use Rattle.std.proofs.lemmas.Option.{same_Some}
-use Rattle.qo_values.specs.declared.births.TheConstants.{MACHINE_BIRTH}
-use Rattle.qo_model.specs.Board.{Board}
-use Rattle.qo_model.specs.Depth.{among, by_depth, by_objects}
-use Rattle.qo_model.specs.Devices.{bridge_of, bus_above, bus_of, depth_of, depth_turn, going_turn, is_going}
-use Rattle.qo_model.specs.Paths.{attached, births, is_of}
 use Rattle.qo_sound.proofs.ViewLemmas.{AtRest, rest-from_sound}
 use Rattle.qo_sound_devices.specs.SoundDevices.{SoundDevices}
 use Rattle.qo_sound_devices.specs.SoundPlaces.{bridges, child_entries, HasOwner, IsHome, machines}

@@ -1,18 +1,11 @@
 -- What the types say of children: a clock, or the bus of a bridge; and what containers and the machine have besides.
 use Rattle.std.proofs.Common.{◌≡◌, ◌⊎◌, inl, inr, refl, ap, sym, subst, ◌∙◌, rules, ℕ, ◌<◌, Bool, true, false, not, ◌&&◌, cond, List, codes, Option, Some, None, option_and_then}
-use Rattle.std.specs.List.{AllByRecursion}
-use Rattle.std.specs.Str.{bytes_eq}
-use Rattle.std.proofs.lemmas.Bool.{and_parts}
-use Rattle.std.proofs.lemmas.Option.{same_Some}
-use Rattle.qo_values.specs.declared.kinds.TypeId.{TypeId}
-use Rattle.qo_values.specs.declared.kinds.TypeId.TheVariants.{Object, Container, Machine, Device, SlotDevice, SlotUart, SlotTimer, SlotBridge, MemDimm, Bus, SlotBus, MemBus, Clock, MemoryBackend, MemoryBackendRam, Tag}
-use Rattle.qo_values.specs.declared.limits.TheConstants.{BUS_SLOTS}
-use Rattle.qo_model.specs.Board.{Slot, plain, child, strong, weak, alias}
-use Rattle.qo_model.specs.Devices.{clock_name, kid_name}
-use Rattle.qo_model.specs.RowNames.{property_name}
-use Rattle.qo_model.specs.Types.{is_a, slots_of, types}
+use Rattle.qo_model.proofs.Common.{AllByRecursion, bytes_eq, TypeId, Object, Container, Machine, Device, SlotDevice, SlotUart, SlotTimer, SlotBridge, MemDimm, Bus, SlotBus, MemBus, Clock, MemoryBackend, MemoryBackendRam, Tag, BUS_SLOTS, Slot, plain, child, strong, weak, alias, clock_name, kid_name, property_name, is_a, slots_of, types}
 use Rattle.qo_model.specs.declared.properties.Property.{Property}
 use Rattle.qo_model.specs.declared.properties.PropertyRole.{PropertyRole}
+use Rattle.std.proofs.lemmas.Bool.{and_parts}
+use Rattle.std.proofs.lemmas.Option.{same_Some}
+use Rattle.qo_values.proofs.EachLemmas.{each}
 use Rattle.qo_model.specs.declared.properties.PropertyRole.TheVariants as row
 use Rattle.qo_sound.proofs.RecordLemmas.{all-both}
 use Rattle.qo_sound.proofs.TestLemmas.{clash-back}
@@ -31,22 +24,7 @@ IsHomeRow t p = is_home t (property_name p.name) (type_of_child p.role) ≡ true
 
 home-rows : (t : TypeId) → AllByRecursion (IsHomeRow t) (slots_of t)
 unfolding types
-home-rows Object = search rules
-home-rows Container = search rules
-home-rows Machine = search rules
-home-rows Device = search rules
-home-rows SlotDevice = search rules
-home-rows SlotUart = search rules
-home-rows SlotTimer = search rules
-home-rows SlotBridge = search rules
-home-rows MemDimm = search rules
-home-rows Bus = search rules
-home-rows SlotBus = search rules
-home-rows MemBus = search rules
-home-rows Clock = search rules
-home-rows MemoryBackend = search rules
-home-rows MemoryBackendRam = search rules
-home-rows Tag = search rules
+home-rows = each (λ (t : TypeId). AllByRecursion (IsHomeRow t) (slots_of t)) (search rules)
 
 pub record IsRowChild (t : TypeId) (name : List ℕ) : Type 0 where
   pub kind : TypeId
@@ -139,22 +117,7 @@ row-children t {slots} h = go (further-child t)
 -- what a user creates is no bus and no device
 pub created-apart : (t : TypeId) → is_a t (codes "user-creatable") ≡ true → (is_a t (codes "bus") ≡ false) × (is_a t (codes "device") ≡ false)
 unfolding types
-created-apart Object e = clash-back e
-created-apart Container e = clash-back e
-created-apart Machine e = clash-back e
-created-apart Device e = clash-back e
-created-apart SlotDevice e = clash-back e
-created-apart SlotUart e = clash-back e
-created-apart SlotTimer e = clash-back e
-created-apart SlotBridge e = clash-back e
-created-apart MemDimm e = clash-back e
-created-apart Bus e = clash-back e
-created-apart SlotBus e = clash-back e
-created-apart MemBus e = clash-back e
-created-apart Clock e = clash-back e
-created-apart MemoryBackend e = (refl, refl)
-created-apart MemoryBackendRam e = (refl, refl)
-created-apart Tag e = (refl, refl)
+created-apart = each (λ (t : TypeId). is_a t (codes "user-creatable") ≡ true → (is_a t (codes "bus") ≡ false) × (is_a t (codes "device") ≡ false)) (search rules)
 
 -- each entry of a kid of a bus has the name of a slot
 abbrev pub IsKidSlot : List ℕ × Slot → Type 0

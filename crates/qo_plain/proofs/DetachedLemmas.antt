@@ -1,15 +1,9 @@
 -- The law: how a device that has no buses is taken out.
 use Rattle.std.proofs.Common.{◌≡◌, refl, ap, sym, ◌∙◌, ℕ, zero, suc, Bool, true, false, List, [], ◌∷◌, filter_map, length, Option, Some, None, codes}
-use Rattle.std.specs.List.{list_any}
+use Rattle.qo_model.proofs.Common.{list_any, ANONYMOUS_BIRTH, PERIPHERAL_BIRTH, Board, Slot, plain, child, strong, weak, alias, slots_at, among, by_depth, bus_of, buses_of, kids_of, index_from, births, is_of, pin, unpin, apart_within, detach, each, is_child_slot, is_named, left_bus, left_parent, let_go_where, lost_buses, names_kid, take_where, unrealize, unrealize_turn, unrealized_bus, unrealized_device}
 use Rattle.std.proofs.lemmas.Option.{same_Some}
-use Rattle.qo_values.specs.declared.births.TheConstants.{ANONYMOUS_BIRTH, PERIPHERAL_BIRTH}
-use Rattle.qo_model.specs.Board.{Board, Slot, plain, child, strong, weak, alias, slots_at}
-use Rattle.qo_model.specs.Depth.{among, by_depth}
-use Rattle.qo_model.specs.Devices.{bus_of, buses_of, kids_of}
-use Rattle.qo_model.specs.Objects.{index_from}
-use Rattle.qo_model.specs.Paths.{births, is_of, parent_of}
-use Rattle.qo_model.specs.Release.{pin, unpin}
-use Rattle.qo_model.specs.Unplug.{apart_within, detach, each, first_of, is_child_slot, is_named, left_bus, left_parent, let_go_where, lost_buses, names_kid, take_where, unrealize, unrealize_turn, unrealized_bus, unrealized_device}
+use Rattle.qo_model.specs.Paths.{parent_of}
+use Rattle.qo_model.specs.Unplug.{first_of}
 use Rattle.qo_sound.proofs.FirmBoardLemmas.{Firm}
 use Rattle.qo_sound.proofs.TestLemmas.{clash, decide}
 use Rattle.qo_sound.proofs.ViewLemmas.{rest-from_sound}

@@ -1,18 +1,10 @@
 -- The law: how a device is taken out with all that is below it, without a bound.
 use Rattle.std.proofs.Common.{◌≡◌, refl, ap, ap₂, sym, subst, ◌∙◌, ℕ, zero, suc, ◌+◌, ◌≤◌, Bool, true, false, not, ◌&&◌, ◌||◌, ◌==◌, List, [], ◌∷◌, filter_map, slice_get, length, Option, Some, None, is_some, arith, codes}
-use Rattle.std.specs.List.{cons_option, list_any}
-use Rattle.std.specs.Option.{option_map_or}
-use Rattle.std.specs.Str.{bytes_eq}
+use Rattle.qo_model.proofs.Common.{cons_option, list_any, option_map_or, bytes_eq, ANONYMOUS_BIRTH, MACHINE_BIRTH, MEMORY_BUS_BIRTH, OBJECTS_BIRTH, PERIPHERAL_BIRTH, ROOT_BUS_BIRTH, Board, Record, Slot, plain, child, strong, weak, alias, record_of, is_live, slots_at, slot_at, among, bus_of, buses_of, clock_name, is_realized, kids_of, strong_in, index_from, births, is_child, is_of, drop_slot, let_go, pin, put_in_order, unpin, with_dropped, without_hold, apart_within, detach, drained, is_bus_child, is_child_slot, left_bus, left_parent, let_go_where, lost_bus, lost_buses, unrealize}
 use Rattle.std.proofs.lemmas.Bool.{eqb-true, false_from_ne_true}
 use Rattle.std.proofs.lemmas.Option.{same_Some}
-use Rattle.qo_values.specs.declared.births.TheConstants.{ANONYMOUS_BIRTH, MACHINE_BIRTH, MEMORY_BUS_BIRTH, OBJECTS_BIRTH, PERIPHERAL_BIRTH, ROOT_BUS_BIRTH}
-use Rattle.qo_model.specs.Board.{Board, Record, Slot, plain, child, strong, weak, alias, record_of, is_live, slots_at, slot_at}
-use Rattle.qo_model.specs.Depth.{among}
-use Rattle.qo_model.specs.Devices.{bus_of, buses_of, clock_name, is_realized, kids_of, strong_in}
-use Rattle.qo_model.specs.Objects.{index_from}
-use Rattle.qo_model.specs.Paths.{births, is_child, is_of, parent_of}
-use Rattle.qo_model.specs.Release.{drop_slot, let_go, pin, put_in_order, unpin, with_dropped, without_hold}
-use Rattle.qo_model.specs.Unplug.{apart_within, detach, drained, first_of, is_bus_child, is_child_slot, left_bus, left_parent, let_go_where, lost_bus, lost_buses, unrealize}
+use Rattle.qo_model.specs.Paths.{parent_of}
+use Rattle.qo_model.specs.Unplug.{first_of}
 use Rattle.qo_model.proofs.FirstSlotLemmas.{Found, found-at}
 use Rattle.qo_model.proofs.PinLemmas.{IsUp, put-up}
 use Rattle.qo_sound.proofs.FirmBoardLemmas.{Firm}

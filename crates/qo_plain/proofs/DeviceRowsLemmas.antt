@@ -1,22 +1,7 @@
 -- What the properties of each type of device come to.
 use Rattle.std.proofs.Common.{◌≡◌, refl, ap, sym, ◌∙◌, ℕ, suc, true, false, List, [], ◌∷◌, map, codes, Option, Some, None, option_and_then, arith}
-use Rattle.qo_values.specs.Kinds.{type_name}
-use Rattle.qo_values.specs.Registers.{fresh_registers}
-use Rattle.qo_values.specs.declared.codes.Code.TheVariants.{E18}
-use Rattle.qo_values.specs.declared.kinds.TypeId.{TypeId}
-use Rattle.qo_values.specs.declared.kinds.TypeId.TheVariants.{Object, Container, Machine, Device, SlotDevice, SlotUart, SlotTimer, SlotBridge, MemDimm, Bus, SlotBus, MemBus, Clock, MemoryBackend, MemoryBackendRam, Tag}
-use Rattle.qo_values.specs.declared.properties.Val.{Val}
+use Rattle.qo_model.proofs.Common.{type_name, fresh_registers, E18, TypeId, Object, Container, Machine, Device, SlotDevice, SlotUart, SlotTimer, SlotBridge, MemDimm, Bus, SlotBus, MemBus, Clock, MemoryBackend, MemoryBackendRam, Tag, Val, Range, Board, Record, Slot, plain, child, strong, weak, alias, child_named, Given, index_from, refusal_by, slot_given, fresh_record, slots_with, is_of, addressed_at, born_from, clocked, further_of, registers_on, property_named, is_a, slots_of, types, is_named}
 use Rattle.qo_values.specs.declared.properties.Val.TheVariants as val
-use Rattle.qo_values.specs.declared.ranges.Range.{Range}
-use Rattle.qo_model.specs.Board.{Board, Record, Slot, plain, child, strong, weak, alias}
-use Rattle.qo_model.specs.Devices.{child_named}
-use Rattle.qo_model.specs.Objects.{Given, index_from, refusal_by, slot_given}
-use Rattle.qo_model.specs.Opening.{fresh_record, slots_with}
-use Rattle.qo_model.specs.Paths.{is_of}
-use Rattle.qo_model.specs.Plug.{addressed_at, born_from, clocked, further_of, registers_on}
-use Rattle.qo_model.specs.Properties.{property_named}
-use Rattle.qo_model.specs.Types.{is_a, slots_of, types}
-use Rattle.qo_model.specs.Unplug.{is_named}
 use Rattle.qo_model.proofs.FirstSlotLemmas.{named_in}
 use Rattle.qo_plain.specs.Plugged.{at_address, birth_in, further_record, placed_slots, put}
 use Rattle.qo_plain.proofs.StarLemmas.{High, Low, Slots, grow, grow_after, grown, kids_after, kinds_of, made, slots_after, star, star-set, star-unset}

@@ -1,12 +1,7 @@
 -- The law: who goes with a device that is taken out.
 use Rattle.std.proofs.Common.{◌≡◌, refl, sym, ◌∙◌, nat_eq, ℕ, Bool, true, false, [], ◌∷◌, length, Some, None, arith}
-use Rattle.std.specs.List.{list_any}
+use Rattle.qo_model.proofs.Common.{list_any, Board, bus_of, bus_slot_of, is_realized, births, after, finalize, pin, put_in_order, unpin, without_pin, apart_within, detach, taken_by, unrealize}
 use Rattle.std.proofs.lemmas.Bool.{false_from_ne_true}
-use Rattle.qo_model.specs.Board.{Board}
-use Rattle.qo_model.specs.Devices.{bus_of, bus_slot_of, is_realized}
-use Rattle.qo_model.specs.Paths.{births}
-use Rattle.qo_model.specs.Release.{after, finalize, pin, put_in_order, unpin, without_pin}
-use Rattle.qo_model.specs.Unplug.{apart_within, detach, taken_by, unrealize}
 use Rattle.qo_model.proofs.PinLemmas.{put-up}
 use Rattle.qo_sound.proofs.FirmBoardLemmas.{Firm}
 use Rattle.qo_sound.proofs.TestLemmas.{clash, decide}

@@ -1,10 +1,8 @@
 -- Lists over which two functions agree; and what leads to objects of a higher rank alone.
 use Rattle.std.proofs.Common.{◌≡◌, refl, ap, ap₂, ◌∙◌, ℕ, ◌<◌, true, List, [], ◌∷◌, ◌++◌, arith}
+use Rattle.qo_model.proofs.Common.{Board, among, IsTree, leads, Leads, more, one, each}
 use Rattle.std.specs.List.{flat_map}
 use Rattle.std.proofs.lemmas.Bool.{eq-eqb}
-use Rattle.qo_model.specs.Board.{Board}
-use Rattle.qo_model.specs.Depth.{among, IsTree, leads, Leads, more, one}
-use Rattle.qo_model.specs.Unplug.{each}
 use Rattle.qo_sound_phases.proofs.ListLemmas.{among-right}
 
 first-among : (m : ℕ) (ms : List ℕ) → among (m ∷ ms) m ≡ true

@@ -1,17 +1,11 @@
 -- Entries and slots: what holds of each entry, what is found by a name, and numbers that rise among others that do.
 use Rattle.std.proofs.Common.{◌≡◌, refl, ap, subst, ℕ, ◌+◌, ◌<◌, ◌≤◌, Bool, true, false, ◌==◌, ◌&&◌, eqb, List, [], ◌∷◌, filter_map, length, get_or, Option, Some, None, option_and_then, arith}
-use Rattle.std.specs.Bool.{⊤}
-use Rattle.std.specs.List.{AllByRecursion, IsDistinct, list_any}
-use Rattle.std.specs.Str.{bytes_eq}
+use Rattle.qo_model.proofs.Common.{⊤, AllByRecursion, IsDistinct, list_any, bytes_eq, Slot, plain, child, strong, weak, alias, among, clock_name, kid_name, strong_in, Rises}
 use Rattle.std.proofs.lemmas.Bool.{eqb-true, eq-eqb}
 use Rattle.std.proofs.lemmas.Option.{same_Some}
 use Rattle.std.proofs.lemmas.Slice.Eq.{bytes_eq-Decides}
 use Rattle.std.proofs.Math.Bool.{or-true}
 use Rattle.qo_values.proofs.ListLemmas.{all-imply}
-use Rattle.qo_model.specs.Board.{Slot, plain, child, strong, weak, alias}
-use Rattle.qo_model.specs.Depth.{among}
-use Rattle.qo_model.specs.Devices.{clock_name, kid_name, strong_in}
-use Rattle.qo_model.specs.SoundGraph.{Rises}
 use Rattle.qo_model.proofs.AmongLemmas.{among-all}
 use Rattle.qo_model.proofs.FirstSlotLemmas.{named_in}
 use Rattle.qo_sound.proofs.SlotLemmas.{names_in}

@@ -1,22 +1,9 @@
 -- The law of places: what is said in the words of the tree is all that the soundness of places says.
 use Rattle.std.proofs.Common.{◌≡◌, ◌⊎◌, inl, inr, refl, ap, sym, subst, ◌∙◌, ℕ, zero, suc, ◌≤◌, Bool, true, false, ◌==◌, List, [], ◌∷◌, filter_map, length, codes, Option, Some, None, option_map, option_and_then, arith}
-use Rattle.std.specs.Prelude.{if◌then◌else◌}
-use Rattle.std.specs.List.{AllByRecursion}
-use Rattle.std.specs.Option.{option_map_or}
-use Rattle.std.specs.Str.{bytes_eq}
+use Rattle.qo_model.proofs.Common.{if◌then◌else◌, AllByRecursion, option_map_or, bytes_eq, ANONYMOUS_BIRTH, MACHINE_BIRTH, MEMORY_BUS_BIRTH, OBJECTS_BIRTH, PERIPHERAL_BIRTH, ROOT_BIRTH, ROOT_BUS_BIRTH, SYSTEM_CLOCK_BIRTH, TypeId, Container, Machine, Clock, SlotBus, MemBus, Board, Record, Slot, kind_of, is_live, record_of, slots_at, among, by_depth, anonymous_name, bridge_of, bus_above, bus_of, clock_name, depth_of, depth_turn, is_realized, kid_name, strong_in, opening_board, attached, attached_turn, births, is_of, place_of, without_value, is_a, types}
 use Rattle.std.proofs.lemmas.Bool.{eqb-true}
 use Rattle.std.proofs.lemmas.Option.{same_Some}
 use Rattle.qo_values.proofs.ListLemmas.{all-imply}
-use Rattle.qo_values.specs.declared.births.TheConstants.{ANONYMOUS_BIRTH, MACHINE_BIRTH, MEMORY_BUS_BIRTH, OBJECTS_BIRTH, PERIPHERAL_BIRTH, ROOT_BIRTH, ROOT_BUS_BIRTH, SYSTEM_CLOCK_BIRTH}
-use Rattle.qo_values.specs.declared.kinds.TypeId.{TypeId}
-use Rattle.qo_values.specs.declared.kinds.TypeId.TheVariants.{Container, Machine, Clock, SlotBus, MemBus}
-use Rattle.qo_model.specs.Board.{Board, Record, Slot, kind_of, is_live, record_of, slots_at}
-use Rattle.qo_model.specs.Depth.{among, by_depth}
-use Rattle.qo_model.specs.Devices.{anonymous_name, bridge_of, bus_above, bus_of, clock_name, depth_of, depth_turn, is_realized, kid_name, strong_in}
-use Rattle.qo_model.specs.Opening.{opening_board}
-use Rattle.qo_model.specs.Paths.{attached, attached_turn, births, is_of, place_of}
-use Rattle.qo_model.specs.SoundGraph.{without_value}
-use Rattle.qo_model.specs.Types.{is_a, types}
 use Rattle.qo_model.proofs.AmongLemmas.{among-all}
 use Rattle.qo_model.proofs.FirstSlotLemmas.{named_in}
 use Rattle.qo_model.proofs.StepLemmas.{live-among}

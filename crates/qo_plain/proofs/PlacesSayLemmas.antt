@@ -1,16 +1,10 @@
 -- What the soundness of places says of devices, in the words of the tree.
 use Rattle.std.proofs.Common.{◌≡◌, refl, ap, sym, ◌∙◌, ℕ, ◌≤◌, Bool, true, false, ◌&&◌, eqb, List, [], ◌∷◌, codes, Option, Some, None, option_map, arith}
-use Rattle.std.specs.List.{IsDistinct}
+use Rattle.qo_model.proofs.Common.{IsDistinct, ANONYMOUS_BIRTH, PERIPHERAL_BIRTH, BUS_DEPTH_MAX, Board, slots_at, among, bus_of, bus_slot_of, depth_of, is_realized, kid_at, kid_name, attached, canonical, is_of, path_down_to, place_of, graph_of}
 use Rattle.std.proofs.lemmas.Bool.{eqb-true}
 use Rattle.std.proofs.lemmas.Option.{same_Some}
 use Rattle.std.proofs.Math.Bool.{or-true}
-use Rattle.qo_values.specs.declared.births.TheConstants.{ANONYMOUS_BIRTH, PERIPHERAL_BIRTH}
-use Rattle.qo_values.specs.declared.limits.TheConstants.{BUS_DEPTH_MAX}
-use Rattle.qo_model.specs.Board.{Board, slots_at}
-use Rattle.qo_model.specs.Depth.{among}
-use Rattle.qo_model.specs.Devices.{bus_of, bus_slot_of, depth_of, is_realized, kid_at, kid_name}
-use Rattle.qo_model.specs.Paths.{attached, canonical, is_of, parent_of, path_down_to, place_of}
-use Rattle.qo_model.specs.SoundGraph.{graph_of}
+use Rattle.qo_model.specs.Paths.{parent_of}
 use Rattle.qo_sound.specs.TreeKept.{SoundTree}
 use Rattle.qo_sound.proofs.FirmBoardLemmas.{Firm}
 use Rattle.qo_sound.proofs.TestLemmas.{clash, clash-back, decide}

@@ -1,26 +1,11 @@
 -- The law: the board with a device more, as one record.
-use Rattle.std.proofs.Common.{◌≡◌, ◌⊎◌, inl, inr, refl, ap, ap₂, sym, subst, ◌∙◌, ℕ, suc, ◌+◌, ◌<◌, ◌≤◌, Bool, true, false, List, [], ◌∷◌, map, find, codes, Option, Some, None, option_and_then, unwrap_or, Result, Ok, Err, arith}
-use Rattle.std.specs.List.{AllByRecursion, list_any}
-use Rattle.std.specs.Option.{option_map_or, option_or}
-use Rattle.std.specs.Str.{bytes_eq}
+use Rattle.std.proofs.Common.{rules, ◌≡◌, ◌⊎◌, inl, inr, refl, ap, ap₂, sym, subst, ◌∙◌, ℕ, suc, ◌+◌, ◌<◌, ◌≤◌, Bool, true, false, List, [], ◌∷◌, map, find, codes, Option, Some, None, option_and_then, unwrap_or, Result, Ok, Err, arith}
+use Rattle.qo_model.proofs.Common.{AllByRecursion, list_any, option_map_or, option_or, bytes_eq, SYSTEM_CLOCK_BIRTH, Code, E18, E20, E25, E38, E39, TypeId, MemDimm, Bus, Clock, MemoryBackend, Range, Board, Record, Slot, plain, strong, is_live, kind_of, add, clock_of, Given, refusal_by, refusal_of, slot_given, is_of, Spot, Wanted, addressed_at, at_stage, barred_early, barred_late, born_from, bus_barred, bus_for, bus_slot_for, clocked, code_in, counted, dimms, drafted, has_backend, id_barred, joined, kind_barred, number_for, ok_in, ok_or_zero, plug, plug_as, plug_by, plug_late, range_barred, range_for, range_of, room_barred, size_of, source_for, spot_of, started, stood, target_for, type_barred, valued, with_body_of, with_device, property_named, edit, TypeInfo, is_a, type_named, types}
 use Rattle.std.proofs.lemmas.Bool.{cases_lt}
 use Rattle.std.proofs.lemmas.Slice.Eq.{bytes_eq-Decides}
-use Rattle.qo_values.specs.declared.births.TheConstants.{SYSTEM_CLOCK_BIRTH}
-use Rattle.qo_values.specs.declared.codes.Code.{Code}
-use Rattle.qo_values.specs.declared.codes.Code.TheVariants.{E18, E20, E25, E38, E39}
-use Rattle.qo_values.specs.declared.kinds.TypeId.{TypeId}
-use Rattle.qo_values.specs.declared.kinds.TypeId.TheVariants.{Object, Container, Machine, Device, SlotDevice, SlotUart, SlotTimer, SlotBridge, MemDimm, Bus, SlotBus, MemBus, Clock, MemoryBackend, MemoryBackendRam, Tag}
 use Rattle.qo_values.specs.declared.properties.Val.TheVariants as val
-use Rattle.qo_values.specs.declared.ranges.Range.{Range}
-use Rattle.qo_model.specs.Board.{Board, Record, Slot, plain, strong, is_live, kind_of}
-use Rattle.qo_model.specs.Changes.{add}
-use Rattle.qo_model.specs.Devices.{clock_of}
-use Rattle.qo_model.specs.Objects.{Given, refusal_by, refusal_of, slot_given}
-use Rattle.qo_model.specs.Paths.{is_of}
-use Rattle.qo_model.specs.Plug.{Spot, Wanted, addressed_at, at_stage, barred_early, barred_late, born_from, bus_barred, bus_for, bus_slot_for, clocked, code_in, counted, dimms, drafted, first_of, has_backend, id_barred, joined, kind_barred, number_for, ok_in, ok_or_zero, plug, plug_as, plug_by, plug_late, range_barred, range_for, range_of, room_barred, size_of, source_for, spot_of, started, stood, target_for, type_barred, valued, with_body_of, with_device}
-use Rattle.qo_model.specs.Properties.{property_named}
-use Rattle.qo_model.specs.Release.{edit}
-use Rattle.qo_model.specs.Types.{TypeInfo, is_a, type_named, types}
+use Rattle.qo_values.proofs.EachLemmas.{each}
+use Rattle.qo_model.specs.Plug.{first_of}
 use Rattle.qo_model.proofs.GraphLemmas.{births_at}
 use Rattle.qo_sound.specs.TreeKept.{SoundTree}
 use Rattle.qo_sound.proofs.AddLemmas.{unbarred}
@@ -199,22 +184,8 @@ dimm-range b bus props e = go (target_for b MemoryBackend props (codes "memdev")
             (sym (ap (option_and_then (λ (x : ℕ). ok_in (range_for b (number_for props (codes "addr")) (size_of b x)))) p ∙ ap ok_in q)) (m, (p, q))
 
 has-range : (b : Board) (t : TypeId) (bus : ℕ) (props : List Given) → kind_barred b t bus props ≡ None → HasRange b t props (range_of b t props)
-has-range b MemDimm bus props e = dimm-range b bus props e
-has-range b Object bus props e = refl
-has-range b Container bus props e = refl
-has-range b Machine bus props e = refl
-has-range b Device bus props e = refl
-has-range b SlotDevice bus props e = refl
-has-range b SlotUart bus props e = refl
-has-range b SlotTimer bus props e = refl
-has-range b SlotBridge bus props e = refl
-has-range b Bus bus props e = refl
-has-range b SlotBus bus props e = refl
-has-range b MemBus bus props e = refl
-has-range b Clock bus props e = refl
-has-range b MemoryBackend bus props e = refl
-has-range b MemoryBackendRam bus props e = refl
-has-range b Tag bus props e = refl
+has-range b t bus props =
+    each (λ (t : TypeId). kind_barred b t bus props ≡ None → HasRange b t props (range_of b t props)) (search (rules, dimm-range)) t
 
 module _ (b : Board) (d : SoundDevices b) (h : SoundSources b) (a : Wanted) where
   accepted-made : (t : TypeId) (bus : ℕ) → Accepted b t bus a → with_device b t a (spot_of b t bus a.props) ≡ plain_device b t a (spot_of b t bus a.props)

@@ -1,21 +1,10 @@
 -- What of a board is as it was while something else is taken out of it: who stands, and the lists of kids and of buses.
 use Rattle.std.proofs.Common.{◌≡◌, refl, ap, sym, subst, ◌∙◌, ℕ, suc, ◌≤◌, Bool, true, false, not, ◌&&◌, ◌==◌, eqb, List, [], ◌∷◌, map, filter_map, length, Option, Some, None, option_map, arith, codes}
-use Rattle.std.specs.List.{cons_option, IsDistinct}
-use Rattle.std.specs.Option.{option_map_or}
-use Rattle.std.specs.Prelude.{if◌then◌else◌}
-use Rattle.std.specs.Str.{bytes_eq}
+use Rattle.qo_model.proofs.Common.{cons_option, IsDistinct, option_map_or, if◌then◌else◌, bytes_eq, ANONYMOUS_BIRTH, PERIPHERAL_BIRTH, Board, Record, Slot, plain, child, strong, weak, alias, record_of, is_live, slots_at, slot_at, among, leads, bus_in, buses_of, clock_name, kids_of, strong_in, index_from, births, is_of, after, drop_slot, edit, finalize, let_go, pin, with_dropped, without_hold, below, is_bus_child, let_go_where}
 use Rattle.std.proofs.Math.Bool.{or-true}
 use Rattle.std.proofs.lemmas.Bool.{eqb-true, eq-eqb, false_from_ne_true}
 use Rattle.std.proofs.lemmas.Option.{same_Some}
-use Rattle.qo_values.specs.declared.births.TheConstants.{ANONYMOUS_BIRTH, PERIPHERAL_BIRTH}
-use Rattle.qo_model.specs.Board.{Board, Record, Slot, plain, child, strong, weak, alias, record_of, is_live, slots_at, slot_at, held}
-use Rattle.qo_model.specs.Depth.{among, leads}
-use Rattle.qo_model.specs.Devices.{bus_in, buses_of, clock_name, kids_of, strong_in}
-use Rattle.qo_model.specs.Objects.{index_from}
-use Rattle.qo_model.specs.Paths.{births, is_of}
-use Rattle.qo_model.specs.Release.{after, drop_slot, edit, finalize, let_go, pin, with_dropped, without_hold}
-use Rattle.qo_model.specs.Reset.{below}
-use Rattle.qo_model.specs.Unplug.{is_bus_child, let_go_where}
+use Rattle.qo_model.specs.Board.{held}
 use Rattle.qo_model.proofs.AmongLemmas.{among-apart}
 use Rattle.qo_model.proofs.FirstSlotLemmas.{Found, found-at}
 use Rattle.qo_sound.proofs.FirmBoardLemmas.{Firm}

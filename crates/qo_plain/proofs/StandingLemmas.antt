@@ -1,22 +1,7 @@
 -- A new device that is joined to its container and its bus, and gets its values, its place and its source.
 use Rattle.std.proofs.Common.{◌≡◌, refl, ap, ◌∙◌, ℕ, suc, ◌+◌, ◌<◌, ◌≤◌, Bool, true, false, List, ◌∷◌, map, find, codes, Option, Some, None, option_and_then, arith}
-use Rattle.std.specs.Prelude.{if◌then◌else◌}
-use Rattle.std.specs.Option.{option_map_or}
-use Rattle.std.specs.Str.{bytes_eq}
-use Rattle.qo_values.specs.declared.kinds.TypeId.{TypeId}
-use Rattle.qo_values.specs.declared.kinds.TypeId.TheVariants.{Device, Bus, Clock}
-use Rattle.qo_values.specs.declared.properties.Val.{Val}
+use Rattle.qo_model.proofs.Common.{if◌then◌else◌, option_map_or, bytes_eq, TypeId, Device, Bus, Clock, Val, Board, Record, Slot, plain, child, strong, weak, add, with_added, with_changed, with_val, child_named, kid_name, Given, given_to, index_from, slot_given, fresh_record, fresh_slots, is_of, Spot, Wanted, clocked, counted, fitted, joined, link_named, name_for, parent_for, valued, with_given, with_source, edit, edited, is_a, types, is_named, set_named}
 use Rattle.qo_values.specs.declared.properties.Val.TheVariants as val
-use Rattle.qo_model.specs.Board.{Board, Record, Slot, plain, child, strong, weak}
-use Rattle.qo_model.specs.Changes.{add, with_added, with_changed, with_val}
-use Rattle.qo_model.specs.Devices.{child_named, kid_name}
-use Rattle.qo_model.specs.Objects.{Given, given_to, index_from, slot_given}
-use Rattle.qo_model.specs.Opening.{fresh_record, fresh_slots}
-use Rattle.qo_model.specs.Paths.{is_of}
-use Rattle.qo_model.specs.Plug.{Spot, Wanted, clocked, counted, fitted, joined, link_named, name_for, parent_for, valued, with_given, with_source}
-use Rattle.qo_model.specs.Release.{edit, edited}
-use Rattle.qo_model.specs.Types.{is_a, types}
-use Rattle.qo_model.specs.Unplug.{is_named, set_named}
 use Rattle.qo_model.proofs.FirstSlotLemmas.{named_in}
 use Rattle.qo_sound.proofs.FirmBoardLemmas.{edited-kind}
 use Rattle.qo_plain.specs.Plugged.{count_with, further_record, put}

@@ -1,25 +1,10 @@
 -- A board with a device and its further objects after what was there: what a step changes of it, and how it is made.
 use Rattle.std.proofs.Common.{◌≡◌, refl, ap, ap₂, sym, subst, ◌∙◌, ℕ, suc, ◌+◌, ◌<◌, ◌≤◌, Bool, true, false, ◌==◌, List, [], ◌∷◌, ◌++◌, map, length, append_assoc, append-nil, Option, Some, None, option_map, option_and_then, arith}
-use Rattle.std.specs.List.{AllByRecursion}
-use Rattle.std.specs.Option.{option_map_or, option_or}
-use Rattle.std.proofs.lemmas.Bool.{eq-eqb}
-use Rattle.std.proofs.lemmas.List.{length-map, map-append}
-use Rattle.qo_values.specs.Registers.{fresh_registers}
-use Rattle.qo_values.specs.declared.kinds.TypeId.{TypeId}
-use Rattle.qo_values.specs.declared.properties.Val.{Val}
-use Rattle.qo_model.specs.Board.{Board, Record, Slot, plain, child, strong, weak, alias, record_of, slots_at}
-use Rattle.qo_model.specs.Changes.{add, set, with_added, with_changed, with_val}
-use Rattle.qo_model.specs.Devices.{child_named}
-use Rattle.qo_model.specs.Objects.{index_from, init_notes}
-use Rattle.qo_model.specs.Opening.{first_value, fresh_record}
-use Rattle.qo_model.specs.Paths.{is_of}
-use Rattle.qo_model.specs.Plug.{aliased, begun_notes, born_from, drafted, fitted, further_of, link_named, objects_in, properties_made, property_made, types_in, with_kid}
-use Rattle.qo_model.specs.Release.{edit, edited}
-use Rattle.qo_model.specs.RowNames.{property_name}
-use Rattle.qo_model.specs.Types.{is_a, slots_of}
-use Rattle.qo_model.specs.Unplug.{is_named, set_named}
+use Rattle.qo_model.proofs.Common.{AllByRecursion, option_map_or, option_or, fresh_registers, TypeId, Val, Board, Record, Slot, plain, child, strong, weak, alias, record_of, slots_at, add, set, with_added, with_changed, with_val, child_named, index_from, init_notes, first_value, fresh_record, is_of, aliased, begun_notes, born_from, drafted, fitted, further_of, link_named, objects_in, properties_made, property_made, types_in, with_kid, edit, edited, property_name, is_a, slots_of, is_named, set_named}
 use Rattle.qo_model.specs.declared.properties.Property.{Property}
 use Rattle.qo_model.specs.declared.properties.PropertyRole.{PropertyRole}
+use Rattle.std.proofs.lemmas.Bool.{eq-eqb}
+use Rattle.std.proofs.lemmas.List.{length-map, map-append}
 use Rattle.qo_model.specs.declared.properties.PropertyRole.TheVariants as row
 use Rattle.qo_model.proofs.FirstSlotLemmas.{named_in, slots_in}
 use Rattle.qo_model.proofs.StepLemmas.{found_at}

@@ -1,20 +1,9 @@
 -- The law: how a device is taken out, by the kids and the buses of the board before.
 use Rattle.std.proofs.Common.{◌≡◌, ◌⊎◌, inl, inr, refl, ap, ap₂, sym, subst, ◌∙◌, ℕ, zero, suc, ◌+◌, ◌≤◌, Bool, true, false, ◌||◌, ◌==◌, eqb, List, [], ◌∷◌, length, Option, Some, None, arith, codes}
-use Rattle.std.specs.Bool.{⊤}
-use Rattle.std.specs.List.{IsDistinct}
-use Rattle.std.specs.Option.{option_map_or}
+use Rattle.qo_model.proofs.Common.{⊤, IsDistinct, option_map_or, ANONYMOUS_BIRTH, MACHINE_BIRTH, PERIPHERAL_BIRTH, TypeId, Board, is_live, slots_at, among, by_objects, IsLocal, leads, bus_of, buses_of, is_realized, kids_of, births, is_of, pin, put_in_order, unpin, below, is_a, apart_within, detach, drained, each, is_bus_child, left_bus, left_parent, let_go_where, lost_bus, lost_buses, unrealize}
 use Rattle.std.proofs.Math.Path.{fun_ext}
 use Rattle.std.proofs.lemmas.Bool.{eqb-true, eq-eqb, false_from_ne_true}
-use Rattle.qo_values.specs.declared.births.TheConstants.{ANONYMOUS_BIRTH, MACHINE_BIRTH, PERIPHERAL_BIRTH}
-use Rattle.qo_values.specs.declared.kinds.TypeId.{TypeId}
-use Rattle.qo_model.specs.Board.{Board, is_live, slots_at}
-use Rattle.qo_model.specs.Depth.{among, by_objects, IsLocal, leads}
-use Rattle.qo_model.specs.Devices.{bus_of, buses_of, is_realized, kids_of}
-use Rattle.qo_model.specs.Paths.{births, is_of}
-use Rattle.qo_model.specs.Release.{pin, put_in_order, unpin}
-use Rattle.qo_model.specs.Reset.{below}
-use Rattle.qo_model.specs.Types.{is_a}
-use Rattle.qo_model.specs.Unplug.{apart_within, detach, drained, each, first_of, is_bus_child, left_bus, left_parent, let_go_where, lost_bus, lost_buses, unrealize}
+use Rattle.qo_model.specs.Unplug.{first_of}
 use Rattle.qo_model.proofs.DepthLemmas.{by_objects_is}
 use Rattle.qo_model.proofs.PinLemmas.{IsUp, put-up}
 use Rattle.qo_sound.proofs.FirmBoardLemmas.{Firm}

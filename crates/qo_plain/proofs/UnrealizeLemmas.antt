@@ -1,14 +1,8 @@
 -- How a device is unrealized with all that is below it, without a bound.
 use Rattle.std.proofs.Common.{◌≡◌, ◌⊎◌, inl, inr, refl, ap, ◌∙◌, ℕ, ◌<◌, true, false, List, [], ◌∷◌, codes, arith}
+use Rattle.qo_model.proofs.Common.{MACHINE_BIRTH, MEMORY_BUS_BIRTH, ROOT_BUS_BIRTH, Board, among, by_objects, IsLocal, IsTree, leads, buses_of, kids_of, births, is_of, below, each, unrealize, unrealize_turn, unrealized_bus, unrealized_device}
 use Rattle.std.proofs.Math.Path.{fun_ext}
 use Rattle.std.specs.List.{flat_map}
-use Rattle.qo_values.specs.declared.births.TheConstants.{MACHINE_BIRTH, MEMORY_BUS_BIRTH, ROOT_BUS_BIRTH}
-use Rattle.qo_model.specs.Board.{Board}
-use Rattle.qo_model.specs.Depth.{among, by_objects, IsLocal, IsTree, leads}
-use Rattle.qo_model.specs.Devices.{buses_of, kids_of}
-use Rattle.qo_model.specs.Paths.{births, is_of}
-use Rattle.qo_model.specs.Reset.{below}
-use Rattle.qo_model.specs.Unplug.{each, unrealize, unrealize_turn, unrealized_bus, unrealized_device}
 use Rattle.qo_model.proofs.DepthLemmas.{by_objects_is}
 use Rattle.qo_values.proofs.ListLemmas.{all-imply}
 use Rattle.qo_sound_devices.specs.SoundDevices.{SoundDevices}

@@ -1,13 +1,8 @@
 -- The law: what goes over objects to a bounded depth is what its step says of itself.
 use Rattle.std.proofs.Common.{◌≡◌, ap, sym, ◌∙◌, ℕ, true, false, ◌==◌, List, [], ◌∷◌, ◌++◌, Option, Some, None}
+use Rattle.qo_model.proofs.Common.{option_map_or, Board, clocks_below, fed_by, fed_turn, is_source, source_of, among, IsLocal, leads, births, below, post, post_turn}
 use Rattle.std.specs.List.{flat_map}
-use Rattle.std.specs.Option.{option_map_or}
 use Rattle.std.proofs.lemmas.Bool.{and_parts, eqb-true}
-use Rattle.qo_model.specs.Board.{Board}
-use Rattle.qo_model.specs.Clocks.{clocks_below, fed_by, fed_turn, is_source, source_of}
-use Rattle.qo_model.specs.Depth.{among, IsLocal, leads}
-use Rattle.qo_model.specs.Paths.{births}
-use Rattle.qo_model.specs.Reset.{below, post, post_turn}
 use Rattle.qo_model.proofs.DepthLemmas.{by_objects_is}
 use Rattle.qo_sound_devices.specs.SoundDevices.{SoundDevices}
 use Rattle.qo_sound_clocks.specs.SoundClocks.{SoundClocks}

@@ -10,6 +10,7 @@ use Rattle.qo_values.specs.declared.kinds.Act.{Act}
 use Rattle.qo_values.specs.declared.kinds.Act.TheVariants.{Realize, Unrealize, Enter, Hold, Exit}
 use Rattle.qo_values.specs.declared.kinds.TypeId.{TypeId}
 use Rattle.qo_kinds.specs.Bodies.{IsTimely, MayAct}
+use Rattle.qo_kinds.proofs.BodyLemmas.{acted-timely}
 use Rattle.qo_slots.specs.declared.keys.Key.{Key}
 use Rattle.qo_table.specs.Rows.{IsLive}
 use Rattle.qo_model.specs.declared.notes.Deed.TheVariants.{Did}
@@ -29,12 +30,10 @@ use Rattle.qo_object.specs.Content.{Content, acted_at}
 use Rattle.qo_object.specs.BoardObject.{birth_of}
 use Rattle.qo_heap.specs.Acts.{Acts, stilled}
 use Rattle.qo_heap.specs.Board.{Shows, record_of}
-use Rattle.qo_heap.specs.Objects.{IsHeap, Objects, content_of, no_objects_made}
+use Rattle.qo_heap.specs.Objects.{IsHeap, Objects, content_of}
 use Rattle.qo_heap.proofs.ActsLemmas.{acts-act, acts-live, acts-none, acts-then}
 use Rattle.qo_heap.proofs.PlacesLemmas.{at-key, object-at-place}
 use Rattle.qo_heap.proofs.BoardObjects.{content-edited, content-other}
-use Rattle.qo_heap.proofs.MomentLemmas.{acts-timely}
-use Rattle.qo_kinds.specs.declared.kept_set.KeptSet.{KeptSet}
 use Rattle.qo_properties.proofs.NewSlotLemmas.{next-slot, past}
 use Rattle.qo_reset.specs.Phases.{acted_on, walked}
 use Rattle.qo_reset.proofs.BoardLemmas.{shows-walked}
@@ -45,11 +44,6 @@ use Rattle.qo_plug.proofs.CutLemmas.{draft-made, given-is, held, held-is, rest}
 
 -- who is quiet stays quiet
 
-body-quiet : (act : Act) (time : ℕ) (c : Content) → IsTimely time c.body → IsTimely time (acted_at act time 0 c).body
-body-quiet act time c q =
-    (acts-timely (record no_objects_made { rows = (record { index = 0; birth = 0 }, c) ∷ []; time = time }) (record { birth = 0; deed = Did act }) 0 act 0
-    (q, tt)).0
-
 abbrev AreQuiet : ℕ → Option Content → Type 0
 AreQuiet now o = IfSome o (λ (c : Content). IsTimely now c.body)
 
@@ -58,7 +52,7 @@ quiet-acted act n v m q = go (eqb m n) refl
   where
     changed : (o : Option Content) → AreQuiet v.time o → AreQuiet v.time (option_map (acted_at act v.time 0) o)
     changed None p = tt
-    changed (Some c) p = body-quiet act v.time c p
+    changed (Some c) p = acted-timely act v.time 0 c.body p
 
     go : (t : Bool) → eqb m n ≡ t → IsQuiet (acted_on act n v) m
     go true p =
@@ -112,29 +106,23 @@ next-bus n i rows o e = go (slice_get rows i) refl
 
 -- acts leave them
 
-abbrev Stilled : Type 0
-Stilled = Key × (Content × KeptSet)
-
-abbrev still_birth : ℕ → Stilled → Option ℕ
-still_birth n x = birth_of (if nat_le n x.0.birth && is_a x.1.0.kind (codes "bus") then Some x.0 else None)
-
-new-still : (n : ℕ) (rows : List (Key × Content)) → filter_map (still_birth n) (map stilled rows) ≡ new_buses n rows
+new-still : (n : ℕ) (rows : List (Key × Content)) → new_buses n (map stilled rows) ≡ new_buses n rows
 new-still n [] = refl
 new-still n (row ∷ rows) = ap (cons_option (birth_in n row)) (new-still n rows)
 
 take-still : (i : ℕ) (rows : List (Key × Content)) → take i (map stilled rows) ≡ map stilled (take i rows)
 take-still zero rows = refl
 take-still (suc i) [] = refl
-take-still (suc i) (row ∷ rows) = ap (λ (l : List Stilled). stilled row ∷ l) (take-still i rows)
+take-still (suc i) (row ∷ rows) = ap (λ (l : List (Key × Content)). stilled row ∷ l) (take-still i rows)
 
-taken-still : (n i : ℕ) (rows : List (Key × Content)) → filter_map (still_birth n) (take i (map stilled rows)) ≡ new_buses n (take i rows)
-taken-still n i rows = ap (filter_map (still_birth n)) (take-still i rows) ∙ new-still n (take i rows)
+taken-still : (n i : ℕ) (rows : List (Key × Content)) → new_buses n (take i (map stilled rows)) ≡ new_buses n (take i rows)
+taken-still n i rows = ap (new_buses n) (take-still i rows) ∙ new-still n (take i rows)
 
 taken-acts : (n i : ℕ) (v w : Objects) → Acts v w → new_buses n (take i w.rows) ≡ new_buses n (take i v.rows)
-taken-acts n i v w acts = sym (taken-still n i w.rows) ∙ ap (λ (l : List Stilled). filter_map (still_birth n) (take i l)) acts.rows ∙ taken-still n i v.rows
+taken-acts n i v w acts = sym (taken-still n i w.rows) ∙ ap (λ (l : List (Key × Content)). new_buses n (take i l)) acts.rows ∙ taken-still n i v.rows
 
 pub new-acts : (n : ℕ) (v w : Objects) → Acts v w → new_buses n w.rows ≡ new_buses n v.rows
-new-acts n v w acts = sym (new-still n w.rows) ∙ ap (filter_map (still_birth n)) acts.rows ∙ new-still n v.rows
+new-acts n v w acts = sym (new-still n w.rows) ∙ ap (new_buses n) acts.rows ∙ new-still n v.rows
 
 -- the loop over the places
 

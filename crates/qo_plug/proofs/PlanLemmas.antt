@@ -1,12 +1,13 @@
 -- What a plan says of the place of a device.
-use Rattle.std.proofs.Common.{◌≡◌, refl, ap, sym, subst, ◌∙◌, ℕ, true, false, List, [], codes, find, Option, Some, None, option_map, Result, Ok, Err, Bor}
+use Rattle.std.proofs.Common.{rules, ◌≡◌, refl, ap, sym, subst, ◌∙◌, ℕ, true, false, List, [], codes, find, Option, Some, None, option_map, Result, Ok, Err, Bor}
 use Rattle.std.specs.Prelude.{IfSome, option_and_then, unwrap_or}
 use Rattle.std.specs.Str.{bytes_eq}
 use Rattle.qo_values.specs.declared.codes.Code.{Code}
 use Rattle.qo_values.specs.declared.kinds.TypeId.{TypeId}
-use Rattle.qo_values.specs.declared.kinds.TypeId.TheVariants.{Object, Container, Machine, Device, SlotDevice, SlotUart, SlotTimer, SlotBridge, MemDimm, Bus, SlotBus, MemBus, Clock, MemoryBackend, MemoryBackendRam, Tag}
+use Rattle.qo_values.specs.declared.kinds.TypeId.TheVariants.{SlotUart, MemDimm, MemoryBackend}
 use Rattle.qo_values.specs.declared.properties.Val.{Val}
 use Rattle.qo_values.specs.declared.properties.Val.TheVariants as val
+use Rattle.qo_values.proofs.EachLemmas.{each}
 use Rattle.qo_model.specs.Board as board
 use Rattle.qo_model.specs.Devices.{number_in, text_in}
 use Rattle.qo_model.specs.Objects.{Given, given_to, target_given}
@@ -29,22 +30,7 @@ use Rattle.qo_plug.specs.DevicePlans.{number_filled, text_filled}
 
 pub slot-begins : (t : TypeId) → is_a t (codes "device") ≡ true → own_slot_for t (codes "slot") ≡ Some (codes "slot", Plain val.Nothing)
 unfolding types
-slot-begins Object e = absurd (let clash : false ≡ true = e in cc)
-slot-begins Container e = absurd (let clash : false ≡ true = e in cc)
-slot-begins Machine e = absurd (let clash : false ≡ true = e in cc)
-slot-begins Device e = refl
-slot-begins SlotDevice e = refl
-slot-begins SlotUart e = refl
-slot-begins SlotTimer e = refl
-slot-begins SlotBridge e = refl
-slot-begins MemDimm e = refl
-slot-begins Bus e = absurd (let clash : false ≡ true = e in cc)
-slot-begins SlotBus e = absurd (let clash : false ≡ true = e in cc)
-slot-begins MemBus e = absurd (let clash : false ≡ true = e in cc)
-slot-begins Clock e = absurd (let clash : false ≡ true = e in cc)
-slot-begins MemoryBackend e = absurd (let clash : false ≡ true = e in cc)
-slot-begins MemoryBackendRam e = absurd (let clash : false ≡ true = e in cc)
-slot-begins Tag e = absurd (let clash : false ≡ true = e in cc)
+slot-begins = each (λ (t : TypeId). is_a t (codes "device") ≡ true → own_slot_for t (codes "slot") ≡ Some (codes "slot", Plain val.Nothing)) (search rules)
 
 addr-begins : own_slot_for MemDimm (codes "addr") ≡ Some (codes "addr", Plain val.Nothing)
 unfolding types

@@ -1,15 +1,16 @@
 -- The buses of a device that was made and stands are those of its type, by the births that follow its own.
-use Rattle.std.proofs.Common.{◌≡◌, refl, ap, sym, subst, ◌∙◌, ℕ, zero, suc, ◌+◌, ◌<◌, ◌≤◌, Bool, true, false, cond, ◌==◌, codes, List, [], ◌∷◌, ◌++◌, map, length, find, Option, Some, None, option_map, option_to_list, append-nil, append_assoc, length-append, arith}
+use Rattle.std.proofs.Common.{rules, ◌≡◌, refl, ap, sym, subst, ◌∙◌, ℕ, zero, suc, ◌+◌, ◌<◌, ◌≤◌, Bool, true, false, cond, ◌==◌, codes, List, [], ◌∷◌, ◌++◌, map, length, find, Option, Some, None, option_map, option_to_list, append-nil, append_assoc, length-append, arith}
 use Rattle.std.specs.Prelude.{filter_map, not, ◌&&◌, if◌then◌else◌}
 use Rattle.std.specs.List.{cons_option}
 use Rattle.std.specs.Option.{option_map_or, option_or}
 use Rattle.std.specs.Str.{bytes_eq}
 use Rattle.std.proofs.lemmas.Bool.{eqb-true, eq-eqb}
 use Rattle.qo_values.specs.declared.kinds.TypeId.{TypeId}
-use Rattle.qo_values.specs.declared.kinds.TypeId.TheVariants.{Object, Container, Machine, Device, SlotDevice, SlotUart, SlotTimer, SlotBridge, MemDimm, Bus, SlotBus, MemBus, Clock, MemoryBackend, MemoryBackendRam, Tag}
+use Rattle.qo_values.specs.declared.kinds.TypeId.TheVariants.{Device}
 use Rattle.qo_values.specs.declared.properties.Val.{Val}
 use Rattle.qo_values.specs.declared.properties.Val.TheVariants as val
 use Rattle.qo_values.specs.declared.ranges.Range.{Range}
+use Rattle.qo_values.proofs.EachLemmas.{each}
 use Rattle.qo_model.proofs.FinalNotesGrowthLemmas.{unmapped}
 use Rattle.qo_model.specs.Board.{Board, Record, Slot, child, plain, strong, weak, alias, kind_of, record_of, slots_at}
 use Rattle.qo_model.specs.Changes.{add, changed_at, fresh, make, set, with_added, with_changed, with_val}
@@ -461,22 +462,7 @@ buses-numbered c m (f ∷ fs) all =
 
 table-buses : (n : ℕ) (t : TypeId) → is_a t (codes "device") ≡ true → buses_from (suc n) (further_of t) ≡ bus_births n t
 unfolding types
-table-buses n Object h = cc
-table-buses n Container h = cc
-table-buses n Machine h = cc
-table-buses n Device h = refl
-table-buses n SlotDevice h = refl
-table-buses n SlotUart h = refl
-table-buses n SlotTimer h = refl
-table-buses n SlotBridge h = refl
-table-buses n MemDimm h = refl
-table-buses n Bus h = cc
-table-buses n SlotBus h = cc
-table-buses n MemBus h = cc
-table-buses n Clock h = cc
-table-buses n MemoryBackend h = cc
-table-buses n MemoryBackendRam h = cc
-table-buses n Tag h = cc
+table-buses n = each (λ (t : TypeId). is_a t (codes "device") ≡ true → buses_from (suc n) (further_of t) ≡ bus_births n t) (search rules)
 
 pub draft-buses : (b : Board) (t : TypeId) → ((m : ℕ) → b.born < m → kind_of b m ≡ None) → is_a t (codes "device") ≡ true
     → buses_of (pinned_draft b t) (b.born + 1) ≡ bus_births (b.born + 1) t

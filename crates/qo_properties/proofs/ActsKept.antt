@@ -2,7 +2,6 @@
 use Rattle.std.proofs.Common.{◌≡◌, refl, ap, sym, subst, ◌∙◌, ℕ, Bool, true, false, eqb, List, [], ◌∷◌, map, codes, Option, Some, None, option_map, OnOk, OnErr, Result, Ok, Err}
 use Rattle.qo_values.specs.declared.properties.Val.TheVariants as val
 use Rattle.qo_kinds.specs.Bodies.{kept_of}
-use Rattle.qo_kinds.specs.declared.kept_set.KeptSet.{KeptSet}
 use Rattle.qo_slots.specs.declared.keys.Key.{Key}
 use Rattle.qo_table.specs.Rows.{object_at}
 use Rattle.qo_object.specs.declared.slots.Slot.{Slot}
@@ -17,20 +16,20 @@ use Rattle.qo_clocks.specs.declared.errors.ClockError.{ClockError}
 use Rattle.qo_properties.specs.KeptClaims.{KeptBefore, SameKept, kept_by}
 
 kept-still : (n : ℕ) (rows : List (Key × Content))
-    → option_map (λ (x : Content × KeptSet). x.1) (object_at (map stilled rows) n) ≡ option_map (λ (c : Content). kept_of c.body) (object_at rows n)
+    → option_map (λ (c : Content). kept_of c.body) (object_at (map stilled rows) n) ≡ option_map (λ (c : Content). kept_of c.body) (object_at rows n)
 kept-still n [] = refl
 kept-still n (row ∷ rows) = go (eqb row.0.birth n) refl (kept-still n rows)
   where
     go : (t : Bool) → eqb row.0.birth n ≡ t
-        → option_map (λ (x : Content × KeptSet). x.1) (object_at (map stilled rows) n) ≡ option_map (λ (c : Content). kept_of c.body) (object_at rows n)
-        → option_map (λ (x : Content × KeptSet). x.1) (object_at (map stilled (row ∷ rows)) n)
+        → option_map (λ (c : Content). kept_of c.body) (object_at (map stilled rows) n) ≡ option_map (λ (c : Content). kept_of c.body) (object_at rows n)
+        → option_map (λ (c : Content). kept_of c.body) (object_at (map stilled (row ∷ rows)) n)
         ≡ option_map (λ (c : Content). kept_of c.body) (object_at (row ∷ rows) n)
     go true e rest = rw e refl
     go false e rest = rw e rest
 
 pub acts-kept : (v w : Objects) → Acts v w → SameKept v w
 acts-kept v w acts n =
-    sym (kept-still n w.rows) ∙ ap (λ (l : List (Key × (Content × KeptSet))). option_map (λ (x : Content × KeptSet). x.1) (object_at l n)) acts.rows
+    sym (kept-still n w.rows) ∙ ap (λ (l : List (Key × Content)). option_map (λ (c : Content). kept_of c.body) (object_at l n)) acts.rows
     ∙ kept-still n v.rows
 
 pub changed-kept : (n : ℕ) (name : List ℕ) (f : Slot → Slot) (v : Objects) (m : ℕ) → kept_by (changed_named n name f v) m ≡ kept_by v m

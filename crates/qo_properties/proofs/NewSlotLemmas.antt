@@ -1,11 +1,11 @@
 -- The slots of a new object, row by row.
-use Rattle.std.proofs.Common.{◌≡◌, refl, ap, sym, ◌∙◌, ℕ, ◌+◌, ◌<◌, ◌≤◌, true, false, List, [], ◌∷◌, ◌++◌, length, take, filter_map, slice_get, get_or, ◌⊎◌, inl, inr, Option, Some, None, option_map, option_to_list, arith}
+use Rattle.std.proofs.Common.{rules, ◌≡◌, refl, ap, sym, ◌∙◌, ℕ, ◌+◌, ◌<◌, ◌≤◌, true, false, List, [], ◌∷◌, ◌++◌, length, take, filter_map, slice_get, get_or, ◌⊎◌, inl, inr, Option, Some, None, option_map, option_to_list, arith}
 use Rattle.std.specs.List.{cons_option}
 use Rattle.std.proofs.lemmas.List.{map-append, take_more}
 use Rattle.std.proofs.lemmas.Option.{get_or_from_slice_get, slice_get_cases}
 use Rattle.std.proofs.lemmas.List.Elements.{filter_map-append}
 use Rattle.qo_values.specs.declared.kinds.TypeId.{TypeId}
-use Rattle.qo_values.specs.declared.kinds.TypeId.TheVariants.{Object, Container, Machine, Device, SlotDevice, SlotUart, SlotTimer, SlotBridge, MemDimm, Bus, SlotBus, MemBus, Clock, MemoryBackend, MemoryBackendRam, Tag}
+use Rattle.qo_values.proofs.EachLemmas.{each}
 use Rattle.qo_model.specs.Board as board
 use Rattle.qo_model.specs.Changes.{with_fresh, with_fresh_slots}
 use Rattle.qo_model.specs.Opening.{first_slot, first_value}
@@ -53,22 +53,7 @@ next-slot {X = X} {Y = Y} f i xs x at =
 
 pub few-slots : (t : TypeId) → length (slots_of t) ≤ 9
 unfolding types
-few-slots Object = omega arith
-few-slots Container = omega arith
-few-slots Machine = omega arith
-few-slots Device = omega arith
-few-slots SlotDevice = omega arith
-few-slots SlotUart = omega arith
-few-slots SlotTimer = omega arith
-few-slots SlotBridge = omega arith
-few-slots MemDimm = omega arith
-few-slots Bus = omega arith
-few-slots SlotBus = omega arith
-few-slots MemBus = omega arith
-few-slots Clock = omega arith
-few-slots MemoryBackend = omega arith
-few-slots MemoryBackendRam = omega arith
-few-slots Tag = omega arith
+few-slots = each (λ (t : TypeId). length (slots_of t) ≤ 9) (search rules)
 
 -- what a new object shows
 

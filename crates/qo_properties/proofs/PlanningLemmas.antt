@@ -1,5 +1,5 @@
 -- The plan of a new object, one given value after another.
-use Rattle.std.proofs.Common.{◌≡◌, refl, ap, sym, subst, ◌∙◌, ℕ, zero, suc, ◌+◌, ◌<◌, ◌≤◌, Bool, true, false, ◌&&◌, not, cond, List, [], ◌∷◌, ◌++◌, length, map, take, drop, set, get_or, slice_get, find, filter_map, Option, Some, None, IfSome, is_some, Result, Ok, Err, option_map, option_to_list, append-nil, length-append, arith}
+use Rattle.std.proofs.Common.{rules, ◌≡◌, refl, ap, sym, subst, ◌∙◌, ℕ, zero, suc, ◌+◌, ◌<◌, ◌≤◌, Bool, true, false, ◌&&◌, not, cond, List, [], ◌∷◌, ◌++◌, length, map, take, drop, set, get_or, slice_get, find, filter_map, Option, Some, None, IfSome, is_some, Result, Ok, Err, option_map, option_to_list, append-nil, length-append, arith}
 use Rattle.std.specs.Cmp.Lexicographic.{slice_cmp}
 use Rattle.std.specs.List.{AllByRecursion, AllZip, cons_option, list_all}
 use Rattle.std.specs.Ordering.{is_eq, is_lt, nat_cmp}
@@ -15,7 +15,6 @@ use Rattle.std.proofs.lemmas.Slice.Eq.{bytes_eq-Decides}
 use Rattle.qo_values.specs.PropertyLists.{NamesRise, is_above, names_of}
 use Rattle.qo_values.specs.declared.codes.Code.{Code}
 use Rattle.qo_values.specs.declared.kinds.TypeId.{TypeId}
-use Rattle.qo_values.specs.declared.kinds.TypeId.TheVariants.{Object, Container, Machine, Device, SlotDevice, SlotUart, SlotTimer, SlotBridge, MemDimm, Bus, SlotBus, MemBus, Clock, MemoryBackend, MemoryBackendRam, Tag}
 use Rattle.qo_values.proofs.NameOrder.{above_those_before}
 use Rattle.std.proofs.lemmas.Bool.{and_parts, not-true}
 use Rattle.qo_model.specs.Board.{Board}
@@ -29,6 +28,7 @@ use Rattle.qo_object.specs.declared.slots.Slot.{Slot}
 use Rattle.qo_object.specs.BoardObject.{shown_slot}
 use Rattle.qo_object.specs.Slots.{Named}
 use Rattle.qo_values.proofs.ListLemmas.{found-passes}
+use Rattle.qo_values.proofs.EachLemmas.{each}
 use Rattle.qo_properties.specs.declared.adding.filling.Fill.{Fill}
 use Rattle.qo_properties.specs.declared.adding.filling.Fill.TheVariants as fill
 use Rattle.qo_properties.specs.declared.adding.planning.PlacedRow.{PlacedRow}
@@ -48,22 +48,7 @@ are_apart (s ∷ slots) = list_all (λ (t : Named). not (bytes_eq t.0 s.0)) slot
 
 pub new-apart : (t : TypeId) → are_apart (new_slots t) ≡ true
 unfolding types
-new-apart Object = refl
-new-apart Container = refl
-new-apart Machine = refl
-new-apart Device = refl
-new-apart SlotDevice = refl
-new-apart SlotUart = refl
-new-apart SlotTimer = refl
-new-apart SlotBridge = refl
-new-apart MemDimm = refl
-new-apart Bus = refl
-new-apart SlotBus = refl
-new-apart MemBus = refl
-new-apart Clock = refl
-new-apart MemoryBackend = refl
-new-apart MemoryBackendRam = refl
-new-apart Tag = refl
+new-apart = each (λ (t : TypeId). are_apart (new_slots t) ≡ true) (search rules)
 
 -- the place of a row's slot, by the slots of the rows before it
 

@@ -11,9 +11,10 @@ use Rattle.std.proofs.lemmas.Slice.Eq.{bytes_eq-Decides}
 use Rattle.qo_values.specs.Placing.{least}
 use Rattle.qo_values.specs.declared.births.TheConstants.{MACHINE_BIRTH, MEMORY_BUS_BIRTH, ROOT_BUS_BIRTH}
 use Rattle.qo_values.specs.declared.kinds.TypeId.{TypeId}
-use Rattle.qo_values.specs.declared.kinds.TypeId.TheVariants.{Object, Container, Machine, Device, SlotDevice, SlotUart, SlotTimer, SlotBridge, MemDimm, Bus, SlotBus, MemBus, Clock, MemoryBackend, MemoryBackendRam, Tag}
+use Rattle.qo_values.specs.declared.kinds.TypeId.TheVariants.{MemBus}
 use Rattle.qo_values.specs.declared.limits.TheConstants.{BUS_SLOTS}
 use Rattle.qo_values.proofs.PlacingLemmas.{least-passes}
+use Rattle.qo_values.proofs.EachLemmas.{each}
 use Rattle.qo_guest.specs.declared.addresses.Addr.TheVariants.{Slots, Mem}
 use Rattle.qo_guest.specs.declared.addresses.TheConstants.{STEPS_MAX}
 use Rattle.qo_buses.specs.Addresses.{addressed}
@@ -104,42 +105,12 @@ clash-at e = absurd (let clash : false ≡ true = e in cc)
 
 rows-only : (t : TypeId) → is_a t (codes "device") ≡ true → RowsOnly t
 unfolding types
-rows-only Object e = clash-at e
-rows-only Container e = clash-at e
-rows-only Machine e = clash-at e
-rows-only Device e = search rules
-rows-only SlotDevice e = search rules
-rows-only SlotUart e = search rules
-rows-only SlotTimer e = search rules
-rows-only SlotBridge e = search rules
-rows-only MemDimm e = search rules
-rows-only Bus e = clash-at e
-rows-only SlotBus e = clash-at e
-rows-only MemBus e = clash-at e
-rows-only Clock e = clash-at e
-rows-only MemoryBackend e = clash-at e
-rows-only MemoryBackendRam e = clash-at e
-rows-only Tag e = clash-at e
+rows-only = each (λ (t : TypeId). is_a t (codes "device") ≡ true → RowsOnly t) (search rules)
 
 -- and it has no further slots
 device-bare : (t : TypeId) → is_a t (codes "device") ≡ true → (s : List ℕ × Slot) → IsFurther t s → ⊥
 unfolding types
-device-bare Object e s h = clash-at e
-device-bare Container e s h = clash-at e
-device-bare Machine e s h = clash-at e
-device-bare Device e s h = h
-device-bare SlotDevice e s h = h
-device-bare SlotUart e s h = h
-device-bare SlotTimer e s h = h
-device-bare SlotBridge e s h = h
-device-bare MemDimm e s h = h
-device-bare Bus e s h = clash-at e
-device-bare SlotBus e s h = clash-at e
-device-bare MemBus e s h = clash-at e
-device-bare Clock e s h = clash-at e
-device-bare MemoryBackend e s h = clash-at e
-device-bare MemoryBackendRam e s h = clash-at e
-device-bare Tag e s h = clash-at e
+device-bare = each (λ (t : TypeId). is_a t (codes "device") ≡ true → (s : List ℕ × Slot) → IsFurther t s → ⊥) (search rules)
 
 -- so are its slots
 abbrev OnlyBus : TypeId → List ℕ × Slot → Type 0
@@ -225,22 +196,7 @@ first-only b t m bus ((own, child k) ∷ slots) d h e = go (bytes_eq own clock_n
 -- a bridge goes on no memory bus
 bridge-apart : (t : TypeId) → is_a t (codes "slot-bridge") ≡ true → is_a MemBus (bus_type t) ≡ false
 unfolding types
-bridge-apart Object e = clash-at e
-bridge-apart Container e = clash-at e
-bridge-apart Machine e = clash-at e
-bridge-apart Device e = clash-at e
-bridge-apart SlotDevice e = clash-at e
-bridge-apart SlotUart e = clash-at e
-bridge-apart SlotTimer e = clash-at e
-bridge-apart SlotBridge e = refl
-bridge-apart MemDimm e = clash-at e
-bridge-apart Bus e = clash-at e
-bridge-apart SlotBus e = clash-at e
-bridge-apart MemBus e = clash-at e
-bridge-apart Clock e = clash-at e
-bridge-apart MemoryBackend e = clash-at e
-bridge-apart MemoryBackendRam e = clash-at e
-bridge-apart Tag e = clash-at e
+bridge-apart = each (λ (t : TypeId). is_a t (codes "slot-bridge") ≡ true → is_a MemBus (bus_type t) ≡ false) (search rules)
 
 -- Ways.
 

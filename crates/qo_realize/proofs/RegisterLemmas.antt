@@ -10,8 +10,8 @@ use Rattle.qo_backends.specs.Rings.{claimed_ring}
 use Rattle.qo_kinds.specs.Bodies.{IsTimely, kept_of, registers_of}
 use Rattle.qo_kinds.specs.declared.bodies.Body.{Body}
 use Rattle.qo_kinds.specs.declared.kept_set.KeptSet.{KeptSet}
-use Rattle.qo_kinds.specs.declared.bodies.Body.TheVariants.{Uart, Timer, Dimm, Bridge, Bus, Clock, Backend, Plain}
-use Rattle.qo_kinds.specs.declared.bodies.Effect as told
+use Rattle.qo_kinds.specs.Effects.{shown_effect}
+use Rattle.qo_kinds.specs.declared.effects.Effect as told
 use Rattle.qo_slots.specs.declared.keys.Key.{Key}
 use Rattle.qo_table.specs.Rows.{IsLive}
 use Rattle.qo_object.specs.Content.{Content}
@@ -32,13 +32,13 @@ use Rattle.qo_hotplug.specs.Hotplug.{Asked}
 use Rattle.qo_properties.specs.Claims.{KeepsBook}
 use Rattle.qo_properties.specs.KeptClaims.{KeptBefore, kept_by}
 use Rattle.qo_properties.specs.Pins.{OnlyRootPinned}
-use Rattle.qo_registers.specs.Effects.{shown_effect}
 use Rattle.qo_reset.specs.HoldList.{HoldList}
 use Rattle.qo_reset.specs.Phases.{Holds}
 use Rattle.qo_sound.proofs.DeviceScopeLemmas.{devices_stay_lem}
 use Rattle.qo_sound_clocks.specs.RegisterWrites.{registers_set, with_registers}
 use Rattle.qo_sound_clocks.specs.SoundTimes as boards
 use Rattle.qo_sound_clocks.proofs.TimesLemmas.{times_kept_lem}
+use Rattle.qo_unplug.proofs.MomentLemmas.{in-time}
 use Rattle.qo_realize.specs.BoardClaims.{KeepsClaims}
 use Rattle.qo_realize.specs.Parts.{Parts, parts_of}
 use Rattle.qo_realize.specs.Registers.{GuestWrites, HasWritten, IsHeld, Written, after_effect, guest_written, registers_at, registers_written}
@@ -56,16 +56,6 @@ body-there v o body live is =
 
 -- no timer is ahead of the heap's time
 
-same-timely : (now : ℕ) (body : Body) → boards.IsTimely now (registers_of body) → IsTimely now body
-same-timely now (Uart u k) h = tt
-same-timely now (Timer t k) h = h
-same-timely now (Dimm d k) h = tt
-same-timely now (Bridge raised holds k) h = tt
-same-timely now Bus h = tt
-same-timely now Clock h = tt
-same-timely now Backend h = tt
-same-timely now Plain h = tt
-
 pub timely-there : (p : Parts) → StandsForGood p → (n : ℕ) → IfSome (content_of p.objects n) (λ c. IsTimely p.objects.time c.body)
 timely-there p (b, s, good) n = go (content_of p.objects n) refl
   where
@@ -73,7 +63,7 @@ timely-there p (b, s, good) n = go (content_of p.objects n) refl
     go None e = tt
     go (Some c) e =
         let there : record_of b n ≡ Some (shown n c) = shows-record b p.objects s.shows n ∙ ap (option_map (shown n)) e in
-        same-timely p.objects.time c.body
+        in-time p.objects.time (registers_of c.body)
         (subst (λ (now : ℕ). boards.IsTimely now (registers_of c.body)) s.shows.now (times_kept_lem.there b n (shown n c) there good.run.times))
 
 pub body-timely : (time : ℕ) (v : Objects) (o : Key) (body : Body) → IsLive v.rows o → option_map (λ (c : Content). c.body) (content_of v o.birth) ≡ Some body

@@ -11,9 +11,9 @@ use Rattle.qo_model.specs.Devices.{first_bus}
 use Rattle.qo_model.specs.Reset.{pulse}
 use Rattle.qo_heap.specs.Board.{Shows}
 use Rattle.qo_heap.specs.Objects.{Objects}
-use Rattle.qo_kinds.specs.declared.bodies.Effect as told
+use Rattle.qo_kinds.specs.Effects.{shown_effect}
+use Rattle.qo_kinds.specs.declared.effects.Effect as told
 use Rattle.qo_backends.specs.Rings.{claimed_ring}
-use Rattle.qo_registers.specs.Effects.{shown_effect}
 use Rattle.qo_reset.specs.Phases.{Holds}
 use Rattle.qo_rings.specs.Rings.{ring_changed}
 use Rattle.qo_sound_clocks.specs.RegisterWrites.{registers_set}

@@ -3,6 +3,7 @@
 ghost use Rattle.std.specs.Prelude.{◌≡◌, IfNone, IfSome, List, is_some, ℕ};
 ghost use Rattle.qo_values.specs.Bodies as bodies;
 ghost use Rattle.qo_kinds.specs.Bodies.{IsTimely};
+ghost use Rattle.qo_kinds.specs.Effects.{shown_effect};
 ghost use Rattle.qo_model.specs.Board.{Board as Tree, Ring};
 ghost use Rattle.qo_model.specs.Clocks.{ClocksFit};
 ghost use Rattle.qo_table.specs.Rows.{IsLive};
@@ -10,7 +11,6 @@ ghost use Rattle.qo_heap.specs.Board.{Shows};
 ghost use Rattle.qo_heap.specs.Objects.{content_of};
 ghost use Rattle.qo_properties.specs.Claims.{KeepsBook};
 ghost use Rattle.qo_properties.specs.KeptClaims.{KeptBefore};
-ghost use Rattle.qo_registers.specs.Effects.{shown_effect};
 ghost use Rattle.qo_backends.specs.Rings.{claimed_ring};
 ghost use Rattle.qo_realize.specs.Registers.{GuestWrites, HasWritten, IsHeld, Written, after_effect, guest_read, guest_written, registers_written};
 ghost use Rattle.qo_realize.specs.Representation.{Stands};
@@ -21,7 +21,6 @@ use qo_buses::first_bus;
 use qo_clocks::device_period;
 use qo_heap::{Heap, Oid, Steps};
 use qo_kinds::Effect;
-use qo_registers::{read, write};
 use qo_reset::Resets;
 use qo_rings::Rings;
 use std::sync::ledger::Ledger;
@@ -55,7 +54,8 @@ fn write_register<L: Ledger>(
     let ring = has_ring(heap, dev, steps);
     let period = device_period(heap, dev, steps);
     let time = heap.time();
-    write(heap.body_mut(dev, steps), reg, value, ring, time, period)
+    heap.body_mut(dev, steps)
+        .write(reg, value, ring, time, period)
 }
 
 /// Adds a byte to the ring that a device has claimed; it goes nowhere where there is none.
@@ -135,7 +135,7 @@ impl Board {
         let ring = has_ring(&self.heap, dev, steps);
         let period = device_period(&self.heap, dev, steps);
         let time = self.heap.time();
-        read(self.heap.body(dev, steps), reg, ring, time, period)
+        self.heap.body(dev, steps).read(reg, ring, time, period)
     }
 
     /// Writes `value` to a register of a device, and does what the write does beside: a bridge whose bit

@@ -1,5 +1,5 @@
 -- Lists of properties, property by property.
-use Rattle.std.proofs.Common.{◌≡◌, ℕ, Bool, true, false, List, [], ◌∷◌, ◌++◌, map, refl, sym, ◌∙◌, ap, append_assoc, append-nil, IsUtf8, arith, suc, zero}
+use Rattle.std.proofs.Common.{rules, ◌≡◌, ℕ, Bool, true, false, List, [], ◌∷◌, ◌++◌, map, refl, sym, ◌∙◌, ap, append_assoc, append-nil, IsUtf8, arith, suc, zero}
 use Rattle.std.specs.Prelude.{codes}
 use Rattle.std.specs.List.{list_all}
 use Rattle.std.specs.Str.{IsAscii}
@@ -17,6 +17,7 @@ use Rattle.qo_values.specs.declared.properties.PropType.{PropType}
 use Rattle.qo_values.specs.declared.properties.PropType.TheVariants as ty
 use Rattle.qo_values.specs.declared.type_texts.TypeText.{TypeText}
 use Rattle.qo_values.specs.declared.type_texts.TypeText.TheVariants as text
+use Rattle.qo_values.proofs.EachLemmas.{each}
 use Rattle.qo_replies.specs.Json.{ascii, json}
 use Rattle.qo_replies.specs.PlainBytes.{is_plain_byte}
 use Rattle.qo_replies.specs.Properties.{Begun, HasWritten, are_any, before_name, before_type, after_type, opened, properties_data, property_data, rows_text}
@@ -25,22 +26,7 @@ use Rattle.qo_replies.proofs.QuoteLemmas.{ascii-append, ascii-before, small-asci
 
 -- what is told of types stands for itself
 plain-name : (t : TypeId) → list_all is_plain_byte (type_name t) ≡ true
-plain-name kind.Object = refl
-plain-name kind.Container = refl
-plain-name kind.Machine = refl
-plain-name kind.Device = refl
-plain-name kind.SlotDevice = refl
-plain-name kind.SlotUart = refl
-plain-name kind.SlotTimer = refl
-plain-name kind.SlotBridge = refl
-plain-name kind.MemDimm = refl
-plain-name kind.Bus = refl
-plain-name kind.SlotBus = refl
-plain-name kind.MemBus = refl
-plain-name kind.Clock = refl
-plain-name kind.MemoryBackend = refl
-plain-name kind.MemoryBackendRam = refl
-plain-name kind.Tag = refl
+plain-name = each (λ (t : TypeId). list_all is_plain_byte (type_name t) ≡ true) (search rules)
 
 both-plain : (a b : List ℕ) → list_all is_plain_byte a ≡ true → list_all is_plain_byte b ≡ true → list_all is_plain_byte (a ++ b) ≡ true
 both-plain a b ea eb = list_all-append is_plain_byte a b ∙ rw (ea, eb) refl

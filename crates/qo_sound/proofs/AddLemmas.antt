@@ -1,26 +1,11 @@
 -- `object-add` keeps a board at rest, taken or refused.
 use Rattle.std.proofs.Common.{◌≡◌, refl, ap, sym, subst, ◌∙◌, ℕ, ◌+◌, leb, Bool, true, false, cond, not, ◌==◌, List, [], ◌∷◌, ◌++◌, map, length, codes, sum_by, Option, Some, None, is_some, option_map, arith}
-use Rattle.std.specs.List.{AllByRecursion, list_any}
-use Rattle.std.specs.Option.{option_map_or}
-use Rattle.std.specs.Prelude.{if◌then◌else◌}
-use Rattle.std.specs.Str.{bytes_eq}
+use Rattle.qo_model.proofs.Common.{AllByRecursion, list_any, option_map_or, if◌then◌else◌, bytes_eq, is_id, fresh_registers, OBJECTS_BIRTH, Code, E15, E21, E22, E23, E24, E43, TypeId, Board, Record, Slot, plain, child, strong, weak, alias, record_of, kind_of, is_live, with_added, Given, added_as, barred, given_slots, has_slot, init_notes, object_add, with_attempt, with_object, children_in, children_of, is_child, edit, edited, TypeInfo, is_a}
+use Rattle.qo_model.specs.declared.notes.Note.{Note}
 use Rattle.std.proofs.lemmas.Bool.{eqb-true, not-false}
 use Rattle.std.proofs.lemmas.List.{map-append}
 use Rattle.std.proofs.lemmas.List.Sums.{sum_by-cons}
-use Rattle.qo_values.specs.Ids.{is_id}
-use Rattle.qo_values.specs.Registers.{fresh_registers}
-use Rattle.qo_values.specs.declared.births.TheConstants.{OBJECTS_BIRTH}
-use Rattle.qo_values.specs.declared.codes.Code.{Code}
-use Rattle.qo_values.specs.declared.codes.Code.TheVariants.{E15, E21, E22, E23, E24, E43}
-use Rattle.qo_values.specs.declared.kinds.TypeId.{TypeId}
 use Rattle.qo_model.proofs.ComesToLemmas.{addition-comes}
-use Rattle.qo_model.specs.declared.notes.Note.{Note}
-use Rattle.qo_model.specs.Board.{Board, Record, Slot, plain, child, strong, weak, alias, record_of, kind_of, is_live}
-use Rattle.qo_model.specs.Changes.{with_added}
-use Rattle.qo_model.specs.Objects.{Given, added_as, barred, given_slots, has_slot, init_notes, object_add, with_attempt, with_object}
-use Rattle.qo_model.specs.Paths.{children_in, children_of, is_child}
-use Rattle.qo_model.specs.Release.{edit, edited}
-use Rattle.qo_model.specs.Types.{TypeInfo, is_a}
 use Rattle.qo_sound.proofs.SlotLemmas.{names_in, one_child}
 use Rattle.qo_sound.proofs.FirmBoardLemmas.{Linked, AllLinked, parents_in, Firm, firm-born}
 use Rattle.qo_sound.proofs.WorkLemmas.{Nearly}

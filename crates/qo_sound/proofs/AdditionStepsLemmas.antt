@@ -1,31 +1,10 @@
 -- What each small step of adding a device keeps, adding a device keeps.
 use Rattle.std.proofs.Common.{◌≡◌, refl, ℕ, ◌+◌, Bool, true, false, List, [], ◌∷◌, filter, codes, Option, Some, None}
-use Rattle.std.specs.Bool.{⊤}
-use Rattle.std.specs.List.{AllByRecursion}
-use Rattle.qo_values.specs.declared.kinds.Act.{Act}
-use Rattle.qo_values.specs.declared.kinds.Act.TheVariants.{Enter, Hold, Exit}
-use Rattle.qo_values.specs.declared.kinds.TypeId.{TypeId}
-use Rattle.qo_values.specs.declared.kinds.TypeId.TheVariants.{Device}
-use Rattle.qo_values.specs.declared.properties.Val.{Val}
-use Rattle.qo_values.specs.declared.properties.Val.TheVariants as val
-use Rattle.qo_values.specs.declared.ranges.Range.{Range}
+use Rattle.qo_model.proofs.Common.{⊤, AllByRecursion, Act, Enter, Hold, Exit, TypeId, Device, Val, Range, Board, Record, Slot, plain, child, strong, weak, alias, slots_at, add, fresh, set, with_added, with_changed, with_val, acted, kid_name, deed_type, index_from, first_value, fresh_record, fresh_slots, Spot, Wanted, acted_all, addressed_at, aliased, clocked, drafted, fitted, joined, link_named, name_for, owned, parent_for, property_made, properties_made, source_for, stood, valued, with_body_of, with_given, with_new, with_source, edit, without_slots, is_out, phased, plugged, post, property_name, slots_of, is_named, set_named, disconnected, unseen, unseen_named}
 use Rattle.qo_model.specs.declared.notes.Deed.TheVariants.{Did}
-use Rattle.qo_model.specs.Board.{Board, Record, Slot, plain, child, strong, weak, alias, slots_at}
-use Rattle.qo_model.specs.Changes.{add, fresh, set, with_added, with_changed, with_val}
-use Rattle.qo_model.specs.Clocks.{acted}
-use Rattle.qo_model.specs.Devices.{kid_name}
-use Rattle.qo_model.specs.Notes.{deed_type}
-use Rattle.qo_model.specs.Objects.{index_from}
-use Rattle.qo_model.specs.Opening.{first_value, fresh_record, fresh_slots}
-use Rattle.qo_model.specs.Plug.{Spot, Wanted, acted_all, addressed_at, aliased, clocked, drafted, fitted, joined, link_named, name_for, owned, parent_for, property_made, properties_made, source_for, stood, valued, with_body_of, with_given, with_new, with_source}
-use Rattle.qo_model.specs.Release.{edit}
-use Rattle.qo_model.specs.ReleaseInduction.{without_slots}
-use Rattle.qo_model.specs.Reset.{is_out, phased, plugged, post}
-use Rattle.qo_model.specs.RowNames.{property_name}
-use Rattle.qo_model.specs.Types.{slots_of}
-use Rattle.qo_model.specs.Unplug.{is_named, set_named, disconnected, unseen, unseen_named}
 use Rattle.qo_model.specs.declared.properties.Property.{Property}
 use Rattle.qo_model.specs.declared.properties.PropertyRole.{PropertyRole}
+use Rattle.qo_values.specs.declared.properties.Val.TheVariants as val
 use Rattle.qo_model.specs.declared.properties.PropertyRole.TheVariants as row
 
 -- a change of an object that leaves all but its slots

@@ -1,14 +1,6 @@
 -- Why the aliases have to be sound too: one of the machine that passes on to a tag under `/objects` outlasts the tag, and what was sound is not.
 use Rattle.std.proofs.Common.{◌≡◌, refl, rules, true, false, [], ◌∷◌, ◌++◌, map, codes}
-use Rattle.std.specs.List.{IsDistinct}
-use Rattle.qo_values.specs.declared.kinds.TypeId.TheVariants.{Tag}
-use Rattle.qo_model.specs.Board.{Board, child, alias}
-use Rattle.qo_model.specs.Changes.{with_added}
-use Rattle.qo_model.specs.FinalNotesRuns.{deleted, changed}
-use Rattle.qo_model.specs.Opening.{opening_board, fresh_record}
-use Rattle.qo_model.specs.Release.{edited, drop_slot, finish, finalize, finalize_within, let_go}
-use Rattle.qo_model.specs.SoundGraph.{graph_of, SoundGraph}
-use Rattle.qo_model.specs.Types.{types}
+use Rattle.qo_model.proofs.Common.{IsDistinct, Tag, Board, child, alias, with_added, deleted, changed, opening_board, fresh_record, edited, drop_slot, finish, finalize, finalize_within, let_go, graph_of, SoundGraph, types}
 use Rattle.qo_model.proofs.GraphLemmas.{HasLater, none_round-from_later}
 
 -- the opening board with the tag `t`, and an alias of the machine that passes on to it

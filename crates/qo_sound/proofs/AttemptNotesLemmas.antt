@@ -1,24 +1,14 @@
 -- An attempt that was given up, or cut, keeps the notes of a board in order: each object that it made has its story, which is over.
 use Rattle.std.proofs.Common.{◌≡◌, refl, ap, ap₂, sym, subst, ◌∙◌, ℕ, zero, suc, ◌+◌, ◌<◌, ◌≤◌, leb, Bool, true, false, ◌==◌, ◌||◌, if◌then◌else◌, List, [], ◌∷◌, ◌++◌, map, filter, take, drop, length, None, append-nil, arith}
-use Rattle.std.specs.List.{AllByRecursion, flat_map, list_any}
+use Rattle.qo_model.proofs.Common.{AllByRecursion, list_any, Act, Init, Realize, Unrealize, Enter, Hold, Exit, TypeId, Board, is_live, ending, is_bound, IsBorn, NotesInOrder, Story, deed_type, init_notes, begun_notes, born_from, bus_births, cut_attempt, cut_order, device_last, did, ended_notes, is_bus, passed_notes, plug_attempt, types_in, with_ended, notes_on, count, finals, inits}
+use Rattle.qo_model.specs.declared.notes.Deed.{Deed}
+use Rattle.qo_model.specs.declared.notes.Deed.TheVariants.{Did, Final}
+use Rattle.qo_model.specs.declared.notes.Note.{Note}
+use Rattle.std.specs.List.{flat_map}
 use Rattle.std.proofs.lemmas.Bool.{eqb-true, eq-eqb}
 use Rattle.std.proofs.lemmas.List.{take-append-drop}
 use Rattle.std.proofs.lemmas.List.Elements.{filter-append}
 use Rattle.std.proofs.lemmas.List.Folds.{list_any-append}
-use Rattle.qo_values.specs.declared.kinds.Act.{Act}
-use Rattle.qo_values.specs.declared.kinds.Act.TheVariants.{Init, Realize, Unrealize, Enter, Hold, Exit}
-use Rattle.qo_values.specs.declared.kinds.TypeId.{TypeId}
-use Rattle.qo_model.specs.declared.notes.Deed.{Deed}
-use Rattle.qo_model.specs.declared.notes.Deed.TheVariants.{Did, Final}
-use Rattle.qo_model.specs.declared.notes.Note.{Note}
-use Rattle.qo_model.specs.Board.{Board, is_live}
-use Rattle.qo_model.specs.FinalNotes.{ending, is_bound, IsBorn, NotesInOrder, Story}
-use Rattle.qo_model.specs.Notes.{deed_type}
-use Rattle.qo_model.specs.Objects.{init_notes}
-use Rattle.qo_model.specs.Plug.{begun_notes, born_from, bus_births, cut_attempt, cut_order, device_last, did, ended_notes, is_bus, passed_notes, plug_attempt, types_in, with_ended}
-use Rattle.qo_model.specs.ReleaseNotes.{notes_on}
-use Rattle.qo_model.specs.Reset.{count}
-use Rattle.qo_model.specs.Types.{finals, inits}
 use Rattle.qo_model.proofs.DraftEndsLemmas.{born-length}
 use Rattle.qo_model.proofs.FinalNotesLemmas.{live-of-kind, story-same}
 use Rattle.qo_sound.proofs.RecordLemmas.{all-append}

@@ -1,22 +1,11 @@
 -- A slot that is let go, a link that is written and a plain value: each object keeps references, or those of what the slot held come to an end.
 use Rattle.std.proofs.Common.{◌≡◌, refl, ap, sym, subst, ◌∙◌, ℕ, zero, suc, ◌<◌, ◌≤◌, true, cond, ◌==◌, List, [], ◌∷◌, slice_get, Option, Some, None, option_map, arith}
-use Rattle.std.specs.List.{AllByRecursion}
-use Rattle.std.specs.Option.{option_map_or}
+use Rattle.qo_model.proofs.Common.{AllByRecursion, option_map_or, OBJECTS_BIRTH, TypeId, Val, Board, Record, Slot, plain, child, strong, weak, alias, record_of, kind_of, is_live, slots_at, slot_at, point, pointed, set, changed_at, with_changed, with_val, among, child_of, pointed_at, relinked, refs, refs_in, holds_it, drop_slot, edit, edited, emptied, let_go, with_dropped, without_hold, is_open, lasting, PassesTo}
 use Rattle.std.proofs.lemmas.Bool.{eq-eqb}
 use Rattle.std.proofs.lemmas.Option.{same_Some}
-use Rattle.qo_values.specs.declared.births.TheConstants.{OBJECTS_BIRTH}
-use Rattle.qo_values.specs.declared.kinds.TypeId.{TypeId}
-use Rattle.qo_values.specs.declared.properties.Val.{Val}
-use Rattle.qo_model.specs.Board.{Board, Record, Slot, plain, child, strong, weak, alias, record_of, kind_of, is_live, slots_at, slot_at, held}
-use Rattle.qo_model.specs.Changes.{point, pointed, set, changed_at, with_changed, with_val}
-use Rattle.qo_model.specs.Depth.{among}
-use Rattle.qo_model.specs.Paths.{child_of}
-use Rattle.qo_model.specs.Properties.{pointed_at, relinked}
-use Rattle.qo_model.specs.References.{refs, refs_in, holds_it}
-use Rattle.qo_model.specs.Release.{drop_slot, edit, edited, emptied, let_go, with_dropped, without_hold}
+use Rattle.qo_model.specs.Board.{held}
 use Rattle.qo_model.proofs.EditLemmas.{StandsAt, stands-at}
 use Rattle.qo_model.proofs.StepLemmas.{drop-live, drop-record, live-among, found-birth, one_of}
-use Rattle.qo_model.specs.SoundAliases.{is_open, lasting, PassesTo}
 use Rattle.qo_model.proofs.WrittenLemmas.{IsLink, holding, seeing}
 use Rattle.qo_sound.proofs.SlotLemmas.{clocks-changed, clocks-stay, IsNoClock, no_child}
 use Rattle.qo_sound.proofs.RecordLemmas.{all-edited, sum-edited}

@@ -1,13 +1,7 @@
 -- What each small step of the commands on objects keeps, the commands keep.
 use Rattle.std.proofs.Common.{◌≡◌, refl, ℕ, List, length, Option, Some, None}
-use Rattle.qo_values.specs.declared.births.TheConstants.{OBJECTS_BIRTH}
-use Rattle.qo_values.specs.declared.properties.Val.{Val}
-use Rattle.qo_model.specs.Board.{Board, Slot, slot_at, slots_at, held}
-use Rattle.qo_model.specs.Changes.{point, pointed, set, with_changed, with_val}
-use Rattle.qo_model.specs.FinalNotesRuns.{after_write}
-use Rattle.qo_model.specs.Objects.{object_del, sever, severed_from}
-use Rattle.qo_model.specs.Properties.{pointed_at, relinked, write}
-use Rattle.qo_model.specs.Release.{drop_slot, pin, with_dropped}
+use Rattle.qo_model.proofs.Common.{OBJECTS_BIRTH, Val, Board, Slot, slot_at, slots_at, point, pointed, set, with_changed, with_val, after_write, object_del, sever, severed_from, pointed_at, relinked, write, drop_slot, pin, with_dropped}
+use Rattle.qo_model.specs.Board.{held}
 use Rattle.qo_model.proofs.ComesToLemmas.{deletion-comes, sever-comes, severed-comes}
 use Rattle.qo_model.proofs.WrittenLemmas.{write-comes}
 use Rattle.qo_sound.proofs.AdditionStepsLemmas.{KeepsEdits}

@@ -1,20 +1,10 @@
 -- An object without parent gets its child slot after those of another, and with it a reference.
 use Rattle.std.proofs.Common.{◌≡◌, refl, ap, sym, subst, ◌∙◌, ℕ, ◌+◌, ◌<◌, ◌≤◌, Bool, true, false, ◌==◌, eqb, List, [], ◌∷◌, ◌++◌, Option, Some, None, is_some, option_map, arith}
-use Rattle.std.specs.List.{AllByRecursion}
-use Rattle.std.specs.Option.{option_map_or}
-use Rattle.std.specs.Str.{bytes_eq}
+use Rattle.qo_model.proofs.Common.{AllByRecursion, option_map_or, bytes_eq, TypeId, Board, Record, Slot, child, record_of, kind_of, is_live, with_added, among, leads, Leads, one, more, births, child_of, children_in, children_of, refs, edit, edited, Rises}
 use Rattle.std.proofs.lemmas.Bool.{eqb-true, eq-eqb}
 use Rattle.std.proofs.lemmas.List.Elements.{filter_map-append}
 use Rattle.std.proofs.lemmas.Option.{same_Some}
 use Rattle.std.proofs.Math.Bool.{or-false}
-use Rattle.qo_values.specs.declared.kinds.TypeId.{TypeId}
-use Rattle.qo_model.specs.Board.{Board, Record, Slot, child, record_of, kind_of, is_live}
-use Rattle.qo_model.specs.Changes.{with_added}
-use Rattle.qo_model.specs.Depth.{among, leads, Leads, one, more}
-use Rattle.qo_model.specs.Paths.{births, child_of, children_in, children_of}
-use Rattle.qo_model.specs.References.{refs}
-use Rattle.qo_model.specs.Release.{edit, edited}
-use Rattle.qo_model.specs.SoundGraph.{Rises}
 use Rattle.qo_model.proofs.StepLemmas.{found-edited, live-among, found-birth, one_of}
 use Rattle.qo_sound.proofs.RecordLemmas.{all-append, all-edited}
 use Rattle.qo_sound.proofs.SlotLemmas.{names_in, one_child}

@@ -1,11 +1,9 @@
 -- No object is a child twice, said by counts.
 use Rattle.std.proofs.Common.{nat_eq, ◌≡◌, refl, ap, ℕ, ◌<◌, ◌≤◌, Bool, true, false, cond, ◌==◌, List, [], ◌∷◌, ◌++◌, flat_map, sum_by, arith}
-use Rattle.std.specs.List.{AllByRecursion, IsDistinct}
+use Rattle.qo_model.proofs.Common.{AllByRecursion, IsDistinct, Record, Slot, plain, child, strong, weak, alias, children_in}
 use Rattle.std.proofs.lemmas.Bool.{eq-eqb}
 use Rattle.std.proofs.lemmas.List.Concat.{flat_map-cons}
 use Rattle.std.proofs.lemmas.List.Sums.{sum_by-cons, sum_by-append}
-use Rattle.qo_model.specs.Board.{Record, Slot, plain, child, strong, weak, alias}
-use Rattle.qo_model.specs.Paths.{children_in}
 use Rattle.qo_sound.proofs.SlotLemmas.{one_child}
 use Rattle.qo_sound.proofs.FirmBoardLemmas.{parents_in}
 

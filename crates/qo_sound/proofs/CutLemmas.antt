@@ -1,17 +1,10 @@
 -- A slot of one object that is removed, an object whose slots stay, and lists of a board beside the tree.
 use Rattle.std.proofs.Common.{◌≡◌, refl, ap, sym, subst, ◌∙◌, ℕ, zero, suc, ◌+◌, ◌≤◌, Bool, true, false, cond, ◌==◌, List, [], ◌∷◌, map, remove, slice_get, sum_by, Option, Some, None, arith}
-use Rattle.std.specs.List.{AllByRecursion, IsDistinct, cons_option}
-use Rattle.std.specs.Str.{bytes_eq}
+use Rattle.qo_model.proofs.Common.{AllByRecursion, IsDistinct, cons_option, bytes_eq, Board, Notice, Record, Slot, record_of, kind_of, is_live, slot_at, cut, with_cut, among, child_of, children_in, refs, refs_in, holds_it, edit, edited, is_clock_slot, is_open, lasting, PassesTo}
+use Rattle.qo_model.specs.declared.notes.Note.{Note}
 use Rattle.std.proofs.lemmas.Option.{same_Some}
 use Rattle.std.proofs.lemmas.List.Sums.{sum_by-cons}
-use Rattle.qo_model.specs.Board.{Board, Notice, Record, Slot, record_of, kind_of, is_live, slot_at, held}
-use Rattle.qo_model.specs.Changes.{cut, with_cut}
-use Rattle.qo_model.specs.declared.notes.Note.{Note}
-use Rattle.qo_model.specs.Depth.{among}
-use Rattle.qo_model.specs.Paths.{child_of, children_in}
-use Rattle.qo_model.specs.References.{refs, refs_in, holds_it}
-use Rattle.qo_model.specs.Release.{edit, edited}
-use Rattle.qo_model.specs.SoundAliases.{is_clock_slot, is_open, lasting, PassesTo}
+use Rattle.qo_model.specs.Board.{held}
 use Rattle.qo_model.proofs.EditLemmas.{StandsAt, stands-at}
 use Rattle.qo_model.proofs.StepLemmas.{live-among, one_of}
 use Rattle.qo_sound.proofs.RecordLemmas.{all-edited, sum-edited}

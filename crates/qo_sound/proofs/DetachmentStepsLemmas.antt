@@ -1,18 +1,8 @@
 -- What each small step of a detachment keeps, a detachment keeps.
 use Rattle.std.proofs.Common.{nat_eq, ◌≡◌, refl, ℕ, zero, suc, Bool, true, false, not, ◌==◌, List, [], ◌∷◌, filter, length, codes, Option, Some, None}
-use Rattle.std.specs.List.{AllByRecursion, list_any}
-use Rattle.qo_values.specs.declared.births.TheConstants.{ANONYMOUS_BIRTH, PERIPHERAL_BIRTH}
-use Rattle.qo_values.specs.declared.kinds.Act.TheVariants.{Unrealize}
+use Rattle.qo_model.proofs.Common.{AllByRecursion, list_any, ANONYMOUS_BIRTH, PERIPHERAL_BIRTH, Unrealize, Board, Notice, Slot, slots_at, slot_at, cut, with_cut, device_period, by_depth, bus_of, buses_of, clock_of, kids_of, index_from, births, after, drop_slot, finalize, let_go, pin, put_in_order, unpin, with_dropped, without_first, detach, each, is_bus_child, is_child_slot, is_named, left_bus, left_parent, let_go_where, names_kid, take_slot, take_where, unheld, unnoticed, unrealize, unrealize_turn, unrealized_bus, unrealized_device, without_all}
 use Rattle.qo_values.specs.declared.properties.Val.TheVariants as val
-use Rattle.qo_model.specs.Board.{Board, Notice, Slot, slots_at, slot_at, held}
-use Rattle.qo_model.specs.Changes.{cut, with_cut}
-use Rattle.qo_model.specs.Clocks.{device_period}
-use Rattle.qo_model.specs.Depth.{by_depth}
-use Rattle.qo_model.specs.Devices.{bus_of, buses_of, clock_of, kids_of}
-use Rattle.qo_model.specs.Objects.{index_from}
-use Rattle.qo_model.specs.Paths.{births}
-use Rattle.qo_model.specs.Release.{after, drop_slot, finalize, let_go, pin, put_in_order, unpin, with_dropped, without_first}
-use Rattle.qo_model.specs.Unplug.{detach, each, is_bus_child, is_child_slot, is_named, left_bus, left_parent, let_go_where, names_kid, take_slot, take_where, unheld, unnoticed, unrealize, unrealize_turn, unrealized_bus, unrealized_device, without_all}
+use Rattle.qo_model.specs.Board.{held}
 use Rattle.qo_sound.proofs.AdditionStepsLemmas.{KeepsActs, KeepsEdits, step-set, step-disconnected}
 use Rattle.qo_sound.proofs.UnplugLemmas.{detached-keeps}
 

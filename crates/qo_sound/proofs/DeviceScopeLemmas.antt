@@ -1,20 +1,6 @@
 -- The law: what adding and detaching a device leaves of a board beside its objects.
 use Rattle.std.proofs.Common.{◌≡◌, refl, ap, sym, ◌∙◌, ℕ, suc, ◌+◌, Bool, true, false, ◌==◌, List, [], ◌∷◌, ◌++◌, Option, Some, None, append_assoc, append-nil}
-use Rattle.std.specs.Bool.{⊤}
-use Rattle.qo_values.specs.declared.codes.Code.{Code}
-use Rattle.qo_values.specs.declared.kinds.Act.TheVariants.{Realize}
-use Rattle.qo_values.specs.declared.kinds.TypeId.{TypeId}
-use Rattle.qo_model.specs.Board.{Board, DeviceEvent, Notice}
-use Rattle.qo_model.specs.Clocks.{acted}
-use Rattle.qo_model.specs.Devices.{buses_of, kids_of}
-use Rattle.qo_model.specs.Plug.{Plugged, Spot, Wanted, acted_all, barred_early, barred_late, bus_births, bus_for, clocked, counted, cut_attempt, drafted, plug, plug_as, plug_attempt, plug_by, plug_late, source_for, spot_of, stood, type_barred, with_device, with_plugged}
-use Rattle.qo_model.specs.References.{refs}
-use Rattle.qo_model.specs.Release.{after, finalize, pin}
-use Rattle.qo_model.specs.ReleaseInduction.{Leaves}
-use Rattle.qo_model.specs.Reset.{plugged, post}
-use Rattle.qo_model.specs.ChangeScope.{Stays}
-use Rattle.qo_model.specs.Types.{TypeInfo, type_named, slots_of}
-use Rattle.qo_model.specs.Unplug.{detach}
+use Rattle.qo_model.proofs.Common.{⊤, Code, Realize, TypeId, Board, DeviceEvent, Notice, acted, buses_of, kids_of, Plugged, Spot, Wanted, acted_all, barred_early, barred_late, bus_births, bus_for, clocked, counted, cut_attempt, drafted, plug, plug_as, plug_attempt, plug_by, plug_late, source_for, spot_of, stood, type_barred, with_device, with_plugged, refs, after, finalize, pin, Leaves, plugged, post, Stays, TypeInfo, type_named, slots_of, detach}
 use Rattle.qo_model.proofs.ReleaseScopeLemmas.{release_leaves}
 use Rattle.qo_model.proofs.ChangeScopeLemmas.{stays-none, stays-then}
 use Rattle.qo_sound.specs.DeviceScope.{AddLeaves, anonymous_after, AttemptLeaves, DetachLeaves, DevicesStayLaw}

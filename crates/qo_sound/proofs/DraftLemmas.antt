@@ -1,33 +1,16 @@
 -- A new device is made, property by property, while it is held from outside: the tree stays sound, and what was there before stays as it was.
 use Rattle.std.proofs.Common.{◌≡◌, refl, rules, ap, sym, subst, ◌∙◌, ℕ, ◌+◌, ◌<◌, ◌≤◌, Bool, true, false, cond, ◌==◌, eqb, List, [], ◌∷◌, ◌++◌, map, find, codes, Option, Some, None, is_some, option_map, arith}
-use Rattle.std.specs.Bool.{⊤}
+use Rattle.qo_model.proofs.Common.{⊤, AllByRecursion, IsDistinct, cons_option, option_map_or, bytes_eq, TypeId, Board, Record, Slot, plain, child, strong, weak, alias, record_of, kind_of, is_live, add, fresh, with_added, among, leads, child_named, init_notes, first_value, fresh_record, child_of, children_in, children_of, aliased, drafted, owned, property_made, properties_made, with_kid, with_new, refs, edited, is_clock_slot, is_open, lasting, PassesTo, slots_of, types, property_name}
+use Rattle.qo_model.specs.declared.notes.Note.{Note}
+use Rattle.qo_model.specs.declared.properties.Property.{Property}
+use Rattle.qo_model.specs.declared.properties.PropertyRole.{PropertyRole}
 use Rattle.std.specs.Prelude.{option_and_then}
-use Rattle.std.specs.List.{AllByRecursion, IsDistinct, cons_option}
-use Rattle.std.specs.Option.{option_map_or}
-use Rattle.std.specs.Str.{bytes_eq}
 use Rattle.std.proofs.lemmas.Bool.{eqb-true, eq-eqb}
 use Rattle.std.proofs.lemmas.List.{map-append}
 use Rattle.std.proofs.lemmas.List.Sums.{sum_by-cons}
 use Rattle.std.proofs.lemmas.Option.{same_Some}
 use Rattle.std.proofs.lemmas.Slice.Eq.{bytes_eq-Decides}
-use Rattle.qo_values.specs.declared.kinds.TypeId.{TypeId}
-use Rattle.qo_values.specs.declared.kinds.TypeId.TheVariants.{Object, Container, Machine, Device, SlotDevice, SlotUart, SlotTimer, SlotBridge, MemDimm, Bus, SlotBus, MemBus, Clock, MemoryBackend, MemoryBackendRam, Tag}
-use Rattle.qo_model.specs.declared.notes.Note.{Note}
-use Rattle.qo_model.specs.Board.{Board, Record, Slot, plain, child, strong, weak, alias, record_of, kind_of, is_live}
-use Rattle.qo_model.specs.Changes.{add, fresh, with_added}
-use Rattle.qo_model.specs.Depth.{among, leads}
-use Rattle.qo_model.specs.Devices.{child_named}
-use Rattle.qo_model.specs.Objects.{init_notes}
-use Rattle.qo_model.specs.Opening.{first_value, fresh_record}
-use Rattle.qo_model.specs.Paths.{child_of, children_in, children_of}
-use Rattle.qo_model.specs.Plug.{aliased, drafted, owned, property_made, properties_made, with_kid, with_new}
-use Rattle.qo_model.specs.References.{refs}
-use Rattle.qo_model.specs.Release.{edited}
-use Rattle.qo_model.specs.SoundAliases.{is_clock_slot, is_open, lasting, PassesTo}
-use Rattle.qo_model.specs.Types.{slots_of, types}
-use Rattle.qo_model.specs.RowNames.{property_name}
-use Rattle.qo_model.specs.declared.properties.Property.{Property}
-use Rattle.qo_model.specs.declared.properties.PropertyRole.{PropertyRole}
+use Rattle.qo_values.proofs.EachLemmas.{each}
 use Rattle.qo_model.specs.declared.properties.PropertyRole.TheVariants as row
 use Rattle.qo_model.proofs.GraphLemmas.{births_at}
 use Rattle.qo_model.proofs.StepLemmas.{found_at, found-edited, found-birth}
@@ -325,41 +308,11 @@ module _ (b : Board) (n : ℕ) (t : TypeId) (absent : record_of b n ≡ None) (n
 -- the rows of types: their names differ, and an alias passes on to the clock
 row-names : (t : TypeId) → IsDistinct bytes_eq (row_names (slots_of t))
 unfolding types IsDistinct
-row-names Object = search rules
-row-names Container = search rules
-row-names Machine = search rules
-row-names Device = search rules
-row-names SlotDevice = search rules
-row-names SlotUart = search rules
-row-names SlotTimer = search rules
-row-names SlotBridge = search rules
-row-names MemDimm = search rules
-row-names Bus = search rules
-row-names SlotBus = search rules
-row-names MemBus = search rules
-row-names Clock = search rules
-row-names MemoryBackend = search rules
-row-names MemoryBackendRam = search rules
-row-names Tag = search rules
+row-names = each (λ (t : TypeId). IsDistinct bytes_eq (row_names (slots_of t))) (search rules)
 
 row-clocks : (t : TypeId) → AllByRecursion OfClock (slots_of t)
 unfolding types
-row-clocks Object = search rules
-row-clocks Container = search rules
-row-clocks Machine = search rules
-row-clocks Device = search rules
-row-clocks SlotDevice = search rules
-row-clocks SlotUart = search rules
-row-clocks SlotTimer = search rules
-row-clocks SlotBridge = search rules
-row-clocks MemDimm = search rules
-row-clocks Bus = search rules
-row-clocks SlotBus = search rules
-row-clocks MemBus = search rules
-row-clocks Clock = search rules
-row-clocks MemoryBackend = search rules
-row-clocks MemoryBackendRam = search rules
-row-clocks Tag = search rules
+row-clocks = each (λ (t : TypeId). AllByRecursion OfClock (slots_of t)) (search rules)
 
 all-free : (ps : List Property) → AllByRecursion (λ (p : Property). AllByRecursion (λ x. bytes_eq x (property_name p.name) ≡ false) []) ps
 all-free [] = tt

@@ -1,13 +1,10 @@
 -- Slots of which those before a place hold nothing, as in an object that is being finalized.
 use Rattle.std.proofs.Common.{◌≡◌, refl, ap, sym, subst, ◌∙◌, ℕ, zero, suc, Bool, true, false, ◌==◌, List, [], ◌∷◌, slice_get, sum_by, Option, Some, None, option_map, arith}
-use Rattle.std.specs.Bool.{⊤}
-use Rattle.std.specs.Option.{option_map_or}
+use Rattle.qo_model.proofs.Common.{⊤, option_map_or, Board, Record, Slot, plain, child, strong, weak, alias, record_of, slots_at, slot_at, holds_it, edited, without_hold, with_dropped, drop_slot, next_index, forgotten_in, forgotten, finish}
 use Rattle.std.proofs.lemmas.Bool.{eqb-true, eq-eqb}
 use Rattle.std.proofs.lemmas.List.Sums.{sum_by-cons}
 use Rattle.std.proofs.lemmas.Option.{same_Some}
-use Rattle.qo_model.specs.Board.{Board, Record, Slot, plain, child, strong, weak, alias, record_of, slots_at, slot_at, held}
-use Rattle.qo_model.specs.References.{holds_it}
-use Rattle.qo_model.specs.Release.{edited, without_hold, with_dropped, drop_slot, next_index, forgotten_in, forgotten, finish}
+use Rattle.qo_model.specs.Board.{held}
 use Rattle.qo_model.proofs.EditLemmas.{held-forgotten, StandsAt, stands-at}
 use Rattle.qo_model.proofs.StepLemmas.{drop-record, finish-record, finish-gone, found-birth, one_of}
 use Rattle.qo_sound.proofs.SlotLemmas.{each_slot}

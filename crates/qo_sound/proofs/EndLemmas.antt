@@ -1,19 +1,8 @@
 -- What of a board's soundness speaks of no reference is kept by the end of an object that has none.
 use Rattle.std.proofs.Common.{◌≡◌, refl, ap, sym, subst, ◌∙◌, ℕ, ◌≤◌, Bool, true, false, not, ◌==◌, List, [], ◌∷◌, map, filter, sum_by, Option, Some, None, is_some, option_map, arith}
-use Rattle.std.specs.List.{AllByRecursion, IsDistinct}
-use Rattle.std.specs.Option.{option_map_or}
-use Rattle.std.specs.Str.{bytes_eq}
+use Rattle.qo_model.proofs.Common.{AllByRecursion, IsDistinct, option_map_or, bytes_eq, type_name, TypeId, Board, Record, Slot, plain, child, strong, weak, alias, record_of, kind_of, among, leads, births, children_in, children_of, refs, refs_in, holds_it, forgotten_in, forgotten, finish, Rises, is_a}
 use Rattle.std.proofs.lemmas.Bool.{eqb-true}
 use Rattle.std.proofs.lemmas.List.Sums.{sum_by-cons}
-use Rattle.qo_values.specs.Kinds.{type_name}
-use Rattle.qo_values.specs.declared.kinds.TypeId.{TypeId}
-use Rattle.qo_model.specs.Board.{Board, Record, Slot, plain, child, strong, weak, alias, record_of, kind_of}
-use Rattle.qo_model.specs.Depth.{among, leads}
-use Rattle.qo_model.specs.Paths.{births, children_in, children_of}
-use Rattle.qo_model.specs.References.{refs, refs_in, holds_it}
-use Rattle.qo_model.specs.Release.{forgotten_in, forgotten, finish}
-use Rattle.qo_model.specs.SoundGraph.{Rises}
-use Rattle.qo_model.specs.Types.{is_a}
 use Rattle.qo_model.proofs.EditLemmas.{sum-filter_le}
 use Rattle.qo_model.proofs.StepLemmas.{finish-record, finish-gone, finish-births, one_of}
 use Rattle.qo_sound.proofs.RecordLemmas.{all-both, all-map, all-filter}

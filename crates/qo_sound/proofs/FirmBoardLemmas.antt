@@ -1,24 +1,10 @@
 -- What of a board's soundness speaks of no reference and no pin: what it is, and that it is kept by a slot let go, by an end, and by a link that is pointed.
 use Rattle.std.proofs.Common.{◌≡◌, refl, ap, sym, subst, ◌∙◌, ℕ, ◌<◌, ◌≤◌, Bool, true, false, ◌==◌, List, [], ◌∷◌, map, filter, sum_by, count_by, slice_get, Option, Some, None, is_some, option_map, arith}
-use Rattle.std.specs.Bool.{⊤}
-use Rattle.std.specs.List.{AllByRecursion, IsDistinct}
-use Rattle.std.specs.Option.{option_map_or}
-use Rattle.std.specs.Str.{bytes_eq}
+use Rattle.qo_model.proofs.Common.{⊤, AllByRecursion, IsDistinct, option_map_or, bytes_eq, type_name, TypeId, Val, Board, Record, Slot, plain, child, strong, weak, alias, record_of, kind_of, slot_at, with_changed, with_val, among, leads, Leads, one, more, births, child_of, is_child, children_in, children_of, edit, edited, emptied, with_dropped, drop_slot, Rises, is_a, unseen}
+use Rattle.qo_model.specs.declared.notes.Note.{Note}
 use Rattle.std.proofs.lemmas.Bool.{eqb-true}
 use Rattle.std.proofs.lemmas.Option.{same_Some}
 use Rattle.std.proofs.Math.Path.{fun_ext}
-use Rattle.qo_values.specs.Kinds.{type_name}
-use Rattle.qo_values.specs.declared.kinds.TypeId.{TypeId}
-use Rattle.qo_values.specs.declared.properties.Val.{Val}
-use Rattle.qo_model.specs.Board.{Board, Record, Slot, plain, child, strong, weak, alias, record_of, kind_of, slot_at}
-use Rattle.qo_model.specs.Changes.{with_changed, with_val}
-use Rattle.qo_model.specs.Depth.{among, leads, Leads, one, more}
-use Rattle.qo_model.specs.Paths.{births, child_of, is_child, children_in, children_of}
-use Rattle.qo_model.specs.Release.{edit, edited, emptied, with_dropped, drop_slot}
-use Rattle.qo_model.specs.SoundGraph.{Rises}
-use Rattle.qo_model.specs.Types.{is_a}
-use Rattle.qo_model.specs.Unplug.{unseen}
-use Rattle.qo_model.specs.declared.notes.Note.{Note}
 use Rattle.qo_model.proofs.EditLemmas.{sum-edit_le, sum-without_hold_le}
 use Rattle.qo_model.proofs.GraphLemmas.{births_at}
 use Rattle.qo_model.proofs.StepLemmas.{found-edited, found-birth, map-edited}

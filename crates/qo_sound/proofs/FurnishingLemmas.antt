@@ -1,16 +1,9 @@
 -- Steps on one object, and what they are on the board with a device: a further object that is made, furnished, joined and let go; and a link that is pointed.
 use Rattle.std.proofs.Common.{◌≡◌, refl, ap, ap₂, sym, ◌∙◌, ℕ, ◌+◌, Bool, true, false, ◌==◌, List, [], ◌∷◌, ◌++◌, map, Some, None}
-use Rattle.std.specs.List.{IsDistinct}
+use Rattle.qo_model.proofs.Common.{IsDistinct, TypeId, Board, Record, fresh, with_fresh, with_fresh_slots, fresh_record, with_new, edited, Rises}
 use Rattle.std.proofs.lemmas.Bool.{eqb-true, eq-eqb}
 use Rattle.std.proofs.lemmas.List.{map-append}
 use Rattle.std.proofs.lemmas.Option.{same_Some}
-use Rattle.qo_values.specs.declared.kinds.TypeId.{TypeId}
-use Rattle.qo_model.specs.Board.{Board, Record}
-use Rattle.qo_model.specs.Changes.{fresh, with_fresh, with_fresh_slots}
-use Rattle.qo_model.specs.Opening.{fresh_record}
-use Rattle.qo_model.specs.Plug.{with_new}
-use Rattle.qo_model.specs.Release.{edited}
-use Rattle.qo_model.specs.SoundGraph.{Rises}
 use Rattle.qo_model.proofs.GraphLemmas.{births_at}
 use Rattle.qo_model.proofs.StepLemmas.{found_at}
 use Rattle.qo_sound.proofs.RecordLemmas.{above-none, edited-none}

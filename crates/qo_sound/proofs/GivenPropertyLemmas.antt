@@ -1,21 +1,8 @@
 -- The slots of a new device get what was given, and its links where it stands: the tree stays sound.
 use Rattle.std.proofs.Common.{◌≡◌, refl, ap, ap₂, sym, subst, ℕ, ◌≤◌, Bool, true, false, cond, List, [], ◌∷◌, map, sum_by, find, Option, Some, None, arith}
-use Rattle.std.specs.List.{AllByRecursion, IsDistinct, cons_option}
-use Rattle.std.specs.Str.{bytes_eq}
+use Rattle.qo_model.proofs.Common.{AllByRecursion, IsDistinct, cons_option, bytes_eq, type_name, TypeId, Val, Board, Record, Slot, plain, child, strong, weak, alias, record_of, kind_of, slots_at, Given, given_to, index_from, slot_given, target_given, child_of, children_in, is_of, only_of, fitted, link_named, with_given, link_target, refs, refs_in, edit, is_open, lasting, PassesTo, is_named}
 use Rattle.std.proofs.lemmas.List.Sums.{sum_by-cons}
-use Rattle.qo_values.specs.Kinds.{type_name}
-use Rattle.qo_values.specs.declared.kinds.TypeId.{TypeId}
-use Rattle.qo_values.specs.declared.properties.Val.{Val}
 use Rattle.qo_values.specs.declared.properties.Val.TheVariants as val
-use Rattle.qo_model.specs.Board.{Board, Record, Slot, plain, child, strong, weak, alias, record_of, kind_of, slots_at}
-use Rattle.qo_model.specs.Objects.{Given, given_to, index_from, slot_given, target_given}
-use Rattle.qo_model.specs.Paths.{child_of, children_in, is_of, only_of}
-use Rattle.qo_model.specs.Plug.{fitted, link_named, with_given}
-use Rattle.qo_model.specs.Properties.{link_target}
-use Rattle.qo_model.specs.References.{refs, refs_in}
-use Rattle.qo_model.specs.Release.{edit}
-use Rattle.qo_model.specs.SoundAliases.{is_open, lasting, PassesTo}
-use Rattle.qo_model.specs.Unplug.{is_named}
 use Rattle.qo_model.proofs.FirstSlotLemmas.{Found, found-at}
 use Rattle.qo_model.proofs.StepLemmas.{one_of}
 use Rattle.qo_sound.proofs.RecordLemmas.{all-map, sum-edited}

@@ -1,22 +1,7 @@
 -- The types of objects stay with the steps by which a device is added.
 use Rattle.std.proofs.Common.{◌≡◌, refl, ◌∙◌, ℕ, ◌+◌, true, List, [], ◌∷◌, filter, codes, Option, Some, None}
-use Rattle.qo_values.specs.declared.kinds.Act.{Act}
-use Rattle.qo_values.specs.declared.kinds.Act.TheVariants.{Realize, Enter, Hold, Exit}
-use Rattle.qo_values.specs.declared.kinds.TypeId.{TypeId}
-use Rattle.qo_values.specs.declared.kinds.TypeId.TheVariants.{Device}
-use Rattle.qo_values.specs.declared.properties.Val.{Val}
+use Rattle.qo_model.proofs.Common.{Act, Realize, Enter, Hold, Exit, TypeId, Device, Val, Range, Board, child, strong, kind_of, slots_at, add, set, with_added, with_changed, with_val, acted, with_act_on, clock_of, kid_name, index_from, canonical, Spot, Wanted, acted_all, addressed_at, bus_births, clocked, counted, drafted, fitted, joined, link_named, name_for, parent_for, source_for, stood, valued, with_body_of, with_device, with_given, with_path, with_plugged, with_source, edit, is_out, phased, plugged, post, is_named, set_named}
 use Rattle.qo_values.specs.declared.properties.Val.TheVariants as val
-use Rattle.qo_values.specs.declared.ranges.Range.{Range}
-use Rattle.qo_model.specs.Board.{Board, child, strong, kind_of, slots_at}
-use Rattle.qo_model.specs.Changes.{add, set, with_added, with_changed, with_val}
-use Rattle.qo_model.specs.Clocks.{acted, with_act_on}
-use Rattle.qo_model.specs.Devices.{clock_of, kid_name}
-use Rattle.qo_model.specs.Objects.{index_from}
-use Rattle.qo_model.specs.Paths.{canonical}
-use Rattle.qo_model.specs.Plug.{Spot, Wanted, acted_all, addressed_at, bus_births, clocked, counted, drafted, fitted, joined, link_named, name_for, parent_for, source_for, stood, valued, with_body_of, with_device, with_given, with_path, with_plugged, with_source}
-use Rattle.qo_model.specs.Release.{edit}
-use Rattle.qo_model.specs.Reset.{is_out, phased, plugged, post}
-use Rattle.qo_model.specs.Unplug.{is_named, set_named}
 use Rattle.qo_sound.proofs.FirmBoardLemmas.{edited-kinds}
 
 -- the types of objects stay with these steps

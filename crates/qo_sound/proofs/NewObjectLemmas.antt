@@ -1,23 +1,13 @@
 -- A board with an object more after the others, which nothing names yet.
 use Rattle.std.proofs.Common.{◌≡◌, refl, ap, ap₂, sym, subst, ◌∙◌, ℕ, ◌+◌, ◌<◌, ◌≤◌, Bool, true, false, cond, ◌==◌, List, [], ◌∷◌, ◌++◌, sum_by, Option, Some, None, is_some, option_map, arith}
-use Rattle.std.specs.List.{AllByRecursion, cons_option}
-use Rattle.std.specs.Option.{option_map_or, option_or}
+use Rattle.qo_model.proofs.Common.{AllByRecursion, cons_option, option_map_or, option_or, type_name, TypeId, Board, Record, Slot, plain, child, strong, weak, alias, record_of, kind_of, is_live, among, leads, births, child_of, children_in, children_of, is_child, refs, refs_in, Rises, is_a, lasting, PassesTo}
+use Rattle.qo_model.specs.declared.notes.Note.{Note}
 use Rattle.std.proofs.lemmas.Bool.{eqb-true, eq-eqb}
 use Rattle.std.proofs.lemmas.List.{map-append}
 use Rattle.std.proofs.lemmas.List.Folds.{find-append}
 use Rattle.std.proofs.lemmas.List.Sums.{sum_by-cons, sum_by-append}
-use Rattle.qo_values.specs.Kinds.{type_name}
-use Rattle.qo_values.specs.declared.kinds.TypeId.{TypeId}
-use Rattle.qo_model.specs.declared.notes.Note.{Note}
-use Rattle.qo_model.specs.Board.{Board, Record, Slot, plain, child, strong, weak, alias, record_of, kind_of, is_live}
-use Rattle.qo_model.specs.Depth.{among, leads}
-use Rattle.qo_model.specs.Paths.{births, child_of, children_in, children_of, is_child}
-use Rattle.qo_model.specs.References.{refs, refs_in}
-use Rattle.qo_model.specs.SoundGraph.{Rises}
-use Rattle.qo_model.specs.Types.{is_a}
 use Rattle.qo_model.proofs.GraphLemmas.{births_at}
 use Rattle.qo_model.proofs.StepLemmas.{found_at}
-use Rattle.qo_model.specs.SoundAliases.{lasting, PassesTo}
 use Rattle.qo_sound.proofs.RecordLemmas.{all-append}
 use Rattle.qo_values.proofs.ListLemmas.{all-imply}
 use Rattle.qo_sound.proofs.SlotLemmas.{one_child}

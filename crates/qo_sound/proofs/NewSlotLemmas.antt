@@ -1,26 +1,14 @@
 -- The slots of a new object: no child slot and no alias, names that differ, and links to what is there.
 use Rattle.std.proofs.Common.{◌≡◌, refl, rules, ap, sym, subst, ℕ, true, false, List, [], ◌∷◌, map, filter_map, find, Option, Some, None, option_map, Result, Ok, Err}
-use Rattle.std.specs.List.{AllByRecursion, IsDistinct}
-use Rattle.std.specs.Str.{bytes_eq}
-use Rattle.std.proofs.lemmas.Option.{same_Some}
-use Rattle.qo_values.specs.declared.codes.Code.{Code}
-use Rattle.qo_values.specs.declared.kinds.TypeId.{TypeId}
-use Rattle.qo_values.specs.declared.kinds.TypeId.TheVariants.{Object, Container, Machine, Device, SlotDevice, SlotUart, SlotTimer, SlotBridge, MemDimm, Bus, SlotBus, MemBus, Clock, MemoryBackend, MemoryBackendRam, Tag}
-use Rattle.qo_values.specs.declared.properties.Val.{Val}
-use Rattle.qo_values.specs.declared.properties.Val.TheVariants as val
-use Rattle.qo_model.specs.Board.{Board, Slot, plain, strong, weak, kind_of}
-use Rattle.qo_model.specs.Objects.{Given, given_slots, given_to, slot_given, target_given}
-use Rattle.qo_model.specs.Opening.{first_slot, first_value, fresh_slots}
-use Rattle.qo_model.specs.Paths.{child_of}
-use Rattle.qo_model.specs.Properties.{link_target}
-use Rattle.qo_model.specs.Types.{slots_of, types}
-use Rattle.qo_model.specs.RowNames.{property_name}
+use Rattle.qo_model.proofs.Common.{AllByRecursion, IsDistinct, bytes_eq, Code, TypeId, Val, Board, Slot, plain, strong, weak, kind_of, Given, given_slots, given_to, slot_given, target_given, first_slot, first_value, fresh_slots, child_of, link_target, slots_of, types, property_name, PassesTo}
 use Rattle.qo_model.specs.declared.properties.Property.{Property}
 use Rattle.qo_model.specs.declared.properties.PropertyRole.{PropertyRole}
+use Rattle.std.proofs.lemmas.Option.{same_Some}
+use Rattle.qo_values.specs.declared.properties.Val.TheVariants as val
 use Rattle.qo_model.specs.declared.properties.PropertyRole.TheVariants as row
-use Rattle.qo_model.specs.SoundAliases.{PassesTo}
 use Rattle.qo_sound.proofs.RecordLemmas.{all-map}
 use Rattle.qo_values.proofs.ListLemmas.{all-imply}
+use Rattle.qo_values.proofs.EachLemmas.{each}
 use Rattle.qo_sound.proofs.SlotLemmas.{names_in}
 use Rattle.qo_sound.proofs.FirmBoardLemmas.{FitsKind, Linked}
 use Rattle.qo_sound.proofs.TargetLemmas.{FitsResult, target-fits}
@@ -102,22 +90,7 @@ new-lone b t =
 -- the names of a type's slots differ
 pub fresh-names : (t : TypeId) → IsDistinct bytes_eq (names_in (fresh_slots t))
 unfolding types IsDistinct
-fresh-names Object = search rules
-fresh-names Container = search rules
-fresh-names Machine = search rules
-fresh-names Device = search rules
-fresh-names SlotDevice = search rules
-fresh-names SlotUart = search rules
-fresh-names SlotTimer = search rules
-fresh-names SlotBridge = search rules
-fresh-names MemDimm = search rules
-fresh-names Bus = search rules
-fresh-names SlotBus = search rules
-fresh-names MemBus = search rules
-fresh-names Clock = search rules
-fresh-names MemoryBackend = search rules
-fresh-names MemoryBackendRam = search rules
-fresh-names Tag = search rules
+fresh-names = each (λ (t : TypeId). IsDistinct bytes_eq (names_in (fresh_slots t))) (search rules)
 
 pub given-names : (b : Board) (props : List Given) (slots : List (List ℕ × Slot)) → names_in (map (slot_given b props) slots) ≡ names_in slots
 given-names b props [] = refl

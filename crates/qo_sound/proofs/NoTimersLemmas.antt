@@ -1,32 +1,10 @@
 -- The law: without timers a board stays so after all commands but the adding of a timer.
-use Rattle.std.proofs.Common.{◌≡◌, refl, ap, sym, ◌∙◌, rules, ℕ, zero, suc, ◌+◌, Bool, true, false, not, ◌==◌, List, [], ◌∷◌, filter, length, codes, Option, Some, None, is_some}
-use Rattle.std.specs.Bool.{⊤}
-use Rattle.std.specs.List.{AllByRecursion}
+use Rattle.std.proofs.Common.{rules, ◌≡◌, refl, ap, sym, ◌∙◌, ℕ, zero, suc, ◌+◌, Bool, true, false, not, ◌==◌, List, ◌∷◌, filter, length, codes, Option, Some, None, is_some, []}
+use Rattle.qo_model.proofs.Common.{⊤, AllByRecursion, body_act, Registers, fresh_registers, MACHINE_BIRTH, OBJECTS_BIRTH, Code, Act, Realize, Enter, Hold, Exit, TypeId, Range, Board, Record, acted, with_act_on, among, buses_of, kids_of, Change, added, deleted, wrote, severed, after_changes, changed, all_completed, asked, asked_of, completed, device_at, reset_whole, Given, added_as, object_add, opening_board, attached, canonical, Spot, Wanted, acted_all, barred_early, barred_late, bus_births, bus_for, counted, drafted, notice_barred, plug, plug_as, plug_by, plug_late, spot_of, type_barred, with_body_of, with_device, with_path, with_plugged, drop_slot, edit, edited, finish, forgotten, pin, with_dropped, without_first, KeepsRelease, is_out, phased, plugged, post, pulse, released, TypeInfo, is_a, type_named, slots_of, types, detach}
 use Rattle.std.proofs.lemmas.Option.{same_Some}
-use Rattle.qo_values.specs.Bodies.{body_act}
-use Rattle.qo_values.specs.Registers.{Registers, bare, bridge, dimm, fresh_registers, timer, uart}
-use Rattle.qo_values.specs.declared.births.TheConstants.{MACHINE_BIRTH, OBJECTS_BIRTH}
-use Rattle.qo_values.specs.declared.codes.Code.{Code}
-use Rattle.qo_values.specs.declared.kinds.Act.{Act}
-use Rattle.qo_values.specs.declared.kinds.Act.TheVariants.{Init, Realize, Unrealize, Enter, Hold, Exit, Pre, Update}
-use Rattle.qo_values.specs.declared.kinds.TypeId.{TypeId}
-use Rattle.qo_values.specs.declared.kinds.TypeId.TheVariants.{Object, Container, Machine, Device, SlotDevice, SlotUart, SlotTimer, SlotBridge, MemDimm, Bus, SlotBus, MemBus, Clock, MemoryBackend, MemoryBackendRam, Tag}
-use Rattle.qo_values.specs.declared.ranges.Range.{Range}
-use Rattle.qo_model.specs.Board.{Board, Record}
-use Rattle.qo_model.specs.Clocks.{acted, with_act_on}
-use Rattle.qo_model.specs.Depth.{among}
-use Rattle.qo_model.specs.Devices.{buses_of, kids_of}
-use Rattle.qo_model.specs.FinalNotesRuns.{Change, added, deleted, wrote, severed, after_changes, changed}
-use Rattle.qo_model.specs.Hotplug.{all_completed, asked, asked_of, completed, device_at, reset_whole}
-use Rattle.qo_model.specs.Objects.{Given, added_as, object_add}
-use Rattle.qo_model.specs.Opening.{opening_board}
-use Rattle.qo_model.specs.Paths.{attached, canonical}
-use Rattle.qo_model.specs.Plug.{Spot, Wanted, acted_all, barred_early, barred_late, bus_births, bus_for, counted, drafted, notice_barred, plug, plug_as, plug_by, plug_late, spot_of, type_barred, with_body_of, with_device, with_path, with_plugged}
-use Rattle.qo_model.specs.Release.{drop_slot, edit, edited, finish, forgotten, pin, with_dropped, without_first}
-use Rattle.qo_model.specs.ReleaseInduction.{KeepsRelease}
-use Rattle.qo_model.specs.Reset.{held, is_out, phased, plugged, post, pulse, released}
-use Rattle.qo_model.specs.Types.{TypeInfo, is_a, type_named, slots_of, types}
-use Rattle.qo_model.specs.Unplug.{detach, first_of}
+use Rattle.qo_values.proofs.EachLemmas.{AllBodies, each, each_act, each_body}
+use Rattle.qo_model.specs.Reset.{held}
+use Rattle.qo_model.specs.Unplug.{first_of}
 use Rattle.qo_model.proofs.ComesToLemmas.{addition-comes}
 use Rattle.qo_model.proofs.ReleaseInductionLemmas.{after_keeps}
 use Rattle.qo_model.proofs.StepLemmas.{found_at}
@@ -45,87 +23,24 @@ abbrev NoTimerType : TypeId → Type 0
 NoTimerType t = is_timer (fresh_registers t) ≡ false
 
 -- an act makes no timer of what is none
+abbrev StaysNone : Act → Registers → Type 0
+StaysNone act r = (now period : ℕ) → is_timer r ≡ false → is_timer (body_act act now period r) ≡ false
+
+abbrev StayNone : Act → Type 0
+StayNone act = AllBodies (StaysNone act)
+
 act-no_timer : (act : Act) (now period : ℕ) (r : Registers) → is_timer r ≡ false → is_timer (body_act act now period r) ≡ false
-act-no_timer (Init k) now period (uart u) e = e
-act-no_timer Realize now period (uart u) e = e
-act-no_timer Unrealize now period (uart u) e = e
-act-no_timer Enter now period (uart u) e = e
-act-no_timer Hold now period (uart u) e = e
-act-no_timer Exit now period (uart u) e = e
-act-no_timer Pre now period (uart u) e = e
-act-no_timer Update now period (uart u) e = e
-act-no_timer (Init k) now period (timer t) e = absurd (let clash : true ≡ false = e in cc)
-act-no_timer Realize now period (timer t) e = absurd (let clash : true ≡ false = e in cc)
-act-no_timer Unrealize now period (timer t) e = absurd (let clash : true ≡ false = e in cc)
-act-no_timer Enter now period (timer t) e = absurd (let clash : true ≡ false = e in cc)
-act-no_timer Hold now period (timer t) e = absurd (let clash : true ≡ false = e in cc)
-act-no_timer Exit now period (timer t) e = absurd (let clash : true ≡ false = e in cc)
-act-no_timer Pre now period (timer t) e = absurd (let clash : true ≡ false = e in cc)
-act-no_timer Update now period (timer t) e = absurd (let clash : true ≡ false = e in cc)
-act-no_timer (Init k) now period (dimm d) e = e
-act-no_timer Realize now period (dimm d) e = e
-act-no_timer Unrealize now period (dimm d) e = e
-act-no_timer Enter now period (dimm d) e = e
-act-no_timer Hold now period (dimm d) e = e
-act-no_timer Exit now period (dimm d) e = e
-act-no_timer Pre now period (dimm d) e = e
-act-no_timer Update now period (dimm d) e = e
-act-no_timer (Init k) now period (bridge b) e = e
-act-no_timer Realize now period (bridge b) e = e
-act-no_timer Unrealize now period (bridge b) e = e
-act-no_timer Enter now period (bridge b) e = e
-act-no_timer Hold now period (bridge b) e = e
-act-no_timer Exit now period (bridge b) e = e
-act-no_timer Pre now period (bridge b) e = e
-act-no_timer Update now period (bridge b) e = e
-act-no_timer (Init k) now period bare e = e
-act-no_timer Realize now period bare e = e
-act-no_timer Unrealize now period bare e = e
-act-no_timer Enter now period bare e = e
-act-no_timer Hold now period bare e = e
-act-no_timer Exit now period bare e = e
-act-no_timer Pre now period bare e = e
-act-no_timer Update now period bare e = e
+act-no_timer act now period r = each_body (StaysNone act) (each_act StayNone (search rules) act) r now period
 
 -- no further object of a device is a timer
 rows-no_timer : (t : TypeId) → AllByRecursion (RowPasses NoTimerType) (slots_of t)
 unfolding types
-rows-no_timer Object = search rules
-rows-no_timer Container = search rules
-rows-no_timer Machine = search rules
-rows-no_timer Device = search rules
-rows-no_timer SlotDevice = search rules
-rows-no_timer SlotUart = search rules
-rows-no_timer SlotTimer = search rules
-rows-no_timer SlotBridge = search rules
-rows-no_timer MemDimm = search rules
-rows-no_timer Bus = search rules
-rows-no_timer SlotBus = search rules
-rows-no_timer MemBus = search rules
-rows-no_timer Clock = search rules
-rows-no_timer MemoryBackend = search rules
-rows-no_timer MemoryBackendRam = search rules
-rows-no_timer Tag = search rules
+rows-no_timer = each (λ (t : TypeId). AllByRecursion (RowPasses NoTimerType) (slots_of t)) (search rules)
 
 -- and no object that a command may make
 created-no_timer : (t : TypeId) → is_a t (codes "user-creatable") ≡ true → NoTimerType t
 unfolding types
-created-no_timer Object e = refl
-created-no_timer Container e = refl
-created-no_timer Machine e = refl
-created-no_timer Device e = refl
-created-no_timer SlotDevice e = refl
-created-no_timer SlotUart e = refl
-created-no_timer SlotTimer e = absurd (let clash : false ≡ true = e in cc)
-created-no_timer SlotBridge e = refl
-created-no_timer MemDimm e = refl
-created-no_timer Bus e = refl
-created-no_timer SlotBus e = refl
-created-no_timer MemBus e = refl
-created-no_timer Clock e = refl
-created-no_timer MemoryBackend e = refl
-created-no_timer MemoryBackendRam e = refl
-created-no_timer Tag e = refl
+created-no_timer = each (λ (t : TypeId). is_a t (codes "user-creatable") ≡ true → NoTimerType t) (search rules)
 
 -- small steps
 

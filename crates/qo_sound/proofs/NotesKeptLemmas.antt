@@ -1,34 +1,13 @@
 -- The law: what keeps the notes of a board in order where devices come and go.
 use Rattle.std.proofs.Common.{◌≡◌, refl, ap, sym, ◌∙◌, ℕ, ◌+◌, ◌<◌, ◌≤◌, Bool, true, false, ◌==◌, List, [], ◌∷◌, ◌++◌, filter, length, codes, Option, Some, None, is_some, option_map, append-nil, arith}
-use Rattle.std.specs.Bool.{⊤}
-use Rattle.std.specs.List.{AllByRecursion}
-use Rattle.std.specs.Option.{option_or}
-use Rattle.std.proofs.lemmas.List.Elements.{filter-append}
-use Rattle.std.proofs.lemmas.List.Folds.{find-append}
-use Rattle.qo_values.specs.declared.codes.Code.{Code}
-use Rattle.qo_values.specs.declared.kinds.Act.TheVariants.{Init, Realize, Enter, Hold, Exit}
-use Rattle.qo_values.specs.declared.kinds.TypeId.{TypeId}
+use Rattle.qo_model.proofs.Common.{⊤, AllByRecursion, option_or, Code, Init, Realize, Enter, Hold, Exit, TypeId, Board, Record, Slot, kind_of, add, fresh, acted, with_act_on, among, beginning, NotesInOrder, with_act, asked, asked_of, device_at, refused, with_asked, init_notes, attached, canonical, Spot, Wanted, acted_all, aliased, barred_early, barred_late, bus_births, bus_for, clocked, counted, drafted, notice_barred, owned, plug, plug_as, plug_by, plug_late, property_made, properties_made, source_for, spot_of, stood, type_barred, types_in, with_body_of, with_device, with_new, with_path, with_plugged, edit, pin, without_first, notes_on, is_out, phased, plugged, post, pulse, released, property_name, is_open, TypeInfo, inits, is_a, type_named, slots_of, detach, unrealize}
 use Rattle.qo_model.specs.declared.notes.Deed.TheVariants.{Did}
 use Rattle.qo_model.specs.declared.notes.Note.{Note}
-use Rattle.qo_model.specs.Board.{Board, Record, Slot, kind_of}
-use Rattle.qo_model.specs.Changes.{add, fresh}
-use Rattle.qo_model.specs.Clocks.{acted, with_act_on}
-use Rattle.qo_model.specs.Depth.{among}
-use Rattle.qo_model.specs.FinalNotes.{beginning, NotesInOrder}
-use Rattle.qo_model.specs.FinalNotesRuns.{with_act}
-use Rattle.qo_model.specs.Hotplug.{asked, asked_of, device_at, refused, with_asked}
-use Rattle.qo_model.specs.Objects.{init_notes}
-use Rattle.qo_model.specs.Paths.{attached, canonical}
-use Rattle.qo_model.specs.Plug.{Spot, Wanted, acted_all, aliased, barred_early, barred_late, bus_births, bus_for, clocked, counted, drafted, notice_barred, owned, plug, plug_as, plug_by, plug_late, property_made, properties_made, source_for, spot_of, stood, type_barred, types_in, with_body_of, with_device, with_new, with_path, with_plugged}
-use Rattle.qo_model.specs.Release.{edit, pin, without_first}
-use Rattle.qo_model.specs.ReleaseNotes.{notes_on}
-use Rattle.qo_model.specs.Reset.{held, is_out, phased, plugged, post, pulse, released}
-use Rattle.qo_model.specs.RowNames.{property_name}
-use Rattle.qo_model.specs.SoundAliases.{is_open}
-use Rattle.qo_model.specs.Types.{TypeInfo, inits, is_a, type_named, slots_of}
-use Rattle.qo_model.specs.Unplug.{detach, unrealize}
 use Rattle.qo_model.specs.declared.properties.Property.{Property}
 use Rattle.qo_model.specs.declared.properties.PropertyRole.{PropertyRole}
+use Rattle.std.proofs.lemmas.List.Elements.{filter-append}
+use Rattle.std.proofs.lemmas.List.Folds.{find-append}
+use Rattle.qo_model.specs.Reset.{held}
 use Rattle.qo_model.specs.declared.properties.PropertyRole.TheVariants as row
 use Rattle.qo_model.proofs.DraftEndsLemmas.{kinds_in}
 use Rattle.qo_model.proofs.FinalNotesGrowthLemmas.{act-keeps, Grown, grown-keeps, next-absent, next-begins, last-other, last-own, unmapped}

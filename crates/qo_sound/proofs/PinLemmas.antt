@@ -1,24 +1,7 @@
 -- The steps by which a device is added, while it is held from outside, come to the board with it.
-use Rattle.std.specs.Prelude.{if◌then◌else◌}
 use Rattle.std.proofs.Common.{◌≡◌, refl, ap, sym, subst, ◌∙◌, ℕ, ◌+◌, true, false, ◌==◌, List, [], ◌∷◌, ◌++◌, filter, codes, Option, Some, None}
-use Rattle.qo_values.specs.declared.kinds.Act.{Act}
-use Rattle.qo_values.specs.declared.kinds.Act.TheVariants.{Realize, Unrealize, Enter, Hold, Exit}
-use Rattle.qo_values.specs.declared.kinds.TypeId.{TypeId}
-use Rattle.qo_values.specs.declared.properties.Val.{Val}
+use Rattle.qo_model.proofs.Common.{if◌then◌else◌, Act, Realize, Unrealize, Enter, Hold, Exit, TypeId, Val, Range, Board, slots_at, add, fresh, make, set, acted, clock_of, Given, init_notes, index_from, path_down_to, Spot, Wanted, acted_all, addressed_at, bus_births, clocked, counted, drafted, joined, link_named, passed, properties_made, source_for, started, stood, notified_plug, valued, with_body_of, with_device, with_given, with_new, with_plugged, with_source, refs, after, edit, finalize, pin, put_in_order, unpin, count, is_out, phased, plugged, post, slots_of, is_named, set_named}
 use Rattle.qo_values.specs.declared.properties.Val.TheVariants as val
-use Rattle.qo_values.specs.declared.ranges.Range.{Range}
-use Rattle.qo_model.specs.Board.{Board, slots_at}
-use Rattle.qo_model.specs.Changes.{add, fresh, make, set}
-use Rattle.qo_model.specs.Clocks.{acted}
-use Rattle.qo_model.specs.Devices.{clock_of}
-use Rattle.qo_model.specs.Objects.{Given, init_notes, index_from}
-use Rattle.qo_model.specs.Paths.{path_down_to}
-use Rattle.qo_model.specs.Plug.{Spot, Wanted, acted_all, addressed_at, bus_births, clocked, counted, drafted, joined, link_named, passed, properties_made, source_for, started, stood, notified_plug, valued, with_body_of, with_device, with_given, with_new, with_plugged, with_source}
-use Rattle.qo_model.specs.References.{refs}
-use Rattle.qo_model.specs.Release.{after, edit, finalize, pin, put_in_order, unpin}
-use Rattle.qo_model.specs.Reset.{count, is_out, phased, plugged, post}
-use Rattle.qo_model.specs.Types.{slots_of}
-use Rattle.qo_model.specs.Unplug.{is_named, set_named}
 use Rattle.qo_model.proofs.PinLemmas.{IsUp, put-among, put-back}
 use Rattle.qo_sound.proofs.DraftLemmas.{with_pins, rows-blind}
 

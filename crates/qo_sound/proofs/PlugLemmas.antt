@@ -1,34 +1,13 @@
 -- Adding a device keeps a board at rest, taken or refused, and so does an attempt that was cut.
-use Rattle.std.proofs.Common.{nat_eq, ◌≡◌, refl, ap, sym, subst, ◌∙◌, ℕ, suc, ◌+◌, ◌<◌, ◌≤◌, Bool, true, false, not, ◌==◌, List, [], ◌∷◌, filter, take, length, codes, Option, Some, None, is_some, option_map, arith}
-use Rattle.std.specs.Prelude.{nat_lt, if◌then◌else◌, ◌||◌}
-use Rattle.std.specs.List.{list_any}
-use Rattle.std.specs.Option.{option_map_or, option_or}
-use Rattle.std.specs.Str.{bytes_eq}
+use Rattle.std.proofs.Common.{rules, nat_eq, ◌≡◌, refl, ap, sym, subst, ◌∙◌, ℕ, suc, ◌+◌, ◌<◌, ◌≤◌, Bool, true, false, not, ◌==◌, List, [], ◌∷◌, filter, take, length, codes, Option, Some, None, is_some, option_map, arith}
+use Rattle.qo_model.proofs.Common.{nat_lt, if◌then◌else◌, ◌||◌, list_any, option_map_or, option_or, bytes_eq, least, Code, E15, E21, E22, E24, E26, E27, E28, E29, E30, Act, Realize, Enter, Hold, Exit, TypeId, Device, BUS_SLOTS, Range, Board, Record, Slot, child, strong, record_of, kind_of, add, with_added, leads, Leads, one, more, is_going, kid_name, has_slot, refusal_of, attached, canonical, children_of, is_of, Spot, Wanted, acted_all, addressed_at, at_stage, barred_early, barred_late, born_from, bus_barred, bus_births, bus_for, bus_type, code_in, container_barred, counted, cut_attempt, cut_order, device_last, drafted, id_barred, id_refused, is_free, joined, kind_barred, name_for, notice_barred, number_for, ok_or_zero, parent_for, passed_notes, place_barred, plug, plug_as, plug_attempt, plug_by, plug_late, realize_barred, room_barred, bus_slot_for, spot_of, stood, notified_plug, type_barred, types_in, valued, with_body_of, with_device, with_ended, with_given, with_path, with_plugged, with_source, edit, is_out, phased, plugged, post, is_open, TypeInfo, is_a, type_named, types, slots_of}
+use Rattle.qo_model.specs.declared.notes.Note.{Note}
 use Rattle.std.proofs.lemmas.Bool.{eqb-true, not-false, not-true}
 use Rattle.std.proofs.lemmas.Option.{same_Some}
 use Rattle.qo_values.proofs.PlacingLemmas.{least-passes}
-use Rattle.qo_values.specs.Placing.{least}
-use Rattle.qo_values.specs.declared.codes.Code.{Code}
-use Rattle.qo_values.specs.declared.codes.Code.TheVariants.{E15, E21, E22, E24, E26, E27, E28, E29, E30}
-use Rattle.qo_values.specs.declared.kinds.Act.{Act}
-use Rattle.qo_values.specs.declared.kinds.Act.TheVariants.{Realize, Enter, Hold, Exit}
-use Rattle.qo_values.specs.declared.kinds.TypeId.{TypeId}
-use Rattle.qo_values.specs.declared.kinds.TypeId.TheVariants.{Object, Container, Machine, Device, SlotDevice, SlotUart, SlotTimer, SlotBridge, MemDimm, Bus, SlotBus, MemBus, Clock, MemoryBackend, MemoryBackendRam, Tag}
-use Rattle.qo_values.specs.declared.limits.TheConstants.{BUS_SLOTS}
 use Rattle.qo_values.specs.declared.properties.Val.TheVariants as val
-use Rattle.qo_values.specs.declared.ranges.Range.{Range}
-use Rattle.qo_model.specs.declared.notes.Note.{Note}
-use Rattle.qo_model.specs.Board.{Board, Record, Slot, child, strong, record_of, kind_of}
-use Rattle.qo_model.specs.Changes.{add, with_added}
-use Rattle.qo_model.specs.Depth.{leads, Leads, one, more}
-use Rattle.qo_model.specs.Devices.{is_going, kid_name}
-use Rattle.qo_model.specs.Objects.{has_slot, refusal_of}
-use Rattle.qo_model.specs.Paths.{attached, canonical, children_of, is_of}
-use Rattle.qo_model.specs.Plug.{Spot, Wanted, acted_all, addressed_at, at_stage, barred_early, barred_late, born_from, bus_barred, bus_births, bus_for, bus_type, code_in, container_barred, counted, cut_attempt, cut_order, device_last, drafted, first_of, id_barred, id_refused, is_free, joined, kind_barred, name_for, notice_barred, number_for, ok_or_zero, parent_for, passed_notes, place_barred, plug, plug_as, plug_attempt, plug_by, plug_late, realize_barred, room_barred, bus_slot_for, spot_of, stood, notified_plug, type_barred, types_in, valued, with_body_of, with_device, with_ended, with_given, with_path, with_plugged, with_source}
-use Rattle.qo_model.specs.Release.{edit}
-use Rattle.qo_model.specs.Reset.{is_out, phased, plugged, post}
-use Rattle.qo_model.specs.SoundAliases.{is_open}
-use Rattle.qo_model.specs.Types.{TypeInfo, is_a, type_named, types}
+use Rattle.qo_values.proofs.EachLemmas.{each}
+use Rattle.qo_model.specs.Plug.{first_of}
 use Rattle.qo_sound.proofs.FirmBoardLemmas.{Firm, edited-kinds, firm-born, firm-beside}
 use Rattle.qo_sound.proofs.ChildSlotLemmas.{IsNameless, named-near}
 use Rattle.qo_sound.proofs.WorkLemmas.{Nearly}
@@ -39,7 +18,6 @@ use Rattle.qo_sound.proofs.CutLemmas.{near-beside, near-same_slots}
 use Rattle.qo_sound.proofs.DraftLemmas.{Drafts, drafted-drafts, found-low, pinned_once, near-let_down, other-record, rows-pins}
 use Rattle.qo_sound.proofs.GivenPropertyLemmas.{held-linked, near-given}
 use Rattle.qo_sound.proofs.UnplugLemmas.{Sits, held-acted, held-set}
-use Rattle.qo_model.specs.Types.{slots_of}
 
 -- what is known where an add is not refused before its attempt: the container is there, and its name for the device is free; the bus is there, and its slot is
 -- free
@@ -53,41 +31,11 @@ pub record IsPlace (b : Board) (t : TypeId) (a : Wanted) (spot : Spot) : Type 0 
 -- no type is that of a container and that of a bus
 apart-container : (k : TypeId) → is_a k (codes "container") ≡ true → is_a k (codes "slot-bus") ≡ false
 unfolding types
-apart-container Object e = refl
-apart-container Container e = refl
-apart-container Machine e = refl
-apart-container Device e = refl
-apart-container SlotDevice e = refl
-apart-container SlotUart e = refl
-apart-container SlotTimer e = refl
-apart-container SlotBridge e = refl
-apart-container MemDimm e = refl
-apart-container Bus e = refl
-apart-container SlotBus e = absurd (let clash : false ≡ true = e in cc)
-apart-container MemBus e = refl
-apart-container Clock e = refl
-apart-container MemoryBackend e = refl
-apart-container MemoryBackendRam e = refl
-apart-container Tag e = refl
+apart-container = each (λ (k : TypeId). is_a k (codes "container") ≡ true → is_a k (codes "slot-bus") ≡ false) (search rules)
 
 apart-container_mem : (k : TypeId) → is_a k (codes "container") ≡ true → is_a k (codes "mem-bus") ≡ false
 unfolding types
-apart-container_mem Object e = refl
-apart-container_mem Container e = refl
-apart-container_mem Machine e = refl
-apart-container_mem Device e = refl
-apart-container_mem SlotDevice e = refl
-apart-container_mem SlotUart e = refl
-apart-container_mem SlotTimer e = refl
-apart-container_mem SlotBridge e = refl
-apart-container_mem MemDimm e = refl
-apart-container_mem Bus e = refl
-apart-container_mem SlotBus e = refl
-apart-container_mem MemBus e = absurd (let clash : false ≡ true = e in cc)
-apart-container_mem Clock e = refl
-apart-container_mem MemoryBackend e = refl
-apart-container_mem MemoryBackendRam e = refl
-apart-container_mem Tag e = refl
+apart-container_mem = each (λ (k : TypeId). is_a k (codes "container") ≡ true → is_a k (codes "mem-bus") ≡ false) (search rules)
 
 no-bus : (k t : TypeId) → is_a k (codes "container") ≡ true → is_a k (bus_type t) ≡ true → ⊥
 no-bus k t e h = go (is_a t (codes "slot-device")) refl

@@ -1,24 +1,11 @@
 -- The law: what adding a device comes to.
 use Rattle.std.proofs.Common.{◌≡◌, ◌≢◌, refl, ap, sym, subst, ◌∙◌, ℕ, ◌+◌, ◌≤◌, Bool, true, false, List, [], ◌∷◌, Option, Some, None, codes, length, arith}
-use Rattle.std.specs.Option.{option_or}
-use Rattle.std.specs.Prelude.{nat_le}
-use Rattle.std.proofs.lemmas.Option.{same_Some}
-use Rattle.qo_values.specs.Kinds.{type_name}
-use Rattle.qo_values.specs.Properties.{admits}
-use Rattle.qo_values.specs.declared.codes.Code.{Code}
-use Rattle.qo_values.specs.declared.codes.Code.TheVariants.{E15, E16, E17, E18, E19, E20, E25, E31, E43}
-use Rattle.qo_values.specs.declared.kinds.TypeId.{TypeId}
-use Rattle.qo_values.specs.declared.limits.TheConstants.{LIVE_OBJECTS_MAX}
-use Rattle.qo_values.specs.declared.properties.Val.{Val}
-use Rattle.qo_values.specs.declared.properties.Val.TheVariants as val
-use Rattle.qo_model.specs.Board.{Board}
-use Rattle.qo_model.specs.Objects.{Given, code_of, may_add, misfit, refusal_by, refusal_of}
-use Rattle.qo_model.specs.Paths.{Resolution, found, missing, several, resolve}
-use Rattle.qo_model.specs.Plug.{Plugged, Wanted, at_stage, barred_early, barred_late, bus_barred, bus_for, first_of, id_barred, notice_barred, objects_in, place_barred, plug, plug_as, plug_attempt, plug_by, plug_late, realize_barred, room_barred, type_barred}
-use Rattle.qo_model.specs.Properties.{link_target, property_named}
-use Rattle.qo_model.specs.Types.{TypeInfo, type_named}
+use Rattle.qo_model.proofs.Common.{option_or, nat_le, type_name, admits, Code, E15, E16, E17, E18, E19, E20, E25, E31, E43, TypeId, LIVE_OBJECTS_MAX, Val, Board, Given, code_of, may_add, misfit, refusal_by, refusal_of, Resolution, found, missing, several, resolve, Plugged, Wanted, at_stage, barred_early, barred_late, bus_barred, bus_for, id_barred, notice_barred, objects_in, place_barred, plug, plug_as, plug_attempt, plug_by, plug_late, realize_barred, room_barred, type_barred, link_target, property_named, TypeInfo, type_named}
 use Rattle.qo_model.specs.declared.properties.Property.{Property}
 use Rattle.qo_model.specs.declared.properties.PropertyRole.{PropertyRole}
+use Rattle.std.proofs.lemmas.Option.{same_Some}
+use Rattle.qo_values.specs.declared.properties.Val.TheVariants as val
+use Rattle.qo_model.specs.Plug.{first_of}
 use Rattle.qo_model.specs.declared.properties.PropertyRole.TheVariants as row
 use Rattle.qo_sound.proofs.PlugLemmas.{or-none}
 use Rattle.qo_sound.specs.PlugOutcomes.{Added, GivenUp, IsAttempted, PlugComesToLaw}

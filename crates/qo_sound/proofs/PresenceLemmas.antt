@@ -1,17 +1,8 @@
 -- On a board whose links name what is there, so do the buses and the kids of each object, and all that is below one in its reset order.
 use Rattle.std.proofs.Common.{◌≡◌, refl, ap, sym, ◌∙◌, ℕ, zero, suc, Bool, true, false, ◌==◌, List, [], ◌∷◌, filter_map, length, codes, Option, Some, None, is_some}
-use Rattle.std.specs.Bool.{⊤}
-use Rattle.std.specs.List.{AllByRecursion, flat_map}
-use Rattle.std.specs.Option.{option_map_or}
-use Rattle.std.specs.Str.{bytes_eq}
+use Rattle.qo_model.proofs.Common.{⊤, AllByRecursion, option_map_or, bytes_eq, TypeId, Board, Record, Slot, plain, child, strong, weak, alias, is_live, kind_of, record_of, slots_at, by_depth, bus_in, buses_of, clock_name, kids_of, strong_in, births, is_of, below, post, post_turn, is_a}
+use Rattle.std.specs.List.{flat_map}
 use Rattle.std.proofs.lemmas.Option.{same_Some}
-use Rattle.qo_values.specs.declared.kinds.TypeId.{TypeId}
-use Rattle.qo_model.specs.Board.{Board, Record, Slot, plain, child, strong, weak, alias, is_live, kind_of, record_of, slots_at}
-use Rattle.qo_model.specs.Depth.{by_depth}
-use Rattle.qo_model.specs.Devices.{bus_in, buses_of, clock_name, kids_of, strong_in}
-use Rattle.qo_model.specs.Paths.{births, is_of}
-use Rattle.qo_model.specs.Reset.{below, post, post_turn}
-use Rattle.qo_model.specs.Types.{is_a}
 use Rattle.qo_model.proofs.FinalNotesLemmas.{kind-live}
 use Rattle.qo_model.proofs.StepLemmas.{found_at}
 use Rattle.qo_sound.proofs.RecordLemmas.{all-append}

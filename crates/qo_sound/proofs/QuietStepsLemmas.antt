@@ -1,15 +1,7 @@
 -- What acts keep, and what changes none of the objects, holds keep, and removals that are asked for.
 use Rattle.std.proofs.Common.{◌≡◌, refl, ℕ, Bool, true, false, List, [], ◌∷◌, ◌++◌, filter, Option, Some, None, is_some}
-use Rattle.qo_values.specs.declared.kinds.Act.{Act}
-use Rattle.qo_values.specs.declared.kinds.Act.TheVariants.{Enter, Hold, Exit}
-use Rattle.qo_model.specs.Board.{Board}
-use Rattle.qo_model.specs.Clocks.{acted}
-use Rattle.qo_model.specs.Depth.{among}
-use Rattle.qo_model.specs.Hotplug.{asked, asked_of, device_at}
-use Rattle.qo_model.specs.Paths.{attached}
-use Rattle.qo_model.specs.Plug.{notice_barred}
-use Rattle.qo_model.specs.Release.{without_first}
-use Rattle.qo_model.specs.Reset.{held, is_out, phased, post, pulse, released}
+use Rattle.qo_model.proofs.Common.{Act, Enter, Hold, Exit, Board, acted, among, asked, asked_of, device_at, attached, notice_barred, without_first, is_out, phased, post, pulse, released}
+use Rattle.qo_model.specs.Reset.{held}
 
 module _ (P : Board → Type 0) (same : (b c : Board) → c.records ≡ b.records → P b → P c)
     (acts : (act : Act) (n period : ℕ) (b : Board) → P b → P (acted act n period b)) where

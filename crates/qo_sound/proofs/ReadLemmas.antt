@@ -1,14 +1,8 @@
 -- What is read of slots, by their names and of each alone, and what it stays through.
 use Rattle.std.proofs.Common.{◌≡◌, refl, ℕ, List, [], Bool, false, Option, Some, None, option_map, ap, sym, subst, ◌∙◌, true, ◌==◌, slice_get}
+use Rattle.qo_model.proofs.Common.{Val, Record, Slot, plain, child, strong, weak, alias, Board, record_of, slots_at, pointed, with_val, plain_in, strong_in, forgotten_in, drop_slot, edit, edited, with_dropped, without_hold, unseen, fitted}
 use Rattle.std.proofs.lemmas.Bool.{eq-eqb, eqb-true}
-use Rattle.qo_values.specs.declared.properties.Val.{Val}
-use Rattle.qo_model.specs.Board.{Record, Slot, plain, child, strong, weak, alias, Board, record_of, slots_at}
-use Rattle.qo_model.specs.Changes.{pointed, with_val}
 use Rattle.qo_model.specs.Clocks.{weak_in}
-use Rattle.qo_model.specs.Devices.{plain_in, strong_in}
-use Rattle.qo_model.specs.Release.{forgotten_in, drop_slot, edit, edited, with_dropped, without_hold}
-use Rattle.qo_model.specs.Unplug.{unseen}
-use Rattle.qo_model.specs.Plug.{fitted}
 use Rattle.qo_model.proofs.FirstSlotLemmas.{slots_in}
 use Rattle.qo_model.proofs.StepLemmas.{drop-record, found-birth, found-edited}
 

@@ -1,12 +1,9 @@
 -- Lists of records whose births rise: what a change of the record of one birth does to facts of each, and to sums over all.
 use Rattle.std.proofs.Common.{◌≡◌, refl, ap, sym, ◌∙◌, ℕ, ◌+◌, ◌<◌, Bool, true, false, not, ◌==◌, List, [], ◌∷◌, ◌++◌, map, filter, sum_by, Some, None, arith}
-use Rattle.std.specs.List.{AllByRecursion}
+use Rattle.qo_model.proofs.Common.{AllByRecursion, Record, edited, Rises}
 use Rattle.std.proofs.lemmas.Bool.{eqb-true}
 use Rattle.std.proofs.lemmas.List.Sums.{sum_by-cons}
 use Rattle.std.proofs.lemmas.Option.{same_Some}
-use Rattle.qo_model.specs.Board.{Record}
-use Rattle.qo_model.specs.Release.{edited}
-use Rattle.qo_model.specs.SoundGraph.{Rises}
 use Rattle.qo_model.proofs.GraphLemmas.{births_at}
 use Rattle.qo_model.proofs.StepLemmas.{found_at}
 

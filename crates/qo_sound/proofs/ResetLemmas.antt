@@ -1,15 +1,9 @@
 -- Holds of resets and the reset of the whole board keep the tree sound; what they leave of a board beside its objects.
 use Rattle.std.proofs.Common.{◌≡◌, refl, ◌∙◌, ℕ, zero, suc, List, [], ◌∷◌, ◌++◌, filter, length, Option, Some, None}
-use Rattle.qo_values.specs.declared.births.TheConstants.{MACHINE_BIRTH}
-use Rattle.qo_values.specs.declared.kinds.Act.{Act}
-use Rattle.qo_values.specs.declared.kinds.Act.TheVariants.{Enter, Hold, Exit}
-use Rattle.qo_model.specs.Board.{Board, Record}
-use Rattle.qo_model.specs.Clocks.{acted}
-use Rattle.qo_model.specs.Hotplug.{all_completed, completed, reset_whole}
-use Rattle.qo_model.specs.Release.{without_first}
-use Rattle.qo_model.specs.Reset.{held, is_out, phased, post, pulse, released}
-use Rattle.qo_model.specs.Unplug.{first_of}
+use Rattle.qo_model.proofs.Common.{MACHINE_BIRTH, Act, Enter, Hold, Exit, Board, Record, acted, all_completed, completed, reset_whole, without_first, is_out, phased, post, pulse, released}
 use Rattle.qo_model.specs.declared.notes.Note.{Note}
+use Rattle.qo_model.specs.Reset.{held}
+use Rattle.qo_model.specs.Unplug.{first_of}
 use Rattle.qo_sound.specs.DeviceScope.{ResetLeaves}
 use Rattle.qo_sound.proofs.CutLemmas.{near-beside}
 use Rattle.qo_sound.proofs.PlugLemmas.{held-phased}

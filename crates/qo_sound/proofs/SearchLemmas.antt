@@ -1,10 +1,8 @@
 -- What all records have, the one of a birth has.
 use Rattle.std.proofs.Common.{◌≡◌, refl, subst, ℕ, Bool, true, false, ◌==◌, List, [], ◌∷◌, ◌++◌, Some}
-use Rattle.std.specs.List.{AllByRecursion}
-use Rattle.std.specs.Option.{option_or}
+use Rattle.qo_model.proofs.Common.{AllByRecursion, option_or, Record}
 use Rattle.std.proofs.lemmas.List.Folds.{find-append}
 use Rattle.std.proofs.lemmas.Option.{same_Some}
-use Rattle.qo_model.specs.Board.{Record}
 use Rattle.qo_model.proofs.StepLemmas.{found_at}
 
 pub all-found : (P : Record → Type 0) (n : ℕ) (rs : List Record) → AllByRecursion P rs → (r : Record) → found_at n rs ≡ Some r → P r

@@ -1,12 +1,8 @@
 -- An object that is held from outside while its strong links are let go, and then no longer.
 use Rattle.std.proofs.Common.{nat_eq, ◌≡◌, refl, ap, sym, ◌∙◌, ℕ, ◌≤◌, leb, Bool, true, false, ◌==◌, List, [], ◌∷◌, length, Some, None, arith}
-use Rattle.std.specs.List.{list_any}
+use Rattle.qo_model.proofs.Common.{list_any, Board, is_live, slots_at, sever, severed_from, refs, pin, put_in_order, unpin, without_first, without_pin}
 use Rattle.std.proofs.lemmas.Bool.{eqb-true}
 use Rattle.std.proofs.lemmas.List.Sums.{sum_by-cons}
-use Rattle.qo_model.specs.Board.{Board, is_live, slots_at}
-use Rattle.qo_model.specs.Objects.{sever, severed_from}
-use Rattle.qo_model.specs.References.{refs}
-use Rattle.qo_model.specs.Release.{pin, put_in_order, unpin, without_first, without_pin}
 use Rattle.qo_model.proofs.ComesToLemmas.{sever-comes, severed-comes}
 use Rattle.qo_model.proofs.PinLemmas.{put-among, put-back, severed-pins, unpin-pins}
 use Rattle.qo_sound.proofs.CountLemmas.{one_at, times}

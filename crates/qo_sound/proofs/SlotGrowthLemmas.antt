@@ -1,18 +1,9 @@
 -- An object with a slot more after its others: what it keeps, and a slot that names no child.
 use Rattle.std.proofs.Common.{◌≡◌, refl, ap, sym, subst, ◌∙◌, ℕ, ◌+◌, ◌≤◌, Bool, true, false, cond, eqb, List, [], ◌∷◌, ◌++◌, map, sum_by, Option, Some, None, arith}
-use Rattle.std.specs.List.{AllByRecursion, IsDistinct, cons_option}
-use Rattle.std.specs.Str.{bytes_eq}
+use Rattle.qo_model.proofs.Common.{AllByRecursion, IsDistinct, cons_option, bytes_eq, Board, Record, Slot, plain, child, strong, weak, alias, record_of, kind_of, add, with_added, among, is_child, child_of, children_in, refs, edit, edited, is_clock_slot, is_open, lasting, PassesTo, Rises}
 use Rattle.std.proofs.lemmas.List.{map-append}
 use Rattle.std.proofs.lemmas.List.Sums.{sum_by-cons, sum_by-append}
 use Rattle.std.proofs.lemmas.Option.{same_Some}
-use Rattle.qo_model.specs.Board.{Board, Record, Slot, plain, child, strong, weak, alias, record_of, kind_of}
-use Rattle.qo_model.specs.Changes.{add, with_added}
-use Rattle.qo_model.specs.Depth.{among}
-use Rattle.qo_model.specs.Paths.{is_child, child_of, children_in}
-use Rattle.qo_model.specs.References.{refs}
-use Rattle.qo_model.specs.Release.{edit, edited}
-use Rattle.qo_model.specs.SoundAliases.{is_clock_slot, is_open, lasting, PassesTo}
-use Rattle.qo_model.specs.SoundGraph.{Rises}
 use Rattle.qo_model.proofs.StepLemmas.{found_at, one_of}
 use Rattle.qo_sound.proofs.RecordLemmas.{all-append, sum-edited}
 use Rattle.qo_values.proofs.ListLemmas.{all-imply}

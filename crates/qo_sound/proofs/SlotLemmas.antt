@@ -1,17 +1,9 @@
 -- Slots of one object: what is kept where one is let go, where one is changed, and where weak links are emptied.
 use Rattle.std.proofs.Common.{◌≡◌, refl, ap, ap₂, sym, subst, ◌∙◌, ℕ, zero, suc, ◌+◌, ◌≤◌, Bool, true, false, cond, ◌==◌, eqb, List, [], ◌∷◌, map, slice_get, sum_by, Option, Some, None, arith}
-use Rattle.std.specs.List.{AllByRecursion, IsDistinct, cons_option}
-use Rattle.std.specs.Str.{bytes_eq}
-use Rattle.std.specs.Prelude.{codes, filter}
-use Rattle.qo_model.specs.SoundAliases.{is_clock_slot}
+use Rattle.qo_model.proofs.Common.{AllByRecursion, IsDistinct, cons_option, bytes_eq, codes, filter, is_clock_slot, Slot, plain, child, strong, weak, alias, changed_at, pointed, among, is_child, child_of, children_in, emptied, without_hold, forgotten_in}
 use Rattle.std.proofs.lemmas.List.Sums.{sum_by-cons}
 use Rattle.std.proofs.lemmas.Option.{same_Some}
 use Rattle.std.proofs.Math.Bool.{or-true}
-use Rattle.qo_model.specs.Board.{Slot, plain, child, strong, weak, alias}
-use Rattle.qo_model.specs.Changes.{changed_at, pointed}
-use Rattle.qo_model.specs.Depth.{among}
-use Rattle.qo_model.specs.Paths.{is_child, child_of, children_in}
-use Rattle.qo_model.specs.Release.{emptied, without_hold, forgotten_in}
 use Rattle.qo_model.proofs.EditLemmas.{left_of}
 
 -- the names of slots

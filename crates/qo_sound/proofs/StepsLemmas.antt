@@ -1,17 +1,6 @@
 -- The steps by which a device is added, while it is held from outside, come to the board with it.
 use Rattle.std.proofs.Common.{◌≡◌, refl, ap, sym, subst, ◌∙◌, ℕ, zero, suc, ◌+◌, ◌<◌, ◌≤◌, true, false, ◌==◌, List, [], ◌∷◌, ◌++◌, length, map, Option, Some, None, is_some, option_map, arith}
-use Rattle.std.specs.List.{AllByRecursion}
-use Rattle.std.specs.Option.{option_map_or}
-use Rattle.qo_values.specs.Kinds.{type_name}
-use Rattle.qo_values.specs.declared.kinds.TypeId.{TypeId}
-use Rattle.qo_model.specs.Board.{Board, Record, Slot, plain, child, strong, weak, alias, record_of, kind_of, is_live}
-use Rattle.qo_model.specs.Changes.{fresh}
-use Rattle.qo_model.specs.FinalNotes.{ending}
-use Rattle.qo_model.specs.Objects.{init_notes}
-use Rattle.qo_model.specs.Plug.{Spot, Wanted, clocked, counted, cut_attempt, drafted, passed, plug_attempt, properties_made, source_for, started, stood, with_new, with_plugged}
-use Rattle.qo_model.specs.References.{refs}
-use Rattle.qo_model.specs.Release.{edit, finalize, put_in_order, unpin}
-use Rattle.qo_model.specs.Types.{is_a, slots_of}
+use Rattle.qo_model.proofs.Common.{AllByRecursion, option_map_or, type_name, TypeId, Board, Record, Slot, plain, child, strong, weak, alias, record_of, kind_of, is_live, fresh, ending, init_notes, Spot, Wanted, clocked, counted, cut_attempt, drafted, passed, plug_attempt, properties_made, source_for, started, stood, with_new, with_plugged, refs, edit, finalize, put_in_order, unpin, is_a, slots_of}
 use Rattle.qo_model.specs.declared.properties.Property.{Property}
 use Rattle.qo_model.specs.declared.properties.PropertyRole.TheVariants as row
 use Rattle.qo_model.proofs.AttemptLemmas.{IsStar, LowRecord, LowSlot}

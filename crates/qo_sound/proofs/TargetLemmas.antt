@@ -1,15 +1,7 @@
 -- What the text of a link names is there and of the link's type.
 use Rattle.std.proofs.Common.{◌≡◌, refl, subst, ℕ, Bool, true, false, List, [], ◌∷◌, filter_map, codes, Option, Some, None, Result, Ok, Err}
-use Rattle.std.specs.Bool.{⊤}
-use Rattle.std.specs.List.{AllByRecursion}
+use Rattle.qo_model.proofs.Common.{⊤, AllByRecursion, type_name, Code, E15, E31, TypeId, Board, kind_of, Resolution, found, missing, several, components, ends, is_of, only_of, resolve, starts, the_one, walk, link_target}
 use Rattle.std.specs.Option.{option_and_then}
-use Rattle.qo_values.specs.Kinds.{type_name}
-use Rattle.qo_values.specs.declared.codes.Code.{Code}
-use Rattle.qo_values.specs.declared.codes.Code.TheVariants.{E15, E31}
-use Rattle.qo_values.specs.declared.kinds.TypeId.{TypeId}
-use Rattle.qo_model.specs.Board.{Board, kind_of}
-use Rattle.qo_model.specs.Paths.{Resolution, found, missing, several, components, ends, is_of, only_of, resolve, starts, the_one, walk}
-use Rattle.qo_model.specs.Properties.{link_target}
 use Rattle.qo_sound.proofs.FirmBoardLemmas.{FitsKind}
 
 -- each end of a path is of the wanted type

@@ -1,16 +1,7 @@
 -- The law: each change keeps the tree sound, and so do any changes of the opening board.
 use Rattle.std.proofs.Common.{◌+◌, ◌≤◌, List, [], ◌∷◌, arith}
-use Rattle.qo_values.specs.declared.kinds.TypeId.{TypeId}
-use Rattle.qo_model.specs.Board.{Board}
-use Rattle.qo_model.specs.FinalNotesRuns.{Change, added, deleted, wrote, severed, after_changes, changed}
-use Rattle.qo_model.specs.Objects.{with_attempt}
-use Rattle.qo_model.specs.Opening.{opening_board}
-use Rattle.qo_model.specs.Paths.{births}
-use Rattle.qo_model.specs.Hotplug.{reset_whole}
-use Rattle.qo_model.specs.Plug.{cut_attempt, plug}
-use Rattle.qo_model.specs.Reset.{held, released}
-use Rattle.qo_model.specs.SoundGraph.{graph_of, SoundGraph}
-use Rattle.qo_model.specs.Unplug.{detach}
+use Rattle.qo_model.proofs.Common.{TypeId, Board, Change, added, deleted, wrote, severed, after_changes, changed, with_attempt, opening_board, births, reset_whole, cut_attempt, plug, released, graph_of, SoundGraph, detach}
+use Rattle.qo_model.specs.Reset.{held}
 use Rattle.qo_model.proofs.OpeningLemmas.{opening_sound}
 use Rattle.qo_sound.specs.TreeKept.{SoundKeptLaw, SoundTree}
 use Rattle.qo_values.proofs.ListLemmas.{all-imply}

@@ -1,15 +1,7 @@
 -- Worked rows: a board with two tags that hold each other has a sound tree, and what becomes of the tags.
 use Rattle.std.proofs.Common.{◌≡◌, refl, rules, [], ◌∷◌, codes}
-use Rattle.std.specs.List.{IsDistinct}
+use Rattle.qo_model.proofs.Common.{IsDistinct, Board, point, set, added, deleted, wrote, severed, after_changes, opening_board, attached, births, path_down_to, drop_slot, finish, finalize, finalize_within, let_go, pin, unpin, graph_of, types}
 use Rattle.qo_values.specs.declared.properties.Val.TheVariants as val
-use Rattle.qo_model.specs.Board.{Board}
-use Rattle.qo_model.specs.Changes.{point, set}
-use Rattle.qo_model.specs.FinalNotesRuns.{added, deleted, wrote, severed, after_changes}
-use Rattle.qo_model.specs.Opening.{opening_board}
-use Rattle.qo_model.specs.Paths.{attached, births, path_down_to}
-use Rattle.qo_model.specs.Release.{drop_slot, finish, finalize, finalize_within, let_go, pin, unpin}
-use Rattle.qo_model.specs.SoundGraph.{graph_of}
-use Rattle.qo_model.specs.Types.{types}
 use Rattle.qo_model.proofs.GraphLemmas.{HasLater, none_round-from_later}
 use Rattle.qo_sound.specs.TreeKept.{SoundTree}
 

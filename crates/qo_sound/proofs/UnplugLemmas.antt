@@ -1,27 +1,11 @@
 -- A device that is detached, with all that is below it: each step keeps the tree of the board sound.
 use Rattle.std.proofs.Common.{nat_eq, ◌≡◌, refl, ap, sym, subst, ◌∙◌, ℕ, zero, suc, ◌≤◌, Bool, true, false, not, ◌&&◌, ◌==◌, List, [], ◌∷◌, filter, length, slice_get, codes, Option, Some, None, option_map, arith}
-use Rattle.std.specs.List.{list_any}
-use Rattle.std.specs.Option.{option_map_or}
-use Rattle.std.specs.Str.{bytes_eq}
+use Rattle.qo_model.proofs.Common.{list_any, option_map_or, bytes_eq, ANONYMOUS_BIRTH, PERIPHERAL_BIRTH, TypeId, Act, Unrealize, Val, Board, Notice, Record, Slot, plain, child, strong, weak, alias, record_of, kind_of, slots_at, slot_at, cut, set, with_val, acted, device_period, with_act_on, by_depth, bus_of, buses_of, clock_of, kids_of, index_from, births, child_of, is_child, drop_slot, let_go, pin, put_in_order, unpin, without_first, is_clock_slot, is_open, PassesTo, apart_within, detach, disconnected, drained, each, is_bus_child, is_child_slot, is_named, left_bus, let_go_where, lost_bus, lost_buses, unseen, unseen_named, names_kid, set_named, take_slot, take_where, taken_by, unheld, unnoticed, unrealize, unrealize_turn, unrealized_device, without_all, left_parent, unrealized_bus}
 use Rattle.std.proofs.lemmas.Bool.{eqb-true}
 use Rattle.std.proofs.lemmas.Option.{same_Some}
 use Rattle.std.proofs.lemmas.Slice.Eq.{bytes_eq-Decides}
-use Rattle.qo_values.specs.declared.births.TheConstants.{ANONYMOUS_BIRTH, PERIPHERAL_BIRTH}
-use Rattle.qo_values.specs.declared.kinds.TypeId.{TypeId}
-use Rattle.qo_values.specs.declared.kinds.Act.{Act}
-use Rattle.qo_values.specs.declared.kinds.Act.TheVariants.{Unrealize}
-use Rattle.qo_values.specs.declared.properties.Val.{Val}
 use Rattle.qo_values.specs.declared.properties.Val.TheVariants as val
-use Rattle.qo_model.specs.Board.{Board, Notice, Record, Slot, plain, child, strong, weak, alias, record_of, kind_of, slots_at, slot_at}
-use Rattle.qo_model.specs.Changes.{cut, set, with_val}
-use Rattle.qo_model.specs.Clocks.{acted, device_period, with_act_on}
-use Rattle.qo_model.specs.Depth.{by_depth}
-use Rattle.qo_model.specs.Devices.{bus_of, buses_of, clock_of, kids_of}
-use Rattle.qo_model.specs.Objects.{index_from}
-use Rattle.qo_model.specs.Paths.{births, child_of, is_child}
-use Rattle.qo_model.specs.Release.{drop_slot, let_go, pin, put_in_order, unpin, without_first}
-use Rattle.qo_model.specs.SoundAliases.{is_clock_slot, is_open, PassesTo}
-use Rattle.qo_model.specs.Unplug.{apart_within, detach, disconnected, drained, each, first_of, is_bus_child, is_child_slot, is_named, left_bus, let_go_where, lost_bus, lost_buses, unseen, unseen_named, names_kid, set_named, take_slot, take_where, taken_by, unheld, unnoticed, unrealize, unrealize_turn, unrealized_device, without_all, left_parent, unrealized_bus}
+use Rattle.qo_model.specs.Unplug.{first_of}
 use Rattle.qo_model.proofs.FirstSlotLemmas.{Found, found-at}
 use Rattle.qo_model.proofs.PinLemmas.{IsUp, put-among, put-back, put-up, release-pins, unpin-pins}
 use Rattle.qo_model.proofs.ReleaseScopeLemmas.{let_go-leaves}

@@ -1,22 +1,14 @@
 -- A sound tree, as facts of the board itself, and back.
 use Rattle.std.proofs.Common.{◌≡◌, ◌≢◌, refl, sym, subst, ◌∙◌, ℕ, zero, suc, ◌<◌, ◌≤◌, Bool, true, false, ◌==◌, eqb, List, [], ◌∷◌, map, sum_by, count_by, Option, Some, None, is_some, option_map, arith}
-use Rattle.std.specs.List.{AllByRecursion, IsDistinct, cons_option}
-use Rattle.std.specs.Str.{bytes_eq}
+use Rattle.qo_model.proofs.Common.{AllByRecursion, IsDistinct, cons_option, bytes_eq, TypeId, Board, Record, Slot, plain, child, strong, weak, alias, kind_of, is_live, among, Leads, births, child_of, children_in, children_of, refs, graph_of, without_value, without_values, NamesLive, Rises, SoundGraph, is_clock_slot, is_open, lasting, PassesTo}
 use Rattle.std.proofs.lemmas.Bool.{eqb-true, eq-eqb}
 use Rattle.std.proofs.lemmas.List.Sums.{sum_by-cons}
 use Rattle.std.proofs.Math.Path.{fun_ext}
-use Rattle.qo_values.specs.declared.kinds.TypeId.{TypeId}
-use Rattle.qo_model.specs.Board.{Board, Record, Slot, plain, child, strong, weak, alias, kind_of, is_live}
-use Rattle.qo_model.specs.Depth.{among, Leads}
-use Rattle.qo_model.specs.Paths.{births, child_of, children_in, children_of}
-use Rattle.qo_model.specs.References.{refs}
-use Rattle.qo_model.specs.SoundGraph.{graph_of, without_value, without_values, NamesLive, Rises, SoundGraph}
 use Rattle.qo_model.proofs.CycleLemmas.{refs-graph_of}
 use Rattle.qo_model.proofs.AmongLemmas.{among-all}
 use Rattle.qo_model.proofs.FinalNotesLemmas.{kind-live}
 use Rattle.qo_model.proofs.GraphLemmas.{births-graph_of, child_of-without_value, children_of-graph_of}
 use Rattle.qo_model.proofs.StepLemmas.{found_at, live-among}
-use Rattle.qo_model.specs.SoundAliases.{is_clock_slot, is_open, lasting, PassesTo}
 use Rattle.qo_sound.proofs.SlotLemmas.{clocks_in}
 use Rattle.qo_sound.specs.TreeKept.{SoundTree}
 use Rattle.qo_sound.proofs.RecordLemmas.{all-both, all-map, all-unmap}

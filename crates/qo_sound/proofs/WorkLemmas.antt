@@ -1,22 +1,14 @@
 -- A board in the middle of a release: all is sound but for the objects that the release is at work on, and a release leaves none of these.
 use Rattle.std.proofs.Common.{◌≡◌, refl, ap, sym, subst, ◌∙◌, ℕ, zero, suc, ◌<◌, ◌≤◌, Bool, true, false, cond, not, ◌==◌, eqb, List, [], ◌∷◌, map, filter, sum_by, slice_get, Option, Some, None, option_map, arith}
-use Rattle.std.specs.List.{AllByRecursion}
-use Rattle.std.specs.Option.{option_map_or}
+use Rattle.qo_model.proofs.Common.{AllByRecursion, option_map_or, Board, Record, Slot, plain, child, strong, weak, alias, is_live, slots_at, slot_at, among, births, refs, refs_in, holds_it, with_dropped, drop_slot, next_index, forgotten_in, forgotten, finish, finalize, after, KeepsRelease, Rises, is_open, lasting, PassesTo}
 use Rattle.std.proofs.lemmas.Bool.{eqb-true, eq-eqb}
 use Rattle.std.proofs.lemmas.List.Sums.{sum_by-cons}
 use Rattle.std.proofs.lemmas.Option.{same_Some}
 use Rattle.std.proofs.Math.Bool.{or-true}
-use Rattle.qo_model.specs.Board.{Board, Record, Slot, plain, child, strong, weak, alias, is_live, slots_at, slot_at, held}
-use Rattle.qo_model.specs.Depth.{among}
-use Rattle.qo_model.specs.Paths.{births}
-use Rattle.qo_model.specs.References.{refs, refs_in, holds_it}
-use Rattle.qo_model.specs.Release.{with_dropped, drop_slot, next_index, forgotten_in, forgotten, finish, finalize, after}
-use Rattle.qo_model.specs.ReleaseInduction.{KeepsRelease}
-use Rattle.qo_model.specs.SoundGraph.{Rises}
+use Rattle.qo_model.specs.Board.{held}
 use Rattle.qo_model.proofs.EditLemmas.{sum-held, one_is, held-forgotten, sum-without_hold, StandsAt, stands-at}
 use Rattle.qo_model.proofs.ReleaseInductionLemmas.{after_keeps}
 use Rattle.qo_model.proofs.StepLemmas.{drop-live, drop-refs, finish-live, finish-refs, found_at, found-birth, one_of}
-use Rattle.qo_model.specs.SoundAliases.{is_open, lasting, PassesTo}
 use Rattle.qo_sound.proofs.SlotLemmas.{clocks-each}
 use Rattle.qo_sound.proofs.RecordLemmas.{all-map, all-passing, all-edited, sum-edited, sum-filtered}
 use Rattle.qo_values.proofs.ListLemmas.{all-imply}

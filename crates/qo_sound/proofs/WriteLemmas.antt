@@ -1,14 +1,7 @@
 -- `object-del` and `qom-set` keep a board at rest, taken or refused.
 use Rattle.std.proofs.Common.{◌≡◌, refl, ap, ◌∙◌, ℕ, List, Option, Some, None, option_map}
-use Rattle.qo_values.specs.declared.births.TheConstants.{OBJECTS_BIRTH}
-use Rattle.qo_values.specs.declared.kinds.TypeId.{TypeId}
-use Rattle.qo_values.specs.declared.properties.Val.{Val}
-use Rattle.qo_model.specs.Board.{Board, Slot, kind_of, slot_at, held}
-use Rattle.qo_model.specs.Changes.{point, set}
-use Rattle.qo_model.specs.FinalNotesRuns.{after_write}
-use Rattle.qo_model.specs.Objects.{object_del}
-use Rattle.qo_model.specs.Properties.{pointed_at, relinked, write}
-use Rattle.qo_model.specs.Release.{drop_slot}
+use Rattle.qo_model.proofs.Common.{OBJECTS_BIRTH, TypeId, Val, Board, Slot, kind_of, slot_at, point, set, after_write, object_del, pointed_at, relinked, write, drop_slot}
+use Rattle.qo_model.specs.Board.{held}
 use Rattle.qo_model.proofs.ComesToLemmas.{deletion-comes}
 use Rattle.qo_model.proofs.ReleaseScopeLemmas.{let_go-leaves}
 use Rattle.qo_model.proofs.PinLemmas.{release-pins}

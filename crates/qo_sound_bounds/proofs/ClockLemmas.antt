@@ -1,21 +1,10 @@
 -- The clock of an object, by the entries of its children; the source for a bus, by who owns the bus; and sources where what stands is as on another board.
 use Rattle.std.proofs.Common.{◌≡◌, refl, ap, sym, subst, ◌∙◌, ℕ, Bool, true, false, ◌==◌, List, [], ◌∷◌, filter_map, find, Option, Some, None, option_map, option_and_then, unwrap_or, codes}
-use Rattle.std.specs.Prelude.{if◌then◌else◌}
-use Rattle.std.specs.List.{AllByRecursion, IsDistinct, list_any}
-use Rattle.std.specs.Option.{option_map_or}
-use Rattle.std.specs.Str.{bytes_eq}
+use Rattle.qo_model.proofs.Common.{if◌then◌else◌, AllByRecursion, IsDistinct, list_any, option_map_or, bytes_eq, MACHINE_BIRTH, MEMORY_BUS_BIRTH, ROOT_BUS_BIRTH, SYSTEM_CLOCK_BIRTH, Clock, Board, Record, Slot, plain, child, strong, weak, alias, is_live, kind_of, record_of, source_of, among, bridge_of, bus_of, child_named, clock_of, is_realized, is_of, source_for}
 use Rattle.std.proofs.lemmas.Bool.{eq-eqb}
 use Rattle.std.proofs.lemmas.Option.{same_Some}
 use Rattle.std.proofs.lemmas.Slice.Eq.{bytes_eq-Decides}
 use Rattle.std.proofs.Math.Bool.{or-true}
-use Rattle.qo_values.specs.declared.births.TheConstants.{MACHINE_BIRTH, MEMORY_BUS_BIRTH, ROOT_BUS_BIRTH, SYSTEM_CLOCK_BIRTH}
-use Rattle.qo_values.specs.declared.kinds.TypeId.TheVariants.{Clock}
-use Rattle.qo_model.specs.Board.{Board, Record, Slot, plain, child, strong, weak, alias, is_live, kind_of, record_of}
-use Rattle.qo_model.specs.Clocks.{source_of}
-use Rattle.qo_model.specs.Depth.{among}
-use Rattle.qo_model.specs.Devices.{bridge_of, bus_of, child_named, clock_of, is_realized}
-use Rattle.qo_model.specs.Paths.{is_of}
-use Rattle.qo_model.specs.Plug.{source_for}
 use Rattle.qo_model.proofs.FirstSlotLemmas.{named_in}
 use Rattle.qo_sound.proofs.FirmBoardLemmas.{Firm}
 use Rattle.qo_sound.proofs.SlotLemmas.{names_in}

@@ -1,13 +1,8 @@
 -- What a write of a clock leaves of devices, of their holds, and of what clocks go by.
 use Rattle.std.proofs.Common.{◌≡◌, refl, ap, ◌∙◌, ℕ, List, Option, Some, None, option_and_then, codes}
-use Rattle.qo_values.specs.declared.kinds.Act.{Act}
-use Rattle.qo_values.specs.declared.properties.Val.{Val}
+use Rattle.qo_model.proofs.Common.{Act, Val, Board, Slot, slots_at, set, with_val, acted, source_of, index_from, is_named, set_named}
 use Rattle.qo_values.specs.declared.properties.Val.TheVariants as val
-use Rattle.qo_model.specs.Board.{Board, Slot, slots_at}
-use Rattle.qo_model.specs.Changes.{set, with_val}
-use Rattle.qo_model.specs.Clocks.{acted, source_of, weak_in}
-use Rattle.qo_model.specs.Objects.{index_from}
-use Rattle.qo_model.specs.Unplug.{is_named, set_named}
+use Rattle.qo_model.specs.Clocks.{weak_in}
 use Rattle.qo_model.proofs.FirstSlotLemmas.{named_in, named-changed}
 use Rattle.qo_sound.proofs.ReadLemmas.{weak-val}
 use Rattle.qo_sound_devices.proofs.UnrealizingLemmas.{Dims, dims-acted, dims-none, dims-set, dims-then, reads}

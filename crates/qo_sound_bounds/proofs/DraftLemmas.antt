@@ -1,32 +1,18 @@
 -- A new device as it is made: its clock is a clock as new.
 use Rattle.std.proofs.Common.{◌≡◌, refl, ap, sym, subst, ◌∙◌, rules, ℕ, zero, suc, ◌+◌, ◌<◌, ◌≤◌, Bool, true, false, not, ◌||◌, ◌==◌, List, [], ◌∷◌, find, Option, Some, None, option_map, option_and_then, codes, arith}
-use Rattle.std.specs.Bool.{⊤}
-use Rattle.std.specs.List.{AllByRecursion}
-use Rattle.std.specs.Option.{option_or}
-use Rattle.std.specs.Str.{bytes_eq}
+use Rattle.qo_model.proofs.Common.{⊤, AllByRecursion, option_or, bytes_eq, TypeId, Clock, Val, Board, Record, Slot, plain, child, strong, weak, alias, record_of, slots_at, add, changed_at, fresh, with_added, with_val, child_named, Given, slot_given, first_value, fresh_record, fresh_slots, aliased, drafted, fitted, owned, property_made, properties_made, with_new, edited, property_name, slots_of, types}
+use Rattle.qo_model.specs.declared.properties.Property.{Property}
+use Rattle.qo_model.specs.declared.properties.PropertyRole.{PropertyRole}
 use Rattle.std.proofs.lemmas.Bool.{eqb-true, eq-eqb}
 use Rattle.std.proofs.lemmas.List.Folds.{find-append}
 use Rattle.std.proofs.lemmas.Option.{same_Some}
-use Rattle.qo_values.specs.declared.kinds.TypeId.{TypeId}
-use Rattle.qo_values.specs.declared.kinds.TypeId.TheVariants.{Object, Container, Machine, Device, SlotDevice, SlotUart, SlotTimer, SlotBridge, MemDimm, Bus, SlotBus, MemBus, Clock, MemoryBackend, MemoryBackendRam, Tag}
-use Rattle.qo_values.specs.declared.properties.Val.{Val}
-use Rattle.qo_model.specs.Board.{Board, Record, Slot, plain, child, strong, weak, alias, record_of, slots_at}
-use Rattle.qo_model.specs.Changes.{add, changed_at, fresh, with_added, with_val}
-use Rattle.qo_model.specs.Devices.{child_named}
-use Rattle.qo_model.specs.Objects.{Given, slot_given}
-use Rattle.qo_model.specs.Opening.{first_value, fresh_record, fresh_slots}
-use Rattle.qo_model.specs.Plug.{aliased, drafted, fitted, owned, property_made, properties_made, with_new}
-use Rattle.qo_model.specs.Release.{edited}
-use Rattle.qo_model.specs.RowNames.{property_name}
-use Rattle.qo_model.specs.Types.{slots_of, types}
-use Rattle.qo_model.specs.declared.properties.Property.{Property}
-use Rattle.qo_model.specs.declared.properties.PropertyRole.{PropertyRole}
 use Rattle.qo_model.specs.declared.properties.PropertyRole.TheVariants as row
 use Rattle.qo_model.proofs.FirstSlotLemmas.{slots_in}
 use Rattle.qo_model.proofs.StepLemmas.{found_at, found-edited}
 use Rattle.qo_sound.proofs.GivenPropertyLemmas.{given-cases}
 use Rattle.qo_sound.proofs.RecordLemmas.{all-append}
 use Rattle.qo_values.proofs.ListLemmas.{all-imply}
+use Rattle.qo_values.proofs.EachLemmas.{each}
 use Rattle.qo_sound.proofs.TestLemmas.{clash-back}
 use Rattle.qo_sound_devices.proofs.SourceLemmas.{add-other}
 use Rattle.qo_sound_clocks.proofs.SlotLemmas.{Slots}
@@ -58,40 +44,10 @@ RowClock p = fits_clock (property_name p.name) p.role ≡ true
 
 rows-clock : (t : TypeId) → AllByRecursion RowClock (slots_of t)
 unfolding types
-rows-clock Object = search rules
-rows-clock Container = search rules
-rows-clock Machine = search rules
-rows-clock Device = search rules
-rows-clock SlotDevice = search rules
-rows-clock SlotUart = search rules
-rows-clock SlotTimer = search rules
-rows-clock SlotBridge = search rules
-rows-clock MemDimm = search rules
-rows-clock Bus = search rules
-rows-clock SlotBus = search rules
-rows-clock MemBus = search rules
-rows-clock Clock = search rules
-rows-clock MemoryBackend = search rules
-rows-clock MemoryBackendRam = search rules
-rows-clock Tag = search rules
+rows-clock = each (λ (t : TypeId). AllByRecursion RowClock (slots_of t)) (search rules)
 
 the-clock : (k : TypeId) → is_clock k ≡ true → k ≡ Clock
-the-clock Object e = clash-back e
-the-clock Container e = clash-back e
-the-clock Machine e = clash-back e
-the-clock Device e = clash-back e
-the-clock SlotDevice e = clash-back e
-the-clock SlotUart e = clash-back e
-the-clock SlotTimer e = clash-back e
-the-clock SlotBridge e = clash-back e
-the-clock MemDimm e = clash-back e
-the-clock Bus e = clash-back e
-the-clock SlotBus e = clash-back e
-the-clock MemBus e = clash-back e
-the-clock Clock e = refl
-the-clock MemoryBackend e = clash-back e
-the-clock MemoryBackendRam e = clash-back e
-the-clock Tag e = clash-back e
+the-clock = each (λ (k : TypeId). is_clock k ≡ true → k ≡ Clock) (search rules)
 
 row-clock : (name : List ℕ) (k : TypeId) → fits_clock name (row.Child k) ≡ true → bytes_eq name (codes "clk") ≡ true → k ≡ Clock
 row-clock name k h e = the-clock k (rw e at h)

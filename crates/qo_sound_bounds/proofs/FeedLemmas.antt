@@ -1,29 +1,10 @@
 -- A device that is added: its clock goes by the one for its bus, and the others go by what they went by.
 use Rattle.std.proofs.Common.{◌≡◌, ◌⊎◌, inl, inr, refl, ap, sym, subst, ◌∙◌, ℕ, suc, ◌+◌, ◌<◌, ◌≤◌, Bool, true, false, ◌==◌, List, [], ◌∷◌, Option, Some, None, option_map, option_and_then, unwrap_or, codes, arith}
-use Rattle.std.specs.Prelude.{if◌then◌else◌}
-use Rattle.std.specs.Cmp.{nat_eq_equiv}
-use Rattle.std.specs.List.{AllByRecursion, list_any}
-use Rattle.std.specs.Option.{option_map_or}
+use Rattle.qo_model.proofs.Common.{if◌then◌else◌, nat_eq_equiv, AllByRecursion, list_any, option_map_or, ANONYMOUS_BIRTH, MACHINE_BIRTH, PERIPHERAL_BIRTH, SYSTEM_CLOCK_BIRTH, Realize, TypeId, Clock, Device, Val, Range, Board, Record, child, strong, is_live, kind_of, record_of, slots_at, add, changed_at, fresh, set, with_added, with_changed, with_val, source_of, bus_of, child_named, clock_of, is_realized, kid_name, index_from, fresh_slots, is_of, only_of, Spot, Wanted, acted_all, addressed_at, bus_births, clocked, counted, drafted, fitted, joined, link_named, name_for, parent_for, plug, plug_attempt, source_for, spot_of, stood, valued, with_body_of, with_device, with_given, with_new, with_plugged, with_source, edit, is_a, slots_of, types, is_named, set_named}
 use Rattle.std.proofs.lemmas.Bool.{cases_lt, eqb-true}
 use Rattle.std.proofs.lemmas.Option.{same_Some}
-use Rattle.qo_values.specs.declared.births.TheConstants.{ANONYMOUS_BIRTH, MACHINE_BIRTH, PERIPHERAL_BIRTH, SYSTEM_CLOCK_BIRTH}
-use Rattle.qo_values.specs.declared.kinds.Act.TheVariants.{Realize}
-use Rattle.qo_values.specs.declared.kinds.TypeId.{TypeId}
-use Rattle.qo_values.specs.declared.kinds.TypeId.TheVariants.{Clock, Device}
-use Rattle.qo_values.specs.declared.properties.Val.{Val}
 use Rattle.qo_values.specs.declared.properties.Val.TheVariants as val
-use Rattle.qo_values.specs.declared.ranges.Range.{Range}
-use Rattle.qo_model.specs.Board.{Board, Record, child, strong, is_live, kind_of, record_of, slots_at}
-use Rattle.qo_model.specs.Changes.{add, changed_at, fresh, set, with_added, with_changed, with_val}
-use Rattle.qo_model.specs.Clocks.{source_of, weak_in}
-use Rattle.qo_model.specs.Devices.{bus_of, child_named, clock_of, is_realized, kid_name}
-use Rattle.qo_model.specs.Objects.{index_from}
-use Rattle.qo_model.specs.Opening.{fresh_slots}
-use Rattle.qo_model.specs.Paths.{is_of, only_of}
-use Rattle.qo_model.specs.Plug.{Spot, Wanted, acted_all, addressed_at, bus_births, clocked, counted, drafted, fitted, joined, link_named, name_for, parent_for, plug, plug_attempt, source_for, spot_of, stood, valued, with_body_of, with_device, with_given, with_new, with_plugged, with_source}
-use Rattle.qo_model.specs.Release.{edit}
-use Rattle.qo_model.specs.Types.{is_a, slots_of, types}
-use Rattle.qo_model.specs.Unplug.{is_named, set_named}
+use Rattle.qo_model.specs.Clocks.{weak_in}
 use Rattle.qo_model.proofs.FirstSlotLemmas.{slots_in, named_in}
 use Rattle.qo_model.proofs.StepLemmas.{found-edited, map-edited}
 use Rattle.qo_sound.proofs.AdditionStepsLemmas.{link-by}

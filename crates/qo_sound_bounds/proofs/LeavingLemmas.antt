@@ -1,21 +1,11 @@
 -- A device that is detached with all that is below it: the clocks of devices that are unrealized lose their sources, and those of the others keep them.
 use Rattle.std.proofs.Common.{◌≡◌, refl, ap, sym, subst, ◌∙◌, ℕ, zero, suc, true, false, ◌==◌, List, [], ◌∷◌, length, Option, Some, None, option_map, option_and_then, codes, arith}
-use Rattle.std.specs.Option.{option_map_or}
+use Rattle.qo_model.proofs.Common.{option_map_or, MACHINE_BIRTH, Unrealize, Val, Board, Record, Slot, plain, child, strong, weak, alias, record_of, slots_at, with_changed, with_val, acted, device_period, source_of, bus_of, child_named, clock_of, is_realized, all_completed, completed, reset_whole, index_from, source_for, edit, pin, put_in_order, detach, disconnected, is_named, set_named, unrealize, unrealized_bus, unrealized_device, unseen, unseen_named}
 use Rattle.std.proofs.lemmas.Bool.{eqb-true, eq-eqb}
 use Rattle.std.proofs.lemmas.Option.{same_Some}
-use Rattle.qo_values.specs.declared.births.TheConstants.{MACHINE_BIRTH}
-use Rattle.qo_values.specs.declared.kinds.Act.TheVariants.{Unrealize}
-use Rattle.qo_values.specs.declared.properties.Val.{Val}
 use Rattle.qo_values.specs.declared.properties.Val.TheVariants as val
-use Rattle.qo_model.specs.Board.{Board, Record, Slot, plain, child, strong, weak, alias, record_of, slots_at}
-use Rattle.qo_model.specs.Changes.{with_changed, with_val}
-use Rattle.qo_model.specs.Clocks.{acted, device_period, source_of, weak_in}
-use Rattle.qo_model.specs.Devices.{bus_of, child_named, clock_of, is_realized}
-use Rattle.qo_model.specs.Hotplug.{all_completed, completed, reset_whole}
-use Rattle.qo_model.specs.Objects.{index_from}
-use Rattle.qo_model.specs.Plug.{source_for}
-use Rattle.qo_model.specs.Release.{edit, pin, put_in_order}
-use Rattle.qo_model.specs.Unplug.{detach, disconnected, first_of, is_named, set_named, unrealize, unrealized_bus, unrealized_device, unseen, unseen_named}
+use Rattle.qo_model.specs.Clocks.{weak_in}
+use Rattle.qo_model.specs.Unplug.{first_of}
 use Rattle.qo_model.proofs.FirstSlotLemmas.{named_in, first-changed, none-found, named-changed}
 use Rattle.qo_sound.proofs.TreeKeptLemmas.{sound_kept_lem}
 use Rattle.qo_sound.proofs.AdditionStepsLemmas.{set-by}

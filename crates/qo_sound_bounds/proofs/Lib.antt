@@ -7,7 +7,6 @@ pub mod DraftLemmas
 pub mod FeedLemmas
 pub mod SourcesLawLemmas
 pub mod HoldsLemmas
-pub mod RegisterStepsLemmas
 pub mod SegmentLemmas
 pub mod SegmentsLawLemmas
 pub mod ClockWriteLemmas

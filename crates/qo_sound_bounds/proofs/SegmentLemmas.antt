@@ -1,15 +1,8 @@
 -- What acts and a guest's writes do to the segments of a timer that is not ahead of the time.
 use Rattle.std.proofs.Common.{◌≡◌, ◌≢◌, refl, ap, sym, subst, ◌∙◌, ℕ, ◌+◌, ◌-◌, ◌*◌, ◌≤◌, ◌%◌, ◌||◌, Bool, true, false, cond, eqb, Option, Some, None, is_some, arith}
-use Rattle.std.specs.Bool.{⊤}
+use Rattle.qo_model.proofs.Common.{⊤, Effect, body_act, body_write, Registers, TimerRegisters, bare, bridge, dimm, fresh_registers, timer, uart, after_begin, after_end, control_write, reload_write, span_ticks, timer_enter, timer_halt, timer_hold, timer_update, timer_write, Act, Init, Realize, Unrealize, Enter, Hold, Exit, Pre, Update, TypeId, Object, Container, Machine, Device, SlotDevice, SlotUart, SlotTimer, SlotBridge, MemDimm, Bus, SlotBus, MemBus, Clock, MemoryBackend, MemoryBackendRam, Tag}
 use Rattle.std.proofs.Math.Nat.{div-le_self}
 use Rattle.std.proofs.lemmas.Option.{same_Some}
-use Rattle.qo_values.specs.Bodies.{Effect, body_act, body_write}
-use Rattle.qo_values.specs.Registers.{Registers, TimerRegisters, bare, bridge, dimm, fresh_registers, timer, uart}
-use Rattle.qo_values.specs.Timer.{after_begin, after_end, control_write, reload_write, span_ticks, timer_enter, timer_halt, timer_hold, timer_update, timer_write}
-use Rattle.qo_values.specs.declared.kinds.Act.{Act}
-use Rattle.qo_values.specs.declared.kinds.Act.TheVariants.{Init, Realize, Unrealize, Enter, Hold, Exit, Pre, Update}
-use Rattle.qo_values.specs.declared.kinds.TypeId.{TypeId}
-use Rattle.qo_values.specs.declared.kinds.TypeId.TheVariants.{Object, Container, Machine, Device, SlotDevice, SlotUart, SlotTimer, SlotBridge, MemDimm, Bus, SlotBus, MemBus, Clock, MemoryBackend, MemoryBackendRam, Tag}
 use Rattle.qo_sound_clocks.specs.SoundTimes.{IsTimely}
 use Rattle.qo_sound_clocks.proofs.BecomesLemmas.{Becomes, written-becomes, uart_to, timer_to, dimm_stays, bridge_to}
 use Rattle.qo_sound_bounds.specs.SoundSegments.{IsSegmented, SegmentsFit}

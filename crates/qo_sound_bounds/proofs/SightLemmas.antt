@@ -1,27 +1,11 @@
 -- What stays seen: an object that is still there goes by what it went by, where that is still there too.
 use Rattle.std.proofs.Common.{◌≡◌, refl, ap, sym, subst, ◌∙◌, ℕ, zero, suc, ◌+◌, Bool, true, false, not, ◌||◌, ◌==◌, List, [], ◌∷◌, ◌++◌, length, map, remove, slice_get, Option, Some, None, is_some, option_map, codes, nat_eq}
-use Rattle.std.specs.List.{list_any}
-use Rattle.std.specs.Option.{option_or}
-use Rattle.std.specs.Str.{bytes_eq}
+use Rattle.qo_model.proofs.Common.{list_any, option_or, bytes_eq, fresh_registers, ANONYMOUS_BIRTH, OBJECTS_BIRTH, PERIPHERAL_BIRTH, Code, TypeId, Val, Board, Record, Slot, plain, child, strong, weak, alias, is_live, record_of, slots_at, slot_at, changed_at, cut, point, pointed, set, with_added, with_changed, with_cut, with_val, among, bus_of, Change, added, after_write, changed, deleted, severed, wrote, Given, added_as, given_slots, is_object_named, object_add, object_del, index_from, sever, severed_from, with_object, pointed_at, relinked, write, after, drop_slot, edit, edited, emptied, finalize, finish, forgotten, forgotten_in, let_go, pin, unpin, with_dropped, without_hold, without_pin, KeepsRelease, is_bus_child, is_child_slot, is_named, left_bus, left_parent, let_go_where, names_kid, take_slot, take_where, unrealize, detach}
 use Rattle.std.proofs.Math.Bool.{and-false}
 use Rattle.std.proofs.lemmas.Bool.{and_parts, eqb-true, eq-eqb, or_right, not-true}
 use Rattle.std.proofs.lemmas.Option.{same_Some}
 use Rattle.std.proofs.lemmas.Slice.Eq.{bytes_eq-Decides}
-use Rattle.qo_values.specs.Registers.{fresh_registers}
-use Rattle.qo_values.specs.declared.births.TheConstants.{ANONYMOUS_BIRTH, OBJECTS_BIRTH, PERIPHERAL_BIRTH}
-use Rattle.qo_values.specs.declared.codes.Code.{Code}
-use Rattle.qo_values.specs.declared.kinds.TypeId.{TypeId}
-use Rattle.qo_values.specs.declared.properties.Val.{Val}
-use Rattle.qo_model.specs.Board.{Board, Record, Slot, plain, child, strong, weak, alias, is_live, record_of, slots_at, slot_at, held}
-use Rattle.qo_model.specs.Changes.{changed_at, cut, point, pointed, set, with_added, with_changed, with_cut, with_val}
-use Rattle.qo_model.specs.Depth.{among}
-use Rattle.qo_model.specs.Devices.{bus_of}
-use Rattle.qo_model.specs.FinalNotesRuns.{Change, added, after_write, changed, deleted, severed, wrote}
-use Rattle.qo_model.specs.Objects.{Given, added_as, given_slots, is_object_named, object_add, object_del, index_from, sever, severed_from, with_object}
-use Rattle.qo_model.specs.Properties.{pointed_at, relinked, write}
-use Rattle.qo_model.specs.Release.{after, drop_slot, edit, edited, emptied, finalize, finish, forgotten, forgotten_in, let_go, pin, unpin, with_dropped, without_hold, without_pin}
-use Rattle.qo_model.specs.ReleaseInduction.{KeepsRelease}
-use Rattle.qo_model.specs.Unplug.{is_bus_child, is_child_slot, is_named, left_bus, left_parent, let_go_where, names_kid, take_slot, take_where, unrealize, detach}
+use Rattle.qo_model.specs.Board.{held}
 use Rattle.qo_model.proofs.ComesToLemmas.{addition-comes, deletion-comes, sever-comes, severed-comes}
 use Rattle.qo_model.proofs.FirstSlotLemmas.{slots_in, Found, found-at}
 use Rattle.qo_model.proofs.ReleaseInductionLemmas.{after_keeps}

@@ -1,21 +1,8 @@
 -- What keeps the sources of clocks: changes that leave what stands, and commands on objects.
 use Rattle.std.proofs.Common.{◌≡◌, refl, ap, sym, subst, ◌∙◌, ℕ, true, false, List, [], ◌∷◌, ◌++◌, filter, filter_map, Option, Some, None, is_some, option_and_then, codes, Ok}
-use Rattle.std.specs.Option.{option_map_or}
-use Rattle.qo_values.specs.Registers.{Registers}
-use Rattle.qo_values.specs.declared.births.TheConstants.{MACHINE_BIRTH}
-use Rattle.qo_values.specs.declared.kinds.Act.{Act}
-use Rattle.qo_values.specs.declared.kinds.Act.TheVariants.{Enter, Hold, Exit}
-use Rattle.qo_model.specs.Board.{Board, Record, Slot, is_live}
-use Rattle.qo_model.specs.ClockChanges.{clock_scaled, clock_set}
-use Rattle.qo_model.specs.Clocks.{acted, source_of, weak_in}
-use Rattle.qo_model.specs.Depth.{among}
-use Rattle.qo_model.specs.Devices.{is_realized, is_true, plain_in, strong_in}
-use Rattle.qo_model.specs.FinalNotesRuns.{Change, changed}
-use Rattle.qo_model.specs.Hotplug.{asked, asked_of, device_at}
-use Rattle.qo_model.specs.Paths.{attached}
-use Rattle.qo_model.specs.Plug.{notice_barred}
-use Rattle.qo_model.specs.Release.{without_first}
-use Rattle.qo_model.specs.Reset.{held, is_out, phased, post, pulse, released}
+use Rattle.qo_model.proofs.Common.{option_map_or, Registers, MACHINE_BIRTH, Act, Enter, Hold, Exit, Board, Record, Slot, is_live, clock_scaled, clock_set, acted, source_of, among, is_realized, is_true, plain_in, strong_in, Change, changed, asked, asked_of, device_at, attached, notice_barred, without_first, is_out, phased, post, pulse, released}
+use Rattle.qo_model.specs.Clocks.{weak_in}
+use Rattle.qo_model.specs.Reset.{held}
 use Rattle.qo_model.proofs.FirstSlotLemmas.{named_in}
 use Rattle.qo_sound.proofs.TreeKeptLemmas.{sound_kept_lem}
 use Rattle.qo_sound.proofs.TestLemmas.{decide}

@@ -1,15 +1,7 @@
 -- The law: what keeps the sources of clocks sound.
 use Rattle.std.proofs.Common.{◌≡◌, refl, ap, sym, ◌∙◌, rules, ℕ, Bool, true, false, List, find, Option, Some, None, is_none, option_map, option_and_then, codes}
-use Rattle.std.specs.List.{AllByRecursion}
-use Rattle.std.specs.Str.{bytes_eq}
-use Rattle.qo_model.specs.Board.{Record, Slot, record_of}
-use Rattle.qo_model.specs.Clocks.{source_of, weak_in}
-use Rattle.qo_model.specs.Devices.{is_realized}
-use Rattle.qo_model.specs.Hotplug.{refused}
-use Rattle.qo_model.specs.Objects.{with_attempt}
-use Rattle.qo_model.specs.Opening.{opening_board}
-use Rattle.qo_model.specs.Plug.{cut_attempt, plug_attempt}
-use Rattle.qo_model.specs.Types.{types}
+use Rattle.qo_model.proofs.Common.{AllByRecursion, bytes_eq, Record, Slot, record_of, source_of, is_realized, refused, with_attempt, opening_board, cut_attempt, plug_attempt, types}
+use Rattle.qo_model.specs.Clocks.{weak_in}
 use Rattle.qo_model.proofs.FirstSlotLemmas.{slots_in}
 use Rattle.qo_sound.proofs.SearchLemmas.{all-found}
 use Rattle.qo_sound.proofs.TestLemmas.{clash}

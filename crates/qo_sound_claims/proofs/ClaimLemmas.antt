@@ -1,18 +1,8 @@
 -- Where objects claim no more than before, the claims stay sound.
 use Rattle.std.proofs.Common.{◌≡◌, ◌≢◌, refl, ap, sym, ◌∙◌, ℕ, true, false, ◌&&◌, List, [], ◌∷◌, Option, Some, None, is_some, option_map, option_and_then, unwrap_or, codes}
-use Rattle.std.specs.List.{list_any}
-use Rattle.std.specs.Str.{bytes_eq}
+use Rattle.qo_model.proofs.Common.{list_any, bytes_eq, Registers, bare, bridge, dimm, timer, uart, TypeId, Val, Range, Board, Record, Ring, kind_of, record_of, bus_of, bus_slot_of, is_realized, number_at, number_in, text_at, text_in, is_of, backend_of, range_in, size_of, is_a}
 use Rattle.std.proofs.lemmas.Bool.{and_parts, and_from}
 use Rattle.std.proofs.lemmas.Option.{same_Some}
-use Rattle.qo_values.specs.Registers.{Registers, bare, bridge, dimm, timer, uart}
-use Rattle.qo_values.specs.declared.kinds.TypeId.{TypeId}
-use Rattle.qo_values.specs.declared.properties.Val.{Val}
-use Rattle.qo_values.specs.declared.ranges.Range.{Range}
-use Rattle.qo_model.specs.Board.{Board, Record, Ring, kind_of, record_of}
-use Rattle.qo_model.specs.Devices.{bus_of, bus_slot_of, is_realized, number_at, number_in, text_at, text_in}
-use Rattle.qo_model.specs.Paths.{is_of}
-use Rattle.qo_model.specs.Plug.{backend_of, range_in, size_of}
-use Rattle.qo_model.specs.Types.{is_a}
 use Rattle.qo_sound.specs.TreeKept.{SoundTree}
 use Rattle.qo_sound_clocks.proofs.SlotLemmas.{plain_of}
 use Rattle.qo_sound_claims.specs.SoundClaims.{HasRange, is_dimm_on, is_uart_on, NamesRing, SoundClaims, StandsOn}

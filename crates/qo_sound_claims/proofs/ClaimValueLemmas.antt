@@ -1,32 +1,12 @@
 -- What a device that is added has under the names of its claims: the value that is given, or that its type begins with; of a DIMM its address and its range.
 use Rattle.std.proofs.Common.{◌≡◌, refl, ap, sym, subst, ◌∙◌, ℕ, ◌+◌, ◌<◌, Bool, true, false, cond, ◌==◌, List, [], ◌∷◌, ◌++◌, filter, map, Option, Some, None, option_map, codes, arith}
-use Rattle.std.specs.Option.{option_map_or, option_or}
-use Rattle.std.specs.Str.{bytes_eq}
+use Rattle.qo_model.proofs.Common.{option_map_or, option_or, bytes_eq, Act, Realize, Enter, Hold, Exit, TypeId, Device, Val, Range, Board, Record, Slot, plain, child, strong, weak, alias, record_of, slots_at, add, fresh, set, with_added, with_changed, with_val, acted, with_act_on, clock_of, kid_name, Given, index_from, slot_given, first_value, fresh_record, canonical, Spot, Wanted, acted_all, addressed_at, aliased, bus_births, clocked, counted, drafted, fitted, joined, link_named, name_for, owned, parent_for, range_in, property_made, properties_made, source_for, stood, valued, with_body_of, with_device, with_given, with_new, with_path, with_plugged, with_source, edit, edited, is_out, phased, plugged, post, property_name, slots_of, is_named, set_named}
+use Rattle.qo_model.specs.declared.properties.Property.{Property}
+use Rattle.qo_model.specs.declared.properties.PropertyRole.{PropertyRole}
 use Rattle.std.proofs.lemmas.Bool.{eq-eqb}
 use Rattle.std.proofs.lemmas.Option.{same_Some}
 use Rattle.std.proofs.lemmas.Slice.Eq.{bytes_eq-Decides}
-use Rattle.qo_values.specs.declared.kinds.Act.{Act}
-use Rattle.qo_values.specs.declared.kinds.Act.TheVariants.{Realize, Enter, Hold, Exit}
-use Rattle.qo_values.specs.declared.kinds.TypeId.{TypeId}
-use Rattle.qo_values.specs.declared.kinds.TypeId.TheVariants.{Device}
-use Rattle.qo_values.specs.declared.properties.Val.{Val}
 use Rattle.qo_values.specs.declared.properties.Val.TheVariants as val
-use Rattle.qo_values.specs.declared.ranges.Range.{Range}
-use Rattle.qo_model.specs.Board.{Board, Record, Slot, plain, child, strong, weak, alias, record_of, slots_at}
-use Rattle.qo_model.specs.Changes.{add, fresh, set, with_added, with_changed, with_val}
-use Rattle.qo_model.specs.Clocks.{acted, with_act_on}
-use Rattle.qo_model.specs.Devices.{clock_of, kid_name}
-use Rattle.qo_model.specs.Objects.{Given, index_from, slot_given}
-use Rattle.qo_model.specs.Opening.{first_value, fresh_record}
-use Rattle.qo_model.specs.Paths.{canonical}
-use Rattle.qo_model.specs.Plug.{Spot, Wanted, acted_all, addressed_at, aliased, bus_births, clocked, counted, drafted, fitted, joined, link_named, name_for, owned, parent_for, range_in, property_made, properties_made, source_for, stood, valued, with_body_of, with_device, with_given, with_new, with_path, with_plugged, with_source}
-use Rattle.qo_model.specs.Release.{edit, edited}
-use Rattle.qo_model.specs.Reset.{is_out, phased, plugged, post}
-use Rattle.qo_model.specs.RowNames.{property_name}
-use Rattle.qo_model.specs.Types.{slots_of}
-use Rattle.qo_model.specs.Unplug.{is_named, set_named}
-use Rattle.qo_model.specs.declared.properties.Property.{Property}
-use Rattle.qo_model.specs.declared.properties.PropertyRole.{PropertyRole}
 use Rattle.qo_model.specs.declared.properties.PropertyRole.TheVariants as row
 use Rattle.qo_model.proofs.FirstSlotLemmas.{named_in, Found, found-at, first-changed, none-found, named-other, other-name}
 use Rattle.qo_model.proofs.StepLemmas.{found-edited, found_at, found-birth}

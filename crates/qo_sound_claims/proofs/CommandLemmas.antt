@@ -1,23 +1,8 @@
 -- The commands on objects: what they add is not realized, what they write is not claimed, and what they let go no realized device holds.
 use Rattle.std.proofs.Common.{◌≡◌, inl, inr, refl, ap, sym, ◌∙◌, rules, ℕ, ◌+◌, Bool, true, false, ◌==◌, List, [], ◌∷◌, map, length, slice_get, Option, Some, None, option_map, codes}
-use Rattle.std.specs.List.{AllByRecursion}
-use Rattle.std.specs.Option.{option_or}
-use Rattle.std.specs.Str.{bytes_eq}
-use Rattle.qo_values.specs.declared.births.TheConstants.{OBJECTS_BIRTH}
-use Rattle.qo_values.specs.declared.codes.Code.{Code}
-use Rattle.qo_values.specs.declared.kinds.TypeId.{TypeId}
-use Rattle.qo_values.specs.declared.kinds.TypeId.TheVariants.{Object, Container, Machine, Device, SlotDevice, SlotUart, SlotTimer, SlotBridge, MemDimm, Bus, SlotBus, MemBus, Clock, MemoryBackend, MemoryBackendRam, Tag}
-use Rattle.qo_values.specs.declared.properties.Val.{Val}
-use Rattle.qo_model.specs.Board.{Board, Record, Slot, plain, child, strong, weak, alias, record_of, slot_at, slots_at, held}
-use Rattle.qo_model.specs.Changes.{point, pointed, set, with_added, with_changed, with_val}
-use Rattle.qo_model.specs.Devices.{is_realized}
-use Rattle.qo_model.specs.FinalNotesRuns.{Change, added, deleted, wrote, severed, after_write, changed}
-use Rattle.qo_model.specs.Objects.{Given, added_as, is_object_named, object_add, object_del, sever, severed_from, slot_given, with_object}
-use Rattle.qo_model.specs.Opening.{fresh_slots}
-use Rattle.qo_model.specs.Paths.{attached, is_of}
-use Rattle.qo_model.specs.Properties.{pointed_at, relinked, write}
-use Rattle.qo_model.specs.Release.{drop_slot, edited, emptied, pin}
-use Rattle.qo_model.specs.Types.{is_a, types}
+use Rattle.qo_model.proofs.Common.{AllByRecursion, option_or, bytes_eq, OBJECTS_BIRTH, Code, TypeId, Val, Board, Record, Slot, plain, child, strong, weak, alias, record_of, slot_at, slots_at, point, pointed, set, with_added, with_changed, with_val, is_realized, Change, added, deleted, wrote, severed, after_write, changed, Given, added_as, is_object_named, object_add, object_del, sever, severed_from, slot_given, with_object, fresh_slots, attached, is_of, pointed_at, relinked, write, drop_slot, edited, emptied, pin, is_a, types}
+use Rattle.qo_values.proofs.EachLemmas.{each}
+use Rattle.qo_model.specs.Board.{held}
 use Rattle.qo_model.proofs.ComesToLemmas.{addition-comes, deletion-comes, sever-comes, severed-comes}
 use Rattle.qo_model.proofs.FirstSlotLemmas.{Found, found-at}
 use Rattle.qo_model.proofs.StepLemmas.{found-edited, found_at}
@@ -49,22 +34,7 @@ record NeverSet (t : TypeId) : Type 0 where
 
 never-set : (t : TypeId) → NeverSet t
 unfolding types
-never-set Object = record { chardev = refl; addr = refl; size = refl; slot = refl; realized = refl; memdev = refl; parent_bus = refl }
-never-set Container = record { chardev = refl; addr = refl; size = refl; slot = refl; realized = refl; memdev = refl; parent_bus = refl }
-never-set Machine = record { chardev = refl; addr = refl; size = refl; slot = refl; realized = refl; memdev = refl; parent_bus = refl }
-never-set Device = record { chardev = refl; addr = refl; size = refl; slot = refl; realized = refl; memdev = refl; parent_bus = refl }
-never-set SlotDevice = record { chardev = refl; addr = refl; size = refl; slot = refl; realized = refl; memdev = refl; parent_bus = refl }
-never-set SlotUart = record { chardev = refl; addr = refl; size = refl; slot = refl; realized = refl; memdev = refl; parent_bus = refl }
-never-set SlotTimer = record { chardev = refl; addr = refl; size = refl; slot = refl; realized = refl; memdev = refl; parent_bus = refl }
-never-set SlotBridge = record { chardev = refl; addr = refl; size = refl; slot = refl; realized = refl; memdev = refl; parent_bus = refl }
-never-set MemDimm = record { chardev = refl; addr = refl; size = refl; slot = refl; realized = refl; memdev = refl; parent_bus = refl }
-never-set Bus = record { chardev = refl; addr = refl; size = refl; slot = refl; realized = refl; memdev = refl; parent_bus = refl }
-never-set SlotBus = record { chardev = refl; addr = refl; size = refl; slot = refl; realized = refl; memdev = refl; parent_bus = refl }
-never-set MemBus = record { chardev = refl; addr = refl; size = refl; slot = refl; realized = refl; memdev = refl; parent_bus = refl }
-never-set Clock = record { chardev = refl; addr = refl; size = refl; slot = refl; realized = refl; memdev = refl; parent_bus = refl }
-never-set MemoryBackend = record { chardev = refl; addr = refl; size = refl; slot = refl; realized = refl; memdev = refl; parent_bus = refl }
-never-set MemoryBackendRam = record { chardev = refl; addr = refl; size = refl; slot = refl; realized = refl; memdev = refl; parent_bus = refl }
-never-set Tag = record { chardev = refl; addr = refl; size = refl; slot = refl; realized = refl; memdev = refl; parent_bus = refl }
+never-set = each (λ (t : TypeId). NeverSet t) (search rules)
 
 record Unclaimed (name : List ℕ) : Type 0 where
   values : OtherName name
@@ -181,22 +151,7 @@ dark-lit (x ∷ xs) h = rw h.0 (dark-lit xs h.1)
 
 created-dark : (t : TypeId) → is_a t (codes "user-creatable") ≡ true → AllByRecursion Dark (fresh_slots t)
 unfolding types
-created-dark Object e = absurd (let clash : false ≡ true = e in cc)
-created-dark Container e = absurd (let clash : false ≡ true = e in cc)
-created-dark Machine e = absurd (let clash : false ≡ true = e in cc)
-created-dark Device e = absurd (let clash : false ≡ true = e in cc)
-created-dark SlotDevice e = absurd (let clash : false ≡ true = e in cc)
-created-dark SlotUart e = absurd (let clash : false ≡ true = e in cc)
-created-dark SlotTimer e = absurd (let clash : false ≡ true = e in cc)
-created-dark SlotBridge e = absurd (let clash : false ≡ true = e in cc)
-created-dark MemDimm e = absurd (let clash : false ≡ true = e in cc)
-created-dark Bus e = absurd (let clash : false ≡ true = e in cc)
-created-dark SlotBus e = absurd (let clash : false ≡ true = e in cc)
-created-dark MemBus e = absurd (let clash : false ≡ true = e in cc)
-created-dark Clock e = absurd (let clash : false ≡ true = e in cc)
-created-dark MemoryBackend e = search rules
-created-dark MemoryBackendRam e = search rules
-created-dark Tag e = search rules
+created-dark = each (λ (t : TypeId). is_a t (codes "user-creatable") ≡ true → AllByRecursion Dark (fresh_slots t)) (search rules)
 
 with_object-fewer : (b : Board) (t : TypeId) (id : List ℕ) (props : List Given) → AllByRecursion Dark (fresh_slots t)
     → Fewer false b (with_object b t id props)

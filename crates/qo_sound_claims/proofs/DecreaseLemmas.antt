@@ -1,28 +1,11 @@
 -- Boards whose objects claim no more than those of a board: small steps of objects that go, links that are emptied and values that are set.
-use Rattle.std.proofs.Common.{◌≡◌, ◌⊎◌, inl, refl, ap, sym, subst, ◌∙◌, ℕ, Bool, true, false, ◌&&◌, ◌==◌, eqb, List, [], ◌∷◌, slice_get, Option, Some, None, option_map, codes, nat_eq}
-use Rattle.std.specs.Bool.{⊤}
-use Rattle.std.specs.List.{list_any}
-use Rattle.std.specs.Str.{bytes_eq}
+use Rattle.std.proofs.Common.{rules, ◌≡◌, ◌⊎◌, inl, refl, ap, sym, subst, ◌∙◌, ℕ, Bool, true, false, ◌&&◌, ◌==◌, eqb, List, ◌∷◌, slice_get, Option, Some, None, option_map, codes, nat_eq, []}
+use Rattle.qo_model.proofs.Common.{⊤, list_any, bytes_eq, body_act, Registers, Act, Unrealize, Val, Board, Record, Slot, record_of, slots_at, slot_at, changed_at, set, with_changed, with_val, acted, device_period, with_act_on, among, clock_of, is_true, strong_in, index_from, range_in, after, drop_slot, edit, edited, finalize, finish, forgotten, let_go, pin, unpin, with_dropped, without_hold, without_pin, KeepsRelease, phased, is_a, disconnected, is_named, let_go_where, set_named, unrealize, unrealized_bus, unrealized_device, unseen, unseen_named}
 use Rattle.std.proofs.lemmas.Bool.{eqb-true}
 use Rattle.std.proofs.lemmas.Slice.Eq.{bytes_eq-Decides}
-use Rattle.qo_values.specs.Bodies.{body_act}
-use Rattle.qo_values.specs.Registers.{Registers, bare, bridge, dimm, timer, uart}
-use Rattle.qo_values.specs.declared.kinds.Act.{Act}
-use Rattle.qo_values.specs.declared.kinds.Act.TheVariants.{Init, Realize, Unrealize, Enter, Hold, Exit, Pre, Update}
-use Rattle.qo_values.specs.declared.properties.Val.{Val}
 use Rattle.qo_values.specs.declared.properties.Val.TheVariants as val
-use Rattle.qo_model.specs.Board.{Board, Record, Slot, record_of, slots_at, slot_at, held}
-use Rattle.qo_model.specs.Changes.{changed_at, set, with_changed, with_val}
-use Rattle.qo_model.specs.Clocks.{acted, device_period, with_act_on}
-use Rattle.qo_model.specs.Depth.{among}
-use Rattle.qo_model.specs.Devices.{clock_of, is_true, strong_in}
-use Rattle.qo_model.specs.Objects.{index_from}
-use Rattle.qo_model.specs.Plug.{range_in}
-use Rattle.qo_model.specs.Release.{after, drop_slot, edit, edited, finalize, finish, forgotten, let_go, pin, unpin, with_dropped, without_hold, without_pin}
-use Rattle.qo_model.specs.ReleaseInduction.{KeepsRelease}
-use Rattle.qo_model.specs.Reset.{phased}
-use Rattle.qo_model.specs.Types.{is_a}
-use Rattle.qo_model.specs.Unplug.{disconnected, is_named, let_go_where, set_named, unrealize, unrealized_bus, unrealized_device, unseen, unseen_named}
+use Rattle.qo_values.proofs.EachLemmas.{AllBodies, each_act, each_body}
+use Rattle.qo_model.specs.Board.{held}
 use Rattle.qo_model.proofs.FirstSlotLemmas.{slots_in, Found, found-at}
 use Rattle.qo_model.proofs.ReleaseInductionLemmas.{after_keeps}
 use Rattle.qo_model.proofs.StepLemmas.{drop-record, finish-gone, finish-record, found-edited, found-birth}
@@ -131,47 +114,14 @@ pub fewer-same : (strict : Bool) (b c d : Board) → d.records ≡ c.records →
 fewer-same strict b c d e h x = subst (λ (rs : List Record). NearAt strict (record_of b x) (record_of (record c { records = rs }) x)) (sym e) (h x)
 
 -- an act on registers
+abbrev LeavesRange : Act → Registers → Type 0
+LeavesRange act r = (now period : ℕ) → range_in (body_act act now period r) ≡ range_in r
+
+abbrev LeaveRange : Act → Type 0
+LeaveRange act = AllBodies (LeavesRange act)
+
 pub act-range : (act : Act) (now period : ℕ) (r : Registers) → range_in (body_act act now period r) ≡ range_in r
-act-range (Init k) now period (uart u) = refl
-act-range (Init k) now period (timer t) = refl
-act-range (Init k) now period (dimm d) = refl
-act-range (Init k) now period (bridge g) = refl
-act-range (Init k) now period bare = refl
-act-range Realize now period (uart u) = refl
-act-range Realize now period (timer t) = refl
-act-range Realize now period (dimm d) = refl
-act-range Realize now period (bridge g) = refl
-act-range Realize now period bare = refl
-act-range Unrealize now period (uart u) = refl
-act-range Unrealize now period (timer t) = refl
-act-range Unrealize now period (dimm d) = refl
-act-range Unrealize now period (bridge g) = refl
-act-range Unrealize now period bare = refl
-act-range Enter now period (uart u) = refl
-act-range Enter now period (timer t) = refl
-act-range Enter now period (dimm d) = refl
-act-range Enter now period (bridge g) = refl
-act-range Enter now period bare = refl
-act-range Hold now period (uart u) = refl
-act-range Hold now period (timer t) = refl
-act-range Hold now period (dimm d) = refl
-act-range Hold now period (bridge g) = refl
-act-range Hold now period bare = refl
-act-range Exit now period (uart u) = refl
-act-range Exit now period (timer t) = refl
-act-range Exit now period (dimm d) = refl
-act-range Exit now period (bridge g) = refl
-act-range Exit now period bare = refl
-act-range Pre now period (uart u) = refl
-act-range Pre now period (timer t) = refl
-act-range Pre now period (dimm d) = refl
-act-range Pre now period (bridge g) = refl
-act-range Pre now period bare = refl
-act-range Update now period (uart u) = refl
-act-range Update now period (timer t) = refl
-act-range Update now period (dimm d) = refl
-act-range Update now period (bridge g) = refl
-act-range Update now period bare = refl
+act-range act now period r = each_body (LeavesRange act) (each_act LeaveRange (search rules) act) r now period
 
 -- a slot of an object at a place spares the backend of a realized DIMM
 abbrev pub Spares : Board → ℕ → ℕ → Type 0

@@ -1,10 +1,6 @@
 -- The rings and the claims of a board speak of its objects and its rings alone.
-use Rattle.std.specs.List.{list_any}
-use Rattle.std.specs.Str.{bytes_eq}
 use Rattle.std.proofs.Common.{◌≡◌, sym, subst, List, ◌≢◌, ℕ, true, [], Some, codes}
-use Rattle.qo_model.specs.Board.{Board, Record, Ring}
-use Rattle.qo_model.specs.Devices.{text_at}
-use Rattle.qo_model.specs.Plug.{has_ring}
+use Rattle.qo_model.proofs.Common.{list_any, bytes_eq, Board, Record, Ring, text_at, has_ring}
 use Rattle.qo_sound_claims.specs.SoundClaims.{HasRange, NamesRing, SoundClaims, is_uart_on}
 
 -- the claims of a board with the objects of another, and with rings among which those that are named are still there

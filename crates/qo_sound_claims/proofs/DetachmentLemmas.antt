@@ -1,19 +1,11 @@
 -- A device that is detached, with all that is below it: what stays claims no more than before.
-use Rattle.std.proofs.Common.{◌≡◌, inl, inr, refl, ap, sym, subst, ◌∙◌, ℕ, zero, suc, Bool, true, false, ◌&&◌, ◌==◌, List, [], ◌∷◌, filter_map, length, slice_get, Option, Some, None, option_map, codes}
+use Rattle.std.proofs.Common.{rules, ◌≡◌, inl, inr, refl, ap, sym, subst, ◌∙◌, ℕ, Bool, true, false, ◌&&◌, ◌==◌, List, [], ◌∷◌, filter_map, slice_get, Option, Some, None, option_map, codes}
+use Rattle.qo_model.proofs.Common.{ANONYMOUS_BIRTH, PERIPHERAL_BIRTH, TypeId, Board, Record, Slot, plain, child, strong, weak, alias, kind_of, record_of, slots_at, slot_at, cut, with_cut, bus_of, buses_of, kids_of, strong_in, index_from, is_child, is_of, drop_slot, edit, pin, without_hold, is_a, types, detach, is_bus_child, is_child_slot, is_named, left_bus, left_parent, let_go_where, names_kid, take_slot, take_where}
 use Rattle.std.proofs.lemmas.Bool.{and_parts, eqb-true, eq-eqb}
 use Rattle.std.proofs.lemmas.Option.{same_Some}
 use Rattle.std.proofs.lemmas.Slice.Eq.{bytes_eq-Decides}
-use Rattle.qo_values.specs.declared.births.TheConstants.{ANONYMOUS_BIRTH, PERIPHERAL_BIRTH}
-use Rattle.qo_values.specs.declared.kinds.TypeId.{TypeId}
-use Rattle.qo_values.specs.declared.kinds.TypeId.TheVariants.{Object, Container, Machine, Device, SlotDevice, SlotUart, SlotTimer, SlotBridge, MemDimm, Bus, SlotBus, MemBus, Clock, MemoryBackend, MemoryBackendRam, Tag}
-use Rattle.qo_model.specs.Board.{Board, Record, Slot, plain, child, strong, weak, alias, kind_of, record_of, slots_at, slot_at}
-use Rattle.qo_model.specs.Changes.{cut, with_cut}
-use Rattle.qo_model.specs.Devices.{bus_of, buses_of, kids_of, strong_in}
-use Rattle.qo_model.specs.Objects.{index_from}
-use Rattle.qo_model.specs.Paths.{births, is_child, is_of}
-use Rattle.qo_model.specs.Release.{drop_slot, edit, pin, without_hold}
-use Rattle.qo_model.specs.Types.{is_a, types}
-use Rattle.qo_model.specs.Unplug.{apart_within, detach, drained, first_of, is_bus_child, is_child_slot, is_named, left_bus, left_parent, let_go_where, lost_bus, lost_buses, names_kid, take_slot, take_where, taken_by, unrealize}
+use Rattle.qo_values.proofs.EachLemmas.{each}
+use Rattle.qo_model.specs.Unplug.{first_of}
 use Rattle.qo_model.proofs.FirstSlotLemmas.{slots_in, Found, found-at}
 use Rattle.qo_sound.specs.TreeKept.{SoundTree}
 use Rattle.qo_sound.proofs.ReadLemmas.{dropped-at}
@@ -23,6 +15,7 @@ use Rattle.qo_sound_devices.proofs.DetachmentLemmas.{first-among}
 use Rattle.qo_sound_devices.proofs.DepthLemmas.{is-bus_of, kid-of}
 use Rattle.qo_sound_devices.proofs.PlugLemmas.{stands-device}
 use Rattle.qo_sound_clocks.proofs.SlotLemmas.{Slots}
+use Rattle.qo_steps.proofs.ApartLemmas.{ApartSteps, detached-on}
 use Rattle.qo_sound_claims.specs.SoundClaims.{HasRange, is_dimm_on, SoundClaims}
 use Rattle.qo_sound_claims.proofs.DecreaseLemmas.{at-record, Fewer, fewer-after, fewer-drop, fewer-pin, fewer-slots, fewer-unpin, fewer-unrealize, fewer-where, fewer-none, Harmless, LessRecord, NearAt, Spares}
 use Rattle.qo_sound_claims.proofs.ReadLemmas.{backend-at, kind-at, realized-at}
@@ -49,22 +42,7 @@ parent-harmless s e = inr (ap is_memdev ((bytes_eq-Decides s.0 (codes "parent_bu
 
 device-alone : (t : TypeId) → is_a t (codes "device") ≡ true → is_a t (codes "memory-backend") ≡ false
 unfolding types
-device-alone Object e = refl
-device-alone Container e = refl
-device-alone Machine e = refl
-device-alone Device e = refl
-device-alone SlotDevice e = refl
-device-alone SlotUart e = refl
-device-alone SlotTimer e = refl
-device-alone SlotBridge e = refl
-device-alone MemDimm e = refl
-device-alone Bus e = refl
-device-alone SlotBus e = refl
-device-alone MemBus e = refl
-device-alone Clock e = refl
-device-alone MemoryBackend e = absurd (let clash : false ≡ true = e in cc)
-device-alone MemoryBackendRam e = absurd (let clash : false ≡ true = e in cc)
-device-alone Tag e = refl
+device-alone = each (λ (t : TypeId). is_a t (codes "device") ≡ true → is_a t (codes "memory-backend") ≡ false) (search rules)
 
 device-of : (b : Board) (d : ℕ) → is_of b (codes "device") d ≡ true → is_of b (codes "memory-backend") d ≡ false
 device-of b d e = go (kind_of b d) refl
@@ -224,47 +202,19 @@ module _ (b : Board) (tree : SoundTree b) (depth : ℕ → ℕ) (places : Places
           let less : LessRecord true r s = rw (l, q) at (h m) in
           kind-at b m r l (codes "bus") ∙ ap (λ (t : TypeId). is_a t (codes "bus")) (sym less.kind) ∙ sym (kind-at c m s q (codes "bus")) ∙ e
 
-  module _ (f : ℕ → Board → Board) (keeps : (k : ℕ) → NoBackend k → (c : Board) → Fewer true b c → Fewer true b (f k c)) where
-    drain : (times m : ℕ) → is_of b (codes "bus") m ≡ true → (c : Board) → Fewer true b c → Fewer true b (drained f times m c)
-    drain zero m bus c h = h
-    drain (suc times) m bus c h = go (first_of (kids_of c m)) refl (drain times m bus)
-      where
-        go : (o : Option ℕ) → first_of (kids_of c m) ≡ o → ((e : Board) → Fewer true b e → Fewer true b (drained f times m e))
-            → Fewer true b (drained f (suc times) m c)
-        go None e rest = rw (drained, e) h
-        go (Some k) e rest = rw (drained, e) (rest (f k c) (keeps k (kid-none c h m k bus e) c h))
-
-    lost : (d m : ℕ) → is_of b (codes "bus") m ≡ true → (c : Board) → Fewer true b c → Fewer true b (lost_bus f d m c)
-    lost d m bus c h =
-        fewer-where true b (is_bus_child m) (λ s e. bus-harmless m s e) d (drained f (length (slots_at c m)) m c) (drain (length (slots_at c m)) m bus c h)
-
-    all-lost : (times d : ℕ) (c : Board) → Fewer true b c → Fewer true b (lost_buses f times d c)
-    all-lost zero d c h = h
-    all-lost (suc times) d c h = go (first_of (buses_of c d)) refl (all-lost times d)
-      where
-        go : (o : Option ℕ) → first_of (buses_of c d) ≡ o → ((e : Board) → Fewer true b e → Fewer true b (lost_buses f times d e))
-            → Fewer true b (lost_buses f (suc times) d c)
-        go None e rest = rw (lost_buses, e) h
-        go (Some m) e rest =
-            let bus : is_of c (codes "bus") m ≡ true = (is-bus_of c d m (first-among (buses_of c d) m e)).bus in
-            rw (lost_buses, e) (rest (lost_bus f d m c) (lost d m (bus-before c h m bus) c h))
-
-    taken-by : (d : ℕ) → NoBackend d → (c : Board) → Fewer true b c → Fewer true b (taken_by f d c)
-    taken-by d none c h =
-        left-parent d (left_bus d (lost_buses f (length (slots_at c d)) d c))
-        (left-bus d none (lost_buses f (length (slots_at c d)) d c) (all-lost (length (slots_at c d)) d c h))
-
-  apart : (levels d : ℕ) → NoBackend d → (c : Board) → Fewer true b c → Fewer true b (apart_within levels d c)
-  unfolding apart_within
-  apart zero d none c h = h
-  apart (suc levels) d none c h =
-      fewer-unpin true b d (taken_by (apart_within levels) d (pin c d))
-      (taken-by (apart_within levels) (apart levels) d none (pin c d) (fewer-pin true b d c h))
+  apart-steps : ApartSteps (Fewer true b) (λ k. NoBackend k) (λ m. is_of b (codes "bus") m ≡ true)
+  apart-steps =
+      record {
+        kid = λ m k c is h e. kid-none c h m k is e;
+        bus = λ d m c none h e. bus-before c h m (is-bus_of c d m (first-among (buses_of c d) m e)).bus;
+        lost = λ d m none is c h. fewer-where true b (is_bus_child m) (λ s e. bus-harmless m s e) d c h;
+        leaves = λ d none c h. left-bus d none c h;
+        parent = λ d none c h. left-parent d c h;
+        pinned = λ d c h. fewer-pin true b d c h;
+        unpinned = λ d none c h. fewer-unpin true b d c h;
+      }
 
   pub detach-fewer : (d : ℕ) → stands b d ≡ true → Fewer true b (detach b d)
-  unfolding detach
   detach-fewer d e =
-      let c : Board = unrealize (pin b d) d in
-      fewer-unpin true b d (taken_by (apart_within (length (births b))) d c)
-      (taken-by (apart_within (length (births b))) (apart (length (births b))) d (stood-none d e) c
-      (fewer-unrealize true b (pin b d) d (fewer-pin true b d b (fewer-none true b))))
+      detached-on (Fewer true b) (λ k. NoBackend k) (λ m. is_of b (codes "bus") m ≡ true) apart-steps b d (stood-none d e)
+      (fewer-unrealize true b (pin b d) d (fewer-pin true b d b (fewer-none true b)))

@@ -1,12 +1,6 @@
 -- The opening board has no rings, and nothing is realized on it.
 use Rattle.std.proofs.Common.{◌≡◌, refl, sym, ◌∙◌, rules, ℕ, Bool, true, false, ◌&&◌, List, [], codes, Option, Some, None, option_and_then}
-use Rattle.std.specs.List.{AllByRecursion, IsDistinct}
-use Rattle.std.specs.Option.{option_map_or}
-use Rattle.qo_model.specs.Board.{Record, Slot, record_of}
-use Rattle.qo_model.specs.Devices.{is_realized, is_true, plain_in}
-use Rattle.qo_model.specs.Opening.{opening_board}
-use Rattle.qo_model.specs.Paths.{is_of}
-use Rattle.qo_model.specs.Types.{types}
+use Rattle.qo_model.proofs.Common.{AllByRecursion, IsDistinct, option_map_or, Record, Slot, record_of, is_realized, is_true, plain_in, opening_board, is_of, types}
 use Rattle.qo_model.proofs.FirstSlotLemmas.{named_in}
 use Rattle.qo_sound.proofs.SearchLemmas.{all-found}
 use Rattle.qo_sound_claims.specs.SoundClaims.{SoundClaims}

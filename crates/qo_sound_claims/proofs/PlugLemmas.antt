@@ -1,29 +1,12 @@
 -- Adding a device, taken or refused at any stage, keeps the backends sound: what bars it late is what the claims need.
-use Rattle.std.proofs.Common.{◌≡◌, ◌≢◌, ◌⊎◌, inl, inr, refl, ap, sym, subst, ◌∙◌, ℕ, ◌+◌, ◌<◌, ◌%◌, Bool, true, false, not, ◌&&◌, ◌==◌, List, [], ◌∷◌, ◌++◌, filter, find, map, Option, Some, None, is_some, option_map, option_and_then, codes, Result, Ok, Err, arith}
-use Rattle.std.specs.Prelude.{if◌then◌else◌, nat_le, nat_lt, unwrap_or}
-use Rattle.std.specs.List.{flat_map, list_any}
-use Rattle.std.specs.Option.{option_map_or, option_or}
-use Rattle.std.specs.Str.{bytes_eq}
+use Rattle.std.proofs.Common.{rules, ◌≡◌, ◌≢◌, ◌⊎◌, inl, inr, refl, ap, sym, subst, ◌∙◌, ℕ, ◌+◌, ◌<◌, ◌%◌, Bool, true, false, not, ◌&&◌, ◌==◌, List, [], ◌∷◌, ◌++◌, filter, find, map, Option, Some, None, is_some, option_map, option_and_then, codes, Result, Ok, Err, arith}
+use Rattle.qo_model.proofs.Common.{if◌then◌else◌, nat_le, nat_lt, unwrap_or, list_any, option_map_or, option_or, bytes_eq, fits_at, is_in_window, overlap, overlaps_any, free_address, range_at, window_size, window_start, dimm, Code, E19, E36, E37, E38, E39, E40, E41, TypeId, SlotUart, MemDimm, MemoryBackend, DIMM_ALIGN, Val, Range, Board, Record, Ring, Slot, plain, strong, is_live, kind_of, record_of, is_realized, number_at, number_in, plain_in, strong_in, text_at, text_in, Given, given_to, refusal_by, refusal_of, slot_given, target_given, is_of, Spot, Wanted, at_stage, backend_of, barred_late, claims_ring, code_in, dimms, has_backend, has_ring, is_dimm, kind_barred, notice_barred, number_for, ok_in, place_barred, plug, plug_attempt, range_barred, range_for, range_in, range_of, ranges_of, realize_barred, ring_barred, size_of, spot_of, target_for, text_for, with_plugged, link_target, property_named, is_a, slots_of, types}
+use Rattle.std.specs.List.{flat_map}
 use Rattle.std.proofs.lemmas.Bool.{and_parts, eqb-true, eq-eqb, not-true, not-false}
 use Rattle.std.proofs.lemmas.Option.{same_Some}
 use Rattle.std.proofs.lemmas.Slice.Eq.{bytes_eq-Decides}
-use Rattle.qo_values.specs.Placing.{fits_at, is_in_window, overlap, overlaps_any, free_address, range_at, window_size, window_start}
-use Rattle.qo_values.specs.Registers.{dimm}
-use Rattle.qo_values.specs.declared.codes.Code.{Code}
-use Rattle.qo_values.specs.declared.codes.Code.TheVariants.{E19, E36, E37, E38, E39, E40, E41}
-use Rattle.qo_values.specs.declared.kinds.TypeId.{TypeId}
-use Rattle.qo_values.specs.declared.kinds.TypeId.TheVariants.{Object, Container, Machine, Device, SlotDevice, SlotUart, SlotTimer, SlotBridge, MemDimm, Bus, SlotBus, MemBus, Clock, MemoryBackend, MemoryBackendRam, Tag}
-use Rattle.qo_values.specs.declared.limits.TheConstants.{DIMM_ALIGN}
-use Rattle.qo_values.specs.declared.properties.Val.{Val}
 use Rattle.qo_values.specs.declared.properties.Val.TheVariants as val
-use Rattle.qo_values.specs.declared.ranges.Range.{Range}
-use Rattle.qo_model.specs.Board.{Board, Record, Ring, Slot, plain, strong, is_live, kind_of, record_of}
-use Rattle.qo_model.specs.Devices.{is_realized, number_at, number_in, plain_in, strong_in, text_at, text_in}
-use Rattle.qo_model.specs.Objects.{Given, given_to, refusal_by, refusal_of, slot_given, target_given}
-use Rattle.qo_model.specs.Paths.{is_of}
-use Rattle.qo_model.specs.Plug.{Spot, Wanted, at_stage, backend_of, barred_late, claims_ring, code_in, dimms, first_of, has_backend, has_ring, is_dimm, kind_barred, notice_barred, number_for, ok_in, place_barred, plug, plug_attempt, range_barred, range_for, range_in, range_of, ranges_of, realize_barred, ring_barred, size_of, spot_of, target_for, text_for, with_plugged}
-use Rattle.qo_model.specs.Properties.{link_target, property_named}
-use Rattle.qo_model.specs.Types.{is_a, slots_of, types}
+use Rattle.qo_model.specs.Plug.{first_of}
 use Rattle.qo_model.proofs.StepLemmas.{found_at, found-birth}
 use Rattle.qo_sound.specs.TreeKept.{SoundTree}
 use Rattle.qo_sound.proofs.AddLemmas.{unbarred}
@@ -31,6 +14,7 @@ use Rattle.qo_sound.proofs.DeviceScopeLemmas.{devices_stay_lem}
 use Rattle.qo_sound.proofs.DraftLemmas.{absent-above}
 use Rattle.qo_sound.proofs.PlugLemmas.{or-none, plugged-rest, shut-above, stage-none}
 use Rattle.qo_values.proofs.PlacingLemmas.{least-passes}
+use Rattle.qo_values.proofs.EachLemmas.{each}
 use Rattle.qo_sound.proofs.TargetLemmas.{FitsResult, target-fits}
 use Rattle.qo_sound.proofs.ViewLemmas.{AtRest, rest-from_sound, sound-from_rest}
 use Rattle.qo_sound_devices.specs.SoundDevices.{SoundDevices}
@@ -57,41 +41,11 @@ use Rattle.qo_sound_claims.proofs.StepsLemmas.{backends-beside}
 
 uart-only : (t : TypeId) → is_a t (codes "slot-uart") ≡ true → t ≡ SlotUart
 unfolding types
-uart-only Object e = absurd (let clash : false ≡ true = e in cc)
-uart-only Container e = absurd (let clash : false ≡ true = e in cc)
-uart-only Machine e = absurd (let clash : false ≡ true = e in cc)
-uart-only Device e = absurd (let clash : false ≡ true = e in cc)
-uart-only SlotDevice e = absurd (let clash : false ≡ true = e in cc)
-uart-only SlotUart e = refl
-uart-only SlotTimer e = absurd (let clash : false ≡ true = e in cc)
-uart-only SlotBridge e = absurd (let clash : false ≡ true = e in cc)
-uart-only MemDimm e = absurd (let clash : false ≡ true = e in cc)
-uart-only Bus e = absurd (let clash : false ≡ true = e in cc)
-uart-only SlotBus e = absurd (let clash : false ≡ true = e in cc)
-uart-only MemBus e = absurd (let clash : false ≡ true = e in cc)
-uart-only Clock e = absurd (let clash : false ≡ true = e in cc)
-uart-only MemoryBackend e = absurd (let clash : false ≡ true = e in cc)
-uart-only MemoryBackendRam e = absurd (let clash : false ≡ true = e in cc)
-uart-only Tag e = absurd (let clash : false ≡ true = e in cc)
+uart-only = each (λ (t : TypeId). is_a t (codes "slot-uart") ≡ true → t ≡ SlotUart) (search rules)
 
 dimm-only : (t : TypeId) → is_a t (codes "mem-dimm") ≡ true → t ≡ MemDimm
 unfolding types
-dimm-only Object e = absurd (let clash : false ≡ true = e in cc)
-dimm-only Container e = absurd (let clash : false ≡ true = e in cc)
-dimm-only Machine e = absurd (let clash : false ≡ true = e in cc)
-dimm-only Device e = absurd (let clash : false ≡ true = e in cc)
-dimm-only SlotDevice e = absurd (let clash : false ≡ true = e in cc)
-dimm-only SlotUart e = absurd (let clash : false ≡ true = e in cc)
-dimm-only SlotTimer e = absurd (let clash : false ≡ true = e in cc)
-dimm-only SlotBridge e = absurd (let clash : false ≡ true = e in cc)
-dimm-only MemDimm e = refl
-dimm-only Bus e = absurd (let clash : false ≡ true = e in cc)
-dimm-only SlotBus e = absurd (let clash : false ≡ true = e in cc)
-dimm-only MemBus e = absurd (let clash : false ≡ true = e in cc)
-dimm-only Clock e = absurd (let clash : false ≡ true = e in cc)
-dimm-only MemoryBackend e = absurd (let clash : false ≡ true = e in cc)
-dimm-only MemoryBackendRam e = absurd (let clash : false ≡ true = e in cc)
-dimm-only Tag e = absurd (let clash : false ≡ true = e in cc)
+dimm-only = each (λ (t : TypeId). is_a t (codes "mem-dimm") ≡ true → t ≡ MemDimm) (search rules)
 
 -- what was given fits
 

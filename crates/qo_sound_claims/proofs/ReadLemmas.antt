@@ -1,17 +1,8 @@
 -- What is read of the claims of a board whose tree is sound, by the slots of each object.
 use Rattle.std.proofs.Common.{◌≡◌, refl, ap, sym, ◌∙◌, ℕ, Bool, true, false, List, [], ◌∷◌, Option, Some, None, is_some, option_map, option_and_then, codes}
-use Rattle.std.specs.List.{AllByRecursion, IsDistinct}
-use Rattle.std.specs.Option.{option_map_or}
-use Rattle.std.specs.Str.{bytes_eq}
+use Rattle.qo_model.proofs.Common.{AllByRecursion, IsDistinct, option_map_or, bytes_eq, TypeId, Val, Board, Record, Slot, plain, child, strong, weak, alias, kind_of, record_of, is_realized, is_true, plain_at, plain_in, strong_at, strong_in, is_of, backend_of, is_a}
 use Rattle.std.proofs.lemmas.Bool.{eqb-true, or_right, and_parts}
 use Rattle.std.proofs.lemmas.Slice.Eq.{bytes_eq-Decides}
-use Rattle.qo_values.specs.declared.kinds.TypeId.{TypeId}
-use Rattle.qo_values.specs.declared.properties.Val.{Val}
-use Rattle.qo_model.specs.Board.{Board, Record, Slot, plain, child, strong, weak, alias, kind_of, record_of}
-use Rattle.qo_model.specs.Devices.{is_realized, is_true, plain_at, plain_in, strong_at, strong_in}
-use Rattle.qo_model.specs.Paths.{is_of}
-use Rattle.qo_model.specs.Plug.{backend_of}
-use Rattle.qo_model.specs.Types.{is_a}
 use Rattle.qo_model.proofs.FirstSlotLemmas.{slots_in, named_in}
 use Rattle.qo_sound.specs.TreeKept.{SoundTree}
 use Rattle.qo_sound.proofs.FirmBoardLemmas.{FitsKind, HasNames, Linked}

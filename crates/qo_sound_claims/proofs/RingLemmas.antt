@@ -1,17 +1,9 @@
 -- Rings that are added, removed and filled.
 use Rattle.std.proofs.Common.{◌≡◌, ◌≢◌, refl, ap, sym, subst, ◌∙◌, ℕ, ◌≤◌, Bool, true, false, not, ◌&&◌, ◌||◌, ◌==◌, List, [], ◌∷◌, ◌++◌, filter, length, map, Option, Some, None, codes}
-use Rattle.std.specs.List.{AllByRecursion, IsDistinct, list_any}
-use Rattle.std.specs.Option.{option_map_or}
-use Rattle.std.specs.Str.{bytes_eq}
+use Rattle.qo_model.proofs.Common.{AllByRecursion, IsDistinct, list_any, option_map_or, bytes_eq, is_ring_size, Board, Record, Ring, record_of, is_realized, text_at, is_of, claims_ring, has_ring, is_a}
 use Rattle.std.proofs.lemmas.Bool.{and_parts}
 use Rattle.std.proofs.lemmas.Option.{same_Some}
 use Rattle.std.proofs.lemmas.Slice.Eq.{bytes_eq-Decides}
-use Rattle.qo_values.specs.Rings.{is_ring_size}
-use Rattle.qo_model.specs.Board.{Board, Record, Ring, record_of}
-use Rattle.qo_model.specs.Devices.{is_realized, text_at}
-use Rattle.qo_model.specs.Paths.{is_of}
-use Rattle.qo_model.specs.Plug.{claims_ring, has_ring}
-use Rattle.qo_model.specs.Types.{is_a}
 use Rattle.qo_model.proofs.StepLemmas.{found_at, found-birth}
 use Rattle.qo_sound.proofs.RecordLemmas.{all-append, all-filter}
 use Rattle.qo_sound_claims.specs.ClaimsKept.{ring_frame}

@@ -1,18 +1,10 @@
 -- What claims read of the slots of an object, whatever stands between: values of plain slots, and targets of strong links under names that pass.
 -- Slots that claim no more than others do.
 use Rattle.std.proofs.Common.{◌≡◌, ◌⊎◌, inl, inr, refl, ap, sym, ◌∙◌, ℕ, zero, suc, Bool, true, false, ◌&&◌, ◌||◌, List, [], ◌∷◌, ◌++◌, remove, slice_get, Option, Some, None, codes}
-use Rattle.std.specs.List.{list_any}
-use Rattle.std.specs.Option.{option_map_or, option_or}
-use Rattle.std.specs.Str.{bytes_eq}
+use Rattle.qo_model.proofs.Common.{list_any, option_map_or, option_or, bytes_eq, Val, Slot, plain, child, strong, weak, alias, changed_at, pointed, with_val, is_true, plain_in, strong_in, forgotten_in, without_hold, unseen}
 use Rattle.std.proofs.Math.Bool.{and-false}
 use Rattle.std.proofs.lemmas.Bool.{or_right}
 use Rattle.std.proofs.lemmas.Option.{same_Some}
-use Rattle.qo_values.specs.declared.properties.Val.{Val}
-use Rattle.qo_model.specs.Board.{Slot, plain, child, strong, weak, alias}
-use Rattle.qo_model.specs.Changes.{changed_at, pointed, with_val}
-use Rattle.qo_model.specs.Devices.{is_true, plain_in, strong_in}
-use Rattle.qo_model.specs.Release.{forgotten_in, without_hold}
-use Rattle.qo_model.specs.Unplug.{unseen}
 use Rattle.qo_sound.proofs.ReadLemmas.{plain-forgotten, strong-forgotten, plain-unseen, strong-unseen, plain-pointed}
 use Rattle.qo_sound.proofs.SlotLemmas.{each_slot}
 use Rattle.qo_sound_clocks.proofs.SlotLemmas.{is_target, plain_named, plain_of, Slots, or-less, absent, plain-each, plain-dropped, plain-changed, plain-apart, plain-taken}

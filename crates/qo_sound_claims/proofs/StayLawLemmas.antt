@@ -1,28 +1,10 @@
 -- The law: what changes leave of the claims of devices.
 use Rattle.std.proofs.Common.{◌≡◌, refl, ap, sym, subst, ◌∙◌, ℕ, ◌+◌, zero, suc, Bool, true, false, List, [], ◌∷◌, ◌++◌, filter, length, codes, Option, Some, None, is_some, option_map, Ok}
-use Rattle.std.specs.Option.{option_map_or}
+use Rattle.qo_model.proofs.Common.{option_map_or, Effect, body_write, Registers, MACHINE_BIRTH, Code, Act, Enter, Hold, Exit, TypeId, Board, Record, record_of, clock_scaled, clock_set, acted, is_realized, Change, changed, all_completed, asked, asked_of, completed, device_at, reset_whole, attached, among, Wanted, barred_early, barred_late, bus_for, notice_barred, plug, plug_as, plug_by, plug_late, spot_of, type_barred, with_plugged, without_first, is_out, phased, post, pulse, released, TypeInfo, is_a, type_named, detach, set_named}
 use Rattle.std.proofs.lemmas.Option.{same_Some}
-use Rattle.qo_values.specs.Bodies.{Effect, body_write}
-use Rattle.qo_values.specs.Registers.{Registers}
-use Rattle.qo_values.specs.declared.births.TheConstants.{MACHINE_BIRTH}
-use Rattle.qo_values.specs.declared.codes.Code.{Code}
-use Rattle.qo_values.specs.declared.kinds.Act.{Act}
-use Rattle.qo_values.specs.declared.kinds.Act.TheVariants.{Enter, Hold, Exit}
-use Rattle.qo_values.specs.declared.kinds.TypeId.{TypeId}
 use Rattle.qo_values.specs.declared.properties.Val.TheVariants as val
-use Rattle.qo_model.specs.Board.{Board, Record, record_of}
-use Rattle.qo_model.specs.ClockChanges.{clock_scaled, clock_set}
-use Rattle.qo_model.specs.Clocks.{acted}
-use Rattle.qo_model.specs.Devices.{is_realized}
-use Rattle.qo_model.specs.FinalNotesRuns.{Change, changed}
-use Rattle.qo_model.specs.Hotplug.{all_completed, asked, asked_of, completed, device_at, reset_whole}
-use Rattle.qo_model.specs.Paths.{attached}
-use Rattle.qo_model.specs.Depth.{among}
-use Rattle.qo_model.specs.Plug.{Wanted, barred_early, barred_late, bus_for, notice_barred, plug, plug_as, plug_by, plug_late, spot_of, type_barred, with_plugged}
-use Rattle.qo_model.specs.Release.{without_first}
-use Rattle.qo_model.specs.Reset.{held, is_out, phased, post, pulse, released}
-use Rattle.qo_model.specs.Types.{TypeInfo, is_a, type_named}
-use Rattle.qo_model.specs.Unplug.{detach, first_of, set_named}
+use Rattle.qo_model.specs.Reset.{held}
+use Rattle.qo_model.specs.Unplug.{first_of}
 use Rattle.qo_model.proofs.FirstSlotLemmas.{slots_in}
 use Rattle.qo_model.proofs.StepLemmas.{found-edited, slots-edited}
 use Rattle.qo_sound.specs.PlugOutcomes.{Added, IsAttempted}

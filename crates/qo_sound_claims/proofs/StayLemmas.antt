@@ -1,10 +1,6 @@
 -- A device that claims no more than before, and is realized, claims the same.
 use Rattle.std.proofs.Common.{◌≡◌, refl, ap, sym, ◌∙◌, ℕ, true, Option, Some, None, option_map, codes}
-use Rattle.qo_model.specs.Board.{Board, Record}
-use Rattle.qo_model.specs.Devices.{bus_of, is_realized}
-use Rattle.qo_model.specs.Paths.{is_of}
-use Rattle.qo_model.specs.Plug.{backend_of, range_in}
-use Rattle.qo_model.specs.Types.{is_a}
+use Rattle.qo_model.proofs.Common.{Board, Record, bus_of, is_realized, is_of, backend_of, range_in, is_a}
 use Rattle.qo_sound.specs.TreeKept.{SoundTree}
 use Rattle.qo_sound_claims.specs.ClaimsStay.{ClaimsAlike}
 use Rattle.qo_sound_claims.proofs.ClaimLemmas.{backend-back, backend-on, home-back, Lit, Old, place-same, text-same, was-lit}

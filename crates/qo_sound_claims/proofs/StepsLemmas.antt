@@ -1,28 +1,10 @@
 -- Acts, holds, clocks that are written, registers that a guest writes, devices that go, and the reset of the whole board keep the backends sound.
 use Rattle.std.proofs.Common.{◌≡◌, inl, refl, ap, sym, subst, ◌∙◌, ℕ, zero, suc, Bool, true, false, eqb, List, [], ◌∷◌, filter, length, codes, Option, Some, None, is_some, Ok, Err}
-use Rattle.std.specs.List.{AllByRecursion}
+use Rattle.qo_model.proofs.Common.{AllByRecursion, Effect, body_write, Registers, MACHINE_BIRTH, E45, E46, Act, Enter, Hold, Exit, Board, Record, record_of, slots_at, set, clock_scaled, clock_set, acted, source_of, among, Change, changed, all_completed, asked, asked_of, completed, device_at, reset_whole, index_from, attached, notice_barred, range_in, without_first, is_out, phased, post, pulse, released, is_a, detach, is_named, set_named}
 use Rattle.std.proofs.lemmas.Option.{same_Some}
-use Rattle.qo_values.specs.Bodies.{Effect, body_write}
-use Rattle.qo_values.specs.Registers.{Registers}
-use Rattle.qo_values.specs.declared.births.TheConstants.{MACHINE_BIRTH}
-use Rattle.qo_values.specs.declared.codes.Code.TheVariants.{E45, E46}
-use Rattle.qo_values.specs.declared.kinds.Act.{Act}
-use Rattle.qo_values.specs.declared.kinds.Act.TheVariants.{Enter, Hold, Exit}
 use Rattle.qo_values.specs.declared.properties.Val.TheVariants as val
-use Rattle.qo_model.specs.Board.{Board, Record, record_of, slots_at}
-use Rattle.qo_model.specs.Changes.{set}
-use Rattle.qo_model.specs.ClockChanges.{clock_scaled, clock_set}
-use Rattle.qo_model.specs.Clocks.{acted, source_of}
-use Rattle.qo_model.specs.Depth.{among}
-use Rattle.qo_model.specs.FinalNotesRuns.{Change, changed}
-use Rattle.qo_model.specs.Hotplug.{all_completed, asked, asked_of, completed, device_at, reset_whole}
-use Rattle.qo_model.specs.Objects.{index_from}
-use Rattle.qo_model.specs.Paths.{attached}
-use Rattle.qo_model.specs.Plug.{notice_barred, range_in}
-use Rattle.qo_model.specs.Release.{without_first}
-use Rattle.qo_model.specs.Reset.{held, is_out, phased, post, pulse, released}
-use Rattle.qo_model.specs.Types.{is_a}
-use Rattle.qo_model.specs.Unplug.{detach, first_of, is_named, set_named}
+use Rattle.qo_model.specs.Reset.{held}
+use Rattle.qo_model.specs.Unplug.{first_of}
 use Rattle.qo_model.proofs.ChangeScopeLemmas.{stays_lem}
 use Rattle.qo_sound.proofs.DeviceScopeLemmas.{devices_stay_lem}
 use Rattle.qo_sound_devices.specs.SoundDevices.{SoundDevices}

@@ -1,11 +1,7 @@
 -- What a guest's write makes of a body: one of the same kind, of a timer the one that its own write gives, and a DIMM stays.
 use Rattle.std.proofs.Common.{◌≡◌, refl, ap, subst, ℕ, Bool, true, false, eqb, Option, Some, None, option_map}
+use Rattle.qo_model.proofs.Common.{Effect, body_write, bridge_write, effect_of, nothing, dimm_read, BridgeRegisters, DimmRegisters, Registers, TimerRegisters, UartRegisters, bare, bridge, dimm, timer, uart, timer_write, uart_write}
 use Rattle.std.proofs.lemmas.Option.{same_Some}
-use Rattle.qo_values.specs.Bodies.{Effect, body_write, bridge_write, effect_of, nothing}
-use Rattle.qo_values.specs.Dimm.{dimm_read}
-use Rattle.qo_values.specs.Registers.{BridgeRegisters, DimmRegisters, Registers, TimerRegisters, UartRegisters, bare, bridge, dimm, timer, uart}
-use Rattle.qo_values.specs.Timer.{timer_write}
-use Rattle.qo_values.specs.Uart.{uart_write}
 
 pub data Becomes (reg value now period : ℕ) : Registers → Registers → Type 0 where
   uart_to : (u v : UartRegisters) → Becomes reg value now period (uart u) (uart v)

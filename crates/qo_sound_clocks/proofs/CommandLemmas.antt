@@ -1,23 +1,10 @@
 -- The commands on objects change no clock: what they add is none, what they write is not a clock's, and what they let go may be one.
 use Rattle.std.proofs.Common.{◌≡◌, refl, ap, sym, ◌∙◌, rules, ℕ, ◌+◌, Bool, true, false, ◌==◌, List, [], ◌∷◌, map, length, slice_get, Option, Some, None, option_map, codes}
-use Rattle.std.specs.List.{AllByRecursion}
-use Rattle.std.specs.Option.{option_map_or, option_or}
-use Rattle.std.specs.Str.{bytes_eq}
-use Rattle.std.proofs.lemmas.Slice.Eq.{bytes_eq-Decides}
-use Rattle.qo_values.specs.declared.births.TheConstants.{OBJECTS_BIRTH}
-use Rattle.qo_values.specs.declared.codes.Code.{Code}
-use Rattle.qo_values.specs.declared.kinds.TypeId.{TypeId}
-use Rattle.qo_values.specs.declared.kinds.TypeId.TheVariants.{Object, Container, Machine, Device, SlotDevice, SlotUart, SlotTimer, SlotBridge, MemDimm, Bus, SlotBus, MemBus, Clock, MemoryBackend, MemoryBackendRam, Tag}
-use Rattle.qo_values.specs.declared.properties.Val.{Val}
-use Rattle.qo_model.specs.Board.{Board, Record, Slot, plain, child, record_of, slot_at, slots_at, held}
-use Rattle.qo_model.specs.Changes.{point, pointed, set, with_added, with_changed, with_val}
-use Rattle.qo_model.specs.FinalNotesRuns.{Change, added, deleted, wrote, severed, after_write, changed}
-use Rattle.qo_model.specs.Objects.{Given, added_as, object_add, object_del, sever, severed_from, with_object}
-use Rattle.qo_model.specs.Opening.{fresh_slots}
-use Rattle.qo_model.specs.Properties.{may_set, pointed_at, relinked, property_named, write}
-use Rattle.qo_model.specs.Release.{drop_slot, edited, emptied, pin}
-use Rattle.qo_model.specs.Types.{is_a, types}
+use Rattle.qo_model.proofs.Common.{AllByRecursion, option_map_or, option_or, bytes_eq, OBJECTS_BIRTH, Code, TypeId, Val, Board, Record, Slot, plain, child, record_of, slot_at, slots_at, point, pointed, set, with_added, with_changed, with_val, Change, added, deleted, wrote, severed, after_write, changed, Given, added_as, object_add, object_del, sever, severed_from, with_object, fresh_slots, may_set, pointed_at, relinked, property_named, write, drop_slot, edited, emptied, pin, is_a, types}
 use Rattle.qo_model.specs.declared.properties.Property.{Property}
+use Rattle.std.proofs.lemmas.Slice.Eq.{bytes_eq-Decides}
+use Rattle.qo_values.proofs.EachLemmas.{each}
+use Rattle.qo_model.specs.Board.{held}
 use Rattle.qo_model.proofs.ComesToLemmas.{addition-comes, deletion-comes, sever-comes, severed-comes}
 use Rattle.qo_model.proofs.FirstSlotLemmas.{slots_in}
 use Rattle.qo_model.proofs.StepLemmas.{found-edited, found_at}
@@ -47,22 +34,7 @@ record NeverSet (t : TypeId) : Type 0 where
 
 never-set : (t : TypeId) → NeverSet t
 unfolding types
-never-set Object = record { period = refl; mul = refl; div = refl; source = refl }
-never-set Container = record { period = refl; mul = refl; div = refl; source = refl }
-never-set Machine = record { period = refl; mul = refl; div = refl; source = refl }
-never-set Device = record { period = refl; mul = refl; div = refl; source = refl }
-never-set SlotDevice = record { period = refl; mul = refl; div = refl; source = refl }
-never-set SlotUart = record { period = refl; mul = refl; div = refl; source = refl }
-never-set SlotTimer = record { period = refl; mul = refl; div = refl; source = refl }
-never-set SlotBridge = record { period = refl; mul = refl; div = refl; source = refl }
-never-set MemDimm = record { period = refl; mul = refl; div = refl; source = refl }
-never-set Bus = record { period = refl; mul = refl; div = refl; source = refl }
-never-set SlotBus = record { period = refl; mul = refl; div = refl; source = refl }
-never-set MemBus = record { period = refl; mul = refl; div = refl; source = refl }
-never-set Clock = record { period = refl; mul = refl; div = refl; source = refl }
-never-set MemoryBackend = record { period = refl; mul = refl; div = refl; source = refl }
-never-set MemoryBackendRam = record { period = refl; mul = refl; div = refl; source = refl }
-never-set Tag = record { period = refl; mul = refl; div = refl; source = refl }
+never-set = each (λ (t : TypeId). NeverSet t) (search rules)
 
 -- what may be written is under no name that may not
 pub set-apart : (t : TypeId) (name : List ℕ) → MaySet t name ≡ true → (other : List ℕ) → MaySet t other ≡ false → bytes_eq name other ≡ false
@@ -141,22 +113,7 @@ sever-fewer b n =
 
 created-quiet : (t : TypeId) → is_a t (codes "user-creatable") ≡ true → AllByRecursion Quiet (fresh_slots t)
 unfolding types
-created-quiet Object e = search rules
-created-quiet Container e = search rules
-created-quiet Machine e = search rules
-created-quiet Device e = search rules
-created-quiet SlotDevice e = search rules
-created-quiet SlotUart e = search rules
-created-quiet SlotTimer e = search rules
-created-quiet SlotBridge e = search rules
-created-quiet MemDimm e = search rules
-created-quiet Bus e = search rules
-created-quiet SlotBus e = search rules
-created-quiet MemBus e = search rules
-created-quiet Clock e = absurd (let clash : false ≡ true = e in cc)
-created-quiet MemoryBackend e = search rules
-created-quiet MemoryBackendRam e = search rules
-created-quiet Tag e = search rules
+created-quiet = each (λ (t : TypeId). is_a t (codes "user-creatable") ≡ true → AllByRecursion Quiet (fresh_slots t)) (search rules)
 
 with_object-fewer : (b : Board) (t : TypeId) (id : List ℕ) (props : List Given) → AllByRecursion Quiet (fresh_slots t) → Fewer b (with_object b t id props)
 with_object-fewer b t id props quiet x =

@@ -1,12 +1,8 @@
 -- What leaves the slots of objects keeps what speaks of these alone: acts, holds, and what lies beside the objects. What is kept where objects read no more as
 -- clocks, devices that go keep.
 use Rattle.std.proofs.Common.{◌≡◌, refl, ap, ◌∙◌, ℕ, zero, suc, List, length, Option, Some, None}
-use Rattle.qo_values.specs.declared.births.TheConstants.{MACHINE_BIRTH}
-use Rattle.qo_values.specs.declared.kinds.Act.{Act}
-use Rattle.qo_model.specs.Board.{Board, Record, record_of, slots_at}
-use Rattle.qo_model.specs.Clocks.{acted, with_act_on}
-use Rattle.qo_model.specs.Hotplug.{all_completed, completed, reset_whole}
-use Rattle.qo_model.specs.Unplug.{detach, first_of}
+use Rattle.qo_model.proofs.Common.{MACHINE_BIRTH, Act, Board, Record, record_of, slots_at, acted, with_act_on, all_completed, completed, reset_whole, detach}
+use Rattle.qo_model.specs.Unplug.{first_of}
 use Rattle.qo_model.proofs.FirstSlotLemmas.{slots_in}
 use Rattle.qo_model.proofs.StepLemmas.{found-edited, found_at, slots-edited}
 use Rattle.qo_sound.specs.TreeKept.{SoundTree}

@@ -1,10 +1,8 @@
 -- The law: what the soundness of clocks says.
 use Rattle.std.proofs.Common.{◌≡◌, refl, ℕ, ◌<◌, ◌^◌, Bool, true, false, ◌||◌, nat_eq, Option, Some, None, arith}
+use Rattle.qo_model.proofs.Common.{Board, child_period, period, source_of, among, leads, Leads, one, more}
 use Rattle.std.specs.Option.{option_to_list}
 use Rattle.std.proofs.lemmas.Bool.{eqb-true}
-use Rattle.qo_model.specs.Board.{Board}
-use Rattle.qo_model.specs.Clocks.{child_period, period, source_of}
-use Rattle.qo_model.specs.Depth.{among, leads, Leads, one, more}
 use Rattle.qo_model.proofs.PeriodLemmas.{period-fed}
 use Rattle.qo_sound_clocks.specs.ClockFacts.{ClocksSayLaw, sources}
 use Rattle.qo_sound_clocks.specs.SoundClocks.{SoundClocks}

@@ -1,12 +1,11 @@
 -- Where objects read no more as clocks than before, and new clocks are as new, the clocks stay sound.
 use Rattle.std.proofs.Common.{◌≡◌, ◌≢◌, ◌⊎◌, inl, inr, refl, ap, ap₂, sym, subst, ◌∙◌, ℕ, zero, suc, ◌*◌, ◌/◌, ◌^◌, ◌<◌, ◌≤◌, Bool, true, false, cond, eqb, List, Option, Some, None, option_and_then, unwrap_or, codes, arith}
+use Rattle.qo_model.proofs.Common.{Board, slots_at, child_period, div_of, mul_of, own_period, period, scaled, scaled_by, source_of, number_at, number_in, plain_in}
 use Rattle.std.proofs.Math.Nat.{div-mul-le_self, div-one, mul-le-mul_right}
 use Rattle.std.proofs.lemmas.Bool.{cases_lt}
 use Rattle.std.proofs.lemmas.Bool.Decides.{nat_tests}
 use Rattle.std.proofs.lemmas.Nat.{le-div}
-use Rattle.qo_model.specs.Board.{Board, slots_at}
-use Rattle.qo_model.specs.Clocks.{child_period, div_of, mul_of, own_period, period, scaled, scaled_by, source_of, weak_in}
-use Rattle.qo_model.specs.Devices.{number_at, number_in, plain_in}
+use Rattle.qo_model.specs.Clocks.{weak_in}
 use Rattle.qo_model.proofs.FirstSlotLemmas.{named_in}
 use Rattle.qo_model.proofs.PeriodLemmas.{period-fed, period-own, scaled-zero}
 use Rattle.qo_sound_clocks.specs.SoundClocks.{SoundClocks}

@@ -1,21 +1,11 @@
 -- Writes of clocks keep the notes in order: who is called back is there.
 use Rattle.std.proofs.Common.{◌≡◌, refl, ap, sym, subst, ◌∙◌, ℕ, Bool, true, false, eqb, ◌==◌, List, [], ◌∷◌, find, codes, Option, Some, None, is_some, Ok, Err}
-use Rattle.std.specs.List.{list_any}
+use Rattle.qo_model.proofs.Common.{list_any, E45, E46, E47, Act, Pre, Update, Board, Record, Slot, is_live, kind_of, clock_scaled, clock_set, acted, called, called_all, clock_written, clocks_below, overflows, period, source_of, spread, with_act_on, NotesInOrder, with_act, deed_type, is_child, place_of, set_named}
+use Rattle.qo_model.specs.declared.notes.Deed.TheVariants.{Did}
 use Rattle.std.proofs.lemmas.Bool.{eq-eqb}
 use Rattle.std.proofs.lemmas.Option.{same_Some}
-use Rattle.qo_values.specs.declared.codes.Code.TheVariants.{E45, E46, E47}
-use Rattle.qo_values.specs.declared.kinds.Act.{Act}
-use Rattle.qo_values.specs.declared.kinds.Act.TheVariants.{Pre, Update}
 use Rattle.qo_values.specs.declared.properties.Val.TheVariants as val
-use Rattle.qo_model.specs.declared.notes.Deed.TheVariants.{Did}
-use Rattle.qo_model.specs.Board.{Board, Record, Slot, is_live, kind_of}
-use Rattle.qo_model.specs.ClockChanges.{clock_scaled, clock_set}
-use Rattle.qo_model.specs.Clocks.{acted, called, called_all, clock_written, clocks_below, overflows, period, source_of, spread, with_act_on}
-use Rattle.qo_model.specs.FinalNotes.{NotesInOrder}
-use Rattle.qo_model.specs.FinalNotesRuns.{with_act}
-use Rattle.qo_model.specs.Notes.{deed_type}
-use Rattle.qo_model.specs.Paths.{is_child, parent_of, place_in, place_of}
-use Rattle.qo_model.specs.Unplug.{set_named}
+use Rattle.qo_model.specs.Paths.{parent_of, place_in}
 use Rattle.qo_model.proofs.FinalNotesGrowthLemmas.{act-keeps}
 use Rattle.qo_model.proofs.FinalNotesLemmas.{edit-kind, kind-live, same-keep}
 use Rattle.qo_model.proofs.StepLemmas.{found_at}

@@ -1,22 +1,9 @@
 -- The law: the numbers of clocks stay as wide as their properties.
 use Rattle.std.proofs.Common.{◌≡◌, ◌⊎◌, inl, inr, refl, ap, sym, subst, ◌∙◌, rules, ℕ, ◌<◌, ◌≤◌, ◌^◌, Bool, true, false, ◌&&◌, eqb, List, Option, Some, None, is_some, option_and_then, unwrap_or, codes, Ok, Err, arith}
-use Rattle.std.specs.Prelude.{nat_lt}
-use Rattle.std.specs.List.{AllByRecursion}
-use Rattle.std.specs.Str.{bytes_eq}
+use Rattle.qo_model.proofs.Common.{nat_lt, AllByRecursion, bytes_eq, E45, E46, TypeId, Val, Board, Record, record_of, slots_at, clock_scaled, clock_set, div_of, mul_of, own_period, source_of, number_at, number_in, opening_board, Spot, Wanted, plug, plug_attempt, source_for, with_plugged, is_a, types, set_named}
 use Rattle.std.proofs.lemmas.Bool.{and_parts, cases_lt, eqb-true}
 use Rattle.std.proofs.lemmas.Bool.Decides.{nat_tests}
-use Rattle.qo_values.specs.declared.codes.Code.TheVariants.{E45, E46}
-use Rattle.qo_values.specs.declared.kinds.TypeId.{TypeId}
-use Rattle.qo_values.specs.declared.properties.Val.{Val}
 use Rattle.qo_values.specs.declared.properties.Val.TheVariants as val
-use Rattle.qo_model.specs.Board.{Board, Record, record_of, slots_at}
-use Rattle.qo_model.specs.ClockChanges.{clock_scaled, clock_set}
-use Rattle.qo_model.specs.Clocks.{div_of, mul_of, own_period, source_of}
-use Rattle.qo_model.specs.Devices.{number_at, number_in}
-use Rattle.qo_model.specs.Opening.{opening_board}
-use Rattle.qo_model.specs.Plug.{Spot, Wanted, plug, plug_attempt, source_for, with_plugged}
-use Rattle.qo_model.specs.Types.{is_a, types}
-use Rattle.qo_model.specs.Unplug.{set_named}
 use Rattle.qo_model.proofs.FirstSlotLemmas.{slots_in}
 use Rattle.qo_sound.specs.TreeKept.{SoundTree}
 use Rattle.qo_sound.proofs.SearchLemmas.{all-found}

@@ -1,15 +1,9 @@
 -- The clocks of the opening board are sound: none goes by another.
 use Rattle.std.proofs.Common.{◌≡◌, ◌≢◌, refl, ap, sym, subst, ◌∙◌, ℕ, ◌^◌, ◌<◌, Bool, true, false, ◌&&◌, not, ◌==◌, List, [], Option, Some, None, is_none, option_and_then, unwrap_or, codes, rules, arith}
-use Rattle.std.specs.Prelude.{nat_lt}
-use Rattle.std.specs.List.{AllByRecursion}
-use Rattle.std.specs.Option.{option_map_or}
+use Rattle.qo_model.proofs.Common.{nat_lt, AllByRecursion, option_map_or, Record, record_of, slots_at, child_period, div_of, mul_of, own_period, scaled_by, source_of, number_in, plain_in, opening_board, types}
 use Rattle.std.proofs.lemmas.Bool.{and_parts}
 use Rattle.std.proofs.lemmas.Bool.Decides.{nat_tests}
-use Rattle.qo_model.specs.Board.{Record, record_of, slots_at}
-use Rattle.qo_model.specs.Clocks.{child_period, div_of, mul_of, own_period, scaled_by, source_of, weak_in}
-use Rattle.qo_model.specs.Devices.{number_in, plain_in}
-use Rattle.qo_model.specs.Opening.{opening_board}
-use Rattle.qo_model.specs.Types.{types}
+use Rattle.qo_model.specs.Clocks.{weak_in}
 use Rattle.qo_model.proofs.FirstSlotLemmas.{named_in}
 use Rattle.qo_model.proofs.PeriodLemmas.{period-own}
 use Rattle.qo_sound.proofs.SearchLemmas.{all-found}

@@ -1,33 +1,13 @@
 -- A device that is added brings clocks as new, which go by an older clock; the others stay as they are.
 use Rattle.std.proofs.Common.{◌≡◌, ◌⊎◌, inl, inr, refl, ap, sym, subst, ◌∙◌, rules, ℕ, zero, suc, ◌+◌, ◌<◌, ◌≤◌, Bool, true, false, ◌==◌, List, [], ◌∷◌, find, Option, Some, None, option_map, option_and_then, codes, arith}
-use Rattle.std.specs.Bool.{⊤}
-use Rattle.std.specs.List.{AllByRecursion}
-use Rattle.std.specs.Option.{option_or}
-use Rattle.std.specs.Str.{bytes_eq}
-use Rattle.std.proofs.lemmas.Bool.{and_parts, eqb-true, or_cases, or_right}
-use Rattle.std.proofs.lemmas.Option.{same_Some}
-use Rattle.qo_values.specs.Kinds.{type_name}
-use Rattle.qo_values.specs.declared.kinds.Act.TheVariants.{Realize}
-use Rattle.qo_values.specs.declared.kinds.TypeId.{TypeId}
-use Rattle.qo_values.specs.declared.kinds.TypeId.TheVariants.{Object, Container, Machine, Device, SlotDevice, SlotUart, SlotTimer, SlotBridge, MemDimm, Bus, SlotBus, MemBus, Clock, MemoryBackend, MemoryBackendRam, Tag}
-use Rattle.qo_values.specs.declared.properties.Val.{Val}
-use Rattle.qo_values.specs.declared.properties.Val.TheVariants as val
-use Rattle.qo_values.specs.declared.ranges.Range.{Range}
-use Rattle.qo_model.specs.Board.{Board, Record, Slot, plain, child, strong, weak, alias, record_of, slots_at}
-use Rattle.qo_model.specs.Changes.{add, changed_at, fresh, with_added, with_changed, with_val}
-use Rattle.qo_model.specs.Clocks.{acted, weak_in}
-use Rattle.qo_model.specs.Devices.{child_named, clock_of, kid_name, plain_in}
-use Rattle.qo_model.specs.Objects.{Given, slot_given}
-use Rattle.qo_model.specs.Opening.{first_value, fresh_record, fresh_slots}
-use Rattle.qo_model.specs.Paths.{canonical, is_of, only_of}
-use Rattle.qo_model.specs.Plug.{Spot, Wanted, acted_all, addressed_at, aliased, bus_births, clocked, counted, drafted, fitted, link_named, name_for, owned, parent_for, property_made, properties_made, source_for, stood, with_body_of, with_device, with_given, with_new, with_path, with_plugged, with_source}
-use Rattle.qo_model.specs.Release.{edit, edited}
-use Rattle.qo_model.specs.Reset.{plugged, post}
-use Rattle.qo_model.specs.RowNames.{property_name}
-use Rattle.qo_model.specs.Types.{is_a, slots_of, types}
-use Rattle.qo_model.specs.Unplug.{set_named}
+use Rattle.qo_model.proofs.Common.{⊤, AllByRecursion, option_or, bytes_eq, type_name, Realize, TypeId, Device, Val, Range, Board, Record, Slot, plain, child, strong, weak, alias, record_of, slots_at, add, changed_at, fresh, with_added, with_changed, with_val, acted, child_named, clock_of, kid_name, plain_in, Given, slot_given, first_value, fresh_record, fresh_slots, canonical, is_of, only_of, Spot, Wanted, acted_all, addressed_at, aliased, bus_births, clocked, counted, drafted, fitted, link_named, name_for, owned, parent_for, property_made, properties_made, source_for, stood, with_body_of, with_device, with_given, with_new, with_path, with_plugged, with_source, edit, edited, plugged, post, property_name, is_a, slots_of, types, set_named}
 use Rattle.qo_model.specs.declared.properties.Property.{Property}
 use Rattle.qo_model.specs.declared.properties.PropertyRole.{PropertyRole}
+use Rattle.std.proofs.lemmas.Bool.{and_parts, eqb-true, or_cases, or_right}
+use Rattle.std.proofs.lemmas.Option.{same_Some}
+use Rattle.qo_values.specs.declared.properties.Val.TheVariants as val
+use Rattle.qo_values.proofs.EachLemmas.{each}
+use Rattle.qo_model.specs.Clocks.{weak_in}
 use Rattle.qo_model.specs.declared.properties.PropertyRole.TheVariants as row
 use Rattle.qo_model.proofs.FirstSlotLemmas.{slots_in}
 use Rattle.qo_model.proofs.StepLemmas.{found-edited, found_at, found-birth}
@@ -86,22 +66,7 @@ calm-less source xs ys less h = go less.scale
 
 blank-fresh : (t : TypeId) → Blank (fresh_slots t)
 unfolding types
-blank-fresh Object = record { own = refl; mul = refl; div = refl; source = λ s. refl }
-blank-fresh Container = record { own = refl; mul = refl; div = refl; source = λ s. refl }
-blank-fresh Machine = record { own = refl; mul = refl; div = refl; source = λ s. refl }
-blank-fresh Device = record { own = refl; mul = refl; div = refl; source = λ s. refl }
-blank-fresh SlotDevice = record { own = refl; mul = refl; div = refl; source = λ s. refl }
-blank-fresh SlotUart = record { own = refl; mul = refl; div = refl; source = λ s. refl }
-blank-fresh SlotTimer = record { own = refl; mul = refl; div = refl; source = λ s. refl }
-blank-fresh SlotBridge = record { own = refl; mul = refl; div = refl; source = λ s. refl }
-blank-fresh MemDimm = record { own = refl; mul = refl; div = refl; source = λ s. refl }
-blank-fresh Bus = record { own = refl; mul = refl; div = refl; source = λ s. refl }
-blank-fresh SlotBus = record { own = refl; mul = refl; div = refl; source = λ s. refl }
-blank-fresh MemBus = record { own = refl; mul = refl; div = refl; source = λ s. refl }
-blank-fresh Clock = record { own = refl; mul = refl; div = refl; source = λ s. refl }
-blank-fresh MemoryBackend = record { own = refl; mul = refl; div = refl; source = λ s. refl }
-blank-fresh MemoryBackendRam = record { own = refl; mul = refl; div = refl; source = λ s. refl }
-blank-fresh Tag = record { own = refl; mul = refl; div = refl; source = λ s. refl }
+blank-fresh = each (λ (t : TypeId). Blank (fresh_slots t)) (search rules)
 
 -- the rows of a device name nothing that is read of clocks
 
@@ -115,22 +80,7 @@ RowQuiet p =
 
 pub rows-quiet : (t : TypeId) → is_a t (codes "device") ≡ true → AllByRecursion RowQuiet (slots_of t)
 unfolding types
-rows-quiet Object e = search rules
-rows-quiet Container e = search rules
-rows-quiet Machine e = search rules
-rows-quiet Device e = search rules
-rows-quiet SlotDevice e = search rules
-rows-quiet SlotUart e = search rules
-rows-quiet SlotTimer e = search rules
-rows-quiet SlotBridge e = search rules
-rows-quiet MemDimm e = search rules
-rows-quiet Bus e = search rules
-rows-quiet SlotBus e = search rules
-rows-quiet MemBus e = search rules
-rows-quiet Clock e = absurd (let clash : false ≡ true = e in cc)
-rows-quiet MemoryBackend e = search rules
-rows-quiet MemoryBackendRam e = search rules
-rows-quiet Tag e = search rules
+rows-quiet = each (λ (t : TypeId). is_a t (codes "device") ≡ true → AllByRecursion RowQuiet (slots_of t)) (search rules)
 
 -- slots that change and stay new
 

@@ -1,12 +1,6 @@
 -- Adding a device, taken or refused at any stage, keeps clocks sound.
 use Rattle.std.proofs.Common.{◌≡◌, refl, ap, sym, ◌∙◌, ℕ, ◌≤◌, true, false, List, Option, Some, None, is_some, codes, arith}
-use Rattle.std.specs.List.{AllByRecursion}
-use Rattle.qo_values.specs.declared.codes.Code.{Code}
-use Rattle.qo_values.specs.declared.kinds.TypeId.{TypeId}
-use Rattle.qo_model.specs.Board.{Board, Record, Slot, kind_of, record_of, slots_at}
-use Rattle.qo_model.specs.Devices.{bridge_of, clock_of}
-use Rattle.qo_model.specs.Plug.{Spot, Wanted, barred_early, barred_late, bus_for, plug, plug_as, plug_attempt, plug_by, plug_late, source_for, spot_of, type_barred, with_plugged}
-use Rattle.qo_model.specs.Types.{TypeInfo, is_a, type_named}
+use Rattle.qo_model.proofs.Common.{AllByRecursion, Code, TypeId, Board, Record, Slot, kind_of, record_of, slots_at, bridge_of, clock_of, Spot, Wanted, barred_early, barred_late, bus_for, plug, plug_as, plug_attempt, plug_by, plug_late, source_for, spot_of, type_barred, with_plugged, TypeInfo, is_a, type_named}
 use Rattle.qo_model.proofs.FirstSlotLemmas.{slots_in}
 use Rattle.qo_model.proofs.StepLemmas.{is_some-map}
 use Rattle.qo_sound.specs.TreeKept.{SoundTree}

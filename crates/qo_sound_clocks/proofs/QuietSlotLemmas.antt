@@ -1,14 +1,9 @@
 -- Slots under other names than those of clocks: they read as no clock, and stay so.
 use Rattle.std.proofs.Common.{◌≡◌, refl, ap, sym, ◌∙◌, ℕ, Bool, true, false, cond, ◌||◌, List, [], ◌∷◌, map, Option, None, codes}
-use Rattle.std.specs.Bool.{⊤}
-use Rattle.std.specs.List.{AllByRecursion}
-use Rattle.std.specs.Option.{option_or}
-use Rattle.std.specs.Str.{bytes_eq}
+use Rattle.qo_model.proofs.Common.{⊤, AllByRecursion, option_or, bytes_eq, Board, Slot, plain, child, strong, weak, alias, Given, slot_given}
 use Rattle.std.proofs.Math.Bool.{and-false}
 use Rattle.std.proofs.lemmas.Bool.{or_parts}
 use Rattle.std.proofs.lemmas.Slice.Eq.{bytes_eq-Decides}
-use Rattle.qo_model.specs.Board.{Board, Slot, plain, child, strong, weak, alias}
-use Rattle.qo_model.specs.Objects.{Given, slot_given}
 use Rattle.qo_sound.proofs.GivenPropertyLemmas.{given-cases}
 use Rattle.qo_sound.proofs.RecordLemmas.{all-map}
 use Rattle.qo_sound_clocks.proofs.SlotLemmas.{Blank, OtherName, plain_of, sees, Slots}

@@ -1,15 +1,10 @@
 -- What is read of the clocks of a board whose tree is sound, by the slots of each object.
 use Rattle.std.proofs.Common.{◌≡◌, refl, ap, sym, ◌∙◌, ℕ, Bool, true, false, List, [], ◌∷◌, Option, Some, None, option_and_then, unwrap_or, codes}
-use Rattle.std.specs.List.{AllByRecursion, IsDistinct}
-use Rattle.std.specs.Option.{option_or}
-use Rattle.std.specs.Str.{bytes_eq}
+use Rattle.qo_model.proofs.Common.{AllByRecursion, IsDistinct, option_or, bytes_eq, Val, Board, Record, record_of, slots_at, div_of, mul_of, own_period, source_of, number_in, plain_in}
 use Rattle.std.proofs.lemmas.Bool.{eqb-true, eq-eqb, or_right}
 use Rattle.std.proofs.lemmas.Option.{same_Some}
 use Rattle.std.proofs.lemmas.Slice.Eq.{bytes_eq-Decides}
-use Rattle.qo_values.specs.declared.properties.Val.{Val}
-use Rattle.qo_model.specs.Board.{Board, Record, record_of, slots_at}
-use Rattle.qo_model.specs.Clocks.{div_of, mul_of, own_period, source_of, weak_in}
-use Rattle.qo_model.specs.Devices.{number_in, plain_in}
+use Rattle.qo_model.specs.Clocks.{weak_in}
 use Rattle.qo_model.proofs.FirstSlotLemmas.{slots_in, named_in}
 use Rattle.qo_sound.specs.TreeKept.{SoundTree}
 use Rattle.qo_sound.proofs.FirmBoardLemmas.{HasNames}

@@ -1,8 +1,6 @@
 -- The law: what other registers of an object keep. None of it speaks of registers but the moments of timers.
 use Rattle.std.proofs.Common.{◌≡◌, refl, ap, sym, ◌∙◌, ℕ, false, None, option_map}
-use Rattle.qo_values.specs.Registers.{Registers}
-use Rattle.qo_model.specs.Board.{Board, record_of, slots_at}
-use Rattle.qo_model.specs.Release.{edited}
+use Rattle.qo_model.proofs.Common.{Registers, Board, record_of, slots_at, edited}
 use Rattle.qo_model.proofs.FinalNotesLemmas.{edit-keeps}
 use Rattle.qo_model.proofs.FirstSlotLemmas.{slots_in}
 use Rattle.qo_model.proofs.StepLemmas.{found-edited, map-edited, slots-edited}

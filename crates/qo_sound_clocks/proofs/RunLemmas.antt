@@ -1,15 +1,7 @@
 -- The law: runs with writes of clocks and time that goes on stay sound.
 use Rattle.std.proofs.Common.{◌≡◌, refl, ℕ, ◌+◌, Bool, true, false, List, [], ◌∷◌, Result, Ok, Err, arith, ◌<◌, ◌^◌}
-use Rattle.std.specs.Prelude.{nat_lt}
+use Rattle.qo_model.proofs.Common.{nat_lt, Code, Board, Notice, clock_scaled, clock_set, among, after_write, refused, opening_board, cut_attempt}
 use Rattle.std.proofs.lemmas.Bool.Decides.{nat_tests}
-use Rattle.qo_values.specs.declared.codes.Code.{Code}
-use Rattle.qo_model.specs.Board.{Board, Notice}
-use Rattle.qo_model.specs.ClockChanges.{clock_scaled, clock_set}
-use Rattle.qo_model.specs.Depth.{among}
-use Rattle.qo_model.specs.FinalNotesRuns.{after_write}
-use Rattle.qo_model.specs.Hotplug.{refused}
-use Rattle.qo_model.specs.Opening.{opening_board}
-use Rattle.qo_model.specs.Plug.{cut_attempt}
 use Rattle.qo_sound_devices.specs.DeviceRuns.{DeviceStep, commands, adds, cuts, asks, refuses, lets_go, reads, acts, holds, releases, resets, sends, notice_read, stepped}
 use Rattle.qo_sound_devices.specs.SoundDevices.{SoundDevices}
 use Rattle.qo_sound_devices.proofs.DevicesLawLemmas.{devices_kept_lem, stepped-below}

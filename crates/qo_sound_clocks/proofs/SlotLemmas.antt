@@ -1,19 +1,11 @@
 -- What clocks read of the slots of an object, whatever stands between: values of plain slots and targets of weak links. Slots that read no more than others do.
 use Rattle.std.proofs.Common.{◌≡◌, ◌⊎◌, inl, inr, refl, ap, sym, subst, ◌∙◌, ℕ, zero, suc, ◌≤◌, Bool, true, false, cond, ◌&&◌, ◌||◌, ◌==◌, List, [], ◌∷◌, ◌++◌, remove, slice_get, Option, Some, None, option_and_then, unwrap_or, codes, arith}
-use Rattle.std.specs.List.{list_any}
-use Rattle.std.specs.Option.{option_or}
-use Rattle.std.specs.Str.{bytes_eq}
+use Rattle.qo_model.proofs.Common.{list_any, option_or, bytes_eq, Val, Slot, plain, child, strong, weak, alias, changed_at, pointed, with_val, number_in, plain_in, forgotten_in, without_hold, unseen}
 use Rattle.std.proofs.lemmas.Bool.{and_parts, or_right}
 use Rattle.std.proofs.lemmas.Option.{same_Some}
 use Rattle.std.proofs.lemmas.Slice.Eq.{bytes_eq-Decides}
-use Rattle.qo_values.specs.declared.properties.Val.{Val}
 use Rattle.qo_values.specs.declared.properties.Val.TheVariants as val
-use Rattle.qo_model.specs.Board.{Slot, plain, child, strong, weak, alias}
-use Rattle.qo_model.specs.Changes.{changed_at, pointed, with_val}
 use Rattle.qo_model.specs.Clocks.{weak_in}
-use Rattle.qo_model.specs.Devices.{number_in, plain_in}
-use Rattle.qo_model.specs.Release.{forgotten_in, without_hold}
-use Rattle.qo_model.specs.Unplug.{unseen}
 use Rattle.qo_sound.proofs.ReadLemmas.{plain-forgotten, plain-unseen, plain-pointed}
 use Rattle.qo_sound.proofs.SlotLemmas.{each_slot}
 

@@ -1,12 +1,7 @@
 -- The law: what writes of clocks keep beside the clocks.
 use Rattle.std.proofs.Common.{◌≡◌, refl, sym, ◌∙◌, ℕ, false, [], ◌∷◌, Option, Some, None}
-use Rattle.qo_values.specs.declared.kinds.Act.{Act}
+use Rattle.qo_model.proofs.Common.{Act, Board, slots_at, set, acted, period, index_from, is_named, set_named}
 use Rattle.qo_values.specs.declared.properties.Val.TheVariants as val
-use Rattle.qo_model.specs.Board.{Board, slots_at}
-use Rattle.qo_model.specs.Changes.{set}
-use Rattle.qo_model.specs.Clocks.{acted, period}
-use Rattle.qo_model.specs.Objects.{index_from}
-use Rattle.qo_model.specs.Unplug.{is_named, set_named}
 use Rattle.qo_sound.specs.TreeKept.{SoundTree}
 use Rattle.qo_sound.proofs.UnplugLemmas.{held-acted, held-set, Sits}
 use Rattle.qo_sound.proofs.ViewLemmas.{AtRest, rest-from_sound, sound-from_rest}

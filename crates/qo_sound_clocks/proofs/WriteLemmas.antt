@@ -1,22 +1,11 @@
 -- Where a write of a clock's numbers is not refused, the clocks are sound after it.
 use Rattle.std.proofs.Common.{◌≡◌, ◌⊎◌, inl, inr, refl, ap, subst, sym, ◌∙◌, ℕ, zero, suc, Bool, true, false, eqb, List, [], ◌∷◌, slice_get, Option, Some, None, option_map, option_and_then, unwrap_or, codes, Ok, Err}
-use Rattle.std.specs.List.{list_any}
-use Rattle.std.specs.Str.{bytes_eq}
+use Rattle.qo_model.proofs.Common.{list_any, bytes_eq, E45, E46, E47, Val, Board, Record, Slot, plain, child, strong, weak, alias, record_of, slots_at, changed_at, set, with_changed, with_val, clock_scaled, clock_set, clock_written, clocks_below, div_of, overflows, own_period, period, source_of, spread, number_at, number_in, plain_in, index_from, births, edited, is_named, set_named}
 use Rattle.std.proofs.lemmas.Bool.{eqb-true, eq-eqb}
 use Rattle.std.proofs.lemmas.Option.{same_Some}
 use Rattle.std.proofs.lemmas.Slice.Eq.{bytes_eq-Decides}
-use Rattle.qo_values.specs.declared.codes.Code.TheVariants.{E45, E46, E47}
-use Rattle.qo_values.specs.declared.properties.Val.{Val}
 use Rattle.qo_values.specs.declared.properties.Val.TheVariants as val
-use Rattle.qo_model.specs.Board.{Board, Record, Slot, plain, child, strong, weak, alias, record_of, slots_at}
-use Rattle.qo_model.specs.Changes.{changed_at, set, with_changed, with_val}
-use Rattle.qo_model.specs.ClockChanges.{clock_scaled, clock_set}
-use Rattle.qo_model.specs.Clocks.{clock_written, clocks_below, div_of, overflows, own_period, period, source_of, spread, weak_in}
-use Rattle.qo_model.specs.Devices.{number_at, number_in, plain_in}
-use Rattle.qo_model.specs.Objects.{index_from}
-use Rattle.qo_model.specs.Paths.{births}
-use Rattle.qo_model.specs.Release.{edited}
-use Rattle.qo_model.specs.Unplug.{is_named, set_named}
+use Rattle.qo_model.specs.Clocks.{weak_in}
 use Rattle.qo_model.proofs.ClockFitLemmas.{fits-new, IsWritten, written-then}
 use Rattle.qo_model.proofs.FirstSlotLemmas.{slots_in, named_in, Found, found-at}
 use Rattle.qo_model.proofs.StepLemmas.{found-edited, found-birth}

@@ -1,20 +1,10 @@
 -- A device that nothing refuses goes where places allow it.
-use Rattle.std.proofs.Common.{◌≡◌, refl, ap, sym, ◌∙◌, ℕ, suc, ◌+◌, ◌<◌, ◌≤◌, Bool, true, false, not, ◌||◌, List, [], ◌∷◌, Option, Some, None, codes, arith}
-use Rattle.std.specs.Prelude.{if◌then◌else◌, nat_le}
-use Rattle.std.specs.Option.{option_or}
+use Rattle.std.proofs.Common.{rules, ◌≡◌, refl, ap, sym, ◌∙◌, ℕ, suc, ◌+◌, ◌<◌, ◌≤◌, Bool, true, false, not, ◌||◌, List, [], ◌∷◌, Option, Some, None, codes, arith}
+use Rattle.qo_model.proofs.Common.{if◌then◌else◌, nat_le, option_or, is_id, Code, E23, E24, E26, E27, E42, TypeId, SlotBridge, BUS_DEPTH_MAX, Board, depth_of, device_named, is_going, Given, refusal_of, attached, is_of, Wanted, at_stage, bus_barred, bus_for, bus_type, code_in, container_barred, drafted, id_barred, id_refused, kind_barred, name_for, notice_barred, number_for, parent_for, place_barred, realize_barred, room_barred, bus_slot_for, spot_of}
 use Rattle.std.proofs.lemmas.Bool.{not-false}
 use Rattle.std.proofs.lemmas.Option.{same_Some}
-use Rattle.qo_values.specs.Ids.{is_id}
-use Rattle.qo_values.specs.declared.codes.Code.{Code}
-use Rattle.qo_values.specs.declared.codes.Code.TheVariants.{E23, E24, E26, E27, E42}
-use Rattle.qo_values.specs.declared.kinds.TypeId.{TypeId}
-use Rattle.qo_values.specs.declared.kinds.TypeId.TheVariants.{Object, Container, Machine, Device, SlotDevice, SlotUart, SlotTimer, SlotBridge, MemDimm, Bus, SlotBus, MemBus, Clock, MemoryBackend, MemoryBackendRam, Tag}
-use Rattle.qo_values.specs.declared.limits.TheConstants.{BUS_DEPTH_MAX}
-use Rattle.qo_model.specs.Board.{Board}
-use Rattle.qo_model.specs.Devices.{depth_of, device_named, is_going}
-use Rattle.qo_model.specs.Objects.{Given, refusal_of}
-use Rattle.qo_model.specs.Paths.{attached, is_of}
-use Rattle.qo_model.specs.Plug.{Wanted, at_stage, bus_barred, bus_for, bus_type, code_in, container_barred, drafted, first_of, id_barred, id_refused, kind_barred, name_for, notice_barred, number_for, parent_for, place_barred, realize_barred, room_barred, bus_slot_for, spot_of}
+use Rattle.qo_values.proofs.EachLemmas.{each}
+use Rattle.qo_model.specs.Plug.{first_of}
 use Rattle.qo_sound.proofs.AddLemmas.{unbarred}
 use Rattle.qo_sound.proofs.PlugLemmas.{or-none, shut-above, stage-none}
 use Rattle.qo_sound.proofs.ViewLemmas.{AtRest, sound-from_rest}
@@ -83,24 +73,13 @@ id-free b i e =
     (unbarred (device_named b i) E24 None first.1).0
 
 -- a bridge goes on a bus that is not too deep
+bridge-shallow : (b : Board) (bus : ℕ) (props : List Given) → kind_barred b SlotBridge bus props ≡ None → nat_le BUS_DEPTH_MAX (depth_of b bus) ≡ false
+bridge-shallow b bus props e = (unbarred (nat_le BUS_DEPTH_MAX (depth_of b bus)) E42 None e).0
+
 bridge-room : (b : Board) (t : TypeId) (bus : ℕ) (props : List Given) → is_bridge t ≡ true → kind_barred b t bus props ≡ None
     → nat_le BUS_DEPTH_MAX (depth_of b bus) ≡ false
-bridge-room b SlotBridge bus props is e = (unbarred (nat_le BUS_DEPTH_MAX (depth_of b bus)) E42 None e).0
-bridge-room b Object bus props is e = absurd (let clash : false ≡ true = is in cc)
-bridge-room b Container bus props is e = absurd (let clash : false ≡ true = is in cc)
-bridge-room b Machine bus props is e = absurd (let clash : false ≡ true = is in cc)
-bridge-room b Device bus props is e = absurd (let clash : false ≡ true = is in cc)
-bridge-room b SlotDevice bus props is e = absurd (let clash : false ≡ true = is in cc)
-bridge-room b SlotUart bus props is e = absurd (let clash : false ≡ true = is in cc)
-bridge-room b SlotTimer bus props is e = absurd (let clash : false ≡ true = is in cc)
-bridge-room b MemDimm bus props is e = absurd (let clash : false ≡ true = is in cc)
-bridge-room b Bus bus props is e = absurd (let clash : false ≡ true = is in cc)
-bridge-room b SlotBus bus props is e = absurd (let clash : false ≡ true = is in cc)
-bridge-room b MemBus bus props is e = absurd (let clash : false ≡ true = is in cc)
-bridge-room b Clock bus props is e = absurd (let clash : false ≡ true = is in cc)
-bridge-room b MemoryBackend bus props is e = absurd (let clash : false ≡ true = is in cc)
-bridge-room b MemoryBackendRam bus props is e = absurd (let clash : false ≡ true = is in cc)
-bridge-room b Tag bus props is e = absurd (let clash : false ≡ true = is in cc)
+bridge-room b t bus props =
+    each (λ (t : TypeId). is_bridge t ≡ true → kind_barred b t bus props ≡ None → nat_le BUS_DEPTH_MAX (depth_of b bus) ≡ false) (search (rules, bridge-shallow)) t
 
 pub goal-of : (depth : ℕ → ℕ) (b : Board) (t : TypeId) (bus : ℕ) (a : Wanted) → AtRest b → PlacesBut depth None (λ x. false) b → Accepted b t bus a
     → Goal depth b (b.born + 1) bus (spot_of b t bus a.props).slot a.id t (drafted b t)

@@ -1,25 +1,9 @@
 -- `object-add` keeps places, taken or refused.
 use Rattle.std.proofs.Common.{◌≡◌, refl, ap, ap₂, sym, subst, ◌∙◌, ℕ, ◌+◌, ◌<◌, Bool, true, false, ◌==◌, List, [], ◌∷◌, ◌++◌, map, find, filter_map, Option, Some, None, is_some, option_map, option_and_then, arith, codes}
-use Rattle.std.specs.List.{AllByRecursion, cons_option, list_any}
-use Rattle.std.specs.Option.{option_map_or, option_or}
+use Rattle.qo_model.proofs.Common.{AllByRecursion, cons_option, list_any, option_map_or, option_or, bytes_eq, ANONYMOUS_BIRTH, MACHINE_BIRTH, MEMORY_BUS_BIRTH, OBJECTS_BIRTH, PERIPHERAL_BIRTH, ROOT_BUS_BIRTH, fresh_registers, Code, TypeId, Object, Container, Machine, Device, SlotDevice, SlotUart, SlotTimer, SlotBridge, MemDimm, Bus, SlotBus, MemBus, Clock, MemoryBackend, MemoryBackendRam, Tag, Val, Board, Record, Slot, plain, child, strong, weak, alias, record_of, is_live, slots_at, with_added, bus_of, is_realized, is_true, bus_slot_of, plain_in, strong_in, number_in, fresh_slots, Given, given_to, slot_given, added_as, given_slots, object_add, with_attempt, with_object, is_of, edited, is_a, types}
 use Rattle.std.proofs.lemmas.List.Folds.{find-append}
-use Rattle.std.specs.Str.{bytes_eq}
 use Rattle.std.proofs.lemmas.Bool.{eqb-true, eq-eqb}
-use Rattle.qo_values.specs.declared.births.TheConstants.{ANONYMOUS_BIRTH, MACHINE_BIRTH, MEMORY_BUS_BIRTH, OBJECTS_BIRTH, PERIPHERAL_BIRTH, ROOT_BUS_BIRTH}
-use Rattle.qo_values.specs.Registers.{fresh_registers}
-use Rattle.qo_values.specs.declared.codes.Code.{Code}
-use Rattle.qo_values.specs.declared.kinds.TypeId.{TypeId}
-use Rattle.qo_values.specs.declared.kinds.TypeId.TheVariants.{Object, Container, Machine, Device, SlotDevice, SlotUart, SlotTimer, SlotBridge, MemDimm, Bus, SlotBus, MemBus, Clock, MemoryBackend, MemoryBackendRam, Tag}
-use Rattle.qo_values.specs.declared.properties.Val.{Val}
 use Rattle.qo_values.specs.declared.properties.Val.TheVariants as val
-use Rattle.qo_model.specs.Board.{Board, Record, Slot, plain, child, strong, weak, alias, record_of, is_live, slots_at}
-use Rattle.qo_model.specs.Changes.{with_added}
-use Rattle.qo_model.specs.Devices.{bus_of, is_realized, is_true, bus_slot_of, plain_in, strong_in, number_in}
-use Rattle.qo_model.specs.Opening.{fresh_slots}
-use Rattle.qo_model.specs.Objects.{Given, given_to, slot_given, added_as, given_slots, object_add, with_attempt, with_object}
-use Rattle.qo_model.specs.Paths.{is_of}
-use Rattle.qo_model.specs.Release.{edited}
-use Rattle.qo_model.specs.Types.{is_a, types}
 use Rattle.qo_model.proofs.ComesToLemmas.{addition-comes}
 use Rattle.qo_model.proofs.StepLemmas.{found_at, found-edited, found-birth}
 use Rattle.qo_sound.proofs.AddLemmas.{attempt-rest, creatable}

@@ -1,26 +1,14 @@
 -- Places after a device that was added: what has to be shown of the board after it.
 use Rattle.std.proofs.lemmas.List.Folds.{list_any-append}
-use Rattle.std.proofs.Common.{◌≡◌, refl, ap, ap₂, sym, subst, ◌∙◌, ℕ, suc, ◌<◌, ◌≤◌, Bool, true, false, ◌||◌, ◌==◌, eqb, List, [], ◌∷◌, ◌++◌, Option, Some, None, arith, codes}
-use Rattle.std.specs.Prelude.{if◌then◌else◌}
-use Rattle.std.specs.List.{AllByRecursion, list_any}
-use Rattle.std.specs.Option.{option_map_or}
-use Rattle.std.specs.Str.{bytes_eq}
+use Rattle.std.proofs.Common.{rules, ◌≡◌, refl, ap, ap₂, sym, subst, ◌∙◌, ℕ, suc, ◌<◌, ◌≤◌, Bool, true, false, ◌||◌, ◌==◌, eqb, List, [], ◌∷◌, ◌++◌, Option, Some, None, arith, codes}
+use Rattle.qo_model.proofs.Common.{if◌then◌else◌, AllByRecursion, list_any, option_map_or, bytes_eq, ANONYMOUS_BIRTH, MACHINE_BIRTH, MEMORY_BUS_BIRTH, OBJECTS_BIRTH, PERIPHERAL_BIRTH, ROOT_BUS_BIRTH, TypeId, BUS_SLOTS, Board, is_live, kind_of, among, anonymous_name, bus_of, clock_name, is_realized, kid_name, bus_slot_of, is_of, bus_type, is_a, types}
 use Rattle.std.proofs.lemmas.Bool.{eqb-true, eq-eqb}
 use Rattle.std.proofs.lemmas.Option.{same_Some}
 use Rattle.std.proofs.Math.Bool.{or-true, or-false}
-use Rattle.qo_values.specs.declared.births.TheConstants.{ANONYMOUS_BIRTH, MACHINE_BIRTH, MEMORY_BUS_BIRTH, OBJECTS_BIRTH, PERIPHERAL_BIRTH, ROOT_BUS_BIRTH}
-use Rattle.qo_values.specs.declared.kinds.TypeId.{TypeId}
-use Rattle.qo_values.specs.declared.kinds.TypeId.TheVariants.{Object, Container, Machine, Device, SlotDevice, SlotUart, SlotTimer, SlotBridge, MemDimm, Bus, SlotBus, MemBus, Clock, MemoryBackend, MemoryBackendRam, Tag}
-use Rattle.qo_values.specs.declared.limits.TheConstants.{BUS_SLOTS}
-use Rattle.qo_model.specs.Board.{Board, is_live, kind_of}
-use Rattle.qo_model.specs.Depth.{among}
-use Rattle.qo_model.specs.Devices.{anonymous_name, bus_of, clock_name, is_realized, kid_name, bus_slot_of}
-use Rattle.qo_model.specs.Paths.{is_of}
-use Rattle.qo_model.specs.Plug.{bus_type}
-use Rattle.qo_model.specs.Types.{is_a, types}
 use Rattle.qo_sound.proofs.FirmBoardLemmas.{Firm}
 use Rattle.qo_sound.proofs.RecordLemmas.{all-append}
 use Rattle.qo_values.proofs.ListLemmas.{all-imply}
+use Rattle.qo_values.proofs.EachLemmas.{each}
 use Rattle.qo_sound.proofs.TestLemmas.{decide}
 use Rattle.qo_sound_devices.specs.SoundPlaces.{child_entries, HasOwner, machines, bridges, id_of, IsAnonymous, IsAtHome, on_device, IsHome, IsKid, IsPeripheral, IsShallow, kid_entries, listed, owns, owns_it, path_of, PlacesBut, stands, names_it}
 use Rattle.qo_sound_devices.proofs.AttachmentLemmas.{owns-listed}
@@ -131,22 +119,7 @@ deepened depth n bus c q = if owns c n q then suc (depth bus) else depth q
 -- no type of a device is that of a bus
 pub device-no_bus : (t : TypeId) → is_a t (codes "device") ≡ true → is_a t (codes "bus") ≡ false
 unfolding types
-device-no_bus Object e = refl
-device-no_bus Container e = refl
-device-no_bus Machine e = refl
-device-no_bus Device e = refl
-device-no_bus SlotDevice e = refl
-device-no_bus SlotUart e = refl
-device-no_bus SlotTimer e = refl
-device-no_bus SlotBridge e = refl
-device-no_bus MemDimm e = refl
-device-no_bus Bus e = absurd (let clash : false ≡ true = e in cc)
-device-no_bus SlotBus e = absurd (let clash : false ≡ true = e in cc)
-device-no_bus MemBus e = absurd (let clash : false ≡ true = e in cc)
-device-no_bus Clock e = refl
-device-no_bus MemoryBackend e = refl
-device-no_bus MemoryBackendRam e = refl
-device-no_bus Tag e = refl
+device-no_bus = each (λ (t : TypeId). is_a t (codes "device") ≡ true → is_a t (codes "bus") ≡ false) (search rules)
 
 -- further objects, where types and children stay
 pub further-same : (c d : Board) → ((name : List ℕ) (y : ℕ) → is_of d name y ≡ is_of c name y) → (x : ℕ) → child_entries d x ≡ child_entries c x

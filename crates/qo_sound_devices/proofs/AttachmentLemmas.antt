@@ -1,13 +1,10 @@
 -- What has a place is attached.
 use Rattle.std.proofs.Common.{◌≡◌, refl, ap, sym, subst, ◌∙◌, ℕ, ◌≤◌, Bool, true, false, ◌==◌, eqb, List, [], ◌∷◌, find, filter_map, sum_by, Option, Some, None, is_some, option_map, arith}
-use Rattle.std.specs.List.{list_any}
+use Rattle.qo_model.proofs.Common.{list_any, ANONYMOUS_BIRTH, MACHINE_BIRTH, MEMORY_BUS_BIRTH, PERIPHERAL_BIRTH, ROOT_BUS_BIRTH, Board, Record, Slot, plain, child, strong, weak, alias, record_of, attached, attached_turn, is_child, place_of, SoundGraph}
 use Rattle.std.proofs.lemmas.Bool.{eqb-true}
 use Rattle.std.proofs.lemmas.List.Sums.{sum_by-cons}
 use Rattle.std.proofs.lemmas.Option.{same_Some}
-use Rattle.qo_values.specs.declared.births.TheConstants.{ANONYMOUS_BIRTH, MACHINE_BIRTH, MEMORY_BUS_BIRTH, PERIPHERAL_BIRTH, ROOT_BUS_BIRTH}
-use Rattle.qo_model.specs.Board.{Board, Record, Slot, plain, child, strong, weak, alias, record_of}
-use Rattle.qo_model.specs.Paths.{attached, attached_turn, is_child, place_in, place_of}
-use Rattle.qo_model.specs.SoundGraph.{SoundGraph}
+use Rattle.qo_model.specs.Paths.{place_in}
 use Rattle.qo_model.proofs.ReleaseLemmas.{found-within}
 use Rattle.qo_model.proofs.StepLemmas.{found_at}
 use Rattle.qo_model.proofs.TreeLemmas.{paths_lem, place_at}

@@ -1,24 +1,9 @@
 -- The link of a device that is added holds its bus.
-use Rattle.std.proofs.Common.{◌≡◌, refl, ap, sym, ◌∙◌, ℕ, ◌+◌, Bool, true, false, List, [], ◌∷◌, ◌++◌, find, map, Option, Some, None, option_map, option_and_then, codes, arith}
-use Rattle.std.specs.Option.{option_map_or}
-use Rattle.std.specs.Str.{bytes_eq}
+use Rattle.std.proofs.Common.{rules, ◌≡◌, refl, ap, sym, ◌∙◌, ℕ, ◌+◌, Bool, true, false, List, [], ◌∷◌, ◌++◌, find, map, Option, Some, None, option_map, option_and_then, codes, arith}
+use Rattle.qo_model.proofs.Common.{option_map_or, bytes_eq, Code, E18, TypeId, Device, Bus, Val, Board, Record, Slot, child, strong, record_of, slots_at, with_changed, bus_of, kid_name, strong_in, Given, index_from, refusal_by, refusal_of, slot_given, is_of, Spot, Wanted, drafted, fitted, joined, link_named, name_for, parent_for, valued, with_given, property_named, edit, is_a, types, is_named, set_named}
 use Rattle.std.proofs.lemmas.Slice.Eq.{bytes_eq-Decides}
-use Rattle.qo_values.specs.declared.codes.Code.{Code}
-use Rattle.qo_values.specs.declared.codes.Code.TheVariants.{E18}
-use Rattle.qo_values.specs.declared.kinds.TypeId.{TypeId}
-use Rattle.qo_values.specs.declared.kinds.TypeId.TheVariants.{Object, Container, Machine, Device, SlotDevice, SlotUart, SlotTimer, SlotBridge, MemDimm, Bus, SlotBus, MemBus, Clock, MemoryBackend, MemoryBackendRam, Tag}
-use Rattle.qo_values.specs.declared.properties.Val.{Val}
 use Rattle.qo_values.specs.declared.properties.Val.TheVariants as val
-use Rattle.qo_model.specs.Board.{Board, Record, Slot, child, strong, record_of, slots_at}
-use Rattle.qo_model.specs.Changes.{with_changed}
-use Rattle.qo_model.specs.Devices.{bus_of, kid_name, strong_in}
-use Rattle.qo_model.specs.Objects.{Given, index_from, refusal_by, refusal_of, slot_given}
-use Rattle.qo_model.specs.Paths.{is_of}
-use Rattle.qo_model.specs.Plug.{Spot, Wanted, drafted, fitted, joined, link_named, name_for, parent_for, valued, with_given}
-use Rattle.qo_model.specs.Properties.{property_named}
-use Rattle.qo_model.specs.Release.{edit}
-use Rattle.qo_model.specs.Types.{is_a, types}
-use Rattle.qo_model.specs.Unplug.{is_named, set_named}
+use Rattle.qo_values.proofs.EachLemmas.{each}
 use Rattle.qo_model.proofs.FirstSlotLemmas.{named_in, first-changed, none-found}
 use Rattle.qo_sound.proofs.FirmBoardLemmas.{Firm}
 use Rattle.qo_sound_devices.proofs.DropLemmas.{edited-slots}
@@ -60,22 +45,7 @@ slot-given b props name s none (x ∷ slots) e = go (bytes_eq x.0 name) refl (sl
 -- it is no property that may be given
 parent-row : (t : TypeId) (v : Val) (b : Board) → is_a t (codes "device") ≡ true → refusal_by b (property_named t (codes "parent_bus")) v ≡ Some E18
 unfolding types
-parent-row Object v b e = absurd (let clash : false ≡ true = e in cc)
-parent-row Container v b e = absurd (let clash : false ≡ true = e in cc)
-parent-row Machine v b e = absurd (let clash : false ≡ true = e in cc)
-parent-row Device v b e = refl
-parent-row SlotDevice v b e = refl
-parent-row SlotUart v b e = refl
-parent-row SlotTimer v b e = refl
-parent-row SlotBridge v b e = refl
-parent-row MemDimm v b e = refl
-parent-row Bus v b e = absurd (let clash : false ≡ true = e in cc)
-parent-row SlotBus v b e = absurd (let clash : false ≡ true = e in cc)
-parent-row MemBus v b e = absurd (let clash : false ≡ true = e in cc)
-parent-row Clock v b e = absurd (let clash : false ≡ true = e in cc)
-parent-row MemoryBackend v b e = absurd (let clash : false ≡ true = e in cc)
-parent-row MemoryBackendRam v b e = absurd (let clash : false ≡ true = e in cc)
-parent-row Tag v b e = absurd (let clash : false ≡ true = e in cc)
+parent-row = each (λ (t : TypeId). (v : Val) (b : Board) → is_a t (codes "device") ≡ true → refusal_by b (property_named t (codes "parent_bus")) v ≡ Some E18) (search rules)
 
 none-given : (b : Board) (t : TypeId) → is_a t (codes "device") ≡ true → (props : List Given) → refusal_of b t props ≡ None
     → find (λ (p : Given). bytes_eq p.0 (codes "parent_bus")) props ≡ None

@@ -1,18 +1,9 @@
 -- `object-del` and `x-sever` keep places.
 use Rattle.std.proofs.Common.{◌⊎◌, nat_eq, ◌≡◌, refl, ap, sym, subst, ◌∙◌, ℕ, leb, eqb, Bool, true, false, List, [], ◌∷◌, slice_get, length, Option, Some, None, is_some, option_map, codes}
-use Rattle.std.specs.List.{list_any}
-use Rattle.std.specs.Option.{option_map_or}
-use Rattle.std.specs.Str.{bytes_eq}
+use Rattle.qo_model.proofs.Common.{list_any, option_map_or, bytes_eq, MACHINE_BIRTH, OBJECTS_BIRTH, TypeId, Board, Record, Slot, plain, child, strong, weak, alias, slots_at, slot_at, among, is_object_named, object_del, sever, severed_from, attached, child_of, is_of, after, drop_slot, finalize, let_go, pin, put_in_order, unpin, without_first, without_pin, SoundGraph}
 use Rattle.std.proofs.lemmas.Option.{same_Some}
 use Rattle.std.proofs.Math.Bool.{or-true}
-use Rattle.qo_values.specs.declared.births.TheConstants.{MACHINE_BIRTH, OBJECTS_BIRTH}
-use Rattle.qo_values.specs.declared.kinds.TypeId.{TypeId}
-use Rattle.qo_model.specs.Board.{Board, Record, Slot, plain, child, strong, weak, alias, slots_at, slot_at, held}
-use Rattle.qo_model.specs.Depth.{among}
-use Rattle.qo_model.specs.Objects.{is_object_named, object_del, sever, severed_from}
-use Rattle.qo_model.specs.Paths.{attached, child_of, is_of}
-use Rattle.qo_model.specs.Release.{after, drop_slot, finalize, let_go, pin, put_in_order, unpin, without_first, without_pin}
-use Rattle.qo_model.specs.SoundGraph.{SoundGraph}
+use Rattle.qo_model.specs.Board.{held}
 use Rattle.qo_model.proofs.ComesToLemmas.{deletion-comes, sever-comes, severed-comes}
 use Rattle.qo_model.proofs.EditLemmas.{StandsAt, stands-at}
 use Rattle.qo_sound.proofs.ChangeLemmas.{near-deleted, near-unlinked}

@@ -1,19 +1,9 @@
 -- A device leaves its bus whole, and its container.
 use Rattle.std.proofs.Common.{◌⊎◌, inl, inr, ◌≡◌, ◌≢◌, refl, ap, ap₂, sym, subst, ◌∙◌, ℕ, ◌≤◌, Bool, true, false, ◌||◌, ◌==◌, List, [], ◌∷◌, filter_map, find, slice_get, sum_by, Option, Some, None, option_map, option_and_then, arith, codes}
-use Rattle.std.specs.List.{AllByRecursion}
-use Rattle.std.specs.Option.{option_map_or}
-use Rattle.std.specs.Str.{bytes_eq}
+use Rattle.qo_model.proofs.Common.{AllByRecursion, option_map_or, bytes_eq, ANONYMOUS_BIRTH, MACHINE_BIRTH, PERIPHERAL_BIRTH, Board, Record, Slot, plain, child, strong, weak, alias, record_of, is_live, slots_at, slot_at, among, bus_of, is_realized, strong_in, index_from, child_of, is_of, after, drop_slot, finalize, let_go, with_dropped, is_child_slot, is_named, left_bus, left_parent, let_go_where, names_kid, take_where, is_open}
 use Rattle.std.proofs.lemmas.Bool.{eqb-true, eq-eqb, false_from_ne_true}
 use Rattle.std.proofs.lemmas.Option.{same_Some}
-use Rattle.qo_values.specs.declared.births.TheConstants.{ANONYMOUS_BIRTH, MACHINE_BIRTH, PERIPHERAL_BIRTH}
-use Rattle.qo_model.specs.Board.{Board, Record, Slot, plain, child, strong, weak, alias, record_of, is_live, slots_at, slot_at, held}
-use Rattle.qo_model.specs.Depth.{among}
-use Rattle.qo_model.specs.Devices.{bus_of, is_realized, strong_in}
-use Rattle.qo_model.specs.Objects.{index_from}
-use Rattle.qo_model.specs.Paths.{child_of, is_of}
-use Rattle.qo_model.specs.Release.{after, drop_slot, finalize, let_go, with_dropped}
-use Rattle.qo_model.specs.Unplug.{is_child_slot, is_named, left_bus, left_parent, let_go_where, names_kid, take_where}
-use Rattle.qo_model.specs.SoundAliases.{is_open}
+use Rattle.qo_model.specs.Board.{held}
 use Rattle.qo_model.proofs.FirstSlotLemmas.{Found, found-at, first-found}
 use Rattle.qo_model.proofs.ReleaseLemmas.{found-within}
 use Rattle.qo_sound.proofs.FirmBoardLemmas.{Firm, parents_in}

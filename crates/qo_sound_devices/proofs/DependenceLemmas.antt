@@ -1,15 +1,6 @@
 -- Places speak of objects and of the number of accepted adds alone; so what changes other things keeps them.
 use Rattle.std.proofs.Common.{◌≡◌, refl, ap, sym, subst, ◌∙◌, ℕ, ◌≤◌, Bool, true, false, ◌==◌, List, [], find, map, sum_by, option_map, Option, Some, None, is_some, arith}
-use Rattle.std.specs.List.{AllByRecursion}
-use Rattle.std.specs.Option.{option_map_or}
-use Rattle.qo_values.specs.declared.births.TheConstants.{MACHINE_BIRTH}
-use Rattle.qo_values.specs.declared.kinds.TypeId.{TypeId}
-use Rattle.qo_model.specs.Board.{Board, Record}
-use Rattle.qo_model.specs.Depth.{among, Leads}
-use Rattle.qo_model.specs.Hotplug.{asked, asked_of, device_at, refused, with_asked}
-use Rattle.qo_model.specs.Paths.{attached, births, children_in}
-use Rattle.qo_model.specs.Plug.{notice_barred}
-use Rattle.qo_model.specs.SoundGraph.{Rises}
+use Rattle.qo_model.proofs.Common.{AllByRecursion, option_map_or, MACHINE_BIRTH, TypeId, Board, Record, among, Leads, asked, asked_of, device_at, refused, with_asked, attached, births, children_in, notice_barred, Rises}
 use Rattle.qo_model.proofs.StepLemmas.{found_at}
 use Rattle.qo_sound.proofs.FirmBoardLemmas.{AllLinked, Firm, HasNames, parents_in}
 use Rattle.qo_values.proofs.ListLemmas.{all-imply}

@@ -1,16 +1,8 @@
 -- Places after unrealizing: the recursion goes deep enough, and what is left of places.
 use Rattle.std.proofs.Common.{◌≡◌, refl, ap, sym, subst, ◌∙◌, ℕ, zero, suc, ◌+◌, ◌≤◌, Bool, true, false, not, ◌&&◌, ◌||◌, ◌==◌, eqb, List, [], ◌∷◌, filter_map, length, Option, Some, None, arith, codes}
-use Rattle.std.specs.Bool.{⊤}
-use Rattle.std.specs.List.{AllByRecursion, list_any}
-use Rattle.std.specs.Str.{bytes_eq}
+use Rattle.qo_model.proofs.Common.{⊤, AllByRecursion, list_any, bytes_eq, ANONYMOUS_BIRTH, MACHINE_BIRTH, PERIPHERAL_BIRTH, Board, Slot, plain, child, strong, weak, alias, is_live, slots_at, among, bus_in, bus_of, buses_of, clock_name, is_realized, strong_in, births, is_of, unrealize, without_all}
 use Rattle.std.proofs.lemmas.Bool.{eqb-true}
 use Rattle.std.proofs.Math.Bool.{or-true}
-use Rattle.qo_values.specs.declared.births.TheConstants.{ANONYMOUS_BIRTH, MACHINE_BIRTH, PERIPHERAL_BIRTH}
-use Rattle.qo_model.specs.Board.{Board, Slot, plain, child, strong, weak, alias, is_live, slots_at}
-use Rattle.qo_model.specs.Depth.{among}
-use Rattle.qo_model.specs.Devices.{bus_in, bus_of, buses_of, clock_name, is_realized, strong_in}
-use Rattle.qo_model.specs.Paths.{births, is_of}
-use Rattle.qo_model.specs.Unplug.{unrealize, without_all}
 use Rattle.qo_model.proofs.StepLemmas.{live-among}
 use Rattle.qo_sound.proofs.FirmBoardLemmas.{Firm}
 use Rattle.qo_values.proofs.ListLemmas.{all-imply}

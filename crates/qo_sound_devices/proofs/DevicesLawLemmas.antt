@@ -1,10 +1,6 @@
 -- The law: what keeps a board sound as far as devices go.
 use Rattle.std.proofs.Common.{◌≡◌, refl, ℕ, Bool, true, false, List, [], ◌∷◌}
-use Rattle.qo_values.specs.declared.kinds.TypeId.{TypeId}
-use Rattle.qo_model.specs.Board.{Board, Notice}
-use Rattle.qo_model.specs.Depth.{among}
-use Rattle.qo_model.specs.Opening.{opening_board}
-use Rattle.qo_model.specs.Plug.{Wanted, cut_attempt, plug}
+use Rattle.qo_model.proofs.Common.{TypeId, Board, Notice, among, opening_board, Wanted, cut_attempt, plug}
 use Rattle.qo_sound.proofs.TreeKeptLemmas.{sound_kept_lem}
 use Rattle.qo_sound.proofs.ViewLemmas.{rest-from_sound}
 use Rattle.qo_sound_devices.specs.DeviceRuns.{DeviceStep, commands, adds, cuts, asks, refuses, lets_go, reads, acts, holds, releases, resets, sends, after_steps, notice_read, stepped}

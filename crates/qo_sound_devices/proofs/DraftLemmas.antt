@@ -1,27 +1,11 @@
 -- A new device is made, property by property: what was there stays as it was, and what is new is realized nowhere, has no kids and no id.
 use Rattle.std.proofs.Common.{◌≡◌, refl, rules, ap, sym, subst, ◌∙◌, ℕ, ◌+◌, ◌<◌, ◌≤◌, Bool, true, false, not, ◌&&◌, ◌||◌, ◌==◌, List, [], ◌∷◌, ◌++◌, filter_map, Option, Some, None, is_some, option_map, option_and_then, codes, arith}
-use Rattle.std.specs.Bool.{⊤}
-use Rattle.std.specs.Prelude.{if◌then◌else◌}
-use Rattle.std.specs.List.{AllByRecursion, cons_option, list_any}
-use Rattle.std.specs.Option.{option_map_or, option_or}
-use Rattle.std.specs.Str.{bytes_eq}
+use Rattle.qo_model.proofs.Common.{⊤, if◌then◌else◌, AllByRecursion, cons_option, list_any, option_map_or, option_or, bytes_eq, TypeId, SlotBridge, Board, Record, Slot, plain, child, strong, weak, alias, record_of, kind_of, is_live, slots_at, add, fresh, with_added, clock_name, is_true, plain_in, first_value, fresh_record, child_of, is_of, aliased, drafted, owned, property_made, properties_made, with_new, edited, is_open, property_name, is_a, slots_of, types}
+use Rattle.qo_model.specs.declared.properties.Property.{Property}
+use Rattle.qo_model.specs.declared.properties.PropertyRole.{PropertyRole}
 use Rattle.std.proofs.lemmas.Bool.{eqb-true, eq-eqb}
 use Rattle.std.proofs.lemmas.Option.{same_Some}
 use Rattle.std.proofs.lemmas.List.Folds.{find-append}
-use Rattle.qo_values.specs.declared.kinds.TypeId.{TypeId}
-use Rattle.qo_values.specs.declared.kinds.TypeId.TheVariants.{Object, Container, Machine, Device, SlotDevice, SlotUart, SlotTimer, SlotBridge, MemDimm, Bus, SlotBus, MemBus, Clock, MemoryBackend, MemoryBackendRam, Tag}
-use Rattle.qo_model.specs.Board.{Board, Record, Slot, plain, child, strong, weak, alias, record_of, kind_of, is_live, slots_at}
-use Rattle.qo_model.specs.Changes.{add, fresh, with_added}
-use Rattle.qo_model.specs.Devices.{clock_name, is_true, plain_in}
-use Rattle.qo_model.specs.Opening.{first_value, fresh_record}
-use Rattle.qo_model.specs.Paths.{child_of, is_of}
-use Rattle.qo_model.specs.Plug.{aliased, drafted, owned, property_made, properties_made, with_new}
-use Rattle.qo_model.specs.Release.{edited}
-use Rattle.qo_model.specs.SoundAliases.{is_open}
-use Rattle.qo_model.specs.RowNames.{property_name}
-use Rattle.qo_model.specs.Types.{is_a, slots_of, types}
-use Rattle.qo_model.specs.declared.properties.Property.{Property}
-use Rattle.qo_model.specs.declared.properties.PropertyRole.{PropertyRole}
 use Rattle.qo_model.specs.declared.properties.PropertyRole.TheVariants as row
 use Rattle.qo_model.proofs.FirstSlotLemmas.{named_in}
 use Rattle.qo_model.proofs.StepLemmas.{found_at, found-edited}
@@ -30,6 +14,7 @@ use Rattle.qo_sound.proofs.FirmBoardLemmas.{Firm}
 use Rattle.qo_sound.proofs.NewSlotLemmas.{slots_for}
 use Rattle.qo_sound.proofs.RecordLemmas.{all-append}
 use Rattle.qo_values.proofs.ListLemmas.{all-imply}
+use Rattle.qo_values.proofs.EachLemmas.{each}
 use Rattle.qo_sound.proofs.TestLemmas.{decide}
 use Rattle.qo_sound.proofs.WorkLemmas.{Nearly}
 use Rattle.qo_sound_devices.specs.SoundPlaces.{child_entries, child_entry, id_of, kid_entry, listed, owns, owns_it}
@@ -150,22 +135,7 @@ RowsBlank t ps = AllByRecursion (λ (p : Property). RowBlank t (property_name p.
 
 rows-blank : (t : TypeId) → RowsBlank t (slots_of t)
 unfolding types
-rows-blank Object = search rules
-rows-blank Container = search rules
-rows-blank Machine = search rules
-rows-blank Device = search rules
-rows-blank SlotDevice = search rules
-rows-blank SlotUart = search rules
-rows-blank SlotTimer = search rules
-rows-blank SlotBridge = search rules
-rows-blank MemDimm = search rules
-rows-blank Bus = search rules
-rows-blank SlotBus = search rules
-rows-blank MemBus = search rules
-rows-blank Clock = search rules
-rows-blank MemoryBackend = search rules
-rows-blank MemoryBackendRam = search rules
-rows-blank Tag = search rules
+rows-blank = each (λ (t : TypeId). RowsBlank t (slots_of t)) (search rules)
 
 first-blank : (b : Board) (t : TypeId) (ps : List Property) → RowsBlank t ps → IsBlank b (slots_for t ps)
 first-blank b t [] h = tt

@@ -1,16 +1,9 @@
 -- Places after an edit of one object, and after a slot of it that is let go.
 use Rattle.std.proofs.Common.{◌⊎◌, inl, inr, ◌≡◌, refl, ap, sym, subst, ◌∙◌, ℕ, zero, suc, Bool, true, false, ◌==◌, List, [], ◌∷◌, filter_map, slice_get, Option, Some, None, is_some, option_map, option_and_then, codes}
-use Rattle.std.specs.List.{AllByRecursion, cons_option, IsDistinct}
-use Rattle.std.specs.Option.{option_map_or}
-use Rattle.std.specs.Str.{bytes_eq}
+use Rattle.qo_model.proofs.Common.{AllByRecursion, cons_option, IsDistinct, option_map_or, bytes_eq, Val, Board, Record, Slot, plain, child, strong, weak, alias, record_of, is_live, slots_at, bus_of, is_realized, is_true, number_in, bus_slot_of, plain_in, strong_in, child_of, is_of, drop_slot, edit, edited, with_dropped, without_hold}
 use Rattle.std.proofs.lemmas.Bool.{eqb-true, eq-eqb}
 use Rattle.std.proofs.lemmas.Option.{same_Some}
 use Rattle.std.proofs.lemmas.Slice.Eq.{bytes_eq-Decides}
-use Rattle.qo_values.specs.declared.properties.Val.{Val}
-use Rattle.qo_model.specs.Board.{Board, Record, Slot, plain, child, strong, weak, alias, record_of, is_live, slots_at}
-use Rattle.qo_model.specs.Devices.{bus_of, is_realized, is_true, number_in, bus_slot_of, plain_in, strong_in}
-use Rattle.qo_model.specs.Paths.{child_of, is_of}
-use Rattle.qo_model.specs.Release.{drop_slot, edit, edited, with_dropped, without_hold}
 use Rattle.qo_model.proofs.FirstSlotLemmas.{named_in}
 use Rattle.qo_model.proofs.StepLemmas.{found-edited, is_some-map, found-birth, map-edited}
 use Rattle.qo_sound.proofs.SearchLemmas.{all-found}

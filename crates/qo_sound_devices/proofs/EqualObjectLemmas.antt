@@ -1,14 +1,6 @@
 -- What changes no object keeps the tree, the places and the lists sound.
 use Rattle.std.proofs.Common.{◌≡◌, refl, ap, sym, subst, ◌∙◌, ℕ, Bool, true, false, ◌==◌, List, [], ◌∷◌, find, map, Option, Some, None, is_some, arith}
-use Rattle.qo_values.specs.declared.births.TheConstants.{ANONYMOUS_BIRTH, PERIPHERAL_BIRTH}
-use Rattle.qo_values.specs.declared.kinds.TypeId.{TypeId}
-use Rattle.qo_model.specs.Board.{Board, Notice, Record}
-use Rattle.qo_model.specs.Depth.{among}
-use Rattle.qo_model.specs.Hotplug.{asked, asked_of, device_at, refused, with_asked}
-use Rattle.qo_model.specs.Objects.{with_attempt}
-use Rattle.qo_model.specs.Paths.{attached}
-use Rattle.qo_model.specs.Plug.{notice_barred, plug_attempt}
-use Rattle.qo_model.specs.SoundGraph.{GraphFacts, graph_of, without_values}
+use Rattle.qo_model.proofs.Common.{ANONYMOUS_BIRTH, PERIPHERAL_BIRTH, TypeId, Board, Notice, Record, among, asked, asked_of, device_at, refused, with_asked, with_attempt, attached, notice_barred, plug_attempt, GraphFacts, graph_of, without_values}
 use Rattle.qo_model.proofs.TreeLemmas.{frame_lem}
 use Rattle.qo_sound.specs.TreeKept.{SoundTree}
 use Rattle.qo_sound.proofs.TreeKeptLemmas.{sound_kept_lem}

@@ -1,15 +1,8 @@
 -- What the soundness of devices says of them, from the facts of places.
 use Rattle.std.proofs.Common.{◌≡◌, refl, ap, sym, subst, ◌∙◌, ℕ, ◌≤◌, Bool, true, false, ◌==◌, List, [], ◌∷◌, filter_map, Option, Some, None, option_and_then, codes, arith}
-use Rattle.std.specs.List.{AllByRecursion, IsDistinct}
-use Rattle.std.specs.Option.{option_map_or}
-use Rattle.std.specs.Str.{bytes_eq}
+use Rattle.qo_model.proofs.Common.{AllByRecursion, IsDistinct, option_map_or, bytes_eq, ANONYMOUS_BIRTH, PERIPHERAL_BIRTH, BUS_DEPTH_MAX, Board, Record, Slot, plain, child, strong, weak, alias, record_of, depth_of, is_realized, strong_at, strong_in, attached, canonical, is_of}
 use Rattle.std.proofs.lemmas.Slice.Eq.{bytes_eq-Decides}
 use Rattle.std.proofs.lemmas.Bool.{eqb-true}
-use Rattle.qo_values.specs.declared.births.TheConstants.{ANONYMOUS_BIRTH, PERIPHERAL_BIRTH}
-use Rattle.qo_values.specs.declared.limits.TheConstants.{BUS_DEPTH_MAX}
-use Rattle.qo_model.specs.Board.{Board, Record, Slot, plain, child, strong, weak, alias, record_of}
-use Rattle.qo_model.specs.Devices.{depth_of, is_realized, strong_at, strong_in}
-use Rattle.qo_model.specs.Paths.{attached, canonical, is_of}
 use Rattle.qo_model.proofs.FirstSlotLemmas.{named_in}
 use Rattle.qo_sound.proofs.FirmBoardLemmas.{Firm}
 use Rattle.qo_sound.proofs.SlotLemmas.{names_in}

@@ -1,56 +1,17 @@
 -- What an accepted add shows of where its device goes.
-use Rattle.std.proofs.Common.{◌≡◌, refl, ℕ, zero, suc, ◌+◌, ◌<◌, Bool, true, false, Option, Some, None, arith, codes}
-use Rattle.std.specs.Prelude.{nat_lt}
-use Rattle.std.specs.Option.{option_map_or}
+use Rattle.std.proofs.Common.{rules, ◌≡◌, refl, ℕ, zero, suc, ◌+◌, ◌<◌, Bool, true, false, Option, Some, None, arith, codes}
+use Rattle.qo_model.proofs.Common.{nat_lt, option_map_or, least, E28, E29, E30, TypeId, BUS_SLOTS, Board, kind_of, is_of, bus_type, code_in, is_free, ok_or_zero, bus_slot_for, is_a, types}
 use Rattle.std.proofs.lemmas.Option.{same_Some}
-use Rattle.qo_values.specs.Placing.{least}
-use Rattle.qo_values.specs.declared.codes.Code.TheVariants.{E28, E29, E30}
-use Rattle.qo_values.specs.declared.kinds.TypeId.{TypeId}
-use Rattle.qo_values.specs.declared.limits.TheConstants.{BUS_SLOTS}
-use Rattle.qo_values.specs.declared.kinds.TypeId.TheVariants.{Object, Container, Machine, Device, SlotDevice, SlotUart, SlotTimer, SlotBridge, MemDimm, Bus, SlotBus, MemBus, Clock, MemoryBackend, MemoryBackendRam, Tag}
-use Rattle.qo_model.specs.Board.{Board, kind_of}
-use Rattle.qo_model.specs.Paths.{is_of}
-use Rattle.qo_model.specs.Plug.{bus_type, code_in, is_free, ok_or_zero, bus_slot_for}
-use Rattle.qo_model.specs.Types.{is_a, types}
+use Rattle.qo_values.proofs.EachLemmas.{each}
 
 -- what is of a device's type of bus is a bus
 slot-is_bus : (k : TypeId) → is_a k (codes "slot-bus") ≡ true → is_a k (codes "bus") ≡ true
 unfolding types
-slot-is_bus Object e = absurd (let clash : false ≡ true = e in cc)
-slot-is_bus Container e = absurd (let clash : false ≡ true = e in cc)
-slot-is_bus Machine e = absurd (let clash : false ≡ true = e in cc)
-slot-is_bus Device e = absurd (let clash : false ≡ true = e in cc)
-slot-is_bus SlotDevice e = absurd (let clash : false ≡ true = e in cc)
-slot-is_bus SlotUart e = absurd (let clash : false ≡ true = e in cc)
-slot-is_bus SlotTimer e = absurd (let clash : false ≡ true = e in cc)
-slot-is_bus SlotBridge e = absurd (let clash : false ≡ true = e in cc)
-slot-is_bus MemDimm e = absurd (let clash : false ≡ true = e in cc)
-slot-is_bus Bus e = refl
-slot-is_bus SlotBus e = refl
-slot-is_bus MemBus e = refl
-slot-is_bus Clock e = absurd (let clash : false ≡ true = e in cc)
-slot-is_bus MemoryBackend e = absurd (let clash : false ≡ true = e in cc)
-slot-is_bus MemoryBackendRam e = absurd (let clash : false ≡ true = e in cc)
-slot-is_bus Tag e = absurd (let clash : false ≡ true = e in cc)
+slot-is_bus = each (λ (k : TypeId). is_a k (codes "slot-bus") ≡ true → is_a k (codes "bus") ≡ true) (search rules)
 
 mem-is_bus : (k : TypeId) → is_a k (codes "mem-bus") ≡ true → is_a k (codes "bus") ≡ true
 unfolding types
-mem-is_bus Object e = absurd (let clash : false ≡ true = e in cc)
-mem-is_bus Container e = absurd (let clash : false ≡ true = e in cc)
-mem-is_bus Machine e = absurd (let clash : false ≡ true = e in cc)
-mem-is_bus Device e = absurd (let clash : false ≡ true = e in cc)
-mem-is_bus SlotDevice e = absurd (let clash : false ≡ true = e in cc)
-mem-is_bus SlotUart e = absurd (let clash : false ≡ true = e in cc)
-mem-is_bus SlotTimer e = absurd (let clash : false ≡ true = e in cc)
-mem-is_bus SlotBridge e = absurd (let clash : false ≡ true = e in cc)
-mem-is_bus MemDimm e = absurd (let clash : false ≡ true = e in cc)
-mem-is_bus Bus e = refl
-mem-is_bus SlotBus e = refl
-mem-is_bus MemBus e = refl
-mem-is_bus Clock e = absurd (let clash : false ≡ true = e in cc)
-mem-is_bus MemoryBackend e = absurd (let clash : false ≡ true = e in cc)
-mem-is_bus MemoryBackendRam e = absurd (let clash : false ≡ true = e in cc)
-mem-is_bus Tag e = absurd (let clash : false ≡ true = e in cc)
+mem-is_bus = each (λ (k : TypeId). is_a k (codes "mem-bus") ≡ true → is_a k (codes "bus") ≡ true) (search rules)
 
 pub fits-bus : (b : Board) (t : TypeId) (q : ℕ) → is_of b (bus_type t) q ≡ true → is_of b (codes "bus") q ≡ true
 fits-bus b t q e = go (kind_of b q) e (is_a t (codes "slot-device")) refl

@@ -1,18 +1,7 @@
 -- A device that was made is joined to its container and to its bus.
 use Rattle.std.proofs.Common.{◌≡◌, refl, ap, ap₂, sym, subst, ◌∙◌, ℕ, Bool, true, false, ◌==◌, eqb, List, [], ◌∷◌, ◌++◌, filter_map, find, Option, Some, None, is_some, option_map, option_and_then, codes, append-nil}
-use Rattle.std.specs.Option.{option_map_or}
-use Rattle.std.specs.Str.{bytes_eq}
+use Rattle.qo_model.proofs.Common.{option_map_or, bytes_eq, ANONYMOUS_BIRTH, MACHINE_BIRTH, PERIPHERAL_BIRTH, TypeId, Device, Val, Board, Record, Slot, child, strong, record_of, kind_of, is_live, slots_at, add, with_added, among, bus_of, is_realized, is_true, kid_name, number_in, bus_slot_of, plain_in, strong_in, joined, name_for, parent_for, Spot, Wanted, edited}
 use Rattle.std.proofs.lemmas.Bool.{eqb-true}
-use Rattle.qo_values.specs.declared.births.TheConstants.{ANONYMOUS_BIRTH, MACHINE_BIRTH, PERIPHERAL_BIRTH}
-use Rattle.qo_values.specs.declared.kinds.TypeId.{TypeId}
-use Rattle.qo_values.specs.declared.kinds.TypeId.TheVariants.{Device}
-use Rattle.qo_values.specs.declared.properties.Val.{Val}
-use Rattle.qo_model.specs.Board.{Board, Record, Slot, child, strong, record_of, kind_of, is_live, slots_at}
-use Rattle.qo_model.specs.Changes.{add, with_added}
-use Rattle.qo_model.specs.Depth.{among}
-use Rattle.qo_model.specs.Devices.{bus_of, is_realized, is_true, kid_name, number_in, bus_slot_of, plain_in, strong_in}
-use Rattle.qo_model.specs.Plug.{joined, name_for, parent_for, Spot, Wanted}
-use Rattle.qo_model.specs.Release.{edited}
 use Rattle.qo_model.proofs.FirstSlotLemmas.{slots_in, named_in}
 use Rattle.qo_model.proofs.StepLemmas.{found-edited}
 use Rattle.qo_sound.proofs.DraftLemmas.{live-apart}

@@ -1,8 +1,6 @@
 -- The law: what keeps the places of devices sound.
 use Rattle.std.proofs.Common.{ℕ, false, List, [], ◌∷◌, None}
-use Rattle.qo_model.specs.Board.{Board}
-use Rattle.qo_model.specs.FinalNotesRuns.{Change, added, after_changes, deleted, wrote, severed, changed}
-use Rattle.qo_model.specs.Opening.{opening_board}
+use Rattle.qo_model.proofs.Common.{Board, Change, added, after_changes, deleted, wrote, severed, changed, opening_board}
 use Rattle.qo_sound.specs.TreeKept.{SoundTree}
 use Rattle.qo_sound.proofs.FirmBoardLemmas.{Firm}
 use Rattle.qo_sound.proofs.TreeKeptLemmas.{changed-sound, sound_kept_lem}

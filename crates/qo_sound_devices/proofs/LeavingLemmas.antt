@@ -1,21 +1,9 @@
 -- A device leaves its bus, and its container.
 use Rattle.std.proofs.Common.{inl, inr, ◌≡◌, ◌≢◌, refl, ap, sym, subst, ◌∙◌, ℕ, zero, suc, Bool, true, false, ◌||◌, ◌==◌, List, [], ◌∷◌, filter_map, find, slice_get, Option, Some, None, option_map, option_and_then, codes}
-use Rattle.std.specs.List.{AllByRecursion, cons_option, IsDistinct}
-use Rattle.std.specs.Option.{option_map_or}
-use Rattle.std.specs.Str.{bytes_eq}
+use Rattle.qo_model.proofs.Common.{AllByRecursion, cons_option, IsDistinct, option_map_or, bytes_eq, ANONYMOUS_BIRTH, MACHINE_BIRTH, PERIPHERAL_BIRTH, TypeId, Board, Record, Slot, plain, child, strong, weak, alias, record_of, is_live, slots_at, slot_at, cut, among, bus_of, kid_name, bus_slot_of, strong_in, index_from, child_of, is_of, after, drop_slot, finalize, with_dropped, without_hold, is_named, names_kid, take_slot, take_where}
 use Rattle.std.proofs.lemmas.Bool.{eqb-true, eq-eqb, false_from_ne_true}
 use Rattle.std.proofs.lemmas.Option.{same_Some}
 use Rattle.std.proofs.lemmas.Slice.Eq.{bytes_eq-Decides}
-use Rattle.qo_values.specs.declared.births.TheConstants.{ANONYMOUS_BIRTH, MACHINE_BIRTH, PERIPHERAL_BIRTH}
-use Rattle.qo_values.specs.declared.kinds.TypeId.{TypeId}
-use Rattle.qo_model.specs.Board.{Board, Record, Slot, plain, child, strong, weak, alias, record_of, is_live, slots_at, slot_at}
-use Rattle.qo_model.specs.Changes.{cut}
-use Rattle.qo_model.specs.Depth.{among}
-use Rattle.qo_model.specs.Devices.{bus_of, kid_name, bus_slot_of, strong_in}
-use Rattle.qo_model.specs.Objects.{index_from}
-use Rattle.qo_model.specs.Paths.{child_of, is_of}
-use Rattle.qo_model.specs.Release.{after, drop_slot, finalize, with_dropped, without_hold}
-use Rattle.qo_model.specs.Unplug.{is_named, names_kid, take_slot, take_where}
 use Rattle.qo_model.proofs.EditLemmas.{StandsAt, stands-at}
 use Rattle.qo_model.proofs.FirstSlotLemmas.{Found, found-at, none-found}
 use Rattle.qo_sound.proofs.CutLemmas.{near-cut}

@@ -1,16 +1,7 @@
 -- What of an object its place speaks of, and that a release leaves it on each object that is still there.
 use Rattle.std.proofs.Common.{◌≡◌, refl, ap, ap₂, sym, subst, ◌∙◌, ℕ, Bool, true, false, ◌==◌, eqb, List, [], ◌∷◌, find, filter_map, Option, Some, None, option_map, option_and_then, codes}
-use Rattle.std.specs.List.{cons_option}
-use Rattle.std.specs.Option.{option_map_or}
-use Rattle.std.specs.Str.{bytes_eq}
+use Rattle.qo_model.proofs.Common.{cons_option, option_map_or, bytes_eq, bare, Val, Board, Record, Slot, plain, child, strong, weak, alias, record_of, is_live, slots_at, among, bus_of, is_realized, is_true, number_in, bus_slot_of, plain_in, strong_in, after, drop_slot, edited, finalize, finish, forgotten, forgotten_in, with_dropped, KeepsRelease}
 use Rattle.std.proofs.lemmas.Bool.{eqb-true}
-use Rattle.qo_values.specs.Registers.{bare}
-use Rattle.qo_values.specs.declared.properties.Val.{Val}
-use Rattle.qo_model.specs.Board.{Board, Record, Slot, plain, child, strong, weak, alias, record_of, is_live, slots_at}
-use Rattle.qo_model.specs.Depth.{among}
-use Rattle.qo_model.specs.Devices.{bus_of, is_realized, is_true, number_in, bus_slot_of, plain_in, strong_in}
-use Rattle.qo_model.specs.Release.{after, drop_slot, edited, finalize, finish, forgotten, forgotten_in, with_dropped}
-use Rattle.qo_model.specs.ReleaseInduction.{KeepsRelease}
 use Rattle.qo_model.proofs.FirstSlotLemmas.{slots_in, named_in}
 use Rattle.qo_model.proofs.ReleaseInductionLemmas.{after_keeps}
 use Rattle.qo_model.proofs.StepLemmas.{drop-live, drop-record, finish-live, finish-record}

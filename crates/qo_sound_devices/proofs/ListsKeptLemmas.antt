@@ -1,25 +1,10 @@
 -- What keeps the lists of pending removals and of notices: commands, attempts, removals that are asked for or refused, and adding a device.
 use Rattle.std.proofs.Common.{nat_eq, ◌≡◌, refl, ap, sym, subst, ◌∙◌, ℕ, ◌+◌, ◌<◌, ◌≤◌, Bool, true, false, not, ◌||◌, ◌==◌, eqb, List, [], ◌∷◌, ◌++◌, filter_map, find, length, Option, Some, None, option_map, option_and_then, codes, arith}
-use Rattle.std.specs.Prelude.{nat_le}
-use Rattle.std.specs.List.{AllByRecursion, IsDistinct}
-use Rattle.std.specs.Str.{bytes_eq}
+use Rattle.qo_model.proofs.Common.{nat_le, AllByRecursion, IsDistinct, bytes_eq, PERIPHERAL_BIRTH, Code, E44, TypeId, NOTICES_MAX, Board, Notice, Slot, plain, child, strong, weak, alias, slots_at, among, Change, changed, asked, asked_of, device_at, refused, with_asked, with_attempt, opening_board, attached, child_of, components, is_absolute, is_of, only_of, resolve_absolute, walk, Wanted, cut_attempt, notice_barred, plug, plug_attempt, spot_of, with_plugged}
 use Rattle.std.proofs.lemmas.Bool.{eq-eqb}
 use Rattle.std.proofs.lemmas.List.{length-append}
 use Rattle.std.proofs.lemmas.Option.{same_Some}
 use Rattle.std.proofs.Math.Bool.{or-true}
-use Rattle.qo_values.specs.declared.births.TheConstants.{PERIPHERAL_BIRTH}
-use Rattle.qo_values.specs.declared.codes.Code.{Code}
-use Rattle.qo_values.specs.declared.codes.Code.TheVariants.{E44}
-use Rattle.qo_values.specs.declared.kinds.TypeId.{TypeId}
-use Rattle.qo_values.specs.declared.limits.TheConstants.{NOTICES_MAX}
-use Rattle.qo_model.specs.Board.{Board, Notice, Slot, plain, child, strong, weak, alias, slots_at}
-use Rattle.qo_model.specs.Depth.{among}
-use Rattle.qo_model.specs.FinalNotesRuns.{Change, changed}
-use Rattle.qo_model.specs.Hotplug.{asked, asked_of, device_at, refused, with_asked}
-use Rattle.qo_model.specs.Objects.{with_attempt}
-use Rattle.qo_model.specs.Opening.{opening_board}
-use Rattle.qo_model.specs.Paths.{attached, child_of, components, is_absolute, is_of, only_of, resolve_absolute, walk}
-use Rattle.qo_model.specs.Plug.{Wanted, cut_attempt, notice_barred, plug, plug_attempt, spot_of, with_plugged}
 use Rattle.qo_model.proofs.ChangeScopeLemmas.{stays_lem}
 use Rattle.qo_sound.proofs.AddLemmas.{unbarred}
 use Rattle.qo_sound.proofs.DeviceScopeLemmas.{devices_stay_lem}

@@ -1,8 +1,6 @@
 -- The law: what keeps the lists of pending removals and of notices.
 use Rattle.std.proofs.Common.{List, [], ◌∷◌}
-use Rattle.qo_model.specs.Board.{Board}
-use Rattle.qo_model.specs.FinalNotesRuns.{Change, after_changes, changed}
-use Rattle.qo_model.specs.Opening.{opening_board}
+use Rattle.qo_model.proofs.Common.{Board, Change, after_changes, changed, opening_board}
 use Rattle.qo_sound.proofs.TreeKeptLemmas.{changed-sound, sound_kept_lem}
 use Rattle.qo_sound.proofs.ViewLemmas.{AtRest, rest-from_sound}
 use Rattle.qo_sound_devices.specs.ListsKept.{ListsKeptLaw}

@@ -1,11 +1,8 @@
 -- Lists of devices that are kept, where fewer are in them and those that stay in them stay in their places.
 use Rattle.std.proofs.Common.{nat_eq, ◌≡◌, refl, ℕ, ◌≤◌, Bool, true, false, ◌||◌, ◌==◌, eqb, List, [], ◌∷◌, filter, length, None, arith}
-use Rattle.std.specs.List.{AllByRecursion, IsDistinct, list_any}
+use Rattle.qo_model.proofs.Common.{AllByRecursion, IsDistinct, list_any, NOTICES_MAX, Board, Notice, among}
 use Rattle.std.proofs.lemmas.Bool.{eq-eqb, or_left}
 use Rattle.std.proofs.Math.Bool.{or-true}
-use Rattle.qo_values.specs.declared.limits.TheConstants.{NOTICES_MAX}
-use Rattle.qo_model.specs.Board.{Board, Notice}
-use Rattle.qo_model.specs.Depth.{among}
 use Rattle.qo_sound.proofs.RecordLemmas.{all-both}
 use Rattle.qo_values.proofs.ListLemmas.{all-imply}
 use Rattle.qo_sound_devices.specs.SoundLists.{IsOn, SoundLists}

@@ -1,22 +1,12 @@
 -- Where objects stand in the tree: the place of a child, and what an attached bus and an attached device are.
 use Rattle.std.proofs.Common.{◌≡◌, refl, ap, sym, subst, ◌∙◌, ℕ, ◌<◌, ◌≤◌, Bool, true, false, ◌==◌, ◌&&◌, eqb, List, [], ◌∷◌, find, filter_map, sum_by, Option, Some, None, is_some, option_map, codes, arith}
-use Rattle.std.specs.List.{AllByRecursion, list_any}
-use Rattle.std.specs.Option.{option_map_or}
-use Rattle.std.specs.Str.{bytes_eq}
+use Rattle.qo_model.proofs.Common.{AllByRecursion, list_any, option_map_or, bytes_eq, ANONYMOUS_BIRTH, MACHINE_BIRTH, PERIPHERAL_BIRTH, TypeId, Container, Board, Record, Slot, plain, child, strong, weak, alias, among, clock_name, attached, attached_turn, is_child, is_of, place_of, Rises, SoundGraph, is_a, types}
 use Rattle.std.proofs.lemmas.Bool.{eqb-true, eq-eqb}
 use Rattle.std.proofs.lemmas.List.Sums.{sum_by-cons}
 use Rattle.std.proofs.lemmas.Option.{same_Some}
 use Rattle.std.proofs.lemmas.Slice.Eq.{bytes_eq-Decides}
 use Rattle.std.proofs.Math.Bool.{or-true}
-use Rattle.qo_values.specs.declared.births.TheConstants.{ANONYMOUS_BIRTH, MACHINE_BIRTH, PERIPHERAL_BIRTH}
-use Rattle.qo_values.specs.declared.kinds.TypeId.{TypeId}
-use Rattle.qo_values.specs.declared.kinds.TypeId.TheVariants.{Container}
-use Rattle.qo_model.specs.Board.{Board, Record, Slot, plain, child, strong, weak, alias}
-use Rattle.qo_model.specs.Depth.{among}
-use Rattle.qo_model.specs.Devices.{clock_name}
-use Rattle.qo_model.specs.Paths.{attached, attached_turn, is_child, is_of, place_in, place_of}
-use Rattle.qo_model.specs.SoundGraph.{Rises, SoundGraph}
-use Rattle.qo_model.specs.Types.{is_a, types}
+use Rattle.qo_model.specs.Paths.{place_in}
 use Rattle.qo_model.proofs.GraphLemmas.{births_at}
 use Rattle.qo_model.proofs.ReleaseLemmas.{found-within}
 use Rattle.qo_model.proofs.StepLemmas.{found_at}

@@ -1,17 +1,9 @@
 -- The path of a device that is added is the one below its container.
 use Rattle.std.proofs.Common.{◌≡◌, refl, ap, sym, ◌∙◌, ℕ, ◌+◌, true, false, ◌==◌, ◌&&◌, List, [], ◌∷◌, ◌++◌, Option, Some, None, option_map, codes}
-use Rattle.std.specs.Str.{bytes_eq}
+use Rattle.qo_model.proofs.Common.{bytes_eq, ANONYMOUS_BIRTH, MACHINE_BIRTH, PERIPHERAL_BIRTH, Realize, TypeId, Board, is_live, anonymous_name, place_of, path_down_to, path_turn, Spot, Wanted, bus_births, clocked, drafted, source_for, stood, with_device, SoundGraph}
 use Rattle.std.proofs.lemmas.Bool.{eqb-true, eq-eqb}
 use Rattle.std.proofs.lemmas.Slice.Eq.{bytes_eq-Decides}
 use Rattle.std.proofs.Math.Bool.{or-true}
-use Rattle.qo_values.specs.declared.births.TheConstants.{ANONYMOUS_BIRTH, MACHINE_BIRTH, PERIPHERAL_BIRTH}
-use Rattle.qo_values.specs.declared.kinds.Act.TheVariants.{Realize}
-use Rattle.qo_values.specs.declared.kinds.TypeId.{TypeId}
-use Rattle.qo_model.specs.Board.{Board, is_live}
-use Rattle.qo_model.specs.Devices.{anonymous_name}
-use Rattle.qo_model.specs.Paths.{place_of, path_down_to, path_turn}
-use Rattle.qo_model.specs.Plug.{Spot, Wanted, bus_births, clocked, drafted, source_for, stood, with_device}
-use Rattle.qo_model.specs.SoundGraph.{SoundGraph}
 use Rattle.qo_model.proofs.TreeLemmas.{paths_lem}
 use Rattle.qo_sound.proofs.FirmBoardLemmas.{Firm}
 use Rattle.qo_sound.proofs.PlugLemmas.{IsPlace, held-all, shut-above, sits-device, held-plugged}

@@ -1,12 +1,6 @@
 -- A pin changes nothing that is read of devices.
 use Rattle.std.proofs.Common.{◌≡◌, refl, ap, ℕ, false, List, Option}
-use Rattle.std.specs.Option.{option_map_or}
-use Rattle.qo_values.specs.declared.kinds.TypeId.{TypeId}
-use Rattle.qo_model.specs.Board.{Board, kind_of}
-use Rattle.qo_model.specs.Devices.{bus_of, clock_of, is_realized}
-use Rattle.qo_model.specs.Paths.{is_of}
-use Rattle.qo_model.specs.Release.{pin}
-use Rattle.qo_model.specs.Types.{is_a}
+use Rattle.qo_model.proofs.Common.{option_map_or, TypeId, Board, kind_of, bus_of, clock_of, is_realized, is_of, pin, is_a}
 use Rattle.qo_sound_devices.specs.SoundPlaces.{child_entries, stands}
 
 module _ (b : Board) (d : ℕ) where

@@ -1,17 +1,7 @@
 -- The places of the opening board, of a bridge, and of a bridge below a bridge are sound.
 use Rattle.std.proofs.Common.{◌≡◌, refl, ℕ, ◌==◌, List, [], codes, if◌then◌else◌, Some, None, arith}
-use Rattle.qo_model.specs.Board.{Board}
-use Rattle.qo_model.specs.Changes.{add, cut, set}
-use Rattle.qo_model.specs.Clocks.{acted, clocks_below, period}
-use Rattle.qo_model.specs.Devices.{depth_of, is_going}
-use Rattle.qo_model.specs.Opening.{opening_board}
-use Rattle.qo_model.specs.Paths.{attached, path_down_to}
-use Rattle.qo_model.specs.Plug.{Wanted, plug}
-use Rattle.qo_model.specs.Release.{drop_slot, finish, finalize, finalize_within, let_go, pin, unpin}
-use Rattle.qo_model.specs.Reset.{held, plugged, post, pulse, released}
-use Rattle.qo_model.specs.Types.{types}
-use Rattle.qo_model.specs.Unplug.{apart_within, detach, unrealize}
-use Rattle.qo_values.specs.Placing.{least}
+use Rattle.qo_model.proofs.Common.{Board, add, cut, set, acted, clocks_below, period, depth_of, is_going, opening_board, attached, path_down_to, Wanted, plug, drop_slot, finish, finalize, finalize_within, let_go, pin, unpin, plugged, post, pulse, released, types, apart_within, detach, unrealize, least}
+use Rattle.qo_model.specs.Reset.{held}
 use Rattle.qo_sound.proofs.TestLemmas.{clash as differs, clash-back as never}
 use Rattle.qo_sound_devices.specs.SoundPlaces.{SoundPlaces, machines, bridges, on_machine, on_device}
 use Rattle.qo_sound_devices.proofs.CheckLemmas.{Checked, checked-sound}

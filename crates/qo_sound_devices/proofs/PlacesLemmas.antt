@@ -1,23 +1,10 @@
 -- Places where each object that is still there is alike: a release keeps them.
 use Rattle.std.proofs.Common.{◌≡◌, ◌≢◌, refl, ap, ap₂, sym, subst, ◌∙◌, ℕ, ◌<◌, ◌≤◌, Bool, true, false, ◌||◌, ◌==◌, eqb, List, [], ◌∷◌, ◌++◌, find, filter_map, Option, Some, None, is_some, option_map, option_and_then, arith, codes, append-nil}
-use Rattle.std.specs.List.{AllByRecursion, list_any}
-use Rattle.std.specs.Option.{option_map_or}
-use Rattle.std.specs.Str.{bytes_eq}
+use Rattle.qo_model.proofs.Common.{AllByRecursion, list_any, option_map_or, bytes_eq, ANONYMOUS_BIRTH, MACHINE_BIRTH, MEMORY_BUS_BIRTH, OBJECTS_BIRTH, PERIPHERAL_BIRTH, ROOT_BUS_BIRTH, SYSTEM_CLOCK_BIRTH, TypeId, Board, Record, Slot, plain, child, strong, weak, alias, record_of, kind_of, is_live, slots_at, among, bus_of, is_realized, bus_slot_of, strong_in, is_of, bus_type, refs, after, drop_slot, finalize, finish, KeepsRelease, is_a}
 use Rattle.std.proofs.lemmas.Bool.{eqb-true, eq-eqb}
 use Rattle.std.proofs.lemmas.Option.{same_Some}
-use Rattle.qo_values.specs.declared.births.TheConstants.{ANONYMOUS_BIRTH, MACHINE_BIRTH, MEMORY_BUS_BIRTH, OBJECTS_BIRTH, PERIPHERAL_BIRTH, ROOT_BUS_BIRTH, SYSTEM_CLOCK_BIRTH}
-use Rattle.qo_values.specs.declared.kinds.TypeId.{TypeId}
-use Rattle.qo_model.specs.Board.{Board, Record, Slot, plain, child, strong, weak, alias, record_of, kind_of, is_live, slots_at}
-use Rattle.qo_model.specs.Depth.{among}
-use Rattle.qo_model.specs.Devices.{bus_of, is_realized, bus_slot_of, strong_in}
-use Rattle.qo_model.specs.Paths.{is_of}
-use Rattle.qo_model.specs.Plug.{bus_type}
 use Rattle.std.proofs.lemmas.List.Sums.{sum_by-cons}
 use Rattle.qo_sound.proofs.CountLemmas.{one_at, times}
-use Rattle.qo_model.specs.References.{refs}
-use Rattle.qo_model.specs.Release.{after, drop_slot, finalize, finish}
-use Rattle.qo_model.specs.ReleaseInduction.{KeepsRelease}
-use Rattle.qo_model.specs.Types.{is_a}
 use Rattle.std.proofs.Math.Bool.{or-true}
 use Rattle.qo_model.proofs.ReleaseInductionLemmas.{after_keeps}
 use Rattle.qo_model.proofs.ReleaseScopeLemmas.{release_leaves}

@@ -1,22 +1,10 @@
 -- A device that is made has a plain slot under each name of its type's plain rows that comes first, and keeps it; so a value that is set there is read.
 use Rattle.std.proofs.Common.{◌≡◌, refl, sym, subst, ℕ, zero, suc, ◌+◌, Bool, true, false, ◌==◌, List, [], ◌∷◌, ◌++◌, find, map, Option, Some, None, is_some, option_map, option_and_then}
-use Rattle.std.specs.Option.{option_map_or, option_or}
-use Rattle.std.specs.Str.{bytes_eq}
-use Rattle.std.proofs.lemmas.List.Folds.{find-append}
-use Rattle.qo_values.specs.declared.kinds.TypeId.{TypeId}
-use Rattle.qo_values.specs.declared.properties.Val.{Val}
-use Rattle.qo_model.specs.Board.{Board, Record, Slot, plain, child, strong, weak, alias, record_of, slots_at}
-use Rattle.qo_model.specs.Changes.{add, changed_at, set, with_added, with_changed, with_val}
-use Rattle.qo_model.specs.Devices.{plain_in}
-use Rattle.qo_model.specs.Objects.{Given, given_to, index_from, slot_given}
-use Rattle.qo_model.specs.Plug.{aliased, fitted, link_named, owned, property_made, properties_made, with_given, with_new}
-use Rattle.qo_model.specs.Opening.{first_value, fresh_record}
-use Rattle.qo_model.specs.Release.{edit, edited}
-use Rattle.qo_model.specs.RowNames.{property_name}
+use Rattle.qo_model.proofs.Common.{option_map_or, option_or, bytes_eq, TypeId, Val, Board, Record, Slot, plain, child, strong, weak, alias, record_of, slots_at, add, changed_at, set, with_added, with_changed, with_val, plain_in, Given, given_to, index_from, slot_given, aliased, fitted, link_named, owned, property_made, properties_made, with_given, with_new, first_value, fresh_record, edit, edited, property_name, is_named, set_named}
 use Rattle.qo_model.specs.declared.properties.Property.{Property}
 use Rattle.qo_model.specs.declared.properties.PropertyRole.{PropertyRole}
+use Rattle.std.proofs.lemmas.List.Folds.{find-append}
 use Rattle.qo_model.specs.declared.properties.PropertyRole.TheVariants as row
-use Rattle.qo_model.specs.Unplug.{is_named, set_named}
 use Rattle.qo_model.proofs.FirstSlotLemmas.{named_in}
 use Rattle.qo_model.proofs.StepLemmas.{found_at, found-edited}
 use Rattle.qo_sound.proofs.TestLemmas.{decide}

@@ -1,20 +1,8 @@
 -- Adding a device, and the places of devices: refused attempts keep them, and what is known of a board on which one may be added.
 use Rattle.std.proofs.Common.{◌≡◌, refl, ap, sym, ◌∙◌, ℕ, zero, suc, ◌<◌, Bool, true, false, ◌==◌, List, [], ◌∷◌, find, length, codes, Option, Some, None, option_and_then, arith}
-use Rattle.std.specs.Prelude.{if◌then◌else◌}
-use Rattle.std.specs.List.{list_any}
-use Rattle.std.specs.Option.{option_map_or}
-use Rattle.std.specs.Str.{bytes_eq}
+use Rattle.qo_model.proofs.Common.{if◌then◌else◌, list_any, option_map_or, bytes_eq, ANONYMOUS_BIRTH, MACHINE_BIRTH, MEMORY_BUS_BIRTH, PERIPHERAL_BIRTH, ROOT_BUS_BIRTH, Code, TypeId, Board, Record, by_depth, bridge_of, bus_above, bus_of, depth_of, depth_turn, device_named, has_id, births, is_of, Wanted, barred_early, barred_late, bus_for, cut_attempt, plug, plug_as, plug_attempt, plug_by, plug_late, spot_of, type_barred, with_plugged, TypeInfo, is_a, type_named}
 use Rattle.std.proofs.lemmas.Slice.Eq.{bytes_eq-Decides}
-use Rattle.qo_values.specs.declared.births.TheConstants.{ANONYMOUS_BIRTH, MACHINE_BIRTH, MEMORY_BUS_BIRTH, PERIPHERAL_BIRTH, ROOT_BUS_BIRTH}
-use Rattle.qo_values.specs.declared.codes.Code.{Code}
-use Rattle.qo_values.specs.declared.kinds.TypeId.{TypeId}
 use Rattle.qo_model.proofs.AmongLemmas.{among-all}
-use Rattle.qo_model.specs.Board.{Board, Record}
-use Rattle.qo_model.specs.Depth.{by_depth}
-use Rattle.qo_model.specs.Devices.{bridge_of, bus_above, bus_of, depth_of, depth_turn, device_named, has_id}
-use Rattle.qo_model.specs.Paths.{births, is_of}
-use Rattle.qo_model.specs.Plug.{Wanted, barred_early, barred_late, bus_for, cut_attempt, plug, plug_as, plug_attempt, plug_by, plug_late, spot_of, type_barred, with_plugged}
-use Rattle.qo_model.specs.Types.{TypeInfo, is_a, type_named}
 use Rattle.qo_sound.proofs.FirmBoardLemmas.{Firm}
 use Rattle.qo_sound.proofs.PlugLemmas.{IsPlace, cut_attempt-rest, device-of, place-of, plug_attempt-rest}
 use Rattle.qo_values.proofs.ListLemmas.{all-imply}

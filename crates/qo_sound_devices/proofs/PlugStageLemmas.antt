@@ -1,12 +1,7 @@
 -- Adding a device, taken or refused at any stage, keeps places.
 use Rattle.std.proofs.Common.{◌≡◌, ◌∙◌, ℕ, ◌+◌, true, false, None, codes}
-use Rattle.qo_values.specs.declared.kinds.TypeId.{TypeId}
+use Rattle.qo_model.proofs.Common.{TypeId, Board, is_of, Spot, Wanted, drafted, joined, plug, spot_of, with_given, with_plugged, edit, set_named}
 use Rattle.qo_values.specs.declared.properties.Val.TheVariants as val
-use Rattle.qo_model.specs.Board.{Board}
-use Rattle.qo_model.specs.Paths.{is_of}
-use Rattle.qo_model.specs.Plug.{Spot, Wanted, drafted, joined, plug, spot_of, with_given, with_plugged}
-use Rattle.qo_model.specs.Release.{edit}
-use Rattle.qo_model.specs.Unplug.{set_named}
 use Rattle.qo_sound.proofs.ViewLemmas.{AtRest}
 use Rattle.qo_sound_devices.specs.SoundPlaces.{PlacesBut, SoundPlaces}
 use Rattle.qo_sound_devices.proofs.AcceptanceLemmas.{goal-of, passes}

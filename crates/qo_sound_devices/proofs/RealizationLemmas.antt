@@ -1,28 +1,15 @@
 -- A device that is added reads as realized.
-use Rattle.std.proofs.Common.{◌≡◌, refl, ap, sym, subst, ◌∙◌, ℕ, ◌+◌, true, false, ◌==◌, List, [], ◌∷◌, ◌++◌, drop, slice_get, Option, Some, None, is_some, option_map, option_and_then, codes, arith}
-use Rattle.std.specs.List.{IsDistinct}
-use Rattle.std.specs.Option.{option_map_or}
-use Rattle.std.specs.Str.{bytes_eq}
-use Rattle.std.proofs.lemmas.Bool.{eq-eqb}
-use Rattle.qo_values.specs.declared.kinds.TypeId.{TypeId}
-use Rattle.qo_values.specs.declared.kinds.TypeId.TheVariants.{Object, Container, Machine, Device, SlotDevice, SlotUart, SlotTimer, SlotBridge, MemDimm, Bus, SlotBus, MemBus, Clock, MemoryBackend, MemoryBackendRam, Tag}
-use Rattle.qo_values.specs.declared.properties.PropType.TheVariants as ty
-use Rattle.qo_values.specs.declared.properties.Val.{Val}
-use Rattle.qo_values.specs.declared.properties.Val.TheVariants as val
-use Rattle.qo_model.specs.Board.{Board, Record, Slot, plain, child, strong, weak, alias, record_of, slots_at}
-use Rattle.qo_model.specs.Changes.{add, fresh, set, with_added, with_changed, with_val}
-use Rattle.qo_model.specs.Devices.{is_realized, is_true, kid_name, number_in, bus_slot_of, plain_in}
-use Rattle.qo_model.specs.Objects.{init_notes, index_from}
-use Rattle.qo_model.specs.Opening.{first_value}
-use Rattle.qo_model.specs.Plug.{Spot, Wanted, drafted, fitted, joined, link_named, name_for, parent_for, properties_made, valued, with_given, with_new}
-use Rattle.qo_model.specs.Release.{edit, edited}
-use Rattle.qo_model.specs.Types.{property, is_a, slots_of, types, up_to}
+use Rattle.std.proofs.Common.{rules, ◌≡◌, refl, ap, sym, subst, ◌∙◌, ℕ, ◌+◌, true, false, ◌==◌, List, [], ◌∷◌, ◌++◌, drop, slice_get, Option, Some, None, is_some, option_map, option_and_then, codes, arith}
+use Rattle.qo_model.proofs.Common.{IsDistinct, option_map_or, bytes_eq, TypeId, Device, Bus, Val, Board, Record, Slot, plain, child, strong, weak, alias, record_of, slots_at, add, fresh, set, with_added, with_changed, with_val, is_realized, is_true, kid_name, number_in, bus_slot_of, plain_in, init_notes, index_from, first_value, Spot, Wanted, drafted, fitted, joined, link_named, name_for, parent_for, properties_made, valued, with_given, with_new, edit, edited, property, is_a, slots_of, types, up_to, is_named, set_named}
+use Rattle.qo_model.specs.declared.properties.Mark.TheVariants.{Never, Add}
 use Rattle.qo_model.specs.declared.properties.Property.{Property}
+use Rattle.std.proofs.lemmas.Bool.{eq-eqb}
+use Rattle.qo_values.specs.declared.properties.PropType.TheVariants as ty
+use Rattle.qo_values.specs.declared.properties.Val.TheVariants as val
+use Rattle.qo_values.proofs.EachLemmas.{each}
 use Rattle.qo_model.specs.declared.properties.PropertyRole.TheVariants as row
 use Rattle.qo_model.specs.declared.properties.First.TheVariants as first
-use Rattle.qo_model.specs.declared.properties.Mark.TheVariants.{Never, Add}
 use Rattle.qo_model.specs.declared.properties.PropertyName.TheVariants as prop
-use Rattle.qo_model.specs.Unplug.{is_named, set_named}
 use Rattle.qo_model.proofs.FirstSlotLemmas.{named_in, Found, found-at, first-changed, none-found, named-changed, named-other, other-name}
 use Rattle.qo_model.proofs.StepLemmas.{found-edited}
 use Rattle.qo_sound.proofs.FirmBoardLemmas.{Firm}
@@ -43,22 +30,7 @@ first_rows =
 
 device-rows : (t : TypeId) → is_a t (codes "device") ≡ true → slots_of t ≡ first_rows ++ drop 4 (slots_of t)
 unfolding types
-device-rows Object e = absurd (let clash : false ≡ true = e in cc)
-device-rows Container e = absurd (let clash : false ≡ true = e in cc)
-device-rows Machine e = absurd (let clash : false ≡ true = e in cc)
-device-rows Device e = refl
-device-rows SlotDevice e = refl
-device-rows SlotUart e = refl
-device-rows SlotTimer e = refl
-device-rows SlotBridge e = refl
-device-rows MemDimm e = refl
-device-rows Bus e = absurd (let clash : false ≡ true = e in cc)
-device-rows SlotBus e = absurd (let clash : false ≡ true = e in cc)
-device-rows MemBus e = absurd (let clash : false ≡ true = e in cc)
-device-rows Clock e = absurd (let clash : false ≡ true = e in cc)
-device-rows MemoryBackend e = absurd (let clash : false ≡ true = e in cc)
-device-rows MemoryBackendRam e = absurd (let clash : false ≡ true = e in cc)
-device-rows Tag e = absurd (let clash : false ≡ true = e in cc)
+device-rows = each (λ (t : TypeId). is_a t (codes "device") ≡ true → slots_of t ≡ first_rows ++ drop 4 (slots_of t)) (search rules)
 
 own-added : (n : ℕ) (name : List ℕ) (s : Slot) (c : Board) (r : Record) → r.birth ≡ n → record_of c n ≡ Some r
     → record_of (add n name s c) n ≡ Some (with_added name s r)

@@ -1,13 +1,8 @@
 -- Places after a step that takes a device out: what has to be shown of such a step.
 use Rattle.std.proofs.Common.{◌≡◌, ◌≢◌, refl, ap, sym, ◌∙◌, ℕ, Bool, true, false, ◌==◌, List, [], ◌∷◌, Option, Some, codes}
-use Rattle.std.specs.List.{AllByRecursion}
+use Rattle.qo_model.proofs.Common.{AllByRecursion, ANONYMOUS_BIRTH, MACHINE_BIRTH, MEMORY_BUS_BIRTH, OBJECTS_BIRTH, PERIPHERAL_BIRTH, ROOT_BUS_BIRTH, Board, is_live, slots_at, among, bus_of, is_realized, bus_slot_of, is_of}
 use Rattle.std.proofs.lemmas.Bool.{eq-eqb}
 use Rattle.std.proofs.Math.Bool.{or-true}
-use Rattle.qo_values.specs.declared.births.TheConstants.{ANONYMOUS_BIRTH, MACHINE_BIRTH, MEMORY_BUS_BIRTH, OBJECTS_BIRTH, PERIPHERAL_BIRTH, ROOT_BUS_BIRTH}
-use Rattle.qo_model.specs.Board.{Board, is_live, slots_at}
-use Rattle.qo_model.specs.Depth.{among}
-use Rattle.qo_model.specs.Devices.{bus_of, is_realized, bus_slot_of}
-use Rattle.qo_model.specs.Paths.{is_of}
 use Rattle.qo_sound.proofs.FirmBoardLemmas.{Firm}
 use Rattle.qo_sound.proofs.RecordLemmas.{all-both}
 use Rattle.qo_values.proofs.ListLemmas.{all-imply}

@@ -1,16 +1,9 @@
 -- Acts, phases and the reset of the whole board keep the tree, the places and the lists sound.
 use Rattle.std.proofs.Common.{◌≡◌, refl, sym, ◌∙◌, ℕ, zero, suc, true, false, List, [], ◌∷◌, ◌++◌, filter, length, Option, Some, None, subst, arith}
+use Rattle.qo_model.proofs.Common.{AllByRecursion, MACHINE_BIRTH, Act, Enter, Hold, Exit, Board, acted, all_completed, completed, reset_whole, without_first, is_out, phased, post, pulse, released, detach}
 use Rattle.std.proofs.lemmas.Option.{same_Some}
-use Rattle.std.specs.List.{AllByRecursion}
-use Rattle.qo_values.specs.declared.births.TheConstants.{MACHINE_BIRTH}
-use Rattle.qo_values.specs.declared.kinds.Act.{Act}
-use Rattle.qo_values.specs.declared.kinds.Act.TheVariants.{Enter, Hold, Exit}
-use Rattle.qo_model.specs.Board.{Board}
-use Rattle.qo_model.specs.Clocks.{acted}
-use Rattle.qo_model.specs.Hotplug.{all_completed, completed, reset_whole}
-use Rattle.qo_model.specs.Release.{without_first}
-use Rattle.qo_model.specs.Reset.{held, is_out, phased, post, pulse, released}
-use Rattle.qo_model.specs.Unplug.{detach, first_of}
+use Rattle.qo_model.specs.Reset.{held}
+use Rattle.qo_model.specs.Unplug.{first_of}
 use Rattle.qo_sound.proofs.CutLemmas.{near-beside}
 use Rattle.qo_sound.proofs.FirmBoardLemmas.{Firm}
 use Rattle.qo_sound.proofs.TreeKeptLemmas.{sound_kept_lem}

@@ -1,25 +1,10 @@
 -- The clock of a device that is added gets its source, which changes nothing that places speak of.
 use Rattle.std.proofs.Common.{◌≡◌, refl, ap, sym, subst, ◌∙◌, ℕ, zero, suc, ◌+◌, Bool, true, false, ◌==◌, List, [], ◌∷◌, filter_map, slice_get, Option, Some, None, option_and_then, codes, arith, option_map}
-use Rattle.std.specs.List.{cons_option}
-use Rattle.std.specs.Option.{option_map_or}
-use Rattle.std.specs.Str.{bytes_eq}
+use Rattle.qo_model.proofs.Common.{cons_option, option_map_or, bytes_eq, TypeId, Device, Val, Range, Board, Record, Slot, plain, child, strong, weak, alias, record_of, is_live, slots_at, add, changed_at, set, with_added, with_changed, with_val, child_named, clock_of, is_true, kid_name, number_in, plain_in, strong_in, index_from, is_of, Spot, Wanted, addressed_at, drafted, fitted, joined, link_named, name_for, parent_for, source_for, stood, valued, with_body_of, with_given, with_source, edit, is_a, is_named, set_named}
 use Rattle.std.proofs.lemmas.Bool.{eqb-true, eq-eqb}
 use Rattle.std.proofs.Math.Bool.{or-true}
 use Rattle.std.proofs.lemmas.Option.{same_Some}
-use Rattle.qo_values.specs.declared.kinds.TypeId.{TypeId}
-use Rattle.qo_values.specs.declared.kinds.TypeId.TheVariants.{Device}
-use Rattle.qo_values.specs.declared.properties.Val.{Val}
 use Rattle.qo_values.specs.declared.properties.Val.TheVariants as val
-use Rattle.qo_values.specs.declared.ranges.Range.{Range}
-use Rattle.qo_model.specs.Board.{Board, Record, Slot, plain, child, strong, weak, alias, record_of, is_live, slots_at}
-use Rattle.qo_model.specs.Changes.{add, changed_at, set, with_added, with_changed, with_val}
-use Rattle.qo_model.specs.Devices.{child_named, clock_of, is_true, kid_name, number_in, plain_in, strong_in}
-use Rattle.qo_model.specs.Objects.{index_from}
-use Rattle.qo_model.specs.Paths.{is_of}
-use Rattle.qo_model.specs.Plug.{Spot, Wanted, addressed_at, drafted, fitted, joined, link_named, name_for, parent_for, source_for, stood, valued, with_body_of, with_given, with_source}
-use Rattle.qo_model.specs.Release.{edit}
-use Rattle.qo_model.specs.Types.{is_a}
-use Rattle.qo_model.specs.Unplug.{is_named, set_named}
 use Rattle.qo_model.proofs.FirstSlotLemmas.{named_in, Found, found-at, named-other, other-name, first-found}
 use Rattle.qo_model.proofs.StepLemmas.{found-edited}
 use Rattle.qo_sound.proofs.PlugLemmas.{shut-above}

@@ -1,20 +1,7 @@
 -- The steps by which a device that was made comes to stand in its place: what each leaves of what places speak of.
 use Rattle.std.proofs.Common.{◌≡◌, refl, ap, sym, subst, ◌∙◌, ℕ, suc, Bool, true, false, ◌==◌, List, [], ◌∷◌, filter, filter_map, Option, Some, None, option_map, option_and_then, codes}
-use Rattle.std.specs.Option.{option_map_or}
+use Rattle.qo_model.proofs.Common.{option_map_or, ANONYMOUS_BIRTH, MACHINE_BIRTH, PERIPHERAL_BIRTH, Act, Realize, Enter, Hold, Exit, TypeId, Range, Board, Record, Slot, record_of, kind_of, is_live, slots_at, acted, bus_of, is_realized, is_true, number_in, bus_slot_of, plain_in, strong_in, canonical, is_of, acted_all, bus_births, counted, started, notified_plug, with_body_of, with_path, edit, edited, is_out, phased, plugged, post, is_a}
 use Rattle.std.proofs.lemmas.Bool.{eqb-true, eq-eqb}
-use Rattle.qo_values.specs.declared.births.TheConstants.{ANONYMOUS_BIRTH, MACHINE_BIRTH, PERIPHERAL_BIRTH}
-use Rattle.qo_values.specs.declared.kinds.Act.{Act}
-use Rattle.qo_values.specs.declared.kinds.Act.TheVariants.{Realize, Enter, Hold, Exit}
-use Rattle.qo_values.specs.declared.kinds.TypeId.{TypeId}
-use Rattle.qo_values.specs.declared.ranges.Range.{Range}
-use Rattle.qo_model.specs.Board.{Board, Record, Slot, record_of, kind_of, is_live, slots_at}
-use Rattle.qo_model.specs.Clocks.{acted}
-use Rattle.qo_model.specs.Devices.{bus_of, is_realized, is_true, number_in, bus_slot_of, plain_in, strong_in}
-use Rattle.qo_model.specs.Paths.{canonical, is_of}
-use Rattle.qo_model.specs.Plug.{acted_all, bus_births, counted, started, notified_plug, with_body_of, with_path}
-use Rattle.qo_model.specs.Release.{edit, edited}
-use Rattle.qo_model.specs.Reset.{is_out, phased, plugged, post}
-use Rattle.qo_model.specs.Types.{is_a}
 use Rattle.qo_model.proofs.FirstSlotLemmas.{named_in}
 use Rattle.qo_model.proofs.StepLemmas.{found-edited, found-birth}
 use Rattle.qo_sound.proofs.FirmBoardLemmas.{Firm}

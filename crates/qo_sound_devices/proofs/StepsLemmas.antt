@@ -1,18 +1,9 @@
 -- Steps that only take away: objects, entries and links.
 use Rattle.std.proofs.Common.{◌≡◌, ◌≢◌, refl, ap, sym, subst, ◌∙◌, ℕ, zero, suc, Bool, true, false, ◌==◌, List, [], ◌∷◌, filter_map, remove, slice_get, Option, Some, None, is_some, option_map, option_and_then, codes}
-use Rattle.std.specs.List.{cons_option, IsDistinct}
-use Rattle.std.specs.Option.{option_map_or}
-use Rattle.std.specs.Str.{bytes_eq}
+use Rattle.qo_model.proofs.Common.{cons_option, IsDistinct, option_map_or, bytes_eq, MACHINE_BIRTH, Val, Board, Record, Slot, plain, child, strong, weak, alias, record_of, is_live, slots_at, among, bus_of, is_realized, is_true, number_in, bus_slot_of, plain_in, strong_in, is_of, after, edit, edited, finalize, without_hold}
 use Rattle.std.proofs.lemmas.Bool.{eqb-true}
 use Rattle.std.proofs.lemmas.Option.{same_Some}
 use Rattle.std.proofs.lemmas.Slice.Eq.{bytes_eq-Decides}
-use Rattle.qo_values.specs.declared.births.TheConstants.{MACHINE_BIRTH}
-use Rattle.qo_values.specs.declared.properties.Val.{Val}
-use Rattle.qo_model.specs.Board.{Board, Record, Slot, plain, child, strong, weak, alias, record_of, is_live, slots_at}
-use Rattle.qo_model.specs.Depth.{among}
-use Rattle.qo_model.specs.Devices.{bus_of, is_realized, is_true, number_in, bus_slot_of, plain_in, strong_in}
-use Rattle.qo_model.specs.Paths.{is_of}
-use Rattle.qo_model.specs.Release.{after, edit, edited, finalize, without_hold}
 use Rattle.qo_model.proofs.FirstSlotLemmas.{named_in}
 use Rattle.qo_model.proofs.StepLemmas.{found-edited, is_some-map, map-edited}
 use Rattle.qo_sound.proofs.FirmBoardLemmas.{Firm}

@@ -1,19 +1,9 @@
 -- A device that is detached leaves the lists with all that is below it.
 use Rattle.std.proofs.Common.{nat_eq, ◌≡◌, refl, ap, sym, subst, ◌∙◌, ℕ, zero, suc, Bool, true, false, not, ◌||◌, ◌==◌, eqb, List, [], ◌∷◌, filter, length, Option, Some, None, codes, arith}
+use Rattle.qo_model.proofs.Common.{Unrealize, Val, Board, Notice, slots_at, acted, device_period, among, by_depth, buses_of, clock_of, is_realized, kids_of, index_from, births, after, finalize, pin, detach, disconnected, each, is_named, set_named, unrealize, unrealize_turn, unrealized_bus, unrealized_device, unseen_named, without_all, refs}
 use Rattle.std.proofs.lemmas.Bool.{eqb-true}
-use Rattle.qo_values.specs.declared.kinds.Act.TheVariants.{Unrealize}
-use Rattle.qo_values.specs.declared.properties.Val.{Val}
 use Rattle.qo_values.specs.declared.properties.Val.TheVariants as val
-use Rattle.qo_model.specs.Board.{Board, Notice, slots_at}
-use Rattle.qo_model.specs.Clocks.{acted, device_period}
-use Rattle.qo_model.specs.Depth.{among, by_depth}
-use Rattle.qo_model.specs.Devices.{buses_of, clock_of, is_realized, kids_of}
-use Rattle.qo_model.specs.Objects.{index_from}
-use Rattle.qo_model.specs.Paths.{births}
-use Rattle.qo_model.specs.Release.{after, finalize, pin}
-use Rattle.qo_model.specs.Unplug.{detach, disconnected, each, is_named, set_named, unrealize, unrealize_turn, unrealized_bus, unrealized_device, unseen_named, without_all}
 use Rattle.qo_model.proofs.ReleaseScopeLemmas.{release_leaves}
-use Rattle.qo_model.specs.References.{refs}
 use Rattle.qo_sound.proofs.DetachmentStepsLemmas.{step-detach}
 use Rattle.qo_sound.proofs.AdditionStepsLemmas.{step-set}
 use Rattle.qo_sound.proofs.ViewLemmas.{AtRest}

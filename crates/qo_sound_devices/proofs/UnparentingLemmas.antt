@@ -1,23 +1,11 @@
 -- The steps by which a device is taken out: a bus without kids goes, the device leaves its bus, and then its container.
 use Rattle.std.proofs.Common.{◌⊎◌, inl, inr, ◌≡◌, ◌≢◌, refl, ap, ap₂, sym, subst, ◌∙◌, ℕ, zero, suc, ◌≤◌, Bool, true, false, ◌||◌, ◌==◌, eqb, List, [], ◌∷◌, filter_map, find, remove, slice_get, sum_by, Option, Some, None, is_some, option_map, option_and_then, arith, codes}
-use Rattle.std.specs.List.{AllByRecursion, cons_option, IsDistinct, list_any}
-use Rattle.std.specs.Option.{option_map_or}
-use Rattle.std.specs.Str.{bytes_eq}
+use Rattle.qo_model.proofs.Common.{AllByRecursion, cons_option, IsDistinct, list_any, option_map_or, bytes_eq, ANONYMOUS_BIRTH, MACHINE_BIRTH, MEMORY_BUS_BIRTH, OBJECTS_BIRTH, PERIPHERAL_BIRTH, ROOT_BUS_BIRTH, TypeId, Val, Board, Record, Slot, plain, child, strong, weak, alias, record_of, is_live, slots_at, slot_at, cut, with_cut, among, bus_of, is_realized, is_true, number_in, plain_in, strong_in, index_from, child_of, is_child, is_of, after, drop_slot, edit, edited, emptied, finalize, let_go, with_dropped, without_hold, is_child_slot}
 use Rattle.std.proofs.lemmas.Bool.{eqb-true}
 use Rattle.std.proofs.lemmas.Option.{same_Some}
 use Rattle.std.proofs.lemmas.Slice.Eq.{bytes_eq-Decides}
 use Rattle.std.proofs.Math.Bool.{or-true}
-use Rattle.qo_values.specs.declared.births.TheConstants.{ANONYMOUS_BIRTH, MACHINE_BIRTH, MEMORY_BUS_BIRTH, OBJECTS_BIRTH, PERIPHERAL_BIRTH, ROOT_BUS_BIRTH}
-use Rattle.qo_values.specs.declared.kinds.TypeId.{TypeId}
-use Rattle.qo_values.specs.declared.properties.Val.{Val}
-use Rattle.qo_model.specs.Board.{Board, Record, Slot, plain, child, strong, weak, alias, record_of, is_live, slots_at, slot_at, held}
-use Rattle.qo_model.specs.Changes.{cut, with_cut}
-use Rattle.qo_model.specs.Depth.{among}
-use Rattle.qo_model.specs.Devices.{bus_of, is_realized, is_true, number_in, plain_in, strong_in}
-use Rattle.qo_model.specs.Objects.{index_from}
-use Rattle.qo_model.specs.Paths.{child_of, is_child, is_of}
-use Rattle.qo_model.specs.Release.{after, drop_slot, edit, edited, emptied, finalize, let_go, with_dropped, without_hold}
-use Rattle.qo_model.specs.Unplug.{is_child_slot}
+use Rattle.qo_model.specs.Board.{held}
 use Rattle.qo_model.proofs.EditLemmas.{left_of, sum-without_hold}
 use Rattle.qo_model.proofs.FirstSlotLemmas.{named_in}
 use Rattle.qo_model.proofs.StepLemmas.{drop-record, is_some-map}

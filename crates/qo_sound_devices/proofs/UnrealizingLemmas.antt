@@ -1,22 +1,9 @@
 -- Unrealizing leaves all of places but who is realized; who is not any more is the device and what is below it.
 use Rattle.std.proofs.Common.{◌≡◌, refl, ap, sym, subst, ◌∙◌, ℕ, zero, suc, Bool, true, false, ◌==◌, eqb, List, [], ◌∷◌, filter_map, slice_get, Option, Some, None, is_some, option_map, option_and_then, arith, codes}
-use Rattle.std.specs.List.{cons_option}
-use Rattle.std.specs.Option.{option_map_or}
-use Rattle.std.specs.Str.{bytes_eq}
+use Rattle.qo_model.proofs.Common.{cons_option, option_map_or, bytes_eq, Act, Unrealize, Val, Board, Record, Slot, plain, child, strong, weak, alias, record_of, is_live, slots_at, changed_at, set, with_changed, with_val, acted, device_period, with_act_on, among, by_depth, bus_of, buses_of, clock_of, is_realized, is_true, kids_of, number_in, bus_slot_of, plain_in, strong_in, index_from, edit, edited, disconnected, each, is_named, set_named, unheld, unnoticed, unrealize_turn, unrealized_bus, unrealized_device, unseen, unseen_named}
 use Rattle.std.proofs.lemmas.Bool.{eqb-true, eq-eqb}
 use Rattle.std.proofs.Math.Bool.{or-true}
-use Rattle.qo_values.specs.declared.kinds.Act.{Act}
-use Rattle.qo_values.specs.declared.kinds.Act.TheVariants.{Unrealize}
-use Rattle.qo_values.specs.declared.properties.Val.{Val}
 use Rattle.qo_values.specs.declared.properties.Val.TheVariants as val
-use Rattle.qo_model.specs.Board.{Board, Record, Slot, plain, child, strong, weak, alias, record_of, is_live, slots_at}
-use Rattle.qo_model.specs.Changes.{changed_at, set, with_changed, with_val}
-use Rattle.qo_model.specs.Clocks.{acted, device_period, with_act_on}
-use Rattle.qo_model.specs.Depth.{among, by_depth}
-use Rattle.qo_model.specs.Devices.{bus_of, buses_of, clock_of, is_realized, is_true, kids_of, number_in, bus_slot_of, plain_in, strong_in}
-use Rattle.qo_model.specs.Objects.{index_from}
-use Rattle.qo_model.specs.Release.{edit, edited}
-use Rattle.qo_model.specs.Unplug.{disconnected, each, is_named, set_named, unheld, unnoticed, unrealize_turn, unrealized_bus, unrealized_device, unseen, unseen_named}
 use Rattle.qo_model.proofs.FirstSlotLemmas.{named_in, Found, found-at, first-changed, none-found, named-changed, named-other, other-name}
 use Rattle.qo_model.proofs.StepLemmas.{found-edited, is_some-map, map-edited}
 use Rattle.qo_sound.proofs.ReadLemmas.{plain-unseen, strong-unseen}

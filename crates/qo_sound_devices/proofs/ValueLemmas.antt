@@ -1,18 +1,7 @@
 -- A device that was made and joined gets its values, its address and its id: of what places speak of, only what stands on itself changes.
 use Rattle.std.proofs.Common.{◌≡◌, refl, ap, subst, ◌∙◌, ℕ, ◌+◌, Bool, true, false, ◌==◌, List, [], filter_map, Option, Some, None, option_map, codes}
-use Rattle.std.specs.Option.{option_map_or}
-use Rattle.qo_values.specs.declared.kinds.TypeId.{TypeId}
-use Rattle.qo_values.specs.declared.properties.Val.{Val}
+use Rattle.qo_model.proofs.Common.{option_map_or, TypeId, Val, Range, Board, Record, Slot, plain, child, strong, weak, alias, record_of, slots_at, add, set, with_changed, with_val, bus_of, is_realized, bus_slot_of, Given, index_from, canonical, Spot, Wanted, addressed_at, clocked, drafted, fitted, joined, link_named, source_for, stood, valued, with_device, with_given, with_plugged, edit, edited, is_named, set_named}
 use Rattle.qo_values.specs.declared.properties.Val.TheVariants as val
-use Rattle.qo_values.specs.declared.ranges.Range.{Range}
-use Rattle.qo_model.specs.Board.{Board, Record, Slot, plain, child, strong, weak, alias, record_of, slots_at}
-use Rattle.qo_model.specs.Changes.{add, set, with_changed, with_val}
-use Rattle.qo_model.specs.Devices.{bus_of, is_realized, bus_slot_of}
-use Rattle.qo_model.specs.Objects.{Given, index_from}
-use Rattle.qo_model.specs.Paths.{canonical}
-use Rattle.qo_model.specs.Plug.{Spot, Wanted, addressed_at, clocked, drafted, fitted, joined, link_named, source_for, stood, valued, with_device, with_given, with_plugged}
-use Rattle.qo_model.specs.Release.{edit, edited}
-use Rattle.qo_model.specs.Unplug.{is_named, set_named}
 use Rattle.qo_model.proofs.StepLemmas.{found-edited, map-edited}
 use Rattle.qo_sound.proofs.FirmBoardLemmas.{Firm}
 use Rattle.qo_sound.proofs.PlugLemmas.{shut-above}

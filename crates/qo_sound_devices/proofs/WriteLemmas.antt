@@ -1,26 +1,12 @@
 -- `qom-set` keeps places, taken or refused.
 use Rattle.std.proofs.Common.{inr, rules, ◌≡◌, refl, ap, sym, subst, ◌∙◌, ℕ, zero, suc, Bool, true, false, not, ◌&&◌, ◌||◌, List, [], ◌∷◌, filter_map, find, slice_get, Option, Some, None, is_some, option_map, option_and_then, codes}
-use Rattle.std.specs.List.{AllByRecursion}
-use Rattle.std.specs.Option.{option_map_or}
-use Rattle.std.specs.Str.{bytes_eq}
+use Rattle.qo_model.proofs.Common.{AllByRecursion, option_map_or, bytes_eq, MACHINE_BIRTH, TypeId, Val, Board, Record, Slot, plain, child, strong, weak, alias, record_of, kind_of, is_live, slots_at, slot_at, changed_at, point, pointed, set, with_changed, with_val, among, is_realized, is_true, number_in, plain_in, strong_in, after_write, child_of, is_of, may_set, pointed_at, relinked, property_named, write, after, drop_slot, edit, edited, emptied, finalize, with_dropped, without_hold, property_name, is_a, slots_of, types}
+use Rattle.qo_model.specs.declared.properties.Property.{Property}
 use Rattle.std.proofs.lemmas.Bool.{not-true, and_parts}
 use Rattle.std.proofs.lemmas.Option.{same_Some}
 use Rattle.std.proofs.lemmas.Slice.Eq.{bytes_eq-Decides}
-use Rattle.qo_values.specs.declared.births.TheConstants.{MACHINE_BIRTH}
-use Rattle.qo_values.specs.declared.kinds.TypeId.{TypeId}
-use Rattle.qo_values.specs.declared.kinds.TypeId.TheVariants.{Object, Container, Machine, Device, SlotDevice, SlotUart, SlotTimer, SlotBridge, MemDimm, Bus, SlotBus, MemBus, Clock, MemoryBackend, MemoryBackendRam, Tag}
-use Rattle.qo_values.specs.declared.properties.Val.{Val}
-use Rattle.qo_model.specs.Board.{Board, Record, Slot, plain, child, strong, weak, alias, record_of, kind_of, is_live, slots_at, slot_at, held}
-use Rattle.qo_model.specs.Changes.{changed_at, point, pointed, set, with_changed, with_val}
-use Rattle.qo_model.specs.Depth.{among}
-use Rattle.qo_model.specs.Devices.{is_realized, is_true, number_in, plain_in, strong_in}
-use Rattle.qo_model.specs.FinalNotesRuns.{after_write}
-use Rattle.qo_model.specs.Paths.{child_of, is_of}
-use Rattle.qo_model.specs.Properties.{may_set, pointed_at, relinked, property_named, write}
-use Rattle.qo_model.specs.Release.{after, drop_slot, edit, edited, emptied, finalize, with_dropped, without_hold}
-use Rattle.qo_model.specs.RowNames.{property_name}
-use Rattle.qo_model.specs.Types.{is_a, slots_of, types}
-use Rattle.qo_model.specs.declared.properties.Property.{Property}
+use Rattle.qo_values.proofs.EachLemmas.{each}
+use Rattle.qo_model.specs.Board.{held}
 use Rattle.qo_model.proofs.EditLemmas.{StandsAt, stands-at}
 use Rattle.qo_model.proofs.FirstSlotLemmas.{named-changed, named-other}
 use Rattle.qo_model.proofs.StepLemmas.{drop-live, found-edited}
@@ -48,22 +34,7 @@ fits_places t p =
 
 all-fit : (t : TypeId) → AllByRecursion (λ (p : Property). fits_places t p ≡ true) (slots_of t)
 unfolding types
-all-fit Object = search rules
-all-fit Container = search rules
-all-fit Machine = search rules
-all-fit Device = search rules
-all-fit SlotDevice = search rules
-all-fit SlotUart = search rules
-all-fit SlotTimer = search rules
-all-fit SlotBridge = search rules
-all-fit MemDimm = search rules
-all-fit Bus = search rules
-all-fit SlotBus = search rules
-all-fit MemBus = search rules
-all-fit Clock = search rules
-all-fit MemoryBackend = search rules
-all-fit MemoryBackendRam = search rules
-all-fit Tag = search rules
+all-fit = each (λ (t : TypeId). AllByRecursion (λ (p : Property). fits_places t p ≡ true) (slots_of t)) (search rules)
 
 pub record Fits (b : Board) (n : ℕ) (name : List ℕ) : Type 0 where
   pub no_bus : is_of b (codes "bus") n ≡ false

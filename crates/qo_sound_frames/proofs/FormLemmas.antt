@@ -1,7 +1,6 @@
 -- What is read of the objects of a board without their registers.
 use Rattle.std.proofs.Common.{◌≡◌, refl, ap, sym, ◌∙◌, ℕ, Bool, true, false, ◌==◌, List, [], ◌∷◌, find, length, map, Option, Some, None, is_some, option_map, option_and_then}
-use Rattle.std.specs.Option.{option_map_or}
-use Rattle.qo_model.specs.Board.{Board, Record, kind_of, record_of, slots_at}
+use Rattle.qo_model.proofs.Common.{option_map_or, Board, Record, kind_of, record_of, slots_at}
 use Rattle.qo_model.specs.Paths.{parent_of, place_in}
 use Rattle.qo_model.proofs.StepLemmas.{found_at}
 use Rattle.qo_sound_devices.proofs.LikenessLemmas.{Alike, alike-same, bodiless}

@@ -1,18 +1,7 @@
 -- The law: what groups of facts speak of.
 use Rattle.std.proofs.Common.{◌≡◌, refl, ap, sym, subst, ◌∙◌, ℕ, ◌≤◌, Bool, true, ◌||◌, List, [], ◌∷◌, find, Option, Some, None, option_map, option_and_then, unwrap_or, codes}
-use Rattle.std.specs.Prelude.{if◌then◌else◌}
-use Rattle.std.specs.List.{AllByRecursion, list_any}
-use Rattle.std.specs.Str.{bytes_eq}
-use Rattle.qo_values.specs.Registers.{Registers}
-use Rattle.qo_values.specs.declared.births.TheConstants.{OBJECTS_BIRTH, SYSTEM_CLOCK_BIRTH}
-use Rattle.qo_values.specs.declared.limits.TheConstants.{LIVE_OBJECTS_MAX, TIME_MAX}
-use Rattle.qo_model.specs.Board.{Board, Record, Ring, Slot, slots_at}
-use Rattle.qo_model.specs.Clocks.{source_of, weak_in}
-use Rattle.qo_model.specs.Devices.{bridge_of, child_named, clock_of}
-use Rattle.qo_model.specs.Paths.{is_of}
-use Rattle.qo_model.specs.Plug.{source_for}
-use Rattle.qo_model.specs.SoundAliases.{lasting, PassesTo}
-use Rattle.qo_model.specs.SoundGraph.{GraphFacts}
+use Rattle.qo_model.proofs.Common.{if◌then◌else◌, AllByRecursion, list_any, bytes_eq, Registers, OBJECTS_BIRTH, SYSTEM_CLOCK_BIRTH, LIVE_OBJECTS_MAX, TIME_MAX, Board, Record, Ring, Slot, slots_at, source_of, bridge_of, child_named, clock_of, is_of, source_for, lasting, PassesTo, GraphFacts}
+use Rattle.qo_model.specs.Clocks.{weak_in}
 use Rattle.qo_sound.specs.TreeKept.{SoundTree}
 use Rattle.qo_sound.proofs.RecordLemmas.{all-map, all-unmap}
 use Rattle.qo_values.proofs.ListLemmas.{all-imply}

@@ -1,9 +1,6 @@
 -- Places speak of the objects without their registers, and of the accepted adds of devices without an id.
 use Rattle.std.proofs.Common.{◌≡◌, ap, sym, subst, ◌∙◌, ℕ, ◌<◌, true, false, List, [], ◌∷◌, None, codes}
-use Rattle.std.specs.List.{AllByRecursion, list_any}
-use Rattle.qo_values.specs.declared.births.TheConstants.{ANONYMOUS_BIRTH, MACHINE_BIRTH, MEMORY_BUS_BIRTH, OBJECTS_BIRTH, PERIPHERAL_BIRTH, ROOT_BIRTH, ROOT_BUS_BIRTH, SYSTEM_CLOCK_BIRTH}
-use Rattle.qo_model.specs.Board.{Board}
-use Rattle.qo_model.specs.Paths.{is_of}
+use Rattle.qo_model.proofs.Common.{AllByRecursion, list_any, ANONYMOUS_BIRTH, MACHINE_BIRTH, MEMORY_BUS_BIRTH, OBJECTS_BIRTH, PERIPHERAL_BIRTH, ROOT_BIRTH, ROOT_BUS_BIRTH, SYSTEM_CLOCK_BIRTH, Board, is_of}
 use Rattle.qo_values.proofs.ListLemmas.{all-imply}
 use Rattle.qo_sound_devices.specs.SoundLists.{SoundLists}
 use Rattle.qo_sound_devices.specs.SoundPlaces.{child_entries, HasOwner, IsAnonymous, IsAtHome, IsHome, IsHosted, on_device, on_machine, IsKid, IsPeripheral, kid_entries, listed, owns, owns_it, PlacesBut, stands}

@@ -1,27 +1,6 @@
 -- A fact of each object that reads nothing of its slots and registers: what keeps it.
 use Rattle.std.proofs.Common.{◌≡◌, refl, ap, ℕ, ◌+◌, List, ◌∷◌, Option, Some, None}
-use Rattle.std.specs.Bool.{⊤}
-use Rattle.std.specs.List.{AllByRecursion}
-use Rattle.qo_values.specs.Registers.{Registers, fresh_registers}
-use Rattle.qo_values.specs.declared.births.TheConstants.{OBJECTS_BIRTH}
-use Rattle.qo_values.specs.declared.kinds.Act.{Act}
-use Rattle.qo_values.specs.declared.kinds.Act.TheVariants.{Realize}
-use Rattle.qo_values.specs.declared.kinds.TypeId.{TypeId}
-use Rattle.qo_model.specs.Board.{Board, Record, child}
-use Rattle.qo_model.specs.Changes.{with_added}
-use Rattle.qo_model.specs.Clocks.{acted, with_act_on}
-use Rattle.qo_model.specs.Devices.{buses_of, kids_of}
-use Rattle.qo_model.specs.Objects.{Given, given_slots, object_del, sever, with_object}
-use Rattle.qo_model.specs.FinalNotesRuns.{after_write}
-use Rattle.qo_model.specs.Paths.{canonical}
-use Rattle.qo_model.specs.Plug.{Spot, Wanted, acted_all, bus_births, clocked, counted, drafted, registers_on, source_for, stood, with_body_of, with_device, with_new, with_path, with_plugged}
-use Rattle.qo_model.specs.Properties.{write}
-use Rattle.qo_model.specs.Release.{edit, forgotten, pin}
-use Rattle.qo_model.specs.ReleaseInduction.{without_slots}
-use Rattle.qo_model.specs.Reset.{plugged, post}
-use Rattle.qo_model.specs.Types.{slots_of}
-use Rattle.qo_model.specs.Unplug.{detach, set_named}
-use Rattle.qo_values.specs.declared.properties.Val.{Val}
+use Rattle.qo_model.proofs.Common.{⊤, AllByRecursion, Registers, fresh_registers, OBJECTS_BIRTH, Act, Realize, TypeId, Board, Record, child, with_added, acted, with_act_on, buses_of, kids_of, Given, given_slots, object_del, sever, with_object, after_write, canonical, Spot, Wanted, acted_all, bus_births, clocked, counted, drafted, registers_on, source_for, stood, with_body_of, with_device, with_new, with_path, with_plugged, write, edit, forgotten, pin, without_slots, plugged, post, slots_of, detach, set_named, Val}
 use Rattle.qo_sound.proofs.ChangeStepsLemmas.{step-object_del, step-sever, step-write}
 use Rattle.qo_sound.proofs.DetachmentStepsLemmas.{KeepsEnds, KeepsLists, KeepsPins, step-detach, step-pin, step-unrealize}
 use Rattle.qo_sound.proofs.AdditionStepsLemmas.{all-any, KeepsActs, KeepsEdits, KeepsNew, new_with, RowPasses, step-acted_all, step-drafted, step-plugged, step-set, step-stood}

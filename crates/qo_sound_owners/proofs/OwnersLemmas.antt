@@ -1,26 +1,8 @@
 -- The owners of a board, from what each object is by its type, and back; what keeps them.
 use Rattle.std.proofs.Common.{◌≡◌, refl, ap, sym, ◌∙◌, ℕ, Bool, true, false, eqb, List, codes, Option, Some, None, option_map, option_and_then, is_some, Ok, Err}
-use Rattle.std.specs.Option.{option_map_or}
-use Rattle.std.specs.Str.{bytes_eq}
+use Rattle.qo_model.proofs.Common.{option_map_or, bytes_eq, Registers, MACHINE_BIRTH, E45, E46, Act, TypeId, Container, Machine, Val, Board, Record, kind_of, record_of, clock_scaled, clock_set, acted, source_of, among, Change, changed, opening_board, is_of, Wanted, plug, is_a, detach, set_named}
 use Rattle.std.proofs.lemmas.Option.{same_Some}
-use Rattle.qo_values.specs.Registers.{Registers}
-use Rattle.qo_values.specs.declared.births.TheConstants.{MACHINE_BIRTH}
-use Rattle.qo_values.specs.declared.codes.Code.TheVariants.{E45, E46}
-use Rattle.qo_values.specs.declared.kinds.Act.{Act}
-use Rattle.qo_values.specs.declared.kinds.TypeId.{TypeId}
-use Rattle.qo_values.specs.declared.kinds.TypeId.TheVariants.{Container, Machine}
-use Rattle.qo_values.specs.declared.properties.Val.{Val}
 use Rattle.qo_values.specs.declared.properties.Val.TheVariants as val
-use Rattle.qo_model.specs.Board.{Board, Record, kind_of, record_of}
-use Rattle.qo_model.specs.ClockChanges.{clock_scaled, clock_set}
-use Rattle.qo_model.specs.Clocks.{acted, source_of}
-use Rattle.qo_model.specs.Depth.{among}
-use Rattle.qo_model.specs.FinalNotesRuns.{Change, changed}
-use Rattle.qo_model.specs.Opening.{opening_board}
-use Rattle.qo_model.specs.Paths.{is_of}
-use Rattle.qo_model.specs.Plug.{Wanted, plug}
-use Rattle.qo_model.specs.Types.{is_a}
-use Rattle.qo_model.specs.Unplug.{detach, set_named}
 use Rattle.qo_model.proofs.StepLemmas.{found-birth}
 use Rattle.qo_sound_clocks.specs.RegisterWrites.{registers_set}
 use Rattle.qo_sound_clocks.proofs.StepsLemmas.{kept-written, calls-kept}

@@ -1,11 +1,7 @@
 -- What acts keep, and devices that go, the reset of the whole board keeps.
 use Rattle.std.proofs.Common.{◌≡◌, refl, ℕ, zero, suc, true, length, Option, Some, None}
-use Rattle.qo_values.specs.declared.births.TheConstants.{MACHINE_BIRTH}
-use Rattle.qo_values.specs.declared.kinds.Act.{Act}
-use Rattle.qo_model.specs.Board.{Board}
-use Rattle.qo_model.specs.Clocks.{acted}
-use Rattle.qo_model.specs.Hotplug.{all_completed, completed, reset_whole}
-use Rattle.qo_model.specs.Unplug.{detach, first_of}
+use Rattle.qo_model.proofs.Common.{MACHINE_BIRTH, Act, Board, acted, all_completed, completed, reset_whole, detach}
+use Rattle.qo_model.specs.Unplug.{first_of}
 use Rattle.qo_sound.proofs.QuietStepsLemmas.{quiet-pulse}
 use Rattle.qo_sound_devices.specs.SoundDevices.{SoundDevices}
 use Rattle.qo_sound_devices.specs.SoundLists.{IsOn}

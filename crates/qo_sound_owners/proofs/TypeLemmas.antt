@@ -1,22 +1,9 @@
 -- What an object is by its type alone: who has a kept path, and which births are those of a container and of the machine.
 use Rattle.std.proofs.Common.{◌≡◌, ap, sym, subst, ◌∙◌, rules, ℕ, ◌+◌, ◌&&◌, ◌||◌, ◌==◌, Bool, true, false, not, List, codes, Option, Some, None, is_some, option_map}
-use Rattle.std.specs.Bool.{⊤}
-use Rattle.std.specs.List.{AllByRecursion}
+use Rattle.qo_model.proofs.Common.{⊤, AllByRecursion, Registers, MACHINE_BIRTH, Code, TypeId, Container, Machine, Board, Record, record_of, among, Change, added, changed, deleted, severed, wrote, Given, added_as, opening_board, Wanted, drafted, plug, spot_of, with_path, with_plugged, without_slots, is_a, slots_of, types}
 use Rattle.std.proofs.lemmas.Bool.{and_parts, eqb-true}
 use Rattle.std.proofs.lemmas.Option.{same_Some}
-use Rattle.qo_values.specs.Registers.{Registers}
-use Rattle.qo_values.specs.declared.births.TheConstants.{MACHINE_BIRTH}
-use Rattle.qo_values.specs.declared.codes.Code.{Code}
-use Rattle.qo_values.specs.declared.kinds.TypeId.{TypeId}
-use Rattle.qo_values.specs.declared.kinds.TypeId.TheVariants.{Object, Container, Machine, Device, SlotDevice, SlotUart, SlotTimer, SlotBridge, MemDimm, Bus, SlotBus, MemBus, Clock, MemoryBackend, MemoryBackendRam, Tag}
-use Rattle.qo_model.specs.Board.{Board, Record, record_of}
-use Rattle.qo_model.specs.Depth.{among}
-use Rattle.qo_model.specs.FinalNotesRuns.{Change, added, changed, deleted, severed, wrote}
-use Rattle.qo_model.specs.Objects.{Given, added_as}
-use Rattle.qo_model.specs.Opening.{opening_board}
-use Rattle.qo_model.specs.Plug.{Wanted, drafted, plug, spot_of, with_path, with_plugged}
-use Rattle.qo_model.specs.ReleaseInduction.{without_slots}
-use Rattle.qo_model.specs.Types.{is_a, slots_of, types}
+use Rattle.qo_values.proofs.EachLemmas.{each}
 use Rattle.qo_model.proofs.ComesToLemmas.{addition-comes}
 use Rattle.qo_model.proofs.StepLemmas.{found-birth}
 use Rattle.qo_sound.proofs.AddLemmas.{creatable}
@@ -66,60 +53,15 @@ apt-fresh r none plain = (
 
 plain-device : (t : TypeId) → is_a t (codes "device") ≡ true → Plain t
 unfolding types
-plain-device Object e = tt
-plain-device Container e = absurd (let clash : false ≡ true = e in cc)
-plain-device Machine e = absurd (let clash : false ≡ true = e in cc)
-plain-device Device e = tt
-plain-device SlotDevice e = tt
-plain-device SlotUart e = tt
-plain-device SlotTimer e = tt
-plain-device SlotBridge e = tt
-plain-device MemDimm e = tt
-plain-device Bus e = tt
-plain-device SlotBus e = tt
-plain-device MemBus e = tt
-plain-device Clock e = tt
-plain-device MemoryBackend e = tt
-plain-device MemoryBackendRam e = tt
-plain-device Tag e = tt
+plain-device = each (λ (t : TypeId). is_a t (codes "device") ≡ true → Plain t) (search rules)
 
 plain-creatable : (t : TypeId) → is_a t (codes "user-creatable") ≡ true → Plain t
 unfolding types
-plain-creatable Object e = tt
-plain-creatable Container e = absurd (let clash : false ≡ true = e in cc)
-plain-creatable Machine e = absurd (let clash : false ≡ true = e in cc)
-plain-creatable Device e = tt
-plain-creatable SlotDevice e = tt
-plain-creatable SlotUart e = tt
-plain-creatable SlotTimer e = tt
-plain-creatable SlotBridge e = tt
-plain-creatable MemDimm e = tt
-plain-creatable Bus e = tt
-plain-creatable SlotBus e = tt
-plain-creatable MemBus e = tt
-plain-creatable Clock e = tt
-plain-creatable MemoryBackend e = tt
-plain-creatable MemoryBackendRam e = tt
-plain-creatable Tag e = tt
+plain-creatable = each (λ (t : TypeId). is_a t (codes "user-creatable") ≡ true → Plain t) (search rules)
 
 rows-plain : (t : TypeId) → AllByRecursion (RowPasses Plain) (slots_of t)
 unfolding types
-rows-plain Object = search rules
-rows-plain Container = search rules
-rows-plain Machine = search rules
-rows-plain Device = search rules
-rows-plain SlotDevice = search rules
-rows-plain SlotUart = search rules
-rows-plain SlotTimer = search rules
-rows-plain SlotBridge = search rules
-rows-plain MemDimm = search rules
-rows-plain Bus = search rules
-rows-plain SlotBus = search rules
-rows-plain MemBus = search rules
-rows-plain Clock = search rules
-rows-plain MemoryBackend = search rules
-rows-plain MemoryBackendRam = search rules
-rows-plain Tag = search rules
+rows-plain = each (λ (t : TypeId). AllByRecursion (RowPasses Plain) (slots_of t)) (search rules)
 
 -- the opening board
 abbrev is_container : TypeId → Bool

@@ -1,28 +1,7 @@
 -- What stands in `/objects` is of a type of objects that a user creates: what keeps it so.
 use Rattle.std.proofs.Common.{◌≡◌, refl, ap, sym, subst, ◌∙◌, rules, ℕ, ◌+◌, ◌==◌, true, false, List, [], ◌∷◌, ◌++◌, filter_map, map, length, codes, arith, Option, Some, None, is_some, option_map}
-use Rattle.std.specs.Bool.{⊤}
-use Rattle.std.specs.List.{AllByRecursion}
-use Rattle.std.specs.Option.{option_map_or, option_or}
+use Rattle.qo_model.proofs.Common.{⊤, AllByRecursion, option_map_or, option_or, bytes_eq, Registers, fresh_registers, OBJECTS_BIRTH, Code, Act, TypeId, Val, Board, Record, child, is_live, kind_of, record_of, slots_at, with_added, acted, after_write, Change, added, changed, deleted, severed, wrote, Given, added_as, given_slots, object_del, sever, severed_from, with_attempt, with_object, opening_board, is_of, Wanted, plug, plug_attempt, spot_of, with_plugged, write, edited, let_go, pin, unpin, is_a, types, detach, set_named, unrealize}
 use Rattle.std.proofs.lemmas.Bool.{eq-eqb}
-use Rattle.std.specs.Str.{bytes_eq}
-use Rattle.qo_values.specs.Registers.{Registers, fresh_registers}
-use Rattle.qo_values.specs.declared.births.TheConstants.{OBJECTS_BIRTH}
-use Rattle.qo_values.specs.declared.codes.Code.{Code}
-use Rattle.qo_values.specs.declared.kinds.Act.{Act}
-use Rattle.qo_values.specs.declared.kinds.TypeId.{TypeId}
-use Rattle.qo_values.specs.declared.properties.Val.{Val}
-use Rattle.qo_model.specs.Board.{Board, Record, child, is_live, kind_of, record_of, slots_at}
-use Rattle.qo_model.specs.Changes.{with_added}
-use Rattle.qo_model.specs.Clocks.{acted}
-use Rattle.qo_model.specs.FinalNotesRuns.{after_write, Change, added, changed, deleted, severed, wrote}
-use Rattle.qo_model.specs.Objects.{Given, added_as, given_slots, object_del, sever, severed_from, with_attempt, with_object}
-use Rattle.qo_model.specs.Opening.{opening_board}
-use Rattle.qo_model.specs.Paths.{is_of}
-use Rattle.qo_model.specs.Plug.{Wanted, plug, plug_attempt, spot_of, with_plugged}
-use Rattle.qo_model.specs.Properties.{write}
-use Rattle.qo_model.specs.Release.{edited, let_go, pin, unpin}
-use Rattle.qo_model.specs.Types.{is_a, types}
-use Rattle.qo_model.specs.Unplug.{detach, set_named, unrealize}
 use Rattle.qo_model.proofs.ComesToLemmas.{addition-comes, deletion-comes, sever-comes, severed-comes}
 use Rattle.qo_model.proofs.StepLemmas.{found_at, found-edited, found-birth}
 use Rattle.qo_sound.proofs.AddLemmas.{creatable}

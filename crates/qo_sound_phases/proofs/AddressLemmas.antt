@@ -1,18 +1,10 @@
 -- Who is found by slots from a bus of the machine down stands in its place, and the first bus of who stands may be held in reset.
-use Rattle.std.proofs.Common.{◌≡◌, refl, sym, ℕ, Bool, true, false, ◌==◌, List, [], ◌∷◌, find, filter_map, option_map, option_and_then, Option, Some, None, codes}
-use Rattle.std.specs.Option.{option_map_or}
-use Rattle.std.specs.Str.{bytes_eq}
+use Rattle.std.proofs.Common.{rules, ◌≡◌, refl, sym, ℕ, Bool, true, false, ◌==◌, List, [], ◌∷◌, find, filter_map, option_map, option_and_then, Option, Some, None, codes}
+use Rattle.qo_model.proofs.Common.{option_map_or, bytes_eq, MEMORY_BUS_BIRTH, ROOT_BUS_BIRTH, TypeId, Board, Slot, plain, child, strong, weak, alias, kind_of, slots_at, among, buses_of, first_bus, found_at, kid_at, kid_name, strong_in, attached, is_of, is_a, types}
 use Rattle.std.proofs.lemmas.Bool.{eq-eqb}
 use Rattle.std.proofs.lemmas.Option.{same_Some}
 use Rattle.std.proofs.Math.Bool.{or-true}
-use Rattle.qo_values.specs.declared.births.TheConstants.{MEMORY_BUS_BIRTH, ROOT_BUS_BIRTH}
-use Rattle.qo_values.specs.declared.kinds.TypeId.{TypeId}
-use Rattle.qo_values.specs.declared.kinds.TypeId.TheVariants.{Object, Container, Machine, Device, SlotDevice, SlotUart, SlotTimer, SlotBridge, MemDimm, Bus, SlotBus, MemBus, Clock, MemoryBackend, MemoryBackendRam, Tag}
-use Rattle.qo_model.specs.Board.{Board, Slot, plain, child, strong, weak, alias, kind_of, slots_at}
-use Rattle.qo_model.specs.Depth.{among}
-use Rattle.qo_model.specs.Devices.{buses_of, first_bus, found_at, kid_at, kid_name, strong_in}
-use Rattle.qo_model.specs.Paths.{attached, is_of}
-use Rattle.qo_model.specs.Types.{is_a, types}
+use Rattle.qo_values.proofs.EachLemmas.{each}
 use Rattle.qo_sound.proofs.TestLemmas.{decide, clash-back}
 use Rattle.qo_sound_devices.specs.SoundDevices.{SoundDevices}
 use Rattle.qo_sound_devices.specs.SoundPlaces.{bridges, kid_entry, listed, stands}
@@ -85,22 +77,7 @@ addressed-stands b s h bus slots d its e =
 -- a bus may be held in reset
 bus-resettable : (t : TypeId) → is_a t (codes "bus") ≡ true → is_a t (codes "resettable") ≡ true
 unfolding types
-bus-resettable Object e = clash-back e
-bus-resettable Container e = clash-back e
-bus-resettable Machine e = clash-back e
-bus-resettable Device e = clash-back e
-bus-resettable SlotDevice e = clash-back e
-bus-resettable SlotUart e = clash-back e
-bus-resettable SlotTimer e = clash-back e
-bus-resettable SlotBridge e = clash-back e
-bus-resettable MemDimm e = clash-back e
-bus-resettable Bus e = refl
-bus-resettable SlotBus e = refl
-bus-resettable MemBus e = refl
-bus-resettable Clock e = clash-back e
-bus-resettable MemoryBackend e = clash-back e
-bus-resettable MemoryBackendRam e = clash-back e
-bus-resettable Tag e = clash-back e
+bus-resettable = each (λ (t : TypeId). is_a t (codes "bus") ≡ true → is_a t (codes "resettable") ≡ true) (search rules)
 
 pub first-may : (b : Board) → SoundDevices b → (d m : ℕ) → stands b d ≡ true → first_bus b d ≡ Some m → may_reset b m ≡ true
 first-may b s d m e f = rw (there, resettable (kind_of b m) its.bus) refl

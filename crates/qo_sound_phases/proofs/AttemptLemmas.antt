@@ -1,20 +1,11 @@
 -- An attempt at a device that was given up or cut keeps phases sound: its objects went through their phases in turn, and are gone.
 use Rattle.std.proofs.Common.{◌≡◌, refl, ap, ap₂, sym, ◌∙◌, ℕ, suc, ◌+◌, ◌<◌, ◌≤◌, Bool, true, false, ◌==◌, eqb, List, [], ◌∷◌, ◌++◌, filter, length, map, take, append_assoc, Some, is_some, arith, codes}
-use Rattle.std.specs.Prelude.{if◌then◌else◌}
-use Rattle.std.specs.List.{AllByRecursion, IsDistinct, flat_map}
-use Rattle.std.proofs.lemmas.List.Elements.{filter_map-append}
-use Rattle.qo_values.specs.declared.kinds.Act.TheVariants.{Realize, Unrealize, Enter, Hold, Exit}
-use Rattle.qo_values.specs.declared.kinds.TypeId.{TypeId}
-use Rattle.qo_model.proofs.DraftEndsLemmas.{born-length}
-use Rattle.qo_model.specs.declared.notes.Note.{Note}
+use Rattle.qo_model.proofs.Common.{if◌then◌else◌, AllByRecursion, IsDistinct, Realize, Unrealize, Enter, Hold, Exit, TypeId, Board, among, ending, init_notes, begun_notes, born_from, bus_births, cut_attempt, cut_order, device_last, did, ended_notes, further_of, is_bus, passed_notes, plug_attempt, types_in, with_ended, count, finals, is_a}
 use Rattle.qo_model.specs.declared.notes.Deed.TheVariants.{Final}
-use Rattle.qo_model.specs.Board.{Board}
-use Rattle.qo_model.specs.Depth.{among}
-use Rattle.qo_model.specs.FinalNotes.{ending}
-use Rattle.qo_model.specs.Objects.{init_notes}
-use Rattle.qo_model.specs.Plug.{begun_notes, born_from, bus_births, cut_attempt, cut_order, device_last, did, ended_notes, further_of, is_bus, passed_notes, plug_attempt, types_in, with_ended}
-use Rattle.qo_model.specs.Reset.{count}
-use Rattle.qo_model.specs.Types.{finals, is_a}
+use Rattle.qo_model.specs.declared.notes.Note.{Note}
+use Rattle.std.specs.List.{flat_map}
+use Rattle.std.proofs.lemmas.List.Elements.{filter_map-append}
+use Rattle.qo_model.proofs.DraftEndsLemmas.{born-length}
 use Rattle.qo_sound.proofs.AttemptNotesLemmas.{buses-within}
 use Rattle.qo_sound.proofs.RecordLemmas.{all-append}
 use Rattle.qo_values.proofs.ListLemmas.{all-imply}

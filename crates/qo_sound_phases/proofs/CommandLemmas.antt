@@ -1,21 +1,8 @@
 -- Commands on objects keep phases sound: they leave the devices and the buses that a reset reaches.
 use Rattle.std.proofs.Common.{◌≡◌, refl, ap, sym, subst, ◌∙◌, ℕ, ◌+◌, ◌≤◌, Bool, true, false, ◌==◌, List, [], ◌∷◌, length, map, nat_eq, Option, Some, None, is_some, option_map, arith, codes}
-use Rattle.std.specs.List.{list_any}
-use Rattle.std.specs.Option.{option_map_or, option_or}
+use Rattle.qo_model.proofs.Common.{list_any, option_map_or, option_or, fresh_registers, MACHINE_BIRTH, OBJECTS_BIRTH, Code, TypeId, Board, Record, child, record_of, kind_of, is_live, slots_at, with_added, Change, added, changed, deleted, severed, wrote, Given, added_as, given_slots, object_del, sever, severed_from, with_attempt, with_object, attached, is_of, after, edit, edited, finalize, let_go, pin, put_in_order, unpin, without_first, without_pin, refs, is_a}
 use Rattle.std.proofs.lemmas.Bool.{eq-eqb, eqb-true}
 use Rattle.std.proofs.lemmas.List.Folds.{find-append}
-use Rattle.qo_values.specs.Registers.{fresh_registers}
-use Rattle.qo_values.specs.declared.births.TheConstants.{MACHINE_BIRTH, OBJECTS_BIRTH}
-use Rattle.qo_values.specs.declared.codes.Code.{Code}
-use Rattle.qo_values.specs.declared.kinds.TypeId.{TypeId}
-use Rattle.qo_model.specs.Board.{Board, Record, child, record_of, kind_of, is_live, slots_at}
-use Rattle.qo_model.specs.Changes.{with_added}
-use Rattle.qo_model.specs.FinalNotesRuns.{Change, added, changed, deleted, severed, wrote}
-use Rattle.qo_model.specs.Objects.{Given, added_as, given_slots, object_del, sever, severed_from, with_attempt, with_object}
-use Rattle.qo_model.specs.Paths.{attached, is_of}
-use Rattle.qo_model.specs.Release.{after, edit, edited, finalize, let_go, pin, put_in_order, unpin, without_first, without_pin}
-use Rattle.qo_model.specs.References.{refs}
-use Rattle.qo_model.specs.Types.{is_a}
 use Rattle.qo_model.proofs.ComesToLemmas.{addition-comes, deletion-comes, sever-comes, severed-comes}
 use Rattle.qo_model.proofs.ReleaseScopeLemmas.{release_leaves}
 use Rattle.qo_model.proofs.ChangeScopeLemmas.{changed-stays}

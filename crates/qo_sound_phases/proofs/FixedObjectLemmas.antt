@@ -1,17 +1,9 @@
 -- Objects that steps leave where they are: each that is still there has the same children, bus and type.
 use Rattle.std.proofs.Common.{inr, ◌≡◌, refl, ap, sym, subst, ◌∙◌, ℕ, zero, suc, true, false, ◌==◌, List, [], ◌∷◌, filter_map, find, slice_get, Option, Some, None, is_some, option_map, option_and_then, codes}
-use Rattle.std.specs.Option.{option_map_or}
-use Rattle.std.specs.Str.{bytes_eq}
+use Rattle.qo_model.proofs.Common.{option_map_or, bytes_eq, Val, Board, Record, Slot, plain, child, strong, weak, alias, record_of, kind_of, is_live, slots_at, slot_at, changed_at, point, pointed, set, with_changed, with_val, bus_of, strong_in, after_write, child_of, pointed_at, relinked, property_named, write, after, drop_slot, edit, edited, finalize, let_go, with_dropped, without_hold}
 use Rattle.std.proofs.lemmas.Bool.{eqb-true}
 use Rattle.std.proofs.lemmas.Option.{same_Some}
-use Rattle.qo_values.specs.declared.properties.Val.{Val}
-use Rattle.qo_model.specs.Board.{Board, Record, Slot, plain, child, strong, weak, alias, record_of, kind_of, is_live, slots_at, slot_at, held}
-use Rattle.qo_model.specs.Changes.{changed_at, point, pointed, set, with_changed, with_val}
-use Rattle.qo_model.specs.Devices.{bus_of, strong_in}
-use Rattle.qo_model.specs.FinalNotesRuns.{after_write}
-use Rattle.qo_model.specs.Paths.{child_of}
-use Rattle.qo_model.specs.Properties.{pointed_at, relinked, property_named, write}
-use Rattle.qo_model.specs.Release.{after, drop_slot, edit, edited, finalize, let_go, with_dropped, without_hold}
+use Rattle.qo_model.specs.Board.{held}
 use Rattle.qo_model.proofs.EditLemmas.{StandsAt, stands-at}
 use Rattle.qo_model.proofs.FirstSlotLemmas.{named_in, named-other}
 use Rattle.qo_model.proofs.StepLemmas.{found-edited, is_some-map, map-edited}

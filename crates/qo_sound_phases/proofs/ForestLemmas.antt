@@ -1,8 +1,8 @@
 -- What is gone over below an object, where each object is below one other at most: none is gone over twice.
 use Rattle.std.proofs.Common.{◌≡◌, refl, ap, sym, subst, ◌∙◌, ℕ, zero, suc, ◌<◌, ◌≤◌, true, false, eqb, List, [], ◌∷◌, ◌++◌, arith}
-use Rattle.std.specs.List.{IsDistinct, flat_map}
+use Rattle.qo_model.proofs.Common.{IsDistinct, among, by_depth, by_objects, IsLocal, IsTree, leads, Leads, one, more}
+use Rattle.std.specs.List.{flat_map}
 use Rattle.std.proofs.lemmas.Bool.{eqb-true, eq-eqb}
-use Rattle.qo_model.specs.Depth.{among, by_depth, by_objects, IsLocal, IsTree, leads, Leads, one, more}
 use Rattle.qo_model.proofs.DepthLemmas.{by_objects_is, Leads-push}
 use Rattle.qo_sound.proofs.TestLemmas.{decide, clash, clash-back}
 use Rattle.qo_sound_phases.proofs.ListLemmas.{among-cases, among-left, among-right, distinct-append, distinct-joined, From, from-joined, joined-among, one-among}

@@ -1,16 +1,6 @@
 -- Where what a reset reaches is as on another board, it goes over the same objects above each of them, and as many holds are above it.
 use Rattle.std.proofs.Common.{◌≡◌, ap, sym, subst, ◌∙◌, ℕ, true, false, List, Option, Some, codes}
-use Rattle.std.specs.Prelude.{count_by}
-use Rattle.std.specs.List.{list_any}
-use Rattle.qo_values.specs.declared.births.TheConstants.{MACHINE_BIRTH}
-use Rattle.qo_values.specs.declared.kinds.TypeId.{TypeId}
-use Rattle.std.specs.Option.{option_map_or}
-use Rattle.qo_model.specs.Board.{Board, is_live, kind_of}
-use Rattle.qo_model.specs.Depth.{among, leads}
-use Rattle.qo_model.specs.Devices.{bus_of}
-use Rattle.qo_model.specs.Paths.{is_of}
-use Rattle.qo_model.specs.Reset.{below, count, post}
-use Rattle.qo_model.specs.Types.{is_a}
+use Rattle.qo_model.proofs.Common.{count_by, list_any, MACHINE_BIRTH, TypeId, option_map_or, Board, is_live, kind_of, among, leads, bus_of, is_of, below, count, post, is_a}
 use Rattle.qo_sound.proofs.TestLemmas.{clash}
 use Rattle.qo_sound_devices.specs.SoundPlaces.{child_entries, HasOwner, machines, bridges, listed, owns, owns_it, stands}
 use Rattle.qo_sound_devices.proofs.AttachmentLemmas.{owns-listed}

@@ -1,16 +1,10 @@
 -- A hold, a hold less, and both keep phases sound.
 use Rattle.std.proofs.Common.{◌≡◌, refl, ap, sym, subst, ◌∙◌, ℕ, ◌+◌, ◌<◌, Bool, true, false, ◌&&◌, ◌==◌, eqb, cond, List, [], ◌∷◌, ◌++◌, filter, map, Some, is_some, arith}
-use Rattle.std.specs.Prelude.{count_by, if◌then◌else◌}
-use Rattle.std.specs.List.{AllByRecursion, IsDistinct}
+use Rattle.qo_model.proofs.Common.{count_by, if◌then◌else◌, AllByRecursion, IsDistinct, Enter, Hold, Exit, Board, among, did, without_first, count, is_out, phased, post, pulse, released}
+use Rattle.qo_model.specs.declared.notes.Note.{Note}
 use Rattle.std.proofs.lemmas.Bool.{and_parts, eqb-true, eq-eqb}
 use Rattle.std.proofs.lemmas.List.Sums.{sum_by-append, sum_by-cons}
-use Rattle.qo_values.specs.declared.kinds.Act.TheVariants.{Enter, Hold, Exit}
-use Rattle.qo_model.specs.declared.notes.Note.{Note}
-use Rattle.qo_model.specs.Board.{Board}
-use Rattle.qo_model.specs.Depth.{among}
-use Rattle.qo_model.specs.Plug.{did}
-use Rattle.qo_model.specs.Release.{without_first}
-use Rattle.qo_model.specs.Reset.{count, held, is_out, phased, post, pulse, released}
+use Rattle.qo_model.specs.Reset.{held}
 use Rattle.qo_sound.proofs.RecordLemmas.{all-append}
 use Rattle.qo_values.proofs.ListLemmas.{all-imply}
 use Rattle.qo_sound.proofs.TestLemmas.{decide, clash-back}

@@ -1,25 +1,9 @@
 -- The laws: what keeps phases sound, and what that says.
 use Rattle.std.proofs.Common.{◌≡◌, refl, ap, sym, subst, ◌∙◌, ◌<◌, ◌==◌, not, option_map, rules, ℕ, zero, suc, Bool, true, false, ◌||◌, List, length, Option, Some, None, is_some, arith, codes}
-use Rattle.std.specs.List.{AllByRecursion}
-use Rattle.std.specs.Prelude.{if◌then◌else◌}
-use Rattle.std.specs.Option.{option_map_or}
+use Rattle.qo_model.proofs.Common.{AllByRecursion, if◌then◌else◌, option_map_or, Registers, MACHINE_BIRTH, Act, TypeId, Object, Container, Machine, Device, SlotDevice, SlotUart, SlotTimer, SlotBridge, MemDimm, Bus, SlotBus, MemBus, Clock, MemoryBackend, MemoryBackendRam, Tag, Board, Record, kind_of, record_of, acted, among, all_completed, asked, asked_of, completed, device_at, refused, reset_whole, with_attempt, opening_board, attached, is_of, notice_barred, is_a, types}
+use Rattle.qo_model.specs.declared.notes.Deed.TheVariants.{Did}
 use Rattle.std.proofs.lemmas.Bool.{and_parts, eqb-true}
 use Rattle.std.proofs.lemmas.Option.{same_Some}
-use Rattle.qo_values.specs.Registers.{Registers}
-use Rattle.qo_values.specs.declared.births.TheConstants.{MACHINE_BIRTH}
-use Rattle.qo_values.specs.declared.kinds.Act.{Act}
-use Rattle.qo_values.specs.declared.kinds.TypeId.{TypeId}
-use Rattle.qo_values.specs.declared.kinds.TypeId.TheVariants.{Object, Container, Machine, Device, SlotDevice, SlotUart, SlotTimer, SlotBridge, MemDimm, Bus, SlotBus, MemBus, Clock, MemoryBackend, MemoryBackendRam, Tag}
-use Rattle.qo_model.specs.declared.notes.Deed.TheVariants.{Did}
-use Rattle.qo_model.specs.Board.{Board, Record, kind_of, record_of}
-use Rattle.qo_model.specs.Clocks.{acted}
-use Rattle.qo_model.specs.Depth.{among}
-use Rattle.qo_model.specs.Hotplug.{all_completed, asked, asked_of, completed, device_at, refused, reset_whole}
-use Rattle.qo_model.specs.Objects.{with_attempt}
-use Rattle.qo_model.specs.Opening.{opening_board}
-use Rattle.qo_model.specs.Paths.{attached, is_of}
-use Rattle.qo_model.specs.Plug.{notice_barred}
-use Rattle.qo_model.specs.Types.{is_a, types}
 use Rattle.qo_model.specs.Unplug.{first_of}
 use Rattle.qo_model.proofs.StepLemmas.{found-birth}
 use Rattle.qo_sound.proofs.SearchLemmas.{all-found}

@@ -1,15 +1,12 @@
 -- Lists of numbers without repeats, and what is noted of each of them.
 use Rattle.std.proofs.Common.{◌≡◌, refl, ap, sym, subst, ◌∙◌, ℕ, Bool, true, false, ◌&&◌, ◌||◌, ◌==◌, eqb, List, [], ◌∷◌, ◌++◌, filter, map, Some, None, arith}
-use Rattle.std.specs.Prelude.{if◌then◌else◌}
-use Rattle.std.specs.List.{AllByRecursion, IsDistinct, flat_map}
+use Rattle.qo_model.proofs.Common.{if◌then◌else◌, AllByRecursion, IsDistinct, Act, among, did}
+use Rattle.qo_model.specs.declared.notes.Deed.TheVariants.{Did}
+use Rattle.std.specs.List.{flat_map}
 use Rattle.std.proofs.lemmas.Bool.{eqb-true, eq-eqb}
 use Rattle.std.proofs.lemmas.List.Folds.{list_any-append}
 use Rattle.std.proofs.Math.Bool.{or-true, and-false}
-use Rattle.qo_values.specs.declared.kinds.Act.{Act}
 use Rattle.qo_model.proofs.AmongLemmas.{among-apart}
-use Rattle.qo_model.specs.declared.notes.Deed.TheVariants.{Did}
-use Rattle.qo_model.specs.Depth.{among}
-use Rattle.qo_model.specs.Plug.{did}
 use Rattle.qo_sound.proofs.RecordLemmas.{all-filter}
 use Rattle.qo_sound.proofs.TestLemmas.{decide, clash, clash-back}
 use Rattle.qo_sound_phases.specs.Phases.{phase_of, phases_of}

@@ -1,23 +1,10 @@
 -- No step makes another machine.
 use Rattle.std.proofs.Common.{◌≡◌, refl, ap, sym, subst, ◌∙◌, ℕ, ◌+◌, Bool, true, false, ◌==◌, List, [], ◌∷◌, map, Option, Some, None, option_map, rules, codes}
-use Rattle.std.specs.Bool.{⊤}
-use Rattle.std.specs.List.{AllByRecursion}
-use Rattle.std.specs.Option.{option_or}
+use Rattle.qo_model.proofs.Common.{⊤, AllByRecursion, option_or, fresh_registers, OBJECTS_BIRTH, Code, TypeId, Machine, Board, Record, child, kind_of, record_of, with_added, Change, added, changed, deleted, severed, wrote, Given, added_as, given_slots, with_object, Spot, Wanted, drafted, with_plugged, after, edited, finalize, is_a, slots_of, types}
 use Rattle.std.proofs.lemmas.List.Folds.{find-append}
 use Rattle.std.proofs.lemmas.Option.{same_Some}
-use Rattle.qo_values.specs.Registers.{fresh_registers}
-use Rattle.qo_values.specs.declared.births.TheConstants.{OBJECTS_BIRTH}
-use Rattle.qo_values.specs.declared.codes.Code.{Code}
-use Rattle.qo_values.specs.declared.kinds.TypeId.{TypeId}
-use Rattle.qo_values.specs.declared.kinds.TypeId.TheVariants.{Object, Container, Machine, Device, SlotDevice, SlotUart, SlotTimer, SlotBridge, MemDimm, Bus, SlotBus, MemBus, Clock, MemoryBackend, MemoryBackendRam, Tag}
+use Rattle.qo_values.proofs.EachLemmas.{each}
 use Rattle.qo_model.proofs.FinalNotesLemmas.{live-of-kind}
-use Rattle.qo_model.specs.Board.{Board, Record, child, kind_of, record_of}
-use Rattle.qo_model.specs.Changes.{with_added}
-use Rattle.qo_model.specs.FinalNotesRuns.{Change, added, changed, deleted, severed, wrote}
-use Rattle.qo_model.specs.Objects.{Given, added_as, given_slots, with_object}
-use Rattle.qo_model.specs.Plug.{Spot, Wanted, drafted, with_plugged}
-use Rattle.qo_model.specs.Release.{after, edited, finalize}
-use Rattle.qo_model.specs.Types.{is_a, slots_of, types}
 use Rattle.qo_model.proofs.ComesToLemmas.{addition-comes}
 use Rattle.qo_model.proofs.StepLemmas.{found_at, found-edited}
 use Rattle.qo_sound.proofs.AddLemmas.{creatable}
@@ -72,60 +59,15 @@ new k slots made c h = λ x e.
 -- a device is none, and has none
 device-other : (t : TypeId) → is_a t (codes "device") ≡ true → Other t
 unfolding types
-device-other Object e = tt
-device-other Container e = tt
-device-other Machine e = clash-back e
-device-other Device e = tt
-device-other SlotDevice e = tt
-device-other SlotUart e = tt
-device-other SlotTimer e = tt
-device-other SlotBridge e = tt
-device-other MemDimm e = tt
-device-other Bus e = tt
-device-other SlotBus e = tt
-device-other MemBus e = tt
-device-other Clock e = tt
-device-other MemoryBackend e = tt
-device-other MemoryBackendRam e = tt
-device-other Tag e = tt
+device-other = each (λ (t : TypeId). is_a t (codes "device") ≡ true → Other t) (search rules)
 
 user-other : (t : TypeId) → is_a t (codes "user-creatable") ≡ true → Other t
 unfolding types
-user-other Object e = tt
-user-other Container e = tt
-user-other Machine e = clash-back e
-user-other Device e = tt
-user-other SlotDevice e = tt
-user-other SlotUart e = tt
-user-other SlotTimer e = tt
-user-other SlotBridge e = tt
-user-other MemDimm e = tt
-user-other Bus e = tt
-user-other SlotBus e = tt
-user-other MemBus e = tt
-user-other Clock e = tt
-user-other MemoryBackend e = tt
-user-other MemoryBackendRam e = tt
-user-other Tag e = tt
+user-other = each (λ (t : TypeId). is_a t (codes "user-creatable") ≡ true → Other t) (search rules)
 
 rows-other : (t : TypeId) → AllByRecursion (RowPasses Other) (slots_of t)
 unfolding types
-rows-other Object = search rules
-rows-other Container = search rules
-rows-other Machine = search rules
-rows-other Device = search rules
-rows-other SlotDevice = search rules
-rows-other SlotUart = search rules
-rows-other SlotTimer = search rules
-rows-other SlotBridge = search rules
-rows-other MemDimm = search rules
-rows-other Bus = search rules
-rows-other SlotBus = search rules
-rows-other MemBus = search rules
-rows-other Clock = search rules
-rows-other MemoryBackend = search rules
-rows-other MemoryBackendRam = search rules
-rows-other Tag = search rules
+rows-other = each (λ (t : TypeId). AllByRecursion (RowPasses Other) (slots_of t)) (search rules)
 
 pub lone-plugged : (b : Board) (t : TypeId) (a : Wanted) (spot : Spot) → is_a t (codes "device") ≡ true → LoneMachine b → LoneMachine (with_plugged b t a spot)
 lone-plugged b t a spot its h =

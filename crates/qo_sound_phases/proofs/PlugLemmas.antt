@@ -1,26 +1,10 @@
 -- A device that is added keeps phases sound: it goes through them, and stays held where it is below a hold.
 use Rattle.std.proofs.Common.{◌≡◌, refl, ap, ap₂, sym, subst, ◌∙◌, ℕ, ◌+◌, ◌<◌, ◌≤◌, Bool, true, false, ◌==◌, eqb, List, [], ◌∷◌, ◌++◌, filter, map, Option, Some, None, is_some, arith, codes}
-use Rattle.std.specs.Prelude.{if◌then◌else◌}
-use Rattle.std.specs.Bool.{⊤}
-use Rattle.std.specs.List.{AllByRecursion, IsDistinct, list_any}
-use Rattle.std.specs.Option.{option_or}
+use Rattle.qo_model.proofs.Common.{if◌then◌else◌, ⊤, AllByRecursion, IsDistinct, list_any, option_or, ANONYMOUS_BIRTH, MACHINE_BIRTH, PERIPHERAL_BIRTH, ROOT_BIRTH, Code, Act, Realize, Enter, Hold, Exit, TypeId, Board, Record, is_live, record_of, among, bus_of, canonical, is_of, Spot, Wanted, acted_all, barred_early, barred_late, bus_births, bus_for, counted, did, drafted, plug, plug_as, plug_by, plug_late, spot_of, notified_plug, type_barred, with_body_of, with_device, with_new, with_path, with_plugged, edit, edited, below, is_out, phased, plugged, post, TypeInfo, is_a, type_named, slots_of}
+use Rattle.qo_model.specs.declared.notes.Note.{Note}
 use Rattle.std.proofs.lemmas.Bool.{eqb-true}
 use Rattle.std.proofs.lemmas.List.Folds.{find-append}
 use Rattle.std.proofs.lemmas.Option.{same_Some}
-use Rattle.qo_values.specs.declared.births.TheConstants.{ANONYMOUS_BIRTH, MACHINE_BIRTH, PERIPHERAL_BIRTH, ROOT_BIRTH}
-use Rattle.qo_values.specs.declared.codes.Code.{Code}
-use Rattle.qo_values.specs.declared.kinds.Act.{Act}
-use Rattle.qo_values.specs.declared.kinds.Act.TheVariants.{Realize, Enter, Hold, Exit}
-use Rattle.qo_values.specs.declared.kinds.TypeId.{TypeId}
-use Rattle.qo_model.specs.declared.notes.Note.{Note}
-use Rattle.qo_model.specs.Board.{Board, Record, is_live, record_of}
-use Rattle.qo_model.specs.Depth.{among}
-use Rattle.qo_model.specs.Devices.{bus_of}
-use Rattle.qo_model.specs.Paths.{canonical, is_of}
-use Rattle.qo_model.specs.Plug.{Spot, Wanted, acted_all, barred_early, barred_late, bus_births, bus_for, counted, did, drafted, plug, plug_as, plug_by, plug_late, spot_of, notified_plug, type_barred, with_body_of, with_device, with_new, with_path, with_plugged}
-use Rattle.qo_model.specs.Release.{edit, edited}
-use Rattle.qo_model.specs.Reset.{below, is_out, phased, plugged, post}
-use Rattle.qo_model.specs.Types.{TypeInfo, is_a, type_named, slots_of}
 use Rattle.qo_model.proofs.StepLemmas.{found_at, found-edited, is_some-map}
 use Rattle.qo_sound.specs.DeviceScope.{AddLeaves}
 use Rattle.qo_sound.proofs.DeviceScopeLemmas.{devices_stay_lem}

@@ -1,27 +1,10 @@
 -- Changes that note no phase, and those that change no object.
 use Rattle.std.proofs.Common.{◌≡◌, refl, ap, sym, subst, ◌∙◌, ℕ, ◌+◌, ◌<◌, ◌≤◌, leb, Bool, true, false, ◌==◌, List, [], ◌∷◌, ◌++◌, map, append-nil, Option, Some, None, is_some, arith}
-use Rattle.std.specs.Prelude.{if◌then◌else◌}
-use Rattle.std.specs.Bool.{⊤}
-use Rattle.std.specs.Option.{option_map_or}
-use Rattle.std.specs.List.{AllByRecursion, cons_option}
-use Rattle.std.proofs.lemmas.List.Elements.{filter_map-append}
-use Rattle.qo_values.specs.Registers.{fresh_registers}
-use Rattle.qo_values.specs.declared.kinds.Act.{Act}
-use Rattle.qo_values.specs.declared.kinds.Act.TheVariants.{Init}
-use Rattle.qo_values.specs.declared.kinds.TypeId.{TypeId}
+use Rattle.qo_model.proofs.Common.{if◌then◌else◌, ⊤, option_map_or, AllByRecursion, cons_option, fresh_registers, Act, Init, TypeId, Board, Record, is_live, record_of, acted, Change, added, changed, deleted, severed, wrote, Given, added_as, init_notes, object_add, with_attempt, Spot, Wanted, acted_all, counted, drafted, with_device, with_new, after, final_notes, finalize, finals_of, NotesEnds, notes_on, refs, finals, inits, slots_of, Code}
 use Rattle.qo_model.specs.declared.notes.Deed.{Deed}
 use Rattle.qo_model.specs.declared.notes.Deed.TheVariants.{Did, Final}
 use Rattle.qo_model.specs.declared.notes.Note.{Note}
-use Rattle.qo_model.specs.Board.{Board, Record, is_live, record_of}
-use Rattle.qo_model.specs.Clocks.{acted}
-use Rattle.qo_model.specs.FinalNotesRuns.{Change, added, changed, deleted, severed, wrote}
-use Rattle.qo_model.specs.Objects.{Given, added_as, init_notes, object_add, with_attempt}
-use Rattle.qo_model.specs.Plug.{Spot, Wanted, acted_all, counted, drafted, with_device, with_new}
-use Rattle.qo_model.specs.Release.{after, final_notes, finalize}
-use Rattle.qo_model.specs.ReleaseNotes.{finals_of, NotesEnds, notes_on}
-use Rattle.qo_model.specs.References.{refs}
-use Rattle.qo_model.specs.Types.{finals, inits, slots_of}
-use Rattle.qo_values.specs.declared.codes.Code.{Code}
+use Rattle.std.proofs.lemmas.List.Elements.{filter_map-append}
 use Rattle.qo_model.proofs.ComesToLemmas.{addition-comes}
 use Rattle.qo_model.proofs.ReleaseNotesLemmas.{final_notes_lem}
 use Rattle.qo_sound.proofs.ChangeStepsLemmas.{step-object_del, step-sever, step-write}

@@ -1,14 +1,7 @@
 -- What a reset reaches: what is below such an object is such too, and so is what is above it.
 use Rattle.std.proofs.Common.{◌≡◌, refl, ap, sym, subst, ◌∙◌, filter_map, ℕ, ◌<◌, true, false, eqb, List, [], ◌∷◌, Some, codes, None}
-use Rattle.std.specs.List.{AllByRecursion, list_any}
+use Rattle.qo_model.proofs.Common.{AllByRecursion, list_any, ANONYMOUS_BIRTH, MACHINE_BIRTH, MEMORY_BUS_BIRTH, PERIPHERAL_BIRTH, ROOT_BIRTH, ROOT_BUS_BIRTH, Container, Board, Slot, is_live, kind_of, among, leads, is_of, below, post, is_a, types}
 use Rattle.std.proofs.lemmas.Bool.{eqb-true}
-use Rattle.qo_values.specs.declared.births.TheConstants.{ANONYMOUS_BIRTH, MACHINE_BIRTH, MEMORY_BUS_BIRTH, PERIPHERAL_BIRTH, ROOT_BIRTH, ROOT_BUS_BIRTH}
-use Rattle.qo_values.specs.declared.kinds.TypeId.TheVariants.{Container}
-use Rattle.qo_model.specs.Board.{Board, Slot, is_live, kind_of}
-use Rattle.qo_model.specs.Depth.{among, leads}
-use Rattle.qo_model.specs.Paths.{is_of}
-use Rattle.qo_model.specs.Reset.{below, post}
-use Rattle.qo_model.specs.Types.{is_a, types}
 use Rattle.qo_values.proofs.ListLemmas.{all-imply}
 use Rattle.qo_sound.proofs.TestLemmas.{decide, clash, clash-back}
 use Rattle.qo_sound_devices.proofs.LocationLemmas.{machine-no_device}

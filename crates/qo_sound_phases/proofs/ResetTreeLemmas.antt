@@ -1,19 +1,10 @@
 -- What a reset goes over on a sound board: each object is below one other at most, and the list has none twice.
 use Rattle.std.proofs.Common.{◌≡◌, refl, ap, sym, subst, ◌∙◌, ℕ, suc, ◌+◌, ◌*◌, ◌<◌, ◌≤◌, Bool, true, false, not, ◌&&◌, ◌==◌, eqb, List, [], ◌∷◌, filter_map, length, sum_by, Option, Some, None, unwrap_or, arith, codes}
-use Rattle.std.specs.Prelude.{if◌then◌else◌}
-use Rattle.std.specs.List.{AllByRecursion, IsDistinct}
-use Rattle.std.specs.Option.{option_map_or}
-use Rattle.std.specs.Str.{bytes_eq}
+use Rattle.qo_model.proofs.Common.{if◌then◌else◌, AllByRecursion, IsDistinct, option_map_or, bytes_eq, TypeId, Board, Record, Slot, plain, child, strong, weak, alias, kind_of, record_of, slots_at, among, leads, bus_in, bus_of, buses_of, clock_name, kid_name, kids_of, bus_slot_of, strong_in, births, is_child, is_of, below, post}
 use Rattle.std.proofs.lemmas.Bool.{eqb-true, eq-eqb}
 use Rattle.std.proofs.lemmas.List.Sums.{sum_by-cons}
 use Rattle.std.proofs.lemmas.Option.{same_Some}
 use Rattle.std.proofs.lemmas.Slice.Eq.{bytes_eq-Decides}
-use Rattle.qo_values.specs.declared.kinds.TypeId.{TypeId}
-use Rattle.qo_model.specs.Board.{Board, Record, Slot, plain, child, strong, weak, alias, kind_of, record_of, slots_at}
-use Rattle.qo_model.specs.Depth.{among, leads}
-use Rattle.qo_model.specs.Devices.{bus_in, bus_of, buses_of, clock_name, kid_name, kids_of, bus_slot_of, strong_in}
-use Rattle.qo_model.specs.Paths.{births, is_child, is_of}
-use Rattle.qo_model.specs.Reset.{below, post}
 use Rattle.qo_model.proofs.ReleaseLemmas.{found-within}
 use Rattle.qo_model.proofs.StepLemmas.{live-among}
 use Rattle.qo_sound.proofs.FirmBoardLemmas.{Firm, parents_in}

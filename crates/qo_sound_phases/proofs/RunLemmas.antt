@@ -1,8 +1,6 @@
 -- The law: over every run the phases of each birth are in turn.
 use Rattle.std.proofs.Common.{◌≡◌, refl, Bool, true, false, List, [], ◌∷◌}
-use Rattle.qo_model.specs.Board.{Board, Notice}
-use Rattle.qo_model.specs.Depth.{among}
-use Rattle.qo_model.specs.Opening.{opening_board}
+use Rattle.qo_model.proofs.Common.{Board, Notice, among, opening_board}
 use Rattle.qo_sound_devices.specs.DeviceRuns.{DeviceStep, commands, adds, cuts, asks, refuses, lets_go, reads, acts, holds, releases, resets, sends, notice_read, stepped}
 use Rattle.qo_sound_devices.specs.SoundLists.{IsOn}
 use Rattle.qo_sound_devices.proofs.DevicesLawLemmas.{devices_kept_lem}

@@ -1,21 +1,8 @@
 -- Boards of one shape: a reset goes over the same objects, and as many holds are on each and above it.
 use Rattle.std.proofs.Common.{◌≡◌, refl, ap, ap₂, sym, ◌∙◌, append-nil, append_assoc, ℕ, zero, suc, ◌+◌, Bool, cond, false, not, ◌&&◌, List, [], ◌∷◌, ◌++◌, filter_map, length, map, Option, Some, None, option_map, codes}
-use Rattle.std.specs.Prelude.{count_by, if◌then◌else◌}
-use Rattle.std.specs.List.{cons_option, flat_map}
-use Rattle.std.specs.Option.{option_map_or}
-use Rattle.std.specs.Str.{bytes_eq}
+use Rattle.qo_model.proofs.Common.{count_by, if◌then◌else◌, cons_option, option_map_or, bytes_eq, Act, TypeId, Board, Record, Slot, plain, child, strong, weak, alias, kind_of, record_of, slots_at, acted, with_act_on, among, by_depth, bus_in, clock_name, kids_of, strong_in, births, is_of, did, below, count, phased, post, post_turn, is_a, edit, edited}
+use Rattle.std.specs.List.{flat_map}
 use Rattle.std.proofs.lemmas.List.Sums.{sum_by-cons}
-use Rattle.qo_values.specs.declared.kinds.Act.{Act}
-use Rattle.qo_values.specs.declared.kinds.TypeId.{TypeId}
-use Rattle.qo_model.specs.Board.{Board, Record, Slot, plain, child, strong, weak, alias, kind_of, record_of, slots_at}
-use Rattle.qo_model.specs.Clocks.{acted, with_act_on}
-use Rattle.qo_model.specs.Depth.{among, by_depth}
-use Rattle.qo_model.specs.Devices.{bus_in, clock_name, kids_of, strong_in}
-use Rattle.qo_model.specs.Paths.{births, is_of}
-use Rattle.qo_model.specs.Plug.{did}
-use Rattle.qo_model.specs.Reset.{below, count, phased, post, post_turn}
-use Rattle.qo_model.specs.Types.{is_a}
-use Rattle.qo_model.specs.Release.{edit, edited}
 use Rattle.qo_model.proofs.StepLemmas.{found-edited, map-edited, slots-edited}
 use Rattle.qo_sound.proofs.FirmBoardLemmas.{edited-births}
 

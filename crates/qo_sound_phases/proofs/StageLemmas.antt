@@ -1,14 +1,9 @@
 -- Phases, one after another: the stage that an object is in by its notes.
 use Rattle.std.proofs.Common.{◌≡◌, refl, ap, ap₂, sym, ◌∙◌, ℕ, suc, Bool, true, false, eqb, List, [], ◌∷◌, ◌++◌, map, Option, Some, None, is_some, option_and_then}
-use Rattle.std.specs.Prelude.{if◌then◌else◌}
-use Rattle.std.specs.List.{IsDistinct}
-use Rattle.std.proofs.lemmas.List.Elements.{filter_map-append}
-use Rattle.qo_values.specs.declared.kinds.Act.{Act}
-use Rattle.qo_values.specs.declared.kinds.Act.TheVariants.{Init, Realize, Unrealize, Enter, Hold, Exit, Pre, Update}
+use Rattle.qo_model.proofs.Common.{if◌then◌else◌, IsDistinct, Act, Init, Realize, Unrealize, Enter, Hold, Exit, Pre, Update, among, did}
 use Rattle.qo_model.specs.declared.notes.Deed.TheVariants.{Did}
 use Rattle.qo_model.specs.declared.notes.Note.{Note}
-use Rattle.qo_model.specs.Depth.{among}
-use Rattle.qo_model.specs.Plug.{did}
+use Rattle.std.proofs.lemmas.List.Elements.{filter_map-append}
 use Rattle.qo_sound_phases.specs.Phases.{IsInTurn, Stage, entered, held, out, passed, passed_all, phase_in, phase_of, phases_of, resets, stage_of}
 use Rattle.qo_sound_phases.proofs.ListLemmas.{phases-did}
 

@@ -1,21 +1,11 @@
 -- A device is taken out with all that is below it: what each step takes away, and what it leaves of others.
 use Rattle.std.proofs.Common.{◌≡◌, refl, ap, sym, subst, ◌∙◌, nat_eq, ℕ, zero, suc, ◌≤◌, Bool, true, false, ◌==◌, cond, List, [], ◌∷◌, filter_map, length, remove, slice_get, sum_by, Option, Some, None, is_some, option_map, arith, codes}
-use Rattle.std.specs.List.{cons_option, list_any}
-use Rattle.std.specs.Option.{option_map_or}
+use Rattle.qo_model.proofs.Common.{cons_option, list_any, option_map_or, ANONYMOUS_BIRTH, PERIPHERAL_BIRTH, TypeId, Board, Record, Slot, plain, child, strong, weak, alias, record_of, kind_of, is_live, slots_at, slot_at, cut, with_cut, among, bus_of, buses_of, kids_of, index_from, child_of, is_of, after, drop_slot, edit, edited, finalize, let_go, pin, put_in_order, unpin, with_dropped, without_first, without_hold, without_pin, is_a, apart_within, drained, is_bus_child, is_child_slot, is_named, left_bus, left_parent, let_go_where, lost_bus, lost_buses, names_kid, take_slot, take_where, taken_by}
 use Rattle.std.proofs.lemmas.Bool.{eqb-true}
 use Rattle.std.proofs.lemmas.List.Sums.{sum_by-cons}
 use Rattle.std.proofs.lemmas.Option.{same_Some}
-use Rattle.qo_values.specs.declared.births.TheConstants.{ANONYMOUS_BIRTH, PERIPHERAL_BIRTH}
-use Rattle.qo_values.specs.declared.kinds.TypeId.{TypeId}
-use Rattle.qo_model.specs.Board.{Board, Record, Slot, plain, child, strong, weak, alias, record_of, kind_of, is_live, slots_at, slot_at, held}
-use Rattle.qo_model.specs.Changes.{cut, with_cut}
-use Rattle.qo_model.specs.Depth.{among}
-use Rattle.qo_model.specs.Devices.{bus_of, buses_of, kids_of}
-use Rattle.qo_model.specs.Objects.{index_from}
-use Rattle.qo_model.specs.Paths.{child_of, is_of}
-use Rattle.qo_model.specs.Release.{after, drop_slot, edit, edited, finalize, let_go, pin, put_in_order, unpin, with_dropped, without_first, without_hold, without_pin}
-use Rattle.qo_model.specs.Types.{is_a}
-use Rattle.qo_model.specs.Unplug.{apart_within, drained, first_of, is_bus_child, is_child_slot, is_named, left_bus, left_parent, let_go_where, lost_bus, lost_buses, names_kid, take_slot, take_where, taken_by}
+use Rattle.qo_model.specs.Board.{held}
+use Rattle.qo_model.specs.Unplug.{first_of}
 use Rattle.qo_model.proofs.FirstSlotLemmas.{Found, found-at}
 use Rattle.qo_model.proofs.StepLemmas.{found-edited, is_some-map, map-edited}
 use Rattle.qo_sound.proofs.SlotLemmas.{one_child}

@@ -1,17 +1,9 @@
 -- Unrealizing notes no phase, and takes the holds from the device and from all that is below it.
 use Rattle.std.proofs.Common.{◌≡◌, refl, ap, sym, subst, ◌∙◌, ℕ, zero, suc, Bool, true, false, ◌==◌, cond, eqb, List, [], ◌∷◌, length, arith, codes}
-use Rattle.std.specs.Prelude.{count_by}
-use Rattle.std.specs.List.{AllByRecursion}
+use Rattle.qo_model.proofs.Common.{count_by, AllByRecursion, Unrealize, Board, acted, device_period, among, by_depth, buses_of, clock_of, is_realized, kids_of, births, disconnected, each, set_named, unrealize, unrealize_turn, unrealized_bus, unrealized_device, without_all}
 use Rattle.std.proofs.lemmas.Bool.{eqb-true}
 use Rattle.std.proofs.lemmas.List.Sums.{sum_by-cons}
-use Rattle.qo_values.specs.declared.kinds.Act.TheVariants.{Unrealize}
 use Rattle.qo_values.specs.declared.properties.Val.TheVariants as val
-use Rattle.qo_model.specs.Board.{Board}
-use Rattle.qo_model.specs.Clocks.{acted, device_period}
-use Rattle.qo_model.specs.Depth.{among, by_depth}
-use Rattle.qo_model.specs.Devices.{buses_of, clock_of, is_realized, kids_of}
-use Rattle.qo_model.specs.Paths.{births}
-use Rattle.qo_model.specs.Unplug.{disconnected, each, set_named, unrealize, unrealize_turn, unrealized_bus, unrealized_device, without_all}
 use Rattle.qo_sound.proofs.AdditionStepsLemmas.{KeepsEdits, step-set, step-disconnected}
 use Rattle.qo_sound.proofs.TestLemmas.{decide, clash}
 use Rattle.qo_sound_devices.proofs.UnlistingLemmas.{without-own}

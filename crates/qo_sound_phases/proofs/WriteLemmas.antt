@@ -1,19 +1,9 @@
 -- Writes of a clock keep phases sound: its numbers are in no slot that is read here, and no act by which clocks are called back is a phase.
 use Rattle.std.proofs.Common.{◌≡◌, refl, sym, subst, ◌∙◌, ℕ, false, eqb, List, [], ◌∷◌, codes, Option, Some, None, is_some, Ok, Err, arith}
-use Rattle.std.specs.List.{list_any}
-use Rattle.std.specs.Str.{bytes_eq}
-use Rattle.qo_values.specs.declared.codes.Code.TheVariants.{E45, E46, E47}
-use Rattle.qo_values.specs.declared.kinds.Act.{Act}
-use Rattle.qo_values.specs.declared.kinds.Act.TheVariants.{Pre, Update}
-use Rattle.qo_values.specs.declared.properties.Val.TheVariants as val
+use Rattle.qo_model.proofs.Common.{list_any, bytes_eq, E45, E46, E47, Act, Pre, Update, Board, slots_at, set, clock_scaled, clock_set, acted, called, called_all, clock_written, clocks_below, overflows, period, source_of, spread, index_from, is_named, set_named}
 use Rattle.qo_model.specs.declared.notes.Deed.TheVariants.{Did}
-use Rattle.qo_model.specs.Board.{Board, slots_at}
-use Rattle.qo_model.specs.Changes.{set}
-use Rattle.qo_model.specs.ClockChanges.{clock_scaled, clock_set}
-use Rattle.qo_model.specs.Clocks.{acted, called, called_all, clock_written, clocks_below, overflows, period, source_of, spread}
-use Rattle.qo_model.specs.Objects.{index_from}
+use Rattle.qo_values.specs.declared.properties.Val.TheVariants as val
 use Rattle.qo_model.specs.Paths.{parent_of}
-use Rattle.qo_model.specs.Unplug.{is_named, set_named}
 use Rattle.qo_sound.proofs.TestLemmas.{decide}
 use Rattle.qo_sound_devices.specs.SoundDevices.{SoundDevices}
 use Rattle.qo_sound_devices.proofs.PlacesLemmas.{kind-alike}

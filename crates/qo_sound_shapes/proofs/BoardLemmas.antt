@@ -1,19 +1,9 @@
 -- A fact of each object that is there: what edits, acts and releases keep. The shape of a board, from such a fact and back.
 use Rattle.std.proofs.Common.{◌≡◌, refl, ap, sym, subst, ◌∙◌, ℕ, Bool, true, false, ◌==◌, eqb, List, [], ◌∷◌, ◌++◌, Option, Some, None, is_some, option_map}
-use Rattle.std.specs.Cmp.{nat_eq_equiv}
-use Rattle.std.specs.List.{AllByRecursion, list_any}
-use Rattle.std.specs.Option.{option_map_or, option_or}
-use Rattle.std.specs.Prelude.{nat_eq}
+use Rattle.qo_model.proofs.Common.{nat_eq_equiv, AllByRecursion, list_any, option_map_or, option_or, nat_eq, MACHINE_BIRTH, OBJECTS_BIRTH, ROOT_BIRTH, TypeId, Container, Board, Record, Slot, is_live, kind_of, record_of, slot_at, slots_at, opening_board, after, drop_slot, edit, edited, finalize, finish, forgotten, let_go, next_index, pin, unpin, with_dropped, without_pin, KeepsRelease, types}
 use Rattle.std.proofs.lemmas.Bool.{eqb-true}
 use Rattle.std.proofs.lemmas.Option.{same_Some}
-use Rattle.qo_values.specs.declared.births.TheConstants.{MACHINE_BIRTH, OBJECTS_BIRTH, ROOT_BIRTH}
-use Rattle.qo_values.specs.declared.kinds.TypeId.{TypeId}
-use Rattle.qo_values.specs.declared.kinds.TypeId.TheVariants.{Container}
-use Rattle.qo_model.specs.Board.{Board, Record, Slot, held, is_live, kind_of, record_of, slot_at, slots_at}
-use Rattle.qo_model.specs.Opening.{opening_board}
-use Rattle.qo_model.specs.Release.{after, drop_slot, edit, edited, finalize, finish, forgotten, let_go, next_index, pin, unpin, with_dropped, without_pin}
-use Rattle.qo_model.specs.ReleaseInduction.{KeepsRelease}
-use Rattle.qo_model.specs.Types.{types}
+use Rattle.qo_model.specs.Board.{held}
 use Rattle.qo_model.proofs.ReleaseInductionLemmas.{after_keeps}
 use Rattle.qo_model.proofs.StepLemmas.{drop-record, finish-gone, finish-record, found-edited, found_at, found-birth}
 use Rattle.qo_sound.proofs.SearchLemmas.{found-append}

@@ -1,25 +1,16 @@
 -- A child under the name of a property is of the property's type: what keeps it so on every board.
 use Rattle.std.proofs.Common.{◌≡◌, refl, ap, sym, subst, ◌∙◌, rules, ℕ, Bool, true, false, ◌==◌, List, [], ◌∷◌, ◌++◌, find, Option, Some, None, option_map, option_and_then}
-use Rattle.std.specs.List.{AllByRecursion}
-use Rattle.std.specs.Str.{bytes_eq}
-use Rattle.std.specs.Option.{option_map_or, option_or}
+use Rattle.qo_model.proofs.Common.{AllByRecursion, bytes_eq, option_map_or, option_or, MACHINE_BIRTH, ROOT_BIRTH, TypeId, Container, Machine, Board, Record, is_live, kind_of, record_of, slots_at, fresh_slots, opening_board, opening_records, edit, edited, property_name, slots_of, types}
+use Rattle.qo_model.specs.declared.properties.Property.{Property}
 use Rattle.std.proofs.lemmas.Bool.{eqb-true}
 use Rattle.std.proofs.lemmas.Option.{same_Some}
-use Rattle.qo_values.specs.declared.births.TheConstants.{MACHINE_BIRTH, ROOT_BIRTH}
-use Rattle.qo_values.specs.declared.kinds.TypeId.{TypeId}
-use Rattle.qo_values.specs.declared.kinds.TypeId.TheVariants.{Object, Container, Machine, Device, SlotDevice, SlotUart, SlotTimer, SlotBridge, MemDimm, Bus, SlotBus, MemBus, Clock, MemoryBackend, MemoryBackendRam, Tag}
-use Rattle.qo_model.specs.Board.{Board, Record, is_live, kind_of, record_of, slots_at}
-use Rattle.qo_model.specs.Opening.{fresh_slots, opening_board, opening_records}
-use Rattle.qo_model.specs.Release.{edit, edited}
-use Rattle.qo_model.specs.RowNames.{property_name}
-use Rattle.qo_model.specs.Types.{slots_of, types}
-use Rattle.qo_model.specs.declared.properties.Property.{Property}
 use Rattle.qo_model.proofs.FinalNotesLemmas.{live-of-kind}
 use Rattle.qo_model.proofs.StepLemmas.{found-birth, found-edited, found_at}
 use Rattle.qo_sound.proofs.FirmBoardLemmas.{edited-kind, Firm}
 use Rattle.qo_sound.proofs.RecordLemmas.{all-both}
 use Rattle.qo_sound.proofs.SearchLemmas.{all-found, found-append}
 use Rattle.qo_values.proofs.ListLemmas.{all-imply}
+use Rattle.qo_values.proofs.EachLemmas.{each}
 use Rattle.qo_sound_devices.specs.SoundPlaces.{child_entries}
 use Rattle.qo_sound_devices.proofs.PlacesLemmas.{all-within, children-there, IsThere, linked-at, Within}
 use Rattle.qo_sound_shapes.specs.SoundShape.{child_type, HasChildType, type_of_child}
@@ -109,22 +100,7 @@ typed-new r b c e none h n t k = go (record_of b n) refl
 -- an object as new has no children
 pub fresh-childless : (t : TypeId) → entries_in (fresh_slots t) ≡ []
 unfolding types
-fresh-childless Object = refl
-fresh-childless Container = refl
-fresh-childless Machine = refl
-fresh-childless Device = refl
-fresh-childless SlotDevice = refl
-fresh-childless SlotUart = refl
-fresh-childless SlotTimer = refl
-fresh-childless SlotBridge = refl
-fresh-childless MemDimm = refl
-fresh-childless Bus = refl
-fresh-childless SlotBus = refl
-fresh-childless MemBus = refl
-fresh-childless Clock = refl
-fresh-childless MemoryBackend = refl
-fresh-childless MemoryBackendRam = refl
-fresh-childless Tag = refl
+fresh-childless = each (λ (t : TypeId). entries_in (fresh_slots t) ≡ []) (search rules)
 
 -- a child of an object of a type that has no children by properties
 abbrev pub Childfree : TypeId → Type 0

@@ -1,20 +1,7 @@
 -- The commands on objects, and a device that is detached, keep it so that children are of the types of their properties.
 use Rattle.std.proofs.Common.{◌≡◌, refl, ap, ap₂, sym, subst, ◌∙◌, ℕ, ◌+◌, Bool, true, false, ◌==◌, nat_eq, List, [], ◌∷◌, length, map, Option, Some, None, is_some, option_map}
-use Rattle.std.specs.List.{cons_option, list_any}
-use Rattle.std.specs.Option.{option_map_or}
-use Rattle.qo_values.specs.declared.births.TheConstants.{OBJECTS_BIRTH}
-use Rattle.qo_values.specs.declared.codes.Code.{Code}
-use Rattle.qo_values.specs.declared.kinds.TypeId.TheVariants.{Container}
-use Rattle.qo_values.specs.declared.properties.Val.{Val}
-use Rattle.qo_model.specs.Board.{Board, Record, Slot, child, held, is_live, kind_of, record_of, slot_at, slots_at}
-use Rattle.qo_model.specs.Changes.{point, pointed, set, with_added, with_changed, with_val}
-use Rattle.qo_model.specs.FinalNotesRuns.{Change, added, after_write, changed, deleted, severed, wrote}
-use Rattle.qo_model.specs.Objects.{Given, added_as, object_add, object_del, sever, severed_from, slot_given, with_object}
-use Rattle.qo_model.specs.Opening.{fresh_slots}
-use Rattle.qo_model.specs.Properties.{pointed_at, relinked, write}
-use Rattle.qo_model.specs.Release.{after, drop_slot, edit, edited, finalize, let_go, pin, unpin, with_dropped, without_pin}
-use Rattle.qo_model.specs.Types.{TypeInfo}
-use Rattle.qo_model.specs.Unplug.{detach, unrealize}
+use Rattle.qo_model.proofs.Common.{cons_option, list_any, option_map_or, OBJECTS_BIRTH, Code, Container, Val, Board, Record, Slot, child, is_live, kind_of, record_of, slot_at, slots_at, point, pointed, set, with_added, with_changed, with_val, Change, added, after_write, changed, deleted, severed, wrote, Given, added_as, object_add, object_del, sever, severed_from, slot_given, with_object, fresh_slots, pointed_at, relinked, write, after, drop_slot, edit, edited, finalize, let_go, pin, unpin, with_dropped, without_pin, TypeInfo, detach, unrealize}
+use Rattle.qo_model.specs.Board.{held}
 use Rattle.qo_model.proofs.ComesToLemmas.{addition-comes, deletion-comes, sever-comes, severed-comes}
 use Rattle.qo_model.proofs.WrittenLemmas.{write-comes}
 use Rattle.qo_model.proofs.StepLemmas.{found-edited, is_some-map}

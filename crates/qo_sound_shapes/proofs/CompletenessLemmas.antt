@@ -1,22 +1,10 @@
 -- Devices that stand in a container lack none of their slots: what keeps it so.
 use Rattle.std.proofs.Common.{◌≡◌, refl, ap, sym, subst, ◌∙◌, ℕ, zero, suc, Bool, true, false, ◌||◌, ◌==◌, List, [], ◌∷◌, map, filter_map, slice_get, Option, Some, None, option_map}
-use Rattle.std.specs.List.{AllByRecursion, cons_option, list_any}
-use Rattle.std.specs.Option.{option_map_or}
-use Rattle.std.specs.Str.{bytes_eq}
+use Rattle.qo_model.proofs.Common.{AllByRecursion, cons_option, list_any, option_map_or, bytes_eq, ANONYMOUS_BIRTH, PERIPHERAL_BIRTH, TypeId, Board, Record, Slot, plain, child, strong, weak, alias, kind_of, record_of, slots_at, changed_at, among, has_slot, child_of, edit, edited, without_hold, property_name, slots_of}
+use Rattle.qo_model.specs.declared.properties.Property.{Property}
 use Rattle.std.proofs.lemmas.Bool.{eqb-true}
 use Rattle.std.proofs.lemmas.Option.{same_Some}
 use Rattle.std.proofs.Math.Bool.{or-true}
-use Rattle.qo_values.specs.declared.births.TheConstants.{ANONYMOUS_BIRTH, PERIPHERAL_BIRTH}
-use Rattle.qo_values.specs.declared.kinds.TypeId.{TypeId}
-use Rattle.qo_model.specs.Board.{Board, Record, Slot, plain, child, strong, weak, alias, kind_of, record_of, slots_at}
-use Rattle.qo_model.specs.Changes.{changed_at}
-use Rattle.qo_model.specs.Depth.{among}
-use Rattle.qo_model.specs.Objects.{has_slot}
-use Rattle.qo_model.specs.Paths.{child_of}
-use Rattle.qo_model.specs.Release.{edit, edited, without_hold}
-use Rattle.qo_model.specs.RowNames.{property_name}
-use Rattle.qo_model.specs.Types.{slots_of}
-use Rattle.qo_model.specs.declared.properties.Property.{Property}
 use Rattle.qo_model.proofs.StepLemmas.{found-edited, found-birth}
 use Rattle.qo_values.proofs.ListLemmas.{all-imply}
 use Rattle.qo_sound.proofs.SlotLemmas.{names_in}

@@ -1,31 +1,14 @@
 -- A device that is detached, with all that is below it, leaves the others shaped as their types say.
-use Rattle.std.proofs.Common.{◌≡◌, ◌⊎◌, inl, inr, refl, ap, sym, subst, ◌∙◌, ℕ, zero, suc, Bool, true, false, not, ◌==◌, eqb, List, [], ◌∷◌, filter_map, find, length, remove, slice_get, codes, Option, Some, None, option_map, option_and_then}
-use Rattle.std.specs.List.{AllByRecursion}
-use Rattle.std.specs.Option.{option_map_or}
-use Rattle.std.specs.Str.{bytes_eq}
+use Rattle.std.proofs.Common.{rules, ◌≡◌, ◌⊎◌, inl, inr, refl, ap, sym, subst, ◌∙◌, ℕ, zero, suc, Bool, true, false, not, ◌==◌, eqb, List, [], ◌∷◌, filter_map, find, length, remove, slice_get, codes, Option, Some, None, option_map, option_and_then}
+use Rattle.qo_model.proofs.Common.{AllByRecursion, option_map_or, bytes_eq, ANONYMOUS_BIRTH, MACHINE_BIRTH, PERIPHERAL_BIRTH, ROOT_BIRTH, Act, Unrealize, TypeId, Object, Container, Machine, Device, SlotDevice, SlotUart, SlotTimer, SlotBridge, MemDimm, Bus, SlotBus, MemBus, Clock, MemoryBackend, MemoryBackendRam, Tag, Board, Record, Slot, plain, child, strong, weak, alias, kind_of, record_of, slot_at, slots_at, cut, with_changed, with_cut, with_val, acted, device_period, with_act_on, bus_in, bus_of, buses_of, clock_name, clock_of, kids_of, strong_in, index_from, opening_board, births, is_child, is_of, property_named, drop_slot, edit, forgotten, forgotten_in, let_go, pin, with_dropped, without_hold, property_name, is_a, slots_of, types, apart_within, detach, disconnected, drained, is_bus_child, is_child_slot, is_named, left_bus, left_parent, let_go_where, lost_bus, lost_buses, names_kid, take_slot, take_where, taken_by, unrealize, unrealized_bus, unrealized_device, unseen, unseen_named}
+use Rattle.qo_model.specs.declared.properties.Property.{Property}
+use Rattle.qo_model.specs.declared.properties.PropertyRole.{PropertyRole}
 use Rattle.std.proofs.lemmas.Bool.{and_parts, eq-eqb, eqb-true, not-true}
 use Rattle.std.proofs.lemmas.Option.{same_Some}
 use Rattle.std.proofs.lemmas.Slice.Eq.{bytes_eq-Decides}
-use Rattle.qo_values.specs.declared.births.TheConstants.{ANONYMOUS_BIRTH, MACHINE_BIRTH, PERIPHERAL_BIRTH, ROOT_BIRTH}
-use Rattle.qo_values.specs.declared.kinds.Act.{Act}
-use Rattle.qo_values.specs.declared.kinds.Act.TheVariants.{Unrealize}
-use Rattle.qo_values.specs.declared.kinds.TypeId.{TypeId}
-use Rattle.qo_values.specs.declared.kinds.TypeId.TheVariants.{Object, Container, Machine, Device, SlotDevice, SlotUart, SlotTimer, SlotBridge, MemDimm, Bus, SlotBus, MemBus, Clock, MemoryBackend, MemoryBackendRam, Tag}
 use Rattle.qo_values.specs.declared.properties.Val.TheVariants as val
-use Rattle.qo_model.specs.Board.{Board, Record, Slot, plain, child, strong, weak, alias, kind_of, record_of, slot_at, slots_at}
-use Rattle.qo_model.specs.Changes.{cut, with_changed, with_cut, with_val}
-use Rattle.qo_model.specs.Clocks.{acted, device_period, with_act_on}
-use Rattle.qo_model.specs.Devices.{bus_in, bus_of, buses_of, clock_name, clock_of, kids_of, strong_in}
-use Rattle.qo_model.specs.Objects.{index_from}
-use Rattle.qo_model.specs.Opening.{opening_board}
-use Rattle.qo_model.specs.Paths.{births, is_child, is_of}
-use Rattle.qo_model.specs.Properties.{property_named}
-use Rattle.qo_model.specs.Release.{drop_slot, edit, forgotten, forgotten_in, let_go, pin, with_dropped, without_hold}
-use Rattle.qo_model.specs.RowNames.{property_name}
-use Rattle.qo_model.specs.Types.{is_a, slots_of, types}
-use Rattle.qo_model.specs.Unplug.{apart_within, detach, disconnected, drained, first_of, is_bus_child, is_child_slot, is_named, left_bus, left_parent, let_go_where, lost_bus, lost_buses, names_kid, take_slot, take_where, taken_by, unrealize, unrealized_bus, unrealized_device, unseen, unseen_named}
-use Rattle.qo_model.specs.declared.properties.Property.{Property}
-use Rattle.qo_model.specs.declared.properties.PropertyRole.{PropertyRole}
+use Rattle.qo_values.proofs.EachLemmas.{each}
+use Rattle.qo_model.specs.Unplug.{first_of}
 use Rattle.qo_model.specs.declared.properties.PropertyRole.TheVariants as row
 use Rattle.qo_model.proofs.FirstSlotLemmas.{slots_in, Found, found-at}
 use Rattle.qo_model.proofs.StepLemmas.{found-birth}
@@ -53,62 +36,17 @@ IsKind kinds name n = option_map_or (λ (k : TypeId). is_a k name) (kinds n) fal
 -- values that are set
 pub takes-realized : (t : TypeId) (v : Bool) → Takes t (codes "realized") (val.Bool v)
 unfolding types
-takes-realized Object v = tt
-takes-realized Container v = tt
-takes-realized Machine v = tt
-takes-realized Device v = refl
-takes-realized SlotDevice v = refl
-takes-realized SlotUart v = refl
-takes-realized SlotTimer v = refl
-takes-realized SlotBridge v = refl
-takes-realized MemDimm v = refl
-takes-realized Bus v = tt
-takes-realized SlotBus v = tt
-takes-realized MemBus v = tt
-takes-realized Clock v = tt
-takes-realized MemoryBackend v = tt
-takes-realized MemoryBackendRam v = tt
-takes-realized Tag v = tt
+takes-realized = each (λ (t : TypeId). (v : Bool) → Takes t (codes "realized") (val.Bool v)) (search rules)
 
 takes-stopped : (t : TypeId) → Takes t (codes "period") (val.Uint 0)
 unfolding types
-takes-stopped Object = tt
-takes-stopped Container = tt
-takes-stopped Machine = tt
-takes-stopped Device = tt
-takes-stopped SlotDevice = tt
-takes-stopped SlotUart = tt
-takes-stopped SlotTimer = tt
-takes-stopped SlotBridge = tt
-takes-stopped MemDimm = tt
-takes-stopped Bus = tt
-takes-stopped SlotBus = tt
-takes-stopped MemBus = tt
-takes-stopped Clock = refl
-takes-stopped MemoryBackend = tt
-takes-stopped MemoryBackendRam = tt
-takes-stopped Tag = tt
+takes-stopped = each (λ (t : TypeId). Takes t (codes "period") (val.Uint 0)) (search rules)
 
 -- devices and buses
 
 pub device-calm : (t : TypeId) → is_a t (codes "device") ≡ true → (s : List ℕ × Slot) → IsFurther t s → ⊥
 unfolding types
-device-calm Object e s h = absurd (let clash : false ≡ true = e in cc)
-device-calm Container e s h = absurd (let clash : false ≡ true = e in cc)
-device-calm Machine e s h = absurd (let clash : false ≡ true = e in cc)
-device-calm Device e s h = h
-device-calm SlotDevice e s h = h
-device-calm SlotUart e s h = h
-device-calm SlotTimer e s h = h
-device-calm SlotBridge e s h = h
-device-calm MemDimm e s h = h
-device-calm Bus e s h = absurd (let clash : false ≡ true = e in cc)
-device-calm SlotBus e s h = absurd (let clash : false ≡ true = e in cc)
-device-calm MemBus e s h = absurd (let clash : false ≡ true = e in cc)
-device-calm Clock e s h = absurd (let clash : false ≡ true = e in cc)
-device-calm MemoryBackend e s h = absurd (let clash : false ≡ true = e in cc)
-device-calm MemoryBackendRam e s h = absurd (let clash : false ≡ true = e in cc)
-device-calm Tag e s h = absurd (let clash : false ≡ true = e in cc)
+device-calm = each (λ (t : TypeId). is_a t (codes "device") ≡ true → (s : List ℕ × Slot) → IsFurther t s → ⊥) (search rules)
 
 device-bus : (t : TypeId) → is_a t (codes "device") ≡ true → (p : Property) → property_named t (codes "parent_bus") ≡ Some p → p.role ≡ row.Link Bus true
 unfolding types

@@ -1,26 +1,14 @@
 -- A new device is made, row by row, and is shaped as its type says.
 use Rattle.std.proofs.Common.{◌≡◌, refl, ap, sym, subst, ◌∙◌, rules, ℕ, ◌<◌, ◌≤◌, ◌+◌, ◌&&◌, Bool, true, false, cond, not, ◌==◌, List, [], ◌∷◌, ◌++◌, append-nil, find, codes, Option, Some, None, option_map, option_and_then, arith}
-use Rattle.std.specs.Bool.{⊤}
-use Rattle.std.specs.List.{AllByRecursion, list_any}
-use Rattle.std.specs.Option.{option_map_or, option_or}
-use Rattle.std.specs.Str.{bytes_eq}
+use Rattle.qo_model.proofs.Common.{⊤, AllByRecursion, list_any, option_map_or, option_or, bytes_eq, fresh_registers, TypeId, Board, Record, Slot, plain, child, strong, weak, alias, record_of, add, fresh, with_added, child_named, first_value, fresh_record, aliased, drafted, owned, property_made, properties_made, with_new, property_name, slots_of, types}
+use Rattle.qo_model.specs.declared.properties.Property.{Property}
+use Rattle.qo_model.specs.declared.properties.PropertyRole.{PropertyRole}
 use Rattle.std.proofs.lemmas.Bool.{and_parts, eq-eqb, eqb-true, not-true}
 use Rattle.std.proofs.lemmas.List.{append_assoc}
 use Rattle.std.proofs.lemmas.List.Folds.{find-append}
 use Rattle.std.proofs.lemmas.Slice.Eq.{bytes_eq-Decides}
 use Rattle.std.proofs.Math.Bool.{or-true}
-use Rattle.qo_values.specs.Registers.{fresh_registers}
-use Rattle.qo_values.specs.declared.kinds.TypeId.{TypeId}
-use Rattle.qo_values.specs.declared.kinds.TypeId.TheVariants.{Object, Container, Machine, Device, SlotDevice, SlotUart, SlotTimer, SlotBridge, MemDimm, Bus, SlotBus, MemBus, Clock, MemoryBackend, MemoryBackendRam, Tag}
-use Rattle.qo_model.specs.Board.{Board, Record, Slot, plain, child, strong, weak, alias, record_of}
-use Rattle.qo_model.specs.Changes.{add, fresh, with_added}
-use Rattle.qo_model.specs.Devices.{child_named}
-use Rattle.qo_model.specs.Opening.{first_value, fresh_record}
-use Rattle.qo_model.specs.Plug.{aliased, drafted, owned, property_made, properties_made, with_new}
-use Rattle.qo_model.specs.RowNames.{property_name}
-use Rattle.qo_model.specs.Types.{slots_of, types}
-use Rattle.qo_model.specs.declared.properties.Property.{Property}
-use Rattle.qo_model.specs.declared.properties.PropertyRole.{PropertyRole}
+use Rattle.qo_values.proofs.EachLemmas.{each}
 use Rattle.qo_model.specs.declared.properties.PropertyRole.TheVariants as row
 use Rattle.qo_model.proofs.StepLemmas.{found-birth}
 use Rattle.qo_sound_shapes.specs.SoundShape.{further, HasSlots, is_child_role, is_like, IsOfProperty, IsShaped, next}
@@ -42,22 +30,7 @@ ready has (p ∷ ps) =
 
 rows-ready : (t : TypeId) → ready false (slots_of t) ≡ true
 unfolding types
-rows-ready Object = refl
-rows-ready Container = refl
-rows-ready Machine = refl
-rows-ready Device = refl
-rows-ready SlotDevice = refl
-rows-ready SlotUart = refl
-rows-ready SlotTimer = refl
-rows-ready SlotBridge = refl
-rows-ready MemDimm = refl
-rows-ready Bus = refl
-rows-ready SlotBus = refl
-rows-ready MemBus = refl
-rows-ready Clock = refl
-rows-ready MemoryBackend = refl
-rows-ready MemoryBackendRam = refl
-rows-ready Tag = refl
+rows-ready = each (λ (t : TypeId). ready false (slots_of t) ≡ true) (search rules)
 
 -- further objects have rows of their own alone
 abbrev KinRow : PropertyRole → Type 0
@@ -69,22 +42,7 @@ KinRows ps = AllByRecursion (λ (p : Property). KinRow p.role) ps
 
 rows-kin : (t : TypeId) → KinRows (slots_of t)
 unfolding types
-rows-kin Object = search rules
-rows-kin Container = search rules
-rows-kin Machine = search rules
-rows-kin Device = search rules
-rows-kin SlotDevice = search rules
-rows-kin SlotUart = search rules
-rows-kin SlotTimer = search rules
-rows-kin SlotBridge = search rules
-rows-kin MemDimm = search rules
-rows-kin Bus = search rules
-rows-kin SlotBus = search rules
-rows-kin MemBus = search rules
-rows-kin Clock = search rules
-rows-kin MemoryBackend = search rules
-rows-kin MemoryBackendRam = search rules
-rows-kin Tag = search rules
+rows-kin = each (λ (t : TypeId). KinRows (slots_of t)) (search rules)
 
 -- the clock among slots: found as a child, or not there yet
 abbrev clock_slot : Slots → Option Slot

@@ -1,25 +1,15 @@
 -- The law: what the shape of objects says of their properties.
 use Rattle.std.proofs.Common.{◌≡◌, ◌⊎◌, inl, inr, refl, ap, sym, subst, ◌∙◌, rules, ℕ, zero, suc, ◌-◌, ◌^◌, Bool, true, false, List, [], ◌∷◌, filter_map, find, slice_get, codes, Option, Some, None, option_map, option_and_then}
-use Rattle.std.specs.List.{AllByRecursion, list_any}
-use Rattle.std.specs.Option.{option_map_or}
-use Rattle.std.specs.Str.{bytes_eq}
+use Rattle.qo_model.proofs.Common.{AllByRecursion, list_any, option_map_or, bytes_eq, TypeId, Object, Container, Machine, Device, SlotDevice, SlotUart, SlotTimer, SlotBridge, MemDimm, Bus, SlotBus, MemBus, Clock, MemoryBackend, MemoryBackendRam, Tag, BACKEND_SIZE_AT_FIRST, BACKEND_SIZE_MAX, DIMM_ALIGN, Board, Record, Slot, plain, child, strong, weak, alias, kind_of, record_of, slot_at, slot_named, slots_at, child_of, is_of, property_named, property_name, is_a, property, slots_of, types, uint64, up_to}
+use Rattle.qo_model.specs.declared.properties.Mark.TheVariants.{Add, Set}
+use Rattle.qo_model.specs.declared.properties.Property.{Property}
 use Rattle.std.proofs.lemmas.Option.{same_Some}
 use Rattle.std.proofs.Math.Bool.{or-true}
 use Rattle.std.proofs.lemmas.Slice.Eq.{bytes_eq-Decides}
 use Rattle.qo_values.proofs.ListLemmas.{found-has}
-use Rattle.qo_values.specs.declared.kinds.TypeId.{TypeId}
-use Rattle.qo_values.specs.declared.kinds.TypeId.TheVariants.{Object, Container, Machine, Device, SlotDevice, SlotUart, SlotTimer, SlotBridge, MemDimm, Bus, SlotBus, MemBus, Clock, MemoryBackend, MemoryBackendRam, Tag}
-use Rattle.qo_values.specs.declared.limits.TheConstants.{BACKEND_SIZE_AT_FIRST, BACKEND_SIZE_MAX, DIMM_ALIGN}
 use Rattle.qo_values.specs.declared.properties.PropType.TheVariants as ty
 use Rattle.qo_values.specs.declared.properties.Val.TheVariants as val
-use Rattle.qo_model.specs.Board.{Board, Record, Slot, plain, child, strong, weak, alias, kind_of, record_of, slot_at, slot_named, slots_at}
-use Rattle.qo_model.specs.Paths.{child_of, is_of}
-use Rattle.qo_model.specs.Properties.{property_named}
-use Rattle.qo_model.specs.RowNames.{property_name}
-use Rattle.qo_model.specs.Types.{is_a, property, slots_of, types, uint64, up_to}
 use Rattle.qo_model.specs.declared.properties.First.TheVariants as first
-use Rattle.qo_model.specs.declared.properties.Mark.TheVariants.{Add, Set}
-use Rattle.qo_model.specs.declared.properties.Property.{Property}
 use Rattle.qo_model.specs.declared.properties.PropertyName.TheVariants as prop
 use Rattle.qo_model.specs.declared.properties.PropertyRole.TheVariants as row
 use Rattle.qo_sound_devices.specs.SoundPlaces.{child_entry, stands}

@@ -1,32 +1,15 @@
 -- A new object: what it begins as, and with values that were given, is shaped as its type says. So is the opening board.
 use Rattle.std.proofs.Common.{◌≡◌, inl, inr, refl, ap, sym, subst, ◌∙◌, rules, ℕ, ◌<◌, ◌≤◌, ◌||◌, Bool, true, false, eqb, List, [], ◌∷◌, map, find, codes, Option, Some, None, option_map, arith}
-use Rattle.std.specs.List.{AllByRecursion, cons_option}
-use Rattle.std.specs.Str.{bytes_eq}
+use Rattle.qo_model.proofs.Common.{AllByRecursion, cons_option, bytes_eq, admits, fresh_registers, MACHINE_BIRTH, ROOT_BIRTH, SYSTEM_CLOCK_BIRTH, Code, E17, E18, E19, TypeId, Container, Machine, SlotBus, MemBus, Clock, PropType, Val, SYSTEM_PERIOD, Board, Record, Slot, plain, child, strong, weak, alias, record_of, kid_name, Given, given_to, may_add, misfit, refusal_by, refusal_of, slot_given, first_slot, first_value, fresh_record, fresh_slots, opening_board, opening_records, with_child, with_value, property_named, property_name, is_a, slots_of, types}
+use Rattle.qo_model.specs.declared.properties.First.{First}
+use Rattle.qo_model.specs.declared.properties.Property.{Property}
+use Rattle.qo_model.specs.declared.properties.PropertyRole.{PropertyRole}
 use Rattle.std.proofs.lemmas.Bool.{eqb-true}
 use Rattle.std.proofs.lemmas.Option.{same_Some}
 use Rattle.std.proofs.lemmas.Slice.Eq.{bytes_eq-Decides}
-use Rattle.qo_values.specs.Properties.{admits}
-use Rattle.qo_values.specs.Registers.{fresh_registers}
-use Rattle.qo_values.specs.declared.births.TheConstants.{MACHINE_BIRTH, ROOT_BIRTH, SYSTEM_CLOCK_BIRTH}
-use Rattle.qo_values.specs.declared.codes.Code.{Code}
-use Rattle.qo_values.specs.declared.codes.Code.TheVariants.{E17, E18, E19}
-use Rattle.qo_values.specs.declared.kinds.TypeId.{TypeId}
-use Rattle.qo_values.specs.declared.kinds.TypeId.TheVariants.{Object, Container, Machine, Device, SlotDevice, SlotUart, SlotTimer, SlotBridge, MemDimm, Bus, SlotBus, MemBus, Clock, MemoryBackend, MemoryBackendRam, Tag}
-use Rattle.qo_values.specs.declared.properties.PropType.{PropType}
-use Rattle.qo_values.specs.declared.properties.Val.{Val}
 use Rattle.qo_values.specs.declared.properties.Val.TheVariants as val
-use Rattle.qo_values.specs.declared.limits.TheConstants.{SYSTEM_PERIOD}
-use Rattle.qo_model.specs.Board.{Board, Record, Slot, plain, child, strong, weak, alias, record_of}
-use Rattle.qo_model.specs.Devices.{kid_name}
-use Rattle.qo_model.specs.Objects.{Given, given_to, may_add, misfit, refusal_by, refusal_of, slot_given}
-use Rattle.qo_model.specs.Opening.{first_slot, first_value, fresh_record, fresh_slots, opening_board, opening_records, with_child, with_value}
-use Rattle.qo_model.specs.Properties.{property_named}
-use Rattle.qo_model.specs.RowNames.{property_name}
-use Rattle.qo_model.specs.Types.{is_a, slots_of, types}
-use Rattle.qo_model.specs.declared.properties.First.{First}
+use Rattle.qo_values.proofs.EachLemmas.{each}
 use Rattle.qo_model.specs.declared.properties.First.TheVariants as first
-use Rattle.qo_model.specs.declared.properties.Property.{Property}
-use Rattle.qo_model.specs.declared.properties.PropertyRole.{PropertyRole}
 use Rattle.qo_model.specs.declared.properties.PropertyRole.TheVariants as row
 use Rattle.qo_model.proofs.GraphLemmas.{births_at}
 use Rattle.qo_sound.proofs.DraftLemmas.{found-low}
@@ -59,22 +42,7 @@ RowsFirst t ps = AllByRecursion (λ (p : Property). first_fits t p.role ≡ true
 
 pub rows-first : (t : TypeId) → RowsFirst t (slots_of t)
 unfolding types
-rows-first Object = search rules
-rows-first Container = search rules
-rows-first Machine = search rules
-rows-first Device = search rules
-rows-first SlotDevice = search rules
-rows-first SlotUart = search rules
-rows-first SlotTimer = search rules
-rows-first SlotBridge = search rules
-rows-first MemDimm = search rules
-rows-first Bus = search rules
-rows-first SlotBus = search rules
-rows-first MemBus = search rules
-rows-first Clock = search rules
-rows-first MemoryBackend = search rules
-rows-first MemoryBackendRam = search rules
-rows-first Tag = search rules
+rows-first = each (λ (t : TypeId). RowsFirst t (slots_of t)) (search rules)
 
 -- rows of values and links alone
 abbrev pub is_own_role : PropertyRole → Bool
@@ -121,22 +89,7 @@ fresh-has t own = first-has t (slots_of t) (rows-first t) own
 
 -- registers at birth
 pub fresh-like : (t : TypeId) → is_like (fresh_registers t) (fresh_registers t) ≡ true
-fresh-like Object = refl
-fresh-like Container = refl
-fresh-like Machine = refl
-fresh-like Device = refl
-fresh-like SlotDevice = refl
-fresh-like SlotUart = refl
-fresh-like SlotTimer = refl
-fresh-like SlotBridge = refl
-fresh-like MemDimm = refl
-fresh-like Bus = refl
-fresh-like SlotBus = refl
-fresh-like MemBus = refl
-fresh-like Clock = refl
-fresh-like MemoryBackend = refl
-fresh-like MemoryBackendRam = refl
-fresh-like Tag = refl
+fresh-like = each (λ (t : TypeId). is_like (fresh_registers t) (fresh_registers t) ≡ true) (search rules)
 
 -- a birth after those that every machine begins with
 
@@ -282,22 +235,7 @@ module _ (b : Board) where
 -- what a command may make has rows of its own alone
 pub created-own : (t : TypeId) → is_a t (codes "user-creatable") ≡ true → OwnRows (slots_of t)
 unfolding types
-created-own Object e = absurd (let clash : false ≡ true = e in cc)
-created-own Container e = absurd (let clash : false ≡ true = e in cc)
-created-own Machine e = absurd (let clash : false ≡ true = e in cc)
-created-own Device e = absurd (let clash : false ≡ true = e in cc)
-created-own SlotDevice e = absurd (let clash : false ≡ true = e in cc)
-created-own SlotUart e = absurd (let clash : false ≡ true = e in cc)
-created-own SlotTimer e = absurd (let clash : false ≡ true = e in cc)
-created-own SlotBridge e = absurd (let clash : false ≡ true = e in cc)
-created-own MemDimm e = absurd (let clash : false ≡ true = e in cc)
-created-own Bus e = absurd (let clash : false ≡ true = e in cc)
-created-own SlotBus e = absurd (let clash : false ≡ true = e in cc)
-created-own MemBus e = absurd (let clash : false ≡ true = e in cc)
-created-own Clock e = absurd (let clash : false ≡ true = e in cc)
-created-own MemoryBackend e = search rules
-created-own MemoryBackendRam e = search rules
-created-own Tag e = search rules
+created-own = each (λ (t : TypeId). is_a t (codes "user-creatable") ≡ true → OwnRows (slots_of t)) (search rules)
 
 -- the opening board
 
@@ -314,22 +252,7 @@ machine-rows = search rules
 
 bus-rows : (t : TypeId) → is_a t (codes "bus") ≡ true → OwnRows (slots_of t)
 unfolding types
-bus-rows Object e = absurd (let clash : false ≡ true = e in cc)
-bus-rows Container e = absurd (let clash : false ≡ true = e in cc)
-bus-rows Machine e = absurd (let clash : false ≡ true = e in cc)
-bus-rows Device e = absurd (let clash : false ≡ true = e in cc)
-bus-rows SlotDevice e = absurd (let clash : false ≡ true = e in cc)
-bus-rows SlotUart e = absurd (let clash : false ≡ true = e in cc)
-bus-rows SlotTimer e = absurd (let clash : false ≡ true = e in cc)
-bus-rows SlotBridge e = absurd (let clash : false ≡ true = e in cc)
-bus-rows MemDimm e = absurd (let clash : false ≡ true = e in cc)
-bus-rows Bus e = search rules
-bus-rows SlotBus e = search rules
-bus-rows MemBus e = search rules
-bus-rows Clock e = absurd (let clash : false ≡ true = e in cc)
-bus-rows MemoryBackend e = absurd (let clash : false ≡ true = e in cc)
-bus-rows MemoryBackendRam e = absurd (let clash : false ≡ true = e in cc)
-bus-rows Tag e = absurd (let clash : false ≡ true = e in cc)
+bus-rows = each (λ (t : TypeId). is_a t (codes "bus") ≡ true → OwnRows (slots_of t)) (search rules)
 
 -- with a child more
 contained : (name : List ℕ) (n : ℕ) (r : Record) → r.kind ≡ Container → IsShaped r → IsShaped (with_child name n r)

@@ -1,50 +1,22 @@
 -- A device that is added stands in its place, and is shaped as its type says, as all others are.
-use Rattle.std.proofs.Common.{◌≡◌, ◌⊎◌, inl, inr, refl, ap, sym, subst, ◌∙◌, ℕ, ◌<◌, ◌≤◌, ◌+◌, ◌-◌, ◌^◌, ◌%◌, ◌&&◌, ◌||◌, Bool, true, false, not, ◌==◌, List, [], ◌∷◌, ◌++◌, map, find, codes, Option, Some, None, is_some, option_map, option_and_then, arith}
-use Rattle.std.specs.Prelude.{nat_le}
-use Rattle.std.specs.List.{list_any}
-use Rattle.std.specs.Option.{option_map_or}
-use Rattle.std.specs.Str.{bytes_eq}
-use Rattle.std.specs.Bool.{⊤}
+use Rattle.std.proofs.Common.{rules, ◌≡◌, ◌⊎◌, inl, inr, refl, ap, sym, subst, ◌∙◌, ℕ, ◌<◌, ◌≤◌, ◌+◌, ◌-◌, ◌^◌, ◌%◌, ◌&&◌, ◌||◌, Bool, true, false, not, ◌==◌, List, [], ◌∷◌, ◌++◌, map, find, codes, Option, Some, None, is_some, option_map, option_and_then, arith}
+use Rattle.qo_model.proofs.Common.{nat_le, list_any, option_map_or, bytes_eq, ⊤, fits_at, is_in_window, overlaps_any, free_address, range_at, window_end, window_size, window_start, admits, fresh_registers, ANONYMOUS_BIRTH, PERIPHERAL_BIRTH, E17, E19, Realize, TypeId, Object, Container, Machine, Device, SlotDevice, SlotUart, SlotTimer, SlotBridge, MemDimm, Bus, SlotBus, MemBus, Clock, MemoryBackend, MemoryBackendRam, Tag, BUS_SLOTS, DIMM_ALIGN, Val, Range, Board, Record, Slot, child, strong, is_live, kind_of, record_of, add, changed_at, with_added, with_changed, with_val, acted, with_act_on, among, clock_of, kid_name, number_in, Given, misfit, refusal_by, refusal_of, slot_given, opening_board, canonical, Spot, Wanted, acted_all, addressed_at, bus_births, bus_type, clocked, counted, drafted, fitted, link_named, name_for, number_for, ok_in, parent_for, plug, range_for, range_of, ranges_of, registers_on, size_of, source_for, spot_of, stood, target_for, notified_plug, with_body_of, with_device, with_given, with_path, with_plugged, with_source, property_named, edit, property_name, plugged, post, is_a, multiple_of, slots_of, types}
+use Rattle.qo_model.specs.declared.properties.Property.{Property}
+use Rattle.qo_model.specs.declared.properties.PropertyRole.{PropertyRole}
 use Rattle.std.proofs.lemmas.Bool.{and_parts}
 use Rattle.std.proofs.lemmas.List.Folds.{list_any-append}
 use Rattle.std.proofs.lemmas.Bool.Decides.{nat_tests}
 use Rattle.std.proofs.lemmas.Option.{same_Some}
 use Rattle.std.proofs.lemmas.Slice.Eq.{bytes_eq-Decides}
 use Rattle.qo_values.proofs.PlacingLemmas.{least-passes}
-use Rattle.qo_values.specs.Placing.{fits_at, is_in_window, overlaps_any, free_address, range_at, window_end, window_size, window_start}
-use Rattle.qo_values.specs.Properties.{admits}
-use Rattle.qo_values.specs.Registers.{fresh_registers}
-use Rattle.qo_values.specs.declared.births.TheConstants.{ANONYMOUS_BIRTH, PERIPHERAL_BIRTH}
-use Rattle.qo_values.specs.declared.codes.Code.TheVariants.{E17, E19}
-use Rattle.qo_values.specs.declared.kinds.Act.TheVariants.{Realize}
-use Rattle.qo_values.specs.declared.kinds.TypeId.{TypeId}
-use Rattle.qo_values.specs.declared.kinds.TypeId.TheVariants.{Object, Container, Machine, Device, SlotDevice, SlotUart, SlotTimer, SlotBridge, MemDimm, Bus, SlotBus, MemBus, Clock, MemoryBackend, MemoryBackendRam, Tag}
-use Rattle.qo_values.specs.declared.limits.TheConstants.{BUS_SLOTS, DIMM_ALIGN}
-use Rattle.qo_values.specs.declared.properties.Val.{Val}
 use Rattle.qo_values.specs.declared.properties.Val.TheVariants as val
-use Rattle.qo_values.specs.declared.ranges.Range.{Range}
-use Rattle.qo_model.specs.Board.{Board, Record, Slot, child, strong, is_live, kind_of, record_of}
-use Rattle.qo_model.specs.Changes.{add, changed_at, with_added, with_changed, with_val}
-use Rattle.qo_model.specs.Clocks.{acted, with_act_on}
-use Rattle.qo_model.specs.Depth.{among}
-use Rattle.qo_model.specs.Devices.{clock_of, kid_name, number_in}
-use Rattle.qo_model.specs.Objects.{Given, misfit, refusal_by, refusal_of, slot_given}
-use Rattle.qo_model.specs.Opening.{opening_board}
-use Rattle.qo_model.specs.Paths.{canonical}
-use Rattle.qo_model.specs.Plug.{Spot, Wanted, acted_all, addressed_at, bus_births, bus_type, clocked, counted, drafted, fitted, link_named, name_for, number_for, ok_in, parent_for, plug, range_for, range_of, ranges_of, registers_on, size_of, source_for, spot_of, stood, target_for, notified_plug, with_body_of, with_device, with_given, with_path, with_plugged, with_source}
-use Rattle.qo_model.specs.Properties.{property_named}
-use Rattle.qo_model.specs.Release.{edit}
-use Rattle.qo_model.specs.RowNames.{property_name}
-use Rattle.qo_model.specs.Reset.{plugged, post}
-use Rattle.qo_model.specs.Types.{is_a, multiple_of, slots_of, types}
 use Rattle.qo_model.specs.declared.properties.First.TheVariants as first
-use Rattle.qo_model.specs.declared.properties.Property.{Property}
-use Rattle.qo_model.specs.declared.properties.PropertyRole.{PropertyRole}
 use Rattle.qo_model.specs.declared.properties.PropertyRole.TheVariants as row
 use Rattle.qo_model.proofs.StepLemmas.{found-birth}
 use Rattle.qo_sound.proofs.AdditionStepsLemmas.{all-any, KeepsActs, link-by, stand-by, step-acted_all, step-plugged}
 use Rattle.qo_sound.proofs.PlugLemmas.{shut-above}
 use Rattle.qo_values.proofs.ListLemmas.{all-imply}
+use Rattle.qo_values.proofs.EachLemmas.{each}
 use Rattle.qo_sound.proofs.SlotLemmas.{names-changed, names_in}
 use Rattle.qo_sound.proofs.ViewLemmas.{AtRest, rest-from_sound}
 use Rattle.qo_sound_devices.specs.SoundDevices.{SoundDevices}
@@ -95,41 +67,11 @@ rows-changed g i r h = rows-same r.kind r.slots (changed_at g i r.slots) (names-
 -- buses for devices
 slot-kind : (k : TypeId) → is_a k (codes "slot-bus") ≡ true → k ≡ SlotBus
 unfolding types
-slot-kind Object e = absurd (let clash : false ≡ true = e in cc)
-slot-kind Container e = absurd (let clash : false ≡ true = e in cc)
-slot-kind Machine e = absurd (let clash : false ≡ true = e in cc)
-slot-kind Device e = absurd (let clash : false ≡ true = e in cc)
-slot-kind SlotDevice e = absurd (let clash : false ≡ true = e in cc)
-slot-kind SlotUart e = absurd (let clash : false ≡ true = e in cc)
-slot-kind SlotTimer e = absurd (let clash : false ≡ true = e in cc)
-slot-kind SlotBridge e = absurd (let clash : false ≡ true = e in cc)
-slot-kind MemDimm e = absurd (let clash : false ≡ true = e in cc)
-slot-kind Bus e = absurd (let clash : false ≡ true = e in cc)
-slot-kind SlotBus e = refl
-slot-kind MemBus e = absurd (let clash : false ≡ true = e in cc)
-slot-kind Clock e = absurd (let clash : false ≡ true = e in cc)
-slot-kind MemoryBackend e = absurd (let clash : false ≡ true = e in cc)
-slot-kind MemoryBackendRam e = absurd (let clash : false ≡ true = e in cc)
-slot-kind Tag e = absurd (let clash : false ≡ true = e in cc)
+slot-kind = each (λ (k : TypeId). is_a k (codes "slot-bus") ≡ true → k ≡ SlotBus) (search rules)
 
 memory-kind : (k : TypeId) → is_a k (codes "mem-bus") ≡ true → k ≡ MemBus
 unfolding types
-memory-kind Object e = absurd (let clash : false ≡ true = e in cc)
-memory-kind Container e = absurd (let clash : false ≡ true = e in cc)
-memory-kind Machine e = absurd (let clash : false ≡ true = e in cc)
-memory-kind Device e = absurd (let clash : false ≡ true = e in cc)
-memory-kind SlotDevice e = absurd (let clash : false ≡ true = e in cc)
-memory-kind SlotUart e = absurd (let clash : false ≡ true = e in cc)
-memory-kind SlotTimer e = absurd (let clash : false ≡ true = e in cc)
-memory-kind SlotBridge e = absurd (let clash : false ≡ true = e in cc)
-memory-kind MemDimm e = absurd (let clash : false ≡ true = e in cc)
-memory-kind Bus e = absurd (let clash : false ≡ true = e in cc)
-memory-kind SlotBus e = absurd (let clash : false ≡ true = e in cc)
-memory-kind MemBus e = refl
-memory-kind Clock e = absurd (let clash : false ≡ true = e in cc)
-memory-kind MemoryBackend e = absurd (let clash : false ≡ true = e in cc)
-memory-kind MemoryBackendRam e = absurd (let clash : false ≡ true = e in cc)
-memory-kind Tag e = absurd (let clash : false ≡ true = e in cc)
+memory-kind = each (λ (k : TypeId). is_a k (codes "mem-bus") ≡ true → k ≡ MemBus) (search rules)
 
 home-kind : (k t : TypeId) → is_a k (bus_type t) ≡ true → (k ≡ SlotBus) ⊎ (k ≡ MemBus)
 home-kind k t e = go (is_a t (codes "slot-device")) refl
@@ -168,22 +110,7 @@ takes-slot Tag n low = tt
 
 takes-address : (t : TypeId) (n : ℕ) → admits (multiple_of DIMM_ALIGN) (val.Uint n) ≡ true → Takes t (codes "addr") (val.Uint n)
 unfolding types
-takes-address Object n fits = tt
-takes-address Container n fits = tt
-takes-address Machine n fits = tt
-takes-address Device n fits = tt
-takes-address SlotDevice n fits = tt
-takes-address SlotUart n fits = tt
-takes-address SlotTimer n fits = tt
-takes-address SlotBridge n fits = tt
-takes-address MemDimm n fits = fits
-takes-address Bus n fits = tt
-takes-address SlotBus n fits = tt
-takes-address MemBus n fits = tt
-takes-address Clock n fits = tt
-takes-address MemoryBackend n fits = tt
-takes-address MemoryBackendRam n fits = tt
-takes-address Tag n fits = tt
+takes-address = each (λ (t : TypeId). (n : ℕ) → admits (multiple_of DIMM_ALIGN) (val.Uint n) ≡ true → Takes t (codes "addr") (val.Uint n)) (search rules)
 
 -- the range of a DIMM
 

@@ -1,42 +1,16 @@
 -- What changes no slots, and values that are set by name, keep the shape.
-use Rattle.std.proofs.Common.{◌≡◌, inr, refl, ap, sym, subst, ◌∙◌, ℕ, ◌<◌, ◌≤◌, ◌-◌, ◌^◌, Bool, true, false, ◌==◌, eqb, List, [], ◌∷◌, ◌++◌, filter, slice_get, codes, Option, Some, None, is_some, option_map, Ok, Err, arith}
-use Rattle.std.specs.Prelude.{nat_le}
-use Rattle.std.specs.Bool.{⊤}
-use Rattle.std.specs.Option.{option_map_or}
-use Rattle.std.specs.Str.{bytes_eq}
+use Rattle.std.proofs.Common.{rules, ◌≡◌, inr, refl, ap, sym, subst, ◌∙◌, ℕ, ◌<◌, ◌≤◌, ◌-◌, ◌^◌, Bool, true, false, ◌==◌, eqb, List, ◌∷◌, ◌++◌, filter, slice_get, codes, Option, Some, None, is_some, option_map, Ok, Err, arith, []}
+use Rattle.qo_model.proofs.Common.{nat_le, ⊤, option_map_or, bytes_eq, Effect, body_act, body_write, admits, is_multiple, Registers, fresh_registers, E45, E46, Act, Enter, Hold, Exit, TypeId, Object, Container, Machine, Device, SlotDevice, SlotUart, SlotTimer, SlotBridge, MemDimm, Bus, SlotBus, MemBus, Clock, MemoryBackend, MemoryBackendRam, Tag, Val, Board, Record, Slot, plain, child, strong, weak, alias, is_live, kind_of, record_of, slots_at, set, with_changed, with_val, clock_scaled, clock_set, acted, source_of, with_act_on, among, asked, asked_of, device_at, index_from, opening_board, attached, notice_barred, property_named, edit, edited, without_first, is_out, phased, post, pulse, released, property_name, types, is_named, set_named}
+use Rattle.qo_model.specs.declared.properties.Property.{Property}
+use Rattle.qo_model.specs.declared.properties.PropertyRole.{PropertyRole}
 use Rattle.std.proofs.lemmas.Bool.Decides.{nat_tests}
 use Rattle.std.proofs.Math.Nat.{mod-one}
 use Rattle.std.proofs.lemmas.Option.{same_Some}
 use Rattle.std.proofs.lemmas.Slice.Eq.{bytes_eq-Decides}
-use Rattle.qo_values.specs.Bodies.{Effect, body_act, body_write}
-use Rattle.qo_values.specs.Properties.{admits, is_multiple}
-use Rattle.qo_values.specs.Registers.{Registers, bare, bridge, dimm, fresh_registers, timer, uart}
-use Rattle.qo_values.specs.declared.codes.Code.TheVariants.{E45, E46}
-use Rattle.qo_values.specs.declared.kinds.Act.{Act}
-use Rattle.qo_values.specs.declared.kinds.Act.TheVariants.{Init, Realize, Unrealize, Enter, Hold, Exit, Pre, Update}
-use Rattle.qo_values.specs.declared.kinds.TypeId.{TypeId}
-use Rattle.qo_values.specs.declared.kinds.TypeId.TheVariants.{Object, Container, Machine, Device, SlotDevice, SlotUart, SlotTimer, SlotBridge, MemDimm, Bus, SlotBus, MemBus, Clock, MemoryBackend, MemoryBackendRam, Tag}
 use Rattle.qo_values.specs.declared.properties.PropType.TheVariants as ty
-use Rattle.qo_values.specs.declared.properties.Val.{Val}
 use Rattle.qo_values.specs.declared.properties.Val.TheVariants as val
-use Rattle.qo_model.specs.Board.{Board, Record, Slot, plain, child, strong, weak, alias, is_live, kind_of, record_of, slots_at}
-use Rattle.qo_model.specs.Changes.{set, with_changed, with_val}
-use Rattle.qo_model.specs.ClockChanges.{clock_scaled, clock_set}
-use Rattle.qo_model.specs.Clocks.{acted, source_of, with_act_on}
-use Rattle.qo_model.specs.Depth.{among}
-use Rattle.qo_model.specs.Hotplug.{asked, asked_of, device_at}
-use Rattle.qo_model.specs.Objects.{index_from}
-use Rattle.qo_model.specs.Opening.{opening_board}
-use Rattle.qo_model.specs.Paths.{attached}
-use Rattle.qo_model.specs.Plug.{notice_barred}
-use Rattle.qo_model.specs.Properties.{property_named}
-use Rattle.qo_model.specs.Release.{edit, edited, without_first}
-use Rattle.qo_model.specs.Reset.{held, is_out, phased, post, pulse, released}
-use Rattle.qo_model.specs.RowNames.{property_name}
-use Rattle.qo_model.specs.Types.{types}
-use Rattle.qo_model.specs.Unplug.{is_named, set_named}
-use Rattle.qo_model.specs.declared.properties.Property.{Property}
-use Rattle.qo_model.specs.declared.properties.PropertyRole.{PropertyRole}
+use Rattle.qo_values.proofs.EachLemmas.{AllBodies, each_act, each_body}
+use Rattle.qo_model.specs.Reset.{held}
 use Rattle.qo_model.specs.declared.properties.PropertyRole.TheVariants as row
 use Rattle.qo_model.proofs.FirstSlotLemmas.{Found, found-at}
 use Rattle.qo_model.proofs.StepLemmas.{found-edited, found_at, is_some-map}
@@ -89,47 +63,14 @@ edit-shape n change same kind names entries b keeps h =
 
 -- acts
 
+abbrev StaysLike : Act → Registers → Type 0
+StaysLike act r = (now period : ℕ) (s : Registers) → is_like (body_act act now period r) s ≡ is_like r s
+
+abbrev StayLike : Act → Type 0
+StayLike act = AllBodies (StaysLike act)
+
 like-act : (act : Act) (now period : ℕ) (r s : Registers) → is_like (body_act act now period r) s ≡ is_like r s
-like-act (Init k) now period (uart u) s = refl
-like-act (Init k) now period (timer t) s = refl
-like-act (Init k) now period (dimm d) s = refl
-like-act (Init k) now period (bridge b) s = refl
-like-act (Init k) now period bare s = refl
-like-act Realize now period (uart u) s = refl
-like-act Realize now period (timer t) s = refl
-like-act Realize now period (dimm d) s = refl
-like-act Realize now period (bridge b) s = refl
-like-act Realize now period bare s = refl
-like-act Unrealize now period (uart u) s = refl
-like-act Unrealize now period (timer t) s = refl
-like-act Unrealize now period (dimm d) s = refl
-like-act Unrealize now period (bridge b) s = refl
-like-act Unrealize now period bare s = refl
-like-act Enter now period (uart u) s = refl
-like-act Enter now period (timer t) s = refl
-like-act Enter now period (dimm d) s = refl
-like-act Enter now period (bridge b) s = refl
-like-act Enter now period bare s = refl
-like-act Hold now period (uart u) s = refl
-like-act Hold now period (timer t) s = refl
-like-act Hold now period (dimm d) s = refl
-like-act Hold now period (bridge b) s = refl
-like-act Hold now period bare s = refl
-like-act Exit now period (uart u) s = refl
-like-act Exit now period (timer t) s = refl
-like-act Exit now period (dimm d) s = refl
-like-act Exit now period (bridge b) s = refl
-like-act Exit now period bare s = refl
-like-act Pre now period (uart u) s = refl
-like-act Pre now period (timer t) s = refl
-like-act Pre now period (dimm d) s = refl
-like-act Pre now period (bridge b) s = refl
-like-act Pre now period bare s = refl
-like-act Update now period (uart u) s = refl
-like-act Update now period (timer t) s = refl
-like-act Update now period (dimm d) s = refl
-like-act Update now period (bridge b) s = refl
-like-act Update now period bare s = refl
+like-act act now period r = each_body (StaysLike act) (each_act StayLike (search rules) act) r now period
 
 pub good-act : (act : Act) (now period : ℕ) (r : Record) → Good r → Good (with_act_on act now period r)
 good-act act now period r h =
@@ -188,32 +129,14 @@ asked-shape b id h = go (device_at b id) refl
 
 -- registers that are written
 
+abbrev SaysSame : Registers → Registers → Type 0
+SaysSame r s = (f : Registers) → is_like r s ≡ true → is_like s f ≡ is_like r f
+
+abbrev SaySame : Registers → Type 0
+SaySame r = AllBodies (SaysSame r)
+
 like-same : (r s f : Registers) → is_like r s ≡ true → is_like s f ≡ is_like r f
-like-same (uart u) (uart v) f k = refl
-like-same (uart u) (timer x) f k = absurd (let clash : false ≡ true = k in cc)
-like-same (uart u) (dimm e) f k = absurd (let clash : false ≡ true = k in cc)
-like-same (uart u) (bridge c) f k = absurd (let clash : false ≡ true = k in cc)
-like-same (uart u) bare f k = absurd (let clash : false ≡ true = k in cc)
-like-same (timer t) (uart v) f k = absurd (let clash : false ≡ true = k in cc)
-like-same (timer t) (timer x) f k = refl
-like-same (timer t) (dimm e) f k = absurd (let clash : false ≡ true = k in cc)
-like-same (timer t) (bridge c) f k = absurd (let clash : false ≡ true = k in cc)
-like-same (timer t) bare f k = absurd (let clash : false ≡ true = k in cc)
-like-same (dimm d) (uart v) f k = absurd (let clash : false ≡ true = k in cc)
-like-same (dimm d) (timer x) f k = absurd (let clash : false ≡ true = k in cc)
-like-same (dimm d) (dimm e) f k = refl
-like-same (dimm d) (bridge c) f k = absurd (let clash : false ≡ true = k in cc)
-like-same (dimm d) bare f k = absurd (let clash : false ≡ true = k in cc)
-like-same (bridge b) (uart v) f k = absurd (let clash : false ≡ true = k in cc)
-like-same (bridge b) (timer x) f k = absurd (let clash : false ≡ true = k in cc)
-like-same (bridge b) (dimm e) f k = absurd (let clash : false ≡ true = k in cc)
-like-same (bridge b) (bridge c) f k = refl
-like-same (bridge b) bare f k = absurd (let clash : false ≡ true = k in cc)
-like-same bare (uart v) f k = absurd (let clash : false ≡ true = k in cc)
-like-same bare (timer x) f k = absurd (let clash : false ≡ true = k in cc)
-like-same bare (dimm e) f k = absurd (let clash : false ≡ true = k in cc)
-like-same bare (bridge c) f k = absurd (let clash : false ≡ true = k in cc)
-like-same bare bare f k = refl
+like-same r s = each_body (SaysSame r) (each_body SaySame (search rules) r) s
 
 pub registers-shape : (b : Board) (n : ℕ) (registers : Registers) → ((r : Record) → record_of b n ≡ Some r → is_like registers r.registers ≡ true)
     → SoundShape b

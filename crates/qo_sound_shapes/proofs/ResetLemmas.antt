@@ -1,11 +1,7 @@
 -- A device that is detached, and the reset of the whole board, keep the shape.
 use Rattle.std.proofs.Common.{◌≡◌, inl, refl, ap, ◌∙◌, ℕ, zero, suc, true, false, List, length, codes, Option, Some, None, option_map}
-use Rattle.std.specs.List.{AllByRecursion}
-use Rattle.qo_values.specs.declared.births.TheConstants.{MACHINE_BIRTH}
-use Rattle.qo_model.specs.Board.{Board, Record, Slot, kind_of}
-use Rattle.qo_model.specs.Hotplug.{all_completed, completed, reset_whole}
-use Rattle.qo_model.specs.Paths.{is_of}
-use Rattle.qo_model.specs.Unplug.{detach, first_of}
+use Rattle.qo_model.proofs.Common.{AllByRecursion, MACHINE_BIRTH, Board, Record, Slot, kind_of, all_completed, completed, reset_whole, is_of, detach}
+use Rattle.qo_model.specs.Unplug.{first_of}
 use Rattle.qo_model.proofs.StepLemmas.{found-birth}
 use Rattle.qo_sound.proofs.FirmBoardLemmas.{Linked}
 use Rattle.qo_sound.proofs.SearchLemmas.{all-found}

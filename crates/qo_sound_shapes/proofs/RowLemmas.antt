@@ -1,20 +1,10 @@
 -- Slots of rows: what a change of one slot or of each keeps.
 use Rattle.std.proofs.Common.{◌≡◌, ◌⊎◌, inl, inr, refl, ap, sym, subst, ◌∙◌, rules, ℕ, zero, suc, Bool, true, false, List, [], ◌∷◌, ◌++◌, map, remove, find, slice_get, codes, Option, Some, None}
-use Rattle.std.specs.Bool.{⊤}
-use Rattle.std.specs.List.{AllByRecursion}
-use Rattle.std.specs.Str.{bytes_eq}
-use Rattle.std.proofs.lemmas.Option.{same_Some}
-use Rattle.qo_values.specs.declared.kinds.TypeId.{TypeId}
-use Rattle.qo_values.specs.declared.kinds.TypeId.TheVariants.{Object, Container, Machine, Device, SlotDevice, SlotUart, SlotTimer, SlotBridge, MemDimm, Bus, SlotBus, MemBus, Clock, MemoryBackend, MemoryBackendRam, Tag}
-use Rattle.qo_model.specs.Board.{Slot, plain, child, strong, weak, alias}
-use Rattle.qo_model.specs.Changes.{changed_at}
-use Rattle.qo_model.specs.Devices.{kid_name}
-use Rattle.qo_model.specs.Properties.{property_named}
-use Rattle.qo_model.specs.Release.{without_hold}
-use Rattle.qo_model.specs.RowNames.{property_name}
-use Rattle.qo_model.specs.Types.{is_a, slots_of, types}
+use Rattle.qo_model.proofs.Common.{⊤, AllByRecursion, bytes_eq, TypeId, Object, Container, Machine, Device, SlotDevice, SlotUart, SlotTimer, SlotBridge, MemDimm, Bus, SlotBus, MemBus, Clock, MemoryBackend, MemoryBackendRam, Tag, Slot, plain, child, strong, weak, alias, changed_at, kid_name, property_named, without_hold, property_name, is_a, slots_of, types}
 use Rattle.qo_model.specs.declared.properties.Property.{Property}
 use Rattle.qo_model.specs.declared.properties.PropertyRole.{PropertyRole}
+use Rattle.std.proofs.lemmas.Option.{same_Some}
+use Rattle.qo_values.proofs.EachLemmas.{each}
 use Rattle.qo_model.specs.declared.properties.PropertyRole.TheVariants as row
 use Rattle.qo_sound_shapes.specs.SoundShape.{HasSlots, further, HasRole, IsFurther, IsKidLink, IsOfProperty, may_miss, missing, next}
 
@@ -165,22 +155,7 @@ IsRowOf t p = property_named t (property_name p.name) ≡ Some p
 
 pub own-rows : (t : TypeId) → AllByRecursion (IsRowOf t) (slots_of t)
 unfolding types
-own-rows Object = search rules
-own-rows Container = search rules
-own-rows Machine = search rules
-own-rows Device = search rules
-own-rows SlotDevice = search rules
-own-rows SlotUart = search rules
-own-rows SlotTimer = search rules
-own-rows SlotBridge = search rules
-own-rows MemDimm = search rules
-own-rows Bus = search rules
-own-rows SlotBus = search rules
-own-rows MemBus = search rules
-own-rows Clock = search rules
-own-rows MemoryBackend = search rules
-own-rows MemoryBackendRam = search rules
-own-rows Tag = search rules
+own-rows = each (λ (t : TypeId). AllByRecursion (IsRowOf t) (slots_of t)) (search rules)
 
 -- what is found by its name has what each has
 pub each-found : (P : Property → Type 0) (name : List ℕ) (ps : List Property) → AllByRecursion P ps → (p : Property)
@@ -203,41 +178,11 @@ PlainRows ps = AllByRecursion (λ (p : Property). is_plain_role p.role ≡ true)
 
 pub bus-plain : (t : TypeId) → is_a t (codes "bus") ≡ true → PlainRows (slots_of t)
 unfolding types
-bus-plain Object e = absurd (let clash : false ≡ true = e in cc)
-bus-plain Container e = absurd (let clash : false ≡ true = e in cc)
-bus-plain Machine e = absurd (let clash : false ≡ true = e in cc)
-bus-plain Device e = absurd (let clash : false ≡ true = e in cc)
-bus-plain SlotDevice e = absurd (let clash : false ≡ true = e in cc)
-bus-plain SlotUart e = absurd (let clash : false ≡ true = e in cc)
-bus-plain SlotTimer e = absurd (let clash : false ≡ true = e in cc)
-bus-plain SlotBridge e = absurd (let clash : false ≡ true = e in cc)
-bus-plain MemDimm e = absurd (let clash : false ≡ true = e in cc)
-bus-plain Bus e = search rules
-bus-plain SlotBus e = search rules
-bus-plain MemBus e = search rules
-bus-plain Clock e = absurd (let clash : false ≡ true = e in cc)
-bus-plain MemoryBackend e = absurd (let clash : false ≡ true = e in cc)
-bus-plain MemoryBackendRam e = absurd (let clash : false ≡ true = e in cc)
-bus-plain Tag e = absurd (let clash : false ≡ true = e in cc)
+bus-plain = each (λ (t : TypeId). is_a t (codes "bus") ≡ true → PlainRows (slots_of t)) (search rules)
 
 pub none-kid : (t : TypeId) → is_a t (codes "bus") ≡ false → NoKidLinks t
 unfolding types
-none-kid Object e name to target h = h
-none-kid Container e name to target h = h
-none-kid Machine e name to target h = h
-none-kid Device e name to target h = h
-none-kid SlotDevice e name to target h = h
-none-kid SlotUart e name to target h = h
-none-kid SlotTimer e name to target h = h
-none-kid SlotBridge e name to target h = h
-none-kid MemDimm e name to target h = h
-none-kid Bus e name to target h = h
-none-kid SlotBus e name to target h = absurd (let clash : true ≡ false = e in cc)
-none-kid MemBus e name to target h = absurd (let clash : true ≡ false = e in cc)
-none-kid Clock e name to target h = h
-none-kid MemoryBackend e name to target h = h
-none-kid MemoryBackendRam e name to target h = h
-none-kid Tag e name to target h = h
+none-kid = each (λ (t : TypeId). is_a t (codes "bus") ≡ false → NoKidLinks t) (search rules)
 
 pub link-apart : (t k : TypeId) (holds : Bool) (name : List ℕ) (p : Property) → property_named t name ≡ Some p → p.role ≡ row.Link k holds → NoKidLinks t
 link-apart t k holds name p e is = go (is_a t (codes "bus")) refl
@@ -251,42 +196,12 @@ link-apart t k holds name p e is = go (is_a t (codes "bus")) refl
 -- no row of a bus has the name of a link to a kid
 pub kid-rowless : (t : TypeId) → is_a t (codes "bus") ≡ true → (k : ℕ) → property_named t (kid_name k) ≡ None
 unfolding types
-kid-rowless Object e k = absurd (let clash : false ≡ true = e in cc)
-kid-rowless Container e k = absurd (let clash : false ≡ true = e in cc)
-kid-rowless Machine e k = absurd (let clash : false ≡ true = e in cc)
-kid-rowless Device e k = absurd (let clash : false ≡ true = e in cc)
-kid-rowless SlotDevice e k = absurd (let clash : false ≡ true = e in cc)
-kid-rowless SlotUart e k = absurd (let clash : false ≡ true = e in cc)
-kid-rowless SlotTimer e k = absurd (let clash : false ≡ true = e in cc)
-kid-rowless SlotBridge e k = absurd (let clash : false ≡ true = e in cc)
-kid-rowless MemDimm e k = absurd (let clash : false ≡ true = e in cc)
-kid-rowless Bus e k = refl
-kid-rowless SlotBus e k = refl
-kid-rowless MemBus e k = refl
-kid-rowless Clock e k = absurd (let clash : false ≡ true = e in cc)
-kid-rowless MemoryBackend e k = absurd (let clash : false ≡ true = e in cc)
-kid-rowless MemoryBackendRam e k = absurd (let clash : false ≡ true = e in cc)
-kid-rowless Tag e k = absurd (let clash : false ≡ true = e in cc)
+kid-rowless = each (λ (t : TypeId). is_a t (codes "bus") ≡ true → (k : ℕ) → property_named t (kid_name k) ≡ None) (search rules)
 
 -- a further slot of a bus is a link to a kid
 pub bus-kid : (t : TypeId) → is_a t (codes "bus") ≡ true → (s : List ℕ × Slot) → IsFurther t s → IsKidLink s.0 s.1
 unfolding types
-bus-kid Object e s h = absurd (let clash : false ≡ true = e in cc)
-bus-kid Container e s h = absurd (let clash : false ≡ true = e in cc)
-bus-kid Machine e s h = absurd (let clash : false ≡ true = e in cc)
-bus-kid Device e s h = absurd (let clash : false ≡ true = e in cc)
-bus-kid SlotDevice e s h = absurd (let clash : false ≡ true = e in cc)
-bus-kid SlotUart e s h = absurd (let clash : false ≡ true = e in cc)
-bus-kid SlotTimer e s h = absurd (let clash : false ≡ true = e in cc)
-bus-kid SlotBridge e s h = absurd (let clash : false ≡ true = e in cc)
-bus-kid MemDimm e s h = absurd (let clash : false ≡ true = e in cc)
-bus-kid Bus e s h = absurd h
-bus-kid SlotBus e s h = h
-bus-kid MemBus e s h = h
-bus-kid Clock e s h = absurd (let clash : false ≡ true = e in cc)
-bus-kid MemoryBackend e s h = absurd (let clash : false ≡ true = e in cc)
-bus-kid MemoryBackendRam e s h = absurd (let clash : false ≡ true = e in cc)
-bus-kid Tag e s h = absurd (let clash : false ≡ true = e in cc)
+bus-kid = each (λ (t : TypeId). is_a t (codes "bus") ≡ true → (s : List ℕ × Slot) → IsFurther t s → IsKidLink s.0 s.1) (search rules)
 
 -- a plain row has no strong link
 pub plain-strong : (kind : PropertyRole) (t : TypeId) (target : Option ℕ) → is_plain_role kind ≡ true → HasRole kind (strong t target) → ⊥

@@ -1,24 +1,9 @@
 -- One object that is shaped as its type says, and as every machine begins: what changes of its slots keep.
 use Rattle.std.proofs.Common.{◌≡◌, refl, ap, sym, subst, ◌∙◌, rules, ℕ, zero, suc, Bool, true, false, ◌==◌, List, [], ◌∷◌, ◌++◌, map, slice_get, codes, Option, Some, None}
-use Rattle.std.specs.Bool.{⊤}
-use Rattle.std.specs.List.{AllByRecursion}
-use Rattle.std.proofs.lemmas.Bool.{eqb-true}
-use Rattle.qo_values.specs.declared.births.TheConstants.{MACHINE_BIRTH, ROOT_BIRTH}
-use Rattle.qo_values.specs.declared.kinds.TypeId.{TypeId}
-use Rattle.qo_values.specs.declared.kinds.TypeId.TheVariants.{Object, Container, Machine, Device, SlotDevice, SlotUart, SlotTimer, SlotBridge, MemDimm, Bus, SlotBus, MemBus, Clock, MemoryBackend, MemoryBackendRam, Tag}
-use Rattle.qo_values.specs.declared.properties.Val.{Val}
-use Rattle.qo_model.specs.Board.{Board, Record, Slot, plain, child, strong, weak, alias, kind_of, slots_at}
-use Rattle.qo_model.specs.Changes.{changed_at, pointed, with_added, with_changed, with_val}
-use Rattle.qo_model.specs.Depth.{among}
-use Rattle.qo_model.specs.Opening.{opening_board}
-use Rattle.qo_model.specs.Paths.{child_of}
-use Rattle.qo_model.specs.Plug.{fitted}
-use Rattle.qo_model.specs.Release.{forgotten, forgotten_in, with_dropped, without_hold}
-use Rattle.qo_model.specs.SoundGraph.{without_value}
-use Rattle.qo_model.specs.Types.{is_a, slots_of, types}
-use Rattle.qo_model.specs.Unplug.{unseen}
+use Rattle.qo_model.proofs.Common.{⊤, AllByRecursion, MACHINE_BIRTH, ROOT_BIRTH, TypeId, Object, Container, Machine, Device, SlotDevice, SlotUart, SlotTimer, SlotBridge, MemDimm, Bus, SlotBus, MemBus, Clock, MemoryBackend, MemoryBackendRam, Tag, Val, Board, Record, Slot, plain, child, strong, weak, alias, kind_of, slots_at, changed_at, pointed, with_added, with_changed, with_val, among, opening_board, child_of, fitted, forgotten, forgotten_in, with_dropped, without_hold, without_value, is_a, slots_of, types, unseen}
 use Rattle.qo_model.specs.declared.properties.Property.{Property}
 use Rattle.qo_model.specs.declared.properties.PropertyRole.{PropertyRole}
+use Rattle.std.proofs.lemmas.Bool.{eqb-true}
 use Rattle.qo_model.specs.declared.properties.PropertyRole.TheVariants as row
 use Rattle.qo_sound.proofs.RecordLemmas.{all-unmap}
 use Rattle.qo_sound_shapes.specs.SoundShape.{HasSlots, HasRole, IsChildSlot, IsFurther, IsKidLink, IsOfProperty, IsShaped, may_miss, unvalued}

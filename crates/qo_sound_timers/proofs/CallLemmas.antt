@@ -13,7 +13,7 @@ use Rattle.qo_values.specs.declared.kinds.TypeId.TheVariants.{Object, Container,
 use Rattle.qo_timer.specs.Calls.{TimerCall, enter, hold, pre, update, halt, write, after_call, after_calls, is_pre, is_update, updates_follow}
 use Rattle.qo_sound_clocks.proofs.BecomesLemmas.{Becomes, written-becomes, uart_to, timer_to, dimm_stays, bridge_to}
 use Rattle.qo_sound_timers.specs.TimerRuns.{IsLeftBy, RiseTo, moment_of}
-use Rattle.qo_sound_bounds.proofs.RegisterStepsLemmas.{KeepsRegisters}
+use Rattle.qo_steps.proofs.RegisterStepsLemmas.{KeepsRegisters}
 
 -- a call more
 

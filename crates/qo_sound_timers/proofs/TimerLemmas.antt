@@ -14,8 +14,7 @@ use Rattle.qo_timer.specs.Calls.{TimerCall}
 use Rattle.qo_timer.specs.Segments.{marks}
 use Rattle.qo_timer.specs.Sum.{total_ticks}
 use Rattle.qo_sound.proofs.SearchLemmas.{all-found}
-use Rattle.qo_sound_clocks.proofs.StepsLemmas.{kept-scaled, kept-set}
-use Rattle.qo_sound_clocks.specs.RegisterWrites.{registers_set}
+use Rattle.qo_sound_clocks.specs.RegisterWrites.{registers_set, with_registers}
 use Rattle.qo_backends.specs.Rings.{claimed_ring}
 use Rattle.qo_realize.proofs.RegisterWriteLemmas.{written-all}
 use Rattle.qo_realize.specs.Registers.{registers_at, registers_written}
@@ -24,7 +23,8 @@ use Rattle.qo_machine.proofs.PreservationLemmas.{KeepsBoard, any-rings, keeps_co
 use Rattle.qo_machine.specs.Machine.{opening}
 use Rattle.qo_machine.specs.Runs.{Turn, state_after}
 use Rattle.qo_sound_timers.proofs.CallLemmas.{IsLeft, Paused, calls_keep, left-later, left-write}
-use Rattle.qo_sound_bounds.proofs.RegisterStepsLemmas.{Each, asked-kept, changed-kept, detach-kept, held-kept, kept-calls, kept-numbers, plug-kept, pulse-kept, released-kept, reset-kept, set-kept}
+use Rattle.qo_steps.specs.Changes.{Changes}
+use Rattle.qo_steps.proofs.RegisterStepsLemmas.{Each, edit-kept, registers-kept}
 use Rattle.qo_sound_timers.specs.TimerRuns.{CountsBy, IsLeftBy, TimersInRuns}
 
 -- each timer of a board is as its calls leave it
@@ -49,37 +49,38 @@ found-left b n h = go (record_of b n) refl
 written-left : (b : Board) (d reg value : ℕ) (registers : Registers) (e : Effect) → registers_written b d reg value ≡ Some (registers, e) → Left b
     → Left (registers_set b d registers)
 written-left b d reg value registers e is h =
-    set-kept IsLeft b d registers
-    (left-write (registers_at b d) registers e reg value (is_some (claimed_ring b d)) b.now (device_period b d) is (found-left b d h)) h
+    edit-kept IsLeft d (with_registers registers) b
+    (λ r k. left-write (registers_at b d) registers e reg value (is_some (claimed_ring b d)) b.now (device_period b d) is (found-left b d h)) h
 
 timed-left : (b : Board) (now : ℕ) → b.now ≤ now → Left b → Left (at_time now b)
 timed-left b now on h = all-imply (OnLeft b.now) (OnLeft now) (λ r k. left-later b.now now r.registers on k) b.records h
 
+kept : Changes (λ types b c. Left b → Left c)
+kept = registers-kept IsLeft Paused calls_keep
+
 timers_kept : KeepsBoard Left
 timers_kept =
     record {
-      change = changed-kept IsLeft Paused calls_keep;
-      set = λ b d c period fits is h. kept-set Left (kept-calls IsLeft Paused calls_keep) (kept-numbers IsLeft Paused calls_keep) b d c period is h;
-      multiplied = λ b d c mul fits is h.
-          kept-scaled Left (kept-calls IsLeft Paused calls_keep) (kept-numbers IsLeft Paused calls_keep) b d c mul (div_of b c) is h;
-      divided = λ b d c div fits is h.
-          kept-scaled Left (kept-calls IsLeft Paused calls_keep) (kept-numbers IsLeft Paused calls_keep) b d c (mul_of b c) div is h;
-      attempt = λ b t h. h;
-      plugged = plug-kept IsLeft Paused calls_keep;
-      cut = λ b t i joined h. h;
-      asked = asked-kept IsLeft;
-      completed = λ b at d is pending h. detach-kept IsLeft Paused calls_keep b d h;
-      refused = λ b d h. h;
+      change = kept.change;
+      set = λ b d c period fits is. kept.set b d c period is;
+      multiplied = λ b d c mul fits is. kept.scaled b d c mul (div_of b c) is;
+      divided = λ b d c div fits is. kept.scaled b d c (mul_of b c) div is;
+      attempt = kept.attempt;
+      plugged = λ b a. kept.plugged b a tt;
+      cut = kept.cut;
+      asked = kept.asked_for;
+      completed = λ b at d is pending. kept.detached b d tt tt;
+      refused = kept.refused_by;
       polled = λ b h. h;
       written = λ b at d reg value c there is h.
           written-all Left b d reg value (λ registers e so. written-left b d reg value registers e so h) (λ x n id q. q)
-          (λ x m on q. pulse-kept IsLeft Paused calls_keep x m q) c is;
+          (λ x m on q. kept.pulsed x m tt tt q) c is;
       rings = any-rings Left (λ b rings h. h);
       timed = λ b now on low h. timed-left b now on h;
       switched = λ b on h. h;
-      held_so = λ b n is home deep h. held-kept IsLeft Paused calls_keep b n h;
-      released_so = λ b n is held h. released-kept IsLeft Paused calls_keep b n h;
-      reset = reset-kept IsLeft Paused calls_keep;
+      held_so = λ b n is home deep. kept.held_so b n tt tt;
+      released_so = λ b n is held. kept.released_so b n tt tt;
+      reset = λ b. kept.reset b tt;
     }
 
 left-run : (turns : List Turn) → Left (state_after opening turns).board

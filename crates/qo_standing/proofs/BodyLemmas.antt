@@ -2,7 +2,7 @@
 use Rattle.std.proofs.Common.{◌≡◌, refl, ap, sym, subst, ◌∙◌, ℕ, Bool, true, false, eqb, Option, Some, None, option_map}
 use Rattle.std.proofs.lemmas.Bool.{eqb-true}
 use Rattle.std.proofs.lemmas.Option.{same_Some}
-use Rattle.qo_kinds.specs.Bodies.{kept_of, with_kept}
+use Rattle.qo_kinds.specs.Bodies.{kept_of}
 use Rattle.qo_kinds.specs.declared.bodies.Body.{Body}
 use Rattle.qo_kinds.specs.declared.kept_set.KeptSet.{KeptSet}
 use Rattle.qo_object.specs.Content.{Content}
@@ -39,13 +39,11 @@ of-bodies g (Some c) (Some d) same = ap (λ (b : Body). Some (g b)) (same_Some d
 pub kept-bodies : (v w : Objects) → SameBodies v w → SameKept v w
 kept-bodies v w same n = of-bodies kept_of (content_of v n) (content_of w n) (same n)
 
-given-one : (k : KeptSet) (x : Option Content)
-    → option_map (λ (c : Content). kept_of c.body) (option_map (kept_in k) x) ≡ option_map (λ (c : Content). kept_of (with_kept k c.body)) x
+given-one : (k : KeptSet) (x : Option Content) → option_map (λ (c : Content). kept_of c.body) (option_map (kept_in k) x) ≡ option_map (λ (c : Content). k) x
 given-one k None = refl
 given-one k (Some c) = refl
 
-pub given-kept : (v : Objects) (n : ℕ) (k : KeptSet)
-    → kept_by (with_edit n (kept_in k) v) n ≡ option_map (λ (c : Content). kept_of (with_kept k c.body)) (content_of v n)
+pub given-kept : (v : Objects) (n : ℕ) (k : KeptSet) → kept_by (with_edit n (kept_in k) v) n ≡ option_map (λ (c : Content). k) (content_of v n)
 given-kept v n k = ap (option_map (λ (c : Content). kept_of c.body)) (content-edited v n (kept_in k)) ∙ given-one k (content_of v n)
 
 -- one is given claims, where all were as before
@@ -58,5 +56,5 @@ kept-given v w o k same n = go (eqb n o) refl
     go : (t : Bool) → eqb n o ≡ t → kept_by (with_edit o (kept_in k) w) n ≡ kept_by (with_edit o (kept_in k) v) n
     go true p =
         subst (λ (m : ℕ). kept_by (with_edit o (kept_in k) w) m ≡ kept_by (with_edit o (kept_in k) v) m) (sym (eqb-true n o p))
-        (given-kept w o k ∙ of-bodies (λ (b : Body). kept_of (with_kept k b)) (content_of v o) (content_of w o) (same o) ∙ sym (given-kept v o k))
+        (given-kept w o k ∙ of-bodies (λ (b : Body). k) (content_of v o) (content_of w o) (same o) ∙ sym (given-kept v o k))
     go false p = other w p ∙ kept-bodies v w same n ∙ sym (other v p)

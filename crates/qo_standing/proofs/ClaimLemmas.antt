@@ -1,5 +1,5 @@
 -- Claims that are out, and claims that an object keeps.
-use Rattle.std.proofs.Common.{◌≡◌, refl, ap, sym, subst, ◌∙◌, ℕ, ◌+◌, cond, List, [], ◌∷◌, ◌++◌, count_by, append_assoc, Option, Some, None, IfSome, IfNone, option_map, arith}
+use Rattle.std.proofs.Common.{◌≡◌, refl, ap, sym, subst, ◌∙◌, ℕ, ◌+◌, cond, List, [], ◌∷◌, ◌++◌, count_by, append_assoc, Option, Some, None, IfSome, option_map, arith}
 use Rattle.std.specs.Prelude.{option_and_then}
 use Rattle.std.proofs.lemmas.List.Sums.{sum_by-append, sum_by-cons}
 use Rattle.std.proofs.lemmas.Option.{same_Some}
@@ -99,17 +99,6 @@ kept-book v good o live bare k body kept out h =
     omega (arith, was, now, kept-count x k))
     h
 
-pub bare-book : (v : Objects) → IsHeap v → (o : Key) → IsLive v.rows o → IfSome (content_of v o.birth) (λ c. IsBare c.body) → (body : Body)
-    → IsBare body → (out : List Claimed) → IsBook out v → IsBook out (with_edit o.birth (λ c. record c { body = body }) v)
-bare-book v good o live bare body is out h =
-    let (c, there) = live-content v o live in
-    book-put [] out v good o.birth (λ d. record d { body = body }) c there
-    (λ x.
-    let was : kept_times x (kept_of c.body) ≡ 0 = bare-times x c.body (bare-of v o.birth bare c there) in
-    let now : kept_times x (kept_of body) ≡ 0 = bare-times x body is in
-    omega (arith, was, now))
-    h
-
 -- the body that was written is what was there, changed
 pub body-put : (v : Objects) → IsHeap v → (o : Key) → IsLive v.rows o → (old new : Body) (f : Body → Body)
     → option_map (λ (c : Content). c.body) (content_of v o.birth) ≡ Some old → new ≡ f old
@@ -119,18 +108,6 @@ body-put v good o live old new f was is =
     let here : c.body ≡ old = same_Some c.body old (ap (option_map (λ (d : Content). d.body)) (sym there) ∙ was) in
     edit-on v good o.birth (λ d. record d { body = new }) (λ d. record d { body = f d.body }) c there (ap (λ (b : Body). record c { body = b }) (is
     ∙ ap f (sym here)))
-
-module _ (v : Objects) (good : IsHeap v) (o : Key) (live : IsLive v.rows o) (bare : IfSome (content_of v o.birth) (λ c. IsBare c.body)) (k : KeptSet)
-    (body : Body) where
-  pub put-kept : (r : Option KeptSet) → IfNone r (kept_of body ≡ k)
-      → IfNone r ((out : List Claimed) → IsBook (kept_out k ++ out) v → IsBook out (with_edit o.birth (λ c. record c { body = body }) v))
-  put-kept None kept = kept-book v good o live bare k body kept
-  put-kept (Some x) kept = tt
-
-  pub put-back : (r : Option KeptSet) → IfSome r (λ x. (x ≡ k) × IsBare body)
-      → IfSome r (λ x. (x ≡ k) × ((out : List Claimed) → IsBook out v → IsBook out (with_edit o.birth (λ c. record c { body = body }) v)))
-  put-back None back = tt
-  put-back (Some x) back = (back.0, bare-book v good o live bare body back.1)
 
 -- the claims that are out, one after the other
 abbrev parts_out : KeptSet → List Claimed → List Claimed

@@ -37,7 +37,7 @@ use Rattle.qo_properties.specs.KeptClaims.{SameKept, kept_by}
 use Rattle.qo_standing.proofs.BodyLemmas.{SameBodies, kept-given}
 use Rattle.qo_standing.proofs.PlacementBoards.{kinds-stood, seated-path, source-missing}
 use Rattle.qo_standing.proofs.PlacementFills.{edit-on}
-use Rattle.qo_standing.proofs.PlacementSteps.{alike-edit, alike-kept, alike-then, registers-kept, shows-book, shows-kept}
+use Rattle.qo_standing.proofs.PlacementSteps.{alike-edit, alike-kept, alike-then, shows-book, shows-kept}
 
 -- the last slot
 
@@ -278,12 +278,12 @@ stands b c a o spot path v w r way s some none shown same is =
 -- the steps up to the claims that the body keeps
 module _ (h0 h1 h2 h3 h4 : Objects) (e : ℕ) (o container bus : Key) (name : List ℕ) (slot : ℕ) (k : KeptSet)
     (first : h1 ≡ record h0 { events = record h0.events { spare = e } }) (second : h2 ≡ with_book h2.claims h1)
-    (third : h3 ≡ joined_on container name bus slot o h2) (fourth : h4 ≡ with_book h4.claims (with_edit o.birth (kept_in k) h3)) where
+    (third : h3 ≡ joined_on container name bus slot o h2) (fourth : h4 ≡ with_edit o.birth (kept_in k) h3) where
   joined-rows : h3.rows ≡ (joined_on container name bus slot o h0).rows
   joined-rows = rows-joined h0 h1 h2 h3 e container bus o name slot first second third
 
   pub placed-alike : Alike h0 h4
-  placed-alike = alike-then h0 h3 h4 (joined-alike h0 h3 container bus o name slot joined-rows) (alike-kept h3 h4 h4.claims o.birth k fourth)
+  placed-alike = alike-then h0 h3 h4 (joined-alike h0 h3 container bus o name slot joined-rows) (alike-kept h3 h4 o.birth k fourth)
 
   pub placed-ids : (n : ℕ) → option_map (λ (c : Content). c.device_id) (content_of h4 n) ≡ option_map (λ (c : Content). c.device_id) (content_of h0 n)
   placed-ids n = kept-ids h3 h4 o.birth n k (ap (λ (x : Objects). x.rows) fourth) ∙ joined-ids h0 h3 container bus o name slot joined-rows n
@@ -295,7 +295,7 @@ module _ (h0 h1 h2 h3 h4 : Objects) (e : ℕ) (o container bus : Key) (name : Li
       → option_map (λ (c : Content). registers_of c.body) (content_of h4 n) ≡ option_map (λ (c : Content). registers_of c.body) (content_of h0 n)
   placed-registers n =
       ap (λ (l : List (Key × Content)). option_map (λ (c : Content). registers_of c.body) (object_at l n)) (ap (λ (x : Objects). x.rows) fourth)
-      ∙ read-content (λ (c : Content). registers_of c.body) o.birth (kept_in k) (λ c. registers-kept k c.body) h3 n
+      ∙ read-content (λ (c : Content). registers_of c.body) o.birth (kept_in k) (λ c. refl) h3 n
       ∙ joined-registers h0 h3 container bus o name slot joined-rows n
 
   pub placed-claims : SameKept (with_edit o.birth (kept_in k) h0) h4
@@ -317,7 +317,7 @@ module _ (h0 h1 h2 h3 h4 : Objects) (e : ℕ) (o container bus : Key) (name : Li
         joined-shown b c a h2 h3 container bus o name slot range id third (shows-book c h1 h2 h2.claims second (reserved-shows c h0 h1 e first s)) seat
 
     pub placed-kept : Shows (joined b o.birth a its_spot c) h4
-    placed-kept = shows-kept (joined b o.birth a its_spot c) h3 h4 h4.claims o.birth k fourth placed-shown
+    placed-kept = shows-kept (joined b o.birth a its_spot c) h3 h4 o.birth k fourth placed-shown
 
   pub reserved-live : (key : Key) → IsLive h1.rows key → IsLive h0.rows key
   reserved-live key live = subst (λ (x : Objects). IsLive x.rows key) first live

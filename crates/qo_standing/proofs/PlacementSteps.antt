@@ -8,9 +8,6 @@ use Rattle.qo_values.specs.declared.properties.Val.{Val}
 use Rattle.qo_slots.specs.declared.keys.Key.{Key}
 use Rattle.qo_claims.specs.Book.{ClaimsTaken}
 use Rattle.qo_table.specs.Rows.{IsLive, edit, object_at}
-use Rattle.qo_kinds.specs.Bodies.{registers_of, with_kept}
-use Rattle.qo_kinds.specs.declared.bodies.Body.{Body}
-use Rattle.qo_kinds.specs.declared.bodies.Body.TheVariants.{Uart, Timer, Dimm, Bridge, Bus, Clock, Backend, Plain}
 use Rattle.qo_kinds.specs.declared.kept_set.KeptSet.{KeptSet}
 use Rattle.qo_model.specs.Board as board
 use Rattle.qo_model.specs.Objects.{Given}
@@ -114,20 +111,10 @@ shows-book b v w h is s =
     subst (Shows b) (sym is) (record { records = s.records; born = s.born; pins = s.pins; notes = s.notes; events = s.events; now = s.now })
 
 -- a body with other claims shows the same
-pub registers-kept : (k : KeptSet) (b : Body) → registers_of (with_kept k b) ≡ registers_of b
-registers-kept k (Uart u old) = refl
-registers-kept k (Timer t old) = refl
-registers-kept k (Dimm d old) = refl
-registers-kept k (Bridge r h old) = refl
-registers-kept k Bus = refl
-registers-kept k Clock = refl
-registers-kept k Backend = refl
-registers-kept k Plain = refl
-
-pub shows-kept : (b : board.Board) (v w : Objects) (h : ClaimsTaken) (n : ℕ) (k : KeptSet) → w ≡ with_book h (with_edit n (kept_in k) v) → Shows b v → Shows b w
-shows-kept b v w h n k is s =
-    shows-book b (with_edit n (kept_in k) v) w h is (record {
-      records = s.records ∙ sym (edit-unseen n (kept_in k) (λ m c. ap (λ (r : _). record (shown m c) { registers = r }) (registers-kept k c.body)) v.rows);
+pub shows-kept : (b : board.Board) (v w : Objects) (n : ℕ) (k : KeptSet) → w ≡ with_edit n (kept_in k) v → Shows b v → Shows b w
+shows-kept b v w n k is s =
+    subst (Shows b) (sym is) (record {
+      records = s.records ∙ sym (edit-unseen n (kept_in k) (λ m c. refl) v.rows);
       born = s.born;
       pins = s.pins ∙ sym (pins-edited n (kept_in k) (λ c. refl) v.rows);
       notes = s.notes;
@@ -135,8 +122,8 @@ shows-kept b v w h n k is s =
       now = s.now;
     })
 
-pub alike-kept : (v w : Objects) (h : ClaimsTaken) (n : ℕ) (k : KeptSet) → w ≡ with_book h (with_edit n (kept_in k) v) → Alike v w
-alike-kept v w h n k is = alike-edit v w n (kept_in k) (λ c. refl) (λ c. refl) (ap (λ (x : Objects). x.rows) is)
+pub alike-kept : (v w : Objects) (n : ℕ) (k : KeptSet) → w ≡ with_edit n (kept_in k) v → Alike v w
+alike-kept v w n k is = alike-edit v w n (kept_in k) (λ c. refl) (λ c. refl) (ap (λ (x : Objects). x.rows) is)
 
 -- own slots that are filled as it was given
 pub shows-given : (b c : board.Board) (v w : Objects) (o : Key) (props : List Given) (plan : List Fill) → Shows c v → IsHeap v → IsLive v.rows o

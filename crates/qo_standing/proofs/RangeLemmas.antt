@@ -1,24 +1,24 @@
 -- The body of a DIMM, which stands on a range.
-use Rattle.std.proofs.Common.{◌≡◌, refl, ap, sym, subst, ◌∙◌, ℕ, ◌+◌, List, sum_by, Option, Some, None, IfSome, option_map, arith}
-use Rattle.std.specs.Prelude.{option_and_then, ⊤}
+use Rattle.std.proofs.Common.{◌≡◌, refl, ap, sym, subst, ◌∙◌, ℕ, List, sum_by, Option, Some, None, IfSome, option_map, arith}
+use Rattle.std.specs.Prelude.{option_and_then}
 use Rattle.std.proofs.lemmas.Option.{same_Some}
-use Rattle.qo_values.specs.Registers.{Registers, dimm}
+use Rattle.qo_values.specs.Registers.{Registers}
 use Rattle.qo_values.specs.declared.ranges.Range.{Range}
 use Rattle.qo_slots.specs.declared.keys.Key.{Key}
 use Rattle.qo_claims.specs.declared.claims.Claimed.{Claimed}
-use Rattle.qo_claims.specs.declared.claims.Claimed.TheVariants as on
 use Rattle.qo_table.specs.Rows.{IsLive, edit}
-use Rattle.qo_kinds.specs.Bodies.{kept_of, registers_of, with_registers}
+use Rattle.qo_kinds.proofs.BodyLemmas.{same-device}
+use Rattle.qo_kinds.specs.Bodies.{device_with, kept_of, registers_in, registers_of, with_registers}
 use Rattle.qo_kinds.specs.declared.bodies.Body.{Body}
-use Rattle.qo_kinds.specs.declared.bodies.Body.TheVariants.{Uart, Timer, Dimm, Bridge, Bus, Clock, Backend, Plain}
-use Rattle.qo_kinds.specs.declared.kept_set.KeptSet.{KeptSet}
+use Rattle.qo_kinds.specs.declared.bodies.Device.{Device}
+use Rattle.qo_kinds.specs.declared.bodies.Device.TheVariants.{Uart, Timer, Dimm, Bridge, Bus, Clock, Backend, Plain}
 use Rattle.qo_model.specs.Board as board
 use Rattle.qo_model.specs.Plug.{registers_on, with_body_of}
 use Rattle.qo_model.specs.Release as release
 use Rattle.qo_object.specs.Content.{Content}
 use Rattle.qo_object.specs.BoardObject.{shown}
 use Rattle.qo_heap.specs.Board.{Shows}
-use Rattle.qo_heap.specs.Book.{IsBook, kept_times, one, owned}
+use Rattle.qo_heap.specs.Book.{IsBook, owned}
 use Rattle.qo_heap.specs.Objects.{IsHeap, Objects, content_of, with_edit}
 use Rattle.qo_heap.proofs.BoardEdits.{shows-at}
 use Rattle.qo_heap.proofs.BookLemmas.{sum-edit}
@@ -26,44 +26,26 @@ use Rattle.qo_heap.proofs.BoardObjects.{live-content}
 use Rattle.qo_life.proofs.TreeLemmas.{read-content}
 use Rattle.qo_properties.proofs.FillingLemmas.{edit-twice}
 use Rattle.qo_standing.specs.declared.spots.Memory.{Memory}
-use Rattle.qo_standing.specs.Placement.{Alike, IsDimm, named, range_in, ranged}
+use Rattle.qo_standing.specs.Placement.{Alike, HasDimm, IsDimm, named, range_in, ranged}
 use Rattle.qo_properties.specs.KeptClaims.{SameKept, kept_by}
 use Rattle.qo_standing.proofs.PlacementSteps.{alike-edit}
 
 -- a DIMM stands on its range
 
-same-registers : (b : Body) → with_registers (registers_of b) b ≡ b
-same-registers (Uart u k) = refl
-same-registers (Timer t k) = refl
-same-registers (Dimm d k) = refl
-same-registers (Bridge r h k) = refl
-same-registers Bus = refl
-same-registers Clock = refl
-same-registers Backend = refl
-same-registers Plain = refl
-
-ranged-kept : (range : Option Range) (b : Body) → kept_of (with_registers (registers_on range (registers_of b)) b) ≡ kept_of b
-ranged-kept None b = ap kept_of (same-registers b)
-ranged-kept (Some r) (Uart u k) = refl
-ranged-kept (Some r) (Timer t k) = refl
-ranged-kept (Some r) (Dimm d k) = refl
-ranged-kept (Some r) (Bridge raised h k) = refl
-ranged-kept (Some r) Bus = refl
-ranged-kept (Some r) Clock = refl
-ranged-kept (Some r) Backend = refl
-ranged-kept (Some r) Plain = refl
-
 ranged-registers : (range : Option Range) (b : Body) → IfSome range (λ r. IsDimm b)
     → registers_of (with_registers (registers_on range (registers_of b)) b) ≡ registers_on range (registers_of b)
-ranged-registers None b is = ap registers_of (same-registers b)
-ranged-registers (Some r) (Uart u k) is = absurd is
-ranged-registers (Some r) (Timer t k) is = absurd is
-ranged-registers (Some r) (Dimm d k) is = refl
-ranged-registers (Some r) (Bridge raised h k) is = absurd is
-ranged-registers (Some r) Bus is = absurd is
-ranged-registers (Some r) Clock is = absurd is
-ranged-registers (Some r) Backend is = absurd is
-ranged-registers (Some r) Plain is = absurd is
+ranged-registers None b is = ap registers_in (same-device b.device)
+ranged-registers (Some r) b is = go b.device is
+  where
+    go : (d : Device) → HasDimm (registers_in d) → registers_in (device_with (registers_on (Some r) (registers_in d)) d) ≡ registers_on (Some r) (registers_in d)
+    go (Uart u) is = absurd is
+    go (Timer t) is = absurd is
+    go (Dimm d) is = refl
+    go (Bridge b) is = absurd is
+    go Bus is = absurd is
+    go Clock is = absurd is
+    go Backend is = absurd is
+    go Plain is = absurd is
 
 pub ranged-alike : (v w : Objects) (n : ℕ) (range : Option Range) → w ≡ with_edit n (ranged range) v → Alike v w
 ranged-alike v w n range is = alike-edit v w n (ranged range) (λ c. refl) (λ c. refl) (ap (λ (x : Objects). x.rows) is)
@@ -87,9 +69,7 @@ pub ranged-book : (out : List Claimed) (v w : Objects) (n : ℕ) (range : Option
 ranged-book out v w n range is h = subst (IsBook out) (sym is) (λ x. let sums = same x in omega (arith, h x, sums))
   where
     same : (x : Claimed) → sum_by (owned x) (edit n (ranged range) v.rows) ≡ sum_by (owned x) v.rows
-    same x =
-        sum-edit (owned x) n (ranged range)
-        (λ row. ap (λ (k : KeptSet). kept_times x k + one x (option_map on.Device row.1.device_id)) (ranged-kept range row.1.body)) v.rows
+    same x = sum-edit (owned x) n (ranged range) (λ row. refl) v.rows
 
 -- and has its id: its body keeps what it kept
 pub body-kept : (v u w : Objects) (n : ℕ) (id : Option (List ℕ)) (range : Option Range) → u ≡ with_edit n (ranged range) v → w ≡ with_edit n (named id) u
@@ -98,7 +78,7 @@ body-kept v u w n id range first second m =
     ap (λ (x : Objects). kept_by x m) second
     ∙ read-content (λ (c : Content). kept_of c.body) n (named id) (λ c. refl) u m
     ∙ ap (λ (x : Objects). kept_by x m) first
-    ∙ read-content (λ (c : Content). kept_of c.body) n (ranged range) (λ c. ranged-kept range c.body) v m
+    ∙ read-content (λ (c : Content). kept_of c.body) n (ranged range) (λ c. refl) v m
 
 -- the board shows both
 pub body-shown : (b : board.Board) (v u w : Objects) (o : Key) (id : Option (List ℕ)) (memory : Option Memory) → IsHeap v → IsLive v.rows o
@@ -119,37 +99,11 @@ body-shown b v u w o id memory good live is first second s =
     here None c e h = tt
     here (Some m) c e h = subst (λ (x : Option Content). IfSome x (λ d. IsDimm d.body)) e h
 
--- a body with the registers of a DIMM is that of one
-
-abbrev HasDimm : Registers → Type 0
-HasDimm (dimm d) = ⊤
-HasDimm r = ⊥
-
-has-dimm : (b : Body) → IsDimm b → HasDimm (registers_of b)
-has-dimm (Uart u k) is = is
-has-dimm (Timer t k) is = is
-has-dimm (Dimm d k) is = is
-has-dimm (Bridge raised h k) is = is
-has-dimm Bus is = is
-has-dimm Clock is = is
-has-dimm Backend is = is
-has-dimm Plain is = is
-
-is-dimm : (b : Body) → HasDimm (registers_of b) → IsDimm b
-is-dimm (Uart u k) has = has
-is-dimm (Timer t k) has = has
-is-dimm (Dimm d k) has = has
-is-dimm (Bridge raised h k) has = has
-is-dimm Bus has = has
-is-dimm Clock has = has
-is-dimm Backend has = has
-is-dimm Plain has = has
-
+-- who has the registers of a DIMM has them where they stay
 pub still-dimm : (memory : Option Memory) (x y : Option Content)
     → option_map (λ (c : Content). registers_of c.body) y ≡ option_map (λ (c : Content). registers_of c.body) x
     → IfSome memory (λ m. IfSome x (λ c. IsDimm c.body)) → IfSome memory (λ m. IfSome y (λ c. IsDimm c.body))
 still-dimm None x y same is = tt
 still-dimm (Some m) x None same is = tt
 still-dimm (Some m) None (Some d) same is = cc
-still-dimm (Some m) (Some c) (Some d) same is = is-dimm d.body (subst HasDimm (sym (same_Some (registers_of d.body) (registers_of c.body) same))
-    (has-dimm c.body is))
+still-dimm (Some m) (Some c) (Some d) same is = subst HasDimm (sym (same_Some (registers_of d.body) (registers_of c.body) same)) is

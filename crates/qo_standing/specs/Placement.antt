@@ -4,10 +4,10 @@ use Rattle.std.specs.Prelude.{◌≡◌, ℕ, true, if◌then◌else◌, List, [
 use Rattle.qo_claims.specs.Book.{ClaimsTaken}
 use Rattle.qo_values.specs.declared.kinds.TypeId.TheVariants.{Device}
 use Rattle.qo_slots.specs.declared.keys.Key.{Key}
+use Rattle.qo_values.specs.Registers.{Registers, dimm}
 use Rattle.qo_values.specs.declared.ranges.Range.{Range}
 use Rattle.qo_kinds.specs.Bodies.{registers_of, with_kept, with_registers}
 use Rattle.qo_kinds.specs.declared.bodies.Body.{Body}
-use Rattle.qo_kinds.specs.declared.bodies.Body.TheVariants.{Dimm}
 use Rattle.qo_kinds.specs.declared.kept_set.KeptSet.{KeptSet}
 use Rattle.qo_model.specs.Board.{Board}
 use Rattle.qo_model.specs.Devices.{kid_name}
@@ -42,10 +42,13 @@ kept_in k c = record c { body = with_kept k c.body }
 abbrev pub named : Option (List ℕ) → Content → Content
 named id c = record c { device_id = id }
 
--- a body with the registers of a DIMM, and an object that has these stand on a range, if there is one
+-- registers of a DIMM, a body with them, and an object that has these stand on a range, if there is one
+abbrev pub HasDimm : Registers → Type 0
+HasDimm (dimm d) = ⊤
+HasDimm r = ⊥
+
 abbrev pub IsDimm : Body → Type 0
-IsDimm (Dimm d k) = ⊤
-IsDimm body = ⊥
+IsDimm b = HasDimm (registers_of b)
 
 abbrev pub ranged : Option Range → Content → Content
 ranged range c = record c { body = with_registers (registers_on range (registers_of c.body)) c.body }

@@ -2,7 +2,7 @@
 //! backend of a DIMM and its range. They are taken before it stands, and given back where it does not
 //! come to stand.
 
-ghost use Rattle.std.specs.Prelude.{◌≡◌, ◌≤◌, ◌<◌, ◌++◌, ◌∷◌, List, true, false, Some, None, IfOk, IfSome, IfNone, OnOk, OnErr, option_map, option_and_then};
+ghost use Rattle.std.specs.Prelude.{◌≡◌, ◌≤◌, ◌<◌, ◌++◌, ◌∷◌, List, true, false, Some, None, IfOk, IfSome, OnOk, OnErr, option_map, option_and_then};
 ghost use Rattle.qo_claims.specs.Book.{is_taken, with_claim};
 ghost use Rattle.qo_claims.specs.Lists.{bus_slot};
 ghost use Rattle.qo_claims.specs.declared.claims.Claimed.{Claimed};
@@ -12,7 +12,7 @@ ghost use Rattle.qo_values.specs.Placing.{is_in_window};
 ghost use Rattle.qo_values.specs.declared.limits.TheConstants.{BUS_SLOTS};
 ghost use Rattle.qo_heap.specs.Book.{IsBook};
 ghost use Rattle.qo_heap.specs.Objects.{content_of, with_edit};
-ghost use Rattle.qo_kinds.specs.Bodies.{IsBare, kept_of, none_kept, with_kept};
+ghost use Rattle.qo_kinds.specs.Bodies.{IsBare, none_kept};
 ghost use Rattle.qo_table.specs.Rows.{IsLive};
 ghost use Rattle.qo_standing.specs.Placement.{kept_in, named, with_book};
 ghost use Rattle.qo_standing.specs.DeviceClaims.{kept_on, kept_out, labels_out, one_out, taken_out, with_one};
@@ -21,7 +21,7 @@ ghost use Rattle.qo_standing.specs.FreeSpots.{IsFreeId, IsFreeSpot};
 use crate::spots::{Memory, Spot};
 use qo_claims::{Claim, ClaimError, Kept, keep};
 use qo_heap::{Heap, Oid, Steps};
-use qo_kinds::{Body, KeptSet};
+use qo_kinds::KeptSet;
 use qo_values::Id;
 use std::alloc::AllocError;
 use std::mem::replace;
@@ -270,70 +270,15 @@ pub fn give_back(heap: &mut Heap, taken: Taken)
     give_label(heap, label);
 }
 
-/// A set without claims has these.
-fn put_all(place: &mut KeptSet, kept: KeptSet)
-    requires { place.old ≡ none_kept }
-    ensures { place.new ≡ kept }
-{
-    let KeptSet {
-        slot,
-        ring,
-        backend,
-        range,
-    } = replace(place, kept);
-    no_claim(slot);
-    no_claim(ring);
-    no_claim(backend);
-    no_claim(range);
-}
-
-/// A body without claims keeps these; one that has no room for claims answers them.
-fn put_in(body: &mut Body, kept: KeptSet) -> Option<KeptSet>
-    requires { IsBare body.old }
-    ensures now { body.new ≡ with_kept kept body.old }
-    ensures kept { IfNone result (kept_of body.new ≡ kept) }
-    ensures back { IfSome result (λ k. (k ≡ kept) × IsBare body.new) }
-{
-    match body {
-        Body::Uart(_, place) => put_all(place, kept),
-        Body::Timer(_, place) => put_all(place, kept),
-        Body::Dimm(_, place) => put_all(place, kept),
-        Body::Bridge(_, _, place) => put_all(place, kept),
-        Body::Bus | Body::Clock | Body::Backend | Body::Plain => return Some(kept),
-    }
-    None
-}
-
-/// The body of an object without claims keeps these; where it has no room for claims, they are
-/// answered.
-fn put_at<L: Ledger>(
-    heap: &mut Heap,
-    o: Oid,
-    kept: KeptSet,
-    steps: &mut Steps<L>,
-) -> Option<KeptSet>
-    requires live { IsLive heap.old.rows o }
-    requires bare { IfSome (content_of heap.old o.birth) (λ c. IsBare c.body) }
-    ensures now { heap.new ≡ with_edit o.birth (kept_in kept) heap.old }
-    ensures kept { IfNone result ((out : List Claimed) → IsBook (kept_out kept ++ out) heap.old → IsBook out heap.new) }
-    ensures back { IfSome result (λ k. (k ≡ kept) × ((out : List Claimed) → IsBook out heap.old → IsBook out heap.new)) }
-{
-    heap.facts();
-    put_in(heap.body_mut(o, steps), kept)
-}
-
-/// The body of an object without claims keeps these; where it has no room for claims, they are given
-/// back.
+/// The body of an object without claims keeps these.
 pub fn keep_claims<L: Ledger>(heap: &mut Heap, o: Oid, kept: KeptSet, steps: &mut Steps<L>)
     requires live { IsLive heap.old.rows o }
     requires bare { IfSome (content_of heap.old o.birth) (λ c. IsBare c.body) }
-    ensures rest { heap.new ≡ with_book heap.new.claims (with_edit o.birth (kept_in kept) heap.old) }
+    ensures now { heap.new ≡ with_edit o.birth (kept_in kept) heap.old }
     ensures book { (out : List Claimed) → IsBook (kept_out kept ++ out) heap.old → IsBook out heap.new }
 {
-    match put_at(heap, o, kept, steps) {
-        Some(kept) => free_all(heap, kept),
-        None => {}
-    }
+    heap.facts();
+    heap.body_mut(o, steps).keep_claims(kept);
 }
 
 /// A device without an id has this one, and keeps the claim on it.

@@ -20,7 +20,7 @@ ghost use Rattle.qo_model.specs.Plug.{Wanted, addressed_at, link_named, register
 ghost use Rattle.qo_model.specs.Release.{edit};
 ghost use Rattle.qo_model.specs.Unplug.{set_named};
 ghost use Rattle.qo_object.specs.declared.slots.Slot.TheVariants.{Link};
-ghost use Rattle.qo_values.specs.declared.kinds.TypeId.TheVariants.{Device};
+ghost use Rattle.qo_values.specs.declared.kinds.TypeId.TheVariants as types;
 ghost use Rattle.qo_object.specs.Content.{HasNoClaim, with_slot};
 ghost use Rattle.qo_table.specs.Rows.{IsLive};
 ghost use Rattle.qo_heap.specs.Board.{Shows};
@@ -41,7 +41,7 @@ use qo_buses::{bridge_of, clock_of, join_bus, kid_name, point_bus, set_named};
 use qo_clocks::connect;
 use qo_dimm::Dimm;
 use qo_heap::{Heap, Oid, Slot, SlotName, Steps};
-use qo_kinds::Body;
+use qo_kinds::{Body, Device};
 use qo_paths::canonical;
 use qo_properties::Fill;
 use qo_values::{Id, Name, SYSTEM_CLOCK_BIRTH, Text, Val};
@@ -193,7 +193,7 @@ fn put_range(body: &mut Body, memory: Option<Memory>)
     let Some(Memory { range, .. }) = memory else {
         return;
     };
-    if let Body::Dimm(dimm, _) = body {
+    if let Device::Dimm(dimm) = &mut body.device {
         *dimm = Dimm {
             addr: range.at,
             size: range.size,
@@ -307,7 +307,7 @@ fn join_to<L: Ledger>(
 ) -> Result<DevicePath, AllocError>
     requires live { IsLive heap.old.rows device }
     requires bus { IsLive heap.old.rows bus }
-    ensures now { OnOk result (heap.new ≡ with_edit bus.birth (with_slot link (Link Device true (Some device))) heap.old) }
+    ensures now { OnOk result (heap.new ≡ with_edit bus.birth (with_slot link (Link types.Device true (Some device))) heap.old) }
     ensures path { IfOk result (λ path. (b : Board) → Shows b heap.new → canonical b device.birth ≡ Some path.kept) }
     ensures told { IfOk result (λ path. path.told ≡ path.kept) }
     ensures err { OnErr result (heap.new ≡ heap.old) }
@@ -366,9 +366,9 @@ fn join<L: Ledger>(
 /// A device that was made takes its place: it joins its container and its bus, has the values that
 /// are planned for its own slots, its id if it has one, its claims, and its clock's source, and a DIMM
 /// stands on its range; answers its canonical path. What it claims is held by no other. Its body keeps
-/// the claims of its seat, where it has room for claims, and each other body those that it kept. A place
-/// for an event on it is kept free. The error is want of memory, and a device that has no path counts as
-/// that; it leaves all boards as they were, and to each body its claims.
+/// the claims of its seat, and each other body those that it kept. A place for an event on it is kept
+/// free. The error is want of memory, and a device that has no path counts as that; it leaves all boards
+/// as they were, and to each body its claims.
 pub fn stand<L: Ledger>(
     heap: &mut Heap,
     device: Oid,

@@ -1,16 +1,7 @@
 -- Who acts: an act leaves who is there, and so do phases. What each act keeps, phases keep.
 use Rattle.std.proofs.Common.{◌≡◌, refl, ap, ◌∙◌, ℕ, true, List, [], ◌∷◌, filter, is_some}
-use Rattle.std.specs.List.{AllByRecursion}
-use Rattle.qo_values.specs.declared.kinds.Act.{Act}
-use Rattle.qo_values.specs.declared.kinds.Act.TheVariants.{Enter, Hold, Exit}
-use Rattle.qo_values.specs.declared.properties.Val.{Val}
+use Rattle.qo_model.proofs.Common.{AllByRecursion, Act, Enter, Hold, Exit, Val, Board, Record, is_live, record_of, set, with_changed, with_val, acted, with_act_on, acted_all, edit, edited, is_out, phased, plugged, post}
 use Rattle.qo_values.proofs.ListLemmas.{all-imply}
-use Rattle.qo_model.specs.Board.{Board, Record, is_live, record_of}
-use Rattle.qo_model.specs.Changes.{set, with_changed, with_val}
-use Rattle.qo_model.specs.Clocks.{acted, with_act_on}
-use Rattle.qo_model.specs.Plug.{acted_all}
-use Rattle.qo_model.specs.Release.{edit, edited}
-use Rattle.qo_model.specs.Reset.{is_out, phased, plugged, post}
 use Rattle.qo_model.proofs.StepLemmas.{found-edited, is_some-map}
 use Rattle.qo_sound.proofs.RecordLemmas.{all-filter}
 use Rattle.qo_steps.specs.Steps.{is_calm}

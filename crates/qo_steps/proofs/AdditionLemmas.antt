@@ -1,17 +1,8 @@
 -- What adding an object or a device comes to, with what is known there: that there is room for all that is made, and of which types it is.
 use Rattle.std.proofs.Common.{◌≡◌, refl, ℕ, ◌+◌, ◌≤◌, Bool, true, false, not, leb, nat_le, if◌then◌else◌, List, [], ◌∷◌, length, codes, Option, Some, None, arith}
-use Rattle.std.specs.Option.{option_or}
+use Rattle.qo_model.proofs.Common.{option_or, is_id, OBJECTS_BIRTH, Code, E15, E21, E22, E23, E24, E43, E44, TypeId, LIVE_OBJECTS_MAX, NOTICES_MAX, Board, is_live, Given, added_as, added_by, barred, has_slot, object_add, refusal_of, Wanted, at_stage, barred_early, barred_late, bus_barred, bus_for, id_barred, notice_barred, objects_in, place_barred, realize_barred, plug, plug_as, plug_attempt, plug_by, plug_late, room_barred, spot_of, type_barred, with_plugged, TypeInfo, is_a, type_named}
 use Rattle.std.proofs.lemmas.Bool.Decides.{nat_tests}
-use Rattle.qo_values.specs.Ids.{is_id}
-use Rattle.qo_values.specs.declared.births.TheConstants.{OBJECTS_BIRTH}
-use Rattle.qo_values.specs.declared.codes.Code.{Code}
-use Rattle.qo_values.specs.declared.codes.Code.TheVariants.{E15, E21, E22, E23, E24, E43, E44}
-use Rattle.qo_values.specs.declared.kinds.TypeId.{TypeId}
-use Rattle.qo_values.specs.declared.limits.TheConstants.{LIVE_OBJECTS_MAX, NOTICES_MAX}
-use Rattle.qo_model.specs.Board.{Board, is_live}
-use Rattle.qo_model.specs.Objects.{Given, added_as, added_by, barred, has_slot, object_add, refusal_of}
-use Rattle.qo_model.specs.Plug.{Wanted, at_stage, barred_early, barred_late, bus_barred, bus_for, first_of, id_barred, notice_barred, objects_in, place_barred, realize_barred, plug, plug_as, plug_attempt, plug_by, plug_late, room_barred, spot_of, type_barred, with_plugged}
-use Rattle.qo_model.specs.Types.{TypeInfo, is_a, type_named}
+use Rattle.qo_model.specs.Plug.{first_of}
 use Rattle.qo_sound.specs.PlugOutcomes.{IsAttempted}
 use Rattle.qo_sound.proofs.AddLemmas.{unbarred}
 use Rattle.qo_sound.proofs.PlugLemmas.{or-none, stage-none}

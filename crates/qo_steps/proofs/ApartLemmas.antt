@@ -1,10 +1,7 @@
 -- A detachment whose premises say which device, and which bus, each step is of: what the steps keep of these, a detachment keeps.
 use Rattle.std.proofs.Common.{◌≡◌, refl, ℕ, zero, suc, length, Option, Some, None}
-use Rattle.qo_model.specs.Board.{Board, slots_at}
-use Rattle.qo_model.specs.Devices.{buses_of, kids_of}
-use Rattle.qo_model.specs.Paths.{births}
-use Rattle.qo_model.specs.Release.{pin, unpin}
-use Rattle.qo_model.specs.Unplug.{apart_within, detach, drained, first_of, is_bus_child, left_bus, left_parent, let_go_where, lost_bus, lost_buses, taken_by, unrealize}
+use Rattle.qo_model.proofs.Common.{Board, slots_at, buses_of, kids_of, births, pin, unpin, apart_within, detach, drained, is_bus_child, left_bus, left_parent, let_go_where, lost_bus, lost_buses, taken_by, unrealize}
+use Rattle.qo_model.specs.Unplug.{first_of}
 
 -- what each part keeps, of devices and buses that are so
 pub record ApartSteps (P : Board → Type 0) (On Bus : ℕ → Type 0) : Type 0 where

@@ -1,21 +1,10 @@
 -- What an attempt notes is of the objects that it makes and ends. What the births of these with such notes keep, attempts keep.
 use Rattle.std.proofs.Common.{◌≡◌, refl, ap, sym, subst, append_assoc, ◌∙◌, ℕ, zero, suc, ◌+◌, ◌<◌, ◌≤◌, Bool, true, false, ◌==◌, if◌then◌else◌, List, [], ◌∷◌, ◌++◌, drop, flat_map, length, map, take, arith}
-use Rattle.std.specs.List.{AllByRecursion}
-use Rattle.std.proofs.lemmas.List.Elements.{All-drop, All-from_recursion, All-take, recursion_from_All}
-use Rattle.qo_values.specs.declared.kinds.Act.{Act}
-use Rattle.qo_values.specs.declared.kinds.Act.TheVariants.{Init, Realize, Enter, Hold, Exit, Unrealize}
-use Rattle.qo_values.specs.declared.kinds.TypeId.{TypeId}
-use Rattle.qo_model.specs.Board.{Board}
-use Rattle.qo_model.specs.Changes.{fresh}
-use Rattle.qo_model.specs.FinalNotes.{ending}
-use Rattle.qo_model.specs.Objects.{init_notes, with_attempt}
-use Rattle.qo_model.specs.Plug.{begun_notes, born_from, bus_births, cut_attempt, cut_order, device_last, did, ended_notes, passed_notes, plug_attempt, types_in, with_ended}
-use Rattle.qo_model.specs.Release.{final_notes}
-use Rattle.qo_model.specs.Reset.{count}
-use Rattle.qo_model.specs.Types.{finals, inits}
+use Rattle.qo_model.proofs.Common.{AllByRecursion, Act, Init, Realize, Enter, Hold, Exit, Unrealize, TypeId, Board, fresh, ending, init_notes, with_attempt, begun_notes, born_from, bus_births, cut_attempt, cut_order, device_last, did, ended_notes, passed_notes, plug_attempt, types_in, with_ended, final_notes, count, finals, inits}
 use Rattle.qo_model.specs.declared.notes.Deed.{Deed}
 use Rattle.qo_model.specs.declared.notes.Deed.TheVariants.{Did, Final}
 use Rattle.qo_model.specs.declared.notes.Note.{Note}
+use Rattle.std.proofs.lemmas.List.Elements.{All-drop, All-from_recursion, All-take, recursion_from_All}
 use Rattle.qo_sound.proofs.AttemptNotesLemmas.{buses-within}
 use Rattle.qo_sound.proofs.RecordLemmas.{all-append}
 use Rattle.qo_steps.specs.Steps.{IsOfNext}

@@ -1,16 +1,8 @@
 -- The steps by which a clock is written, each with what is known where it is taken: what these keep, the write keeps.
 use Rattle.std.proofs.Common.{◌≡◌, refl, ap, subst, ℕ, Bool, true, false, eqb, List, [], ◌∷◌, codes, Option, Some, None, is_some, Result, Ok, Err}
-use Rattle.std.specs.List.{list_any}
-use Rattle.qo_values.specs.declared.codes.Code.{Code}
-use Rattle.qo_values.specs.declared.codes.Code.TheVariants.{E45, E46, E47}
-use Rattle.qo_values.specs.declared.kinds.Act.TheVariants.{Pre, Update}
+use Rattle.qo_model.proofs.Common.{list_any, Code, E45, E46, E47, Pre, Update, Board, set, clock_scaled, clock_set, acted, called, called_all, clock_written, clocks_below, overflows, period, source_of, spread, set_named}
 use Rattle.qo_values.specs.declared.properties.Val.TheVariants as val
-use Rattle.qo_model.specs.Board.{Board}
-use Rattle.qo_model.specs.Changes.{set}
-use Rattle.qo_model.specs.ClockChanges.{clock_scaled, clock_set}
-use Rattle.qo_model.specs.Clocks.{acted, called, called_all, clock_written, clocks_below, overflows, period, source_of, spread}
 use Rattle.qo_model.specs.Paths.{parent_of}
-use Rattle.qo_model.specs.Unplug.{set_named}
 use Rattle.qo_steps.proofs.NamedLemmas.{Named, set-by}
 
 -- the numbers of a clock

@@ -1,19 +1,9 @@
 -- The steps by which `qom-set` and `x-sever` change a board, each with what is known where it is taken: what these keep, the command keeps.
 use Rattle.std.proofs.Common.{◌≡◌, refl, ap, ◌∙◌, ℕ, true, false, List, length, slice_get, Option, Some, None, Ok}
-use Rattle.std.specs.Prelude.{option_map}
-use Rattle.qo_values.specs.Properties.{admits}
-use Rattle.qo_values.specs.declared.kinds.TypeId.{TypeId}
-use Rattle.qo_values.specs.declared.properties.PropType.{PropType}
-use Rattle.qo_values.specs.declared.properties.Val.{Val}
-use Rattle.qo_model.specs.Board.{Board, Slot, plain, strong, kind_of, is_live, slot_at, slots_at, held}
-use Rattle.qo_model.specs.Changes.{point, set}
-use Rattle.qo_model.specs.FinalNotesRuns.{after_write}
-use Rattle.qo_model.specs.Objects.{sever, severed_from}
-use Rattle.qo_model.specs.Paths.{attached}
-use Rattle.qo_model.specs.Properties.{link_target, may_set, pointed_at, property_named, relinked, write}
-use Rattle.qo_model.specs.Release.{drop_slot, emptied, pin}
+use Rattle.qo_model.proofs.Common.{option_map, admits, TypeId, PropType, Val, Board, Slot, plain, strong, kind_of, is_live, slot_at, slots_at, point, set, after_write, sever, severed_from, attached, link_target, may_set, pointed_at, property_named, relinked, write, drop_slot, emptied, pin}
 use Rattle.qo_model.specs.declared.properties.First.{First}
 use Rattle.qo_model.specs.declared.properties.Property.{Property}
+use Rattle.qo_model.specs.Board.{held}
 use Rattle.qo_model.specs.declared.properties.PropertyRole.TheVariants as row
 use Rattle.qo_model.proofs.ComesToLemmas.{sever-comes, severed-comes}
 use Rattle.qo_model.proofs.WrittenLemmas.{IsLink, write-comes}

@@ -1,21 +1,8 @@
 -- The steps by which a device is detached, each with what is known where it is taken: what these keep, detaching it keeps.
 use Rattle.std.proofs.Common.{◌≡◌, refl, ap, sym, subst, ℕ, zero, suc, Bool, true, false, List, [], ◌∷◌, length, codes, slice_get, Option, Some, None}
-use Rattle.std.specs.Prelude.{option_map}
-use Rattle.std.specs.List.{AllByRecursion}
+use Rattle.qo_model.proofs.Common.{option_map, AllByRecursion, ANONYMOUS_BIRTH, PERIPHERAL_BIRTH, Unrealize, TypeId, Board, Slot, plain, child, strong, weak, alias, slots_at, slot_at, cut, set, with_changed, acted, device_period, by_depth, bus_of, buses_of, clock_of, kids_of, index_from, births, drop_slot, edit, pin, detach, disconnected, each, is_bus_child, is_child_slot, is_named, left_bus, left_parent, let_go_where, names_kid, set_named, take_slot, take_where, unheld, unnoticed, unrealize, unrealize_turn, unrealized_bus, unrealized_device, unseen, unseen_named}
 use Rattle.std.proofs.lemmas.Slice.Eq.{bytes_eq-Decides}
-use Rattle.qo_values.specs.declared.births.TheConstants.{ANONYMOUS_BIRTH, PERIPHERAL_BIRTH}
-use Rattle.qo_values.specs.declared.kinds.Act.TheVariants.{Unrealize}
-use Rattle.qo_values.specs.declared.kinds.TypeId.{TypeId}
 use Rattle.qo_values.specs.declared.properties.Val.TheVariants as val
-use Rattle.qo_model.specs.Board.{Board, Slot, plain, child, strong, weak, alias, slots_at, slot_at}
-use Rattle.qo_model.specs.Changes.{cut, set, with_changed}
-use Rattle.qo_model.specs.Clocks.{acted, device_period}
-use Rattle.qo_model.specs.Depth.{by_depth}
-use Rattle.qo_model.specs.Devices.{bus_of, buses_of, clock_of, kids_of}
-use Rattle.qo_model.specs.Objects.{index_from}
-use Rattle.qo_model.specs.Paths.{births}
-use Rattle.qo_model.specs.Release.{drop_slot, edit, pin}
-use Rattle.qo_model.specs.Unplug.{detach, disconnected, each, is_bus_child, is_child_slot, is_named, left_bus, left_parent, let_go_where, names_kid, set_named, take_slot, take_where, unheld, unnoticed, unrealize, unrealize_turn, unrealized_bus, unrealized_device, unseen, unseen_named}
 use Rattle.qo_model.proofs.FirstSlotLemmas.{Found, found-at}
 use Rattle.qo_sound.proofs.DetachmentStepsLemmas.{KeepsEnds}
 use Rattle.qo_sound.proofs.UnplugLemmas.{detached-keeps, kid-held}
@@ -52,7 +39,7 @@ pub record ActsBelow (On : ℕ → Type 0) (b : Board) : Type 0 where
   pub kids : (m : ℕ) → AllByRecursion On (kids_of b m)
 
 module _ (P : Board → Type 0) (On : ℕ → Type 0) (k : UnrealizeSteps P On) where
-  by-disconnected : (o : Option ℕ) (c : Board) → P c → P (disconnected o c)
+  pub by-disconnected : (o : Option ℕ) (c : Board) → P c → P (disconnected o c)
   by-disconnected None c h = h
   by-disconnected (Some n) c h =
       let d : Board = unseen_named n (codes "source") c in

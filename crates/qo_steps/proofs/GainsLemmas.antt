@@ -1,13 +1,6 @@
 -- What a board keeps through every change, and gains: shown of each step.
 use Rattle.std.proofs.Common.{◌≡◌, refl, ap, sym, ◌∙◌, append_assoc, append-nil, ℕ, ◌+◌, ◌≤◌, Bool, true, false, not, ◌&&◌, ◌==◌, List, [], ◌++◌, Option, Some, None, is_some, option_map, arith}
-use Rattle.std.specs.Bool.{⊤}
-use Rattle.qo_values.specs.declared.kinds.Act.{Act}
-use Rattle.qo_values.specs.declared.kinds.Act.TheVariants.{Pre, Update}
-use Rattle.qo_values.specs.declared.kinds.TypeId.{TypeId}
-use Rattle.qo_model.specs.Board.{Board, DeviceEvent, Record, Slot, is_live, kind_of, record_of}
-use Rattle.qo_model.specs.Clocks.{acted, with_act_on}
-use Rattle.qo_model.specs.Plug.{with_new}
-use Rattle.qo_model.specs.Release.{edit, finish, forgotten}
+use Rattle.qo_model.proofs.Common.{⊤, Act, Pre, Update, TypeId, Board, DeviceEvent, Record, Slot, is_live, kind_of, record_of, acted, with_act_on, with_new, edit, finish, forgotten}
 use Rattle.qo_model.specs.declared.notes.Note.{Note}
 use Rattle.qo_model.proofs.FinalNotesGrowthLemmas.{last-other}
 use Rattle.qo_model.proofs.FinalNotesLemmas.{edit-kind, kind-live}

@@ -1,19 +1,9 @@
 -- Holds, removals that are asked for and refused, and the reset of the whole board: what their steps keep, they keep.
 use Rattle.std.proofs.Common.{◌≡◌, refl, subst, ◌∙◌, ℕ, zero, suc, Bool, true, false, List, [], ◌∷◌, ◌++◌, filter, length, Option, Some, None, is_some}
+use Rattle.qo_model.proofs.Common.{AllByRecursion, MACHINE_BIRTH, Code, Act, Enter, Hold, Exit, Board, DeviceEvent, record_of, acted, among, all_completed, asked, asked_of, device_at, refused, refused_event, reset_whole, with_asked, attached, notice_barred, is_out, phased, post, pulse, released, detach}
 use Rattle.std.specs.Prelude.{option_and_then, option_to_list}
-use Rattle.std.specs.List.{AllByRecursion}
-use Rattle.qo_values.specs.declared.births.TheConstants.{MACHINE_BIRTH}
-use Rattle.qo_values.specs.declared.codes.Code.{Code}
-use Rattle.qo_values.specs.declared.kinds.Act.{Act}
-use Rattle.qo_values.specs.declared.kinds.Act.TheVariants.{Enter, Hold, Exit}
-use Rattle.qo_model.specs.Board.{Board, DeviceEvent, record_of}
-use Rattle.qo_model.specs.Clocks.{acted}
-use Rattle.qo_model.specs.Depth.{among}
-use Rattle.qo_model.specs.Hotplug.{all_completed, asked, asked_of, device_at, refused, refused_event, reset_whole, with_asked}
-use Rattle.qo_model.specs.Paths.{attached}
-use Rattle.qo_model.specs.Plug.{notice_barred}
-use Rattle.qo_model.specs.Reset.{held, is_out, phased, post, pulse, released}
-use Rattle.qo_model.specs.Unplug.{detach, first_of}
+use Rattle.qo_model.specs.Reset.{held}
+use Rattle.qo_model.specs.Unplug.{first_of}
 use Rattle.qo_sound.proofs.RecordLemmas.{all-filter}
 use Rattle.qo_steps.specs.Steps.{HasNoticeRoom, MayAsk, declined, with_hold, with_release}
 use Rattle.qo_steps.proofs.ActingLemmas.{IsSteady, KeepsCalm, SameThere, phased-by, phased-there, steady-all, there-both}

@@ -1,21 +1,6 @@
 -- What is shown of a law for a theorem to give it: each step keeps it.
 use Rattle.std.proofs.Common.{nat_eq, ◌≡◌, refl, sym, append-nil, ℕ, suc, ◌+◌, ◌≤◌, true, List, [], ◌∷◌, ◌++◌, Option, arith}
-use Rattle.std.specs.Bool.{⊤}
-use Rattle.std.specs.List.{AllByRecursion, list_any}
-use Rattle.qo_values.specs.declared.kinds.Act.{Act}
-use Rattle.qo_values.specs.declared.kinds.Act.TheVariants.{Pre, Update}
-use Rattle.qo_values.specs.declared.kinds.TypeId.{TypeId}
-use Rattle.qo_values.specs.declared.properties.Val.{Val}
-use Rattle.qo_values.specs.declared.ranges.Range.{Range}
-use Rattle.qo_model.specs.Board.{Board, DeviceEvent, Notice, Record, Slot}
-use Rattle.qo_model.specs.Changes.{add, cut, point, set, with_changed}
-use Rattle.qo_model.specs.Clocks.{acted}
-use Rattle.qo_model.specs.Hotplug.{with_asked}
-use Rattle.qo_model.specs.Objects.{Given}
-use Rattle.qo_model.specs.Plug.{fitted, with_body_of, with_given, with_new, with_path}
-use Rattle.qo_model.specs.Release.{drop_slot, edit, pin, put_in_order, without_first, without_pin}
-use Rattle.qo_model.specs.ReleaseInduction.{without_slots}
-use Rattle.qo_model.specs.Unplug.{unheld, unnoticed, unseen, without_all}
+use Rattle.qo_model.proofs.Common.{⊤, AllByRecursion, list_any, Act, Pre, Update, TypeId, Val, Range, Board, DeviceEvent, Notice, Record, Slot, add, cut, point, set, with_changed, acted, with_asked, Given, fitted, with_body_of, with_given, with_new, with_path, drop_slot, edit, pin, put_in_order, without_first, without_pin, without_slots, unheld, unnoticed, unseen, without_all}
 use Rattle.qo_model.specs.declared.notes.Note.{Note}
 use Rattle.qo_steps.specs.Steps.{announced, declined, new_with, is_calm, with_hold, with_release, HasEmpty, HasNamed, HasNoticeRoom, HasRoom, HasSlot, IsOfNext, MayAsk, TakesTarget}
 use Rattle.qo_steps.proofs.ReleasesLemmas.{KeepsFinish, KeepsReleases, release-each}

@@ -16,4 +16,4 @@ pub mod SoundReachLemmas
 pub mod RunLemmas
 pub mod StepsLawLemmas
 pub mod GainsLemmas
-pub mod TypeFactsLemmas
+pub mod RegisterStepsLemmas

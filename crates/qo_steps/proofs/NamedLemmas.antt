@@ -1,13 +1,7 @@
 -- The slot of a name, which is set, filled or emptied where it is there.
 use Rattle.std.proofs.Common.{◌≡◌, refl, subst, ℕ, List, slice_get, Option, Some, None}
+use Rattle.qo_model.proofs.Common.{Val, Board, Slot, slots_at, set, with_changed, index_from, fitted, link_named, edit, is_named, set_named, unseen, unseen_named}
 use Rattle.std.proofs.lemmas.Slice.Eq.{bytes_eq-Decides}
-use Rattle.qo_values.specs.declared.properties.Val.{Val}
-use Rattle.qo_model.specs.Board.{Board, Slot, slots_at}
-use Rattle.qo_model.specs.Changes.{set, with_changed}
-use Rattle.qo_model.specs.Objects.{index_from}
-use Rattle.qo_model.specs.Plug.{fitted, link_named}
-use Rattle.qo_model.specs.Release.{edit}
-use Rattle.qo_model.specs.Unplug.{is_named, set_named, unseen, unseen_named}
 use Rattle.qo_model.proofs.FirstSlotLemmas.{Found, found-at}
 use Rattle.qo_steps.specs.Steps.{HasNamed}
 

@@ -1,34 +1,12 @@
 -- What each step outside a release keeps, and a release as a whole, each change keeps.
 use Rattle.std.proofs.Common.{◌≡◌, ◌⊎◌, inl, inr, refl, ap, sym, subst, ◌∙◌, ℕ, ◌+◌, true, false, List, [], ◌∷◌, filter_map, length, map, codes, Option, Some, None, Ok, arith}
-use Rattle.std.specs.Prelude.{Contains, option_map}
-use Rattle.std.specs.List.{AllByRecursion}
-use Rattle.std.specs.Option.{option_map_or}
-use Rattle.std.proofs.lemmas.List.{length-map}
-use Rattle.std.proofs.lemmas.List.Elements.{All-contains, All-from_recursion}
-use Rattle.qo_values.specs.Kinds.{type_name}
-use Rattle.qo_values.specs.declared.births.TheConstants.{MACHINE_BIRTH, OBJECTS_BIRTH}
-use Rattle.qo_values.specs.declared.codes.Code.{Code}
-use Rattle.qo_values.specs.declared.kinds.Act.TheVariants.{Pre, Unrealize, Update}
-use Rattle.qo_values.specs.declared.kinds.TypeId.{TypeId}
-use Rattle.qo_values.specs.declared.properties.Val.{Val}
-use Rattle.qo_values.specs.declared.properties.Val.TheVariants as val
-use Rattle.qo_model.specs.Board.{Board, slot_at, weak, Slot, child, strong}
-use Rattle.qo_model.specs.Changes.{add, set, with_changed}
-use Rattle.qo_model.specs.ClockChanges.{clock_scaled, clock_set}
-use Rattle.qo_model.specs.Clocks.{acted, clock_written}
-use Rattle.qo_model.specs.FinalNotesRuns.{Change, added, deleted, wrote, severed, after_write, changed}
-use Rattle.qo_model.specs.Hotplug.{asked, refused, reset_whole}
-use Rattle.qo_model.specs.Objects.{Given, added_as, given_slots, object_add, sever}
-use Rattle.qo_model.specs.Opening.{fresh_slots}
-use Rattle.qo_model.specs.Paths.{is_of}
-use Rattle.qo_model.specs.Plug.{Spot, Wanted, further_in, plug, spot_of, types_in}
-use Rattle.qo_model.specs.Properties.{link_target, write}
-use Rattle.qo_model.specs.Release.{drop_slot, emptied, let_go, pin, unpin, with_dropped}
-use Rattle.qo_model.specs.Reset.{held, pulse, released}
-use Rattle.qo_model.specs.Types.{is_a, slots_of}
-use Rattle.qo_model.specs.Unplug.{detach, unseen}
+use Rattle.qo_model.proofs.Common.{Contains, option_map, AllByRecursion, option_map_or, type_name, MACHINE_BIRTH, OBJECTS_BIRTH, Code, Pre, Unrealize, Update, TypeId, Val, Board, slot_at, weak, Slot, child, strong, add, set, with_changed, clock_scaled, clock_set, acted, clock_written, Change, added, deleted, wrote, severed, after_write, changed, asked, refused, reset_whole, Given, added_as, given_slots, object_add, sever, fresh_slots, is_of, Spot, Wanted, further_in, plug, spot_of, types_in, link_target, write, drop_slot, emptied, let_go, pin, unpin, with_dropped, pulse, released, is_a, slots_of, detach, unseen}
 use Rattle.qo_model.specs.declared.properties.Property.{Property}
 use Rattle.qo_model.specs.declared.properties.PropertyRole.{PropertyRole}
+use Rattle.std.proofs.lemmas.List.{length-map}
+use Rattle.std.proofs.lemmas.List.Elements.{All-contains, All-from_recursion}
+use Rattle.qo_values.specs.declared.properties.Val.TheVariants as val
+use Rattle.qo_model.specs.Reset.{held}
 use Rattle.qo_model.specs.declared.properties.PropertyRole.TheVariants as row
 use Rattle.qo_model.proofs.ComesToLemmas.{deletion-comes}
 use Rattle.qo_model.proofs.FinalNotesLemmas.{edit-kind}

@@ -1,29 +1,12 @@
 -- The steps by which a device is added, each with what is known where it is taken: what these keep, adding it keeps.
 use Rattle.std.proofs.Common.{◌≡◌, refl, ap, ◌∙◌, ℕ, suc, ◌+◌, ◌≤◌, true, false, List, [], ◌∷◌, ◌++◌, filter_map, length, codes, Option, Some, None, length-append, arith}
-use Rattle.std.specs.Prelude.{Contains}
-use Rattle.std.specs.List.{AllByRecursion}
-use Rattle.std.proofs.lemmas.List.{length-map}
-use Rattle.std.proofs.lemmas.List.Elements.{All-contains_itself, recursion_from_All}
-use Rattle.qo_values.specs.declared.kinds.Act.TheVariants.{Realize}
-use Rattle.qo_values.specs.declared.kinds.TypeId.{TypeId}
-use Rattle.qo_values.specs.declared.kinds.TypeId.TheVariants.{Device}
-use Rattle.qo_values.specs.declared.limits.TheConstants.{LIVE_OBJECTS_MAX}
-use Rattle.qo_values.specs.declared.properties.PropType.{PropType}
-use Rattle.qo_values.specs.declared.properties.Val.TheVariants as val
-use Rattle.qo_values.specs.declared.ranges.Range.{Range}
-use Rattle.qo_model.specs.Board.{Board, Notice, Slot, plain, child, strong, weak, alias}
-use Rattle.qo_model.specs.Changes.{add, fresh, set, with_changed}
-use Rattle.qo_model.specs.Devices.{clock_of, kid_name}
-use Rattle.qo_model.specs.Opening.{first_value, fresh_record}
-use Rattle.qo_model.specs.Paths.{canonical}
-use Rattle.qo_model.specs.Plug.{Spot, Wanted, acted_all, addressed_at, aliased, bus_births, clocked, counted, drafted, fitted, further_in, joined, name_for, objects_in, owned, parent_for, property_made, properties_made, source_for, started, stood, valued, with_body_of, with_device, with_given, with_kid, with_new, with_path, with_plugged, with_source}
-use Rattle.qo_model.specs.Release.{edit}
-use Rattle.qo_model.specs.Reset.{plugged, post}
-use Rattle.qo_model.specs.RowNames.{property_name}
-use Rattle.qo_model.specs.Types.{slots_of}
+use Rattle.qo_model.proofs.Common.{Contains, AllByRecursion, Realize, TypeId, Device, LIVE_OBJECTS_MAX, PropType, Range, Board, Notice, Slot, plain, child, strong, weak, alias, add, fresh, set, with_changed, clock_of, kid_name, first_value, fresh_record, canonical, Spot, Wanted, acted_all, addressed_at, aliased, bus_births, clocked, counted, drafted, fitted, further_in, joined, name_for, objects_in, owned, parent_for, property_made, properties_made, source_for, started, stood, valued, with_body_of, with_device, with_given, with_kid, with_new, with_path, with_plugged, with_source, edit, plugged, post, property_name, slots_of}
 use Rattle.qo_model.specs.declared.properties.First.{First}
 use Rattle.qo_model.specs.declared.properties.Property.{Property}
 use Rattle.qo_model.specs.declared.properties.PropertyRole.{PropertyRole}
+use Rattle.std.proofs.lemmas.List.{length-map}
+use Rattle.std.proofs.lemmas.List.Elements.{All-contains_itself, recursion_from_All}
+use Rattle.qo_values.specs.declared.properties.Val.TheVariants as val
 use Rattle.qo_model.specs.declared.properties.PropertyRole.TheVariants as row
 use Rattle.qo_sound.proofs.DeviceScopeLemmas.{devices_stay_lem}
 use Rattle.qo_steps.specs.Steps.{HasNoticeRoom, HasRoom, announced}

@@ -1,14 +1,9 @@
 -- Who may act in a change, of a board that is good: whoever a reset goes over, and the others that the changes go to. On any board anyone may.
 use Rattle.std.proofs.Common.{◌≡◌, ℕ, ◌+◌, ◌∷◌, Some, None}
-use Rattle.std.specs.Bool.{⊤}
-use Rattle.std.specs.List.{AllByRecursion}
-use Rattle.qo_values.specs.declared.births.TheConstants.{MACHINE_BIRTH}
-use Rattle.qo_model.specs.Board.{Board}
+use Rattle.qo_model.proofs.Common.{⊤, AllByRecursion, MACHINE_BIRTH, Board, Wanted, barred_late, bus_births, spot_of, with_device, post, TypeInfo, detach}
 use Rattle.qo_model.specs.Paths.{parent_of}
-use Rattle.qo_model.specs.Plug.{Wanted, barred_late, bus_births, spot_of, with_device}
-use Rattle.qo_model.specs.Reset.{held, post}
-use Rattle.qo_model.specs.Types.{TypeInfo}
-use Rattle.qo_model.specs.Unplug.{detach, first_of}
+use Rattle.qo_model.specs.Reset.{held}
+use Rattle.qo_model.specs.Unplug.{first_of}
 use Rattle.qo_sound.specs.PlugOutcomes.{IsAttempted}
 use Rattle.qo_sound.proofs.AdditionStepsLemmas.{all-any}
 use Rattle.qo_steps.proofs.ActingLemmas.{IsSteady}

@@ -1,12 +1,9 @@
 -- Releases: what follows a slot or a pin that is let go.
 use Rattle.std.proofs.Common.{nat_eq, ◌≡◌, refl, ℕ, ◌≤◌, Bool, true, false, ◌==◌, List, [], ◌∷◌, Option, Some, None, arith}
-use Rattle.std.specs.List.{AllByRecursion, list_any}
+use Rattle.qo_model.proofs.Common.{AllByRecursion, list_any, Board, Slot, slot_at, refs, after, drop_slot, finalize, finish, let_go, pin, unpin, without_pin, KeepsRelease}
 use Rattle.std.proofs.lemmas.Bool.{eqb-true}
 use Rattle.qo_values.proofs.ListLemmas.{all-imply}
-use Rattle.qo_model.specs.Board.{Board, Slot, held, slot_at}
-use Rattle.qo_model.specs.References.{refs}
-use Rattle.qo_model.specs.Release.{after, drop_slot, finalize, finish, let_go, pin, unpin, without_pin}
-use Rattle.qo_model.specs.ReleaseInduction.{KeepsRelease}
+use Rattle.qo_model.specs.Board.{held}
 use Rattle.qo_model.proofs.ReleaseInductionLemmas.{release_keeps}
 use Rattle.qo_model.proofs.StepLemmas.{drop-refs, finish-refs}
 use Rattle.qo_sound.proofs.DetachmentStepsLemmas.{KeepsEnds}

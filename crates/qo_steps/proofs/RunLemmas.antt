@@ -1,8 +1,6 @@
 -- What each step keeps, a run keeps; and what becomes of a board by steps is kept by each step.
 use Rattle.std.proofs.Common.{ℕ, List}
-use Rattle.std.specs.Prelude.{Contains}
-use Rattle.qo_values.specs.declared.kinds.TypeId.{TypeId}
-use Rattle.qo_model.specs.Board.{Board}
+use Rattle.qo_model.proofs.Common.{Contains, TypeId, Board}
 use Rattle.qo_steps.specs.Steps.{Step, made, ends, attempted, adds, sets, points, links, unsees, gives, empties, cuts, acts, calls, bodies, keeps_path, pins, unpins, holds, releases, clears, asks, declines, forgets, announces, counts, tells, applied, Takes, Run, none, then}
 use Rattle.qo_steps.proofs.KeepsLemmas.{StepsKeep}
 

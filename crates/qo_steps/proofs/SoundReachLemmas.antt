@@ -1,25 +1,15 @@
 -- On a board that is sound as far as devices go whoever acts in a change is there.
 use Rattle.std.proofs.Common.{◌≡◌, refl, ap, sym, subst, ◌∙◌, ℕ, suc, ◌+◌, ◌<◌, ◌≤◌, Bool, true, false, ◌==◌, List, [], ◌∷◌, filter_map, find, length, Option, Some, None, is_some, arith}
-use Rattle.std.specs.List.{AllByRecursion}
-use Rattle.std.specs.Option.{option_or}
+use Rattle.qo_model.proofs.Common.{AllByRecursion, option_or, MACHINE_BIRTH, ROOT_BIRTH, Realize, TypeId, Board, Record, Slot, alias, child, plain, strong, weak, kind_of, add, fresh, with_added, first_value, fresh_record, is_child, place_of, Wanted, acted_all, aliased, barred_late, bus_births, drafted, further_in, further_of, owned, properties_made, property_made, spot_of, type_barred, types_in, with_device, with_kid, with_new, property_name, TypeInfo, slots_of}
+use Rattle.qo_model.specs.declared.properties.Property.{Property}
+use Rattle.qo_model.specs.declared.properties.PropertyRole.{PropertyRole}
 use Rattle.std.proofs.lemmas.Bool.{eq-eqb}
 use Rattle.std.proofs.lemmas.List.{length-map}
 use Rattle.std.proofs.lemmas.List.Folds.{find-append}
 use Rattle.std.proofs.lemmas.Option.{same_Some}
-use Rattle.qo_values.specs.declared.births.TheConstants.{MACHINE_BIRTH, ROOT_BIRTH}
-use Rattle.qo_values.specs.declared.kinds.Act.TheVariants.{Realize}
-use Rattle.qo_values.specs.declared.kinds.TypeId.{TypeId}
 use Rattle.qo_values.proofs.ListLemmas.{all-imply}
-use Rattle.qo_model.specs.Board.{Board, Record, Slot, alias, child, plain, strong, weak, kind_of}
-use Rattle.qo_model.specs.Changes.{add, fresh, with_added}
-use Rattle.qo_model.specs.Opening.{first_value, fresh_record}
-use Rattle.qo_model.specs.Paths.{is_child, parent_of, place_in, place_of}
-use Rattle.qo_model.specs.Plug.{Wanted, acted_all, aliased, barred_late, bus_births, drafted, further_in, further_of, owned, properties_made, property_made, spot_of, type_barred, types_in, with_device, with_kid, with_new}
-use Rattle.qo_model.specs.RowNames.{property_name}
-use Rattle.qo_model.specs.Types.{TypeInfo, slots_of}
+use Rattle.qo_model.specs.Paths.{parent_of, place_in}
 use Rattle.qo_model.specs.Unplug.{first_of}
-use Rattle.qo_model.specs.declared.properties.Property.{Property}
-use Rattle.qo_model.specs.declared.properties.PropertyRole.{PropertyRole}
 use Rattle.qo_model.specs.declared.properties.PropertyRole.TheVariants as row
 use Rattle.qo_model.proofs.FinalNotesLemmas.{kind-live}
 use Rattle.qo_model.proofs.StepLemmas.{found_at}

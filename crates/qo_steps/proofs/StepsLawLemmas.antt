@@ -1,11 +1,7 @@
 -- The theorem by which a law over every change is proved from its steps; and that each change is a run of steps.
 use Rattle.std.proofs.Common.{ℕ, List, [], ◌∷◌}
-use Rattle.std.specs.Prelude.{Contains}
-use Rattle.std.specs.Bool.{⊤}
-use Rattle.std.specs.List.{AllByRecursion}
+use Rattle.qo_model.proofs.Common.{Contains, ⊤, AllByRecursion, TypeId, Board}
 use Rattle.std.proofs.lemmas.List.Elements.{All-contains_itself, recursion_from_All}
-use Rattle.qo_values.specs.declared.kinds.TypeId.{TypeId}
-use Rattle.qo_model.specs.Board.{Board}
 use Rattle.qo_sound_devices.specs.SoundDevices.{SoundDevices}
 use Rattle.qo_steps.specs.Changes.{Changes, ChangesOf, RunsLaw, types_made, types_of}
 use Rattle.qo_steps.specs.Steps.{IsThere, Run, none}

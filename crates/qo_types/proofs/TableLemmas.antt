@@ -1,10 +1,10 @@
 -- The code's tables say what the definitions say.
-use Rattle.std.proofs.Common.{◌≡◌, ℕ, Bool, true, false, List, [], ◌∷◌, map, find, refl, subst, ◌∙◌, Option, None, Some, option_map}
+use Rattle.std.proofs.Common.{rules, ◌≡◌, ℕ, Bool, true, false, List, [], ◌∷◌, map, find, refl, subst, ◌∙◌, Option, None, Some, option_map}
 use Rattle.std.specs.List.{slice_get}
 use Rattle.std.specs.Str.{bytes_eq}
 use Rattle.qo_values.specs.Kinds.{type_name}
 use Rattle.qo_values.specs.declared.kinds.TypeId.{TypeId}
-use Rattle.qo_values.specs.declared.kinds.TypeId.TheVariants.{Object, Container, Machine, Device, SlotDevice, SlotUart, SlotTimer, SlotBridge, MemDimm, Bus, SlotBus, MemBus, Clock, MemoryBackend, MemoryBackendRam, Tag}
+use Rattle.qo_values.proofs.EachLemmas.{each}
 use Rattle.qo_model.specs.Types.{TypeInfo, types, chain, parent_of, type_named}
 use Rattle.qo_types.specs.Rows.{type_ids}
 
@@ -45,19 +45,4 @@ none_first (x ∷ rest) is = cc
 -- the parent of a type is next after it in its chain
 pub parent_in : (t : TypeId) → slice_get (chain t) 1 ≡ parent_of t
 unfolding types
-parent_in Object = refl
-parent_in Container = refl
-parent_in Machine = refl
-parent_in Device = refl
-parent_in SlotDevice = refl
-parent_in SlotUart = refl
-parent_in SlotTimer = refl
-parent_in SlotBridge = refl
-parent_in MemDimm = refl
-parent_in Bus = refl
-parent_in SlotBus = refl
-parent_in MemBus = refl
-parent_in Clock = refl
-parent_in MemoryBackend = refl
-parent_in MemoryBackendRam = refl
-parent_in Tag = refl
+parent_in = each (λ (t : TypeId). slice_get (chain t) 1 ≡ parent_of t) (search rules)

@@ -1,15 +1,13 @@
 -- The own step of what is unrealized: its act, its clock, that it is realized, and its claims.
 use Rattle.std.proofs.Common.{◌≡◌, refl, ap, ap₂, sym, subst, ◌∙◌, ℕ, ◌+◌, ◌==◌, cond, codes, Bool, true, false, List, [], ◌∷◌, map, sum_by, Option}
 use Rattle.std.proofs.Common.{None, Some, option_map, arith}
-use Rattle.qo_values.specs.Registers.{Registers}
 use Rattle.qo_values.specs.declared.kinds.Act.TheVariants.{Unrealize}
 use Rattle.qo_values.specs.declared.properties.Val.{Val}
 use Rattle.qo_values.specs.declared.properties.Val.TheVariants as val
 use Rattle.qo_claims.specs.Book.{ClaimsTaken}
 use Rattle.qo_claims.specs.declared.claims.Claimed.{Claimed}
-use Rattle.qo_kinds.specs.Bodies.{kept_of, none_kept, registers_of, with_kept}
+use Rattle.qo_kinds.specs.Bodies.{kept_of, none_kept, with_kept}
 use Rattle.qo_kinds.specs.declared.bodies.Body.{Body}
-use Rattle.qo_kinds.specs.declared.bodies.Body.TheVariants.{Uart, Timer, Dimm, Bridge, Bus, Clock, Backend, Plain}
 use Rattle.qo_kinds.specs.declared.kept_set.KeptSet.{KeptSet}
 use Rattle.qo_slots.specs.declared.keys.Key.{Key}
 use Rattle.qo_table.specs.Rows.{IsLive}
@@ -149,26 +147,6 @@ undoes-set v w n name value other goes live held asked =
 abbrev pub bared : Content → Content
 bared c = record c { body = with_kept none_kept c.body }
 
-bare-registers : (body : Body) → registers_of (with_kept none_kept body) ≡ registers_of body
-bare-registers (Uart u k) = refl
-bare-registers (Timer t k) = refl
-bare-registers (Dimm d k) = refl
-bare-registers (Bridge raised holds k) = refl
-bare-registers Bus = refl
-bare-registers Clock = refl
-bare-registers Backend = refl
-bare-registers Plain = refl
-
-bare-kept : (body : Body) → kept_of (with_kept none_kept body) ≡ none_kept
-bare-kept (Uart u k) = refl
-bare-kept (Timer t k) = refl
-bare-kept (Dimm d k) = refl
-bare-kept (Bridge raised holds k) = refl
-bare-kept Bus = refl
-bare-kept Clock = refl
-bare-kept Backend = refl
-bare-kept Plain = refl
-
 -- the claims were taken out of the body of the object that is there
 pub bare-left : (v : Objects) → IsHeap v → (n : ℕ) (c : Content) → content_of v n ≡ Some c → (body : Body) → body ≡ with_kept none_kept c.body
     → with_edit n (λ (d : Content). record d { body = body }) v ≡ with_edit n bared v
@@ -184,7 +162,6 @@ bare-now v u o live is =
     let (c, there) = live-content v o live in
     ap (λ (x : Objects). option_map (λ (d : Content). kept_of d.body) (content_of x o.birth)) is
     ∙ ap (option_map (λ (d : Content). kept_of d.body)) (content-edited v o.birth bared ∙ ap (option_map bared) there)
-    ∙ ap Some (bare-kept c.body)
 
 edited-same : (n : ℕ) (rs : List Record) → map (edited n (λ (r : Record). r)) rs ≡ rs
 edited-same n [] = refl
@@ -197,7 +174,7 @@ edited-same n (r ∷ rs) = ap₂ (λ (x : Record) (xs : List Record). x ∷ xs) 
 shows-bared : (b : Board) (v : Objects) → Shows b v → (n : ℕ) (claims : ClaimsTaken) → Shows b (record (with_edit n bared v) { claims = claims })
 shows-bared b v s n claims =
     let t = shows-edit n bared b v s (λ (r : Record). r)
-    (λ m c. ap (λ (x : Registers). record (shown m c) { registers = x }) (bare-registers c.body)) (λ c. refl) in
+    (λ m c. refl) (λ c. refl) in
     record { records = sym (edited-same n b.records) ∙ t.records; born = t.born; pins = t.pins; notes = t.notes; events = t.events; now = t.now }
 
 book-freed : (out : List Claimed) (v : Objects) → IsHeap v → (n : ℕ) (c : Content) → content_of v n ≡ Some c → IsBook out v
@@ -207,7 +184,7 @@ book-freed out v good n c there book x =
     let sums : (y : Claimed) →
     sum_by (owned y) (with_edit n bared v).rows + owned y (none_key, c) ≡ sum_by (owned y) v.rows + owned y (none_key, bared c) =
     (λ y. sum-changed (owned y) n bared 0 v.born v.rows good.rising c there (λ key d. refl)) in
-    let none : (y : Claimed) → kept_times y (kept_of (bared c).body) ≡ 0 = (λ y. ap (kept_times y) (bare-kept c.body)) in
+    let none : (y : Claimed) → kept_times y (kept_of (bared c).body) ≡ 0 = (λ y. refl) in
     let less = kept-without (kept_of c.body) v.claims (λ y. omega (arith, book y, sums y, none y)) x in
     omega (arith, less, book x, sums x, none x)
 

@@ -1,10 +1,9 @@
 -- The moments of timers, of a heap and of the boards that it shows; and what a heap keeps of them.
 use Rattle.std.proofs.Common.{sym, subst, ℕ, map}
 use Rattle.std.specs.List.{AllByRecursion}
+use Rattle.qo_values.specs.Registers.{Registers, bare, bridge, dimm, timer, uart}
 use Rattle.qo_kinds.specs.Bodies as bodies
-use Rattle.qo_kinds.specs.Bodies.{registers_of}
-use Rattle.qo_kinds.specs.declared.bodies.Body.{Body}
-use Rattle.qo_kinds.specs.declared.bodies.Body.TheVariants.{Uart, Timer, Dimm, Bridge, Bus, Clock, Backend, Plain}
+use Rattle.qo_kinds.specs.Bodies.{IsInTime, registers_of}
 use Rattle.qo_slots.specs.declared.keys.Key.{Key}
 use Rattle.qo_model.specs.Board.{Board, Record}
 use Rattle.qo_notes.specs.Log.{empty_log, noted_all}
@@ -17,27 +16,21 @@ use Rattle.qo_life.proofs.TreeLemmas.{tree, tree-shows}
 use Rattle.qo_sound.proofs.RecordLemmas.{all-map, all-unmap}
 use Rattle.qo_sound_clocks.specs.SoundTimes.{IsTimely, SoundTimes}
 
--- a body and its registers
+-- registers are timely on the heap where they are on the board
 
-in-registers : (now : ℕ) (body : Body) → bodies.IsTimely now body → IsTimely now (registers_of body)
-in-registers now (Uart u k) h = tt
-in-registers now (Timer t k) h = h
-in-registers now (Dimm d k) h = tt
-in-registers now (Bridge raised holds k) h = tt
-in-registers now Bus h = tt
-in-registers now Clock h = tt
-in-registers now Backend h = tt
-in-registers now Plain h = tt
+in-registers : (now : ℕ) (r : Registers) → IsInTime now r → IsTimely now r
+in-registers now (uart u) h = tt
+in-registers now (timer t) h = h
+in-registers now (dimm d) h = tt
+in-registers now (bridge b) h = tt
+in-registers now bare h = tt
 
-in-body : (now : ℕ) (body : Body) → IsTimely now (registers_of body) → bodies.IsTimely now body
-in-body now (Uart u k) h = tt
-in-body now (Timer t k) h = h
-in-body now (Dimm d k) h = tt
-in-body now (Bridge raised holds k) h = tt
-in-body now Bus h = tt
-in-body now Clock h = tt
-in-body now Backend h = tt
-in-body now Plain h = tt
+pub in-time : (now : ℕ) (r : Registers) → IsTimely now r → IsInTime now r
+in-time now (uart u) h = tt
+in-time now (timer t) h = h
+in-time now (dimm d) h = tt
+in-time now (bridge b) h = tt
+in-time now bare h = tt
 
 abbrev RowIsTimely : ℕ → Key × Content → Type 0
 RowIsTimely now row = bodies.IsTimely now row.1.body
@@ -50,14 +43,14 @@ RecordIsTimely now r = IsTimely now r.registers
 pub timely-times : (b : Board) (v : Objects) → Shows b v → Timely v → SoundTimes b
 timely-times b v s all =
     let there : AllByRecursion (RecordIsTimely v.time) (map record_of v.rows) =
-    all-map (RowIsTimely v.time) (RecordIsTimely v.time) record_of (λ row h. in-registers v.time row.1.body h) v.rows all in
+    all-map (RowIsTimely v.time) (RecordIsTimely v.time) record_of (λ row h. in-registers v.time (registers_of row.1.body) h) v.rows all in
     subst (λ (now : ℕ). AllByRecursion (RecordIsTimely now) b.records) (sym s.now)
     (subst (AllByRecursion (RecordIsTimely v.time)) (sym s.records) there)
 
 pub times-timely : (b : Board) (v : Objects) → Shows b v → SoundTimes b → Timely v
 times-timely b v s times =
     let there : AllByRecursion (RecordIsTimely v.time) b.records = subst (λ (now : ℕ). AllByRecursion (RecordIsTimely now) b.records) s.now times in
-    all-unmap (RowIsTimely v.time) (RecordIsTimely v.time) record_of (λ row h. in-body v.time row.1.body h) v.rows
+    all-unmap (RowIsTimely v.time) (RecordIsTimely v.time) record_of (λ row h. in-time v.time (registers_of row.1.body) h) v.rows
     (subst (AllByRecursion (RecordIsTimely v.time)) s.records there)
 
 -- two heaps that show one board

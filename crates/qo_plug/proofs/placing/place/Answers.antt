@@ -13,7 +13,7 @@ use Rattle.qo_standing.specs.DeviceClaims.{kept_on}
 use Rattle.qo_standing.specs.FreeSpots.{IsFreeId}
 use Rattle.qo_standing.specs.Placement.{IsSeat, kept_in, spot_in}
 use Rattle.qo_properties.specs.KeptClaims.{SameKept}
-use Rattle.qo_plug.proofs.ClaimLemmas.{chosen-claims, draft-keeps, driver-room}
+use Rattle.qo_plug.proofs.ClaimLemmas.{chosen-claims, draft-keeps}
 use Rattle.qo_plug.proofs.GivenDraftLemmas.{stood-planned}
 use Rattle.qo_plug.proofs.SourceLemmas.{source-same}
 use Rattle.qo_plug.proofs.StageLemmas.{bus-low, full-barred, given_up-cut, opened, seat-of, spot-refused}
@@ -64,7 +64,6 @@ returns-in-Ok-stand-clause-settled g c = λ b a is notices.
     let keeps = rw (ens.bus, ens.spot) at c.in-Ok-stand.ensures.kept in
     let kept =
     draft-keeps c.args.heap.now c.stand.new.heap d.device.birth d.site.kind (claims_given b d.site.kind d.site.bus.birth a.props) c.requires.rest
-    (driver-room a.driver d.site.kind is.admitted.kind is.admitted.driver (claims_given b d.site.kind d.site.bus.birth a.props))
     (subst (λ (k : KeptSet). SameKept (with_edit d.device.birth (kept_in k) c.args.heap.now) c.stand.new.heap) chosen keeps) in
     let stood = c.in-Ok-stand.ensures.stood b (given_draft b d.site.kind a.props) a is.shown seat source is.plan in
     record {

@@ -1,12 +1,16 @@
--- What the body has no room for is given back.
-use Rattle.std.proofs.Common.{◌++◌, sym, subst}
-use Rattle.qo_kinds.specs.declared.kept_set.KeptSet.{KeptSet}
-use Rattle.qo_heap.specs.Book.{IsBook}
-use Rattle.qo_standing.specs.DeviceClaims.{kept_out}
+-- The body that was written is the one that was there, with these claims.
+use Rattle.std.proofs.Common.{ap}
+use Rattle.qo_kinds.specs.Bodies.{with_kept}
+use Rattle.qo_kinds.specs.declared.bodies.Body.{Body}
+use Rattle.qo_standing.proofs.ClaimLemmas.{body-put, kept-book}
 use Rattle.qo_standing.proofs.claiming.keep_claims.Goals as goal
 
-pub returns-in-Some-clause-book : goal.returns-in-Some-clause-book
-returns-in-Some-clause-book g c = λ out h.
-    c.free_all.ensures.book out
-    (subst (λ (k : KeptSet). IsBook (kept_out k ++ out) c.put_at.new.heap) (sym c.in-Some.ensures.back.0)
-    (c.in-Some.ensures.back.1 (kept_out c.args.kept ++ out) h))
+pub returns-clause-now : goal.returns-clause-now
+returns-clause-now g c =
+    body-put c.args.heap.now c.facts.ensures c.args.o c.requires.live c.body_mut.result.now c.keep_claims.new.self
+    (with_kept c.args.kept) c.body_mut.ensures.body c.keep_claims.ensures
+
+pub returns-clause-book : goal.returns-clause-book
+returns-clause-book g c =
+    kept-book c.args.heap.now c.facts.ensures c.args.o c.requires.live c.requires.bare c.args.kept c.keep_claims.new.self
+    (ap (λ (b : Body). b.kept) c.keep_claims.ensures)

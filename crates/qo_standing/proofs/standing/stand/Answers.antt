@@ -49,14 +49,14 @@ pub put_values-requires-clause-live : goal.put_values-requires-clause-live
 put_values-requires-clause-live g c =
     (placed-alike c.args.heap.now c.reserve_event.new.self c.take_claims.new.heap c.join.new.heap c.keep_claims.new.heap
     c.reserve_event.new.self.events.spare c.args.device c.args.seat.container c.args.seat.bus c.args.seat.name c.args.seat.spot.slot
-    c.in_ok-taken.taken.kept c.reserve_event.ensures.kept c.in_ok-taken.ensures.rest c.in-Ok.ensures.now c.keep_claims.ensures.rest).names
+    c.in_ok-taken.taken.kept c.reserve_event.ensures.kept c.in_ok-taken.ensures.rest c.in-Ok.ensures.now c.keep_claims.ensures.now).names
     c.args.device c.requires.live
 
 pub put_values-requires-clause-bus : goal.put_values-requires-clause-bus
 put_values-requires-clause-bus g c =
     (placed-alike c.args.heap.now c.reserve_event.new.self c.take_claims.new.heap c.join.new.heap c.keep_claims.new.heap
     c.reserve_event.new.self.events.spare c.args.device c.args.seat.container c.args.seat.bus c.args.seat.name c.args.seat.spot.slot
-    c.in_ok-taken.taken.kept c.reserve_event.ensures.kept c.in_ok-taken.ensures.rest c.in-Ok.ensures.now c.keep_claims.ensures.rest).names
+    c.in_ok-taken.taken.kept c.reserve_event.ensures.kept c.in_ok-taken.ensures.rest c.in-Ok.ensures.now c.keep_claims.ensures.now).names
     c.args.seat.bus c.requires.bus
 
 pub put_values-requires-clause-targets : goal.put_values-requires-clause-targets
@@ -64,21 +64,21 @@ put_values-requires-clause-targets g c =
     all-live (IsLive c.args.heap.now.rows) (IsLive c.keep_claims.new.heap.rows) (placed-alike c.args.heap.now c.reserve_event.new.self
     c.take_claims.new.heap c.join.new.heap c.keep_claims.new.heap c.reserve_event.new.self.events.spare c.args.device c.args.seat.container
     c.args.seat.bus c.args.seat.name c.args.seat.spot.slot c.in_ok-taken.taken.kept c.reserve_event.ensures.kept c.in_ok-taken.ensures.rest
-    c.in-Ok.ensures.now c.keep_claims.ensures.rest).names c.args.plan.items c.requires.targets
+    c.in-Ok.ensures.now c.keep_claims.ensures.now).names c.args.plan.items c.requires.targets
 
 pub put_values-requires-clause-fits : goal.put_values-requires-clause-fits
 put_values-requires-clause-fits g c =
     subst (λ (l : List Named). AllZip Fits c.args.plan.items l) (sym (placed-own c.args.heap.now c.reserve_event.new.self c.take_claims.new.heap
     c.join.new.heap c.keep_claims.new.heap c.reserve_event.new.self.events.spare c.args.device c.args.seat.container c.args.seat.bus c.args.seat.name
     c.args.seat.spot.slot c.in_ok-taken.taken.kept c.reserve_event.ensures.kept c.in_ok-taken.ensures.rest c.in-Ok.ensures.now
-    c.keep_claims.ensures.rest c.requires.apart)) c.requires.fits
+    c.keep_claims.ensures.now c.requires.apart)) c.requires.fits
 
 pub put_body-requires-clause-live : goal.put_body-requires-clause-live
 put_body-requires-clause-live g c =
     (alike-then c.args.heap.now c.keep_claims.new.heap c.put_values.new.heap (placed-alike c.args.heap.now c.reserve_event.new.self
     c.take_claims.new.heap c.join.new.heap c.keep_claims.new.heap c.reserve_event.new.self.events.spare c.args.device c.args.seat.container
     c.args.seat.bus c.args.seat.name c.args.seat.spot.slot c.in_ok-taken.taken.kept c.reserve_event.ensures.kept c.in_ok-taken.ensures.rest
-    c.in-Ok.ensures.now c.keep_claims.ensures.rest) c.put_values.ensures.stays.alike).names c.args.device c.requires.live
+    c.in-Ok.ensures.now c.keep_claims.ensures.now) c.put_values.ensures.stays.alike).names c.args.device c.requires.live
 
 pub put_body-requires-clause-dimm : goal.put_body-requires-clause-dimm
 put_body-requires-clause-dimm g c =
@@ -86,7 +86,7 @@ put_body-requires-clause-dimm g c =
     ∙ placed-registers c.args.heap.now c.reserve_event.new.self c.take_claims.new.heap
     c.join.new.heap c.keep_claims.new.heap c.reserve_event.new.self.events.spare c.args.device c.args.seat.container
     c.args.seat.bus c.args.seat.name c.args.seat.spot.slot c.in_ok-taken.taken.kept c.reserve_event.ensures.kept
-    c.in_ok-taken.ensures.rest c.in-Ok.ensures.now c.keep_claims.ensures.rest
+    c.in_ok-taken.ensures.rest c.in-Ok.ensures.now c.keep_claims.ensures.now
     c.args.device.birth) c.requires.dimm
 
 pub put_body-requires-clause-unnamed : goal.put_body-requires-clause-unnamed
@@ -94,14 +94,14 @@ put_body-requires-clause-unnamed g c =
     still-unnamed _ _ (c.put_values.ensures.stays.ids c.args.device.birth ∙ placed-ids c.args.heap.now c.reserve_event.new.self
     c.take_claims.new.heap c.join.new.heap c.keep_claims.new.heap c.reserve_event.new.self.events.spare c.args.device c.args.seat.container
     c.args.seat.bus c.args.seat.name c.args.seat.spot.slot c.in_ok-taken.taken.kept c.reserve_event.ensures.kept c.in_ok-taken.ensures.rest
-    c.in-Ok.ensures.now c.keep_claims.ensures.rest c.args.device.birth) c.requires.new
+    c.in-Ok.ensures.now c.keep_claims.ensures.now c.args.device.birth) c.requires.new
 
 pub connect_clock-requires-clause-live : goal.connect_clock-requires-clause-live
 connect_clock-requires-clause-live g c =
     (alike-then c.args.heap.now c.put_values.new.heap c.put_body.new.heap (alike-then c.args.heap.now c.keep_claims.new.heap c.put_values.new.heap
     (placed-alike c.args.heap.now c.reserve_event.new.self c.take_claims.new.heap c.join.new.heap c.keep_claims.new.heap
     c.reserve_event.new.self.events.spare c.args.device c.args.seat.container c.args.seat.bus c.args.seat.name c.args.seat.spot.slot
-    c.in_ok-taken.taken.kept c.reserve_event.ensures.kept c.in_ok-taken.ensures.rest c.in-Ok.ensures.now c.keep_claims.ensures.rest)
+    c.in_ok-taken.taken.kept c.reserve_event.ensures.kept c.in_ok-taken.ensures.rest c.in-Ok.ensures.now c.keep_claims.ensures.now)
     c.put_values.ensures.stays.alike) c.put_body.ensures.alike).names c.args.device c.requires.live
 
 pub connect_clock-requires-clause-source : goal.connect_clock-requires-clause-source
@@ -111,10 +111,10 @@ connect_clock-requires-clause-source g c =
     c.put_values.new.heap c.put_body.new.heap (alike-then c.args.heap.now c.keep_claims.new.heap c.put_values.new.heap (placed-alike c.args.heap.now
     c.reserve_event.new.self c.take_claims.new.heap c.join.new.heap c.keep_claims.new.heap c.reserve_event.new.self.events.spare c.args.device
     c.args.seat.container c.args.seat.bus c.args.seat.name c.args.seat.spot.slot c.in_ok-taken.taken.kept c.reserve_event.ensures.kept
-    c.in_ok-taken.ensures.rest c.in-Ok.ensures.now c.keep_claims.ensures.rest) c.put_values.ensures.stays.alike) c.put_body.ensures.alike).names key
+    c.in_ok-taken.ensures.rest c.in-Ok.ensures.now c.keep_claims.ensures.now) c.put_values.ensures.stays.alike) c.put_body.ensures.alike).names key
     (reserved-live c.args.heap.now c.reserve_event.new.self c.take_claims.new.heap c.join.new.heap c.keep_claims.new.heap
     c.reserve_event.new.self.events.spare c.args.device c.args.seat.container c.args.seat.bus c.args.seat.name c.args.seat.spot.slot
-    c.in_ok-taken.taken.kept c.reserve_event.ensures.kept c.in_ok-taken.ensures.rest c.in-Ok.ensures.now c.keep_claims.ensures.rest key live))
+    c.in_ok-taken.taken.kept c.reserve_event.ensures.kept c.in_ok-taken.ensures.rest c.in-Ok.ensures.now c.keep_claims.ensures.now key live))
 
 pub returns-in-Ok-clause-stood : goal.returns-in-Ok-clause-stood
 returns-in-Ok-clause-stood g c = λ b d a s seat same told.
@@ -129,12 +129,12 @@ returns-in-Ok-clause-stood g c = λ b d a s seat same told.
     c.take_claims.new.heap
     c.join.new.heap c.keep_claims.new.heap c.reserve_event.new.self.events.spare c.args.device c.args.seat.container
     c.args.seat.bus c.args.seat.name c.args.seat.spot.slot c.in_ok-taken.taken.kept c.reserve_event.ensures.kept
-    c.in_ok-taken.ensures.rest c.in-Ok.ensures.now c.keep_claims.ensures.rest c.requires.apart)) told in
+    c.in_ok-taken.ensures.rest c.in-Ok.ensures.now c.keep_claims.ensures.now c.requires.apart)) told in
     let valued_is : Shows there c.put_values.new.heap =
     c.put_values.ensures.shown b here a.props (placed-kept c.args.heap.now c.reserve_event.new.self c.take_claims.new.heap
     c.join.new.heap c.keep_claims.new.heap c.reserve_event.new.self.events.spare c.args.device c.args.seat.container
     c.args.seat.bus c.args.seat.name c.args.seat.spot.slot c.in_ok-taken.taken.kept c.reserve_event.ensures.kept
-    c.in_ok-taken.ensures.rest c.in-Ok.ensures.now c.keep_claims.ensures.rest b d a c.args.id range s seat) given in
+    c.in_ok-taken.ensures.rest c.in-Ok.ensures.now c.keep_claims.ensures.now b d a c.args.id range s seat) given in
     let body_is : Shows (stood b c.args.device.birth a spot d) c.put_body.new.heap =
     subst (λ (id : Option (List ℕ)). Shows (edit c.args.device.birth (with_body_of id range) there) c.put_body.new.heap)
     (sym (seat.id_is ∙ sym c.in_ok-taken.ensures.id)) (c.put_body.ensures.shown there valued_is) in
@@ -142,7 +142,7 @@ returns-in-Ok-clause-stood g c = λ b d a s seat same told.
     (c.in-Ok.ensures.path here (placed-shown c.args.heap.now c.reserve_event.new.self c.take_claims.new.heap
     c.join.new.heap c.keep_claims.new.heap c.reserve_event.new.self.events.spare c.args.device c.args.seat.container
     c.args.seat.bus c.args.seat.name c.args.seat.spot.slot c.in_ok-taken.taken.kept c.reserve_event.ensures.kept
-    c.in_ok-taken.ensures.rest c.in-Ok.ensures.now c.keep_claims.ensures.rest b d a c.args.id range s seat)) body_is
+    c.in_ok-taken.ensures.rest c.in-Ok.ensures.now c.keep_claims.ensures.now b d a c.args.id range s seat)) body_is
     (c.source_of-source.ensures.source d first) (c.source_of-source.ensures.none d first)
     c.connect_clock.ensures.shown c.connect_clock.ensures.none same
 
@@ -152,7 +152,7 @@ returns-in-Ok-clause-names g c =
     c.put_body.new.heap (alike-then c.args.heap.now c.keep_claims.new.heap c.put_values.new.heap (placed-alike c.args.heap.now
     c.reserve_event.new.self c.take_claims.new.heap c.join.new.heap c.keep_claims.new.heap c.reserve_event.new.self.events.spare c.args.device
     c.args.seat.container c.args.seat.bus c.args.seat.name c.args.seat.spot.slot c.in_ok-taken.taken.kept c.reserve_event.ensures.kept
-    c.in_ok-taken.ensures.rest c.in-Ok.ensures.now c.keep_claims.ensures.rest) c.put_values.ensures.stays.alike) c.put_body.ensures.alike)
+    c.in_ok-taken.ensures.rest c.in-Ok.ensures.now c.keep_claims.ensures.now) c.put_values.ensures.stays.alike) c.put_body.ensures.alike)
     c.connect_clock.ensures.stays.alike).names
 
 pub returns-in-Ok-clause-paths : goal.returns-in-Ok-clause-paths
@@ -161,7 +161,7 @@ returns-in-Ok-clause-paths g c =
     c.put_body.new.heap (alike-then c.args.heap.now c.keep_claims.new.heap c.put_values.new.heap (placed-alike c.args.heap.now
     c.reserve_event.new.self c.take_claims.new.heap c.join.new.heap c.keep_claims.new.heap c.reserve_event.new.self.events.spare c.args.device
     c.args.seat.container c.args.seat.bus c.args.seat.name c.args.seat.spot.slot c.in_ok-taken.taken.kept c.reserve_event.ensures.kept
-    c.in_ok-taken.ensures.rest c.in-Ok.ensures.now c.keep_claims.ensures.rest) c.put_values.ensures.stays.alike) c.put_body.ensures.alike)
+    c.in_ok-taken.ensures.rest c.in-Ok.ensures.now c.keep_claims.ensures.now) c.put_values.ensures.stays.alike) c.put_body.ensures.alike)
     c.connect_clock.ensures.stays.alike).paths c.args.device.birth
 
 pub returns-in-Ok-clause-pinned : goal.returns-in-Ok-clause-pinned
@@ -170,14 +170,14 @@ returns-in-Ok-clause-pinned g c =
     c.connect_clock.new.heap (alike-then c.args.heap.now c.put_values.new.heap c.put_body.new.heap (alike-then c.args.heap.now c.keep_claims.new.heap
     c.put_values.new.heap (placed-alike c.args.heap.now c.reserve_event.new.self c.take_claims.new.heap c.join.new.heap c.keep_claims.new.heap
     c.reserve_event.new.self.events.spare c.args.device c.args.seat.container c.args.seat.bus c.args.seat.name c.args.seat.spot.slot
-    c.in_ok-taken.taken.kept c.reserve_event.ensures.kept c.in_ok-taken.ensures.rest c.in-Ok.ensures.now c.keep_claims.ensures.rest)
+    c.in_ok-taken.taken.kept c.reserve_event.ensures.kept c.in_ok-taken.ensures.rest c.in-Ok.ensures.now c.keep_claims.ensures.now)
     c.put_values.ensures.stays.alike) c.put_body.ensures.alike) c.connect_clock.ensures.stays.alike).pins c.args.device.birth
 
 pub returns-in-Ok-clause-kept : goal.returns-in-Ok-clause-kept
 returns-in-Ok-clause-kept g c =
     let given = placed-claims c.args.heap.now c.reserve_event.new.self c.take_claims.new.heap c.join.new.heap c.keep_claims.new.heap
     c.reserve_event.new.self.events.spare c.args.device c.args.seat.container c.args.seat.bus c.args.seat.name c.args.seat.spot.slot
-    c.in_ok-taken.taken.kept c.reserve_event.ensures.kept c.in_ok-taken.ensures.rest c.in-Ok.ensures.now c.keep_claims.ensures.rest in
+    c.in_ok-taken.taken.kept c.reserve_event.ensures.kept c.in_ok-taken.ensures.rest c.in-Ok.ensures.now c.keep_claims.ensures.now in
     subst (λ (k : KeptSet). SameKept (with_edit c.args.device.birth (kept_in k) c.args.heap.now) c.connect_clock.new.heap) c.in_ok-taken.ensures.kept
     (λ n.
     kept-bodies c.put_body.new.heap c.connect_clock.new.heap c.connect_clock.ensures.stays.bodies n
@@ -191,7 +191,7 @@ returns-in-Ok-clause-book g c = λ out h.
     out) (placed-book c.args.heap.now c.reserve_event.new.self c.take_claims.new.heap
     c.join.new.heap c.keep_claims.new.heap c.reserve_event.new.self.events.spare c.args.device c.args.seat.container
     c.args.seat.bus c.args.seat.name c.args.seat.spot.slot c.in_ok-taken.taken.kept c.reserve_event.ensures.kept
-    c.in_ok-taken.ensures.rest c.in-Ok.ensures.now c.keep_claims.ensures.rest (kept_out c.in_ok-taken.taken.kept) (labels_out c.in_ok-taken.taken.label) out
+    c.in_ok-taken.ensures.rest c.in-Ok.ensures.now c.keep_claims.ensures.now (kept_out c.in_ok-taken.taken.kept) (labels_out c.in_ok-taken.taken.label) out
     c.keep_claims.ensures.book (c.in_ok-taken.ensures.book out (reserved-book out
     c.args.heap.now c.reserve_event.new.self c.reserve_event.new.self.events.spare c.reserve_event.ensures.kept h)))))
 

@@ -11,6 +11,8 @@ loop-at-init c = record {
   body = refl;
   device_id = refl;
   kept_path = refl;
+  side = refl;
+  work = refl;
 }
 
 pub invariant_of-self : goal.invariant_of-self
@@ -28,6 +30,8 @@ loop-at-preserved c = record {
   body = c.loop-at.invariant.body;
   device_id = c.loop-at.invariant.device_id;
   kept_path = c.loop-at.invariant.kept_path;
+  side = c.loop-at.invariant.side;
+  work = c.loop-at.invariant.work;
 }
 
 pub returns : goal.returns
@@ -43,6 +47,8 @@ returns c =
       body = c.loop-at.invariant.body j;
       device_id = c.loop-at.invariant.device_id j;
       kept_path = c.loop-at.invariant.kept_path j;
+      side = c.loop-at.invariant.side j;
+      work = c.loop-at.invariant.work j;
     })
 
 pub returns-then-not-names_weakly : goal.returns-then-not-names_weakly
@@ -50,4 +56,4 @@ returns-then-not-names_weakly c =
     let o = c.self.inside in
     let none : c.names_weakly.result ≡ false = search rules in
     let same : o.slots ≡ each_changed (forgotten_in c.args.birth) o.slots = sym (none-forgotten c.args.birth o.slots (sym c.names_weakly.ensures ∙ none)) in
-    rw (← c.self.view_is) (λ j. record { kind = o.kind; slots = same j; pins = o.pins; body = o.body; device_id = o.id; kept_path = o.path })
+    rw (← c.self.view_is) (λ j. record { kind = o.kind; slots = same j; pins = o.pins; body = o.body; device_id = o.id; kept_path = o.path; side = o.side; work = o.work })

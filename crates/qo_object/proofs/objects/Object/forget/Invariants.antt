@@ -11,4 +11,6 @@ invariant-loop-at l = record {
   body : l.self-inside.body ≡ l.initial.self-inside.body;
   device_id : l.self-inside.id ≡ l.initial.self-inside.id;
   kept_path : l.self-inside.path ≡ l.initial.self-inside.path;
+  side : l.self-inside.side ≡ l.initial.self-inside.side;
+  work : l.self-inside.work ≡ l.initial.self-inside.work;
 }

@@ -1,0 +1,119 @@
+//! Takes and puts that fail.
+
+use crate::life::Life;
+use crate::replaying::{Faults, Left, NO_FAULTS, replay, replay_into};
+use crate::slow_sink::SlowSink;
+use compose::Status;
+use qo_causes::ByteSink;
+use std::alloc::Global;
+use std::process::Abort;
+use std::test::Fail;
+
+/// A replay that failed so: it put a front of the transcript, and complained in this line.
+fn is_cut(rt: &impl Abort, left: &Left, life: &Life, status: Status, told: &[u8]) {
+    assert_eq!(rt; left.status, status);
+    assert!(rt; life.transcript.as_slice().starts_with(left.held.as_slice()));
+    assert_eq!(rt; left.told.as_slice(), told);
+}
+
+/// A replay that was not disturbed.
+fn is_whole(rt: &impl Abort, left: &Left, life: &Life) {
+    assert_eq!(rt; left.status, Status::Done);
+    assert_eq!(rt; left.held.as_slice(), life.transcript.as_slice());
+    assert!(rt; left.told.is_empty());
+}
+
+#[test]
+fn the_record_has_its_transcript(rt: HostRuntime) -> Result<(), Fail> {
+    let life = Life::of_a_uart(rt.alloc())?;
+    let left = replay(rt.alloc(), life.record.as_slice(), NO_FAULTS)?;
+    is_whole(&rt, &left, &life);
+    Ok(())
+}
+
+#[test]
+fn each_take_that_fails_is_a_read_fault(rt: HostRuntime) -> Result<(), Fail> {
+    let life = Life::of_a_uart(rt.alloc())?;
+    // All of the record comes with the first take, and the second one tells that nothing is left.
+    for take in [1, 2] {
+        let faults = Faults {
+            takes: &[take],
+            ..NO_FAULTS
+        };
+        let left = replay(rt.alloc(), life.record.as_slice(), faults)?;
+        is_cut(
+            &rt,
+            &left,
+            &life,
+            Status::ReadFault,
+            b"compose: read fault\n",
+        );
+    }
+    let faults = Faults {
+        takes: &[3],
+        ..NO_FAULTS
+    };
+    let left = replay(rt.alloc(), life.record.as_slice(), faults)?;
+    is_whole(&rt, &left, &life);
+    Ok(())
+}
+
+/// How many lines a transcript has.
+fn lines_in(transcript: &[u8]) -> u64 {
+    transcript.iter().filter(|byte| **byte == b'\n').count() as u64
+}
+
+#[test]
+fn each_put_that_fails_is_a_write_fault(rt: HostRuntime) -> Result<(), Fail> {
+    let life = Life::of_a_uart(rt.alloc())?;
+    let lines = lines_in(life.transcript.as_slice());
+    for put in 1..=lines {
+        let faults = Faults {
+            puts: &[put],
+            ..NO_FAULTS
+        };
+        let left = replay(rt.alloc(), life.record.as_slice(), faults)?;
+        is_cut(
+            &rt,
+            &left,
+            &life,
+            Status::WriteFault,
+            b"compose: write fault\n",
+        );
+        // Each message is one put.
+        assert_eq!(rt; lines_in(left.held.as_slice()), put - 1);
+    }
+    let faults = Faults {
+        puts: &[lines + 1],
+        ..NO_FAULTS
+    };
+    let left = replay(rt.alloc(), life.record.as_slice(), faults)?;
+    is_whole(&rt, &left, &life);
+    Ok(())
+}
+
+#[test]
+fn complaints_that_fail_change_no_status(rt: HostRuntime) -> Result<(), Fail> {
+    let mut life = Life::of_a_uart(rt.alloc())?;
+    life.record.push(b'x')?;
+    let faults = Faults {
+        complaints: &[1],
+        ..NO_FAULTS
+    };
+    let left = replay(rt.alloc(), life.record.as_slice(), faults)?;
+    is_cut(&rt, &left, &life, Status::BadRecord, b"");
+    assert_eq!(rt; left.held.as_slice(), life.transcript.as_slice());
+    Ok(())
+}
+
+#[test]
+fn a_sink_may_take_one_byte_at_a_time(rt: HostRuntime) -> Result<(), Fail> {
+    let life = Life::of_a_uart(rt.alloc())?;
+    let sink = SlowSink::new(rt.alloc(), 65_536)?;
+    let mut complaints = ByteSink::new(rt.alloc(), 4_096, Vec::new(rt.alloc()))?;
+    let record = life.record.as_slice();
+    let (status, sink) = replay_into(rt.alloc(), record, &[], sink, &mut complaints)?;
+    assert_eq!(rt; status, Status::Done);
+    assert_eq!(rt; sink.held(), life.transcript.as_slice());
+    Ok(())
+}
