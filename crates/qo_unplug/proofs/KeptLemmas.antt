@@ -22,7 +22,6 @@ use Rattle.qo_object.specs.BoardObject.{shown}
 use Rattle.qo_object.specs.Slots.{with_val}
 use Rattle.qo_heap.specs.Board.{Shows}
 use Rattle.qo_heap.specs.Objects.{Objects, content_of, with_edit, with_note}
-use Rattle.qo_heap.proofs.ActsLemmas.{kept-acted}
 use Rattle.qo_heap.proofs.BoardObjects.{content-other}
 use Rattle.qo_heap.proofs.BoardReads.{shows-record}
 use Rattle.qo_life.proofs.TreeLemmas.{read-content}
@@ -44,7 +43,7 @@ kept-edited v n f same m = read-content (λ (c : Content). kept_of c.body) n f s
 pub kept-act : (v w : Objects) (n period : ℕ)
     → w ≡ with_note (record { birth = n; deed = Did Unrealize }) (with_edit n (acted_at Unrealize v.time period) v) → KeptBefore v w
 kept-act v w n period is m k e =
-    sym (kept-edited v n (acted_at Unrealize v.time period) (λ c. kept-acted Unrealize v.time period c.body) m)
+    sym (kept-edited v n (acted_at Unrealize v.time period) (λ c. refl) m)
     ∙ (subst (λ (x : Objects). kept_by x m ≡ Some k) is e)
 
 -- a clock that stands still
