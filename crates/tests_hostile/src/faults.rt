@@ -92,18 +92,50 @@ fn each_put_that_fails_is_a_write_fault(rt: HostRuntime) -> Result<(), Fail> {
     Ok(())
 }
 
+/// The status of a replay stays as it is, whichever put of its complaint fails: the line has at most three.
+fn keeps_its_status(
+    rt: &impl Abort,
+    alloc: Global,
+    record: &[u8],
+    faults: Faults,
+    status: Status,
+) -> Result<(), Fail> {
+    let usual = replay(alloc, record, faults)?;
+    assert_eq!(rt; usual.status, status);
+    for complaint in 1..=3 {
+        let complaints = &[complaint];
+        let left = replay(
+            alloc,
+            record,
+            Faults {
+                complaints,
+                ..faults
+            },
+        )?;
+        assert_eq!(rt; left.status, status);
+        assert_eq!(rt; left.held.as_slice(), usual.held.as_slice());
+        assert!(rt; usual.told.as_slice().starts_with(left.told.as_slice()));
+    }
+    Ok(())
+}
+
 #[test]
 fn complaints_that_fail_change_no_status(rt: HostRuntime) -> Result<(), Fail> {
-    let mut life = Life::of_a_uart(rt.alloc())?;
-    life.record.push(b'x')?;
-    let faults = Faults {
-        complaints: &[1],
+    let life = Life::of_a_uart(rt.alloc())?;
+    let record = life.record.as_slice();
+    keeps_its_status(&rt, rt.alloc(), record, NO_FAULTS, Status::Done)?;
+    let unread = Faults {
+        takes: &[1],
         ..NO_FAULTS
     };
-    let left = replay(rt.alloc(), life.record.as_slice(), faults)?;
-    is_cut(&rt, &left, &life, Status::BadRecord, b"");
-    assert_eq!(rt; left.held.as_slice(), life.transcript.as_slice());
-    Ok(())
+    keeps_its_status(&rt, rt.alloc(), record, unread, Status::ReadFault)?;
+    let unwritten = Faults {
+        puts: &[2],
+        ..NO_FAULTS
+    };
+    keeps_its_status(&rt, rt.alloc(), record, unwritten, Status::WriteFault)?;
+    let cut = &record[..record.len() - 1];
+    keeps_its_status(&rt, rt.alloc(), cut, NO_FAULTS, Status::BadRecord)
 }
 
 #[test]

@@ -15,9 +15,12 @@ const UNHEARD: &[u8] =
 /// What it asks once it is open again.
 const ASKED: &[u8] = b"{\"execute\":\"qom-list\",\"arguments\":{\"path\":\"/objects\"}}";
 
-/// What it is sent then: a greeting, a reply, and that there is no tag.
-const SENT: &str =
-    "{\"QMP\":{\"capabilities\":[],\"version\":{\"package\":\"compose\",\"qemu\":{\"major\":1,\"micro\":0,\"minor\":0}}}}\r\n{\"return\":{}}\r\n{\"return\":[{\"name\":\"type\",\"type\":\"string\"}]}\r\n";
+const GREETING: &str =
+    "{\"QMP\":{\"capabilities\":[],\"version\":{\"package\":\"compose\",\"qemu\":{\"major\":1,\"micro\":0,\"minor\":0}}}}\r\n";
+
+/// What it is sent behind the greeting then: a reply, and that there is no tag.
+const REPLIES: &str =
+    "{\"return\":{}}\r\n{\"return\":[{\"name\":\"type\",\"type\":\"string\"}]}\r\n";
 
 /// What a session says, as an input.
 fn said(alloc: Global, session: u8, bytes: &[u8]) -> Result<What, Fail> {
@@ -28,8 +31,8 @@ fn said(alloc: Global, session: u8, bytes: &[u8]) -> Result<What, Fail> {
     Ok(What::Bytes(session, Chunk::from_vec(bytes)))
 }
 
-/// A hub with these inputs, whose first send finds its session gone.
-fn losing_hub(alloc: Global, whats: Vec<What>) -> Result<ScriptHub, Fail> {
+/// A hub with these inputs, whose send of this number finds its session gone.
+fn losing_hub(alloc: Global, whats: Vec<What>, send: u64) -> Result<ScriptHub, Fail> {
     let mut inputs = Vec::new(alloc);
     for what in whats {
         let at = Moment {
@@ -39,7 +42,7 @@ fn losing_hub(alloc: Global, whats: Vec<What>) -> Result<ScriptHub, Fail> {
         inputs.push(Input { at, what })?;
     }
     let none = Vec::new(alloc);
-    let gone = Vec::from_slice(alloc, &[1])?;
+    let gone = Vec::from_slice(alloc, &[send])?;
     Ok(ScriptHub::new(alloc, inputs, 4_096, none, Vec::new(alloc), gone)?)
 }
 
@@ -61,6 +64,13 @@ fn served(alloc: Global, hub: &mut ScriptHub) -> Result<Status, Fail> {
     Ok(status)
 }
 
+/// What a session is sent that is greeted and asks whether there is a tag.
+fn greeted_and_told(alloc: Global) -> Result<Vec<u8>, Fail> {
+    let mut sent = Vec::from_slice(alloc, GREETING.as_bytes())?;
+    sent.extend_from_slice(REPLIES.as_bytes())?;
+    Ok(sent)
+}
+
 #[test]
 fn a_lost_session_is_not_heard_until_it_opens_again(rt: HostRuntime) -> Result<(), Fail> {
     let mut whats = Vec::new(rt.alloc());
@@ -69,8 +79,29 @@ fn a_lost_session_is_not_heard_until_it_opens_again(rt: HostRuntime) -> Result<(
     whats.push(What::Open(0))?;
     whats.push(said(rt.alloc(), 0, NEGOTIATE)?)?;
     whats.push(said(rt.alloc(), 0, ASKED)?)?;
-    let mut hub = losing_hub(rt.alloc(), whats)?;
+    let mut hub = losing_hub(rt.alloc(), whats, 1)?;
     assert_eq!(rt; served(rt.alloc(), &mut hub)?, Status::Done);
-    assert_eq!(rt; hub.lane(Lane::Session(0)), SENT.as_bytes());
+    let sent = greeted_and_told(rt.alloc())?;
+    assert_eq!(rt; hub.lane(Lane::Session(0)), sent.as_slice());
+    Ok(())
+}
+
+#[test]
+fn a_session_that_is_lost_as_it_negotiates_is_sent_nothing_more(
+    rt: HostRuntime,
+) -> Result<(), Fail> {
+    let mut whats = Vec::new(rt.alloc());
+    whats.push(What::Open(0))?;
+    whats.push(What::Open(1))?;
+    // Both were greeted, so that the third send is the reply to this.
+    whats.push(said(rt.alloc(), 1, NEGOTIATE)?)?;
+    whats.push(said(rt.alloc(), 1, UNHEARD)?)?;
+    whats.push(said(rt.alloc(), 0, NEGOTIATE)?)?;
+    whats.push(said(rt.alloc(), 0, ASKED)?)?;
+    let mut hub = losing_hub(rt.alloc(), whats, 3)?;
+    assert_eq!(rt; served(rt.alloc(), &mut hub)?, Status::Done);
+    let sent = greeted_and_told(rt.alloc())?;
+    assert_eq!(rt; hub.lane(Lane::Session(0)), sent.as_slice());
+    assert_eq!(rt; hub.lane(Lane::Session(1)), GREETING.as_bytes());
     Ok(())
 }
