@@ -224,7 +224,15 @@ fn a_hub_is_served(rt: HostRuntime) -> Result<(), Fail> {
     assert_eq!(rt; hub.asked(), Some(("s", 3)));
     assert_eq!(rt; hub.lane(Lane::Session(0)), SENT.as_bytes());
 
-    let faults: &[(&[u64], &[u64])] = &[(&[1], &[]), (&[2], &[]), (&[], &[1]), (&[], &[4])];
+    // It is asked for two inputs, and sends four messages.
+    let faults: &[(&[u64], &[u64])] = &[
+        (&[1], &[]),
+        (&[2], &[]),
+        (&[], &[1]),
+        (&[], &[2]),
+        (&[], &[3]),
+        (&[], &[4]),
+    ];
     for (nexts, sends) in faults {
         let mut hub = hub_of(rt.alloc(), nexts, sends)?;
         let (status, told) = served(rt.alloc(), "serve --socket=s --connections=1", &mut hub)?;
