@@ -23,6 +23,7 @@ fn a_record_that_is_cut_is_bad_at_the_entry_that_is_cut(rt: HostRuntime) -> Resu
     for at in 0..=life.record.len() {
         let left = replay(rt.alloc(), &life.record.as_slice()[..at], NO_FAULTS)?;
         let (entries, lines) = whole_within(&life, at);
+        assert!(rt; lines <= life.transcript.len());
         assert_eq!(rt; left.held.as_slice(), &life.transcript.as_slice()[..lines]);
         if at == entries && at > 0 {
             assert_eq!(rt; left.status, Status::Done);
