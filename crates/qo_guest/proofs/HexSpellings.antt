@@ -6,7 +6,7 @@ use Rattle.std.specs.Fmt.{digit_glyph}
 use Rattle.std.specs.Str.Parse.{AllDigits, digits_value_after}
 use Rattle.std.proofs.Math.Nat.{pow-suc}
 use Rattle.std.proofs.lemmas.Bool.Decides.{nat_tests}
-use Rattle.qo_guest.specs.Addresses.{hex_digit, with_hex, value_of}
+use Rattle.qo_guest.specs.Addresses.{hex_digit, with_hex, hex_of, value_of}
 use Rattle.qo_guest.specs.Answers.{hex_text}
 use Rattle.qo_guest.specs.Spellings.{IsHex, ValuesAreReadBack}
 use Rattle.qo_guest.proofs.Numbers.{then_some}
@@ -19,39 +19,39 @@ digit_of : (byte : ℕ) → digit_value byte < 16 → hex_digit byte ≡ Some (d
 digit_of byte small = grind (arith, nat_tests)
 
 -- digits read are digits, and stand for the value
-hex_taken : (ds : List ℕ) (n value : ℕ) → with_hex n ds ≡ Some value → AllDigits 16 ds × (digits_value_after 16 n ds ≡ value)
-hex_taken [] n value e = (tt, cc)
-hex_taken (byte ∷ ds) n value e =
+digits_taken : (ds : List ℕ) (n value : ℕ) → with_hex n ds ≡ Some value → AllDigits 16 ds × (digits_value_after 16 n ds ≡ value)
+digits_taken [] n value e = (tt, cc)
+digits_taken (byte ∷ ds) n value e =
     let step = then_some (hex_digit byte) (λ digit. with_hex (n * 16 + digit) ds) value e in
     let here = digit_is byte step.0 step.1 in
-    let rest = hex_taken ds (n * 16 + step.0) value step.2 in
+    let rest = digits_taken ds (n * 16 + step.0) value step.2 in
     ((here.0, rest.0), rw (← here.1) rest.1)
 
-hex_given : (ds : List ℕ) (n value : ℕ) → AllDigits 16 ds → digits_value_after 16 n ds ≡ value → with_hex n ds ≡ Some value
-hex_given [] n value all e = ap Some e
-hex_given (byte ∷ ds) n value all e = rw (digit_of byte all.0) (hex_given ds (n * 16 + digit_value byte) value all.1 e)
+digits_given : (ds : List ℕ) (n value : ℕ) → AllDigits 16 ds → digits_value_after 16 n ds ≡ value → with_hex n ds ≡ Some value
+digits_given [] n value all e = ap Some e
+digits_given (byte ∷ ds) n value all e = rw (digit_of byte all.0) (digits_given ds (n * 16 + digit_value byte) value all.1 e)
 
 -- a test in front
 pub guard_then : {A : Type 0} (b : Bool) (o : Option A) (y : A) → cond b o None ≡ Some y → (b ≡ true) × (o ≡ Some y)
 guard_then true o y e = (refl, e)
 guard_then false o y e = cc
 
-pub value_taken : (word : List ℕ) (value : ℕ) → value_of word ≡ Some value → (digits : List ℕ) × IsHex digits value × (word ≡ codes "0x" ++ digits)
-value_taken [] value e = cc
-value_taken (first ∷ []) value e = cc
-value_taken (first ∷ second ∷ digits) value e =
-    let g = guard_then (first == 48 && second == 120 && nat_le 1 (length digits) && nat_le (length digits) 8) (with_hex 0 digits) value e in
-    let read = hex_taken digits 0 value g.1 in
+pub hex_taken : (most : ℕ) (word : List ℕ) (value : ℕ) → hex_of most word ≡ Some value → (digits : List ℕ) × IsHex most digits value × (word ≡ codes "0x" ++ digits)
+hex_taken most [] value e = cc
+hex_taken most (first ∷ []) value e = cc
+hex_taken most (first ∷ second ∷ digits) value e =
+    let g = guard_then (first == 48 && second == 120 && nat_le 1 (length digits) && nat_le (length digits) most) (with_hex 0 digits) value e in
+    let read = digits_taken digits 0 value g.1 in
     let nought : first ≡ 48 = grind (arith, nat_tests, g.0) in
     let letter : second ≡ 120 = grind (arith, nat_tests, g.0) in
     (digits, record { some = grind (arith, nat_tests, g.0); few = grind (arith, nat_tests, g.0); all = read.0; same = read.1 }, rw (nought, letter) refl)
 
-pub value_given : (digits : List ℕ) (value : ℕ) → IsHex digits value → value_of (codes "0x" ++ digits) ≡ Some value
-value_given digits value is =
+pub hex_given : (most : ℕ) (digits : List ℕ) (value : ℕ) → IsHex most digits value → hex_of most (codes "0x" ++ digits) ≡ Some value
+hex_given most digits value is =
     let some = is.some in
     let few = is.few in
-    let within : (nat_le 1 (length digits) && nat_le (length digits) 8) ≡ true = grind (arith, nat_tests) in
-    rw within (hex_given digits 0 value is.all is.same)
+    let within : (nat_le 1 (length digits) && nat_le (length digits) most) ≡ true = grind (arith, nat_tests) in
+    rw within (digits_given digits 0 value is.all is.same)
 
 -- digits read one part after the other
 with_hex-append : (xs ys : List ℕ) (m : ℕ) → with_hex m (xs ++ ys) ≡ option_and_then (λ k. with_hex k ys) (with_hex m xs)

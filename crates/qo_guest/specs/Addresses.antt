@@ -4,7 +4,7 @@ use Rattle.std.specs.List.{slice_split}
 use Rattle.qo_guest.specs.declared.addresses.TheConstants.{STEPS_MAX}
 use Rattle.qo_guest.specs.declared.addresses.Addr.{Addr}
 use Rattle.qo_guest.specs.declared.addresses.Addr.TheVariants.{Slots, Mem}
-use Rattle.qo_guest.specs.declared.words.TheConstants.{VALUE_DIGITS_MAX}
+use Rattle.qo_guest.specs.declared.words.TheConstants.{HWADDR_DIGITS_MAX, VALUE_DIGITS_MAX}
 
 -- the parts of a line or a word between its separators
 abbrev pub pieces : ℕ → List ℕ → List (List ℕ)
@@ -59,9 +59,17 @@ abbrev pub with_hex : ℕ → List ℕ → Option ℕ
 with_hex n [] = Some n
 with_hex n (byte ∷ bytes) = option_and_then (λ digit. with_hex (n * 16 + digit) bytes) (hex_digit byte)
 
--- a word that is a value: `0x` and one to VALUE_DIGITS_MAX hexadecimal digits
-abbrev pub value_of : List ℕ → Option ℕ
-value_of (first ∷ second ∷ digits) =
-    if first == 48 && second == 120 && nat_le 1 (length digits) && nat_le (length digits) VALUE_DIGITS_MAX
+-- a word that is `0x` and one to `most` hexadecimal digits
+abbrev pub hex_of : ℕ → List ℕ → Option ℕ
+hex_of most (first ∷ second ∷ digits) =
+    if first == 48 && second == 120 && nat_le 1 (length digits) && nat_le (length digits) most
     then with_hex 0 digits else None
-value_of _ = None
+hex_of most _ = None
+
+-- a word that is a value
+abbrev pub value_of : List ℕ → Option ℕ
+value_of word = hex_of VALUE_DIGITS_MAX word
+
+-- a word that is a hardware address
+abbrev pub hwaddr_of : List ℕ → Option ℕ
+hwaddr_of word = hex_of HWADDR_DIGITS_MAX word

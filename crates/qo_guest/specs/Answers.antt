@@ -5,7 +5,7 @@ use Rattle.std.specs.List.{join_with_byte}
 use Rattle.qo_guest.specs.declared.addresses.Addr.{Addr}
 use Rattle.qo_guest.specs.declared.addresses.Addr.TheVariants.{Slots, Mem}
 use Rattle.qo_guest.specs.declared.answers.GuestAnswer.{GuestAnswer}
-use Rattle.qo_guest.specs.declared.answers.GuestAnswer.TheVariants.{Fine, Plug, Unplug, NoNotice, Value, NoLine, NoStopped, NoDevice, NoPending, NoRegister, NoMemory}
+use Rattle.qo_guest.specs.declared.answers.GuestAnswer.TheVariants.{Fine, Plug, Unplug, NoNotice, Value, NoLine, NoStopped, NoAddress, NoDevice, NoPending, NoRegister, NoMemory}
 
 -- slots joined by dots
 abbrev pub steps_text : List ℕ → List ℕ
@@ -30,6 +30,7 @@ text_of NoNotice = codes "ok none"
 text_of (Value value) = codes "ok 0x" ++ hex_text 8 value
 text_of NoLine = codes "no line"
 text_of NoStopped = codes "no stopped"
+text_of NoAddress = codes "no address"
 text_of NoDevice = codes "no device"
 text_of NoPending = codes "no pending"
 text_of NoRegister = codes "no register"

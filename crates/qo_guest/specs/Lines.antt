@@ -1,11 +1,11 @@
 -- How a guest line is read into an act (docs/PROFILE.md, guest lines).
-use Rattle.std.specs.Prelude.{ℕ, nat_le, codes, List, [], ◌∷◌, length, Option, Some, None, option_and_then, if◌then◌else◌}
+use Rattle.std.specs.Prelude.{ℕ, ◌||◌, Bool, nat_le, codes, List, [], ◌∷◌, length, Option, Some, None, option_and_then, if◌then◌else◌}
 use Rattle.std.specs.Str.{bytes_eq}
 use Rattle.qo_values.specs.declared.limits.TheConstants.{GUEST_LINE_MAX}
-use Rattle.qo_guest.specs.Addresses.{pieces, number_of, address_of, value_of}
+use Rattle.qo_guest.specs.Addresses.{pieces, number_of, address_of, value_of, hwaddr_of}
 use Rattle.qo_guest.specs.declared.addresses.Addr.{Addr}
 use Rattle.qo_guest.specs.declared.lines.GuestAct.{GuestAct}
-use Rattle.qo_guest.specs.declared.lines.GuestAct.TheVariants.{Ack, Nack, Poll, Read, Write, Reset, Shutdown}
+use Rattle.qo_guest.specs.declared.lines.GuestAct.TheVariants.{Ack, Nack, Poll, Read, Write, Peek, Poke, Reset, Shutdown}
 
 -- the act of a lone word
 abbrev pub lone_act : List ℕ → Option GuestAct
@@ -33,11 +33,24 @@ abbrev pub aimed_act : List ℕ → Addr → List (List ℕ) → Option GuestAct
 aimed_act verb at [] = pending_act verb at
 aimed_act verb at (word ∷ words) = option_and_then (λ register. register_act verb at register words) (number_of word)
 
+-- the verbs that take a hardware address
+abbrev pub is_memory_verb : List ℕ → Bool
+is_memory_verb verb = bytes_eq verb (codes "peek") || bytes_eq verb (codes "poke")
+
+-- the act of a verb with a hardware address, and for a poke a value
+abbrev pub memory_act : List ℕ → ℕ → List (List ℕ) → Option GuestAct
+memory_act verb at [] = if bytes_eq verb (codes "peek") then Some (Peek at) else None
+memory_act verb at (word ∷ []) =
+    if bytes_eq verb (codes "poke") then option_and_then (λ value. Some (Poke at value)) (value_of word) else None
+memory_act verb at _ = None
+
 -- the act that the words of a line are
 abbrev pub act_of : List (List ℕ) → Option GuestAct
 act_of [] = None
 act_of (verb ∷ []) = lone_act verb
-act_of (verb ∷ word ∷ words) = option_and_then (λ at. aimed_act verb at words) (address_of word)
+act_of (verb ∷ word ∷ words) =
+    if is_memory_verb verb then option_and_then (λ at. memory_act verb at words) (hwaddr_of word)
+    else option_and_then (λ at. aimed_act verb at words) (address_of word)
 
 -- the act of a line of at most GUEST_LINE_MAX bytes, whose words are separated by one space
 abbrev pub guest_line : List ℕ → Option GuestAct

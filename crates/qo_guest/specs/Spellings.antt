@@ -6,9 +6,9 @@ use Rattle.qo_values.specs.declared.limits.TheConstants.{GUEST_LINE_MAX}
 use Rattle.qo_guest.specs.declared.addresses.Addr.{Addr}
 use Rattle.qo_guest.specs.declared.addresses.Addr.TheVariants.{Slots, Mem}
 use Rattle.qo_guest.specs.declared.lines.GuestAct.{GuestAct}
-use Rattle.qo_guest.specs.declared.lines.GuestAct.TheVariants.{Ack, Nack, Poll, Read, Write, Reset, Shutdown}
+use Rattle.qo_guest.specs.declared.lines.GuestAct.TheVariants.{Ack, Nack, Poll, Read, Write, Peek, Poke, Reset, Shutdown}
 use Rattle.qo_guest.specs.declared.addresses.TheConstants.{STEPS_MAX}
-use Rattle.qo_guest.specs.declared.words.TheConstants.{VALUE_DIGITS_MAX}
+use Rattle.qo_guest.specs.declared.words.TheConstants.{HWADDR_DIGITS_MAX, VALUE_DIGITS_MAX}
 use Rattle.qo_guest.specs.Addresses.{number_of, address_of, value_of}
 use Rattle.qo_guest.specs.Answers.{address_text, hex_text}
 use Rattle.qo_guest.specs.Lines.{guest_line}
@@ -24,10 +24,10 @@ abbrev pub IsAddress : Addr → Type 0
 IsAddress (Slots steps) = IsSteps steps
 IsAddress (Mem n) = n ≤ 255
 
--- one to VALUE_DIGITS_MAX hexadecimal digits of either case that stand for a value
-pub record IsHex (digits : List ℕ) (value : ℕ) : Type 0 where
+-- one to `most` hexadecimal digits of either case that stand for a number
+pub record IsHex (most : ℕ) (digits : List ℕ) (value : ℕ) : Type 0 where
   pub some : 1 ≤ length digits
-  pub few : length digits ≤ VALUE_DIGITS_MAX
+  pub few : length digits ≤ most
   pub all : AllDigits 16 digits
   pub same : digits_value 16 digits ≡ value
 
@@ -39,8 +39,12 @@ Spells line Poll = line ≡ codes "poll"
 Spells line (Read at register) =
     IsAddress at × (register ≤ 255) × (line ≡ codes "read " ++ (address_text at ++ 32 ∷ decimal register))
 Spells line (Write at register value) =
-    (digits : List ℕ) × IsAddress at × (register ≤ 255) × IsHex digits value
+    (digits : List ℕ) × IsAddress at × (register ≤ 255) × IsHex VALUE_DIGITS_MAX digits value
     × (line ≡ codes "write " ++ (address_text at ++ (32 ∷ (decimal register ++ (codes " 0x" ++ digits)))))
+Spells line (Peek at) = (digits : List ℕ) × IsHex HWADDR_DIGITS_MAX digits at × (line ≡ codes "peek 0x" ++ digits)
+Spells line (Poke at value) =
+    (place digits : List ℕ) × IsHex HWADDR_DIGITS_MAX place at × IsHex VALUE_DIGITS_MAX digits value
+    × (line ≡ codes "poke 0x" ++ (place ++ (codes " 0x" ++ digits)))
 Spells line Reset = line ≡ codes "reset"
 Spells line Shutdown = line ≡ codes "shutdown"
 

@@ -25,6 +25,8 @@ pub enum GuestAnswer {
     NoLine,
     /// The machine does not run.
     NoStopped,
+    /// Nothing shows at the hardware address.
+    NoAddress,
     /// No device is at the address.
     NoDevice,
     /// The device has no removal pending.
@@ -50,6 +52,7 @@ impl fmt::Display for GuestAnswer {
             }
             GuestAnswer::NoLine => write!(f, "no line"),
             GuestAnswer::NoStopped => write!(f, "no stopped"),
+            GuestAnswer::NoAddress => write!(f, "no address"),
             GuestAnswer::NoDevice => write!(f, "no device"),
             GuestAnswer::NoPending => write!(f, "no pending"),
             GuestAnswer::NoRegister => write!(f, "no register"),

@@ -4,10 +4,10 @@ ghost use Rattle.std.specs.Prelude.{◌≡◌, [], ◌∷◌, option_copied};
 ghost use Rattle.std.specs.Result.{result_ok};
 ghost use Rattle.qo_guest.specs.Addresses.{pieces};
 ghost use Rattle.qo_guest.specs.Pieces.{pieces_after};
-ghost use Rattle.qo_guest.specs.Lines.{lone_act, pending_act, register_act, aimed_act, act_of, guest_line};
+ghost use Rattle.qo_guest.specs.Lines.{lone_act, pending_act, register_act, aimed_act, is_memory_verb, memory_act, act_of, guest_line};
 
 use crate::addresses::Addr;
-use crate::words::{read_address, read_number, read_value, split_piece};
+use crate::words::{read_address, read_hwaddr, read_number, read_value, split_piece};
 use qo_values::GUEST_LINE_MAX;
 use thiserror::Error;
 
@@ -24,6 +24,10 @@ pub enum GuestAct {
     Read(Addr, u8),
     /// Writes a register of the device.
     Write(Addr, u8, u32),
+    /// Reads the register that shows at a hardware address.
+    Peek(u64),
+    /// Writes the register that shows at a hardware address.
+    Poke(u64, u32),
     /// Resets the machine.
     Reset,
     /// Ends the run.
@@ -96,6 +100,39 @@ fn aimed_act(verb: &[u8], at: Addr, after: Option<&[u8]>) -> Option<GuestAct>
     register_act(verb, at, read_number(word)?, after)
 }
 
+/// Whether a verb takes a hardware address.
+fn is_memory_verb(verb: &[u8]) -> bool
+    ensures { result ≡ is_memory_verb verb.now }
+{
+    matches!(verb, b"peek" | b"poke")
+}
+
+/// The act of a verb with a hardware address and a value's word.
+fn poke_act(verb: &[u8], at: u64, word: &[u8]) -> Option<GuestAct>
+    ensures { result ≡ memory_act verb.now at (word.now ∷ []) }
+{
+    match verb {
+        b"poke" => Some(GuestAct::Poke(at, read_value(word)?)),
+        _ => None,
+    }
+}
+
+/// The act of a verb with a hardware address.
+fn memory_act(verb: &[u8], at: u64, after: Option<&[u8]>) -> Option<GuestAct>
+    ensures { result ≡ memory_act verb.now at (pieces_after 32 (option_copied after.entry)) }
+{
+    let Some(rest) = after else {
+        return match verb {
+            b"peek" => Some(GuestAct::Peek(at)),
+            _ => None,
+        };
+    };
+    match split_piece(rest, b' ') {
+        (word, None) => poke_act(verb, at, word),
+        (_, Some(_)) => None,
+    }
+}
+
 /// The act that the words of a line are.
 fn read_act(line: &[u8]) -> Option<GuestAct>
     ensures { result ≡ act_of (pieces 32 line.now) }
@@ -105,6 +142,9 @@ fn read_act(line: &[u8]) -> Option<GuestAct>
         return lone_act(verb);
     };
     let (word, after) = split_piece(rest, b' ');
+    if is_memory_verb(verb) {
+        return memory_act(verb, read_hwaddr(word)?, after);
+    }
     aimed_act(verb, read_address(word)?, after)
 }
 

@@ -1,13 +1,16 @@
 //! Readers of the words of a guest line.
 
-ghost use Rattle.std.specs.Prelude.{◌≡◌, ◌∷◌, ◌≤◌, ◌<◌, ◌==◌, length, position, IfSome, option_copied};
-ghost use Rattle.qo_guest.specs.Addresses.{pieces, with_digit, with_digits, number_of, steps_of, address_of, hex_digit, with_hex, value_of};
+ghost use Rattle.std.specs.Prelude.{◌≡◌, ◌∷◌, ◌≤◌, ◌<◌, ◌^◌, ◌==◌, length, position, IfSome, option_copied};
+ghost use Rattle.qo_guest.specs.Addresses.{pieces, with_digit, with_digits, number_of, steps_of, address_of, hex_digit, with_hex, hex_of, value_of, hwaddr_of};
 ghost use Rattle.qo_guest.specs.Pieces.{pieces_after};
 
 use crate::addresses::{Addr, STEPS_MAX, Steps9};
 
-/// The most digits of a value.
+/// The most hexadecimal digits of a value.
 const VALUE_DIGITS_MAX: usize = 8;
+
+/// The most hexadecimal digits of a hardware address.
+const HWADDR_DIGITS_MAX: usize = 16;
 
 /// Where the first separator stands.
 fn separator_at(bytes: &[u8], separator: u8) -> Option<usize>
@@ -87,23 +90,24 @@ pub fn read_address(word: &[u8]) -> Option<Addr>
 }
 
 /// The number that a hexadecimal digit stands for, in either case.
-fn hex_digit(byte: u8) -> Option<u32>
+fn hex_digit(byte: u8) -> Option<u64>
     ensures value { result ≡ hex_digit byte }
     ensures within { IfSome result (λ digit. digit < 16) }
 {
     match byte {
-        b'0'..=b'9' => Some(u32::from(byte - b'0')),
-        b'a'..=b'f' => Some(u32::from(byte - b'a') + 10),
-        b'A'..=b'F' => Some(u32::from(byte - b'A') + 10),
+        b'0'..=b'9' => Some(u64::from(byte - b'0')),
+        b'a'..=b'f' => Some(u64::from(byte - b'a') + 10),
+        b'A'..=b'F' => Some(u64::from(byte - b'A') + 10),
         _ => None,
     }
 }
 
-/// The number that at most eight hexadecimal digits stand for.
+/// The number that at most sixteen hexadecimal digits stand for.
 #[tactic(auto, using(crate::proofs::Hex::room_for_digit))]
-fn read_hex(digits: &[u8]) -> Option<u32>
-    requires { length digits.now ≤ VALUE_DIGITS_MAX }
-    ensures { result ≡ with_hex 0 digits.now }
+fn read_hex(digits: &[u8]) -> Option<u64>
+    requires { length digits.now ≤ HWADDR_DIGITS_MAX }
+    ensures number { result ≡ with_hex 0 digits.now }
+    ensures within { IfSome result (λ number. number < 16 ^ length digits.now) }
 {
     let mut number = 0;
     for byte in digits {
@@ -112,13 +116,28 @@ fn read_hex(digits: &[u8]) -> Option<u32>
     Some(number)
 }
 
+/// The number that a word is: `0x` and one to `most` hexadecimal digits.
+fn read_digits(word: &[u8], most: usize) -> Option<u64>
+    requires { most ≤ HWADDR_DIGITS_MAX }
+    ensures number { result ≡ hex_of most word.now }
+    ensures within { IfSome result (λ number. number < 16 ^ most) }
+{
+    match word {
+        [b'0', b'x', digits @ ..] if !digits.is_empty() && digits.len() <= most => read_hex(digits),
+        _ => None,
+    }
+}
+
 /// The value that a word is: `0x` and one to eight hexadecimal digits.
 pub fn read_value(word: &[u8]) -> Option<u32>
     ensures { result ≡ value_of word.now }
 {
-    match word {
-        [b'0', b'x', digits @ ..] if !digits.is_empty() && digits.len() <= VALUE_DIGITS_MAX =>
-            read_hex(digits),
-        _ => None,
-    }
+    Some(read_digits(word, VALUE_DIGITS_MAX)? as u32)
+}
+
+/// The hardware address that a word is: `0x` and one to sixteen hexadecimal digits.
+pub fn read_hwaddr(word: &[u8]) -> Option<u64>
+    ensures { result ≡ hwaddr_of word.now }
+{
+    read_digits(word, HWADDR_DIGITS_MAX)
 }

@@ -1,3 +1,4 @@
+pub mod ViewLemmas
 pub mod AddLemmas
 pub mod AddedLemmas
 pub mod DimmLemmas
@@ -8,6 +9,7 @@ pub mod OpeningRows
 pub mod OrderLemmas
 pub mod PlaceLemmas
 pub mod RankLemmas
+pub mod RecordsLemmas
 pub mod RegionLemmas
 pub mod ShowLemmas
 pub mod WindowLemmas

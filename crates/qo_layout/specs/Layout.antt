@@ -1,5 +1,5 @@
 -- The memory map of a board (docs/devel/memory.rst, "Types of regions", "Overlapping regions and priority"; the addresses and sizes are the profile's).
-use Rattle.std.specs.Prelude.{◌≡◌, ℕ, suc, ◌+◌, ◌-◌, ◌*◌, ◌/◌, ◌^◌, ◌<◌, Bool, ◌&&◌, ◌==◌, nat_eq, if◌then◌else◌, false, pos, negsuc, List, [], ◌∷◌, ◌++◌, map, flat_map, length, codes, Some, ◌≤◌, take}
+use Rattle.std.specs.Prelude.{◌≡◌, ℕ, suc, ◌+◌, ◌-◌, ◌*◌, ◌/◌, ◌%◌, ◌^◌, ◌<◌, Bool, ◌&&◌, ◌==◌, nat_eq, if◌then◌else◌, false, pos, negsuc, List, [], ◌∷◌, ◌++◌, map, flat_map, length, codes, Option, Some, None, option_map, ◌≤◌, take}
 use Rattle.std.specs.List.{position_or_len, range_with_len}
 use Rattle.std.specs.Option.{option_map_or}
 use Rattle.qo_values.specs.Placing.{window_size, window_start}
@@ -11,7 +11,7 @@ use Rattle.qo_model.specs.Devices.{bus_of, depth_of, first_bus, found_at, kid_at
 use Rattle.qo_model.specs.Paths.{is_of}
 use Rattle.qo_model.specs.Reset.{post}
 use Rattle.qo_memmap.specs.Answers.{IsNamed, new_rank}
-use Rattle.qo_memmap.specs.Regions.{Area, area_at, shows_at}
+use Rattle.qo_memmap.specs.Regions.{Area, Target, area_at, shows_at}
 use Rattle.qo_memmap.specs.declared.map.TheConstants.{MAX_RANK, MAX_REGIONS}
 use Rattle.qo_memmap.specs.declared.region.Kind.TheVariants.{Container, Leaf, Alias}
 use Rattle.qo_memmap.specs.declared.region.Place.{Place}
@@ -19,6 +19,8 @@ use Rattle.qo_sound_devices.specs.SoundDevices.{SoundDevices}
 use Rattle.qo_sound_claims.specs.SoundClaims.{SoundClaims}
 use Rattle.qo_sound_shapes.specs.SoundShape.{SoundShape}
 use Rattle.qo_layout.specs.declared.addresses.TheConstants.{BOOT_LEAF, BOOT_SIZE, DEVICE_REGISTERS, DEVICE_SIZE, LOW_SIZE, ROOT_SIZE, SLOTS_AT}
+use Rattle.qo_layout.specs.declared.views.RegisterPlace.{RegisterPlace}
+use Rattle.qo_layout.specs.declared.views.TheConstants.{REGISTER_SIZE}
 
 -- Numbers of regions.
 
@@ -125,6 +127,16 @@ root_region b =
 -- the regions of a board by number
 abbrev pub board_map : Board → List Area
 board_map b = map (region_of b) (mapped b) ++ boot_leaf ∷ low_alias b ∷ root_region b ∷ []
+
+-- Registers.
+
+-- the register of a leaf in which an offset is
+abbrev pub register_in : Target → RegisterPlace
+register_in t = record { device = t.leaf; register = t.offset / REGISTER_SIZE }
+
+-- the register at an address of a board; none where it is no multiple of a register's size, or where nothing shows
+abbrev pub register_at : Board → ℕ → Option RegisterPlace
+register_at b at = if at % REGISTER_SIZE == 0 then option_map register_in (shows_at (board_map b) (root_number b) at) else None
 
 -- Addresses of slots.
 

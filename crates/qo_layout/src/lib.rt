@@ -9,9 +9,11 @@ mod maps;
 mod numbering;
 mod places;
 mod regions;
+mod views;
 
 pub use addresses::{
     BOOT_LEAF, BOOT_SIZE, DEVICE_REGISTERS, DEVICE_SIZE, LOW_SIZE, MEMORY_AT, MEMORY_SIZE,
     ROOT_SIZE, SLOTS_AT,
 };
 pub use maps::{BoardMap, memory_map};
+pub use views::{REGISTER_SIZE, RegisterPlace, flat_view, register_at};

@@ -6,8 +6,8 @@ use Rattle.std.specs.Option.{option_map}
 use Rattle.qo_memmap.specs.declared.merge.Layer.{Layer}
 use Rattle.qo_memmap.specs.declared.span.Span.{Span}
 use Rattle.qo_memmap.specs.declared.region.TheConstants.{ADDRESS_LIMIT}
-use Rattle.qo_memmap.specs.Spans.{in_span, span_holding, span_shows, spans_show, goes_on, AreWhole}
-use Rattle.qo_memmap.specs.Windows.{OffsetsFit, AreSpans, spans_of, LieBetween}
+use Rattle.qo_memmap.specs.Spans.{in_span, span_holding, span_shows, spans_show, goes_on, AreWhole, OffsetsFit}
+use Rattle.qo_memmap.specs.Windows.{AreSpans, spans_of, LieBetween}
 use Rattle.qo_memmap.specs.Joins.{IsPushed}
 use Rattle.qo_memmap.proofs.SpansLemmas.{in-yes, in-before, in-behind, Stands, before, within, behind, stands, between-front, fit-front}
 

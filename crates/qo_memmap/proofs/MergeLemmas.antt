@@ -7,8 +7,8 @@ use Rattle.qo_memmap.specs.declared.merge.Order.{Order}
 use Rattle.qo_memmap.specs.declared.merge.Order.TheVariants.{ByPriority, LaterFirst}
 use Rattle.qo_memmap.specs.declared.merge.Run.{Run}
 use Rattle.qo_memmap.specs.Regions.{Seen}
-use Rattle.qo_memmap.specs.Spans.{in_span}
-use Rattle.qo_memmap.specs.Windows.{spans_of, layer_seen, layers_show, OffsetsFit, AreSpans, over_by, LieBetween}
+use Rattle.qo_memmap.specs.Spans.{in_span, OffsetsFit}
+use Rattle.qo_memmap.specs.Windows.{spans_of, layer_seen, layers_show, AreSpans, over_by, LieBetween}
 use Rattle.qo_memmap.specs.Merges.{layer_end, IsAhead, ReachesTo, HoldsSome, IsRun, IsPassed, IsMerged, IsMerging}
 use Rattle.qo_memmap.proofs.SpansLemmas.{in-yes, in-before, in-behind, Stands, before, within, behind, stands, between-le, between-higher, between-push, fit-push, spans-push, layers-before, layers-behind, push-shows}
 

@@ -6,8 +6,8 @@ use Rattle.qo_memmap.specs.declared.span.Span.{Span}
 use Rattle.qo_memmap.specs.declared.merge.Layer.{Layer}
 use Rattle.qo_memmap.specs.declared.region.TheConstants.{ADDRESS_LIMIT}
 use Rattle.qo_memmap.specs.Regions.{Target, Seen}
-use Rattle.qo_memmap.specs.Spans.{RiseFrom, AreSome, in_span, span_holding, span_shows, spans_show}
-use Rattle.qo_memmap.specs.Windows.{spans_of, layer_of, layer_seen, layers_show, OffsetsFit, LieBetween}
+use Rattle.qo_memmap.specs.Spans.{RiseFrom, AreSome, in_span, span_holding, span_shows, spans_show, OffsetsFit}
+use Rattle.qo_memmap.specs.Windows.{spans_of, layer_of, layer_seen, layers_show, LieBetween}
 
 -- whether a span holds an address
 

@@ -5,7 +5,8 @@ use Rattle.qo_memmap.specs.declared.merge.Layer.{Layer}
 use Rattle.qo_memmap.specs.declared.merge.Order.{Order}
 use Rattle.qo_memmap.specs.declared.merge.Run.{Run}
 use Rattle.qo_memmap.specs.declared.region.TheConstants.{ADDRESS_LIMIT}
-use Rattle.qo_memmap.specs.Windows.{layers_show, layer_seen, spans_of, OffsetsFit, AreSpans, over_by, LieBetween}
+use Rattle.qo_memmap.specs.Spans.{OffsetsFit}
+use Rattle.qo_memmap.specs.Windows.{layers_show, layer_seen, spans_of, AreSpans, over_by, LieBetween}
 
 abbrev pub layer_end : Layer → ℕ
 layer_end layer = layer.span.at + layer.span.size

@@ -1,6 +1,7 @@
 -- Flat views: lists of spans.
 use Rattle.std.specs.Prelude.{◌≡◌, ℕ, ◌+◌, ◌-◌, ◌≤◌, Bool, ◌&&◌, ◌==◌, false, nat_lt, nat_le, if◌then◌else◌, List, [], ◌∷◌, Option, Some, None}
 use Rattle.std.specs.Option.{option_map}
+use Rattle.qo_memmap.specs.declared.region.TheConstants.{ADDRESS_LIMIT}
 use Rattle.qo_memmap.specs.declared.span.Span.{Span}
 use Rattle.qo_memmap.specs.Regions.{Target}
 
@@ -40,6 +41,11 @@ abbrev pub AreWhole : List Span → Type 0
 AreWhole [] = Unit {0}
 AreWhole (span ∷ []) = Unit {0}
 AreWhole (span ∷ next ∷ spans) = (goes_on span next ≡ false) × AreWhole (next ∷ spans)
+
+-- what spans show of their leaves is in range, also at their ends
+abbrev pub OffsetsFit : List Span → Type 0
+OffsetsFit [] = Unit {0}
+OffsetsFit (span ∷ spans) = (span.offset + span.size ≤ ADDRESS_LIMIT) × OffsetsFit spans
 
 -- a flat view: spans that show exactly what is shown, and no more of them than are needed
 pub record IsFlat (shows : ℕ → Option Target) (spans : List Span) : Type 0 where

@@ -10,7 +10,7 @@ use Rattle.qo_memmap.specs.declared.merge.Order.{Order}
 use Rattle.qo_memmap.specs.declared.merge.Order.TheVariants.{ByPriority, LaterFirst}
 use Rattle.qo_memmap.specs.declared.window.Window.{Window}
 use Rattle.qo_memmap.specs.Regions.{Target, Seen, over, Area, area_of, area_at, names_below, is_in_range, area_rank}
-use Rattle.qo_memmap.specs.Spans.{in_span, span_shows, spans_show, AreWhole}
+use Rattle.qo_memmap.specs.Spans.{in_span, span_shows, spans_show, AreWhole, OffsetsFit}
 
 -- windows
 
@@ -75,11 +75,6 @@ layers_show (layer ∷ layers) a = if in_span layer.span a then Some (layer_seen
 abbrev pub LieBetween : ℕ → ℕ → List Span → Type 0
 LieBetween low high [] = low ≤ high
 LieBetween low high (span ∷ spans) = (low ≤ span.at) × (1 ≤ span.size) × LieBetween (span.at + span.size) high spans
-
--- the offsets of spans are in range, also at their ends
-abbrev pub OffsetsFit : List Span → Type 0
-OffsetsFit [] = Unit {0}
-OffsetsFit (span ∷ spans) = (span.offset + span.size ≤ ADDRESS_LIMIT) × OffsetsFit spans
 
 -- spans up to an address, whose offsets are in range
 pub record AreSpans (high : ℕ) (spans : List Span) : Type 0 where

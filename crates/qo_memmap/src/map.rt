@@ -3,7 +3,7 @@
 ghost use Rattle.std.specs.Prelude.{◌≡◌, ◌<◌, [], IfOk, OnOk, length, vec_len, vec_capacity};
 ghost use Rattle.qo_memmap.specs.Answers.{Added};
 ghost use Rattle.qo_memmap.specs.Regions.{area_of, shows_at};
-ghost use Rattle.qo_memmap.specs.Spans.{IsFlat};
+ghost use Rattle.qo_memmap.specs.Spans.{IsFlat, OffsetsFit};
 
 use crate::errors::MapError;
 use crate::flat::region_in;
@@ -84,10 +84,12 @@ impl Map {
     }
 
     /// The flat view of a region that is there: spans that rise and lie apart, as few as there can be,
-    /// and tell for each address the leaf that stands there, and the offset in it.
+    /// and tell for each address the leaf that stands there, and the offset in it. No offset passes the limit
+    /// on addresses, also at the end of a span.
     pub fn flat(&self, alloc: Global, root: u32) -> Result<Vec<Span>, AllocError>
         requires { root < length self.now }
-        ensures { IfOk result (λ spans. IsFlat (shows_at self.now root) spans.items) }
+        ensures view { IfOk result (λ spans. IsFlat (shows_at self.now root) spans.items) }
+        ensures fit { IfOk result (λ spans. OffsetsFit spans.items) }
     {
         let _ranks = &self.ranks;
         let root = root as usize;

@@ -2,7 +2,8 @@
 
 ghost use Rattle.std.specs.Prelude.{◌≡◌, ℕ, ◌<◌, ◌&&◌, nat_le, nat_lt, if◌then◌else◌, IfOk, OnOk, map, option_map};
 ghost use Rattle.qo_memmap.specs.Merges.{IsAhead, IsRun, IsPassed, HoldsSome, IsMerged};
-ghost use Rattle.qo_memmap.specs.Windows.{AreSpans, OffsetsFit, spans_of, layers_show, layer_of, layer_seen, over_by};
+ghost use Rattle.qo_memmap.specs.Spans.{OffsetsFit};
+ghost use Rattle.qo_memmap.specs.Windows.{AreSpans, spans_of, layers_show, layer_of, layer_seen, over_by};
 
 use crate::span::Span;
 use std::alloc::{AllocError, Global};

@@ -27,11 +27,14 @@ region_in-requires-clause-window c =
     whole-fits c.index-region.result.now
     (region-ranged c.self.inside.regions.items c.args.root c.index-region.result.now there c.index-region.ensures c.self.invariant.sound)
 
-pub returns : goal.returns
-returns c =
+pub returns-clause-view : goal.returns-clause-view
+returns-clause-view c =
     let there : c.args.root < length c.self.inside.regions.items = rw (← areas-length c.self.inside.regions.items, c.self.view_is) c.requires in
     rw (← c.self.view_is) (IfOk-weaker c.region_in.result _ _
     (λ spans shows. whole-flat c.self.inside.regions.items c.args.root c.index-region.result.now (0 + c.index-region.result.now.size) spans.items there c.index-region.ensures
     (region-taken c.self.inside.regions.items c.args.root c.index-region.result.now (whole_window c.index-region.result.now.size) (0 + c.index-region.result.now.size) spans.items
     c.self.invariant.sound there c.index-region.ensures shows))
     (rw c.deref.ensures.value at c.region_in.ensures))
+
+pub returns-clause-fit : goal.returns-clause-fit
+returns-clause-fit c = IfOk-weaker c.region_in.result _ _ (λ spans shows. shows.are.fit) c.region_in.ensures
