@@ -1,3 +1,4 @@
 pub mod HearingLemmas
 pub mod LineLemmas
+pub mod MemoryLemmas
 pub mod RefusedLineLemmas

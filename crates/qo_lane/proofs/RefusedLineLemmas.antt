@@ -4,15 +4,17 @@ use Rattle.std.proofs.lemmas.Bool.{true≢false}
 use Rattle.qo_buses.specs.Addresses.{addressed}
 use Rattle.qo_guest.specs.Lines.{guest_line}
 use Rattle.qo_guest.specs.declared.addresses.Addr.{Addr}
-use Rattle.qo_guest.specs.declared.answers.GuestAnswer.TheVariants.{NoPending, NoStopped}
+use Rattle.qo_guest.specs.declared.answers.GuestAnswer.TheVariants.{NoPending, NoRegister, NoStopped}
 use Rattle.qo_guest.specs.declared.lines.GuestAct.{GuestAct}
-use Rattle.qo_guest.specs.declared.lines.GuestAct.TheVariants.{Ack, Nack, Poll, Read, Reset, Shutdown, Write}
+use Rattle.qo_guest.specs.declared.lines.GuestAct.TheVariants.{Ack, Nack, Peek, Poke, Poll, Read, Reset, Shutdown, Write}
+use Rattle.qo_layout.specs.Layout.{register_at}
+use Rattle.qo_layout.specs.declared.views.RegisterPlace.{RegisterPlace}
 use Rattle.qo_model.specs.Board.{Board, Notice}
 use Rattle.qo_model.specs.Depth.{among}
 use Rattle.qo_model.specs.Hotplug.{completed, refused}
 use Rattle.qo_realize.specs.Guest.{first_notice}
 use Rattle.qo_realize.specs.Registers.{guest_read, guest_written}
-use Rattle.qo_lane.specs.Hearing.{Outcome, acked, acted, answered, fine, heard, heard_act, if_pending, if_written, nacked, notice_answer, read_by, value_answer, written_by}
+use Rattle.qo_lane.specs.Hearing.{Outcome, acked, acted, answered, fine, heard, heard_act, if_pending, if_written, is_memory, nacked, notice_answer, peeked, poked, read_by, value_answer, written_by}
 use Rattle.qo_lane.specs.Refusals.{RefusedLinesLaw, is_refusal}
 
 -- where it refuses it is its answer alone
@@ -54,12 +56,29 @@ write-alone : (b : Board) (reg value : ℕ) (o : Option ℕ) → Alone b (writte
 write-alone b reg value None = λ e. refl
 write-alone b reg value (Some d) = written-alone b (guest_written b d reg value)
 
+unless_memory-alone : (b : Board) (memory : Bool) (d : Outcome) → Alone b d → Alone b (if memory then answered b NoRegister else d)
+unless_memory-alone b true d alone = λ e. refl
+unless_memory-alone b false d alone = alone
+
+peek-alone : (b : Board) (o : Option RegisterPlace) → Alone b (peeked b o)
+peek-alone b None = λ e. refl
+peek-alone b (Some place) =
+    unless_memory-alone b (is_memory b place.device) (read_by b place.register (Some place.device)) (read-alone b place.register (Some place.device))
+
+poke-alone : (b : Board) (value : ℕ) (o : Option RegisterPlace) → Alone b (poked b value o)
+poke-alone b value None = λ e. refl
+poke-alone b value (Some place) =
+    unless_memory-alone b (is_memory b place.device) (written_by b place.register value (Some place.device))
+    (write-alone b place.register value (Some place.device))
+
 acted-alone : (b : Board) (act : GuestAct) → Alone b (acted b act)
 acted-alone b (Ack at) = acked-alone b (addressed b at)
 acted-alone b (Nack at) = nacked-alone b (addressed b at)
 acted-alone b Poll = λ e. absurd (true≢false (sym e ∙ told-no_refusal b (first_notice b)))
 acted-alone b (Read at reg) = read-alone b reg (addressed b at)
 acted-alone b (Write at reg value) = write-alone b reg value (addressed b at)
+acted-alone b (Peek at) = peek-alone b (register_at b at)
+acted-alone b (Poke at value) = poke-alone b value (register_at b at)
 acted-alone b Reset = λ e. absurd (true≢false (sym e))
 acted-alone b Shutdown = λ e. absurd (true≢false (sym e))
 

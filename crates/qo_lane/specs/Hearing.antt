@@ -1,13 +1,16 @@
 -- What a line of the guest does to the board, and what it is answered (docs/PROFILE.md, guest lines).
-use Rattle.std.specs.Prelude.{◌≡◌, ℕ, Bool, true, false, if◌then◌else◌, List, [], ◌∷◌, option_to_list, Option, Some, None}
+use Rattle.std.specs.Prelude.{◌≡◌, ℕ, Bool, true, false, if◌then◌else◌, List, [], ◌∷◌, codes, option_to_list, Option, Some, None}
 use Rattle.qo_guest.specs.Lines.{guest_line}
 use Rattle.qo_guest.specs.declared.answers.GuestAnswer.{GuestAnswer}
-use Rattle.qo_guest.specs.declared.answers.GuestAnswer.TheVariants.{Fine, Plug, Unplug, NoNotice, Value, NoLine, NoStopped, NoDevice, NoPending, NoRegister}
+use Rattle.qo_guest.specs.declared.answers.GuestAnswer.TheVariants.{Fine, Plug, Unplug, NoNotice, Value, NoLine, NoStopped, NoAddress, NoDevice, NoPending, NoRegister}
 use Rattle.qo_guest.specs.declared.lines.GuestAct.{GuestAct}
-use Rattle.qo_guest.specs.declared.lines.GuestAct.TheVariants.{Ack, Nack, Poll, Read, Write, Reset as start_over, Shutdown as power_off}
+use Rattle.qo_guest.specs.declared.lines.GuestAct.TheVariants.{Ack, Nack, Poll, Read, Write, Peek, Poke, Reset as start_over, Shutdown as power_off}
 use Rattle.qo_model.specs.Board.{Board, Notice}
 use Rattle.qo_model.specs.Depth.{among}
 use Rattle.qo_model.specs.Hotplug.{completed, refused, reset_whole}
+use Rattle.qo_model.specs.Paths.{is_of}
+use Rattle.qo_layout.specs.Layout.{register_at}
+use Rattle.qo_layout.specs.declared.views.RegisterPlace.{RegisterPlace}
 use Rattle.qo_buses.specs.Addresses.{addressed}
 use Rattle.qo_replies.specs.declared.events.Event.{Event}
 use Rattle.qo_replies.specs.declared.events.Event.TheVariants.{Reset, Shutdown}
@@ -72,6 +75,21 @@ abbrev pub written_by : Board → ℕ → ℕ → Option ℕ → Outcome
 written_by b reg value None = answered b NoDevice
 written_by b reg value (Some d) = if_written b (guest_written b d reg value)
 
+-- memory has no registers, whatever those are that say where it stands
+abbrev pub is_memory : Board → ℕ → Bool
+is_memory b d = is_of b (codes "mem-dimm") d
+
+-- it reads the register that shows at a hardware address, if one does
+abbrev pub peeked : Board → Option RegisterPlace → Outcome
+peeked b None = answered b NoAddress
+peeked b (Some place) = if is_memory b place.device then answered b NoRegister else read_by b place.register (Some place.device)
+
+-- or writes it
+abbrev pub poked : Board → ℕ → Option RegisterPlace → Outcome
+poked b value None = answered b NoAddress
+poked b value (Some place) =
+    if is_memory b place.device then answered b NoRegister else written_by b place.register value (Some place.device)
+
 -- it resets the whole board, and sessions are told that it did
 abbrev pub reset_by : Board → Outcome
 reset_by b = record { answer = Fine; board = reset_whole b; events = Reset true ∷ []; ends = false }
@@ -87,6 +105,8 @@ acted b (Nack at) = nacked b (addressed b at)
 acted b Poll = polled_by b
 acted b (Read at reg) = read_by b reg (addressed b at)
 acted b (Write at reg value) = written_by b reg value (addressed b at)
+acted b (Peek at) = peeked b (register_at b at)
+acted b (Poke at value) = poked b value (register_at b at)
 acted b start_over = reset_by b
 acted b power_off = shut_down b
 

@@ -1,3 +1,4 @@
 pub mod Hearing
 pub mod Lines
+pub mod Memory
 pub mod Refusals

@@ -1,13 +1,15 @@
 //! One line of the guest.
 
-ghost use Rattle.std.specs.Prelude.{◌≡◌, false, IfOk, None, OnErr, option_map};
+ghost use Rattle.std.specs.Prelude.{◌≡◌, false, IfOk, None, OnErr, Some, option_map};
+ghost use Rattle.qo_table.specs.Rows.{IsLive};
 ghost use Rattle.qo_model.specs.Board.{Board as Tree};
 ghost use Rattle.qo_realize.specs.Representation.{Stands};
 ghost use Rattle.qo_buses.specs.Addresses.{addressed};
 ghost use Rattle.qo_lane.specs.Hearing.{Came, acked, acted, heard, nacked, outcome_of, polled_by, read_by, reset_by, shut_down, notice_answer, value_answer, written_by};
 
+use crate::memory::{peek, poke};
 use qo_guest::{Addr, GuestAct, GuestAnswer, read_line};
-use qo_heap::Steps;
+use qo_heap::{Oid, Steps};
 use qo_hotplug::Notice;
 use qo_realize::Board;
 use qo_replies::Event;
@@ -26,7 +28,7 @@ pub struct Heard {
 }
 
 /// An answer, and nothing else.
-fn answered(answer: GuestAnswer) -> Heard
+pub(crate) fn answered(answer: GuestAnswer) -> Heard
     ensures { result ≡ record { answer = answer; event = None; ends = false } }
 {
     Heard {
@@ -108,6 +110,36 @@ fn value_answer(value: Option<u32>) -> GuestAnswer
     }
 }
 
+/// The guest reads a register of a device. It takes no memory.
+pub(crate) fn read_register<L: Ledger>(
+    board: &Board,
+    dev: Oid,
+    reg: u8,
+    steps: &mut Steps<L>,
+) -> Heard
+    requires { IsLive board.now.objects.rows dev }
+    ensures { (b : Tree) → Stands b board.now → outcome_of b result ≡ read_by b reg (Some dev.birth) }
+{
+    answered(value_answer(board.guest_read(dev, reg, steps)))
+}
+
+/// The guest writes to a register of a device. It takes no memory.
+pub(crate) fn write_register<L: Ledger>(
+    board: &mut Board,
+    dev: Oid,
+    reg: u8,
+    value: u32,
+    steps: &mut Steps<L>,
+) -> Heard
+    requires { IsLive board.old.objects.rows dev }
+    ensures { (b : Tree) → Stands b board.old → Came (written_by b reg value (Some dev.birth)) result board.new }
+{
+    match board.guest_write(dev, reg, value, steps) {
+        Some(()) => answered(GuestAnswer::Fine),
+        None => answered(GuestAnswer::NoRegister),
+    }
+}
+
 /// The guest reads a register of the device at an address. It takes no memory.
 fn read<L: Ledger>(board: &Board, at: &Addr, reg: u8, steps: &mut Steps<L>) -> Heard
     ensures { (b : Tree) → Stands b board.now → outcome_of b result ≡ read_by b reg (addressed b at.now) }
@@ -115,7 +147,7 @@ fn read<L: Ledger>(board: &Board, at: &Addr, reg: u8, steps: &mut Steps<L>) -> H
     let Some(dev) = board.guest_find(at, steps) else {
         return answered(GuestAnswer::NoDevice);
     };
-    answered(value_answer(board.guest_read(dev, reg, steps)))
+    read_register(board, dev, reg, steps)
 }
 
 /// The guest writes to a register of the device at an address. It takes no memory.
@@ -131,10 +163,7 @@ fn write<L: Ledger>(
     let Some(dev) = board.guest_find(at, steps) else {
         return answered(GuestAnswer::NoDevice);
     };
-    match board.guest_write(dev, reg, value, steps) {
-        Some(()) => answered(GuestAnswer::Fine),
-        None => answered(GuestAnswer::NoRegister),
-    }
+    write_register(board, dev, reg, value, steps)
 }
 
 /// The guest resets the whole board. It takes no memory.
@@ -177,6 +206,8 @@ fn act<L: Ledger>(
         GuestAct::Poll => Ok(poll(board, steps)),
         GuestAct::Read(at, reg) => Ok(read(board, at, *reg, steps)),
         GuestAct::Write(at, reg, value) => Ok(write(board, at, *reg, *value, steps)),
+        GuestAct::Peek(at) => peek(board, *at, alloc, steps),
+        GuestAct::Poke(at, value) => poke(board, *at, *value, alloc, steps),
         GuestAct::Reset => Ok(reset(board, steps)),
         GuestAct::Shutdown => Ok(shut_down()),
     }
@@ -184,8 +215,8 @@ fn act<L: Ledger>(
 
 /// What one line of the guest does, without its line end, and what it is answered: `no line` where it
 /// is none, `no stopped` where the machine does not run, `no device` where none is at its address, `no
-/// pending` where no removal of that one is pending, and `no register` where that one has none of its
-/// number. Events on devices wait on the board after it. The error is want of memory, and leaves the
+/// pending` where no removal of that one is pending, `no address` where no register shows at its hardware
+/// address, and `no register` where the device has none of its number. Events on devices wait on the board after it. The error is want of memory, and leaves the
 /// board as it was.
 pub fn hear<L: Ledger>(
     board: &mut Board,

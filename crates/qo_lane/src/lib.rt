@@ -5,6 +5,7 @@
 mod hearing;
 pub mod laws;
 mod lines;
+mod memory;
 
 pub use hearing::{Heard, hear};
 pub use lines::{cut_lines, without_return};

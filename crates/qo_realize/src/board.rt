@@ -131,6 +131,13 @@ impl Board {
         let _heap = &self.heap;
     }
 
+    /// The heap, which has the board's objects. It takes no memory.
+    pub fn heap(&self) -> &Heap
+        ensures { result.now ≡ self.now.objects }
+    {
+        &self.heap
+    }
+
     /// Whether the machine runs.
     pub fn running(&self) -> bool
         ensures { (b : model.Board) → Stands b self.now → result ≡ b.running }
