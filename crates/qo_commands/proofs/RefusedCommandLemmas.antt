@@ -12,7 +12,7 @@ use Rattle.qo_values.specs.declared.limits.TheConstants.{TIME_MAX}
 use Rattle.qo_chardev.specs.Texts.{told as text_told}
 use Rattle.qo_values.specs.Rings.{ring_oldest}
 use Rattle.qo_guest.specs.declared.answers.GuestAnswer.{GuestAnswer}
-use Rattle.qo_guest.specs.declared.answers.GuestAnswer.TheVariants.{Fine, NoDevice, NoLine, NoMemory, NoNotice, NoPending, NoRegister, NoStopped, Plug, Unplug, Value}
+use Rattle.qo_guest.specs.declared.answers.GuestAnswer.TheVariants.{Fine, NoAddress, NoDevice, NoLine, NoMemory, NoNotice, NoPending, NoRegister, NoStopped, Plug, Unplug, Value}
 use Rattle.qo_lane.specs.Hearing.{Outcome, answered as line_answered, heard}
 use Rattle.qo_lane.specs.Refusals.{is_refusal}
 use Rattle.qo_lane.proofs.RefusedLineLemmas.{refused_lines_lem}
@@ -182,6 +182,7 @@ line-leaves b d alone code e = go d.answer refl e
     go NoNotice is p = absurd (let clash : Ok _ ≡ Err code = p in cc)
     go (Value v) is p = absurd (let clash : Ok _ ≡ Err code = p in cc)
     go NoStopped is p = absurd (let clash : Ok _ ≡ Err code = p in cc)
+    go NoAddress is p = absurd (let clash : Ok _ ≡ Err code = p in cc)
     go NoDevice is p = absurd (let clash : Ok _ ≡ Err code = p in cc)
     go NoPending is p = absurd (let clash : Ok _ ≡ Err code = p in cc)
     go NoRegister is p = absurd (let clash : Ok _ ≡ Err code = p in cc)
