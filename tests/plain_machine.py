@@ -23,6 +23,10 @@ LAST_TIME = 2**63 - 1
 PAGE = 4096
 WINDOW_START = 2**32
 WINDOW_END = 2**32 + 2**36
+BOOT_SIZE = 2**16  # of the region at the hardware address 0
+LOW_SIZE = 2**31  # of the low addresses, at which the window shows too
+SLOTS_AT = 2**44  # where the slots of the root bus begin, and the size of one
+DEVICE_SIZE = 2**12  # of what shows of a device in a slot
 SYSTEM_PERIOD = 42_949_672_960
 PERIOD_UNIT = 2**32
 MOST_OBJECTS = 4096
@@ -1082,6 +1086,48 @@ class DeviceTree(ResetTree):
                 return None
         return device
 
+    def kid_in(self, bus, slot):
+        """The device in a slot of a bus, or None."""
+        return next((it for it in map(self.objects.get, self.kids(bus)) if it.value("slot") == slot), None)
+
+    def shown_at(self, address):
+        """What shows at a hardware address: a device, or None for the boot region, and the offset. None where nothing does."""
+        if address < BOOT_SIZE:
+            return None, address
+        if SLOTS_AT <= address < SLOTS_AT + 8 * SLOTS_AT:
+            return self.shown_in_slots(address - SLOTS_AT)
+        return self.shown_in_memory(address + WINDOW_START if address < LOW_SIZE else address)
+
+    def shown_in_memory(self, address):
+        """The DIMM that shows at an address, and the offset in it."""
+        for dimm in map(self.objects.get, self.kids(MEMORY_BUS)):
+            start, size = self.range_of(dimm)
+            if start <= address < start + size:
+                return dimm, address - start
+        return None
+
+    def shown_in_slots(self, offset):
+        """The device that shows at an offset of the slots of the root bus, and the offset in it."""
+        bus, size = ROOT_BUS, SLOTS_AT
+        while True:
+            slot, offset = divmod(offset, size)
+            device = self.kid_in(bus, slot)
+            if device is None or offset < DEVICE_SIZE:
+                return device and (device, offset)
+            below = device.slot("bus.0")
+            if below is None or offset < size // 2:
+                return None
+            bus, offset, size = below.target, offset - size // 2, size // 16
+
+    def hardware_address(self, device):
+        """The hardware address at which a device that stands begins."""
+        if device.type == "mem-dimm":
+            return self.range_of(device)[0]
+        begin, size = SLOTS_AT, SLOTS_AT
+        for above in reversed(self.bridges_above(device.slot("parent_bus").target)):
+            begin, size = begin + above.value("slot") * size + size // 2, size // 16
+        return begin + device.value("slot") * size
+
     def address(self, device):
         """The address of a device that stands."""
         bus = device.slot("parent_bus").target
@@ -1227,6 +1273,7 @@ GUEST_LINE = re.compile(
     rf"(?P<alone>poll|reset|shutdown)|(?P<reply>ack|nack) (?P<device>{ADDRESS})"
     rf"|read (?P<read>{ADDRESS}) (?P<register>{SMALL})"
     rf"|write (?P<write>{ADDRESS}) (?P<target>{SMALL}) 0x(?P<value>[0-9a-fA-F]{{1,8}})"
+    r"|peek 0x(?P<peek>[0-9a-fA-F]{1,16})|poke 0x(?P<poke>[0-9a-fA-F]{1,16}) 0x(?P<poked>[0-9a-fA-F]{1,8})"
 )
 
 
@@ -1406,18 +1453,34 @@ class Machine:
             return "no stopped"
         if "alone" in parts:
             return self.answer_alone(parts["alone"])
+        if "peek" in parts or "poke" in parts:
+            return self.answer_memory(parts)
         device = self.board.device_at(parts.get("device") or parts.get("read") or parts.get("write"))
         if device is None:
             return "no device"
         if "reply" in parts:
             return self.answer_reply(parts["reply"], device)
+        return self.answer_register(device, int(parts.get("register") or parts.get("target")), parts.get("value"))
+
+    def answer_memory(self, parts):
+        """Answers a read or a write at a hardware address."""
+        address = int(parts.get("peek") or parts.get("poke"), 16)
+        shown = self.board.shown_at(address) if address % 4 == 0 else None
+        if shown is None:
+            return "no address"
+        device, offset = shown
+        if device is None or device.type == "mem-dimm":
+            return "no register"
+        return self.answer_register(device, offset // 4, parts.get("poked"))
+
+    def answer_register(self, device, register, value):
+        """Answers a read of a register, or a write of a value."""
         registers = device.body.registers(self.board, device)
-        register = int(parts.get("register") or parts.get("target"))
         if register >= len(registers):
             return "no register"
-        if "read" in parts:
+        if value is None:
             return f"ok 0x{registers[register]:08x}"
-        device.body.write(self.board, device, register, int(parts["value"], 16))
+        device.body.write(self.board, device, register, int(value, 16))
         return "ok"
 
     def answer_alone(self, word):

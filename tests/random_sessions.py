@@ -38,8 +38,9 @@ WRITTEN = ["0x0", "0x1", "0x1", "0x2", "0x41", "0x7f", "0xff", "0x63", "0xFFFFFF
 PRINTED = [0x41, 0x62, 0x7F, 0x80, 0xFF, 0x1F, 0, 0x22, 0x5C, 10, 8]
 NO_LINES = [
     "ack", "poll ", " poll", "ack  0", "read 0", "read 0 00", "write 0 0 1", "write 0 0 0x", "write 0 0 0x123456789",
-    "POLL", "irq", "ack 0 0", "x" * 300, "ack m00", "ack 256", "nack 0..0", "ack 0.0.0.0.0.0.0.0.0.0", "read m0.0 0",
+    "POLL", "irq", "peek", "peek 0", "peek 0x", "peek 0x0 0x0", "poke 0x0", "poke 0x0 1", "peek 0x00000000000000000", "ack 0 0", "x" * 300, "ack m00", "ack 256", "nack 0..0", "ack 0.0.0.0.0.0.0.0.0.0", "read m0.0 0",
 ]
+HARDWARE_ADDRESSES = [0, 65532, 65536, 65540, 2**31 - 4, 2**31, 2**32, 2**32 + 4096, 2**44 - 4, 2**44, 2**47 + 2**44, 2**48, 2**64 - 4]
 ADDRESSES = ["0", "1", "7", "m0", "m1", "0.0", "0.1", "1.0", "8", "m8", "255", "0.0.0", "0.0.0.0.0.0.0.0.0"]
 ODD_MESSAGES = [{}, {"execute": 1}, {"execute": "stop", "x": 1}, {"execute": "stop", "arguments": 1}]
 ODD_COMMANDS = [
@@ -275,7 +276,9 @@ class Maker:
         if self.board.pending and self.chance(0.3):
             waiting = self.board.objects[self.draw.choice(self.board.pending)]
             return f"{self.draw.choice(['ack', 'ack', 'nack'])} {self.board.address(waiting)}"
-        word = self.draw.choices(["poll", "ack", "nack", "read", "write", "reset", ""], [22, 8, 4, 15, 22, 3, 4])[0]
+        word = self.draw.choices(
+            ["poll", "ack", "nack", "read", "write", "peek", "poke", "reset", ""], [22, 8, 4, 15, 22, 8, 8, 3, 4]
+        )[0]
         if word in ("poll", "reset"):
             return word
         if word in ("ack", "nack"):
@@ -284,7 +287,19 @@ class Maker:
             return f"read {self.address()} {self.draw.choice([0, 0, 1, 2, 3, 4, 5, 6, 255])}"
         if word == "write":
             return f"write {self.address()} {self.draw.choice([0, 0, 0, 1, 2, 3, 4, 6])} {self.draw.choice(WRITTEN)}"
+        if word == "peek":
+            return f"peek 0x{self.hardware_address():x}"
+        if word == "poke":
+            return f"poke 0x{self.hardware_address():X} {self.draw.choice(WRITTEN)}"
         return self.draw.choice(NO_LINES)
+
+    def hardware_address(self):
+        """A hardware address, mostly of a register of a device."""
+        devices = self.devices()
+        if devices and self.chance(0.8):
+            begin = self.board.hardware_address(self.draw.choice(devices))
+            return begin + self.draw.choice([0, 0, 4, 8, 12, 16, 20, 2, 1020, 1024, 4092, 4096])
+        return self.draw.choice(HARDWARE_ADDRESSES)
 
     def add_object(self):
         """Adds a user's object."""
