@@ -103,7 +103,7 @@ memory_taken verb word (given ∷ []) act e =
       place.1,
       value.1,
       ap (λ (front : List ℕ). line front word given) ((bytes_eq-Decides verb (codes "poke")).0 poke.0)
-      ∙ (ap (λ (middle : List ℕ). line (codes "poke") middle given) place.2 ∙ ap (line (codes "poke") (codes "0x" ++ place.0)) value.2),
+          ∙ (ap (λ (middle : List ℕ). line (codes "poke") middle given) place.2 ∙ ap (line (codes "poke") (codes "0x" ++ place.0)) value.2),
     )
 memory_taken verb word (given ∷ next ∷ words) act e =
     let read = then_some (hwaddr_of word) (λ at. memory_act verb at (given ∷ next ∷ words)) act e in
