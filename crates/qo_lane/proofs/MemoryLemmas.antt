@@ -16,21 +16,21 @@ use Rattle.qo_object.specs.BoardObject.{shown}
 use Rattle.qo_layout.specs.declared.views.RegisterPlace.{RegisterPlace}
 use Rattle.qo_realize.specs.Registers.{after_effect, guest_read, guest_written, registers_at, registers_written}
 use Rattle.qo_sound_clocks.specs.RegisterWrites.{registers_set}
-use Rattle.qo_lane.specs.Hearing.{Outcome, answered, if_written, is_memory, peeked, poked, read_by, value_answer, written_by}
+use Rattle.qo_lane.specs.Hearing.{Outcome, answered, has_registers, if_written, peeked, poked, read_by, value_answer, written_by}
 use Rattle.qo_lane.specs.Memory.{HasNoRegister}
 
--- in memory or not
-either : (b : Board) (memory : Bool) (d : Outcome) → d ≡ answered b NoRegister → cond memory (answered b NoRegister) d ≡ answered b NoRegister
-either b true d is = refl
-either b false d is = is
+-- with registers or not
+either : (b : Board) (has : Bool) (d : Outcome) → d ≡ answered b NoRegister → cond has d (answered b NoRegister) ≡ answered b NoRegister
+either b true d is = is
+either b false d is = refl
 
 absent : (b : Board) (place : RegisterPlace) → guest_read b place.device place.register ≡ None
     → ((value : ℕ) → registers_written b place.device place.register value ≡ None) → HasNoRegister b place
 absent b place read written = record {
-  read = either b (is_memory b place.device) (read_by b place.register (Some place.device)) (ap (λ (o : Option ℕ). answered b (value_answer o)) read);
+  read = either b (has_registers b place.device) (read_by b place.register (Some place.device)) (ap (λ (o : Option ℕ). answered b (value_answer o)) read);
   written =
       λ value.
-      either b (is_memory b place.device) (written_by b place.register value (Some place.device))
+      either b (has_registers b place.device) (written_by b place.register value (Some place.device))
       (ap
       (λ (o : Option (Registers × Effect)).
       if_written b (option_map (λ (w : Registers × Effect). after_effect place.device w.1 (registers_set b place.device w.0)) o)) (written value));

@@ -14,7 +14,7 @@ use Rattle.qo_model.specs.Depth.{among}
 use Rattle.qo_model.specs.Hotplug.{completed, refused}
 use Rattle.qo_realize.specs.Guest.{first_notice}
 use Rattle.qo_realize.specs.Registers.{guest_read, guest_written}
-use Rattle.qo_lane.specs.Hearing.{Outcome, acked, acted, answered, fine, heard, heard_act, if_pending, if_written, is_memory, nacked, notice_answer, peeked, poked, read_by, value_answer, written_by}
+use Rattle.qo_lane.specs.Hearing.{Outcome, acked, acted, answered, fine, heard, heard_act, if_pending, has_registers, if_written, nacked, notice_answer, peeked, poked, read_by, value_answer, written_by}
 use Rattle.qo_lane.specs.Refusals.{RefusedLinesLaw, is_refusal}
 
 -- where it refuses it is its answer alone
@@ -56,19 +56,19 @@ write-alone : (b : Board) (reg value : ℕ) (o : Option ℕ) → Alone b (writte
 write-alone b reg value None = λ e. refl
 write-alone b reg value (Some d) = written-alone b (guest_written b d reg value)
 
-unless_memory-alone : (b : Board) (memory : Bool) (d : Outcome) → Alone b d → Alone b (if memory then answered b NoRegister else d)
-unless_memory-alone b true d alone = λ e. refl
-unless_memory-alone b false d alone = alone
+where_registers-alone : (b : Board) (has : Bool) (d : Outcome) → Alone b d → Alone b (if has then d else answered b NoRegister)
+where_registers-alone b true d alone = alone
+where_registers-alone b false d alone = λ e. refl
 
 peek-alone : (b : Board) (o : Option RegisterPlace) → Alone b (peeked b o)
 peek-alone b None = λ e. refl
 peek-alone b (Some place) =
-    unless_memory-alone b (is_memory b place.device) (read_by b place.register (Some place.device)) (read-alone b place.register (Some place.device))
+    where_registers-alone b (has_registers b place.device) (read_by b place.register (Some place.device)) (read-alone b place.register (Some place.device))
 
 poke-alone : (b : Board) (value : ℕ) (o : Option RegisterPlace) → Alone b (poked b value o)
 poke-alone b value None = λ e. refl
 poke-alone b value (Some place) =
-    unless_memory-alone b (is_memory b place.device) (written_by b place.register value (Some place.device))
+    where_registers-alone b (has_registers b place.device) (written_by b place.register value (Some place.device))
     (write-alone b place.register value (Some place.device))
 
 acted-alone : (b : Board) (act : GuestAct) → Alone b (acted b act)

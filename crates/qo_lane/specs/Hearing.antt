@@ -1,5 +1,5 @@
 -- What a line of the guest does to the board, and what it is answered (docs/PROFILE.md, guest lines).
-use Rattle.std.specs.Prelude.{◌≡◌, ℕ, Bool, true, false, if◌then◌else◌, List, [], ◌∷◌, codes, option_to_list, Option, Some, None}
+use Rattle.std.specs.Prelude.{◌≡◌, ℕ, Bool, true, false, not, ◌||◌, ◌==◌, if◌then◌else◌, List, [], ◌∷◌, codes, option_to_list, Option, Some, None}
 use Rattle.qo_guest.specs.Lines.{guest_line}
 use Rattle.qo_guest.specs.declared.answers.GuestAnswer.{GuestAnswer}
 use Rattle.qo_guest.specs.declared.answers.GuestAnswer.TheVariants.{Fine, Plug, Unplug, NoNotice, Value, NoLine, NoStopped, NoAddress, NoDevice, NoPending, NoRegister}
@@ -10,6 +10,7 @@ use Rattle.qo_model.specs.Depth.{among}
 use Rattle.qo_model.specs.Hotplug.{completed, refused, reset_whole}
 use Rattle.qo_model.specs.Paths.{is_of}
 use Rattle.qo_layout.specs.Layout.{register_at}
+use Rattle.qo_layout.specs.declared.addresses.TheConstants.{BOOT_LEAF}
 use Rattle.qo_layout.specs.declared.views.RegisterPlace.{RegisterPlace}
 use Rattle.qo_buses.specs.Addresses.{addressed}
 use Rattle.qo_replies.specs.declared.events.Event.{Event}
@@ -75,20 +76,20 @@ abbrev pub written_by : Board → ℕ → ℕ → Option ℕ → Outcome
 written_by b reg value None = answered b NoDevice
 written_by b reg value (Some d) = if_written b (guest_written b d reg value)
 
--- memory has no registers, whatever those are that say where it stands
-abbrev pub is_memory : Board → ℕ → Bool
-is_memory b d = is_of b (codes "mem-dimm") d
+-- neither what a board boots from nor memory has registers, whatever those are that say where a DIMM stands
+abbrev pub has_registers : Board → ℕ → Bool
+has_registers b d = not (d == BOOT_LEAF || is_of b (codes "mem-dimm") d)
 
 -- it reads the register that shows at a hardware address, if one does
 abbrev pub peeked : Board → Option RegisterPlace → Outcome
 peeked b None = answered b NoAddress
-peeked b (Some place) = if is_memory b place.device then answered b NoRegister else read_by b place.register (Some place.device)
+peeked b (Some place) = if has_registers b place.device then read_by b place.register (Some place.device) else answered b NoRegister
 
 -- or writes it
 abbrev pub poked : Board → ℕ → Option RegisterPlace → Outcome
 poked b value None = answered b NoAddress
 poked b value (Some place) =
-    if is_memory b place.device then answered b NoRegister else written_by b place.register value (Some place.device)
+    if has_registers b place.device then written_by b place.register value (Some place.device) else answered b NoRegister
 
 -- it resets the whole board, and sessions are told that it did
 abbrev pub reset_by : Board → Outcome

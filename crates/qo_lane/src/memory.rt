@@ -1,19 +1,19 @@
 //! Registers by their hardware address (docs/devel/memory.rst; the addresses are the profile's).
 
-ghost use Rattle.std.specs.Prelude.{◌≡◌, false, IfNone, IfOk, IfSome, OnErr};
+ghost use Rattle.std.specs.Prelude.{◌≡◌, true, IfNone, IfOk, IfSome, OnErr};
 ghost use Rattle.qo_table.specs.Rows.{IsLive};
 ghost use Rattle.qo_model.specs.Board.{Board as Tree};
 ghost use Rattle.qo_guest.specs.declared.answers.GuestAnswer.TheVariants.{NoRegister};
 ghost use Rattle.qo_realize.specs.Representation.{Stands};
 ghost use Rattle.qo_layout.specs.Layout.{register_at};
-ghost use Rattle.qo_lane.specs.Hearing.{Came, answered, is_memory, outcome_of, peeked, poked};
+ghost use Rattle.qo_lane.specs.Hearing.{Came, answered, has_registers, outcome_of, peeked, poked};
 ghost use Rattle.qo_lane.specs.Memory.{HasNoRegister};
 
 use crate::hearing::{Heard, answered, read_register, write_register};
 use qo_buses::is_of;
 use qo_guest::GuestAnswer;
 use qo_heap::{Oid, Steps};
-use qo_layout::{RegisterPlace, register_at};
+use qo_layout::{BOOT_LEAF, RegisterPlace, register_at};
 use qo_realize::Board;
 use std::alloc::{AllocError, Global};
 use std::sync::ledger::Ledger;
@@ -38,9 +38,12 @@ fn shown_at<L: Ledger>(
 /// The device of a place, if it has registers that show: the boot region is no device, and memory has none.
 fn device_of<L: Ledger>(board: &Board, place: RegisterPlace, steps: &mut Steps<L>) -> Option<Oid>
     ensures live { IfSome result (IsLive board.now.objects.rows) }
-    ensures same { (b : Tree) → Stands b board.now → IfSome result (λ dev. (dev.birth ≡ place.device) × (is_memory b place.device ≡ false)) }
+    ensures same { (b : Tree) → Stands b board.now → IfSome result (λ dev. (dev.birth ≡ place.device) × (has_registers b place.device ≡ true)) }
     ensures none { (b : Tree) → Stands b board.now → IfNone result (HasNoRegister b place) }
 {
+    if place.device == BOOT_LEAF {
+        return None;
+    }
     let dev = board.heap().by_birth(place.device)?;
     if is_of(board.heap(), dev, "mem-dimm", steps) {
         return None;
@@ -55,7 +58,7 @@ fn register_of<L: Ledger>(
     steps: &mut Steps<L>,
 ) -> Option<(Oid, u8)>
     ensures live { IfSome result (λ r. IsLive board.now.objects.rows r.0) }
-    ensures same { (b : Tree) → Stands b board.now → IfSome result (λ r. (r.0.birth ≡ place.device) × (r.1 ≡ place.register) × (is_memory b place.device ≡ false)) }
+    ensures same { (b : Tree) → Stands b board.now → IfSome result (λ r. (r.0.birth ≡ place.device) × (r.1 ≡ place.register) × (has_registers b place.device ≡ true)) }
     ensures none { (b : Tree) → Stands b board.now → IfNone result (HasNoRegister b place) }
 {
     let number = u8::try_from(place.register).ok()?;

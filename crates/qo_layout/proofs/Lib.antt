@@ -12,4 +12,5 @@ pub mod RankLemmas
 pub mod RecordsLemmas
 pub mod RegionLemmas
 pub mod ShowLemmas
+pub mod ShownLemmas
 pub mod WindowLemmas

@@ -22,7 +22,7 @@ board_kept =
       completed = λ b at d is pending h. completed-good b d pending h;
       refused = λ b d h. refused-good b d h;
       polled = λ b h. polled-good b h;
-      written = λ b at d reg value c there is h. written-good b d reg value c is h;
+      written = λ b d reg value c there is h. written-good b d reg value c is h;
       rings =
           record {
             added = λ b id kind size free h. ringed-good b _ (added_backends b id kind size free h.backends) h;

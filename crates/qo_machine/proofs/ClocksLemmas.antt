@@ -23,7 +23,7 @@ run_kept =
       completed = λ b at d is pending h. completed-run b d pending h;
       refused = λ b d h. refused-run b d h;
       polled = λ b h. polled-run b h;
-      written = λ b at d reg value c there is h.
+      written = λ b d reg value c there is h.
           written-all SoundRun b d reg value (λ registers e so. registers-run b d reg value registers e so h)
           (λ x n id q. ringed-run x (pushed n x id).rings q) (λ x m on q. pulsed-run x m q) c is;
       rings = any-rings SoundRun (λ b rings h. ringed-run b rings h);

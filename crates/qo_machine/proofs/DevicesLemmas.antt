@@ -33,7 +33,7 @@ devices_kept =
       completed = λ b at d is pending h. completed-devices b d pending h;
       refused = λ b d h. devices_kept_lem.refused_by b d h;
       polled = λ b h. polled-devices b h;
-      written = λ b at d reg value c there is h.
+      written = λ b d reg value c there is h.
           written-all SoundDevices b d reg value (λ registers e so. registers_kept_lem.devices b d registers h)
           (λ x n id q. ringed-devices x (pushed n x id).rings q) (λ x m on q. devices_kept_lem.pulsed x m q) c is;
       rings = any-rings SoundDevices (λ b rings h. ringed-devices b rings h);

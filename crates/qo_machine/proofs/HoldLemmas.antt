@@ -37,8 +37,8 @@ held_kept =
       );
       refused = λ b d h. (phases_kept.refused b d h.0, holds_kept_lem.refused_by b d h.1);
       polled = λ b h. (phases_kept.polled b h.0, holds_kept_lem.beside b (polled b) refl refl h.1);
-      written = λ b at d reg value c there is h. (
-        phases_kept.written b at d reg value c there is h.0,
+      written = λ b d reg value c there is h. (
+        phases_kept.written b d reg value c there is h.0,
         written-all SoundHolds b d reg value (λ registers e so. holds_kept_lem.registers b d registers h.1)
             (λ x n id q. holds_kept_lem.beside x (pushed n x id) refl refl q) (λ x m on q. holds_kept_lem.pulsed x m q) c is,
       );

@@ -75,7 +75,7 @@ notes_kept =
           λ b at d is pending o. (devices_kept.completed b at d is pending o.0, notes_kept_lem.detached b d o.0.tree (address-there b o.0.tree at d is) o.1);
       refused = λ b d o. (devices_kept.refused b d o.0, notes_kept_lem.refused_by b d o.1);
       polled = λ b o. (devices_kept.polled b o.0, notes_kept_lem.beside b (polled b) refl refl refl o.1);
-      written = λ b at d reg value c there is o.
+      written = λ b d reg value c there is o.
           written-all Ordered b d reg value
           (λ registers e so. (registers_kept_lem.devices b d registers o.0, registers_kept_lem.notes b d registers o.1))
           (λ x n id q. (ringed-devices x (pushed n x id).rings q.0, notes_kept_lem.beside x (pushed n x id) refl refl refl q.1))

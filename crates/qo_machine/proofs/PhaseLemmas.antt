@@ -1,15 +1,15 @@
 -- Steps keep the phases of resets in turn, and what may be held in reset held where a hold is on it or above it.
-use Rattle.std.proofs.Common.{◌≡◌, refl, subst, ℕ, true, List, [], ◌∷◌, codes, Option, None, Some}
+use Rattle.std.proofs.Common.{◌≡◌, ◌==◌, refl, ap, ◌∙◌, subst, ℕ, true, List, [], ◌∷◌, codes, Option, None, Some}
 use Rattle.std.specs.Option.{option_map_or}
 use Rattle.std.proofs.lemmas.Option.{same_Some}
 use Rattle.qo_values.specs.Bodies.{Effect, byte, nothing}
 use Rattle.qo_values.specs.Bodies as effect
 use Rattle.qo_values.specs.Registers.{Registers}
 use Rattle.qo_values.specs.declared.births.TheConstants.{MEMORY_BUS_BIRTH, ROOT_BUS_BIRTH}
-use Rattle.qo_guest.specs.declared.addresses.Addr.{Addr}
 use Rattle.qo_guest.specs.declared.addresses.Addr.TheVariants.{Slots, Mem}
 use Rattle.qo_backends.specs.Rings.{claimed_ring}
-use Rattle.qo_buses.specs.Addresses.{addressed}
+use Rattle.qo_layout.proofs.ShownLemmas.{shown-stands}
+use Rattle.qo_layout.specs.declared.addresses.TheConstants.{BOOT_LEAF}
 use Rattle.qo_commands.specs.Commands.{without_events}
 use Rattle.qo_model.specs.Board.{Board, Ring}
 use Rattle.qo_model.specs.Clocks.{div_of, mul_of}
@@ -29,14 +29,21 @@ use Rattle.qo_sound_clocks.proofs.RegisterLemmas.{registers_kept_lem}
 use Rattle.qo_sound_phases.specs.PhaseRuns.{SoundResets}
 use Rattle.qo_sound_phases.specs.PhasesKept.{may_reset}
 use Rattle.qo_sound_phases.proofs.LawLemmas.{phases_kept_lem, phases_say_lem}
+use Rattle.qo_sound_phases.proofs.ReachLemmas.{machines-is}
+use Rattle.qo_sound_phases.proofs.ResetTreeLemmas.{Placed, placed}
 use Rattle.qo_machine.proofs.DevicesLemmas.{devices_free, devices_kept, ringed-devices}
-use Rattle.qo_machine.proofs.PreservationLemmas.{any-rings, KeepsBoard, KeepsCommands, keeps_commands}
+use Rattle.qo_machine.proofs.PreservationLemmas.{any-rings, GuestFinds, by_address, by_slots, KeepsBoard, KeepsCommands, keeps_commands}
 use Rattle.qo_machine.specs.Machine.{opening}
 
--- the device at an address stands in its place
-standing : (b : Board) (at : Addr) (d : ℕ) → addressed b at ≡ Some d → SoundResets b → stands b d ≡ true
-standing b (Slots slots) d is h = phases_say_lem.addressed b h.devices h.phases ROOT_BUS_BIRTH slots d refl is
-standing b (Mem slot) d is h = phases_say_lem.addressed b h.devices h.phases MEMORY_BUS_BIRTH (slot ∷ []) d refl is
+-- the device that the guest finds stands in its place
+standing : (b : Board) (d : ℕ) → GuestFinds b d → SoundResets b → stands b d ≡ true
+standing b d (by_slots (Slots slots) is) h = phases_say_lem.addressed b h.devices h.phases ROOT_BUS_BIRTH slots d refl is
+standing b d (by_slots (Mem slot) is) h = phases_say_lem.addressed b h.devices h.phases MEMORY_BUS_BIRTH (slot ∷ []) d refl is
+standing b d (by_address at place is same apart) h =
+    let k : Placed b = placed b h.devices in
+    subst (λ (x : ℕ). stands b x ≡ true) same
+    (shown-stands b h.devices (machines-is b k ROOT_BUS_BIRTH refl h.phases.buses.0) (machines-is b k MEMORY_BUS_BIRTH refl h.phases.buses.1.0) at place is
+    (ap (λ (x : ℕ). x == BOOT_LEAF) same ∙ apart))
 
 -- rings are no matter to them
 ringed-so : (b : Board) (rings : List Ring) → SoundResets b → SoundResets (with_rings rings b)
@@ -122,7 +129,7 @@ phases_kept =
       refused = λ b d h. record { devices = devices_kept.refused b d h.devices; phases = phases_kept_lem.refused_by b d h.phases };
       polled = λ b h.
           record { devices = devices_kept.polled b h.devices; phases = phases_kept_lem.beside b (polled b) refl refl refl refl h.phases };
-      written = λ b at d reg value c there is h. written-so b d (standing b at d there h) h reg value c is;
+      written = λ b d reg value c there is h. written-so b d (standing b d there h) h reg value c is;
       rings = any-rings SoundResets (λ b rings h. ringed-so b rings h);
       timed = λ b now on low h.
           record {

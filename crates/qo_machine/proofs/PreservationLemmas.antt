@@ -1,5 +1,5 @@
 -- What each command keeps of the board, and each attempt that is given up, a step and a run keep.
-use Rattle.std.proofs.Common.{◌^◌, ◌<◌, ◌≤◌, ap, arith, ◌≡◌, ℕ, ◌+◌, nat_lt, not, Bool, true, false, if◌then◌else◌, List, [], ◌∷◌, refl, subst, sym, Option, None, Some, Result, Ok, Err, codes, unwrap_or, ◌++◌}
+use Rattle.std.proofs.Common.{◌^◌, ◌<◌, ◌≤◌, ap, arith, ◌≡◌, ℕ, ◌+◌, ◌==◌, ◌||◌, nat_lt, not, Bool, true, false, if◌then◌else◌, List, [], ◌∷◌, refl, subst, sym, Option, None, Some, Result, Ok, Err, codes, unwrap_or, ◌++◌}
 use Rattle.qo_causes.specs.declared.inputs.Input.{Input}
 use Rattle.qo_causes.specs.declared.inputs.Moment.{Moment}
 use Rattle.qo_causes.specs.declared.inputs.What.{What}
@@ -28,10 +28,13 @@ use Rattle.qo_model.specs.Reset.{held, is_deep, released}
 use Rattle.qo_buses.specs.Addresses.{addressed}
 use Rattle.qo_guest.specs.Lines.{guest_line}
 use Rattle.qo_guest.specs.declared.addresses.Addr.{Addr}
-use Rattle.qo_guest.specs.declared.answers.GuestAnswer.TheVariants.{NoPending, NoStopped}
+use Rattle.qo_guest.specs.declared.answers.GuestAnswer.TheVariants.{NoPending, NoRegister, NoStopped}
 use Rattle.qo_guest.specs.declared.lines.GuestAct.{GuestAct}
-use Rattle.qo_guest.specs.declared.lines.GuestAct.TheVariants.{Ack, Nack, Poll, Read, Write, Reset, Shutdown}
-use Rattle.qo_lane.specs.Hearing.{acked, acted, fine, heard, heard_act, if_pending, if_written, nacked, read_by, written_by}
+use Rattle.qo_guest.specs.declared.lines.GuestAct.TheVariants.{Ack, Nack, Poll, Read, Write, Peek, Poke, Reset, Shutdown}
+use Rattle.qo_layout.specs.Layout.{register_at}
+use Rattle.qo_layout.specs.declared.addresses.TheConstants.{BOOT_LEAF}
+use Rattle.qo_layout.specs.declared.views.RegisterPlace.{RegisterPlace}
+use Rattle.qo_lane.specs.Hearing.{acked, acted, fine, has_registers, heard, heard_act, if_pending, if_written, nacked, peeked, poked, read_by, written_by}
 use Rattle.qo_lane.specs.Hearing as hearing
 use Rattle.qo_lane.specs.Lines.{lines_of, without_return}
 use Rattle.qo_plug.specs.Admission.{wanted}
@@ -68,6 +71,11 @@ use Rattle.qo_machine.specs.Machine.{BreaksOff, BreaksOffAt, Choice, Made, Seen,
 use Rattle.qo_machine.proofs.MemoryLemmas.{fed_board}
 use Rattle.qo_machine.specs.Runs.{Turn, after, state_after}
 
+-- a device that the guest finds: by its slots, or by a register that shows at a hardware address
+pub data GuestFinds (b : Board) (d : ℕ) : Type 0 where
+  by_slots : (at : Addr) → addressed b at ≡ Some d → GuestFinds b d
+  by_address : (at : ℕ) (place : RegisterPlace) → register_at b at ≡ Some place → place.device ≡ d → (d == BOOT_LEAF) ≡ false → GuestFinds b d
+
 -- what each change of the rings keeps: one is added, as nothing bars it; one that nothing bars from it goes; the oldest bytes of one are taken; and bytes come
 -- after those of one
 pub record KeepsRings (P : Board → Type 0) : Type 0 where
@@ -103,7 +111,7 @@ pub record KeepsBoard (P : Board → Type 0) : Type 0 where
   pub refused : (b : Board) (d : ℕ) → P b → P (refused_removal b d)
   pub polled : (b : Board) → P b → P (polled b)
   -- the guest writes to a register of the device at an address
-  pub written : (b : Board) (at : Addr) (d reg value : ℕ) (c : Board) → addressed b at ≡ Some d → guest_written b d reg value ≡ Some c → P b → P c
+  pub written : (b : Board) (d reg value : ℕ) (c : Board) → GuestFinds b d → guest_written b d reg value ≡ Some c → P b → P c
   -- it has other rings
   pub rings : KeepsRings P
   -- it comes to a later moment, and runs or stands still
@@ -163,13 +171,32 @@ pending_keeps P b c d p q = by (among b.pending d) refl
     by true is = q is
     by false is = p
 
-written_keeps : (P : Board → Type 0) → KeepsBoard P → (b : Board) (at : Addr) (d reg value : ℕ) → addressed b at ≡ Some d → P b
+written_keeps : (P : Board → Type 0) → KeepsBoard P → (b : Board) (d reg value : ℕ) → GuestFinds b d → P b
     → P (if_written b (guest_written b d reg value)).board
-written_keeps P k b at d reg value there p = by (guest_written b d reg value) refl
+written_keeps P k b d reg value there p = by (guest_written b d reg value) refl
   where
     by : (o : Option Board) → guest_written b d reg value ≡ o → P (if_written b o).board
     by None is = p
-    by (Some c) is = k.written b at d reg value c there is p
+    by (Some c) is = k.written b d reg value c there is p
+
+peek_keeps : (P : Board → Type 0) (b : Board) (o : Option RegisterPlace) → P b → P (peeked b o).board
+peek_keeps P b None p = p
+peek_keeps P b (Some place) p = by (has_registers b place.device)
+  where
+    by : (t : Bool) → P (if t then read_by b place.register (Some place.device) else hearing.answered b NoRegister).board
+    by true = p
+    by false = p
+
+poke_keeps : (P : Board → Type 0) → KeepsBoard P → (b : Board) (at value : ℕ) (o : Option RegisterPlace) → register_at b at ≡ o → P b
+    → P (poked b value o).board
+poke_keeps P k b at value None is p = p
+poke_keeps P k b at value (Some place) is p = by (place.device == BOOT_LEAF) (is_of b (codes "mem-dimm") place.device) refl
+  where
+    by : (boot memory : Bool) → (place.device == BOOT_LEAF) ≡ boot
+        → P (if not (boot || memory) then written_by b place.register value (Some place.device) else hearing.answered b NoRegister).board
+    by true memory apart = p
+    by false true apart = p
+    by false false apart = written_keeps P k b place.device place.register value (by_address at place is refl apart) p
 
 acted_keeps : (P : Board → Type 0) → KeepsBoard P → (b : Board) (act : GuestAct) → P b → P (acted b act).board
 acted_keeps P k b (Ack at) p = by (addressed b at) refl
@@ -192,7 +219,9 @@ acted_keeps P k b (Write at reg value) p = by (addressed b at) refl
   where
     by : (o : Option ℕ) → addressed b at ≡ o → P (written_by b reg value o).board
     by None is = p
-    by (Some d) is = written_keeps P k b at d reg value is p
+    by (Some d) is = written_keeps P k b d reg value (by_slots at is) p
+acted_keeps P k b (Peek at) p = peek_keeps P b (register_at b at) p
+acted_keeps P k b (Poke at value) p = poke_keeps P k b at value (register_at b at) refl p
 acted_keeps P k b Reset p = k.reset b p
 acted_keeps P k b Shutdown p = p
 

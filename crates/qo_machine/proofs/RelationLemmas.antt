@@ -41,7 +41,7 @@ module _ (R : Board → Board → Type 0) (same : (b : Board) → R b b) (goes_o
         completed = λ c at d is pending h. goes_on b c (completed c d) h (changes.detached c d tt tt);
         refused = λ c d h. goes_on b c _ h (changes.refused_by c d);
         polled = λ c h. goes_on b c (polled c) h (beside.polled c);
-        written = λ c at d reg value e there is h.
+        written = λ c d reg value e there is h.
             written-all (R b) c d reg value (λ registers effect so. goes_on b c (registers_set c d registers) h (beside.registers c d registers))
             (λ x n id q. goes_on b x (pushed n x id) q (beside.rings x (pushed n x id).rings))
             (λ x m on q. goes_on b x (pulse x m) q (changes.pulsed x m tt tt)) e is;

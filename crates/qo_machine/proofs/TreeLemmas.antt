@@ -65,7 +65,7 @@ tree_kept =
       completed = λ b at d is pending h. sound_kept_lem.detached b d h;
       refused = λ b d h. refused-tree b d h;
       polled = λ b h. polled-tree b h;
-      written = λ b at d reg value c there is h.
+      written = λ b d reg value c there is h.
           written-all SoundTree b d reg value (λ registers e so. registers_kept_lem.tree b d registers h) (λ x n id q. ringed-tree x (pushed n x id).rings q)
           (λ x m on q. pulsed-tree x m q) c is;
       rings = any-rings SoundTree (λ b rings h. ringed-tree b rings h);
