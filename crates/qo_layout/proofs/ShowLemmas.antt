@@ -10,7 +10,7 @@ use Rattle.qo_memmap.specs.declared.region.Place.{Place}
 use Rattle.qo_memmap.proofs.ShowLemmas.{children-append}
 
 -- nothing is shown from the size of a region on
-within-past : (n : ℕ) (areas : List Area) (r a : ℕ) → (area_at areas r).size ≤ a → shows_within n areas r a ≡ None
+pub within-past : (n : ℕ) (areas : List Area) (r a : ℕ) → (area_at areas r).size ≤ a → shows_within n areas r a ≡ None
 unfolding shows_within
 within-past zero areas r a past = refl
 within-past (suc n) areas r a past = rw (le-ltb a (area_at areas r).size past) refl

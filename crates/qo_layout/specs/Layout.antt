@@ -11,10 +11,12 @@ use Rattle.qo_model.specs.Devices.{bus_of, depth_of, first_bus, found_at, kid_at
 use Rattle.qo_model.specs.Paths.{is_of}
 use Rattle.qo_model.specs.Reset.{post}
 use Rattle.qo_memmap.specs.Answers.{IsNamed, new_rank}
+use Rattle.qo_memmap.specs.FlatViews.{flat_from}
 use Rattle.qo_memmap.specs.Regions.{Area, Target, area_at, shows_at}
 use Rattle.qo_memmap.specs.declared.map.TheConstants.{MAX_RANK, MAX_REGIONS}
 use Rattle.qo_memmap.specs.declared.region.Kind.TheVariants.{Container, Leaf, Alias}
 use Rattle.qo_memmap.specs.declared.region.Place.{Place}
+use Rattle.qo_memmap.specs.declared.span.Span.{Span}
 use Rattle.qo_sound_devices.specs.SoundDevices.{SoundDevices}
 use Rattle.qo_sound_claims.specs.SoundClaims.{SoundClaims}
 use Rattle.qo_sound_shapes.specs.SoundShape.{SoundShape}
@@ -127,6 +129,12 @@ root_region b =
 -- the regions of a board by number
 abbrev pub board_map : Board → List Area
 board_map b = map (region_of b) (mapped b) ++ boot_leaf ∷ low_alias b ∷ root_region b ∷ []
+
+-- What shows.
+
+-- the spans of all addresses: what shows there, and where in it
+abbrev pub flat_view : Board → List Span
+flat_view b = flat_from (shows_at (board_map b) (root_number b)) 0 ROOT_SIZE
 
 -- Registers.
 

@@ -10,7 +10,7 @@ ghost use Rattle.qo_memmap.specs.declared.region.TheConstants.{ADDRESS_LIMIT};
 ghost use Rattle.qo_sound_devices.specs.SoundDevices.{SoundDevices};
 ghost use Rattle.qo_sound_claims.specs.SoundClaims.{SoundClaims};
 ghost use Rattle.qo_sound_shapes.specs.SoundShape.{SoundShape};
-ghost use Rattle.qo_layout.specs.Layout.{board_map, register_at, register_in, root_number};
+ghost use Rattle.qo_layout.specs.Layout.{board_map, flat_view, register_at, register_in, root_number};
 
 use crate::maps::memory_map;
 use qo_heap::{Heap, Steps};
@@ -30,13 +30,17 @@ pub struct RegisterPlace {
     pub register: u64,
 }
 
-/// The flat view of the board of a heap. On a sound board the one error is want of memory.
+/// The flat view of the board of a heap: spans of addresses that rise and lie apart, as few as there can be, each
+/// with the birth of the device that shows there, or `BOOT_LEAF`, and an offset in it. On a sound board the one
+/// error is want of memory.
+#[tactic(auto, using(crate::proofs::ViewLemmas::listed))]
 pub fn flat_view<L: Ledger>(
     alloc: Global,
     heap: &Heap,
     steps: &mut Steps<L>,
 ) -> Result<Vec<Span>, MapError>
-    ensures view { (b : Board) → Shows b heap.now → SoundShape b → IfOk result (λ spans. IsFlat (shows_at (board_map b) (root_number b)) spans.items) }
+    ensures view { (b : Board) → Shows b heap.now → SoundShape b → IfOk result (λ spans. spans.items ≡ flat_view b) }
+    ensures flat { (b : Board) → Shows b heap.now → SoundShape b → IfOk result (λ spans. IsFlat (shows_at (board_map b) (root_number b)) spans.items) }
     ensures apart { IfOk result (λ spans. RiseFrom 0 spans.items) }
     ensures fit { IfOk result (λ spans. OffsetsFit spans.items) }
     ensures err { (b : Board) → Shows b heap.now → SoundDevices b → SoundShape b → SoundClaims b → IfErr result (λ e. e ≡ Memory) }

@@ -1,5 +1,6 @@
 pub mod FindLemmas
 pub mod FlatLemmas
+pub mod FlatViewLemmas
 pub mod JoinLemmas
 pub mod MapLemmas
 pub mod MergeLemmas

@@ -1,4 +1,5 @@
 pub mod Answers
+pub mod FlatViews
 pub mod Joins
 pub mod Laws
 pub mod Merges
