@@ -13,7 +13,8 @@ use Rattle.qo_model.specs.declared.detached.Detached.{Detached}
 use Rattle.std.specs.Str.{chars}
 use Rattle.serde_json.proofs.OnLiterals.{serde_json_on_literals}
 use Rattle.qo_replies.specs.Json.{ascii, json}
-use Rattle.qo_commands.specs.Commands.{detached_data, empty, note_data, property_data, status_data, type_data}
+use Rattle.qo_memmap.specs.declared.span.Span.{Span}
+use Rattle.qo_commands.specs.Commands.{detached_data, empty, note_data, property_data, shown_data, status_data, type_data}
 use Rattle.qo_commands.specs.Views.{body_data, data_of, has_float_in}
 use Rattle.qo_commands.specs.declared.commands.Body.{Body}
 use Rattle.qo_commands.specs.declared.commands.Body.TheVariants.{Answer, Empty, Status, Listing, Time, Told, Value}
@@ -29,6 +30,10 @@ notes_no_float (n ∷ ns) = notes_no_float ns
 pub detached_no_float : (ds : List Detached) → items_have_float (items_of (map detached_data ds)) ≡ false
 detached_no_float [] = refl
 detached_no_float (d ∷ ds) = detached_no_float ds
+
+pub shown_no_float : (b : Board) (spans : List Span) → items_have_float (items_of (map (shown_data b) spans)) ≡ false
+shown_no_float b [] = refl
+shown_no_float b (span ∷ spans) = shown_no_float b spans
 
 pub types_no_float : (rows : List TypeInfo) → items_have_float (items_of (map type_data rows)) ≡ false
 types_no_float [] = refl

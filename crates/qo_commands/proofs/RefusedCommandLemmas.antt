@@ -41,7 +41,7 @@ use Rattle.qo_requests.specs.declared.calls.Call.{Call}
 use Rattle.qo_requests.specs.declared.calls.Call.TheVariants as call
 use Rattle.qo_requests.specs.declared.calls.Change.TheVariants.{Add, Alter}
 use Rattle.qo_requests.specs.declared.calls.Query.{Query}
-use Rattle.qo_requests.specs.declared.calls.Query.TheVariants.{DeviceListProperties, QomGet, QomList, QomListTypes, QueryCommands, QueryStatus, QueryVersion, Quit, XQueryDetached, XQueryNotes}
+use Rattle.qo_requests.specs.declared.calls.Query.TheVariants.{DeviceListProperties, QomGet, QomList, QomListTypes, QueryCommands, QueryStatus, QueryVersion, Quit, XMemmap, XQueryDetached, XQueryNotes}
 use Rattle.qo_rings.specs.Rings.{bytes_in, given_bytes, ring_named}
 use Rattle.qo_commands.specs.Changes.{attempted}
 use Rattle.qo_replies.specs.Properties.{property_data}
@@ -226,6 +226,7 @@ queried-leaves b (DeviceListProperties typename) = device-leaves b (type_named t
 queried-leaves b (QomListTypes implements with_abstract) = returned-leaves b b _
 queried-leaves b (XQueryNotes from) = returned-leaves b b _
 queried-leaves b XQueryDetached = returned-leaves b b _
+queried-leaves b XMemmap = returned-leaves b b _
 queried-leaves b QueryVersion = returned-leaves b b _
 queried-leaves b QueryCommands = returned-leaves b b _
 queried-leaves b QueryStatus = returned-leaves b b _

@@ -10,7 +10,9 @@ use Rattle.qo_guest.specs.Answers.{text_of}
 use Rattle.qo_guest.specs.declared.answers.GuestAnswer.{GuestAnswer}
 use Rattle.qo_guest.specs.declared.answers.GuestAnswer.TheVariants.{NoLine}
 use Rattle.qo_lane.specs.Hearing.{Outcome, heard}
-use Rattle.qo_model.specs.Board.{Board, DeviceEvent}
+use Rattle.qo_layout.specs.Layout.{flat_view}
+use Rattle.qo_memmap.specs.declared.span.Span.{Span}
+use Rattle.qo_model.specs.Board.{Board, DeviceEvent, is_live}
 use Rattle.qo_model.specs.Hotplug.{asked, reset_whole}
 use Rattle.qo_model.specs.Plug.{Plugged, plug}
 use Rattle.qo_plug.specs.Admission.{wanted}
@@ -19,6 +21,7 @@ use Rattle.qo_model.specs.Listing.{around, value_word}
 use Rattle.qo_model.specs.NoteReplies.{first_from, given_from}
 use Rattle.qo_model.specs.Notes.{note_text, total_of}
 use Rattle.qo_model.specs.Objects.{Changed, may_add, object_add, sever}
+use Rattle.qo_model.specs.Paths.{canonical}
 use Rattle.qo_model.specs.declared.notes.Note.{Note}
 use Rattle.qo_model.specs.Access.{listing_at, read, write_at}
 use Rattle.qo_model.specs.Detachment.{detached_listed}
@@ -48,7 +51,7 @@ use Rattle.qo_requests.specs.declared.calls.Call.TheVariants as call
 use Rattle.qo_requests.specs.declared.calls.Change.{Change}
 use Rattle.qo_requests.specs.declared.calls.Change.TheVariants.{Add, Alter}
 use Rattle.qo_requests.specs.declared.calls.Query.{Query}
-use Rattle.qo_requests.specs.declared.calls.Query.TheVariants.{DeviceListProperties, QomGet, QomList, QomListTypes, QueryCommands, QueryStatus, QueryVersion, Quit, XQueryDetached, XQueryNotes}
+use Rattle.qo_requests.specs.declared.calls.Query.TheVariants.{DeviceListProperties, QomGet, QomList, QomListTypes, QueryCommands, QueryStatus, QueryVersion, Quit, XMemmap, XQueryDetached, XQueryNotes}
 
 -- what a command comes to: what it returns or the code that refuses it, the board after it, its events, and whether it ends the run
 pub record Done : Type 0 where
@@ -139,6 +142,22 @@ detached_data d =
     (member (codes "refs") (number (unsigned d.refs))
     (member (codes "type") (string (type_name d.kind)) no_members)))
 
+-- the name of what shows in the memory map: the path of the device, and `boot` where there is none
+abbrev pub shown_name : Board → ℕ → List ℕ
+shown_name b leaf = if is_live b leaf then unwrap_or (canonical b leaf) [] else codes "boot"
+
+-- what shows from an address on, as it is told
+abbrev pub span_data : List ℕ → Span → Data
+span_data name span =
+    object
+    (member (codes "at") (number (unsigned span.at))
+    (member (codes "name") (string name)
+    (member (codes "offset") (number (unsigned span.offset))
+    (member (codes "size") (number (unsigned span.size)) no_members))))
+
+abbrev pub shown_data : Board → Span → Data
+shown_data b span = span_data (shown_name b span.leaf) span
+
 -- a command by its name
 abbrev pub command_data : Command → Data
 command_data command = object (member (codes "name") (string (command_name command)) no_members)
@@ -207,6 +226,7 @@ queried b (QomListTypes implements with_abstract) =
 queried b (DeviceListProperties typename) = device_properties b (type_named typename)
 queried b (XQueryNotes from) = returned b (notes_data from b.notes)
 queried b XQueryDetached = returned b (array (items_of (map detached_data (detached_listed b))))
+queried b XMemmap = returned b (array (items_of (map (shown_data b) (flat_view b))))
 queried b QueryVersion = returned b version_data
 queried b QueryCommands = returned b (array (items_of (map command_data commands)))
 queried b QueryStatus = returned b (status_data b.running)

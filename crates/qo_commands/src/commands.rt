@@ -12,6 +12,7 @@ ghost use Rattle.qo_realize.specs.Representation.{Stands};
 ghost use Rattle.qo_commands.specs.Views.{body_data, done_of};
 
 use crate::detached::query_detached;
+use crate::memmap::query_memmap;
 use crate::listings::list;
 use crate::notes::query_notes;
 use crate::query_commands::commands;
@@ -146,6 +147,7 @@ pub fn ask<L: Ledger>(
         Query::DeviceListProperties { typename } => list_properties(alloc, typename.as_str()),
         Query::XQueryNotes { from } => query_notes(alloc, board, *from),
         Query::XQueryDetached => query_detached(alloc, board, steps),
+        Query::XMemmap => query_memmap(alloc, board, steps),
         Query::QueryVersion => Ok(returned_value(version(alloc)?)),
         Query::QueryCommands => Ok(returned_value(commands(alloc)?)),
         Query::QueryStatus => Ok(returned(Body::Status(board.running()))),

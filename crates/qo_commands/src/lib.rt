@@ -7,6 +7,7 @@ mod commands;
 mod detached;
 pub mod laws;
 mod listings;
+mod memmap;
 mod notes;
 mod query_commands;
 mod rings;

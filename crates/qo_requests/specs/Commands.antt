@@ -2,7 +2,7 @@
 use Rattle.std.specs.Prelude.{ℕ, Bool, true, false, List, [], ◌∷◌, codes, Option, find}
 use Rattle.std.specs.Str.{bytes_eq}
 use Rattle.qo_requests.specs.declared.commands.Command.{Command}
-use Rattle.qo_requests.specs.declared.commands.Command.TheVariants.{ChardevAdd, ChardevRemove, Cont, DeviceListProperties, DeviceAdd, DeviceDel, ObjectAdd, ObjectDel, QmpCapabilities, QomGet, QomList, QomListTypes, QomSet, QueryCommands, QueryStatus, QueryVersion, Quit, RingbufRead, RingbufWrite, Stop, SystemReset, XGuest, XQueryDetached, XQueryNotes, XResetHold, XResetRelease, XSever, XStep}
+use Rattle.qo_requests.specs.declared.commands.Command.TheVariants.{ChardevAdd, ChardevRemove, Cont, DeviceListProperties, DeviceAdd, DeviceDel, ObjectAdd, ObjectDel, QmpCapabilities, QomGet, QomList, QomListTypes, QomSet, QueryCommands, QueryStatus, QueryVersion, Quit, RingbufRead, RingbufWrite, Stop, SystemReset, XGuest, XMemmap, XQueryDetached, XQueryNotes, XResetHold, XResetRelease, XSever, XStep}
 use Rattle.qo_requests.specs.declared.arguments.Argument.{Argument}
 use Rattle.qo_requests.specs.declared.arguments.Argument.TheVariants.{Needed, Optional}
 use Rattle.qo_requests.specs.declared.arguments.ArgumentType.TheVariants.{Object, Text, Texts, Truth, Number, RingBytes, Form, Plain}
@@ -45,6 +45,7 @@ command_name RingbufWrite = codes "ringbuf-write"
 command_name Stop = codes "stop"
 command_name SystemReset = codes "system_reset"
 command_name XGuest = codes "x-guest"
+command_name XMemmap = codes "x-memmap"
 command_name XQueryDetached = codes "x-query-detached"
 command_name XQueryNotes = codes "x-query-notes"
 command_name XResetHold = codes "x-reset-hold"
@@ -55,8 +56,8 @@ command_name XStep = codes "x-step"
 -- the commands, in byte order of their names
 abbrev pub commands : List Command
 commands = ChardevAdd ∷ ChardevRemove ∷ Cont ∷ DeviceListProperties ∷ DeviceAdd ∷ DeviceDel ∷ ObjectAdd ∷ ObjectDel ∷ QmpCapabilities ∷ QomGet ∷ QomList
-    ∷ QomListTypes ∷ QomSet ∷ QueryCommands ∷ QueryStatus ∷ QueryVersion ∷ Quit ∷ RingbufRead ∷ RingbufWrite ∷ Stop ∷ SystemReset ∷ XGuest ∷ XQueryDetached
-    ∷ XQueryNotes ∷ XResetHold ∷ XResetRelease ∷ XSever ∷ XStep ∷ []
+    ∷ QomListTypes ∷ QomSet ∷ QueryCommands ∷ QueryStatus ∷ QueryVersion ∷ Quit ∷ RingbufRead ∷ RingbufWrite ∷ Stop ∷ SystemReset ∷ XGuest ∷ XMemmap
+    ∷ XQueryDetached ∷ XQueryNotes ∷ XResetHold ∷ XResetRelease ∷ XSever ∷ XStep ∷ []
 
 -- the command of a name
 abbrev pub command_of : List ℕ → Option Command
@@ -132,6 +133,7 @@ request_of RingbufWrite args = alters (alteration.RingbufWrite (text_in field.De
 request_of Stop args = alters alteration.Stop
 request_of SystemReset args = alters alteration.SystemReset
 request_of XGuest args = alters (alteration.XGuest (text_in field.Line args))
+request_of XMemmap args = queries query.XMemmap
 request_of XQueryDetached args = queries query.XQueryDetached
 request_of XQueryNotes args = queries (query.XQueryNotes (number_in field.From args))
 request_of XResetHold args = alters (alteration.XResetHold (text_in field.Path args))

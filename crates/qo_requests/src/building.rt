@@ -146,6 +146,7 @@ pub(crate) fn request_of(
         Command::XGuest => Request::alters(Alteration::XGuest {
             line: text_in(alloc, args, Field::Line)?,
         }),
+        Command::XMemmap => Request::queries(Query::XMemmap),
         Command::XQueryDetached => Request::queries(Query::XQueryDetached),
         Command::XQueryNotes => Request::queries(Query::XQueryNotes {
             from: number_in(args, Field::From),

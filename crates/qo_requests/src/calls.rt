@@ -53,6 +53,8 @@ pub enum Query {
     },
     /// `x-query-detached`.
     XQueryDetached,
+    /// `x-memmap`.
+    XMemmap,
 }
 
 /// A command that changes the board, or is refused.

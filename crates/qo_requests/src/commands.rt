@@ -56,6 +56,8 @@ pub enum Command {
     SystemReset,
     /// `x-guest`.
     XGuest,
+    /// `x-memmap`.
+    XMemmap,
     /// `x-query-detached`.
     XQueryDetached,
     /// `x-query-notes`.
@@ -98,6 +100,7 @@ impl Command {
             Command::Stop => "stop",
             Command::SystemReset => "system_reset",
             Command::XGuest => "x-guest",
+            Command::XMemmap => "x-memmap",
             Command::XQueryDetached => "x-query-detached",
             Command::XQueryNotes => "x-query-notes",
             Command::XResetHold => "x-reset-hold",
@@ -134,6 +137,7 @@ impl Command {
             Command::Stop,
             Command::SystemReset,
             Command::XGuest,
+            Command::XMemmap,
             Command::XQueryDetached,
             Command::XQueryNotes,
             Command::XResetHold,
