@@ -1119,6 +1119,25 @@ class DeviceTree(ResetTree):
                 return None
             bus, offset, size = below.target, offset - size // 2, size // 16
 
+    def shown(self):
+        """What shows, by address: each stretch with its device, or None for the boot region, an offset in it, and a size."""
+        spans = [(0, None, 0, BOOT_SIZE)]
+        for dimm in map(self.objects.get, self.kids(MEMORY_BUS)):
+            start, size = self.range_of(dimm)
+            spans.append((start, dimm, 0, size))
+            low, end = max(start - WINDOW_START, BOOT_SIZE), min(start - WINDOW_START + size, LOW_SIZE)
+            if low < end:
+                spans.append((low, dimm, low - (start - WINDOW_START), end - low))
+        spans += [(self.hardware_address(it), it, 0, DEVICE_SIZE) for it in self.devices_below(ROOT_BUS)]
+        return sorted(spans, key=lambda it: it[0])
+
+    def devices_below(self, bus):
+        """The devices on a bus, and on the buses below."""
+        for device in map(self.objects.get, self.kids(bus)):
+            yield device
+            for below in self.buses(device):
+                yield from self.devices_below(below)
+
     def hardware_address(self, device):
         """The hardware address at which a device that stands begins."""
         if device.type == "mem-dimm":
@@ -1338,6 +1357,7 @@ COMMANDS = {
     "x-sever": {"birth": "number"},
     "x-query-notes": {"from": "number"},
     "x-query-detached": {},
+    "x-memmap": {},
     "x-guest": {"line": "text"},
     "x-step": {"ns": "number"},
 }
@@ -1710,6 +1730,12 @@ class Machine:
         board = self.board
         births = [it for it in sorted(board.objects) if it != ROOT and board.owner(it) is None]
         return [{"birth": it, "refs": board.references(it), "type": board.objects[it].type} for it in births]
+
+    def do_x_memmap(self, _):
+        """Tells what shows at all addresses."""
+        spans = self.board.shown()
+        names = {None: "boot"} | {it: self.board.canonical_path(it.birth) for _, it, _, _ in spans if it}
+        return [{"at": at, "name": names[it], "offset": offset, "size": size} for at, it, offset, size in spans]
 
     def do_x_guest(self, arguments):
         """Has the guest say a line."""

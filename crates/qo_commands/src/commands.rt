@@ -12,8 +12,8 @@ ghost use Rattle.qo_realize.specs.Representation.{Stands};
 ghost use Rattle.qo_commands.specs.Views.{body_data, done_of};
 
 use crate::detached::query_detached;
-use crate::memmap::query_memmap;
 use crate::listings::list;
+use crate::memmap::query_memmap;
 use crate::notes::query_notes;
 use crate::query_commands::commands;
 use crate::types::{list_properties, list_types};

@@ -165,7 +165,7 @@ shown-stands b h root memory at place e apart = go (at % REGISTER_SIZE == 0) e
     shown (Some t) is e =
         let same : t.leaf ≡ place.device = ap (λ (o : Option RegisterPlace). option_map_or (λ (p : RegisterPlace). p.device) o 0) e in
         let leaf : IsLeaf (board_map b) place.device =
-            subst (IsLeaf (board_map b)) same (shown-leaf (suc (root_number b)) (board_map b) (root_number b) at t is)
+        subst (IsLeaf (board_map b)) same (shown-leaf (suc (root_number b)) (board_map b) (root_number b) at t is)
         in
         mapped-stands b h place.device root memory (leaf-mapped b place.device leaf apart)
 

@@ -61,11 +61,11 @@ pass-none shows low (span ∷ spans) none from =
     let at = from.apart.0 in
     let size = from.some.0 in
     let behind : low < span.at =
-        ⊎_elim (λ before. before)
-        (λ most.
-        let holds : in_span span low ≡ true = grind (arith, nat_tests) in
-        let clash : Some (span_shows low span) ≡ None = sym (shows-first span spans low holds) ∙ from.exact low (omega arith) ∙ none in
-        absurd (let no : Some (span_shows low span) ≡ None = clash in cc)) (cases_lt low span.at)
+    ⊎_elim (λ before. before)
+    (λ most.
+    let holds : in_span span low ≡ true = grind (arith, nat_tests) in
+    let clash : Some (span_shows low span) ≡ None = sym (shows-first span spans low holds) ∙ from.exact low (omega arith) ∙ none in
+    absurd (let no : Some (span_shows low span) ≡ None = clash in cc)) (cases_lt low span.at)
     in
     record { apart = (omega arith, from.apart.1); some = from.some; whole = from.whole; exact = λ a le. from.exact a (omega arith) }
 
@@ -79,7 +79,7 @@ begins-there shows low t span spans shown from =
     (λ before.
     let not : in_span span low ≡ false = grind (arith, nat_tests) in
     let none : spans_show (span ∷ spans) low ≡ None =
-        shows-later span spans low not ∙ shows-none spans (span.at + span.size) low from.apart.1 (omega arith)
+    shows-later span spans low not ∙ shows-none spans (span.at + span.size) low from.apart.1 (omega arith)
     in
     let clash : None ≡ Some t = sym none ∙ from.exact low (omega arith) ∙ shown in
     absurd (let no : None ≡ Some t = clash in cc)) (λ most. omega arith) (cases_lt low span.at)
@@ -129,10 +129,10 @@ begun shows low t (span ∷ spans) rest shown from behind =
     } in
     let joins : goes_on (record span { size = 1 }) (shrunk span) ≡ true = grind (arith, nat_tests) in
     let back : record span { size = span.size - 1 + 1 } ≡ span =
-        same-span (record span { size = span.size - 1 + 1 }) span refl (omega arith) refl refl
+    same-span (record span { size = span.size - 1 + 1 }) span refl (omega arith) refl refl
     in
     let made : joined_before (record span { size = 1 }) (shrunk span ∷ spans) ≡ span ∷ spans =
-        rw joins (ap (λ (s : Span). s ∷ spans) back)
+    rw joins (ap (λ (s : Span). s ∷ spans) back)
     in
     sym made ∙ ap (λ (s : Span). joined_before s (shrunk span ∷ spans)) (sym same) ∙ ap (joined_before one) (behind (shrunk span ∷ spans) after))
     (λ small.
@@ -150,16 +150,20 @@ begun shows low t (span ∷ spans) rest shown from behind =
   where
     one : Span
     one = one_byte low t
+
     at : span.at ≡ low
     at = begins-there shows low t span spans shown from
+
     is : span_shows low span ≡ t
     is =
         let size = from.some.0 in
         let holds : in_span span low ≡ true = grind (arith, nat_tests, at) in
         let same : Some (span_shows low span) ≡ Some t = sym (shows-first span spans low holds) ∙ from.exact low (omega arith) ∙ shown in
         cc
+
     leaf : t.leaf ≡ span.leaf
     leaf = sym (ap (λ (x : Target). x.leaf) is)
+
     offset : t.offset ≡ span.offset
     offset = let shows-it : span.offset + (low - span.at) ≡ t.offset = ap (λ (x : Target). x.offset) is in omega (arith, at, shows-it)
 

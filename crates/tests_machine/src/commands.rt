@@ -79,7 +79,14 @@ fn reads<L: Ledger>(alloc: Global, blank: Blank) -> Result<bool, AllocError>
                 "{\"first\":0,\"notes\":[],\"total\":0}",
                 &mut steps,
             )?
-            && tells(alloc, &board, &Query::XQueryDetached, "[]", &mut steps)?,
+            && tells(alloc, &board, &Query::XQueryDetached, "[]", &mut steps)?
+            && tells(
+                alloc,
+                &board,
+                &Query::XMemmap,
+                "[{\"at\":0,\"name\":\"boot\",\"offset\":0,\"size\":65536}]",
+                &mut steps,
+            )?,
     )
 }
 

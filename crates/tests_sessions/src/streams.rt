@@ -206,7 +206,7 @@ const ANSWERED: [(&str, &str); 8] = [
     ),
     (
         "{\"execute\":\"query-commands\"}",
-        "0 {\"return\":[{\"name\":\"chardev-add\"},{\"name\":\"chardev-remove\"},{\"name\":\"cont\"},{\"name\":\"device-list-properties\"},{\"name\":\"device_add\"},{\"name\":\"device_del\"},{\"name\":\"object-add\"},{\"name\":\"object-del\"},{\"name\":\"qmp_capabilities\"},{\"name\":\"qom-get\"},{\"name\":\"qom-list\"},{\"name\":\"qom-list-types\"},{\"name\":\"qom-set\"},{\"name\":\"query-commands\"},{\"name\":\"query-status\"},{\"name\":\"query-version\"},{\"name\":\"quit\"},{\"name\":\"ringbuf-read\"},{\"name\":\"ringbuf-write\"},{\"name\":\"stop\"},{\"name\":\"system_reset\"},{\"name\":\"x-guest\"},{\"name\":\"x-query-detached\"},{\"name\":\"x-query-notes\"},{\"name\":\"x-reset-hold\"},{\"name\":\"x-reset-release\"},{\"name\":\"x-sever\"},{\"name\":\"x-step\"}]}\r\n",
+        "0 {\"return\":[{\"name\":\"chardev-add\"},{\"name\":\"chardev-remove\"},{\"name\":\"cont\"},{\"name\":\"device-list-properties\"},{\"name\":\"device_add\"},{\"name\":\"device_del\"},{\"name\":\"object-add\"},{\"name\":\"object-del\"},{\"name\":\"qmp_capabilities\"},{\"name\":\"qom-get\"},{\"name\":\"qom-list\"},{\"name\":\"qom-list-types\"},{\"name\":\"qom-set\"},{\"name\":\"query-commands\"},{\"name\":\"query-status\"},{\"name\":\"query-version\"},{\"name\":\"quit\"},{\"name\":\"ringbuf-read\"},{\"name\":\"ringbuf-write\"},{\"name\":\"stop\"},{\"name\":\"system_reset\"},{\"name\":\"x-guest\"},{\"name\":\"x-memmap\"},{\"name\":\"x-query-detached\"},{\"name\":\"x-query-notes\"},{\"name\":\"x-reset-hold\"},{\"name\":\"x-reset-release\"},{\"name\":\"x-sever\"},{\"name\":\"x-step\"}]}\r\n",
     ),
     (
         "{\"execute\":\"query-version\"}",
