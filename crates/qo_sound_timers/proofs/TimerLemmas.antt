@@ -72,7 +72,7 @@ timers_kept =
       completed = λ b at d is pending. kept.detached b d tt tt;
       refused = kept.refused_by;
       polled = λ b h. h;
-      written = λ b at d reg value c there is h.
+      written = λ b d reg value c there is h.
           written-all Left b d reg value (λ registers e so. written-left b d reg value registers e so h) (λ x n id q. q)
           (λ x m on q. kept.pulsed x m tt tt q) c is;
       rings = any-rings Left (λ b rings h. h);
