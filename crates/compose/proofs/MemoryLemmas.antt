@@ -24,7 +24,7 @@ use Rattle.qo_replies.specs.Replies.{error_reply}
 use Rattle.qo_machine.proofs.RunLemmas.{closed_none, outs_more}
 use Rattle.qo_causes.specs.declared.hubs.Lane.TheVariants.{Guest as guest}
 use Rattle.qo_guest.specs.declared.answers.GuestAnswer.TheVariants.{NoMemory}
-use Rattle.qo_lane.specs.Lines.{lines_of, without_return}
+use Rattle.qo_commands.specs.Lines.{lines_of, without_return}
 use Rattle.qo_machine.specs.Machine.{Choice, Made, Message, State, Stepped, answer_line, preceded, by_item, by_line, defined, finished, input_step, item_step, line_made, line_step}
 use Rattle.qo_machine.specs.Machine.{made_by, mode_of, opened, opening, refused, serve_by, serve_unless, step, taken, unchanged, with_line, with_session}
 use Rattle.qo_machine.specs.Runs.{EndsAtLast, Turn, after, closed_where, has_end, outs_at, outs_of, state_after, turn_inputs}

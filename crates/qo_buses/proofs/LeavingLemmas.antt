@@ -3,7 +3,7 @@ use Rattle.std.proofs.Common.{◌≡◌, refl, ap, sym, subst, ◌∙◌, ℕ, z
 use Rattle.std.proofs.Common.{position, Option, Some, None, option_map, IfSome}
 use Rattle.std.specs.Option.{option_and_then, option_map_or}
 use Rattle.qo_slots.specs.declared.keys.Key.{Key}
-use Rattle.qo_table.specs.Rows.{IsLive}
+use Rattle.qo_heap.specs.Rows.{IsLive}
 use Rattle.qo_object.specs.declared.slots.Slot.{Slot}
 use Rattle.qo_object.specs.declared.slots.Slot.TheVariants.{Plain, Child, Link, Alias}
 use Rattle.qo_object.specs.Content.{Content, cut_at, dropped_at, empty_link_at, named_at}
@@ -18,7 +18,7 @@ use Rattle.qo_model.specs.Objects.{index_from}
 use Rattle.qo_model.specs.Paths.{is_child}
 use Rattle.qo_model.specs.Release.{after, drop_slot, finalize, let_go}
 use Rattle.qo_model.specs.Unplug.{is_child_slot, is_named, left_bus, let_go_where, names_kid, take_slot, take_where}
-use Rattle.qo_notes.specs.Log.{noted_all}
+use Rattle.qo_heap.specs.Log.{noted_all}
 use Rattle.qo_heap.specs.Objects.{IsHeap, Objects, content_of, slots_of, with_edit}
 use Rattle.qo_heap.specs.Board.{Shows}
 use Rattle.qo_heap.proofs.BookLemmas.{book-edit}

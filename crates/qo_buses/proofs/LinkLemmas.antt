@@ -8,7 +8,7 @@ use Rattle.qo_values.specs.Kinds.{type_name}
 use Rattle.qo_values.specs.declared.kinds.TypeId.{TypeId}
 use Rattle.qo_values.specs.declared.properties.Val.{Val}
 use Rattle.qo_slots.specs.declared.keys.Key.{Key}
-use Rattle.qo_table.specs.Rows.{IsLive}
+use Rattle.qo_heap.specs.Rows.{IsLive}
 use Rattle.qo_object.specs.declared.slots.Slot.{Slot}
 use Rattle.qo_object.specs.declared.slots.Slot.TheVariants.{Link}
 use Rattle.qo_object.specs.Content.{Content, empty_link_at, pointed_at, set_at}
@@ -23,7 +23,7 @@ use Rattle.qo_model.specs.Plug.{fitted, link_named}
 use Rattle.qo_model.specs.Release as release
 use Rattle.qo_model.specs.Types.{is_a}
 use Rattle.qo_model.specs.Unplug.{is_named, set_named}
-use Rattle.qo_notes.specs.Log.{Log, noted_all}
+use Rattle.qo_heap.specs.Log.{Log, noted_all}
 use Rattle.qo_heap.specs.Objects.{IsHeap, Objects, content_of, slots_of, with_edit}
 use Rattle.qo_heap.specs.Board.{Shows, pins_in}
 use Rattle.qo_heap.proofs.BookLemmas.{book-edit}

@@ -7,7 +7,7 @@ ghost use Rattle.qo_model.specs.Board.{Board, slots_at};
 ghost use Rattle.qo_model.specs.Devices.{bridge_of, bus_above, bus_in, depth_of, first_bus, is_going};
 ghost use Rattle.qo_object.specs.BoardObject.{birth_of, shown_slot};
 ghost use Rattle.qo_object.specs.Slots.{target_of};
-ghost use Rattle.qo_table.specs.Rows.{IsLive};
+ghost use Rattle.qo_heap.specs.Rows.{IsLive};
 ghost use Rattle.qo_heap.specs.Board.{Shows};
 
 use crate::devices::{bus_of, is_of};

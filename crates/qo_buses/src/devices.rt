@@ -5,7 +5,7 @@ ghost use Rattle.qo_model.specs.Board.{Board};
 ghost use Rattle.qo_model.specs.Devices.{bus_of, clock_of, is_realized, is_true, bus_slot_of};
 ghost use Rattle.qo_model.specs.Paths.{is_of};
 ghost use Rattle.qo_object.specs.BoardObject.{birth_of};
-ghost use Rattle.qo_table.specs.Rows.{IsLive};
+ghost use Rattle.qo_heap.specs.Rows.{IsLive};
 ghost use Rattle.qo_heap.specs.Board.{Shows};
 
 use crate::slots::{child_at, number_at, plain_at, strong_at};

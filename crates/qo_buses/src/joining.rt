@@ -9,7 +9,7 @@ ghost use Rattle.qo_model.specs.Plug.{link_named};
 ghost use Rattle.qo_object.specs.Content.{with_slot};
 ghost use Rattle.qo_object.specs.Slots.{has_name};
 ghost use Rattle.qo_object.specs.declared.slots.Slot.TheVariants.{Link};
-ghost use Rattle.qo_table.specs.Rows.{IsLive};
+ghost use Rattle.qo_heap.specs.Rows.{IsLive};
 ghost use Rattle.qo_heap.specs.Board.{Shows, pins_in};
 ghost use Rattle.qo_heap.specs.Objects.{slots_of, with_edit};
 ghost use Rattle.qo_life.specs.Life.{Goes};
@@ -21,8 +21,8 @@ use std::alloc::AllocError;
 use std::sync::ledger::Ledger;
 
 /// Adds the strong link of a bus to a device that joins it, under a name (of `kid_name`), after its
-/// slots. The error is want of memory, or that the bus has a slot of that name; it leaves the heap as
-/// it was.
+/// slots. The error says that memory ran out, or that the bus has a slot of that name; it leaves the
+/// heap as it was.
 pub fn join_bus<L: Ledger>(
     heap: &mut Heap,
     bus: Oid,

@@ -7,7 +7,7 @@ ghost use Rattle.qo_model.specs.Board.{Board, slots_at};
 ghost use Rattle.qo_model.specs.Devices.{kid_at, kid_name, kids_of, strong_in};
 ghost use Rattle.qo_model.specs.Unplug.{first_of};
 ghost use Rattle.qo_object.specs.BoardObject.{birth_of};
-ghost use Rattle.qo_table.specs.Rows.{IsLive};
+ghost use Rattle.qo_heap.specs.Rows.{IsLive};
 ghost use Rattle.qo_heap.specs.Board.{Shows};
 ghost use Rattle.qo_heap.specs.Objects.{slots_of};
 

@@ -6,7 +6,7 @@ ghost use Rattle.qo_model.specs.Objects.{index_from};
 ghost use Rattle.qo_model.specs.Unplug.{is_bus_child, is_child_slot, is_named, left_bus, left_parent, let_go_where, names_kid, take_slot, take_where};
 ghost use Rattle.qo_object.specs.BoardObject.{shown_slot, shown_slots};
 ghost use Rattle.qo_object.specs.Slots.{is_strong, slot_in};
-ghost use Rattle.qo_table.specs.Rows.{IsLive};
+ghost use Rattle.qo_heap.specs.Rows.{IsLive};
 ghost use Rattle.qo_heap.specs.Board.{Shows};
 ghost use Rattle.qo_heap.specs.Objects.{slots_of};
 ghost use Rattle.qo_life.specs.Life.{Goes, KeepsNames};

@@ -6,7 +6,7 @@ ghost use Rattle.qo_model.specs.Board.{Board, slot_named};
 ghost use Rattle.qo_model.specs.Devices.{child_named, number_at, number_in, plain_at, plain_in, strong_at, strong_in, text_at, text_in};
 ghost use Rattle.qo_object.specs.BoardObject.{birth_of, shown_slot};
 ghost use Rattle.qo_object.specs.Slots.{target_of};
-ghost use Rattle.qo_table.specs.Rows.{IsLive};
+ghost use Rattle.qo_heap.specs.Rows.{IsLive};
 ghost use Rattle.qo_heap.specs.Board.{Shows};
 
 use qo_heap::{Heap, Oid, Slot, Steps};

@@ -9,7 +9,7 @@ ghost use Rattle.qo_model.specs.Types.{is_a};
 ghost use Rattle.qo_model.specs.Unplug.{set_named};
 ghost use Rattle.qo_object.specs.BoardObject.{shown_slot};
 ghost use Rattle.qo_object.specs.declared.slots.Slot.TheVariants.{Link};
-ghost use Rattle.qo_table.specs.Rows.{IsLive};
+ghost use Rattle.qo_heap.specs.Rows.{IsLive};
 ghost use Rattle.qo_heap.specs.Board.{Shows, pins_in};
 ghost use Rattle.qo_heap.specs.Objects.{content_of};
 ghost use Rattle.qo_life.specs.Life.{Goes};

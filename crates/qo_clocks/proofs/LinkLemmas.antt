@@ -6,7 +6,7 @@ use Rattle.qo_values.specs.Kinds.{type_name}
 use Rattle.qo_values.specs.declared.properties.Val.{Val}
 use Rattle.qo_values.specs.declared.properties.Val.TheVariants as val
 use Rattle.qo_slots.specs.declared.keys.Key.{Key}
-use Rattle.qo_table.specs.Rows.{IsLive}
+use Rattle.qo_heap.specs.Rows.{IsLive}
 use Rattle.qo_model.specs.Board as board
 use Rattle.qo_model.specs.Changes as changes
 use Rattle.qo_model.specs.Objects.{index_from}

@@ -4,7 +4,7 @@ use Rattle.std.specs.Prelude.{option_and_then}
 use Rattle.std.specs.Str.{bytes_eq}
 use Rattle.qo_values.specs.declared.properties.Val.TheVariants as val
 use Rattle.qo_slots.specs.declared.keys.Key.{Key}
-use Rattle.qo_table.specs.Rows.{IsLive}
+use Rattle.qo_heap.specs.Rows.{IsLive}
 use Rattle.qo_model.specs.Board as board
 use Rattle.qo_model.specs.Clocks.{div_of, mul_of, own_period, source_of, weak_in}
 use Rattle.qo_model.specs.Devices.{child_named, clock_of, number_at, number_in, plain_in}

@@ -5,7 +5,7 @@ use Rattle.qo_claims.specs.declared.claims.Claimed.{Claimed}
 use Rattle.qo_kinds.specs.Bodies.{IsTimely}
 use Rattle.qo_kinds.specs.declared.bodies.Body.{Body}
 use Rattle.qo_slots.specs.declared.keys.Key.{Key}
-use Rattle.qo_table.specs.Rows.{IsLive, edit}
+use Rattle.qo_heap.specs.Rows.{IsLive, edit}
 use Rattle.qo_object.specs.declared.slots.Slot.{Slot}
 use Rattle.qo_object.specs.Content.{Content}
 use Rattle.qo_object.specs.Slots.{with_val}

@@ -3,7 +3,7 @@ use Rattle.std.specs.Prelude.{ℕ, ◌^◌, Bool, false, ◌||◌, ◌==◌, nat
 use Rattle.std.specs.List.{list_any}
 use Rattle.std.specs.Option.{option_map_or}
 use Rattle.qo_slots.specs.declared.keys.Key.{Key}
-use Rattle.qo_table.specs.Rows.{births}
+use Rattle.qo_heap.specs.Rows.{births}
 use Rattle.qo_object.specs.Content.{Content}
 use Rattle.qo_model.specs.Depth.{by_depth}
 use Rattle.qo_heap.specs.Objects.{Objects}

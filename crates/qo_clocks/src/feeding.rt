@@ -2,7 +2,7 @@
 //! "Connecting two clocks together"). No call takes memory.
 
 ghost use Rattle.std.specs.Prelude.{◌≡◌, option_and_then, option_map, slice_get, IfSome};
-ghost use Rattle.qo_table.specs.Rows.{IsLive};
+ghost use Rattle.qo_heap.specs.Rows.{IsLive};
 ghost use Rattle.qo_clocks.specs.Subtree.{fed_at, overflows_on};
 
 use crate::periods::child_period;

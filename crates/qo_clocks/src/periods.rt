@@ -2,7 +2,7 @@
 //! settings").
 
 ghost use Rattle.std.specs.Prelude.{◌≡◌};
-ghost use Rattle.qo_table.specs.Rows.{IsLive};
+ghost use Rattle.qo_heap.specs.Rows.{IsLive};
 ghost use Rattle.qo_model.specs.Board.{Board};
 ghost use Rattle.qo_model.specs.Clocks.{ClocksFit, device_period, of_hz, period, scaled_by};
 ghost use Rattle.qo_heap.specs.Board.{Shows};

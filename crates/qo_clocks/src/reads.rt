@@ -1,7 +1,7 @@
 //! What is read of a clock: its numbers and its source.
 
 ghost use Rattle.std.specs.Prelude.{◌≡◌, IfSome, option_map, unwrap_or};
-ghost use Rattle.qo_table.specs.Rows.{IsLive};
+ghost use Rattle.qo_heap.specs.Rows.{IsLive};
 ghost use Rattle.qo_clocks.specs.Reads.{child_in, clock_on, div_on, mul_on, number_in_slot, number_on, own_on, slot_on, source_on, weak_target};
 
 use qo_heap::{Heap, Oid, Slot, Steps};

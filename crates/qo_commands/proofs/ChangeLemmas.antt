@@ -4,9 +4,9 @@ use Rattle.serde_json.specs.Data.{Data, string}
 use Rattle.qo_values.specs.declared.codes.Code.{Code}
 use Rattle.qo_model.specs.Board.{Board}
 use Rattle.qo_model.specs.Objects.{Changed, Given, object_add}
-use Rattle.qo_lane.specs.Hearing.{Outcome, outcome_of}
-use Rattle.qo_lane.specs.Hearing as hearing
-use Rattle.qo_lane.specs.declared.hearing.Heard.{Heard}
+use Rattle.qo_commands.specs.Hearing.{Outcome, outcome_of}
+use Rattle.qo_commands.specs.Hearing as hearing
+use Rattle.qo_commands.specs.declared.hearing.Heard.{Heard}
 use Rattle.qo_model.specs.Hotplug.{reset_whole}
 use Rattle.qo_model.specs.Plug.{Wanted, plug}
 use Rattle.qo_plug.specs.Admission.{wanted}

@@ -1,6 +1,10 @@
-pub mod AttemptLemmas
 mod ChangeLemmas
-pub mod CommandLemmas
 mod ListingLemmas
 mod NoteLemmas
+pub mod AttemptLemmas
+pub mod CommandLemmas
+pub mod HearingLemmas
+pub mod LineLemmas
+pub mod MemoryLemmas
 pub mod RefusedCommandLemmas
+pub mod RefusedLineLemmas

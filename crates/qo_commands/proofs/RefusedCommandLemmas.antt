@@ -13,9 +13,9 @@ use Rattle.qo_chardev.specs.Texts.{told as text_told}
 use Rattle.qo_values.specs.Rings.{ring_oldest}
 use Rattle.qo_guest.specs.declared.answers.GuestAnswer.{GuestAnswer}
 use Rattle.qo_guest.specs.declared.answers.GuestAnswer.TheVariants.{Fine, NoAddress, NoDevice, NoLine, NoMemory, NoNotice, NoPending, NoRegister, NoStopped, Plug, Unplug, Value}
-use Rattle.qo_lane.specs.Hearing.{Outcome, answered as line_answered, heard}
-use Rattle.qo_lane.specs.Refusals.{is_refusal}
-use Rattle.qo_lane.proofs.RefusedLineLemmas.{refused_lines_lem}
+use Rattle.qo_commands.specs.Hearing.{Outcome, answered as line_answered, heard}
+use Rattle.qo_commands.specs.LineRefusals.{is_refusal}
+use Rattle.qo_commands.proofs.RefusedLineLemmas.{refused_lines_lem}
 use Rattle.qo_model.specs.Access.{listing_at, read, write_at}
 use Rattle.qo_model.specs.Board.{Board, Ring, is_live, slots_at}
 use Rattle.qo_model.specs.Depth.{among}
@@ -42,7 +42,7 @@ use Rattle.qo_requests.specs.declared.calls.Call.TheVariants as call
 use Rattle.qo_requests.specs.declared.calls.Change.TheVariants.{Add, Alter}
 use Rattle.qo_requests.specs.declared.calls.Query.{Query}
 use Rattle.qo_requests.specs.declared.calls.Query.TheVariants.{DeviceListProperties, QomGet, QomList, QomListTypes, QueryCommands, QueryStatus, QueryVersion, Quit, XMemmap, XQueryDetached, XQueryNotes}
-use Rattle.qo_rings.specs.Rings.{bytes_in, given_bytes, ring_named}
+use Rattle.qo_chardev.specs.Rings.{bytes_in, given_bytes, ring_named}
 use Rattle.qo_commands.specs.Changes.{attempted}
 use Rattle.qo_replies.specs.Properties.{property_data}
 use Rattle.qo_commands.specs.Commands.{Done, added, adding_properties, altered, answer_told, answered, changed, device_properties, performed, plugged, queried, refused_with, returned, ring_told, timed, told, wrote}

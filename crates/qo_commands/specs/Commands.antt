@@ -9,7 +9,7 @@ use Rattle.qo_values.specs.declared.kinds.TypeId.{TypeId}
 use Rattle.qo_guest.specs.Answers.{text_of}
 use Rattle.qo_guest.specs.declared.answers.GuestAnswer.{GuestAnswer}
 use Rattle.qo_guest.specs.declared.answers.GuestAnswer.TheVariants.{NoLine}
-use Rattle.qo_lane.specs.Hearing.{Outcome, heard}
+use Rattle.qo_commands.specs.Hearing.{Outcome, heard}
 use Rattle.qo_layout.specs.Layout.{flat_view}
 use Rattle.qo_memmap.specs.declared.span.Span.{Span}
 use Rattle.qo_model.specs.Board.{Board, DeviceEvent, is_live}

@@ -1,4 +1,8 @@
 pub mod Changes
 pub mod Commands
-pub mod Views
+pub mod Hearing
+pub mod LineRefusals
+pub mod Lines
+pub mod Memory
 pub mod Refusals
+pub mod Views

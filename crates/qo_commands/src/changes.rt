@@ -8,14 +8,14 @@ ghost use Rattle.qo_requests.specs.declared.calls.Change.TheVariants as change;
 ghost use Rattle.qo_commands.specs.Changes.{Alters, Came, Changes};
 ghost use Rattle.qo_commands.specs.Commands.{altered, empty, told};
 ghost use Rattle.qo_commands.specs.Views.{done_of};
-ghost use Rattle.qo_lane.specs.Hearing.{outcome_of};
+ghost use Rattle.qo_commands.specs.Hearing.{outcome_of};
 ghost use Rattle.qo_realize.specs.Representation.{Stands};
 
 use crate::commands::{Body, Done, done_by, outcome_of, refused, returned};
+use crate::hearing::{Heard, hear};
 use crate::rings::{add_ring, read_ring, remove_ring, write_ring};
 use qo_guest::GuestAnswer;
 use qo_heap::Steps;
-use qo_lane::{Heard, hear};
 use qo_plug::{AddRefusal, DeviceOptions};
 use qo_realize::Board;
 use qo_replies::Event;

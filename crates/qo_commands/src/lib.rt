@@ -1,13 +1,18 @@
-//! Commands over the board: what each returns, what it changes, and the code that refuses it.
+//! What sessions and the guest do to the board. Commands: what each returns, what it changes, and the
+//! code that refuses it. The lines of the guest: where each ends, what it does, and what it is answered
+//! (docs/PROFILE.md, commands and guest lines; include/hw/hotplug.h, what a guest does of hotplug).
 #![tactic(auto)]
 
 mod answers;
 mod changes;
 mod commands;
 mod detached;
+mod hearing;
 pub mod laws;
+mod lines;
 mod listings;
 mod memmap;
+mod memory;
 mod notes;
 mod query_commands;
 mod rings;
@@ -18,5 +23,7 @@ mod whole;
 pub use answers::{answer_written, time_written};
 pub use changes::change;
 pub use commands::{Body, Done, ask};
+pub use hearing::{Heard, hear};
+pub use lines::{cut_lines, without_return};
 pub use listings::listing_text;
 pub use whole::Whole;

@@ -7,7 +7,7 @@ ghost use Rattle.qo_model.specs.Listing.{listing};
 ghost use Rattle.qo_realize.specs.Representation.{Stands};
 ghost use Rattle.qo_replies.specs.Json.{json};
 ghost use Rattle.qo_replies.specs.Properties.{HasWritten, properties_data};
-ghost use Rattle.qo_table.specs.Rows.{IsLive};
+ghost use Rattle.qo_heap.specs.Rows.{IsLive};
 ghost use Rattle.qo_commands.specs.Commands.{answered};
 ghost use Rattle.qo_commands.specs.Views.{done_of};
 

@@ -5,7 +5,7 @@ use Rattle.qo_values.specs.declared.kinds.Act.{Act}
 use Rattle.qo_claims.specs.declared.claims.Claimed.{Claimed}
 use Rattle.qo_slots.specs.declared.keys.Key.{Key}
 use Rattle.qo_object.specs.Content.{Content, acted_at}
-use Rattle.qo_table.specs.Rows.{IsLive, edit}
+use Rattle.qo_heap.specs.Rows.{IsLive, edit}
 use Rattle.qo_model.specs.declared.notes.Note.{Note}
 use Rattle.qo_heap.specs.Acts.{Acts, stilled}
 use Rattle.qo_heap.specs.Book.{IsBook, owned}

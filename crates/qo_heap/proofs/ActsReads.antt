@@ -3,7 +3,7 @@ use Rattle.std.proofs.Common.{◌≡◌, refl, ap, sym, ◌∙◌, ℕ, Bool, tr
 use Rattle.std.specs.Option.{option_map_or}
 use Rattle.std.proofs.lemmas.List.{length-map}
 use Rattle.qo_slots.specs.declared.keys.Key.{Key}
-use Rattle.qo_table.specs.Rows.{object_at}
+use Rattle.qo_heap.specs.Rows.{object_at}
 use Rattle.qo_object.specs.Content.{Content}
 use Rattle.qo_heap.specs.Acts.{Acts, still, stilled}
 use Rattle.qo_heap.specs.Board.{pins_in}

@@ -1,6 +1,6 @@
 -- An act on the heap is that on the boards that it shows.
 use Rattle.std.proofs.Common.{refl, ap, sym, ◌∙◌, ℕ}
-use Rattle.qo_values.specs.Bodies.{body_act}
+use Rattle.qo_values.specs.Registers.{body_act}
 use Rattle.qo_values.specs.declared.kinds.Act.{Act}
 use Rattle.qo_kinds.specs.Bodies.{registers_of}
 use Rattle.qo_kinds.proofs.BodyLemmas.{registers-acted}

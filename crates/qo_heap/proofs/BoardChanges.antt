@@ -7,8 +7,8 @@ use Rattle.qo_values.specs.declared.kinds.TypeId.{TypeId}
 use Rattle.qo_values.specs.declared.properties.Val.{Val}
 use Rattle.qo_kinds.proofs.BodyLemmas.{fresh-registers}
 use Rattle.qo_slots.specs.declared.keys.Key.{Key}
-use Rattle.qo_table.specs.Rows.{Rises, births}
-use Rattle.qo_table.proofs.RowsLemmas.{rises-up}
+use Rattle.qo_heap.specs.Rows.{Rises, births}
+use Rattle.qo_heap.proofs.RowsLemmas.{rises-up}
 use Rattle.qo_model.specs.Board as board
 use Rattle.qo_model.specs.Changes.{make, point, set, cut, add, with_changed, with_cut, with_added}
 use Rattle.qo_model.specs.Changes as changes

@@ -7,13 +7,13 @@ use Rattle.std.proofs.lemmas.Bool.Decides.{nat_tests}
 use Rattle.std.proofs.lemmas.List.{replicate_more}
 use Rattle.std.proofs.lemmas.Option.{same_Some}
 use Rattle.qo_slots.specs.declared.keys.Key.{Key}
-use Rattle.qo_table.specs.Rows.{Rises, births, edit, object_at}
-use Rattle.qo_table.proofs.RowsLemmas.{edit-above}
+use Rattle.qo_heap.specs.Rows.{Rises, births, edit, object_at}
+use Rattle.qo_heap.proofs.RowsLemmas.{edit-above}
 use Rattle.qo_model.specs.Board as board
 use Rattle.qo_model.specs.declared.notes.Note.{Note}
 use Rattle.qo_model.specs.Release.{drop_slot, with_dropped, pin, without_pin, put_in_order, without_first}
 use Rattle.qo_model.specs.Release as release
-use Rattle.qo_notes.proofs.Logs.{one_lem}
+use Rattle.qo_heap.proofs.Logs.{one_lem}
 use Rattle.qo_object.specs.Content.{Content, dropped_at, with_pin}
 use Rattle.qo_object.specs.Content as content
 use Rattle.qo_object.specs.BoardObject.{shown}

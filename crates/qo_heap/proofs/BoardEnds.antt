@@ -4,13 +4,13 @@ use Rattle.std.specs.Prelude.{option_and_then, option_to_list}
 use Rattle.std.specs.Option.{option_map_or}
 use Rattle.std.proofs.lemmas.Bool.{eqb-true}
 use Rattle.qo_slots.specs.declared.keys.Key.{Key}
-use Rattle.qo_table.specs.Rows.{Rises, births, object_at, without}
+use Rattle.qo_heap.specs.Rows.{Rises, births, object_at, without}
 use Rattle.qo_model.specs.Board as board
 use Rattle.qo_model.specs.declared.notes.Note.{Note}
 use Rattle.qo_model.specs.Release.{finish}
 use Rattle.qo_model.specs.Release as release
-use Rattle.qo_notes.specs.Log.{IsLogOf, noted_all}
-use Rattle.qo_notes.proofs.Logs.{all_lem}
+use Rattle.qo_heap.specs.Log.{IsLogOf, noted_all}
+use Rattle.qo_heap.proofs.Logs.{all_lem}
 use Rattle.qo_events.specs.Queue.{Waiting}
 use Rattle.qo_object.specs.Content.{Content}
 use Rattle.qo_object.specs.BoardObject.{shown}

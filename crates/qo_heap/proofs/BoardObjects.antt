@@ -4,7 +4,7 @@ use Rattle.std.specs.Option.{option_and_then}
 use Rattle.std.proofs.lemmas.Bool.{eqb-true}
 use Rattle.qo_values.proofs.ListLemmas.{all-at}
 use Rattle.qo_slots.specs.declared.keys.Key.{Key}
-use Rattle.qo_table.specs.Rows.{IsLive, edit, object_at, row_at, without}
+use Rattle.qo_heap.specs.Rows.{IsLive, edit, object_at, row_at, without}
 use Rattle.qo_object.specs.Slots.{Named, target_of}
 use Rattle.qo_object.specs.Content.{Content, named_at, forgotten}
 use Rattle.qo_heap.specs.Objects.{IsHeap, Objects, content_of, with_edit, ended, forgets}

@@ -11,7 +11,7 @@ use Rattle.std.proofs.lemmas.List.Sums.{sum_by-cons, sum_by-append}
 use Rattle.std.proofs.lemmas.List.Folds.{sum_by-replicate}
 use Rattle.qo_values.specs.declared.kinds.TypeId.{TypeId}
 use Rattle.qo_slots.specs.declared.keys.Key.{Key}
-use Rattle.qo_table.specs.Rows.{IsLive, Rises, births, row_at, object_at}
+use Rattle.qo_heap.specs.Rows.{IsLive, Rises, births, row_at, object_at}
 use Rattle.qo_model.specs.Board as board
 use Rattle.qo_model.specs.References as references
 use Rattle.qo_model.specs.Paths as paths

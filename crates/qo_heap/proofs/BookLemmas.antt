@@ -17,7 +17,7 @@ use Rattle.qo_kinds.specs.declared.bodies.Body.{Body}
 use Rattle.qo_kinds.specs.declared.kept_set.KeptSet.{KeptSet}
 use Rattle.qo_slots.specs.declared.keys.Key.{Key}
 use Rattle.qo_object.specs.Content.{Content}
-use Rattle.qo_table.specs.Rows.{Rises, births, edit, edited, object_at, without}
+use Rattle.qo_heap.specs.Rows.{Rises, births, edit, edited, object_at, without}
 use Rattle.qo_heap.specs.Book.{IsBook, claim_eq, counted, kept_times, one, owned}
 use Rattle.qo_heap.specs.Objects.{IsHeap, Objects, content_of, ended, forgets, with_edit, without_kept, without_one}
 

@@ -10,10 +10,10 @@ use Rattle.qo_object.specs.Content.{Content, fresh, forgotten, holding}
 use Rattle.qo_object.specs.Slots.{holds, each_changed, forgotten_in}
 use Rattle.qo_object.specs.declared.slots.Slot.{Slot}
 use Rattle.qo_object.specs.declared.slots.Slot.TheVariants.{Plain, Child, Link, Alias}
-use Rattle.qo_table.specs.Rows.{Rows, IsLive, Rises, births, without}
-use Rattle.qo_table.proofs.RowsLemmas.{rises-lower}
-use Rattle.qo_notes.specs.Log.{Log, noted, noted_all}
-use Rattle.qo_notes.proofs.Logs.{parts_lem}
+use Rattle.qo_heap.specs.Rows.{IsLive, Rises, births, without}
+use Rattle.qo_heap.proofs.RowsLemmas.{rises-lower}
+use Rattle.qo_heap.specs.Log.{Log, noted, noted_all}
+use Rattle.qo_heap.proofs.Logs.{parts_lem}
 use Rattle.qo_heap.specs.Objects.{HasPlaces, Objects, IsHeap, content_of, final_notes, has_path, refs_of, targets, forgets, with_kept_event}
 use Rattle.qo_heap.proofs.BookLemmas.{sum-ended}
 use Rattle.qo_events.specs.Queue.{Waiting}
@@ -23,6 +23,7 @@ use Rattle.qo_model.specs.Release.{deleted_event}
 use Rattle.qo_heap.proofs.HeapLemmas.{targets_in}
 use Rattle.qo_values.proofs.ListLemmas.{all-imply}
 use Rattle.qo_values.specs.declared.kinds.TypeId.{TypeId}
+use Rattle.qo_values.specs.declared.limits.TheConstants.{LIVE_OBJECTS_MAX}
 use Rattle.qo_model.specs.declared.notes.Deed.TheVariants.{Final}
 use Rattle.qo_model.specs.declared.notes.Note.{Note}
 use Rattle.qo_model.specs.Types.{chain, has_finalizer}
@@ -159,7 +160,7 @@ pub heap-ended : (v : Objects) → IsHeap v → (n : ℕ) → refs_of v n ≡ 0 
 heap-ended v good n free log claims events =
     record {
       rising = rises-without n 0 v.born v.rows good.rising;
-      few = let less = length-without n v.rows in let few : length v.rows ≤ 4096 = good.few in omega arith;
+      few = let less = length-without n v.rows in let few : length v.rows ≤ LIVE_OBJECTS_MAX = good.few in omega arith;
       linked = linked-without n v.rows v.rows good.linked (none-holds n v.rows (let sum : refs_of v n ≡ 0 = free in omega arith));
     }
 
@@ -220,7 +221,7 @@ length-more : (rows : List (Key × Content)) (row : Key × Content) → length (
 length-more [] row = refl
 length-more (r ∷ rows) row = let rest = length-more rows row in omega arith
 
-heap-more : (v : Objects) → IsHeap v → (key : Key) (kind : TypeId) → key.birth ≡ v.born + 1 → length v.rows < 4096
+heap-more : (v : Objects) → IsHeap v → (key : Key) (kind : TypeId) → key.birth ≡ v.born + 1 → length v.rows < LIVE_OBJECTS_MAX
     → IsHeap (record v { rows = v.rows ++ (key, fresh kind) ∷ []; born = v.born + 1 })
 heap-more v good key kind is below =
     record {
@@ -242,13 +243,14 @@ paths-more rows key kind =
     omega (arith, sum_by-append f rows ((key, fresh kind) ∷ []), sum_by-cons f (key, fresh kind) [])
 
 -- the heap after a call that adds an object or gives it back
-pub heap-made : (v : Objects) → IsHeap v × HasPlaces v → (kind : TypeId) → length v.rows < 4096 → (r : Result Key Content) (t : Rows Content)
-    → IfOk r (λ key. (key.birth ≡ v.born + 1) × (t ≡ record { rows = v.rows ++ (key, fresh kind) ∷ []; born = v.born + 1 }))
-    → IfErr r (λ back. (back ≡ fresh kind) × (t ≡ record { rows = v.rows; born = v.born }))
-    → IsHeap (record { rows = t.rows; born = t.born; log = v.log; claims = v.claims; events = v.events; time = v.time })
-    × HasPlaces (record { rows = t.rows; born = t.born; log = v.log; claims = v.claims; events = v.events; time = v.time })
-heap-made v good kind below (Ok key) t done back = rw done.1 (heap-more v good.0 key kind done.0 below, good.1 ∙ sym (paths-more v.rows key kind))
-heap-made v good kind below (Err c) t done back = rw back.1 good
+pub heap-made : (v : Objects) → IsHeap v × HasPlaces v → (kind : TypeId) → length v.rows < LIVE_OBJECTS_MAX → (r : Result Key Content)
+    (rows : List (Key × Content)) (born : ℕ)
+    → IfOk r (λ key. (key.birth ≡ v.born + 1) × ((rows ≡ v.rows ++ (key, fresh kind) ∷ []) × (born ≡ v.born + 1)))
+    → IfErr r (λ back. (back ≡ fresh kind) × ((rows ≡ v.rows) × (born ≡ v.born)))
+    → IsHeap (record v { rows = rows; born = born }) × HasPlaces (record v { rows = rows; born = born })
+heap-made v good kind below (Ok key) rows born done back =
+    rw (done.1.0, done.1.1) (heap-more v good.0 key kind done.0 below, good.1 ∙ sym (paths-more v.rows key kind))
+heap-made v good kind below (Err c) rows born done back = rw (back.1.0, back.1.1) good
 
 -- one note
 pub noted-one : (note : Note) (log : Log) → noted_all (note ∷ []) log ≡ noted note log
@@ -256,7 +258,7 @@ unfolding noted_all
 noted-one note log = refl
 
 -- one type more
-pub note-step : (n : ℕ) (ts : List TypeId) (place : ℕ) (d : TypeId) (first before after : Log) → place < length ts
+note-step : (n : ℕ) (ts : List TypeId) (place : ℕ) (d : TypeId) (first before after : Log) → place < length ts
     → before ≡ noted_all (finals_in n (take place ts)) first
     → after ≡ noted_all (if has_finalizer (get_or ts place d) then final_note n (get_or ts place d) ∷ [] else []) before
     → after ≡ noted_all (finals_in n (take (place + 1) ts)) first
@@ -270,8 +272,29 @@ note-step n ts place d first before after within is more =
     (sym (ap (λ (l : List TypeId). finals_in n l) (take_more ts place d within) ∙ finals_in-more n (take place ts) t))
 
 -- all of them
-pub note-all : (n : ℕ) (kind : TypeId) (ts : List TypeId) (place : ℕ) (first after : Log) → place ≤ length ts → length ts ≤ place → ts ≡ chain kind
+note-all : (n : ℕ) (kind : TypeId) (ts : List TypeId) (place : ℕ) (first after : Log) → place ≤ length ts → length ts ≤ place → ts ≡ chain kind
     → after ≡ noted_all (finals_in n (take place ts)) first → after ≡ noted_all (final_notes n kind) first
 note-all n kind ts place first after low high same is =
     let end : place ≡ length ts = omega arith in
     is ∙ ap (λ (l : List TypeId). noted_all (finals_in n l) first) (ap (λ (k : ℕ). take k ts) end ∙ take_all (length ts) ts (omega arith) ∙ same)
+
+-- so it is of the heap whose log it is
+pub heap-note-step : (n : ℕ) (ts : List TypeId) (place : ℕ) (d : TypeId) (first before after : Objects) → place < length ts
+    → before ≡ record first { log = noted_all (finals_in n (take place ts)) first.log }
+    → after
+    ≡ record before { log = noted_all (if has_finalizer (get_or ts place d) then final_note n (get_or ts place d) ∷ [] else []) before.log }
+    → after ≡ record first { log = noted_all (finals_in n (take (place + 1) ts)) first.log }
+heap-note-step n ts place d first before after within is more =
+    let t = get_or ts place d in
+    let notes : List Note = if has_finalizer t then final_note n t ∷ [] else [] in
+    let log : Log = noted_all (finals_in n (take place ts)) first.log in
+    more
+    ∙ ap (λ (v : Objects). record v { log = noted_all notes v.log }) is
+    ∙ ap (λ (l : Log). record first { log = l }) (note-step n ts place d first.log log (noted_all notes log) within refl refl)
+
+pub heap-note-all : (n : ℕ) (kind : TypeId) (ts : List TypeId) (place : ℕ) (first after : Objects) → place ≤ length ts → length ts ≤ place → ts ≡ chain kind
+    → after ≡ record first { log = noted_all (finals_in n (take place ts)) first.log }
+    → after ≡ record first { log = noted_all (final_notes n kind) first.log }
+heap-note-all n kind ts place first after low high same is =
+    is
+    ∙ ap (λ (l : Log). record first { log = l }) (note-all n kind ts place first.log (noted_all (finals_in n (take place ts)) first.log) low high same refl)

@@ -10,9 +10,9 @@ use Rattle.qo_object.specs.declared.slots.Slot.TheVariants.{Plain, Child, Link, 
 use Rattle.std.specs.Str.{bytes_eq}
 use Rattle.qo_object.specs.Slots.{Named, has_name, target_of, changed_at, let_go_at, pointed, with_val}
 use Rattle.qo_object.specs.Content.{Content, is_parent, with_path, with_slot, dropped_at, pointed_at, set_at, cut_at}
-use Rattle.qo_table.specs.Rows.{IsLive, births, edited, edit, is_at, object_at}
-use Rattle.qo_table.proofs.SearchLemmas.{found-live}
-use Rattle.qo_table.proofs.RowsLemmas.{edit-as}
+use Rattle.qo_heap.specs.Rows.{IsLive, births, edited, edit, is_at, object_at}
+use Rattle.qo_heap.proofs.TableSearch.{found-live}
+use Rattle.qo_heap.proofs.RowsLemmas.{edit-as}
 use Rattle.qo_heap.specs.Objects.{HasPlaces, IsHeap, Objects, content_of, has_path, parent_of, slots_of, targets, with_edit}
 use Rattle.qo_events.specs.Queue.{Waiting, promised}
 use Rattle.qo_heap.proofs.BookLemmas.{sum-changed, sum-edit}

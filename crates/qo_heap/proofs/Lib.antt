@@ -15,3 +15,8 @@ pub mod BoardEnds
 pub mod BoardObjects
 pub mod BoardReads
 pub mod MomentLemmas
+pub mod Logs
+pub mod Parts
+pub mod RowsLemmas
+pub mod TableSearch
+pub mod ValueLemmas

@@ -5,7 +5,7 @@ use Rattle.qo_kinds.specs.Bodies.{IsTimely}
 use Rattle.qo_kinds.proofs.BodyLemmas.{acted-timely}
 use Rattle.qo_slots.specs.declared.keys.Key.{Key}
 use Rattle.qo_object.specs.Content.{Content, acted_at}
-use Rattle.qo_table.specs.Rows.{edit}
+use Rattle.qo_heap.specs.Rows.{edit}
 use Rattle.qo_model.specs.declared.notes.Note.{Note}
 use Rattle.qo_heap.specs.Objects.{Objects, with_edit, with_note}
 use Rattle.qo_heap.specs.Moments.{AllTimely, Timely}

@@ -6,8 +6,8 @@ use Rattle.std.specs.List.{list_any, position_or_len}
 use Rattle.std.proofs.Math.ListN.{drop_of_length-le}
 use Rattle.std.proofs.lemmas.List.Sums.{sum_by-cons}
 use Rattle.qo_slots.specs.declared.keys.Key.{Key}
-use Rattle.qo_table.specs.Rows.{IsLive, Rises, births, edit, row_at, object_at}
-use Rattle.qo_table.proofs.RowsLemmas.{edit-above}
+use Rattle.qo_heap.specs.Rows.{IsLive, Rises, births, edit, row_at, object_at}
+use Rattle.qo_heap.proofs.RowsLemmas.{edit-above}
 use Rattle.qo_heap.specs.Places.{changed_at, first_changed, sum_first}
 
 module _ {X : Type 0} where

@@ -4,7 +4,7 @@ use Rattle.std.proofs.lemmas.Bool.{eq-eqb}
 use Rattle.std.proofs.lemmas.Bool.Decides.{nat_tests}
 use Rattle.std.proofs.lemmas.Option.{same_Some}
 use Rattle.qo_slots.specs.declared.keys.Key.{Key}
-use Rattle.qo_table.specs.Rows.{IsLive, Rises, births, object_at}
+use Rattle.qo_heap.specs.Rows.{IsLive, Rises, births, object_at}
 use Rattle.qo_object.specs.Content.{Content}
 use Rattle.qo_heap.proofs.BoardEdits.{there-above}
 

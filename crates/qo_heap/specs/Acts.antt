@@ -1,13 +1,13 @@
 -- For proofs alone. Bodies act and are noted, and nothing else changes.
 use Rattle.std.specs.Prelude.{◌≡◌, map}
-use Rattle.qo_kinds.specs.declared.bodies.Device.TheVariants.{Plain}
+use Rattle.qo_kinds.specs.declared.bodies.Device.TheVariants.{Bare}
 use Rattle.qo_slots.specs.declared.keys.Key.{Key}
 use Rattle.qo_object.specs.Content.{Content}
 use Rattle.qo_heap.specs.Objects.{Objects}
 
 -- an object but for its device
 abbrev pub still : Content → Content
-still c = record c { body = record c.body { device = Plain } }
+still c = record c { body = record c.body { device = Bare } }
 
 abbrev pub stilled : Key × Content → Key × Content
 stilled row = (row.0, still row.1)

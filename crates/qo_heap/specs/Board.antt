@@ -4,7 +4,7 @@ use Rattle.qo_slots.specs.declared.keys.Key.{Key}
 use Rattle.qo_object.specs.Content.{Content}
 use Rattle.qo_object.specs.BoardObject.{shown}
 use Rattle.qo_model.specs.Board.{Board, Record}
-use Rattle.qo_notes.specs.Log.{IsLogOf}
+use Rattle.qo_heap.specs.Log.{IsLogOf}
 use Rattle.qo_heap.specs.Objects.{Objects}
 
 -- an object as one of the board's

@@ -2,7 +2,11 @@ pub mod Acts
 pub mod Board
 pub mod Book
 pub mod Errors
+pub mod Laws
 pub mod Loans
-pub mod Objects
-pub mod Places
+pub mod Log
 pub mod Moments
+pub mod Objects
+pub mod Order
+pub mod Places
+pub mod Rows

@@ -11,6 +11,7 @@ use Rattle.qo_events.specs.Queue.{Waiting, none_waiting, added, kept}
 use Rattle.qo_kinds.specs.Bodies.{kept_of}
 use Rattle.qo_kinds.specs.declared.kept_set.KeptSet.{KeptSet}
 use Rattle.qo_slots.specs.declared.keys.Key.{Key}
+use Rattle.qo_slots.specs.Table.{Table}
 use Rattle.qo_object.specs.declared.slots.Slot.{Slot}
 use Rattle.qo_object.specs.Slots.{target_of}
 use Rattle.qo_object.specs.Content.{Content, forgotten, holding, is_parent}
@@ -20,8 +21,9 @@ use Rattle.qo_model.specs.declared.notes.Deed.TheVariants.{Final}
 use Rattle.qo_model.specs.declared.notes.Note.{Note}
 use Rattle.qo_model.specs.Release.{deleted_event}
 use Rattle.qo_model.specs.Types.{finals}
-use Rattle.qo_notes.specs.Log.{Log, empty_log, noted, noted_all}
-use Rattle.qo_table.specs.Rows.{IsLive, Rises, births, edit, object_at, without}
+use Rattle.qo_heap.specs.Log.{Log, empty_log, noted, noted_all}
+use Rattle.qo_heap.specs.Order.{rows_in}
+use Rattle.qo_heap.specs.Rows.{IsLive, Rises, births, edit, object_at, without}
 
 -- the objects with their names, the births so far, the log of notes, all that is held, the events that wait, and the
 -- virtual time
@@ -32,6 +34,18 @@ pub record Objects : Type 0 where
   pub claims : ClaimsTaken
   pub events : Waiting
   pub time : ℕ
+
+-- what a heap stands for: the objects of its table in the order of their names, with what stands beside them
+abbrev pub objects_in : Table Content → List Key → ClaimsTaken → List Note → ℕ → ℕ → Waiting → Objects
+objects_in table order claims notes total time events =
+    record {
+      rows = rows_in table order;
+      born = table.born;
+      log = record { total = total; kept = notes };
+      claims = claims;
+      events = events;
+      time = time;
+    }
 
 -- a heap without objects
 abbrev pub no_objects_made : Objects

@@ -1,11 +1,12 @@
 //! The bodies of objects, and the book of claims.
 
 use crate::heap::Heap;
+use crate::table::change;
 use qo_claims::Claims;
 use qo_kinds::Body;
 use qo_model::{Deed, Note};
 use qo_object::Oid;
-use qo_table::Steps;
+use qo_slots::Steps;
 use qo_values::Act;
 use std::sync::ledger::Ledger;
 
@@ -15,7 +16,7 @@ impl Heap {
     ghost use Rattle.qo_kinds.specs.Bodies.{MayAct};
     ghost use Rattle.qo_model.specs.declared.notes.Deed.TheVariants.{Did};
     ghost use Rattle.qo_object.specs.Content.{acted_at};
-    ghost use Rattle.qo_table.specs.Rows.{IsLive};
+    ghost use Rattle.qo_heap.specs.Rows.{IsLive};
     ghost use Rattle.qo_heap.specs.Loans.{lends_claims, lends_body};
     ghost use Rattle.qo_heap.specs.Objects.{content_of, with_edit, with_note};
 
@@ -46,7 +47,7 @@ impl Heap {
         requires { IsLive self.now.rows o }
         ensures { option_map (λ c. c.body) (content_of self.now o.birth) ≡ Some result.now }
     {
-        self.table.look(o, steps).body()
+        self.look(o, steps).body()
     }
 
     /// The body of an object, for writing. It takes no memory.
@@ -55,7 +56,7 @@ impl Heap {
         ensures* writes_back { sem 𝓛 (lends_body self.entry o result) }
         ensures body { option_map (λ c. c.body) (content_of self.old o.birth) ≡ Some result.now }
     {
-        self.table.change(o, steps).body_mut()
+        change(&mut self.table, &self.order, o, steps).body_mut()
     }
 
     /// Runs an act of an object at the heap's time. It takes no memory.
@@ -65,7 +66,7 @@ impl Heap {
         ensures { self.new ≡ with_edit o.birth (acted_at act self.old.time period) self.old }
     {
         let time = self.time;
-        self.table.change(o, steps).act(act, time, period);
+        change(&mut self.table, &self.order, o, steps).act(act, time, period);
     }
 
     /// Runs an act of an object at the heap's time, where `period` is that of its clock, and notes
@@ -76,7 +77,7 @@ impl Heap {
         ensures { self.new ≡ with_note (record { birth = o.birth; deed = Did act }) (with_edit o.birth (acted_at act self.old.time period) self.old) }
     {
         self.run(o, act, period, steps);
-        self.log.add(Note {
+        self.note(Note {
             birth: o.birth,
             deed: Deed::Did(act),
         });

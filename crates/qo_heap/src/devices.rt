@@ -5,10 +5,11 @@ ghost use Rattle.std.specs.Prelude.{◌≡◌, IfOk};
 ghost use Rattle.qo_heap.specs.Objects.{refused_event};
 
 use crate::heap::Heap;
+use crate::table::change;
 use qo_claims::Claim;
 use qo_events::DeviceEvent;
 use qo_object::{DeviceId, Object, Oid};
-use qo_table::Steps;
+use qo_slots::Steps;
 use qo_values::{Id, Text};
 use std::alloc::{AllocError, Global};
 use std::sync::ledger::Ledger;
@@ -50,7 +51,7 @@ impl Heap {
     ghost use Rattle.qo_claims.specs.declared.claims.Claimed.TheVariants as on;
     ghost use Rattle.qo_events.specs.Queue.{promised, told};
     ghost use Rattle.qo_object.specs.Content.{with_id, with_path};
-    ghost use Rattle.qo_table.specs.Rows.{IsLive};
+    ghost use Rattle.qo_heap.specs.Rows.{IsLive};
     ghost use Rattle.qo_heap.specs.Objects.{content_of, with_edit, with_event};
 
     /// Lets the virtual time go on to a moment, in ns. It takes no memory.
@@ -69,9 +70,7 @@ impl Heap {
         ensures now { self.new ≡ with_edit o.birth (with_id id) self.old }
         ensures cost { steps.new ≡ steps.old + 1 }
     {
-        self.table
-            .change(o, steps)
-            .name_device(DeviceId::new(id, claim));
+        change(&mut self.table, &self.order, o, steps).name_device(DeviceId::new(id, claim));
     }
 
     /// The id of a device; `None` exactly where the object has none. It takes no memory.
@@ -80,7 +79,7 @@ impl Heap {
         ensures id { option_map (λ i. i.now) result ≡ option_and_then (λ c. c.device_id) (content_of self.now o.birth) }
         ensures cost { steps.new ≡ steps.old + 1 }
     {
-        self.table.look(o, steps).id()
+        self.look(o, steps).id()
     }
 
     /// Makes room for one event more than wait and are promised a place. The error is want of memory,
@@ -105,7 +104,7 @@ impl Heap {
         ensures cost { steps.new ≡ steps.old + 1 }
     {
         self.events.promise();
-        self.table.change(o, steps).keep_path(path);
+        change(&mut self.table, &self.order, o, steps).keep_path(path);
     }
 
     /// Adds the event that the guest refused the removal of a device, where its path is kept; where
@@ -122,7 +121,7 @@ impl Heap {
         ensures err { OnErr result (self.new ≡ self.old) }
         ensures cost { steps.new ≡ steps.old + 1 }
     {
-        let event = refusal_of(self.table.look(o, steps), alloc)?;
+        let event = refusal_of(self.look(o, steps), alloc)?;
         if let Some(event) = event {
             self.events.add(event)?;
         }

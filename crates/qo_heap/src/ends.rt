@@ -4,64 +4,56 @@
 ghost use Rattle.std.specs.Prelude.{◌≡◌, ◌≤◌, if◌then◌else◌, true, [], ◌∷◌, IfSome, map, option_map};
 ghost use Rattle.qo_model.specs.Types.{has_finalizer};
 ghost use Rattle.qo_model.specs.declared.notes.Deed.TheVariants.{Final};
-ghost use Rattle.qo_notes.specs.Log.{noted_all};
+ghost use Rattle.qo_heap.specs.Log.{noted_all};
 ghost use Rattle.qo_heap.specs.Objects.{final_notes, forgets, with_kept_event, without_device, without_kept, without_one};
+ghost use Rattle.qo_heap.specs.Order.{rows_in, IsOrdered};
 ghost use Rattle.qo_heap.specs.Places.{changed_at};
 
+use crate::heap::Heap;
+use crate::table::{change, key_in};
 use qo_claims::{Claims, Kept};
 use qo_events::{DeviceEvent, Events};
 use qo_kinds::KeptSet;
 use qo_model::{Deed, Note};
-use qo_notes::NoteLog;
-use qo_object::{DeviceId, Object};
-use qo_table::{ObjectTable, Steps};
+use qo_object::{DeviceId, Object, Oid};
+use qo_slots::{Arena, Steps};
 use qo_types::TypeTable;
 use qo_values::{Id, Text, TypeId};
 use std::sync::ledger::Ledger;
 
 /// Empties the weak links of the object at a place that name the object of a birth.
 fn forget_at<L: Ledger>(
-    table: &mut ObjectTable<Object>,
+    table: &mut Arena<Object>,
+    order: &Vec<Oid>,
     place: usize,
     birth: u64,
     steps: &mut Steps<L>,
 )
-    ensures { table.new ≡ record table.old { rows = changed_at (forgets birth) place table.old.rows } }
+    requires { IsOrdered table.old order.now.items }
+    ensures ordered { IsOrdered table.new order.now.items }
+    ensures rows { rows_in table.new order.now.items ≡ changed_at (forgets birth) place (rows_in table.old order.now.items) }
+    ensures born { table.new.born ≡ table.old.born }
 {
-    table.facts();
-    if let Some(key) = table.key_at(place) {
-        table.change(key, steps).forget(birth);
+    if let Some(key) = key_in(order.as_slice(), place) {
+        change(table, order, key, steps).forget(birth);
     }
 }
 
 /// Empties the weak links of all objects that name the object of a birth.
-pub fn forget_all<L: Ledger>(table: &mut ObjectTable<Object>, birth: u64, steps: &mut Steps<L>)
-    ensures { table.new ≡ record table.old { rows = map (forgets birth) table.old.rows } }
+pub fn forget_all<L: Ledger>(
+    table: &mut Arena<Object>,
+    order: &Vec<Oid>,
+    birth: u64,
+    steps: &mut Steps<L>,
+)
+    requires { IsOrdered table.old order.now.items }
+    ensures ordered { IsOrdered table.new order.now.items }
+    ensures rows { rows_in table.new order.now.items ≡ map (forgets birth) (rows_in table.old order.now.items) }
+    ensures born { table.new.born ≡ table.old.born }
 {
-    for place in 0..table.len() {
-        forget_at(table, place, birth, steps);
-    }
-}
-
-/// Adds the final note of an object for a type, where this has a finalizer.
-fn note_final(log: &mut NoteLog, birth: u64, of: TypeId)
-    ensures { log.new ≡ noted_all (if has_finalizer of then record { birth = birth; deed = Final of } ∷ [] else []) log.old }
-{
-    if TypeTable::board().has_finalizer(of) {
-        log.add(Note {
-            birth,
-            deed: Deed::Final(of),
-        });
-    }
-}
-
-/// Adds the final notes of an object of a type, derived first.
-pub fn note_end(log: &mut NoteLog, birth: u64, kind: TypeId)
-    ensures { log.new ≡ noted_all (final_notes birth kind) log.old }
-{
-    let ancestry = TypeTable::board().ancestry(kind);
-    for place in 0..ancestry.len() {
-        note_final(log, birth, ancestry[place]);
+    let names = order.as_slice();
+    for place in 0..names.len() {
+        forget_at(table, order, place, birth, steps);
     }
 }
 
@@ -122,5 +114,29 @@ pub fn tell_deleted(events: &mut Events, id: Option<Id>, path: Option<Text>)
 {
     if let Some(path) = path {
         events.keep(DeviceEvent::deleted(id, path));
+    }
+}
+
+impl Heap {
+    /// Adds the final note of an object for a type, where this has a finalizer.
+    fn note_final(&mut self, birth: u64, of: TypeId)
+        ensures { self.new ≡ record self.old { log = noted_all (if has_finalizer of then record { birth = birth; deed = Final of } ∷ [] else []) self.old.log } }
+    {
+        if TypeTable::board().has_finalizer(of) {
+            self.note(Note {
+                birth,
+                deed: Deed::Final(of),
+            });
+        }
+    }
+
+    /// Adds the final notes of an object of a type, derived first.
+    pub(crate) fn note_end(&mut self, birth: u64, kind: TypeId)
+        ensures { self.new ≡ record self.old { log = noted_all (final_notes birth kind) self.old.log } }
+    {
+        let ancestry = TypeTable::board().ancestry(kind);
+        for place in 0..ancestry.len() {
+            self.note_final(birth, ancestry[place]);
+        }
     }
 }

@@ -1,13 +1,15 @@
 //! The heap, and the calls that make and end objects.
 
-use crate::ends::{forget_all, free_all, note_end, tell_deleted};
+use crate::ends::{forget_all, free_all, tell_deleted};
 use crate::errors::MakeError;
+use crate::table::{add, into_rest, take};
+use circular_buffer::HeapCircularBuffer;
 use qo_claims::Claims;
 use qo_events::Events;
-use qo_notes::NoteLog;
+use qo_model::Note;
 use qo_object::{Object, Oid, Remains};
-use qo_table::{ObjectTable, Steps};
-use qo_values::{LIVE_OBJECTS_MAX, TypeId};
+use qo_slots::{Arena, Steps};
+use qo_values::{LIVE_OBJECTS_MAX, NOTES_KEPT, TypeId};
 use std::alloc::{AllocError, Global};
 use std::marker::Model;
 use std::sync::ledger::Ledger;
@@ -15,33 +17,48 @@ use std::sync::ledger::Ledger;
 /// The objects in the order of their births, the notes on them, all that is held, the events on
 /// devices that wait, and the virtual time, in ns.
 pub struct Heap {
-    pub(crate) table: ObjectTable<Object>,
-    pub(crate) log: NoteLog,
+    /// Where its memory comes from.
+    pub(crate) alloc: Global,
+    /// Each object, under its name.
+    pub(crate) table: Arena<Object>,
+    /// The names of the objects, in the order of their births.
+    pub(crate) order: Vec<Oid>,
     pub(crate) claims: Claims,
-    pub(crate) events: Events,
+    /// The last `NOTES_KEPT` notes; their memory was taken at the start.
+    pub(crate) notes: HeapCircularBuffer<Note>,
+    /// How many notes there were; it stays at 2^64 - 1 once there.
+    pub(crate) total: u64,
+    /// The virtual time, in ns.
     pub(crate) time: u64,
+    pub(crate) events: Events,
 }
 
 impl Model for Heap {
-    ghost use Rattle.qo_heap.specs.Objects.{Objects, IsHeap, HasPlaces};
+    ghost use Rattle.std.specs.Prelude.{◌≡◌, min, length};
+    ghost use Rattle.qo_values.specs.declared.limits.TheConstants.{NOTES_KEPT};
+    ghost use Rattle.qo_heap.specs.Objects.{Objects, IsHeap, HasPlaces, objects_in};
+    ghost use Rattle.qo_heap.specs.Order.{IsOrdered};
 
     ghost Value = { Objects };
 
-    ghost view = { λ h. record { rows = h.table.rows; born = h.table.born; log = h.log; claims = h.claims; events = h.events; time = h.time } };
+    ghost view = { λ h. objects_in h.table h.order.items h.claims h.notes.items h.total h.time h.events };
 
-    ghost invariant = { λ h. IsHeap (record { rows = h.table.rows; born = h.table.born; log = h.log; claims = h.claims; events = h.events; time = h.time }) × HasPlaces (record { rows = h.table.rows; born = h.table.born; log = h.log; claims = h.claims; events = h.events; time = h.time }) };
+    ghost invariant = { λ h. (IsHeap (objects_in h.table h.order.items h.claims h.notes.items h.total h.time h.events) × HasPlaces (objects_in h.table h.order.items h.claims h.notes.items h.total h.time h.events)) × (IsOrdered h.table h.order.items × ((h.notes.capacity ≡ NOTES_KEPT) × (length h.notes.items ≡ min h.total NOTES_KEPT))) };
 }
 
 impl Drop for Heap {
     fn drop(self) {
         let Heap {
+            alloc: _,
             table,
-            log: _,
+            order,
             mut claims,
-            events: _,
+            notes: _,
+            total: _,
             time: _,
+            events: _,
         } = self;
-        let mut rest = table.into_rest();
+        let mut rest = into_rest(table, order);
         while let Some(object) = rest.next() {
             let Remains {
                 kind: _,
@@ -60,21 +77,25 @@ impl Heap {
     ghost use Rattle.qo_heap.specs.Board.{Shows};
     ghost use Rattle.qo_model.specs.Board.{Board};
     ghost use Rattle.qo_object.specs.Content.{fresh, reference_count};
-    ghost use Rattle.qo_table.specs.Rows.{IsLive};
+    ghost use Rattle.qo_heap.specs.Rows.{IsLive};
     ghost use Rattle.qo_heap.specs.Objects.{IsHeap, content_of, ended, no_objects_made, refs_of};
     ghost use Rattle.qo_heap.specs.declared.errors.MakeError.TheVariants.{Limit, Memory as NoMemory};
 
-    /// A heap without objects. The error is want of memory.
+    /// A heap without objects. It takes the memory for all the notes that it will keep at once:
+    /// 1,048,576 bytes, 16 for each. The error is want of memory.
     pub fn new(alloc: Global) -> Result<Heap, AllocError>
         ensures { IfOk result (λ h. h ≡ no_objects_made) }
     {
-        let log = NoteLog::new(alloc)?;
+        let notes = HeapCircularBuffer::with_capacity(alloc, NOTES_KEPT as usize)?;
         Ok(Heap {
-            table: ObjectTable::new(alloc),
-            log,
+            alloc,
+            table: Arena::new(alloc),
+            order: Vec::new(alloc),
             claims: Claims::new(alloc),
-            events: Events::new(alloc),
+            notes,
+            total: 0,
             time: 0,
+            events: Events::new(alloc),
         })
     }
 
@@ -86,11 +107,20 @@ impl Heap {
         let _table = &self.table;
     }
 
+    /// An object. It takes no memory.
+    pub(crate) fn look<L: Ledger>(&self, o: Oid, steps: &mut Steps<L>) -> &Object
+        requires { IsLive self.now.rows o }
+        ensures object { content_of self.now o.birth ≡ Some result.now }
+        ensures cost { steps.new ≡ steps.old + 1 }
+    {
+        self.table.look(o, steps)
+    }
+
     /// What it stands for: there is a board that it shows.
     pub fn shown(&self)
         ensures { (b : Board) × Shows b self.now }
     {
-        self.log.facts();
+        let _total = self.total;
     }
 
     /// Makes an object of a type, without slots and pinned once, of the next birth. `Limit` comes
@@ -107,10 +137,15 @@ impl Heap {
         ensures memory { result ≡ Err NoMemory → length self.old.rows < LIVE_OBJECTS_MAX }
         ensures err { OnErr result (self.new ≡ self.old) }
     {
-        if self.table.len() as u64 >= LIVE_OBJECTS_MAX {
+        if self.live() as u64 >= LIVE_OBJECTS_MAX {
             return Err(MakeError::Limit);
         }
-        match self.table.add(Object::new(alloc, kind), steps) {
+        match add(
+            &mut self.table,
+            &mut self.order,
+            Object::new(alloc, kind),
+            steps,
+        ) {
             Ok(oid) => Ok(oid),
             Err(_) => Err(MakeError::Memory),
         }
@@ -130,10 +165,10 @@ impl Heap {
             kept,
             id,
             path,
-        } = self.table.take(o, steps).into_remains();
+        } = take(&mut self.table, &mut self.order, o, steps).into_remains();
         let id = free_all(&mut self.claims, kept, id);
         tell_deleted(&mut self.events, id, path);
-        forget_all(&mut self.table, o.birth, steps);
-        note_end(&mut self.log, o.birth, kind);
+        forget_all(&mut self.table, &self.order, o.birth, steps);
+        self.note_end(o.birth, kind);
     }
 }

@@ -8,14 +8,19 @@ mod devices;
 mod ends;
 mod errors;
 mod heap;
+pub mod laws;
 mod links;
+mod notes;
 mod reads;
 mod room;
 mod slots;
+mod table;
+#[cfg(test)]
+mod tests;
 mod tree;
 
 pub use ends::free_kept;
 pub use errors::{MakeError, SlotError};
 pub use heap::Heap;
 pub use qo_object::{Oid, Side, Slot, SlotName, SlotView, Work};
-pub use qo_table::Steps;
+pub use qo_slots::{Key, Steps};

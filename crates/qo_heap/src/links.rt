@@ -2,15 +2,16 @@
 //! none finalizes.
 
 use crate::heap::Heap;
+use crate::table::change;
 use qo_object::Oid;
-use qo_table::Steps;
+use qo_slots::Steps;
 use qo_values::Val;
 use std::sync::ledger::Ledger;
 
 impl Heap {
     ghost use Rattle.std.specs.Prelude.{◌≡◌, ◌+◌, ◌<◌, ◌^◌, true, Some, option_map, option_and_then};
     ghost use Rattle.qo_object.specs.Content.{dropped_at, named_at, empty_link_at, pointed_at, set_at, cut_at, with_pin, without_pin};
-    ghost use Rattle.qo_table.specs.Rows.{IsLive};
+    ghost use Rattle.qo_heap.specs.Rows.{IsLive};
     ghost use Rattle.qo_heap.specs.Objects.{content_of, pins_of, with_edit};
 
     /// Lets the slot of an object at a place go, and answers what it named: a child slot is removed,
@@ -21,7 +22,7 @@ impl Heap {
         ensures answer { result ≡ option_and_then (λ c. named_at c at) (content_of self.old o.birth) }
         ensures cost { steps.new ≡ steps.old + 1 }
     {
-        self.table.change(o, steps).empty(at)
+        change(&mut self.table, &self.order, o, steps).empty(at)
     }
 
     /// Points the link at a place, which has no target, at an object.
@@ -32,7 +33,7 @@ impl Heap {
         ensures now { self.new ≡ with_edit o.birth (pointed_at target at) self.old }
         ensures cost { steps.new ≡ steps.old + 1 }
     {
-        self.table.change(o, steps).point(at, target);
+        change(&mut self.table, &self.order, o, steps).point(at, target);
     }
 
     /// Gives the plain slot at a place a value; any other slot stays.
@@ -41,7 +42,7 @@ impl Heap {
         ensures now { self.new ≡ with_edit o.birth (set_at val at) self.old }
         ensures cost { steps.new ≡ steps.old + 1 }
     {
-        self.table.change(o, steps).set(at, val);
+        change(&mut self.table, &self.order, o, steps).set(at, val);
     }
 
     /// Removes the link at a place, which has no target.
@@ -51,7 +52,7 @@ impl Heap {
         ensures now { self.new ≡ with_edit o.birth (cut_at at) self.old }
         ensures cost { steps.new ≡ steps.old + 1 }
     {
-        self.table.change(o, steps).cut(at);
+        change(&mut self.table, &self.order, o, steps).cut(at);
     }
 
     /// Holds an object from outside the tree once more; it may be so held 2^32 times.
@@ -61,7 +62,7 @@ impl Heap {
         ensures now { self.new ≡ with_edit o.birth with_pin self.old }
         ensures cost { steps.new ≡ steps.old + 1 }
     {
-        self.table.change(o, steps).pin();
+        change(&mut self.table, &self.order, o, steps).pin();
     }
 
     /// Holds an object from outside the tree once less.
@@ -71,6 +72,6 @@ impl Heap {
         ensures now { self.new ≡ with_edit o.birth without_pin self.old }
         ensures cost { steps.new ≡ steps.old + 1 }
     {
-        self.table.change(o, steps).unpin();
+        change(&mut self.table, &self.order, o, steps).unpin();
     }
 }

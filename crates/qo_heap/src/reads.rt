@@ -1,122 +1,28 @@
-//! Reading the heap. None of these calls takes memory but `notes`.
+//! Reading the heap. None of these calls takes memory.
 
 ghost use Rattle.std.specs.Prelude.{◌≡◌, ◌≤◌, ◌^◌, false, length, find, slice_get, sum_by};
 ghost use Rattle.std.specs.Option.{option_map_or};
-ghost use Rattle.qo_values.specs.declared.limits.TheConstants.{LIVE_OBJECTS_MAX};
 ghost use Rattle.std.specs.List.{list_any};
 ghost use Rattle.qo_object.specs.Content.{holding, is_holder, is_parent};
 
 use crate::heap::Heap;
-use qo_model::Note;
-use qo_object::{Object, Oid, SlotView};
-use qo_table::{ObjectTable, Steps};
+use crate::table::{key_in, place_of};
+use qo_object::{Oid, SlotView};
+use qo_slots::Steps;
 use qo_values::TypeId;
-use std::alloc::{AllocError, Global};
 use std::sync::ledger::Ledger;
-
-/// How many slots of the object at a place hold the object of a birth; 0 past the last.
-fn holding_at<L: Ledger>(
-    table: &ObjectTable<Object>,
-    place: usize,
-    birth: u64,
-    steps: &mut Steps<L>,
-) -> u64
-    ensures count { result ≡ option_map_or (λ row. holding birth row.1) (slice_get table.now.rows place) 0 }
-    ensures few { result ≤ 2 ^ 32 }
-{
-    table.facts();
-    match table.key_at(place) {
-        Some(key) => {
-            let object = table.look(key, steps);
-            object.facts();
-            object.holding(birth)
-        }
-        None => 0,
-    }
-}
-
-/// How many slots of all objects hold the object of a birth.
-fn holding_in<L: Ledger>(table: &ObjectTable<Object>, birth: u64, steps: &mut Steps<L>) -> u64
-    requires few { length table.now.rows ≤ LIVE_OBJECTS_MAX }
-    ensures count { result ≡ sum_by (λ row. holding birth row.1) table.now.rows }
-    ensures bound { result ≤ 2 ^ 44 }
-{
-    let mut count = 0u64;
-    for place in 0..table.len() {
-        count += holding_at(table, place, birth, steps);
-    }
-    count
-}
-
-/// Whether the object at a place holds the object of a birth; not past the last.
-fn is_holder_at<L: Ledger>(
-    table: &ObjectTable<Object>,
-    place: usize,
-    birth: u64,
-    steps: &mut Steps<L>,
-) -> bool
-    ensures { result ≡ option_map_or (λ row. is_holder birth row.1) (slice_get table.now.rows place) false }
-{
-    table.facts();
-    match table.key_at(place) {
-        Some(key) => table.look(key, steps).is_holder(birth),
-        None => false,
-    }
-}
-
-/// Whether an object holds the object of a birth; no further one is looked at after the first that does.
-fn is_held_in<L: Ledger>(table: &ObjectTable<Object>, birth: u64, steps: &mut Steps<L>) -> bool
-    ensures { result ≡ list_any (λ row. is_holder birth row.1) table.now.rows }
-{
-    for place in 0..table.len() {
-        if is_holder_at(table, place, birth, steps) {
-            return true;
-        }
-    }
-    false
-}
-
-/// Whether the object at a place has the object of a birth as a child; not past the last.
-fn is_parent_at<L: Ledger>(
-    table: &ObjectTable<Object>,
-    place: usize,
-    birth: u64,
-    steps: &mut Steps<L>,
-) -> bool
-    ensures { result ≡ option_map_or (λ row. is_parent birth row.1) (slice_get table.now.rows place) false }
-{
-    table.facts();
-    match table.key_at(place) {
-        Some(key) => table.look(key, steps).is_parent(birth),
-        None => false,
-    }
-}
-
-/// The first place at which an object has the object of a birth as a child; past the last where none has.
-fn parent_place<L: Ledger>(table: &ObjectTable<Object>, birth: u64, steps: &mut Steps<L>) -> usize
-    ensures { slice_get table.now.rows result ≡ find (λ row. is_parent birth row.1) table.now.rows }
-{
-    let len = table.len();
-    for place in 0..len {
-        if is_parent_at(table, place, birth, steps) {
-            return place;
-        }
-    }
-    len
-}
 
 impl Heap {
     ghost use Rattle.std.specs.Prelude.{◌<◌, ◌+◌, nat_lt, Some, option_map, length, find, leb, slice_get, position, IfSome, IfNone, None, IfOk};
     ghost use Rattle.std.specs.Str.{bytes_eq};
-    ghost use Rattle.qo_notes.specs.Log.{given_from, first_from};
-    ghost use Rattle.qo_table.specs.Rows.{IsLive};
+    ghost use Rattle.qo_heap.specs.Rows.{IsLive};
     ghost use Rattle.qo_heap.specs.Objects.{content_of, parent_of, pins_of, refs_of, slots_of};
 
     /// How many objects are live.
     pub fn live(&self) -> usize
         ensures { result ≡ length self.now.rows }
     {
-        self.table.len()
+        self.order.len()
     }
 
     /// The type of an object.
@@ -125,7 +31,7 @@ impl Heap {
         ensures kind { option_map (λ c. c.kind) (content_of self.now o.birth) ≡ Some result }
         ensures cost { steps.new ≡ steps.old + 1 }
     {
-        self.table.look(o, steps).kind()
+        self.look(o, steps).kind()
     }
 
     /// The slot of a name of an object, by one look-up; `None` exactly where it has none.
@@ -135,7 +41,7 @@ impl Heap {
         ensures at { option_map (λ v. v.at) result ≡ position (λ s. bytes_eq name.now s.0) (slots_of self.now o.birth) }
         ensures cost { steps.new ≡ steps.old + 1 }
     {
-        let object = self.table.look(o, steps);
+        let object = self.look(o, steps);
         match object.find(name) {
             Some(at) => object.slot_at(at),
             None => None,
@@ -155,7 +61,7 @@ impl Heap {
         ensures few { IfSome result (λ v. at < 2 ^ 32) }
         ensures cost { steps.new ≡ steps.old + 1 }
     {
-        let object = self.table.look(o, steps);
+        let object = self.look(o, steps);
         object.facts();
         object.slot_at(at)
     }
@@ -167,7 +73,7 @@ impl Heap {
         ensures few { result ≤ 2 ^ 32 }
         ensures cost { steps.new ≡ steps.old + 1 }
     {
-        let object = self.table.look(o, steps);
+        let object = self.look(o, steps);
         object.facts();
         object.len()
     }
@@ -179,9 +85,85 @@ impl Heap {
         ensures few { result ≤ 2 ^ 32 }
         ensures cost { steps.new ≡ steps.old + 1 }
     {
-        let object = self.table.look(o, steps);
+        let object = self.look(o, steps);
         object.facts();
         object.pins()
+    }
+
+    /// How many slots of the object at a place hold the object of a birth; 0 past the last.
+    fn holding_at<L: Ledger>(&self, place: usize, birth: u64, steps: &mut Steps<L>) -> u64
+        ensures count { result ≡ option_map_or (λ row. holding birth row.1) (slice_get self.now.rows place) 0 }
+        ensures few { result ≤ 2 ^ 32 }
+    {
+        self.facts();
+        match self.oid_at(place) {
+            Some(key) => {
+                let object = self.look(key, steps);
+                object.facts();
+                object.holding(birth)
+            }
+            None => 0,
+        }
+    }
+
+    /// How many slots of all objects hold the object of a birth.
+    fn holding_in<L: Ledger>(&self, birth: u64, steps: &mut Steps<L>) -> u64
+        ensures count { result ≡ sum_by (λ row. holding birth row.1) self.now.rows }
+        ensures bound { result ≤ 2 ^ 44 }
+    {
+        self.facts();
+        let mut count = 0u64;
+        for place in 0..self.live() {
+            count += self.holding_at(place, birth, steps);
+        }
+        count
+    }
+
+    /// Whether the object at a place holds the object of a birth; not past the last.
+    fn is_holder_at<L: Ledger>(&self, place: usize, birth: u64, steps: &mut Steps<L>) -> bool
+        ensures { result ≡ option_map_or (λ row. is_holder birth row.1) (slice_get self.now.rows place) false }
+    {
+        self.facts();
+        match self.oid_at(place) {
+            Some(key) => self.look(key, steps).is_holder(birth),
+            None => false,
+        }
+    }
+
+    /// Whether an object holds the object of a birth; no further one is looked at after the first that does.
+    fn is_held_in<L: Ledger>(&self, birth: u64, steps: &mut Steps<L>) -> bool
+        ensures { result ≡ list_any (λ row. is_holder birth row.1) self.now.rows }
+    {
+        for place in 0..self.live() {
+            if self.is_holder_at(place, birth, steps) {
+                return true;
+            }
+        }
+        false
+    }
+
+    /// Whether the object at a place has the object of a birth as a child; not past the last.
+    fn is_parent_at<L: Ledger>(&self, place: usize, birth: u64, steps: &mut Steps<L>) -> bool
+        ensures { result ≡ option_map_or (λ row. is_parent birth row.1) (slice_get self.now.rows place) false }
+    {
+        self.facts();
+        match self.oid_at(place) {
+            Some(key) => self.look(key, steps).is_parent(birth),
+            None => false,
+        }
+    }
+
+    /// The first place at which an object has the object of a birth as a child; past the last where none has.
+    fn parent_place<L: Ledger>(&self, birth: u64, steps: &mut Steps<L>) -> usize
+        ensures { slice_get self.now.rows result ≡ find (λ row. is_parent birth row.1) self.now.rows }
+    {
+        let len = self.live();
+        for place in 0..len {
+            if self.is_parent_at(place, birth, steps) {
+                return place;
+            }
+        }
+        len
     }
 
     /// The references of an object: the child slots and strong links that name it, and its pins.
@@ -190,14 +172,14 @@ impl Heap {
         ensures { result ≡ refs_of self.now o.birth }
     {
         let pins = self.pins(o, steps);
-        pins + holding_in(&self.table, o.birth, steps)
+        pins + self.holding_in(o.birth, steps)
     }
 
     /// Whether a slot holds the object of a birth.
     fn has_holder<L: Ledger>(&self, birth: u64, steps: &mut Steps<L>) -> bool
         ensures { result ≡ list_any (λ row. is_holder birth row.1) self.now.rows }
     {
-        is_held_in(&self.table, birth, steps)
+        self.is_held_in(birth, steps)
     }
 
     /// Whether an object has references: it is pinned, or a slot holds it.
@@ -212,8 +194,8 @@ impl Heap {
     pub fn parent<L: Ledger>(&self, o: Oid, steps: &mut Steps<L>) -> Option<Oid>
         ensures { result ≡ parent_of self.now o.birth }
     {
-        let place = parent_place(&self.table, o.birth, steps);
-        self.table.key_at(place)
+        let place = self.parent_place(o.birth, steps);
+        self.oid_at(place)
     }
 
     /// The live object of a birth; `None` exactly where there is none.
@@ -234,27 +216,7 @@ impl Heap {
     pub fn from_birth(&self, birth: u64) -> Option<Oid>
         ensures { result ≡ option_map (λ row. row.0) (find (λ row. leb birth row.0.birth) self.now.rows) }
     {
-        self.table.from_birth(birth)
-    }
-
-    /// How many notes there were; it stays at 2^64 - 1 once there.
-    pub fn notes_total(&self) -> u64
-        ensures { result ≡ self.now.log.total }
-    {
-        self.log.total()
-    }
-
-    /// The number of the first note that a reading from a number gives.
-    pub fn notes_first(&self, from: u64) -> u64
-        ensures { result ≡ first_from from self.now.log }
-    {
-        self.log.first_from(from)
-    }
-
-    /// The notes that a reading from a number gives, at most `NOTES_PER_REPLY`. The error is want of memory.
-    pub fn notes(&self, from: u64, alloc: Global) -> Result<Vec<Note>, AllocError>
-        ensures { IfOk result (λ notes. notes.items ≡ given_from from self.now.log) }
-    {
-        self.log.get(from, alloc)
+        let place = place_of(self.order.as_slice(), birth);
+        key_in(self.order.as_slice(), place)
     }
 }

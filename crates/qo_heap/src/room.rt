@@ -2,14 +2,15 @@
 //! release. None of these calls takes memory.
 
 use crate::heap::Heap;
+use crate::table::change;
 use qo_object::{Oid, Side, Work};
-use qo_table::Steps;
+use qo_slots::Steps;
 use std::sync::ledger::Ledger;
 
 impl Heap {
     ghost use Rattle.std.specs.Prelude.{◌≡◌, ◌+◌, Some, option_map};
     ghost use Rattle.qo_object.specs.Content.{with_side, with_work};
-    ghost use Rattle.qo_table.specs.Rows.{IsLive};
+    ghost use Rattle.qo_heap.specs.Rows.{IsLive};
     ghost use Rattle.qo_heap.specs.Objects.{content_of, with_edit};
 
     /// What is kept of an object beside the tree: what `set_side` last put, and of a new one zeros.
@@ -18,7 +19,7 @@ impl Heap {
         ensures side { option_map (λ c. c.side) (content_of self.now o.birth) ≡ Some result }
         ensures cost { steps.new ≡ steps.old + 1 }
     {
-        self.table.look(o, steps).side()
+        self.look(o, steps).side()
     }
 
     /// Keeps this of an object beside the tree.
@@ -27,7 +28,7 @@ impl Heap {
         ensures now { self.new ≡ with_edit o.birth (with_side side) self.old }
         ensures cost { steps.new ≡ steps.old + 1 }
     {
-        self.table.change(o, steps).set_side(side);
+        change(&mut self.table, &self.order, o, steps).set_side(side);
     }
 
     /// The place of an object in the work of a release: what `set_work` last put, and of a new one
@@ -37,7 +38,7 @@ impl Heap {
         ensures work { option_map (λ c. c.work) (content_of self.now o.birth) ≡ Some result }
         ensures cost { steps.new ≡ steps.old + 1 }
     {
-        self.table.look(o, steps).work()
+        self.look(o, steps).work()
     }
 
     /// Gives an object a place in the work of a release.
@@ -46,6 +47,6 @@ impl Heap {
         ensures now { self.new ≡ with_edit o.birth (with_work work) self.old }
         ensures cost { steps.new ≡ steps.old + 1 }
     {
-        self.table.change(o, steps).set_work(work);
+        change(&mut self.table, &self.order, o, steps).set_work(work);
     }
 }

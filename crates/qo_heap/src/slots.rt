@@ -2,8 +2,9 @@
 
 use crate::errors::SlotError;
 use crate::heap::Heap;
+use crate::table::change;
 use qo_object::{Oid, Slot, SlotName};
-use qo_table::Steps;
+use qo_slots::Steps;
 use qo_values::{TypeId, Val};
 use std::sync::ledger::Ledger;
 
@@ -14,7 +15,7 @@ impl Heap {
     ghost use Rattle.qo_object.specs.Content.{furnished, with_slot};
     ghost use Rattle.qo_object.specs.Slots.{has_name, names_of, target_of};
     ghost use Rattle.qo_object.specs.declared.slots.Slot.TheVariants.{Plain, Child, Link, Alias};
-    ghost use Rattle.qo_table.specs.Rows.{IsLive};
+    ghost use Rattle.qo_heap.specs.Rows.{IsLive};
     ghost use Rattle.qo_heap.specs.Objects.{parent_of, slots_of, with_edit};
     ghost use Rattle.qo_heap.specs.declared.errors.SlotError.TheVariants.{Duplicate, HasParent, Memory};
 
@@ -35,7 +36,7 @@ impl Heap {
         ensures parent { result ≢ Err HasParent }
         ensures err { OnErr result (self.new ≡ self.old) }
     {
-        self.table.change(o, steps).add(name, slot)?;
+        change(&mut self.table, &self.order, o, steps).add(name, slot)?;
         Ok(())
     }
 
@@ -140,6 +141,6 @@ impl Heap {
         requires few { length slots.items ≤ 2 ^ 32 }
         ensures { self.new ≡ with_edit o.birth (furnished slots.items) self.old }
     {
-        self.table.change(o, steps).furnish(slots);
+        change(&mut self.table, &self.order, o, steps).furnish(slots);
     }
 }

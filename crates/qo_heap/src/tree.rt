@@ -2,21 +2,22 @@
 //! these calls takes memory.
 
 use crate::heap::Heap;
+use crate::table::key_in;
 use qo_object::{Oid, SlotView};
-use qo_table::Steps;
+use qo_slots::Steps;
 use std::sync::ledger::Ledger;
 
 impl Heap {
     ghost use Rattle.std.specs.Prelude.{◌≡◌, ◌+◌, find, option_map, position, slice_get};
     ghost use Rattle.qo_object.specs.Slots.{names_child};
-    ghost use Rattle.qo_table.specs.Rows.{IsLive};
+    ghost use Rattle.qo_heap.specs.Rows.{IsLive};
     ghost use Rattle.qo_heap.specs.Objects.{slots_of};
 
     /// The object at a place in the order of births, from 0; `None` past the last.
     pub fn oid_at(&self, place: usize) -> Option<Oid>
         ensures { result ≡ option_map (λ row. row.0) (slice_get self.now.rows place) }
     {
-        self.table.key_at(place)
+        key_in(self.order.as_slice(), place)
     }
 
     /// The first slot of an object that has the object of a birth as a child; `None` exactly where
@@ -32,7 +33,7 @@ impl Heap {
         ensures at { option_map (λ v. v.at) result ≡ position (λ s. names_child child s.1) (slots_of self.now o.birth) }
         ensures cost { steps.new ≡ steps.old + 1 }
     {
-        let object = self.table.look(o, steps);
+        let object = self.look(o, steps);
         match object.child_place(child) {
             Some(at) => object.slot_at(at),
             None => None,

@@ -1,11 +1,13 @@
-//! Bodies.
+//! Bodies: their devices, which act and whose registers a guest reads and writes, and their claims.
 
-ghost use Rattle.std.specs.Prelude.{◌≡◌, ◌≤◌, ℕ, true};
-ghost use Rattle.qo_values.specs.Bodies.{body_act};
+ghost use Rattle.std.specs.Prelude.{◌≡◌, ◌≤◌, IfNone, ℕ, false, option_map, true};
+ghost use Rattle.qo_values.specs.Registers.{body_act, body_read, body_write, fresh_registers};
 ghost use Rattle.qo_values.specs.Registers as registers;
-ghost use Rattle.qo_kinds.specs.Bodies.{IsBare, MayAct, reads_moment, acted, body_of, device_of, kept_of, none_kept, with_kept};
+ghost use Rattle.qo_kinds.specs.Bodies.{IsBare, IsTimely, MayAct, reads_moment, acted, body_of, device_in, kept_of, none_kept, registers_of, with_kept, with_registers};
+ghost use Rattle.qo_kinds.specs.Effects.{shown_effect};
 
 use crate::bridge::Bridge;
+use crate::effects::Effect;
 use crate::kept_set::{KeptSet, end_none};
 use qo_dimm::Dimm;
 use qo_timer::Timer;
@@ -32,14 +34,8 @@ pub enum Device {
     Dimm(Dimm),
     /// A bridge.
     Bridge(Bridge),
-    /// A bus.
-    Bus,
-    /// A clock.
-    Clock,
-    /// A memory backend.
-    Backend,
     /// Any other object.
-    Plain,
+    Bare,
 }
 
 /// An act of a UART.
@@ -69,23 +65,48 @@ fn act_timer(timer: &mut Timer, act: Act, time: u64, period: u64)
     }
 }
 
+/// Writes to a register of a UART, at whatever moment and period.
+fn write_uart(uart: &mut Uart, reg: u8, value: u32, ring: bool) -> Option<Effect>
+    ensures written { option_map (λ effect. (registers.uart uart.new, shown_effect effect)) result ≡ body_write (registers.uart uart.old) reg value ring 0 0 }
+    ensures absent { IfNone result (uart.new ≡ uart.old) }
+{
+    match uart.write(reg, value, ring)?.byte {
+        Some(byte) => Some(Effect::Byte(byte)),
+        None => Some(Effect::Nothing),
+    }
+}
+
+/// Writes to a register of a timer, which has no ring.
+fn write_timer(timer: &mut Timer, reg: u8, value: u32, time: u64, period: u64) -> Option<Effect>
+    requires { timer.old.last ≤ time }
+    ensures written { option_map (λ effect. (registers.timer timer.new, shown_effect effect)) result ≡ body_write (registers.timer timer.old) reg value false time period }
+    ensures absent { IfNone result (timer.new ≡ timer.old) }
+{
+    timer.write(reg, value, time, period)?;
+    Some(Effect::Nothing)
+}
+
+/// Writes to a register of a DIMM, which change nothing, whatever is written and when.
+fn write_dimm(dimm: &Dimm, reg: u8) -> Option<Effect>
+    ensures { option_map (λ effect. (registers.dimm dimm.now, shown_effect effect)) result ≡ body_write (registers.dimm dimm.now) reg 0 false 0 0 }
+{
+    match dimm.read(reg) {
+        Some(_) => Some(Effect::Nothing),
+        None => None,
+    }
+}
+
 impl Device {
     /// The device of a new object of a type.
     fn of(kind: TypeId) -> Device
-        ensures { result ≡ device_of kind }
+        ensures { result ≡ device_in (fresh_registers kind) }
     {
         match kind {
             TypeId::SlotUart => Device::Uart(Uart::fresh()),
             TypeId::SlotTimer => Device::Timer(Timer::fresh()),
             TypeId::MemDimm => Device::Dimm(Dimm { addr: 0, size: 0 }),
             TypeId::SlotBridge => Device::Bridge(Bridge::fresh()),
-            TypeId::Bus => Device::Bus,
-            TypeId::SlotBus => Device::Bus,
-            TypeId::MemBus => Device::Bus,
-            TypeId::Clock => Device::Clock,
-            TypeId::MemoryBackend => Device::Backend,
-            TypeId::MemoryBackendRam => Device::Backend,
-            _ => Device::Plain,
+            _ => Device::Bare,
         }
     }
 }
@@ -120,6 +141,48 @@ impl Body {
             Device::Timer(timer) => act_timer(timer, act, time, period),
             Device::Bridge(bridge) => bridge.act(act),
             _ => {}
+        }
+    }
+
+    /// What register `reg` reads at a moment, in ns, where `ring` says whether a ring is claimed and
+    /// `period` is that of the device's clock, in units of 2^-32 ns. `None` is a register that is
+    /// absent.
+    pub fn read(&self, reg: u8, ring: bool, time: u64, period: u64) -> Option<u32>
+        requires { IsTimely time self.now }
+        ensures { result ≡ body_read (registers_of self.now) reg ring time period }
+    {
+        match &self.device {
+            Device::Uart(uart) => uart.read(reg, ring, period),
+            Device::Timer(timer) => timer.read(reg, time, period),
+            Device::Dimm(dimm) => dimm.read(reg),
+            Device::Bridge(bridge) => bridge.read(reg),
+            _ => None,
+        }
+    }
+
+    /// Writes `value` to register `reg` at a moment, in ns, where `ring` says whether a ring is claimed
+    /// and `period` is that of the device's clock, in units of 2^-32 ns; and answers what the write
+    /// does beside. `None` is a register that is absent; the body is then as before.
+    pub fn write(
+        &mut self,
+        reg: u8,
+        value: u32,
+        ring: bool,
+        time: u64,
+        period: u64,
+    ) -> Option<Effect>
+        requires { IsTimely time self.old }
+        ensures written { option_map (λ effect. (registers_of self.new, shown_effect effect)) result ≡ body_write (registers_of self.old) reg value ring time period }
+        ensures rest { self.new ≡ with_registers (registers_of self.new) self.old }
+        ensures kept { kept_of self.new ≡ kept_of self.old }
+        ensures absent { IfNone result (self.new ≡ self.old) }
+    {
+        match &mut self.device {
+            Device::Uart(uart) => write_uart(uart, reg, value, ring),
+            Device::Timer(timer) => write_timer(timer, reg, value, time, period),
+            Device::Dimm(dimm) => write_dimm(dimm, reg),
+            Device::Bridge(bridge) => bridge.write(reg, value),
+            _ => None,
         }
     }
 

@@ -1,8 +1,7 @@
 //! The registers of a bridge, as a guest reads and writes them, and its reset phases.
 
 ghost use Rattle.std.specs.Prelude.{◌≡◌, ◌%◌, ◌==◌, ◌&&◌, ℕ, IfNone, false, if◌then◌else◌, not, option_map};
-ghost use Rattle.qo_values.specs.Bodies.{body_act, bridge_read, bridge_write, nothing, pulse};
-ghost use Rattle.qo_values.specs.Registers.{bridge};
+ghost use Rattle.qo_values.specs.Registers.{body_act, bridge_read, bridge_write, nothing, pulse, bridge};
 ghost use Rattle.qo_kinds.specs.Effects.{shown_effect};
 
 use crate::effects::Effect;

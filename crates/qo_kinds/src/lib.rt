@@ -7,7 +7,6 @@ mod bodies;
 mod bridge;
 mod effects;
 mod kept_set;
-mod registers;
 
 pub use bodies::{Body, Device};
 pub use bridge::Bridge;

@@ -6,14 +6,14 @@ use Rattle.std.proofs.lemmas.Bool.{and_parts, leb-true}
 use Rattle.std.proofs.lemmas.Option.{same_Some}
 use Rattle.qo_values.specs.Placing.{window_end, window_start}
 use Rattle.qo_values.specs.Properties.{is_multiple}
-use Rattle.qo_values.specs.Registers.{Registers, bare, bridge, dimm, fresh_registers, timer, uart}
+use Rattle.qo_values.specs.Registers.{Registers, bare, dimm, fresh_registers}
 use Rattle.qo_values.specs.declared.births.TheConstants.{MEMORY_BUS_BIRTH}
 use Rattle.qo_values.specs.declared.kinds.TypeId.{TypeId}
-use Rattle.qo_values.specs.declared.kinds.TypeId.TheVariants.{Object, Container, Machine, Device, SlotDevice, SlotUart, SlotTimer, SlotBridge, MemDimm, Bus, SlotBus, MemBus, Clock, MemoryBackend, MemoryBackendRam, Tag}
+use Rattle.qo_values.specs.declared.kinds.TypeId.TheVariants.{Device, MemBus}
 use Rattle.qo_values.specs.declared.limits.TheConstants.{BACKEND_SIZE_AT_FIRST, BACKEND_SIZE_MAX, DIMM_ALIGN}
 use Rattle.qo_values.specs.declared.properties.PropType.TheVariants as ty
 use Rattle.qo_values.specs.declared.properties.Val.TheVariants as val
-use Rattle.qo_values.proofs.EachLemmas.{each}
+use Rattle.qo_values.proofs.EachLemmas.{each, each_body}
 use Rattle.qo_model.specs.Board.{Board, Record, Slot, plain, kind_of, record_of}
 use Rattle.qo_model.specs.Devices.{bus_of, is_realized, number_in, plain_in}
 use Rattle.qo_model.specs.Paths.{is_of}
@@ -47,11 +47,7 @@ dimm-type = each (λ (t : TypeId). is_a t (codes "device") ≡ true → is_a Mem
 
 -- an object without registers has no range
 no-range : (registers : Registers) → is_like registers bare ≡ true → (dimm_in registers).address ≡ 0
-no-range (uart u) e = clash-back e
-no-range (timer t) e = clash-back e
-no-range (dimm d) e = clash-back e
-no-range (bridge x) e = clash-back e
-no-range bare e = refl
+no-range = each_body (λ (r : Registers). is_like r bare ≡ true → (dimm_in r).address ≡ 0) (search rules)
 
 -- The size of a memory backend.
 
@@ -60,26 +56,15 @@ record SizeRow (t : TypeId) : Type 0 where
   row_is : property_named t (codes "size") ≡ Some its
   role_is : its.role ≡ row.Plain (ty.Uint DIMM_ALIGN BACKEND_SIZE_MAX DIMM_ALIGN) (first.Uint BACKEND_SIZE_AT_FIRST)
 
+abbrev size : Property
+size = property prop.Size (row.Plain (ty.Uint DIMM_ALIGN BACKEND_SIZE_MAX DIMM_ALIGN) (first.Uint BACKEND_SIZE_AT_FIRST)) Add
+
+abbrev SaysSize : TypeId → Type 0
+SaysSize t = is_a t (codes "memory-backend") ≡ true → property_named t (codes "size") ≡ Some size
+
 size-row : (t : TypeId) → is_a t (codes "memory-backend") ≡ true → SizeRow t
 unfolding types
-size-row Object e = clash-back e
-size-row Container e = clash-back e
-size-row Machine e = clash-back e
-size-row Device e = clash-back e
-size-row SlotDevice e = clash-back e
-size-row SlotUart e = clash-back e
-size-row SlotTimer e = clash-back e
-size-row SlotBridge e = clash-back e
-size-row MemDimm e = clash-back e
-size-row Bus e = clash-back e
-size-row SlotBus e = clash-back e
-size-row MemBus e = clash-back e
-size-row Clock e = clash-back e
-size-row MemoryBackend e =
-    record { its = property prop.Size (row.Plain (ty.Uint DIMM_ALIGN BACKEND_SIZE_MAX DIMM_ALIGN) (first.Uint BACKEND_SIZE_AT_FIRST)) Add; row_is = refl; role_is = refl }
-size-row MemoryBackendRam e =
-    record { its = property prop.Size (row.Plain (ty.Uint DIMM_ALIGN BACKEND_SIZE_MAX DIMM_ALIGN) (first.Uint BACKEND_SIZE_AT_FIRST)) Add; row_is = refl; role_is = refl }
-size-row Tag e = clash-back e
+size-row t e = record { its = size; row_is = each SaysSize (search rules) t e; role_is = refl }
 
 size-most : (v : ℕ) → HasRole (row.Plain (ty.Uint DIMM_ALIGN BACKEND_SIZE_MAX DIMM_ALIGN) (first.Uint BACKEND_SIZE_AT_FIRST)) (plain (val.Uint v)) → 1 ≤ v
 size-most v (inl none) = absurd (let bad : first.Uint BACKEND_SIZE_AT_FIRST ≡ first.Nothing = none.0 in cc)

@@ -1,10 +1,11 @@
 -- What stands in slots, slot after slot, and the range of a DIMM.
-use Rattle.std.proofs.Common.{◌≡◌, refl, ap, sym, ◌∙◌, append_assoc, append-nil, ℕ, zero, suc, ◌+◌, List, ◌++◌, option_map, Option, Some, None, arith}
+use Rattle.std.proofs.Common.{rules, ◌≡◌, refl, ap, sym, ◌∙◌, append_assoc, append-nil, ℕ, zero, suc, ◌+◌, List, ◌++◌, option_map, Option, Some, None, arith}
 use Rattle.std.specs.List.{flat_map, range_with_len}
 use Rattle.std.specs.Option.{option_map_or}
 use Rattle.std.proofs.lemmas.Option.{same_Some}
-use Rattle.qo_values.specs.Registers.{DimmRegisters}
-use Rattle.qo_kinds.specs.Bodies.{registers_in, registers_of}
+use Rattle.qo_values.specs.Registers.{DimmRegisters, Registers, dimm}
+use Rattle.qo_values.proofs.EachLemmas.{each_body}
+use Rattle.qo_kinds.specs.Bodies.{device_in, registers_in, registers_of, same_device}
 use Rattle.qo_kinds.specs.declared.bodies.Body.{Body}
 use Rattle.qo_kinds.specs.declared.bodies.Device.{Device}
 use Rattle.qo_kinds.specs.declared.bodies.Device.TheVariants as of
@@ -48,12 +49,11 @@ range-shown b v s n body e =
     go None f = absurd (let none : None ≡ Some body = f in cc)
     go (Some c) f = ap (λ (x : Body). dimm_in (registers_of x)) (same_Some c.body body f)
 
+dimm-none : (r : Registers) → ((d : DimmRegisters) → r ≡ dimm d → ⊥) → record { address = 0; size = 0 } ≡ dimm_in r
+dimm-none = each_body (λ (r : Registers). ((d : DimmRegisters) → r ≡ dimm d → ⊥) → record { address = 0; size = 0 } ≡ dimm_in r) (search (rules, is-none))
+  where
+    is-none : (e : DimmRegisters) → ((d : DimmRegisters) → dimm e ≡ dimm d → ⊥) → record { address = 0; size = 0 } ≡ e
+    is-none e other = absurd (other e refl)
+
 pub range-none : (device : Device) → ((d : DimmRegisters) → device ≡ of.Dimm d → ⊥) → record { address = 0; size = 0 } ≡ dimm_in (registers_in device)
-range-none (of.Uart u) other = refl
-range-none (of.Timer t) other = refl
-range-none (of.Dimm d) other = absurd (other d refl)
-range-none (of.Bridge b) other = refl
-range-none of.Bus other = refl
-range-none of.Clock other = refl
-range-none of.Backend other = refl
-range-none of.Plain other = refl
+range-none device other = dimm-none (registers_in device) (λ d is. other d (sym (same_device device) ∙ ap device_in is))

@@ -1,7 +1,7 @@
 //! The memory map of a board, made from its heap.
 
 ghost use Rattle.std.specs.Prelude.{◌≡◌, ◌<◌, ◌^◌, ◌++◌, [], ◌∷◌, length, IfErr, IfOk, OnOk};
-ghost use Rattle.qo_table.specs.Rows.{IsLive};
+ghost use Rattle.qo_heap.specs.Rows.{IsLive};
 ghost use Rattle.qo_model.specs.Board.{Board};
 ghost use Rattle.qo_heap.specs.Board.{Shows};
 ghost use Rattle.qo_memmap.specs.declared.errors.MapError.TheVariants.{Memory};

@@ -3,7 +3,7 @@
 
 ghost use Rattle.std.specs.Prelude.{◌≡◌, ◌==◌, ◌≤◌, ◌++◌, All, IfOk, IfSome, OnOk, codes, length, nat_eq, position, true};
 ghost use Rattle.std.specs.List.{position_or_len};
-ghost use Rattle.qo_table.specs.Rows.{IsLive};
+ghost use Rattle.qo_heap.specs.Rows.{IsLive};
 ghost use Rattle.qo_model.specs.Board.{Board};
 ghost use Rattle.qo_model.specs.Paths.{is_of};
 ghost use Rattle.qo_model.specs.Reset.{post};

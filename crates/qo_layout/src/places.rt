@@ -2,7 +2,7 @@
 
 ghost use Rattle.std.specs.Prelude.{◌≡◌, ◌+◌, ◌-◌, ◌*◌, ◌^◌, ◌<◌, ◌≤◌, ◌++◌, IfOk, OnOk, flat_map, length};
 ghost use Rattle.qo_values.specs.declared.births.TheConstants.{MEMORY_BUS_BIRTH as memory_bus};
-ghost use Rattle.qo_table.specs.Rows.{IsLive};
+ghost use Rattle.qo_heap.specs.Rows.{IsLive};
 ghost use Rattle.qo_model.specs.Board.{Board};
 ghost use Rattle.qo_heap.specs.Board.{Shows};
 ghost use Rattle.qo_layout.specs.Layout.{device_places, mapped, memory_places, placed, range_of, slot_places, slots_of_bus};

@@ -1,7 +1,7 @@
 //! The region of an object of the board.
 
 ghost use Rattle.std.specs.Prelude.{◌≡◌, ◌^◌, ◌<◌, ◌≤◌, IfOk, length};
-ghost use Rattle.qo_table.specs.Rows.{IsLive};
+ghost use Rattle.qo_heap.specs.Rows.{IsLive};
 ghost use Rattle.qo_memmap.specs.Regions.{area_of};
 ghost use Rattle.qo_model.specs.Board.{Board};
 ghost use Rattle.qo_heap.specs.Board.{Shows};

@@ -1,18 +1,18 @@
 -- The init notes of an object, as they are added one after another.
 use Rattle.std.proofs.Common.{◌≡◌, refl, ap, sym, ◌∙◌, ℕ, ◌+◌, ◌<◌, Bool, true, false, cond, List, [], ◌∷◌, ◌++◌, map, filter, length, drop, get_or, reverse, arith, rules}
 use Rattle.std.proofs.lemmas.List.{append-nil, map-append, reverse-append, drop_more, drop_all}
-use Rattle.qo_values.specs.Bodies.{body_act}
+use Rattle.qo_values.specs.Registers.{body_act, Registers}
+use Rattle.qo_values.proofs.EachLemmas.{each_body}
 use Rattle.qo_values.specs.declared.kinds.TypeId.{TypeId}
 use Rattle.qo_values.specs.declared.kinds.Act.TheVariants.{Init}
-use Rattle.qo_kinds.specs.Bodies.{acted, device_with, registers_in}
+use Rattle.qo_kinds.specs.Bodies.{acted, device_in, registers_in, same_device}
 use Rattle.qo_kinds.specs.declared.bodies.Body.{Body}
 use Rattle.qo_kinds.specs.declared.bodies.Device.{Device}
-use Rattle.qo_kinds.proofs.BodyLemmas.{each_device}
 use Rattle.qo_object.specs.Content.{acted_at}
 use Rattle.qo_model.specs.declared.notes.Note.{Note}
 use Rattle.qo_model.specs.Types.{has_finalizer}
-use Rattle.qo_notes.specs.Log.{Log, noted_all}
-use Rattle.qo_notes.proofs.Logs.{parts_lem}
+use Rattle.qo_heap.specs.Log.{Log, noted_all}
+use Rattle.qo_heap.proofs.Logs.{parts_lem}
 use Rattle.qo_heap.specs.Objects.{Objects, with_edit, with_note}
 use Rattle.qo_heap.proofs.HeapLemmas.{edit-nothing}
 use Rattle.qo_life.specs.Life.{init_note, with_notes}
@@ -45,9 +45,10 @@ with_notes-one note v = refl
 
 -- an initializer changes no register
 init-still : (t : TypeId) (time period : ℕ) (b : Body) → acted (Init t) time period b ≡ b
-init-still t time period b =
-    ap (λ (d : Device). record b { device = d })
-    (each_device (λ (d : Device). device_with (body_act (Init t) time period (registers_in d)) d ≡ d) (search rules) b.device)
+init-still t time period b = ap (λ (d : Device). record b { device = d }) (ap device_in (none (registers_in b.device)) ∙ same_device b.device)
+  where
+    none : (r : Registers) → body_act (Init t) time period r ≡ r
+    none = each_body (λ (r : Registers). body_act (Init t) time period r ≡ r) (search rules)
 
 -- the initializer of a type that has one, and of one that has none
 pub init-had : (n : ℕ) (t : TypeId) (time period : ℕ) (v w : Objects) → has_finalizer t ≡ true

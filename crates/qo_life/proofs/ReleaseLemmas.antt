@@ -6,14 +6,14 @@ use Rattle.std.specs.Option.{option_map_or}
 use Rattle.std.proofs.lemmas.Bool.{eqb-true, eq-eqb}
 use Rattle.std.proofs.lemmas.Option.{same_Some}
 use Rattle.qo_slots.specs.declared.keys.Key.{Key}
-use Rattle.qo_table.specs.Rows.{IsLive}
+use Rattle.qo_heap.specs.Rows.{IsLive}
 use Rattle.qo_model.specs.Board.{Board}
 use Rattle.qo_model.specs.Board as board
 use Rattle.qo_model.specs.References.{refs}
 use Rattle.qo_model.specs.Release.{drop_slot, next_index, finish, holding, width, after, finalize, let_go, unpin}
 use Rattle.qo_model.specs.Release as release
 use Rattle.qo_model.proofs.ReleaseLemmas.{after-holding, drop-holding, drop-falls, end_of, end_of-first, end_of-none, end_of-some, finalize-shrinks, place-falls, place-lt-width}
-use Rattle.qo_notes.specs.Log.{Log, empty_log, noted_all}
+use Rattle.qo_heap.specs.Log.{Log, empty_log, noted_all}
 use Rattle.qo_object.specs.declared.slots.Slot.{Slot}
 use Rattle.qo_object.specs.declared.slots.Slot.TheVariants.{Plain, Child, Link, Alias}
 use Rattle.qo_object.specs.Slots.{Named, held, slot_in, target_of}

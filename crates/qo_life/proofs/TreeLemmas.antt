@@ -3,12 +3,12 @@ use Rattle.std.proofs.Common.{◌≡◌, refl, ap, sym, subst, ◌∙◌, ℕ, �
 use Rattle.std.proofs.lemmas.Bool.{eqb-true}
 use Rattle.std.proofs.lemmas.Option.{same_Some}
 use Rattle.qo_slots.specs.declared.keys.Key.{Key}
-use Rattle.qo_table.specs.Rows.{IsLive, edit, without, row_at}
+use Rattle.qo_heap.specs.Rows.{IsLive, edit, without, row_at}
 use Rattle.qo_model.specs.Board.{Board, DeviceEvent, Record}
 use Rattle.qo_model.specs.Release.{drop_slot, finish}
 use Rattle.qo_model.specs.Release as release
-use Rattle.qo_notes.specs.Log.{Log, empty_log, noted_all}
-use Rattle.qo_notes.proofs.Logs.{none_lem, parts_lem}
+use Rattle.qo_heap.specs.Log.{Log, empty_log, noted_all}
+use Rattle.qo_heap.proofs.Logs.{none_lem, parts_lem}
 use Rattle.qo_object.specs.Content.{Content, dropped_at, forgotten}
 use Rattle.qo_object.specs.Content as content
 use Rattle.qo_heap.specs.Board.{Shows, record_of, pins_in}

@@ -6,7 +6,7 @@ use Rattle.std.proofs.lemmas.Bool.{eqb-true}
 use Rattle.std.proofs.lemmas.Option.{same_Some}
 use Rattle.std.proofs.Math.Nat.{mul-le-mul, suc-mul}
 use Rattle.qo_slots.specs.declared.keys.Key.{Key}
-use Rattle.qo_table.specs.Rows.{IsLive, edit, without}
+use Rattle.qo_heap.specs.Rows.{IsLive, edit, without}
 use Rattle.qo_model.specs.Board.{Board}
 use Rattle.qo_model.specs.Board as board
 use Rattle.qo_model.specs.References.{refs}
@@ -15,7 +15,7 @@ use Rattle.qo_model.specs.ReleaseWork.{rest}
 use Rattle.qo_model.proofs.ReleaseLemmas.{drop-falls, drop-holding, drop-width, end_of-first, finish-holding, finish-width, place-lt-width}
 use Rattle.qo_model.proofs.ReleaseWorkLemmas.{rest-ended, rest-freed, rest-kept}
 use Rattle.qo_model.proofs.StepLemmas.{unheld-apart}
-use Rattle.qo_notes.specs.Log.{Log, empty_log, noted_all}
+use Rattle.qo_heap.specs.Log.{Log, empty_log, noted_all}
 use Rattle.qo_object.specs.declared.room.Work.{Work}
 use Rattle.qo_object.specs.declared.slots.Slot.{Slot}
 use Rattle.qo_object.specs.declared.slots.Slot.TheVariants.{Plain, Child, Link, Alias}

@@ -4,9 +4,9 @@ ghost use Rattle.std.specs.Prelude.{◌≡◌, ◌+◌, ◌<◌, [], ◌∷◌, 
 ghost use Rattle.qo_values.specs.declared.kinds.TypeId.{TypeId};
 ghost use Rattle.qo_values.specs.declared.limits.TheConstants.{LIVE_OBJECTS_MAX};
 ghost use Rattle.qo_model.specs.Types.{has_finalizer};
-ghost use Rattle.qo_notes.specs.Log.{noted_all};
+ghost use Rattle.qo_heap.specs.Log.{noted_all};
 ghost use Rattle.qo_object.specs.Content.{fresh};
-ghost use Rattle.qo_table.specs.Rows.{IsLive};
+ghost use Rattle.qo_heap.specs.Rows.{IsLive};
 ghost use Rattle.qo_heap.specs.declared.errors.MakeError.TheVariants.{Limit, Memory as NoMemory};
 ghost use Rattle.qo_life.specs.Life.{init_note, init_notes, with_notes};
 

@@ -5,7 +5,7 @@ ghost use Rattle.qo_model.specs.Board.{Board};
 ghost use Rattle.qo_model.specs.Release.{after, finalize, let_go, unpin};
 ghost use Rattle.qo_object.specs.BoardObject.{birth_of};
 ghost use Rattle.qo_object.specs.Slots.{held, slot_in};
-ghost use Rattle.qo_table.specs.Rows.{IsLive};
+ghost use Rattle.qo_heap.specs.Rows.{IsLive};
 ghost use Rattle.qo_heap.specs.Board.{Shows};
 ghost use Rattle.qo_heap.specs.Objects.{pins_of, refs_of, slots_of};
 ghost use Rattle.qo_life.specs.Life.{Goes, KeepsNames, next_at};

@@ -6,8 +6,8 @@ use Rattle.qo_causes.specs.declared.inputs.What.{What}
 use Rattle.qo_causes.specs.declared.inputs.What.TheVariants.{Open, Bytes, Shut, Guest, Step, End}
 use Rattle.qo_commands.specs.Commands.{event_of, perform}
 use Rattle.qo_framing.specs.declared.items.Item.{Item}
-use Rattle.qo_lane.specs.Hearing.{Outcome, heard}
-use Rattle.qo_lane.specs.Lines.{lines_of, without_return}
+use Rattle.qo_commands.specs.Hearing.{Outcome, heard}
+use Rattle.qo_commands.specs.Lines.{lines_of, without_return}
 use Rattle.qo_sessions.specs.Acts.{act}
 use Rattle.qo_sessions.specs.Sessions.{closed, fed}
 use Rattle.qo_sessions.specs.declared.acts.SessionAct.{SessionAct}

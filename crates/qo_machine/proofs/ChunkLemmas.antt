@@ -11,9 +11,9 @@ use Rattle.qo_framing.proofs.Steps.{cuts_anywhere}
 use Rattle.qo_framing.specs.Cut.{Cut, Framing, cut}
 use Rattle.qo_framing.specs.declared.items.Item.{Item}
 use Rattle.qo_guest.specs.declared.answers.GuestAnswer.TheVariants.{NoMemory}
-use Rattle.qo_lane.proofs.LineLemmas.{lines-cut}
-use Rattle.qo_lane.specs.Hearing.{heard}
-use Rattle.qo_lane.specs.Lines.{Lines, lines_of, without_return}
+use Rattle.qo_commands.proofs.LineLemmas.{lines-cut}
+use Rattle.qo_commands.specs.Hearing.{heard}
+use Rattle.qo_commands.specs.Lines.{Lines, lines_of, without_return}
 use Rattle.qo_model.specs.Board.{Board}
 use Rattle.qo_replies.specs.Replies.{error_reply, return_reply}
 use Rattle.qo_replies.specs.declared.events.Event.{Event}

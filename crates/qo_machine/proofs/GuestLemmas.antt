@@ -4,8 +4,8 @@ use Rattle.qo_causes.specs.declared.hubs.Lane.TheVariants.{Guest as guest}
 use Rattle.qo_causes.specs.declared.inputs.Moment.{Moment}
 use Rattle.qo_causes.specs.declared.inputs.What.TheVariants.{Guest}
 use Rattle.qo_guest.specs.declared.answers.GuestAnswer.TheVariants.{NoMemory}
-use Rattle.qo_lane.specs.Hearing.{Outcome, heard}
-use Rattle.qo_lane.specs.Lines.{lines_of, without_return}
+use Rattle.qo_commands.specs.Hearing.{Outcome, heard}
+use Rattle.qo_commands.specs.Lines.{lines_of, without_return}
 use Rattle.qo_model.specs.Board.{Board}
 use Rattle.qo_realize.specs.Representation.{Stands}
 use Rattle.qo_replies.specs.declared.events.Event.{Event}

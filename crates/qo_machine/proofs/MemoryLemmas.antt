@@ -15,7 +15,7 @@ use Rattle.qo_sessions.specs.declared.acts.SessionAct.TheVariants.{Answer, Negot
 use Rattle.qo_values.specs.declared.codes.Code.{Code}
 use Rattle.qo_values.specs.declared.limits.TheConstants.{SESSIONS}
 use Rattle.qo_model.specs.Board.{Board}
-use Rattle.qo_lane.specs.Lines.{lines_of}
+use Rattle.qo_commands.specs.Lines.{lines_of}
 use Rattle.qo_realize.specs.Representation.{Stands}
 use Rattle.qo_machine.proofs.MachineLemmas.{by_board, in_at, serve_on_by}
 use Rattle.qo_machine.specs.Machine.{BreaksOff, BreaksOffAt, Choice, IsIn, Made, Message, Seen, State, Stepped, by_item, defined, fed_at, item_step, items_at, made_by, mode_of, session_of, state_with, with_line, with_session}

@@ -34,9 +34,9 @@ use Rattle.qo_guest.specs.declared.lines.GuestAct.TheVariants.{Ack, Nack, Poll, 
 use Rattle.qo_layout.specs.Layout.{register_at}
 use Rattle.qo_layout.specs.declared.addresses.TheConstants.{BOOT_LEAF}
 use Rattle.qo_layout.specs.declared.views.RegisterPlace.{RegisterPlace}
-use Rattle.qo_lane.specs.Hearing.{acked, acted, fine, has_registers, heard, heard_act, if_pending, if_written, nacked, peeked, poked, read_by, written_by}
-use Rattle.qo_lane.specs.Hearing as hearing
-use Rattle.qo_lane.specs.Lines.{lines_of, without_return}
+use Rattle.qo_commands.specs.Hearing.{acked, acted, fine, has_registers, heard, heard_act, if_pending, if_written, nacked, peeked, poked, read_by, written_by}
+use Rattle.qo_commands.specs.Hearing as hearing
+use Rattle.qo_commands.specs.Lines.{lines_of, without_return}
 use Rattle.qo_plug.specs.Admission.{wanted}
 use Rattle.qo_realize.specs.Chardevs.{Reading, chardev_added, chardev_barred, chardev_removed, removal_barred, ringbuf_read, ringbuf_written, with_rings}
 use Rattle.qo_realize.specs.Guest.{polled}
@@ -53,8 +53,8 @@ use Rattle.qo_requests.specs.declared.calls.Alteration.TheVariants.{Stop, Cont, 
 use Rattle.qo_requests.specs.declared.calls.Call.{Call}
 use Rattle.qo_requests.specs.declared.calls.Call.TheVariants as call
 use Rattle.qo_requests.specs.declared.calls.Change.TheVariants.{Add, Alter}
-use Rattle.qo_rings.specs.Rings.{new_ring, ring_changed, without_ring}
-use Rattle.qo_rings.specs.declared.rings.TheConstants.{RING_SIZE_DEFAULT}
+use Rattle.qo_chardev.specs.Rings.{new_ring, ring_changed, without_ring}
+use Rattle.qo_chardev.specs.declared.rings.TheConstants.{RING_SIZE_DEFAULT}
 use Rattle.qo_sessions.specs.Acts.{act}
 use Rattle.qo_sessions.specs.Sessions.{closed, fed}
 use Rattle.qo_sessions.specs.declared.acts.SessionAct.{SessionAct}

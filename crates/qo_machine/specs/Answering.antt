@@ -9,8 +9,8 @@ use Rattle.qo_framing.specs.declared.items.Item.{Item}
 use Rattle.qo_guest.specs.declared.answers.GuestAnswer.TheVariants.{NoMemory}
 use Rattle.qo_commands.specs.Changes.{attempted}
 use Rattle.qo_commands.specs.Commands.{empty, perform}
-use Rattle.qo_lane.specs.Hearing.{heard}
-use Rattle.qo_lane.specs.Lines.{lines_of, without_return}
+use Rattle.qo_commands.specs.Hearing.{heard}
+use Rattle.qo_commands.specs.Lines.{lines_of, without_return}
 use Rattle.qo_replies.specs.Replies.{error_reply, greeting, return_reply}
 use Rattle.qo_replies.specs.declared.events.Event.{Event}
 use Rattle.qo_requests.specs.declared.calls.Call.{Call}

@@ -15,8 +15,8 @@ use Rattle.qo_framing.specs.declared.items.Item.{Item}
 use Rattle.qo_guest.specs.Answers.{text_of}
 use Rattle.qo_guest.specs.declared.answers.GuestAnswer.{GuestAnswer}
 use Rattle.qo_guest.specs.declared.answers.GuestAnswer.TheVariants.{NoMemory}
-use Rattle.qo_lane.specs.Hearing.{Outcome, heard}
-use Rattle.qo_lane.specs.Lines.{lines_of, without_return}
+use Rattle.qo_commands.specs.Hearing.{Outcome, heard}
+use Rattle.qo_commands.specs.Lines.{lines_of, without_return}
 use Rattle.qo_model.specs.Board.{Board}
 use Rattle.qo_model.specs.Opening.{opening_board}
 use Rattle.qo_replies.specs.Events.{event_line}

@@ -8,7 +8,7 @@ use Rattle.qo_sessions.specs.Sessions.{in_mode}
 use Rattle.qo_sessions.specs.declared.acts.SessionAct.{SessionAct}
 use Rattle.qo_sessions.specs.declared.acts.SessionAct.TheVariants.{Answer, Negotiated, Do}
 use Rattle.qo_sessions.specs.declared.modes.Mode.TheVariants.{Commanding}
-use Rattle.qo_lane.specs.Hearing.{Outcome}
+use Rattle.qo_commands.specs.Hearing.{Outcome}
 use Rattle.qo_model.specs.Board.{Board}
 use Rattle.qo_commands.specs.Commands.{event_of, performed}
 use Rattle.qo_realize.specs.Parts.{Parts}

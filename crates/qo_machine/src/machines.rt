@@ -13,11 +13,10 @@ use crate::replying::{EMPTY, changed_text, guest_text, reply_text};
 use crate::serving::{serve_items, serve_lines};
 use json::Scratch;
 use qo_causes::{Input, Lane, Moment, What};
-use qo_commands::ask;
+use qo_commands::{ask, cut_lines, hear};
 use qo_events::DeviceEvent;
 use qo_framing::Item;
 use qo_heap::Steps;
-use qo_lane::{cut_lines, hear};
 use qo_realize::Board;
 use qo_replies::{Event, return_written};
 use qo_requests::{Call, Change, Query};
@@ -25,6 +24,7 @@ use qo_sessions::{Mode, Session, SessionAct};
 use qo_values::{Chars, SESSIONS, Text};
 use std::alloc::{AllocError, Global};
 use std::marker::{Brand, Model};
+use std::mem::replace;
 use std::sync::ledger::{Blank, Ledger};
 
 /// How many sessions there are, as a length.
@@ -75,6 +75,9 @@ pub(crate) struct Core {
     spent: bool,
     /// Room for reading messages, which is kept from one to the next.
     scratch: Box<Scratch>,
+    /// Room for the items of a step, and for what it sends, which are kept from one to the next.
+    items: Vec<Item>,
+    outs: Outs,
 }
 
 impl Model for Core {
@@ -158,6 +161,14 @@ impl Machine {
         done
     }
 
+    /// Keeps the room of messages that were sent, for those of later steps. It takes no memory.
+    pub(crate) fn keep_outs(&mut self, outs: Outs)
+        ensures { self.new ≡ self.old }
+    {
+        self.core.shown();
+        self.core.keep_outs(outs);
+    }
+
     /// Closes the sessions that are lost, as if each was shut. It takes no memory.
     pub(crate) fn close_lost(&mut self, lost: &[bool; LANES])
         ensures state { (s : State) → IsIn s self.old → IsIn (close_lost lost.now s) self.new }
@@ -180,8 +191,8 @@ impl Core {
     ghost use Rattle.qo_machine.specs.Machine.{Answers, BreaksOff, IsIn, State, after_command, beside, finished, input_step, mode_of, opening, session_of, state_with, with_line, with_session};
     ghost use Rattle.qo_machine.specs.Runs.{close_lost};
     ghost use Rattle.qo_machine.specs.Sending.{AreToLanes};
-    ghost use Rattle.qo_lane.specs.Hearing.{heard};
-    ghost use Rattle.qo_lane.specs.Lines.{lines_of};
+    ghost use Rattle.qo_commands.specs.Hearing.{heard};
+    ghost use Rattle.qo_commands.specs.Lines.{lines_of};
     ghost use Rattle.qo_machine.specs.Serving.{Came, CameTo, moved};
 
     /// The machine at first: the opening board, and all sessions closed.
@@ -206,6 +217,8 @@ impl Core {
             ended: false,
             spent: false,
             scratch: Box::new(alloc, Scratch::new(alloc))?,
+            items: Vec::new(alloc),
+            outs: Outs::none(alloc),
         })
     }
 
@@ -356,19 +369,63 @@ impl Core {
         if session >= SESSIONS {
             return Ok(Outs::none(alloc));
         }
-        let items = self.feed(alloc, session, bytes)?;
-        serve_items(self, alloc, at, session, &items, steps)
+        let room = self.item_room(alloc);
+        let items = self.feed(alloc, session, bytes, room)?;
+        let outs = serve_items(self, alloc, at, session, &items, steps);
+        self.keep_items(items);
+        outs
+    }
+
+    /// A list without items, in the room of the one before. It takes no memory.
+    fn item_room(&mut self, alloc: Global) -> Vec<Item>
+        ensures none { result.items ≡ [] }
+        ensures same { self.new ≡ self.old }
+    {
+        let mut room = replace(&mut self.items, Vec::new(alloc));
+        room.clear();
+        room
+    }
+
+    /// Keeps the room of items that were served, and lets them go. It takes no memory.
+    fn keep_items(&mut self, items: Vec<Item>)
+        ensures { self.new ≡ self.old }
+    {
+        let mut room = items;
+        room.clear();
+        self.items = room;
+    }
+
+    /// No message, and room for so many, in that of the messages before. The error is want of memory.
+    pub(crate) fn out_room(&mut self, alloc: Global, count: usize) -> Result<Outs, AllocError>
+        ensures none { IfOk result (λ outs. outs ≡ []) }
+        ensures same { self.new ≡ self.old }
+    {
+        replace(&mut self.outs, Outs::none(alloc)).emptied(count)
+    }
+
+    /// Keeps the room of messages that were sent. It takes no memory.
+    fn keep_outs(&mut self, outs: Outs)
+        ensures { self.new ≡ self.old }
+    {
+        self.outs = outs;
     }
 
     /// The items that bytes of a session complete.
-    fn feed(&mut self, alloc: Global, session: u8, bytes: &[u8]) -> Result<Vec<Item>, AllocError>
-        requires { session < SESSIONS }
+    fn feed(
+        &mut self,
+        alloc: Global,
+        session: u8,
+        bytes: &[u8],
+        room: Vec<Item>,
+    ) -> Result<Vec<Item>, AllocError>
+        requires session { session < SESSIONS }
+        requires room { room.items ≡ [] }
         ensures items { (b : Tree) → IfOk result (λ items. items.items ≡ (fed (session_of (state_with b self.old) session) bytes.now).items) }
         ensures state { (b : Tree) → IfOk result (λ items. state_with b self.new ≡ with_session (state_with b self.old) session (fed (session_of (state_with b self.old) session) bytes.now).session) }
         ensures board { self.new.board ≡ self.old.board }
         ensures lasts { self.new.spent ≡ self.old.spent }
     {
-        self.sessions[usize::from(session)].feed(alloc, bytes)
+        self.sessions[usize::from(session)].feed(alloc, bytes, room)
     }
 
     /// Bytes of the guest come: the lines that end in them are served in turn.

@@ -46,13 +46,14 @@ impl Outs {
         }
     }
 
-    /// No message, and room for so many. The error is want of memory.
-    pub(crate) fn with_room(alloc: Global, count: usize) -> Result<Outs, AllocError>
+    /// No message, and room for so many, in the room of these. The error is want of memory.
+    pub(crate) fn emptied(self, count: usize) -> Result<Outs, AllocError>
         ensures { IfOk result (λ outs. outs ≡ []) }
     {
-        Ok(Outs {
-            messages: Vec::with_capacity(alloc, count)?,
-        })
+        let mut messages = self.messages;
+        messages.clear();
+        messages.reserve(count)?;
+        Ok(Outs { messages })
     }
 
     /// Adds one message to a lane.

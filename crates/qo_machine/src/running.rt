@@ -114,6 +114,7 @@ fn turn<H: Hub>(alloc: Global, hub: &mut H, machine: &mut Machine) -> Result<(),
     };
     match send_all(hub, outs.as_slice()) {
         Ok(lost) => {
+            machine.keep_outs(outs);
             machine.close_lost(&lost);
             Ok(())
         }

@@ -18,11 +18,11 @@ use crate::outs::Outs;
 use crate::replying::{EMPTY, guest_text};
 use crate::telling::Emitted;
 use qo_causes::{Lane, Moment};
+use qo_commands::without_return;
 use qo_events::DeviceEvent;
 use qo_framing::Item;
 use qo_guest::GuestAnswer;
 use qo_heap::Steps;
-use qo_lane::without_return;
 use qo_replies::{Event, error_text, return_written};
 use qo_requests::Call;
 use qo_sessions::{Mode, SessionAct};
@@ -52,14 +52,20 @@ impl Sending {
     }
 
     /// Nothing is sent so far, and there is room for so many messages. The error is want of memory.
-    fn with_room(alloc: Global, at: Moment, count: usize) -> Result<Sending, AllocError>
+    fn with_room(
+        machine: &mut Core,
+        alloc: Global,
+        at: Moment,
+        count: usize,
+    ) -> Result<Sending, AllocError>
         ensures moment { IfOk result (λ sending. sending.at ≡ at) }
         ensures none { IfOk result (λ sending. sending.outs ≡ []) }
+        ensures same { machine.new ≡ machine.old }
     {
         Ok(Sending {
             alloc,
             at,
-            outs: Outs::with_room(alloc, count)?,
+            outs: machine.out_room(alloc, count)?,
         })
     }
 
@@ -245,7 +251,7 @@ pub(crate) fn serve_items<L: Ledger>(
     ensures lanes { IfOk result AreToLanes }
     ensures lasts { machine.new.spent ≡ machine.old.spent }
 {
-    let mut sending = Sending::with_room(alloc, at, items.len())?;
+    let mut sending = Sending::with_room(machine, alloc, at, items.len())?;
     for item in items {
         serve_item(machine, session, item, &mut sending, steps)?;
     }

@@ -1,6 +1,6 @@
 -- What `qom-set` does: it writes as the command that adds an object does, or the number of a clock, no wider than its property.
-use Rattle.std.proofs.Common.{◌≡◌, refl, subst, ℕ, ◌^◌, ◌-◌, ◌%◌, ◌<◌, ◌≤◌, Bool, true, false, ◌&&◌, nat_le, cond, List, Option, Some, None, is_some, Result, Ok, Err, arith}
-use Rattle.qo_model.proofs.Common.{◌==◌, AllByRecursion, bytes_eq, admits, Code, E17, E19, TypeId, PropType, Val, write_at, Board, Slot, kind_of, slot_named, plain, child, strong, weak, alias, clock_scaled, clock_set, clock_property_written, in_slot, is_set, role_written, led_by, led_to, number_written, only_set, own_property, set_property, set_row, typed_written, div_of, mul_of, object_at, property_named, write, property_name, slots_of, types}
+use Rattle.std.proofs.Common.{◌≡◌, refl, subst, ℕ, ◌^◌, ◌-◌, ◌%◌, ◌<◌, ◌≤◌, Bool, true, false, ◌&&◌, nat_le, cond, List, Option, Some, None, is_some, Result, Ok, Err, arith, rules}
+use Rattle.qo_model.proofs.Common.{◌==◌, AllByRecursion, bytes_eq, admits, Code, E17, E19, TypeId, PropType, Val, write_at, Board, Slot, kind_of, slot_named, plain, child, strong, weak, alias, clock_scaled, clock_set, clock_property_written, in_slot, is_set, role_written, led_by, led_to, number_written, only_set, own_property, set_property, set_row, typed_written, div_of, mul_of, object_at, property_named, write, property_name, slots_of, types, uint64, up_to}
 use Rattle.qo_model.specs.declared.properties.Mark.{Mark}
 use Rattle.qo_model.specs.declared.properties.Property.{Property}
 use Rattle.qo_model.specs.declared.properties.PropertyName.{PropertyName}
@@ -10,6 +10,7 @@ use Rattle.std.proofs.lemmas.Bool.{leb-true}
 use Rattle.qo_values.proofs.ListLemmas.{found-has}
 use Rattle.qo_values.specs.declared.kinds.TypeId.TheVariants as type
 use Rattle.qo_values.specs.declared.properties.Val.TheVariants as val
+use Rattle.qo_values.proofs.EachLemmas.{each}
 use Rattle.qo_model.specs.declared.properties.Mark.TheVariants as mark
 use Rattle.qo_model.specs.declared.properties.PropertyName.TheVariants as prop
 use Rattle.qo_model.specs.declared.properties.PropertyRole.TheVariants as row
@@ -41,33 +42,15 @@ below n hi t e = go (nat_le 0 n) (nat_le n hi) refl e
     go false true is q = cc
     go false false is q = cc
 
+period-fits : (n : ℕ) → admits uint64 (val.Uint n) ≡ true → n < 2 ^ 64
+period-fits n e = let most : n ≤ 2 ^ 64 - 1 = below n (2 ^ 64 - 1) (n % 1 == 0) e in omega arith
+
+ratio-fits : (n : ℕ) → admits (up_to 4294967295) (val.Uint n) ≡ true → n < 2 ^ 32
+ratio-fits n e = let most : n ≤ 4294967295 = below n 4294967295 (n % 1 == 0) e in omega arith
+
 rows-fit : (t : TypeId) → AllByRecursion FitsRow (slots_of t)
 unfolding types
-rows-fit type.Object = (tt, tt)
-rows-fit type.Container = (tt, tt)
-rows-fit type.Machine = (tt, tt)
-rows-fit type.Device = (tt, (tt, (tt, (tt, (tt, (tt, tt))))))
-rows-fit type.SlotDevice = (tt, (tt, (tt, (tt, (tt, (tt, (tt, (tt, tt))))))))
-rows-fit type.SlotUart = (tt, (tt, (tt, (tt, (tt, (tt, (tt, (tt, (tt, tt)))))))))
-rows-fit type.SlotTimer = (tt, (tt, (tt, (tt, (tt, (tt, (tt, (tt, tt))))))))
-rows-fit type.SlotBridge = (tt, (tt, (tt, (tt, (tt, (tt, (tt, (tt, (tt, tt)))))))))
-rows-fit type.MemDimm = (tt, (tt, (tt, (tt, (tt, (tt, (tt, (tt, tt))))))))
-rows-fit type.Bus = (tt, tt)
-rows-fit type.SlotBus = (tt, tt)
-rows-fit type.MemBus = (tt, tt)
-rows-fit type.Clock = (
-  tt,
-  (
-    λ n e. let most : n ≤ 2 ^ 64 - 1 = below n (2 ^ 64 - 1) (n % 1 == 0) e in omega arith,
-    (
-      λ n e. let most : n ≤ 4294967295 = below n 4294967295 (n % 1 == 0) e in omega arith,
-      (λ n e. let most : n ≤ 4294967295 = below n 4294967295 (n % 1 == 0) e in omega arith, (tt, tt)),
-    ),
-  ),
-)
-rows-fit type.MemoryBackend = (tt, (tt, tt))
-rows-fit type.MemoryBackendRam = (tt, (tt, tt))
-rows-fit type.Tag = (tt, (tt, (tt, (tt, (tt, (tt, tt))))))
+rows-fit = each (λ (t : TypeId). AllByRecursion FitsRow (slots_of t)) (search (rules, period-fits, ratio-fits))
 
 -- so does that of the property that is found
 abbrev FitsProperty : Property → Type 0

@@ -6,14 +6,13 @@ unfoldable pub use Rattle.std.specs.List.{IsDistinct}
 pub use Rattle.std.specs.Option.{option_map_or, option_or}
 pub use Rattle.std.specs.Prelude.{Contains, List, codes, count_by, drop, filter, get_or, if◌then◌else◌, nat_eq, nat_le, nat_lt, option_map, take, unwrap_or, ◌==◌, ◌||◌}
 pub use Rattle.std.specs.Str.{bytes_eq}
-pub use Rattle.qo_values.specs.Bodies.{Effect, body_act, body_write, bridge_write, effect_of, nothing}
+pub use Rattle.qo_values.specs.Registers.{Effect, body_act, body_write, bridge_write, effect_of, nothing, BridgeRegisters, DimmRegisters, Registers, TimerRegisters, UartRegisters, bare, bridge, dimm, fresh_registers, timer, uart}
 pub use Rattle.qo_values.specs.Dimm.{dimm_read}
 pub use Rattle.qo_values.specs.Ids.{is_id}
 pub use Rattle.qo_values.specs.Kinds.{type_name}
 pub use Rattle.qo_values.specs.Placing.{fits_at, free_address, is_in_window, overlap, overlaps_any, range_at, window_end, window_size, window_start}
 unfoldable pub use Rattle.qo_values.specs.Placing.{least}
 pub use Rattle.qo_values.specs.Properties.{admits, is_multiple}
-pub use Rattle.qo_values.specs.Registers.{BridgeRegisters, DimmRegisters, Registers, TimerRegisters, UartRegisters, bare, bridge, dimm, fresh_registers, timer, uart}
 pub use Rattle.qo_values.specs.Rings.{is_ring_size}
 pub use Rattle.qo_values.specs.Timer.{after_begin, after_end, control_write, reload_write, span_ticks, timer_enter, timer_halt, timer_hold, timer_update, timer_write}
 pub use Rattle.qo_values.specs.Uart.{uart_write}

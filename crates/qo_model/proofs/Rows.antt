@@ -1,32 +1,9 @@
--- Worked rows: what the table of types and the opening board give, by computing.
+-- Worked rows: what the rows of types and the opening board give, by computing.
 use Rattle.std.proofs.Common.{rules, ◌≡◌, refl, ℕ, zero, suc, List, [], ◌∷◌, ◌++◌, length, map, filter, codes}
-use Rattle.qo_model.proofs.Common.{bytes_eq, type_name, TypeId, Object, Container, Device, SlotDevice, SlotUart, SlotBridge, MemDimm, SlotBus, Clock, MemoryBackend, MemoryBackendRam, Tag, Board, listing, opening_board, opening_records, fresh_record, slots_with, canonical, path_down_to, attached, resolve_absolute, components, walk, refs, TypeInfo, type_named, types, type_line, chain, is_a, slots_of, inits, finals, property_name}
+use Rattle.qo_model.proofs.Common.{bytes_eq, type_name, TypeId, Object, Container, Device, SlotDevice, SlotUart, SlotBridge, MemDimm, SlotBus, Clock, MemoryBackend, MemoryBackendRam, Tag, Board, listing, opening_board, opening_records, fresh_record, slots_with, canonical, path_down_to, attached, resolve_absolute, components, walk, refs, TypeInfo, type_named, types, chain, is_a, slots_of, inits, finals, property_name}
 use Rattle.qo_model.specs.declared.properties.Property.{Property}
 use Rattle.std.proofs.Common.{true, false, not, ◌&&◌, if◌then◌else◌, Option, Some, None, option_map}
 use Rattle.qo_values.proofs.EachLemmas.{each}
-
--- the lines of the types
-lines-of-types :
-    map type_line types
-    ≡ (codes "object - abstract -" ++ 10 ∷ [])
-    ∷ (codes "container object plain -" ++ 10 ∷ [])
-    ∷ (codes "machine object plain hotplug-handler,resettable" ++ 10 ∷ [])
-    ∷ (codes "device object abstract resettable" ++ 10 ∷ [])
-    ∷ (codes "slot-device device abstract -" ++ 10 ∷ [])
-    ∷ (codes "slot-uart slot-device plain -" ++ 10 ∷ [])
-    ∷ (codes "slot-timer slot-device plain -" ++ 10 ∷ [])
-    ∷ (codes "slot-bridge slot-device plain hotplug-handler" ++ 10 ∷ [])
-    ∷ (codes "mem-dimm device plain -" ++ 10 ∷ [])
-    ∷ (codes "bus object abstract resettable" ++ 10 ∷ [])
-    ∷ (codes "slot-bus bus plain -" ++ 10 ∷ [])
-    ∷ (codes "mem-bus bus plain -" ++ 10 ∷ [])
-    ∷ (codes "clock object plain -" ++ 10 ∷ [])
-    ∷ (codes "memory-backend object abstract user-creatable" ++ 10 ∷ [])
-    ∷ (codes "memory-backend-ram memory-backend plain -" ++ 10 ∷ [])
-    ∷ (codes "tag object plain user-creatable" ++ 10 ∷ [])
-    ∷ []
-unfolding types
-lines-of-types = refl
 
 -- chains, and what is of which name
 chain-of-uart : chain SlotUart ≡ SlotUart ∷ SlotDevice ∷ Device ∷ Object ∷ []

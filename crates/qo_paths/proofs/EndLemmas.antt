@@ -6,7 +6,7 @@ use Rattle.std.specs.Option.{option_and_then, option_map_or}
 use Rattle.std.specs.List.{cons_option}
 use Rattle.std.specs.Str.{bytes_eq}
 use Rattle.qo_slots.specs.declared.keys.Key.{Key}
-use Rattle.qo_table.specs.Rows.{Rises, births, object_at}
+use Rattle.qo_heap.specs.Rows.{Rises, births, object_at}
 use Rattle.qo_object.specs.Content.{Content}
 use Rattle.qo_object.specs.BoardObject.{birth_of}
 use Rattle.qo_values.specs.declared.kinds.TypeId.{TypeId}

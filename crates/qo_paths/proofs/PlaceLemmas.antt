@@ -5,7 +5,7 @@ use Rattle.std.specs.List.{position_or_len}
 use Rattle.std.proofs.lemmas.List.Folds.{find_at}
 use Rattle.std.proofs.lemmas.Bool.{eqb-true, eq-eqb}
 use Rattle.qo_slots.specs.declared.keys.Key.{Key}
-use Rattle.qo_table.specs.Rows.{row_at}
+use Rattle.qo_heap.specs.Rows.{row_at}
 use Rattle.qo_object.specs.Slots.{Named, names_child}
 use Rattle.qo_object.specs.Content.{Content, is_parent}
 use Rattle.qo_model.specs.Board.{Board}

@@ -5,7 +5,7 @@ ghost use Rattle.std.specs.Option.{option_and_then};
 ghost use Rattle.qo_model.specs.Board.{Board};
 ghost use Rattle.qo_model.specs.Paths.{components, is_absolute, only_of, resolve, walk};
 ghost use Rattle.qo_object.specs.BoardObject.{birth_of};
-ghost use Rattle.qo_table.specs.Rows.{IsLive, object_at};
+ghost use Rattle.qo_heap.specs.Rows.{IsLive, object_at};
 ghost use Rattle.qo_heap.specs.Board.{Shows};
 ghost use Rattle.qo_paths.specs.Answers.{end_from, shown_resolution};
 

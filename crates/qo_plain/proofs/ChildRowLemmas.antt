@@ -1,6 +1,6 @@
 -- What the types say of children: a clock, or the bus of a bridge; and what containers and the machine have besides.
 use Rattle.std.proofs.Common.{◌≡◌, ◌⊎◌, inl, inr, refl, ap, sym, subst, ◌∙◌, rules, ℕ, ◌<◌, Bool, true, false, not, ◌&&◌, cond, List, codes, Option, Some, None, option_and_then}
-use Rattle.qo_model.proofs.Common.{AllByRecursion, bytes_eq, TypeId, Object, Container, Machine, Device, SlotDevice, SlotUart, SlotTimer, SlotBridge, MemDimm, Bus, SlotBus, MemBus, Clock, MemoryBackend, MemoryBackendRam, Tag, BUS_SLOTS, Slot, plain, child, strong, weak, alias, clock_name, kid_name, property_name, is_a, slots_of, types}
+use Rattle.qo_model.proofs.Common.{AllByRecursion, bytes_eq, TypeId, Container, Machine, BUS_SLOTS, Slot, plain, child, strong, weak, alias, clock_name, kid_name, property_name, is_a, slots_of, types}
 use Rattle.qo_model.specs.declared.properties.Property.{Property}
 use Rattle.qo_model.specs.declared.properties.PropertyRole.{PropertyRole}
 use Rattle.std.proofs.lemmas.Bool.{and_parts}
@@ -50,22 +50,7 @@ row-child t k name found e =
 
 -- which types have further children
 further-child : (t : TypeId) → ((t ≡ Container) ⊎ (t ≡ Machine)) ⊎ ((name : List ℕ) (m : ℕ) → IsFurther t (name, child m) → ⊥)
-further-child Object = inr (λ name m h. h)
-further-child Container = inl (inl refl)
-further-child Machine = inl (inr refl)
-further-child Device = inr (λ name m h. h)
-further-child SlotDevice = inr (λ name m h. h)
-further-child SlotUart = inr (λ name m h. h)
-further-child SlotTimer = inr (λ name m h. h)
-further-child SlotBridge = inr (λ name m h. h)
-further-child MemDimm = inr (λ name m h. h)
-further-child Bus = inr (λ name m h. h)
-further-child SlotBus = inr (λ name m h. h)
-further-child MemBus = inr (λ name m h. h)
-further-child Clock = inr (λ name m h. h)
-further-child MemoryBackend = inr (λ name m h. h)
-further-child MemoryBackendRam = inr (λ name m h. h)
-further-child Tag = inr (λ name m h. h)
+further-child = each (λ (t : TypeId). ((t ≡ Container) ⊎ (t ≡ Machine)) ⊎ ((name : List ℕ) (m : ℕ) → IsFurther t (name, child m) → ⊥)) (search rules)
 
 -- each child of an object of any other type is of a row
 abbrev pub IsOfRow : TypeId → List ℕ × Slot → Type 0

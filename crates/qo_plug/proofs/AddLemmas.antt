@@ -7,7 +7,7 @@ use Rattle.std.specs.Option.{option_and_then}
 use Rattle.qo_values.specs.declared.kinds.TypeId.{TypeId}
 use Rattle.qo_model.specs.Board.{Board, Record, Ring, kind_of, record_of}
 use Rattle.qo_slots.specs.declared.keys.Key.{Key}
-use Rattle.qo_table.specs.Rows.{IsLive}
+use Rattle.qo_heap.specs.Rows.{IsLive}
 use Rattle.qo_values.specs.declared.codes.Code.{Code}
 use Rattle.qo_values.specs.declared.codes.Code.TheVariants.{E44}
 use Rattle.qo_model.specs.Objects.{refusal_of}
@@ -35,14 +35,14 @@ use Rattle.qo_plug.specs.declared.planning.Planned.{Planned}
 use Rattle.qo_plug.specs.declared.refusals.AddRefusal.{AddRefusal}
 use Rattle.qo_plug.specs.declared.refusals.AddRefusal.TheVariants.{Refused, Memory}
 use Rattle.qo_plug.specs.declared.refusals.Barred.{Barred}
-use Rattle.qo_standing.specs.declared.spots.Spot.{Spot as Chosen}
+use Rattle.qo_plug.specs.declared.spots.Spot.{Spot as Chosen}
 use Rattle.qo_plug.specs.Admission.{IfRefused, IsAdmitted, barred_in}
 use Rattle.qo_plug.specs.Answers.{IsAdded, IsCut, IsOpen, IsPlugged, IsRefused, IsShown, turned_down}
 use Rattle.qo_plug.specs.Spots.{claims_given}
 use Rattle.qo_plug.specs.DevicePlans.{IsJudgedOn, IsPlanned}
 use Rattle.qo_plug.specs.Drafts.{CutShort, pinned_draft}
 use Rattle.qo_plug.specs.Stages.{spot_barred}
-use Rattle.qo_standing.specs.Placement.{Stood, spot_in}
+use Rattle.qo_plug.specs.Placement.{Stood, spot_in}
 use Rattle.qo_properties.specs.KeptClaims.{kept_by}
 use Rattle.qo_plug.proofs.AdmissionLemmas.{added-late, admitted-bus}
 use Rattle.qo_plug.proofs.JudgementLemmas.{late-given, late-spot}

@@ -13,12 +13,12 @@ use Rattle.qo_object.specs.Content.{Content, fresh}
 use Rattle.qo_heap.specs.Objects.{Objects, content_of, with_edit}
 use Rattle.qo_plug.specs.Spots.{IsChosen, backend_given, claims_given, ring_given}
 use Rattle.qo_plug.specs.Drafts.{bare}
-use Rattle.qo_standing.specs.Placement.{kept_in}
+use Rattle.qo_plug.specs.Placement.{kept_in}
 use Rattle.qo_properties.specs.KeptClaims.{SameKept, kept_by}
-use Rattle.qo_standing.specs.DeviceClaims.{kept_on}
-use Rattle.qo_standing.specs.declared.spots.Memory.{Memory}
-use Rattle.qo_standing.specs.declared.spots.Spot.{Spot as Chosen}
-use Rattle.qo_standing.proofs.BodyLemmas.{given-kept}
+use Rattle.qo_plug.specs.DeviceClaims.{kept_on}
+use Rattle.qo_plug.specs.declared.spots.Memory.{Memory}
+use Rattle.qo_plug.specs.declared.spots.Spot.{Spot as Chosen}
+use Rattle.qo_plug.proofs.BodyLemmas.{given-kept}
 
 -- the claims of the spot that was chosen are those of the device
 fused : {A B C : Type 0} (f : A → B) (g : B → C) (o : Option A) → option_map (λ x. g (f x)) o ≡ option_map g (option_map f o)

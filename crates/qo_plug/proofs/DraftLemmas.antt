@@ -7,7 +7,7 @@ use Rattle.std.proofs.lemmas.List.{map-append, take_all}
 use Rattle.qo_values.specs.declared.kinds.TypeId.{TypeId}
 use Rattle.qo_kinds.proofs.BodyLemmas.{fresh-bare, fresh-registers, fresh-timely}
 use Rattle.qo_slots.specs.declared.keys.Key.{Key}
-use Rattle.qo_table.specs.Rows.{IsLive}
+use Rattle.qo_heap.specs.Rows.{IsLive}
 use Rattle.qo_model.specs.Board as board
 use Rattle.qo_model.specs.Board.{Board}
 use Rattle.qo_model.specs.Changes.{add, make}
@@ -22,8 +22,8 @@ use Rattle.qo_model.specs.declared.properties.Property.{Property}
 use Rattle.qo_model.specs.declared.properties.PropertyName.{PropertyName}
 use Rattle.qo_model.specs.declared.properties.PropertyRole.{PropertyRole}
 use Rattle.qo_model.specs.declared.properties.PropertyRole.TheVariants as row
-use Rattle.qo_notes.proofs.Logs.{all_lem}
-use Rattle.qo_notes.specs.Log.{IsLogOf, noted_all}
+use Rattle.qo_heap.proofs.Logs.{all_lem}
+use Rattle.qo_heap.specs.Log.{IsLogOf, noted_all}
 use Rattle.qo_life.specs.Life.{init_notes}
 use Rattle.qo_object.specs.Content.{Content, as_made, fresh, with_slot, without_pin}
 use Rattle.qo_object.specs.declared.slots.Slot.{Slot}

@@ -19,7 +19,7 @@ use Rattle.qo_model.specs.Paths.{canonical}
 use Rattle.qo_model.specs.Plug.{Spot, Wanted, addressed_at, clocked, link_named, name_for, parent_for, source_for, stood, with_body_of, with_given}
 use Rattle.qo_model.specs.Release.{edit, edited}
 use Rattle.qo_model.specs.Unplug.{set_named}
-use Rattle.qo_table.specs.Rows.{IsLive}
+use Rattle.qo_heap.specs.Rows.{IsLive}
 use Rattle.qo_object.specs.BoardObject.{shown_slot}
 use Rattle.qo_object.specs.Slots.{Named}
 use Rattle.qo_heap.specs.Board.{Shows}
@@ -31,7 +31,7 @@ use Rattle.qo_properties.specs.NewSlots.{new_slots}
 use Rattle.qo_properties.specs.OpeningSteps.{KeepsNames}
 use Rattle.qo_properties.specs.Plans.{IsPlan}
 use Rattle.qo_plug.specs.Drafts.{given_draft, pinned_draft, value_given, valued_slots, with_values}
-use Rattle.qo_standing.specs.Placement.{Stood, seated}
+use Rattle.qo_plug.specs.Placement.{Stood, seated}
 use Rattle.qo_plug.proofs.AddLemmas.{plan-live}
 
 -- what is given for a slot is so however often it is given

@@ -5,9 +5,9 @@ use Rattle.std.proofs.lemmas.Bool.{eqb-true}
 use Rattle.qo_kinds.specs.Bodies.{IsTimely, kept_of, none_kept}
 use Rattle.qo_kinds.specs.declared.kept_set.KeptSet.{KeptSet}
 use Rattle.qo_slots.specs.declared.keys.Key.{Key}
-use Rattle.qo_notes.specs.Log.{noted_all}
-use Rattle.qo_table.specs.Rows.{IsLive, Rises, births, row_at}
-use Rattle.qo_table.proofs.RowsLemmas.{rises-up}
+use Rattle.qo_heap.specs.Log.{noted_all}
+use Rattle.qo_heap.specs.Rows.{IsLive, Rises, births, row_at}
+use Rattle.qo_heap.proofs.RowsLemmas.{rises-up}
 use Rattle.qo_life.specs.Life.{init_notes}
 use Rattle.qo_object.specs.Content.{Content}
 use Rattle.qo_heap.specs.Book.{IsBook}

@@ -20,14 +20,14 @@ use Rattle.qo_model.specs.Objects.{Given, refusal_of}
 use Rattle.qo_model.specs.Paths.{is_of}
 use Rattle.qo_model.specs.Plug.{at_stage, barred_late, bus_type, claims_ring, code_in, first_of, has_ring, is_free, kind_barred, notice_barred, number_for, ok_or_zero, place_barred, range_of}
 use Rattle.qo_model.specs.Plug.{realize_barred, ring_barred, bus_slot_for, spot_of}
-use Rattle.qo_backends.specs.Recount.{IsRecounted}
-use Rattle.qo_backends.proofs.PlacingLemmas.{least-same}
+use Rattle.qo_buses.specs.Recount.{IsRecounted}
+use Rattle.qo_buses.proofs.PlacingLemmas.{least-same}
 use Rattle.qo_plug.specs.declared.refusals.AddRefusal.{AddRefusal}
 use Rattle.qo_plug.specs.declared.refusals.AddRefusal.TheVariants.{Refused, Memory as NoMemory}
-use Rattle.qo_standing.specs.declared.spots.Memory.{Memory}
+use Rattle.qo_plug.specs.declared.spots.Memory.{Memory}
 use Rattle.qo_plug.specs.Admission.{IfRefused}
 use Rattle.qo_plug.specs.Stages.{spot_barred}
-use Rattle.qo_standing.specs.Placement.{spot_in}
+use Rattle.qo_plug.specs.Placement.{spot_in}
 
 -- what a refusal tells, another call's refusal tells too
 pub refused-map : (T U : Type 0) (P Q : ℕ → Code → Type 0) (r : AddRefusal) → ((stage : ℕ) (code : Code) → P stage code → Q stage code)

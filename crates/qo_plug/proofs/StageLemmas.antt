@@ -14,11 +14,11 @@ use Rattle.qo_plug.specs.declared.placing.Placed.{Placed}
 use Rattle.qo_plug.specs.declared.placing.Way.{Way}
 use Rattle.qo_plug.specs.declared.placing.Way.TheVariants.{Stands, Full}
 use Rattle.qo_plug.specs.declared.refusals.Barred.{Barred}
-use Rattle.qo_standing.specs.declared.spots.Spot.{Spot as Chosen}
+use Rattle.qo_plug.specs.declared.spots.Spot.{Spot as Chosen}
 use Rattle.qo_plug.specs.Admission.{IsAdmitted, barred_in}
 use Rattle.qo_plug.specs.Answers.{IsCut, IsOpen, IsRefused}
 use Rattle.qo_plug.specs.Stages.{IsBegun, IsHeld, IsSettled, StandsBy}
-use Rattle.qo_standing.specs.Placement.{IsSeat}
+use Rattle.qo_plug.specs.Placement.{IsSeat}
 use Rattle.qo_plug.proofs.AddLemmas.{cut-late, is-refused, whole-cut}
 use Rattle.qo_plug.proofs.AdmissionLemmas.{added-late}
 use Rattle.qo_plug.proofs.JudgementLemmas.{late-notices, late-spot, notice_as}

@@ -26,14 +26,14 @@ use Rattle.qo_model.specs.declared.properties.Property.{Property}
 use Rattle.qo_model.specs.declared.properties.PropertyRole.{PropertyRole}
 use Rattle.qo_model.specs.declared.properties.PropertyRole.TheVariants as row
 use Rattle.qo_slots.specs.declared.keys.Key.{Key}
-use Rattle.qo_table.specs.Rows.{Rises, object_at}
-use Rattle.qo_table.specs.Rows as table
-use Rattle.qo_table.proofs.RowsLemmas.{rises-up}
+use Rattle.qo_heap.specs.Rows.{Rises, object_at}
+use Rattle.qo_heap.specs.Rows as table
+use Rattle.qo_heap.proofs.RowsLemmas.{rises-up}
 use Rattle.qo_object.specs.Content.{Content}
 use Rattle.qo_plug.specs.Drafts.{created, pinned_draft}
-use Rattle.qo_standing.specs.Placement.{seated}
-use Rattle.qo_standing.proofs.PlacementBoards.{kinds-added, kinds-stood, tree-source}
-use Rattle.qo_standing.proofs.TreeLemmas.{read-edit}
+use Rattle.qo_plug.specs.Placement.{seated}
+use Rattle.qo_plug.proofs.PlacementBoards.{kinds-added, kinds-stood, tree-source}
+use Rattle.qo_plug.proofs.TreeLemmas.{read-edit}
 
 -- the children in slots, by name
 

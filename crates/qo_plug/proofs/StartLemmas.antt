@@ -9,7 +9,7 @@ use Rattle.qo_values.specs.declared.kinds.TypeId.{TypeId}
 use Rattle.qo_slots.specs.declared.keys.Key.{Key}
 use Rattle.qo_kinds.specs.Bodies.{kept_of}
 use Rattle.qo_claims.specs.declared.claims.Claimed.{Claimed}
-use Rattle.qo_table.specs.Rows.{IsLive, row_at}
+use Rattle.qo_heap.specs.Rows.{IsLive, row_at}
 use Rattle.qo_model.specs.Board.{Board, Notice, Record, Slot, child, plain, strong, weak, alias, slots_at}
 use Rattle.qo_model.specs.Clocks.{acted, with_act_on}
 use Rattle.qo_model.specs.Devices.{bus_in, buses_of, clock_name}
@@ -37,8 +37,8 @@ use Rattle.qo_hotplug.specs.Hotplug.{Asked, told}
 use Rattle.qo_life.proofs.TreeLemmas.{read-content}
 use Rattle.qo_reset.specs.Phases.{Holds}
 use Rattle.qo_properties.specs.KeptClaims.{SameKept, kept_by}
-use Rattle.qo_standing.proofs.PlacementSteps.{pins-edited}
-use Rattle.qo_standing.proofs.TreeLemmas.{SamePlaces, canonical-same, read-edit, tree-edit, tree-same, tree-then}
+use Rattle.qo_plug.proofs.PlacementSteps.{pins-edited}
+use Rattle.qo_plug.proofs.TreeLemmas.{SamePlaces, canonical-same, read-edit, tree-edit, tree-same, tree-then}
 
 -- types, slots, places, holds and notices stay
 

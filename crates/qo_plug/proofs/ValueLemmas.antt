@@ -6,8 +6,8 @@ use Rattle.std.specs.Str.{bytes_eq}
 use Rattle.std.proofs.lemmas.List.{map-append}
 use Rattle.qo_values.specs.declared.kinds.TypeId.{TypeId}
 use Rattle.qo_slots.specs.declared.keys.Key.{Key}
-use Rattle.qo_table.specs.Rows.{Rises, births}
-use Rattle.qo_table.proofs.RowsLemmas.{rises-up}
+use Rattle.qo_heap.specs.Rows.{Rises, births}
+use Rattle.qo_heap.proofs.RowsLemmas.{rises-up}
 use Rattle.qo_model.specs.Board.{Board, Record, Slot, plain, child, strong, weak, alias, record_of}
 use Rattle.qo_model.specs.Changes.{add, fresh, make, with_added}
 use Rattle.qo_model.specs.Devices.{child_named}

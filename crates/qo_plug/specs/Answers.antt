@@ -11,7 +11,7 @@ use Rattle.qo_object.specs.Content.{Content}
 use Rattle.qo_heap.specs.Board.{Shows}
 use Rattle.qo_heap.specs.Objects.{Objects, content_of}
 use Rattle.qo_hotplug.specs.Hotplug.{Asked}
-use Rattle.qo_backends.specs.Recount.{IsRecounted}
+use Rattle.qo_buses.specs.Recount.{IsRecounted}
 use Rattle.qo_plug.specs.declared.adding.Added.{Added}
 use Rattle.qo_plug.specs.declared.admitting.Site.{Site}
 use Rattle.qo_plug.specs.declared.refusals.AddRefusal.{AddRefusal}
@@ -19,7 +19,7 @@ use Rattle.qo_plug.specs.declared.refusals.AddRefusal.TheVariants.{Refused, Memo
 use Rattle.qo_plug.specs.declared.refusals.Barred.{Barred}
 use Rattle.qo_plug.specs.Admission.{IsAdmitted}
 use Rattle.qo_plug.specs.Spots.{IsChosen, claims_given}
-use Rattle.qo_standing.specs.declared.spots.Spot.{Spot as Chosen}
+use Rattle.qo_plug.specs.declared.spots.Spot.{Spot as Chosen}
 use Rattle.qo_plug.specs.Drafts.{CutShort}
 use Rattle.qo_properties.specs.KeptClaims.{kept_by}
 

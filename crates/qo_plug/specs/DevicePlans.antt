@@ -7,11 +7,11 @@ use Rattle.qo_model.specs.Objects.{Given, refusal_of}
 use Rattle.qo_model.specs.Paths.{is_of}
 use Rattle.qo_model.specs.Plug.{Wanted, bus_type}
 use Rattle.qo_model.specs.Types.{is_a}
-use Rattle.qo_table.specs.Rows.{IsLive}
+use Rattle.qo_heap.specs.Rows.{IsLive}
 use Rattle.qo_heap.specs.Board.{Shows}
 use Rattle.qo_heap.specs.Objects.{Objects}
-use Rattle.qo_backends.specs.Recount.{IsRecounted}
-use Rattle.qo_standing.specs.FreeSpots.{IsFreeId}
+use Rattle.qo_buses.specs.Recount.{IsRecounted}
+use Rattle.qo_plug.specs.FreeSpots.{IsFreeId}
 use Rattle.qo_properties.specs.declared.adding.filling.Fill.{Fill}
 use Rattle.qo_properties.specs.declared.adding.filling.Fill.TheVariants.{Value}
 use Rattle.qo_properties.specs.Filling.{Fits, target_in}

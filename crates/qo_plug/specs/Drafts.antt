@@ -12,7 +12,7 @@ use Rattle.qo_model.specs.declared.properties.PropertyRole.TheVariants.{Child}
 use Rattle.qo_kinds.specs.Bodies.{IsTimely, none_kept}
 use Rattle.qo_kinds.specs.declared.kept_set.KeptSet.{KeptSet}
 use Rattle.qo_slots.specs.declared.keys.Key.{Key}
-use Rattle.qo_table.specs.Rows.{IsLive}
+use Rattle.qo_heap.specs.Rows.{IsLive}
 use Rattle.qo_object.specs.Content.{Content, fresh}
 use Rattle.qo_object.specs.BoardObject.{shown_slot}
 use Rattle.qo_object.specs.Slots.{Named}
@@ -24,7 +24,7 @@ use Rattle.qo_properties.specs.Filling.{filled, filled_with, value_alone}
 use Rattle.qo_properties.specs.declared.adding.filling.Fill.{Fill}
 use Rattle.qo_properties.specs.NewSlots.{new_slots}
 use Rattle.qo_properties.specs.OpeningSteps.{KeepsNames}
-pub use Rattle.qo_standing.specs.OwnSlots.{is_own, own_slots, own_slots_of}
+pub use Rattle.qo_plug.specs.OwnSlots.{is_own, own_slots, own_slots_of}
 
 -- a heap becomes another as each board that it shows does by a step
 abbrev pub Makes : (Board → Board) → Objects → Objects → Type 0

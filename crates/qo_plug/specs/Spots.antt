@@ -11,10 +11,10 @@ use Rattle.qo_values.specs.declared.kinds.TypeId.TheVariants.{MemDimm, MemoryBac
 use Rattle.qo_model.specs.Board.{Board}
 use Rattle.qo_model.specs.Objects.{Given}
 use Rattle.qo_model.specs.Plug.{range_of, spot_of, target_for, text_for}
-use Rattle.qo_backends.specs.Rings.{named_ring}
-use Rattle.qo_standing.specs.declared.spots.Memory.{Memory}
-use Rattle.qo_standing.specs.declared.spots.Spot.{Spot}
-use Rattle.qo_standing.specs.Placement.{spot_in}
+use Rattle.qo_buses.specs.Rings.{named_ring}
+use Rattle.qo_plug.specs.declared.spots.Memory.{Memory}
+use Rattle.qo_plug.specs.declared.spots.Spot.{Spot}
+use Rattle.qo_plug.specs.Placement.{spot_in}
 
 -- of a UART the ring that its chardev names, if it names one
 abbrev pub ring_given : TypeId → List Given → Option (List ℕ)

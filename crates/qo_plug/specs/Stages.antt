@@ -13,7 +13,7 @@ use Rattle.qo_model.specs.Plug.{Wanted, at_stage, barred_late, place_barred, rea
 use Rattle.qo_model.specs.Types.{is_a}
 use Rattle.qo_model.specs.Reset.{count}
 use Rattle.qo_sound.specs.TreeKept.{SoundTree}
-use Rattle.qo_table.specs.Rows.{IsLive}
+use Rattle.qo_heap.specs.Rows.{IsLive}
 use Rattle.qo_object.specs.Content.{fresh}
 use Rattle.qo_heap.specs.Board.{Shows}
 use Rattle.qo_heap.specs.Objects.{Objects, content_of, pins_of}
@@ -26,14 +26,14 @@ use Rattle.qo_plug.specs.declared.placing.Way.{Way}
 use Rattle.qo_plug.specs.declared.placing.Way.TheVariants.{Stands, Full}
 use Rattle.qo_plug.specs.declared.planning.Planned.{Planned}
 use Rattle.qo_plug.specs.declared.refusals.Barred.{Barred}
-use Rattle.qo_standing.specs.declared.spots.Spot.{Spot}
+use Rattle.qo_plug.specs.declared.spots.Spot.{Spot}
 use Rattle.qo_plug.specs.Admission.{IsAdmitted, barred_in}
 use Rattle.qo_plug.specs.Answers.{IsOpen}
 use Rattle.qo_plug.specs.Spots.{IsChosen, claims_given}
 use Rattle.qo_plug.specs.Drafts.{IsQuiet, bare, given_draft, pinned_draft, own_slots_of}
 use Rattle.qo_plug.specs.DevicePlans.{IsJudgedOn}
-use Rattle.qo_standing.specs.FreeSpots.{IsFreeId, IsFreeSpot}
-use Rattle.qo_standing.specs.Placement.{Stood, spot_in}
+use Rattle.qo_plug.specs.FreeSpots.{IsFreeId, IsFreeSpot}
+use Rattle.qo_plug.specs.Placement.{Stood, spot_in}
 use Rattle.qo_properties.specs.KeptClaims.{kept_by}
 
 -- what bars a device in its place on a bus: its slot, its depth and its memory come before its ring

@@ -9,10 +9,10 @@ ghost use Rattle.qo_model.specs.Board.{Board};
 ghost use Rattle.qo_model.specs.Objects.{Given};
 ghost use Rattle.qo_model.specs.Plug.{id_barred, id_refused, plug};
 ghost use Rattle.qo_model.specs.Types.{is_a};
-ghost use Rattle.qo_table.specs.Rows.{IsLive};
+ghost use Rattle.qo_heap.specs.Rows.{IsLive};
 ghost use Rattle.qo_heap.specs.Board.{Shows};
-ghost use Rattle.qo_backends.specs.Recount.{IsRecounted};
-ghost use Rattle.qo_standing.specs.FreeSpots.{IsFreeId};
+ghost use Rattle.qo_buses.specs.Recount.{IsRecounted};
+ghost use Rattle.qo_plug.specs.FreeSpots.{IsFreeId};
 ghost use Rattle.qo_plug.specs.Admission.{IfRefused, IsAdmitted, IsPlaced, wanted};
 
 use crate::barring::{device_kind, open_bus, room, vacant};

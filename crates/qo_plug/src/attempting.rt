@@ -10,7 +10,7 @@ ghost use Rattle.qo_model.specs.Objects.{Given};
 ghost use Rattle.qo_model.specs.Plug.{plug_attempt};
 ghost use Rattle.qo_model.specs.Reset.{count};
 ghost use Rattle.qo_sound.specs.TreeKept.{SoundTree};
-ghost use Rattle.qo_table.specs.Rows.{IsLive};
+ghost use Rattle.qo_heap.specs.Rows.{IsLive};
 ghost use Rattle.qo_heap.specs.Board.{Shows};
 ghost use Rattle.qo_heap.specs.Objects.{pins_of};
 ghost use Rattle.qo_properties.specs.Claims.{KeepsBook};

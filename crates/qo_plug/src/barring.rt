@@ -8,7 +8,7 @@ ghost use Rattle.qo_model.specs.Board.{Board};
 ghost use Rattle.qo_model.specs.Paths.{is_of};
 ghost use Rattle.qo_model.specs.Plug.{bus_barred, bus_for, bus_type, container_barred, objects_in, room_barred, type_barred};
 ghost use Rattle.qo_model.specs.Types.{is_a, type_named};
-ghost use Rattle.qo_table.specs.Rows.{IsLive};
+ghost use Rattle.qo_heap.specs.Rows.{IsLive};
 ghost use Rattle.qo_heap.specs.Board.{Shows};
 ghost use Rattle.qo_properties.specs.Changes.{refusal_in};
 

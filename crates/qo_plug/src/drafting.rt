@@ -13,7 +13,7 @@ ghost use Rattle.qo_model.specs.Types.{slots_of};
 ghost use Rattle.qo_model.specs.declared.properties.PropertyRole.TheVariants.{Child};
 ghost use Rattle.qo_sound.specs.TreeKept.{SoundTree};
 ghost use Rattle.qo_object.specs.BoardObject.{birth_of};
-ghost use Rattle.qo_table.specs.Rows.{IsLive};
+ghost use Rattle.qo_heap.specs.Rows.{IsLive};
 ghost use Rattle.qo_heap.specs.Board.{Shows};
 ghost use Rattle.qo_heap.specs.Objects.{pins_of};
 ghost use Rattle.qo_properties.specs.Additions.{IsTried, given_up};

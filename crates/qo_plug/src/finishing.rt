@@ -16,12 +16,12 @@ use crate::adding::Added;
 use crate::attempting::refuse;
 use crate::placing::{Placed, Way};
 use crate::refusals::Barred;
+use crate::standing::DevicePath;
 use crate::starting::start;
 use qo_heap::{Heap, Steps};
 use qo_hotplug::Hotplug;
 use qo_life::drop_pin;
 use qo_reset::Resets;
-use qo_standing::DevicePath;
 use qo_values::Code;
 use std::sync::ledger::Ledger;
 

@@ -9,7 +9,7 @@ ghost use Rattle.qo_model.specs.Objects.{Given};
 ghost use Rattle.qo_model.specs.Plug.{number_for, target_for, text_for};
 ghost use Rattle.qo_model.specs.Types.{is_a};
 ghost use Rattle.qo_object.specs.BoardObject.{birth_of};
-ghost use Rattle.qo_table.specs.Rows.{IsLive};
+ghost use Rattle.qo_heap.specs.Rows.{IsLive};
 ghost use Rattle.qo_heap.specs.Objects.{Objects};
 ghost use Rattle.qo_properties.specs.Filling.{target_in};
 ghost use Rattle.qo_plug.specs.DevicePlans.{HasGiven, number_filled, text_filled};

@@ -10,7 +10,7 @@ ghost use Rattle.qo_model.specs.Board.{Board, slots_at};
 ghost use Rattle.qo_model.specs.Devices.{bus_in, buses_of};
 ghost use Rattle.qo_model.specs.Paths.{canonical};
 ghost use Rattle.qo_model.specs.Plug.{acted_all, bus_births, started};
-ghost use Rattle.qo_table.specs.Rows.{IsLive};
+ghost use Rattle.qo_heap.specs.Rows.{IsLive};
 ghost use Rattle.qo_heap.specs.Acts.{Acts};
 ghost use Rattle.qo_heap.specs.Board.{Shows, pins_in};
 ghost use Rattle.qo_heap.specs.Objects.{content_of, pins_of};

@@ -3,7 +3,7 @@ use Rattle.std.proofs.Common.{◌≡◌, refl, ap, sym, subst, ◌∙◌, ℕ, B
 use Rattle.qo_values.specs.declared.properties.Val.TheVariants as val
 use Rattle.qo_kinds.specs.Bodies.{kept_of}
 use Rattle.qo_slots.specs.declared.keys.Key.{Key}
-use Rattle.qo_table.specs.Rows.{object_at}
+use Rattle.qo_heap.specs.Rows.{object_at}
 use Rattle.qo_object.specs.declared.slots.Slot.{Slot}
 use Rattle.qo_object.specs.Content.{Content}
 use Rattle.qo_object.specs.Slots.{with_val}

@@ -6,7 +6,7 @@ use Rattle.qo_kinds.specs.Bodies.{kept_of, none_kept}
 use Rattle.qo_kinds.specs.declared.kept_set.KeptSet.{KeptSet}
 use Rattle.qo_kinds.proofs.BodyLemmas.{fresh-bare}
 use Rattle.qo_slots.specs.declared.keys.Key.{Key}
-use Rattle.qo_table.specs.Rows.{object_at}
+use Rattle.qo_heap.specs.Rows.{object_at}
 use Rattle.qo_object.specs.declared.slots.Slot.TheVariants.{Child}
 use Rattle.qo_object.specs.Slots.{Named}
 use Rattle.qo_object.specs.Content.{Content, as_made, with_slot}

@@ -10,15 +10,15 @@ use Rattle.qo_kinds.specs.Bodies.{kept_of, none_kept}
 use Rattle.qo_kinds.proofs.BodyLemmas.{fresh-registers}
 use Rattle.qo_heap.specs.Objects.{without_kept, with_kept_event, without_device}
 use Rattle.qo_slots.specs.declared.keys.Key.{Key}
-use Rattle.qo_table.specs.Rows.{IsLive, Rises, births, edit, object_at, row_at, without}
-use Rattle.qo_table.proofs.RowsLemmas.{rises-up}
+use Rattle.qo_heap.specs.Rows.{IsLive, Rises, births, edit, object_at, row_at, without}
+use Rattle.qo_heap.proofs.RowsLemmas.{rises-up}
 use Rattle.qo_values.specs.Registers.{fresh_registers}
 use Rattle.qo_model.specs.Board as board
 use Rattle.qo_model.specs.Board.{Board}
 use Rattle.qo_model.specs.Changes.{add, with_added}
 use Rattle.qo_model.specs.Release.{edited}
 use Rattle.qo_model.specs.Objects.{Given, given_slots, with_attempt, with_object}
-use Rattle.qo_notes.proofs.Logs.{all_lem}
+use Rattle.qo_heap.proofs.Logs.{all_lem}
 use Rattle.qo_object.specs.Content.{Content, fresh, furnished, reference_count, holding, with_slot, without_pin, as_made}
 use Rattle.qo_object.specs.Slots.{Named, forgotten_in, held, holds, is_born, target_of}
 use Rattle.qo_object.specs.declared.slots.Slot.{Slot}
@@ -32,7 +32,7 @@ use Rattle.qo_heap.proofs.BoardChanges.{shows-added}
 use Rattle.qo_heap.specs.Objects.{IsHeap, Objects, content_of, ended, final_notes, forgets, pins_of, refs_of, targets, with_edit}
 use Rattle.qo_heap.proofs.BoardObjects.{content-edited, live-content}
 use Rattle.std.proofs.lemmas.Option.{same_Some}
-use Rattle.qo_notes.specs.Log.{IsLogOf, empty_log, noted_all}
+use Rattle.qo_heap.specs.Log.{IsLogOf, empty_log, noted_all}
 use Rattle.qo_life.specs.Life.{init_notes, with_log}
 use Rattle.qo_life.proofs.TreeLemmas.{tree, tree-shows}
 use Rattle.qo_properties.specs.Additions.{IsChild, IsTried, given_up, with_child, with_newest}

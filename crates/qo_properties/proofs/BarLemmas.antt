@@ -22,7 +22,7 @@ use Rattle.qo_model.specs.Board.{Board, is_live}
 use Rattle.qo_model.specs.Board as board
 use Rattle.qo_model.specs.Objects.{barred, barred_by, has_slot}
 use Rattle.qo_slots.specs.declared.keys.Key.{Key}
-use Rattle.qo_table.specs.Rows.{IsLive}
+use Rattle.qo_heap.specs.Rows.{IsLive}
 use Rattle.qo_object.specs.Content.{Content}
 use Rattle.qo_object.specs.BoardObject.{shown_slots}
 use Rattle.qo_object.specs.Slots.{Named}

@@ -7,7 +7,7 @@ use Rattle.qo_kinds.specs.declared.bodies.Body.{Body}
 use Rattle.qo_kinds.proofs.BodyLemmas.{fresh-bare}
 use Rattle.qo_slots.specs.declared.keys.Key.{Key}
 use Rattle.qo_claims.specs.declared.claims.Claimed.TheVariants as on
-use Rattle.qo_notes.specs.Log.{Log, noted_all}
+use Rattle.qo_heap.specs.Log.{Log, noted_all}
 use Rattle.qo_life.specs.Life.{init_notes}
 use Rattle.qo_object.specs.Content.{Content, as_made, with_slot}
 use Rattle.qo_object.specs.Slots.{Named}

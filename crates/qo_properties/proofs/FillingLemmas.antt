@@ -2,7 +2,7 @@
 use Rattle.std.proofs.Common.{◌≡◌, refl, ap, sym, ℕ, zero, suc, ◌<◌, ◌≤◌, Bool, true, false, eqb, List, [], ◌∷◌, map, length, get_or, set, IfSome, arith}
 use Rattle.std.specs.List.{AllByRecursion, AllZip}
 use Rattle.qo_slots.specs.declared.keys.Key.{Key}
-use Rattle.qo_table.specs.Rows.{edit}
+use Rattle.qo_heap.specs.Rows.{edit}
 use Rattle.qo_model.specs.Board as board
 use Rattle.qo_model.specs.Objects.{Given, slot_given}
 use Rattle.qo_object.specs.Content.{Content}

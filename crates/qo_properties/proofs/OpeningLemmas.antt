@@ -7,14 +7,14 @@ use Rattle.qo_values.specs.declared.kinds.TypeId.{TypeId}
 use Rattle.qo_values.specs.declared.kinds.TypeId.TheVariants.{Clock}
 use Rattle.qo_kinds.proofs.BodyLemmas.{fresh-bare}
 use Rattle.qo_slots.specs.declared.keys.Key.{Key}
-use Rattle.qo_table.specs.Rows.{IsLive, Rises, births, row_at}
-use Rattle.qo_table.proofs.RowsLemmas.{rises-up}
+use Rattle.qo_heap.specs.Rows.{IsLive, Rises, births, row_at}
+use Rattle.qo_heap.proofs.RowsLemmas.{rises-up}
 use Rattle.qo_model.specs.Board as board
 use Rattle.qo_model.specs.Changes.{make, add, set, with_fresh_slots}
 use Rattle.qo_model.specs.Opening.{opening_board}
 use Rattle.qo_model.specs.Release.{without_pin}
 use Rattle.qo_model.specs.Types.{types}
-use Rattle.qo_notes.proofs.Logs.{none_lem}
+use Rattle.qo_heap.proofs.Logs.{none_lem}
 use Rattle.qo_object.specs.declared.slots.Slot.TheVariants.{Child}
 use Rattle.qo_object.specs.Slots.{Named}
 use Rattle.qo_object.specs.Content.{Content, fresh, furnished, with_slot, as_made}

@@ -3,7 +3,7 @@ use Rattle.std.proofs.Common.{◌≡◌, refl, ap, sym, ◌∙◌, ℕ, zero, su
 use Rattle.std.specs.Option.{option_map_or}
 use Rattle.std.specs.List.{list_any}
 use Rattle.qo_slots.specs.declared.keys.Key.{Key}
-use Rattle.qo_table.specs.Rows.{object_at}
+use Rattle.qo_heap.specs.Rows.{object_at}
 use Rattle.qo_model.specs.Board.{Board, slots_at}
 use Rattle.qo_model.specs.Opening.{opening_board}
 use Rattle.qo_model.specs.Objects.{severed_from}
@@ -11,7 +11,7 @@ use Rattle.qo_model.specs.References.{refs}
 use Rattle.qo_model.specs.Release.{after, finalize, let_go, pin, put_in_order, without_first}
 use Rattle.qo_model.proofs.PinLemmas.{put-among, put-back, severed-pins, unpin-pins}
 use Rattle.qo_model.proofs.ReleaseScopeLemmas.{let_go-leaves, release_leaves}
-use Rattle.qo_notes.specs.Log.{empty_log}
+use Rattle.qo_heap.specs.Log.{empty_log}
 use Rattle.qo_object.specs.Content.{Content}
 use Rattle.qo_heap.specs.Board.{Shows, pins_in}
 use Rattle.qo_heap.specs.Objects.{Objects, pins_of, with_edit}

@@ -2,13 +2,13 @@
 use Rattle.std.proofs.Common.{◌≡◌, refl, ap, sym, subst, ◌∙◌, ℕ, zero, suc, ◌+◌, ◌-◌, ◌<◌, true, false, not, eqb, List, [], length, Option, Some, None, option_map, arith}
 use Rattle.std.specs.Option.{option_map_or}
 use Rattle.qo_slots.specs.declared.keys.Key.{Key}
-use Rattle.qo_table.specs.Rows.{IsLive}
+use Rattle.qo_heap.specs.Rows.{IsLive}
 use Rattle.qo_model.specs.Board.{Board, is_live, slot_at, slots_at, held}
 use Rattle.qo_model.specs.Board as board
 use Rattle.qo_model.specs.Objects.{severed_from}
 use Rattle.qo_model.specs.Release.{drop_slot, let_go, pin, unpin}
 use Rattle.qo_model.proofs.PinLemmas.{put-among}
-use Rattle.qo_notes.specs.Log.{empty_log, noted_all}
+use Rattle.qo_heap.specs.Log.{empty_log, noted_all}
 use Rattle.qo_object.specs.Content.{Content, with_pin}
 use Rattle.qo_object.specs.BoardObject.{shown_slot}
 use Rattle.qo_object.specs.Slots.{is_strong, slot_in}

@@ -2,7 +2,7 @@
 use Rattle.std.specs.Prelude.{◌≡◌, ℕ, ◌+◌, List, [], ◌∷◌, ◌++◌, ◌⊎◌, Some, None, Result, Ok, Err}
 use Rattle.qo_values.specs.declared.kinds.TypeId.{TypeId}
 use Rattle.qo_slots.specs.declared.keys.Key.{Key}
-use Rattle.qo_notes.specs.Log.{noted_all}
+use Rattle.qo_heap.specs.Log.{noted_all}
 use Rattle.qo_object.specs.Content.{Content, with_slot, as_made}
 use Rattle.qo_object.specs.Slots.{Named}
 use Rattle.qo_object.specs.declared.slots.Slot.TheVariants.{Child}

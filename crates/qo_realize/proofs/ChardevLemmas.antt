@@ -11,7 +11,7 @@ use Rattle.qo_values.specs.declared.codes.Code.{Code}
 use Rattle.qo_values.specs.declared.codes.Code.TheVariants.{E36, E37}
 use Rattle.qo_values.specs.declared.forms.Form.{Form}
 use Rattle.qo_chardev.specs.Texts.{told}
-use Rattle.qo_backends.specs.Recount.{IsRecounted}
+use Rattle.qo_buses.specs.Recount.{IsRecounted}
 use Rattle.qo_claims.specs.Book.{ClaimsTaken, is_taken}
 use Rattle.qo_claims.specs.declared.claims.Claimed.TheVariants as on
 use Rattle.qo_hotplug.specs.Hotplug.{Asked}
@@ -25,7 +25,7 @@ use Rattle.qo_properties.specs.declared.refusals.Refusal.TheVariants.{Refused, M
 use Rattle.qo_reset.specs.HoldList.{HoldList}
 use Rattle.qo_realize.specs.Answers.{Changes, IsAnswered}
 use Rattle.qo_realize.specs.BoardClaims.{KeepsClaims}
-use Rattle.qo_rings.specs.Rings.{bytes_in, given_bytes, is_ring, new_ring, ring_changed, ring_named, without_ring}
+use Rattle.qo_chardev.specs.Rings.{bytes_in, given_bytes, is_ring, new_ring, ring_changed, ring_named, without_ring}
 use Rattle.qo_realize.specs.Chardevs.{AnswersRings, ChangesRings, Reading, ReadsRing, TakesRing, by_code, chardev_barred, chardev_removed, removal_barred, ring_added, ring_read, ring_written, taken_as, with_rings, written_as}
 use Rattle.qo_realize.specs.Parts.{Parts, parts_of}
 use Rattle.qo_realize.specs.Representation.{Stands, StandsForGood}

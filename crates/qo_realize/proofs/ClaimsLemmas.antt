@@ -1,12 +1,11 @@
 -- Each call leaves to each body the claims that its object is due, and no others.
 use Rattle.std.proofs.Common.{◌≡◌, refl, ap, sym, subst, ◌∙◌, ℕ, false, codes, List, Option, None, Some, Result, Ok, Err, OnErr, inl, inr, is_some}
 use Rattle.std.specs.Option.{option_map_or}
-use Rattle.qo_values.specs.Bodies.{Effect, body_write}
-use Rattle.qo_values.specs.Registers.{Registers, bare}
+use Rattle.qo_values.specs.Registers.{Effect, body_write, Registers, bare}
 use Rattle.qo_values.specs.declared.codes.Code.{Code}
 use Rattle.qo_values.specs.declared.kinds.TypeId.{TypeId}
 use Rattle.qo_values.specs.declared.properties.Val.{Val}
-use Rattle.qo_backends.specs.Rings.{claimed_ring}
+use Rattle.qo_buses.specs.Rings.{claimed_ring}
 use Rattle.qo_slots.specs.declared.keys.Key.{Key}
 use Rattle.qo_object.specs.Content.{Content}
 use Rattle.qo_model.specs.Access.{write_at}

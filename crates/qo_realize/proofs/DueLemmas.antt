@@ -1,5 +1,5 @@
 -- What bodies keep is what is due to them by the board, after each step of it.
-use Rattle.std.proofs.Common.{◌≡◌, refl, ap, ap₂, sym, subst, ◌∙◌, ℕ, ◌+◌, ◌==◌, Bool, true, false, List, [], ◌∷◌, codes, Option, Some, None, option_map, option_and_then, inl, inr}
+use Rattle.std.proofs.Common.{◌≡◌, refl, ap, ap₂, sym, subst, ◌∙◌, ℕ, ◌+◌, ◌==◌, Bool, true, false, List, [], ◌∷◌, codes, Option, Some, None, option_map, option_and_then, inl, inr, rules}
 use Rattle.std.specs.Prelude.{◌⊎◌, if◌then◌else◌, slice_get}
 use Rattle.std.specs.Option.{option_map_or}
 use Rattle.std.specs.List.{AllByRecursion}
@@ -8,8 +8,9 @@ use Rattle.std.proofs.lemmas.Option.{same_Some}
 use Rattle.qo_values.specs.declared.codes.Code.{Code}
 use Rattle.qo_values.specs.declared.codes.Code.TheVariants.{E20, E25}
 use Rattle.qo_values.specs.declared.kinds.TypeId.{TypeId}
-use Rattle.qo_values.specs.declared.kinds.TypeId.TheVariants.{Object, Container, Machine, Device, SlotDevice, SlotUart, SlotTimer, SlotBridge, MemDimm, Bus, SlotBus, MemBus, Clock, MemoryBackend, MemoryBackendRam, Tag}
+use Rattle.qo_values.specs.declared.kinds.TypeId.TheVariants.{SlotUart, MemDimm, MemoryBackend}
 use Rattle.qo_values.specs.declared.ranges.Range.{Range}
+use Rattle.qo_values.proofs.EachLemmas.{each}
 use Rattle.qo_claims.specs.Lists.{bus_slot}
 use Rattle.qo_claims.specs.declared.claims.Claimed.{Claimed}
 use Rattle.qo_claims.specs.declared.claims.Claimed.TheVariants as on
@@ -30,7 +31,7 @@ use Rattle.qo_object.specs.Content.{Content}
 use Rattle.qo_heap.specs.Board.{Shows}
 use Rattle.qo_heap.specs.Objects.{Objects, content_of}
 use Rattle.qo_heap.proofs.BoardReads.{shows-record}
-use Rattle.qo_backends.specs.Rings.{named_ring}
+use Rattle.qo_buses.specs.Rings.{named_ring}
 use Rattle.qo_properties.specs.KeptClaims.{KeptBefore, KeptOrNew, NoneKept, kept_by}
 use Rattle.qo_plug.specs.Answers.{KeepsGiven}
 use Rattle.qo_plug.specs.KeptClaims.{KeptOrNewBut}
@@ -87,40 +88,27 @@ alike-due b c n h =
 
 -- what is due to a device that was given its claims
 
+abbrev RingGiven : List Given → Option (List ℕ) → TypeId → Type 0
+RingGiven props text t = (t ≡ SlotUart → text ≡ Some (text_for props (codes "chardev"))) → ring_on (Some t) text ≡ option_map on.Ring (ring_given t props)
+
+uart-given : (props : List Given) (text : Option (List ℕ)) → RingGiven props text SlotUart
+unfolding types
+uart-given props text has = ap (λ (o : Option (List ℕ)). option_map on.Ring (option_and_then named_ring o)) (has refl)
+
 ring-given : (t : TypeId) (props : List Given) (text : Option (List ℕ)) → (t ≡ SlotUart → text ≡ Some (text_for props (codes "chardev")))
     → ring_on (Some t) text ≡ option_map on.Ring (ring_given t props)
 unfolding types
-ring-given Object props text has = refl
-ring-given Container props text has = refl
-ring-given Machine props text has = refl
-ring-given Device props text has = refl
-ring-given SlotDevice props text has = refl
-ring-given SlotUart props text has = ap (λ (o : Option (List ℕ)). option_map on.Ring (option_and_then named_ring o)) (has refl)
-ring-given SlotTimer props text has = refl
-ring-given SlotBridge props text has = refl
-ring-given MemDimm props text has = refl
-ring-given Bus props text has = refl
-ring-given SlotBus props text has = refl
-ring-given MemBus props text has = refl
-ring-given Clock props text has = refl
-ring-given MemoryBackend props text has = refl
-ring-given MemoryBackendRam props text has = refl
-ring-given Tag props text has = refl
+ring-given t props text has = each (RingGiven props text) (search (rules, uart-given)) t has
 
-memory-given : (b : Board) (t : TypeId) (props : List Given) (backend : Option ℕ) (ranges : Option (List Range))
-    → (t ≡ MemDimm → backend ≡ target_for b MemoryBackend props (codes "memdev"))
+abbrev MemoryGiven : Board → List Given → Option ℕ → Option (List Range) → TypeId → Type 0
+MemoryGiven b props backend ranges t =
+    (t ≡ MemDimm → backend ≡ target_for b MemoryBackend props (codes "memdev"))
     → (t ≡ MemDimm → ranges ≡ option_map (λ (g : Range). g ∷ []) (range_of b t props))
     → (backend_on (Some t) backend ≡ option_map on.Backend (backend_given b t props)) × (range_on (Some t) ranges ≡ option_map on.Range (range_of b t props))
+
+dimm-given : (b : Board) (props : List Given) (backend : Option ℕ) (ranges : Option (List Range)) → MemoryGiven b props backend ranges MemDimm
 unfolding types
-memory-given b Object props backend ranges has at = (refl, refl)
-memory-given b Container props backend ranges has at = (refl, refl)
-memory-given b Machine props backend ranges has at = (refl, refl)
-memory-given b Device props backend ranges has at = (refl, refl)
-memory-given b SlotDevice props backend ranges has at = (refl, refl)
-memory-given b SlotUart props backend ranges has at = (refl, refl)
-memory-given b SlotTimer props backend ranges has at = (refl, refl)
-memory-given b SlotBridge props backend ranges has at = (refl, refl)
-memory-given b MemDimm props backend ranges has at = (
+dimm-given b props backend ranges has at = (
   ap (option_map on.Backend) (has refl),
   ap (λ (o : Option (List Range)). option_map on.Range (option_and_then (λ (rs : List Range). slice_get rs 0) o)) (at refl) ∙ first (range_of b MemDimm props),
 )
@@ -129,13 +117,10 @@ memory-given b MemDimm props backend ranges has at = (
         → option_map on.Range (option_and_then (λ (rs : List Range). slice_get rs 0) (option_map (λ (g : Range). g ∷ []) o)) ≡ option_map on.Range o
     first None = refl
     first (Some g) = refl
-memory-given b Bus props backend ranges has at = (refl, refl)
-memory-given b SlotBus props backend ranges has at = (refl, refl)
-memory-given b MemBus props backend ranges has at = (refl, refl)
-memory-given b Clock props backend ranges has at = (refl, refl)
-memory-given b MemoryBackend props backend ranges has at = (refl, refl)
-memory-given b MemoryBackendRam props backend ranges has at = (refl, refl)
-memory-given b Tag props backend ranges has at = (refl, refl)
+
+memory-given : (b : Board) (t : TypeId) (props : List Given) (backend : Option ℕ) (ranges : Option (List Range)) → MemoryGiven b props backend ranges t
+unfolding types
+memory-given b t props backend ranges = each (MemoryGiven b props backend ranges) (search (rules, dimm-given)) t
 
 pub given-due : (b : Board) (t : TypeId) (bus : ℕ) (props : List Given) (c : Board) (n : ℕ) → ClaimsGiven b t bus props c n
     → claims_due c n ≡ claims_given b t bus props

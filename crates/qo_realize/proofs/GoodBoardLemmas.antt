@@ -1,12 +1,11 @@
 -- The board that stands is sound after each call.
 use Rattle.std.proofs.Common.{◌≡◌, ◌≤◌, ◌<◌, ◌^◌, arith, refl, ap, sym, subst, ◌∙◌, ℕ, Bool, true, false, List, [], ◌∷◌, codes, Option, None, Some, Ok, is_some, if◌then◌else◌}
 use Rattle.std.specs.Option.{option_map_or}
-use Rattle.qo_values.specs.Bodies.{Effect}
-use Rattle.qo_values.specs.Registers.{Registers, bare}
+use Rattle.qo_values.specs.Registers.{Effect, Registers, bare}
 use Rattle.qo_values.specs.declared.codes.Code.{Code}
 use Rattle.qo_values.specs.declared.kinds.TypeId.{TypeId}
 use Rattle.qo_values.specs.declared.limits.TheConstants.{TIME_MAX}
-use Rattle.qo_backends.specs.Rings.{claimed_ring}
+use Rattle.qo_buses.specs.Rings.{claimed_ring}
 use Rattle.qo_model.specs.Board.{Board, Record, Ring, record_of}
 use Rattle.qo_model.specs.ClockChanges.{clock_scaled, clock_set}
 use Rattle.qo_model.specs.Clocks.{device_period}

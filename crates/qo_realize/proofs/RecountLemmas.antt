@@ -18,7 +18,7 @@ use Rattle.qo_model.specs.Plug.{bus_type, claims_ring, dimms, has_backend, is_fr
 use Rattle.qo_model.specs.SoundGraph.{Rises}
 use Rattle.qo_sound.proofs.ViewLemmas.{rest-from_sound}
 use Rattle.qo_sound_devices.proofs.GoalLemmas.{fits-bus}
-use Rattle.qo_backends.specs.Recount.{IsRecounted}
+use Rattle.qo_buses.specs.Recount.{IsRecounted}
 use Rattle.qo_heap.specs.Board.{Shows}
 use Rattle.qo_heap.specs.Book.{IsBook, counted}
 use Rattle.qo_heap.specs.Objects.{Objects}

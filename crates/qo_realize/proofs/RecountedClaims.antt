@@ -1,13 +1,14 @@
 -- Which claims are due to an object of the board: by the id of its device, its slot, its ring, its memory backend and its range.
-use Rattle.std.proofs.Common.{◌≡◌, ◌≢◌, refl, ap, sym, ◌∙◌, ℕ, Bool, true, false, ◌&&◌, ◌||◌, ◌==◌, List, [], ◌∷◌, Option, Some, None, option_map, codes, slice_get, arith}
+use Rattle.std.proofs.Common.{◌≡◌, ◌≢◌, refl, ap, sym, ◌∙◌, ℕ, Bool, true, false, ◌&&◌, ◌||◌, ◌==◌, List, [], ◌∷◌, Option, Some, None, option_map, codes, slice_get, arith, rules}
 use Rattle.std.specs.Prelude.{if◌then◌else◌, option_and_then}
 use Rattle.std.specs.List.{list_any}
 use Rattle.std.specs.Option.{option_map_or}
 use Rattle.std.specs.Str.{bytes_eq}
 use Rattle.std.proofs.Math.Bool.{or-false}
 use Rattle.std.proofs.lemmas.Slice.Eq.{bytes_eq-Decides}
-use Rattle.qo_values.specs.Registers.{Registers, bare, bridge, dimm, timer, uart}
+use Rattle.qo_values.specs.Registers.{DimmRegisters, Registers, dimm}
 use Rattle.qo_values.specs.declared.ranges.Range.{Range}
+use Rattle.qo_values.proofs.EachLemmas.{each_body}
 use Rattle.qo_claims.specs.Lists.{bus_slot, range_eq}
 use Rattle.qo_claims.specs.declared.claims.Claimed.{Claimed}
 use Rattle.qo_claims.specs.declared.claims.Claimed.TheVariants as on
@@ -19,7 +20,7 @@ use Rattle.qo_model.specs.Plug.{backend_of, claims_ring, has_backend, is_dimm, r
 use Rattle.qo_sound.proofs.TestLemmas.{clash, decide}
 use Rattle.qo_heap.specs.Book.{claim_eq}
 use Rattle.qo_sound_claims.proofs.ReadLemmas.{kind-at}
-use Rattle.qo_backends.specs.Rings.{named_ring}
+use Rattle.qo_buses.specs.Rings.{named_ring}
 use Rattle.qo_realize.specs.BoardClaims.{backend_due, claims_due, own_range, range_due, ring_due, slot_due}
 use Rattle.qo_realize.proofs.RecountedRows.{claims, is_due}
 use Rattle.qo_realize.proofs.RecountedSlots.{has_place, names_slot}
@@ -100,13 +101,14 @@ rings-named id some (Some []) = decide (bytes_eq id []) (λ p. absurd (some ((by
 rings-named id some (Some (c ∷ cs)) = refl
 
 -- registers have one range at most
-ranges-in : (s : Range) (registers : Registers)
-    → claims (on.Range s) (option_map on.Range (slice_get (range_in registers) 0)) ≡ list_any (range_eq s) (range_in registers)
-ranges-in s (dimm d) = sym (or-false (range_eq s (record { at = d.address; size = d.size })))
-ranges-in s (uart u) = refl
-ranges-in s (timer t) = refl
-ranges-in s (bridge r) = refl
-ranges-in s bare = refl
+abbrev HasOneRange : Range → Registers → Type 0
+HasOneRange s r = claims (on.Range s) (option_map on.Range (slice_get (range_in r) 0)) ≡ list_any (range_eq s) (range_in r)
+
+dimm-range : (s : Range) (d : DimmRegisters) → HasOneRange s (dimm d)
+dimm-range s d = sym (or-false (range_eq s (record { at = d.address; size = d.size })))
+
+ranges-in : (s : Range) (registers : Registers) → HasOneRange s registers
+ranges-in s = each_body (HasOneRange s) (search (rules, dimm-range))
 
 -- what is due to an object of the board
 

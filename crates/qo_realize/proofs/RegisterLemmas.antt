@@ -3,17 +3,16 @@ use Rattle.std.proofs.Common.{◌≡◌, refl, ap, ap₂, sym, subst, ◌∙◌,
 use Rattle.std.specs.Option.{option_map_or}
 use Rattle.std.proofs.lemmas.Bool.{eqb-true}
 use Rattle.std.proofs.lemmas.Option.{same_Some}
-use Rattle.qo_values.specs.Bodies.{Effect, body_write}
-use Rattle.qo_values.specs.Bodies as effect
-use Rattle.qo_values.specs.Registers.{Registers, bare}
-use Rattle.qo_backends.specs.Rings.{claimed_ring}
+use Rattle.qo_values.specs.Registers.{Effect, body_write, Registers, bare}
+use Rattle.qo_values.specs.Registers as effect
+use Rattle.qo_buses.specs.Rings.{claimed_ring}
 use Rattle.qo_kinds.specs.Bodies.{IsTimely, kept_of, registers_of}
 use Rattle.qo_kinds.specs.declared.bodies.Body.{Body}
 use Rattle.qo_kinds.specs.declared.kept_set.KeptSet.{KeptSet}
 use Rattle.qo_kinds.specs.Effects.{shown_effect}
 use Rattle.qo_kinds.specs.declared.effects.Effect as told
 use Rattle.qo_slots.specs.declared.keys.Key.{Key}
-use Rattle.qo_table.specs.Rows.{IsLive}
+use Rattle.qo_heap.specs.Rows.{IsLive}
 use Rattle.qo_object.specs.Content.{Content}
 use Rattle.qo_object.specs.BoardObject.{shown}
 use Rattle.qo_model.specs.Board.{Board, Record, record_of, Ring}

@@ -2,10 +2,9 @@
 use Rattle.std.proofs.Common.{◌≡◌, refl, subst, ◌∙◌, ℕ, List, Option, None, Some}
 use Rattle.std.specs.Option.{option_map_or}
 use Rattle.std.proofs.lemmas.Option.{same_Some}
-use Rattle.qo_values.specs.Bodies.{Effect, byte, nothing}
-use Rattle.qo_values.specs.Bodies as effect
-use Rattle.qo_values.specs.Registers.{Registers}
-use Rattle.qo_backends.specs.Rings.{claimed_ring}
+use Rattle.qo_values.specs.Registers.{Effect, byte, nothing, Registers}
+use Rattle.qo_values.specs.Registers as effect
+use Rattle.qo_buses.specs.Rings.{claimed_ring}
 use Rattle.qo_model.specs.Board.{Board}
 use Rattle.qo_model.specs.Devices.{first_bus}
 use Rattle.qo_model.specs.Reset.{pulse}

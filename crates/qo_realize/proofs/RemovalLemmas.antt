@@ -10,7 +10,7 @@ use Rattle.qo_values.proofs.ListLemmas.{all-imply}
 use Rattle.qo_hotplug.specs.Hotplug as hotplug
 use Rattle.qo_hotplug.specs.Hotplug.{Asked}
 use Rattle.qo_slots.specs.declared.keys.Key.{Key}
-use Rattle.qo_table.specs.Rows.{IsLive}
+use Rattle.qo_heap.specs.Rows.{IsLive}
 use Rattle.qo_model.specs.Board.{Board, Notice, Record, Ring, is_live}
 use Rattle.qo_model.specs.Depth.{among}
 use Rattle.qo_model.specs.Objects.{Changed}

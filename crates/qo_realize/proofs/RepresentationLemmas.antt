@@ -19,8 +19,8 @@ use Rattle.qo_model.specs.Opening.{opening_board}
 use Rattle.qo_model.specs.ChangeScope.{Stays}
 use Rattle.qo_model.proofs.ClockScopeLemmas.{write_at-stays}
 use Rattle.qo_model.proofs.ChangeScopeLemmas.{attempted_as-stays, stays-none, stays_lem}
-use Rattle.qo_notes.specs.Log as log
-use Rattle.qo_notes.specs.Log.{IsLogOf, Log}
+use Rattle.qo_heap.specs.Log as log
+use Rattle.qo_heap.specs.Log.{IsLogOf, Log}
 use Rattle.qo_heap.specs.Board.{Shows}
 use Rattle.qo_heap.specs.Book.{IsBook}
 use Rattle.qo_heap.specs.Objects.{Objects, content_of, no_objects_made}

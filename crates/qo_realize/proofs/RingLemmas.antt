@@ -4,18 +4,17 @@ use Rattle.std.specs.List.{AllByRecursion, list_any}
 use Rattle.std.specs.Option.{option_map_or}
 use Rattle.std.specs.Str.{bytes_eq}
 use Rattle.std.proofs.lemmas.List.{length-drop}
-use Rattle.qo_values.specs.Bodies.{Effect, body_write}
+use Rattle.qo_values.specs.Registers.{Effect, body_write, Registers, bare}
 use Rattle.qo_values.specs.Ids.{is_id}
-use Rattle.qo_values.specs.Registers.{Registers, bare}
 use Rattle.qo_values.specs.Rings.{RingBytes, is_ring_size, ring_add, ring_drop}
 use Rattle.qo_values.specs.declared.codes.Code.TheVariants.{E20, E23, E24, E36, E37, E51}
-use Rattle.qo_backends.specs.Rings.{claimed_ring}
+use Rattle.qo_buses.specs.Rings.{claimed_ring}
 use Rattle.qo_model.specs.Board.{Board, Record, Ring, record_of}
 use Rattle.qo_model.specs.Clocks.{device_period}
 use Rattle.qo_model.specs.Plug.{claims_ring, has_ring}
 use Rattle.qo_realize.specs.Chardevs.{chardev_barred, removal_barred, with_rings}
 use Rattle.qo_realize.specs.Registers.{registers_written}
-use Rattle.qo_rings.specs.Rings.{bytes_in, is_ring, new_ring, ring_changed, with_bytes, without_ring}
+use Rattle.qo_chardev.specs.Rings.{bytes_in, is_ring, new_ring, ring_changed, with_bytes, without_ring}
 use Rattle.qo_sound_claims.specs.ClaimsKept.{ring_frame}
 use Rattle.qo_sound_claims.specs.SoundBackends.{SoundBackends}
 use Rattle.qo_sound_claims.specs.SoundRings.{IsGoodRing}

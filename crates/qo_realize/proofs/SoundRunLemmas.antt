@@ -1,10 +1,9 @@
 -- Each change of a board keeps devices in their places with the lists that name them, clocks with their numbers, and no timer ahead of the time.
 use Rattle.std.proofs.Common.{◌≡◌, ◌≤◌, ◌<◌, ◌^◌, arith, refl, ap, sym, subst, ◌∙◌, ℕ, Bool, true, List, [], ◌∷◌, drop, Option, None, Some, Ok, is_some}
 use Rattle.std.specs.Option.{option_map_or}
-use Rattle.qo_values.specs.Bodies.{Effect}
-use Rattle.qo_values.specs.Registers.{Registers, bare}
+use Rattle.qo_values.specs.Registers.{Effect, Registers, bare}
 use Rattle.qo_values.specs.declared.kinds.TypeId.{TypeId}
-use Rattle.qo_backends.specs.Rings.{claimed_ring}
+use Rattle.qo_buses.specs.Rings.{claimed_ring}
 use Rattle.qo_model.specs.Board.{Board, Notice, Record, Ring, record_of}
 use Rattle.qo_model.specs.ClockChanges.{clock_scaled, clock_set}
 use Rattle.qo_model.specs.Clocks.{device_period}

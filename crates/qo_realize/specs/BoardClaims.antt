@@ -11,7 +11,7 @@ use Rattle.qo_model.specs.Board.{Board, Record, record_of}
 use Rattle.qo_model.specs.Devices.{bus_of, bus_slot_of, text_at}
 use Rattle.qo_model.specs.Paths.{is_of}
 use Rattle.qo_model.specs.Plug.{backend_of, range_in}
-use Rattle.qo_backends.specs.Rings.{named_ring}
+use Rattle.qo_buses.specs.Rings.{named_ring}
 use Rattle.qo_heap.specs.Board.{Shows}
 use Rattle.qo_heap.specs.Objects.{Objects}
 use Rattle.qo_unplug.specs.RealizedClaims.{KeepsDue}

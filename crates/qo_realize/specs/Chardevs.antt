@@ -12,8 +12,8 @@ use Rattle.qo_chardev.specs.Texts.{told}
 use Rattle.qo_model.specs.Board.{Board, Ring}
 use Rattle.qo_model.specs.Objects.{Changed}
 use Rattle.qo_model.specs.Plug.{claims_ring, has_ring}
-use Rattle.qo_rings.specs.Rings.{bytes_in, given_bytes, new_ring, ring_changed, ring_named, without_ring}
-use Rattle.qo_rings.specs.declared.rings.TheConstants.{RING_SIZE_DEFAULT}
+use Rattle.qo_chardev.specs.Rings.{bytes_in, given_bytes, new_ring, ring_changed, ring_named, without_ring}
+use Rattle.qo_chardev.specs.declared.rings.TheConstants.{RING_SIZE_DEFAULT}
 use Rattle.qo_properties.specs.declared.refusals.Refusal.{Refusal}
 use Rattle.qo_properties.specs.declared.refusals.Refusal.TheVariants.{Refused, Memory}
 use Rattle.qo_realize.specs.Parts.{Parts}

@@ -1,9 +1,8 @@
 -- The registers of devices, as the guest reads and writes them (docs/PROFILE.md, guest lines and device registers).
 use Rattle.std.specs.Prelude.{◌≡◌, ℕ, List, Option, None, Some, is_some, option_map}
 use Rattle.std.specs.Option.{option_map_or}
-use Rattle.qo_values.specs.Bodies.{Effect, body_read, body_write}
-use Rattle.qo_values.specs.Bodies as effect
-use Rattle.qo_values.specs.Registers.{Registers, bare}
+use Rattle.qo_values.specs.Registers.{Effect, body_read, body_write, Registers, bare}
+use Rattle.qo_values.specs.Registers as effect
 use Rattle.qo_values.specs.Rings.{ring_push}
 use Rattle.qo_model.specs.Board.{Board, Record, Ring, record_of}
 use Rattle.qo_model.specs.Clocks.{device_period}
@@ -13,9 +12,9 @@ use Rattle.qo_heap.specs.Board.{Shows}
 use Rattle.qo_heap.specs.Objects.{Objects}
 use Rattle.qo_kinds.specs.Effects.{shown_effect}
 use Rattle.qo_kinds.specs.declared.effects.Effect as told
-use Rattle.qo_backends.specs.Rings.{claimed_ring}
+use Rattle.qo_buses.specs.Rings.{claimed_ring}
 use Rattle.qo_reset.specs.Phases.{Holds}
-use Rattle.qo_rings.specs.Rings.{ring_changed}
+use Rattle.qo_chardev.specs.Rings.{ring_changed}
 use Rattle.qo_sound_clocks.specs.RegisterWrites.{registers_set}
 use Rattle.qo_realize.specs.Chardevs.{with_rings}
 use Rattle.qo_realize.specs.Parts.{Parts}

@@ -8,6 +8,7 @@ use crate::guests::address_of;
 use crate::removals::{ask, refuse};
 use crate::users::is_used;
 use qo_buses::by_address;
+use qo_chardev::Rings;
 use qo_events::DeviceEvent;
 use qo_guest::{Addr, Steps9};
 use qo_heap::{Heap, Oid, Steps};
@@ -19,7 +20,6 @@ use qo_properties::{
     set, sever,
 };
 use qo_reset::Resets;
-use qo_rings::Rings;
 use qo_unplug::detach;
 use qo_values::{Code, PropList, TIME_MAX, TypeText, Val};
 use std::alloc::{AllocError, Global};
@@ -82,7 +82,7 @@ impl Board {
     ghost use Rattle.qo_model.specs.Listing.{listing};
     ghost use Rattle.qo_model.specs.Properties.{object_at};
     ghost use Rattle.qo_heap.specs.Objects.{slots_of};
-    ghost use Rattle.qo_table.specs.Rows.{IsLive};
+    ghost use Rattle.qo_heap.specs.Rows.{IsLive};
     ghost use Rattle.qo_values.specs.TypeTexts.{text_of};
     ghost use Rattle.qo_model.specs.Board as model;
     ghost use Rattle.qo_model.specs.Detachment.{detached_listed};
@@ -90,7 +90,7 @@ impl Board {
     ghost use Rattle.qo_model.specs.Notes.{total_of};
     ghost use Rattle.qo_model.specs.Objects as objects;
     ghost use Rattle.qo_model.specs.Opening.{opening_board};
-    ghost use Rattle.qo_notes.specs.Log as log;
+    ghost use Rattle.qo_heap.specs.Log as log;
     ghost use Rattle.qo_properties.specs.Reads.{Answers};
     ghost use Rattle.qo_buses.specs.Addresses.{addressed};
     ghost use Rattle.qo_model.specs.Depth.{among};
@@ -105,8 +105,8 @@ impl Board {
     ghost use Rattle.qo_realize.specs.Users.{object_removed};
     ghost use Rattle.qo_realize.specs.Time.{Advances, advanced, switches, with_running};
 
-    /// The opening board: the eight objects that every machine begins with; it runs. The error is
-    /// want of memory.
+    /// The opening board: the eight objects that every machine begins with; it runs. The error says
+    /// that memory ran out.
     pub fn start<L: Ledger>(alloc: Global, steps: &mut Steps<L>) -> Result<Board, AllocError>
         ensures { IfOk result (Stands opening_board) }
     {
@@ -258,7 +258,8 @@ impl Board {
         self.heap.notes_first(from)
     }
 
-    /// The notes that a reading from a number gives, at most `NOTES_PER_REPLY`. The error is want of memory.
+    /// The notes that a reading from a number gives, at most `NOTES_PER_REPLY`. The error says that memory
+    /// ran out.
     pub fn notes(&self, from: u64, alloc: Global) -> Result<Vec<Note>, AllocError>
         ensures logged { IfOk result (λ notes. notes.items ≡ log.given_from from self.now.objects.log) }
         ensures told { (b : model.Board) → Stands b self.now → IfOk result (λ notes. notes.items ≡ given_from from b.notes) }
@@ -287,8 +288,9 @@ impl Board {
     /// with E15 where a path leads to no object and E16 where to several, E17 where the object has no
     /// such property, E18 where `qom-set` does not write it, E19 where the value does not fit, E31
     /// where the target is not of the link's type, and then E45 where the clock has a source, E46
-    /// where it would divide by 0, and E47 where a period would not fit in 64 bits. The other error is
-    /// want of memory, which comes only where a value is copied. An error leaves the board as it was.
+    /// where it would divide by 0, and E47 where a period would not fit in 64 bits. The other error
+    /// says that memory ran out, which is so only where a value is copied. An error leaves the board as it
+    /// was.
     pub fn qom_set<L: Ledger>(
         &mut self,
         path: &str,
@@ -412,7 +414,7 @@ impl Board {
 
     /// The guest refuses the removal of a device, which is pending (include/hw/hotplug.h): it is
     /// pending no longer, the guest is told no longer that it is asked for, and the event of it waits.
-    /// The error is want of memory, and leaves the board as it was.
+    /// The error says that memory ran out, and leaves the board as it was.
     pub fn refuse<L: Ledger>(
         &mut self,
         dev: Oid,

@@ -2,16 +2,16 @@
 //! the refusals and their order are the profile's).
 
 ghost use Rattle.std.specs.Prelude.{◌≡◌, OnErr};
-ghost use Rattle.qo_backends.specs.Recount.{IsRecounted};
+ghost use Rattle.qo_buses.specs.Recount.{IsRecounted};
 ghost use Rattle.qo_model.specs.Board.{Board as Tree};
 ghost use Rattle.qo_realize.specs.Answers.{Changes, IsAnswered};
 ghost use Rattle.qo_realize.specs.Chardevs.{AnswersRings, ChangesRings, ReadsRing, TakesRing, chardev_added, chardev_removed, ring_added, ring_read, ring_written, ringbuf_read, ringbuf_written};
 ghost use Rattle.qo_realize.specs.Representation.{Stands};
 
 use crate::board::Board;
+use qo_chardev::{RING_SIZE_DEFAULT, RingAddError, RingError, RingTakeError, Rings};
 use qo_heap::Heap;
 use qo_properties::Refusal;
-use qo_rings::{RING_SIZE_DEFAULT, RingAddError, RingError, RingTakeError, Rings};
 use qo_values::{Code, Form, Id, IdError, Text};
 use std::alloc::Global;
 

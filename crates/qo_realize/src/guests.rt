@@ -4,7 +4,7 @@ ghost use Rattle.std.specs.Prelude.{◌≡◌, ◌≤◌, IfSome, length};
 ghost use Rattle.qo_guest.specs.declared.addresses.TheConstants.{STEPS_MAX};
 ghost use Rattle.qo_model.specs.Board.{Board};
 ghost use Rattle.qo_object.specs.BoardObject.{birth_of};
-ghost use Rattle.qo_table.specs.Rows.{IsLive};
+ghost use Rattle.qo_heap.specs.Rows.{IsLive};
 ghost use Rattle.qo_heap.specs.Board.{Shows};
 ghost use Rattle.qo_realize.specs.Guest.{above, address_of, is_in_slot, is_on_memory, slot_in, slot_of, slots_to};
 

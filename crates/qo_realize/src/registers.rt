@@ -1,28 +1,27 @@
 //! The registers of devices, as the guest reads and writes them (docs/PROFILE.md, guest lines).
 
 ghost use Rattle.std.specs.Prelude.{◌≡◌, IfNone, IfSome, List, is_some, ℕ};
-ghost use Rattle.qo_values.specs.Bodies as bodies;
+ghost use Rattle.qo_values.specs.Registers as bodies;
 ghost use Rattle.qo_kinds.specs.Bodies.{IsTimely};
 ghost use Rattle.qo_kinds.specs.Effects.{shown_effect};
 ghost use Rattle.qo_model.specs.Board.{Board as Tree, Ring};
 ghost use Rattle.qo_model.specs.Clocks.{ClocksFit};
-ghost use Rattle.qo_table.specs.Rows.{IsLive};
+ghost use Rattle.qo_heap.specs.Rows.{IsLive};
 ghost use Rattle.qo_heap.specs.Board.{Shows};
 ghost use Rattle.qo_heap.specs.Objects.{content_of};
 ghost use Rattle.qo_properties.specs.Claims.{KeepsBook};
 ghost use Rattle.qo_properties.specs.KeptClaims.{KeptBefore};
-ghost use Rattle.qo_backends.specs.Rings.{claimed_ring};
+ghost use Rattle.qo_buses.specs.Rings.{claimed_ring};
 ghost use Rattle.qo_realize.specs.Registers.{GuestWrites, HasWritten, IsHeld, Written, after_effect, guest_read, guest_written, registers_written};
 ghost use Rattle.qo_realize.specs.Representation.{Stands};
 
 use crate::board::Board;
-use qo_backends::claimed_ring;
-use qo_buses::first_bus;
+use qo_buses::{claimed_ring, first_bus};
+use qo_chardev::Rings;
 use qo_clocks::device_period;
 use qo_heap::{Heap, Oid, Steps};
 use qo_kinds::Effect;
 use qo_reset::Resets;
-use qo_rings::Rings;
 use std::sync::ledger::Ledger;
 
 /// Whether a device has claimed a ring.

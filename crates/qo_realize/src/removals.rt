@@ -7,7 +7,7 @@ ghost use Rattle.qo_model.specs.Depth.{among};
 ghost use Rattle.qo_model.specs.Hotplug.{asked, asked_of, device_at, refused};
 ghost use Rattle.qo_model.specs.Paths.{attached, is_absolute};
 ghost use Rattle.qo_object.specs.BoardObject.{birth_of};
-ghost use Rattle.qo_table.specs.Rows.{IsLive};
+ghost use Rattle.qo_heap.specs.Rows.{IsLive};
 ghost use Rattle.qo_heap.specs.Board.{Shows};
 ghost use Rattle.qo_properties.specs.Claims.{KeepsBook};
 ghost use Rattle.qo_realize.specs.Removals.{Asks, HasRoom, IsAsked};

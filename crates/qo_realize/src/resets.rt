@@ -8,7 +8,7 @@ ghost use Rattle.qo_model.specs.Reset.{pulse};
 ghost use Rattle.qo_model.specs.Unplug.{first_of};
 ghost use Rattle.qo_values.specs.declared.births.TheConstants.{MACHINE_BIRTH};
 ghost use Rattle.qo_object.specs.BoardObject.{birth_of};
-ghost use Rattle.qo_table.specs.Rows.{IsLive};
+ghost use Rattle.qo_heap.specs.Rows.{IsLive};
 ghost use Rattle.qo_heap.specs.Acts.{Acts};
 ghost use Rattle.qo_heap.specs.Board.{Shows};
 ghost use Rattle.qo_properties.specs.Reads.{birth_told};

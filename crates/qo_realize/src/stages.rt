@@ -11,13 +11,13 @@ ghost use Rattle.qo_realize.specs.Stages.{Begins, Finishes, IsDrafted, IsPlugged
 ghost use Rattle.qo_realize.specs.Representation.{Stands, StandsForGood};
 
 use crate::board::{Board, next_anonymous};
+use qo_chardev::Rings;
 use qo_heap::{Heap, Steps};
 use qo_hotplug::Hotplug;
 use qo_plug::{
     AddRefusal, Added, Barred, Begun, DeviceOptions, Placed, abandon, begin, finish, place,
 };
 use qo_reset::Resets;
-use qo_rings::Rings;
 use std::alloc::Global;
 use std::marker::Model;
 use std::sync::ledger::Ledger;

@@ -1,9 +1,9 @@
 //! Users' objects that are in use (docs/PROFILE.md, DIMMs).
 
 ghost use Rattle.std.specs.Prelude.{◌≡◌};
-ghost use Rattle.qo_backends.specs.Recount.{IsRecounted};
+ghost use Rattle.qo_buses.specs.Recount.{IsRecounted};
 ghost use Rattle.qo_model.specs.Board.{Board};
-ghost use Rattle.qo_table.specs.Rows.{IsLive};
+ghost use Rattle.qo_heap.specs.Rows.{IsLive};
 ghost use Rattle.qo_heap.specs.Board.{Shows};
 ghost use Rattle.qo_realize.specs.Users.{has_dimm, is_used};
 

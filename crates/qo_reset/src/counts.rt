@@ -4,7 +4,7 @@
 ghost use Rattle.std.specs.Prelude.{◌≡◌, ◌==◌};
 ghost use Rattle.std.specs.List.{list_any};
 ghost use Rattle.qo_model.specs.Depth.{among};
-ghost use Rattle.qo_table.specs.Rows.{IsLive};
+ghost use Rattle.qo_heap.specs.Rows.{IsLive};
 ghost use Rattle.qo_reset.specs.Phases.{below_on, births_of, count_on, is_crowded, is_under, out_on, post_by};
 
 use crate::reach::{below_at, is_bus};

@@ -3,7 +3,7 @@
 
 ghost use Rattle.std.specs.Prelude.{◌≡◌, ◌<◌, ◌^◌, option_map, slice_get, IfSome};
 ghost use Rattle.qo_object.specs.Slots.{child_of};
-ghost use Rattle.qo_table.specs.Rows.{IsLive};
+ghost use Rattle.qo_heap.specs.Rows.{IsLive};
 ghost use Rattle.qo_heap.specs.Objects.{slots_of};
 ghost use Rattle.qo_reset.specs.Phases.{bus_child, is_bus, strong_target, turned_to};
 

@@ -37,7 +37,7 @@ fn hold_index(holds: &[Oid], birth: u64) -> Option<usize>
 
 impl Resets {
     ghost use Rattle.std.specs.Prelude.{◌+◌, ◌-◌, ◌≤◌, [], ◌∷◌, ◌++◌, if◌then◌else◌, min, Ok, Err, IsOk, OnOk, OnErr, length};
-    ghost use Rattle.qo_table.specs.Rows.{IsLive};
+    ghost use Rattle.qo_heap.specs.Rows.{IsLive};
     ghost use Rattle.qo_model.specs.Board.{Board};
     ghost use Rattle.qo_model.specs.Depth.{among};
     ghost use Rattle.qo_model.specs.Release.{without_first};

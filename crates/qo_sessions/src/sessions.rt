@@ -30,7 +30,7 @@ impl Model for Session {
 }
 
 impl Session {
-    ghost use Rattle.std.specs.Prelude.{◌≡◌, IfOk, OnErr};
+    ghost use Rattle.std.specs.Prelude.{◌≡◌, [], IfOk, OnErr};
     ghost use Rattle.qo_replies.specs.Replies.{greeting};
     ghost use Rattle.qo_sessions.specs.Acts.{act, mode_after};
     ghost use Rattle.qo_sessions.specs.Sessions.{begun, closed, fed, in_mode};
@@ -72,16 +72,22 @@ impl Session {
         greeting(alloc)
     }
 
-    /// The items of further bytes, after those that came before. A closed session takes none. After
-    /// an error the session is as before.
-    pub fn feed(&mut self, alloc: Global, bytes: &[u8]) -> Result<Vec<Item>, AllocError>
+    /// The items of further bytes, after those that came before. A closed session takes none. They are put
+    /// into `room`, a list without items. After an error the session is as before.
+    pub fn feed(
+        &mut self,
+        alloc: Global,
+        bytes: &[u8],
+        room: Vec<Item>,
+    ) -> Result<Vec<Item>, AllocError>
+        requires { room.items ≡ [] }
         ensures items { IfOk result (λ items. fed self.old bytes.now ≡ record { items = items.items; session = self.new }) }
         ensures kept { OnErr result (self.new ≡ self.old) }
     {
         if self.mode == Mode::Closed {
-            return Ok(Vec::new(alloc));
+            return Ok(room);
         }
-        self.framer.feed(alloc, bytes)
+        self.framer.feed(alloc, bytes, room)
     }
 
     /// What an item comes to, and the mode after it. `scratch` is room for reading. After an error

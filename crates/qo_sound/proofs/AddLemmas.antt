@@ -1,6 +1,6 @@
 -- `object-add` keeps a board at rest, taken or refused.
 use Rattle.std.proofs.Common.{◌≡◌, refl, ap, sym, subst, ◌∙◌, ℕ, ◌+◌, leb, Bool, true, false, cond, not, ◌==◌, List, [], ◌∷◌, ◌++◌, map, length, codes, sum_by, Option, Some, None, is_some, option_map, arith}
-use Rattle.qo_model.proofs.Common.{AllByRecursion, list_any, option_map_or, if◌then◌else◌, bytes_eq, is_id, fresh_registers, OBJECTS_BIRTH, Code, E15, E21, E22, E23, E24, E43, TypeId, Board, Record, Slot, plain, child, strong, weak, alias, record_of, kind_of, is_live, with_added, Given, added_as, barred, given_slots, has_slot, init_notes, object_add, with_attempt, with_object, children_in, children_of, is_child, edit, edited, TypeInfo, is_a}
+use Rattle.qo_model.proofs.Common.{AllByRecursion, list_any, option_map_or, if◌then◌else◌, bytes_eq, is_id, fresh_registers, OBJECTS_BIRTH, Code, E15, E21, E22, E23, E24, E43, TypeId, Board, Record, Slot, plain, child, strong, weak, alias, record_of, kind_of, is_live, with_added, Given, added_as, barred, given_slots, has_slot, init_notes, object_add, with_attempt, with_object, children_in, children_of, is_child, edit, edited, TypeInfo, is_a, LIVE_OBJECTS_MAX}
 use Rattle.qo_model.specs.declared.notes.Note.{Note}
 use Rattle.std.proofs.lemmas.Bool.{eqb-true, not-false}
 use Rattle.std.proofs.lemmas.List.{map-append}
@@ -137,7 +137,7 @@ unbarred false code o e = (refl, e)
 
 free-from_barred : (b : Board) (row : TypeInfo) (id : List ℕ) → barred b row id ≡ None → IsFree b id
 free-from_barred b row id e =
-    let after_place : Option Code = if leb 4096 (length b.records) then Some E43 else None in
+    let after_place : Option Code = if leb LIVE_OBJECTS_MAX (length b.records) then Some E43 else None in
     let after_name : Option Code = if has_slot b OBJECTS_BIRTH id then Some E24 else after_place in
     let after_there : Option Code = if not (is_live b OBJECTS_BIRTH) then Some E15 else after_name in
     let after_id : Option Code = if not (is_id id) then Some E23 else after_there in

@@ -1,10 +1,11 @@
 -- What acts and a guest's writes do to the segments of a timer that is not ahead of the time.
-use Rattle.std.proofs.Common.{◌≡◌, ◌≢◌, refl, ap, sym, subst, ◌∙◌, ℕ, ◌+◌, ◌-◌, ◌*◌, ◌≤◌, ◌%◌, ◌||◌, Bool, true, false, cond, eqb, Option, Some, None, is_some, arith}
-use Rattle.qo_model.proofs.Common.{⊤, Effect, body_act, body_write, Registers, TimerRegisters, bare, bridge, dimm, fresh_registers, timer, uart, after_begin, after_end, control_write, reload_write, span_ticks, timer_enter, timer_halt, timer_hold, timer_update, timer_write, Act, Init, Realize, Unrealize, Enter, Hold, Exit, Pre, Update, TypeId, Object, Container, Machine, Device, SlotDevice, SlotUart, SlotTimer, SlotBridge, MemDimm, Bus, SlotBus, MemBus, Clock, MemoryBackend, MemoryBackendRam, Tag}
+use Rattle.std.proofs.Common.{◌≡◌, ◌≢◌, refl, ap, sym, subst, ◌∙◌, ℕ, ◌+◌, ◌-◌, ◌*◌, ◌≤◌, ◌%◌, ◌||◌, Bool, true, false, cond, eqb, Option, Some, None, is_some, arith, rules}
+use Rattle.qo_model.proofs.Common.{⊤, Effect, body_act, body_write, Registers, TimerRegisters, fresh_registers, timer, after_begin, after_end, control_write, reload_write, span_ticks, timer_enter, timer_halt, timer_hold, timer_update, timer_write, Act, Pre, Update, TypeId}
 use Rattle.std.proofs.Math.Nat.{div-le_self}
 use Rattle.std.proofs.lemmas.Option.{same_Some}
+use Rattle.qo_values.proofs.EachLemmas.{AllBodies, each, each_act, each_body, each_write}
+use Rattle.qo_values.specs.Registers.{fresh_timer}
 use Rattle.qo_sound_clocks.specs.SoundTimes.{IsTimely}
-use Rattle.qo_sound_clocks.proofs.BecomesLemmas.{Becomes, written-becomes, uart_to, timer_to, dimm_stays, bridge_to}
 use Rattle.qo_sound_bounds.specs.SoundSegments.{IsSegmented, SegmentsFit}
 
 -- registers whose last moment is no later than one, and whose segments are sound
@@ -85,35 +86,14 @@ held_once : (t : TimerRegisters) (now : ℕ) → Fits now t → Fits now (timer_
 held_once t now h = (h.0, record { running = h.1.running; began = h.1.began; ticks = h.1.ticks })
 
 -- an act that is not Pre
+abbrev StaysTimed : Act → Registers → Type 0
+StaysTimed act r = (now period : ℕ) → act ≢ Pre → Timed now r → Timed now (body_act act now period r)
+
+abbrev StayTimed : Act → Type 0
+StayTimed act = AllBodies (StaysTimed act)
+
 pub act-timed : (act : Act) (now period : ℕ) (r : Registers) → act ≢ Pre → Timed now r → Timed now (body_act act now period r)
-act-timed (Init k) now period r other h = h
-act-timed Realize now period r other h = h
-act-timed Unrealize now period (uart u) other h = h
-act-timed Unrealize now period (timer t) other h = halted t now period h
-act-timed Unrealize now period (dimm d) other h = h
-act-timed Unrealize now period (bridge b) other h = h
-act-timed Unrealize now period bare other h = h
-act-timed Enter now period (uart u) other h = h
-act-timed Enter now period (timer t) other h = entered t now h
-act-timed Enter now period (dimm d) other h = h
-act-timed Enter now period (bridge b) other h = h
-act-timed Enter now period bare other h = h
-act-timed Hold now period (uart u) other h = h
-act-timed Hold now period (timer t) other h = held_once t now h
-act-timed Hold now period (dimm d) other h = h
-act-timed Hold now period (bridge b) other h = h
-act-timed Hold now period bare other h = h
-act-timed Exit now period (uart u) other h = h
-act-timed Exit now period (timer t) other h = h
-act-timed Exit now period (dimm d) other h = h
-act-timed Exit now period (bridge b) other h = h
-act-timed Exit now period bare other h = h
-act-timed Pre now period r other h = absurd (other refl)
-act-timed Update now period (uart u) other h = h
-act-timed Update now period (timer t) other h = updated t now h
-act-timed Update now period (dimm d) other h = h
-act-timed Update now period (bridge b) other h = h
-act-timed Update now period bare other h = h
+act-timed act now period r = each_body (StaysTimed act) (each_act StayTimed (search (rules, halted, entered, held_once, updated)) act) r now period
 
 -- registers between Pre and Update
 abbrev pub Paused : ℕ → Registers → Type 0
@@ -121,18 +101,10 @@ Paused now (timer t) = Rests now t
 Paused now r = ⊤
 
 pub pre-paused : (now period : ℕ) (r : Registers) → Timed now r → Paused now (body_act Pre now period r)
-pre-paused now period (uart u) h = tt
-pre-paused now period (timer t) h = ended t now period h
-pre-paused now period (dimm d) h = tt
-pre-paused now period (bridge b) h = tt
-pre-paused now period bare h = tt
+pre-paused now period = each_body (λ (r : Registers). Timed now r → Paused now (body_act Pre now period r)) (search (rules, ended))
 
 pub paused-timed : (now period : ℕ) (r : Registers) → Paused now r → Timed now (body_act Update now period r)
-paused-timed now period (uart u) h = (tt, tt)
-paused-timed now period (timer t) h = followed t now h
-paused-timed now period (dimm d) h = (tt, tt)
-paused-timed now period (bridge b) h = (tt, tt)
-paused-timed now period bare h = (tt, tt)
+paused-timed now period = each_body (λ (r : Registers). Paused now r → Timed now (body_act Update now period r)) (search (rules, followed))
 
 -- a guest's write
 
@@ -162,33 +134,19 @@ timer-fits t s reg value now period e h = go (eqb reg 0) refl (eqb reg 1) refl (
     go false p false q true k = is t (rw (timer_write, p, q, k) refl) h
     go false p false q false k = absurd (let clash : None ≡ Some s = rw (timer_write, p, q, k) at e in cc)
 
+timer-segmented : (t s : TimerRegisters) (reg value now period : ℕ) → timer_write t reg value now period ≡ Some s → t.last ≤ now → SegmentsFit t → SegmentsFit s
+timer-segmented t s reg value now period e low h = (timer-fits t s reg value now period e (low, h)).1
+
 -- no other body becomes a timer
 pub write-segments : (r s : Registers) (effect : Effect) (reg value : ℕ) (ring : Bool) (now period : ℕ)
     → body_write r reg value ring now period ≡ Some (s, effect) → IsTimely now r → IsSegmented r → IsSegmented s
-write-segments r s effect reg value ring now period e le h = by r s (written-becomes r s effect reg value ring now period e) le h
-  where
-    by : (x y : Registers) → Becomes reg value now period x y → IsTimely now x → IsSegmented x → IsSegmented y
-    by x y (uart_to u v) low k = tt
-    by x y (timer_to t v q) low k = (timer-fits t v reg value now period q (low, k)).1
-    by x y (dimm_stays d) low k = tt
-    by x y (bridge_to g v) low k = tt
+write-segments r s effect reg value ring now period =
+    each_write (λ (x y : Registers). IsTimely now x → IsSegmented x → IsSegmented y) reg value ring now period (search (rules, timer-segmented)) r s effect
 
 -- what is made
 
+fresh-fits : (now : ℕ) → Fits now fresh_timer
+fresh-fits now = (omega arith, record { running = refl; began = λ f q. cc; ticks = omega arith })
+
 pub fresh-timed : (now : ℕ) (t : TypeId) → Timed now (fresh_registers t)
-fresh-timed now Object = (tt, tt)
-fresh-timed now Container = (tt, tt)
-fresh-timed now Machine = (tt, tt)
-fresh-timed now Device = (tt, tt)
-fresh-timed now SlotDevice = (tt, tt)
-fresh-timed now SlotUart = (tt, tt)
-fresh-timed now SlotTimer = (omega arith, record { running = refl; began = λ f q. cc; ticks = omega arith })
-fresh-timed now SlotBridge = (tt, tt)
-fresh-timed now MemDimm = (tt, tt)
-fresh-timed now Bus = (tt, tt)
-fresh-timed now SlotBus = (tt, tt)
-fresh-timed now MemBus = (tt, tt)
-fresh-timed now Clock = (tt, tt)
-fresh-timed now MemoryBackend = (tt, tt)
-fresh-timed now MemoryBackendRam = (tt, tt)
-fresh-timed now Tag = (tt, tt)
+fresh-timed now = each (λ (t : TypeId). Timed now (fresh_registers t)) (search (rules, fresh-fits))

@@ -1,7 +1,6 @@
 -- For a law alone. What keeps the segments of timers sound.
 use Rattle.std.specs.Prelude.{◌≡◌, ◌≢◌, ℕ, Bool, List, Some, Ok}
-use Rattle.qo_values.specs.Bodies.{Effect, body_write}
-use Rattle.qo_values.specs.Registers.{Registers}
+use Rattle.qo_values.specs.Registers.{Effect, body_write, Registers}
 use Rattle.qo_values.specs.declared.kinds.Act.{Act}
 use Rattle.qo_values.specs.declared.kinds.Act.TheVariants.{Pre, Update}
 use Rattle.qo_values.specs.declared.kinds.TypeId.{TypeId}

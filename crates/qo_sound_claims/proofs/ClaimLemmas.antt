@@ -1,8 +1,9 @@
 -- Where objects claim no more than before, the claims stay sound.
-use Rattle.std.proofs.Common.{◌≡◌, ◌≢◌, refl, ap, sym, ◌∙◌, ℕ, true, false, ◌&&◌, List, [], ◌∷◌, Option, Some, None, is_some, option_map, option_and_then, unwrap_or, codes}
-use Rattle.qo_model.proofs.Common.{list_any, bytes_eq, Registers, bare, bridge, dimm, timer, uart, TypeId, Val, Range, Board, Record, Ring, kind_of, record_of, bus_of, bus_slot_of, is_realized, number_at, number_in, text_at, text_in, is_of, backend_of, range_in, size_of, is_a}
+use Rattle.std.proofs.Common.{◌≡◌, ◌≢◌, refl, ap, sym, ◌∙◌, ℕ, true, false, ◌&&◌, List, [], ◌∷◌, Option, Some, None, is_some, option_map, option_and_then, unwrap_or, codes, rules}
+use Rattle.qo_model.proofs.Common.{list_any, bytes_eq, Registers, bare, dimm, TypeId, Val, Range, Board, Record, Ring, kind_of, record_of, bus_of, bus_slot_of, is_realized, number_at, number_in, text_at, text_in, is_of, backend_of, range_in, size_of, is_a, DimmRegisters}
 use Rattle.std.proofs.lemmas.Bool.{and_parts, and_from}
 use Rattle.std.proofs.lemmas.Option.{same_Some}
+use Rattle.qo_values.proofs.EachLemmas.{each_body}
 use Rattle.qo_sound.specs.TreeKept.{SoundTree}
 use Rattle.qo_sound_clocks.proofs.SlotLemmas.{plain_of}
 use Rattle.qo_sound_claims.specs.SoundClaims.{HasRange, is_dimm_on, is_uart_on, NamesRing, SoundClaims, StandsOn}
@@ -16,13 +17,13 @@ head-dimm : List Range → Registers
 head-dimm [] = bare
 head-dimm (g ∷ gs) = dimm (record { address = g.at; size = g.size })
 
+only-dimm : (d : DimmRegisters) (g : Range) → range_in (dimm d) ≡ g ∷ [] → dimm d ≡ dimm (record { address = g.at; size = g.size })
+unfolding head-dimm
+only-dimm d g e = ap head-dimm e
+
 pub dimm-of : (x : Registers) (g : Range) → range_in x ≡ g ∷ [] → x ≡ dimm (record { address = g.at; size = g.size })
 unfolding head-dimm
-dimm-of (dimm d) g e = ap head-dimm e
-dimm-of (uart u) g e = cc
-dimm-of (timer t) g e = cc
-dimm-of (bridge i) g e = cc
-dimm-of bare g e = cc
+dimm-of x g = each_body (λ (r : Registers). range_in r ≡ g ∷ [] → r ≡ dimm (record { address = g.at; size = g.size })) (search (rules, only-dimm)) x
 
 registers-at : (b : Board) (x : ℕ) (r : Record) → record_of b x ≡ Some r → (g : Range) → StandsOn b x g
     → r.registers ≡ dimm (record { address = g.at; size = g.size })

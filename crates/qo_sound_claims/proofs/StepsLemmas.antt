@@ -1,8 +1,9 @@
 -- Acts, holds, clocks that are written, registers that a guest writes, devices that go, and the reset of the whole board keep the backends sound.
-use Rattle.std.proofs.Common.{◌≡◌, inl, refl, ap, sym, subst, ◌∙◌, ℕ, zero, suc, Bool, true, false, eqb, List, [], ◌∷◌, filter, length, codes, Option, Some, None, is_some, Ok, Err}
+use Rattle.std.proofs.Common.{◌≡◌, inl, refl, ap, sym, subst, ◌∙◌, ℕ, zero, suc, Bool, true, false, eqb, List, [], ◌∷◌, filter, length, codes, Option, Some, None, is_some, Ok, Err, rules}
 use Rattle.qo_model.proofs.Common.{AllByRecursion, Effect, body_write, Registers, MACHINE_BIRTH, E45, E46, Act, Enter, Hold, Exit, Board, Record, record_of, slots_at, set, clock_scaled, clock_set, acted, source_of, among, Change, changed, all_completed, asked, asked_of, completed, device_at, reset_whole, index_from, attached, notice_barred, range_in, without_first, is_out, phased, post, pulse, released, is_a, detach, is_named, set_named}
 use Rattle.std.proofs.lemmas.Option.{same_Some}
 use Rattle.qo_values.specs.declared.properties.Val.TheVariants as val
+use Rattle.qo_values.proofs.EachLemmas.{each_write}
 use Rattle.qo_model.specs.Reset.{held}
 use Rattle.qo_model.specs.Unplug.{first_of}
 use Rattle.qo_model.proofs.ChangeScopeLemmas.{stays_lem}
@@ -11,7 +12,6 @@ use Rattle.qo_sound_devices.specs.SoundDevices.{SoundDevices}
 use Rattle.qo_sound_devices.specs.SoundLists.{IsOn}
 use Rattle.qo_sound_devices.specs.SoundPlaces.{stands}
 use Rattle.qo_sound_devices.proofs.DevicesLawLemmas.{devices_kept_lem}
-use Rattle.qo_sound_clocks.proofs.BecomesLemmas.{Becomes, written-becomes, uart_to, timer_to, dimm_stays, bridge_to}
 use Rattle.qo_sound_clocks.specs.RegisterWrites.{registers_set, with_registers}
 use Rattle.qo_sound_clocks.proofs.WriteLawLemmas.{writes_keep_lem}
 use Rattle.qo_sound_clocks.proofs.RegisterLemmas.{registers_kept_lem}
@@ -156,13 +156,8 @@ scaled-backends b d c mul div e devices h =
 
 write-range : (r s : Registers) (effect : Effect) (reg value : ℕ) (ring : Bool) (now period : ℕ) → body_write r reg value ring now period ≡ Some (s, effect)
     → range_in s ≡ range_in r
-write-range r s effect reg value ring now period e = by r s (written-becomes r s effect reg value ring now period e)
-  where
-    by : (x y : Registers) → Becomes reg value now period x y → range_in y ≡ range_in x
-    by x y (uart_to u v) = refl
-    by x y (timer_to t v q) = refl
-    by x y (dimm_stays d) = refl
-    by x y (bridge_to g v) = refl
+write-range r s effect reg value ring now period =
+    each_write (λ (x y : Registers). range_in y ≡ range_in x) reg value ring now period (search rules) r s effect
 
 pub wrote-fewer : (b : Board) (n : ℕ) (r : Record) (s : Registers) (effect : Effect) (reg value : ℕ) (ring : Bool) (now period : ℕ) → record_of b n ≡ Some r
     → body_write r.registers reg value ring now period ≡ Some (s, effect) → Fewer false b (registers_set b n s)

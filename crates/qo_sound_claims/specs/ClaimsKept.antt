@@ -2,8 +2,7 @@
 use Rattle.std.specs.Prelude.{◌≡◌, ℕ, ◌≤◌, Bool, true, false, not, List, [], ◌∷◌, ◌++◌, length, map, filter, Some, Ok}
 use Rattle.std.specs.List.{AllByRecursion, list_any}
 use Rattle.std.specs.Str.{bytes_eq}
-use Rattle.qo_values.specs.Bodies.{Effect, body_write}
-use Rattle.qo_values.specs.Registers.{Registers}
+use Rattle.qo_values.specs.Registers.{Effect, body_write, Registers}
 use Rattle.qo_values.specs.declared.kinds.Act.{Act}
 use Rattle.qo_values.specs.declared.kinds.TypeId.{TypeId}
 use Rattle.qo_model.specs.Board.{Board, Record, Ring, record_of}

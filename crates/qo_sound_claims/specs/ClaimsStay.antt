@@ -1,7 +1,6 @@
 -- For a law alone. What a change leaves of the claims of devices: who is realized, and what each claims by its slots and its registers.
 use Rattle.std.specs.Prelude.{◌≡◌, ℕ, ◌+◌, ◌==◌, Bool, true, false, List, [], ◌∷◌, codes, Option, Some, None, option_map, Ok}
-use Rattle.qo_values.specs.Bodies.{Effect, body_write}
-use Rattle.qo_values.specs.Registers.{Registers}
+use Rattle.qo_values.specs.Registers.{Effect, body_write, Registers}
 use Rattle.qo_values.specs.declared.kinds.Act.{Act}
 use Rattle.qo_values.specs.declared.kinds.TypeId.{TypeId}
 use Rattle.qo_values.specs.declared.kinds.TypeId.TheVariants.{MemDimm, MemoryBackend, SlotUart}

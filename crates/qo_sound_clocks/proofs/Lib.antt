@@ -1,4 +1,3 @@
-pub mod BecomesLemmas
 pub mod CommandLemmas
 pub mod DecreaseLemmas
 pub mod GrowthLemmas

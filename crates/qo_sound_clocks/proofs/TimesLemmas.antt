@@ -1,9 +1,9 @@
 -- The law: no timer gets ahead of the virtual time.
 use Rattle.std.proofs.Common.{rules, ◌≡◌, refl, sym, subst, ◌∙◌, ℕ, ◌≤◌, ◌%◌, ◌||◌, Bool, true, false, cond, eqb, Some, None, arith}
-use Rattle.qo_model.proofs.Common.{AllByRecursion, Effect, body_act, body_write, Registers, TimerRegisters, bare, bridge, dimm, fresh_registers, timer, uart, control_write, reload_write, timer_halt, timer_update, timer_write, Act, Pre, Update, TypeId, Board, Record, acted, opening_board, drop_slot, edit, with_dropped, types}
+use Rattle.qo_model.proofs.Common.{AllByRecursion, Effect, body_act, body_write, Registers, TimerRegisters, fresh_registers, control_write, reload_write, timer_halt, timer_update, timer_write, Act, Pre, Update, TypeId, Board, Record, acted, opening_board, drop_slot, edit, with_dropped, types}
 use Rattle.std.proofs.lemmas.Option.{same_Some}
 use Rattle.qo_values.proofs.TimerLemmas.{end-timely}
-use Rattle.qo_values.proofs.EachLemmas.{AllBodies, each, each_act, each_body}
+use Rattle.qo_values.proofs.EachLemmas.{AllBodies, each, each_act, each_body, each_write}
 use Rattle.qo_sound.proofs.SearchLemmas.{all-found}
 use Rattle.qo_values.proofs.ListLemmas.{all-imply}
 use Rattle.qo_sound.proofs.AdditionStepsLemmas.{KeepsEdits}
@@ -13,7 +13,6 @@ use Rattle.qo_steps.proofs.RegisterStepsLemmas.{KeepsRegisters, acted-kept, edit
 use Rattle.qo_steps.proofs.ReleasesLemmas.{after-by, release-each}
 use Rattle.qo_sound_clocks.specs.SoundTimes.{IsTimely, SoundTimes}
 use Rattle.qo_sound_clocks.specs.TimesKept.{TimesKeptLaw}
-use Rattle.qo_sound_clocks.proofs.BecomesLemmas.{Becomes, written-becomes, uart_to, timer_to, dimm_stays, bridge_to}
 
 -- an object that is timely at a moment
 abbrev Timely : ℕ → Record → Type 0
@@ -71,13 +70,8 @@ timer-timely t s reg value now period e le = go (eqb reg 0) refl (eqb reg 1) ref
 -- no other body becomes a timer
 write-timely : (r s : Registers) (effect : Effect) (reg value : ℕ) (ring : Bool) (now period : ℕ)
     → body_write r reg value ring now period ≡ Some (s, effect) → IsTimely now r → IsTimely now s
-write-timely r s effect reg value ring now period e h = by r s (written-becomes r s effect reg value ring now period e) h
-  where
-    by : (x y : Registers) → Becomes reg value now period x y → IsTimely now x → IsTimely now y
-    by x y (uart_to u v) k = tt
-    by x y (timer_to t v q) k = timer-timely t v reg value now period q k
-    by x y (dimm_stays d) k = tt
-    by x y (bridge_to g v) k = tt
+write-timely r s effect reg value ring now period =
+    each_write (λ (x y : Registers). IsTimely now x → IsTimely now y) reg value ring now period (search (rules, timer-timely)) r s effect
 
 -- what is made is timely
 
@@ -122,12 +116,11 @@ opening-times = search rules
 
 -- time that goes on
 
+last-later : (now later : ℕ) (t : TimerRegisters) → now ≤ later → t.last ≤ now → t.last ≤ later
+last-later now later t le h = omega (arith, le, h)
+
 later-timely : (now later : ℕ) → now ≤ later → (r : Registers) → IsTimely now r → IsTimely later r
-later-timely now later le (uart u) h = tt
-later-timely now later le (timer t) h = omega (arith, le, h)
-later-timely now later le (dimm d) h = tt
-later-timely now later le (bridge g) h = tt
-later-timely now later le bare h = tt
+later-timely now later le r = each_body (λ (s : Registers). now ≤ later → IsTimely now s → IsTimely later s) (search (rules, last-later)) r le
 
 beside-times : (b c : Board) → c.records ≡ b.records → b.now ≤ c.now → SoundTimes b → SoundTimes c
 beside-times b c e le h =

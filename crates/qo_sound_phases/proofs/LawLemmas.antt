@@ -1,6 +1,6 @@
 -- The laws: what keeps phases sound, and what that says.
-use Rattle.std.proofs.Common.{◌≡◌, refl, ap, sym, subst, ◌∙◌, ◌<◌, ◌==◌, not, option_map, rules, ℕ, zero, suc, Bool, true, false, ◌||◌, List, length, Option, Some, None, is_some, arith, codes}
-use Rattle.qo_model.proofs.Common.{AllByRecursion, if◌then◌else◌, option_map_or, Registers, MACHINE_BIRTH, Act, TypeId, Object, Container, Machine, Device, SlotDevice, SlotUart, SlotTimer, SlotBridge, MemDimm, Bus, SlotBus, MemBus, Clock, MemoryBackend, MemoryBackendRam, Tag, Board, Record, kind_of, record_of, acted, among, all_completed, asked, asked_of, completed, device_at, refused, reset_whole, with_attempt, opening_board, attached, is_of, notice_barred, is_a, types}
+use Rattle.std.proofs.Common.{◌≡◌, refl, ap, sym, subst, ◌∙◌, ◌<◌, ◌==◌, not, option_map, rules, ℕ, zero, suc, Bool, true, false, ◌||◌, List, length, Option, Some, None, is_some, arith, codes, ◌⊎◌, inl, inr}
+use Rattle.qo_model.proofs.Common.{AllByRecursion, if◌then◌else◌, option_map_or, Registers, MACHINE_BIRTH, Act, TypeId, Machine, Board, Record, kind_of, record_of, acted, among, all_completed, asked, asked_of, completed, device_at, refused, reset_whole, with_attempt, opening_board, attached, is_of, notice_barred, is_a, types}
 use Rattle.qo_model.specs.declared.notes.Deed.TheVariants.{Did}
 use Rattle.std.proofs.lemmas.Bool.{and_parts, eqb-true}
 use Rattle.std.proofs.lemmas.Option.{same_Some}
@@ -8,6 +8,7 @@ use Rattle.qo_model.specs.Unplug.{first_of}
 use Rattle.qo_model.proofs.StepLemmas.{found-birth}
 use Rattle.qo_sound.proofs.SearchLemmas.{all-found}
 use Rattle.qo_values.proofs.ListLemmas.{all-imply}
+use Rattle.qo_values.proofs.EachLemmas.{each}
 use Rattle.qo_sound.proofs.TestLemmas.{decide, clash-back}
 use Rattle.qo_sound.proofs.ViewLemmas.{AtRest, rest-from_sound}
 use Rattle.qo_sound_devices.specs.SoundDevices.{SoundDevices}
@@ -105,25 +106,12 @@ opening-phases =
     }
 
 -- what may be held in reset is what a reset reaches
-resettable-cases : (t : TypeId) → is_a t (codes "resettable") ≡ true → {A : Type 0} → (t ≡ Machine → A) → (is_a t (codes "device") ≡ true → A)
-    → (is_a t (codes "bus") ≡ true → A) → A
+abbrev Resettable : TypeId → Type 0
+Resettable t = is_a t (codes "resettable") ≡ true → (t ≡ Machine) ⊎ ((is_a t (codes "device") ≡ true) ⊎ (is_a t (codes "bus") ≡ true))
+
+resettable-cases : (t : TypeId) → Resettable t
 unfolding types
-resettable-cases Object e f g h = clash-back e
-resettable-cases Container e f g h = clash-back e
-resettable-cases Machine e f g h = f refl
-resettable-cases Device e f g h = g refl
-resettable-cases SlotDevice e f g h = g refl
-resettable-cases SlotUart e f g h = g refl
-resettable-cases SlotTimer e f g h = g refl
-resettable-cases SlotBridge e f g h = g refl
-resettable-cases MemDimm e f g h = g refl
-resettable-cases Bus e f g h = h refl
-resettable-cases SlotBus e f g h = h refl
-resettable-cases MemBus e f g h = h refl
-resettable-cases Clock e f g h = clash-back e
-resettable-cases MemoryBackend e f g h = clash-back e
-resettable-cases MemoryBackendRam e f g h = clash-back e
-resettable-cases Tag e f g h = clash-back e
+resettable-cases = each Resettable (search rules)
 
 pub may-reached : (b : Board) → SoundDevices b → LoneMachine b → (n : ℕ) → may_reset b n ≡ true → IsReached b n
 may-reached b d lone n e = go (kind_of b n) refl both.1
@@ -140,9 +128,13 @@ may-reached b d lone n e = go (kind_of b n) refl both.1
     go : (o : Option TypeId) → kind_of b n ≡ o → option_map_or (λ (t : TypeId). is_a t (codes "resettable")) o false ≡ true → IsReached b n
     go None q k = clash-back k
     go (Some t) q k =
-        resettable-cases t k (λ m. machine (lone n (q ∙ ap Some m)))
-        (λ v. device (attached-stands b d.tree.0 rest.used.firm d.places.0 None (λ x. false) d.places.1 n (is t q (codes "device") v) both.0))
-        (λ v. bus (is t q (codes "bus") v) (attached-owner b d.tree.0 rest.used.firm d.places.0 None (λ x. false) d.places.1 n (is t q (codes "bus") v) both.0))
+        by (resettable-cases t k)
+      where
+        by : (t ≡ Machine) ⊎ ((is_a t (codes "device") ≡ true) ⊎ (is_a t (codes "bus") ≡ true)) → IsReached b n
+        by (inl m) = machine (lone n (q ∙ ap Some m))
+        by (inr (inl v)) = device (attached-stands b d.tree.0 rest.used.firm d.places.0 None (λ x. false) d.places.1 n (is t q (codes "device") v) both.0)
+        by (inr (inr v)) =
+            bus (is t q (codes "bus") v) (attached-owner b d.tree.0 rest.used.firm d.places.0 None (λ x. false) d.places.1 n (is t q (codes "bus") v) both.0)
 
 -- the removals that are pending come to their end, and the machine is reset
 completed-phases : (times : ℕ) (b : Board) → SoundDevices b → SoundPhases b → SoundDevices (all_completed times b) × SoundPhases (all_completed times b)

@@ -1,6 +1,6 @@
 -- A device that is detached, with all that is below it, leaves the others shaped as their types say.
 use Rattle.std.proofs.Common.{rules, ◌≡◌, ◌⊎◌, inl, inr, refl, ap, sym, subst, ◌∙◌, ℕ, zero, suc, Bool, true, false, not, ◌==◌, eqb, List, [], ◌∷◌, filter_map, find, length, remove, slice_get, codes, Option, Some, None, option_map, option_and_then}
-use Rattle.qo_model.proofs.Common.{AllByRecursion, option_map_or, bytes_eq, ANONYMOUS_BIRTH, MACHINE_BIRTH, PERIPHERAL_BIRTH, ROOT_BIRTH, Act, Unrealize, TypeId, Object, Container, Machine, Device, SlotDevice, SlotUart, SlotTimer, SlotBridge, MemDimm, Bus, SlotBus, MemBus, Clock, MemoryBackend, MemoryBackendRam, Tag, Board, Record, Slot, plain, child, strong, weak, alias, kind_of, record_of, slot_at, slots_at, cut, with_changed, with_cut, with_val, acted, device_period, with_act_on, bus_in, bus_of, buses_of, clock_name, clock_of, kids_of, strong_in, index_from, opening_board, births, is_child, is_of, property_named, drop_slot, edit, forgotten, forgotten_in, let_go, pin, with_dropped, without_hold, property_name, is_a, slots_of, types, apart_within, detach, disconnected, drained, is_bus_child, is_child_slot, is_named, left_bus, left_parent, let_go_where, lost_bus, lost_buses, names_kid, take_slot, take_where, taken_by, unrealize, unrealized_bus, unrealized_device, unseen, unseen_named}
+use Rattle.qo_model.proofs.Common.{AllByRecursion, option_map_or, bytes_eq, ANONYMOUS_BIRTH, MACHINE_BIRTH, PERIPHERAL_BIRTH, ROOT_BIRTH, Act, Unrealize, TypeId, Container, Machine, Device, Bus, Board, Record, Slot, plain, child, strong, weak, alias, kind_of, record_of, slot_at, slots_at, cut, with_changed, with_cut, with_val, acted, device_period, with_act_on, bus_in, bus_of, buses_of, clock_name, clock_of, kids_of, strong_in, index_from, opening_board, births, is_child, is_of, property_named, drop_slot, edit, forgotten, forgotten_in, let_go, pin, with_dropped, without_hold, property_name, is_a, slots_of, types, apart_within, detach, disconnected, drained, is_bus_child, is_child_slot, is_named, left_bus, left_parent, let_go_where, lost_bus, lost_buses, names_kid, take_slot, take_where, taken_by, unrealize, unrealized_bus, unrealized_device, unseen, unseen_named}
 use Rattle.qo_model.specs.declared.properties.Property.{Property}
 use Rattle.qo_model.specs.declared.properties.PropertyRole.{PropertyRole}
 use Rattle.std.proofs.lemmas.Bool.{and_parts, eq-eqb, eqb-true, not-true}
@@ -48,24 +48,13 @@ pub device-calm : (t : TypeId) → is_a t (codes "device") ≡ true → (s : Lis
 unfolding types
 device-calm = each (λ (t : TypeId). is_a t (codes "device") ≡ true → (s : List ℕ × Slot) → IsFurther t s → ⊥) (search rules)
 
+abbrev SaysBus : TypeId → Type 0
+SaysBus t = is_a t (codes "device") ≡ true → option_map (λ (x : Property). x.role) (property_named t (codes "parent_bus")) ≡ Some (row.Link Bus true)
+
 device-bus : (t : TypeId) → is_a t (codes "device") ≡ true → (p : Property) → property_named t (codes "parent_bus") ≡ Some p → p.role ≡ row.Link Bus true
 unfolding types
-device-bus Object e p q = absurd (let clash : false ≡ true = e in cc)
-device-bus Container e p q = absurd (let clash : false ≡ true = e in cc)
-device-bus Machine e p q = absurd (let clash : false ≡ true = e in cc)
-device-bus Device e p q = sym (ap (λ (x : Property). x.role) (same_Some _ p q))
-device-bus SlotDevice e p q = sym (ap (λ (x : Property). x.role) (same_Some _ p q))
-device-bus SlotUart e p q = sym (ap (λ (x : Property). x.role) (same_Some _ p q))
-device-bus SlotTimer e p q = sym (ap (λ (x : Property). x.role) (same_Some _ p q))
-device-bus SlotBridge e p q = sym (ap (λ (x : Property). x.role) (same_Some _ p q))
-device-bus MemDimm e p q = sym (ap (λ (x : Property). x.role) (same_Some _ p q))
-device-bus Bus e p q = absurd (let clash : false ≡ true = e in cc)
-device-bus SlotBus e p q = absurd (let clash : false ≡ true = e in cc)
-device-bus MemBus e p q = absurd (let clash : false ≡ true = e in cc)
-device-bus Clock e p q = absurd (let clash : false ≡ true = e in cc)
-device-bus MemoryBackend e p q = absurd (let clash : false ≡ true = e in cc)
-device-bus MemoryBackendRam e p q = absurd (let clash : false ≡ true = e in cc)
-device-bus Tag e p q = absurd (let clash : false ≡ true = e in cc)
+device-bus t e p q =
+    sym (same_Some (row.Link Bus true) p.role (sym (each SaysBus (search rules) t e) ∙ ap (option_map (λ (x : Property). x.role)) q))
 
 -- neither is the root or the machine
 first-kind : (r : Record) → Good r → is_first r.birth ≡ true → (r.kind ≡ Container) ⊎ (r.kind ≡ Machine)

@@ -1,6 +1,6 @@
 -- The law: what the shape of objects says of their properties.
 use Rattle.std.proofs.Common.{◌≡◌, ◌⊎◌, inl, inr, refl, ap, sym, subst, ◌∙◌, rules, ℕ, zero, suc, ◌-◌, ◌^◌, Bool, true, false, List, [], ◌∷◌, filter_map, find, slice_get, codes, Option, Some, None, option_map, option_and_then}
-use Rattle.qo_model.proofs.Common.{AllByRecursion, list_any, option_map_or, bytes_eq, TypeId, Object, Container, Machine, Device, SlotDevice, SlotUart, SlotTimer, SlotBridge, MemDimm, Bus, SlotBus, MemBus, Clock, MemoryBackend, MemoryBackendRam, Tag, BACKEND_SIZE_AT_FIRST, BACKEND_SIZE_MAX, DIMM_ALIGN, Board, Record, Slot, plain, child, strong, weak, alias, kind_of, record_of, slot_at, slot_named, slots_at, child_of, is_of, property_named, property_name, is_a, property, slots_of, types, uint64, up_to}
+use Rattle.qo_model.proofs.Common.{AllByRecursion, list_any, option_map_or, bytes_eq, TypeId, Clock, BACKEND_SIZE_AT_FIRST, BACKEND_SIZE_MAX, DIMM_ALIGN, Board, Record, Slot, plain, child, strong, weak, alias, kind_of, record_of, slot_at, slot_named, slots_at, child_of, is_of, property_named, property_name, is_a, property, slots_of, types, uint64, up_to}
 use Rattle.qo_model.specs.declared.properties.Mark.TheVariants.{Add, Set}
 use Rattle.qo_model.specs.declared.properties.Property.{Property}
 use Rattle.std.proofs.lemmas.Option.{same_Some}
@@ -9,6 +9,7 @@ use Rattle.std.proofs.lemmas.Slice.Eq.{bytes_eq-Decides}
 use Rattle.qo_values.proofs.ListLemmas.{found-has}
 use Rattle.qo_values.specs.declared.properties.PropType.TheVariants as ty
 use Rattle.qo_values.specs.declared.properties.Val.TheVariants as val
+use Rattle.qo_values.proofs.EachLemmas.{each}
 use Rattle.qo_model.specs.declared.properties.First.TheVariants as first
 use Rattle.qo_model.specs.declared.properties.PropertyName.TheVariants as prop
 use Rattle.qo_model.specs.declared.properties.PropertyRole.TheVariants as row
@@ -23,22 +24,7 @@ NoneMisses ps = AllByRecursion (λ (p : Property). may_miss p ≡ false) ps
 -- no row of a type may be missing, or it has no further slots
 whole-or-bare : (t : TypeId) → NoneMisses (slots_of t) ⊎ ((s : List ℕ × Slot) → IsFurther t s → ⊥)
 unfolding types
-whole-or-bare Object = inr (λ s h. h)
-whole-or-bare Container = inl (search rules)
-whole-or-bare Machine = inl (search rules)
-whole-or-bare Device = inr (λ s h. h)
-whole-or-bare SlotDevice = inr (λ s h. h)
-whole-or-bare SlotUart = inr (λ s h. h)
-whole-or-bare SlotTimer = inr (λ s h. h)
-whole-or-bare SlotBridge = inr (λ s h. h)
-whole-or-bare MemDimm = inr (λ s h. h)
-whole-or-bare Bus = inr (λ s h. h)
-whole-or-bare SlotBus = inl (search rules)
-whole-or-bare MemBus = inl (search rules)
-whole-or-bare Clock = inr (λ s h. h)
-whole-or-bare MemoryBackend = inr (λ s h. h)
-whole-or-bare MemoryBackendRam = inr (λ s h. h)
-whole-or-bare Tag = inr (λ s h. h)
+whole-or-bare = each (λ (t : TypeId). NoneMisses (slots_of t) ⊎ ((s : List ℕ × Slot) → IsFurther t s → ⊥)) (search rules)
 
 -- what is found passes, and is there
 found-passes : {A : Type 0} (test : A → Bool) (xs : List A) (x : A) → find test xs ≡ Some x → (test x ≡ true) × (list_any test xs ≡ true)
@@ -222,36 +208,17 @@ clock-says b h c e = (
   (number-says b h c Clock (codes "mul") e mul-row, (number-says b h c Clock (codes "div") e div-row, tt)),
 )
 
+abbrev size : Property
+size = property prop.Size (row.Plain (ty.Uint DIMM_ALIGN BACKEND_SIZE_MAX DIMM_ALIGN) (first.Uint BACKEND_SIZE_AT_FIRST)) Add
+
+abbrev SaysSize : TypeId → Type 0
+SaysSize t = is_a t (codes "memory-backend") ≡ true → property_named t (codes "size") ≡ Some size
+
 size-row : (t : TypeId) → is_a t (codes "memory-backend") ≡ true → NumberRow t (codes "size")
 unfolding types
-size-row Object e = absurd (let clash : false ≡ true = e in cc)
-size-row Container e = absurd (let clash : false ≡ true = e in cc)
-size-row Machine e = absurd (let clash : false ≡ true = e in cc)
-size-row Device e = absurd (let clash : false ≡ true = e in cc)
-size-row SlotDevice e = absurd (let clash : false ≡ true = e in cc)
-size-row SlotUart e = absurd (let clash : false ≡ true = e in cc)
-size-row SlotTimer e = absurd (let clash : false ≡ true = e in cc)
-size-row SlotBridge e = absurd (let clash : false ≡ true = e in cc)
-size-row MemDimm e = absurd (let clash : false ≡ true = e in cc)
-size-row Bus e = absurd (let clash : false ≡ true = e in cc)
-size-row SlotBus e = absurd (let clash : false ≡ true = e in cc)
-size-row MemBus e = absurd (let clash : false ≡ true = e in cc)
-size-row Clock e = absurd (let clash : false ≡ true = e in cc)
-size-row MemoryBackend e =
-    record {
-      p = property prop.Size (row.Plain (ty.Uint DIMM_ALIGN BACKEND_SIZE_MAX DIMM_ALIGN) (first.Uint BACKEND_SIZE_AT_FIRST)) Add;
-      row = refl;
-      stays = refl;
-      reads = number-in DIMM_ALIGN BACKEND_SIZE_MAX DIMM_ALIGN BACKEND_SIZE_AT_FIRST;
-    }
-size-row MemoryBackendRam e =
-    record {
-      p = property prop.Size (row.Plain (ty.Uint DIMM_ALIGN BACKEND_SIZE_MAX DIMM_ALIGN) (first.Uint BACKEND_SIZE_AT_FIRST)) Add;
-      row = refl;
-      stays = refl;
-      reads = number-in DIMM_ALIGN BACKEND_SIZE_MAX DIMM_ALIGN BACKEND_SIZE_AT_FIRST;
-    }
-size-row Tag e = absurd (let clash : false ≡ true = e in cc)
+size-row t e =
+    let found = each SaysSize (search rules) t e in
+    record { p = size; row = found; stays = refl; reads = number-in DIMM_ALIGN BACKEND_SIZE_MAX DIMM_ALIGN BACKEND_SIZE_AT_FIRST }
 
 -- the type of an object that is of a name
 of-name : (b : Board) (name : List ℕ) (n : ℕ) → is_of b name n ≡ true → (r : Record) × ((record_of b n ≡ Some r) × (is_a r.kind name ≡ true))

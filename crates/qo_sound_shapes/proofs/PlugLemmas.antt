@@ -1,6 +1,6 @@
 -- A device that is added stands in its place, and is shaped as its type says, as all others are.
 use Rattle.std.proofs.Common.{rules, ◌≡◌, ◌⊎◌, inl, inr, refl, ap, sym, subst, ◌∙◌, ℕ, ◌<◌, ◌≤◌, ◌+◌, ◌-◌, ◌^◌, ◌%◌, ◌&&◌, ◌||◌, Bool, true, false, not, ◌==◌, List, [], ◌∷◌, ◌++◌, map, find, codes, Option, Some, None, is_some, option_map, option_and_then, arith}
-use Rattle.qo_model.proofs.Common.{nat_le, list_any, option_map_or, bytes_eq, ⊤, fits_at, is_in_window, overlaps_any, free_address, range_at, window_end, window_size, window_start, admits, fresh_registers, ANONYMOUS_BIRTH, PERIPHERAL_BIRTH, E17, E19, Realize, TypeId, Object, Container, Machine, Device, SlotDevice, SlotUart, SlotTimer, SlotBridge, MemDimm, Bus, SlotBus, MemBus, Clock, MemoryBackend, MemoryBackendRam, Tag, BUS_SLOTS, DIMM_ALIGN, Val, Range, Board, Record, Slot, child, strong, is_live, kind_of, record_of, add, changed_at, with_added, with_changed, with_val, acted, with_act_on, among, clock_of, kid_name, number_in, Given, misfit, refusal_by, refusal_of, slot_given, opening_board, canonical, Spot, Wanted, acted_all, addressed_at, bus_births, bus_type, clocked, counted, drafted, fitted, link_named, name_for, number_for, ok_in, parent_for, plug, range_for, range_of, ranges_of, registers_on, size_of, source_for, spot_of, stood, target_for, notified_plug, with_body_of, with_device, with_given, with_path, with_plugged, with_source, property_named, edit, property_name, plugged, post, is_a, multiple_of, slots_of, types}
+use Rattle.qo_model.proofs.Common.{nat_le, list_any, option_map_or, bytes_eq, ⊤, fits_at, is_in_window, overlaps_any, free_address, range_at, window_end, window_size, window_start, admits, fresh_registers, ANONYMOUS_BIRTH, PERIPHERAL_BIRTH, E17, E19, Realize, TypeId, Container, Device, MemDimm, SlotBus, MemBus, MemoryBackend, BUS_SLOTS, DIMM_ALIGN, Val, Range, Board, Record, Slot, child, strong, is_live, kind_of, record_of, add, changed_at, with_added, with_changed, with_val, acted, with_act_on, among, clock_of, kid_name, number_in, Given, misfit, refusal_by, refusal_of, slot_given, opening_board, canonical, Spot, Wanted, acted_all, addressed_at, bus_births, bus_type, clocked, counted, drafted, fitted, link_named, name_for, number_for, ok_in, parent_for, plug, range_for, range_of, ranges_of, registers_on, size_of, source_for, spot_of, stood, target_for, notified_plug, with_body_of, with_device, with_given, with_path, with_plugged, with_source, property_named, edit, property_name, plugged, post, is_a, multiple_of, slots_of, types, up_to}
 use Rattle.qo_model.specs.declared.properties.Property.{Property}
 use Rattle.qo_model.specs.declared.properties.PropertyRole.{PropertyRole}
 use Rattle.std.proofs.lemmas.Bool.{and_parts}
@@ -91,22 +91,9 @@ memory-bus = refl
 -- values that are set
 takes-slot : (t : TypeId) (n : ℕ) → n < 8 → Takes t (codes "slot") (val.Uint n)
 unfolding types
-takes-slot Object n low = tt
-takes-slot Container n low = tt
-takes-slot Machine n low = tt
-takes-slot Device n low = admits-up_to 255 n (omega (arith, low))
-takes-slot SlotDevice n low = admits-up_to 255 n (omega (arith, low))
-takes-slot SlotUart n low = admits-up_to 255 n (omega (arith, low))
-takes-slot SlotTimer n low = admits-up_to 255 n (omega (arith, low))
-takes-slot SlotBridge n low = admits-up_to 255 n (omega (arith, low))
-takes-slot MemDimm n low = admits-up_to 255 n (omega (arith, low))
-takes-slot Bus n low = tt
-takes-slot SlotBus n low = tt
-takes-slot MemBus n low = tt
-takes-slot Clock n low = tt
-takes-slot MemoryBackend n low = tt
-takes-slot MemoryBackendRam n low = tt
-takes-slot Tag n low = tt
+takes-slot t n low =
+    let fits : admits (up_to 255) (val.Uint n) ≡ true = admits-up_to 255 n (omega (arith, low)) in
+    each (λ (k : TypeId). Takes k (codes "slot") (val.Uint n)) (search (rules, fits)) t
 
 takes-address : (t : TypeId) (n : ℕ) → admits (multiple_of DIMM_ALIGN) (val.Uint n) ≡ true → Takes t (codes "addr") (val.Uint n)
 unfolding types
@@ -185,22 +172,7 @@ range-fits b None size r given e = go (free_address (ranges_of b) size DIMM_ALIG
 
 -- only a DIMM has one
 range-dimm : (b : Board) (t : TypeId) (props : List Given) (r : Range) → range_of b t props ≡ Some r → t ≡ MemDimm
-range-dimm b Object props r e = absurd (let clash : None ≡ Some r = e in cc)
-range-dimm b Container props r e = absurd (let clash : None ≡ Some r = e in cc)
-range-dimm b Machine props r e = absurd (let clash : None ≡ Some r = e in cc)
-range-dimm b Device props r e = absurd (let clash : None ≡ Some r = e in cc)
-range-dimm b SlotDevice props r e = absurd (let clash : None ≡ Some r = e in cc)
-range-dimm b SlotUart props r e = absurd (let clash : None ≡ Some r = e in cc)
-range-dimm b SlotTimer props r e = absurd (let clash : None ≡ Some r = e in cc)
-range-dimm b SlotBridge props r e = absurd (let clash : None ≡ Some r = e in cc)
-range-dimm b MemDimm props r e = refl
-range-dimm b Bus props r e = absurd (let clash : None ≡ Some r = e in cc)
-range-dimm b SlotBus props r e = absurd (let clash : None ≡ Some r = e in cc)
-range-dimm b MemBus props r e = absurd (let clash : None ≡ Some r = e in cc)
-range-dimm b Clock props r e = absurd (let clash : None ≡ Some r = e in cc)
-range-dimm b MemoryBackend props r e = absurd (let clash : None ≡ Some r = e in cc)
-range-dimm b MemoryBackendRam props r e = absurd (let clash : None ≡ Some r = e in cc)
-range-dimm b Tag props r e = absurd (let clash : None ≡ Some r = e in cc)
+range-dimm b t props r = each (λ (k : TypeId). range_of b k props ≡ Some r → k ≡ MemDimm) (search rules) t
 
 range-address : (b : Board) (t : TypeId) (props : List Given) (r : Range) → refusal_of b t props ≡ None → range_of b t props ≡ Some r
     → admits (multiple_of DIMM_ALIGN) (val.Uint r.at) ≡ true

@@ -1,6 +1,6 @@
 -- What changes no slots, and values that are set by name, keep the shape.
 use Rattle.std.proofs.Common.{rules, ◌≡◌, inr, refl, ap, sym, subst, ◌∙◌, ℕ, ◌<◌, ◌≤◌, ◌-◌, ◌^◌, Bool, true, false, ◌==◌, eqb, List, ◌∷◌, ◌++◌, filter, slice_get, codes, Option, Some, None, is_some, option_map, Ok, Err, arith, []}
-use Rattle.qo_model.proofs.Common.{nat_le, ⊤, option_map_or, bytes_eq, Effect, body_act, body_write, admits, is_multiple, Registers, fresh_registers, E45, E46, Act, Enter, Hold, Exit, TypeId, Object, Container, Machine, Device, SlotDevice, SlotUart, SlotTimer, SlotBridge, MemDimm, Bus, SlotBus, MemBus, Clock, MemoryBackend, MemoryBackendRam, Tag, Val, Board, Record, Slot, plain, child, strong, weak, alias, is_live, kind_of, record_of, slots_at, set, with_changed, with_val, clock_scaled, clock_set, acted, source_of, with_act_on, among, asked, asked_of, device_at, index_from, opening_board, attached, notice_barred, property_named, edit, edited, without_first, is_out, phased, post, pulse, released, property_name, types, is_named, set_named}
+use Rattle.qo_model.proofs.Common.{nat_le, ⊤, option_map_or, bytes_eq, Effect, body_act, body_write, admits, is_multiple, Registers, fresh_registers, E45, E46, Act, Enter, Hold, Exit, TypeId, Val, Board, Record, Slot, plain, child, strong, weak, alias, is_live, kind_of, record_of, slots_at, set, with_changed, with_val, clock_scaled, clock_set, acted, source_of, with_act_on, among, asked, asked_of, device_at, index_from, opening_board, attached, notice_barred, property_named, edit, edited, without_first, is_out, phased, post, pulse, released, property_name, types, is_named, set_named}
 use Rattle.qo_model.specs.declared.properties.Property.{Property}
 use Rattle.qo_model.specs.declared.properties.PropertyRole.{PropertyRole}
 use Rattle.std.proofs.lemmas.Bool.Decides.{nat_tests}
@@ -9,7 +9,7 @@ use Rattle.std.proofs.lemmas.Option.{same_Some}
 use Rattle.std.proofs.lemmas.Slice.Eq.{bytes_eq-Decides}
 use Rattle.qo_values.specs.declared.properties.PropType.TheVariants as ty
 use Rattle.qo_values.specs.declared.properties.Val.TheVariants as val
-use Rattle.qo_values.proofs.EachLemmas.{AllBodies, each_act, each_body}
+use Rattle.qo_values.proofs.EachLemmas.{AllBodies, each, each_act, each_body, each_write}
 use Rattle.qo_model.specs.Reset.{held}
 use Rattle.qo_model.specs.declared.properties.PropertyRole.TheVariants as row
 use Rattle.qo_model.proofs.FirstSlotLemmas.{Found, found-at}
@@ -21,7 +21,6 @@ use Rattle.qo_sound.proofs.SlotLemmas.{names-changed, names_in}
 use Rattle.qo_sound_clocks.specs.RegisterWrites.{registers_set, with_registers}
 use Rattle.qo_sound_clocks.proofs.StepsLemmas.{kept-written, calls-kept}
 use Rattle.qo_sound_phases.proofs.FixedObjectLemmas.{child-val}
-use Rattle.qo_sound_clocks.proofs.BecomesLemmas.{Becomes, written-becomes, uart_to, timer_to, dimm_stays, bridge_to}
 use Rattle.qo_sound_shapes.specs.SoundShape.{is_like, HasRole, IsOfProperty, SoundShape}
 use Rattle.qo_sound_shapes.proofs.BoardLemmas.{all-edit, all-same, good-all, OpeningLive, shape-all, shape-live, AllOf}
 use Rattle.qo_sound_shapes.proofs.ShapeLemmas.{Good, good-changed, mild-val}
@@ -157,13 +156,8 @@ registers-shape b n registers like h =
 -- a guest's write gives registers of the same kind
 pub write-like : (r s : Registers) (effect : Effect) (reg value : ℕ) (ring : Bool) (now period : ℕ) → body_write r reg value ring now period ≡ Some (s, effect)
     → is_like s r ≡ true
-write-like r s effect reg value ring now period e = by r s (written-becomes r s effect reg value ring now period e)
-  where
-    by : (x y : Registers) → Becomes reg value now period x y → is_like y x ≡ true
-    by x y (uart_to u v) = refl
-    by x y (timer_to t v q) = refl
-    by x y (dimm_stays d) = refl
-    by x y (bridge_to g v) = refl
+write-like r s effect reg value ring now period =
+    each_write (λ (x y : Registers). is_like y x ≡ true) reg value ring now period (search rules) r s effect
 
 -- a value that is set by name: the row of this name, if it is a plain one, admits it
 
@@ -239,60 +233,21 @@ admits-up_to hi n le =
 
 pub takes-period : (t : TypeId) (n : ℕ) → n < 2 ^ 64 → Takes t (codes "period") (val.Uint n)
 unfolding types
-takes-period Object n le = tt
-takes-period Container n le = tt
-takes-period Machine n le = tt
-takes-period Device n le = tt
-takes-period SlotDevice n le = tt
-takes-period SlotUart n le = tt
-takes-period SlotTimer n le = tt
-takes-period SlotBridge n le = tt
-takes-period MemDimm n le = tt
-takes-period Bus n le = tt
-takes-period SlotBus n le = tt
-takes-period MemBus n le = tt
-takes-period Clock n le = admits-up_to (2 ^ 64 - 1) n (omega (arith, le))
-takes-period MemoryBackend n le = tt
-takes-period MemoryBackendRam n le = tt
-takes-period Tag n le = tt
+takes-period t n low =
+    let fits : admits (ty.Uint 0 (2 ^ 64 - 1) 1) (val.Uint n) ≡ true = admits-up_to (2 ^ 64 - 1) n (omega (arith, low)) in
+    each (λ (k : TypeId). Takes k (codes "period") (val.Uint n)) (search (rules, fits)) t
 
 pub takes-mul : (t : TypeId) (n : ℕ) → n < 2 ^ 32 → Takes t (codes "mul") (val.Uint n)
 unfolding types
-takes-mul Object n le = tt
-takes-mul Container n le = tt
-takes-mul Machine n le = tt
-takes-mul Device n le = tt
-takes-mul SlotDevice n le = tt
-takes-mul SlotUart n le = tt
-takes-mul SlotTimer n le = tt
-takes-mul SlotBridge n le = tt
-takes-mul MemDimm n le = tt
-takes-mul Bus n le = tt
-takes-mul SlotBus n le = tt
-takes-mul MemBus n le = tt
-takes-mul Clock n le = admits-up_to 4294967295 n (omega (arith, le))
-takes-mul MemoryBackend n le = tt
-takes-mul MemoryBackendRam n le = tt
-takes-mul Tag n le = tt
+takes-mul t n low =
+    let fits : admits (ty.Uint 0 4294967295 1) (val.Uint n) ≡ true = admits-up_to 4294967295 n (omega (arith, low)) in
+    each (λ (k : TypeId). Takes k (codes "mul") (val.Uint n)) (search (rules, fits)) t
 
 pub takes-div : (t : TypeId) (n : ℕ) → n < 2 ^ 32 → Takes t (codes "div") (val.Uint n)
 unfolding types
-takes-div Object n le = tt
-takes-div Container n le = tt
-takes-div Machine n le = tt
-takes-div Device n le = tt
-takes-div SlotDevice n le = tt
-takes-div SlotUart n le = tt
-takes-div SlotTimer n le = tt
-takes-div SlotBridge n le = tt
-takes-div MemDimm n le = tt
-takes-div Bus n le = tt
-takes-div SlotBus n le = tt
-takes-div MemBus n le = tt
-takes-div Clock n le = admits-up_to 4294967295 n (omega (arith, le))
-takes-div MemoryBackend n le = tt
-takes-div MemoryBackendRam n le = tt
-takes-div Tag n le = tt
+takes-div t n low =
+    let fits : admits (ty.Uint 0 4294967295 1) (val.Uint n) ≡ true = admits-up_to 4294967295 n (omega (arith, low)) in
+    each (λ (k : TypeId). Takes k (codes "div") (val.Uint n)) (search (rules, fits)) t
 
 pub clock_set-shape : (b d : Board) (c period : ℕ) → period < 2 ^ 64 → clock_set b c period ≡ Ok d → SoundShape b → SoundShape d
 clock_set-shape b d c period low e h = go (is_some (source_of b c)) refl

@@ -1,6 +1,6 @@
 -- Slots of rows: what a change of one slot or of each keeps.
 use Rattle.std.proofs.Common.{◌≡◌, ◌⊎◌, inl, inr, refl, ap, sym, subst, ◌∙◌, rules, ℕ, zero, suc, Bool, true, false, List, [], ◌∷◌, ◌++◌, map, remove, find, slice_get, codes, Option, Some, None}
-use Rattle.qo_model.proofs.Common.{⊤, AllByRecursion, bytes_eq, TypeId, Object, Container, Machine, Device, SlotDevice, SlotUart, SlotTimer, SlotBridge, MemDimm, Bus, SlotBus, MemBus, Clock, MemoryBackend, MemoryBackendRam, Tag, Slot, plain, child, strong, weak, alias, changed_at, kid_name, property_named, without_hold, property_name, is_a, slots_of, types}
+use Rattle.qo_model.proofs.Common.{⊤, AllByRecursion, bytes_eq, TypeId, Slot, plain, child, strong, weak, alias, changed_at, kid_name, property_named, without_hold, property_name, is_a, slots_of, types}
 use Rattle.qo_model.specs.declared.properties.Property.{Property}
 use Rattle.qo_model.specs.declared.properties.PropertyRole.{PropertyRole}
 use Rattle.std.proofs.lemmas.Option.{same_Some}
@@ -50,22 +50,7 @@ module _ (R : Property → Type 0) (t : TypeId) where
   has-dropped i [] rows {slots} (further all) may none = further (one i slots all)
     where
       blind : (k : TypeId) (name : List ℕ) (to : TypeId) (target : Option ℕ) → IsFurther k (name, weak to target) → IsFurther k (name, weak to None)
-      blind SlotBus name to target h = h
-      blind MemBus name to target h = h
-      blind Container name to target h = h
-      blind Machine name to target h = h
-      blind Object name to target h = h
-      blind Device name to target h = h
-      blind SlotDevice name to target h = h
-      blind SlotUart name to target h = h
-      blind SlotTimer name to target h = h
-      blind SlotBridge name to target h = h
-      blind MemDimm name to target h = h
-      blind Bus name to target h = h
-      blind Clock name to target h = h
-      blind MemoryBackend name to target h = h
-      blind MemoryBackendRam name to target h = h
-      blind Tag name to target h = h
+      blind = each (λ (k : TypeId). (name : List ℕ) (to : TypeId) (target : Option ℕ) → IsFurther k (name, weak to target) → IsFurther k (name, weak to None)) (search rules)
 
       one : (j : ℕ) (xs : Slots) → AllByRecursion (IsFurther t) xs → AllByRecursion (IsFurther t) (without_hold j xs)
       one j [] h = tt

@@ -1,9 +1,10 @@
 -- One object that is shaped as its type says, and as every machine begins: what changes of its slots keep.
 use Rattle.std.proofs.Common.{◌≡◌, refl, ap, sym, subst, ◌∙◌, rules, ℕ, zero, suc, Bool, true, false, ◌==◌, List, [], ◌∷◌, ◌++◌, map, slice_get, codes, Option, Some, None}
-use Rattle.qo_model.proofs.Common.{⊤, AllByRecursion, MACHINE_BIRTH, ROOT_BIRTH, TypeId, Object, Container, Machine, Device, SlotDevice, SlotUart, SlotTimer, SlotBridge, MemDimm, Bus, SlotBus, MemBus, Clock, MemoryBackend, MemoryBackendRam, Tag, Val, Board, Record, Slot, plain, child, strong, weak, alias, kind_of, slots_at, changed_at, pointed, with_added, with_changed, with_val, among, opening_board, child_of, fitted, forgotten, forgotten_in, with_dropped, without_hold, without_value, is_a, slots_of, types, unseen}
+use Rattle.qo_model.proofs.Common.{⊤, AllByRecursion, MACHINE_BIRTH, ROOT_BIRTH, TypeId, Val, Board, Record, Slot, plain, child, strong, weak, alias, kind_of, slots_at, changed_at, pointed, with_added, with_changed, with_val, among, opening_board, child_of, fitted, forgotten, forgotten_in, with_dropped, without_hold, without_value, is_a, slots_of, types, unseen}
 use Rattle.qo_model.specs.declared.properties.Property.{Property}
 use Rattle.qo_model.specs.declared.properties.PropertyRole.{PropertyRole}
 use Rattle.std.proofs.lemmas.Bool.{eqb-true}
+use Rattle.qo_values.proofs.EachLemmas.{each}
 use Rattle.qo_model.specs.declared.properties.PropertyRole.TheVariants as row
 use Rattle.qo_sound.proofs.RecordLemmas.{all-unmap}
 use Rattle.qo_sound_shapes.specs.SoundShape.{HasSlots, HasRole, IsChildSlot, IsFurther, IsKidLink, IsOfProperty, IsShaped, may_miss, unvalued}
@@ -58,25 +59,14 @@ good-slots r slots h has same =
     }
 
 -- further slots, each by what it may be
-pub further-same : (t : TypeId) (name : List ℕ) (s u : Slot) → (is_a t (codes "bus") ≡ true → IsKidLink name s → IsKidLink name u)
-    → (IsChildSlot s → IsChildSlot u) → IsFurther t (name, s) → IsFurther t (name, u)
+abbrev SameFurther : TypeId → Type 0
+SameFurther t =
+    (name : List ℕ) (s u : Slot) → (is_a t (codes "bus") ≡ true → IsKidLink name s → IsKidLink name u) → (IsChildSlot s → IsChildSlot u)
+    → IsFurther t (name, s) → IsFurther t (name, u)
+
+pub further-same : (t : TypeId) → SameFurther t
 unfolding types
-further-same Object name s u kid kin h = h
-further-same Container name s u kid kin h = kin h
-further-same Machine name s u kid kin h = kin h
-further-same Device name s u kid kin h = h
-further-same SlotDevice name s u kid kin h = h
-further-same SlotUart name s u kid kin h = h
-further-same SlotTimer name s u kid kin h = h
-further-same SlotBridge name s u kid kin h = h
-further-same MemDimm name s u kid kin h = h
-further-same Bus name s u kid kin h = h
-further-same SlotBus name s u kid kin h = kid refl h
-further-same MemBus name s u kid kin h = kid refl h
-further-same Clock name s u kid kin h = h
-further-same MemoryBackend name s u kid kin h = h
-further-same MemoryBackendRam name s u kid kin h = h
-further-same Tag name s u kid kin h = h
+further-same = each SameFurther (search rules)
 
 -- a change of slots that leaves children, and what links are to
 pub record Mild (g : Slot → Slot) : Type 0 where

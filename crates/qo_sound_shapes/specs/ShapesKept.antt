@@ -1,7 +1,6 @@
 -- For a law alone. What keeps the objects of a board shaped as their types say.
 use Rattle.std.specs.Prelude.{◌≡◌, ℕ, ◌<◌, ◌^◌, Bool, true, List, Some, Ok}
-use Rattle.qo_values.specs.Bodies.{Effect, body_write}
-use Rattle.qo_values.specs.Registers.{Registers}
+use Rattle.qo_values.specs.Registers.{Effect, body_write, Registers}
 use Rattle.qo_values.specs.declared.kinds.Act.{Act}
 use Rattle.qo_values.specs.declared.kinds.TypeId.{TypeId}
 use Rattle.qo_model.specs.Board.{Board, Record, record_of}

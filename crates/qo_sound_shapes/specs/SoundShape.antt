@@ -3,7 +3,8 @@ use Rattle.std.specs.Prelude.{◌≡◌, ◌⊎◌, ℕ, ◌<◌, Bool, true, fa
 use Rattle.std.specs.List.{AllByRecursion}
 use Rattle.std.specs.Str.{bytes_eq}
 use Rattle.qo_values.specs.Properties.{admits}
-use Rattle.qo_values.specs.Registers.{Registers, bare, bridge, dimm, fresh_registers, timer, uart}
+use Rattle.qo_values.specs.Registers.{fresh_registers}
+pub use Rattle.qo_values.specs.Registers.{is_like}
 use Rattle.qo_values.specs.declared.births.TheConstants.{MACHINE_BIRTH, ROOT_BIRTH}
 use Rattle.qo_values.specs.declared.kinds.TypeId.{TypeId}
 use Rattle.qo_values.specs.declared.kinds.TypeId.TheVariants.{Container, Device, Machine, MemBus, SlotBus}
@@ -74,15 +75,6 @@ pub data HasSlots (t : TypeId) : List Property → List (List ℕ × Slot) → T
   next : {p : Property} {ps : List Property} {s : List ℕ × Slot} {slots : List (List ℕ × Slot)} → IsOfProperty p s → HasSlots t ps slots
       → HasSlots t (p ∷ ps) (s ∷ slots)
   missing : {p : Property} {ps : List Property} {slots : List (List ℕ × Slot)} → may_miss p ≡ true → HasSlots t ps slots → HasSlots t (p ∷ ps) slots
-
--- two bodies are of one kind
-abbrev pub is_like : Registers → Registers → Bool
-is_like (uart u) (uart v) = true
-is_like (timer t) (timer u) = true
-is_like (dimm d) (dimm e) = true
-is_like (bridge b) (bridge c) = true
-is_like bare bare = true
-is_like r s = false
 
 -- an object is shaped as its type says
 pub record IsShaped (r : Record) : Type 0 where

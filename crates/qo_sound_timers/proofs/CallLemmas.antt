@@ -1,17 +1,16 @@
 -- A timer's calls, and the registers that they leave.
-use Rattle.std.proofs.Common.{◌≡◌, ◌≢◌, refl, ap, sym, subst, ◌∙◌, ℕ, ◌≤◌, Bool, true, false, not, ◌||◌, List, [], ◌∷◌, ◌++◌, Option, Some, None, filter_map, unwrap_or, append-nil, arith}
+use Rattle.std.proofs.Common.{◌≡◌, ◌≢◌, refl, ap, sym, subst, ◌∙◌, ℕ, ◌≤◌, Bool, true, false, not, ◌||◌, List, [], ◌∷◌, ◌++◌, Option, Some, None, filter_map, unwrap_or, append-nil, arith, rules}
 use Rattle.std.specs.Bool.{⊤}
 use Rattle.std.specs.List.{cons_option}
 use Rattle.std.proofs.lemmas.Bool.{and_from, and_parts}
 use Rattle.std.proofs.lemmas.List.Elements.{filter_map-append}
-use Rattle.qo_values.specs.Bodies.{Effect, body_act, body_write}
-use Rattle.qo_values.specs.Registers.{Registers, TimerRegisters, bare, bridge, dimm, fresh_registers, fresh_timer, timer, uart}
+use Rattle.qo_values.specs.Registers.{Effect, body_act, body_write, Registers, TimerRegisters, fresh_registers, fresh_timer, timer}
 use Rattle.qo_values.specs.declared.kinds.Act.{Act}
-use Rattle.qo_values.specs.declared.kinds.Act.TheVariants.{Init, Realize, Unrealize, Enter, Hold, Exit, Pre, Update}
+use Rattle.qo_values.specs.declared.kinds.Act.TheVariants.{Pre, Update}
 use Rattle.qo_values.specs.declared.kinds.TypeId.{TypeId}
-use Rattle.qo_values.specs.declared.kinds.TypeId.TheVariants.{Object, Container, Machine, Device, SlotDevice, SlotUart, SlotTimer, SlotBridge, MemDimm, Bus, SlotBus, MemBus, Clock, MemoryBackend, MemoryBackendRam, Tag}
+use Rattle.qo_values.proofs.EachLemmas.{AllBodies, each, each_act, each_body, each_write}
+use Rattle.qo_values.specs.Timer.{timer_enter, timer_halt, timer_hold, timer_pre, timer_update, timer_write}
 use Rattle.qo_timer.specs.Calls.{TimerCall, enter, hold, pre, update, halt, write, after_call, after_calls, is_pre, is_update, updates_follow}
-use Rattle.qo_sound_clocks.proofs.BecomesLemmas.{Becomes, written-becomes, uart_to, timer_to, dimm_stays, bridge_to}
 use Rattle.qo_sound_timers.specs.TimerRuns.{IsLeftBy, RiseTo, moment_of}
 use Rattle.qo_steps.proofs.RegisterStepsLemmas.{KeepsRegisters}
 
@@ -91,92 +90,68 @@ left-called now old t h = (
     two (c ∷ calls) = ap (λ (l : List TimerCall). c ∷ l) (two calls)
 
 -- a later moment
-pub left-later : (now later : ℕ) (r : Registers) → now ≤ later → IsLeft now r → IsLeft later r
-left-later now later (uart u) le h = tt
-left-later now later (timer t) le h =
+timer-later : (now later : ℕ) (t : TimerRegisters) → now ≤ later → IsLeft now (timer t) → IsLeft later (timer t)
+timer-later now later t le h =
     (h.0, record { left = h.1.left; follow = h.1.follow; rise = rise-later now later (filter_map moment_of h.0) le h.1.rise })
-left-later now later (dimm d) le h = tt
-left-later now later (bridge b) le h = tt
-left-later now later bare le h = tt
+
+pub left-later : (now later : ℕ) (r : Registers) → now ≤ later → IsLeft now r → IsLeft later r
+left-later now later = each_body (λ (r : Registers). now ≤ later → IsLeft now r → IsLeft later r) (search (rules, timer-later))
 
 -- an act that is neither Pre nor Update
+
+left-halt : (now period : ℕ) (t : TimerRegisters) → IsLeft now (timer t) → IsLeft now (timer (timer_halt t now period))
+left-halt now period t h = left-more now t (halt now period) refl refl h
+
+left-enter : (now : ℕ) (t : TimerRegisters) → IsLeft now (timer t) → IsLeft now (timer (timer_enter t))
+left-enter now t h = left-more now t enter refl tt h
+
+left-hold : (now : ℕ) (t : TimerRegisters) → IsLeft now (timer t) → IsLeft now (timer (timer_hold t))
+left-hold now t h = left-more now t hold refl tt h
+
+abbrev StaysLeft : Act → Registers → Type 0
+StaysLeft act r = (now period : ℕ) → act ≢ Pre → act ≢ Update → IsLeft now r → IsLeft now (body_act act now period r)
+
+abbrev StayLeft : Act → Type 0
+StayLeft act = AllBodies (StaysLeft act)
+
 pub left-act : (act : Act) (now period : ℕ) (r : Registers) → act ≢ Pre → act ≢ Update → IsLeft now r → IsLeft now (body_act act now period r)
-left-act (Init k) now period r other apart h = h
-left-act Realize now period r other apart h = h
-left-act Unrealize now period (uart u) other apart h = h
-left-act Unrealize now period (timer t) other apart h = left-more now t (halt now period) refl refl h
-left-act Unrealize now period (dimm d) other apart h = h
-left-act Unrealize now period (bridge b) other apart h = h
-left-act Unrealize now period bare other apart h = h
-left-act Enter now period (uart u) other apart h = h
-left-act Enter now period (timer t) other apart h = left-more now t enter refl tt h
-left-act Enter now period (dimm d) other apart h = h
-left-act Enter now period (bridge b) other apart h = h
-left-act Enter now period bare other apart h = h
-left-act Hold now period (uart u) other apart h = h
-left-act Hold now period (timer t) other apart h = left-more now t hold refl tt h
-left-act Hold now period (dimm d) other apart h = h
-left-act Hold now period (bridge b) other apart h = h
-left-act Hold now period bare other apart h = h
-left-act Exit now period (uart u) other apart h = h
-left-act Exit now period (timer t) other apart h = h
-left-act Exit now period (dimm d) other apart h = h
-left-act Exit now period (bridge b) other apart h = h
-left-act Exit now period bare other apart h = h
-left-act Pre now period r other apart h = absurd (other refl)
-left-act Update now period r other apart h = absurd (apart refl)
+left-act act now period r = each_body (StaysLeft act) (each_act StayLeft (search (rules, left-halt, left-enter, left-hold)) act) r now period
 
 -- a guest's write; no other body becomes a timer
+
+written-left : (t v : TimerRegisters) (reg value now period : ℕ) → timer_write t reg value now period ≡ Some v → IsLeft now (timer t) → IsLeft now (timer v)
+written-left t v reg value now period q k =
+    subst (λ (w : TimerRegisters). IsLeft now (timer w)) (ap (λ (o : Option TimerRegisters). unwrap_or o t) q)
+    (left-more now t (write reg value now period) refl refl k)
+
 pub left-write : (r s : Registers) (effect : Effect) (reg value : ℕ) (ring : Bool) (now period : ℕ)
     → body_write r reg value ring now period ≡ Some (s, effect) → IsLeft now r → IsLeft now s
-left-write r s effect reg value ring now period e h = by r s (written-becomes r s effect reg value ring now period e) h
-  where
-    by : (x y : Registers) → Becomes reg value now period x y → IsLeft now x → IsLeft now y
-    by x y (uart_to u v) k = tt
-    by x y (timer_to t v q) k =
-        subst (λ (w : TimerRegisters). IsLeft now (timer w)) (ap (λ (o : Option TimerRegisters). unwrap_or o t) q)
-        (left-more now t (write reg value now period) refl refl k)
-    by x y (dimm_stays d) k = tt
-    by x y (bridge_to g v) k = tt
+left-write r s effect reg value ring now period =
+    each_write (λ (x y : Registers). IsLeft now x → IsLeft now y) reg value ring now period (search (rules, written-left)) r s effect
 
 -- what is made
+fresh-left : (now : ℕ) → IsLeft now (timer fresh_timer)
+fresh-left now = ([], record { left = refl; follow = refl; rise = tt })
+
 pub left-fresh : (now : ℕ) (t : TypeId) → IsLeft now (fresh_registers t)
-left-fresh now Object = tt
-left-fresh now Container = tt
-left-fresh now Machine = tt
-left-fresh now Device = tt
-left-fresh now SlotDevice = tt
-left-fresh now SlotUart = tt
-left-fresh now SlotTimer = ([], record { left = refl; follow = refl; rise = tt })
-left-fresh now SlotBridge = tt
-left-fresh now MemDimm = tt
-left-fresh now Bus = tt
-left-fresh now SlotBus = tt
-left-fresh now MemBus = tt
-left-fresh now Clock = tt
-left-fresh now MemoryBackend = tt
-left-fresh now MemoryBackendRam = tt
-left-fresh now Tag = tt
+left-fresh now = each (λ (t : TypeId). IsLeft now (fresh_registers t)) (search (rules, fresh-left))
 
 -- registers between Pre and Update
 abbrev pub Paused : ℕ → Registers → Type 0
 Paused now (timer t) = (old : ℕ) × (s : TimerRegisters) × IsLeft now (timer s) × (t ≡ after_call s (pre now old))
 Paused now r = ⊤
 
+timer-paused : (now old : ℕ) (t : TimerRegisters) → IsLeft now (timer t) → Paused now (timer (timer_pre t now old))
+timer-paused now old t h = (old, t, h, refl)
+
 left-paused : (now old : ℕ) (r : Registers) → IsLeft now r → Paused now (body_act Pre now old r)
-left-paused now old (uart u) h = tt
-left-paused now old (timer t) h = (old, t, h, refl)
-left-paused now old (dimm d) h = tt
-left-paused now old (bridge b) h = tt
-left-paused now old bare h = tt
+left-paused now old = each_body (λ (r : Registers). IsLeft now r → Paused now (body_act Pre now old r)) (search (rules, timer-paused))
+
+timer-left : (now : ℕ) (t : TimerRegisters) → Paused now (timer t) → IsLeft now (timer (timer_update t now))
+timer-left now t h = subst (λ (u : TimerRegisters). IsLeft now (timer (after_call u (update now)))) (sym h.3) (left-called now h.0 h.1 h.2)
 
 paused-left : (now new : ℕ) (r : Registers) → Paused now r → IsLeft now (body_act Update now new r)
-paused-left now new (uart u) h = tt
-paused-left now new (timer t) h =
-    subst (λ (u : TimerRegisters). IsLeft now (timer (after_call u (update now)))) (sym h.3) (left-called now h.0 h.1 h.2)
-paused-left now new (dimm d) h = tt
-paused-left now new (bridge b) h = tt
-paused-left now new bare h = tt
+paused-left now new = each_body (λ (r : Registers). Paused now r → IsLeft now (body_act Update now new r)) (search (rules, timer-left))
 
 pub calls_keep : KeepsRegisters IsLeft Paused
 calls_keep = record { fresh = left-fresh; act = left-act; pre = left-paused; update = paused-left; memory = λ now d. tt }

@@ -2,8 +2,7 @@
 use Rattle.std.proofs.Common.{◌≡◌, refl, sym, subst, rules, ℕ, ◌≤◌, false, List, Option, Some, None, is_some}
 use Rattle.std.specs.Option.{option_map_or}
 use Rattle.qo_values.proofs.ListLemmas.{all-imply}
-use Rattle.qo_values.specs.Bodies.{Effect}
-use Rattle.qo_values.specs.Registers.{Registers, TimerRegisters, bare, timer}
+use Rattle.qo_values.specs.Registers.{Effect, Registers, TimerRegisters, bare, timer}
 use Rattle.qo_values.specs.Timer.{timer_ticks}
 use Rattle.qo_model.specs.Board.{Board, Record, record_of}
 use Rattle.qo_model.specs.Clocks.{device_period, div_of, mul_of}
@@ -15,7 +14,7 @@ use Rattle.qo_timer.specs.Segments.{marks}
 use Rattle.qo_timer.specs.Sum.{total_ticks}
 use Rattle.qo_sound.proofs.SearchLemmas.{all-found}
 use Rattle.qo_sound_clocks.specs.RegisterWrites.{registers_set, with_registers}
-use Rattle.qo_backends.specs.Rings.{claimed_ring}
+use Rattle.qo_buses.specs.Rings.{claimed_ring}
 use Rattle.qo_realize.proofs.RegisterWriteLemmas.{written-all}
 use Rattle.qo_realize.specs.Registers.{registers_at, registers_written}
 use Rattle.qo_realize.specs.Time.{at_time}

@@ -1,5 +1,5 @@
 -- The code's tables say what the definitions say.
-use Rattle.std.proofs.Common.{rules, ◌≡◌, ℕ, Bool, true, false, List, [], ◌∷◌, map, find, refl, subst, ◌∙◌, Option, None, Some, option_map}
+use Rattle.std.proofs.Common.{rules, ◌≡◌, ℕ, Bool, true, false, List, [], ◌∷◌, map, find, refl, ◌∙◌, Option, option_map}
 use Rattle.std.specs.List.{slice_get}
 use Rattle.std.specs.Str.{bytes_eq}
 use Rattle.qo_values.specs.Kinds.{type_name}
@@ -25,22 +25,6 @@ named_among (r ∷ rs) name = go (bytes_eq (type_name r.id) name) refl (named_am
 
 pub named_in : (name : List ℕ) → find (λ t. bytes_eq (type_name t) name) type_ids ≡ option_map (λ (r : TypeInfo). r.id) (type_named name)
 named_in name = named_among types name
-
--- it is among those whose names begin as it does
-pub found_first : (name : List ℕ) (first : ℕ) (ts : List TypeId) → Some first ≡ slice_get name 0
-    → ((rest : List ℕ) → find (λ t. bytes_eq (type_name t) (first ∷ rest)) ts ≡ find (λ t. bytes_eq (type_name t) (first ∷ rest)) type_ids)
-    → find (λ t. bytes_eq (type_name t) name) ts ≡ option_map (λ (r : TypeInfo). r.id) (type_named name)
-found_first [] first ts is all = cc
-found_first (x ∷ rest) first ts is all =
-    let same : first ≡ x = cc in
-    subst (λ (y : ℕ). find (λ t. bytes_eq (type_name t) (y ∷ rest)) ts ≡ find (λ t. bytes_eq (type_name t) (y ∷ rest)) type_ids) same (all rest)
-    ∙ named_in (x ∷ rest)
-
--- no type has the empty name
-pub none_first : (name : List ℕ) → None ≡ slice_get name 0 → None ≡ option_map (λ (r : TypeInfo). r.id) (type_named name)
-unfolding types
-none_first [] is = named_in []
-none_first (x ∷ rest) is = cc
 
 -- the parent of a type is next after it in its chain
 pub parent_in : (t : TypeId) → slice_get (chain t) 1 ≡ parent_of t

@@ -3,8 +3,8 @@
 //! properties are the profile's).
 #![tactic(auto)]
 
-mod hierarchy;
 mod slots;
 mod table;
+mod types;
 
 pub use table::TypeTable;

@@ -1,9 +1,8 @@
-//! The properties that the objects of each type have, base first.
+//! The properties in the table of types, and which of them the objects of a type have, base first.
 
 ghost use Rattle.std.specs.Prelude.{◌≡◌, find};
 ghost use Rattle.std.specs.Str.{bytes_eq};
 ghost use Rattle.qo_model.specs.RowNames.{property_name};
-ghost use Rattle.qo_model.specs.Types.{slots_of};
 
 use qo_model::{First, Mark, Property, PropertyName, PropertyRole};
 use qo_values::{BACKEND_SIZE_AT_FIRST, BACKEND_SIZE_MAX, DIMM_ALIGN, PropType, TypeId};
@@ -212,11 +211,11 @@ const SEEN: Property = Property {
     mark: Mark::Both,
 };
 
-static OBJECT: [Property; 1] = [TYPE];
+pub(crate) static OBJECT: [Property; 1] = [TYPE];
 
-static DEVICE: [Property; 6] = [TYPE, REALIZED, PARENT_BUS, SLOT, PEER, WATCH];
+pub(crate) static DEVICE: [Property; 6] = [TYPE, REALIZED, PARENT_BUS, SLOT, PEER, WATCH];
 
-static SLOT_DEVICE: [Property; 8] = [
+pub(crate) static SLOT_DEVICE: [Property; 8] = [
     TYPE,
     REALIZED,
     PARENT_BUS,
@@ -227,7 +226,7 @@ static SLOT_DEVICE: [Property; 8] = [
     CLOCK_PERIOD,
 ];
 
-static SLOT_UART: [Property; 9] = [
+pub(crate) static SLOT_UART: [Property; 9] = [
     TYPE,
     REALIZED,
     PARENT_BUS,
@@ -239,7 +238,7 @@ static SLOT_UART: [Property; 9] = [
     CHARDEV,
 ];
 
-static SLOT_BRIDGE: [Property; 9] = [
+pub(crate) static SLOT_BRIDGE: [Property; 9] = [
     TYPE,
     REALIZED,
     PARENT_BUS,
@@ -251,38 +250,15 @@ static SLOT_BRIDGE: [Property; 9] = [
     BUS,
 ];
 
-static MEM_DIMM: [Property; 8] = [TYPE, REALIZED, PARENT_BUS, SLOT, PEER, WATCH, MEMDEV, ADDR];
+pub(crate) static MEM_DIMM: [Property; 8] = [
+    TYPE, REALIZED, PARENT_BUS, SLOT, PEER, WATCH, MEMDEV, ADDR,
+];
 
-static CLOCK: [Property; 5] = [TYPE, PERIOD, MUL, DIV, SOURCE];
+pub(crate) static CLOCK: [Property; 5] = [TYPE, PERIOD, MUL, DIV, SOURCE];
 
-static MEMORY_BACKEND: [Property; 2] = [TYPE, SIZE];
+pub(crate) static MEMORY_BACKEND: [Property; 2] = [TYPE, SIZE];
 
-static TAG: [Property; 6] = [TYPE, TEXT, NUMBER, FLAG, NEXT, SEEN];
-
-/// The properties of a type's objects, in slot order.
-#[tactic(auto, unfolding(qo_model::specs::Types::types))]
-pub(crate) fn slots(t: TypeId) -> &'static [Property]
-    ensures { result.now ≡ slots_of t }
-{
-    match t {
-        TypeId::Object => &OBJECT,
-        TypeId::Container => &OBJECT,
-        TypeId::Machine => &OBJECT,
-        TypeId::Device => &DEVICE,
-        TypeId::SlotDevice => &SLOT_DEVICE,
-        TypeId::SlotUart => &SLOT_UART,
-        TypeId::SlotTimer => &SLOT_DEVICE,
-        TypeId::SlotBridge => &SLOT_BRIDGE,
-        TypeId::MemDimm => &MEM_DIMM,
-        TypeId::Bus => &OBJECT,
-        TypeId::SlotBus => &OBJECT,
-        TypeId::MemBus => &OBJECT,
-        TypeId::Clock => &CLOCK,
-        TypeId::MemoryBackend => &MEMORY_BACKEND,
-        TypeId::MemoryBackendRam => &MEMORY_BACKEND,
-        TypeId::Tag => &TAG,
-    }
-}
+pub(crate) static TAG: [Property; 6] = [TYPE, TEXT, NUMBER, FLAG, NEXT, SEEN];
 
 /// The first of some properties that has a name.
 pub(crate) fn first_named(rows: &[Property], name: &str) -> Option<Property>

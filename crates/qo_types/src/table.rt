@@ -6,11 +6,8 @@ ghost use Rattle.qo_model.specs.Properties.{property_named};
 ghost use Rattle.qo_model.specs.Types.{chain, has_finalizer, interfaces_of, is_a, parent_of, type_named, slots_of};
 ghost use Rattle.qo_types.specs.Rows.{is_abstract, listed};
 
-use crate::hierarchy::{
-    all_types, ancestry, answers_to, first_named, interfaces, is_abstract, is_bus, is_device,
-    is_slot_device, types_with,
-};
-use crate::slots::{self, slots};
+use crate::slots;
+use crate::types::{all_types, answers_to, first_named, info};
 use qo_model::{Interface, Property};
 use qo_values::TypeId;
 use std::alloc::{AllocError, Global};
@@ -29,10 +26,7 @@ impl TypeTable {
     pub fn find(&self, name: &str) -> Option<TypeId>
         ensures { result ≡ option_map (λ r. r.id) (type_named name.now) }
     {
-        match name.as_bytes().first() {
-            Some(first) => first_named(types_with(*first), name),
-            None => None,
-        }
+        first_named(all_types(), name)
     }
 
     /// Whether a type is of a name: its own, an ancestor's, or an interface of itself or of an
@@ -41,10 +35,10 @@ impl TypeTable {
         ensures { result ≡ is_a t name.now }
     {
         match name {
-            "bus" => is_bus(t),
-            "device" => is_device(t),
-            "slot-device" => is_slot_device(t),
-            _ => ancestry(t).iter().any(|a| answers_to(*a, name)),
+            "bus" => info(t).is_bus,
+            "device" => info(t).is_device,
+            "slot-device" => info(t).is_slot_device,
+            _ => info(t).ancestry.iter().any(|a| answers_to(*a, name)),
         }
     }
 
@@ -52,14 +46,14 @@ impl TypeTable {
     pub fn ancestry(&self, t: TypeId) -> &'static [TypeId]
         ensures { result.now ≡ chain t }
     {
-        ancestry(t)
+        info(t).ancestry
     }
 
     /// The type itself at 0, its parent at 1, and so on to `object`; `None` after that.
     pub fn chain(&self, t: TypeId, i: usize) -> Option<TypeId>
         ensures { result ≡ slice_get (chain t) i }
     {
-        ancestry(t).get(i).copied()
+        info(t).ancestry.get(i).copied()
     }
 
     /// The type that a type derives from; only `object` has none.
@@ -74,14 +68,14 @@ impl TypeTable {
     pub fn is_abstract(&self, t: TypeId) -> bool
         ensures { result ≡ is_abstract t }
     {
-        is_abstract(t)
+        info(t).is_abstract
     }
 
     /// The interfaces that a type adds to those of its parent (docs/devel/qom.rst, "Interfaces").
     pub fn interfaces(&self, t: TypeId) -> &'static [Interface]
         ensures { result.now ≡ interfaces_of t }
     {
-        interfaces(t)
+        info(t).interfaces
     }
 
     /// The property at a place, from 0, among those that each object of a type has, base first;
@@ -89,21 +83,21 @@ impl TypeTable {
     pub fn prop(&self, t: TypeId, i: usize) -> Option<Property>
         ensures { result ≡ slice_get (slots_of t) i }
     {
-        slots(t).get(i).copied()
+        info(t).properties.get(i).copied()
     }
 
     /// The properties that each object of a type has, base first.
     pub fn props(&self, t: TypeId) -> &'static [Property]
         ensures { result.now ≡ slots_of t }
     {
-        slots(t)
+        info(t).properties
     }
 
     /// The property of a name among those that each object of a type has.
     pub fn property(&self, t: TypeId, name: &str) -> Option<Property>
         ensures { result ≡ property_named t name.now }
     {
-        slots::first_named(slots(t), name)
+        slots::first_named(self.props(t), name)
     }
 
     /// Whether a type has an initializer and a finalizer.
@@ -125,7 +119,7 @@ impl TypeTable {
     {
         let mut ids = Vec::new(alloc);
         for t in all_types() {
-            if self.is_a(*t, implements) && (with_abstract || !is_abstract(*t)) {
+            if self.is_a(*t, implements) && (with_abstract || !self.is_abstract(*t)) {
                 ids.push(*t)?;
             }
         }

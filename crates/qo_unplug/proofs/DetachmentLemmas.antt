@@ -10,7 +10,7 @@ use Rattle.qo_model.specs.Release.{pin, put_in_order, unpin, without_first}
 use Rattle.qo_model.specs.Unplug.{apart_within, detach, taken_by, unrealize}
 use Rattle.qo_model.proofs.PinLemmas.{IsUp, put-among, put-back, put-up, unpin-pins}
 use Rattle.qo_model.proofs.ReleaseScopeLemmas.{unpin-leaves}
-use Rattle.qo_notes.specs.Log.{empty_log}
+use Rattle.qo_heap.specs.Log.{empty_log}
 use Rattle.qo_hotplug.specs.Hotplug.{Asked}
 use Rattle.qo_heap.specs.Board.{Shows, pins_in}
 use Rattle.qo_heap.specs.Objects.{IsHeap, Objects, pins_of, with_edit}

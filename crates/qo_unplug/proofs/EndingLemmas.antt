@@ -10,14 +10,14 @@ use Rattle.qo_kinds.specs.Bodies.{kept_of, none_kept, with_kept}
 use Rattle.qo_kinds.specs.declared.bodies.Body.{Body}
 use Rattle.qo_kinds.specs.declared.kept_set.KeptSet.{KeptSet}
 use Rattle.qo_slots.specs.declared.keys.Key.{Key}
-use Rattle.qo_table.specs.Rows.{IsLive}
+use Rattle.qo_heap.specs.Rows.{IsLive}
 use Rattle.qo_model.specs.Board.{Board, Record}
 use Rattle.qo_model.specs.Clocks.{ClocksFit, acted, device_period}
 use Rattle.qo_model.specs.Devices.{clock_of}
 use Rattle.qo_model.specs.Release.{edited}
 use Rattle.qo_model.specs.Unplug.{disconnected, set_named}
 use Rattle.qo_model.specs.declared.notes.Deed.TheVariants.{Did}
-use Rattle.qo_notes.specs.Log.{empty_log}
+use Rattle.qo_heap.specs.Log.{empty_log}
 use Rattle.qo_object.specs.declared.slots.Slot.{Slot}
 use Rattle.qo_object.specs.Content.{Content, acted_at}
 use Rattle.qo_object.specs.BoardObject.{birth_of, shown}

@@ -1,12 +1,13 @@
 -- The moments of timers, of a heap and of the boards that it shows; and what a heap keeps of them.
-use Rattle.std.proofs.Common.{sym, subst, ℕ, map}
+use Rattle.std.proofs.Common.{sym, subst, ℕ, map, rules}
 use Rattle.std.specs.List.{AllByRecursion}
-use Rattle.qo_values.specs.Registers.{Registers, bare, bridge, dimm, timer, uart}
+use Rattle.qo_values.specs.Registers.{Registers}
+use Rattle.qo_values.proofs.EachLemmas.{each_body}
 use Rattle.qo_kinds.specs.Bodies as bodies
 use Rattle.qo_kinds.specs.Bodies.{IsInTime, registers_of}
 use Rattle.qo_slots.specs.declared.keys.Key.{Key}
 use Rattle.qo_model.specs.Board.{Board, Record}
-use Rattle.qo_notes.specs.Log.{empty_log, noted_all}
+use Rattle.qo_heap.specs.Log.{empty_log, noted_all}
 use Rattle.qo_object.specs.Content.{Content}
 use Rattle.qo_heap.specs.Board.{Shows, record_of}
 use Rattle.qo_heap.specs.Objects.{Objects}
@@ -19,18 +20,10 @@ use Rattle.qo_sound_clocks.specs.SoundTimes.{IsTimely, SoundTimes}
 -- registers are timely on the heap where they are on the board
 
 in-registers : (now : ℕ) (r : Registers) → IsInTime now r → IsTimely now r
-in-registers now (uart u) h = tt
-in-registers now (timer t) h = h
-in-registers now (dimm d) h = tt
-in-registers now (bridge b) h = tt
-in-registers now bare h = tt
+in-registers now = each_body (λ (r : Registers). IsInTime now r → IsTimely now r) (search rules)
 
 pub in-time : (now : ℕ) (r : Registers) → IsTimely now r → IsInTime now r
-in-time now (uart u) h = tt
-in-time now (timer t) h = h
-in-time now (dimm d) h = tt
-in-time now (bridge b) h = tt
-in-time now bare h = tt
+in-time now = each_body (λ (r : Registers). IsTimely now r → IsInTime now r) (search rules)
 
 abbrev RowIsTimely : ℕ → Key × Content → Type 0
 RowIsTimely now row = bodies.IsTimely now row.1.body

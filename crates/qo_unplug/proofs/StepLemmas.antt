@@ -1,7 +1,7 @@
 -- Steps of the parts of a board: alone, one after another, and as another step.
 use Rattle.std.proofs.Common.{◌≡◌, refl, ap, sym, subst, ◌∙◌, ℕ, List, filter, not, ◌==◌}
 use Rattle.qo_slots.specs.declared.keys.Key.{Key}
-use Rattle.qo_table.specs.Rows.{IsLive}
+use Rattle.qo_heap.specs.Rows.{IsLive}
 use Rattle.qo_model.specs.Board.{Board, Notice}
 use Rattle.qo_model.specs.Unplug.{unheld, unnoticed, without_all}
 use Rattle.qo_hotplug.specs.Hotplug.{Asked, gone}

@@ -4,14 +4,14 @@ use Rattle.std.proofs.Common.{◌++◌, length, replicate, filter_map, Option, N
 use Rattle.std.specs.List.{AllByRecursion}
 use Rattle.std.specs.Option.{option_map_or}
 use Rattle.qo_slots.specs.declared.keys.Key.{Key}
-use Rattle.qo_table.specs.Rows.{IsLive, Rises, births, object_at}
+use Rattle.qo_heap.specs.Rows.{IsLive, Rises, births, object_at}
 use Rattle.qo_model.specs.Board.{Board, Slot, slots_at}
 use Rattle.qo_model.specs.Devices.{buses_of, first_bus, kids_of, strong_in}
 use Rattle.qo_model.specs.Release.{pin, put_in_order, unpin}
 use Rattle.qo_model.specs.Unplug.{apart_within, drained, first_of, is_bus_child, left_bus, left_parent, let_go_where, lost_bus, lost_buses}
 use Rattle.qo_model.proofs.DepthLemmas.{one-less}
 use Rattle.qo_model.proofs.PinLemmas.{IsUp}
-use Rattle.qo_notes.specs.Log.{Log, empty_log, noted_all}
+use Rattle.qo_heap.specs.Log.{Log, empty_log, noted_all}
 use Rattle.qo_object.specs.Content.{Content, with_pin}
 use Rattle.qo_object.specs.BoardObject.{shown_slots}
 use Rattle.qo_object.proofs.BoardObjectLemmas.{length-shown}

@@ -8,7 +8,7 @@ use Rattle.qo_values.specs.declared.kinds.Act.TheVariants.{Unrealize}
 use Rattle.qo_values.specs.declared.properties.Val.TheVariants as val
 use Rattle.qo_kinds.specs.declared.kept_set.KeptSet.{KeptSet}
 use Rattle.qo_slots.specs.declared.keys.Key.{Key}
-use Rattle.qo_table.specs.Rows.{IsLive}
+use Rattle.qo_heap.specs.Rows.{IsLive}
 use Rattle.qo_model.specs.Board.{Board, Record, Slot, plain, weak, slots_at}
 use Rattle.qo_model.specs.Clocks.{acted, device_period}
 use Rattle.qo_model.specs.Depth.{by_depth}

@@ -3,7 +3,7 @@
 ghost use Rattle.std.specs.Prelude.{◌≡◌, ℕ, ◌==◌, false, Some, option_map};
 ghost use Rattle.qo_kinds.specs.Bodies.{kept_of, none_kept, with_kept};
 ghost use Rattle.qo_object.specs.Content.{Content};
-ghost use Rattle.qo_table.specs.Rows.{IsLive};
+ghost use Rattle.qo_heap.specs.Rows.{IsLive};
 ghost use Rattle.qo_heap.specs.Objects.{content_of, with_edit};
 ghost use Rattle.qo_kinds.specs.declared.kept_set.KeptSet.{KeptSet};
 ghost use Rattle.qo_properties.specs.KeptClaims.{kept_by};

@@ -5,7 +5,7 @@ ghost use Rattle.qo_model.specs.Board.{Board};
 ghost use Rattle.qo_model.specs.Unplug.{detach};
 ghost use Rattle.qo_sound.specs.TreeKept.{SoundTree};
 ghost use Rattle.qo_sound_clocks.specs.SoundClocks.{SoundClocks};
-ghost use Rattle.qo_table.specs.Rows.{IsLive};
+ghost use Rattle.qo_heap.specs.Rows.{IsLive};
 ghost use Rattle.qo_heap.specs.Board.{pins_in};
 ghost use Rattle.qo_heap.specs.Objects.{pins_of};
 ghost use Rattle.qo_heap.specs.Moments.{Timely};

@@ -7,7 +7,7 @@ ghost use Rattle.qo_values.specs.declared.properties.Val.TheVariants as val;
 ghost use Rattle.qo_model.specs.Clocks.{acted};
 ghost use Rattle.qo_model.specs.Unplug.{set_named, unrealized_bus, unrealized_device};
 ghost use Rattle.qo_hotplug.specs.Hotplug.{Asked};
-ghost use Rattle.qo_table.specs.Rows.{IsLive};
+ghost use Rattle.qo_heap.specs.Rows.{IsLive};
 ghost use Rattle.qo_heap.specs.Moments.{Timely};
 ghost use Rattle.qo_properties.specs.KeptClaims.{KeptBefore};
 ghost use Rattle.qo_unplug.specs.Unrealizing.{Ends, HeapUndoes, parts, stopped};

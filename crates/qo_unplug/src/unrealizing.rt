@@ -2,7 +2,7 @@
 //! device (include/hw/qdev-core.h, "Realization").
 
 ghost use Rattle.std.specs.Prelude.{◌+◌, length};
-ghost use Rattle.qo_table.specs.Rows.{IsLive};
+ghost use Rattle.qo_heap.specs.Rows.{IsLive};
 ghost use Rattle.qo_heap.specs.Moments.{Timely};
 ghost use Rattle.qo_unplug.specs.Unrealizing.{Ends, bus_undone, bus_within, device_within, kid_undone, parts};
 

@@ -1,8 +1,12 @@
--- A statement on every type, body or act, from what it says of each. Where it computes, a search finds each of them. These are the lists of cases that a new
--- type, body or act is added to.
-use Rattle.std.specs.Prelude.{List, [], ◌∷◌}
+-- A statement on every type, body, write or act, from what it says of each. Where it computes, a search finds each of them. These are the lists of cases that a
+-- new type, body or act is added to.
+use Rattle.std.proofs.Common.{◌≡◌, refl, ap, subst, ℕ, Bool, true, false, eqb, List, [], ◌∷◌, Option, Some, None, option_map}
 use Rattle.std.specs.List.{AllByRecursion}
-use Rattle.qo_values.specs.Registers.{BridgeRegisters, DimmRegisters, Registers, TimerRegisters, UartRegisters, bare, bridge, dimm, timer, uart}
+use Rattle.std.proofs.lemmas.Option.{same_Some}
+use Rattle.qo_values.specs.Dimm.{dimm_read}
+use Rattle.qo_values.specs.Registers.{BridgeRegisters, DimmRegisters, Effect, Registers, TimerRegisters, UartRegisters, bare, body_write, bridge, bridge_write, dimm, effect_of, nothing, timer, uart}
+use Rattle.qo_values.specs.Timer.{timer_write}
+use Rattle.qo_values.specs.Uart.{uart_write}
 use Rattle.qo_values.specs.declared.kinds.Act.{Act}
 use Rattle.qo_values.specs.declared.kinds.Act.TheVariants.{Init, Realize, Unrealize, Enter, Hold, Exit, Pre, Update}
 use Rattle.qo_values.specs.declared.kinds.TypeId.{TypeId}
@@ -44,6 +48,43 @@ each_body P h (timer t) = h.1 t
 each_body P h (dimm d) = h.2 d
 each_body P h (bridge b) = h.3 b
 each_body P h bare = h.4
+
+-- a guest's writes: what a body and the one that a write makes of it are
+
+abbrev pub AllWrites : (Registers → Registers → Type 0) → ℕ → ℕ → ℕ → ℕ → Type 0
+AllWrites P reg value now period =
+    ((u v : UartRegisters) → P (uart u) (uart v))
+    × ((t v : TimerRegisters) → timer_write t reg value now period ≡ Some v → P (timer t) (timer v)) × ((d : DimmRegisters) → P (dimm d) (dimm d))
+    × ((b v : BridgeRegisters) → P (bridge b) (bridge v))
+
+-- what is so of each body that a write may give is so of the one that it gave
+mapped : {A : Type 0} (P : Registers → Type 0) (f : A → Registers × Effect) → ((x : A) → P (f x).0) → (o : Option A) (s : Registers) (effect : Effect)
+    → option_map f o ≡ Some (s, effect) → P s
+mapped P f all None s effect e = cc
+mapped P f all (Some x) s effect e = subst P (ap (λ (p : Registers × Effect). p.0) (same_Some (f x) (s, effect) e)) (all x)
+
+pub each_write : (P : Registers → Registers → Type 0) (reg value : ℕ) (ring : Bool) (now period : ℕ) → AllWrites P reg value now period
+    → (r s : Registers) (effect : Effect) → body_write r reg value ring now period ≡ Some (s, effect) → P r s
+each_write P reg value ring now period h (uart u) s effect e =
+    mapped (P (uart u)) (λ (p : UartRegisters × Option ℕ). (uart p.0, effect_of p.1)) (λ p. h.0 u p.0) (uart_write u reg value ring) s effect e
+each_write P reg value ring now period h (timer t) s effect e = go (timer_write t reg value now period) refl
+  where
+    go : (o : Option TimerRegisters) → timer_write t reg value now period ≡ o → P (timer t) s
+    go None p = absurd (let clash : None ≡ Some (s, effect) = rw p at e in cc)
+    go (Some x) p =
+        let is : timer x ≡ s = ap (λ (q : Registers × Effect). q.0) (same_Some (timer x, nothing) (s, effect) (rw p at e)) in
+        subst (P (timer t)) is (h.1 t x p)
+each_write P reg value ring now period h (dimm d) s effect e = mapped (P (dimm d)) (λ (n : ℕ). (dimm d, nothing)) (λ n. h.2 d) (dimm_read d reg) s effect e
+each_write P reg value ring now period h (bridge g) s effect e = go (eqb reg 0) refl (eqb reg 1) refl
+  where
+    is : (x : BridgeRegisters) (f : Effect) → ◌≡◌ {A = Option (Registers × Effect)} (Some (bridge x, f)) (Some (s, effect)) → P (bridge g) s
+    is x f q = subst (P (bridge g)) (ap (λ (p : Registers × Effect). p.0) (same_Some (bridge x, f) (s, effect) q)) (h.3 g x)
+
+    go : (u : Bool) → eqb reg 0 ≡ u → (v : Bool) → eqb reg 1 ≡ v → P (bridge g) s
+    go true p v q = is _ _ (rw (bridge_write, p) at e)
+    go false p true q = is _ _ (rw (bridge_write, p, q) at e)
+    go false p false q = absurd (let clash : None ≡ Some (s, effect) = rw (bridge_write, p, q) at e in cc)
+each_write P reg value ring now period h bare s effect e = cc
 
 -- acts
 abbrev pub AllActs : (Act → Type 0) → Type 0

@@ -1,6 +1,10 @@
 -- A DIMM's registers as a guest reads them; none is written, and the phases change nothing (a device of the profile).
 use Rattle.std.specs.Prelude.{ℕ, ◌/◌, ◌%◌, ◌^◌, ◌==◌, if◌then◌else◌, Option, Some, None}
-use Rattle.qo_values.specs.Registers.{DimmRegisters}
+
+-- a DIMM: the address and the size of its range, in bytes
+pub record DimmRegisters : Type 0 where
+  pub address : ℕ
+  pub size : ℕ
 
 -- what a register reads, or none where it is absent: 0 and 1 the low and high half of the address, 2 and 3 of the size
 abbrev pub dimm_read : DimmRegisters → ℕ → Option ℕ

@@ -1,4 +1,3 @@
-pub mod Bodies
 pub mod Codes
 pub mod Counts
 pub mod Dimm

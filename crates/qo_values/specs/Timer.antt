@@ -4,8 +4,21 @@
 use Rattle.std.specs.Prelude.{ℕ, ◌+◌, ◌-◌, ◌*◌, ◌/◌, ◌%◌, Bool, true, false, ◌||◌, ◌==◌, if◌then◌else◌, Option, Some, None, is_some}
 use Rattle.std.specs.Option.{option_map_or}
 use Rattle.qo_values.specs.Counts.{count_up}
-use Rattle.qo_values.specs.Registers.{TimerRegisters, fresh_timer}
-use Rattle.qo_values.specs.declared.limits.TheConstants.{UNITS_PER_NS}
+use Rattle.qo_values.specs.declared.limits.TheConstants.{RELOAD_AT_FIRST, UNITS_PER_NS}
+
+-- a timer: done is the sum over the ended segments, each rounded down; began is where the open segment began, if there
+-- is one; last is the last moment at which a segment began or ended, 0 at birth (moments in ns)
+pub record TimerRegisters : Type 0 where
+  pub enabled : Bool
+  pub reload : ℕ
+  pub done : ℕ
+  pub began : Option ℕ
+  pub last : ℕ
+  pub holds : ℕ
+
+-- a timer at birth: disabled, no segments
+abbrev pub fresh_timer : TimerRegisters
+fresh_timer = record { enabled = false; reload = RELOAD_AT_FIRST; done = 0; began = None; last = 0; holds = 0 }
 
 -- the ticks of a span of time under a period, rounded down; none where the clock stands still
 abbrev pub span_ticks : ℕ → ℕ → ℕ

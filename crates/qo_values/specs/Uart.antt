@@ -1,8 +1,19 @@
 -- A UART's registers as a guest reads and writes them, and its reset phases (a device of the profile; phases:
 -- docs/devel/reset.rst, "Multi-phase mechanism").
-use Rattle.std.specs.Prelude.{ℕ, ◌+◌, ◌%◌, Bool, true, ◌&&◌, ◌||◌, ◌==◌, if◌then◌else◌, Option, Some, None}
+use Rattle.std.specs.Prelude.{ℕ, ◌+◌, ◌%◌, Bool, true, false, ◌&&◌, ◌||◌, ◌==◌, if◌then◌else◌, Option, Some, None}
 use Rattle.qo_values.specs.Counts.{count_up}
-use Rattle.qo_values.specs.Registers.{UartRegisters, fresh_uart}
+
+-- a UART; holds counts the hold phases since the birth
+pub record UartRegisters : Type 0 where
+  pub ready : Bool
+  pub divisor : ℕ
+  pub scratch : ℕ
+  pub sent : ℕ
+  pub holds : ℕ
+
+-- a UART at birth
+abbrev pub fresh_uart : UartRegisters
+fresh_uart = record { ready = false; divisor = 1; scratch = 0; sent = 0; holds = 0 }
 
 -- STATUS: 1 for a claimed ring, 2 for a clock that runs, 4 for ready, added up
 abbrev pub uart_status : UartRegisters → Bool → ℕ → ℕ

@@ -1,6 +1,6 @@
 //! What no clause says: that a DIMM gets its range where there is enough memory.
 
-use qo_backends::range_for;
+use qo_buses::range_for;
 use qo_heap::Heap;
 use qo_values::Code;
 use std::alloc::{AllocError, Global};

@@ -1,6 +1,7 @@
 //! What no clause says: that the memory map of a board is made where there is enough memory.
 ghost use Rattle.std.specs.Prelude.{◌≡◌, ◌<◌};
 
+use qo_chardev::Rings;
 use qo_heap::{Heap, Steps};
 use qo_hotplug::Hotplug;
 use qo_layout::{BOOT_LEAF, BOOT_SIZE, DEVICE_SIZE, MEMORY_AT, SLOTS_AT, memory_map};
@@ -8,7 +9,6 @@ use qo_memmap::{MapError, Span};
 use qo_plug::{AddRefusal, Added, DeviceOptions, add};
 use qo_properties::{Refusal, add_object, make_all};
 use qo_reset::Resets;
-use qo_rings::Rings;
 use qo_values::{PropList, Text, Val};
 use std::alloc::{AllocError, Global};
 use std::marker::Brand;

@@ -1,12 +1,12 @@
 //! What no clause says: that a device is made where there is enough memory.
 ghost use Rattle.std.specs.Prelude.{◌≡◌, ◌<◌};
 
+use qo_chardev::Rings;
 use qo_heap::{Heap, Steps};
 use qo_hotplug::Hotplug;
 use qo_plug::{AddRefusal, Added, DeviceOptions, add, give_up, make_device};
 use qo_properties::{make_all, plan};
 use qo_reset::Resets;
-use qo_rings::Rings;
 use qo_values::{BUS_SLOTS, Code, NOTICES_MAX, PropList, ROOT_BUS_BIRTH, Text, TypeId, Val};
 use std::alloc::{AllocError, Global};
 use std::marker::Brand;

@@ -27,6 +27,4 @@ mod reset;
 #[cfg(test)]
 mod slots;
 #[cfg(test)]
-mod table;
-#[cfg(test)]
 mod types;

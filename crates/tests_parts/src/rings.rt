@@ -1,5 +1,5 @@
 //! What no clause says: that calls that take memory succeed where there is enough.
-use qo_rings::{RING_SIZE_DEFAULT, RingAddError, RingTakeError, Rings};
+use qo_chardev::{RING_SIZE_DEFAULT, RingAddError, RingTakeError, Rings};
 use qo_values::{Form, Id};
 use std::alloc::Global;
 use std::process::Abort;

@@ -23,7 +23,7 @@ fn gives(
     bytes: &[u8],
     texts: &[&[u8]],
 ) -> Result<(), Fail> {
-    let items = framer.feed(alloc, bytes)?;
+    let items = framer.feed(alloc, bytes, Vec::new(alloc))?;
     assert_eq!(rt; items.len(), texts.len());
     for (item, wanted) in items.iter().zip(texts.iter()) {
         assert!(rt; text(item) == *wanted);

@@ -52,7 +52,7 @@ fn add_word(
 
 /// What some bytes of a session come to, as short words.
 fn acts(alloc: Global, session: &mut Session, bytes: &[u8]) -> Result<String, Fail> {
-    let items = session.feed(alloc, bytes)?;
+    let items = session.feed(alloc, bytes, Vec::new(alloc))?;
     let mut words = String::new(alloc);
     let mut scratch = Scratch::new(alloc);
     for item in &items {

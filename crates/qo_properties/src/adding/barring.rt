@@ -8,7 +8,7 @@ ghost use Rattle.qo_properties.specs.declared.refusals.Refusal.TheVariants.{Refu
 ghost use Rattle.qo_model.specs.Board.{Board};
 ghost use Rattle.qo_model.specs.Objects.{barred_by};
 ghost use Rattle.qo_model.specs.Types.{type_named};
-ghost use Rattle.qo_table.specs.Rows.{IsLive};
+ghost use Rattle.qo_heap.specs.Rows.{IsLive};
 ghost use Rattle.qo_heap.specs.Board.{Shows};
 ghost use Rattle.qo_properties.specs.Changes.{place_refusal, refusal_in, type_refusal};
 

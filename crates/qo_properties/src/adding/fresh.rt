@@ -5,7 +5,7 @@ ghost use Rattle.std.specs.Vec.Iter.{into_iter_items};
 ghost use Rattle.qo_values.specs.Names.{IsName};
 ghost use Rattle.qo_model.specs.Opening.{first_value};
 ghost use Rattle.qo_model.specs.RowNames.{property_name};
-ghost use Rattle.qo_table.specs.Rows.{IsLive};
+ghost use Rattle.qo_heap.specs.Rows.{IsLive};
 ghost use Rattle.qo_object.specs.declared.slots.Slot.TheVariants.{Plain, Link};
 ghost use Rattle.qo_object.specs.Content.{furnished, with_slot};
 ghost use Rattle.qo_object.specs.Slots.{Named};

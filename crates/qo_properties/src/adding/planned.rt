@@ -4,7 +4,7 @@ ghost use Rattle.std.specs.Prelude.{IfSome, List, option_map};
 ghost use Rattle.std.specs.List.{AllByRecursion};
 ghost use Rattle.qo_model.specs.Board.{Board};
 ghost use Rattle.qo_model.specs.Objects.{Given};
-ghost use Rattle.qo_table.specs.Rows.{IsLive};
+ghost use Rattle.qo_heap.specs.Rows.{IsLive};
 ghost use Rattle.qo_heap.specs.Objects.{Objects};
 ghost use Rattle.qo_properties.specs.Filling.{target_in};
 ghost use Rattle.qo_properties.specs.Plans.{IsPlan, TellsGiven, own_slot_for};

@@ -9,7 +9,7 @@ ghost use Rattle.qo_model.specs.Board.{Board};
 ghost use Rattle.qo_model.specs.Objects.{Given, misfit, refusal_by, refusal_of};
 ghost use Rattle.qo_model.specs.Properties.{property_named};
 ghost use Rattle.qo_object.specs.declared.slots.Slot.TheVariants.{Link};
-ghost use Rattle.qo_table.specs.Rows.{IsLive};
+ghost use Rattle.qo_heap.specs.Rows.{IsLive};
 ghost use Rattle.qo_heap.specs.Board.{Shows};
 ghost use Rattle.qo_properties.specs.declared.adding.filling.Fill.TheVariants.{Nothing, Value};
 ghost use Rattle.qo_properties.specs.NewSlots.{begun, new_slots};

@@ -6,7 +6,7 @@ ghost use Rattle.qo_values.specs.declared.kinds.TypeId.TheVariants.{Clock};
 ghost use Rattle.qo_values.specs.declared.limits.TheConstants.{SYSTEM_PERIOD};
 ghost use Rattle.qo_values.specs.declared.properties.Val.TheVariants.{Uint};
 ghost use Rattle.qo_model.specs.Board.{Board};
-ghost use Rattle.qo_table.specs.Rows.{IsLive};
+ghost use Rattle.qo_heap.specs.Rows.{IsLive};
 ghost use Rattle.qo_object.specs.Content.{set_at, as_made};
 ghost use Rattle.qo_heap.specs.Board.{Shows};
 ghost use Rattle.qo_heap.specs.Objects.{content_of, with_edit};

@@ -7,7 +7,7 @@ ghost use Rattle.qo_model.specs.Listing.{listing, own_text, plain_word, row_word
 ghost use Rattle.qo_values.specs.TypeTexts.{text_of};
 ghost use Rattle.qo_object.specs.BoardObject.{shown_slot};
 ghost use Rattle.qo_object.specs.Slots.{target_of};
-ghost use Rattle.qo_table.specs.Rows.{IsLive};
+ghost use Rattle.qo_heap.specs.Rows.{IsLive};
 ghost use Rattle.qo_heap.specs.Board.{Shows};
 ghost use Rattle.qo_heap.specs.Objects.{slots_of};
 

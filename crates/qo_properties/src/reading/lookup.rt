@@ -4,7 +4,7 @@ ghost use Rattle.std.specs.Prelude.{◌≡◌, IfSome, IfNone, None, position};
 ghost use Rattle.std.specs.Str.{bytes_eq};
 ghost use Rattle.qo_model.specs.Objects.{is_object_named, index_from};
 ghost use Rattle.qo_object.specs.BoardObject.{shown_slot, shown_slots};
-ghost use Rattle.qo_table.specs.Rows.{IsLive};
+ghost use Rattle.qo_heap.specs.Rows.{IsLive};
 ghost use Rattle.qo_heap.specs.Objects.{content_of, slots_of};
 
 use qo_heap::{Heap, Oid, Slot, Steps};

@@ -7,7 +7,7 @@ ghost use Rattle.qo_model.specs.Clocks.{ClocksFit, derived_period, source_of};
 ghost use Rattle.qo_model.specs.Properties.{own_value, plain_value, value_of};
 ghost use Rattle.qo_model.specs.Access.{read};
 ghost use Rattle.qo_object.specs.BoardObject.{shown_slot};
-ghost use Rattle.qo_table.specs.Rows.{IsLive};
+ghost use Rattle.qo_heap.specs.Rows.{IsLive};
 ghost use Rattle.qo_heap.specs.Board.{Shows};
 ghost use Rattle.qo_properties.specs.Reads.{Answers, is_derived, reads_derived, reads_derived_at};
 

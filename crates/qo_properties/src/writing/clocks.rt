@@ -5,7 +5,7 @@ ghost use Rattle.std.specs.Prelude.{◌≡◌, IfOk, OnErr};
 ghost use Rattle.qo_model.specs.Board.{Board as Tree};
 ghost use Rattle.qo_model.specs.ClockProperties.{role_written, led_to, number_written, own_property, set_row};
 ghost use Rattle.qo_model.specs.Clocks.{ClocksFit};
-ghost use Rattle.qo_table.specs.Rows.{IsLive};
+ghost use Rattle.qo_heap.specs.Rows.{IsLive};
 ghost use Rattle.qo_heap.specs.Board.{Shows, pins_in};
 ghost use Rattle.qo_heap.specs.Moments.{Timely};
 ghost use Rattle.qo_properties.specs.Claims.{KeepsBook};

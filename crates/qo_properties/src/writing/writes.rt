@@ -11,7 +11,7 @@ ghost use Rattle.qo_model.specs.Clocks.{ClocksFit};
 ghost use Rattle.qo_object.specs.Content.{empty_link_at};
 ghost use Rattle.qo_object.specs.BoardObject.{birth_of};
 ghost use Rattle.qo_object.specs.Slots.{held, slot_in};
-ghost use Rattle.qo_table.specs.Rows.{IsLive};
+ghost use Rattle.qo_heap.specs.Rows.{IsLive};
 ghost use Rattle.qo_heap.specs.Board.{Shows, pins_in};
 ghost use Rattle.qo_heap.specs.Objects.{content_of, slots_of};
 ghost use Rattle.qo_heap.specs.Moments.{Timely};

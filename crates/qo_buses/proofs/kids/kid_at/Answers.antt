@@ -1,7 +1,7 @@
 -- What is found by name is read, and what it names is there.
 use Rattle.std.proofs.Common.{◌≡◌, Some, None, sym, ◌∙◌, rules}
 use Rattle.std.specs.Str.{bytes_eq}
-use Rattle.qo_table.specs.Rows.{IsLive}
+use Rattle.qo_heap.specs.Rows.{IsLive}
 use Rattle.qo_object.specs.Slots.{Named}
 use Rattle.qo_model.specs.Devices.{kid_name, strong_in}
 use Rattle.qo_heap.proofs.HeapLemmas.{target-live}

@@ -1,6 +1,6 @@
 -- What stands at the place is read, and what it names is there.
 use Rattle.std.proofs.Common.{◌≡◌, List, ℕ, Some, None, sym, ◌∙◌, rules}
-use Rattle.qo_table.specs.Rows.{IsLive}
+use Rattle.qo_heap.specs.Rows.{IsLive}
 use Rattle.qo_model.specs.Board.{Slot}
 use Rattle.qo_model.specs.Devices.{strong_in}
 use Rattle.qo_heap.proofs.HeapLemmas.{slot-live}

@@ -1,6 +1,6 @@
 -- The link is let go, removed, and what it held ends where nothing refers to it.
 use Rattle.std.proofs.lemmas.Option.{IfSome_then}
-use Rattle.qo_table.specs.Rows.{IsLive}
+use Rattle.qo_heap.specs.Rows.{IsLive}
 use Rattle.qo_object.specs.Content.{cut_at, dropped_at}
 use Rattle.qo_heap.specs.Objects.{with_edit}
 use Rattle.qo_heap.proofs.HeapLemmas.{live-edit}

@@ -1,6 +1,6 @@
 -- What the line comes to.
 use Rattle.std.proofs.Common.{subst, ℕ, List}
-use Rattle.qo_lane.specs.Hearing.{Came, heard}
+use Rattle.qo_commands.specs.Hearing.{Came, heard}
 use Rattle.qo_commands.specs.Commands.{altered}
 use Rattle.qo_commands.proofs.ChangeLemmas.{told-came}
 use Rattle.qo_commands.proofs.changes.guest.Goals as goal

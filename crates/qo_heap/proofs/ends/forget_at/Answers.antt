@@ -1,22 +1,44 @@
-use Rattle.std.proofs.Common.{sym, ◌∙◌, ap, List}
-use Rattle.qo_slots.specs.declared.keys.Key.{Key}
-use Rattle.qo_object.specs.Content.{Content, forgotten}
+use Rattle.std.proofs.Common.{◌∙◌, None, Some, sym}
+use Rattle.qo_object.specs.Content.{forgotten}
 use Rattle.qo_heap.specs.Objects.{forgets}
+use Rattle.qo_heap.specs.Order.{rows_in}
 use Rattle.qo_heap.proofs.PlacesLemmas.{key-live, read-at-place, edit-at-place, changed_at-past, past-last}
+use Rattle.qo_heap.proofs.RowsLemmas.{rows-named, rows-rise}
+use Rattle.qo_heap.proofs.ValueLemmas.{written}
 use Rattle.qo_heap.proofs.ends.forget_at.Goals as goal
 
-pub change-requires : goal.change-requires
-change-requires g c =
-    key-live c.args.table.now.born c.args.table.now.rows c.args.place c.in-Some.key c.facts.ensures (sym c.key_at.ensures ∙ c.in-Some.is)
+pub change-requires-clause-live : goal.change-requires-clause-live
+change-requires-clause-live g c =
+    key-live c.args.table.now.born (rows_in c.args.table.now c.args.order.now.items) c.args.place c.in-Some.key
+    (rows-rise c.args.table.now c.args.order.now.items c.requires)
+    (rows-named c.args.table.now c.args.order.now.items c.requires.stored c.args.place c.as_slice.result.now c.key_in.result (Some c.in-Some.key)
+    c.as_slice.ensures.value c.key_in.ensures c.in-Some.is)
 
-pub returns-in-Some : goal.returns-in-Some
-returns-in-Some g c =
-    let there = read-at-place c.args.table.now.born c.args.table.now.rows c.args.place c.in-Some.key c.change.result.now c.facts.ensures
-    (sym c.key_at.ensures ∙ c.in-Some.is) c.change.ensures.object in
-    ap (λ (rows : List (Key × Content)). record c.args.table.now { rows = rows }) (edit-at-place (forgotten c.args.birth) c.forget.new.self 0
-    c.args.table.now.born c.args.table.now.rows c.args.place (c.in-Some.key, c.change.result.now) c.facts.ensures there c.forget.ensures)
+pub returns-in-Some-clause-ordered : goal.returns-in-Some-clause-ordered
+returns-in-Some-clause-ordered g c =
+    let t = c.args.table.now in
+    let order = c.args.order.now.items in
+    let named = rows-named t order c.requires.stored c.args.place c.as_slice.result.now c.key_in.result (Some c.in-Some.key) c.as_slice.ensures.value
+    c.key_in.ensures c.in-Some.is in
+    let live = key-live t.born (rows_in t order) c.args.place c.in-Some.key (rows-rise t order c.requires) named in
+    (written t order c.requires c.in-Some.key live c.forget.new.self).ordered
 
-pub returns-in_default : goal.returns-in_default
-returns-in_default g c =
-    ap (λ (rows : List (Key × Content)). record c.args.table.now { rows = rows }) (sym (changed_at-past (forgets c.args.birth) c.args.place
-    c.args.table.now.rows (past-last c.args.table.now.rows c.args.place (sym c.key_at.ensures ∙ c.in_default.is))))
+pub returns-in-Some-clause-rows : goal.returns-in-Some-clause-rows
+returns-in-Some-clause-rows g c =
+    let t = c.args.table.now in
+    let order = c.args.order.now.items in
+    let rises = rows-rise t order c.requires in
+    let named = rows-named t order c.requires.stored c.args.place c.as_slice.result.now c.key_in.result (Some c.in-Some.key) c.as_slice.ensures.value
+    c.key_in.ensures c.in-Some.is in
+    let live = key-live t.born (rows_in t order) c.args.place c.in-Some.key rises named in
+    let there = read-at-place t.born (rows_in t order) c.args.place c.in-Some.key c.change.result.now rises named c.change.ensures.object in
+    (written t order c.requires c.in-Some.key live c.forget.new.self).rows
+    ∙ edit-at-place (forgotten c.args.birth) c.forget.new.self 0 t.born (rows_in t order) c.args.place (c.in-Some.key, c.change.result.now) rises there
+    c.forget.ensures
+
+pub returns-in_default-clause-rows : goal.returns-in_default-clause-rows
+returns-in_default-clause-rows g c =
+    let rows = rows_in c.args.table.now c.args.order.now.items in
+    let none = rows-named c.args.table.now c.args.order.now.items c.requires.stored c.args.place c.as_slice.result.now c.key_in.result None
+    c.as_slice.ensures.value c.key_in.ensures c.in_default.is in
+    sym (changed_at-past (forgets c.args.birth) c.args.place rows (past-last rows c.args.place none))

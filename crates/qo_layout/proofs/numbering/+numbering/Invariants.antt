@@ -2,7 +2,7 @@
 use Rattle.std.proofs.Common.{◌≡◌, ◌+◌, ◌-◌, ◌*◌, ◌++◌, All, take}
 use Rattle.std.specs.Prelude.{filter_map}
 use Rattle.std.specs.List.{flat_map}
-use Rattle.qo_table.specs.Rows.{IsLive}
+use Rattle.qo_heap.specs.Rows.{IsLive}
 use Rattle.qo_model.specs.Board.{Board, slots_at}
 use Rattle.qo_heap.specs.Board.{Shows}
 use Rattle.qo_layout.specs.Numbering.{below_in, births_of, post_within}

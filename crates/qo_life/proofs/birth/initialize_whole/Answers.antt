@@ -1,7 +1,7 @@
 use Rattle.std.proofs.Common.{◌≡◌, refl, ap, sym, subst, List, ◌+◌, ◌-◌, ◌<◌, ◌≤◌, length, arith}
 use Rattle.qo_slots.specs.declared.keys.Key.{Key}
 use Rattle.qo_object.specs.Content.{Content}
-use Rattle.qo_table.specs.Rows.{IsLive}
+use Rattle.qo_heap.specs.Rows.{IsLive}
 use Rattle.qo_heap.specs.Objects.{Objects}
 use Rattle.qo_life.proofs.BirthLemmas.{inits-first, inits-step}
 use Rattle.qo_life.proofs.birth.initialize_whole.Goals as goal

@@ -18,7 +18,7 @@ pub returns-in-Ok-send_all-clause-meets : goal.returns-in-Ok-send_all-clause-mee
 returns-in-Ok-send_all-clause-meets g c = λ s here.
     let did = c.in-Ok-step.ensures.answered s here in
     one_turn s _ c.in-Ok.input did.0 _ c.in-Ok-step.outs c.in-Ok-send_all.lost _ _ _ _ _ _ _ _ _ _ _ _ _ did.1 c.as_slice.ensures c.in-Ok.ensures.given
-    c.in-Ok.ensures.sent c.in-Ok.ensures.got c.in-Ok.ensures.losses c.in-Ok-send_all.ensures.sends (c.close_lost.ensures.state _ did.2)
+    c.in-Ok.ensures.sent c.in-Ok.ensures.got c.in-Ok.ensures.losses c.in-Ok-send_all.ensures.sends (c.close_lost.ensures.state _ (rw c.keep_outs.ensures did.2))
 
 pub returns-clause-meets : goal.returns-clause-meets
 returns-clause-meets g c = λ s here.

@@ -48,4 +48,5 @@ returns-in_err-serve_item-clause-left g c =
 -- where there is no room for the messages nothing is served
 
 pub returns-in_err-sending-clause-left : goal.returns-in_err-sending-clause-left
-returns-in_err-sending-clause-left g c = on-err c.from_residual.result (λ s here. ([], c.args.items.now, [], refl, here))
+returns-in_err-sending-clause-left g c =
+    on-err c.from_residual.result (λ s here. ([], c.args.items.now, [], refl, rw c.with_room.ensures.same here))

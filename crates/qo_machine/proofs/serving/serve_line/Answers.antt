@@ -1,7 +1,7 @@
 -- A line is heard, its events are told, and it is answered.
 use Rattle.std.proofs.Common.{ℕ, List, [], refl, sym, ap, subst, ◌∙◌, append-nil}
-use Rattle.qo_lane.specs.Hearing.{heard}
-use Rattle.qo_lane.specs.Lines.{without_return}
+use Rattle.qo_commands.specs.Hearing.{heard}
+use Rattle.qo_commands.specs.Lines.{without_return}
 use Rattle.qo_machine.proofs.GuestLemmas.{line_left, line_refused, line_refused_left, line_served}
 use Rattle.qo_machine.proofs.MachineLemmas.{serves_over_by}
 use Rattle.qo_heap.proofs.HeapLemmas.{on-err}

@@ -4,7 +4,7 @@ use Rattle.std.specs.List.{cons_option}
 use Rattle.qo_model.specs.Board.{Board}
 use Rattle.qo_model.specs.Paths.{ends}
 use Rattle.qo_object.specs.BoardObject.{birth_of}
-use Rattle.qo_table.specs.Rows.{IsLive}
+use Rattle.qo_heap.specs.Rows.{IsLive}
 use Rattle.qo_heap.specs.Board.{Shows}
 use Rattle.qo_paths.proofs.EndLemmas.{ends_after}
 use Rattle.qo_paths.proofs.resolving.partial.Given as goal

@@ -3,7 +3,7 @@ use Rattle.std.proofs.Common.{◌≡◌}
 use Rattle.std.specs.Option.{option_copied}
 use Rattle.qo_model.specs.Board.{Board}
 use Rattle.qo_model.specs.Paths.{components, walk}
-use Rattle.qo_table.specs.Rows.{IsLive}
+use Rattle.qo_heap.specs.Rows.{IsLive}
 use Rattle.qo_heap.specs.Board.{Shows}
 use Rattle.qo_paths.proofs.PartLemmas.{named_after, size_of}
 use Rattle.qo_paths.proofs.walks.walk.Given as goal

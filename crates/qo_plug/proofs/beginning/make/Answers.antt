@@ -3,7 +3,7 @@ use Rattle.std.proofs.Common.{◌≡◌, ◌≤◌, ◌+◌, ap, sym, subst, ◌
 use Rattle.qo_claims.specs.Book.{ClaimsTaken}
 use Rattle.qo_model.specs.Reset.{count}
 use Rattle.qo_heap.proofs.HeapLemmas.{on-err}
-use Rattle.qo_standing.specs.FreeSpots.{IsFreeId, IsFreeSpot}
+use Rattle.qo_plug.specs.FreeSpots.{IsFreeId, IsFreeSpot}
 use Rattle.qo_plug.specs.Drafts.{own_slots_of}
 use Rattle.qo_plug.proofs.AddLemmas.{planned-judged}
 use Rattle.qo_plug.proofs.GivenDraftLemmas.{left-fits, left-given, left-targets}

@@ -1,7 +1,7 @@
 -- The device starts and is let go, or is refused after its acts.
 use Rattle.std.proofs.Common.{ap, sym, ◌∙◌, Some}
 use Rattle.qo_plug.proofs.AddLemmas.{is-added, is-refused, kinds-in, open-place, path-in, plugged-in}
-use Rattle.qo_standing.proofs.BodyLemmas.{kept-bodies, there-bodies}
+use Rattle.qo_plug.proofs.BodyLemmas.{kept-bodies, there-bodies}
 use Rattle.qo_properties.proofs.KeptLemmas.{before-same, before-then, goes-kept}
 use Rattle.qo_plug.proofs.finishing.finish.Goals as goal
 

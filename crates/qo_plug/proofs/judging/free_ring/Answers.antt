@@ -5,7 +5,7 @@ use Rattle.qo_claims.specs.Book.{ClaimsTaken, is_taken}
 use Rattle.qo_claims.specs.declared.claims.Claimed.TheVariants as on
 use Rattle.qo_model.specs.Board.{Ring}
 use Rattle.qo_model.specs.Plug.{claims_ring}
-use Rattle.qo_rings.specs.Rings.{is_ring}
+use Rattle.qo_chardev.specs.Rings.{is_ring}
 use Rattle.qo_plug.proofs.JudgementLemmas.{ring-named, ring_as}
 use Rattle.qo_plug.proofs.judging.free_ring.Goals as goal
 

@@ -9,9 +9,9 @@ use Rattle.qo_kinds.specs.declared.kept_set.KeptSet.{KeptSet}
 use Rattle.qo_heap.specs.Objects.{with_edit}
 use Rattle.qo_plug.specs.Spots.{claims_given}
 use Rattle.qo_plug.specs.Drafts.{given_draft}
-use Rattle.qo_standing.specs.DeviceClaims.{kept_on}
-use Rattle.qo_standing.specs.FreeSpots.{IsFreeId}
-use Rattle.qo_standing.specs.Placement.{IsSeat, kept_in, spot_in}
+use Rattle.qo_plug.specs.DeviceClaims.{kept_on}
+use Rattle.qo_plug.specs.FreeSpots.{IsFreeId}
+use Rattle.qo_plug.specs.Placement.{IsSeat, kept_in, spot_in}
 use Rattle.qo_properties.specs.KeptClaims.{SameKept}
 use Rattle.qo_plug.proofs.ClaimLemmas.{chosen-claims, draft-keeps}
 use Rattle.qo_plug.proofs.GivenDraftLemmas.{stood-planned}

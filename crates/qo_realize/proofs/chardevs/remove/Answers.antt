@@ -3,7 +3,7 @@ use Rattle.std.proofs.Common.{◌≡◌, ap, ap₂, sym, subst, ◌∙◌, ℕ, 
 use Rattle.qo_claims.specs.Book.{ClaimsTaken, is_taken}
 use Rattle.qo_claims.specs.declared.claims.Claimed.TheVariants as on
 use Rattle.qo_model.specs.Board.{Ring}
-use Rattle.qo_rings.specs.Rings.{without_ring}
+use Rattle.qo_chardev.specs.Rings.{without_ring}
 use Rattle.qo_realize.proofs.ChardevLemmas.{kept_id, removal-claimed, removal-free, removal-none}
 use Rattle.qo_realize.proofs.chardevs.remove.Goals as goal
 

@@ -8,17 +8,17 @@ use Rattle.qo_heap.proofs.heap.Heap.child_slot.Goals as goal
 
 pub returns-in-Some-clause-slot : goal.returns-in-Some-clause-slot
 returns-in-Some-clause-slot g c =
-    rw (← c.self.view_is, c.look-object.ensures.object)
+    rw c.look-object.ensures.object
     (c.slot_at.ensures.slot ∙ position-find (λ (s : List ℕ × Slot). names_child c.args.child s.1) c.look-object.result.now.slots c.in-Some.at
     (sym c.child_place.ensures ∙ c.in-Some.is))
 
 pub returns-in-Some-clause-at : goal.returns-in-Some-clause-at
 returns-in-Some-clause-at g c =
-    rw (← c.self.view_is, c.look-object.ensures.object)
+    rw c.look-object.ensures.object
     (placed-at _ (λ (v : SlotView). v.at) (λ (s : List ℕ × Slot). names_child c.args.child s.1) c.look-object.result.now.slots c.in-Some.at c.slot_at.result
     (sym c.child_place.ensures ∙ c.in-Some.is) c.slot_at.ensures.slot c.slot_at.ensures.at)
 
 pub returns-in-None-clause-slot : goal.returns-in-None-clause-slot
 returns-in-None-clause-slot g c =
-    rw (← c.self.view_is, c.look-object.ensures.object)
+    rw c.look-object.ensures.object
     (sym (position-none (λ (s : List ℕ × Slot). names_child c.args.child s.1) c.look-object.result.now.slots (sym c.child_place.ensures ∙ c.in-None.is)))

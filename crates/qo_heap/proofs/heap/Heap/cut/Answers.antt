@@ -1,12 +1,13 @@
 use Rattle.std.proofs.Common.{refl}
 use Rattle.qo_object.specs.Content.{cut_at}
-use Rattle.qo_heap.proofs.HeapLemmas.{Edited, edited-heap, cut-there}
-use Rattle.qo_heap.proofs.InsideObjects.{objects_inside}
+use Rattle.qo_heap.proofs.HeapLemmas.{cut-there}
+use Rattle.qo_heap.proofs.InsideObjects.{EditedInside, edited-inside, objects_inside}
 use Rattle.qo_heap.proofs.heap.Heap.cut.Goals as goal
 
-edited : (g : _) (c : goal.After-self-1 g) → Edited (objects_inside c.self.inside) c.args.o.birth (cut_at c.args.at) c.cut.new.self
+edited : (g : _) (c : goal.After-self-1 g) → EditedInside c.self.inside c.args.o (cut_at c.args.at) c.cut.new.self
 edited g c =
-    edited-heap _ c.self.invariant c.args.o.birth (cut_at c.args.at) c.change.result.now c.cut.new.self c.change.ensures.object c.cut.ensures
+    edited-inside c.self.inside c.self.invariant c.args.o (rw (← c.self.view_is) at c.requires.live)
+    (cut_at c.args.at) c.change.result.now c.cut.new.self c.change.ensures.object c.cut.ensures
     (λ x. cut-there (objects_inside c.self.inside) c.args.at x) (λ x. refl)
 
 pub invariant_of-self : goal.invariant_of-self

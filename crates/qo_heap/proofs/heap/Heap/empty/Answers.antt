@@ -1,12 +1,13 @@
 use Rattle.std.proofs.Common.{refl}
 use Rattle.qo_object.specs.Content.{dropped_at}
-use Rattle.qo_heap.proofs.HeapLemmas.{Edited, edited-heap, dropped-there}
-use Rattle.qo_heap.proofs.InsideObjects.{objects_inside}
+use Rattle.qo_heap.proofs.HeapLemmas.{dropped-there}
+use Rattle.qo_heap.proofs.InsideObjects.{EditedInside, edited-inside, objects_inside}
 use Rattle.qo_heap.proofs.heap.Heap.empty.Goals as goal
 
-edited : (g : _) (c : goal.After-self-1 g) → Edited (objects_inside c.self.inside) c.args.o.birth (dropped_at c.args.at) c.empty.new.self
+edited : (g : _) (c : goal.After-self-1 g) → EditedInside c.self.inside c.args.o (dropped_at c.args.at) c.empty.new.self
 edited g c =
-    edited-heap _ c.self.invariant c.args.o.birth (dropped_at c.args.at) c.change.result.now c.empty.new.self c.change.ensures.object c.empty.ensures.now
+    edited-inside c.self.inside c.self.invariant c.args.o (rw (← c.self.view_is) at c.requires.live)
+    (dropped_at c.args.at) c.change.result.now c.empty.new.self c.change.ensures.object c.empty.ensures.now
     (λ x. dropped-there (objects_inside c.self.inside) c.args.at x) (λ x. refl)
 
 pub invariant_of-self : goal.invariant_of-self

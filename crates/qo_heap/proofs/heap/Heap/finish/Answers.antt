@@ -9,7 +9,7 @@ use Rattle.qo_heap.proofs.heap.Heap.finish.Goals as goal
 pub tell_deleted-requires : goal.tell_deleted-requires
 tell_deleted-requires g c =
     rw c.into_remains-kind.ensures
-    (path-place (objects_inside c.self.inside) c.self.invariant.0 c.self.invariant.1 c.args.o.birth c.take.result c.take.ensures.object)
+    (path-place (objects_inside c.self.inside) c.self.invariant.0.0 c.self.invariant.0.1 c.args.o.birth c.take.result c.take.ensures.object)
 
 pub invariant_of-self : goal.invariant_of-self
 invariant_of-self g c =
@@ -18,9 +18,11 @@ invariant_of-self g c =
     let same : told c.free_all-id.result c.into_remains-kind.result.path ≡ told c.take.result.device_id c.take.result.kept_path = ap₂ told
     (c.free_all-id.ensures.id ∙ ap (λ (r : Remains). r.id) c.into_remains-kind.ensures) (ap (λ (r : Remains). r.path) c.into_remains-kind.ensures) in
     let places = ap (λ (w : Waiting). w.promised) c.tell_deleted.ensures ∙ same
-    ∙ places-ended (objects_inside c.self.inside) c.self.invariant.0 c.self.invariant.1 c.args.o.birth c.take.result c.take.ensures.object in
-    rw (c.forget_all.ensures, c.take.ensures.rest) (
-      heap-ended (objects_inside c.self.inside) c.self.invariant.0 c.args.o.birth (rw (← c.self.view_is) at c.requires.free) c.note_end.new.log
-          c.free_all-id.new.claims c.tell_deleted.new.events,
-      places,
+    ∙ places-ended (objects_inside c.self.inside) c.self.invariant.0.0 c.self.invariant.0.1 c.args.o.birth c.take.result c.take.ensures.object in (
+      rw (c.forget_all.ensures.rows, c.take.ensures.rest, c.forget_all.ensures.born, c.take.ensures.born) (
+        heap-ended (objects_inside c.self.inside) c.self.invariant.0.0 c.args.o.birth (rw (← c.self.view_is) at c.requires.free)
+            (objects_inside c.self.inside).log c.free_all-id.new.claims c.tell_deleted.new.events,
+        places,
+      ),
+      (c.forget_all.ensures.ordered, c.self.invariant.1.1),
     )

@@ -1,12 +1,15 @@
-use Rattle.std.proofs.Common.{refl, map, [], false}
+use Rattle.std.proofs.Common.{refl, map, [], false, arith}
 use Rattle.qo_heap.specs.Board.{pins_in, record_of}
+use Rattle.qo_heap.specs.Order.{rows_in}
+use Rattle.qo_heap.proofs.Logs.{some_lem}
 use Rattle.qo_heap.proofs.heap.Heap.shown.Goals as goal
 
 pub returns : goal.returns
 returns c =
+    let notes = some_lem c.self.inside.total c.self.inside.notes.items c.self.invariant.1.1.1 (omega arith) in
     rw (← c.self.view_is) (
       record {
-        records = map record_of c.self.inside.table.rows;
+        records = map record_of (rows_in c.self.inside.table c.self.inside.order.items);
         born = c.self.inside.table.born;
         anonymous = 0;
         now = c.self.inside.time;
@@ -15,9 +18,9 @@ returns c =
         pending = [];
         notices = [];
         rings = [];
-        pins = pins_in c.self.inside.table.rows;
-        notes = c.facts.ensures.0;
+        pins = pins_in (rows_in c.self.inside.table c.self.inside.order.items);
+        notes = notes.0;
         events = c.self.inside.events.list;
       },
-      record { records = refl; born = refl; pins = refl; notes = c.facts.ensures.1; events = refl; now = refl },
+      record { records = refl; born = refl; pins = refl; notes = notes.1; events = refl; now = refl },
     )

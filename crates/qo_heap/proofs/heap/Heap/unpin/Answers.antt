@@ -1,12 +1,12 @@
 use Rattle.std.proofs.Common.{refl}
 use Rattle.qo_object.specs.Content.{without_pin}
-use Rattle.qo_heap.proofs.HeapLemmas.{Edited, edited-heap}
-use Rattle.qo_heap.proofs.InsideObjects.{objects_inside}
+use Rattle.qo_heap.proofs.InsideObjects.{EditedInside, edited-inside}
 use Rattle.qo_heap.proofs.heap.Heap.unpin.Goals as goal
 
-edited : (g : _) (c : goal.After-self-1 g) → Edited (objects_inside c.self.inside) c.args.o.birth without_pin c.unpin.new.self
+edited : (g : _) (c : goal.After-self-1 g) → EditedInside c.self.inside c.args.o without_pin c.unpin.new.self
 edited g c =
-    edited-heap _ c.self.invariant c.args.o.birth without_pin c.change.result.now c.unpin.new.self c.change.ensures.object c.unpin.ensures (λ x all. all)
+    edited-inside c.self.inside c.self.invariant c.args.o (rw (← c.self.view_is) at c.requires.live)
+    without_pin c.change.result.now c.unpin.new.self c.change.ensures.object c.unpin.ensures (λ x all. all)
     (λ x. refl)
 
 pub invariant_of-self : goal.invariant_of-self

@@ -1,6 +1,6 @@
 -- Its slots are those of a new object.
 use Rattle.std.proofs.Common.{List, ap, ◌∙◌}
-use Rattle.qo_table.specs.Rows.{IsLive}
+use Rattle.qo_heap.specs.Rows.{IsLive}
 use Rattle.qo_object.specs.Content.{furnished}
 use Rattle.qo_object.specs.Slots.{Named}
 use Rattle.qo_heap.specs.Objects.{with_edit}

@@ -1,5 +1,5 @@
 -- Its slots are those of a new object.
-use Rattle.qo_table.specs.Rows.{IsLive}
+use Rattle.qo_heap.specs.Rows.{IsLive}
 use Rattle.qo_properties.proofs.SlotsLemmas.{none-live, slots-differ, slots-few}
 use Rattle.qo_properties.proofs.adding.objects.make_child.Goals as goal
 

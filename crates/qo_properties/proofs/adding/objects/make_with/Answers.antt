@@ -1,7 +1,7 @@
 -- The object that was made is a child and gets its slots, or holds nothing and ends.
 use Rattle.std.proofs.Common.{refl, inr, ◌∙◌, filter_map}
 use Rattle.qo_kinds.proofs.BodyLemmas.{fresh-bare}
-use Rattle.qo_table.specs.Rows.{IsLive}
+use Rattle.qo_heap.specs.Rows.{IsLive}
 use Rattle.qo_object.specs.Content.{fresh, with_slot}
 use Rattle.qo_object.specs.Slots.{Named, target_of}
 use Rattle.qo_object.specs.declared.slots.Slot.TheVariants.{Child}

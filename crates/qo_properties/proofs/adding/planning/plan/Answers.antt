@@ -4,7 +4,7 @@ use Rattle.std.specs.List.{AllZip}
 use Rattle.std.specs.Str.{bytes_eq}
 use Rattle.std.proofs.lemmas.List.{take_more}
 use Rattle.qo_values.specs.PropertyLists.{NamesRise, names_of}
-use Rattle.qo_table.specs.Rows.{IsLive}
+use Rattle.qo_heap.specs.Rows.{IsLive}
 use Rattle.qo_model.specs.Objects.{Given, refusal_by, refusal_of}
 use Rattle.qo_model.specs.Properties.{property_named}
 use Rattle.qo_properties.specs.declared.adding.filling.Fill.{Fill}

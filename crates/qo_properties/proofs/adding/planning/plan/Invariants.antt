@@ -3,7 +3,7 @@ use Rattle.std.proofs.Common.{◌≡◌, drop, take, IfSome}
 use Rattle.std.specs.List.{AllByRecursion, AllZip}
 use Rattle.qo_model.specs.Board.{Board}
 use Rattle.qo_model.specs.Objects.{refusal_of}
-use Rattle.qo_table.specs.Rows.{IsLive}
+use Rattle.qo_heap.specs.Rows.{IsLive}
 use Rattle.qo_heap.specs.Board.{Shows}
 use Rattle.qo_properties.specs.NewSlots.{new_slots}
 use Rattle.qo_properties.specs.Filling.{Fits, IsGiven, target_in}

@@ -1,9 +1,8 @@
 -- What the body reads is what the board has.
 use Rattle.std.proofs.Common.{ap, sym, subst, ◌∙◌, ℕ, Bool}
-use Rattle.qo_values.specs.Bodies.{body_read}
-use Rattle.qo_values.specs.Registers.{Registers}
+use Rattle.qo_values.specs.Registers.{body_read, Registers}
 use Rattle.qo_kinds.specs.Bodies.{IsTimely}
-use Rattle.qo_table.specs.Rows.{IsLive}
+use Rattle.qo_heap.specs.Rows.{IsLive}
 use Rattle.qo_model.specs.Clocks.{device_period}
 use Rattle.qo_realize.specs.Registers.{registers_at}
 use Rattle.qo_realize.specs.Parts.{Parts, parts_of}

@@ -1,13 +1,12 @@
 -- The first type of a name is that of the first row of the name.
-use Rattle.std.proofs.Common.{ap, ◌∙◌, List, ℕ, slice_get}
-use Rattle.qo_types.proofs.TableLemmas.{found_first, none_first}
+use Rattle.std.proofs.Common.{ap, ◌∙◌, List, find}
+use Rattle.std.specs.Str.{bytes_eq}
+use Rattle.qo_values.specs.Kinds.{type_name}
+use Rattle.qo_values.specs.declared.kinds.TypeId.{TypeId}
+use Rattle.qo_types.proofs.TableLemmas.{named_in}
 use Rattle.qo_types.proofs.table.TypeTable.find.Goals as goal
 
-pub returns-in-Some : goal.returns-in-Some
-returns-in-Some c =
-    c.first_named.ensures
-    ∙ found_first c.args.name.now c.in-Some.first.now c.types_with.result.now
-    (c.in-Some.ensures.value ∙ ap (λ (l : List ℕ). slice_get l 0) c.as_bytes.ensures.value) c.types_with.ensures
-
-pub returns-in-None : goal.returns-in-None
-returns-in-None c = none_first c.args.name.now (c.in-None.ensures.value ∙ ap (λ (l : List ℕ). slice_get l 0) c.as_bytes.ensures.value)
+pub returns : goal.returns
+returns c =
+    c.first_named.ensures ∙ ap (λ (ts : List TypeId). find (λ (t : TypeId). bytes_eq (type_name t) c.args.name.now) ts) c.all_types.ensures
+    ∙ named_in c.args.name.now

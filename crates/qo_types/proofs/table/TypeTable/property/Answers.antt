@@ -6,4 +6,4 @@ use Rattle.qo_model.specs.declared.properties.Property.{Property}
 use Rattle.qo_types.proofs.table.TypeTable.property.Goals as goal
 
 pub returns : goal.returns
-returns c = c.first_named.ensures ∙ ap (λ (rows : List Property). find (λ (p : Property). bytes_eq (property_name p.name) c.args.name.now) rows) c.slots.ensures
+returns c = c.first_named.ensures ∙ ap (λ (rows : List Property). find (λ (p : Property). bytes_eq (property_name p.name) c.args.name.now) rows) c.props.ensures

@@ -1,2 +1,0 @@
-pub mod PlacingLemmas
-mod PlacingRows

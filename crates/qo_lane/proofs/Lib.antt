@@ -1,4 +1,0 @@
-pub mod HearingLemmas
-pub mod LineLemmas
-pub mod MemoryLemmas
-pub mod RefusedLineLemmas

@@ -1,9 +1,0 @@
--- The run ends.
-use Rattle.std.proofs.Common.{ap}
-use Rattle.qo_lane.specs.Hearing.{acted, shut_down}
-use Rattle.qo_lane.proofs.HearingLemmas.{came-as}
-use Rattle.qo_lane.proofs.hearing.act.Goals as goal
-
-pub returns-in-Shutdown-clause-came : goal.returns-in-Shutdown-clause-came
-returns-in-Shutdown-clause-came g c = λ b s.
-    came-as (acted b c.args.act.now) (shut_down b) c.shut_down.result c.args.board.now (ap (acted b) c.in-Shutdown.is) (s, c.shut_down.ensures b)

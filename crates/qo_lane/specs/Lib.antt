@@ -1,4 +1,0 @@
-pub mod Hearing
-pub mod Lines
-pub mod Memory
-pub mod Refusals

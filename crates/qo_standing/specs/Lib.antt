@@ -1,4 +1,0 @@
-pub mod OwnSlots
-pub mod Placement
-pub mod DeviceClaims
-pub mod FreeSpots
