@@ -1,6 +1,6 @@
 -- `object-add` keeps places, taken or refused.
-use Rattle.std.proofs.Common.{◌≡◌, refl, ap, ap₂, sym, subst, ◌∙◌, ℕ, ◌+◌, ◌<◌, Bool, true, false, ◌==◌, List, [], ◌∷◌, ◌++◌, map, find, filter_map, Option, Some, None, is_some, option_map, option_and_then, arith, codes}
-use Rattle.qo_model.proofs.Common.{AllByRecursion, cons_option, list_any, option_map_or, option_or, bytes_eq, ANONYMOUS_BIRTH, MACHINE_BIRTH, MEMORY_BUS_BIRTH, OBJECTS_BIRTH, PERIPHERAL_BIRTH, ROOT_BUS_BIRTH, fresh_registers, Code, TypeId, Object, Container, Machine, Device, SlotDevice, SlotUart, SlotTimer, SlotBridge, MemDimm, Bus, SlotBus, MemBus, Clock, MemoryBackend, MemoryBackendRam, Tag, Val, Board, Record, Slot, plain, child, strong, weak, alias, record_of, is_live, slots_at, with_added, bus_of, is_realized, is_true, bus_slot_of, plain_in, strong_in, number_in, fresh_slots, Given, given_to, slot_given, added_as, given_slots, object_add, with_attempt, with_object, is_of, edited, is_a, types}
+use Rattle.std.proofs.Common.{◌≡◌, refl, ap, ap₂, sym, subst, ◌∙◌, ℕ, ◌+◌, ◌<◌, Bool, true, false, ◌==◌, List, [], ◌∷◌, ◌++◌, map, find, filter_map, Option, Some, None, is_some, option_map, option_and_then, arith, codes, rules}
+use Rattle.qo_model.proofs.Common.{AllByRecursion, cons_option, list_any, option_map_or, option_or, bytes_eq, ANONYMOUS_BIRTH, MACHINE_BIRTH, MEMORY_BUS_BIRTH, OBJECTS_BIRTH, PERIPHERAL_BIRTH, ROOT_BUS_BIRTH, fresh_registers, Code, TypeId, Val, Board, Record, Slot, plain, child, strong, weak, alias, record_of, is_live, slots_at, with_added, bus_of, is_realized, is_true, bus_slot_of, plain_in, strong_in, number_in, fresh_slots, Given, given_to, slot_given, added_as, given_slots, object_add, with_attempt, with_object, is_of, edited, is_a, types}
 use Rattle.std.proofs.lemmas.List.Folds.{find-append}
 use Rattle.std.proofs.lemmas.Bool.{eqb-true, eq-eqb}
 use Rattle.qo_values.specs.declared.properties.Val.TheVariants as val
@@ -9,7 +9,8 @@ use Rattle.qo_model.proofs.StepLemmas.{found_at, found-edited, found-birth}
 use Rattle.qo_sound.proofs.AddLemmas.{attempt-rest, creatable}
 use Rattle.qo_sound.proofs.FirmBoardLemmas.{Firm}
 use Rattle.qo_values.proofs.ListLemmas.{all-imply}
-use Rattle.qo_sound.proofs.TestLemmas.{decide, clash-back}
+use Rattle.qo_values.proofs.EachLemmas.{each}
+use Rattle.qo_sound.proofs.TestLemmas.{decide}
 use Rattle.qo_sound.proofs.ViewLemmas.{AtRest}
 use Rattle.qo_sound_devices.specs.SoundPlaces.{child_entries, child_entry, id_of, IsAnonymous, IsAtHome, IsHome, IsKid, IsPeripheral, kid_entries, kid_entry, listed, owns_it, PlacesBut, stands}
 use Rattle.qo_sound_devices.proofs.LikenessLemmas.{alike-record, bodiless, realized_in}
@@ -191,26 +192,30 @@ record IsUsers (b : Board) (t : TypeId) (props : List Given) : Type 0 where
   no_children : filter_map child_entry (given_slots b t props) ≡ []
   unrealized : realized_in (given_slots b t props) ≡ false
 
-users : (b : Board) (t : TypeId) (props : List Given) → is_a t (codes "user-creatable") ≡ true → IsUsers b t props
+-- what its row says of each type that users may create
+creatable-no_bus : (t : TypeId) → is_a t (codes "user-creatable") ≡ true → is_a t (codes "bus") ≡ false
 unfolding types
-users b Object props = clash-back
-users b Container props = clash-back
-users b Machine props = clash-back
-users b Device props = clash-back
-users b SlotDevice props = clash-back
-users b SlotUart props = clash-back
-users b SlotTimer props = clash-back
-users b SlotBridge props = clash-back
-users b MemDimm props = clash-back
-users b Bus props = clash-back
-users b SlotBus props = clash-back
-users b MemBus props = clash-back
-users b Clock props = clash-back
-users b MemoryBackend props =
-    λ e. record { no_bus = refl; no_device = refl; no_children = children-given b props (fresh_slots MemoryBackend); unrealized = refl }
-users b MemoryBackendRam props =
-    λ e. record { no_bus = refl; no_device = refl; no_children = children-given b props (fresh_slots MemoryBackendRam); unrealized = refl }
-users b Tag props = λ e. record { no_bus = refl; no_device = refl; no_children = children-given b props (fresh_slots Tag); unrealized = refl }
+creatable-no_bus = each (λ (t : TypeId). is_a t (codes "user-creatable") ≡ true → is_a t (codes "bus") ≡ false) (search rules)
+
+creatable-no_device : (t : TypeId) → is_a t (codes "user-creatable") ≡ true → is_a t (codes "device") ≡ false
+unfolding types
+creatable-no_device = each (λ (t : TypeId). is_a t (codes "user-creatable") ≡ true → is_a t (codes "device") ≡ false) (search rules)
+
+creatable-childless : (t : TypeId) → is_a t (codes "user-creatable") ≡ true → filter_map child_entry (fresh_slots t) ≡ []
+unfolding types
+creatable-childless = each (λ (t : TypeId). is_a t (codes "user-creatable") ≡ true → filter_map child_entry (fresh_slots t) ≡ []) (search rules)
+
+creatable-unrealized : (b : Board) (props : List Given) (t : TypeId) → is_a t (codes "user-creatable") ≡ true → realized_in (given_slots b t props) ≡ false
+unfolding types
+creatable-unrealized b props =
+    each (λ (t : TypeId). is_a t (codes "user-creatable") ≡ true → realized_in (given_slots b t props) ≡ false) (search rules)
+
+users : (b : Board) (t : TypeId) (props : List Given) → is_a t (codes "user-creatable") ≡ true → IsUsers b t props
+users b t props may = record {
+    no_bus = creatable-no_bus t may;
+    no_device = creatable-no_device t may;
+    no_children = children-given b props (fresh_slots t) ∙ creatable-childless t may;
+    unrealized = creatable-unrealized b props t may }
 
 -- a slot more after the others
 pub entry-added : (f : List ℕ × Slot → Option (List ℕ × ℕ)) (s : List ℕ × Slot) (e : List ℕ × ℕ) → f s ≡ Some e → (slots : List (List ℕ × Slot))
