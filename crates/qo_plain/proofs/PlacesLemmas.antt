@@ -21,7 +21,7 @@ use Rattle.qo_sound_devices.proofs.DropLemmas.{names-at}
 use Rattle.qo_sound_devices.proofs.LocationLemmas.{Entry, entry-of, place-listed, place-named}
 use Rattle.qo_sound_devices.proofs.PathLemmas.{anonymous-steps, peripheral-steps}
 use Rattle.qo_sound_devices.proofs.PlacesLemmas.{all-listed, or-cases}
-use Rattle.qo_sound_owners.specs.SoundOwners.{containers, SoundOwners}
+use Rattle.qo_sound_shapes.specs.SoundOwners.{containers, SoundOwners}
 use Rattle.qo_sound_phases.proofs.ResetTreeLemmas.{no-bus}
 use Rattle.qo_sound_shapes.specs.SoundShape.{HasChildType, SoundShape, unvalued}
 use Rattle.qo_sound_shapes.proofs.BoardLemmas.{opening-kind, shape-live}

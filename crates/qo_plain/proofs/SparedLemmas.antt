@@ -11,7 +11,7 @@ use Rattle.qo_sound.proofs.FirmBoardLemmas.{Firm}
 use Rattle.qo_sound.proofs.TestLemmas.{clash}
 use Rattle.qo_sound_devices.specs.SoundPlaces.{child_entries, child_entry, IsHome, kid_entries, kid_entry, listed, names_it, owns_it, PlacesBut, stands}
 use Rattle.qo_sound_devices.proofs.DepthLemmas.{is-bus_of, IsBusOf, kid-of, kids-listed}
-use Rattle.qo_sound_devices.proofs.DetachmentLemmas.{listed-kid, owned-bus}
+use Rattle.qo_sound_devices.proofs.DetachmentLemmas.{listed-kid, owned-bus, none-owned}
 use Rattle.qo_sound_devices.proofs.DropLemmas.{edited-slots}
 use Rattle.qo_sound_devices.proofs.LikenessLemmas.{after-alike}
 use Rattle.qo_sound_devices.proofs.PlacesLemmas.{child-live, more, nothing, of-alike, of-live, or-cases, same, Within, within-any}
@@ -20,7 +20,6 @@ use Rattle.qo_sound_devices.proofs.UnrealizingLemmas.{down, here, Under}
 use Rattle.qo_sound_phases.proofs.ForestLemmas.{above, before, further, IsForest, itself, Reach, reach-front, reach-rank}
 use Rattle.qo_sound_phases.proofs.ListLemmas.{apart-among}
 use Rattle.qo_sound_phases.proofs.ResetTreeLemmas.{forest, Placed, stands-no_bus}
-use Rattle.qo_plain.proofs.DetachingLemmas.{none-owned}
 use Rattle.qo_plain.proofs.UnrealizeLemmas.{goes-bus, goes-kid}
 
 -- lists within others

@@ -24,7 +24,7 @@ use Rattle.qo_sound_phases.proofs.ResetTreeLemmas.{Placed, placed}
 use Rattle.qo_sound_phases.proofs.UnparentingLemmas.{gone-apart, Keeps, Walked, walked-none, walked-unpin, walked-where}
 use Rattle.qo_plain.specs.Taken.{IsByTurns, taken_turn, TakenLaw}
 use Rattle.qo_plain.proofs.DetachedLemmas.{lost-none}
-use Rattle.qo_plain.proofs.DetachingLemmas.{closed, dark, Does, does-apart, loses, LostBus, middle, pinned-bus, pinned-stands}
+use Rattle.qo_plain.proofs.DetachingLemmas.{closed, dark, Does, does-apart, loses, Loses, middle, pinned-bus, pinned-stands}
 use Rattle.qo_plain.proofs.ListLemmas.{each-same}
 use Rattle.qo_plain.proofs.SparedLemmas.{apart-below, bus-was, buses-kept, buses-less, buses-once, buses-short, distinct-first, distinct-rest, Fresh, fresh-below, fresh-kept, fresh-pin, kid-owner, kid-was, kids-alike, kids-less, kids-once, kids-short, Later, later-in, later-stands, later-steps, not-back, Spares, spares-fewer, spares-none, spares-then, under-reach}
 use Rattle.qo_plain.proofs.UnrealizeLemmas.{goes-bus, tree, under}
@@ -249,8 +249,8 @@ module _ (a : Board) (k : Placed a) (depth : ℕ → ℕ) (out : ℕ → Bool) (
             empties m (omega (arith, deep, lower)) isa (kids_of a m) (length (slots_at b m)) b h shut later dark kids short
             (λ y i. fresh-below a k m y b (rw (below, isa) i) (fresh m own))
 
-        lost : LostBus depth out ps d q b x
-        lost = (loses depth out n f takes outs ps up d q m b h shut e on dim deep has).1
+        lost : Loses depth out ps d q m b (drained f (length (slots_at b m)) m b) x
+        lost = loses depth out n f takes outs ps up d q m b h shut e on dim deep has
 
         firm : Firm x
         firm = lost.went.mid.sits.near.firm

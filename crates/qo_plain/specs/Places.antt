@@ -9,7 +9,7 @@ use Rattle.qo_model.specs.Paths.{attached, canonical, is_of, parent_of, place_of
 use Rattle.qo_sound.specs.TreeKept.{SoundTree}
 use Rattle.qo_sound_devices.specs.DeviceFacts.{IsOnBus}
 use Rattle.qo_sound_devices.specs.SoundPlaces.{id_of, path_of, SoundPlaces}
-use Rattle.qo_sound_owners.specs.SoundOwners.{SoundOwners}
+use Rattle.qo_sound_shapes.specs.SoundOwners.{SoundOwners}
 use Rattle.qo_sound_shapes.specs.SoundShape.{SoundShape}
 
 -- where a device stands: at `/machine/peripheral` under its id, or, if it has none, at `/machine/peripheral-anon` under a number given before

@@ -34,7 +34,7 @@ use Rattle.qo_sound_clocks.specs.ClockRuns.{SoundRun}
 use Rattle.qo_sound_clocks.specs.RegisterWrites.{registers_set}
 use Rattle.qo_sound_devices.specs.SoundLists.{IsOn}
 use Rattle.qo_sound_devices.specs.SoundPlaces.{stands}
-use Rattle.qo_sound_owners.proofs.LawLemmas.{owners_kept_lem}
+use Rattle.qo_sound_shapes.proofs.OwnersLawLemmas.{owners_kept_lem}
 use Rattle.qo_sound_shapes.specs.SoundShape.{is_like}
 use Rattle.qo_sound_shapes.proofs.LawLemmas.{shapes_kept_lem}
 use Rattle.qo_realize.specs.Chardevs.{with_rings}

@@ -6,7 +6,7 @@ use Rattle.qo_sound_bounds.specs.SoundSegments.{SoundSegments}
 use Rattle.qo_sound_bounds.specs.SoundSources.{SoundSources}
 use Rattle.qo_sound_claims.specs.SoundBackends.{SoundBackends}
 use Rattle.qo_sound_clocks.specs.ClockRuns.{SoundRun}
-use Rattle.qo_sound_owners.specs.SoundOwners.{SoundOwners}
+use Rattle.qo_sound_shapes.specs.SoundOwners.{SoundOwners}
 use Rattle.qo_sound_shapes.specs.SoundShape.{SoundShape}
 
 -- all groups of facts but those on the events that wait, and on the notes of phases

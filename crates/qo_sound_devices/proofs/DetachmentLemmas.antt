@@ -32,7 +32,7 @@ within-short (nothing ys) = omega arith
 within-short (same x w) = omega (arith, within-short w)
 within-short (more y w) = omega (arith, within-short w)
 
-within-shorter : {A : Type 0} (p : A → Bool) {xs ys : List A} → Within xs ys → list_any p xs ≡ false → list_any p ys ≡ true → suc (length xs) ≤ length ys
+pub within-shorter : {A : Type 0} (p : A → Bool) {xs ys : List A} → Within xs ys → list_any p xs ≡ false → list_any p ys ≡ true → suc (length xs) ≤ length ys
 within-shorter p (nothing []) e k = absurd (let clash : false ≡ true = k in cc)
 within-shorter p (nothing (y ∷ ys)) e k = omega arith
 within-shorter p (same {xs} {ys} x w) e k = go (p x) refl (within-shorter p w)
@@ -42,7 +42,7 @@ within-shorter p (same {xs} {ys} x w) e k = go (p x) refl (within-shorter p w)
     go false q rest = omega (arith, rest (rw q at e) (rw q at k))
 within-shorter p (more {xs} {ys} y w) e k = omega (arith, within-short w)
 
-entries-short : (f : List ℕ × Slot → Option (List ℕ × ℕ)) (slots : List (List ℕ × Slot)) → length (filter_map f slots) ≤ length slots
+pub entries-short : (f : List ℕ × Slot → Option (List ℕ × ℕ)) (slots : List (List ℕ × Slot)) → length (filter_map f slots) ≤ length slots
 entries-short f [] = omega arith
 entries-short f (s ∷ slots) = go (f s) (entries-short f slots)
   where
@@ -50,13 +50,13 @@ entries-short f (s ∷ slots) = go (f s) (entries-short f slots)
     go None rest = omega (arith, rest)
     go (Some y) rest = omega (arith, rest)
 
-no-length : {A : Type 0} (xs : List A) → length xs ≤ 0 → xs ≡ []
+pub no-length : {A : Type 0} (xs : List A) → length xs ≤ 0 → xs ≡ []
 no-length [] e = refl
 no-length (x ∷ xs) e = absurd (omega (arith, e))
 
 -- first kids, and first buses
 
-first-kid : (k : ℕ) (slots : List (List ℕ × Slot)) → first_of (filter_map (λ (s : List ℕ × Slot). strong_in s.1) slots) ≡ Some k
+pub first-kid : (k : ℕ) (slots : List (List ℕ × Slot)) → first_of (filter_map (λ (s : List ℕ × Slot). strong_in s.1) slots) ≡ Some k
     → listed k (filter_map kid_entry slots) ≡ true
 first-kid k [] e = cc
 first-kid k ((name, plain v) ∷ slots) e = first-kid k slots e
@@ -66,7 +66,7 @@ first-kid k ((name, strong t (Some m)) ∷ slots) e = let own : (m == k) ≡ tru
 first-kid k ((name, weak t target) ∷ slots) e = first-kid k slots e
 first-kid k ((name, alias m property) ∷ slots) e = first-kid k slots e
 
-no-kid : (slots : List (List ℕ × Slot)) → first_of (filter_map (λ (s : List ℕ × Slot). strong_in s.1) slots) ≡ None → filter_map kid_entry slots ≡ []
+pub no-kid : (slots : List (List ℕ × Slot)) → first_of (filter_map (λ (s : List ℕ × Slot). strong_in s.1) slots) ≡ None → filter_map kid_entry slots ≡ []
 no-kid [] e = refl
 no-kid ((name, plain v) ∷ slots) e = no-kid slots e
 no-kid ((name, child m) ∷ slots) e = no-kid slots e
@@ -126,7 +126,7 @@ child-shorter m (suc i) (x ∷ slots) s e is = go (child_entry x) (child-shorter
     go None rest = rest
     go (Some y) rest = omega (arith, rest)
 
-none-owned : (m k : ℕ) (slots : List (List ℕ × Slot)) → index_from (is_bus_child m) k slots ≡ None → list_any (owns_it m) (filter_map child_entry slots) ≡ false
+pub none-owned : (m k : ℕ) (slots : List (List ℕ × Slot)) → index_from (is_bus_child m) k slots ≡ None → list_any (owns_it m) (filter_map child_entry slots) ≡ false
 none-owned m k [] e = refl
 none-owned m k ((name, plain v) ∷ slots) e = none-owned m (suc k) slots e
 none-owned m k ((name, strong t target) ∷ slots) e = none-owned m (suc k) slots e
@@ -252,11 +252,21 @@ listed-owner b k m e = go (record_of b m) refl
     go None q = absurd (let clash : false ≡ true = rw q at e in cc)
     go (Some r) q = ap is_some q
 
-record LostBus (depth : ℕ → ℕ) (out : ℕ → Bool) (ps : List ℕ) (d m : ℕ) (b c : Board) : Type 0 where
-  went : Went depth out None ps b c
-  above : Above depth (depth m) b c
-  fewer : suc (length (child_entries c d)) ≤ length (child_entries b d)
-  lit : Lit b c
+pub record LostBus (depth : ℕ → ℕ) (out : ℕ → Bool) (ps : List ℕ) (d m : ℕ) (b c : Board) : Type 0 where
+  pub went : Went depth out None ps b c
+  pub above : Above depth (depth m) b c
+  pub fewer : suc (length (child_entries c d)) ≤ length (child_entries b d)
+  pub lit : Lit b c
+
+-- the first kid of a bus, and what is so once it is taken out
+pub record KidTaken (depth : ℕ → ℕ) (out : ℕ → Bool) (ps : List ℕ) (m k : ℕ) (b c : Board) : Type 0 where
+  pub on : (stands b k ≡ true) × (bus_of b k ≡ Some m)
+  pub dim : is_realized b k ≡ false
+  pub one : TakenOut depth out ps k m b c
+  pub closed : IsClosed c
+  pub bus : is_live c m ≡ true → is_of c (codes "bus") m ≡ true
+  pub dims : (j : ℕ) → listed j (kid_entries c m) ≡ true → is_realized c j ≡ false
+  pub fewer : suc (length (kid_entries c m)) ≤ length (kid_entries b m)
 
 record LostAll (depth : ℕ → ℕ) (out : ℕ → Bool) (ps : List ℕ) (d q : ℕ) (b c : Board) : Type 0 where
   went : Went depth out None ps b c
@@ -269,6 +279,29 @@ and-left true u e = refl
 and-left false u e = e
 
 module _ (depth : ℕ → ℕ) (out : ℕ → Bool) (n : ℕ) (f : ℕ → Board → Board) (takes : Takes depth out n f) (ps : List ℕ) (up : IsUp ps) where
+  pub kid-taken : (m k : ℕ) → 9 ≤ n + depth m → (b : Board) → Mid depth out None ps b → IsClosed b
+      → (is_live b m ≡ true → is_of b (codes "bus") m ≡ true) → ((j : ℕ) → listed j (kid_entries b m) ≡ true → is_realized b j ≡ false)
+      → first_of (kids_of b m) ≡ Some k → KidTaken depth out ps m k b (f k b)
+  kid-taken m k deep b h closed bus dim e =
+      let has : listed k (kid_entries b m) ≡ true = first-kid k (slots_at b m) e in
+      let is : is_of b (codes "bus") m ≡ true = bus (listed-owner b k m has) in
+      let kid : (stands b k ≡ true) × (bus_of b k ≡ Some m) = kid-of depth None out b h.places m k is has in
+      let one : TakenOut depth out ps k m b (f k b) = takes ps up k m b h closed kid.0 kid.1 (dim k has) deep in
+      let s : Steps b (f k b) = one.went.steps in
+      let isc : is_live (f k b) m ≡ true → is_of (f k b) (codes "bus") m ≡ true = λ live. of-alike b (f k b) m (codes "bus") (s.body m live) ∙ is in
+      let away : listed k (kid_entries (f k b) m) ≡ false =
+      false_from_ne_true (listed k (kid_entries (f k b) m))
+      (λ l. let clash : true ≡ false = sym l ∙ one.unlisted m (isc (listed-owner (f k b) k m l)) in absurd cc) in
+      record {
+        on = kid;
+        dim = dim k has;
+        one = one;
+        closed = closed-steps b (f k b) one.went.mid.sits.near.firm s closed;
+        bus = isc;
+        dims = λ j l. unrealized-steps b (f k b) j s (dim j (within-any (names_it j) (s.kids m) l));
+        fewer = within-shorter (λ (x : List ℕ × ℕ). x.1 == k) (s.kids m) away has;
+      }
+
   drain : (m : ℕ) → 9 ≤ n + depth m → (times : ℕ) (b : Board) → Mid depth out None ps b → IsClosed b
       → (is_live b m ≡ true → is_of b (codes "bus") m ≡ true) → ((k : ℕ) → listed k (kid_entries b m) ≡ true → is_realized b k ≡ false)
       → length (kid_entries b m) ≤ times → Drained depth out ps m b (drained f times m b)
@@ -289,28 +322,18 @@ module _ (depth : ℕ → ℕ) (out : ℕ → Bool) (n : ℕ) (f : ℕ → Board
           rw (drained, e)
           (record { went = went-none depth out None ps b h; above = above-none depth (depth m) b; empty = no-kid (slots_at b m) e; lit = lit-none b })
       go (Some k) e rest =
-          let has : listed k (kid_entries b m) ≡ true = first-kid k (slots_at b m) e in
-          let is : is_of b (codes "bus") m ≡ true = bus (listed-owner b k m has) in
-          let kid : (stands b k ≡ true) × (bus_of b k ≡ Some m) = kid-of depth None out b h.places m k is has in
-          let one : TakenOut depth out ps k m b (f k b) = takes ps up k m b h closed kid.0 kid.1 (dim k has) deep in
-          let s : Steps b (f k b) = one.went.steps in
-          let isc : is_live (f k b) m ≡ true → is_of (f k b) (codes "bus") m ≡ true = λ live. of-alike b (f k b) m (codes "bus") (s.body m live) ∙ is in
-          let away : listed k (kid_entries (f k b) m) ≡ false =
-          false_from_ne_true (listed k (kid_entries (f k b) m))
-          (λ l. let clash : true ≡ false = sym l ∙ one.unlisted m (isc (listed-owner (f k b) k m l)) in absurd cc) in
-          let fewer : suc (length (kid_entries (f k b) m)) ≤ length (kid_entries b m) = within-shorter (λ (x : List ℕ × ℕ). x.1 == k) (s.kids m) away has in
+          let t : KidTaken depth out ps m k b (f k b) = kid-taken m k deep b h closed bus dim e in
+          let first : Went depth out None ps b (f k b) = t.one.went in
           let last : Drained depth out ps m (f k b) (drained f times m (f k b)) =
-          rest (f k b) one.went.mid (closed-steps b (f k b) one.went.mid.sits.near.firm s closed) isc
-          (λ j l. unrealized-steps b (f k b) j s (dim j (within-any (names_it j) (s.kids m) l)))
-          (omega (arith, fewer, few)) in
+          rest (f k b) first.mid t.closed t.bus t.dims (omega (arith, t.fewer, few)) in
           rw (drained, e) (record {
-            went = record { mid = last.went.mid; steps = steps-then b (f k b) (drained f times m (f k b)) s last.went.steps };
-            above = above-then depth (depth m) b (f k b) (drained f times m (f k b)) one.above last.above;
+            went = record { mid = last.went.mid; steps = steps-then b (f k b) (drained f times m (f k b)) first.steps last.went.steps };
+            above = above-then depth (depth m) b (f k b) (drained f times m (f k b)) t.one.above last.above;
             empty = last.empty;
-            lit = lit-then b (f k b) (drained f times m (f k b)) one.went.mid.sits.near.firm s one.lit last.lit;
+            lit = lit-then b (f k b) (drained f times m (f k b)) first.mid.sits.near.firm first.steps t.one.lit last.lit;
           })
 
-  lost : (d q m : ℕ) (b : Board) → Mid depth out None ps b → IsClosed b → stands b d ≡ true → bus_of b d ≡ Some q → is_realized b d ≡ false
+  pub lost : (d q m : ℕ) (b : Board) → Mid depth out None ps b → IsClosed b → stands b d ≡ true → bus_of b d ≡ Some q → is_realized b d ≡ false
       → 9 ≤ n + suc (depth q) → among (buses_of b d) m ≡ true → LostBus depth out ps d m b (lost_bus f d m b)
   unfolding drop_slot
   lost d q m b h closed e on dim deep mine = go (index_from (is_bus_child m) 0 (slots_at c d)) refl

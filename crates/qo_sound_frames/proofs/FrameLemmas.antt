@@ -20,7 +20,7 @@ use Rattle.qo_sound_bounds.proofs.HoldsLemmas.{shape-holds}
 use Rattle.qo_sound_claims.specs.SoundClaims.{SoundClaims}
 use Rattle.qo_sound_claims.specs.SoundRings.{AreGoodRings, ring_ids}
 use Rattle.qo_sound_claims.proofs.DependenceLemmas.{moved-claims}
-use Rattle.qo_sound_owners.specs.SoundOwners.{SoundOwners}
+use Rattle.qo_sound_shapes.specs.SoundOwners.{SoundOwners}
 use Rattle.qo_sound_shapes.proofs.QuietChangeLemmas.{same-shape}
 use Rattle.qo_sound_frames.specs.Frames.{bodies, forms, FramesLaw, of_bounds, of_claims, of_places, of_times, of_tree, without_registers}
 use Rattle.qo_sound_frames.proofs.FormLemmas.{alike-form, kind-form, parent-form, shape-form, slots-form}

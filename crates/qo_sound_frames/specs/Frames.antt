@@ -17,7 +17,7 @@ use Rattle.qo_sound_bounds.specs.SoundSegments.{SoundSegments}
 use Rattle.qo_sound_bounds.specs.SoundSources.{SoundSources}
 use Rattle.qo_sound_claims.specs.SoundClaims.{SoundClaims}
 use Rattle.qo_sound_claims.specs.SoundRings.{SoundRings, ring_ids}
-use Rattle.qo_sound_owners.specs.SoundOwners.{SoundOwners}
+use Rattle.qo_sound_shapes.specs.SoundOwners.{SoundOwners}
 use Rattle.qo_sound_shapes.specs.SoundShape.{SoundShape}
 
 -- an object without its registers

@@ -15,3 +15,9 @@ pub mod RowLemmas
 pub mod FactLemmas
 pub mod ChildLemmas
 pub mod CompletenessLemmas
+pub mod OwnerTypeLemmas
+pub mod UserObjectLemmas
+pub mod OwnerFactLemmas
+pub mod OwnersLawLemmas
+pub mod OwnersLemmas
+pub mod OwnersResetLemmas

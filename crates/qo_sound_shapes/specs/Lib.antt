@@ -1,3 +1,5 @@
 pub mod ShapesKept
 pub mod ShapeFacts
 pub mod SoundShape
+pub mod OwnersKept
+pub mod SoundOwners

@@ -18,8 +18,8 @@ use Rattle.qo_sound_devices.proofs.PlugLemmas.{Accepted, after-plug}
 use Rattle.qo_sound_phases.proofs.LawLemmas.{is_machine}
 use Rattle.qo_sound_shapes.proofs.BoardLemmas.{AllOf, all-imply_of}
 use Rattle.qo_sound_shapes.proofs.CommandLemmas.{begun-devices}
-use Rattle.qo_sound_owners.specs.SoundOwners.{containers}
-use Rattle.qo_sound_owners.proofs.FactLemmas.{fact-deleted, fact-drafted, fact-object, fact-plugged, fact-severed, fact-wrote}
+use Rattle.qo_sound_shapes.specs.SoundOwners.{containers}
+use Rattle.qo_sound_shapes.proofs.OwnerFactLemmas.{fact-deleted, fact-drafted, fact-object, fact-plugged, fact-severed, fact-wrote}
 
 -- of one object
 abbrev pub Apt : Record → Type 0

@@ -2,10 +2,10 @@
 use Rattle.std.proofs.Common.{refl}
 use Rattle.qo_model.specs.Plug.{cut_attempt, plug_attempt}
 use Rattle.qo_sound.proofs.QuietStepsLemmas.{quiet-asked, quiet-held, quiet-pulse, quiet-released}
-use Rattle.qo_sound_owners.specs.OwnersKept.{OwnersKeptLaw}
-use Rattle.qo_sound_owners.specs.SoundOwners.{SoundOwners}
-use Rattle.qo_sound_owners.proofs.OwnersLemmas.{acted-owners, changed-owners, clock_scaled-owners, clock_set-owners, detach-owners, opening-owners, plug-owners, registers-owners, same-owners}
-use Rattle.qo_sound_owners.proofs.ResetLemmas.{quiet-reset}
+use Rattle.qo_sound_shapes.specs.OwnersKept.{OwnersKeptLaw}
+use Rattle.qo_sound_shapes.specs.SoundOwners.{SoundOwners}
+use Rattle.qo_sound_shapes.proofs.OwnersLemmas.{acted-owners, changed-owners, clock_scaled-owners, clock_set-owners, detach-owners, opening-owners, plug-owners, registers-owners, same-owners}
+use Rattle.qo_sound_shapes.proofs.OwnersResetLemmas.{quiet-reset}
 
 pub owners_kept_lem : OwnersKeptLaw
 owners_kept_lem =

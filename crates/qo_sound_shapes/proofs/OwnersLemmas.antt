@@ -10,10 +10,10 @@ use Rattle.qo_sound_devices.specs.SoundDevices.{SoundDevices}
 use Rattle.qo_sound_devices.specs.SoundPlaces.{path_of, stands}
 use Rattle.qo_sound_devices.proofs.DevicesLawLemmas.{devices_kept_lem}
 use Rattle.qo_sound_shapes.proofs.BoardLemmas.{all-same, AllOf}
-use Rattle.qo_sound_owners.specs.SoundOwners.{containers, SoundOwners}
-use Rattle.qo_sound_owners.proofs.TypeLemmas.{apt-body, apt-changed, apt-opening, apt-plug, apt-slots, Apt}
-use Rattle.qo_sound_owners.proofs.UserObjectLemmas.{Creatable, creatable-acted, creatable-beside, creatable-changed, creatable-detach, creatable-opening, creatable-plug, creatable-registers, creatable-set, firm-devices}
-use Rattle.qo_sound_owners.proofs.FactLemmas.{fact-act, fact-detach, fact-registers, fact-set}
+use Rattle.qo_sound_shapes.specs.SoundOwners.{containers, SoundOwners}
+use Rattle.qo_sound_shapes.proofs.OwnerTypeLemmas.{apt-body, apt-changed, apt-opening, apt-plug, apt-slots, Apt}
+use Rattle.qo_sound_shapes.proofs.UserObjectLemmas.{Creatable, creatable-acted, creatable-beside, creatable-changed, creatable-detach, creatable-opening, creatable-plug, creatable-registers, creatable-set, firm-devices}
+use Rattle.qo_sound_shapes.proofs.OwnerFactLemmas.{fact-act, fact-detach, fact-registers, fact-set}
 
 of-record : (b : Board) (x : ℕ) (r : Record) (name : List ℕ) → record_of b x ≡ Some r → is_of b name x ≡ is_a r.kind name
 of-record b x r name e = ap (λ (o : Option Record). option_map_or (λ (t : TypeId). is_a t name) (option_map (λ (y : Record). y.kind) o) false) e

@@ -16,7 +16,7 @@ use Rattle.qo_model.specs.Unplug.{detach}
 use Rattle.qo_sound_clocks.specs.RegisterWrites.{registers_set}
 use Rattle.qo_sound_devices.specs.SoundDevices.{SoundDevices}
 use Rattle.qo_sound_devices.specs.SoundPlaces.{stands}
-use Rattle.qo_sound_owners.specs.SoundOwners.{SoundOwners}
+use Rattle.qo_sound_shapes.specs.SoundOwners.{SoundOwners}
 
 -- what keeps them so, some of it where the board is sound as far as devices go
 pub record OwnersKeptLaw : Type 0 where

@@ -1,2 +1,0 @@
-pub mod OwnersKept
-pub mod SoundOwners
