@@ -185,19 +185,15 @@ fn put_values<L: Ledger>(
     put_address(heap, device, memory, steps);
 }
 
-/// The body of a DIMM stands on the range of its memory; one without memory stays, and so does any
-/// other body.
+/// The body of a device with memory is that of a DIMM on the memory's range; any other stays.
 fn put_range(body: &mut Body, memory: Option<Memory>)
     ensures { body.new ≡ with_registers (registers_on (range_in memory) (registers_of body.old)) body.old }
 {
-    let Some(Memory { range, .. }) = memory else {
-        return;
-    };
-    if let Device::Dimm(dimm) = &mut body.device {
-        *dimm = Dimm {
+    if let Some(Memory { range, .. }) = memory {
+        body.device = Device::Dimm(Dimm {
             addr: range.at,
             size: range.size,
-        };
+        });
     }
 }
 
