@@ -212,10 +212,11 @@ creatable-unrealized b props =
 
 users : (b : Board) (t : TypeId) (props : List Given) → is_a t (codes "user-creatable") ≡ true → IsUsers b t props
 users b t props may = record {
-    no_bus = creatable-no_bus t may;
-    no_device = creatable-no_device t may;
-    no_children = children-given b props (fresh_slots t) ∙ creatable-childless t may;
-    unrealized = creatable-unrealized b props t may }
+  no_bus = creatable-no_bus t may;
+  no_device = creatable-no_device t may;
+  no_children = children-given b props (fresh_slots t) ∙ creatable-childless t may;
+  unrealized = creatable-unrealized b props t may;
+}
 
 -- a slot more after the others
 pub entry-added : (f : List ℕ × Slot → Option (List ℕ × ℕ)) (s : List ℕ × Slot) (e : List ℕ × ℕ) → f s ≡ Some e → (slots : List (List ℕ × Slot))
