@@ -307,6 +307,10 @@ class Body:
     def write(self, board, device, register, value):
         """What the guest's write to a register does."""
 
+    def is_high(self, board, device):
+        """Whether the interrupt line of the device is high."""
+        return False
+
 
 class UartBody(Body):
     """The registers of a UART."""
@@ -340,6 +344,10 @@ class UartBody(Body):
             self.divisor = value
         elif register == 3:
             self.scratch = value
+
+    def is_high(self, board, device):
+        _, _, status, scratch, _, _ = self.registers(board, device)
+        return status & 4 != 0 and scratch != 0
 
 
 class TimerBody(Body):
@@ -398,6 +406,10 @@ class TimerBody(Body):
             if self.is_enabled:
                 self.started = board.now
 
+    def is_high(self, board, device):
+        control, _, count, _ = self.registers(board, device)
+        return control == 1 and count == 0
+
 
 class BridgeBody(Body):
     """The registers of a bridge."""
@@ -418,6 +430,10 @@ class BridgeBody(Body):
         before, self.control = self.control, value & 1
         if self.control and not before:
             board.reset(device.slot("bus.0").target)
+
+    def is_high(self, board, device):
+        control, _ = self.registers(board, device)
+        return control == 0 and any(map(board.is_line_high, board.kids(device.slot("bus.0").target)))
 
 
 class DimmBody(Body):
@@ -1147,6 +1163,15 @@ class DeviceTree(ResetTree):
             begin, size = begin + above.value("slot") * size + size // 2, size // 16
         return begin + device.value("slot") * size
 
+    def is_line_high(self, birth):
+        """Whether the interrupt line of a device is high."""
+        device = self.objects[birth]
+        return device.body.is_high(self, device)
+
+    def interrupt_lines(self):
+        """The number in which the bit of each slot of the root bus is the line of the device there."""
+        return sum(1 << self.objects[it].value("slot") for it in self.kids(ROOT_BUS) if self.is_line_high(it))
+
     def address(self, device):
         """The address of a device that stands."""
         bus = device.slot("parent_bus").target
@@ -1289,7 +1314,7 @@ class Board(DeviceTree):
 SMALL = r"(?:0|[1-9][0-9]{0,2})"
 ADDRESS = rf"(?:m{SMALL}|{SMALL}(?:\.{SMALL}){{0,{MOST_ADDRESS - 1}}})"
 GUEST_LINE = re.compile(
-    rf"(?P<alone>poll|reset|shutdown)|(?P<reply>ack|nack) (?P<device>{ADDRESS})"
+    rf"(?P<alone>poll|irq|reset|shutdown)|(?P<reply>ack|nack) (?P<device>{ADDRESS})"
     rf"|read (?P<read>{ADDRESS}) (?P<register>{SMALL})"
     rf"|write (?P<write>{ADDRESS}) (?P<target>{SMALL}) 0x(?P<value>[0-9a-fA-F]{{1,8}})"
     r"|peek 0x(?P<peek>[0-9a-fA-F]{1,16})|poke 0x(?P<poke>[0-9a-fA-F]{1,16}) 0x(?P<poked>[0-9a-fA-F]{1,8})"
@@ -1509,6 +1534,8 @@ class Machine:
             self.board.reset_machine(by_guest=True)
         elif word == "shutdown":
             self.shut_down(by_guest=True)
+        elif word == "irq":
+            return f"ok 0x{self.board.interrupt_lines():08x}"
         elif not self.board.notices:
             return "ok none"
         else:

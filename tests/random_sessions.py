@@ -1,7 +1,7 @@
 """Makes random sessions, by a plain machine that goes along; for tests/test_plain_machine.py and bench/soak.
 
 They are on a small board with few names: devices of all drivers, users' objects, links, rings, clocks, holds, removals,
-lines of the guest, time and sessions, and much that is refused. Inputs are spelled as tools/qrec has them.
+lines of the guest, interrupt lines, time and sessions, and much that is refused. Inputs are spelled as tools/qrec has them.
 """
 
 import importlib.machinery
@@ -35,10 +35,12 @@ RING_SIZES = [{"size": 16}, {"size": 2}, {"size": 1}, {}, {"size": 12}, {"size":
 CLOCK_NUMBERS = [0, 1, 2, 3, 5, 7, 1000, 2**32 - 1, 2**32, 2**35, 42_949_672_960, 2**63, 2**64 - 1]
 SPANS = [1, 3, 10, 25, 1000, 2**31, 2**62]
 WRITTEN = ["0x0", "0x1", "0x1", "0x2", "0x41", "0x7f", "0xff", "0x63", "0xFFFFFFFF"]
+SHORT_RELOADS = [0, 1, 1, 2, 99]
+MOST_AWAITED = 2**40  # ns
 PRINTED = [0x41, 0x62, 0x7F, 0x80, 0xFF, 0x1F, 0, 0x22, 0x5C, 10, 8]
 NO_LINES = [
     "ack", "poll ", " poll", "ack  0", "read 0", "read 0 00", "write 0 0 1", "write 0 0 0x", "write 0 0 0x123456789",
-    "POLL", "irq", "peek", "peek 0", "peek 0x", "peek 0x0 0x0", "poke 0x0", "poke 0x0 1", "peek 0x00000000000000000", "ack 0 0", "x" * 300, "ack m00", "ack 256", "nack 0..0", "ack 0.0.0.0.0.0.0.0.0.0", "read m0.0 0",
+    "POLL", "IRQ", "irq ", "irq 0", "irqs", "peek", "peek 0", "peek 0x", "peek 0x0 0x0", "poke 0x0", "poke 0x0 1", "peek 0x00000000000000000", "ack 0 0", "x" * 300, "ack m00", "ack 256", "nack 0..0", "ack 0.0.0.0.0.0.0.0.0.0", "read m0.0 0",
 ]
 HARDWARE_ADDRESSES = [0, 65532, 65536, 65540, 2**31 - 4, 2**31, 2**32, 2**32 + 4096, 2**44 - 4, 2**44, 2**47 + 2**44, 2**48, 2**64 - 4]
 ADDRESSES = ["0", "1", "7", "m0", "m1", "0.0", "0.1", "1.0", "8", "m8", "255", "0.0.0", "0.0.0.0.0.0.0.0.0"]
@@ -73,6 +75,7 @@ USUAL_ACTS = {
     "write_ring": 2,
     "print_bytes": 2,
     "tend_timer": 2,
+    "tend_line": 3,
     "set_property": 8,
     "get_property": 4,
     "list_object": 2,
@@ -100,6 +103,7 @@ FLAVOURS = [
     ("fill_notices", {"remove_device": 14, "reset": 0.2}),
     ("fill_memory", {"add_object": 14, "add_device": 40, "remove_device": 16}),
     ("pile_holds", {"hold": 18, "release": 8}),
+    ("raise_lines", {"tend_line": 40, "pass_time": 8, "remove_device": 6, "hold": 5, "release": 5}),
 ]
 
 
@@ -277,9 +281,9 @@ class Maker:
             waiting = self.board.objects[self.draw.choice(self.board.pending)]
             return f"{self.draw.choice(['ack', 'ack', 'nack'])} {self.board.address(waiting)}"
         word = self.draw.choices(
-            ["poll", "ack", "nack", "read", "write", "peek", "poke", "reset", ""], [22, 8, 4, 15, 22, 8, 8, 3, 4]
+            ["poll", "irq", "ack", "nack", "read", "write", "peek", "poke", "reset", ""], [22, 8, 8, 4, 15, 22, 8, 8, 3, 4]
         )[0]
-        if word in ("poll", "reset"):
+        if word in ("poll", "irq", "reset"):
             return word
         if word in ("ack", "nack"):
             return f"{word} {self.address()}"
@@ -361,6 +365,39 @@ class Maker:
             self.input(f"step {self.draw.choice(SPANS)}")
             self.input(f"g-> read {address} 2")
 
+    def tend_line(self):
+        """Has the guest write what an interrupt line hangs on, and read the lines."""
+        acts = {"slot-uart": self.ask_by_uart, "slot-timer": self.run_out, "slot-bridge": self.mask_bridge}
+        devices = [it for it in self.devices() if it.type in acts]
+        if devices:
+            device = self.draw.choice(devices)
+            acts[device.type](device)
+            self.read_lines()
+
+    def ask_by_uart(self, uart):
+        """Has the guest write SCRATCH of a UART, mostly so that its line is high where it is ready."""
+        self.input(f"g-> write {self.board.address(uart)} 3 {self.draw.choice(WRITTEN)}")
+
+    def run_out(self, timer):
+        """Has the guest start a timer, and time pass until it has counted down."""
+        address, reload = self.board.address(timer), self.draw.choice(SHORT_RELOADS)
+        self.input(f"g-> write {address} 1 0x{reload:x}")
+        self.input(f"g-> write {address} 0 0x1")
+        span = -(-reload * self.board.device_period(timer) // plain_machine.PERIOD_UNIT)
+        if 0 < span < MOST_AWAITED:
+            self.input(f"step {span}")
+
+    def mask_bridge(self, bridge):
+        """Has the guest write CTRL of a bridge, mostly so that it hides no line."""
+        self.input(f"g-> write {self.board.address(bridge)} 0 {self.draw.choice(['0x0', '0x0', '0x1'])}")
+
+    def read_lines(self):
+        """Has the guest read the interrupt lines, by itself or by a command."""
+        if self.chance(0.8):
+            self.input("g-> irq")
+        else:
+            self.command("x-guest", {"line": "irq"})
+
     def set_property(self):
         """Writes a property of a device or a tag."""
         is_device = self.chance(0.6)
@@ -409,6 +446,8 @@ class Maker:
         self.command("stop")
         if self.chance(0.7):
             self.say()
+        if self.chance(0.2):
+            self.read_lines()
         if self.chance(0.5):
             self.pass_time()
         self.command("query-status")
@@ -493,6 +532,18 @@ class Maker:
             self.input(f"g-> write {address} 0 0x1")
         self.command("x-step", {"ns": self.draw.choice(SPANS)})
 
+    def raise_lines(self):
+        """Adds UARTs and timers on the root bus and behind bridges, with lines that are high."""
+        self.command("device_add", {"driver": "slot-uart", "id": "out"})
+        bus = "/machine/root.0"
+        for count in range(self.draw.randint(1, 4)):
+            self.command("device_add", {"driver": "slot-bridge", "id": f"mask{count}", "bus": bus})
+            bus = f"/machine/peripheral/mask{count}/bus.0"
+            for driver in ["slot-uart", "slot-timer"]:
+                self.command("device_add", {"driver": driver, "bus": bus})
+        for _ in range(self.draw.randint(3, 8)):
+            self.tend_line()
+
     def stack_bridges(self):
         """Adds bridges one below the other, as deep as they may be."""
         bus = "/machine/root.0"
@@ -552,6 +603,7 @@ class Maker:
         for device in self.devices():
             for register in range(7):
                 self.input(f"g-> read {self.board.address(device)} {register}")
+        self.input("g-> irq")
         kept = max(0, len(self.board.notes) - plain_machine.MOST_NOTES_KEPT)
         for first in range(kept, len(self.board.notes) + 1, plain_machine.MOST_NOTES_TOLD):
             self.command("x-query-notes", {"from": first}, session)

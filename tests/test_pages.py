@@ -335,6 +335,7 @@ COMMANDS = (
     ("tools/qrec tap ", test_tap),
     ("tools/qrec read < session.qrec", "it is run where the record is made"),
     ("tools/draw --steps < mine.session", "it is run where the record is made"),
+    ("slot 0     u0 ", "it is a picture of the board of the session before it"),
     ('record = "qrec 1" LF', "it is how a record is spelled, which tests/test_qrec.py tries"),
     ("abbrev pub ", test_definition),
 )

@@ -4,11 +4,11 @@
     tests/test_plain_machine.py [SESSIONS [SEED]]        200 sessions, from seed 1 on, if not said
 
 Each session is made from a seed of its own, on a small board with few names: devices of all drivers, users' objects,
-links, rings, clocks, holds, removals, lines of the guest, time and sessions, and much that is refused. It ends with all
-that can be read: each property of each object that can be reached, registers, rings, and all notes; half of them then
-take away all that was added, and read once more. It prints nothing where all agree, and else the first seed that does
-not, with the first message that differs; exit status 1 then, and 2 where the program is not built (./build makes it).
-`tests/test_plain_machine.py 1 SEED` makes that session alone.
+links, rings, clocks, holds, removals, lines of the guest, interrupt lines, time and sessions, and much that is refused.
+It ends with all that can be read: each property of each object that can be reached, registers, interrupt lines, rings,
+and all notes; half of them then take away all that was added, and read once more. It prints nothing where all agree, and
+else the first seed that does not, with the first message that differs; exit status 1 then, and 2 where the program is not
+built (./build makes it). `tests/test_plain_machine.py 1 SEED` makes that session alone.
 """
 
 import pathlib

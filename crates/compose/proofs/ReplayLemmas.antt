@@ -11,7 +11,7 @@ use Rattle.qo_causes.specs.declared.hubs.Lane.{Lane}
 use Rattle.qo_causes.specs.declared.inputs.Input.{Input}
 use Rattle.qo_machine.proofs.RunLemmas.{has_end_ends, nothing_appended, took_twice}
 use Rattle.qo_machine.specs.Machine.{opening}
-use Rattle.qo_machine.specs.Runs.{CutRun, OpenRun, RunMeets, Turn, has_end, last_input, risen, risen_by, state_after, told, turn_inputs}
+use Rattle.qo_machine.specs.Runs.{CutRun, OpenRun, RunMeets, Turn, has_end, known, last_input, risen, risen_by, state_after, turn_inputs}
 use Rattle.qo_machine.specs.declared.running.Ending.{Ending}
 use Rattle.qo_machine.specs.declared.running.Ending.TheVariants as ending
 use Rattle.qo_record.proofs.CoverLemmas.{covered, given_first, given_whole, taken_is, took_inputs}
@@ -117,16 +117,16 @@ to_limit p (Some all) ln bytes given ts read took size =
     )
 
 part_of : (p : Progress) (lo ln : Option (List ℕ)) (bytes : List ℕ) (given : List Input) (ts : List Turn) (last : Option Turn) →
-    length p.held < 65700 → Read p lo ln bytes given → Took p lo ln (turn_inputs ts ++ last_input last) → IfSome lo (TakePart (bytes ++ p.held) ts last)
+    length p.buffered < 65700 → Read p lo ln bytes given → Took p lo ln (turn_inputs ts ++ last_input last) → IfSome lo (TakePart (bytes ++ p.buffered) ts last)
 part_of p None ln bytes given ts last few read took = tt
 part_of p (Some all) ln bytes given ts last few read took =
     let t = took_inputs p all ln bytes given (turn_inputs ts ++ last_input last) read took in
-    let held : List Input = inputs_from p.headed p.opened p.held in
+    let held : List Input = inputs_from p.headed p.opened p.buffered in
     record {
       front = (t.rest, t.all_is);
-      stand = (held, given_first p (Some all) ln bytes given p.held read ∙ ap (λ (l : List Input). l ++ held) t.given_is);
+      stand = (held, given_first p (Some all) ln bytes given p.buffered read ∙ ap (λ (l : List Input). l ++ held) t.given_is);
       covers =
-          covered bytes p.held given (turn_inputs ts) (last_input last) (given_whole p (Some all) ln bytes given read) few t.given_is (one_taken last);
+          covered bytes p.buffered given (turn_inputs ts) (last_input last) (given_whole p (Some all) ln bytes given read) few t.given_is (one_taken last);
     }
 
 -- where the source failed no whole entry is held that was not given
@@ -140,22 +140,22 @@ none_held true opened held h = none_within (length held) opened held h.whole
 none_held false opened held h = ap inputs_after h
 
 held_of : (p : Progress) (lo ln : Option (List ℕ)) (bytes : List ℕ) (given : List Input) (ts : List Turn) → IsStarved p → Read p lo ln bytes given →
-    Took p lo ln (turn_inputs ts) → IfSome lo (λ _. TakeHeld (bytes ++ p.held) ts)
+    Took p lo ln (turn_inputs ts) → IfSome lo (λ _. TakeHeld (bytes ++ p.buffered) ts)
 held_of p None ln bytes given ts starved read took = tt
 held_of p (Some all) ln bytes given ts starved read took =
     let t = took_inputs p all ln bytes given (turn_inputs ts) read took in
-    sym (given_first p (Some all) ln bytes given p.held read ∙ ap (λ (l : List Input). given ++ l) (none_held p.headed p.opened p.held starved)
+    sym (given_first p (Some all) ln bytes given p.buffered read ∙ ap (λ (l : List Input). given ++ l) (none_held p.headed p.opened p.buffered starved)
     ∙ append-nil given ∙ t.given_is)
 
 -- The run as a replay of the record.
 
 open_run : (oi ni : Option (List Input)) (ho hn : Option (List ℕ)) (og ng : Lane → Option (List ℕ)) (ts : List Turn) →
-    OpenRun (told oi ho og (λ n. 0)) (told ni hn ng (λ n. 0)) ts → OpenReplay ho hn ts
+    OpenRun (known oi ho og (λ n. 0)) (known ni hn ng (λ n. 0)) ts → OpenReplay ho hn ts
 open_run oi ni ho hn og ng ts h = record { going = h.1; lost = none_lost ts h.0.losses; put = h.0.sent }
 
 cut_run : (p : Progress) (lo ln ho hn : Option (List ℕ)) (bytes : List ℕ) (given : List Input) (og ng : Lane → Option (List ℕ)) →
-    length p.held < 65700 → Read p lo ln bytes given →
-    CutRun 1000000000 (told (inputs_ahead unread lo) ho og (λ n. 0)) (told (inputs_ahead p ln) hn ng (λ n. 0)) → IsCut lo (bytes ++ p.held) ho hn
+    length p.buffered < 65700 → Read p lo ln bytes given →
+    CutRun 1000000000 (known (inputs_ahead unread lo) ho og (λ n. 0)) (known (inputs_ahead p ln) hn ng (λ n. 0)) → IsCut lo (bytes ++ p.buffered) ho hn
 cut_run p lo ln ho hn bytes given og ng few read h =
     let whole_part = h.3.0 in
     let cut_part = h.4 in
@@ -172,9 +172,9 @@ cut_run p lo ln ho hn bytes given og ng few read h =
     )
 
 did : (e : Ending) (p : Progress) (lo ln ho hn : Option (List ℕ)) (bytes : List ℕ) (given : List Input) (og ng : Lane → Option (List ℕ)) →
-    length p.held < 65700 → (e ≡ ending.NextFailed → IsStarved p) → Read p lo ln bytes given →
-    RunMeets e 1000000000 (told (inputs_ahead unread lo) ho og (λ n. 0)) (told (inputs_ahead p ln) hn ng (λ n. 0)) (bad_ahead unread lo) →
-    DidReplay (status_of e) lo (bytes ++ p.held) ho hn (offset_of e)
+    length p.buffered < 65700 → (e ≡ ending.NextFailed → IsStarved p) → Read p lo ln bytes given →
+    RunMeets e 1000000000 (known (inputs_ahead unread lo) ho og (λ n. 0)) (known (inputs_ahead p ln) hn ng (λ n. 0)) (bad_ahead unread lo) →
+    DidReplay (status_of e) lo (bytes ++ p.buffered) ho hn (offset_of e)
 did ending.Done p lo ln ho hn bytes given og ng few starved read h = (
   h.0,
   record { last = h.2; few = h.3; lost = none_lost h.0 h.1.losses; put = h.1.sent },
@@ -206,14 +206,14 @@ did ending.Memory p lo ln ho hn bytes given og ng few starved read h = cut_run p
 
 -- what a run over a fresh hub did
 pub replayed : (e : Ending) (q p : Progress) (lo ln ho hn : Option (List ℕ)) (og ng : Lane → Option (List ℕ)) →
-    q ≡ unread → length p.held < 65700 → (e ≡ ending.NextFailed → IsStarved p) → Went q p lo ln →
-    RunMeets e 1000000000 (told (inputs_ahead q lo) ho og (λ n. 0)) (told (inputs_ahead p ln) hn ng (λ n. 0)) (bad_ahead q lo) →
+    q ≡ unread → length p.buffered < 65700 → (e ≡ ending.NextFailed → IsStarved p) → Went q p lo ln →
+    RunMeets e 1000000000 (known (inputs_ahead q lo) ho og (λ n. 0)) (known (inputs_ahead p ln) hn ng (λ n. 0)) (bad_ahead q lo) →
     (taken : List ℕ) × Replayed (status_of e) lo ln ho hn taken (offset_of e)
 replayed e q p lo ln ho hn og ng fresh few starved went meets =
     let w : Went unread p lo ln = subst (λ (r : Progress). Went r p lo ln) fresh went in
-    let m = subst (λ (r : Progress). RunMeets e 1000000000 (told (inputs_ahead r lo) ho og (λ n. 0)) (told (inputs_ahead p ln) hn ng (λ n. 0))
+    let m = subst (λ (r : Progress). RunMeets e 1000000000 (known (inputs_ahead r lo) ho og (λ n. 0)) (known (inputs_ahead p ln) hn ng (λ n. 0))
     (bad_ahead r lo)) fresh meets in
-    (w.0 ++ p.held, record { took = taken_is p lo ln w.0 w.1 w.2; did = did e p lo ln ho hn w.0 w.1 og ng few starved w.2 m })
+    (w.0 ++ p.buffered, record { took = taken_is p lo ln w.0 w.1 w.2; did = did e p lo ln ho hn w.0 w.1 og ng few starved w.2 m })
 
 -- nothing was done for want of memory
 nothing_taken : (left : Option (List ℕ)) → left ≡ prepend_known [] left
@@ -240,9 +240,9 @@ not_made left held =
 pub hub_replayed : {S K : Type 0} (left : S → Option (List ℕ)) (held : K → Option (List ℕ)) (e : Ending) (status : Status) (place : ℕ) →
     (hub new : Replaying S K) (source source_new : S) (sink sink_new : K) (og ng : Lane → Option (List ℕ)) →
     hub ≡ record { source = source; sink = sink; read = unread } → status ≡ status_of e → place ≡ offset_of e →
-    source_new ≡ new.source → sink_new ≡ new.sink → length new.read.held < 65700 → (e ≡ ending.NextFailed → IsStarved new.read) → Went hub.read new.read (left hub.source) (left new.source) →
-    RunMeets e 1000000000 (told (inputs_ahead hub.read (left hub.source)) (held hub.sink) og (λ n. 0))
-    (told (inputs_ahead new.read (left new.source)) (held new.sink) ng (λ n. 0)) (bad_ahead hub.read (left hub.source)) →
+    source_new ≡ new.source → sink_new ≡ new.sink → length new.read.buffered < 65700 → (e ≡ ending.NextFailed → IsStarved new.read) → Went hub.read new.read (left hub.source) (left new.source) →
+    RunMeets e 1000000000 (known (inputs_ahead hub.read (left hub.source)) (held hub.sink) og (λ n. 0))
+    (known (inputs_ahead new.read (left new.source)) (held new.sink) ng (λ n. 0)) (bad_ahead hub.read (left hub.source)) →
     (taken : List ℕ) × Replayed status (left source) (left source_new) (held sink) (held sink_new) taken place
 hub_replayed {S} {K} left held e status place hub new source source_new sink sink_new og ng made st pl so si few starved went meets =
     let fresh = ap (λ (h : Replaying S K). h.read) made in

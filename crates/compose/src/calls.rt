@@ -2,7 +2,7 @@
 
 ghost use Rattle.std.specs.Prelude.{◌≡◌, ◌≢◌, ◌↔◌, ◌⊎◌, ℕ, false, true, List, None, Some, map, string_bytes};
 ghost use Rattle.qo_causes.specs.Cause.{Rose};
-ghost use Rattle.qo_machine.specs.Runs.{told};
+ghost use Rattle.qo_machine.specs.Runs.{known};
 ghost use Rattle.compose.specs.Completeness.{CompletesReplay, CompletesServe, EndsWell, NoFault, puts_lines};
 ghost use Rattle.compose.specs.Demo.{ToldDemo};
 ghost use Rattle.compose.specs.Exits.{exit_code};
@@ -61,7 +61,7 @@ pub fn compose<S: Source, K: Sink, E: Sink, H: Hub>(
     ensures usage { (result.status ≡ Status.Usage) ↔ (order (map string_bytes words.now) ≡ None) }
     ensures refused { order (map string_bytes words.now) ≡ None → (result.source ≡ source) × (result.sink ≡ sink) × Complained (E.held complaints.old) (E.held complaints.new) (E.faults complaints.old) (E.faults complaints.new) (line_of Status.Usage 0) }
     ensures replay { order (map string_bytes words.now) ≡ Some a_replay → (taken : List ℕ) × (place : ℕ) × Replayed result.status (S.left source) (S.left result.source) (K.held sink) (K.held result.sink) taken place × Complained (E.held complaints.old) (E.held complaints.new) (E.faults complaints.old) (E.faults complaints.new) (line_of result.status place) }
-    ensures serve { (path : List ℕ) (connections : ℕ) → order (map string_bytes words.now) ≡ Some (a_serve path connections) → (place : ℕ) × Served path connections result.status place (H.asked hub.old) (H.asked hub.new) (told (H.inputs hub.old) (H.sent hub.old) (H.got hub.old) (H.losses hub.old)) (told (H.inputs hub.new) (H.sent hub.new) (H.got hub.new) (H.losses hub.new)) (H.bad hub.old) × (result.source ≡ source) × (result.sink ≡ sink) × Complained (E.held complaints.old) (E.held complaints.new) (E.faults complaints.old) (E.faults complaints.new) (line_of result.status place) }
+    ensures serve { (path : List ℕ) (connections : ℕ) → order (map string_bytes words.now) ≡ Some (a_serve path connections) → (place : ℕ) × Served path connections result.status place (H.asked hub.old) (H.asked hub.new) (known (H.inputs hub.old) (H.sent hub.old) (H.got hub.old) (H.losses hub.old)) (known (H.inputs hub.new) (H.sent hub.new) (H.got hub.new) (H.losses hub.new)) (H.bad hub.old) × (result.source ≡ source) × (result.sink ≡ sink) × Complained (E.held complaints.old) (E.held complaints.new) (E.faults complaints.old) (E.faults complaints.new) (line_of result.status place) }
     ensures types { order (map string_bytes words.now) ≡ Some a_types → ToldTypes result.status (K.held sink) (K.held result.sink) × (result.source ≡ source) × Complained (E.held complaints.old) (E.held complaints.new) (E.faults complaints.old) (E.faults complaints.new) (line_of result.status 0) }
     ensures demo { (seed steps : ℕ) → order (map string_bytes words.now) ≡ Some (a_demo seed steps) → ToldDemo result.status seed steps (K.held sink) (K.held result.sink) × (result.source ≡ source) × Complained (E.held complaints.old) (E.held complaints.new) (E.faults complaints.old) (E.faults complaints.new) (line_of result.status 0) }
     ensures read_cause { result.status ≡ Status.ReadFault → Rose (S.faults source) (S.faults result.source) }
@@ -71,7 +71,7 @@ pub fn compose<S: Source, K: Sink, E: Sink, H: Hub>(
     ensures hub_cause { result.status ≡ Status.HubFault → Rose (H.next_faults hub.old) (H.next_faults hub.new) ⊎ Rose (H.send_faults hub.old) (H.send_faults hub.new) }
     ensures hub_quiet { result.status ≢ Status.HubFault → (H.next_faults hub.new ≡ H.next_faults hub.old) × (H.send_faults hub.new ≡ H.send_faults hub.old) }
     ensures complete_replay { order (map string_bytes words.now) ≡ Some a_replay → NoFault (S.faults source) (S.faults result.source) → NoFault (K.faults sink) (K.faults result.sink) → CompletesReplay result.status (S.left source) (K.held sink) (K.held result.sink) }
-    ensures complete_serve { asks_hub (order (map string_bytes words.now)) ≡ true → NoFault (H.next_faults hub.old) (H.next_faults hub.new) → NoFault (H.send_faults hub.old) (H.send_faults hub.new) → CompletesServe result.status (told (H.inputs hub.old) (H.sent hub.old) (H.got hub.old) (H.losses hub.old)) (told (H.inputs hub.new) (H.sent hub.new) (H.got hub.new) (H.losses hub.new)) (H.bad hub.old) }
+    ensures complete_serve { asks_hub (order (map string_bytes words.now)) ≡ true → NoFault (H.next_faults hub.old) (H.next_faults hub.new) → NoFault (H.send_faults hub.old) (H.send_faults hub.new) → CompletesServe result.status (known (H.inputs hub.old) (H.sent hub.old) (H.got hub.old) (H.losses hub.old)) (known (H.inputs hub.new) (H.sent hub.new) (H.got hub.new) (H.losses hub.new)) (H.bad hub.old) }
     ensures complete_rest { puts_lines (order (map string_bytes words.now)) ≡ true → NoFault (K.faults sink) (K.faults result.sink) → EndsWell result.status }
     ensures hub_later { H.later hub.old hub.new }
     ensures hub_kept { asks_hub (order (map string_bytes words.now)) ≡ false → (hub.new ≡ hub.old) × (result.status ≢ Status.HubFault) }

@@ -2,7 +2,7 @@
 
 ghost use Rattle.std.specs.Prelude.{◌≡◌, ◌≢◌, ◌≤◌, ◌⊎◌};
 ghost use Rattle.qo_causes.specs.Cause.{Rose};
-ghost use Rattle.qo_machine.specs.Runs.{told};
+ghost use Rattle.qo_machine.specs.Runs.{known};
 ghost use Rattle.compose.specs.Service.{Served, serve_status};
 
 use crate::replays::offset_of;
@@ -33,7 +33,7 @@ pub(crate) fn serve<H: Hub>(
     connections: u32,
     hub: &mut H,
 ) -> (Status, u64)
-    ensures served { Served path.now connections result.0 result.1 (H.asked hub.old) (H.asked hub.new) (told (H.inputs hub.old) (H.sent hub.old) (H.got hub.old) (H.losses hub.old)) (told (H.inputs hub.new) (H.sent hub.new) (H.got hub.new) (H.losses hub.new)) (H.bad hub.old) }
+    ensures served { Served path.now connections result.0 result.1 (H.asked hub.old) (H.asked hub.new) (known (H.inputs hub.old) (H.sent hub.old) (H.got hub.old) (H.losses hub.old)) (known (H.inputs hub.new) (H.sent hub.new) (H.got hub.new) (H.losses hub.new)) (H.bad hub.old) }
     ensures bad { H.bad hub.new ≡ H.bad hub.old }
     ensures next_count { H.next_faults hub.old ≤ H.next_faults hub.new }
     ensures send_count { H.send_faults hub.old ≤ H.send_faults hub.new }

@@ -8,7 +8,7 @@ use Rattle.qo_object.specs.declared.slots.Slot.{Slot}
 use Rattle.qo_object.specs.declared.slots.Slot.TheVariants.{Plain, Child, Link, Alias}
 use Rattle.qo_object.specs.Content.{Content, cut_at, dropped_at, empty_link_at, named_at}
 use Rattle.qo_object.specs.BoardObject.{birth_of, shown_slot, shown_slots}
-use Rattle.qo_object.specs.Slots.{Named, held, is_empty_link, is_strong, let_go_at, named_in, names_child, slot_in, target_of}
+use Rattle.qo_object.specs.Slots.{Named, is_empty_link, is_strong, let_go_at, named_in, names_child, referent, slot_in, target_of}
 use Rattle.qo_object.proofs.BoardObjectLemmas.{shown-held}
 use Rattle.qo_model.specs.Board.{Board}
 use Rattle.qo_model.specs.Board as board
@@ -47,7 +47,7 @@ goes-cut v n i =
 -- a strong link taken away
 
 -- what it held is what it named
-strong-held : (o : Option Slot) → option_map is_strong o ≡ Some true → option_and_then target_of o ≡ option_and_then held o
+strong-held : (o : Option Slot) → option_map is_strong o ≡ Some true → option_and_then target_of o ≡ option_and_then referent o
 strong-held None is = refl
 strong-held (Some (Plain val)) is = refl
 strong-held (Some (Child key)) is = refl
@@ -61,7 +61,7 @@ named-slots None (suc i) = refl
 named-slots (Some c) i = refl
 
 pub link-held : (v : Objects) (n i : ℕ) (was : Option Key) → was ≡ option_and_then (λ (c : Content). named_at c i) (content_of v n)
-    → option_map is_strong (slot_in (slots_of v n) i) ≡ Some true → was ≡ option_and_then held (slot_in (slots_of v n) i)
+    → option_map is_strong (slot_in (slots_of v n) i) ≡ Some true → was ≡ option_and_then referent (slot_in (slots_of v n) i)
 link-held v n i was e is = e ∙ named-slots (content_of v n) i ∙ strong-held (slot_in (slots_of v n) i) is
 
 -- and it is there
@@ -94,11 +94,11 @@ link-emptied v o i live is =
     ∙ ap Some (emptied c.slots i its)
 
 taken-is : (b : Board) (n i : ℕ) (s : Slot) → board.slot_at b n i ≡ Some (shown_slot s)
-    → take_slot b n i ≡ after finalize (cut n i (drop_slot b n i)) (birth_of (held s))
+    → take_slot b n i ≡ after finalize (cut n i (drop_slot b n i)) (birth_of (referent s))
 taken-is b n i s e = rw (take_slot, e) (ap (after finalize (cut n i (drop_slot b n i))) (shown-held s))
 
 pub goes-taken : (v u x w : Objects) (n i : ℕ) (was : Option Key) → option_map is_strong (slot_in (slots_of v n) i) ≡ Some true
-    → was ≡ option_and_then held (slot_in (slots_of v n) i) → u ≡ with_edit n (dropped_at i) v → x ≡ with_edit n (cut_at i) u
+    → was ≡ option_and_then referent (slot_in (slots_of v n) i) → u ≡ with_edit n (dropped_at i) v → x ≡ with_edit n (cut_at i) u
     → Goes (λ b. after finalize b (birth_of was)) x w → Goes (λ b. take_slot b n i) v w
 goes-taken v u x w n i was strong e dropped cuts following = go (slot_in (slots_of v n) i) refl strong e
   where
@@ -113,7 +113,8 @@ goes-taken v u x w n i was strong e dropped cuts following = go (slot_in (slots_
         goes-then (λ b. cut n i (drop_slot b n i)) (λ b. after finalize b (birth_of was)) v x w
         (goes-then (λ b. drop_slot b n i) (λ b. cut n i b) v u x first second) following
 
-    go : (o : Option Slot) → slot_in (slots_of v n) i ≡ o → option_map is_strong o ≡ Some true → was ≡ option_and_then held o → Goes (λ b. take_slot b n i) v w
+    go : (o : Option Slot) → slot_in (slots_of v n) i ≡ o → option_map is_strong o ≡ Some true → was ≡ option_and_then referent o
+        → Goes (λ b. take_slot b n i) v w
     go None p is q = cc
     go (Some s) p is q =
         goes-same (λ b. after finalize (cut n i (drop_slot b n i)) (birth_of was)) (λ b. take_slot b n i) v w all

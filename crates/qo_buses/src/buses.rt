@@ -35,7 +35,7 @@ pub fn bus_in_slot<L: Ledger>(heap: &Heap, o: Oid, at: usize, steps: &mut Steps<
     ensures bus { (b : Board) → Shows b heap.now → birth_of result ≡ option_and_then (bus_in b) (slice_get (slots_at b o.birth) at) }
     ensures live { IfSome result (IsLive heap.now.rows) }
 {
-    heap.facts();
+    heap.reveal_invariant();
     let view = heap.slot_at(o, at, steps)?;
     bus_in(heap, view.name, view.what, steps)
 }
@@ -61,7 +61,7 @@ pub fn bridge_of<L: Ledger>(heap: &Heap, bus: Oid, steps: &mut Steps<L>) -> Opti
     ensures bridge { (b : Board) → Shows b heap.now → birth_of result ≡ bridge_of b bus.birth }
     ensures live { IfSome result (IsLive heap.now.rows) }
 {
-    heap.facts();
+    heap.reveal_invariant();
     let parent = heap.parent(bus, steps)?;
     if is_of(heap, parent, "device", steps) {
         return Some(parent);
@@ -82,7 +82,7 @@ pub fn bus_above<L: Ledger>(heap: &Heap, bus: Oid, steps: &mut Steps<L>) -> Opti
 pub fn depth<L: Ledger>(heap: &Heap, bus: Oid, steps: &mut Steps<L>) -> u64
     ensures { (b : Board) → Shows b heap.now → result ≡ depth_of b bus.birth }
 {
-    heap.facts();
+    heap.reveal_invariant();
     let mut at = bus;
     // A way that is longer than there are objects goes round.
     for turn in 0..heap.live() + 1 {
@@ -105,7 +105,7 @@ fn is_among(objects: &[Oid], birth: u64) -> bool
 pub fn is_going<L: Ledger>(heap: &Heap, bus: Oid, pending: &[Oid], steps: &mut Steps<L>) -> bool
     ensures { (b : Board) → Shows b heap.now → b.pending ≡ map (λ o. o.birth) pending.now → result ≡ is_going b bus.birth }
 {
-    heap.facts();
+    heap.reveal_invariant();
     let mut at = bus;
     // A way that is longer than there are objects goes round.
     for _turn in 0..heap.live() + 1 {

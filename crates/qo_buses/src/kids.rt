@@ -52,7 +52,7 @@ pub fn kid_at<L: Ledger>(heap: &Heap, bus: Oid, slot: u8, steps: &mut Steps<L>) 
     ensures kid { (b : Board) → Shows b heap.now → birth_of result ≡ kid_at b bus.birth slot }
     ensures live { IfSome result (IsLive heap.now.rows) }
 {
-    heap.facts();
+    heap.reveal_invariant();
     let view = kid_slot(heap, bus, slot, steps)?;
     strong_in(view.what)
 }
@@ -64,7 +64,7 @@ pub fn kid_in_slot<L: Ledger>(heap: &Heap, bus: Oid, at: usize, steps: &mut Step
     ensures kid { (b : Board) → Shows b heap.now → birth_of result ≡ option_and_then (λ s. strong_in s.1) (slice_get (slots_at b bus.birth) at) }
     ensures live { IfSome result (IsLive heap.now.rows) }
 {
-    heap.facts();
+    heap.reveal_invariant();
     let view = heap.slot_at(bus, at, steps)?;
     strong_in(view.what)
 }

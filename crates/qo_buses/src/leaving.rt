@@ -51,7 +51,7 @@ fn take_link<L: Ledger>(heap: &mut Heap, o: Oid, at: usize, steps: &mut Steps<L>
     requires link { option_map is_strong (slot_in (slots_of heap.old o.birth) at) ≡ Some true }
     ensures { Goes (λ b. take_slot b o.birth at) heap.old heap.new }
 {
-    heap.facts();
+    heap.reveal_invariant();
     let held = heap.empty(o, at, steps);
     heap.cut(o, at, steps);
     drop_hold(heap, held, steps);
@@ -89,7 +89,7 @@ pub fn leave<L: Ledger>(heap: &mut Heap, dev: Oid, steps: &mut Steps<L>)
     ensures goes { Goes (left_bus dev.birth) heap.old heap.new }
     ensures names { KeepsNames heap.old heap.new }
 {
-    heap.shown();
+    heap.reveal_board();
     if let Some(bus) = bus_of(heap, dev, steps) {
         take_kid(heap, bus, dev.birth, steps);
         let_go_named(heap, dev.birth, "parent_bus", steps);

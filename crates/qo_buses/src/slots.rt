@@ -113,7 +113,7 @@ pub fn strong_at<L: Ledger>(heap: &Heap, o: Oid, name: &str, steps: &mut Steps<L
     ensures target { (b : Board) → Shows b heap.now → birth_of result ≡ strong_at b o.birth name.now }
     ensures live { IfSome result (IsLive heap.now.rows) }
 {
-    heap.facts();
+    heap.reveal_invariant();
     let slot = heap.slot(o, name, steps)?;
     strong_in(slot.what)
 }
@@ -124,7 +124,7 @@ pub fn child_at<L: Ledger>(heap: &Heap, o: Oid, name: &str, steps: &mut Steps<L>
     ensures child { (b : Board) → Shows b heap.now → birth_of result ≡ option_and_then child_named (slot_named b o.birth name.now) }
     ensures live { IfSome result (IsLive heap.now.rows) }
 {
-    heap.facts();
+    heap.reveal_invariant();
     let slot = heap.slot(o, name, steps)?;
     child_in(slot.what)
 }

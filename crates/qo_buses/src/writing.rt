@@ -50,7 +50,7 @@ fn point_open<L: Ledger>(heap: &mut Heap, o: Oid, name: &str, target: Oid, steps
     ensures names { (key : Key) → IsLive heap.old.rows key → IsLive heap.new.rows key }
     ensures pins { pins_in heap.new.rows ≡ pins_in heap.old.rows }
 {
-    heap.facts();
+    heap.reveal_invariant();
     let Some(view) = heap.slot(o, name, steps) else {
         return;
     };
@@ -89,7 +89,7 @@ fn put_named<L: Ledger>(heap: &mut Heap, o: Oid, name: &str, val: Val, steps: &m
     ensures names { (key : Key) → IsLive heap.old.rows key → IsLive heap.new.rows key }
     ensures pins { pins_in heap.new.rows ≡ pins_in heap.old.rows }
 {
-    heap.facts();
+    heap.reveal_invariant();
     let Some(view) = heap.slot(o, name, steps) else {
         return;
     };

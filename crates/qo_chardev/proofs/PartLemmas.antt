@@ -10,7 +10,7 @@ use Rattle.std.specs.Io.KnownBytes.{prepend_known}
 use Rattle.std.specs.Option.{option_map}
 use Rattle.std.specs.Result.{result_ok}
 use Rattle.base64.specs.Engines.{standard}
-use Rattle.qo_chardev.specs.Texts.{untold}
+use Rattle.qo_chardev.specs.Texts.{bytes_of}
 use Rattle.qo_chardev.proofs.Encodings.{strict}
 use Rattle.base64.specs.declared.decode.DecodeError.{DecodeError}
 use Rattle.base64.specs.declared.engine.general_purpose.GeneralPurpose.{GeneralPurpose}
@@ -184,35 +184,35 @@ module _ (e : GeneralPurpose) (strict : IsStrict e) (consistent : IsConsistent e
 
 -- what the standard engine reads
 
-nothing_reads : untold [] ≡ Some []
+nothing_reads : bytes_of [] ≡ Some []
 unfolding decoded_of
 nothing_reads = decoded_of-nil standard
 
 -- nothing is read as no bytes
-pub none_left : (rest : List ℕ) → true ≡ (length rest == 0) → untold rest ≡ Some []
+pub none_left : (rest : List ℕ) → true ≡ (length rest == 0) → bytes_of rest ≡ Some []
 none_left [] none = nothing_reads
 none_left (next ∷ rest) none = cc (none, ne_eqb (length (next ∷ rest)) 0 (omega arith))
 
-whole_reads : (front : List ℕ) → untold (front ++ []) ≡ untold front
-whole_reads front = ap untold (append-nil front)
+whole_reads : (front : List ℕ) → bytes_of (front ++ []) ≡ bytes_of front
+whole_reads front = ap bytes_of (append-nil front)
 
 joins_standard : (front rest x : List ℕ) → IsBytes front → IsBytes x → decode_of standard front ≡ Ok x → length x % 3 ≡ 0 → 0 < length rest
-    → untold (front ++ rest) ≡ option_map (λ (more : List ℕ). x ++ more) (untold rest)
+    → bytes_of (front ++ rest) ≡ option_map (λ (more : List ℕ). x ++ more) (bytes_of rest)
 unfolding decoded_of
 joins_standard front rest x = joins standard strict refl front rest x
 
 -- a part that is whole where more comes after it
 pub part_reads : (front rest x : List ℕ) → IsBytes front → decode_of standard front ≡ Ok x → (0 < length rest → length x ≡ 768)
-    → untold (front ++ rest) ≡ option_map (λ (more : List ℕ). x ++ more) (untold rest)
+    → bytes_of (front ++ rest) ≡ option_map (λ (more : List ℕ). x ++ more) (bytes_of rest)
 part_reads front [] x bytes reads whole =
-    let read : untold front ≡ Some x = ap result_ok reads in
+    let read : bytes_of front ≡ Some x = ap result_ok reads in
     whole_reads front ∙ read ∙ rw (nothing_reads, append-nil x) refl
 part_reads front (next ∷ rest) x bytes reads whole =
     joins_standard front (next ∷ rest) x bytes (decoded_are_bytes standard front x bytes reads) reads (omega (arith, whole (omega arith))) (omega arith)
 
 -- a text is not read whose front is not, or is not whole where more comes after it
 pub part_bars : (front rest : List ℕ) → IsBytes (front ++ rest) → (0 < length rest → length front ≡ 1024)
-    → ((x : List ℕ) → decode_of standard front ≡ Ok x → (0 < length rest) × (length x < 768)) → untold (front ++ rest) ≡ None
+    → ((x : List ℕ) → decode_of standard front ≡ Ok x → (0 < length rest) × (length x < 768)) → bytes_of (front ++ rest) ≡ None
 part_bars front rest bytes whole short = by (decode_of standard (front ++ rest)) (λ b reads. never rest b bytes whole short reads)
   where
     never : (rest b : List ℕ) → IsBytes (front ++ rest) → (0 < length rest → length front ≡ 1024)

@@ -5,7 +5,7 @@ use Rattle.std.specs.Option.{option_map}
 use Rattle.base64.specs.GeneralPurpose.{IsBytes}
 use Rattle.qo_values.specs.Rings.{RingBytes, keep_last, ring_add}
 use Rattle.qo_chardev.specs.Parts.{IsPart}
-use Rattle.qo_chardev.specs.Texts.{Adds, untold}
+use Rattle.qo_chardev.specs.Texts.{Adds, bytes_of}
 use Rattle.qo_chardev.proofs.Encodings.{texts_are_encodings}
 use Rattle.qo_chardev.proofs.PartLemmas.{both_bytes, none_left}
 
@@ -33,8 +33,8 @@ added_none ring fits =
 pub record Added (text rest : List ℕ) (old new : RingBytes) : Type 0 where
   pub bytes : List ℕ
   pub all : IsBytes bytes
-  pub read : untold text ≡ option_map (λ (more : List ℕ). bytes ++ more) (untold rest)
-  pub left : is_some (untold rest) ≡ true
+  pub read : bytes_of text ≡ option_map (λ (more : List ℕ). bytes ++ more) (bytes_of rest)
+  pub left : is_some (bytes_of rest) ≡ true
   pub added : new ≡ ring_add old bytes
 
 after_none : (o : Option (List ℕ)) → o ≡ option_map (λ (more : List ℕ). [] ++ more) o
@@ -51,9 +51,9 @@ some_after xs None = refl
 some_after xs (Some bytes) = refl
 
 -- at first all is left
-pub none_added : (text : List ℕ) (ring : RingBytes) → is_some (untold text) ≡ true → length ring.bytes ≤ ring.size → Added text text ring ring
+pub none_added : (text : List ℕ) (ring : RingBytes) → is_some (bytes_of text) ≡ true → length ring.bytes ≤ ring.size → Added text text ring ring
 none_added text ring read fits =
-    record { bytes = []; all = λ i. omega arith; read = after_none (untold text); left = read; added = sym (added_none ring fits) }
+    record { bytes = []; all = λ i. omega arith; read = after_none (bytes_of text); left = read; added = sym (added_none ring fits) }
 
 -- a part more
 pub part_added : (text rest bytes after : List ℕ) (old new next : RingBytes) → Added text rest old new → IsPart rest bytes after → next ≡ ring_add new bytes
@@ -62,15 +62,15 @@ part_added text rest bytes after old new next so_far part is =
     record {
       bytes = so_far.bytes ++ bytes;
       all = both_bytes so_far.bytes bytes so_far.all part.all;
-      read = so_far.read ∙ ap (option_map (λ (more : List ℕ). so_far.bytes ++ more)) part.read ∙ after_both so_far.bytes bytes (untold after);
-      left = sym (some_after bytes (untold after)) ∙ ap is_some (sym part.read) ∙ so_far.left;
+      read = so_far.read ∙ ap (option_map (λ (more : List ℕ). so_far.bytes ++ more)) part.read ∙ after_both so_far.bytes bytes (bytes_of after);
+      left = sym (some_after bytes (bytes_of after)) ∙ ap is_some (sym part.read) ∙ so_far.left;
       added = is ∙ ap (λ (ring : RingBytes). ring_add ring bytes) so_far.added ∙ added_twice old so_far.bytes bytes;
     }
 
 -- at last all were added
 pub all_added : (text rest : List ℕ) (old new : RingBytes) → IsBytes text → true ≡ (length rest == 0) → Added text rest old new → Adds text old new
 all_added text rest old new text_bytes none so_far =
-    let read : untold text ≡ Some so_far.bytes =
+    let read : bytes_of text ≡ Some so_far.bytes =
     so_far.read ∙ ap (option_map (λ (more : List ℕ). so_far.bytes ++ more)) (none_left rest none) ∙ ap Some (append-nil so_far.bytes) in
     record {
       bytes = so_far.bytes;

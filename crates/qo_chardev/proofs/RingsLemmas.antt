@@ -9,7 +9,7 @@ use Rattle.std.specs.Str.{bytes_eq}
 use Rattle.qo_values.proofs.ListLemmas.{position-find, position-none}
 use Rattle.qo_values.specs.Rings.{RingBytes, ring_oldest}
 use Rattle.qo_values.specs.declared.forms.Form.{Form}
-use Rattle.qo_chardev.specs.Texts.{told}
+use Rattle.qo_chardev.specs.Texts.{encoded}
 use Rattle.qo_model.specs.Board.{Ring}
 use Rattle.qo_chardev.specs.Rings.{IdsDiffer, bytes_in, is_ring, new_ring, ring_changed, ring_text, with_bytes, without_ring}
 
@@ -153,11 +153,12 @@ differ-pushed id size rings false differ free = differ
 
 -- the text that is told of the ring at a place
 pub text-at : (id : List ℕ) (most : ℕ) (form : Form) (rings : List Ring) (at : ℕ) (r : Ring) → position (is_ring id) rings ≡ Some at → r ≡ get_or rings at r
-    → ring_text id most form rings ≡ Some (told form (ring_oldest (bytes_in r) most))
-text-at id most form rings at r found is = ap (option_map (λ (x : Ring). told form (ring_oldest (bytes_in x) most))) (named-at (is_ring id) rings at r found is)
+    → ring_text id most form rings ≡ Some (encoded form (ring_oldest (bytes_in r) most))
+text-at id most form rings at r found is =
+    ap (option_map (λ (x : Ring). encoded form (ring_oldest (bytes_in x) most))) (named-at (is_ring id) rings at r found is)
 
 pub text-none : (id : List ℕ) (most : ℕ) (form : Form) (rings : List Ring) → position (is_ring id) rings ≡ None → ring_text id most form rings ≡ None
-text-none id most form rings none = ap (option_map (λ (x : Ring). told form (ring_oldest (bytes_in x) most))) (position-none (is_ring id) rings none)
+text-none id most form rings none = ap (option_map (λ (x : Ring). encoded form (ring_oldest (bytes_in x) most))) (position-none (is_ring id) rings none)
 
 -- a ring at a place whose bytes were changed, or which an error left
 pub differ-answered : {T E : Type 0} (answer : Result T E) (id : List ℕ) (rings : List Ring) (at : ℕ) (r new : Ring) → IdsDiffer rings

@@ -4,7 +4,7 @@ use Rattle.base64.specs.Engines.{standard}
 use Rattle.base64.specs.GeneralPurpose.{encode_of, IsBytes}
 use Rattle.qo_values.specs.Rings.{is_ring_size}
 use Rattle.qo_values.specs.declared.limits.TheConstants.{RING_SIZE_MAX}
-use Rattle.qo_chardev.specs.Texts.{untold}
+use Rattle.qo_chardev.specs.Texts.{bytes_of}
 
 -- the sizes of rings are the powers of two up to RING_SIZE_MAX
 abbrev pub SizesArePowers : Type 0
@@ -12,4 +12,4 @@ SizesArePowers = (size : ℕ) → (is_ring_size size ≡ true) ↔ ((k : ℕ) ×
 
 -- a text is read as bytes exactly where it is their Base64
 abbrev pub TextsAreEncodings : Type 0
-TextsAreEncodings = (text bytes : List ℕ) → IsBytes text → IsBytes bytes → (untold text ≡ Some bytes) ↔ (text ≡ encode_of standard bytes)
+TextsAreEncodings = (text bytes : List ℕ) → IsBytes text → IsBytes bytes → (bytes_of text ≡ Some bytes) ↔ (text ≡ encode_of standard bytes)

@@ -5,7 +5,7 @@ use Rattle.std.specs.Str.{bytes_eq}
 use Rattle.qo_values.specs.Rings.{RingBytes, ring_add, ring_oldest}
 use Rattle.qo_values.specs.declared.forms.Form.{Form}
 use Rattle.qo_values.specs.declared.forms.Form.TheVariants.{Utf8, Base64}
-use Rattle.qo_chardev.specs.Texts.{told, untold}
+use Rattle.qo_chardev.specs.Texts.{bytes_of, encoded}
 use Rattle.qo_model.specs.Board.{Ring}
 
 -- the ring of an id
@@ -40,12 +40,12 @@ IdsDiffer (r ∷ rs) = (list_any (is_ring r.id) rs ≡ false) × IdsDiffer rs
 
 -- the text that tells the oldest bytes of the ring of an id, at most so many, if there is such a ring and such a text
 abbrev pub ring_text : List ℕ → ℕ → Form → List Ring → Option (Option (List ℕ))
-ring_text id most form rings = option_map (λ (r : Ring). told form (ring_oldest (bytes_in r) most)) (ring_named id rings)
+ring_text id most form rings = option_map (λ (r : Ring). encoded form (ring_oldest (bytes_in r) most)) (ring_named id rings)
 
 -- the bytes that a text gives
 abbrev pub given_bytes : Form → List ℕ → Option (List ℕ)
 given_bytes Utf8 text = Some text
-given_bytes Base64 text = untold text
+given_bytes Base64 text = bytes_of text
 
 -- the bytes that a text gives are added, as P says of the change
 pub record Gains (form : Form) (text : List ℕ) (P : (RingBytes → RingBytes) → Type 0) : Type 0 where

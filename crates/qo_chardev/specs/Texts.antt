@@ -10,18 +10,18 @@ use Rattle.qo_values.specs.declared.forms.Form.{Form}
 use Rattle.qo_values.specs.declared.forms.Form.TheVariants.{Utf8, Base64}
 
 -- the text that tells bytes: as they are where each is below 128, or in Base64
-abbrev pub told : Form → List ℕ → Option (List ℕ)
-told Utf8 bytes = if list_all is_ascii bytes then Some bytes else None
-told Base64 bytes = Some (encode_of standard bytes)
+abbrev pub encoded : Form → List ℕ → Option (List ℕ)
+encoded Utf8 bytes = if list_all is_ascii bytes then Some bytes else None
+encoded Base64 bytes = Some (encode_of standard bytes)
 
 -- the bytes whose Base64 a text is
-abbrev pub untold : List ℕ → Option (List ℕ)
-untold text = result_ok (decode_of standard text)
+abbrev pub bytes_of : List ℕ → Option (List ℕ)
+bytes_of text = result_ok (decode_of standard text)
 
 -- a ring gained the bytes whose Base64 a text is
 pub record Adds (text : List ℕ) (old new : RingBytes) : Type 0 where
   pub bytes : List ℕ
   pub all : IsBytes bytes
-  pub read : untold text ≡ Some bytes
+  pub read : bytes_of text ≡ Some bytes
   pub written : text ≡ encode_of standard bytes
   pub added : new ≡ ring_add old bytes

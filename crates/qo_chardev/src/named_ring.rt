@@ -23,7 +23,7 @@ impl Model for NamedRing {
 impl NamedRing {
     ghost use Rattle.std.specs.Prelude.{◌≡◌, None, Some, IfOk, OnOk, OnErr};
     ghost use Rattle.qo_values.specs.Rings.{empty_ring, ring_drop, ring_oldest, ring_push};
-    ghost use Rattle.qo_chardev.specs.Texts.{told};
+    ghost use Rattle.qo_chardev.specs.Texts.{encoded};
     ghost use Rattle.qo_chardev.specs.declared.errors.RingAddError.TheVariants as adding;
     ghost use Rattle.qo_chardev.specs.declared.errors.RingTakeError.TheVariants as taking;
     ghost use Rattle.qo_chardev.specs.Rings.{Gains, bytes_in, given_bytes, is_ring, new_ring, with_bytes};
@@ -59,10 +59,10 @@ impl NamedRing {
 
     /// Takes the oldest bytes, at most `most`, and tells them in a form. An error takes nothing.
     pub fn take(&mut self, most: usize, form: Form) -> Result<Text, RingTakeError>
-        ensures text { IfOk result (λ text. told form (ring_oldest (bytes_in self.old) most) ≡ Some text) }
+        ensures text { IfOk result (λ text. encoded form (ring_oldest (bytes_in self.old) most) ≡ Some text) }
         ensures taken { OnOk result (self.new ≡ with_bytes (λ m. ring_drop m most) self.old) }
-        ensures not_ascii { told form (ring_oldest (bytes_in self.old) most) ≡ None → result ≡ Err taking.NotAscii }
-        ensures only_not_ascii { result ≡ Err taking.NotAscii → told form (ring_oldest (bytes_in self.old) most) ≡ None }
+        ensures not_ascii { encoded form (ring_oldest (bytes_in self.old) most) ≡ None → result ≡ Err taking.NotAscii }
+        ensures only_not_ascii { result ≡ Err taking.NotAscii → encoded form (ring_oldest (bytes_in self.old) most) ≡ None }
         ensures found { ¬ (result ≡ Err taking.NotFound) }
         ensures err { OnErr result (self.new ≡ self.old) }
     {

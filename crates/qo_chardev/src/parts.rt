@@ -2,7 +2,7 @@
 
 ghost use Rattle.std.specs.Prelude.{◌≡◌, ◌<◌, None, length, is_some, IfSome, IsNone};
 ghost use Rattle.qo_chardev.specs.Parts.{IsPart};
-ghost use Rattle.qo_chardev.specs.Texts.{untold};
+ghost use Rattle.qo_chardev.specs.Texts.{bytes_of};
 
 use base64::engine::general_purpose::STANDARD;
 
@@ -20,7 +20,7 @@ pub fn first_part<'b, 't>(
 ) -> Option<(&'b [u8], &'t [u8])>
     requires { 0 < length text.now }
     ensures part { IfSome result (λ p. IsPart text.now p.0.now p.1.now) }
-    ensures none { IsNone result → untold text.now ≡ None }
+    ensures none { IsNone result → bytes_of text.now ≡ None }
 {
     let (part, rest) = text.split_at(text.len().min(PART));
     let Ok(count) = STANDARD.decode_slice_unchecked(part, buffer) else {
@@ -35,7 +35,7 @@ pub fn first_part<'b, 't>(
 
 /// Whether a text is the standard Base64 of any bytes.
 pub fn is_base64(text: &[u8]) -> bool
-    ensures { result ≡ is_some (untold text.now) }
+    ensures { result ≡ is_some (bytes_of text.now) }
 {
     let mut buffer = [0; PART_BYTES];
     let mut rest = text;

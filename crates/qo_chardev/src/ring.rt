@@ -66,7 +66,7 @@ impl From<AllocError> for TakeError {
 impl Ring {
     ghost use Rattle.std.specs.Prelude.{◌≡◌, ◌≤◌, length, true, false, None, Some, is_some, IfOk, OnOk, OnErr};
     ghost use Rattle.qo_values.specs.Rings.{is_ring_size, empty_ring, ring_add, ring_push, ring_oldest, ring_drop};
-    ghost use Rattle.qo_chardev.specs.Texts.{told, untold, Adds};
+    ghost use Rattle.qo_chardev.specs.Texts.{encoded, bytes_of, Adds};
 
     /// A ring of a size, without bytes; `BadSize` exactly where the size is no power of two from 1
     /// to `RING_SIZE_MAX`.
@@ -101,12 +101,12 @@ impl Ring {
     /// Takes the oldest bytes, at most `most`, and tells them in a form; `NotAscii` exactly where
     /// the form cannot tell them. An error takes nothing.
     pub fn take(&mut self, most: usize, form: Form) -> Result<Text, TakeError>
-        ensures text { IfOk result (λ text. told form (ring_oldest self.old most) ≡ Some text) }
+        ensures text { IfOk result (λ text. encoded form (ring_oldest self.old most) ≡ Some text) }
         ensures taken { OnOk result (self.new ≡ ring_drop self.old most) }
-        ensures not_ascii { told form (ring_oldest self.old most) ≡ None
+        ensures not_ascii { encoded form (ring_oldest self.old most) ≡ None
             → result ≡ Err TakeError.NotAscii }
         ensures only_not_ascii { result ≡ Err TakeError.NotAscii
-            → told form (ring_oldest self.old most) ≡ None }
+            → encoded form (ring_oldest self.old most) ≡ None }
         ensures err { OnErr result (self.new ≡ self.old) }
     {
         let len = self.buffer.len();
@@ -118,7 +118,7 @@ impl Ring {
     }
 
     /// What is so of every ring: it has at most as many bytes as its size.
-    fn facts(&self)
+    fn reveal_invariant(&self)
         ensures { length self.now.bytes ≤ self.now.size }
     {
         let _size = self.buffer.capacity();
@@ -126,10 +126,10 @@ impl Ring {
 
     /// Adds the bytes of a text that is Base64, part by part.
     fn add_parts(&mut self, text: &[u8])
-        requires { is_some (untold text.now) ≡ true }
+        requires { is_some (bytes_of text.now) ≡ true }
         ensures { Adds text.now self.old self.new }
     {
-        self.facts();
+        self.reveal_invariant();
         let mut buffer = [0; PART_BYTES];
         let mut rest = text;
         while !rest.is_empty() {
@@ -145,8 +145,8 @@ impl Ring {
     /// takes no memory. An error adds nothing.
     pub fn add_base64(&mut self, text: &str) -> Result<(), AddError>
         ensures added { OnOk result (Adds text.now self.old self.new) }
-        ensures bad_text { untold text.now ≡ None → result ≡ Err AddError.BadText }
-        ensures only_bad_text { result ≡ Err AddError.BadText → untold text.now ≡ None }
+        ensures bad_text { bytes_of text.now ≡ None → result ≡ Err AddError.BadText }
+        ensures only_bad_text { result ≡ Err AddError.BadText → bytes_of text.now ≡ None }
         ensures err { OnErr result (self.new ≡ self.old) }
     {
         let text = text.as_bytes();

@@ -3,7 +3,7 @@
 ghost use Rattle.std.specs.Prelude.{◌≡◌, ◌++◌, ◌≤◌, true, None, Some, take, length, IfOk};
 ghost use Rattle.std.specs.Char.{is_ascii};
 ghost use Rattle.std.specs.List.{list_all};
-ghost use Rattle.qo_chardev.specs.Texts.{told};
+ghost use Rattle.qo_chardev.specs.Texts.{encoded};
 
 use crate::ring::TakeError;
 use base64::engine::general_purpose::STANDARD;
@@ -51,11 +51,11 @@ fn ascii_text(bytes: Vec<u8>) -> Text
 
 /// The text that tells the bytes of two slices in a form; `NotAscii` exactly where there is none.
 pub fn tell(alloc: Global, front: &[u8], back: &[u8], form: Form) -> Result<Text, TakeError>
-    ensures text { IfOk result (λ text. told form (front.now ++ back.now) ≡ Some text) }
-    ensures not_ascii { told form (front.now ++ back.now) ≡ None
+    ensures text { IfOk result (λ text. encoded form (front.now ++ back.now) ≡ Some text) }
+    ensures not_ascii { encoded form (front.now ++ back.now) ≡ None
         → result ≡ Err TakeError.NotAscii }
     ensures only_not_ascii { result ≡ Err TakeError.NotAscii
-        → told form (front.now ++ back.now) ≡ None }
+        → encoded form (front.now ++ back.now) ≡ None }
 {
     match form {
         Form::Utf8 => {

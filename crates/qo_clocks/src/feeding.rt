@@ -15,7 +15,7 @@ pub fn fed_at<L: Ledger>(heap: &Heap, place: usize, c: Oid, steps: &mut Steps<L>
     ensures fed { result ≡ option_and_then (fed_at heap.now c.birth) (option_map (λ row. row.0) (slice_get heap.now.rows place)) }
     ensures live { IfSome result (IsLive heap.now.rows) }
 {
-    heap.facts();
+    heap.reveal_invariant();
     let n = heap.oid_at(place)?;
     let source = source_of(heap, n, steps)?;
     if source.birth == c.birth {

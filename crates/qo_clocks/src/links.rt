@@ -36,7 +36,7 @@ fn link<L: Ledger>(heap: &mut Heap, c: Oid, name: &str, target: Oid, steps: &mut
     requires target { IsLive heap.old.rows target }
     ensures { heap.new ≡ changed_named c.birth name.now (fitted_on heap.old target) heap.old }
 {
-    heap.facts();
+    heap.reveal_invariant();
     let Some(link) = heap.slot(c, name, steps) else {
         return;
     };
@@ -69,7 +69,7 @@ fn unlink<L: Ledger>(heap: &mut Heap, c: Oid, name: &str, steps: &mut Steps<L>)
     requires { IsLive heap.old.rows c }
     ensures { heap.new ≡ changed_named c.birth name.now unseen_on heap.old }
 {
-    heap.facts();
+    heap.reveal_invariant();
     let Some(link) = heap.slot(c, name, steps) else {
         return;
     };

@@ -78,7 +78,7 @@ pub fn period<L: Ledger>(heap: &Heap, c: Oid, steps: &mut Steps<L>) -> u64
     requires { IsLive heap.now.rows c }
     ensures { (b : Board) → Shows b heap.now → ClocksFit b → result ≡ period b c.birth }
 {
-    heap.facts();
+    heap.reveal_invariant();
     period_within(heap, c, heap.live() + 1, steps)
 }
 

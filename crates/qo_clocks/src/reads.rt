@@ -84,7 +84,7 @@ pub fn source_of<L: Ledger>(heap: &Heap, c: Oid, steps: &mut Steps<L>) -> Option
     ensures source { result ≡ source_on heap.now c.birth }
     ensures live { IfSome result (IsLive heap.now.rows) }
 {
-    heap.facts();
+    heap.reveal_invariant();
     weak_target(slot_of(heap, c, "source", steps)?)
 }
 
@@ -104,6 +104,6 @@ pub fn clock_of<L: Ledger>(heap: &Heap, dev: Oid, steps: &mut Steps<L>) -> Optio
     ensures clock { result ≡ clock_on heap.now dev.birth }
     ensures live { IfSome result (IsLive heap.now.rows) }
 {
-    heap.facts();
+    heap.reveal_invariant();
     child_in(slot_of(heap, dev, "clk", steps)?)
 }

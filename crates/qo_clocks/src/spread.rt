@@ -17,7 +17,7 @@ fn call_back<L: Ledger>(heap: &mut Heap, c: Oid, before: u64, after: u64, steps:
     requires { Timely heap.old }
     ensures { heap.new ≡ called_on (record { clock = c.birth; before = before; after = after }) heap.old }
 {
-    heap.facts();
+    heap.reveal_invariant();
     if before == after {
         return;
     }

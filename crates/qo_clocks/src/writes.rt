@@ -92,7 +92,7 @@ pub fn set<L: Ledger>(
     if source_of(heap, c, steps).is_some() {
         return Err(ClockError::HasSource);
     }
-    heap.facts();
+    heap.reveal_invariant();
     let levels = heap.live() + 1;
     let before = scaled(heap, c, own_period(heap, c, steps), steps);
     let own = written(heap, c, "period", period, 0, steps);
@@ -134,7 +134,7 @@ pub fn set_mul_div<L: Ledger>(
     if div == 0 {
         return Err(ClockError::DividerZero);
     }
-    heap.facts();
+    heap.reveal_invariant();
     let levels = heap.live() + 1;
     let own = period(heap, c, steps);
     let before = scaled(heap, c, own, steps);

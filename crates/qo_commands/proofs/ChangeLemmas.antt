@@ -27,7 +27,7 @@ use Rattle.qo_requests.specs.declared.calls.Change.TheVariants.{Add}
 use Rattle.qo_commands.specs.Changes.{Alters, Came, Changes, ComesTo, by_answer}
 use Rattle.qo_commands.specs.Views.{done_of}
 use Rattle.qo_commands.specs.declared.commands.Done as outcome
-use Rattle.qo_commands.specs.Commands.{Done, added, answered, changed, empty, plugged, refused_with, reset_by, returned, ring_told, switched, time_data, timed, told, wrote}
+use Rattle.qo_commands.specs.Commands.{Done, added, answered, changed, empty, guest_reply, plugged, refused_with, reset_by, returned, ring_told, switched, time_data, timed, wrote}
 
 -- what came to one definition came to the same under another name
 pub came-as : (is was : Done) (d : outcome.Done) (p : Parts) → is ≡ was → Came was d p → Came is d p
@@ -125,9 +125,9 @@ pub refused-as : (b : Board) (w : Wanted) (refusal : AddRefusal) (stage : ℕ) (
 refused-as b w refusal stage code p is h = subst (λ (x : AddRefusal). Plugs b w (Err x) p) is h
 
 -- a line of the guest
-pub told-came : (o : Outcome) (h : Heard) (d : outcome.Done) (p : Parts) → hearing.Came o h p → ((x : Board) → done_of x d ≡ told (outcome_of x h))
-    → Came (told o) d p
-told-came o h d p (now, is) so = (now, so o.board ∙ ap told is)
+pub told-came : (o : Outcome) (h : Heard) (d : outcome.Done) (p : Parts) → hearing.Came o h p → ((x : Board) → done_of x d ≡ guest_reply (outcome_of x h))
+    → Came (guest_reply o) d p
+told-came o h d p (now, is) so = (now, so o.board ∙ ap guest_reply is)
 
 -- the time went on, or it may not
 pub step-ok : (change : Changed) (p : Parts) (time : ℕ) (d : outcome.Done) → Advances change (Ok time) p

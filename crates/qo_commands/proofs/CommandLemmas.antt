@@ -16,8 +16,8 @@ use Rattle.qo_replies.specs.Json.{ascii, json}
 use Rattle.qo_memmap.specs.declared.span.Span.{Span}
 use Rattle.qo_commands.specs.Commands.{detached_data, empty, note_data, property_data, shown_data, status_data, type_data}
 use Rattle.qo_commands.specs.Views.{body_data, data_of, has_float_in}
-use Rattle.qo_commands.specs.declared.commands.Body.{Body}
-use Rattle.qo_commands.specs.declared.commands.Body.TheVariants.{Answer, Empty, Status, Listing, Time, Told, Value}
+use Rattle.qo_commands.specs.declared.commands.ReplyBody.{ReplyBody}
+use Rattle.qo_commands.specs.declared.commands.ReplyBody.TheVariants.{Answer, Empty, Status, Listing, Time, Told, Value}
 
 pub rows_no_float : (rows : List (List ℕ × List ℕ)) → items_have_float (items_of (map property_data rows)) ≡ false
 rows_no_float [] = refl
@@ -47,7 +47,7 @@ types_no_float (r ∷ rs) = by r.is_abstract r.parent (types_no_float rs)
     by false (Some parent) rest = rest
 
 -- what a command returns has no fraction, and so has a text
-body_no_float : (b : Board) (body : Body) → has_float (body_data b body) ≡ false
+body_no_float : (b : Board) (body : ReplyBody) → has_float (body_data b body) ≡ false
 body_no_float b Empty = refl
 body_no_float b (Status running) = refl
 body_no_float b (Listing n) = rows_no_float (listing b n)
@@ -56,7 +56,7 @@ body_no_float b (Time now) = refl
 body_no_float b (Told text) = refl
 body_no_float b (Value whole) = whole.whole
 
-pub no_float : (b : Board) (r : Result Body Code) → has_float_in (data_of b r) ≡ false
+pub no_float : (b : Board) (r : Result ReplyBody Code) → has_float_in (data_of b r) ≡ false
 no_float b (Ok body) = body_no_float b body
 no_float b (Err code) = refl
 

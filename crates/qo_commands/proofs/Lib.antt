@@ -8,3 +8,4 @@ pub mod LineLemmas
 pub mod MemoryLemmas
 pub mod RefusedCommandLemmas
 pub mod RefusedLineLemmas
+pub mod InterruptLemmas

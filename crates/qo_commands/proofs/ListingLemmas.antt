@@ -89,7 +89,7 @@ rows-all rows t same i high =
     ∙ ap (λ (l : List (List ℕ × List ℕ)). map property_data l) (words-all (slots_of t))
 
 -- a property is told of where the adding command writes it
-pub row-pushed : (p : Property) (text : List ℕ) (before after : List Data) → may_add p.mark ≡ true → text ≡ role_word p.role
+pub row-pushed : (p : Property) (text : List ℕ) (before after : List Data) → may_add p.access ≡ true → text ≡ role_word p.role
     → after ≡ before ++ property_data (property_name p.name, text) ∷ [] → after ≡ before ++ map property_data (words_for_adding p)
 row-pushed p text before after may is more = rw (may, ← is) more
 

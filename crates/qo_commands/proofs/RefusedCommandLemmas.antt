@@ -9,7 +9,7 @@ use Rattle.qo_values.specs.declared.forms.Form.{Form}
 use Rattle.qo_values.specs.declared.forms.Form.TheVariants.{Utf8}
 use Rattle.qo_values.specs.declared.births.TheConstants.{OBJECTS_BIRTH}
 use Rattle.qo_values.specs.declared.limits.TheConstants.{TIME_MAX}
-use Rattle.qo_chardev.specs.Texts.{told as text_told}
+use Rattle.qo_chardev.specs.Texts.{encoded as text_told}
 use Rattle.qo_values.specs.Rings.{ring_oldest}
 use Rattle.qo_guest.specs.declared.answers.GuestAnswer.{GuestAnswer}
 use Rattle.qo_guest.specs.declared.answers.GuestAnswer.TheVariants.{Fine, NoAddress, NoDevice, NoLine, NoMemory, NoNotice, NoPending, NoRegister, NoStopped, Plug, Unplug, Value}
@@ -24,7 +24,7 @@ use Rattle.qo_model.specs.Objects.{Changed, attempted_as, index_from, is_object_
 use Rattle.qo_model.specs.Paths.{Resolution, attached, found, missing, resolve, several}
 use Rattle.qo_model.specs.Plug.{Plugged, claims_ring, has_ring, notice_barred, plug}
 use Rattle.qo_model.specs.Release.{let_go}
-use Rattle.qo_model.specs.Reset.{is_deep}
+use Rattle.qo_model.specs.Reset.{exceeds_depth}
 use Rattle.qo_model.specs.Types.{TypeInfo, is_a, type_named}
 use Rattle.qo_plug.specs.Admission.{wanted}
 use Rattle.qo_realize.specs.Chardevs.{Reading, by_code, chardev_added, chardev_barred, chardev_removed, removal_barred, ring_read, ring_written, ringbuf_read, ringbuf_written, taken_as, written_as}
@@ -45,7 +45,7 @@ use Rattle.qo_requests.specs.declared.calls.Query.TheVariants.{DeviceListPropert
 use Rattle.qo_chardev.specs.Rings.{bytes_in, given_bytes, ring_named}
 use Rattle.qo_commands.specs.Changes.{attempted}
 use Rattle.qo_replies.specs.Properties.{property_data}
-use Rattle.qo_commands.specs.Commands.{Done, added, adding_properties, altered, answer_told, answered, changed, device_properties, performed, plugged, queried, refused_with, returned, ring_told, timed, told, wrote}
+use Rattle.qo_commands.specs.Commands.{Done, added, adding_properties, altered, answer_told, answered, changed, device_properties, guest_reply, performed, plugged, queried, refused_with, returned, ring_told, timed, wrote}
 use Rattle.qo_commands.specs.Refusals.{LeftAlone, RefusedCommandsLaw, makes_objects}
 use Rattle.qo_commands.proofs.AttemptLemmas.{attempted-by}
 
@@ -143,7 +143,7 @@ at_path-stays b change (Err why) stays = here-stays b (Some why)
 
 held-stays : (b : Board) (n : ℕ) → Stays b (held_of b n)
 held-stays b n =
-    or-stays b (not (attached b n)) _ _ (here-stays b (Some E15)) (or-stays b (is_deep b n) _ _ (here-stays b (Some E48)) (there-stays b _))
+    or-stays b (not (attached b n)) _ _ (here-stays b (Some E15)) (or-stays b (exceeds_depth b n) _ _ (here-stays b (Some E48)) (there-stays b _))
 
 released-stays : (b : Board) (n : ℕ) → Stays b (released_of b n)
 released-stays b n = or-stays b (among b.holds n) _ _ (there-stays b _) (here-stays b (Some E49))
@@ -169,13 +169,13 @@ read-leaves b id most form = by (ring_named id b.rings)
     by (Some r) = text (text_told form (ring_oldest (bytes_in r) most))
 
 -- a line of the guest: it is refused where it is none
-line-leaves : (b : Board) (d : Outcome) → (is_refusal d.answer ≡ true → d ≡ line_answered b d.answer) → Leaves b (told d)
+line-leaves : (b : Board) (d : Outcome) → (is_refusal d.answer ≡ true → d ≡ line_answered b d.answer) → Leaves b (guest_reply d)
 line-leaves b d alone code e = go d.answer refl e
   where
-    go : (a : GuestAnswer) → d.answer ≡ a → answer_told a ≡ Err code → told d ≡ refused_with b code
+    go : (a : GuestAnswer) → d.answer ≡ a → answer_told a ≡ Err code → guest_reply d ≡ refused_with b code
     go NoLine is p =
         let same : Err E54 ≡ Err code = p in
-        ap told (alone (ap is_refusal is) ∙ ap (line_answered b) is) ∙ (let why : E54 ≡ code = cc in ap (refused_with b) why)
+        ap guest_reply (alone (ap is_refusal is) ∙ ap (line_answered b) is) ∙ (let why : E54 ≡ code = cc in ap (refused_with b) why)
     go Fine is p = absurd (let clash : Ok _ ≡ Err code = p in cc)
     go (Plug at) is p = absurd (let clash : Ok _ ≡ Err code = p in cc)
     go (Unplug at) is p = absurd (let clash : Ok _ ≡ Err code = p in cc)

@@ -6,7 +6,7 @@ use Rattle.qo_guest.specs.Lines.{guest_line}
 use Rattle.qo_guest.specs.declared.addresses.Addr.{Addr}
 use Rattle.qo_guest.specs.declared.answers.GuestAnswer.TheVariants.{NoPending, NoRegister, NoStopped}
 use Rattle.qo_guest.specs.declared.lines.GuestAct.{GuestAct}
-use Rattle.qo_guest.specs.declared.lines.GuestAct.TheVariants.{Ack, Nack, Peek, Poke, Poll, Read, Reset, Shutdown, Write}
+use Rattle.qo_guest.specs.declared.lines.GuestAct.TheVariants.{Ack, Irq, Nack, Peek, Poke, Poll, Read, Reset, Shutdown, Write}
 use Rattle.qo_layout.specs.Layout.{register_at}
 use Rattle.qo_layout.specs.declared.views.RegisterPlace.{RegisterPlace}
 use Rattle.qo_model.specs.Board.{Board, Notice}
@@ -79,6 +79,7 @@ acted-alone b (Read at reg) = read-alone b reg (addressed b at)
 acted-alone b (Write at reg value) = write-alone b reg value (addressed b at)
 acted-alone b (Peek at) = peek-alone b (register_at b at)
 acted-alone b (Poke at value) = poke-alone b value (register_at b at)
+acted-alone b Irq = λ e. refl
 acted-alone b Reset = λ e. absurd (true≢false (sym e))
 acted-alone b Shutdown = λ e. absurd (true≢false (sym e))
 

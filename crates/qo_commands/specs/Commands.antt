@@ -101,8 +101,8 @@ abbrev pub answer_told : GuestAnswer → Result Data Code
 answer_told NoLine = Err E54
 answer_told answer = Ok (answer_data answer)
 
-abbrev pub told : Outcome → Done
-told line = record { result = answer_told line.answer; board = line.board; events = line.events; ends = line.ends }
+abbrev pub guest_reply : Outcome → Done
+guest_reply line = record { result = answer_told line.answer; board = line.board; events = line.events; ends = line.ends }
 
 -- the machine runs, or stands still; it is told of where that is a change
 abbrev pub switched : Board → Bool → Event → Done
@@ -182,7 +182,7 @@ types_of name with_abstract = filter_map info_of (listed_types name with_abstrac
 
 -- whether the adding command writes a property
 abbrev pub is_for_adding : Property → Bool
-is_for_adding row = may_add row.mark
+is_for_adding row = may_add row.access
 
 -- the type text of a property by its row; that of an alias is the text of what it passes on to, and is empty here
 abbrev pub link_word : TypeId → List ℕ
@@ -247,7 +247,7 @@ altered b (ChardevAdd id kind size) = changed (chardev_added b id kind size)
 altered b (ChardevRemove id) = changed (chardev_removed b id)
 altered b (RingbufRead device size format) = ring_told (ringbuf_read b device size format)
 altered b (RingbufWrite device payload format) = changed (ringbuf_written b device payload format)
-altered b (XGuest line) = told (heard b line)
+altered b (XGuest line) = guest_reply (heard b line)
 altered b Stop = switched b false Stopped
 altered b Cont = switched b true Resume
 altered b (XStep ns) = timed (advanced b ns)

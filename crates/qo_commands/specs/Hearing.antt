@@ -4,12 +4,13 @@ use Rattle.qo_guest.specs.Lines.{guest_line}
 use Rattle.qo_guest.specs.declared.answers.GuestAnswer.{GuestAnswer}
 use Rattle.qo_guest.specs.declared.answers.GuestAnswer.TheVariants.{Fine, Plug, Unplug, NoNotice, Value, NoLine, NoStopped, NoAddress, NoDevice, NoPending, NoRegister}
 use Rattle.qo_guest.specs.declared.lines.GuestAct.{GuestAct}
-use Rattle.qo_guest.specs.declared.lines.GuestAct.TheVariants.{Ack, Nack, Poll, Read, Write, Peek, Poke, Reset as start_over, Shutdown as power_off}
+use Rattle.qo_guest.specs.declared.lines.GuestAct.TheVariants.{Ack, Nack, Poll, Read, Write, Peek, Poke, Irq, Reset as start_over, Shutdown as power_off}
 use Rattle.qo_model.specs.Board.{Board, Notice}
 use Rattle.qo_model.specs.Depth.{among}
 use Rattle.qo_model.specs.Hotplug.{completed, refused, reset_whole}
 use Rattle.qo_model.specs.Paths.{is_of}
 use Rattle.qo_layout.specs.Layout.{register_at}
+use Rattle.qo_lines.specs.Lines.{irq_of}
 use Rattle.qo_layout.specs.declared.addresses.TheConstants.{BOOT_LEAF}
 use Rattle.qo_layout.specs.declared.views.RegisterPlace.{RegisterPlace}
 use Rattle.qo_buses.specs.Addresses.{addressed}
@@ -91,6 +92,10 @@ poked b value None = answered b NoAddress
 poked b value (Some place) =
     if has_registers b place.device then written_by b place.register value (Some place.device) else answered b NoRegister
 
+-- it reads the interrupt lines of the devices in the slots of the root bus
+abbrev pub irq_by : Board → Outcome
+irq_by b = answered b (Value (irq_of b))
+
 -- it resets the whole board, and sessions are told that it did
 abbrev pub reset_by : Board → Outcome
 reset_by b = record { answer = Fine; board = reset_whole b; events = Reset true ∷ []; ends = false }
@@ -108,6 +113,7 @@ acted b (Read at reg) = read_by b reg (addressed b at)
 acted b (Write at reg value) = written_by b reg value (addressed b at)
 acted b (Peek at) = peeked b (register_at b at)
 acted b (Poke at value) = poked b value (register_at b at)
+acted b Irq = irq_by b
 acted b start_over = reset_by b
 acted b power_off = shut_down b
 

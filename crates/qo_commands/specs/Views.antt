@@ -10,12 +10,12 @@ use Rattle.qo_model.specs.declared.properties.Property.{Property}
 use Rattle.qo_model.specs.Listing.{listing}
 use Rattle.qo_replies.specs.Properties.{properties_data}
 use Rattle.qo_commands.specs.Commands as defined
-use Rattle.qo_commands.specs.declared.commands.Body.{Body}
-use Rattle.qo_commands.specs.declared.commands.Body.TheVariants.{Answer, Empty, Status, Listing, Time, Told, Value}
+use Rattle.qo_commands.specs.declared.commands.ReplyBody.{ReplyBody}
+use Rattle.qo_commands.specs.declared.commands.ReplyBody.TheVariants.{Answer, Empty, Status, Listing, Time, Told, Value}
 use Rattle.qo_commands.specs.declared.commands.Done.{Done}
 
 -- what is returned, as data, where this board stands
-abbrev pub body_data : Board → Body → Data
+abbrev pub body_data : Board → ReplyBody → Data
 body_data b Empty = defined.empty
 body_data b (Status running) = defined.status_data running
 body_data b (Listing n) = properties_data (listing b n)
@@ -24,7 +24,7 @@ body_data b (Time now) = defined.time_data now
 body_data b (Told text) = string text
 body_data b (Value whole) = view whole.value
 
-abbrev pub data_of : Board → Result Body Code → Result Data Code
+abbrev pub data_of : Board → Result ReplyBody Code → Result Data Code
 data_of b (Ok body) = Ok (body_data b body)
 data_of b (Err code) = Err code
 

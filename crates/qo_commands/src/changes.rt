@@ -6,16 +6,18 @@ ghost use Rattle.qo_requests.specs.declared.calls.Addition.TheVariants as additi
 ghost use Rattle.qo_requests.specs.declared.calls.Alteration.TheVariants as alteration;
 ghost use Rattle.qo_requests.specs.declared.calls.Change.TheVariants as change;
 ghost use Rattle.qo_commands.specs.Changes.{Alters, Came, Changes};
-ghost use Rattle.qo_commands.specs.Commands.{altered, empty, told};
+ghost use Rattle.qo_commands.specs.Commands.{altered, empty, guest_reply};
 ghost use Rattle.qo_commands.specs.Views.{done_of};
 ghost use Rattle.qo_commands.specs.Hearing.{outcome_of};
+ghost use Rattle.qo_commands.specs.Interrupts.{HasLines};
 ghost use Rattle.qo_realize.specs.Representation.{Stands};
 
-use crate::commands::{Body, Done, done_by, outcome_of, refused, returned};
+use crate::commands::{Done, ReplyBody, done_by, outcome_of, refused, returned};
 use crate::hearing::{Heard, hear};
 use crate::rings::{add_ring, read_ring, remove_ring, write_ring};
 use qo_guest::GuestAnswer;
 use qo_heap::Steps;
+use qo_lines::Lines;
 use qo_plug::{AddRefusal, DeviceOptions};
 use qo_realize::Board;
 use qo_replies::Event;
@@ -96,7 +98,7 @@ fn plug<L: Ledger>(
         props,
     };
     match board.add(&options, alloc, steps) {
-        Ok(_) => Ok(returned(Body::Empty)),
+        Ok(_) => Ok(returned(ReplyBody::Empty)),
         Err(AddRefusal::Refused { code, .. }) => Ok(refused(code)),
         Err(AddRefusal::Memory) => Err(AllocError),
     }
@@ -110,12 +112,12 @@ fn unplug<L: Ledger>(board: &mut Board, id: &str, steps: &mut Steps<L>) -> Done
 }
 
 /// What a line of the guest comes to as a command: one that is none is refused.
-fn told(heard: Heard) -> Done
-    ensures { (b : Tree) → done_of b result ≡ told (outcome_of b heard) }
+fn guest_reply(heard: Heard) -> Done
+    ensures { (b : Tree) → done_of b result ≡ guest_reply (outcome_of b heard) }
 {
     let result = match heard.answer {
         GuestAnswer::NoLine => Err(Code::E54),
-        answer => Ok(Body::Answer(answer)),
+        answer => Ok(ReplyBody::Answer(answer)),
     };
     Done {
         result,
@@ -128,13 +130,15 @@ fn told(heard: Heard) -> Done
 fn guest<L: Ledger>(
     alloc: Global,
     board: &mut Board,
+    lines: &Lines,
     line: &str,
     steps: &mut Steps<L>,
 ) -> Result<Done, AllocError>
+    requires { HasLines board.old lines.now }
     ensures { (b : Tree) → Stands b board.old → Alters b (altered b (alteration.XGuest line.now)) result board.new }
 {
-    let heard = hear(board, line.as_bytes(), alloc, steps)?;
-    Ok(told(heard))
+    let heard = hear(board, lines, line.as_bytes(), alloc, steps)?;
+    Ok(guest_reply(heard))
 }
 
 /// The machine runs, or stands still: it is told of where that is a change.
@@ -142,7 +146,7 @@ fn switched(changes: bool, event: Event) -> Done
     ensures { (b : Tree) → done_of b result ≡ record { result = Ok empty; board = b; events = if changes then event ∷ [] else []; ends = false } }
 {
     Done {
-        result: Ok(Body::Empty),
+        result: Ok(ReplyBody::Empty),
         event: if changes { Some(event) } else { None },
         ends: false,
     }
@@ -167,7 +171,7 @@ fn step(board: &mut Board, ns: u64) -> Done
     ensures { (b : Tree) → Stands b board.old → Came (altered b (alteration.XStep ns)) result board.new }
 {
     match board.advance(ns) {
-        Ok(now) => returned(Body::Time(now)),
+        Ok(now) => returned(ReplyBody::Time(now)),
         Err(code) => refused(code),
     }
 }
@@ -178,7 +182,7 @@ fn reset<L: Ledger>(board: &mut Board, steps: &mut Steps<L>) -> Done
 {
     board.system_reset(steps);
     Done {
-        result: Ok(Body::Empty),
+        result: Ok(ReplyBody::Empty),
         event: Some(Event::Reset { guest: false }),
         ends: false,
     }
@@ -235,9 +239,11 @@ fn extend<L: Ledger>(
 fn alter<L: Ledger>(
     alloc: Global,
     board: &mut Board,
+    lines: &Lines,
     alteration: &Alteration,
     steps: &mut Steps<L>,
 ) -> Result<Done, AllocError>
+    requires { HasLines board.old lines.now }
     ensures { (b : Tree) → Stands b board.old → Alters b (altered b alteration.now) result board.new }
 {
     match alteration {
@@ -263,7 +269,7 @@ fn alter<L: Ledger>(
             payload,
             format,
         } => Ok(write_ring(board, device.as_str(), payload.as_str(), *format)),
-        Alteration::XGuest { line } => guest(alloc, board, line.as_str(), steps),
+        Alteration::XGuest { line } => guest(alloc, board, lines, line.as_str(), steps),
         Alteration::Stop => Ok(stop(board)),
         Alteration::Cont => Ok(cont(board)),
         Alteration::XStep { ns } => Ok(step(board, *ns)),
@@ -275,18 +281,20 @@ fn alter<L: Ledger>(
 
 /// A command that changes the board, or is refused. Events on devices wait on the board after it.
 /// Where it is refused the board is as it was, but for an attempt of one that makes objects, which was
-/// given up. The error is want of memory; the board is then as it was, or after an attempt that was
-/// cut.
+/// given up. `lines` are the interrupt lines of the board. The error is want of memory; the board is then as
+/// it was, or after an attempt that was cut.
 pub fn change<L: Ledger>(
     alloc: Global,
     board: &mut Board,
+    lines: &Lines,
     change: &Change,
     steps: &mut Steps<L>,
 ) -> Result<Done, AllocError>
+    requires { HasLines board.old lines.now }
     ensures { (b : Tree) → Stands b board.old → Changes b change.now result board.new }
 {
     match change {
         Change::Add(addition) => extend(alloc, board, addition, steps),
-        Change::Alter(alteration) => alter(alloc, board, alteration, steps),
+        Change::Alter(alteration) => alter(alloc, board, lines, alteration, steps),
     }
 }

@@ -12,13 +12,13 @@ ghost use Rattle.qo_realize.specs.Representation.{Stands};
 ghost use Rattle.qo_commands.specs.Views.{body_data, done_of};
 
 use crate::detached::query_detached;
+use crate::integer_json::IntegerJson;
 use crate::listings::list;
 use crate::memmap::query_memmap;
 use crate::notes::query_notes;
 use crate::query_commands::commands;
 use crate::types::{list_properties, list_types};
 use crate::values::get;
-use crate::whole::Whole;
 use qo_guest::GuestAnswer;
 use qo_heap::Steps;
 use qo_properties::Refusal;
@@ -32,7 +32,7 @@ use std::sync::ledger::Ledger;
 
 /// What a command returns.
 #[derive(Drop)]
-pub enum Body {
+pub enum ReplyBody {
     /// Nothing: an object without members.
     Empty,
     /// Whether the machine runs.
@@ -46,14 +46,14 @@ pub enum Body {
     /// The bytes that were taken of a ring, as they are told.
     Told(Text),
     /// A value of its own.
-    Value(Whole),
+    Value(IntegerJson),
 }
 
 /// What a command comes to.
 #[derive(Drop)]
 pub struct Done {
     /// What it returns, or the code that refuses it.
-    pub result: Result<Body, Code>,
+    pub result: Result<ReplyBody, Code>,
     /// Its event, if it has one.
     pub event: Option<Event>,
     /// Whether it ends the run.
@@ -61,7 +61,7 @@ pub struct Done {
 }
 
 /// A command that returns something.
-pub(crate) fn returned(body: Body) -> Done
+pub(crate) fn returned(body: ReplyBody) -> Done
     ensures { (b : Tree) → done_of b result ≡ returned b (body_data b body) }
 {
     Done {
@@ -76,7 +76,7 @@ pub(crate) fn returned_value(value: Value) -> Done
     requires { has_float (view value) ≡ false }
     ensures { (b : Tree) → done_of b result ≡ returned b (view value) }
 {
-    returned(Body::Value(Whole::new(value)))
+    returned(ReplyBody::Value(IntegerJson::new(value)))
 }
 
 /// A command that is refused.
@@ -95,7 +95,7 @@ pub(crate) fn outcome_of(answer: Result<(), Refusal>) -> Result<Done, AllocError
     ensures { ComesTo answer result }
 {
     match answer {
-        Ok(()) => Ok(returned(Body::Empty)),
+        Ok(()) => Ok(returned(ReplyBody::Empty)),
         Err(Refusal::Refused(code)) => Ok(refused(code)),
         Err(Refusal::Memory) => Err(AllocError),
     }
@@ -106,7 +106,7 @@ pub(crate) fn done_by(answer: Result<(), Code>) -> Done
     ensures { (b : Tree) → done_of b result ≡ by_answer b answer }
 {
     match answer {
-        Ok(()) => returned(Body::Empty),
+        Ok(()) => returned(ReplyBody::Empty),
         Err(code) => refused(code),
     }
 }
@@ -116,7 +116,7 @@ fn quit() -> Done
     ensures { (b : Tree) → done_of b result ≡ record { result = Ok empty; board = b; events = event.Shutdown false ∷ []; ends = true } }
 {
     Done {
-        result: Ok(Body::Empty),
+        result: Ok(ReplyBody::Empty),
         event: Some(Event::Shutdown { guest: false }),
         ends: true,
     }
@@ -150,7 +150,7 @@ pub fn ask<L: Ledger>(
         Query::XMemmap => query_memmap(alloc, board, steps),
         Query::QueryVersion => Ok(returned_value(version(alloc)?)),
         Query::QueryCommands => Ok(returned_value(commands(alloc)?)),
-        Query::QueryStatus => Ok(returned(Body::Status(board.running()))),
+        Query::QueryStatus => Ok(returned(ReplyBody::Status(board.running()))),
         Query::Quit => Ok(quit()),
     }
 }

@@ -5,12 +5,16 @@ ghost use Rattle.qo_heap.specs.Rows.{IsLive};
 ghost use Rattle.qo_model.specs.Board.{Board as Tree};
 ghost use Rattle.qo_realize.specs.Representation.{Stands};
 ghost use Rattle.qo_buses.specs.Addresses.{addressed};
-ghost use Rattle.qo_commands.specs.Hearing.{Came, acked, acted, heard, nacked, outcome_of, polled_by, read_by, reset_by, shut_down, notice_answer, value_answer, written_by};
+ghost use Rattle.qo_commands.specs.Hearing.{Came, acked, acted, heard, nacked, irq_by, outcome_of, polled_by, read_by, reset_by, shut_down, notice_answer, value_answer, written_by};
+ghost use Rattle.qo_commands.specs.Interrupts.{HasLines};
+ghost use Rattle.qo_lines.specs.Rows.{LinesAre};
+ghost use Rattle.qo_sound_devices.specs.SoundDevices.{SoundDevices};
 
 use crate::memory::{peek, poke};
 use qo_guest::{Addr, GuestAct, GuestAnswer, read_line};
 use qo_heap::{Oid, Steps};
 use qo_hotplug::Notice;
+use qo_lines::Lines;
 use qo_realize::Board;
 use qo_replies::Event;
 use std::alloc::{AllocError, Global};
@@ -166,6 +170,14 @@ fn write<L: Ledger>(
     write_register(board, dev, reg, value, steps)
 }
 
+/// The guest reads the interrupt lines: the bit of a slot of the root bus is the line of the device in it. It
+/// takes no memory.
+fn irq(lines: &Lines) -> Heard
+    ensures { (b : Tree) → SoundDevices b → LinesAre b lines.now → outcome_of b result ≡ irq_by b }
+{
+    answered(GuestAnswer::Value(lines.irq()))
+}
+
 /// The guest resets the whole board. It takes no memory.
 fn reset<L: Ledger>(board: &mut Board, steps: &mut Steps<L>) -> Heard
     ensures { (b : Tree) → Stands b board.old → Came (reset_by b) result board.new }
@@ -193,10 +205,12 @@ fn shut_down() -> Heard
 /// the board as it was.
 fn act<L: Ledger>(
     board: &mut Board,
+    lines: &Lines,
     act: &GuestAct,
     alloc: Global,
     steps: &mut Steps<L>,
 ) -> Result<Heard, AllocError>
+    requires { HasLines board.old lines.now }
     ensures came { (b : Tree) → Stands b board.old → IfOk result (λ h. Came (acted b act.now) h board.new) }
     ensures err { OnErr result (board.new ≡ board.old) }
 {
@@ -208,6 +222,7 @@ fn act<L: Ledger>(
         GuestAct::Write(at, reg, value) => Ok(write(board, at, *reg, *value, steps)),
         GuestAct::Peek(at) => peek(board, *at, alloc, steps),
         GuestAct::Poke(at, value) => poke(board, *at, *value, alloc, steps),
+        GuestAct::Irq => Ok(irq(lines)),
         GuestAct::Reset => Ok(reset(board, steps)),
         GuestAct::Shutdown => Ok(shut_down()),
     }
@@ -216,14 +231,17 @@ fn act<L: Ledger>(
 /// What one line of the guest does, without its line end, and what it is answered: `no line` where it
 /// is none, `no stopped` where the machine does not run, `no device` where none is at its address, `no
 /// pending` where no removal of that one is pending, `no address` where no register shows at its hardware
-/// address, and `no register` where the device has none of its number. Events on devices wait on the board after it. The error is want of memory, and leaves the
-/// board as it was.
+/// address, and `no register` where the device has none of its number. `lines` are the interrupt lines of the
+/// board. Events on devices wait on the board after it. The error is want of memory, and leaves the board as
+/// it was.
 pub fn hear<L: Ledger>(
     board: &mut Board,
+    lines: &Lines,
     line: &[u8],
     alloc: Global,
     steps: &mut Steps<L>,
 ) -> Result<Heard, AllocError>
+    requires { HasLines board.old lines.now }
     ensures came { (b : Tree) → Stands b board.old → IfOk result (λ h. Came (heard b line.now) h board.new) }
     ensures err { OnErr result (board.new ≡ board.old) }
 {
@@ -233,5 +251,5 @@ pub fn hear<L: Ledger>(
     if !board.running() {
         return Ok(answered(GuestAnswer::NoStopped));
     }
-    act(board, &read, alloc, steps)
+    act(board, lines, &read, alloc, steps)
 }

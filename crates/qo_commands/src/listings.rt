@@ -11,7 +11,7 @@ ghost use Rattle.qo_heap.specs.Rows.{IsLive};
 ghost use Rattle.qo_commands.specs.Commands.{answered};
 ghost use Rattle.qo_commands.specs.Views.{done_of};
 
-use crate::commands::{Body, Done, refused, returned};
+use crate::commands::{Done, ReplyBody, refused, returned};
 use qo_heap::{Oid, Steps};
 use qo_realize::Board;
 use qo_replies::PropertyList;
@@ -24,7 +24,7 @@ pub(crate) fn list<L: Ledger>(board: &Board, path: &str, steps: &mut Steps<L>) -
     ensures { (b : Tree) → Stands b board.now → done_of b result ≡ answered b properties_data (listing_at b path.now) }
 {
     match board.qom_list(path, steps) {
-        Ok(birth) => returned(Body::Listing(birth)),
+        Ok(birth) => returned(ReplyBody::Listing(birth)),
         Err(code) => refused(code),
     }
 }

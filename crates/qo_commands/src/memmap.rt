@@ -84,7 +84,7 @@ fn board_view<L: Ledger>(
 ) -> Result<Vec<Span>, AllocError>
     ensures { (b : Tree) → Stands b board.now → IfOk result (λ spans. spans.items ≡ flat_view b) }
 {
-    board.shown();
+    board.reveal_board();
     match flat_view(alloc, board.heap(), steps) {
         Ok(spans) => Ok(spans),
         Err(_) => Err(AllocError),
@@ -99,7 +99,7 @@ pub(crate) fn query_memmap<L: Ledger>(
 ) -> Result<Done, AllocError>
     ensures { (b : Tree) → Stands b board.now → IfOk result (λ d. done_of b d ≡ returned b (array (items_of (map (shown_data b) (flat_view b))))) }
 {
-    board.shown();
+    board.reveal_board();
     let spans = board_view(alloc, board, steps)?;
     let value = span_list(alloc, board, &spans, steps)?;
     Ok(returned_value(value))

@@ -28,7 +28,7 @@ fn shown_at<L: Ledger>(
 ) -> Result<Option<RegisterPlace>, AllocError>
     ensures { (b : Tree) → Stands b board.now → IfOk result (λ place. place ≡ register_at b at) }
 {
-    board.shown();
+    board.reveal_board();
     match register_at(alloc, board.heap(), at, steps) {
         Ok(place) => Ok(place),
         Err(_) => Err(AllocError),

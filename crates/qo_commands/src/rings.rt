@@ -6,7 +6,7 @@ ghost use Rattle.qo_commands.specs.Changes.{Alters, Came};
 ghost use Rattle.qo_commands.specs.Commands.{altered};
 ghost use Rattle.qo_realize.specs.Representation.{Stands};
 
-use crate::commands::{Body, Done, done_by, outcome_of, refused, returned};
+use crate::commands::{Done, ReplyBody, done_by, outcome_of, refused, returned};
 use qo_properties::Refusal;
 use qo_realize::Board;
 use qo_values::Form;
@@ -42,7 +42,7 @@ pub(crate) fn read_ring(
     ensures { (b : Tree) → Stands b board.old → Alters b (altered b (alteration.RingbufRead id.now most form)) result board.new }
 {
     match board.ringbuf_read(id, most, form) {
-        Ok(text) => Ok(returned(Body::Told(text))),
+        Ok(text) => Ok(returned(ReplyBody::Told(text))),
         Err(Refusal::Refused(code)) => Ok(refused(code)),
         Err(Refusal::Memory) => Err(AllocError),
     }

@@ -12,7 +12,7 @@ ghost use Rattle.qo_commands.specs.Commands.{adding_properties, device_propertie
 ghost use Rattle.qo_commands.specs.Views.{done_of, row_data, words_for_adding};
 
 use crate::commands::{Done, refused, returned_value};
-use qo_model::{Mark, Property, PropertyRole};
+use qo_model::{Access, Property, PropertyRole};
 use qo_types::TypeTable;
 use qo_values::{Code, Text, TypeId};
 use serde_json::{Value, json};
@@ -120,15 +120,15 @@ fn role_text(alloc: Global, role: &PropertyRole) -> Result<String, AllocError>
     }
 }
 
-/// Whether the adding command writes a property with a mark.
-fn is_for_adding(mark: Mark) -> bool
-    ensures { result ≡ may_add mark }
+/// Whether the adding command writes a property with this access.
+fn is_for_adding(access: Access) -> bool
+    ensures { result ≡ may_add access }
 {
-    match mark {
-        Mark::Add => true,
-        Mark::Both => true,
-        Mark::Never => false,
-        Mark::Set => false,
+    match access {
+        Access::Add => true,
+        Access::Both => true,
+        Access::Never => false,
+        Access::Set => false,
     }
 }
 
@@ -136,7 +136,7 @@ fn is_for_adding(mark: Mark) -> bool
 fn push_row(alloc: Global, values: &mut Vec<Value>, row: &Property) -> Result<(), AllocError>
     ensures { OnOk result (map view values.new.items ≡ map view values.old.items ++ map property_data (words_for_adding row.now)) }
 {
-    if !is_for_adding(row.mark) {
+    if !is_for_adding(row.access) {
         return Ok(());
     }
     let text = role_text(alloc, &row.role)?;

@@ -26,5 +26,5 @@ abbrev pub kept : DeviceEvent → Waiting → Waiting
 kept event w = record w { list = w.list ++ event ∷ []; promised = w.promised - 1 }
 
 -- all were told: their places are free
-abbrev pub told : Waiting → Waiting
-told w = record w { list = []; spare = w.spare + length w.list }
+abbrev pub cleared : Waiting → Waiting
+cleared w = record w { list = []; spare = w.spare + length w.list }

@@ -30,7 +30,7 @@ impl Model for Events {
 
 impl Events {
     ghost use Rattle.std.specs.Prelude.{◌≡◌, ◌≤◌, ◌+◌, IsOk, OnOk, OnErr};
-    ghost use Rattle.qo_events.specs.Queue.{none_waiting, promised, kept, added, told};
+    ghost use Rattle.qo_events.specs.Queue.{none_waiting, promised, kept, added, cleared};
 
     /// No events, and no place for any. It takes no memory.
     pub fn new(alloc: Global) -> Events
@@ -96,7 +96,7 @@ impl Events {
 
     /// Lets all events go, as they were told; what is promised stays so. It takes no memory.
     pub fn clear(&mut self)
-        ensures { self.new ≡ told self.old }
+        ensures { self.new ≡ cleared self.old }
     {
         self.list.clear();
     }

@@ -2,7 +2,7 @@
 use Rattle.std.proofs.Common.{◌≡◌, ℕ, zero, suc, ◌+◌, ◌-◌, ◌*◌, ◌<◌, ◌≤◌, Bool, true, false, ◌==◌, List, [], ◌∷◌, ◌++◌, length, Option, Some, None, refl, sym, ◌∙◌, ap, arith, length-append, length-drop, if◌then◌else◌}
 use Rattle.std.specs.Prelude.{option_to_list}
 use Rattle.qo_framing.specs.Classes.{is_passed, ends_skipping}
-use Rattle.qo_framing.specs.Cut.{Framing, Part, between, inside, skipping, stops, goes_on, after_skipping, between_part, cut, cut_of_part, cut_within, first_part, followed, held, left_after, object_part, skipping_part, framing_after, trimmed}
+use Rattle.qo_framing.specs.Cut.{Framing, Part, between, inside, skipping, stops, goes_on, after_skipping, between_part, cut, cut_of_part, cut_within, first_part, followed, buffered, left_after, object_part, skipping_part, framing_after, trimmed}
 use Rattle.qo_framing.specs.Fronts.{End, end_after, ending, here_or_later}
 use Rattle.qo_framing.specs.Laws.{CutsByParts}
 use Rattle.qo_framing.specs.declared.items.Item.TheVariants as item
@@ -95,7 +95,7 @@ enough (suc m) zero state bytes few_m few_n = absurd (omega arith)
 enough (suc m) (suc n) state bytes few_m few_n =
     same_parts m n (first_part state bytes) (weight state bytes) (first_shrinks state bytes) (omega arith) (omega arith) (enough m n)
 
-all_parts : (state : Framing) (bytes : List ℕ) → weight state bytes < 2 * (length (held state) + length bytes) + 2
+all_parts : (state : Framing) (bytes : List ℕ) → weight state bytes < 2 * (length (buffered state) + length bytes) + 2
 all_parts between bytes = omega arith
 all_parts (inside front) bytes = omega arith
 all_parts skipping bytes = omega arith
@@ -103,7 +103,7 @@ all_parts skipping bytes = omega arith
 within_is_cut : (n : ℕ) (state : Framing) (bytes : List ℕ) → weight state bytes < n → cut_within n state bytes ≡ cut state bytes
 unfolding cut
 within_is_cut n state bytes few =
-    enough n (2 * (length (held state) + length bytes) + 2) state bytes few (all_parts state bytes)
+    enough n (2 * (length (buffered state) + length bytes) + 2) state bytes few (all_parts state bytes)
 
 cut_of_parts : (part : Part) (n : ℕ) → Shrinks n part → cut_of_part part (cut_within n) ≡ cut_of_part part cut
 cut_of_parts (stops state) n h = refl

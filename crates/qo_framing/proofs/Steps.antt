@@ -7,7 +7,7 @@ use Rattle.std.proofs.Math.Seq.{take-append-add, drop-append-add, drop-append_se
 use Rattle.qo_framing.proofs.Cuts.{Shrinks, weight, first_shrinks, cuts_by_parts}
 use Rattle.qo_framing.proofs.Scans.{end_here, no_end_here, later_twice}
 use Rattle.qo_framing.specs.Classes.{is_passed, ends_skipping}
-use Rattle.qo_framing.specs.Cut.{Cut, Framing, Part, between, inside, skipping, stops, goes_on, after_skipping, between_part, cut, cut_of_part, first_part, followed, held, item_of, object_part, skipping_part, trimmed}
+use Rattle.qo_framing.specs.Cut.{Cut, Framing, Part, between, inside, skipping, stops, goes_on, after_skipping, between_part, cut, cut_of_part, first_part, followed, buffered, item_of, object_part, skipping_part, trimmed}
 use Rattle.qo_framing.specs.Fronts.{End, end_after, ending, later}
 use Rattle.qo_framing.specs.Laws.{CutsAnywhere}
 use Rattle.qo_framing.specs.declared.items.Item.{Item}
@@ -68,7 +68,7 @@ base skipping = skipping
 
 -- from a state, with the bytes that it holds
 abbrev pub whole_steps : Framing → List ℕ → Cut
-whole_steps state bytes = steps (base state) (held state ++ bytes)
+whole_steps state bytes = steps (base state) (buffered state ++ bytes)
 
 -- skipping
 skipping_steps : (bytes : List ℕ) → cut_of_part (skipping_part (after_skipping bytes)) whole_steps ≡ steps skipping bytes
@@ -186,7 +186,7 @@ cut_is_steps state bytes = cut_steps_within (suc (weight state bytes)) state byt
 
 -- a state in which nothing that is held comes to an end
 abbrev pub IsSettled : Framing → Type 0
-IsSettled state = steps (base state) (held state) ≡ record { items = []; state = state }
+IsSettled state = steps (base state) (buffered state) ≡ record { items = []; state = state }
 
 skip_settled : (b : ℕ) → IsSettled (skip b)
 skip_settled b = by_end (ends_skipping b)
@@ -231,15 +231,15 @@ base_settled skipping = refl
 
 settled_steps : (state : Framing) (bytes : List ℕ) → IsSettled state → whole_steps state bytes ≡ steps state bytes
 settled_steps state bytes h =
-    steps_more (held state) bytes (base state) ∙ ap (λ (c : Cut). followed c.items (steps c.state bytes)) h
+    steps_more (buffered state) bytes (base state) ∙ ap (λ (c : Cut). followed c.items (steps c.state bytes)) h
 
 -- the cut of two stretches
 whole_more : (state : Framing) (a b : List ℕ) → whole_steps state (a ++ b) ≡ followed (whole_steps state a).items (whole_steps (whole_steps state a).state b)
 whole_more state a b =
-    ap (steps (base state)) (sym (append_assoc (held state) a b))
-    ∙ (steps_more (held state ++ a) b (base state)
+    ap (steps (base state)) (sym (append_assoc (buffered state) a b))
+    ∙ (steps_more (buffered state ++ a) b (base state)
     ∙ ap (followed (whole_steps state a).items)
-    (sym (settled_steps (whole_steps state a).state b (steps_settled (held state ++ a) (base state) (base_settled state)))))
+    (sym (settled_steps (whole_steps state a).state b (steps_settled (buffered state ++ a) (base state) (base_settled state)))))
 
 pub cuts_anywhere : CutsAnywhere
 cuts_anywhere state a b =

@@ -93,11 +93,11 @@ cut_within zero state bytes = record { items = []; state = state }
 cut_within (suc parts) state bytes = cut_of_part (first_part state bytes) (cut_within parts)
 
 -- the bytes that are held of an unfinished object
-abbrev pub held : Framing → List ℕ
-held between = []
-held (inside front) = front
-held skipping = []
+abbrev pub buffered : Framing → List ℕ
+buffered between = []
+buffered (inside front) = front
+buffered skipping = []
 
 -- the cut of a stretch: there are no more parts than this, since of two parts in turn one takes a byte
 unfoldable pub cut : Framing → List ℕ → Cut
-cut state bytes = cut_within (2 * (length (held state) + length bytes) + 2) state bytes
+cut state bytes = cut_within (2 * (length (buffered state) + length bytes) + 2) state bytes

@@ -11,7 +11,7 @@ use Rattle.std.proofs.lemmas.List.Splits.{join_with_byte-slice_split}
 use Rattle.std.proofs.lemmas.Slice.Eq.{bytes_eq-Decides}
 use Rattle.qo_guest.specs.declared.addresses.Addr.{Addr}
 use Rattle.qo_guest.specs.declared.lines.GuestAct.{GuestAct}
-use Rattle.qo_guest.specs.declared.lines.GuestAct.TheVariants.{Ack, Nack, Poll, Read, Write, Peek, Poke, Reset, Shutdown}
+use Rattle.qo_guest.specs.declared.lines.GuestAct.TheVariants.{Ack, Nack, Poll, Read, Write, Peek, Poke, Irq, Reset, Shutdown}
 use Rattle.qo_guest.specs.Addresses.{pieces, number_of, address_of, value_of, hwaddr_of}
 use Rattle.qo_guest.specs.Answers.{address_text}
 use Rattle.qo_guest.specs.Lines.{lone_act, pending_act, register_act, aimed_act, is_memory_verb, memory_act, act_of, guest_line}
@@ -32,12 +32,15 @@ line_of words = join_with_byte 32 words
 lone_taken : (verb : List ℕ) (act : GuestAct) → lone_act verb ≡ Some act → Spells verb act
 lone_taken verb act e =
     let reset : Option GuestAct = cond (bytes_eq verb (codes "reset")) (Some Reset) (cond (bytes_eq verb (codes "shutdown")) (Some Shutdown) None) in
+    let irq : Option GuestAct = cond (bytes_eq verb (codes "irq")) (Some Irq) reset in
     ⊎_elim (λ poll. subst (λ (a : GuestAct). Spells verb a) poll.1 ((bytes_eq-Decides verb (codes "poll")).0 poll.0))
+    (λ after. ⊎_elim (λ irq. subst (λ (a : GuestAct). Spells verb a) irq.1 ((bytes_eq-Decides verb (codes "irq")).0 irq.0))
     (λ others. ⊎_elim (λ reset. subst (λ (a : GuestAct). Spells verb a) reset.1 ((bytes_eq-Decides verb (codes "reset")).0 reset.0))
     (λ last. let shutdown = guard_some (bytes_eq verb (codes "shutdown")) Shutdown act last in
     subst (λ (a : GuestAct). Spells verb a) shutdown.1 ((bytes_eq-Decides verb (codes "shutdown")).0 shutdown.0))
     (chosen (bytes_eq verb (codes "reset")) Reset (cond (bytes_eq verb (codes "shutdown")) (Some Shutdown) None) act others))
-    (chosen (bytes_eq verb (codes "poll")) Poll reset act e)
+    (chosen (bytes_eq verb (codes "irq")) Irq reset act after))
+    (chosen (bytes_eq verb (codes "poll")) Poll irq act e)
 
 pending_taken : (verb : List ℕ) (at : Addr) (act : GuestAct) → IsAddress at → pending_act verb at ≡ Some act → Spells (verb ++ 32 ∷ address_text at) act
 pending_taken verb at act is e =
@@ -170,6 +173,7 @@ act_given line (Peek at) h = rw h.2 (memory_given (codes "peek") h.0 at [] refl 
 act_given line (Poke at value) h =
     let read = hex_given 8 h.1 value h.3 in
     rw h.4 (memory_given (codes "poke") h.0 at ((codes "0x" ++ h.1) ∷ []) refl (search rules) h.2 (hex-IsFree 8 h.1 value h.3, tt) ∙ rw read refl)
+act_given line Irq h = rw h refl
 act_given line Reset h = rw h refl
 act_given line Shutdown h = rw h refl
 

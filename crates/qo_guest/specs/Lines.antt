@@ -5,14 +5,15 @@ use Rattle.qo_values.specs.declared.limits.TheConstants.{GUEST_LINE_MAX}
 use Rattle.qo_guest.specs.Addresses.{pieces, number_of, address_of, value_of, hwaddr_of}
 use Rattle.qo_guest.specs.declared.addresses.Addr.{Addr}
 use Rattle.qo_guest.specs.declared.lines.GuestAct.{GuestAct}
-use Rattle.qo_guest.specs.declared.lines.GuestAct.TheVariants.{Ack, Nack, Poll, Read, Write, Peek, Poke, Reset, Shutdown}
+use Rattle.qo_guest.specs.declared.lines.GuestAct.TheVariants.{Ack, Nack, Poll, Read, Write, Peek, Poke, Irq, Reset, Shutdown}
 
 -- the act of a lone word
 abbrev pub lone_act : List ℕ → Option GuestAct
 lone_act verb =
     if bytes_eq verb (codes "poll") then Some Poll
+    else (if bytes_eq verb (codes "irq") then Some Irq
     else (if bytes_eq verb (codes "reset") then Some Reset
-    else (if bytes_eq verb (codes "shutdown") then Some Shutdown else None))
+    else (if bytes_eq verb (codes "shutdown") then Some Shutdown else None)))
 
 -- the act of a verb that takes an address
 abbrev pub pending_act : List ℕ → Addr → Option GuestAct

@@ -2,7 +2,7 @@
 use Rattle.std.specs.Prelude.{◌≡◌, ℕ, ◌-◌, ◌≤◌, List, ◌++◌, length, take, replicate}
 use Rattle.std.proofs.Common.{sym, ap, arith}
 use Rattle.std.proofs.lemmas.List.{length-take-le}
-use Rattle.qo_guest.specs.declared.addresses.Steps9.TheInside.{Inside}
+use Rattle.qo_guest.specs.declared.addresses.SlotPath.TheInside.{Inside}
 use Rattle.qo_guest.specs.declared.addresses.TheConstants.{STEPS_MAX}
 
 -- the first `count` places hold slots, and the rest 0

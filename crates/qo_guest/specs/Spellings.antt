@@ -6,7 +6,7 @@ use Rattle.qo_values.specs.declared.limits.TheConstants.{GUEST_LINE_MAX}
 use Rattle.qo_guest.specs.declared.addresses.Addr.{Addr}
 use Rattle.qo_guest.specs.declared.addresses.Addr.TheVariants.{Slots, Mem}
 use Rattle.qo_guest.specs.declared.lines.GuestAct.{GuestAct}
-use Rattle.qo_guest.specs.declared.lines.GuestAct.TheVariants.{Ack, Nack, Poll, Read, Write, Peek, Poke, Reset, Shutdown}
+use Rattle.qo_guest.specs.declared.lines.GuestAct.TheVariants.{Ack, Nack, Poll, Read, Write, Peek, Poke, Irq, Reset, Shutdown}
 use Rattle.qo_guest.specs.declared.addresses.TheConstants.{STEPS_MAX}
 use Rattle.qo_guest.specs.declared.words.TheConstants.{HWADDR_DIGITS_MAX, VALUE_DIGITS_MAX}
 use Rattle.qo_guest.specs.Addresses.{number_of, address_of, value_of}
@@ -45,6 +45,7 @@ Spells line (Peek at) = (digits : List ℕ) × IsHex HWADDR_DIGITS_MAX digits at
 Spells line (Poke at value) =
     (place digits : List ℕ) × IsHex HWADDR_DIGITS_MAX place at × IsHex VALUE_DIGITS_MAX digits value
     × (line ≡ codes "poke 0x" ++ (place ++ (codes " 0x" ++ digits)))
+Spells line Irq = line ≡ codes "irq"
 Spells line Reset = line ≡ codes "reset"
 Spells line Shutdown = line ≡ codes "shutdown"
 

@@ -12,12 +12,12 @@ pub const STEPS_MAX: usize = 9;
 
 /// The slots on the way from the root bus to a device, 1 to `STEPS_MAX` of them, outermost first.
 #[derive(Clone, Copy, Debug, PartialEq, Eq)]
-pub struct Steps9 {
+pub struct SlotPath {
     slots: [u8; STEPS_MAX],
     count: usize,
 }
 
-impl Model for Steps9 {
+impl Model for SlotPath {
     ghost use Rattle.std.specs.Prelude.{List, ℕ, length, take};
     ghost use Rattle.qo_guest.specs.Padding.{IsPadded, padded_steps, padded_again};
 
@@ -32,14 +32,14 @@ impl Model for Steps9 {
     ghost inverse_ok = { λ s h. padded_again s h };
 }
 
-impl Steps9 {
+impl SlotPath {
     /// The one slot of a device on the root bus.
-    pub fn one(slot: u8) -> Steps9
+    pub fn one(slot: u8) -> SlotPath
         ensures { result ≡ slot ∷ [] }
     {
         let mut slots = [0; STEPS_MAX];
         slots[0] = slot;
-        Steps9 { slots, count: 1 }
+        SlotPath { slots, count: 1 }
     }
 
     /// Goes one slot further. It takes no memory.
@@ -60,7 +60,7 @@ impl Steps9 {
     }
 }
 
-impl fmt::Display for Steps9 {
+impl fmt::Display for SlotPath {
     ghost output = { λ steps. Some (steps_text steps) };
 
     fn fmt<W: fmt::Write>(&self, f: &mut fmt::Formatter<W>) -> fmt::Result {
@@ -79,7 +79,7 @@ impl fmt::Display for Steps9 {
 #[derive(Clone, Copy, Debug, PartialEq, Eq)]
 pub enum Addr {
     /// The slots from the root bus down.
-    Slots(Steps9),
+    Slots(SlotPath),
     /// A memory slot.
     Mem(u8),
 }

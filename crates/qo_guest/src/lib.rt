@@ -7,6 +7,6 @@ pub mod laws;
 mod lines;
 mod words;
 
-pub use addresses::{Addr, Steps9};
+pub use addresses::{Addr, SlotPath};
 pub use answers::{GuestAnswer, answer_text};
 pub use lines::{GuestAct, GuestBad, read_line};

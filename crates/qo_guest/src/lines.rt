@@ -28,6 +28,8 @@ pub enum GuestAct {
     Peek(u64),
     /// Writes the register that shows at a hardware address.
     Poke(u64, u32),
+    /// Reads the interrupt lines of the devices on the root bus.
+    Irq,
     /// Resets the machine.
     Reset,
     /// Ends the run.
@@ -45,6 +47,7 @@ fn lone_act(verb: &[u8]) -> Option<GuestAct>
 {
     match verb {
         b"poll" => Some(GuestAct::Poll),
+        b"irq" => Some(GuestAct::Irq),
         b"reset" => Some(GuestAct::Reset),
         b"shutdown" => Some(GuestAct::Shutdown),
         _ => None,

@@ -4,7 +4,7 @@ ghost use Rattle.std.specs.Prelude.{◌≡◌, ◌∷◌, ◌≤◌, ◌<◌, �
 ghost use Rattle.qo_guest.specs.Addresses.{pieces, with_digit, with_digits, number_of, steps_of, address_of, hex_digit, with_hex, hex_of, value_of, hwaddr_of};
 ghost use Rattle.qo_guest.specs.Pieces.{pieces_after};
 
-use crate::addresses::{Addr, STEPS_MAX, Steps9};
+use crate::addresses::{Addr, STEPS_MAX, SlotPath};
 
 /// The most hexadecimal digits of a value.
 const VALUE_DIGITS_MAX: usize = 8;
@@ -62,11 +62,11 @@ pub fn read_number(word: &[u8]) -> Option<u8>
 }
 
 /// The slots that a word is: 1 to `STEPS_MAX` of them, joined by dots.
-fn read_steps(word: &[u8]) -> Option<Steps9>
+fn read_steps(word: &[u8]) -> Option<SlotPath>
     ensures { result ≡ steps_of word.now }
 {
     let (first, mut after) = split_piece(word, b'.');
-    let mut steps = Steps9::one(read_number(first)?);
+    let mut steps = SlotPath::one(read_number(first)?);
     while let Some(rest) = after {
         let (next, after_next) = split_piece(rest, b'.');
         let slot = read_number(next)?;

@@ -20,7 +20,7 @@ use Rattle.qo_model.specs.Release as release
 use Rattle.qo_model.proofs.StepLemmas.{is_some-map}
 use Rattle.qo_object.specs.declared.slots.Slot.{Slot}
 use Rattle.qo_object.specs.declared.slots.Slot.TheVariants.{Plain, Child, Link, Alias}
-use Rattle.qo_object.specs.Slots.{Named, slot_in, target_of, child_of, held, names_child}
+use Rattle.qo_object.specs.Slots.{Named, slot_in, target_of, child_of, referent, names_child}
 use Rattle.qo_object.specs.Content.{Content, holding, is_parent, named_at}
 use Rattle.qo_object.specs.BoardObject.{birth_of, shown_slot, shown_slots, shown}
 use Rattle.qo_object.proofs.BoardObjectLemmas.{shown-target, shown-held, slice_get-shown, refs-shown, parent-shown}
@@ -141,7 +141,7 @@ named-shown : (o : Option Slot) → option_and_then board.target_of (option_map 
 named-shown None = refl
 named-shown (Some s) = shown-target s
 
-held-shown : (o : Option Slot) → option_and_then board.held (option_map shown_slot o) ≡ birth_of (option_and_then held o)
+held-shown : (o : Option Slot) → option_and_then board.referent (option_map shown_slot o) ≡ birth_of (option_and_then referent o)
 held-shown None = refl
 held-shown (Some s) = shown-held s
 
@@ -150,8 +150,8 @@ pub shows-named : (b : board.Board) (v : Objects) → Shows b v → (n i : ℕ) 
 shows-named b v s n i c there = ap (option_and_then board.target_of) (shows-slot_in b v s n i c there) ∙ named-shown (slot_in c.slots i)
 
 pub shows-held : (b : board.Board) (v : Objects) → Shows b v → (n i : ℕ) (c : Content) → content_of v n ≡ Some c
-    → option_and_then board.held (board.slot_at b n i) ≡ birth_of (option_and_then held (slot_in c.slots i))
-shows-held b v s n i c there = ap (option_and_then board.held) (shows-slot_in b v s n i c there) ∙ held-shown (slot_in c.slots i)
+    → option_and_then board.referent (board.slot_at b n i) ≡ birth_of (option_and_then referent (slot_in c.slots i))
+shows-held b v s n i c there = ap (option_and_then board.referent) (shows-slot_in b v s n i c there) ∙ held-shown (slot_in c.slots i)
 
 -- where the next slot stands, after one that was let go: at the same place after a child
 pub next-shown : (s : Slot) (i : ℕ) → release.next_index (shown_slot s) i ≡ cond (is_some (child_of s)) i (suc i)

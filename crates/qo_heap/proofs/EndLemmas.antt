@@ -1,5 +1,5 @@
 -- The final notes of an object, as they are added one after another.
-use Rattle.std.proofs.Common.{◌≡◌, refl, ap, sym, ◌∙◌, ℕ, ◌+◌, ◌<◌, ◌≤◌, Bool, true, false, cond, eqb, List, [], ◌∷◌, ◌++◌, map, filter, length, take, get_or, if◌then◌else◌, sum_by, count_by, Option, Some, None, is_some, IfSome, Result, Ok, Err, IfOk, IfErr, arith}
+use Rattle.std.proofs.Common.{◌≡◌, refl, ap, sym, ◌∙◌, ℕ, ◌+◌, ◌<◌, ◌≤◌, Bool, true, false, cond, eqb, List, [], ◌∷◌, ◌++◌, map, filter, length, take, get_or, if◌then◌else◌, sum_by, count_by, Option, Some, None, is_some, IfSome, arith}
 use Rattle.std.specs.List.{AllByRecursion}
 use Rattle.std.proofs.lemmas.Bool.{eqb-true, eq-eqb}
 use Rattle.std.proofs.lemmas.List.{take_more, take_all}
@@ -221,7 +221,7 @@ length-more : (rows : List (Key × Content)) (row : Key × Content) → length (
 length-more [] row = refl
 length-more (r ∷ rows) row = let rest = length-more rows row in omega arith
 
-heap-more : (v : Objects) → IsHeap v → (key : Key) (kind : TypeId) → key.birth ≡ v.born + 1 → length v.rows < LIVE_OBJECTS_MAX
+pub heap-more : (v : Objects) → IsHeap v → (key : Key) (kind : TypeId) → key.birth ≡ v.born + 1 → length v.rows < LIVE_OBJECTS_MAX
     → IsHeap (record v { rows = v.rows ++ (key, fresh kind) ∷ []; born = v.born + 1 })
 heap-more v good key kind is below =
     record {
@@ -237,20 +237,10 @@ heap-more v good key kind is below =
           tt;
     }
 
-paths-more : (rows : List (Key × Content)) (key : Key) (kind : TypeId) → count_by has_path (rows ++ (key, fresh kind) ∷ []) ≡ count_by has_path rows
+pub paths-more : (rows : List (Key × Content)) (key : Key) (kind : TypeId) → count_by has_path (rows ++ (key, fresh kind) ∷ []) ≡ count_by has_path rows
 paths-more rows key kind =
     let f : Key × Content → ℕ = λ row. cond {A = ℕ} (has_path row) 1 0 in
     omega (arith, sum_by-append f rows ((key, fresh kind) ∷ []), sum_by-cons f (key, fresh kind) [])
-
--- the heap after a call that adds an object or gives it back
-pub heap-made : (v : Objects) → IsHeap v × HasPlaces v → (kind : TypeId) → length v.rows < LIVE_OBJECTS_MAX → (r : Result Key Content)
-    (rows : List (Key × Content)) (born : ℕ)
-    → IfOk r (λ key. (key.birth ≡ v.born + 1) × ((rows ≡ v.rows ++ (key, fresh kind) ∷ []) × (born ≡ v.born + 1)))
-    → IfErr r (λ back. (back ≡ fresh kind) × ((rows ≡ v.rows) × (born ≡ v.born)))
-    → IsHeap (record v { rows = rows; born = born }) × HasPlaces (record v { rows = rows; born = born })
-heap-made v good kind below (Ok key) rows born done back =
-    rw (done.1.0, done.1.1) (heap-more v good.0 key kind done.0 below, good.1 ∙ sym (paths-more v.rows key kind))
-heap-made v good kind below (Err c) rows born done back = rw (back.1.0, back.1.1) good
 
 -- one note
 pub noted-one : (note : Note) (log : Log) → noted_all (note ∷ []) log ≡ noted note log

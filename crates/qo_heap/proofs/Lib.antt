@@ -4,7 +4,12 @@ pub mod BookLemmas
 pub mod EndLemmas
 pub mod SearchLemmas
 pub mod HeapLemmas
+mod HeldInside
+mod HoldLemmas
 mod InsideObjects
+mod KeepingLemmas
+mod KeptEnds
+mod ParentLemmas
 mod ReferenceLemmas
 pub mod PlacesLemmas
 pub mod SlotPlaces

@@ -15,7 +15,7 @@ use Rattle.qo_heap.specs.Rows.{Rises, row_at, object_at, IsLive, edit, without, 
 use Rattle.qo_heap.specs.Order.{rows_in, births_of, front, IsOrdered}
 
 -- two names of one birth at one index are one
-same_key : (k key : Key) → k.index ≡ key.index → k.birth ≡ key.birth → k ≡ key
+pub same_key : (k key : Key) → k.index ≡ key.index → k.birth ≡ key.birth → k ≡ key
 same_key k key i b = ap₂ (λ (x y : ℕ). record { index = x; birth = y }) i b
 
 -- where a name has the birth of another, it has its index

@@ -1,5 +1,5 @@
 -- For proofs alone. What contracts see of the heap: the objects in the order of births, and what stands beside them.
-use Rattle.std.specs.Prelude.{◌≡◌, ℕ, ◌+◌, ◌≤◌, Bool, false, List, [], map, length, filter_map, sum_by, count_by, find, Option, None, Some, is_some, option_map}
+use Rattle.std.specs.Prelude.{◌≡◌, ℕ, ◌+◌, ◌≤◌, Bool, false, List, [], map, length, filter_map, count_by, Option, None, Some, is_some, option_map}
 use Rattle.std.specs.List.{AllByRecursion}
 use Rattle.std.specs.Option.{option_map_or}
 use Rattle.qo_values.specs.declared.kinds.TypeId.{TypeId}
@@ -14,16 +14,18 @@ use Rattle.qo_slots.specs.declared.keys.Key.{Key}
 use Rattle.qo_slots.specs.Table.{Table}
 use Rattle.qo_object.specs.declared.slots.Slot.{Slot}
 use Rattle.qo_object.specs.Slots.{target_of}
-use Rattle.qo_object.specs.Content.{Content, forgotten, holding, is_parent}
+use Rattle.qo_object.specs.Content.{Content, forgotten}
 use Rattle.qo_object.specs.BoardObject.{shown}
 use Rattle.qo_model.specs.Board.{DeviceEvent}
 use Rattle.qo_model.specs.declared.notes.Deed.TheVariants.{Final}
 use Rattle.qo_model.specs.declared.notes.Note.{Note}
 use Rattle.qo_model.specs.Release.{deleted_event}
 use Rattle.qo_model.specs.Types.{finals}
+use Rattle.qo_heap.specs.Keeping.{holders, parent_in, plain}
 use Rattle.qo_heap.specs.Log.{Log, empty_log, noted, noted_all}
 use Rattle.qo_heap.specs.Order.{rows_in}
 use Rattle.qo_heap.specs.Rows.{IsLive, Rises, births, edit, object_at, without}
+use Rattle.qo_heap.specs.declared.entries.Entry.{Entry}
 
 -- the objects with their names, the births so far, the log of notes, all that is held, the events that wait, and the
 -- virtual time
@@ -36,10 +38,10 @@ pub record Objects : Type 0 where
   pub time : ℕ
 
 -- what a heap stands for: the objects of its table in the order of their names, with what stands beside them
-abbrev pub objects_in : Table Content → List Key → ClaimsTaken → List Note → ℕ → ℕ → Waiting → Objects
+abbrev pub objects_in : Table Entry → List Key → ClaimsTaken → List Note → ℕ → ℕ → Waiting → Objects
 objects_in table order claims notes total time events =
     record {
-      rows = rows_in table order;
+      rows = plain (rows_in table order);
       born = table.born;
       log = record { total = total; kept = notes };
       claims = claims;
@@ -72,11 +74,11 @@ abbrev pub pins_of : Objects → ℕ → ℕ
 pins_of v n = option_map_or (λ (c : Content). c.pins) (content_of v n) 0
 
 abbrev pub refs_of : Objects → ℕ → ℕ
-refs_of v n = sum_by (λ (row : Key × Content). holding n row.1) v.rows + pins_of v n
+refs_of v n = holders n v.rows + pins_of v n
 
--- the parent of an object: the first that has it as a child
+-- the parent of an object
 abbrev pub parent_of : Objects → ℕ → Option Key
-parent_of v n = option_map (λ (row : Key × Content). row.0) (find (λ (row : Key × Content). is_parent n row.1) v.rows)
+parent_of v n = parent_in v.rows n
 
 -- the final notes of an object of a type, derived first
 abbrev pub final_notes : ℕ → TypeId → List Note

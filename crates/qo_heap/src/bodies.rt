@@ -1,7 +1,7 @@
 //! The bodies of objects, and the book of claims.
 
+use crate::entries::entry_mut;
 use crate::heap::Heap;
-use crate::table::change;
 use qo_claims::Claims;
 use qo_kinds::Body;
 use qo_model::{Deed, Note};
@@ -56,7 +56,9 @@ impl Heap {
         ensures* writes_back { sem 𝓛 (lends_body self.entry o result) }
         ensures body { option_map (λ c. c.body) (content_of self.old o.birth) ≡ Some result.now }
     {
-        change(&mut self.table, &self.order, o, steps).body_mut()
+        entry_mut(&mut self.table, &self.order, o, steps)
+            .object
+            .body_mut()
     }
 
     /// Runs an act of an object at the heap's time. It takes no memory.
@@ -66,7 +68,9 @@ impl Heap {
         ensures { self.new ≡ with_edit o.birth (acted_at act self.old.time period) self.old }
     {
         let time = self.time;
-        change(&mut self.table, &self.order, o, steps).act(act, time, period);
+        entry_mut(&mut self.table, &self.order, o, steps)
+            .object
+            .act(act, time, period);
     }
 
     /// Runs an act of an object at the heap's time, where `period` is that of its clock, and notes

@@ -4,8 +4,8 @@
 ghost use Rattle.std.specs.Prelude.{◌≡◌, IfOk};
 ghost use Rattle.qo_heap.specs.Objects.{refused_event};
 
+use crate::entries::entry_mut;
 use crate::heap::Heap;
-use crate::table::change;
 use qo_claims::Claim;
 use qo_events::DeviceEvent;
 use qo_object::{DeviceId, Object, Oid};
@@ -49,7 +49,7 @@ fn refusal_of(object: &Object, alloc: Global) -> Result<Option<DeviceEvent>, All
 impl Heap {
     ghost use Rattle.std.specs.Prelude.{◌+◌, ◌≤◌, IsOk, None, OnOk, OnErr, Some, option_map, option_and_then};
     ghost use Rattle.qo_claims.specs.declared.claims.Claimed.TheVariants as on;
-    ghost use Rattle.qo_events.specs.Queue.{promised, told};
+    ghost use Rattle.qo_events.specs.Queue.{cleared, promised};
     ghost use Rattle.qo_object.specs.Content.{with_id, with_path};
     ghost use Rattle.qo_heap.specs.Rows.{IsLive};
     ghost use Rattle.qo_heap.specs.Objects.{content_of, with_edit, with_event};
@@ -70,7 +70,9 @@ impl Heap {
         ensures now { self.new ≡ with_edit o.birth (with_id id) self.old }
         ensures cost { steps.new ≡ steps.old + 1 }
     {
-        change(&mut self.table, &self.order, o, steps).name_device(DeviceId::new(id, claim));
+        entry_mut(&mut self.table, &self.order, o, steps)
+            .object
+            .name_device(DeviceId::new(id, claim));
     }
 
     /// The id of a device; `None` exactly where the object has none. It takes no memory.
@@ -104,7 +106,9 @@ impl Heap {
         ensures cost { steps.new ≡ steps.old + 1 }
     {
         self.events.promise();
-        change(&mut self.table, &self.order, o, steps).keep_path(path);
+        entry_mut(&mut self.table, &self.order, o, steps)
+            .object
+            .keep_path(path);
     }
 
     /// Adds the event that the guest refused the removal of a device, where its path is kept; where
@@ -137,7 +141,7 @@ impl Heap {
 
     /// Lets the events that wait go, as they were told. It takes no memory.
     pub fn clear_events(&mut self)
-        ensures { self.new ≡ record self.old { events = told self.old.events } }
+        ensures { self.new ≡ record self.old { events = cleared self.old.events } }
     {
         self.events.clear();
     }

@@ -1,13 +1,14 @@
 //! The heap, and the calls that make and end objects.
 
 use crate::ends::{forget_all, free_all, tell_deleted};
+use crate::entries::{Entry, add_object, take_object};
 use crate::errors::MakeError;
-use crate::table::{add, into_rest, take};
+use crate::table::into_rest;
 use circular_buffer::HeapCircularBuffer;
 use qo_claims::Claims;
 use qo_events::Events;
 use qo_model::Note;
-use qo_object::{Object, Oid, Remains};
+use qo_object::{FinalizedParts, Object, Oid};
 use qo_slots::{Arena, Steps};
 use qo_values::{LIVE_OBJECTS_MAX, NOTES_KEPT, TypeId};
 use std::alloc::{AllocError, Global};
@@ -19,8 +20,8 @@ use std::sync::ledger::Ledger;
 pub struct Heap {
     /// Where its memory comes from.
     pub(crate) alloc: Global,
-    /// Each object, under its name.
-    pub(crate) table: Arena<Object>,
+    /// Each object with what is kept of it, under its name.
+    pub(crate) table: Arena<Entry>,
     /// The names of the objects, in the order of their births.
     pub(crate) order: Vec<Oid>,
     pub(crate) claims: Claims,
@@ -37,13 +38,14 @@ impl Model for Heap {
     ghost use Rattle.std.specs.Prelude.{◌≡◌, min, length};
     ghost use Rattle.qo_values.specs.declared.limits.TheConstants.{NOTES_KEPT};
     ghost use Rattle.qo_heap.specs.Objects.{Objects, IsHeap, HasPlaces, objects_in};
-    ghost use Rattle.qo_heap.specs.Order.{IsOrdered};
+    ghost use Rattle.qo_heap.specs.Keeping.{IsKept};
+    ghost use Rattle.qo_heap.specs.Order.{IsOrdered, rows_in};
 
     ghost Value = { Objects };
 
     ghost view = { λ h. objects_in h.table h.order.items h.claims h.notes.items h.total h.time h.events };
 
-    ghost invariant = { λ h. (IsHeap (objects_in h.table h.order.items h.claims h.notes.items h.total h.time h.events) × HasPlaces (objects_in h.table h.order.items h.claims h.notes.items h.total h.time h.events)) × (IsOrdered h.table h.order.items × ((h.notes.capacity ≡ NOTES_KEPT) × (length h.notes.items ≡ min h.total NOTES_KEPT))) };
+    ghost invariant = { λ h. (IsHeap (objects_in h.table h.order.items h.claims h.notes.items h.total h.time h.events) × HasPlaces (objects_in h.table h.order.items h.claims h.notes.items h.total h.time h.events)) × (IsOrdered h.table h.order.items × (IsKept (rows_in h.table h.order.items) × ((h.notes.capacity ≡ NOTES_KEPT) × (length h.notes.items ≡ min h.total NOTES_KEPT)))) };
 }
 
 impl Drop for Heap {
@@ -59,13 +61,13 @@ impl Drop for Heap {
             events: _,
         } = self;
         let mut rest = into_rest(table, order);
-        while let Some(object) = rest.next() {
-            let Remains {
+        while let Some(entry) = rest.next() {
+            let FinalizedParts {
                 kind: _,
                 kept,
                 id,
                 path: _,
-            } = object.into_remains();
+            } = entry.into_object().into_finalized_parts();
             free_all(&mut claims, kept, id);
         }
         rest.end();
@@ -73,12 +75,13 @@ impl Drop for Heap {
 }
 
 impl Heap {
-    ghost use Rattle.std.specs.Prelude.{◌≡◌, ◌+◌, ◌<◌, [], ◌∷◌, ◌++◌, length, IfOk, OnErr, Err, Some, option_map};
+    ghost use Rattle.std.specs.Prelude.{◌≡◌, ◌+◌, ◌<◌, ◌≤◌, ◌^◌, [], ◌∷◌, ◌++◌, length, IfOk, OnErr, Err, Some, option_map};
     ghost use Rattle.qo_heap.specs.Board.{Shows};
     ghost use Rattle.qo_model.specs.Board.{Board};
     ghost use Rattle.qo_object.specs.Content.{fresh, reference_count};
+    ghost use Rattle.qo_heap.specs.Keeping.{holders};
     ghost use Rattle.qo_heap.specs.Rows.{IsLive};
-    ghost use Rattle.qo_heap.specs.Objects.{IsHeap, content_of, ended, no_objects_made, refs_of};
+    ghost use Rattle.qo_heap.specs.Objects.{IsHeap, content_of, ended, no_objects_made, parent_of, refs_of};
     ghost use Rattle.qo_heap.specs.declared.errors.MakeError.TheVariants.{Limit, Memory as NoMemory};
 
     /// A heap without objects. It takes the memory for all the notes that it will keep at once:
@@ -101,10 +104,22 @@ impl Heap {
 
     /// What is so of every heap: births rise up to those so far, there are at most
     /// `LIVE_OBJECTS_MAX` objects, and what a child slot or a link names is there.
-    pub fn facts(&self)
+    pub fn reveal_invariant(&self)
         ensures { IsHeap self.now }
     {
         let _table = &self.table;
+    }
+
+    /// An object, with what is kept of it. It takes no memory.
+    pub(crate) fn entry<L: Ledger>(&self, o: Oid, steps: &mut Steps<L>) -> &Entry
+        requires { IsLive self.now.rows o }
+        ensures object { content_of self.now o.birth ≡ Some result.now.object }
+        ensures held { result.now.held ≡ holders o.birth self.now.rows }
+        ensures few { result.now.held ≤ 2 ^ 48 }
+        ensures parent { result.now.parent ≡ parent_of self.now o.birth }
+        ensures cost { steps.new ≡ steps.old + 1 }
+    {
+        self.table.look(o, steps)
     }
 
     /// An object. It takes no memory.
@@ -113,11 +128,11 @@ impl Heap {
         ensures object { content_of self.now o.birth ≡ Some result.now }
         ensures cost { steps.new ≡ steps.old + 1 }
     {
-        self.table.look(o, steps)
+        &self.entry(o, steps).object
     }
 
     /// What it stands for: there is a board that it shows.
-    pub fn shown(&self)
+    pub fn reveal_board(&self)
         ensures { (b : Board) × Shows b self.now }
     {
         let _total = self.total;
@@ -140,7 +155,7 @@ impl Heap {
         if self.live() as u64 >= LIVE_OBJECTS_MAX {
             return Err(MakeError::Limit);
         }
-        match add(
+        match add_object(
             &mut self.table,
             &mut self.order,
             Object::new(alloc, kind),
@@ -160,12 +175,12 @@ impl Heap {
         requires bare { option_map reference_count (content_of self.old o.birth) ≡ Some 0 }
         ensures { option_map (λ c. ended o.birth c self.old) (content_of self.old o.birth) ≡ Some self.new }
     {
-        let Remains {
+        let FinalizedParts {
             kind,
             kept,
             id,
             path,
-        } = take(&mut self.table, &mut self.order, o, steps).into_remains();
+        } = take_object(&mut self.table, &mut self.order, o, steps).into_finalized_parts();
         let id = free_all(&mut self.claims, kept, id);
         tell_deleted(&mut self.events, id, path);
         forget_all(&mut self.table, &self.order, o.birth, steps);

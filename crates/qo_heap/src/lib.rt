@@ -6,6 +6,7 @@
 mod bodies;
 mod devices;
 mod ends;
+mod entries;
 mod errors;
 mod heap;
 pub mod laws;

@@ -1,15 +1,15 @@
 //! Changing the slots and the pins of an object of the heap. None of these calls takes memory, and
 //! none finalizes.
 
+use crate::entries::{add_hold, end_hold, entry_mut};
 use crate::heap::Heap;
-use crate::table::change;
 use qo_object::Oid;
 use qo_slots::Steps;
 use qo_values::Val;
 use std::sync::ledger::Ledger;
 
 impl Heap {
-    ghost use Rattle.std.specs.Prelude.{◌≡◌, ◌+◌, ◌<◌, ◌^◌, true, Some, option_map, option_and_then};
+    ghost use Rattle.std.specs.Prelude.{◌≡◌, ◌+◌, ◌<◌, ◌≤◌, ◌^◌, true, Some, option_map, option_and_then};
     ghost use Rattle.qo_object.specs.Content.{dropped_at, named_at, empty_link_at, pointed_at, set_at, cut_at, with_pin, without_pin};
     ghost use Rattle.qo_heap.specs.Rows.{IsLive};
     ghost use Rattle.qo_heap.specs.Objects.{content_of, pins_of, with_edit};
@@ -20,9 +20,11 @@ impl Heap {
         requires live { IsLive self.old.rows o }
         ensures now { self.new ≡ with_edit o.birth (dropped_at at) self.old }
         ensures answer { result ≡ option_and_then (λ c. named_at c at) (content_of self.old o.birth) }
-        ensures cost { steps.new ≡ steps.old + 1 }
+        ensures cost { steps.new ≤ steps.old + 4 }
     {
-        change(&mut self.table, &self.order, o, steps).empty(at)
+        let dropped = entry_mut(&mut self.table, &self.order, o, steps).drop_at(at);
+        end_hold(&mut self.table, &self.order, dropped.hold, steps);
+        dropped.named
     }
 
     /// Points the link at a place, which has no target, at an object.
@@ -31,9 +33,10 @@ impl Heap {
         requires target { IsLive self.old.rows target }
         requires link { option_map (λ c. empty_link_at c at) (content_of self.old o.birth) ≡ Some true }
         ensures now { self.new ≡ with_edit o.birth (pointed_at target at) self.old }
-        ensures cost { steps.new ≡ steps.old + 1 }
+        ensures cost { steps.new ≤ steps.old + 4 }
     {
-        change(&mut self.table, &self.order, o, steps).point(at, target);
+        let hold = entry_mut(&mut self.table, &self.order, o, steps).point_at(at, target);
+        add_hold(&mut self.table, &self.order, hold, o, steps);
     }
 
     /// Gives the plain slot at a place a value; any other slot stays.
@@ -42,7 +45,9 @@ impl Heap {
         ensures now { self.new ≡ with_edit o.birth (set_at val at) self.old }
         ensures cost { steps.new ≡ steps.old + 1 }
     {
-        change(&mut self.table, &self.order, o, steps).set(at, val);
+        entry_mut(&mut self.table, &self.order, o, steps)
+            .object
+            .set(at, val);
     }
 
     /// Removes the link at a place, which has no target.
@@ -52,7 +57,9 @@ impl Heap {
         ensures now { self.new ≡ with_edit o.birth (cut_at at) self.old }
         ensures cost { steps.new ≡ steps.old + 1 }
     {
-        change(&mut self.table, &self.order, o, steps).cut(at);
+        entry_mut(&mut self.table, &self.order, o, steps)
+            .object
+            .cut(at);
     }
 
     /// Holds an object from outside the tree once more; it may be so held 2^32 times.
@@ -62,7 +69,9 @@ impl Heap {
         ensures now { self.new ≡ with_edit o.birth with_pin self.old }
         ensures cost { steps.new ≡ steps.old + 1 }
     {
-        change(&mut self.table, &self.order, o, steps).pin();
+        entry_mut(&mut self.table, &self.order, o, steps)
+            .object
+            .pin();
     }
 
     /// Holds an object from outside the tree once less.
@@ -72,6 +81,8 @@ impl Heap {
         ensures now { self.new ≡ with_edit o.birth without_pin self.old }
         ensures cost { steps.new ≡ steps.old + 1 }
     {
-        change(&mut self.table, &self.order, o, steps).unpin();
+        entry_mut(&mut self.table, &self.order, o, steps)
+            .object
+            .unpin();
     }
 }

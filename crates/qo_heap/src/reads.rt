@@ -1,9 +1,6 @@
 //! Reading the heap. None of these calls takes memory.
 
-ghost use Rattle.std.specs.Prelude.{◌≡◌, ◌≤◌, ◌^◌, false, length, find, slice_get, sum_by};
-ghost use Rattle.std.specs.Option.{option_map_or};
-ghost use Rattle.std.specs.List.{list_any};
-ghost use Rattle.qo_object.specs.Content.{holding, is_holder, is_parent};
+ghost use Rattle.std.specs.Prelude.{◌≡◌, ◌≤◌, ◌^◌, length, find, slice_get};
 
 use crate::heap::Heap;
 use crate::table::{key_in, place_of};
@@ -16,7 +13,7 @@ impl Heap {
     ghost use Rattle.std.specs.Prelude.{◌<◌, ◌+◌, nat_lt, Some, option_map, length, find, leb, slice_get, position, IfSome, IfNone, None, IfOk};
     ghost use Rattle.std.specs.Str.{bytes_eq};
     ghost use Rattle.qo_heap.specs.Rows.{IsLive};
-    ghost use Rattle.qo_heap.specs.Objects.{content_of, parent_of, pins_of, refs_of, slots_of};
+    ghost use Rattle.qo_heap.specs.Objects.{content_of, parent_of, refs_of, slots_of};
 
     /// How many objects are live.
     pub fn live(&self) -> usize
@@ -62,7 +59,7 @@ impl Heap {
         ensures cost { steps.new ≡ steps.old + 1 }
     {
         let object = self.look(o, steps);
-        object.facts();
+        object.reveal_invariant();
         object.slot_at(at)
     }
 
@@ -74,128 +71,38 @@ impl Heap {
         ensures cost { steps.new ≡ steps.old + 1 }
     {
         let object = self.look(o, steps);
-        object.facts();
+        object.reveal_invariant();
         object.len()
-    }
-
-    /// How often an object is pinned.
-    pub(crate) fn pins<L: Ledger>(&self, o: Oid, steps: &mut Steps<L>) -> u64
-        requires { IsLive self.now.rows o }
-        ensures pins { result ≡ pins_of self.now o.birth }
-        ensures few { result ≤ 2 ^ 32 }
-        ensures cost { steps.new ≡ steps.old + 1 }
-    {
-        let object = self.look(o, steps);
-        object.facts();
-        object.pins()
-    }
-
-    /// How many slots of the object at a place hold the object of a birth; 0 past the last.
-    fn holding_at<L: Ledger>(&self, place: usize, birth: u64, steps: &mut Steps<L>) -> u64
-        ensures count { result ≡ option_map_or (λ row. holding birth row.1) (slice_get self.now.rows place) 0 }
-        ensures few { result ≤ 2 ^ 32 }
-    {
-        self.facts();
-        match self.oid_at(place) {
-            Some(key) => {
-                let object = self.look(key, steps);
-                object.facts();
-                object.holding(birth)
-            }
-            None => 0,
-        }
-    }
-
-    /// How many slots of all objects hold the object of a birth.
-    fn holding_in<L: Ledger>(&self, birth: u64, steps: &mut Steps<L>) -> u64
-        ensures count { result ≡ sum_by (λ row. holding birth row.1) self.now.rows }
-        ensures bound { result ≤ 2 ^ 44 }
-    {
-        self.facts();
-        let mut count = 0u64;
-        for place in 0..self.live() {
-            count += self.holding_at(place, birth, steps);
-        }
-        count
-    }
-
-    /// Whether the object at a place holds the object of a birth; not past the last.
-    fn is_holder_at<L: Ledger>(&self, place: usize, birth: u64, steps: &mut Steps<L>) -> bool
-        ensures { result ≡ option_map_or (λ row. is_holder birth row.1) (slice_get self.now.rows place) false }
-    {
-        self.facts();
-        match self.oid_at(place) {
-            Some(key) => self.look(key, steps).is_holder(birth),
-            None => false,
-        }
-    }
-
-    /// Whether an object holds the object of a birth; no further one is looked at after the first that does.
-    fn is_held_in<L: Ledger>(&self, birth: u64, steps: &mut Steps<L>) -> bool
-        ensures { result ≡ list_any (λ row. is_holder birth row.1) self.now.rows }
-    {
-        for place in 0..self.live() {
-            if self.is_holder_at(place, birth, steps) {
-                return true;
-            }
-        }
-        false
-    }
-
-    /// Whether the object at a place has the object of a birth as a child; not past the last.
-    fn is_parent_at<L: Ledger>(&self, place: usize, birth: u64, steps: &mut Steps<L>) -> bool
-        ensures { result ≡ option_map_or (λ row. is_parent birth row.1) (slice_get self.now.rows place) false }
-    {
-        self.facts();
-        match self.oid_at(place) {
-            Some(key) => self.look(key, steps).is_parent(birth),
-            None => false,
-        }
-    }
-
-    /// The first place at which an object has the object of a birth as a child; past the last where none has.
-    fn parent_place<L: Ledger>(&self, birth: u64, steps: &mut Steps<L>) -> usize
-        ensures { slice_get self.now.rows result ≡ find (λ row. is_parent birth row.1) self.now.rows }
-    {
-        let len = self.live();
-        for place in 0..len {
-            if self.is_parent_at(place, birth, steps) {
-                return place;
-            }
-        }
-        len
     }
 
     /// The references of an object: the child slots and strong links that name it, and its pins.
     pub fn refs<L: Ledger>(&self, o: Oid, steps: &mut Steps<L>) -> u64
         requires { IsLive self.now.rows o }
-        ensures { result ≡ refs_of self.now o.birth }
+        ensures refs { result ≡ refs_of self.now o.birth }
+        ensures cost { steps.new ≡ steps.old + 1 }
     {
-        let pins = self.pins(o, steps);
-        pins + self.holding_in(o.birth, steps)
-    }
-
-    /// Whether a slot holds the object of a birth.
-    fn has_holder<L: Ledger>(&self, birth: u64, steps: &mut Steps<L>) -> bool
-        ensures { result ≡ list_any (λ row. is_holder birth row.1) self.now.rows }
-    {
-        self.is_held_in(birth, steps)
+        let entry = self.entry(o, steps);
+        entry.object.reveal_invariant();
+        entry.held + entry.object.pins()
     }
 
     /// Whether an object has references: it is pinned, or a slot holds it.
     pub fn is_held<L: Ledger>(&self, o: Oid, steps: &mut Steps<L>) -> bool
         requires { IsLive self.now.rows o }
-        ensures { result ≡ nat_lt 0 (refs_of self.now o.birth) }
+        ensures held { result ≡ nat_lt 0 (refs_of self.now o.birth) }
+        ensures cost { steps.new ≡ steps.old + 1 }
     {
-        self.pins(o, steps) > 0 || self.has_holder(o.birth, steps)
+        self.refs(o, steps) > 0
     }
 
     /// The parent of an object; `None` exactly where it has none.
     pub fn parent<L: Ledger>(&self, o: Oid, steps: &mut Steps<L>) -> Option<Oid>
-        ensures { result ≡ parent_of self.now o.birth }
+        ensures parent { result ≡ parent_of self.now o.birth }
+        ensures cost { steps.new ≤ steps.old + 1 }
     {
-        let place = self.parent_place(o.birth, steps);
-        self.oid_at(place)
+        self.reveal_invariant();
+        let there = self.by_birth(o.birth)?;
+        self.entry(there, steps).parent
     }
 
     /// The live object of a birth; `None` exactly where there is none.
@@ -204,7 +111,7 @@ impl Heap {
         ensures live { IfSome result (IsLive self.now.rows) }
         ensures none { IfNone result (content_of self.now birth ≡ None) }
     {
-        self.facts();
+        self.reveal_invariant();
         let o = self.from_birth(birth)?;
         if o.birth == birth {
             return Some(o);

@@ -1,8 +1,8 @@
 //! Room in each object for what others keep of it: for those who reset and clock it, and for a
 //! release. None of these calls takes memory.
 
+use crate::entries::entry_mut;
 use crate::heap::Heap;
-use crate::table::change;
 use qo_object::{Oid, Side, Work};
 use qo_slots::Steps;
 use std::sync::ledger::Ledger;
@@ -28,7 +28,9 @@ impl Heap {
         ensures now { self.new ≡ with_edit o.birth (with_side side) self.old }
         ensures cost { steps.new ≡ steps.old + 1 }
     {
-        change(&mut self.table, &self.order, o, steps).set_side(side);
+        entry_mut(&mut self.table, &self.order, o, steps)
+            .object
+            .set_side(side);
     }
 
     /// The place of an object in the work of a release: what `set_work` last put, and of a new one
@@ -47,6 +49,8 @@ impl Heap {
         ensures now { self.new ≡ with_edit o.birth (with_work work) self.old }
         ensures cost { steps.new ≡ steps.old + 1 }
     {
-        change(&mut self.table, &self.order, o, steps).set_work(work);
+        entry_mut(&mut self.table, &self.order, o, steps)
+            .object
+            .set_work(work);
     }
 }

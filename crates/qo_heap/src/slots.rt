@@ -1,25 +1,25 @@
 //! Adding slots to an object of the heap.
 
+use crate::entries::{add_hold, add_holds, entry_mut, hold_of};
 use crate::errors::SlotError;
 use crate::heap::Heap;
-use crate::table::change;
 use qo_object::{Oid, Slot, SlotName};
 use qo_slots::Steps;
 use qo_values::{TypeId, Val};
 use std::sync::ledger::Ledger;
 
 impl Heap {
-    ghost use Rattle.std.specs.Prelude.{◌≡◌, ◌≢◌, ◌≤◌, ◌^◌, true, false, Err, None, IfSome, OnOk, OnErr, filter_map, is_some, length};
+    ghost use Rattle.std.specs.Prelude.{◌≡◌, ◌≢◌, ◌+◌, ◌≤◌, ◌^◌, true, false, [], Err, None, IfSome, OnOk, OnErr, filter_map, is_some, length};
     ghost use Rattle.std.specs.List.{AllByRecursion, IsDistinct};
     ghost use Rattle.std.specs.Str.{bytes_eq};
-    ghost use Rattle.qo_object.specs.Content.{furnished, with_slot};
-    ghost use Rattle.qo_object.specs.Slots.{has_name, names_of, target_of};
+    ghost use Rattle.qo_object.specs.Content.{with_all_slots, with_slot};
+    ghost use Rattle.qo_object.specs.Slots.{child_of, has_name, names_of, target_of};
     ghost use Rattle.qo_object.specs.declared.slots.Slot.TheVariants.{Plain, Child, Link, Alias};
     ghost use Rattle.qo_heap.specs.Rows.{IsLive};
     ghost use Rattle.qo_heap.specs.Objects.{parent_of, slots_of, with_edit};
     ghost use Rattle.qo_heap.specs.declared.errors.SlotError.TheVariants.{Duplicate, HasParent, Memory};
 
-    /// Adds a slot to an object, after the others. What it names must be there.
+    /// Adds a slot to an object, after the others. What it names must be there, and a child have no parent.
     fn add<L: Ledger>(
         &mut self,
         o: Oid,
@@ -29,14 +29,20 @@ impl Heap {
     ) -> Result<(), SlotError>
         requires live { IsLive self.old.rows o }
         requires target { IfSome (target_of slot) (IsLive self.old.rows) }
+        requires free { IfSome (child_of slot) (λ child. parent_of self.old child.birth ≡ None) }
         ensures added { OnOk result (self.new ≡ with_edit o.birth (with_slot name slot) self.old) }
         ensures absent { OnOk result (has_name name (slots_of self.old o.birth) ≡ false) }
         ensures duplicate { result ≡ Err Duplicate → has_name name (slots_of self.old o.birth) ≡ true }
         ensures memory { result ≡ Err Memory → has_name name (slots_of self.old o.birth) ≡ false }
         ensures parent { result ≢ Err HasParent }
         ensures err { OnErr result (self.new ≡ self.old) }
+        ensures cost { steps.new ≤ steps.old + 2 }
     {
-        change(&mut self.table, &self.order, o, steps).add(name, slot)?;
+        let hold = hold_of(&slot);
+        entry_mut(&mut self.table, &self.order, o, steps)
+            .object
+            .add(name, slot)?;
+        add_hold(&mut self.table, &self.order, hold, o, steps);
         Ok(())
     }
 
@@ -78,8 +84,9 @@ impl Heap {
         ensures parent { result ≡ Err HasParent → (has_name name (slots_of self.old o.birth) ≡ false) × (is_some (parent_of self.old child.birth) ≡ true) }
         ensures memory { result ≡ Err Memory → (has_name name (slots_of self.old o.birth) ≡ false) × (parent_of self.old child.birth ≡ None) }
         ensures err { OnErr result (self.new ≡ self.old) }
+        ensures cost { steps.new ≤ steps.old + 3 }
     {
-        if self.parent(child, steps).is_none() {
+        if self.entry(child, steps).parent.is_none() {
             return self.add(o, name, Slot::Child(child), steps);
         }
         if self.slot(o, name.as_str(), steps).is_some() {
@@ -107,6 +114,7 @@ impl Heap {
         ensures memory { result ≡ Err Memory → has_name name (slots_of self.old o.birth) ≡ false }
         ensures parent { result ≢ Err HasParent }
         ensures err { OnErr result (self.new ≡ self.old) }
+        ensures cost { steps.new ≤ steps.old + 4 }
     {
         self.add(o, name, Slot::Link { ty, strong, target }, steps)
     }
@@ -132,15 +140,25 @@ impl Heap {
         self.add(o, name, Slot::Alias(target, of), steps)
     }
 
-    /// Gives an object these slots, whose names differ, in the place of its own. What they name must
-    /// be there. It takes no memory.
-    pub fn furnish<L: Ledger>(&mut self, o: Oid, slots: Vec<(SlotName, Slot)>, steps: &mut Steps<L>)
+    /// Gives an object these slots, whose names differ; it must have none, and none of these be a
+    /// child slot. What they name must be there. It takes no memory.
+    pub fn set_slots<L: Ledger>(
+        &mut self,
+        o: Oid,
+        slots: Vec<(SlotName, Slot)>,
+        steps: &mut Steps<L>,
+    )
         requires live { IsLive self.old.rows o }
         requires targets { AllByRecursion (IsLive self.old.rows) (filter_map (λ s. target_of s.1) slots.items) }
         requires differ { IsDistinct bytes_eq (names_of slots.items) }
         requires few { length slots.items ≤ 2 ^ 32 }
-        ensures { self.new ≡ with_edit o.birth (furnished slots.items) self.old }
+        requires bare { slots_of self.old o.birth ≡ [] }
+        requires childless { AllByRecursion (λ s. child_of s.1 ≡ None) slots.items }
+        ensures { self.new ≡ with_edit o.birth (with_all_slots slots.items) self.old }
     {
-        change(&mut self.table, &self.order, o, steps).furnish(slots);
+        add_holds(&mut self.table, &self.order, slots.as_slice(), o, steps);
+        entry_mut(&mut self.table, &self.order, o, steps)
+            .object
+            .set_slots(slots);
     }
 }

@@ -1,11 +1,14 @@
-//! What no clause says: which fields a heap has, so that no object, slot or pin is kept outside its
-//! table, and that the table's objects may be ones that may not be let go.
+//! What no clause says: which fields a heap and an entry of its table have, so that no object, slot or
+//! pin is kept outside the table, and that the table's objects may be ones that may not be let go.
 ghost use Rattle.std.specs.Prelude.{◌≡◌, ◌<◌};
 ghost use Rattle.qo_heap.specs.Order.{IsOrdered};
 
+use crate::entries::Entry;
 use crate::heap::Heap;
 use crate::table::{add, into_rest};
+use qo_object::Object;
 use qo_slots::{Arena, Key, Steps};
+use qo_values::TypeId;
 use std::alloc::Global;
 use std::marker::Brand;
 use std::sync::ledger::{Blank, Ledger};
@@ -29,6 +32,19 @@ fn a_heap_has_these_fields(rt: HostRuntime) -> Result<(), Fail> {
     assert_eq!(rt; *total, 0);
     assert_eq!(rt; *time, 0);
     Ok(())
+}
+
+#[test]
+fn an_entry_has_these_fields(rt: HostRuntime) {
+    let entry = Entry::new(Object::new(rt.alloc(), TypeId::Tag));
+    let Entry {
+        object,
+        held,
+        parent,
+    } = entry;
+    assert_eq!(rt; object.pins(), 1);
+    assert_eq!(rt; held, 0);
+    assert!(rt; parent.is_none());
 }
 
 /// An object that may not be let go.

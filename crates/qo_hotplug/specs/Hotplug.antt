@@ -21,8 +21,8 @@ abbrev pub nothing_asked : Asked
 nothing_asked = record { pending = []; notices = [] }
 
 -- a notice more
-abbrev pub told : Bool → ℕ → Asked → Asked
-told plug n h = record h { notices = h.notices ++ record { plug = plug; birth = n } ∷ [] }
+abbrev pub notified : Bool → ℕ → Asked → Asked
+notified plug n h = record h { notices = h.notices ++ record { plug = plug; birth = n } ∷ [] }
 
 -- a removal is asked for, and the guest is told so
 abbrev pub asked : ℕ → Asked → Asked

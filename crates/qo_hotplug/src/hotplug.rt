@@ -78,7 +78,7 @@ fn is_among(devices: &[Oid], device: Oid) -> bool
 impl Hotplug {
     ghost use Rattle.std.specs.Prelude.{◌<◌, ◌⊎◌, ◌↔◌, true, None, Some, IfOk, IfErr, OnOk, OnErr, IsErr, is_ok, option_map, slice_get, length};
     ghost use Rattle.qo_values.specs.declared.limits.TheConstants.{LIVE_OBJECTS_MAX, NOTICES_MAX};
-    ghost use Rattle.qo_hotplug.specs.Hotplug.{nothing_asked, told, asked, ask_refusal, refused, gone, first_notice, after_first};
+    ghost use Rattle.qo_hotplug.specs.Hotplug.{nothing_asked, notified, asked, ask_refusal, refused, gone, first_notice, after_first};
 
     /// Nothing is pending and nothing waits. All room is taken here; no other call takes memory.
     pub fn new(alloc: Global) -> Result<Hotplug, AllocError>
@@ -94,7 +94,7 @@ impl Hotplug {
     /// memory.
     pub fn plug(&mut self, device: Oid) -> Result<(), NoticesFull>
         ensures full { IsErr result ↔ (NOTICES_MAX ≤ length self.old.notices) }
-        ensures ok { OnOk result (self.new ≡ told true device.birth self.old) }
+        ensures ok { OnOk result (self.new ≡ notified true device.birth self.old) }
         ensures err { OnErr result (self.new ≡ self.old) }
     {
         if self.notices.len() >= NOTICES {

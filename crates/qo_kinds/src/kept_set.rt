@@ -44,8 +44,8 @@ impl KeptSet {
     }
 }
 
-/// Ends what can't be there.
-fn no_claim(kept: Option<Kept>)
+/// Ends a claim that is none. It takes no memory.
+pub fn no_claim(kept: Option<Kept>)
     requires { kept ≡ None }
 {
     match kept {

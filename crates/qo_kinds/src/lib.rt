@@ -11,4 +11,4 @@ mod kept_set;
 pub use bodies::{Body, Device};
 pub use bridge::Bridge;
 pub use effects::Effect;
-pub use kept_set::KeptSet;
+pub use kept_set::{KeptSet, no_claim};

@@ -20,7 +20,7 @@ use Rattle.qo_model.specs.Paths.{is_of}
 use Rattle.qo_model.specs.Plug.{bus_type, size_of}
 use Rattle.qo_model.specs.Properties.{property_named}
 use Rattle.qo_model.specs.Types.{is_a, property, types}
-use Rattle.qo_model.specs.declared.properties.Mark.TheVariants.{Add}
+use Rattle.qo_model.specs.declared.properties.Access.TheVariants.{Add}
 use Rattle.qo_model.specs.declared.properties.PropertyName.TheVariants as prop
 use Rattle.qo_model.specs.declared.properties.First.TheVariants as first
 use Rattle.qo_model.specs.declared.properties.Property.{Property}

@@ -16,4 +16,5 @@ pub use addresses::{
     ROOT_SIZE, SLOTS_AT,
 };
 pub use maps::{BoardMap, memory_map};
+pub use numbering::{below_in_slot, mapped};
 pub use views::{REGISTER_SIZE, RegisterPlace, flat_view, register_at};

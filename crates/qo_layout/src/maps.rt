@@ -133,7 +133,7 @@ pub fn memory_map<L: Ledger>(
     ensures there { IfOk result (λ m. m.root < length m.map) }
     ensures err { (b : Board) → Shows b heap.now → SoundDevices b → SoundShape b → SoundClaims b → IfErr result (λ e. e ≡ Memory) }
 {
-    heap.facts();
+    heap.reveal_invariant();
     let objects = mapped(alloc, heap, steps)?;
     if objects.len() >= MAX_REGIONS {
         return Err(MapError::Full);

@@ -19,7 +19,7 @@ use std::alloc::{AllocError, Global};
 use std::sync::ledger::Ledger;
 
 /// What is below an object in the slot at a place: of a bus a device, of any other object a bus.
-fn below_in_slot<L: Ledger>(
+pub fn below_in_slot<L: Ledger>(
     heap: &Heap,
     o: Oid,
     bus: bool,
@@ -96,7 +96,7 @@ fn list_bus<L: Ledger>(
     ensures listed { (b : Board) → Shows b heap.now → is_of b (codes "bus") birth ≡ true → OnOk result (births_of objects.new.items ≡ births_of objects.old.items ++ post b birth) }
     ensures all_live { All (IsLive heap.now.rows) objects.new.items }
 {
-    heap.facts();
+    heap.reveal_invariant();
     let Some(bus) = heap.by_birth(birth) else {
         return Ok(());
     };
@@ -104,7 +104,7 @@ fn list_bus<L: Ledger>(
 }
 
 /// The objects that have a region, in the order of their numbers.
-pub(crate) fn mapped<L: Ledger>(
+pub fn mapped<L: Ledger>(
     alloc: Global,
     heap: &Heap,
     steps: &mut Steps<L>,

@@ -6,7 +6,7 @@ use Rattle.std.proofs.lemmas.Bool.{eqb-true}
 use Rattle.std.proofs.lemmas.Option.{same_Some}
 use Rattle.std.proofs.lemmas.List.Sums.{sum_by-cons}
 use Rattle.qo_model.proofs.AttemptLemmas.{drop-other, drop-own}
-use Rattle.qo_model.specs.Board.{Board, Record, Slot, plain, child, strong, weak, alias, record_of, is_live, slots_at, slot_at, held}
+use Rattle.qo_model.specs.Board.{Board, Record, Slot, plain, child, strong, weak, alias, record_of, is_live, slots_at, slot_at, referent}
 use Rattle.qo_model.specs.References.{refs}
 use Rattle.qo_model.specs.Release.{emptied, without_hold, drop_slot, next_index, forgotten_in, forgotten, finish, let_go}
 use Rattle.qo_model.specs.ReleaseInduction.{KeepsRelease}
@@ -20,7 +20,7 @@ at_place slots i = option_map (λ (s : List ℕ × Slot). s.1) (slice_get slots 
 
 -- the slots before a place hold nothing
 abbrev pub IsBareTo : List (List ℕ × Slot) → ℕ → Type 0
-IsBareTo slots i = (j : ℕ) → j < i → (s : Slot) → at_place slots j ≡ Some s → held s ≡ None
+IsBareTo slots i = (j : ℕ) → j < i → (s : Slot) → at_place slots j ≡ Some s → referent s ≡ None
 
 -- an object is there, nothing refers to it, and its slots before a place hold nothing
 pub record Stays (x i : ℕ) (b : Board) : Type 0 where
@@ -50,21 +50,21 @@ module _ (n : ℕ) where
   bare-forgotten : (slots : List (List ℕ × Slot)) (i : ℕ) → IsBareTo slots i → IsBareTo (forgotten_slots slots) i
   bare-forgotten slots i bare j below s e = go (at_place slots j) refl
     where
-      go : (o : Option Slot) → at_place slots j ≡ o → held s ≡ None
+      go : (o : Option Slot) → at_place slots j ≡ o → referent s ≡ None
       go None p =
           let none : None ≡ Some s = ap (option_map (forgotten_in n)) (sym p) ∙ sym (at-forgotten slots j) ∙ e in
           absurd (let clash = none in cc)
       go (Some t) p =
           let same : forgotten_in n t ≡ s = same_Some (forgotten_in n t) s (ap (option_map (forgotten_in n)) (sym p) ∙ sym (at-forgotten slots j) ∙ e) in
-          ap held (sym same) ∙ held-forgotten n t ∙ bare j below t p
+          ap referent (sym same) ∙ held-forgotten n t ∙ bare j below t p
 
 -- what is left of a slot holds nothing
-left-bare : (s left : Slot) → emptied s ≡ Some left → held left ≡ None
-left-bare (plain v) left e = ap held (sym (same_Some (plain v) left e))
+left-bare : (s left : Slot) → emptied s ≡ Some left → referent left ≡ None
+left-bare (plain v) left e = ap referent (sym (same_Some (plain v) left e))
 left-bare (child m) left e = absurd (let clash : None ≡ Some left = e in cc)
-left-bare (strong t target) left e = ap held (sym (same_Some (strong t None) left e))
-left-bare (weak t target) left e = ap held (sym (same_Some (weak t None) left e))
-left-bare (alias m property) left e = ap held (sym (same_Some (alias m property) left e))
+left-bare (strong t target) left e = ap referent (sym (same_Some (strong t None) left e))
+left-bare (weak t target) left e = ap referent (sym (same_Some (weak t None) left e))
+left-bare (alias m property) left e = ap referent (sym (same_Some (alias m property) left e))
 
 -- the slots before a place stay, and what is left at the place holds nothing
 bare-before : (slots : List (List ℕ × Slot)) (i : ℕ) → IsBareTo slots i → IsBareTo (without_hold i slots) i
@@ -86,11 +86,11 @@ bare-more : (slots : List (List ℕ × Slot)) (i : ℕ) (s left : Slot) → IsBa
     → IsBareTo (without_hold i slots) (suc i)
 bare-more slots i s left bare e q j below t p = go (j == i) refl
   where
-    go : (b : Bool) → (j == i) ≡ b → held t ≡ None
+    go : (b : Bool) → (j == i) ≡ b → referent t ≡ None
     go true is =
         let here : at_place (without_hold i slots) i ≡ Some t = ap (at_place (without_hold i slots)) (sym (eqb-true j i is)) ∙ p in
         let same : left ≡ t = same_Some left t (sym (bare-here slots i s left e q) ∙ here) in
-        ap held (sym same) ∙ left-bare s left q
+        ap referent (sym same) ∙ left-bare s left q
     go false is = bare-before slots i bare j (grind arith) t p
 
 bare-next : (slots : List (List ℕ × Slot)) (i : ℕ) (s : Slot) → IsBareTo slots i → at_place slots i ≡ Some s → IsBareTo (without_hold i slots) (next_index s i)
@@ -137,7 +137,7 @@ module _ (x i : ℕ) where
   Others work b = Stays x i b × AllByRecursion (λ (t : ℕ × ℕ). (x == t.0) ≡ false) work
 
   -- what a slot holds is another
-  held-other : (b : Board) (n j m : ℕ) (s : Slot) → refs b x ≡ 0 → slot_at b n j ≡ Some s → held s ≡ Some m → (x == m) ≡ false
+  held-other : (b : Board) (n j m : ℕ) (s : Slot) → refs b x ≡ 0 → slot_at b n j ≡ Some s → referent s ≡ Some m → (x == m) ≡ false
   held-other b n j m s free e h = go (x == m) refl
     where
       go : (t : Bool) → (x == m) ≡ t → t ≡ false
@@ -157,20 +157,20 @@ pub let_go-stays : (n i : ℕ) (b : Board) (s : Slot) → slot_at b n i ≡ Some
 unfolding let_go
 let_go-stays n i b s e stays =
     let own : Stays n (next_index s i) (drop_slot b n i) = stays-own n i b s e stays in
-    rw (let_go, e) (after_keeps (Others n (next_index s i)) (others-keep n (next_index s i)) (drop_slot b n i) (held s) []
+    rw (let_go, e) (after_keeps (Others n (next_index s i)) (others-keep n (next_index s i)) (drop_slot b n i) (referent s) []
     (λ m h free. (own, (held-other n (next_index s i) b n i m s stays.free e h, tt))) (λ held_on. (own, tt))).0
 
 -- where the slots before a place hold nothing and none stands there, none holds anything
 pub none-held : (slots : List (List ℕ × Slot)) (i : ℕ) → IsBareTo slots i → at_place slots i ≡ None
-    → count_by (λ (s : List ℕ × Slot). is_some (held s.1)) slots ≡ 0
+    → count_by (λ (s : List ℕ × Slot). is_some (referent s.1)) slots ≡ 0
 none-held [] i bare e = refl
 none-held (t ∷ slots) zero bare e = cc
 none-held (t ∷ slots) (suc i) bare e =
-    let here : held t.1 ≡ None = bare zero (omega arith) t.1 refl in
-    let one : cond {A = ℕ} (is_some (held t.1)) 1 0 ≡ 0 = rw here refl in
+    let here : referent t.1 ≡ None = bare zero (omega arith) t.1 refl in
+    let one : cond {A = ℕ} (is_some (referent t.1)) 1 0 ≡ 0 = rw here refl in
     omega (
       arith,
-      sum_by-cons (λ (s : List ℕ × Slot). cond {A = ℕ} (is_some (held s.1)) 1 0) t slots,
+      sum_by-cons (λ (s : List ℕ × Slot). cond {A = ℕ} (is_some (referent s.1)) 1 0) t slots,
       one,
       none-held slots i (λ j less. bare (suc j) (omega arith)) e,
     )

@@ -16,7 +16,7 @@ use Rattle.qo_model.proofs.ReleaseLemmas.{after-holding, drop-holding, drop-fall
 use Rattle.qo_heap.specs.Log.{Log, empty_log, noted_all}
 use Rattle.qo_object.specs.declared.slots.Slot.{Slot}
 use Rattle.qo_object.specs.declared.slots.Slot.TheVariants.{Plain, Child, Link, Alias}
-use Rattle.qo_object.specs.Slots.{Named, held, slot_in, target_of}
+use Rattle.qo_object.specs.Slots.{Named, referent, slot_in, target_of}
 use Rattle.qo_object.specs.Content.{Content, dropped_at, reference_count}
 use Rattle.qo_object.specs.Content as content
 use Rattle.qo_object.specs.BoardObject.{birth_of, shown, shown_slot}
@@ -30,7 +30,8 @@ use Rattle.qo_life.proofs.BoardLemmas.{Stays, let_go-stays, none-held}
 use Rattle.qo_life.proofs.TreeLemmas.{tree, tree-shows, heap-with_log, tree-after, goes-none, goes-same, goes-then, goes-drop, goes-unpin, goes-end, goes-names}
 
 -- a slot of the heap on the boards of the heap
-pub slot-shown : (b : Board) (v : Objects) → Shows b v → (n i : ℕ) (o : Option Slot) → slot_in (slots_of v n) i ≡ o → board.slot_at b n i ≡ option_map shown_slot o
+pub slot-shown : (b : Board) (v : Objects) → Shows b v → (n i : ℕ) (o : Option Slot) → slot_in (slots_of v n) i ≡ o
+    → board.slot_at b n i ≡ option_map shown_slot o
 slot-shown b v s n i o is = shows-slot_at b v s n i ∙ ap (option_map shown_slot) is
 
 pub next-shown : (i : ℕ) (s : Slot) → next_index (shown_slot s) i ≡ next_at i s
@@ -45,7 +46,8 @@ let_go-none : (b : Board) (n i : ℕ) → board.slot_at b n i ≡ None → let_g
 unfolding let_go
 let_go-none b n i e = rw (let_go, e) refl
 
-let_go-some : (b : Board) (n i : ℕ) (s : Slot) → board.slot_at b n i ≡ Some (shown_slot s) → let_go b n i ≡ after finalize (drop_slot b n i) (birth_of (held s))
+let_go-some : (b : Board) (n i : ℕ) (s : Slot) → board.slot_at b n i ≡ Some (shown_slot s)
+    → let_go b n i ≡ after finalize (drop_slot b n i) (birth_of (referent s))
 unfolding let_go
 let_go-some b n i s e = rw (let_go, e) (ap (after finalize (drop_slot b n i)) (shown-held s))
 
@@ -54,10 +56,10 @@ goes-past v n i is = goes-same (λ b. b) (λ b. let_go b n i) v v (goes-none v) 
 
 -- a slot let go, and the end of what it held
 pub goes-let_go : (v w : Objects) (n i : ℕ) (s : Slot) → slot_in (slots_of v n) i ≡ Some s
-    → Goes (λ b. after finalize b (birth_of (held s))) (with_edit n (dropped_at i) v) w → Goes (λ b. let_go b n i) v w
+    → Goes (λ b. after finalize b (birth_of (referent s))) (with_edit n (dropped_at i) v) w → Goes (λ b. let_go b n i) v w
 goes-let_go v w n i s is later =
-    goes-same (λ b. after finalize (drop_slot b n i) (birth_of (held s))) (λ b. let_go b n i) v w
-    (goes-then (λ b. drop_slot b n i) (λ b. after finalize b (birth_of (held s))) v (with_edit n (dropped_at i) v) w (goes-drop v n i) later)
+    goes-same (λ b. after finalize (drop_slot b n i) (birth_of (referent s))) (λ b. let_go b n i) v w
+    (goes-then (λ b. drop_slot b n i) (λ b. after finalize b (birth_of (referent s))) v (with_edit n (dropped_at i) v) w (goes-drop v n i) later)
     (λ b log t. let_go-some b n i s (slot-shown b (with_log log v) t n i (Some s) is))
 
 -- what is given of an option that is there
@@ -71,35 +73,35 @@ none-given f None e = refl
 none-given f (Some x) e = cc
 
 -- as the code has it: what was held, and the heap after the slot let go
-pub goes-turn : (v u w : Objects) (n i : ℕ) (was : Option Key) → Some was ≡ option_map held (slot_in (slots_of v n) i) → u ≡ with_edit n (dropped_at i) v
+pub goes-turn : (v u w : Objects) (n i : ℕ) (was : Option Key) → Some was ≡ option_map referent (slot_in (slots_of v n) i) → u ≡ with_edit n (dropped_at i) v
     → Goes (λ b. after finalize b (birth_of was)) u w → Goes (λ b. let_go b n i) v w
 goes-turn v u w n i was e is later =
-    let (s, (there, same)) = given held (slot_in (slots_of v n) i) was e in
+    let (s, (there, same)) = given referent (slot_in (slots_of v n) i) was e in
     goes-let_go v w n i s there
     (subst (λ (o : Option Key). Goes (λ b. after finalize b (birth_of o)) (with_edit n (dropped_at i) v) w) (sym same)
     (subst (λ (x : Objects). Goes (λ b. after finalize b (birth_of was)) x w) is later))
 
 -- what a slot holds is there
-held-named : (P : Key → Type 0) (s : Slot) → IfSome (target_of s) P → IfSome (held s) P
+held-named : (P : Key → Type 0) (s : Slot) → IfSome (target_of s) P → IfSome (referent s) P
 held-named P (Plain val) named = tt
 held-named P (Child k) named = named
 held-named P (Link ty true target) named = named
 held-named P (Link ty false target) named = tt
 held-named P (Alias k name) named = tt
 
-pub held-live : (v : Objects) → IsHeap v → (n i : ℕ) (s : Slot) → slot_in (slots_of v n) i ≡ Some s → IfSome (held s) (IsLive v.rows)
+pub held-live : (v : Objects) → IsHeap v → (n i : ℕ) (s : Slot) → slot_in (slots_of v n) i ≡ Some s → IfSome (referent s) (IsLive v.rows)
 held-live v good n i s is = go (slice_get (slots_of v n) i) refl is
   where
-    go : (o : Option Named) → slice_get (slots_of v n) i ≡ o → option_map (λ (t : Named). t.1) o ≡ Some s → IfSome (held s) (IsLive v.rows)
+    go : (o : Option Named) → slice_get (slots_of v n) i ≡ o → option_map (λ (t : Named). t.1) o ≡ Some s → IfSome (referent s) (IsLive v.rows)
     go None p q = cc
     go (Some t) p q =
-        subst (λ (x : Slot). IfSome (held x) (IsLive v.rows)) (same_Some t.1 s q) (held-named (IsLive v.rows) t.1 (slot-live v good n i t (sym p)))
+        subst (λ (x : Slot). IfSome (referent x) (IsLive v.rows)) (same_Some t.1 s q) (held-named (IsLive v.rows) t.1 (slot-live v good n i t (sym p)))
 
-pub turn-live : (v u : Objects) → IsHeap v → (n i : ℕ) (was : Option Key) → Some was ≡ option_map held (slot_in (slots_of v n) i)
+pub turn-live : (v u : Objects) → IsHeap v → (n i : ℕ) (was : Option Key) → Some was ≡ option_map referent (slot_in (slots_of v n) i)
     → u ≡ with_edit n (dropped_at i) v → IfSome was (IsLive u.rows)
 turn-live v u good n i None e is = tt
 turn-live v u good n i (Some key) e is =
-    let (s, (there, same)) = given held (slot_in (slots_of v n) i) (Some key) e in
+    let (s, (there, same)) = given referent (slot_in (slots_of v n) i) (Some key) e in
     let live : IsLive v.rows key = subst (λ (o : Option Key). IfSome o (IsLive v.rows)) same (held-live v good n i s there) in
     subst (λ (x : Objects). IsLive x.rows key) (sym is) (live-edit n (dropped_at i) v.rows key live)
 

@@ -19,7 +19,7 @@ use Rattle.qo_heap.specs.Log.{Log, empty_log, noted_all}
 use Rattle.qo_object.specs.declared.room.Work.{Work}
 use Rattle.qo_object.specs.declared.slots.Slot.{Slot}
 use Rattle.qo_object.specs.declared.slots.Slot.TheVariants.{Plain, Child, Link, Alias}
-use Rattle.qo_object.specs.Slots.{held, slot_in}
+use Rattle.qo_object.specs.Slots.{referent, slot_in}
 use Rattle.qo_object.specs.Content.{Content, dropped_at, forgotten, reference_count, with_work}
 use Rattle.qo_object.specs.BoardObject.{birth_of, shown, shown_slot, shown_slots}
 use Rattle.qo_object.proofs.BoardObjectLemmas.{reference_count-shown, shown-held}
@@ -146,7 +146,8 @@ module _ (n : ℕ) where
   Apart ps = AllByRecursion (λ x. nat_eq n x ≡ false) (map (λ (p : Key × ℕ). p.0.birth) ps)
 
   -- the slots of n, and its place in the work, change nothing of the others
-  work-dropped : (i : ℕ) (v : Objects) (ps : List (Key × ℕ)) → AllByRecursion (λ (p : Key × ℕ). work_of (with_edit n (dropped_at i) v) p.0.birth ≡ work_of v p.0.birth) ps
+  work-dropped : (i : ℕ) (v : Objects) (ps : List (Key × ℕ))
+      → AllByRecursion (λ (p : Key × ℕ). work_of (with_edit n (dropped_at i) v) p.0.birth ≡ work_of v p.0.birth) ps
   work-dropped i v [] = tt
   work-dropped i v (p ∷ ps) = (read-content (λ (c : Content). c.work) n (dropped_at i) (λ c. refl) v p.0.birth, work-dropped i v ps)
 
@@ -156,17 +157,21 @@ module _ (n : ℕ) where
   work-others f v (p ∷ ps) apart =
       (ap (option_map (λ (c : Content). c.work)) (content-other v n p.0.birth f (apart-flip n p.0.birth apart.0)), work-others f v ps apart.1)
 
-  work-left : (x : Content) (v : Objects) (ps : List (Key × ℕ)) → Apart ps → AllByRecursion (λ (p : Key × ℕ). work_of (ended n x v) p.0.birth ≡ work_of v p.0.birth) ps
+  work-left : (x : Content) (v : Objects) (ps : List (Key × ℕ)) → Apart ps
+      → AllByRecursion (λ (p : Key × ℕ). work_of (ended n x v) p.0.birth ≡ work_of v p.0.birth) ps
   work-left x v [] apart = tt
-  work-left x v (p ∷ ps) apart =
-      (ap (option_map (λ (c : Content). c.work)) (content-left v n p.0.birth x (apart-flip n p.0.birth apart.0)) ∙ two (content_of v p.0.birth), work-left x v ps apart.1)
+  work-left x v (p ∷ ps) apart = (
+    ap (option_map (λ (c : Content). c.work)) (content-left v n p.0.birth x (apart-flip n p.0.birth apart.0)) ∙ two (content_of v p.0.birth),
+    work-left x v ps apart.1,
+  )
     where
       two : (o : Option Content) → option_map (λ (c : Content). c.work) (option_map (forgotten n) o) ≡ option_map (λ (c : Content). c.work) o
       two None = refl
       two (Some c) = refl
 
   -- what is so of the others stays so, where a slot of n was let go, where n has another place in the work, and where n ended
-  each-drop : (i : ℕ) (v : Objects) (ps : List (Key × ℕ)) → Apart ps → AllByRecursion (IsDoing v) ps → AllByRecursion (IsDoing (with_edit n (dropped_at i) v)) ps
+  each-drop : (i : ℕ) (v : Objects) (ps : List (Key × ℕ)) → Apart ps → AllByRecursion (IsDoing v) ps
+      → AllByRecursion (IsDoing (with_edit n (dropped_at i) v)) ps
   each-drop i v [] apart each = tt
   each-drop i v (p ∷ ps) apart each = (
     record {
@@ -239,7 +244,7 @@ module _ (v w : Objects) (n : ℕ) (f : Front) (good : IsHeap w) (now : At v w n
   some-held (Some key) some m e = subst (λ (x : ℕ). 0 < refs_of u x) (same_Some key.birth m e) (some key refl)
 
   -- nothing is free
-  pub at-kept : ((m : Key) → held s ≡ Some m → 0 < refs_of u m.birth) → At v u n (record { o = f.o; at = next_at f.at s; next = f.next })
+  pub at-kept : ((m : Key) → referent s ≡ Some m → 0 < refs_of u m.birth) → At v u n (record { o = f.o; at = next_at f.at s; next = f.next })
   at-kept some =
       record {
         others = now.others;
@@ -253,13 +258,13 @@ module _ (v w : Objects) (n : ℕ) (f : Front) (good : IsHeap w) (now : At v w n
         same = λ b log t.
             ap (λ (j : ℕ). rest (drop_slot (now.step b) k f.at) ((k, j) ∷ births_of now.others)) (sym (next-shown f.at s))
             ∙ sym (rest-kept (now.step b) k f.at (births_of now.others) (shown_slot s) (board-slot b log t)
-            (λ m e. subst (λ (x : ℕ). 0 < x) (sym (board-refs b log t m)) (some-held (held s) some m (sym (shown-held s) ∙ e))))
+            (λ m e. subst (λ (x : ℕ). 0 < x) (sym (board-refs b log t m)) (some-held (referent s) some m (sym (shown-held s) ∙ e))))
             ∙ now.same b log t;
       }
 
   -- what the slot held is free
-  module _ (m : Key) (holds : held s ≡ Some m) (free : refs_of u m.birth ≡ 0) where
-    shown-holds : board.held (shown_slot s) ≡ Some m.birth
+  module _ (m : Key) (holds : referent s ≡ Some m) (free : refs_of u m.birth ≡ 0) where
+    shown-holds : board.referent (shown_slot s) ≡ Some m.birth
     shown-holds = shown-held s ∙ ap birth_of holds
 
     another : (x : ℕ) → refs (tree w) x ≡ 0 → nat_eq m.birth x ≡ false
@@ -268,7 +273,8 @@ module _ (v w : Objects) (n : ℕ) (f : Front) (good : IsHeap w) (now : At v w n
         go : (t : Bool) → nat_eq m.birth x ≡ t → nat_eq m.birth x ≡ false
         go true is =
             absurd
-            (unheld-apart (tree w) x k f.at m.birth (shown_slot s) none (slot-shown (tree w) (with_log empty_log w) (tree-shows w) k f.at (Some s) there) shown-holds
+            (unheld-apart (tree w) x k f.at m.birth (shown_slot s) none (slot-shown (tree w) (with_log empty_log w) (tree-shows w) k f.at (Some s) there)
+            shown-holds
             (eqb-true m.birth x is))
         go false is = is
 
@@ -308,35 +314,39 @@ module _ (v w : Objects) (n : ℕ) (f : Front) (good : IsHeap w) (now : At v w n
           here =
               doing-work k place u (m, 0)
               (record {
-                live = subst (λ (o : Option Key). IfSome o (IsLive u.rows)) holds (turn-live w u good k f.at (held s) (ap (option_map held) (sym there)) refl);
-                stays = stays-bare u good' m (subst (λ (o : Option Key). IfSome o (IsLive u.rows)) holds (turn-live w u good k f.at (held s) (ap (option_map held) (sym there)) refl)) free;
+                live = subst (λ (o : Option Key). IfSome o (IsLive u.rows)) holds
+                    (turn-live w u good k f.at (referent s) (ap (option_map referent) (sym there)) refl);
+                stays = stays-bare u good' m (subst (λ (o : Option Key). IfSome o (IsLive u.rows)) holds
+                    (turn-live w u good k f.at (referent s) (ap (option_map referent) (sym there)) refl)) free;
               });
           each = (doing-work k place u (f.o, next_at f.at s) own, each-work k place u now.others (each-drop k f.at w now.others now.apart now.each));
           step = λ b. drop_slot (now.step b) k f.at;
           goes = goes-then (λ b. drop_slot (now.step b) k f.at) (λ b. b) v u x goes-now (goes-work u k place);
           same = λ b log t.
               ap (λ (j : ℕ). rest (drop_slot (now.step b) k f.at) ((m.birth, 0) ∷ (k, j) ∷ births_of now.others)) (sym (next-shown f.at s))
-              ∙ sym (rest-freed (now.step b) k f.at (births_of now.others) (shown_slot s) m.birth (board-slot b log t) shown-holds (board-refs b log t m.birth ∙ free))
+              ∙ sym (rest-freed (now.step b) k f.at (births_of now.others) (shown_slot s) m.birth (board-slot b log t) shown-holds
+              (board-refs b log t m.birth ∙ free))
               ∙ now.same b log t;
         }
 
 -- as the code has it
 pub at-on : (v w u x : Objects) (n : ℕ) (f : Front) (was : Option Key) (next : ℕ) (r : Front) → IsHeap w → At v w n f
-    → Some was ≡ option_map held (slot_in (slots_of w f.o.birth) f.at) → Some next ≡ option_map (next_at f.at) (slot_in (slots_of w f.o.birth) f.at)
+    → Some was ≡ option_map referent (slot_in (slots_of w f.o.birth) f.at) → Some next ≡ option_map (next_at f.at) (slot_in (slots_of w f.o.birth) f.at)
     → u ≡ with_edit f.o.birth (dropped_at f.at) w → IsHeap u → GoesOn was f next u x r → At v x n r
 at-on v w u x n f was next r good now e e' is good' on =
-    let (s, (there, same)) = given held (slot_in (slots_of w f.o.birth) f.at) was e in
+    let (s, (there, same)) = given referent (slot_in (slots_of w f.o.birth) f.at) was e in
     let place : next ≡ next_at f.at s = same_Some next (next_at f.at s) (e' ∙ ap (option_map (next_at f.at)) there) in
     let heap : IsHeap (with_edit f.o.birth (dropped_at f.at) w) = subst IsHeap is good' in
     go s there same place heap on
   where
-    go : (s : Slot) → slot_in (slots_of w f.o.birth) f.at ≡ Some s → held s ≡ was → next ≡ next_at f.at s → IsHeap (with_edit f.o.birth (dropped_at f.at) w)
+    go : (s : Slot) → slot_in (slots_of w f.o.birth) f.at ≡ Some s → referent s ≡ was → next ≡ next_at f.at s → IsHeap (with_edit f.o.birth (dropped_at f.at) w)
         → GoesOn was f next u x r → At v x n r
     go s there same place heap (kept some xs rs) =
         let one : At v (with_edit f.o.birth (dropped_at f.at) w) n (record { o = f.o; at = next_at f.at s; next = f.next }) =
         at-kept v w n f good now s there heap (λ m h. subst (λ (y : Objects). 0 < refs_of y m.birth) is (some m (sym same ∙ h))) in
         subst (λ (y : Objects). At v y n r) (sym (xs ∙ is))
-        (subst (λ (q : Front). At v (with_edit f.o.birth (dropped_at f.at) w) n q) (sym (rs ∙ ap (λ (j : ℕ). record { o = f.o; at = j; next = f.next }) place)) one)
+        (subst (λ (q : Front). At v (with_edit f.o.birth (dropped_at f.at) w) n q) (sym (rs ∙ ap (λ (j : ℕ). record { o = f.o; at = j; next = f.next }) place))
+        one)
     go s there same place heap (freed m h none xs rs) =
         let one : At v (with_edit f.o.birth (with_work (record { next = f.next; at = next_at f.at s })) (with_edit f.o.birth (dropped_at f.at) w)) n
         (record { o = m; at = 0; next = Some f.o }) =
@@ -358,11 +368,12 @@ pub at-bare : (v w : Objects) (n : ℕ) (f : Front) → At v w n f → slot_in (
 at-bare v w n f now past =
     let (c, there) = live-content w f.o now.here.live in
     let slots : board.slots_at (tree w) f.o.birth ≡ (shown f.o.birth c).slots =
-    shows-slots (tree w) (with_log empty_log w) (tree-shows w) f.o.birth ∙ ap (λ (o : Option Content). shown_slots (option_map_or (λ (x : Content). x.slots) o [])) there in
+    shows-slots (tree w) (with_log empty_log w) (tree-shows w) f.o.birth
+    ∙ ap (λ (o : Option Content). shown_slots (option_map_or (λ (x : Content). x.slots) o [])) there in
     let none = none-held (board.slots_at (tree w) f.o.birth) f.at now.here.stays.bare
     (slot-shown (tree w) (with_log empty_log w) (tree-shows w) f.o.birth f.at None past) in
     ap (option_map reference_count) there
-    ∙ ap Some (sym (reference_count-shown f.o.birth c) ∙ ap (count_by (λ (s : List ℕ × board.Slot). is_some (board.held s.1))) (sym slots) ∙ none)
+    ∙ ap Some (sym (reference_count-shown f.o.birth c) ∙ ap (count_by (λ (s : List ℕ × board.Slot). is_some (board.referent s.1))) (sym slots) ∙ none)
 
 module _ (v w : Objects) (n : ℕ) (f : Front) (good : IsHeap w) (step : Board → Board) (goes : Goes step v w) (c : Content)
     (there : content_of w f.o.birth ≡ Some c) (free : refs_of w f.o.birth ≡ 0) (past : slot_in (slots_of w f.o.birth) f.at ≡ None) where
@@ -493,9 +504,10 @@ module _ (w : Objects) (k i : ℕ) where
       go (Link ty strong target) e = place (suc i) refl
       go (Alias key name) e = place (suc i) refl
 
-  less-freed : (s : Slot) (m : ℕ) (x : Work) → slot_in (slots_of w k) i ≡ Some s → birth_of (held s) ≡ Some m → (z : ℕ)
+  less-freed : (s : Slot) (m : ℕ) (x : Work) → slot_in (slots_of w k) i ≡ Some s → birth_of (referent s) ≡ Some m → (z : ℕ)
       → (holding (tree (with_edit k (with_work x) (with_edit k (dropped_at i) w))) + length (edit k (with_work x) (edit k (dropped_at i) w.rows)))
-      * suc (width (tree (with_edit k (with_work x) (with_edit k (dropped_at i) w)))) + (width (tree (with_edit k (with_work x) (with_edit k (dropped_at i) w))) - 0)
+      * suc (width (tree (with_edit k (with_work x) (with_edit k (dropped_at i) w))))
+      + (width (tree (with_edit k (with_work x) (with_edit k (dropped_at i) w))) - 0)
       < (holding (tree w) + length w.rows) * suc (width (tree w)) + z
   less-freed s m x there h z =
       let u : Objects = with_edit k (dropped_at i) w in
@@ -504,7 +516,8 @@ module _ (w : Objects) (k i : ℕ) where
       ap holding (tree-after (λ b. b) u (with_edit k (with_work x) u) (goes-work u k x)) in
       let same-width : width (tree u) ≡ width (tree (with_edit k (with_work x) u)) =
       ap width (tree-after (λ b. b) u (with_edit k (with_work x) u) (goes-work u k x)) in
-      less-first (holding (tree (with_edit k (with_work x) u)) + length (edit k (with_work x) (edit k (dropped_at i) w.rows))) (holding (tree w) + length w.rows)
+      less-first (holding (tree (with_edit k (with_work x) u)) + length (edit k (with_work x) (edit k (dropped_at i) w.rows)))
+      (holding (tree w) + length w.rows)
       (width (tree (with_edit k (with_work x) u))) (width (tree w)) (width (tree (with_edit k (with_work x) u)) - 0) z
       (omega (
         arith,
@@ -517,31 +530,34 @@ module _ (w : Objects) (k i : ℕ) where
       (omega (arith, same-width, dropped-width, drop-width (tree w) k i)) (omega arith)
 
 pub smaller-on : (w u x : Objects) (f : Front) (was : Option Key) (next : ℕ) (r : Front)
-    → Some was ≡ option_map held (slot_in (slots_of w f.o.birth) f.at) → Some next ≡ option_map (next_at f.at) (slot_in (slots_of w f.o.birth) f.at)
+    → Some was ≡ option_map referent (slot_in (slots_of w f.o.birth) f.at) → Some next ≡ option_map (next_at f.at) (slot_in (slots_of w f.o.birth) f.at)
     → u ≡ with_edit f.o.birth (dropped_at f.at) w → GoesOn was f next u x r → left_after x (Some r) < left_after w (Some f)
 smaller-on w u x f was next r e e' is on =
-    let (s, (there, same)) = given held (slot_in (slots_of w f.o.birth) f.at) was e in
+    let (s, (there, same)) = given referent (slot_in (slots_of w f.o.birth) f.at) was e in
     let place : next ≡ next_at f.at s = same_Some next (next_at f.at s) (e' ∙ ap (option_map (next_at f.at)) there) in
     go s there same place on
   where
-    go : (s : Slot) → slot_in (slots_of w f.o.birth) f.at ≡ Some s → held s ≡ was → next ≡ next_at f.at s → GoesOn was f next u x r
+    go : (s : Slot) → slot_in (slots_of w f.o.birth) f.at ≡ Some s → referent s ≡ was → next ≡ next_at f.at s → GoesOn was f next u x r
         → left_after x (Some r) < left_after w (Some f)
     go s there same place (kept some xs rs) =
         let one = less-kept w f.o.birth f.at s there in
-        let here : left_after (with_edit f.o.birth (dropped_at f.at) w) (Some (record { o = f.o; at = next_at f.at s; next = f.next })) < left_after w (Some f) =
+        let here : left_after (with_edit f.o.birth (dropped_at f.at) w) (Some (record { o = f.o; at = next_at f.at s; next = f.next }))
+        < left_after w (Some f) =
         omega (arith, one) in
         subst (λ (y : Objects). left_after y (Some r) < left_after w (Some f)) (sym (xs ∙ is))
         (subst (λ (q : Front). left_after (with_edit f.o.birth (dropped_at f.at) w) (Some q) < left_after w (Some f))
         (sym (rs ∙ ap (λ (j : ℕ). record { o = f.o; at = j; next = f.next }) place)) here)
     go s there same place (freed m h none xs rs) =
-        let one = less-freed w f.o.birth f.at s m.birth (record { next = f.next; at = next_at f.at s }) there (ap birth_of (same ∙ h)) (width (tree w) - f.at) in
+        let one =
+        less-freed w f.o.birth f.at s m.birth (record { next = f.next; at = next_at f.at s }) there (ap birth_of (same ∙ h)) (width (tree w) - f.at) in
         let here : left_after (with_edit f.o.birth (with_work (record { next = f.next; at = next_at f.at s })) (with_edit f.o.birth (dropped_at f.at) w))
         (Some (record { o = m; at = 0; next = Some f.o })) < left_after w (Some f) = omega (arith, one) in
         let same_heap : x ≡ with_edit f.o.birth (with_work (record { next = f.next; at = next_at f.at s })) (with_edit f.o.birth (dropped_at f.at) w) =
         xs ∙ (λ j. with_edit f.o.birth (with_work (record { next = f.next; at = place j })) (is j)) in
         subst (λ (y : Objects). left_after y (Some r) < left_after w (Some f)) (sym same_heap)
         (subst
-        (λ (q : Front). left_after (with_edit f.o.birth (with_work (record { next = f.next; at = next_at f.at s })) (with_edit f.o.birth (dropped_at f.at) w)) (Some q)
+        (λ (q : Front).
+        left_after (with_edit f.o.birth (with_work (record { next = f.next; at = next_at f.at s })) (with_edit f.o.birth (dropped_at f.at) w)) (Some q)
         < left_after w (Some f))
         (sym rs) here)
 
@@ -572,7 +588,8 @@ smaller-end v w x n f r good now is = go (content_of w f.o.birth) refl is
         let wide : width (finish (tree w) k) ≡ width (tree (ended k c w)) = ap width (tree-after (λ b. finish b k) w (ended k c w) goes) in
         let one = less-first (holding (tree (ended k c w)) + length (ended k c w).rows) (holding (tree w) + length w.rows) (width (tree (ended k c w)))
         (width (tree w)) (width (tree (ended k c w)) - g.at) (width (tree w) - f.at)
-        (omega (arith, holds, finish-holding (tree w) k, one-less k w.rows f.o refl now.here.live)) (omega (arith, wide, finish-width (tree w) k)) (omega arith) in
+        (omega (arith, holds, finish-holding (tree w) k, one-less k w.rows f.o refl now.here.live)) (omega (arith, wide, finish-width (tree w) k))
+        (omega arith) in
         omega (arith, one)
 
     go : (o : Option Content) → content_of w k ≡ o → option_map (λ (c : Content). ended k c w) o ≡ Some x → left_after x r < left_after w (Some f)

@@ -55,7 +55,7 @@ pub fn create<L: Ledger>(
     ensures err { OnErr result (heap.new ≡ heap.old) }
 {
     let o = heap.make(alloc, kind, steps)?;
-    heap.facts();
+    heap.reveal_invariant();
     initialize_whole(heap, o, kind, steps);
     Ok(o)
 }

@@ -4,7 +4,7 @@ ghost use Rattle.std.specs.Prelude.{◌≡◌, ◌<◌, IfSome, None, option_map
 ghost use Rattle.qo_model.specs.Board.{Board};
 ghost use Rattle.qo_model.specs.Release.{after, finalize, let_go, unpin};
 ghost use Rattle.qo_object.specs.BoardObject.{birth_of};
-ghost use Rattle.qo_object.specs.Slots.{held, slot_in};
+ghost use Rattle.qo_object.specs.Slots.{referent, slot_in};
 ghost use Rattle.qo_heap.specs.Rows.{IsLive};
 ghost use Rattle.qo_heap.specs.Board.{Shows};
 ghost use Rattle.qo_heap.specs.Objects.{pins_of, refs_of, slots_of};
@@ -37,7 +37,7 @@ struct Front {
 /// What becomes free where the slot of an object at a place is let go; `None` exactly past the last.
 fn turn_at<L: Ledger>(heap: &Heap, o: Oid, at: usize, steps: &mut Steps<L>) -> Option<Turn>
     requires { IsLive heap.now.rows o }
-    ensures held { option_map (λ t. t.held) result ≡ option_map held (slot_in (slots_of heap.now o.birth) at) }
+    ensures held { option_map (λ t. t.held) result ≡ option_map referent (slot_in (slots_of heap.now o.birth) at) }
     ensures next { option_map (λ t. t.next) result ≡ option_map (next_at at) (slot_in (slots_of heap.now o.birth) at) }
 {
     let slot = heap.slot_at(o, at, steps)?;
@@ -104,18 +104,18 @@ fn finalize<L: Ledger>(heap: &mut Heap, o: Oid, steps: &mut Steps<L>)
     requires free { refs_of heap.old o.birth ≡ 0 }
     ensures { Goes (λ b. finalize b o.birth) heap.old heap.new }
 {
-    heap.facts();
+    heap.reveal_invariant();
     let mut front = Some(Front {
         o,
         at: 0,
         next: None,
     });
     while let Some(now) = front {
-        heap.facts();
+        heap.reveal_invariant();
         match turn_at(heap, now.o, now.at, steps) {
             Some(turn) => {
                 heap.empty(now.o, now.at, steps);
-                heap.facts();
+                heap.reveal_invariant();
                 front = Some(go_on(heap, now, turn, steps));
             }
             None => {
@@ -131,7 +131,7 @@ fn end_unheld<L: Ledger>(heap: &mut Heap, held: Option<Oid>, steps: &mut Steps<L
     requires { IfSome held (IsLive heap.old.rows) }
     ensures { Goes (λ b. after finalize b (birth_of held)) heap.old heap.new }
 {
-    heap.facts();
+    heap.reveal_invariant();
     if let Some(o) = held {
         if !heap.is_held(o, steps) {
             finalize(heap, o, steps);
@@ -144,7 +144,7 @@ fn let_go_at<L: Ledger>(heap: &mut Heap, o: Oid, at: usize, steps: &mut Steps<L>
     requires { IsLive heap.old.rows o }
     ensures { Goes (λ b. let_go b o.birth at) heap.old heap.new }
 {
-    heap.facts();
+    heap.reveal_invariant();
     let Some(turn) = turn_at(heap, o, at, steps) else {
         return;
     };
@@ -174,7 +174,7 @@ pub fn drop_pin<L: Ledger>(heap: &mut Heap, o: Oid, steps: &mut Steps<L>)
     ensures goes { Goes (λ b. unpin b o.birth) heap.old heap.new }
     ensures names { KeepsNames heap.old heap.new }
 {
-    heap.facts();
+    heap.reveal_invariant();
     heap.unpin(o, steps);
     end_unheld(heap, Some(o), steps);
 }

@@ -38,7 +38,7 @@ board_kept =
     }
 
 -- events are no matter to it
-board_free : (b : Board) → SoundBoard b → SoundBoard (without_events b)
+pub board_free : (b : Board) → SoundBoard b → SoundBoard (without_events b)
 board_free b h = cleared-good b h
 
 pub board_commands : KeepsCommands SoundBoard

@@ -10,7 +10,7 @@ use Rattle.qo_model.specs.Board.{Board}
 use Rattle.qo_realize.specs.Representation.{Stands}
 use Rattle.qo_replies.specs.declared.events.Event.{Event}
 use Rattle.qo_commands.specs.Commands.{event_of, without_events}
-use Rattle.qo_machine.specs.declared.machines.Replied.{Replied}
+use Rattle.qo_machine.specs.declared.machines.Reply.{Reply}
 use Rattle.qo_machine.proofs.MemoryLemmas.{front_one_by}
 use Rattle.qo_machine.proofs.MachineLemmas.{by_board, in_at, serve_all_by, serves_one_by}
 use Rattle.std.proofs.lemmas.Result.{IfOk-weaker}
@@ -22,7 +22,7 @@ abbrev after_line : State → Outcome → State
 after_line s o = after_command o.ends (with_board s (without_events o.board))
 
 -- the state that it is in after it
-line_in : (m mid drained to : Seen) (line : List ℕ) (r : Replied)
+line_in : (m mid drained to : Seen) (line : List ℕ) (r : Reply)
     → ((b : Board) → Stands b m.board → CameTo (heard b line) r mid.board) → ((b : Board) → state_with b mid ≡ state_with b m)
     → ((b : Board) → Stands b mid.board → Stands (without_events b) drained.board) → ((b : Board) → state_with b drained ≡ state_with b mid)
     → ((b : Board) → state_with b to ≡ after_command r.ends (state_with b drained)) → to.board ≡ drained.board
@@ -44,7 +44,7 @@ unfolding line_step
 line_is at s line outs is =
     ap (λ (o : List Message). record { outs = o; state = after_line s (heard s.board (without_return line)) }) is
 
-pub line_served : (at : Moment) (m mid drained to : Seen) (line : List ℕ) (r : Replied) (front : List Message) → m.ended ≡ false
+pub line_served : (at : Moment) (m mid drained to : Seen) (line : List ℕ) (r : Reply) (front : List Message) → m.ended ≡ false
     → ((b : Board) → Stands b m.board → CameTo (heard b (without_return line)) r mid.board) → ((b : Board) → state_with b mid ≡ state_with b m)
     → Tells at guest mid r front
     → ((b : Board) → Stands b mid.board → Stands (without_events b) drained.board) → ((b : Board) → state_with b drained ≡ state_with b mid)
@@ -68,7 +68,7 @@ line_served at m mid drained to line r front going came still tells empties stay
     )) s here
 
 -- where memory ran out for its messages
-pub line_left : (at : Moment) (m mid drained to : Seen) (line : List ℕ) (r : Replied) → m.ended ≡ false
+pub line_left : (at : Moment) (m mid drained to : Seen) (line : List ℕ) (r : Reply) → m.ended ≡ false
     → ((b : Board) → Stands b m.board → CameTo (heard b (without_return line)) r mid.board) → ((b : Board) → state_with b mid ≡ state_with b m)
     → ((b : Board) → Stands b mid.board → Stands (without_events b) drained.board) → ((b : Board) → state_with b drained ≡ state_with b mid)
     → ((b : Board) → state_with b to ≡ after_command r.ends (state_with b drained)) → to.board ≡ drained.board

@@ -11,7 +11,7 @@ use Rattle.qo_model.specs.Board.{Board}
 use Rattle.qo_model.specs.Opening.{opening_board}
 use Rattle.qo_realize.specs.Representation.{Stands}
 use Rattle.qo_machine.specs.Serving.{Tells}
-use Rattle.qo_machine.specs.declared.machines.Replied.{Replied}
+use Rattle.qo_machine.specs.declared.machines.Reply.{Reply}
 use Rattle.qo_machine.specs.Machine.{Message, Seen, State, beside, commanding, event_outs, is_commanding, mode_of, numbers_below, state_with, those_commanding, event_messages}
 use Rattle.qo_machine.specs.Sending.{AreToLanes, IsLane}
 
@@ -47,7 +47,7 @@ pub more_lanes : (a front b : List Message) → b ≡ a ++ front → AreToLanes 
 more_lanes a front b is p q = subst AreToLanes (sym is) (lanes_more a front p q)
 
 -- the messages that tell of what waited, of a command's own events, and its reply
-pub reply_sent : (at : Moment) (lane : Lane) (m mid : Seen) (r : Replied) (start told both outs : List Message) (waiting own : List Event) (text : List ℕ)
+pub reply_sent : (at : Moment) (lane : Lane) (m mid : Seen) (r : Reply) (start told both outs : List Message) (waiting own : List Event) (text : List ℕ)
     → IsLane lane → ((b : Board) → state_with b mid ≡ state_with b m) → ((b : Board) → Stands b m.board → waiting ≡ map event_of b.events)
     → told ≡ start ++ event_outs at (beside m) waiting → both ≡ told ++ event_outs at (beside mid) own → own ≡ option_to_list r.event
     → r.text ≡ Ok text → outs ≡ both ++ (lane, text) ∷ []

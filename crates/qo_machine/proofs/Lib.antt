@@ -19,3 +19,4 @@ pub mod RunLemmas
 pub mod SendingLemmas
 pub mod SoundnessLemmas
 pub mod TreeLemmas
+pub mod WiredLemmas

@@ -27,7 +27,7 @@ use Rattle.qo_model.specs.Opening.{opening_board}
 use Rattle.qo_commands.proofs.AttemptLemmas.{attempted-none}
 use Rattle.qo_commands.specs.Changes.{Left, attempted}
 use Rattle.qo_commands.specs.Commands.{Done, empty, event_of, perform, performed, without_events}
-use Rattle.qo_machine.specs.declared.machines.Replied.{Replied}
+use Rattle.qo_machine.specs.declared.machines.Reply.{Reply}
 use Rattle.qo_realize.specs.Parts.{Parts}
 use Rattle.qo_realize.specs.Representation.{Stands}
 use Rattle.qo_realize.specs.Time.{advanced}
@@ -301,7 +301,7 @@ serves_over_by f m to x over same s here =
 -- Commands.
 
 -- one that was done, and then nothing waits: the state that the machine is in
-done_in : (n : ℕ) (m mid drained to : Seen) (command : Call) (id : Option (List ℕ)) (r : Replied)
+done_in : (n : ℕ) (m mid drained to : Seen) (command : Call) (id : Option (List ℕ)) (r : Reply)
     → ((b : Board) → Stands b m.board → Came b command id r mid.board) → ((b : Board) → state_with b mid ≡ state_with b m)
     → ((b : Board) → Stands b mid.board → Stands (without_events b) drained.board) → ((b : Board) → state_with b drained ≡ state_with b mid)
     → ((b : Board) → state_with b to ≡ after_command r.ends (state_with b drained)) → to.board ≡ drained.board
@@ -314,7 +314,7 @@ done_in n m mid drained to command id r came still empties stays move same b sta
     ∙ ap (λ (e : Bool). after_command e (with_board (state_with b m) x)) p.ends)
     (in_at x to (subst (Stands x) (sym same) (empties (performed b command).board p.stands)))
 
-pub served_command : (at : Moment) (n : ℕ) (m mid drained to : Seen) (command : Call) (id : Option (List ℕ)) (r : Replied) (front : List Message)
+pub served_command : (at : Moment) (n : ℕ) (m mid drained to : Seen) (command : Call) (id : Option (List ℕ)) (r : Reply) (front : List Message)
     → ((b : Board) → Stands b m.board → Came b command id r mid.board) → ((b : Board) → state_with b mid ≡ state_with b m)
     → Tells at (to_session n) mid r front
     → ((b : Board) → Stands b mid.board → Stands (without_events b) drained.board) → ((b : Board) → state_with b drained ≡ state_with b mid)
@@ -335,7 +335,7 @@ served_command at n m mid drained to command id r front came still tells empties
     (done_in n m mid drained to command id r came still empties stays move same b stands)) s here
 
 -- the same where memory ran out for its messages
-pub left_done : (at : Moment) (n : ℕ) (m mid drained to : Seen) (command : Call) (id : Option (List ℕ)) (r : Replied)
+pub left_done : (at : Moment) (n : ℕ) (m mid drained to : Seen) (command : Call) (id : Option (List ℕ)) (r : Reply)
     → ((b : Board) → Stands b m.board → Came b command id r mid.board) → ((b : Board) → state_with b mid ≡ state_with b m)
     → ((b : Board) → Stands b mid.board → Stands (without_events b) drained.board) → ((b : Board) → state_with b drained ≡ state_with b mid)
     → ((b : Board) → state_with b to ≡ after_command r.ends (state_with b drained)) → to.board ≡ drained.board

@@ -24,13 +24,13 @@ use Rattle.qo_model.specs.Hotplug.{asked, completed, reset_whole}
 use Rattle.qo_model.specs.Hotplug.{refused as refused_removal}
 use Rattle.qo_model.specs.Paths.{attached, is_of}
 use Rattle.qo_model.specs.Plug.{Plugged, Wanted, cut_attempt, plug}
-use Rattle.qo_model.specs.Reset.{held, is_deep, released}
+use Rattle.qo_model.specs.Reset.{after_hold, exceeds_depth, released}
 use Rattle.qo_buses.specs.Addresses.{addressed}
 use Rattle.qo_guest.specs.Lines.{guest_line}
 use Rattle.qo_guest.specs.declared.addresses.Addr.{Addr}
 use Rattle.qo_guest.specs.declared.answers.GuestAnswer.TheVariants.{NoPending, NoRegister, NoStopped}
 use Rattle.qo_guest.specs.declared.lines.GuestAct.{GuestAct}
-use Rattle.qo_guest.specs.declared.lines.GuestAct.TheVariants.{Ack, Nack, Poll, Read, Write, Peek, Poke, Reset, Shutdown}
+use Rattle.qo_guest.specs.declared.lines.GuestAct.TheVariants.{Ack, Nack, Poll, Read, Write, Peek, Poke, Irq, Reset, Shutdown}
 use Rattle.qo_layout.specs.Layout.{register_at}
 use Rattle.qo_layout.specs.declared.addresses.TheConstants.{BOOT_LEAF}
 use Rattle.qo_layout.specs.declared.views.RegisterPlace.{RegisterPlace}
@@ -118,7 +118,7 @@ pub record KeepsBoard (P : Board → Type 0) : Type 0 where
   pub timed : (b : Board) (now : ℕ) → b.now ≤ now → now ≤ TIME_MAX → P b → P (at_time now b)
   pub switched : (b : Board) (on : Bool) → P b → P (with_running on b)
   -- an attached object that may be is held in reset, where it is not held too often, and one that is held is released; and the whole board is reset
-  pub held_so : (b : Board) (n : ℕ) → is_of b (codes "resettable") n ≡ true → attached b n ≡ true → is_deep b n ≡ false → P b → P (held b n)
+  pub held_so : (b : Board) (n : ℕ) → is_of b (codes "resettable") n ≡ true → attached b n ≡ true → exceeds_depth b n ≡ false → P b → P (after_hold b n)
   pub released_so : (b : Board) (n : ℕ) → is_of b (codes "resettable") n ≡ true → among b.holds n ≡ true → P b → P (released b n)
   pub reset : (b : Board) → P b → P (reset_whole b)
 
@@ -222,6 +222,7 @@ acted_keeps P k b (Write at reg value) p = by (addressed b at) refl
     by (Some d) is = written_keeps P k b d reg value (by_slots at is) p
 acted_keeps P k b (Peek at) p = peek_keeps P b (register_at b at) p
 acted_keeps P k b (Poke at value) p = poke_keeps P k b at value (register_at b at) refl p
+acted_keeps P k b Irq p = p
 acted_keeps P k b Reset p = k.reset b p
 acted_keeps P k b Shutdown p = p
 

@@ -4,7 +4,7 @@ use Rattle.qo_values.specs.Registers.{Registers}
 use Rattle.qo_model.specs.Board.{Board, Ring}
 use Rattle.qo_model.specs.Clocks.{div_of, mul_of}
 use Rattle.qo_model.specs.Hotplug.{completed, reset_whole}
-use Rattle.qo_model.specs.Reset.{held, pulse, released}
+use Rattle.qo_model.specs.Reset.{after_hold, pulse, released}
 use Rattle.qo_realize.specs.Chardevs.{with_rings}
 use Rattle.qo_realize.specs.Guest.{polled}
 use Rattle.qo_realize.specs.Registers.{pushed}
@@ -48,7 +48,7 @@ module _ (R : Board → Board → Type 0) (same : (b : Board) → R b b) (goes_o
         rings = any-rings (R b) (λ c rings h. goes_on b c (with_rings rings c) h (beside.rings c rings));
         timed = λ c now on low h. goes_on b c (at_time now c) h (beside.timed c now on);
         switched = λ c on h. goes_on b c (with_running on c) h (beside.switched c on);
-        held_so = λ c n is home deep h. goes_on b c (held c n) h (changes.held_so c n tt tt);
+        held_so = λ c n is home deep h. goes_on b c (after_hold c n) h (changes.held_so c n tt tt);
         released_so = λ c n is held h. goes_on b c (released c n) h (changes.released_so c n tt tt);
         reset = λ c h. goes_on b c (reset_whole c) h (changes.reset c tt);
       }

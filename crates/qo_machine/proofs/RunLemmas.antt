@@ -15,7 +15,7 @@ use Rattle.qo_causes.specs.declared.inputs.Input.{Input}
 use Rattle.qo_causes.specs.declared.inputs.What.{What}
 use Rattle.qo_causes.specs.declared.inputs.What.TheVariants.{Open, Bytes, Shut, Guest as GuestLine, Step, End}
 use Rattle.qo_machine.specs.Machine.{IsIn, Message, Seen, State, Stepped, Choice, opening, step}
-use Rattle.qo_machine.specs.Runs.{AllLostHad, Cut, CutRun, RunMeets, Told, Turn, TurnMeets, Turns, after, close_lost, closed_where, cut_to, has_end, is_lost, lane_at, lane_bytes, lane_of, outs_at, outs_of, risen, risen_by, state_after, told, transcript, turn_inputs}
+use Rattle.qo_machine.specs.Runs.{AllLostHad, Cut, CutRun, RunMeets, Told, Turn, TurnMeets, Turns, after, close_lost, closed_where, cut_to, has_end, is_lost, known, lane_at, lane_bytes, lane_of, outs_at, outs_of, risen, risen_by, state_after, transcript, turn_inputs}
 use Rattle.qo_machine.specs.Sending.{Sent, SentFront}
 use Rattle.qo_machine.specs.declared.running.Ending.{Ending}
 use Rattle.qo_machine.specs.declared.running.Ending.TheVariants.{Done, Bad, Memory, NextFailed, SendFailed, Limit}
@@ -178,7 +178,7 @@ taken_turn i = record { input = i; choices = []; lost = []; cut = λ l. 0 }
 pub cut_taken : (s : State) (oi ni : Option (List Input)) (os ns : Option (List ℕ)) (og ng : Lane → Option (List ℕ)) (ol nl : ℕ → ℕ) (bad : Option (Option ℕ))
     (i : Input)
     → Gives oi ni bad (given_by i) → ns ≡ os → ((l : Lane) → ng l ≡ og l) → ((n : ℕ) → nl n ≡ ol n)
-    → Cut s (told oi os og ol) (told ni ns ng nl) (Some (taken_turn i))
+    → Cut s (known oi os og ol) (known ni ns ng nl) (Some (taken_turn i))
 cut_taken s oi ni os ns og ng ol nl bad i given sent got losses =
     record {
       took = took_one oi ni bad (given_by i) given;
@@ -191,8 +191,8 @@ cut_taken s oi ni os ns og ng ol nl bad i given sent got losses =
 pub cut_sent : (s : State) (i : Input) (cs : List Choice) (slice outs : List Message) (oi mi ni : Option (List Input)) (os ms ns : Option (List ℕ))
     (og mg ng : Lane → Option (List ℕ)) (ol ml nl : ℕ → ℕ) (bad : Option (Option ℕ))
     → (step s i cs).outs ≡ outs → slice ≡ outs → Gives oi mi bad (given_by i) → ms ≡ os → ((l : Lane) → mg l ≡ og l) → ((n : ℕ) → ml n ≡ ol n)
-    → SentFront (told mi ms mg ml) (told ni ns ng nl) slice
-    → Cut s (told oi os og ol) (told ni ns ng nl) (Some (record { input = i; choices = cs; lost = []; cut = λ l. 0 }))
+    → SentFront (known mi ms mg ml) (known ni ns ng nl) slice
+    → Cut s (known oi os og ol) (known ni ns ng nl) (Some (record { input = i; choices = cs; lost = []; cut = λ l. 0 }))
 cut_sent s i cs slice outs oi mi ni os ms ns og mg ng ol ml nl bad is same given sent got losses h =
     record {
       took = took_one oi ni bad (given_by i) (rw h.inputs given);
@@ -215,8 +215,8 @@ at_end oi mi ni bad i same given over = subst (λ (x : Option (List Input)). AtE
 pub one_turn : (s : State) (to : Seen) (i : Input) (cs : List Choice) (slice outs : List Message) (lost : List Bool) (oi mi ni : Option (List Input))
     (os ms ns : Option (List ℕ)) (og mg ng : Lane → Option (List ℕ)) (ol ml nl : ℕ → ℕ) (bad : Option (Option ℕ))
     → (step s i cs).outs ≡ outs → slice ≡ outs → Gives oi mi bad (given_by i) → ms ≡ os → ((l : Lane) → mg l ≡ og l) → ((n : ℕ) → ml n ≡ ol n)
-    → Sent (told mi ms mg ml) (told ni ns ng nl) slice lost → IsIn (close_lost lost (step s i cs).state) to
-    → TurnMeets s to (told oi os og ol) (told ni ns ng nl) bad (Ok tt)
+    → Sent (known mi ms mg ml) (known ni ns ng nl) slice lost → IsIn (close_lost lost (step s i cs).state) to
+    → TurnMeets s to (known oi os og ol) (known ni ns ng nl) bad (Ok tt)
 one_turn s to i cs slice outs lost oi mi ni os ms ns og mg ng ol ml nl bad is same given sent got losses h shut = (
   record { input = i; choices = cs; lost = lost; cut = h.lanes.0 },
   record {
@@ -237,7 +237,8 @@ one_turn s to i cs slice outs lost oi mi ni os ms ns og mg ng ol ml nl bad is sa
 -- Runs.
 
 -- no turns, and nothing changed
-pub turns_none : (s : State) (i : Option (List Input)) (t : Option (List ℕ)) (g : Lane → Option (List ℕ)) (n : ℕ → ℕ) → Turns s (told i t g n) (told i t g n) []
+pub turns_none : (s : State) (i : Option (List Input)) (t : Option (List ℕ)) (g : Lane → Option (List ℕ)) (n : ℕ → ℕ)
+    → Turns s (known i t g n) (known i t g n) []
 turns_none s i t g n =
     record {
       took = none_taken i;
@@ -248,9 +249,10 @@ turns_none s i t g n =
     }
 
 -- nothing was done
-pub cut_none : (limit : ℕ) (i : Option (List Input)) (t : Option (List ℕ)) (g : Lane → Option (List ℕ)) (n : ℕ → ℕ) → CutRun limit (told i t g n) (told i t g n)
+pub cut_none : (limit : ℕ) (i : Option (List Input)) (t : Option (List ℕ)) (g : Lane → Option (List ℕ)) (n : ℕ → ℕ)
+    → CutRun limit (known i t g n) (known i t g n)
 cut_none limit i t g n = (
-  told i t g n,
+  known i t g n,
   [],
   None,
   (turns_none opening i t g n, refl),
@@ -259,7 +261,7 @@ cut_none limit i t g n = (
 )
 
 pub gone_none : (m : Seen) (i : Option (List Input)) (t : Option (List ℕ)) (g : Lane → Option (List ℕ)) (n : ℕ → ℕ) → IsIn opening m
-    → (turns : List Turn) × GoneOn (told i t g n) (told i t g n) m 0 turns
+    → (turns : List Turn) × GoneOn (known i t g n) (known i t g n) m 0 turns
 gone_none m i t g n at =
     ([], record { turns_are = turns_none opening i t g n; is_in = at; count_is = refl; going = sym (ended_in opening m at) })
 

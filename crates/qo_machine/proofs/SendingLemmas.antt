@@ -16,7 +16,7 @@ use Rattle.qo_causes.specs.declared.hubs.SendError.{SendError}
 use Rattle.qo_causes.specs.declared.hubs.SendError.TheVariants.{Gone, Failed}
 use Rattle.qo_causes.specs.declared.inputs.Input.{Input}
 use Rattle.qo_machine.specs.Machine.{Message}
-use Rattle.qo_machine.specs.Runs.{Told, told, cut_to, has_for, is_lost, lane_bytes, risen, transcript}
+use Rattle.qo_machine.specs.Runs.{Told, known, cut_to, has_for, is_lost, lane_bytes, risen, transcript}
 use Rattle.qo_machine.specs.Sending.{AreToLanes, IsLane, Sent, SentFront}
 use Rattle.qo_machine.proofs.RunLemmas.{nothing_appended}
 
@@ -127,8 +127,8 @@ gone_within false cut n bytes more within few = omega (arith, length-append byte
 pub sent_gone : (start : Told) (mi ni : Option (List Input)) (ms ns : Option (List ℕ)) (mg ng : Lane → Option (List ℕ)) (ml nl : ℕ → ℕ) (outs : List Message)
     (m : Message) (k : ℕ) (lost : List Bool)
     → is_lost lost m.0 ≡ false → m.0 ≡ Session k → k < SESSIONS → ni ≡ mi → (ms ≡ None) × (ns ≡ None)
-    → ((l : Lane) → AppendsPrefix (mg l) (ng l) (part l m.0 m.1)) → ((n : ℕ) → Loses (n == k) (ml n) (nl n)) → Sent start (told mi ms mg ml) outs lost
-    → Sent start (told ni ns ng nl) (outs ++ m ∷ []) (slice_set lost k true)
+    → ((l : Lane) → AppendsPrefix (mg l) (ng l) (part l m.0 m.1)) → ((n : ℕ) → Loses (n == k) (ml n) (nl n)) → Sent start (known mi ms mg ml) outs lost
+    → Sent start (known ni ns ng nl) (outs ++ m ∷ []) (slice_set lost k true)
 sent_gone start mi ni ms ns mg ng ml nl outs m k lost flag lane below inputs sent got losses h =
     record {
       inputs = inputs ∙ h.inputs;
@@ -171,7 +171,7 @@ risen_up false start now h = h
 pub front_failed : (start : Told) (mi ni : Option (List Input)) (ms ns : Option (List ℕ)) (mg ng : Lane → Option (List ℕ)) (ml nl : ℕ → ℕ) (outs : List Message)
     (m : Message) (lost : List Bool)
     → is_lost lost m.0 ≡ false → ni ≡ mi → AppendsPrefix ms ns (line m.0 m.1) → ((l : Lane) → AppendsPrefix (mg l) (ng l) (part l m.0 m.1))
-    → ((n : ℕ) → nl n ≡ ml n) → Sent start (told mi ms mg ml) outs lost → SentFront start (told ni ns ng nl) (outs ++ m ∷ [])
+    → ((n : ℕ) → nl n ≡ ml n) → Sent start (known mi ms mg ml) outs lost → SentFront start (known ni ns ng nl) (outs ++ m ∷ [])
 front_failed start mi ni ms ns mg ng ml nl outs m lost flag inputs sent got losses h =
     record {
       inputs = inputs ∙ h.inputs;
@@ -189,8 +189,8 @@ pub err_gone : (start : Told) (mi ni : Option (List Input)) (ms ns : Option (Lis
     (lane : Lane) (bytes text : List ℕ) (r : SendError) (s k : ℕ) (lost : List Bool)
     → r ≡ Gone s → k ≡ s → bytes ≡ text → is_lost lost lane ≡ false → IsLane lane → ni ≡ mi → Sends ms ns (line lane bytes) (Err r)
     → ((l : Lane) → PutsAll {T = Unit {0}} {E = SendError} (mg l) (ng l) (Err r) (part l lane bytes)) → GoneOnly lane (Err r)
-    → ((t : ℕ) → Loses (is_gone (Err r) t) (ml t) (nl t)) → Sent start (told mi ms mg ml) outs lost
-    → Sent start (told ni ns ng nl) (outs ++ (lane, text) ∷ []) (slice_set lost k true)
+    → ((t : ℕ) → Loses (is_gone (Err r) t) (ml t) (nl t)) → Sent start (known mi ms mg ml) outs lost
+    → Sent start (known ni ns ng nl) (outs ++ (lane, text) ∷ []) (slice_set lost k true)
 err_gone start mi ni ms ns mg ng ml nl outs lane bytes text (Gone j) s k lost is from same flag wide inputs sent got gone losses h =
     let j_is : j ≡ k = cc in
     let below : IsLane (Session j) = subst IsLane gone wide in
@@ -203,7 +203,7 @@ pub err_failed : (start : Told) (mi ni : Option (List Input)) (ms ns : Option (L
     (lane : Lane) (bytes text : List ℕ) (r : SendError) (lost : List Bool)
     → r ≡ Failed → bytes ≡ text → is_lost lost lane ≡ false → ni ≡ mi → Sends ms ns (line lane bytes) (Err r)
     → ((l : Lane) → PutsAll {T = Unit {0}} {E = SendError} (mg l) (ng l) (Err r) (part l lane bytes)) → ((t : ℕ) → Loses (is_gone (Err r) t) (ml t) (nl t))
-    → Sent start (told mi ms mg ml) outs lost → SentFront start (told ni ns ng nl) (outs ++ (lane, text) ∷ [])
+    → Sent start (known mi ms mg ml) outs lost → SentFront start (known ni ns ng nl) (outs ++ (lane, text) ∷ [])
 err_failed start mi ni ms ns mg ng ml nl outs lane bytes text (Gone j) lost is same flag inputs sent got losses h = cc
 err_failed start mi ni ms ns mg ng ml nl outs lane bytes text Failed lost is same flag inputs sent got losses h =
     front_failed start mi ni ms ns mg ng ml nl outs (lane, text) lost flag inputs (rw same at sent) (λ l. rw same at (got l)) losses h
@@ -224,7 +224,7 @@ lane_not_lost Guest = refl
 
 -- nothing was sent yet
 pub sent_none : (i : Option (List Input)) (s : Option (List ℕ)) (g : Lane → Option (List ℕ)) (n : ℕ → ℕ)
-    → Sent (told i s g n) (told i s g n) [] (replicate SESSIONS false)
+    → Sent (known i s g n) (known i s g n) [] (replicate SESSIONS false)
 sent_none i s g n =
     record {
       inputs = refl;

@@ -5,7 +5,7 @@ use Rattle.qo_model.proofs.OpeningLemmas.{opening_sound}
 use Rattle.qo_model.proofs.TreeLemmas.{frame_lem}
 use Rattle.qo_model.specs.Board.{Board, Ring}
 use Rattle.qo_model.specs.Clocks.{div_of, mul_of}
-use Rattle.qo_model.specs.Reset.{held, pulse}
+use Rattle.qo_model.specs.Reset.{after_hold, pulse}
 use Rattle.qo_model.specs.SoundGraph.{graph_of}
 use Rattle.qo_commands.specs.Commands.{without_events}
 use Rattle.qo_realize.specs.Chardevs.{with_rings}
@@ -48,7 +48,7 @@ ringed-tree b rings h = (frame_lem.graph b (with_rings rings b) refl h.0, frame_
 -- a hold and a hold less
 pulsed-tree : (b : Board) (m : ℕ) → SoundTree b → SoundTree (pulse b m)
 unfolding pulse
-pulsed-tree b m h = sound_kept_lem.released_so (held b m) m (sound_kept_lem.held_so b m h)
+pulsed-tree b m h = sound_kept_lem.released_so (after_hold b m) m (sound_kept_lem.held_so b m h)
 
 -- changes and attempts keep the tree sound
 pub tree_kept : KeepsBoard SoundTree

@@ -1,5 +1,6 @@
 -- What holds of a machine between two inputs.
 use Rattle.std.specs.Prelude.{◌≡◌, []}
+use Rattle.qo_commands.specs.Interrupts.{HasLines}
 use Rattle.qo_model.specs.Board.{Board}
 use Rattle.qo_model.specs.SoundEvents.{SoundEvents}
 use Rattle.qo_realize.specs.SoundBoard.{SoundBoard}
@@ -13,3 +14,7 @@ pub record IsSoundBetween (b : Board) : Type 0 where
 -- no event waits, as it is seen of a machine
 abbrev pub IsSettled : Seen → Type 0
 IsSettled m = m.board.objects.events.list ≡ []
+
+-- the interrupt lines are those of the board
+abbrev pub IsWired : Seen → Type 0
+IsWired m = HasLines m.board m.lines

@@ -17,6 +17,7 @@ use Rattle.qo_guest.specs.declared.answers.GuestAnswer.{GuestAnswer}
 use Rattle.qo_guest.specs.declared.answers.GuestAnswer.TheVariants.{NoMemory}
 use Rattle.qo_commands.specs.Hearing.{Outcome, heard}
 use Rattle.qo_commands.specs.Lines.{lines_of, without_return}
+use Rattle.qo_lines.specs.Rows.{Wired}
 use Rattle.qo_model.specs.Board.{Board}
 use Rattle.qo_model.specs.Opening.{opening_board}
 use Rattle.qo_replies.specs.Events.{event_line}
@@ -239,13 +240,15 @@ input_step s at End choices = unchanged (finished s) choices
 unfoldable pub step : State → Input → List Choice → Stepped
 step s input choices = serve_unless s.ended (unchanged s choices) (input_step s input.at input.what choices)
 
--- what is seen of a machine: its board, its sessions, the front of the unfinished guest line, whether its run has ended, and whether it ran out of memory
+-- what is seen of a machine: its board with its interrupt lines, its sessions, the front of the unfinished guest line, whether its run has ended, and whether it
+-- ran out of memory
 pub record Seen : Type 0 where
   pub board : Parts
+  pub lines : Wired
   pub sessions : List sessions.State
   pub guest_line : List ℕ
   pub ended : Bool
-  pub spent : Bool
+  pub out_of_memory : Bool
 
 -- the state of a machine that stands at a board
 abbrev pub state_with : Board → Seen → State

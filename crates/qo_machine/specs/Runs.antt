@@ -108,8 +108,8 @@ pub record Told : Type 0 where
   pub got : Lane → Option (List ℕ)
   pub losses : ℕ → ℕ
 
-abbrev pub told : Option (List Input) → Option (List ℕ) → (Lane → Option (List ℕ)) → (ℕ → ℕ) → Told
-told inputs sent got losses = record { inputs = inputs; sent = sent; got = got; losses = losses }
+abbrev pub known : Option (List Input) → Option (List ℕ) → (Lane → Option (List ℕ)) → (ℕ → ℕ) → Told
+known inputs sent got losses = record { inputs = inputs; sent = sent; got = got; losses = losses }
 
 -- by some turns a hub came from the one to the other: their inputs were taken, what they send was sent, and only who was sent to was lost
 pub record Turns (from : State) (old new : Told) (turns : List Turn) : Type 0 where

@@ -1,9 +1,10 @@
 -- For proofs alone. Items and lines served one after another, whatever choices and whatever items or lines come after.
-use Rattle.std.specs.Prelude.{◌≡◌, ℕ, List, [], ◌∷◌, ◌++◌, map, Option, option_to_list, Ok, IfOk, ◌⊎◌}
+use Rattle.std.specs.Prelude.{◌≡◌, ℕ, Bool, true, false, List, [], ◌∷◌, ◌++◌, map, Option, option_to_list, Ok, IfOk, ◌⊎◌}
 use Rattle.qo_causes.specs.declared.hubs.Lane.{Lane}
 use Rattle.qo_causes.specs.declared.inputs.Moment.{Moment}
 use Rattle.qo_framing.specs.declared.items.Item.{Item}
 use Rattle.qo_requests.specs.declared.calls.Call.{Call}
+use Rattle.qo_requests.specs.declared.calls.Call.TheVariants.{Query, Change}
 use Rattle.qo_sessions.specs.Sessions.{in_mode}
 use Rattle.qo_sessions.specs.declared.acts.SessionAct.{SessionAct}
 use Rattle.qo_sessions.specs.declared.acts.SessionAct.TheVariants.{Answer, Negotiated, Do}
@@ -14,13 +15,18 @@ use Rattle.qo_commands.specs.Commands.{event_of, performed}
 use Rattle.qo_realize.specs.Parts.{Parts}
 use Rattle.qo_realize.specs.Representation.{Stands}
 use Rattle.qo_machine.specs.Machine.{Choice, IsIn, Made, Message, Seen, State, answer_line, preceded, by_item, by_line, event_outs, made_by, reply, serve_by, session_of, state_with, with_session}
-use Rattle.qo_machine.specs.declared.machines.Replied.{Replied}
+use Rattle.qo_machine.specs.declared.machines.Reply.{Reply}
 
 -- the state when it is known what an item comes to
 abbrev pub moved : State → ℕ → SessionAct → State
 moved s n (Answer code id) = s
 moved s n (Negotiated id) = with_session s n (in_mode Commanding (session_of s n))
 moved s n (Do command id) = s
+
+-- whether a command is a query, which leaves the board
+abbrev pub is_query : Call → Bool
+is_query (Query query) = true
+is_query (Change change) = false
 
 -- by some choice this command sends this, and a machine is then in the state that it leads to
 abbrev pub CommandServed : Moment → ℕ → State → Call → Option (List ℕ) → List Message → Seen → Type 0
@@ -64,21 +70,21 @@ abbrev pub CommandLeft : Moment → ℕ → State → Call → Option (List ℕ)
 CommandLeft at n s command id m = IsIn s m ⊎ ((choice : Choice) × IsIn (made_by choice at n s (Do command id)).state m)
 
 -- a command came to what is defined, but for the events that wait: this is its reply, if there was memory for it, and its board stands
-pub record Came (b : Board) (command : Call) (id : Option (List ℕ)) (r : Replied) (v : Parts) : Type 0 where
+pub record Came (b : Board) (command : Call) (id : Option (List ℕ)) (r : Reply) (v : Parts) : Type 0 where
   pub stands : Stands (performed b command).board v
   pub events : option_to_list r.event ≡ (performed b command).events
   pub ends : r.ends ≡ (performed b command).ends
   pub replied : IfOk r.text (λ text. text ≡ reply id (performed b command).result)
 
 -- a line of the guest came to its outcome, but for the events that wait: this is its answer, if there was memory for it, and its board stands
-pub record CameTo (o : Outcome) (r : Replied) (v : Parts) : Type 0 where
+pub record CameTo (o : Outcome) (r : Reply) (v : Parts) : Type 0 where
   pub stands : Stands o.board v
   pub events : option_to_list r.event ≡ o.events
   pub ends : r.ends ≡ o.ends
   pub replied : IfOk r.text (λ text. text ≡ answer_line o.answer)
 
 -- these messages tell of the events that wait on the board, and of the event of a command or a line, if it has one, and are then its reply, on its lane
-abbrev pub Tells : Moment → Lane → Seen → Replied → List Message → Type 0
+abbrev pub Tells : Moment → Lane → Seen → Reply → List Message → Type 0
 Tells at lane m r front =
     (text : List ℕ) × (r.text ≡ Ok text)
     × ((b : Board) → Stands b m.board → front ≡ event_outs at (state_with b m) (map event_of b.events ++ option_to_list r.event) ++ (lane, text) ∷ [])

@@ -13,10 +13,11 @@ use crate::replying::{EMPTY, changed_text, guest_text, reply_text};
 use crate::serving::{serve_items, serve_lines};
 use json::Scratch;
 use qo_causes::{Input, Lane, Moment, What};
-use qo_commands::{ask, cut_lines, hear};
+use qo_commands::{ask, cut_lines, hear, interrupt_lines};
 use qo_events::DeviceEvent;
 use qo_framing::Item;
 use qo_heap::Steps;
+use qo_lines::Lines;
 use qo_realize::Board;
 use qo_replies::{Event, return_written};
 use qo_requests::{Call, Change, Query};
@@ -56,7 +57,7 @@ fn close_where(sessions: &mut Vec<Session>, lost: &[bool; LANES])
 
 /// What a command or a line of the guest comes to, but for the events on devices that wait on the board.
 #[derive(Drop)]
-pub(crate) struct Replied {
+pub(crate) struct Reply {
     /// The text of its reply; an error where there was no memory for it when the board was changed.
     pub(crate) text: Result<Chars, AllocError>,
     /// Its own event, if it has one.
@@ -69,10 +70,12 @@ pub(crate) struct Replied {
 #[derive(Drop)]
 pub(crate) struct Core {
     board: Board,
+    /// The interrupt lines, which are the board's before and after each item and line.
+    lines: Lines,
     sessions: Vec<Session>,
     guest_line: Vec<u8>,
     ended: bool,
-    spent: bool,
+    out_of_memory: bool,
     /// Room for reading messages, which is kept from one to the next.
     scratch: Box<Scratch>,
     /// Room for the items of a step, and for what it sends, which are kept from one to the next.
@@ -87,7 +90,7 @@ impl Model for Core {
 
     ghost Value = { Seen };
 
-    ghost view = { λ m. record { board = m.board; sessions = m.sessions.items; guest_line = m.guest_line.items; ended = m.ended; spent = m.spent } };
+    ghost view = { λ m. record { board = m.board; lines = m.lines; sessions = m.sessions.items; guest_line = m.guest_line.items; ended = m.ended; out_of_memory = m.out_of_memory } };
 
     ghost invariant = { λ m. length m.sessions.items ≡ SESSIONS };
 }
@@ -95,7 +98,8 @@ impl Model for Core {
 /// The machine.
 ///
 /// It is driven by one input at a time. A step that runs out of memory ends it: every later one
-/// answers `AllocError`. Between two inputs no event on a device waits on its board.
+/// answers `AllocError`. Between two inputs no event on a device waits on its board, and its interrupt lines
+/// are the board's.
 #[derive(Drop)]
 pub struct Machine {
     core: Core,
@@ -103,13 +107,14 @@ pub struct Machine {
 
 impl Model for Machine {
     ghost use Rattle.qo_machine.specs.Machine.{Seen};
-    ghost use Rattle.qo_machine.specs.Between.{IsSettled};
+    ghost use Rattle.std.specs.Prelude.{◌≡◌, false};
+    ghost use Rattle.qo_machine.specs.Between.{IsSettled, IsWired};
 
     ghost Value = { Seen };
 
     ghost view = { λ m. m.core };
 
-    ghost invariant = { λ m. IsSettled m.core };
+    ghost invariant = { λ m. IsSettled m.core × (m.core.out_of_memory ≡ false → IsWired m.core) };
 }
 
 impl Machine {
@@ -118,13 +123,14 @@ impl Machine {
     ghost use Rattle.qo_machine.specs.Machine.{Answers, BreaksOff, IsIn, State, finished, opening, state_with};
     ghost use Rattle.qo_machine.specs.Runs.{close_lost};
     ghost use Rattle.qo_machine.specs.Sending.{AreToLanes};
-    ghost use Rattle.qo_machine.specs.Between.{IsSoundBetween};
+    ghost use Rattle.qo_machine.specs.Between.{IsSoundBetween, IsWired};
 
     /// The machine at first: the opening board, and all sessions closed. Each board that it stands at is
     /// sound, and no event waits.
     pub fn start(alloc: Global) -> Result<Machine, AllocError>
-        ensures state { IfOk result (λ m. IsIn opening m × (m.spent ≡ false)) }
+        ensures state { IfOk result (λ m. IsIn opening m × (m.out_of_memory ≡ false)) }
         ensures sound { IfOk result (λ m. (s : State) → IsIn s m → IsSoundBetween s.board) }
+        ensures lines { IfOk result IsWired }
     {
         Ok(Machine {
             core: Core::start(alloc)?,
@@ -149,15 +155,16 @@ impl Machine {
         ensures answered { (s : State) → IsIn s self.old → IfOk result (λ outs. Answers s input.now outs self.new) }
         ensures lanes { IfOk result AreToLanes }
         ensures closes { OnErr result ((b : Tree) → state_with b self.new ≡ finished (state_with b self.old)) }
-        ensures lasts { OnOk result (self.new.spent ≡ false) }
-        ensures spends { OnErr result (self.new.spent ≡ true) }
-        ensures spent { self.old.spent ≡ true → IsErr result }
+        ensures lasts { OnOk result (self.new.out_of_memory ≡ false) }
+        ensures spends { OnErr result (self.new.out_of_memory ≡ true) }
+        ensures out_of_memory { self.old.out_of_memory ≡ true → IsErr result }
         ensures breaks { (s : State) → IsIn s self.old → OnErr result (BreaksOff s input.now self.new) }
         ensures sound { (s : State) → IsIn s self.new → IsSoundBetween s.board }
+        ensures lines { OnOk result (IsWired self.new) }
     {
-        self.core.shown();
+        self.core.reveal_board();
         let done = self.core.step(alloc, input);
-        self.core.shown();
+        self.core.reveal_board();
         done
     }
 
@@ -165,14 +172,14 @@ impl Machine {
     pub(crate) fn keep_outs(&mut self, outs: Outs)
         ensures { self.new ≡ self.old }
     {
-        self.core.shown();
+        self.core.reveal_board();
         self.core.keep_outs(outs);
     }
 
     /// Closes the sessions that are lost, as if each was shut. It takes no memory.
     pub(crate) fn close_lost(&mut self, lost: &[bool; LANES])
         ensures state { (s : State) → IsIn s self.old → IsIn (close_lost lost.now s) self.new }
-        ensures lasts { self.new.spent ≡ self.old.spent }
+        ensures lasts { self.new.out_of_memory ≡ self.old.out_of_memory }
     {
         self.core.close_lost(lost);
     }
@@ -193,11 +200,15 @@ impl Core {
     ghost use Rattle.qo_machine.specs.Sending.{AreToLanes};
     ghost use Rattle.qo_commands.specs.Hearing.{heard};
     ghost use Rattle.qo_commands.specs.Lines.{lines_of};
-    ghost use Rattle.qo_machine.specs.Serving.{Came, CameTo, moved};
+    ghost use Rattle.qo_commands.specs.Interrupts.{HasLines};
+    ghost use Rattle.qo_model.specs.Opening.{opening_board};
+    ghost use Rattle.qo_machine.specs.Between.{IsWired};
+    ghost use Rattle.qo_machine.specs.Serving.{Came, CameTo, is_query, moved};
 
     /// The machine at first: the opening board, and all sessions closed.
     fn start(alloc: Global) -> Result<Core, AllocError>
-        ensures { IfOk result (λ m. IsIn opening m × (m.spent ≡ false)) }
+        ensures state { IfOk result (λ m. IsIn opening m × (m.out_of_memory ≡ false)) }
+        ensures wired { IfOk result IsWired }
     {
         Core::start_counting::<Brand>(alloc, Blank::new(1))
     }
@@ -207,15 +218,27 @@ impl Core {
         requires name { blank.name ≡ L.name }
         requires parts { blank.parts ≡ L.parts }
         requires some { 0 < blank.parts }
-        ensures state { IfOk result (λ m. IsIn opening m × (m.spent ≡ false)) }
+        ensures state { IfOk result (λ m. IsIn opening m × (m.out_of_memory ≡ false)) }
+        ensures wired { IfOk result IsWired }
     {
         let mut steps = Steps::<L>::from_blank(blank);
+        let board = Board::start(alloc, &mut steps)?;
+        let lines = interrupt_lines(alloc, &board, &mut steps)?;
+        Core::begun(alloc, board, lines)
+    }
+
+    /// A machine that begins on a board with its interrupt lines; all sessions are closed.
+    fn begun(alloc: Global, board: Board, lines: Lines) -> Result<Core, AllocError>
+        ensures state { Stands opening_board board → IfOk result (λ m. IsIn opening m × (m.out_of_memory ≡ false)) }
+        ensures wired { HasLines board lines → IfOk result IsWired }
+    {
         Ok(Core {
-            board: Board::start(alloc, &mut steps)?,
+            board,
+            lines,
             sessions: closed_sessions(alloc)?,
             guest_line: Vec::new(alloc),
             ended: false,
-            spent: false,
+            out_of_memory: false,
             scratch: Box::new(alloc, Scratch::new(alloc))?,
             items: Vec::new(alloc),
             outs: Outs::none(alloc),
@@ -223,10 +246,10 @@ impl Core {
     }
 
     /// What its board stands for: there is a sound board that stands at it.
-    fn shown(&self)
+    fn reveal_board(&self)
         ensures { StandsForGood self.now.board }
     {
-        self.board.shown();
+        self.board.reveal_board();
     }
 
     /// Whether the run has ended. It takes no memory.
@@ -238,22 +261,24 @@ impl Core {
 
     /// Does what one input does, as `Machine::step` says.
     fn step(&mut self, alloc: Global, input: &Input) -> Result<Outs, AllocError>
+        requires wired { self.old.out_of_memory ≡ false → IsWired self.old }
         ensures answered { (s : State) → IsIn s self.old → IfOk result (λ outs. Answers s input.now outs self.new) }
         ensures lanes { IfOk result AreToLanes }
         ensures closes { OnErr result ((b : Tree) → state_with b self.new ≡ finished (state_with b self.old)) }
-        ensures lasts { OnOk result (self.new.spent ≡ false) }
-        ensures spends { OnErr result (self.new.spent ≡ true) }
-        ensures spent { self.old.spent ≡ true → IsErr result }
+        ensures lasts { OnOk result (self.new.out_of_memory ≡ false) }
+        ensures spends { OnErr result (self.new.out_of_memory ≡ true) }
+        ensures out_of_memory { self.old.out_of_memory ≡ true → IsErr result }
         ensures breaks { (s : State) → IsIn s self.old → OnErr result (BreaksOff s input.now self.new) }
+        ensures wired { OnOk result (IsWired self.new) }
     {
-        if self.spent {
+        if self.out_of_memory {
             self.finish();
             return Err(AllocError);
         }
         match self.step_counting::<Brand>(alloc, input, Blank::new(1)) {
             Ok(outs) => Ok(outs),
             Err(AllocError) => {
-                self.spent = true;
+                self.out_of_memory = true;
                 self.finish();
                 Err(AllocError)
             }
@@ -269,11 +294,13 @@ impl Core {
     ) -> Result<Outs, AllocError>
         requires name { blank.name ≡ L.name }
         requires parts { blank.parts ≡ L.parts }
+        requires wired { IsWired self.old }
         requires some { 0 < blank.parts }
         ensures answered { (s : State) → IsIn s self.old → IfOk result (λ outs. Answers s input.now outs self.new) }
         ensures breaks { (s : State) → IsIn s self.old → OnErr result (BreaksOff s input.now self.new) }
         ensures lanes { IfOk result AreToLanes }
-        ensures lasts { self.new.spent ≡ self.old.spent }
+        ensures lasts { self.new.out_of_memory ≡ self.old.out_of_memory }
+        ensures wired { OnOk result (IsWired self.new) }
     {
         let mut steps = Steps::<L>::from_blank(blank);
         self.serve(alloc, input, &mut steps)
@@ -282,8 +309,9 @@ impl Core {
     /// Closes the sessions that are lost, as if each was shut. It takes no memory.
     fn close_lost(&mut self, lost: &[bool; LANES])
         ensures state { (s : State) → IsIn s self.old → IsIn (close_lost lost.now s) self.new }
-        ensures lasts { self.new.spent ≡ self.old.spent }
+        ensures lasts { self.new.out_of_memory ≡ self.old.out_of_memory }
         ensures board { self.new.board ≡ self.old.board }
+        ensures wires { self.new.lines ≡ self.old.lines }
     {
         close_where(&mut self.sessions, lost);
     }
@@ -295,10 +323,12 @@ impl Core {
         input: &Input,
         steps: &mut Steps<L>,
     ) -> Result<Outs, AllocError>
+        requires wired { IsWired self.old }
         ensures answered { (s : State) → IsIn s self.old → IfOk result (λ outs. Answers s input.now outs self.new) }
         ensures breaks { (s : State) → IsIn s self.old → OnErr result (BreaksOff s input.now self.new) }
         ensures lanes { IfOk result AreToLanes }
-        ensures lasts { self.new.spent ≡ self.old.spent }
+        ensures lasts { self.new.out_of_memory ≡ self.old.out_of_memory }
+        ensures wired { OnOk result (IsWired self.new) }
     {
         if self.ended {
             return Ok(Outs::none(alloc));
@@ -318,7 +348,7 @@ impl Core {
             }
             What::Guest(piece) => self.take_guest(alloc, input.at, piece.as_slice(), steps),
             What::Step(ns) => {
-                self.go_on(*ns);
+                self.go_on(*ns, steps);
                 Ok(Outs::none(alloc))
             }
         }
@@ -329,7 +359,8 @@ impl Core {
         ensures answered { (b : Tree) (at : Moment) → IfOk result (λ outs. input_step (state_with b self.old) at (What.Open session) [] ≡ record { outs = outs; state = state_with b self.new; rest = [] }) }
         ensures lanes { IfOk result AreToLanes }
         ensures board { self.new.board ≡ self.old.board }
-        ensures lasts { self.new.spent ≡ self.old.spent }
+        ensures lasts { self.new.out_of_memory ≡ self.old.out_of_memory }
+        ensures wires { self.new.lines ≡ self.old.lines }
     {
         let mut outs = Outs::none(alloc);
         if session >= SESSIONS || self.sessions[usize::from(session)].mode() != Mode::Closed {
@@ -345,7 +376,8 @@ impl Core {
     fn shut(&mut self, session: u8)
         ensures answered { (b : Tree) (at : Moment) → input_step (state_with b self.old) at (What.Shut session) [] ≡ record { outs = []; state = state_with b self.new; rest = [] } }
         ensures board { self.new.board ≡ self.old.board }
-        ensures lasts { self.new.spent ≡ self.old.spent }
+        ensures lasts { self.new.out_of_memory ≡ self.old.out_of_memory }
+        ensures wires { self.new.lines ≡ self.old.lines }
     {
         if session < SESSIONS {
             self.sessions[usize::from(session)].close();
@@ -361,10 +393,12 @@ impl Core {
         bytes: &[u8],
         steps: &mut Steps<L>,
     ) -> Result<Outs, AllocError>
+        requires wired { IsWired self.old }
         ensures answered { (s : State) → IsIn s self.old → IfOk result (λ outs. (choices : List Choice) × (t : State) × IsIn t self.new × (input_step s at (What.Bytes session bytes.now) choices ≡ record { outs = outs; state = t; rest = [] })) }
         ensures breaks { (s : State) → IsIn s self.old → OnErr result (BreaksOff s (record { at = at; what = What.Bytes session bytes.now }) self.new) }
         ensures lanes { IfOk result AreToLanes }
-        ensures lasts { self.new.spent ≡ self.old.spent }
+        ensures lasts { self.new.out_of_memory ≡ self.old.out_of_memory }
+        ensures wired { OnOk result (IsWired self.new) }
     {
         if session >= SESSIONS {
             return Ok(Outs::none(alloc));
@@ -423,7 +457,8 @@ impl Core {
         ensures items { (b : Tree) → IfOk result (λ items. items.items ≡ (fed (session_of (state_with b self.old) session) bytes.now).items) }
         ensures state { (b : Tree) → IfOk result (λ items. state_with b self.new ≡ with_session (state_with b self.old) session (fed (session_of (state_with b self.old) session) bytes.now).session) }
         ensures board { self.new.board ≡ self.old.board }
-        ensures lasts { self.new.spent ≡ self.old.spent }
+        ensures lasts { self.new.out_of_memory ≡ self.old.out_of_memory }
+        ensures wires { self.new.lines ≡ self.old.lines }
     {
         self.sessions[usize::from(session)].feed(alloc, bytes, room)
     }
@@ -436,10 +471,12 @@ impl Core {
         bytes: &[u8],
         steps: &mut Steps<L>,
     ) -> Result<Outs, AllocError>
+        requires wired { IsWired self.old }
         ensures answered { (s : State) → IsIn s self.old → IfOk result (λ outs. (choices : List Choice) × (t : State) × IsIn t self.new × (input_step s at (What.Guest bytes.now) choices ≡ record { outs = outs; state = t; rest = [] })) }
         ensures breaks { (s : State) → IsIn s self.old → OnErr result (BreaksOff s (record { at = at; what = What.Guest bytes.now }) self.new) }
         ensures lanes { IfOk result AreToLanes }
-        ensures lasts { self.new.spent ≡ self.old.spent }
+        ensures lasts { self.new.out_of_memory ≡ self.old.out_of_memory }
+        ensures wired { OnOk result (IsWired self.new) }
     {
         let lines = self.cut(alloc, bytes)?;
         serve_lines(self, alloc, at, &lines, steps)
@@ -450,7 +487,8 @@ impl Core {
         ensures lines { IfOk result (λ lines. lines.items ≡ (lines_of self.old.guest_line bytes.now).lines) }
         ensures state { (b : Tree) → OnOk result (state_with b self.new ≡ with_line (state_with b self.old) (lines_of self.old.guest_line bytes.now).rest) }
         ensures board { self.new.board ≡ self.old.board }
-        ensures lasts { self.new.spent ≡ self.old.spent }
+        ensures lasts { self.new.out_of_memory ≡ self.old.out_of_memory }
+        ensures wires { self.new.lines ≡ self.old.lines }
     {
         cut_lines(alloc, &mut self.guest_line, bytes)
     }
@@ -462,14 +500,16 @@ impl Core {
         alloc: Global,
         line: &[u8],
         steps: &mut Steps<L>,
-    ) -> Result<Replied, AllocError>
+    ) -> Result<Reply, AllocError>
+        requires wired { IsWired self.old }
         ensures came { (b : Tree) → Stands b self.old.board → IfOk result (λ r. CameTo (heard b line.now) r self.new.board) }
         ensures kept { OnErr result (self.new.board ≡ self.old.board) }
         ensures rest { (b : Tree) → state_with b self.new ≡ state_with b self.old }
-        ensures lasts { self.new.spent ≡ self.old.spent }
+        ensures lasts { self.new.out_of_memory ≡ self.old.out_of_memory }
+        ensures wires { self.new.lines ≡ self.old.lines }
     {
-        let heard = hear(&mut self.board, line, alloc, steps)?;
-        Ok(Replied {
+        let heard = hear(&mut self.board, &self.lines, line, alloc, steps)?;
+        Ok(Reply {
             text: guest_text(alloc, &heard.answer),
             event: heard.event,
             ends: heard.ends,
@@ -478,12 +518,51 @@ impl Core {
 
     /// The virtual time goes on, where the machine runs; a step that is refused changes nothing. It
     /// takes no memory.
-    fn go_on(&mut self, ns: u64)
+    fn go_on<L: Ledger>(&mut self, ns: u64, steps: &mut Steps<L>)
+        requires wired { IsWired self.old }
         ensures board { (b : Tree) → Stands b self.old.board → Stands (advanced b ns).board self.new.board }
         ensures rest { (b : Tree) → state_with b self.new ≡ state_with b self.old }
-        ensures lasts { self.new.spent ≡ self.old.spent }
+        ensures lasts { self.new.out_of_memory ≡ self.old.out_of_memory }
+        ensures wired { IsWired self.new }
     {
         let _time = self.board.advance(ns);
+        self.board.reveal_board();
+        self.lines.refresh(self.board.heap(), steps);
+    }
+
+    /// The interrupt lines are the board's again, after a command; one that leaves the board leaves them. The
+    /// error is want of memory.
+    pub(crate) fn settle_command<L: Ledger>(
+        &mut self,
+        alloc: Global,
+        command: &Call,
+        steps: &mut Steps<L>,
+    ) -> Result<(), AllocError>
+        requires wired { is_query command.now ≡ true → IsWired self.old }
+        ensures wired { OnOk result (IsWired self.new) }
+        ensures board { self.new.board ≡ self.old.board }
+        ensures rest { (b : Tree) → state_with b self.new ≡ state_with b self.old }
+        ensures lasts { self.new.out_of_memory ≡ self.old.out_of_memory }
+    {
+        match command {
+            Call::Query(_) => Ok(()),
+            Call::Change(_) => self.settle(alloc, steps),
+        }
+    }
+
+    /// The interrupt lines are the board's again. The error is want of memory.
+    pub(crate) fn settle<L: Ledger>(
+        &mut self,
+        alloc: Global,
+        steps: &mut Steps<L>,
+    ) -> Result<(), AllocError>
+        ensures wired { OnOk result (IsWired self.new) }
+        ensures board { self.new.board ≡ self.old.board }
+        ensures rest { (b : Tree) → state_with b self.new ≡ state_with b self.old }
+        ensures lasts { self.new.out_of_memory ≡ self.old.out_of_memory }
+    {
+        self.lines = interrupt_lines(alloc, &self.board, steps)?;
+        Ok(())
     }
 
     /// The mode of a session.
@@ -495,7 +574,7 @@ impl Core {
     }
 
     /// What an item of a session comes to; a negotiation changes its mode.
-    pub(crate) fn heed(
+    pub(crate) fn interpret(
         &mut self,
         alloc: Global,
         session: u8,
@@ -506,7 +585,8 @@ impl Core {
         ensures state { (b : Tree) → IfOk result (λ what. state_with b self.new ≡ moved (state_with b self.old) session what) }
         ensures kept { (b : Tree) → OnErr result (state_with b self.new ≡ state_with b self.old) }
         ensures board { self.new.board ≡ self.old.board }
-        ensures lasts { self.new.spent ≡ self.old.spent }
+        ensures lasts { self.new.out_of_memory ≡ self.old.out_of_memory }
+        ensures wires { self.new.lines ≡ self.old.lines }
     {
         self.sessions[usize::from(session)].act(alloc, item, &mut self.scratch)
     }
@@ -518,12 +598,12 @@ impl Core {
         query: &Query,
         id: Option<&Text>,
         steps: &mut Steps<L>,
-    ) -> Result<Replied, AllocError>
+    ) -> Result<Reply, AllocError>
         ensures came { (b : Tree) → Stands b self.now.board → IfOk result (λ r. Came b (call.Query query.now) (option_map (λ id. id.now) id.entry) r self.now.board) }
     {
         let done = ask(alloc, &self.board, query, steps)?;
         let text = reply_text(alloc, &self.board, id, &done.result, steps)?;
-        Ok(Replied {
+        Ok(Reply {
             text: Ok(text),
             event: done.event,
             ends: done.ends,
@@ -539,16 +619,18 @@ impl Core {
         change: &Change,
         id: Option<&Text>,
         steps: &mut Steps<L>,
-    ) -> Result<Replied, AllocError>
+    ) -> Result<Reply, AllocError>
+        requires wired { IsWired self.old }
         ensures came { (b : Tree) → Stands b self.old.board → IfOk result (λ r. Came b (call.Change change.now) (option_map (λ id. id.now) id.entry) r self.new.board) }
         ensures kept { (b : Tree) → Stands b self.old.board → OnErr result (Left b (call.Change change.now) self.new.board) }
         ensures rest { (b : Tree) → state_with b self.new ≡ state_with b self.old }
-        ensures lasts { self.new.spent ≡ self.old.spent }
+        ensures lasts { self.new.out_of_memory ≡ self.old.out_of_memory }
+        ensures wires { self.new.lines ≡ self.old.lines }
     {
         let empty = return_written(alloc, id, EMPTY)?;
-        let done = qo_commands::change(alloc, &mut self.board, change, steps)?;
+        let done = qo_commands::change(alloc, &mut self.board, &self.lines, change, steps)?;
         let text = changed_text(alloc, &self.board, id, empty, &done.result, steps);
-        Ok(Replied {
+        Ok(Reply {
             text,
             event: done.event,
             ends: done.ends,
@@ -564,11 +646,14 @@ impl Core {
         command: &Call,
         id: Option<&Text>,
         steps: &mut Steps<L>,
-    ) -> Result<Replied, AllocError>
+    ) -> Result<Reply, AllocError>
+        requires wired { IsWired self.old }
         ensures came { (b : Tree) → Stands b self.old.board → IfOk result (λ r. Came b command.now (option_map (λ id. id.now) id.entry) r self.new.board) }
         ensures kept { (b : Tree) → Stands b self.old.board → OnErr result (Left b command.now self.new.board) }
         ensures rest { (b : Tree) → state_with b self.new ≡ state_with b self.old }
-        ensures lasts { self.new.spent ≡ self.old.spent }
+        ensures lasts { self.new.out_of_memory ≡ self.old.out_of_memory }
+        ensures wires { self.new.lines ≡ self.old.lines }
+        ensures leaves { is_query command.now ≡ true → self.new ≡ self.old }
     {
         match command {
             Call::Query(query) => self.answer(alloc, query, id, steps),
@@ -587,7 +672,8 @@ impl Core {
     pub(crate) fn forget_waiting(&mut self)
         ensures board { (b : Tree) → Stands b self.old.board → Stands (without_events b) self.new.board }
         ensures rest { (b : Tree) → state_with b self.new ≡ state_with b self.old }
-        ensures lasts { self.new.spent ≡ self.old.spent }
+        ensures lasts { self.new.out_of_memory ≡ self.old.out_of_memory }
+        ensures wires { self.new.lines ≡ self.old.lines }
     {
         self.board.clear_events();
     }
@@ -596,7 +682,8 @@ impl Core {
     pub(crate) fn conclude(&mut self, ends: bool)
         ensures state { (b : Tree) → state_with b self.new ≡ after_command ends (state_with b self.old) }
         ensures board { self.new.board ≡ self.old.board }
-        ensures lasts { self.new.spent ≡ self.old.spent }
+        ensures lasts { self.new.out_of_memory ≡ self.old.out_of_memory }
+        ensures wires { self.new.lines ≡ self.old.lines }
     {
         if ends {
             self.finish();
@@ -607,7 +694,8 @@ impl Core {
     fn finish(&mut self)
         ensures done { (b : Tree) → state_with b self.new ≡ finished (state_with b self.old) }
         ensures board { self.new.board ≡ self.old.board }
-        ensures lasts { self.new.spent ≡ self.old.spent }
+        ensures lasts { self.new.out_of_memory ≡ self.old.out_of_memory }
+        ensures wires { self.new.lines ≡ self.old.lines }
     {
         close_where(&mut self.sessions, &[true; LANES]);
         self.guest_line.clear();

@@ -9,7 +9,7 @@ ghost use Rattle.qo_model.specs.Board.{Board as Tree};
 ghost use Rattle.qo_realize.specs.Representation.{Stands};
 ghost use Rattle.qo_replies.specs.Replies.{return_reply};
 
-use qo_commands::{Body, answer_written, listing_text, time_written};
+use qo_commands::{ReplyBody, answer_written, listing_text, time_written};
 use qo_guest::{GuestAnswer, answer_text};
 use qo_heap::Steps;
 use qo_realize::Board;
@@ -32,32 +32,32 @@ fn done_text<L: Ledger>(
     alloc: Global,
     board: &Board,
     id: Option<&Text>,
-    body: &Body,
+    body: &ReplyBody,
     steps: &mut Steps<L>,
 ) -> Result<Chars, AllocError>
     ensures { (b : Tree) → Stands b board.now → IfOk result (λ text. has_float (body_data b body.now) ≡ false → text ≡ return_reply (option_map (λ id. id.now) id.entry) (body_data b body.now)) }
 {
     match body {
-        Body::Empty => return_written(alloc, id, EMPTY),
-        Body::Status(true) => return_written(alloc, id, RUNNING),
-        Body::Status(false) => return_written(alloc, id, PAUSED),
-        Body::Listing(birth) => {
+        ReplyBody::Empty => return_written(alloc, id, EMPTY),
+        ReplyBody::Status(true) => return_written(alloc, id, RUNNING),
+        ReplyBody::Status(false) => return_written(alloc, id, PAUSED),
+        ReplyBody::Listing(birth) => {
             let text = listing_text(alloc, board, *birth, steps)?;
             return_written(alloc, id, text.as_str())
         }
-        Body::Answer(answer) => {
+        ReplyBody::Answer(answer) => {
             let text = answer_written(alloc, answer)?;
             return_written(alloc, id, text.as_str())
         }
-        Body::Time(now) => {
+        ReplyBody::Time(now) => {
             let text = time_written(alloc, *now)?;
             return_written(alloc, id, text.as_str())
         }
-        Body::Told(text) => {
+        ReplyBody::Told(text) => {
             let value = Value::try_from_str(alloc, text.as_str())?;
             return_text(alloc, id, &value)
         }
-        Body::Value(whole) => return_text(alloc, id, whole.value()),
+        ReplyBody::Value(whole) => return_text(alloc, id, whole.value()),
     }
 }
 
@@ -67,7 +67,7 @@ pub(crate) fn reply_text<L: Ledger>(
     alloc: Global,
     board: &Board,
     id: Option<&Text>,
-    outcome: &Result<Body, Code>,
+    outcome: &Result<ReplyBody, Code>,
     steps: &mut Steps<L>,
 ) -> Result<Chars, AllocError>
     ensures { (b : Tree) → Stands b board.now → IfOk result (λ text. has_float_in (data_of b outcome.now) ≡ false → text ≡ reply (option_map (λ id. id.now) id.entry) (data_of b outcome.now)) }
@@ -85,14 +85,14 @@ pub(crate) fn changed_text<L: Ledger>(
     board: &Board,
     id: Option<&Text>,
     empty: Chars,
-    outcome: &Result<Body, Code>,
+    outcome: &Result<ReplyBody, Code>,
     steps: &mut Steps<L>,
 ) -> Result<Chars, AllocError>
     requires { empty ≡ return_reply (option_map (λ id. id.now) id) nothing }
     ensures { (b : Tree) → Stands b board.now → IfOk result (λ text. has_float_in (data_of b outcome.now) ≡ false → text ≡ reply (option_map (λ id. id.now) id.entry) (data_of b outcome.now)) }
 {
     match outcome {
-        Ok(Body::Empty) => Ok(empty),
+        Ok(ReplyBody::Empty) => Ok(empty),
         other => reply_text(alloc, board, id, other, steps),
     }
 }

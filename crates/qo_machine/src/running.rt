@@ -3,7 +3,7 @@
 ghost use Rattle.std.specs.Prelude.{◌≡◌, ◌≢◌, ◌≤◌, List, [], ◌∷◌, ◌++◌, OnErr, OnOk};
 ghost use Rattle.qo_causes.specs.Cause.{HasCause, Rose};
 ghost use Rattle.qo_machine.specs.Machine.{IsIn, Message, State};
-ghost use Rattle.qo_machine.specs.Runs.{RunMeets, Told, TurnMeets, is_lost, told};
+ghost use Rattle.qo_machine.specs.Runs.{RunMeets, Told, TurnMeets, is_lost, known};
 ghost use Rattle.qo_machine.specs.declared.running.Ending.TheVariants as Ending;
 ghost use Rattle.qo_machine.specs.Sending.{AreToLanes, IsLane, SendsAll, Sent, SentFront};
 
@@ -47,8 +47,8 @@ fn send_one<H: Hub>(
     text: &Chars,
 ) -> Result<(), Failed>
     requires { IsLane lane }
-    ensures ok { OnOk result ((start : Told) (outs : List Message) → Sent start (told (H.inputs hub.old) (H.sent hub.old) (H.got hub.old) (H.losses hub.old)) outs lost.old → Sent start (told (H.inputs hub.new) (H.sent hub.new) (H.got hub.new) (H.losses hub.new)) (outs ++ (lane, text.now) ∷ []) lost.new) }
-    ensures err { OnErr result ((start : Told) (outs : List Message) → Sent start (told (H.inputs hub.old) (H.sent hub.old) (H.got hub.old) (H.losses hub.old)) outs lost.old → SentFront start (told (H.inputs hub.new) (H.sent hub.new) (H.got hub.new) (H.losses hub.new)) (outs ++ (lane, text.now) ∷ [])) }
+    ensures ok { OnOk result ((start : Told) (outs : List Message) → Sent start (known (H.inputs hub.old) (H.sent hub.old) (H.got hub.old) (H.losses hub.old)) outs lost.old → Sent start (known (H.inputs hub.new) (H.sent hub.new) (H.got hub.new) (H.losses hub.new)) (outs ++ (lane, text.now) ∷ []) lost.new) }
+    ensures err { OnErr result ((start : Told) (outs : List Message) → Sent start (known (H.inputs hub.old) (H.sent hub.old) (H.got hub.old) (H.losses hub.old)) outs lost.old → SentFront start (known (H.inputs hub.new) (H.sent hub.new) (H.got hub.new) (H.losses hub.new)) (outs ++ (lane, text.now) ∷ [])) }
     ensures bad { H.bad hub.new ≡ H.bad hub.old }
     ensures asked { H.asked hub.new ≡ H.asked hub.old }
     ensures cause { HasCause (H.send_faults hub.old) (H.send_faults hub.new) result }
@@ -72,7 +72,7 @@ fn send_one<H: Hub>(
 /// Sends the messages of one step. What follows for a session that is lost is left out.
 fn send_all<H: Hub>(hub: &mut H, outs: &[(Lane, Chars)]) -> Result<[bool; LANES], Failed>
     requires { AreToLanes outs.now }
-    ensures sends { SendsAll (told (H.inputs hub.old) (H.sent hub.old) (H.got hub.old) (H.losses hub.old)) (told (H.inputs hub.new) (H.sent hub.new) (H.got hub.new) (H.losses hub.new)) outs.now result }
+    ensures sends { SendsAll (known (H.inputs hub.old) (H.sent hub.old) (H.got hub.old) (H.losses hub.old)) (known (H.inputs hub.new) (H.sent hub.new) (H.got hub.new) (H.losses hub.new)) outs.now result }
     ensures bad { H.bad hub.new ≡ H.bad hub.old }
     ensures asked { H.asked hub.new ≡ H.asked hub.old }
     ensures cause { HasCause (H.send_faults hub.old) (H.send_faults hub.new) result }
@@ -91,7 +91,7 @@ fn send_all<H: Hub>(hub: &mut H, outs: &[(Lane, Chars)]) -> Result<[bool; LANES]
 
 /// One turn: an input is taken and done, and what it makes is sent.
 fn turn<H: Hub>(alloc: Global, hub: &mut H, machine: &mut Machine) -> Result<(), Ending>
-    ensures meets { (s : State) → IsIn s machine.old → TurnMeets s machine.new (told (H.inputs hub.old) (H.sent hub.old) (H.got hub.old) (H.losses hub.old)) (told (H.inputs hub.new) (H.sent hub.new) (H.got hub.new) (H.losses hub.new)) (H.bad hub.old) result }
+    ensures meets { (s : State) → IsIn s machine.old → TurnMeets s machine.new (known (H.inputs hub.old) (H.sent hub.old) (H.got hub.old) (H.losses hub.old)) (known (H.inputs hub.new) (H.sent hub.new) (H.got hub.new) (H.losses hub.new)) (H.bad hub.old) result }
     ensures bad { H.bad hub.new ≡ H.bad hub.old }
     ensures asked { H.asked hub.new ≡ H.asked hub.old }
     ensures next_count { H.next_faults hub.old ≤ H.next_faults hub.new }
@@ -127,7 +127,7 @@ fn turn<H: Hub>(alloc: Global, hub: &mut H, machine: &mut Machine) -> Result<(),
 /// The count of faults of `begin` and `next` rises where it answers `NextFailed` and only there, and that of
 /// `send` where it answers `SendFailed` and only there: no call that failed is made again.
 pub fn run<H: Hub>(alloc: Global, hub: &mut H, limit: u64) -> Ending
-    ensures meets { RunMeets result limit (told (H.inputs hub.old) (H.sent hub.old) (H.got hub.old) (H.losses hub.old)) (told (H.inputs hub.new) (H.sent hub.new) (H.got hub.new) (H.losses hub.new)) (H.bad hub.old) }
+    ensures meets { RunMeets result limit (known (H.inputs hub.old) (H.sent hub.old) (H.got hub.old) (H.losses hub.old)) (known (H.inputs hub.new) (H.sent hub.new) (H.got hub.new) (H.losses hub.new)) (H.bad hub.old) }
     ensures bad { H.bad hub.new ≡ H.bad hub.old }
     ensures asked { H.asked hub.new ≡ H.asked hub.old }
     ensures next_count { H.next_faults hub.old ≤ H.next_faults hub.new }

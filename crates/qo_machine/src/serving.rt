@@ -1,6 +1,6 @@
 //! Serving the items of a session and the lines of the guest: each makes exactly one reply, after its events.
 
-ghost use Rattle.std.specs.Prelude.{◌≡◌, ◌<◌, [], ◌∷◌, ◌++◌, List, map, option_map, option_to_list, IfOk, OnErr, OnOk};
+ghost use Rattle.std.specs.Prelude.{◌≡◌, ◌<◌, [], ◌∷◌, ◌++◌, true, List, map, option_map, option_to_list, IfOk, OnErr, OnOk};
 ghost use Rattle.qo_causes.specs.declared.hubs.Lane.TheVariants as LaneView;
 ghost use Rattle.qo_guest.specs.declared.answers.GuestAnswer.TheVariants.{NoMemory};
 ghost use Rattle.qo_replies.specs.Replies.{error_reply};
@@ -11,9 +11,10 @@ ghost use Rattle.qo_commands.specs.Commands.{event_of, without_events};
 ghost use Rattle.qo_machine.specs.Machine.{IsIn, Message, State, answer_line, beside, commanding, event_outs, state_with, those_commanding, event_messages};
 ghost use Rattle.qo_values.specs.declared.limits.TheConstants.{SESSIONS};
 ghost use Rattle.qo_machine.specs.Sending.{AreToLanes, IsLane};
-ghost use Rattle.qo_machine.specs.Serving.{CommandLeft, CommandServed, LinesFront, LinesTo, ServesFront, ServesTo, Tells};
+ghost use Rattle.qo_machine.specs.Between.{IsWired};
+ghost use Rattle.qo_machine.specs.Serving.{CommandLeft, CommandServed, LinesFront, LinesTo, ServesFront, ServesTo, Tells, is_query};
 
-use crate::machines::{Core, Replied};
+use crate::machines::{Core, Reply};
 use crate::outs::Outs;
 use crate::replying::{EMPTY, guest_text};
 use crate::telling::Emitted;
@@ -32,19 +33,19 @@ use std::sync::ledger::Ledger;
 
 /// What is sent in one step: the moment that stamps its events, and the messages so far.
 #[derive(Drop)]
-struct Sending {
+struct Outbox {
     alloc: Global,
     at: Moment,
     outs: Outs,
 }
 
-impl Sending {
+impl Outbox {
     /// Nothing is sent so far. It takes no memory.
-    fn new(alloc: Global, at: Moment) -> Sending
+    fn new(alloc: Global, at: Moment) -> Outbox
         ensures moment { result.at ≡ at }
         ensures none { result.outs ≡ [] }
     {
-        Sending {
+        Outbox {
             alloc,
             at,
             outs: Outs::none(alloc),
@@ -57,12 +58,12 @@ impl Sending {
         alloc: Global,
         at: Moment,
         count: usize,
-    ) -> Result<Sending, AllocError>
-        ensures moment { IfOk result (λ sending. sending.at ≡ at) }
-        ensures none { IfOk result (λ sending. sending.outs ≡ []) }
+    ) -> Result<Outbox, AllocError>
+        ensures moment { IfOk result (λ outbox. outbox.at ≡ at) }
+        ensures none { IfOk result (λ outbox. outbox.outs ≡ []) }
         ensures same { machine.new ≡ machine.old }
     {
-        Ok(Sending {
+        Ok(Outbox {
             alloc,
             at,
             outs: machine.out_room(alloc, count)?,
@@ -85,7 +86,7 @@ impl Sending {
     }
 
     /// One session is told of an event, if it commands.
-    fn tell_one<E: Emitted>(
+    fn send_event<E: Emitted>(
         &mut self,
         machine: &Core,
         session: u8,
@@ -103,40 +104,48 @@ impl Sending {
     }
 
     /// Each session that commands is told of an event.
-    fn tell<E: Emitted>(&mut self, machine: &Core, event: &E) -> Result<(), AllocError>
+    fn broadcast<E: Emitted>(&mut self, machine: &Core, event: &E) -> Result<(), AllocError>
         ensures moment { self.new.at ≡ self.old.at }
         ensures told { OnOk result (self.new.outs ≡ self.old.outs ++ event_messages (E.event event.now) self.old.at (commanding (beside machine.now))) }
     {
         for session in 0..SESSIONS {
-            self.tell_one(machine, session, event)?;
+            self.send_event(machine, session, event)?;
         }
         Ok(())
     }
 
     /// Each session that commands is told of each event on a device, in their order.
-    fn tell_all(&mut self, machine: &Core, events: &[DeviceEvent]) -> Result<(), AllocError>
+    fn send_device_events(
+        &mut self,
+        machine: &Core,
+        events: &[DeviceEvent],
+    ) -> Result<(), AllocError>
         ensures moment { self.new.at ≡ self.old.at }
         ensures told { OnOk result (self.new.outs ≡ self.old.outs ++ event_outs self.old.at (beside machine.now) (map event_of events.now)) }
     {
         for event in events {
-            self.tell(machine, event)?;
+            self.broadcast(machine, event)?;
         }
         Ok(())
     }
 
     /// Each session that commands is told of the event of a command, if it has one.
-    fn tell_own(&mut self, machine: &Core, event: Option<&Event>) -> Result<(), AllocError>
+    fn send_command_event(
+        &mut self,
+        machine: &Core,
+        event: Option<&Event>,
+    ) -> Result<(), AllocError>
         ensures moment { self.new.at ≡ self.old.at }
         ensures told { OnOk result (self.new.outs ≡ self.old.outs ++ event_outs self.old.at (beside machine.now) (option_to_list (option_map (λ e. e.now) event.entry))) }
     {
         if let Some(event) = event {
-            self.tell(machine, event)?;
+            self.broadcast(machine, event)?;
         }
         Ok(())
     }
 
     /// A session is told that memory ran out for its command.
-    fn tell_want(&mut self, session: u8, id: Option<&Text>) -> Result<(), AllocError>
+    fn send_memory_error(&mut self, session: u8, id: Option<&Text>) -> Result<(), AllocError>
         ensures moment { self.new.at ≡ self.old.at }
         ensures told { OnOk result (self.new.outs ≡ self.old.outs ++ (LaneView.Session session, error_reply (option_map (λ id. id.now) id.entry) E99) ∷ []) }
     {
@@ -145,7 +154,7 @@ impl Sending {
     }
 
     /// The guest is told that memory ran out for its line.
-    fn tell_guest_want(&mut self) -> Result<(), AllocError>
+    fn send_guest_memory_error(&mut self) -> Result<(), AllocError>
         ensures moment { self.new.at ≡ self.old.at }
         ensures told { OnOk result (self.new.outs ≡ self.old.outs ++ (LaneView.Guest, answer_line NoMemory) ∷ []) }
     {
@@ -160,47 +169,72 @@ impl Sending {
 fn send_reply(
     machine: &mut Core,
     lane: Lane,
-    reply: Replied,
-    sending: &mut Sending,
+    reply: Reply,
+    outbox: &mut Outbox,
 ) -> Result<(), AllocError>
     requires { IsLane lane }
-    ensures sent { OnOk result ((front : List Message) × (sending.new.outs ≡ sending.old.outs ++ front) × AreToLanes front × Tells sending.old.at lane machine.old reply front) }
+    ensures sent { OnOk result ((front : List Message) × (outbox.new.outs ≡ outbox.old.outs ++ front) × AreToLanes front × Tells outbox.old.at lane machine.old reply front) }
     ensures board { (b : Tree) → Stands b machine.old.board → Stands (without_events b) machine.new.board }
     ensures rest { (b : Tree) → state_with b machine.new ≡ state_with b machine.old }
-    ensures lasts { machine.new.spent ≡ machine.old.spent }
-    ensures moment { sending.new.at ≡ sending.old.at }
+    ensures wires { machine.new.lines ≡ machine.old.lines }
+    ensures lasts { machine.new.out_of_memory ≡ machine.old.out_of_memory }
+    ensures moment { outbox.new.at ≡ outbox.old.at }
 {
-    let told = sending.tell_all(machine, machine.waiting());
+    let told = outbox.send_device_events(machine, machine.waiting());
     machine.forget_waiting();
     told?;
-    sending.tell_own(machine, reply.event.as_ref())?;
-    sending.push(lane, reply.text?)
+    outbox.send_command_event(machine, reply.event.as_ref())?;
+    outbox.push(lane, reply.text?)
 }
 
-/// A command is done, or refused for want of memory.
+/// A command is done, or refused for want of memory. The interrupt lines are then as they were.
+fn reply_to_command<L: Ledger>(
+    machine: &mut Core,
+    session: u8,
+    command: &Call,
+    id: Option<&Text>,
+    outbox: &mut Outbox,
+    steps: &mut Steps<L>,
+) -> Result<(), AllocError>
+    requires session { session < SESSIONS }
+    requires wired { IsWired machine.old }
+    ensures served { OnOk result ((front : List Message) × (outbox.new.outs ≡ outbox.old.outs ++ front) × AreToLanes front × ((s : State) → IsIn s machine.old → CommandServed outbox.old.at session s command.now (option_map (λ id. id.now) id.entry) front machine.new)) }
+    ensures left { OnErr result ((s : State) → IsIn s machine.old → CommandLeft outbox.old.at session s command.now (option_map (λ id. id.now) id.entry) machine.new) }
+    ensures wired { is_query command.now ≡ true → IsWired machine.new }
+    ensures lasts { machine.new.out_of_memory ≡ machine.old.out_of_memory }
+    ensures moment { outbox.new.at ≡ outbox.old.at }
+{
+    match machine.perform(outbox.alloc, command, id, steps) {
+        Ok(reply) => {
+            let ends = reply.ends;
+            let sent = send_reply(machine, Lane::Session(session), reply, outbox);
+            machine.conclude(ends);
+            sent
+        }
+        Err(AllocError) => outbox.send_memory_error(session, id),
+    }
+}
+
+/// A command is served: it is done, or refused for want of memory, and the interrupt lines are those of the
+/// board that it leaves.
 fn serve_command<L: Ledger>(
     machine: &mut Core,
     session: u8,
     command: &Call,
     id: Option<&Text>,
-    sending: &mut Sending,
+    outbox: &mut Outbox,
     steps: &mut Steps<L>,
 ) -> Result<(), AllocError>
-    requires { session < SESSIONS }
-    ensures served { OnOk result ((front : List Message) × (sending.new.outs ≡ sending.old.outs ++ front) × AreToLanes front × ((s : State) → IsIn s machine.old → CommandServed sending.old.at session s command.now (option_map (λ id. id.now) id.entry) front machine.new)) }
-    ensures left { OnErr result ((s : State) → IsIn s machine.old → CommandLeft sending.old.at session s command.now (option_map (λ id. id.now) id.entry) machine.new) }
-    ensures lasts { machine.new.spent ≡ machine.old.spent }
-    ensures moment { sending.new.at ≡ sending.old.at }
+    requires session { session < SESSIONS }
+    requires wired { IsWired machine.old }
+    ensures served { OnOk result ((front : List Message) × (outbox.new.outs ≡ outbox.old.outs ++ front) × AreToLanes front × ((s : State) → IsIn s machine.old → CommandServed outbox.old.at session s command.now (option_map (λ id. id.now) id.entry) front machine.new)) }
+    ensures left { OnErr result ((s : State) → IsIn s machine.old → CommandLeft outbox.old.at session s command.now (option_map (λ id. id.now) id.entry) machine.new) }
+    ensures wired { OnOk result (IsWired machine.new) }
+    ensures lasts { machine.new.out_of_memory ≡ machine.old.out_of_memory }
+    ensures moment { outbox.new.at ≡ outbox.old.at }
 {
-    match machine.perform(sending.alloc, command, id, steps) {
-        Ok(reply) => {
-            let ends = reply.ends;
-            let sent = send_reply(machine, Lane::Session(session), reply, sending);
-            machine.conclude(ends);
-            sent
-        }
-        Err(AllocError) => sending.tell_want(session, id),
-    }
+    reply_to_command(machine, session, command, id, outbox, steps)?;
+    machine.settle_command(outbox.alloc, command, steps)
 }
 
 /// An item of a session is served, unless the run has ended.
@@ -208,29 +242,31 @@ fn serve_item<L: Ledger>(
     machine: &mut Core,
     session: u8,
     item: &Item,
-    sending: &mut Sending,
+    outbox: &mut Outbox,
     steps: &mut Steps<L>,
 ) -> Result<(), AllocError>
-    requires { session < SESSIONS }
-    ensures served { OnOk result ((front : List Message) × (sending.new.outs ≡ sending.old.outs ++ front) × AreToLanes front × ((s : State) → IsIn s machine.old → ServesTo sending.old.at session s (item.now ∷ []) front machine.new)) }
-    ensures left { OnErr result ((s : State) → IsIn s machine.old → ServesFront sending.old.at session s (item.now ∷ []) machine.new) }
-    ensures lasts { machine.new.spent ≡ machine.old.spent }
-    ensures moment { sending.new.at ≡ sending.old.at }
+    requires session { session < SESSIONS }
+    requires wired { IsWired machine.old }
+    ensures served { OnOk result ((front : List Message) × (outbox.new.outs ≡ outbox.old.outs ++ front) × AreToLanes front × ((s : State) → IsIn s machine.old → ServesTo outbox.old.at session s (item.now ∷ []) front machine.new)) }
+    ensures left { OnErr result ((s : State) → IsIn s machine.old → ServesFront outbox.old.at session s (item.now ∷ []) machine.new) }
+    ensures wired { OnOk result (IsWired machine.new) }
+    ensures lasts { machine.new.out_of_memory ≡ machine.old.out_of_memory }
+    ensures moment { outbox.new.at ≡ outbox.old.at }
 {
     if machine.ended() {
         return Ok(());
     }
-    match machine.heed(sending.alloc, session, item)? {
+    match machine.interpret(outbox.alloc, session, item)? {
         SessionAct::Answer(code, id) => {
-            let text = error_text(sending.alloc, id.as_ref(), code)?;
-            sending.push(Lane::Session(session), text)?;
+            let text = error_text(outbox.alloc, id.as_ref(), code)?;
+            outbox.push(Lane::Session(session), text)?;
         }
         SessionAct::Negotiated(id) => {
-            let text = return_written(sending.alloc, id.as_ref(), EMPTY)?;
-            sending.push(Lane::Session(session), text)?;
+            let text = return_written(outbox.alloc, id.as_ref(), EMPTY)?;
+            outbox.push(Lane::Session(session), text)?;
         }
         SessionAct::Do(command, id) => {
-            serve_command(machine, session, &command, id.as_ref(), sending, steps)?;
+            serve_command(machine, session, &command, id.as_ref(), outbox, steps)?;
         }
     }
     Ok(())
@@ -245,43 +281,64 @@ pub(crate) fn serve_items<L: Ledger>(
     items: &[Item],
     steps: &mut Steps<L>,
 ) -> Result<Outs, AllocError>
-    requires { session < SESSIONS }
+    requires session { session < SESSIONS }
+    requires wired { IsWired machine.old }
     ensures served { IfOk result (λ outs. (s : State) → IsIn s machine.old → ServesTo at session s items.now outs machine.new) }
     ensures left { OnErr result ((s : State) → IsIn s machine.old → ServesFront at session s items.now machine.new) }
     ensures lanes { IfOk result AreToLanes }
-    ensures lasts { machine.new.spent ≡ machine.old.spent }
+    ensures wired { OnOk result (IsWired machine.new) }
+    ensures lasts { machine.new.out_of_memory ≡ machine.old.out_of_memory }
 {
-    let mut sending = Sending::with_room(machine, alloc, at, items.len())?;
+    let mut outbox = Outbox::with_room(machine, alloc, at, items.len())?;
     for item in items {
-        serve_item(machine, session, item, &mut sending, steps)?;
+        serve_item(machine, session, item, &mut outbox, steps)?;
     }
-    Ok(sending.into_outs())
+    Ok(outbox.into_outs())
 }
 
-/// A line of the guest is served, unless the run has ended.
-fn serve_line<L: Ledger>(
+/// A line of the guest is answered, unless the run has ended. The interrupt lines are then as they were.
+fn reply_to_line<L: Ledger>(
     machine: &mut Core,
     line: &Chars,
-    sending: &mut Sending,
+    outbox: &mut Outbox,
     steps: &mut Steps<L>,
 ) -> Result<(), AllocError>
-    ensures served { OnOk result ((front : List Message) × (sending.new.outs ≡ sending.old.outs ++ front) × AreToLanes front × ((s : State) → IsIn s machine.old → LinesTo sending.old.at s (line.now ∷ []) front machine.new)) }
-    ensures left { OnErr result ((s : State) → IsIn s machine.old → LinesFront sending.old.at s (line.now ∷ []) machine.new) }
-    ensures lasts { machine.new.spent ≡ machine.old.spent }
-    ensures moment { sending.new.at ≡ sending.old.at }
+    requires { IsWired machine.old }
+    ensures served { OnOk result ((front : List Message) × (outbox.new.outs ≡ outbox.old.outs ++ front) × AreToLanes front × ((s : State) → IsIn s machine.old → LinesTo outbox.old.at s (line.now ∷ []) front machine.new)) }
+    ensures left { OnErr result ((s : State) → IsIn s machine.old → LinesFront outbox.old.at s (line.now ∷ []) machine.new) }
+    ensures lasts { machine.new.out_of_memory ≡ machine.old.out_of_memory }
+    ensures moment { outbox.new.at ≡ outbox.old.at }
 {
     if machine.ended() {
         return Ok(());
     }
-    match machine.hear(sending.alloc, without_return(line.as_slice()), steps) {
+    match machine.hear(outbox.alloc, without_return(line.as_slice()), steps) {
         Ok(reply) => {
             let ends = reply.ends;
-            let sent = send_reply(machine, Lane::Guest, reply, sending);
+            let sent = send_reply(machine, Lane::Guest, reply, outbox);
             machine.conclude(ends);
             sent
         }
-        Err(AllocError) => sending.tell_guest_want(),
+        Err(AllocError) => outbox.send_guest_memory_error(),
     }
+}
+
+/// A line of the guest is served: it is answered, and the interrupt lines are those of the board that it leaves.
+fn serve_line<L: Ledger>(
+    machine: &mut Core,
+    line: &Chars,
+    outbox: &mut Outbox,
+    steps: &mut Steps<L>,
+) -> Result<(), AllocError>
+    requires { IsWired machine.old }
+    ensures served { OnOk result ((front : List Message) × (outbox.new.outs ≡ outbox.old.outs ++ front) × AreToLanes front × ((s : State) → IsIn s machine.old → LinesTo outbox.old.at s (line.now ∷ []) front machine.new)) }
+    ensures left { OnErr result ((s : State) → IsIn s machine.old → LinesFront outbox.old.at s (line.now ∷ []) machine.new) }
+    ensures wired { OnOk result (IsWired machine.new) }
+    ensures lasts { machine.new.out_of_memory ≡ machine.old.out_of_memory }
+    ensures moment { outbox.new.at ≡ outbox.old.at }
+{
+    reply_to_line(machine, line, outbox, steps)?;
+    machine.settle(outbox.alloc, steps)
 }
 
 /// Lines of the guest are served in turn.
@@ -292,14 +349,16 @@ pub(crate) fn serve_lines<L: Ledger>(
     lines: &[Chars],
     steps: &mut Steps<L>,
 ) -> Result<Outs, AllocError>
+    requires { IsWired machine.old }
     ensures served { IfOk result (λ outs. (s : State) → IsIn s machine.old → LinesTo at s lines.now outs machine.new) }
     ensures left { OnErr result ((s : State) → IsIn s machine.old → LinesFront at s lines.now machine.new) }
     ensures lanes { IfOk result AreToLanes }
-    ensures lasts { machine.new.spent ≡ machine.old.spent }
+    ensures wired { OnOk result (IsWired machine.new) }
+    ensures lasts { machine.new.out_of_memory ≡ machine.old.out_of_memory }
 {
-    let mut sending = Sending::new(alloc, at);
+    let mut outbox = Outbox::new(alloc, at);
     for line in lines {
-        serve_line(machine, line, &mut sending, steps)?;
+        serve_line(machine, line, &mut outbox, steps)?;
     }
-    Ok(sending.into_outs())
+    Ok(outbox.into_outs())
 }

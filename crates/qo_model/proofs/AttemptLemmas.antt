@@ -9,7 +9,7 @@ use Rattle.std.proofs.lemmas.List.{map-append}
 use Rattle.std.proofs.lemmas.List.Elements.{filter-append}
 use Rattle.std.proofs.lemmas.List.Folds.{find-append}
 use Rattle.std.proofs.lemmas.List.Sums.{sum_by-cons, sum_by-append}
-use Rattle.qo_model.specs.Board.{held}
+use Rattle.qo_model.specs.Board.{referent}
 use Rattle.qo_model.proofs.ReleaseLemmas.{end_of, end_of-first, end_of-none, end_of-some}
 use Rattle.qo_model.proofs.ReleaseRulesLemmas.{after-free}
 use Rattle.qo_model.proofs.StepLemmas.{drop-record, found-birth, found_at, found-edited}
@@ -25,7 +25,7 @@ pub record LowRecord (n : ℕ) (r : Record) : Type 0 where
 
 -- a slot that holds nothing, and sees at most what was there before
 pub record BareSlot (n : ℕ) (s : Slot) : Type 0 where
-  pub empty : held s ≡ None
+  pub empty : referent s ≡ None
   pub low : LowSlot n s
 
 -- a further object
@@ -34,16 +34,16 @@ pub record BareKid (n : ℕ) (k : Record) : Type 0 where
   pub no_path : k.kept_path ≡ None
 
 -- the slots of the device and its further objects side by side: each child slot names the next further object, and no slot holds another
-abbrev pub IsStar : ℕ → ℕ → List (List ℕ × Slot) → List Record → Type 0
-IsStar n lo [] [] = ⊤
-IsStar n lo [] (k ∷ ls) = ⊥
-IsStar n lo ((name, child m) ∷ ss) [] = ⊥
-IsStar n lo ((name, child m) ∷ ss) (k ∷ ls) = (lo < m) × (k.birth ≡ m) × (BareKid n k × IsStar n m ss ls)
-IsStar n lo ((name, strong t None) ∷ ss) ls = IsStar n lo ss ls
-IsStar n lo ((name, strong t (Some m)) ∷ ss) ls = ⊥
-IsStar n lo ((name, weak t target) ∷ ss) ls = LowSlot n (weak t target) × IsStar n lo ss ls
-IsStar n lo ((name, plain v) ∷ ss) ls = IsStar n lo ss ls
-IsStar n lo ((name, alias m p) ∷ ss) ls = IsStar n lo ss ls
+abbrev pub HasFurtherObjects : ℕ → ℕ → List (List ℕ × Slot) → List Record → Type 0
+HasFurtherObjects n lo [] [] = ⊤
+HasFurtherObjects n lo [] (k ∷ ls) = ⊥
+HasFurtherObjects n lo ((name, child m) ∷ ss) [] = ⊥
+HasFurtherObjects n lo ((name, child m) ∷ ss) (k ∷ ls) = (lo < m) × (k.birth ≡ m) × (BareKid n k × HasFurtherObjects n m ss ls)
+HasFurtherObjects n lo ((name, strong t None) ∷ ss) ls = HasFurtherObjects n lo ss ls
+HasFurtherObjects n lo ((name, strong t (Some m)) ∷ ss) ls = ⊥
+HasFurtherObjects n lo ((name, weak t target) ∷ ss) ls = LowSlot n (weak t target) × HasFurtherObjects n lo ss ls
+HasFurtherObjects n lo ((name, plain v) ∷ ss) ls = HasFurtherObjects n lo ss ls
+HasFurtherObjects n lo ((name, alias m p) ∷ ss) ls = HasFurtherObjects n lo ss ls
 
 -- slots that name nothing
 abbrev pub AreQuiet : List (List ℕ × Slot) → Type 0
@@ -158,7 +158,7 @@ slot-here c m i ss o is e = ap (λ (xs : List (List ℕ × Slot)). option_map (�
 
 -- an object that holds nothing ends
 bare-end : (ss : List (List ℕ × Slot)) (c : Board) (m : ℕ) (pre : List (List ℕ × Slot)) → slots_at c m ≡ pre ++ ss
-    → AllByRecursion (λ (s : List ℕ × Slot). held s.1 ≡ None) ss → end_of c m (length pre) ≡ finish c m
+    → AllByRecursion (λ (s : List ℕ × Slot). referent s.1 ≡ None) ss → end_of c m (length pre) ≡ finish c m
 bare-end [] c m pre is bare = end_of-none c m (length pre) (slot-here c m (length pre) (pre ++ []) None is (none-at pre))
 bare-end (s ∷ ss) c m pre is bare = step (λ c' pre' e. bare-end ss c' m pre' e bare.1) s.1 refl bare.0
   where
@@ -168,7 +168,7 @@ bare-end (s ∷ ss) c m pre is bare = step (λ c' pre' e. bare-end ss c' m pre' 
     Rest : Type 0
     Rest = (c' : Board) (pre' : List (List ℕ × Slot)) → slots_at c' m ≡ pre' ++ ss → end_of c' m (length pre') ≡ finish c' m
 
-    go : Rest → (x left : Slot) → s.1 ≡ x → held x ≡ None → emptied x ≡ Some left → next_index x (length pre) ≡ suc (length pre)
+    go : Rest → (x left : Slot) → s.1 ≡ x → referent x ≡ None → emptied x ≡ Some left → next_index x (length pre) ≡ suc (length pre)
         → end_of c m (length pre) ≡ finish c m
     go rest x left e none leaves next =
         let c' : Board = drop_slot c m (length pre) in
@@ -176,17 +176,17 @@ bare-end (s ∷ ss) c m pre is bare = step (λ c' pre' e. bare-end ss c' m pre' 
         let slots : slots_at c' m ≡ pre' ++ ss = drop-own c m (length pre) ∙ ap (without_hold (length pre)) is ∙ drop-here pre ss s left (ap emptied e ∙ leaves)
         ∙ sym (append_assoc pre ((s.0, left) ∷ []) ss) in
         let place : next_index s.1 (length pre) ≡ length pre' = ap (λ (y : Slot). next_index y (length pre)) e ∙ next ∙ sym (length-more pre (s.0, left)) in
-        let after_it : after finalize c' (held s.1) ≡ c' = ap (after finalize c') (ap held e ∙ none) in
+        let after_it : after finalize c' (referent s.1) ≡ c' = ap (after finalize c') (ap referent e ∙ none) in
         end_of-some c m (length pre) s.1 at
         ∙ ap (λ (x : Board). end_of x m (next_index s.1 (length pre))) after_it
         ∙ ap (λ (i : ℕ). end_of c' m i) place
         ∙ rest c' pre' slots
         ∙ finish-drop c m (length pre)
 
-    step : Rest → (x : Slot) → s.1 ≡ x → held s.1 ≡ None → end_of c m (length pre) ≡ finish c m
+    step : Rest → (x : Slot) → s.1 ≡ x → referent s.1 ≡ None → end_of c m (length pre) ≡ finish c m
     step rest (plain v) e none = go rest (plain v) (plain v) e refl refl refl
-    step rest (child k) e none = absurd (let clash : Some k ≡ None = sym (ap held e) ∙ none in cc)
-    step rest (strong t target) e none = go rest (strong t target) (strong t None) e (sym (ap held e) ∙ none) refl refl
+    step rest (child k) e none = absurd (let clash : Some k ≡ None = sym (ap referent e) ∙ none in cc)
+    step rest (strong t target) e none = go rest (strong t target) (strong t None) e (sym (ap referent e) ∙ none) refl refl
     step rest (weak t target) e none = go rest (weak t target) (weak t None) e refl refl refl
     step rest (alias k name) e none = go rest (alias k name) (alias k name) e refl refl refl
 
@@ -270,13 +270,13 @@ bare-low n [] h = tt
 bare-low n (s ∷ ss) h = (h.0.low, bare-low n ss h.1)
 
 bare-empty : (n : ℕ) (ss : List (List ℕ × Slot)) → AllByRecursion (λ (s : List ℕ × Slot). BareSlot n s.1) ss
-    → AllByRecursion (λ (s : List ℕ × Slot). held s.1 ≡ None) ss
+    → AllByRecursion (λ (s : List ℕ × Slot). referent s.1 ≡ None) ss
 bare-empty n [] h = tt
 bare-empty n (s ∷ ss) h = (h.0.empty, bare-empty n ss h.1)
 
 -- what is left of a star names nothing at or below the further objects that are gone
 
-star-forgotten : (n m lo : ℕ) (ss : List (List ℕ × Slot)) (ls : List Record) → n ≤ m → IsStar n lo ss ls
+star-forgotten : (n m lo : ℕ) (ss : List (List ℕ × Slot)) (ls : List Record) → n ≤ m → HasFurtherObjects n lo ss ls
     → map (λ (s : List ℕ × Slot). (s.0, forgotten_in m s.1)) ss ≡ ss
 star-forgotten n m lo [] [] le h = refl
 star-forgotten n m lo [] (k ∷ ls) le h = absurd h
@@ -291,7 +291,7 @@ star-forgotten n m lo ((name, weak t target) ∷ ss) ls le h =
 star-forgotten n m lo ((name, plain v) ∷ ss) ls le h = ap (λ (xs : List (List ℕ × Slot)). (name, plain v) ∷ xs) (star-forgotten n m lo ss ls le h)
 star-forgotten n m lo ((name, alias x p) ∷ ss) ls le h = ap (λ (xs : List (List ℕ × Slot)). (name, alias x p) ∷ xs) (star-forgotten n m lo ss ls le h)
 
-pub star-unheld : (n m lo : ℕ) (ss : List (List ℕ × Slot)) (ls : List Record) → m ≤ lo → IsStar n lo ss ls
+pub star-unheld : (n m lo : ℕ) (ss : List (List ℕ × Slot)) (ls : List Record) → m ≤ lo → HasFurtherObjects n lo ss ls
     → count_by (λ (s : List ℕ × Slot). holds_it m s.1) ss ≡ 0
 star-unheld n m lo [] [] le h = refl
 star-unheld n m lo [] (k ∷ ls) le h = absurd h
@@ -316,7 +316,7 @@ abbrev pub AreKids : ℕ → ℕ → List Record → Type 0
 AreKids n lo [] = ⊤
 AreKids n lo (k ∷ ls) = (lo < k.birth) × (BareKid n k × AreKids n k.birth ls)
 
-pub star-kids : (n lo : ℕ) (ss : List (List ℕ × Slot)) (ls : List Record) → IsStar n lo ss ls → AreKids n lo ls
+pub star-kids : (n lo : ℕ) (ss : List (List ℕ × Slot)) (ls : List Record) → HasFurtherObjects n lo ss ls → AreKids n lo ls
 star-kids n lo [] [] h = tt
 star-kids n lo [] (k ∷ ls) h = absurd h
 star-kids n lo ((name, child x) ∷ ss) [] h = absurd h
@@ -469,7 +469,7 @@ module _ (b : Board) (d : Record) (olds : AllByRecursion (LowRecord d.birth) b.r
 
   -- nothing refers to a further object whose child slot was let go
   kid-free : (pre ss : List (List ℕ × Slot)) (k : Record) (ls : List Record) (notes : List Note) → n < k.birth → AreQuiet pre → BareKid n k
-      → IsStar n k.birth ss ls → refs (star b d (pre ++ ss) (k ∷ ls) notes) k.birth ≡ 0
+      → HasFurtherObjects n k.birth ss ls → refs (star b d (pre ++ ss) (k ∷ ls) notes) k.birth ≡ 0
   kid-free pre ss k ls notes up quiet bare is =
       let le : n ≤ k.birth = omega arith in
       let f : Record → ℕ = refs_in k.birth in
@@ -496,7 +496,7 @@ module _ (b : Board) (d : Record) (olds : AllByRecursion (LowRecord d.birth) b.r
       )
 
   abbrev Ends : List (List ℕ × Slot) → Type 0
-  Ends ss = (lo : ℕ) (ls : List Record) (pre : List (List ℕ × Slot)) (notes : List Note) → n ≤ lo → AreQuiet pre → IsStar n lo ss ls
+  Ends ss = (lo : ℕ) (ls : List Record) (pre : List (List ℕ × Slot)) (notes : List Note) → n ≤ lo → AreQuiet pre → HasFurtherObjects n lo ss ls
       → end_of (star b d (pre ++ ss) ls notes) n (length pre) ≡ record b { notes = notes ++ flat_map final_notes ls ++ final_notes d }
 
   at-first : (s : List ℕ × Slot) (ss : List (List ℕ × Slot)) (ls : List Record) (pre : List (List ℕ × Slot)) (notes : List Note)
@@ -505,9 +505,9 @@ module _ (b : Board) (d : Record) (olds : AllByRecursion (LowRecord d.birth) b.r
       slot-here (star b d (pre ++ s ∷ ss) ls notes) n (length pre) (pre ++ s ∷ ss) (Some s) (star-slots (pre ++ s ∷ ss) ls notes) (here-at pre ss s)
 
   -- a slot that holds nothing
-  past-slot : (s : List ℕ × Slot) (ss : List (List ℕ × Slot)) (left : Slot) → Ends ss → held s.1 ≡ None → emptied s.1 ≡ Some left
+  past-slot : (s : List ℕ × Slot) (ss : List (List ℕ × Slot)) (left : Slot) → Ends ss → referent s.1 ≡ None → emptied s.1 ≡ Some left
       → target_of left ≡ None → ((i : ℕ) → next_index s.1 i ≡ suc i) → (lo : ℕ) (ls : List Record) (pre : List (List ℕ × Slot)) (notes : List Note)
-      → n ≤ lo → AreQuiet pre → AreKids n n ls → IsStar n lo ss ls
+      → n ≤ lo → AreQuiet pre → AreKids n n ls → HasFurtherObjects n lo ss ls
       → end_of (star b d (pre ++ s ∷ ss) ls notes) n (length pre) ≡ record b { notes = notes ++ flat_map final_notes ls ++ final_notes d }
   past-slot s ss left ends none leaves quiet_left next lo ls pre notes low quiet kids is =
       let c : Board = star b d (pre ++ s ∷ ss) ls notes in
@@ -522,7 +522,8 @@ module _ (b : Board) (d : Record) (olds : AllByRecursion (LowRecord d.birth) b.r
   -- a child
   past-child : (name : List ℕ) (m : ℕ) (ss : List (List ℕ × Slot)) → Ends ss
       → (lo : ℕ) (k : Record) (ls : List Record) (pre : List (List ℕ × Slot)) (notes : List Note)
-      → n ≤ lo → AreQuiet pre → IsStar n lo ((name, child m) ∷ ss) (k ∷ ls) → end_of (star b d (pre ++ (name, child m) ∷ ss) (k ∷ ls) notes) n (length pre)
+      → n ≤ lo → AreQuiet pre → HasFurtherObjects n lo ((name, child m) ∷ ss) (k ∷ ls)
+      → end_of (star b d (pre ++ (name, child m) ∷ ss) (k ∷ ls) notes) n (length pre)
       ≡ record b { notes = notes ++ flat_map final_notes (k ∷ ls) ++ final_notes d }
   past-child name m ss ends lo k ls pre notes low quiet is =
       let s : List ℕ × Slot = (name, child m) in
@@ -530,7 +531,7 @@ module _ (b : Board) (d : Record) (olds : AllByRecursion (LowRecord d.birth) b.r
       let up : lo < m = is.0 in
       let born : k.birth ≡ m = is.1 in
       let bare : BareKid n k = is.2.0 in
-      let star_left : IsStar n k.birth ss ls = subst (λ (x : ℕ). IsStar n x ss ls) (sym born) is.2.1 in
+      let star_left : HasFurtherObjects n k.birth ss ls = subst (λ (x : ℕ). HasFurtherObjects n x ss ls) (sym born) is.2.1 in
       let above : n < k.birth = omega (arith, up, born, low) in
       let kids : AreKids n k.birth ls = star-kids n k.birth ss ls star_left in
       let all : AreKids n n (k ∷ ls) = (above, (bare, kids)) in
@@ -572,6 +573,6 @@ module _ (b : Board) (d : Record) (olds : AllByRecursion (LowRecord d.birth) b.r
       notes low quiet (kids-low n lo ls low (star-kids n lo ss ls is)) is
 
   -- a device that comes free ends, with its further objects before it, in slot order, and all else is as before
-  pub attempt-ends : (ss : List (List ℕ × Slot)) (ls : List Record) (notes : List Note) → IsStar n n ss ls
+  pub attempt-ends : (ss : List (List ℕ × Slot)) (ls : List Record) (notes : List Note) → HasFurtherObjects n n ss ls
       → finalize (star b d ss ls notes) n ≡ record b { notes = notes ++ flat_map final_notes ls ++ final_notes d }
   attempt-ends ss ls notes is = end_of-first (star b d ss ls notes) n ∙ ends-all ss n ls [] notes (omega arith) tt is

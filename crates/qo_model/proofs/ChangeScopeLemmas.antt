@@ -1,7 +1,7 @@
 -- The commands on objects leave all but objects, births, pins, notes and events.
 use Rattle.std.proofs.Common.{◌≡◌, refl, ◌∙◌, ℕ, Bool, true, false, ◌==◌, List, [], ◌∷◌, length, Option, Some, None}
 use Rattle.qo_model.proofs.Common.{OBJECTS_BIRTH, Code, TypeId, Val, Board, Slot, slot_at, slots_at, point, set, Change, added, deleted, wrote, severed, after_changes, after_write, changed, Given, added_as, attempted_as, barred_by, object_add, object_del, sever, severed_from, with_attempt, pointed_at, relinked, write, refs, after, drop_slot, finalize, let_go, pin, unpin, Leaves, TypeInfo, type_named, Stays, StaysLaw}
-use Rattle.qo_model.specs.Board.{held}
+use Rattle.qo_model.specs.Board.{referent}
 use Rattle.qo_model.proofs.ComesToLemmas.{addition-comes, deletion-comes, sever-comes, severed-comes}
 use Rattle.qo_model.proofs.WrittenLemmas.{write-comes}
 use Rattle.qo_model.proofs.ReleaseScopeLemmas.{let_go-leaves, release_leaves, unpin-leaves}
@@ -75,7 +75,7 @@ relinked-stays b n i target = go (slot_at b n i) refl
     go None p = rw (relinked, p) (stays-none b)
     go (Some s) p =
         let c : Board = pointed_at target n i (drop_slot b n i) in
-        rw (relinked, p) (stays-then b c (after finalize c (held s)) (pointed-stays b n i target) (after-stays c (held s)))
+        rw (relinked, p) (stays-then b c (after finalize c (referent s)) (pointed-stays b n i target) (after-stays c (referent s)))
 
 write-stays : (b : Board) (n : ℕ) (name : List ℕ) (v : Val) → Stays b (after_write b (write b n name v))
 write-stays b n name v = write-comes (Stays b) b (stays-none b) n name v (λ i t p kind e may. record {

@@ -1,7 +1,7 @@
 -- What `qom-set` does: it writes as the command that adds an object does, or the number of a clock, no wider than its property.
 use Rattle.std.proofs.Common.{◌≡◌, refl, subst, ℕ, ◌^◌, ◌-◌, ◌%◌, ◌<◌, ◌≤◌, Bool, true, false, ◌&&◌, nat_le, cond, List, Option, Some, None, is_some, Result, Ok, Err, arith, rules}
 use Rattle.qo_model.proofs.Common.{◌==◌, AllByRecursion, bytes_eq, admits, Code, E17, E19, TypeId, PropType, Val, write_at, Board, Slot, kind_of, slot_named, plain, child, strong, weak, alias, clock_scaled, clock_set, clock_property_written, in_slot, is_set, role_written, led_by, led_to, number_written, only_set, own_property, set_property, set_row, typed_written, div_of, mul_of, object_at, property_named, write, property_name, slots_of, types, uint64, up_to}
-use Rattle.qo_model.specs.declared.properties.Mark.{Mark}
+use Rattle.qo_model.specs.declared.properties.Access.{Access}
 use Rattle.qo_model.specs.declared.properties.Property.{Property}
 use Rattle.qo_model.specs.declared.properties.PropertyName.{PropertyName}
 use Rattle.qo_model.specs.declared.properties.PropertyRole.{PropertyRole}
@@ -11,7 +11,7 @@ use Rattle.qo_values.proofs.ListLemmas.{found-has}
 use Rattle.qo_values.specs.declared.kinds.TypeId.TheVariants as type
 use Rattle.qo_values.specs.declared.properties.Val.TheVariants as val
 use Rattle.qo_values.proofs.EachLemmas.{each}
-use Rattle.qo_model.specs.declared.properties.Mark.TheVariants as mark
+use Rattle.qo_model.specs.declared.properties.Access.TheVariants as access
 use Rattle.qo_model.specs.declared.properties.PropertyName.TheVariants as prop
 use Rattle.qo_model.specs.declared.properties.PropertyRole.TheVariants as row
 
@@ -26,12 +26,12 @@ abbrev FitsKind : PropertyName → PropertyRole → Type 0
 FitsKind name (row.Plain t first) = (n : ℕ) → admits t (val.Uint n) ≡ true → Fits name n
 FitsKind name kind = Unit {0}
 
-abbrev FitsMark : Property → Mark → Type 0
-FitsMark p mark.Set = FitsKind p.name p.role
-FitsMark p m = Unit {0}
+abbrev FitsAccess : Property → Access → Type 0
+FitsAccess p access.Set = FitsKind p.name p.role
+FitsAccess p m = Unit {0}
 
 abbrev FitsRow : Property → Type 0
-FitsRow p = FitsMark p p.mark
+FitsRow p = FitsAccess p p.access
 
 below : (n hi : ℕ) (t : Bool) → (nat_le 0 n && nat_le n hi && t) ≡ true → n ≤ hi
 below n hi t e = go (nat_le 0 n) (nat_le n hi) refl e
@@ -57,13 +57,13 @@ abbrev FitsProperty : Property → Type 0
 FitsProperty p = FitsKind p.name p.role
 
 only-fits : (q p : Property) → FitsRow q → only_set q ≡ Some p → FitsProperty p
-only-fits q p fits e = go q.mark fits e
+only-fits q p fits e = go q.access fits e
   where
-    go : (m : Mark) → FitsMark q m → cond (is_set m) (Some q) None ≡ Some p → FitsProperty p
-    go mark.Set f is = let same : q ≡ p = cc in subst FitsProperty same f
-    go mark.Never f is = cc
-    go mark.Add f is = cc
-    go mark.Both f is = cc
+    go : (m : Access) → FitsAccess q m → cond (is_set m) (Some q) None ≡ Some p → FitsProperty p
+    go access.Set f is = let same : q ≡ p = cc in subst FitsProperty same f
+    go access.Never f is = cc
+    go access.Add f is = cc
+    go access.Both f is = cc
 
 row-fits : (b : Board) (n : ℕ) (name : List ℕ) (p : Property) → set_row b n name ≡ Some p → FitsProperty p
 row-fits b n name p e = of (kind_of b n) e

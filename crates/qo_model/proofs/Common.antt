@@ -52,7 +52,7 @@ pub use Rattle.qo_model.specs.Opening.{first_slot, first_value, fresh_record, fr
 unfoldable pub use Rattle.qo_model.specs.Opening.{opening_board}
 pub use Rattle.qo_model.specs.Paths.{Resolution, attached_turn, births, canonical, child_of, children_in, children_of, components, ends, found, is_absolute, is_child, is_of, missing, only_of, path_turn, place_of, resolve, resolve_absolute, several, starts, the_one, walk}
 unfoldable pub use Rattle.qo_model.specs.Paths.{attached, path_down_to}
-pub use Rattle.qo_model.specs.Plug.{Plugged, Spot, Wanted, acted_all, addressed_at, aliased, at_stage, backend_of, barred_early, barred_late, begun_notes, born_from, bus_barred, bus_births, bus_for, bus_slot_for, bus_type, claims_ring, clocked, code_in, container_barred, counted, cut_attempt, cut_order, device_last, did, dimms, drafted, ended_notes, fitted, further_in, further_of, has_backend, has_ring, id_barred, id_refused, is_bus, is_dimm, is_free, joined, kind_barred, link_named, name_for, notice_barred, notified_plug, number_for, objects_in, ok_in, ok_or_zero, owned, parent_for, passed, passed_notes, place_barred, plug_as, plug_attempt, plug_by, plug_late, properties_made, property_made, range_barred, range_for, range_in, range_of, ranges_of, realize_barred, registers_on, ring_barred, room_barred, size_of, source_for, spot_of, started, stood, target_for, text_for, type_barred, types_in, valued, with_body_of, with_device, with_ended, with_given, with_kid, with_new, with_path, with_plugged, with_source}
+pub use Rattle.qo_model.specs.Plug.{Plugged, Resources, Wanted, acted_all, addressed_at, aliased, at_stage, backend_of, barred_early, barred_late, begun_notes, born_from, bus_barred, bus_births, bus_for, bus_slot_for, bus_type, claims_ring, clocked, code_in, container_barred, counted, cut_attempt, cut_order, device_last, did, dimms, drafted, ended_notes, fitted, further_in, further_of, has_backend, has_ring, id_barred, id_refused, is_bus, is_dimm, is_free, joined, kind_barred, link_named, name_for, notice_barred, notified_plug, number_for, objects_in, ok_in, ok_or_zero, owned, parent_for, passed, passed_notes, place_barred, plug_as, plug_attempt, plug_by, plug_late, properties_made, property_made, range_barred, range_for, range_in, range_of, ranges_of, realize_barred, registers_on, resources_of, ring_barred, room_barred, size_of, source_for, started, stood, target_for, text_for, type_barred, types_in, valued, with_body_of, with_device, with_ended, with_given, with_kid, with_new, with_path, with_plugged, with_source}
 unfoldable pub use Rattle.qo_model.specs.Plug.{plug}
 pub use Rattle.qo_model.specs.Properties.{link_target, link_written, linked, may_set, object_at, pointed_at, property_named, relinked, value_of, write, written, written_by}
 pub use Rattle.qo_model.specs.References.{holds_it, refs, refs_in}
@@ -63,7 +63,7 @@ pub use Rattle.qo_model.specs.ReleaseInduction.{Keeps, KeepsRelease, Leaves, See
 pub use Rattle.qo_model.specs.ReleaseNotes.{NotesEnds, finals_of, notes_on}
 pub use Rattle.qo_model.specs.ReleaseRules.{Finalizes, SlotsFrom, all_slots, freed, kept, past}
 pub use Rattle.qo_model.specs.ReleaseWork.{IsLinked, IsWork, StackTurn, Turns, rest, seen_in, thinned}
-pub use Rattle.qo_model.specs.Reset.{below, count, is_deep, is_out, phased, post_turn}
+pub use Rattle.qo_model.specs.Reset.{below, count, exceeds_depth, is_not_in_reset, phased, post_turn}
 unfoldable pub use Rattle.qo_model.specs.Reset.{plugged, post, pulse, released}
 pub use Rattle.qo_model.specs.RowNames.{property_name}
 pub use Rattle.qo_model.specs.SoundAliases.{PassesTo, is_clock_slot, is_open, lasting}

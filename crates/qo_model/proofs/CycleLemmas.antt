@@ -5,7 +5,7 @@ use Rattle.std.proofs.lemmas.Bool.{eq-eqb}
 use Rattle.std.proofs.lemmas.List.Sums.{sum_by-cons}
 use Rattle.std.proofs.lemmas.Map.Made.{length-le_from_is_member}
 use Rattle.std.proofs.Math.Bool.{or-true}
-use Rattle.qo_model.specs.Board.{held}
+use Rattle.qo_model.specs.Board.{referent}
 use Rattle.qo_model.proofs.AmongLemmas.{among-all, among-apart}
 use Rattle.qo_model.proofs.EditLemmas.{sum-held, one_is}
 use Rattle.qo_model.proofs.GraphLemmas.{among-above, births-graph_of, births_at}
@@ -16,7 +16,7 @@ pub refs-graph_of : (b : Board) (n : ℕ) → refs (graph_of b) n ≡ refs b n
 unfolding graph_of
 refs-graph_of b n = let same : sum_by (refs_in n) (map without_values b.records) ≡ sum_by (refs_in n) b.records = go b.records in omega (arith, same)
   where
-    slot : (s : Slot) → held (without_value s) ≡ held s
+    slot : (s : Slot) → referent (without_value s) ≡ referent s
     slot (plain v) = refl
     slot (child m) = refl
     slot (strong t target) = refl
@@ -35,14 +35,14 @@ refs-graph_of b n = let same : sum_by (refs_in n) (map without_values b.records)
 
 -- the objects that slots hold
 abbrev held_in : List (List ℕ × Slot) → List ℕ
-held_in slots = filter_map (λ (s : List ℕ × Slot). held s.1) slots
+held_in slots = filter_map (λ (s : List ℕ × Slot). referent s.1) slots
 
 -- where slots hold n so often, n is among what they hold
 counted-held : (n : ℕ) (slots : List (List ℕ × Slot)) → 0 < sum_by (one_of n) slots → among (held_in slots) n ≡ true
 counted-held n [] h = absurd (omega arith)
-counted-held n (s ∷ slots) h = go (held s.1) refl (counted-held n slots)
+counted-held n (s ∷ slots) h = go (referent s.1) refl (counted-held n slots)
   where
-    go : (o : Option ℕ) → held s.1 ≡ o → (0 < sum_by (one_of n) slots → among (held_in slots) n ≡ true) → among (held_in (s ∷ slots)) n ≡ true
+    go : (o : Option ℕ) → referent s.1 ≡ o → (0 < sum_by (one_of n) slots → among (held_in slots) n ≡ true) → among (held_in (s ∷ slots)) n ≡ true
     go None p rest =
         let none : one_of n s ≡ 0 = rw (holds_it, p) refl in
         rw p (rest (omega (arith, sum_by-cons (one_of n) s slots)))

@@ -3,7 +3,7 @@ use Rattle.std.proofs.Common.{◌≡◌, refl, ℕ, ◌^◌, ◌-◌, true, List
 use Rattle.qo_model.proofs.Common.{Code, E17, E18, E19, E20, E21, E22, E23, E24, E25, E26, E28, E29, E36, E38, E42, E45, E46, E47, MemoryBackend, Board, DeviceEvent, Slot, plain, strong, slots_at, add, cut, set, clock_scaled, clock_set, acted, clocks_below, period, depth_of, is_going, deed_word, deed_type, option_map_or, type_name, Given, object_add, opening_board, attached, births, path_down_to, Wanted, Plugged, plug, drop_slot, finish, finalize, finalize_within, let_go, pin, unpin, plugged, post, pulse, released, types, apart_within, detach, unrealize, least}
 use Rattle.qo_model.specs.declared.notes.Note.{Note}
 use Rattle.qo_values.specs.declared.properties.Val.TheVariants as val
-use Rattle.qo_model.specs.Reset.{held}
+use Rattle.qo_model.specs.Reset.{after_hold}
 use Rattle.qo_model.proofs.RowTerms.{wanted, then_set, then_scaled}
 
 -- a note, as its word, its birth and its type's name
@@ -25,7 +25,7 @@ one-notes : map told one.notes
     ∷ (codes "init", 11, codes "bus") ∷ (codes "init", 11, codes "slot-bus") ∷ (codes "realize", 9, []) ∷ (codes "realize", 11, []) ∷ (codes "enter", 11, [])
     ∷ (codes "enter", 9, []) ∷ (codes "hold", 11, []) ∷ (codes "hold", 9, []) ∷ (codes "exit", 11, []) ∷ (codes "exit", 9, []) ∷ []
 unfolding types opening_board path_down_to attached drop_slot finish finalize finalize_within let_go pin unpin add set cut acted period clocks_below depth_of
-    is_going plug plugged post held released pulse least
+    is_going plug plugged post after_hold released pulse least
 one-notes = refl
 
 -- another in its slot
@@ -34,7 +34,7 @@ taken = plug one (with ((codes "slot", val.Uint 0) ∷ []) (wanted (codes "slot-
 
 taken-code : taken.refusal ≡ Some (5, E29)
 unfolding types opening_board path_down_to attached drop_slot finish finalize finalize_within let_go pin unpin add set cut acted period clocks_below depth_of
-    is_going plug plugged post held released pulse least
+    is_going plug plugged post after_hold released pulse least
 taken-code = refl
 
 taken-notes : map told (drop 14 taken.board.notes) ≡ (codes "init", 12, codes "device") ∷ (codes "init", 12, codes "slot-device")
@@ -42,7 +42,7 @@ taken-notes : map told (drop 14 taken.board.notes) ≡ (codes "init", 12, codes 
     ∷ (codes "final", 13, codes "clock") ∷ (codes "final", 14, codes "slot-bus") ∷ (codes "final", 14, codes "bus") ∷ (codes "final", 12, codes "slot-bridge")
     ∷ (codes "final", 12, codes "slot-device") ∷ (codes "final", 12, codes "device") ∷ []
 unfolding types opening_board path_down_to attached drop_slot finish finalize finalize_within let_go pin unpin add set cut acted period clocks_below depth_of
-    is_going plug plugged post held released pulse least
+    is_going plug plugged post after_hold released pulse least
 taken-notes = refl
 
 -- one below the other, and the upper one removed
@@ -51,7 +51,7 @@ two = (plug one (on (codes "br/bus.0") (wanted (codes "slot-bridge") (codes "nb"
 
 two-births : births two ≡ 1 ∷ 2 ∷ 3 ∷ 4 ∷ 5 ∷ 6 ∷ 7 ∷ 8 ∷ 9 ∷ 10 ∷ 11 ∷ 12 ∷ 13 ∷ 14 ∷ []
 unfolding types opening_board path_down_to attached drop_slot finish finalize finalize_within let_go pin unpin add set cut acted period clocks_below depth_of
-    is_going plug plugged post held released pulse least
+    is_going plug plugged post after_hold released pulse least
 two-births = refl
 
 removed-notes : map told (drop 28 (detach two 9).notes) ≡ (codes "unrealize", 14, []) ∷ (codes "unrealize", 12, []) ∷ (codes "unrealize", 11, [])
@@ -60,17 +60,17 @@ removed-notes : map told (drop 28 (detach two 9).notes) ≡ (codes "unrealize", 
     ∷ (codes "final", 11, codes "slot-bus") ∷ (codes "final", 11, codes "bus") ∷ (codes "final", 10, codes "clock") ∷ (codes "final", 9, codes "slot-bridge")
     ∷ (codes "final", 9, codes "slot-device") ∷ (codes "final", 9, codes "device") ∷ []
 unfolding types opening_board path_down_to attached drop_slot finish finalize finalize_within let_go pin unpin add set cut acted period clocks_below depth_of
-    is_going plug plugged post held released pulse least unrealize apart_within detach
+    is_going plug plugged post after_hold released pulse least unrealize apart_within detach
 removed-notes = refl
 
 removed-events : map (λ (e : DeviceEvent). e.path) (detach two 9).events ≡ codes "/machine/peripheral/nb" ∷ codes "/machine/peripheral/br" ∷ []
 unfolding types opening_board path_down_to attached drop_slot finish finalize finalize_within let_go pin unpin add set cut acted period clocks_below depth_of
-    is_going plug plugged post held released pulse least unrealize apart_within detach
+    is_going plug plugged post after_hold released pulse least unrealize apart_within detach
 removed-events = refl
 
 removed-rest : (detach two 9).records ≡ opening_board.records
 unfolding types opening_board path_down_to attached drop_slot finish finalize finalize_within let_go pin unpin add set cut acted period clocks_below depth_of
-    is_going plug plugged post held released pulse least unrealize apart_within detach
+    is_going plug plugged post after_hold released pulse least unrealize apart_within detach
 removed-rest = refl
 
 -- bridges one below the other, up to the depth that is the limit
@@ -84,7 +84,7 @@ eight = deeper (codes "b8") (codes "b7/bus.0") (deeper (codes "b7") (codes "b6/b
 
 ninth : (plug eight (on (codes "b8/bus.0") (wanted (codes "slot-bridge") (codes "b9")))).refusal ≡ Some (5, E42)
 unfolding types opening_board path_down_to attached drop_slot finish finalize finalize_within let_go pin unpin add set cut acted period clocks_below depth_of
-    is_going plug plugged post held released pulse least unrealize apart_within detach
+    is_going plug plugged post after_hold released pulse least unrealize apart_within detach
 ninth = refl
 
 -- each refusal of the type, the id, the bus and the properties
@@ -109,21 +109,21 @@ refused-codes : map code_of
     ∷ []) ≡ Some (1, E20) ∷ Some (1, E21) ∷ Some (1, E22) ∷ Some (2, E23) ∷ Some (2, E24) ∷ Some (2, E24) ∷ Some (3, E26) ∷ Some (3, E25) ∷ Some (4, E17)
     ∷ Some (4, E18) ∷ Some (4, E19) ∷ Some (5, E28) ∷ Some (5, E38) ∷ Some (6, E36) ∷ []
 unfolding types opening_board path_down_to attached drop_slot finish finalize finalize_within let_go pin unpin add set cut acted period clocks_below depth_of
-    is_going plug plugged post held released pulse least unrealize apart_within detach
+    is_going plug plugged post after_hold released pulse least unrealize apart_within detach
 refused-codes = refl
 
 -- holds: a timer plugged below a held bridge, and both let go
 abbrev timed : Board
-timed = (plug (held one 9) (on (codes "br/bus.0") (wanted (codes "slot-timer") (codes "t")))).board
+timed = (plug (after_hold one 9) (on (codes "br/bus.0") (wanted (codes "slot-timer") (codes "t")))).board
 
-held-notes : map told (drop 14 (released (released (held timed 2) 9) 2).notes) ≡
+held-notes : map told (drop 14 (released (released (after_hold timed 2) 9) 2).notes) ≡
     (codes "enter", 11, []) ∷ (codes "enter", 9, []) ∷ (codes "hold", 11, []) ∷ (codes "hold", 9, [])
     ∷ (codes "init", 12, codes "device") ∷ (codes "init", 12, codes "slot-device") ∷ (codes "init", 12, codes "slot-timer") ∷ (codes "init", 13, codes "clock")
     ∷ (codes "realize", 12, []) ∷ (codes "enter", 12, []) ∷ (codes "hold", 12, [])
     ∷ (codes "enter", 6, []) ∷ (codes "enter", 7, []) ∷ (codes "enter", 2, []) ∷ (codes "hold", 6, []) ∷ (codes "hold", 7, []) ∷ (codes "hold", 2, [])
     ∷ (codes "exit", 12, []) ∷ (codes "exit", 11, []) ∷ (codes "exit", 9, []) ∷ (codes "exit", 6, []) ∷ (codes "exit", 7, []) ∷ (codes "exit", 2, []) ∷ []
 unfolding types opening_board path_down_to attached drop_slot finish finalize finalize_within let_go pin unpin add set cut acted period clocks_below depth_of
-    is_going plug plugged post held released pulse least unrealize apart_within detach
+    is_going plug plugged post after_hold released pulse least unrealize apart_within detach
 held-notes = refl
 
 -- the system clock is written: the notes after the first eight, or the code that refuses it
@@ -136,28 +136,28 @@ notes_or_code (Err code) = ([], Some code)
 
 clock-notes : notes_or_code (clock_set uart 5 (2 ^ 64 - 1)) ≡ ((codes "pre", 9, []) ∷ (codes "update", 9, []) ∷ [], None)
 unfolding types opening_board path_down_to attached drop_slot finish finalize finalize_within let_go pin unpin add set cut acted period clocks_below depth_of
-    is_going plug plugged post held released pulse least unrealize apart_within detach
+    is_going plug plugged post after_hold released pulse least unrealize apart_within detach
 clock-notes = refl
 
 clock-over : notes_or_code (then_scaled 5 2 1 (clock_set uart 5 (2 ^ 64 - 1))) ≡ ([], Some E47)
 unfolding types opening_board path_down_to attached drop_slot finish finalize finalize_within let_go pin unpin add set cut acted period clocks_below depth_of
-    is_going plug plugged post held released pulse least unrealize apart_within detach
+    is_going plug plugged post after_hold released pulse least unrealize apart_within detach
 clock-over = refl
 
 -- nobody is called back where no period changes
 clock-stopped : notes_or_code (then_set 5 3 (then_scaled 5 0 2 (clock_scaled uart 5 0 1))) ≡ ((codes "pre", 9, []) ∷ (codes "update", 9, []) ∷ [], None)
 unfolding types opening_board path_down_to attached drop_slot finish finalize finalize_within let_go pin unpin add set cut acted period clocks_below depth_of
-    is_going plug plugged post held released pulse least unrealize apart_within detach
+    is_going plug plugged post after_hold released pulse least unrealize apart_within detach
 clock-stopped = refl
 
 clock-sourced : notes_or_code (clock_set uart 10 1) ≡ ([], Some E45)
 unfolding types opening_board path_down_to attached drop_slot finish finalize finalize_within let_go pin unpin add set cut acted period clocks_below depth_of
-    is_going plug plugged post held released pulse least unrealize apart_within detach
+    is_going plug plugged post after_hold released pulse least unrealize apart_within detach
 clock-sourced = refl
 
 clock-undivided : notes_or_code (clock_scaled uart 5 1 0) ≡ ([], Some E46)
 unfolding types opening_board path_down_to attached drop_slot finish finalize finalize_within let_go pin unpin add set cut acted period clocks_below depth_of
-    is_going plug plugged post held released pulse least unrealize apart_within detach
+    is_going plug plugged post after_hold released pulse least unrealize apart_within detach
 clock-undivided = refl
 
 -- a DIMM at an address, over a backend
@@ -169,11 +169,11 @@ dimm_given = with ((codes "addr", val.Uint 4294967296) ∷ (codes "memdev", val.
 
 dimm-added : (plug backed dimm_given).refusal ≡ None
 unfolding types opening_board path_down_to attached drop_slot finish finalize finalize_within let_go pin unpin add set cut acted period clocks_below depth_of
-    is_going plug plugged post held released pulse least
+    is_going plug plugged post after_hold released pulse least
 dimm-added = refl
 
 dimm-slots : map (λ (s : List ℕ × Slot). s.1) (drop 6 (slots_at (plug backed dimm_given).board 10))
     ≡ strong MemoryBackend (Some 9) ∷ plain (val.Uint 4294967296) ∷ []
 unfolding types opening_board path_down_to attached drop_slot finish finalize finalize_within let_go pin unpin add set cut acted period clocks_below depth_of
-    is_going plug plugged post held released pulse least
+    is_going plug plugged post after_hold released pulse least
 dimm-slots = refl

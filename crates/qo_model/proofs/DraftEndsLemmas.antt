@@ -9,7 +9,7 @@ use Rattle.std.proofs.lemmas.Bool.{eq-eqb}
 use Rattle.std.proofs.lemmas.List.{map-append}
 use Rattle.std.proofs.lemmas.Option.{same_Some}
 use Rattle.qo_model.specs.declared.properties.PropertyRole.TheVariants as row
-use Rattle.qo_model.proofs.AttemptLemmas.{BareKid, BareSlot, IsStar, LowRecord, attempt-ends, kids-unheld, pins-apart, records-edited, records-unheld, star-kids, star-unheld}
+use Rattle.qo_model.proofs.AttemptLemmas.{BareKid, BareSlot, HasFurtherObjects, LowRecord, attempt-ends, kids-unheld, pins-apart, records-edited, records-unheld, star-kids, star-unheld}
 use Rattle.std.proofs.lemmas.List.Sums.{sum_by-cons, sum_by-append}
 
 -- the types of the further objects of properties, and these objects from a birth on
@@ -54,8 +54,9 @@ kids-edited n f m (k ∷ ks) low = let other : (m == n) ≡ false = grind (arith
 
 -- stars with a slot more
 
-star-slot : (n : ℕ) (s : List ℕ × Slot) → ((lo : ℕ) → IsStar n lo (s ∷ []) []) → (lo : ℕ) (ss : List (List ℕ × Slot)) (ls : List Record) → IsStar n lo ss ls
-    → IsStar n lo (ss ++ s ∷ []) ls
+star-slot : (n : ℕ) (s : List ℕ × Slot) → ((lo : ℕ) → HasFurtherObjects n lo (s ∷ []) []) → (lo : ℕ) (ss : List (List ℕ × Slot)) (ls : List Record)
+    → HasFurtherObjects n lo ss ls
+    → HasFurtherObjects n lo (ss ++ s ∷ []) ls
 star-slot n s q lo [] [] h = q lo
 star-slot n s q lo [] (k ∷ ls) h = absurd h
 star-slot n s q lo ((name, child m) ∷ ss) [] h = absurd h
@@ -67,7 +68,7 @@ star-slot n s q lo ((name, plain v) ∷ ss) ls h = star-slot n s q lo ss ls h
 star-slot n s q lo ((name, alias m p) ∷ ss) ls h = star-slot n s q lo ss ls h
 
 star-kid : (n j : ℕ) (name : List ℕ) (k : Record) → k.birth ≡ j → BareKid n k → (lo : ℕ) (ss : List (List ℕ × Slot)) (ls : List Record) → lo < j
-    → AllByRecursion (λ (r : Record). r.birth < j) ls → IsStar n lo ss ls → IsStar n lo (ss ++ (name, child j) ∷ []) (ls ++ k ∷ [])
+    → AllByRecursion (λ (r : Record). r.birth < j) ls → HasFurtherObjects n lo ss ls → HasFurtherObjects n lo (ss ++ (name, child j) ∷ []) (ls ++ k ∷ [])
 star-kid n j name k born bare lo [] [] up low h = (up, born, (bare, tt))
 star-kid n j name k born bare lo [] (l ∷ ls) up low h = absurd h
 star-kid n j name k born bare lo ((other, child m) ∷ ss) [] up low h = absurd h
@@ -112,7 +113,7 @@ bare-fresh n m t = record { slots = bare-slots n t (slots_of t); no_path = refl 
 pub record IsDraft (b : Board) (n : ℕ) (t : TypeId) (ks : List TypeId) (c : Board) : Type 0 where
   pub slots : List (List ℕ × Slot)
   pub shape : c ≡ with_star b n t slots ks
-  pub star_is : IsStar n n slots (kids_from (suc n) ks)
+  pub star_is : HasFurtherObjects n n slots (kids_from (suc n) ks)
 
 module _ (b : Board) (n : ℕ) (t : TypeId) (low : AllByRecursion (LowRecord n) b.records) where
   -- the device with other slots
@@ -164,7 +165,7 @@ module _ (b : Board) (n : ℕ) (t : TypeId) (low : AllByRecursion (LowRecord n) 
 
   -- each slot changed, so that stars stay stars
   pub draft-edited : (g : List ℕ × Slot → List ℕ × Slot) (ks : List TypeId) (c : Board)
-      → ((lo : ℕ) (ss : List (List ℕ × Slot)) (ls : List Record) → IsStar n lo ss ls → IsStar n lo (map g ss) ls) → IsDraft b n t ks c
+      → ((lo : ℕ) (ss : List (List ℕ × Slot)) (ls : List Record) → HasFurtherObjects n lo ss ls → HasFurtherObjects n lo (map g ss) ls) → IsDraft b n t ks c
       → IsDraft b n t ks (edit n (λ (r : Record). record r { slots = map g r.slots }) c)
   draft-edited g ks c keeps h =
       record {
@@ -173,7 +174,7 @@ module _ (b : Board) (n : ℕ) (t : TypeId) (low : AllByRecursion (LowRecord n) 
         star_is = keeps n h.slots (kids_from (suc n) ks) h.star_is;
       }
 
-  draft-slot : (name : List ℕ) (s : Slot) (ks : List TypeId) (c : Board) → ((lo : ℕ) → IsStar n lo ((name, s) ∷ []) []) → IsDraft b n t ks c
+  draft-slot : (name : List ℕ) (s : Slot) (ks : List TypeId) (c : Board) → ((lo : ℕ) → HasFurtherObjects n lo ((name, s) ∷ []) []) → IsDraft b n t ks c
       → IsDraft b n t ks (add n name s c)
   draft-slot name s ks c q h =
       record {
@@ -189,7 +190,7 @@ module _ (b : Board) (n : ℕ) (t : TypeId) (low : AllByRecursion (LowRecord n) 
         shape = ap (with_kid n name k) h.shape ∙ ap (add n name (child (n + length ks + 1))) (star-grown k h.slots ks)
             ∙ star-added name (child (n + length ks + 1)) h.slots (ks ++ k ∷ []);
         star_is =
-            subst (IsStar n n (h.slots ++ (name, child (n + length ks + 1)) ∷ [])) (sym (kids-push (suc n) (n + length ks + 1) ks k (omega arith)))
+            subst (HasFurtherObjects n n (h.slots ++ (name, child (n + length ks + 1)) ∷ [])) (sym (kids-push (suc n) (n + length ks + 1) ks k (omega arith)))
             (star-kid n (n + length ks + 1) name (fresh_record (n + length ks + 1) k) refl (bare-fresh n (n + length ks + 1) k) n h.slots (kids_from (suc n) ks)
             (omega arith) (kids-low (n + length ks + 1) (suc n) ks (omega arith)) h.star_is);
       }

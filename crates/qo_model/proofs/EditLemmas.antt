@@ -3,7 +3,7 @@ use Rattle.std.proofs.Common.{◌≡◌, refl, ap, sym, subst, ℕ, zero, suc, �
 use Rattle.qo_model.proofs.Common.{option_map_or, Board, Record, Slot, plain, child, strong, weak, alias, record_of, slot_at, forgotten_in, edited, emptied, without_hold}
 use Rattle.std.proofs.lemmas.List.Sums.{sum_by-cons}
 use Rattle.std.proofs.lemmas.Option.{same_Some}
-use Rattle.qo_model.specs.Board.{held}
+use Rattle.qo_model.specs.Board.{referent}
 
 -- where an edit raises no record's number, it raises no sum of them
 pub sum-edit_le : (f : Record → ℕ) (n : ℕ) (change : Record → Record) → ((r : Record) → f (change r) ≤ f r) → (rs : List Record)
@@ -74,7 +74,7 @@ sum-without_hold_le f less i slots = go (slice_get slots i) refl
 
 -- one for a slot that holds an object, else zero
 abbrev pub one_held : List ℕ × Slot → ℕ
-one_held s = cond {A = ℕ} (is_some (held s.1)) 1 0
+one_held s = cond {A = ℕ} (is_some (referent s.1)) 1 0
 
 pub left-held : (s : List ℕ × Slot) → left_of one_held s ≡ 0
 left-held (name, plain v) = refl
@@ -120,16 +120,17 @@ stands-at b n i s e = go (record_of b n) refl e
     go (Some r) p h = at_entry r p (slice_get r.slots i) refl h
 
 -- a change of slots that leaves what they hold changes no sum over what they hold
-pub sum-held : (f : Option ℕ → ℕ) (g : Slot → Slot) → ((s : Slot) → held (g s) ≡ held s) → (slots : List (List ℕ × Slot))
-    → sum_by (λ (s : List ℕ × Slot). f (held s.1)) (map (λ (s : List ℕ × Slot). (s.0, g s.1)) slots) ≡ sum_by (λ (s : List ℕ × Slot). f (held s.1)) slots
+pub sum-held : (f : Option ℕ → ℕ) (g : Slot → Slot) → ((s : Slot) → referent (g s) ≡ referent s) → (slots : List (List ℕ × Slot))
+    → sum_by (λ (s : List ℕ × Slot). f (referent s.1)) (map (λ (s : List ℕ × Slot). (s.0, g s.1)) slots)
+    ≡ sum_by (λ (s : List ℕ × Slot). f (referent s.1)) slots
 sum-held f g same [] = refl
 sum-held f g same (s ∷ slots) =
     omega (
       arith,
       sum-held f g same slots,
       ap f (same s.1),
-      sum_by-cons (λ (x : List ℕ × Slot). f (held x.1)) (s.0, g s.1) (map (λ (x : List ℕ × Slot). (x.0, g x.1)) slots),
-      sum_by-cons (λ (x : List ℕ × Slot). f (held x.1)) s slots,
+      sum_by-cons (λ (x : List ℕ × Slot). f (referent x.1)) (s.0, g s.1) (map (λ (x : List ℕ × Slot). (x.0, g x.1)) slots),
+      sum_by-cons (λ (x : List ℕ × Slot). f (referent x.1)) s slots,
     )
 
 -- one where an option has a value, and where it has this value
@@ -140,7 +141,7 @@ abbrev pub one_is : ℕ → Option ℕ → ℕ
 one_is n o = cond {A = ℕ} (elim o as (λ _. Bool) [ None ↦ false | Some m ↦ m == n ]) 1 0
 
 -- the emptied weak links leave what slots hold
-pub held-forgotten : (n : ℕ) (s : Slot) → held (forgotten_in n s) ≡ held s
+pub held-forgotten : (n : ℕ) (s : Slot) → referent (forgotten_in n s) ≡ referent s
 held-forgotten n (plain v) = refl
 held-forgotten n (child m) = refl
 held-forgotten n (strong t target) = refl

@@ -1,7 +1,7 @@
 -- The commands on objects keep the notes of a board in order.
 use Rattle.std.proofs.Common.{◌≡◌, refl, ℕ, true, false, List, Option, Some, None, length}
 use Rattle.qo_model.proofs.Common.{OBJECTS_BIRTH, Code, TypeId, Val, Board, Slot, slot_at, slots_at, point, set, with_changed, with_val, pointed, NotesInOrder, Change, added, deleted, wrote, severed, after_write, changed, Given, added_as, object_add, object_del, sever, severed_from, pointed_at, relinked, write, drop_slot, pin, put_in_order, with_dropped}
-use Rattle.qo_model.specs.Board.{held}
+use Rattle.qo_model.specs.Board.{referent}
 use Rattle.qo_model.proofs.ComesToLemmas.{addition-comes, deletion-comes, sever-comes, severed-comes}
 use Rattle.qo_model.proofs.WrittenLemmas.{write-comes}
 use Rattle.qo_model.proofs.FinalNotesLemmas.{after-keeps, edit-keeps, let_go-keeps, pins-keep, unpin-keeps}
@@ -40,7 +40,7 @@ relinked-keeps b n i target o = go (slot_at b n i) refl
     go : (s : Option Slot) → slot_at b n i ≡ s → NotesInOrder (relinked b n i target)
     go None p = rw (relinked, p) o
     go (Some s) p =
-        rw (relinked, p) (after-keeps (pointed_at target n i (drop_slot b n i)) (held s) (pointed-keeps (drop_slot b n i) n i target (drop-keeps b n i o)))
+        rw (relinked, p) (after-keeps (pointed_at target n i (drop_slot b n i)) (referent s) (pointed-keeps (drop_slot b n i) n i target (drop-keeps b n i o)))
 
 pub write-keeps : (b : Board) (n : ℕ) (name : List ℕ) (v : Val) → NotesInOrder b → NotesInOrder (after_write b (write b n name v))
 write-keeps b n name v o = write-comes NotesInOrder b o n name v (λ i t p kind e may. record {

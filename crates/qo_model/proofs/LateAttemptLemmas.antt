@@ -5,7 +5,7 @@ use Rattle.qo_model.specs.declared.notes.Note.{Note}
 use Rattle.std.specs.List.{flat_map}
 use Rattle.std.proofs.lemmas.List.{map-append}
 use Rattle.std.proofs.lemmas.List.Sums.{sum_by-cons, sum_by-append}
-use Rattle.qo_model.proofs.AttemptLemmas.{BareSlot, IsStar, LowRecord, attempt-ends, kids-unheld, pins-apart, records-edited, records-unheld, star-kids, star-unheld}
+use Rattle.qo_model.proofs.AttemptLemmas.{BareSlot, HasFurtherObjects, LowRecord, attempt-ends, kids-unheld, pins-apart, records-edited, records-unheld, star-kids, star-unheld}
 use Rattle.qo_model.proofs.DraftEndsLemmas.{IsDraft, add-suc, born-length, ended-push, kids-ended, kids_from, kinds_in}
 
 -- a change of objects that leaves all but registers
@@ -40,7 +40,8 @@ act-leaves m act now period =
     at_path r true p = rw (edited, p) refl
     at_path r false p = rw (edited, p) refl
 
-star-leaves : (g : Record → Record) → LeavesRest g → (n lo : ℕ) (ss : List (List ℕ × Slot)) (ls : List Record) → IsStar n lo ss ls → IsStar n lo ss (map g ls)
+star-leaves : (g : Record → Record) → LeavesRest g → (n lo : ℕ) (ss : List (List ℕ × Slot)) (ls : List Record) → HasFurtherObjects n lo ss ls
+    → HasFurtherObjects n lo ss (map g ls)
 star-leaves g same n lo [] [] h = tt
 star-leaves g same n lo [] (k ∷ ls) h = absurd h
 star-leaves g same n lo ((name, child m) ∷ ss) [] h = absurd h
@@ -73,7 +74,7 @@ record IsPassed (b : Board) (n : ℕ) (t : TypeId) (ks : List TypeId) (extra : L
   birth : d.birth ≡ n
   kind : d.kind ≡ t
   no_path : d.kept_path ≡ None
-  star_is : IsStar n n d.slots ls
+  star_is : HasFurtherObjects n n d.slots ls
   ends : flat_map final_notes ls ≡ ended_notes (born_from (suc n) ks)
 
 passed-begun : (b : Board) (n : ℕ) (t : TypeId) (ks : List TypeId) (c : Board) → IsDraft b n t ks c → IsPassed b n t ks [] c
@@ -103,7 +104,7 @@ module _ (b : Board) (n : ℕ) (t : TypeId) (ks : List TypeId) (low : AllByRecur
         birth = same.birth h.d ∙ h.birth;
         kind = same.kind h.d ∙ h.kind;
         no_path = same.path h.d ∙ h.no_path;
-        star_is = subst (λ (ss : List (List ℕ × Slot)). IsStar n n ss (map (edited m (with_act_on act b.now 0)) h.ls)) (sym (same.slots h.d))
+        star_is = subst (λ (ss : List (List ℕ × Slot)). HasFurtherObjects n n ss (map (edited m (with_act_on act b.now 0)) h.ls)) (sym (same.slots h.d))
             (star-leaves (edited m (with_act_on act b.now 0)) same n n h.d.slots h.ls h.star_is);
         ends = finals-leave (edited m (with_act_on act b.now 0)) same h.ls ∙ h.ends;
       }
@@ -153,7 +154,7 @@ module _ (b : Board) (n : ℕ) (t : TypeId) (ks : List TypeId) (low : AllByRecur
       ap₂ finalize h.shape (sym h.birth)
       ∙ attempt-ends (record b { born = n + length ks }) h.d (subst (λ (x : ℕ). AllByRecursion (LowRecord x) b.records) (sym h.birth) low)
       (subst (λ (x : ℕ). AllByRecursion (λ p. p < x) b.pins) (sym h.birth) pins) h.no_path h.d.slots h.ls
-      (b.notes ++ begun_notes (born_from n (t ∷ ks)) ++ extra) (subst (λ (x : ℕ). IsStar x x h.d.slots h.ls) (sym h.birth) h.star_is)
+      (b.notes ++ begun_notes (born_from n (t ∷ ks)) ++ extra) (subst (λ (x : ℕ). HasFurtherObjects x x h.d.slots h.ls) (sym h.birth) h.star_is)
       ∙ (λ i. record b { born = born i; notes = notes i })
     where
       born : n + length ks ≡ b.born + length (born_from n (t ∷ ks))

@@ -3,7 +3,7 @@ use Rattle.std.proofs.Common.{◌≡◌, refl, sym, subst, ◌∙◌, ℕ, zero,
 use Rattle.qo_model.proofs.Common.{Board, Slot, slot_at, refs, drop_slot, next_index, finish, holding, width, after, from_index, finalize, KeepsRelease, Keeps}
 use Rattle.std.proofs.lemmas.Bool.{eqb-true}
 use Rattle.std.proofs.lemmas.Option.{same_Some}
-use Rattle.qo_model.specs.Board.{held}
+use Rattle.qo_model.specs.Board.{referent}
 use Rattle.qo_model.proofs.ReleaseLemmas.{drop-holding, drop-falls, after-holding, place-falls, past-width, from_index-none, from_index-some, finalize-shrinks, finalize-is}
 
 -- a number that is not 0
@@ -17,10 +17,10 @@ module _ (P : List (ℕ × ℕ) → Board → Type 0) (keeps : KeepsRelease P) w
 
   -- one slot is let go, with all that follows
   turn : (c : ℕ) → KeepsBelow c → (b : Board) (n i : ℕ) (work : List (ℕ × ℕ)) (s : Slot) → slot_at b n i ≡ Some s → holding b ≤ c → P ((n, i) ∷ work) b
-      → P ((n, next_index s i) ∷ work) (after finalize (drop_slot b n i) (held s))
-  turn c below b n i work s e few p = go (held s) refl
+      → P ((n, next_index s i) ∷ work) (after finalize (drop_slot b n i) (referent s))
+  turn c below b n i work s e few p = go (referent s) refl
     where
-      choose : (m : ℕ) → held s ≡ Some m → (t : Bool) → (refs (drop_slot b n i) m == 0) ≡ t
+      choose : (m : ℕ) → referent s ≡ Some m → (t : Bool) → (refs (drop_slot b n i) m == 0) ≡ t
           → P ((n, next_index s i) ∷ work) (after finalize (drop_slot b n i) (Some m))
       choose m q true free =
           let falls : holding (drop_slot b n i) < holding b = drop-falls b n i s m e q in
@@ -30,7 +30,7 @@ module _ (P : List (ℕ × ℕ) → Board → Type 0) (keeps : KeepsRelease P) w
           rw (after, held_on) (keeps.kept b n i work s p e
           (λ k h. subst (λ x. 0 < refs (drop_slot b n i) x) (same_Some m k (sym q ∙ h)) (above-zero (refs (drop_slot b n i) m) held_on)))
 
-      go : (o : Option ℕ) → held s ≡ o → P ((n, next_index s i) ∷ work) (after finalize (drop_slot b n i) o)
+      go : (o : Option ℕ) → referent s ≡ o → P ((n, next_index s i) ∷ work) (after finalize (drop_slot b n i) o)
       go None q = keeps.kept b n i work s p e (λ m h. absurd (let clash : None ≡ Some m = sym q ∙ h in cc))
       go (Some m) q = choose m q (refs (drop_slot b n i) m == 0) refl
 
@@ -44,8 +44,8 @@ module _ (P : List (ℕ × ℕ) → Board → Type 0) (keeps : KeepsRelease P) w
           → P rest (finish (from_index finalize k d m j) m)) → P work (finish (from_index finalize (suc k) b n i) n)
       go None e rest = rw (from_index-none finalize (suc k) b n i e) (keeps.ended b n i work p e)
       go (Some s) e rest =
-          let d : Board = after finalize (drop_slot b n i) (held s) in
-          let less : holding d ≤ c = omega (arith, after-holding finalize finalize-shrinks (drop_slot b n i) (held s), drop-holding b n i) in
+          let d : Board = after finalize (drop_slot b n i) (referent s) in
+          let less : holding d ≤ c = omega (arith, after-holding finalize finalize-shrinks (drop_slot b n i) (referent s), drop-holding b n i) in
           rw (from_index-some finalize k b n i s e)
           (rest d n (next_index s i) work (place-falls finalize finalize-shrinks b n i s k e room) less (turn c below b n i work s e few p))
 

@@ -3,12 +3,12 @@ use Rattle.std.proofs.Common.{◌≡◌, refl, ap, sym, ◌∙◌, ℕ, zero, su
 use Rattle.qo_model.proofs.Common.{Board, Record, Slot, plain, child, strong, weak, alias, slot_at, refs, without_hold, with_dropped, drop_slot, next_index, forgotten_in, forgotten, finish, holding, width, after, from_index, finalize_by, finalize_within, finalize}
 use Rattle.std.proofs.lemmas.Option.{slice_get_within}
 use Rattle.std.proofs.lemmas.List.Sums.{sum_by-cons}
-use Rattle.qo_model.specs.Board.{held}
+use Rattle.qo_model.specs.Board.{referent}
 use Rattle.qo_model.proofs.EditLemmas.{sum-held, one_some, held-forgotten, sum-edit_le, sum-edit_lt, sum-filter_le, left_of, sum-without_hold, sum-without_hold_le, one_held, left-held, one_slot, left-slot, length-sum, StandsAt, stands-at}
 
 -- the two numbers of one record
 abbrev pub holding_in : Record → ℕ
-holding_in r = count_by (λ (s : List ℕ × Slot). is_some (held s.1)) r.slots
+holding_in r = count_by (λ (s : List ℕ × Slot). is_some (referent s.1)) r.slots
 
 abbrev pub width_in : Record → ℕ
 width_in r = length r.slots
@@ -21,7 +21,7 @@ dropped-width : (i : ℕ) (r : Record) → width_in (with_dropped i r) ≤ width
 dropped-width i r = omega (arith, sum-without_hold_le one_slot left-slot i r.slots, length-sum r.slots, length-sum (without_hold i r.slots))
 
 -- where it held an object, its record holds one less
-dropped-falls : (i : ℕ) (r : Record) (s : List ℕ × Slot) (m : ℕ) → slice_get r.slots i ≡ Some s → held s.1 ≡ Some m
+dropped-falls : (i : ℕ) (r : Record) (s : List ℕ × Slot) (m : ℕ) → slice_get r.slots i ≡ Some s → referent s.1 ≡ Some m
     → holding_in (with_dropped i r) < holding_in r
 dropped-falls i r s m e h =
     let one : one_held s ≡ 1 = rw h refl in
@@ -43,7 +43,7 @@ unfolding drop_slot
 drop-width b n i = sum-edit_le width_in n (with_dropped i) (dropped-width i) b.records
 
 -- where it held an object, the board holds less
-pub drop-falls : (b : Board) (n i : ℕ) (s : Slot) (m : ℕ) → slot_at b n i ≡ Some s → held s ≡ Some m → holding (drop_slot b n i) < holding b
+pub drop-falls : (b : Board) (n i : ℕ) (s : Slot) (m : ℕ) → slot_at b n i ≡ Some s → referent s ≡ Some m → holding (drop_slot b n i) < holding b
 unfolding drop_slot
 drop-falls b n i s m e h =
     let at : StandsAt b n i s = stands-at b n i s e in
@@ -121,7 +121,7 @@ after-width f h b (Some m) = go (refs b m == 0) refl
 
 -- after a slot the places that are left are fewer
 pub place-falls : (f : Board → ℕ → Board) → IsShrinking f → (b : Board) (n i : ℕ) (s : Slot) (k : ℕ) → slot_at b n i ≡ Some s → width b ≤ suc k + i
-    → width (after f (drop_slot b n i) (held s)) ≤ k + next_index s i
+    → width (after f (drop_slot b n i) (referent s)) ≤ k + next_index s i
 place-falls f h b n i (child m) k e room = omega (arith, after-width f h (drop_slot b n i) (Some m), drop-shorter b n i m e)
 place-falls f h b n i (plain v) k e room = omega (arith, drop-width b n i)
 place-falls f h b n i (strong t target) k e room = omega (arith, after-width f h (drop_slot b n i) target, drop-width b n i)
@@ -134,7 +134,7 @@ from_index-none f zero b n i e = refl
 from_index-none f (suc k) b n i e = rw (from_index, e) refl
 
 pub from_index-some : (f : Board → ℕ → Board) (k : ℕ) (b : Board) (n i : ℕ) (s : Slot) → slot_at b n i ≡ Some s
-    → from_index f (suc k) b n i ≡ from_index f k (after f (drop_slot b n i) (held s)) n (next_index s i)
+    → from_index f (suc k) b n i ≡ from_index f k (after f (drop_slot b n i) (referent s)) n (next_index s i)
 from_index-some f k b n i s e = rw (from_index, e) refl
 
 -- at a place that is no smaller than the number of all slots there is none
@@ -157,7 +157,7 @@ enough_places f h (suc k) (suc l) b n i room room' = go (slot_at b n i) refl (en
     go None p rest = from_index-none f (suc k) b n i p ∙ sym (from_index-none f (suc l) b n i p)
     go (Some s) p rest =
         from_index-some f k b n i s p
-        ∙ rest (after f (drop_slot b n i) (held s)) n (next_index s i) (place-falls f h b n i s k p room) (place-falls f h b n i s l p room')
+        ∙ rest (after f (drop_slot b n i) (referent s)) n (next_index s i) (place-falls f h b n i s k p room) (place-falls f h b n i s l p room')
         ∙ sym (from_index-some f l b n i s p)
 
 -- the slots of an object that are let go raise neither number
@@ -169,8 +169,8 @@ from_index-holding f h (suc k) b n i = go (slot_at b n i) refl (from_index-holdi
         → holding (from_index f (suc k) b n i) ≤ holding b
     go None p rest = rw (from_index-none f (suc k) b n i p) (omega arith)
     go (Some s) p rest =
-        let c : Board = after f (drop_slot b n i) (held s) in
-        rw (from_index-some f k b n i s p) (omega (arith, rest c n (next_index s i), after-holding f h (drop_slot b n i) (held s), drop-holding b n i))
+        let c : Board = after f (drop_slot b n i) (referent s) in
+        rw (from_index-some f k b n i s p) (omega (arith, rest c n (next_index s i), after-holding f h (drop_slot b n i) (referent s), drop-holding b n i))
 
 pub from_index-width : (f : Board → ℕ → Board) → IsShrinking f → (k : ℕ) (b : Board) (n i : ℕ) → width (from_index f k b n i) ≤ width b
 from_index-width f h zero b n i = omega arith
@@ -179,8 +179,8 @@ from_index-width f h (suc k) b n i = go (slot_at b n i) refl (from_index-width f
     go : (o : Option Slot) → slot_at b n i ≡ o → ((c : Board) (m j : ℕ) → width (from_index f k c m j) ≤ width c) → width (from_index f (suc k) b n i) ≤ width b
     go None p rest = rw (from_index-none f (suc k) b n i p) (omega arith)
     go (Some s) p rest =
-        let c : Board = after f (drop_slot b n i) (held s) in
-        rw (from_index-some f k b n i s p) (omega (arith, rest c n (next_index s i), after-width f h (drop_slot b n i) (held s), drop-width b n i))
+        let c : Board = after f (drop_slot b n i) (referent s) in
+        rw (from_index-some f k b n i s p) (omega (arith, rest c n (next_index s i), after-width f h (drop_slot b n i) (referent s), drop-width b n i))
 
 finalize_by-shrinks : (f : Board → ℕ → Board) → IsShrinking f → IsShrinking (finalize_by f)
 finalize_by-shrinks f h =
@@ -205,15 +205,15 @@ finalize-shrinks =
 
 -- after a slot that was let go, finalizers that agree below what the board held give the same
 after-agree : (f g : Board → ℕ → Board) (c : ℕ) → AgreeBelow c f g → (b : Board) (n i : ℕ) (s : Slot) → slot_at b n i ≡ Some s → holding b ≤ c
-    → after f (drop_slot b n i) (held s) ≡ after g (drop_slot b n i) (held s)
-after-agree f g c h b n i s e few = go (held s) refl
+    → after f (drop_slot b n i) (referent s) ≡ after g (drop_slot b n i) (referent s)
+after-agree f g c h b n i s e few = go (referent s) refl
   where
-    freed : (m : ℕ) → held s ≡ Some m → (t : Bool) → (refs (drop_slot b n i) m == 0) ≡ t
+    freed : (m : ℕ) → referent s ≡ Some m → (t : Bool) → (refs (drop_slot b n i) m == 0) ≡ t
         → after f (drop_slot b n i) (Some m) ≡ after g (drop_slot b n i) (Some m)
     freed m p true q = let falls : holding (drop_slot b n i) < holding b = drop-falls b n i s m e p in rw (after, q) (h.agree (drop_slot b n i) m (omega arith))
     freed m p false q = rw (after, q) refl
 
-    go : (o : Option ℕ) → held s ≡ o → after f (drop_slot b n i) o ≡ after g (drop_slot b n i) o
+    go : (o : Option ℕ) → referent s ≡ o → after f (drop_slot b n i) o ≡ after g (drop_slot b n i) o
     go None p = refl
     go (Some m) p = freed m p (refs (drop_slot b n i) m == 0) refl
 
@@ -226,8 +226,8 @@ from_index-agree f g c shrinks h (suc k) b n i few = go (slot_at b n i) refl (fr
         → from_index f (suc k) b n i ≡ from_index g (suc k) b n i
     go None p rest = from_index-none f (suc k) b n i p ∙ sym (from_index-none g (suc k) b n i p)
     go (Some s) p rest =
-        let d : Board = after f (drop_slot b n i) (held s) in
-        let less : holding d ≤ c = omega (arith, after-holding f shrinks (drop_slot b n i) (held s), drop-holding b n i) in
+        let d : Board = after f (drop_slot b n i) (referent s) in
+        let less : holding d ≤ c = omega (arith, after-holding f shrinks (drop_slot b n i) (referent s), drop-holding b n i) in
         from_index-some f k b n i s p
         ∙ rest d n (next_index s i) less
         ∙ ap (λ (x : Board). from_index g k x n (next_index s i)) (after-agree f g c h b n i s p few)
@@ -266,9 +266,9 @@ slots_from-none b n i e = from_index-none finalize (width b) b n i e
 
 -- a slot that stands is let go first
 pub slots_from-some : (b : Board) (n i : ℕ) (s : Slot) → slot_at b n i ≡ Some s
-    → slots_from b n i ≡ slots_from (after finalize (drop_slot b n i) (held s)) n (next_index s i)
+    → slots_from b n i ≡ slots_from (after finalize (drop_slot b n i) (referent s)) n (next_index s i)
 slots_from-some b n i s e =
-    let c : Board = after finalize (drop_slot b n i) (held s) in
+    let c : Board = after finalize (drop_slot b n i) (referent s) in
     let j : ℕ = next_index s i in
     let one_more : slots_from b n i ≡ from_index finalize (suc (width b)) b n i =
     enough_places finalize finalize-shrinks (width b) (suc (width b)) b n i (omega arith) (omega arith) in
@@ -289,5 +289,5 @@ pub end_of-none : (b : Board) (n i : ℕ) → slot_at b n i ≡ None → end_of 
 end_of-none b n i e = ap (λ (c : Board). finish c n) (slots_from-none b n i e)
 
 pub end_of-some : (b : Board) (n i : ℕ) (s : Slot) → slot_at b n i ≡ Some s
-    → end_of b n i ≡ end_of (after finalize (drop_slot b n i) (held s)) n (next_index s i)
+    → end_of b n i ≡ end_of (after finalize (drop_slot b n i) (referent s)) n (next_index s i)
 end_of-some b n i s e = ap (λ (d : Board). finish d n) (slots_from-some b n i s e)

@@ -6,7 +6,7 @@ use Rattle.qo_model.specs.declared.notes.Deed.TheVariants.{Final}
 use Rattle.qo_model.specs.declared.notes.Note.{Note}
 use Rattle.std.proofs.lemmas.Bool.{eqb-true, eq-eqb}
 use Rattle.std.proofs.lemmas.List.Elements.{filter-append}
-use Rattle.qo_model.specs.Board.{held}
+use Rattle.qo_model.specs.Board.{referent}
 use Rattle.qo_model.proofs.ReleaseInductionLemmas.{release_keeps, after_keeps}
 use Rattle.qo_model.proofs.StepLemmas.{drop-record, drop-live, finish-record, finish-live, found-birth}
 
@@ -153,7 +153,7 @@ let_go-notes b owner i = go (slot_at b owner i) refl
   where
     go : (o : Option Slot) → slot_at b owner i ≡ o → NotesEnds b (let_go b owner i)
     go None p = rw (let_go, p) (notes-none b)
-    go (Some s) p = rw (let_go, p) (after-notes b (drop_slot b owner i) (held s) (notes-drop b b owner i (notes-none b)))
+    go (Some s) p = rw (let_go, p) (after-notes b (drop_slot b owner i) (referent s) (notes-drop b b owner i (notes-none b)))
 
 -- and the end of a pin
 pub unpin-notes : (b : Board) (n : ℕ) → NotesEnds b (unpin b n)

@@ -3,7 +3,7 @@ use Rattle.std.proofs.Common.{◌≡◌, refl, ap, sym, subst, ◌∙◌, ℕ, z
 use Rattle.qo_model.proofs.Common.{Board, Slot, slot_at, refs, drop_slot, next_index, finish, holding, width, after, from_index, finalize, ReleaseLaw, Finalizes, SlotsFrom, all_slots, past, kept, freed}
 use Rattle.std.proofs.lemmas.Bool.{eqb-true, eq-eqb}
 use Rattle.std.proofs.lemmas.Option.{same_Some}
-use Rattle.qo_model.specs.Board.{held}
+use Rattle.qo_model.specs.Board.{referent}
 use Rattle.qo_model.proofs.ReleaseLemmas.{drop-holding, drop-falls, after-holding, place-falls, past-width, from_index-none, from_index-some, finalize-shrinks, finalize-is, slots_from, slots_from-none, slots_from-some}
 use Rattle.qo_model.proofs.ReleaseInductionLemmas.{above-zero}
 
@@ -27,7 +27,7 @@ mutual
   slots-are : {b c : Board} {n i : ℕ} → SlotsFrom b n i c → slots_from b n i ≡ c
   slots-are (past {b} {n} {i} e) = slots_from-none b n i e
   slots-are (kept {b} {c} {n} {i} {s} e h rest) =
-      slots_from-some b n i s e ∙ ap (λ (d : Board). slots_from d n (next_index s i)) (after-held (drop_slot b n i) (held s) h) ∙ slots-are rest
+      slots_from-some b n i s e ∙ ap (λ (d : Board). slots_from d n (next_index s i)) (after-held (drop_slot b n i) (referent s) h) ∙ slots-are rest
   slots-are (freed {b} {c} {d} {n} {i} {m} {s} e h none end rest) =
       slots_from-some b n i s e
       ∙ ap (λ (o : Option ℕ). slots_from (after finalize (drop_slot b n i) o) n (next_index s i)) h
@@ -42,7 +42,7 @@ slots-reached : (c : ℕ) → ReachedBelow c → (k : ℕ) (b : Board) (n i : �
 slots-reached c below zero b n i room few = past (past-width b n i (omega arith))
 slots-reached c below (suc k) b n i room few = go (slot_at b n i) refl (slots-reached c below k)
   where
-    turn : (s : Slot) → slot_at b n i ≡ Some s → (o : Option ℕ) → held s ≡ o
+    turn : (s : Slot) → slot_at b n i ≡ Some s → (o : Option ℕ) → referent s ≡ o
         → SlotsFrom (after finalize (drop_slot b n i) o) n (next_index s i) (from_index finalize k (after finalize (drop_slot b n i) o) n (next_index s i))
         → SlotsFrom b n i (from_index finalize k (after finalize (drop_slot b n i) o) n (next_index s i))
     turn s e None q rest = kept e (λ m h. absurd (let clash : None ≡ Some m = sym q ∙ h in cc)) rest
@@ -62,10 +62,10 @@ slots-reached c below (suc k) b n i room few = go (slot_at b n i) refl (slots-re
         → SlotsFrom b n i (from_index finalize (suc k) b n i)
     go None e rest = rw (from_index-none finalize (suc k) b n i e) (past e)
     go (Some s) e rest =
-        let d : Board = after finalize (drop_slot b n i) (held s) in
-        let less : holding d ≤ c = omega (arith, after-holding finalize finalize-shrinks (drop_slot b n i) (held s), drop-holding b n i) in
+        let d : Board = after finalize (drop_slot b n i) (referent s) in
+        let less : holding d ≤ c = omega (arith, after-holding finalize finalize-shrinks (drop_slot b n i) (referent s), drop-holding b n i) in
         rw (from_index-some finalize k b n i s e)
-        (turn s e (held s) refl (rest d n (next_index s i) (place-falls finalize finalize-shrinks b n i s k e room) less))
+        (turn s e (referent s) refl (rest d n (next_index s i) (place-falls finalize finalize-shrinks b n i s k e room) less))
 
 reached-below : (c : ℕ) → ReachedBelow c
 reached-below zero b n few = absurd (omega arith)

@@ -4,7 +4,7 @@ use Rattle.qo_model.proofs.Common.{list_any, option_map_or, Slot, slot_at, Board
 use Rattle.qo_model.specs.declared.notes.Note.{Note}
 use Rattle.std.proofs.lemmas.Bool.{eq-eqb}
 use Rattle.std.proofs.Math.Bool.{or-true}
-use Rattle.qo_model.specs.Board.{held}
+use Rattle.qo_model.specs.Board.{referent}
 use Rattle.qo_model.proofs.ReleaseInductionLemmas.{release_keeps, after_keeps}
 use Rattle.qo_model.proofs.StepLemmas.{live-among, drop-record, drop-live, finish-record, finish-live, drop-births, finish-births}
 
@@ -139,7 +139,7 @@ let_go-leaves b owner i = go (slot_at b owner i) refl
   where
     go : (o : Option Slot) → slot_at b owner i ≡ o → Leaves b (let_go b owner i)
     go None p = rw (let_go, p) (leaves-none b)
-    go (Some s) p = rw (let_go, p) (after-leaves b (drop_slot b owner i) (held s) (leaves-drop b b owner i (leaves-none b)))
+    go (Some s) p = rw (let_go, p) (after-leaves b (drop_slot b owner i) (referent s) (leaves-drop b b owner i (leaves-none b)))
 
 -- and the end of a pin, but for the pins
 pub unpin-leaves : (b : Board) (n : ℕ) → Leaves (record b { pins = (unpin b n).pins }) (unpin b n)

@@ -5,7 +5,7 @@ use Rattle.std.proofs.lemmas.Bool.{eqb-true, eq-eqb}
 use Rattle.std.proofs.lemmas.List.Sums.{sum_by-cons}
 use Rattle.std.proofs.lemmas.Option.{same_Some}
 use Rattle.qo_values.proofs.ListLemmas.{all-at, all-imply, found-has}
-use Rattle.qo_model.specs.Board.{held}
+use Rattle.qo_model.specs.Board.{referent}
 use Rattle.qo_model.proofs.EditLemmas.{StandsAt, stands-at}
 use Rattle.qo_model.proofs.ReleaseLemmas.{end_of, end_of-first, end_of-none, end_of-some}
 use Rattle.qo_model.proofs.StepLemmas.{drop-births, drop-live, drop-refs, finish-births, finish-live, finish-refs, one_of, unheld-apart}
@@ -26,18 +26,18 @@ after-freed c o m e none = let free : (refs c m == 0) ≡ true = eq-eqb (refs c 
 pub rest-ended : (b : Board) (n i : ℕ) (work : List (ℕ × ℕ)) → slot_at b n i ≡ None → rest b ((n, i) ∷ work) ≡ rest (finish b n) work
 rest-ended b n i work e = ap (λ (c : Board). rest c work) (end_of-none b n i e)
 
-pub rest-kept : (b : Board) (n i : ℕ) (work : List (ℕ × ℕ)) (s : Slot) → slot_at b n i ≡ Some s → ((m : ℕ) → held s ≡ Some m → 0 < refs (drop_slot b n i) m)
+pub rest-kept : (b : Board) (n i : ℕ) (work : List (ℕ × ℕ)) (s : Slot) → slot_at b n i ≡ Some s → ((m : ℕ) → referent s ≡ Some m → 0 < refs (drop_slot b n i) m)
     → rest b ((n, i) ∷ work) ≡ rest (drop_slot b n i) ((n, next_index s i) ∷ work)
 rest-kept b n i work s e some =
     ap (λ (c : Board). rest c work)
-    (end_of-some b n i s e ∙ ap (λ (c : Board). end_of c n (next_index s i)) (after-kept (drop_slot b n i) (held s) some))
+    (end_of-some b n i s e ∙ ap (λ (c : Board). end_of c n (next_index s i)) (after-kept (drop_slot b n i) (referent s) some))
 
-pub rest-freed : (b : Board) (n i : ℕ) (work : List (ℕ × ℕ)) (s : Slot) (m : ℕ) → slot_at b n i ≡ Some s → held s ≡ Some m → refs (drop_slot b n i) m ≡ 0
+pub rest-freed : (b : Board) (n i : ℕ) (work : List (ℕ × ℕ)) (s : Slot) (m : ℕ) → slot_at b n i ≡ Some s → referent s ≡ Some m → refs (drop_slot b n i) m ≡ 0
     → rest b ((n, i) ∷ work) ≡ rest (drop_slot b n i) ((m, 0) ∷ (n, next_index s i) ∷ work)
 rest-freed b n i work s m e h none =
     ap (λ (c : Board). rest c work)
     (end_of-some b n i s e
-    ∙ ap (λ (c : Board). end_of c n (next_index s i)) (after-freed (drop_slot b n i) (held s) m h none ∙ end_of-first (drop_slot b n i) m))
+    ∙ ap (λ (c : Board). end_of c n (next_index s i)) (after-freed (drop_slot b n i) (referent s) m h none ∙ end_of-first (drop_slot b n i) m))
 
 -- what slots name passes a test
 abbrev NamesIn : (ℕ → Bool) → Slot → Type 0
@@ -167,14 +167,14 @@ linked-finish b n none h =
     }
 
 -- what a slot holds is there
-held-target : (s : Slot) (m : ℕ) → held s ≡ Some m → target_of s ≡ Some m
+held-target : (s : Slot) (m : ℕ) → referent s ≡ Some m → target_of s ≡ Some m
 held-target (plain v) m e = cc
 held-target (child k) m e = e
 held-target (strong t target) m e = e
 held-target (weak t target) m e = cc
 held-target (alias k property) m e = cc
 
-pub held-there : (b : Board) (n i m : ℕ) (s : Slot) → IsLinked b → slot_at b n i ≡ Some s → held s ≡ Some m → is_live b m ≡ true
+pub held-there : (b : Board) (n i m : ℕ) (s : Slot) → IsLinked b → slot_at b n i ≡ Some s → referent s ≡ Some m → is_live b m ≡ true
 held-there b n i m s h e holds =
     let at : StandsAt b n i s = stands-at b n i s e in
     let slots : AllNameIn (is_live b) at.owner.slots =
@@ -204,7 +204,7 @@ work-drop : (b : Board) (n i j : ℕ) (work : List (ℕ × ℕ)) → IsWork b ((
 work-drop b n i j work w = record { differ = w.differ; live = live-drop b n i ((n, j) ∷ work) w.live; free = free-drop b n i ((n, j) ∷ work) w.free }
 
 -- what a slot holds is none of the work
-apart-work : (b : Board) (n i m : ℕ) (s : Slot) → slot_at b n i ≡ Some s → held s ≡ Some m → (work : List (ℕ × ℕ))
+apart-work : (b : Board) (n i m : ℕ) (s : Slot) → slot_at b n i ≡ Some s → referent s ≡ Some m → (work : List (ℕ × ℕ))
     → AllByRecursion (λ (p : ℕ × ℕ). refs b p.0 ≡ 0) work → AllByRecursion (λ x. nat_eq m x ≡ false) (objects work)
 apart-work b n i m s e h [] free = tt
 apart-work b n i m s e h (p ∷ work) free = (go (nat_eq m p.0) refl, apart-work b n i m s e h work free.1)
@@ -213,7 +213,7 @@ apart-work b n i m s e h (p ∷ work) free = (go (nat_eq m p.0) refl, apart-work
     go true is = absurd (unheld-apart b p.0 n i m s free.0 e h (eqb-true m p.0 is))
     go false is = is
 
-work-freed : (b : Board) (n i j m : ℕ) (s : Slot) (work : List (ℕ × ℕ)) → IsLinked b → IsWork b ((n, i) ∷ work) → slot_at b n i ≡ Some s → held s ≡ Some m
+work-freed : (b : Board) (n i j m : ℕ) (s : Slot) (work : List (ℕ × ℕ)) → IsLinked b → IsWork b ((n, i) ∷ work) → slot_at b n i ≡ Some s → referent s ≡ Some m
     → refs (drop_slot b n i) m ≡ 0 → IsWork (drop_slot b n i) ((m, 0) ∷ (n, j) ∷ work)
 unfolding IsDistinct
 work-freed b n i j m s work linked w e h none =

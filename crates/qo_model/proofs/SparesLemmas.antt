@@ -2,7 +2,7 @@
 use Rattle.std.proofs.Common.{◌≡◌, refl, ap, sym, ◌∙◌, ℕ, Bool, true, false, not, ◌&&◌, ◌==◌, cond, List, [], ◌∷◌, ◌++◌, map, filter, find, append_assoc, subst, Option, Some, None, is_some}
 use Rattle.qo_model.proofs.Common.{AllByRecursion, Board, Record, Slot, plain, child, strong, weak, alias, is_live, slot_at, SparesLaw, edited, with_dropped, drop_slot, next_index, forgotten_in, forgotten, finish, finalize, KeepsRelease, SeesOnly, WeakLinksLive, seen_in, thinned}
 use Rattle.std.proofs.lemmas.Bool.{eq-eqb}
-use Rattle.qo_model.specs.Board.{held}
+use Rattle.qo_model.specs.Board.{referent}
 use Rattle.qo_model.proofs.ReleaseInductionLemmas.{release_keeps}
 use Rattle.qo_model.proofs.StepLemmas.{drop-live, finish-live}
 

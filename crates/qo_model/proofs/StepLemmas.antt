@@ -4,7 +4,7 @@ use Rattle.qo_model.proofs.Common.{option_map_or, Board, Record, Slot, plain, ch
 use Rattle.std.proofs.lemmas.Bool.{eqb-true, eq-eqb}
 use Rattle.std.proofs.lemmas.Option.{same_Some}
 use Rattle.std.proofs.lemmas.List.Sums.{sum_by-cons}
-use Rattle.qo_model.specs.Board.{held}
+use Rattle.qo_model.specs.Board.{referent}
 use Rattle.qo_model.proofs.EditLemmas.{sum-held, one_is, held-forgotten, sum-edit_le, sum-filter_le, left_of, sum-without_hold_le, StandsAt, stands-at}
 use Rattle.qo_model.proofs.ReleaseLemmas.{found-within}
 
@@ -177,7 +177,7 @@ unfolding finish
 finish-refs b n x = omega (arith, sum-filter_le (refs_in x) (forgotten n) (λ (r : Record). not (r.birth == n)) (forgotten-refs n x) b.records)
 
 -- what a slot holds has a reference
-pub held-refs : (b : Board) (n i m : ℕ) (s : Slot) → slot_at b n i ≡ Some s → held s ≡ Some m → 0 < refs b m
+pub held-refs : (b : Board) (n i m : ℕ) (s : Slot) → slot_at b n i ≡ Some s → referent s ≡ Some m → 0 < refs b m
 held-refs b n i m s e h =
     let at : StandsAt b n i s = stands-at b n i s e in
     let one : one_of m at.entry ≡ 1 = rw (at.is, holds_it, h, eq-eqb m m refl) refl in
@@ -191,7 +191,7 @@ held-refs b n i m s e h =
     counted (z ∷ slots) (suc j) y q = omega (arith, sum_by-cons (one_of m) z slots, counted slots j y q)
 
 -- so an object without references is not what a slot holds
-pub unheld-apart : (b : Board) (x n i m : ℕ) (s : Slot) → refs b x ≡ 0 → slot_at b n i ≡ Some s → held s ≡ Some m → m ≡ x → ⊥
+pub unheld-apart : (b : Board) (x n i m : ℕ) (s : Slot) → refs b x ≡ 0 → slot_at b n i ≡ Some s → referent s ≡ Some m → m ≡ x → ⊥
 unheld-apart b x n i m s none e h is =
     let some : 0 < refs b m = held-refs b n i m s e h in
     let same : refs b m ≡ refs b x = ap (refs b) is in

@@ -2,7 +2,7 @@
 use Rattle.std.proofs.Common.{nat_eq, ◌≡◌, refl, subst, ◌∙◌, ℕ, zero, suc, Bool, true, false, not, ◌&&◌, ◌==◌, List, [], ◌∷◌, map, filter, Option, Some, None}
 use Rattle.qo_model.proofs.Common.{AllByRecursion, list_any, Board, Record, Slot, plain, child, strong, weak, alias, is_live, slot_at, edited, emptied, without_hold, with_dropped, drop_slot, forgotten_in, forgotten, finish, after, finalize, let_go, unpin, without_pin, WeakLinksLaw, KeepsRelease, SeesOnly, WeakLinksLive}
 use Rattle.std.proofs.lemmas.Option.{same_Some}
-use Rattle.qo_model.specs.Board.{held}
+use Rattle.qo_model.specs.Board.{referent}
 use Rattle.qo_model.proofs.ReleaseInductionLemmas.{release_keeps, after_keeps}
 use Rattle.qo_model.proofs.StepLemmas.{drop-live, finish-live}
 
@@ -109,7 +109,7 @@ let_go-weak b owner i h = go (slot_at b owner i) refl
   where
     go : (o : Option Slot) → slot_at b owner i ≡ o → WeakLinksLive (let_go b owner i)
     go None p = rw (let_go, p) h
-    go (Some s) p = rw (let_go, p) (after-weak (drop_slot b owner i) (held s) (weak-drop b owner i h))
+    go (Some s) p = rw (let_go, p) (after-weak (drop_slot b owner i) (referent s) (weak-drop b owner i h))
 
 unpin-weak : (b : Board) (n : ℕ) → WeakLinksLive b → WeakLinksLive (unpin b n)
 unfolding unpin

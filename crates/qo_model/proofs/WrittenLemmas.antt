@@ -74,12 +74,12 @@ module _ (P : Board → Type 0) (b : Board) (none : P b) (n : ℕ) (name : List 
   to-slot i (row.Child t) keeps s at = none
   to-slot i (row.Alias owner property) keeps s at = none
 
-  pub write-comes : ((i : ℕ) (t : TypeId) (p : Property) → kind_of b n ≡ Some t → property_named t name ≡ Some p → may_set p.mark ≡ true
+  pub write-comes : ((i : ℕ) (t : TypeId) (p : Property) → kind_of b n ≡ Some t → property_named t name ≡ Some p → may_set p.access ≡ true
       → Writes P b n i name p.role v) → P (after_write b (write b n name v))
   write-comes keeps = go (position (λ (s : List ℕ × Slot). bytes_eq s.0 name) (slots_at b n)) refl
     where
       by : (i : ℕ) → SlotFound name (slots_at b n) i → (t : TypeId) → kind_of b n ≡ Some t → (p : Property) → property_named t name ≡ Some p → (u : Bool)
-          → may_set p.mark ≡ u → P (after_write b (written_by b n i (Some p) v))
+          → may_set p.access ≡ u → P (after_write b (written_by b n i (Some p) v))
       by i f t kind p e false m = rw (written_by, m) none
       by i f t kind p e true m =
           let there : slot_at b n i ≡ Some f.entry.1 = ap (option_map (λ (x : List ℕ × Slot). x.1)) f.at in
@@ -90,7 +90,7 @@ module _ (P : Board → Type 0) (b : Board) (none : P b) (n : ℕ) (name : List 
       by_row : (i : ℕ) → SlotFound name (slots_at b n) i → (t : TypeId) → kind_of b n ≡ Some t → (o : Option Property) → property_named t name ≡ o
           → P (after_write b (written_by b n i o v))
       by_row i f t kind None e = none
-      by_row i f t kind (Some p) e = by i f t kind p e (may_set p.mark) refl
+      by_row i f t kind (Some p) e = by i f t kind p e (may_set p.access) refl
 
       by_kind : (i : ℕ) → SlotFound name (slots_at b n) i → (o : Option TypeId) → kind_of b n ≡ o
           → P (after_write b (written_by b n i (option_and_then (λ t. property_named t name) o) v))

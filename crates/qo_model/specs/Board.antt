@@ -95,7 +95,7 @@ target_of (weak t target) = target
 target_of _ = None
 
 -- the object that a slot holds, as a child or by a strong link
-abbrev pub held : Slot → Option ℕ
-held (child n) = Some n
-held (strong t target) = target
-held _ = None
+abbrev pub referent : Slot → Option ℕ
+referent (child n) = Some n
+referent (strong t target) = target
+referent _ = None

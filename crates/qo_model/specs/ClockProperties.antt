@@ -7,8 +7,8 @@ use Rattle.qo_values.specs.declared.codes.Code.TheVariants.{E17, E18, E19}
 use Rattle.qo_values.specs.declared.properties.PropType.{PropType}
 use Rattle.qo_values.specs.declared.properties.Val.{Val}
 use Rattle.qo_values.specs.declared.properties.Val.TheVariants as val
-use Rattle.qo_model.specs.declared.properties.Mark.{Mark}
-use Rattle.qo_model.specs.declared.properties.Mark.TheVariants.{Set}
+use Rattle.qo_model.specs.declared.properties.Access.{Access}
+use Rattle.qo_model.specs.declared.properties.Access.TheVariants.{Set}
 use Rattle.qo_model.specs.declared.properties.Property.{Property}
 use Rattle.qo_model.specs.declared.properties.PropertyName.{PropertyName}
 use Rattle.qo_model.specs.declared.properties.PropertyName.TheVariants as prop
@@ -20,12 +20,12 @@ use Rattle.qo_model.specs.Clocks.{div_of, mul_of}
 use Rattle.qo_model.specs.Properties.{property_named, write}
 
 -- the row of the property of a name of n, if `qom-set` alone writes it: the property of a clock, or another name for one
-abbrev pub is_set : Mark → Bool
+abbrev pub is_set : Access → Bool
 is_set Set = true
-is_set mark = false
+is_set access = false
 
 abbrev pub only_set : Property → Option Property
-only_set p = if is_set p.mark then Some p else None
+only_set p = if is_set p.access then Some p else None
 
 abbrev pub set_row : Board → ℕ → List ℕ → Option Property
 set_row b n name = option_and_then (λ t. option_and_then only_set (property_named t name)) (kind_of b n)

@@ -6,9 +6,9 @@ use Rattle.qo_model.specs.References.{refs}
 use Rattle.qo_model.specs.declared.detached.Detached.{Detached}
 
 -- an object, by its birth, its references and its type
-abbrev pub told : Board → Record → Detached
-told b r = record { birth = r.birth; refs = refs b r.birth; kind = r.kind }
+abbrev pub detached_row : Board → Record → Detached
+detached_row b r = record { birth = r.birth; refs = refs b r.birth; kind = r.kind }
 
 -- those without a parent, in the order of births
 abbrev pub detached_listed : Board → List Detached
-detached_listed b = map (told b) (detached b)
+detached_listed b = map (detached_row b) (detached b)

@@ -27,18 +27,18 @@ use Rattle.qo_model.specs.Types.{TypeInfo, inits, is_a, type_named}
 use Rattle.qo_model.specs.declared.properties.Property.{Property}
 use Rattle.qo_model.specs.declared.properties.PropertyRole.{PropertyRole}
 use Rattle.qo_model.specs.declared.properties.PropertyRole.TheVariants as row
-use Rattle.qo_model.specs.declared.properties.Mark.{Mark}
-use Rattle.qo_model.specs.declared.properties.Mark.TheVariants.{Add, Both}
+use Rattle.qo_model.specs.declared.properties.Access.{Access}
+use Rattle.qo_model.specs.declared.properties.Access.TheVariants.{Add, Both}
 
 -- a property that a command gives: its name and its value
 abbrev pub Given : Type 0
 Given = List ℕ × Val
 
--- whether the adding command writes a property with a mark
-abbrev pub may_add : Mark → Bool
+-- whether the adding command writes a property with this access
+abbrev pub may_add : Access → Bool
 may_add Add = true
 may_add Both = true
-may_add mark = false
+may_add access = false
 
 -- the code of a target that was refused
 abbrev pub code_of : Result (Option ℕ) Code → Option Code
@@ -53,7 +53,7 @@ misfit b kind v = Some E19
 
 abbrev pub refusal_by : Board → Option Property → Val → Option Code
 refusal_by b None v = Some E17
-refusal_by b (Some row) v = if may_add row.mark then misfit b row.role v else Some E18
+refusal_by b (Some row) v = if may_add row.access then misfit b row.role v else Some E18
 
 -- why the properties given to a new object of a type are refused, if they are: the first that is, in the order given
 abbrev pub refusal_of : Board → TypeId → List Given → Option Code

@@ -263,7 +263,7 @@ abbrev pub cut_attempt : Board → TypeId → ℕ → Bool → Board
 cut_attempt b t i joined = let os = take i (born_from (suc b.born) (types_in t)) in with_ended b os [] (cut_order joined i os)
 
 -- where a device goes: its bus and its slot there, and of a DIMM its range
-pub record Spot : Type 0 where
+pub record Resources : Type 0 where
   pub bus : ℕ
   pub slot : ℕ
   pub range : Option Range
@@ -281,8 +281,8 @@ range_of b MemDimm props =
     option_and_then (λ m. ok_in (range_for b (number_for props (codes "addr")) (size_of b m))) (target_for b MemoryBackend props (codes "memdev"))
 range_of b t props = None
 
-abbrev pub spot_of : Board → TypeId → ℕ → List Given → Spot
-spot_of b t bus props =
+abbrev pub resources_of : Board → TypeId → ℕ → List Given → Resources
+resources_of b t bus props =
     record { bus = bus; slot = ok_or_zero (bus_slot_for b bus (number_for props (codes "slot"))); range = range_of b t props }
 
 -- an object more after the others, of the next birth; its initializers are noted
@@ -318,8 +318,8 @@ abbrev pub drafted : Board → TypeId → Board
 drafted b t = properties_made (b.born + 1) t (slots_of t) (with_new (fresh (b.born + 1) t) b)
 
 -- it is joined to its container and to its bus
-abbrev pub joined : Board → ℕ → Wanted → Spot → Board → Board
-joined b n a spot c = add spot.bus (kid_name spot.slot) (strong Device (Some n)) (add (parent_for a.id) (name_for b a.id) (child n) c)
+abbrev pub joined : Board → ℕ → Wanted → Resources → Board → Board
+joined b n a resources c = add resources.bus (kid_name resources.slot) (strong Device (Some n)) (add (parent_for a.id) (name_for b a.id) (child n) c)
 
 -- an empty link points at m where m is of its type; any other slot stays
 abbrev pub fitted : Board → ℕ → Slot → Slot
@@ -334,11 +334,11 @@ link_named n name m b = elim (index_from (is_named name) 0 (slots_at b n)) [ Non
 abbrev pub with_given : Board → List Given → Record → Record
 with_given b props r = record r { slots = map (slot_given b props) r.slots }
 
-abbrev pub valued : Board → ℕ → List Given → Spot → Board → Board
-valued b n props spot c =
+abbrev pub valued : Board → ℕ → List Given → Resources → Board → Board
+valued b n props resources c =
     set_named n (codes "realized") (val.Bool true)
-    (link_named n (codes "parent_bus") spot.bus
-    (set_named n (codes "slot") (val.Uint spot.slot)
+    (link_named n (codes "parent_bus") resources.bus
+    (set_named n (codes "slot") (val.Uint resources.slot)
     (edit n (with_given b props) c)))
 
 -- a DIMM stands at its address
@@ -368,16 +368,16 @@ counted None b = record b { anonymous = suc b.anonymous }
 counted (Some id) b = b
 
 -- a device n that was made stands in its place
-abbrev pub stood : Board → ℕ → Wanted → Spot → Board → Board
-stood b n a spot c = edit n (with_body_of a.id spot.range) (addressed_at n spot.range (valued b n a.props spot (joined b n a spot c)))
+abbrev pub stood : Board → ℕ → Wanted → Resources → Board → Board
+stood b n a resources c = edit n (with_body_of a.id resources.range) (addressed_at n resources.range (valued b n a.props resources (joined b n a resources c)))
 
 -- and its clock, where it has one, has its source
 abbrev pub clocked : ℕ → ℕ → Board → Board
 clocked source n c = with_source source (clock_of c n) c
 
 -- the objects are made and stand in their places; the initializers are noted
-abbrev pub with_device : Board → TypeId → Wanted → Spot → Board
-with_device b t a spot = let n = b.born + 1 in counted a.id (clocked (source_for b spot.bus) n (stood b n a spot (drafted b t)))
+abbrev pub with_device : Board → TypeId → Wanted → Resources → Board
+with_device b t a resources = let n = b.born + 1 in counted a.id (clocked (source_for b resources.bus) n (stood b n a resources (drafted b t)))
 
 -- acts, noted in order
 abbrev pub acted_all : Act → List ℕ → Board → Board
@@ -403,8 +403,8 @@ abbrev pub started : ℕ → TypeId → Board → Board
 started n t c = notified_plug n (plugged (acted_all Realize (n ∷ bus_births n t) c) n)
 
 -- a device is added
-abbrev pub with_plugged : Board → TypeId → Wanted → Spot → Board
-with_plugged b t a spot = started (b.born + 1) t (with_device b t a spot)
+abbrev pub with_plugged : Board → TypeId → Wanted → Resources → Board
+with_plugged b t a resources = started (b.born + 1) t (with_device b t a resources)
 
 -- what adding comes to: the stage and the code that refuse it, if they do, and the board after it
 pub record Plugged : Type 0 where
@@ -413,7 +413,7 @@ pub record Plugged : Type 0 where
 
 abbrev pub plug_late : Board → TypeId → ℕ → Wanted → Option (ℕ × Code) → Plugged
 plug_late b t bus a (Some refusal) = record { refusal = Some refusal; board = plug_attempt b t bus refusal.0 }
-plug_late b t bus a None = record { refusal = None; board = with_plugged b t a (spot_of b t bus a.props) }
+plug_late b t bus a None = record { refusal = None; board = with_plugged b t a (resources_of b t bus a.props) }
 
 abbrev pub plug_on : Board → TypeId → ℕ → Wanted → Plugged
 plug_on b t bus a = plug_late b t bus a (barred_late b t bus a.props)

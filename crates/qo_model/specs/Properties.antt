@@ -9,7 +9,7 @@ use Rattle.qo_values.specs.declared.codes.Code.TheVariants.{E15, E16, E17, E18, 
 use Rattle.qo_values.specs.declared.kinds.TypeId.{TypeId}
 use Rattle.qo_values.specs.declared.properties.Val.{Val}
 use Rattle.qo_values.specs.declared.properties.Val.TheVariants as val
-use Rattle.qo_model.specs.Board.{Board, Slot, kind_of, slot_at, slot_named, slots_at, plain, child, strong, weak, alias, held}
+use Rattle.qo_model.specs.Board.{Board, Slot, kind_of, slot_at, slot_named, slots_at, plain, child, strong, weak, alias, referent}
 use Rattle.qo_model.specs.Changes.{point, set}
 use Rattle.qo_model.specs.Clocks.{derived_period}
 use Rattle.qo_model.specs.Paths.{found, missing, several, canonical, resolve}
@@ -19,8 +19,8 @@ use Rattle.qo_model.specs.RowNames.{property_name}
 use Rattle.qo_model.specs.declared.properties.Property.{Property}
 use Rattle.qo_model.specs.declared.properties.PropertyRole.{PropertyRole}
 use Rattle.qo_model.specs.declared.properties.PropertyRole.TheVariants as row
-use Rattle.qo_model.specs.declared.properties.Mark.{Mark}
-use Rattle.qo_model.specs.declared.properties.Mark.TheVariants.{Both}
+use Rattle.qo_model.specs.declared.properties.Access.{Access}
+use Rattle.qo_model.specs.declared.properties.Access.TheVariants.{Both}
 
 -- an object, as the text of a property that names it: its canonical path, or `detached:` and its birth where it has none
 abbrev pub path_text : Board → ℕ → List ℕ
@@ -55,10 +55,10 @@ value_of b n name = option_and_then (slot_value b n name) (slot_named b n name)
 abbrev pub property_named : TypeId → List ℕ → Option Property
 property_named t name = find (λ (p : Property). bytes_eq (property_name p.name) name) (slots_of t)
 
--- whether both `qom-set` and the command that adds an object write a property with a mark
-abbrev pub may_set : Mark → Bool
+-- whether both `qom-set` and the command that adds an object write a property with this access
+abbrev pub may_set : Access → Bool
 may_set Both = true
-may_set mark = false
+may_set access = false
 
 -- what a text names as the target of a link to objects of a type: no target where it is empty; refused where it names several, one of another type, or none
 abbrev pub link_target : Board → TypeId → List ℕ → Result (Option ℕ) Code
@@ -78,7 +78,7 @@ pointed_at (Some m) n i b = point n i m b
 -- a link is written: its new target is set, and then what it held is finalized where nothing refers to it any more
 abbrev pub relinked : Board → ℕ → ℕ → Option ℕ → Board
 relinked b n i target =
-    elim (slot_at b n i) [ None ↦ b | Some s ↦ after finalize (pointed_at target n i (drop_slot b n i)) (held s) ]
+    elim (slot_at b n i) [ None ↦ b | Some s ↦ after finalize (pointed_at target n i (drop_slot b n i)) (referent s) ]
 
 -- a target to a link of n at a place, if it was not refused
 abbrev pub linked : Board → ℕ → ℕ → Result (Option ℕ) Code → Result Board Code
@@ -100,7 +100,7 @@ written b n i kind s v = Err E18
 -- a value to the slot of n at a place, whose property has this row; a slot that no row of the type has is not written
 abbrev pub written_by : Board → ℕ → ℕ → Option Property → Val → Result Board Code
 written_by b n i None v = Err E18
-written_by b n i (Some row) v = if may_set row.mark then written b n i row.role (slot_at b n i) v else Err E18
+written_by b n i (Some row) v = if may_set row.access then written b n i row.role (slot_at b n i) v else Err E18
 
 -- a value to the property of a name of n, where `qom-set` and the command that adds an object both write it
 abbrev pub write : Board → ℕ → List ℕ → Val → Result Board Code

@@ -1,10 +1,10 @@
 -- References: what keeps an object alive (docs/devel/qom.rst, "The QEMU Object Model": reference counting).
 use Rattle.std.specs.Prelude.{ℕ, ◌+◌, Bool, false, ◌==◌, List, None, Some, sum_by, count_by}
-use Rattle.qo_model.specs.Board.{Board, Record, Slot, held}
+use Rattle.qo_model.specs.Board.{Board, Record, Slot, referent}
 
 -- whether a slot holds n
 abbrev pub holds_it : ℕ → Slot → Bool
-holds_it n s = elim (held s) [ None ↦ false | Some m ↦ m == n ]
+holds_it n s = elim (referent s) [ None ↦ false | Some m ↦ m == n ]
 
 -- how many slots of an object hold n
 abbrev pub refs_in : ℕ → Record → ℕ

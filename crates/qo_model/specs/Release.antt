@@ -6,7 +6,7 @@ use Rattle.std.specs.Option.{option_map_or}
 use Rattle.qo_values.specs.declared.kinds.TypeId.{TypeId}
 use Rattle.qo_model.specs.declared.notes.Deed.TheVariants.{Final}
 use Rattle.qo_model.specs.declared.notes.Note.{Note}
-use Rattle.qo_model.specs.Board.{Board, Record, Slot, DeviceEvent, child, strong, weak, record_of, slot_at, held}
+use Rattle.qo_model.specs.Board.{Board, Record, Slot, DeviceEvent, child, strong, weak, record_of, slot_at, referent}
 use Rattle.qo_model.specs.References.{refs}
 use Rattle.qo_model.specs.Types.{finals}
 
@@ -69,7 +69,7 @@ finish b n =
 
 -- how many child slots and strong links that are not empty there are, and how many slots
 abbrev pub holding : Board → ℕ
-holding b = sum_by (λ (r : Record). count_by (λ (s : List ℕ × Slot). is_some (held s.1)) r.slots) b.records
+holding b = sum_by (λ (r : Record). count_by (λ (s : List ℕ × Slot). is_some (referent s.1)) r.slots) b.records
 
 abbrev pub width : Board → ℕ
 width b = sum_by (λ (r : Record). length r.slots) b.records
@@ -85,7 +85,7 @@ from_index finalize zero b n i = b
 from_index finalize (suc places) b n i =
     elim (slot_at b n i) [
       | None ↦ b
-      | Some s ↦ from_index finalize places (after finalize (drop_slot b n i) (held s)) n (next_index s i)
+      | Some s ↦ from_index finalize places (after finalize (drop_slot b n i) (referent s)) n (next_index s i)
     ]
 
 -- one finalization: each slot is let go, in order, and then the object ends
@@ -103,7 +103,7 @@ finalize b n = finalize_within (suc (holding b)) b n
 
 -- the slot of an owner at a place is let go, and what it held is finalized where nothing refers to it any more
 unfoldable pub let_go : Board → ℕ → ℕ → Board
-let_go b owner i = elim (slot_at b owner i) [ None ↦ b | Some s ↦ after finalize (drop_slot b owner i) (held s) ]
+let_go b owner i = elim (slot_at b owner i) [ None ↦ b | Some s ↦ after finalize (drop_slot b owner i) (referent s) ]
 
 -- a list without the first n in it
 abbrev pub without_first : ℕ → List ℕ → List ℕ

@@ -1,6 +1,6 @@
 -- For a law alone. How much a release does: what it ends, and what is left to do as it goes on.
 use Rattle.std.specs.Prelude.{◌≡◌, ℕ, suc, ◌+◌, ◌-◌, ◌*◌, ◌≤◌, Bool, true, false, not, ◌==◌, if◌then◌else◌, List, [], ◌∷◌, length, filter, sum_by, count_by, None, Some}
-use Rattle.qo_model.specs.Board.{Board, Record, Slot, weak, is_live, slot_at, held}
+use Rattle.qo_model.specs.Board.{Board, Record, Slot, weak, is_live, slot_at, referent}
 use Rattle.qo_model.specs.References.{refs}
 use Rattle.qo_model.specs.Release.{drop_slot, next_index, finish, finalize}
 use Rattle.qo_model.specs.ReleaseInduction.{WeakLinksLive}

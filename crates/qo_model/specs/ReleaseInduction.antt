@@ -3,7 +3,7 @@
 use Rattle.std.specs.Prelude.{◌≡◌, ℕ, ◌<◌, Bool, true, List, [], ◌∷◌, ◌++◌, filter, Some, None, option_map, ⊤}
 use Rattle.std.specs.List.{AllByRecursion}
 use Rattle.qo_model.specs.declared.notes.Note.{Note}
-use Rattle.qo_model.specs.Board.{Board, Record, Slot, weak, DeviceEvent, record_of, is_live, slot_at, held}
+use Rattle.qo_model.specs.Board.{Board, Record, Slot, weak, DeviceEvent, record_of, is_live, slot_at, referent}
 use Rattle.qo_model.specs.Paths.{births}
 use Rattle.qo_model.specs.References.{refs}
 use Rattle.qo_model.specs.Release.{drop_slot, next_index, finish, finalize}
@@ -12,10 +12,10 @@ use Rattle.qo_model.specs.Release.{drop_slot, next_index, finish, finalize}
 -- front; a slot is let go, and nothing is free
 pub record KeepsRelease (P : List (ℕ × ℕ) → Board → Type 0) : Type 0 where
   pub ended : (b : Board) (n i : ℕ) (work : List (ℕ × ℕ)) → P ((n, i) ∷ work) b → slot_at b n i ≡ None → P work (finish b n)
-  pub freed : (b : Board) (n i : ℕ) (work : List (ℕ × ℕ)) (s : Slot) (m : ℕ) → P ((n, i) ∷ work) b → slot_at b n i ≡ Some s → held s ≡ Some m
+  pub freed : (b : Board) (n i : ℕ) (work : List (ℕ × ℕ)) (s : Slot) (m : ℕ) → P ((n, i) ∷ work) b → slot_at b n i ≡ Some s → referent s ≡ Some m
       → refs (drop_slot b n i) m ≡ 0 → P ((m, 0) ∷ (n, next_index s i) ∷ work) (drop_slot b n i)
   pub kept : (b : Board) (n i : ℕ) (work : List (ℕ × ℕ)) (s : Slot) → P ((n, i) ∷ work) b → slot_at b n i ≡ Some s
-      → ((m : ℕ) → held s ≡ Some m → 0 < refs (drop_slot b n i) m) → P ((n, next_index s i) ∷ work) (drop_slot b n i)
+      → ((m : ℕ) → referent s ≡ Some m → 0 < refs (drop_slot b n i) m) → P ((n, next_index s i) ∷ work) (drop_slot b n i)
 
 -- what each turn keeps, a release keeps
 abbrev pub Keeps : (List (ℕ × ℕ) → Board → Type 0) → Type 0

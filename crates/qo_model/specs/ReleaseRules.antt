@@ -1,7 +1,7 @@
 -- The rules of release, without a bound: how a finalization goes on, step by step, from one board to another (docs/devel/qom.rst, "The QEMU Object Model":
 -- reference counting, `object_unref`, `object_finalize`).
 use Rattle.std.specs.Prelude.{◌≡◌, ℕ, ◌<◌, Some, None}
-use Rattle.qo_model.specs.Board.{Board, Slot, slot_at, held}
+use Rattle.qo_model.specs.Board.{Board, Slot, slot_at, referent}
 use Rattle.qo_model.specs.References.{refs}
 use Rattle.qo_model.specs.Release.{drop_slot, next_index, finish}
 
@@ -15,8 +15,8 @@ mutual
     -- there is none at this place
     past : {b : Board} {n i : ℕ} → slot_at b n i ≡ None → SlotsFrom b n i b
     -- one is let go; what it held, if it held an object, still has references; then those after it
-    kept : {b c : Board} {n i : ℕ} {s : Slot} → slot_at b n i ≡ Some s → ((m : ℕ) → held s ≡ Some m → 0 < refs (drop_slot b n i) m)
+    kept : {b c : Board} {n i : ℕ} {s : Slot} → slot_at b n i ≡ Some s → ((m : ℕ) → referent s ≡ Some m → 0 < refs (drop_slot b n i) m)
         → SlotsFrom (drop_slot b n i) n (next_index s i) c → SlotsFrom b n i c
     -- one is let go; nothing refers to what it held any more, and this is finalized; then those after it
-    freed : {b c d : Board} {n i m : ℕ} {s : Slot} → slot_at b n i ≡ Some s → held s ≡ Some m → refs (drop_slot b n i) m ≡ 0 → Finalizes (drop_slot b n i) m c
+    freed : {b c d : Board} {n i m : ℕ} {s : Slot} → slot_at b n i ≡ Some s → referent s ≡ Some m → refs (drop_slot b n i) m ≡ 0 → Finalizes (drop_slot b n i) m c
         → SlotsFrom c n (next_index s i) d → SlotsFrom b n i d

@@ -2,7 +2,7 @@
 -- finalized first at the front.
 use Rattle.std.specs.Prelude.{◌≡◌, ℕ, ◌<◌, Bool, true, nat_eq, if◌then◌else◌, List, [], ◌∷◌, map, Some, None, IfSome}
 use Rattle.std.specs.List.{AllByRecursion, IsDistinct}
-use Rattle.qo_model.specs.Board.{Board, Record, Slot, weak, is_live, slot_at, target_of, held}
+use Rattle.qo_model.specs.Board.{Board, Record, Slot, weak, is_live, slot_at, target_of, referent}
 use Rattle.qo_model.specs.Paths.{births}
 use Rattle.qo_model.specs.References.{refs}
 use Rattle.qo_model.specs.Release.{drop_slot, next_index, finish, width, from_index, finalize}
@@ -33,9 +33,9 @@ pub record Turns (b : Board) (work : List (ℕ × ℕ)) (c : Board) (next : List
 -- let go, and nothing is free
 pub record StackTurn (b : Board) (n i : ℕ) (work : List (ℕ × ℕ)) : Type 0 where
   pub ended : slot_at b n i ≡ None → Turns b ((n, i) ∷ work) (finish b n) work
-  pub freed : (s : Slot) (m : ℕ) → slot_at b n i ≡ Some s → held s ≡ Some m → refs (drop_slot b n i) m ≡ 0
+  pub freed : (s : Slot) (m : ℕ) → slot_at b n i ≡ Some s → referent s ≡ Some m → refs (drop_slot b n i) m ≡ 0
       → Turns b ((n, i) ∷ work) (drop_slot b n i) ((m, 0) ∷ (n, next_index s i) ∷ work)
-  pub kept : (s : Slot) → slot_at b n i ≡ Some s → ((m : ℕ) → held s ≡ Some m → 0 < refs (drop_slot b n i) m)
+  pub kept : (s : Slot) → slot_at b n i ≡ Some s → ((m : ℕ) → referent s ≡ Some m → 0 < refs (drop_slot b n i) m)
       → Turns b ((n, i) ∷ work) (drop_slot b n i) ((n, next_index s i) ∷ work)
 
 -- a weak link that sees no object that passes is emptied; an object of which each such link is

@@ -26,12 +26,12 @@ post b o = by_objects (post_turn b) (λ _. []) (births b) o
 abbrev pub count : Board → ℕ → ℕ
 count b o = count_by (λ r. among (post b r) o) b.holds
 
-abbrev pub is_out : Board → ℕ → Bool
-is_out b o = count b o == 0
+abbrev pub is_not_in_reset : Board → ℕ → Bool
+is_not_in_reset b o = count b o == 0
 
 -- whether a hold on an object would be one too many for it or for one below it
-abbrev pub is_deep : Board → ℕ → Bool
-is_deep b r = list_any (λ o. nat_lt HOLD_COUNT_MAX (count b o)) (post b r)
+abbrev pub exceeds_depth : Board → ℕ → Bool
+exceeds_depth b r = list_any (λ o. nat_lt HOLD_COUNT_MAX (count b o)) (post b r)
 
 -- a phase, on objects in order; the bodies of phases do not read the period
 abbrev pub phased : Act → List ℕ → Board → Board
@@ -39,20 +39,20 @@ phased act [] b = b
 phased act (o ∷ os) b = phased act os (acted act o 0 b)
 
 -- a hold: those that were out enter and then hold
-unfoldable pub held : Board → ℕ → Board
-held b r =
-    let c = phased Hold (filter (is_out b) (post b r)) (phased Enter (filter (is_out b) (post b r)) b) in
+unfoldable pub after_hold : Board → ℕ → Board
+after_hold b r =
+    let c = phased Hold (filter (is_not_in_reset b) (post b r)) (phased Enter (filter (is_not_in_reset b) (post b r)) b) in
     record c { holds = b.holds ++ r ∷ [] }
 
 -- a hold less: those that are out now exit
 unfoldable pub released : Board → ℕ → Board
 released b r =
     let c = record b { holds = without_first r b.holds } in
-    phased Exit (filter (is_out c) (post c r)) c
+    phased Exit (filter (is_not_in_reset c) (post c r)) c
 
 unfoldable pub pulse : Board → ℕ → Board
-pulse b r = released (held b r) r
+pulse b r = released (after_hold b r) r
 
 -- what is plugged goes through the phases, and stays held where it is below a hold
 unfoldable pub plugged : Board → ℕ → Board
-plugged b d = phased Exit (filter (is_out b) (post b d)) (phased Hold (post b d) (phased Enter (post b d) b))
+plugged b d = phased Exit (filter (is_not_in_reset b) (post b d)) (phased Hold (post b d) (phased Enter (post b d) b))

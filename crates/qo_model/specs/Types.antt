@@ -14,8 +14,8 @@ use Rattle.qo_model.specs.RowNames.{interface_name}
 use Rattle.qo_model.specs.declared.properties.First.TheVariants as first
 use Rattle.qo_model.specs.declared.properties.Interface.{Interface}
 use Rattle.qo_model.specs.declared.properties.Interface.TheVariants.{HotplugHandler, Resettable, UserCreatable}
-use Rattle.qo_model.specs.declared.properties.Mark.{Mark}
-use Rattle.qo_model.specs.declared.properties.Mark.TheVariants.{Never, Add, Both, Set}
+use Rattle.qo_model.specs.declared.properties.Access.{Access}
+use Rattle.qo_model.specs.declared.properties.Access.TheVariants.{Never, Add, Both, Set}
 use Rattle.qo_model.specs.declared.properties.Property.{Property}
 use Rattle.qo_model.specs.declared.properties.PropertyName.{PropertyName}
 use Rattle.qo_model.specs.declared.properties.PropertyName.TheVariants as prop
@@ -48,8 +48,8 @@ abbrev pub int64 : PropType
 int64 = ty.Int (negsuc (2 ^ 63 - 1)) (pos (2 ^ 63 - 1))
 
 -- a row of properties with its parts in order
-abbrev pub property : PropertyName → PropertyRole → Mark → Property
-property name kind mark = record { name = name; role = kind; mark = mark }
+abbrev pub property : PropertyName → PropertyRole → Access → Property
+property name kind access = record { name = name; role = kind; access = access }
 
 -- the sixteen types
 unfoldable pub types : List TypeInfo

@@ -6,7 +6,7 @@ use Rattle.qo_values.specs.declared.births.TheConstants.{ANONYMOUS_BIRTH, PERIPH
 use Rattle.qo_values.specs.declared.kinds.Act.TheVariants.{Unrealize}
 use Rattle.qo_values.specs.declared.properties.Val.{Val}
 use Rattle.qo_values.specs.declared.properties.Val.TheVariants as val
-use Rattle.qo_model.specs.Board.{Board, Notice, Slot, strong, weak, slots_at, slot_at, held}
+use Rattle.qo_model.specs.Board.{Board, Notice, Slot, strong, weak, slots_at, slot_at, referent}
 use Rattle.qo_model.specs.Changes.{cut, set, with_changed}
 use Rattle.qo_model.specs.Clocks.{acted, device_period}
 use Rattle.qo_model.specs.Depth.{by_objects}
@@ -71,7 +71,7 @@ unrealize b d = by_objects (unrealize_turn b) (λ d c. c) (births b) d b
 
 -- the first link that passes is let go and removed
 abbrev pub take_slot : Board → ℕ → ℕ → Board
-take_slot b n i = elim (slot_at b n i) [ None ↦ b | Some s ↦ after finalize (cut n i (drop_slot b n i)) (held s) ]
+take_slot b n i = elim (slot_at b n i) [ None ↦ b | Some s ↦ after finalize (cut n i (drop_slot b n i)) (referent s) ]
 
 abbrev pub take_where : (List ℕ × Slot → Bool) → ℕ → Board → Board
 take_where p n b = elim (index_from p 0 (slots_at b n)) [ None ↦ b | Some i ↦ take_slot b n i ]

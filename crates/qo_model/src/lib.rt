@@ -9,4 +9,4 @@ mod properties;
 
 pub use detached::Detached;
 pub use notes::{Deed, Note};
-pub use properties::{First, Interface, Mark, Property, PropertyName, PropertyRole};
+pub use properties::{Access, First, Interface, Property, PropertyName, PropertyRole};

@@ -22,7 +22,7 @@ pub enum First {
 
 /// Who may write a property.
 #[derive(Clone, Copy, Debug, PartialEq, Eq)]
-pub enum Mark {
+pub enum Access {
     /// Nobody.
     Never,
     /// The command that adds the object.
@@ -64,7 +64,7 @@ pub struct Property {
     /// What the property is.
     pub role: PropertyRole,
     /// Who may write it.
-    pub mark: Mark,
+    pub access: Access,
 }
 
 /// The name of a property in a row, in the order of the rows.

@@ -14,7 +14,7 @@ use Rattle.qo_model.specs.Paths as paths
 use Rattle.qo_model.proofs.StepLemmas.{is_some-map}
 use Rattle.qo_object.specs.declared.slots.Slot.{Slot}
 use Rattle.qo_object.specs.declared.slots.Slot.TheVariants.{Plain, Child, Link, Alias}
-use Rattle.qo_object.specs.Slots.{Named, slot_in, target_of, held, holds, names_child, unless_born, forgotten_in, let_go_at, each_changed}
+use Rattle.qo_object.specs.Slots.{Named, slot_in, target_of, referent, holds, names_child, unless_born, forgotten_in, let_go_at, each_changed}
 use Rattle.qo_values.proofs.ListLemmas.{find-at_place}
 use Rattle.qo_object.specs.Content.{Content, with_slot, dropped_at, forgotten, holding, is_parent, reference_count}
 use Rattle.qo_object.specs.BoardObject.{birth_of, shown_slot, shown_slots, shown}
@@ -28,15 +28,15 @@ shown-target (Link ty true target) = refl
 shown-target (Link ty false target) = refl
 shown-target (Alias key name) = refl
 
-pub shown-held : (s : Slot) → board.held (shown_slot s) ≡ birth_of (held s)
+pub shown-held : (s : Slot) → board.referent (shown_slot s) ≡ birth_of (referent s)
 shown-held (Plain val) = refl
 shown-held (Child key) = refl
 shown-held (Link ty true target) = refl
 shown-held (Link ty false target) = refl
 shown-held (Alias key name) = refl
 
-some-held : (s : Slot) → is_some (board.held (shown_slot s)) ≡ is_some (held s)
-some-held s = rw (shown-held s) (by (held s))
+some-held : (s : Slot) → is_some (board.referent (shown_slot s)) ≡ is_some (referent s)
+some-held s = rw (shown-held s) (by (referent s))
   where
     by : (key : Option Key) → is_some (birth_of key) ≡ is_some key
     by None = refl
@@ -119,18 +119,19 @@ shown-with_slot n name s c = ap (λ slots. record (shown n c) { slots = slots })
 pub refs-shown : (n m : ℕ) (c : Content) → references.refs_in m (shown n c) ≡ holding m c
 refs-shown n m c = holding-shown m c.slots
 
-pub reference_count-shown : (n : ℕ) (c : Content) → count_by (λ (s : List ℕ × board.Slot). is_some (board.held s.1)) (shown n c).slots ≡ reference_count c
+pub reference_count-shown : (n : ℕ) (c : Content) → count_by (λ (s : List ℕ × board.Slot). is_some (board.referent s.1)) (shown n c).slots ≡ reference_count c
 reference_count-shown n c = go c.slots
   where
     go : (slots : List Named)
-        → count_by (λ (s : List ℕ × board.Slot). is_some (board.held s.1)) (shown_slots slots) ≡ count_by (λ (s : Named). is_some (held s.1)) slots
+        → count_by (λ (s : List ℕ × board.Slot). is_some (board.referent s.1)) (shown_slots slots) ≡ count_by (λ (s : Named). is_some (referent s.1)) slots
     go [] = refl
     go (s ∷ slots) =
-        let rest : count_by (λ (t : List ℕ × board.Slot). is_some (board.held t.1)) (shown_slots slots) ≡ count_by (λ (t : Named). is_some (held t.1)) slots =
+        let rest : count_by (λ (t : List ℕ × board.Slot). is_some (board.referent t.1)) (shown_slots slots)
+        ≡ count_by (λ (t : Named). is_some (referent t.1)) slots =
         go slots in
         rw (
-          sum_by-cons (λ (t : List ℕ × board.Slot). cond {A = ℕ} (is_some (board.held t.1)) 1 0) (s.0, shown_slot s.1) (shown_slots slots),
-          sum_by-cons (λ (t : Named). cond {A = ℕ} (is_some (held t.1)) 1 0) s slots,
+          sum_by-cons (λ (t : List ℕ × board.Slot). cond {A = ℕ} (is_some (board.referent t.1)) 1 0) (s.0, shown_slot s.1) (shown_slots slots),
+          sum_by-cons (λ (t : Named). cond {A = ℕ} (is_some (referent t.1)) 1 0) s slots,
           some-held s.1,
           rest,
         ) refl

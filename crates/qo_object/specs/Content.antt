@@ -13,7 +13,7 @@ use Rattle.qo_object.specs.declared.room.Side.{Side}
 use Rattle.qo_object.specs.declared.room.Work.{Work}
 use Rattle.qo_object.specs.declared.slots.Slot.{Slot}
 use Rattle.qo_object.specs.Room.{no_side, no_work}
-use Rattle.qo_object.specs.Slots.{names_of, named_in, slot_in, changed_at, let_go_at, each_changed, held, holds, names_child, is_empty_link, pointed, with_val, forgotten_in}
+use Rattle.qo_object.specs.Slots.{names_of, named_in, slot_in, changed_at, let_go_at, each_changed, referent, holds, names_child, is_empty_link, pointed, with_val, forgotten_in}
 
 -- its type, its slots by name in the order of adding, how often it is held from outside the tree, its body, and of a device
 -- its id and the path that is kept for its end; and what others keep of it beside the tree
@@ -60,8 +60,8 @@ abbrev pub with_slot : List ℕ → Slot → Content → Content
 with_slot name slot c = record c { slots = c.slots ++ (name, slot) ∷ [] }
 
 -- an object with these slots in the place of its own
-abbrev pub furnished : List (List ℕ × Slot) → Content → Content
-furnished slots c = record c { slots = slots }
+abbrev pub with_all_slots : List (List ℕ × Slot) → Content → Content
+with_all_slots slots c = record c { slots = slots }
 
 -- the object that the slot at a place names; none past the end
 abbrev pub named_at : Content → ℕ → Option Key
@@ -107,7 +107,7 @@ abbrev pub is_parent : ℕ → Content → Bool
 is_parent birth c = list_any (λ (s : List ℕ × Slot). names_child birth s.1) c.slots
 
 abbrev pub reference_count : Content → ℕ
-reference_count c = count_by (λ (s : List ℕ × Slot). is_some (held s.1)) c.slots
+reference_count c = count_by (λ (s : List ℕ × Slot). is_some (referent s.1)) c.slots
 
 -- its body acts
 abbrev pub acted_at : Act → ℕ → ℕ → Content → Content

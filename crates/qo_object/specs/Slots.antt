@@ -22,10 +22,10 @@ child_of (Child key) = Some key
 child_of _ = None
 
 -- the object that a slot holds, as a child or by a strong link
-abbrev pub held : Slot → Option Key
-held (Child key) = Some key
-held (Link ty true target) = target
-held _ = None
+abbrev pub referent : Slot → Option Key
+referent (Child key) = Some key
+referent (Link ty true target) = target
+referent _ = None
 
 -- whether it is a strong link
 abbrev pub is_strong : Slot → Bool
@@ -39,7 +39,7 @@ is_born birth (Some key) = key.birth == birth
 
 -- whether a slot holds the object of a birth, and whether it has it as a child
 abbrev pub holds : ℕ → Slot → Bool
-holds birth s = is_born birth (held s)
+holds birth s = is_born birth (referent s)
 
 abbrev pub names_child : ℕ → Slot → Bool
 names_child birth s = is_born birth (child_of s)

@@ -15,7 +15,7 @@ mod slots;
 pub use devices::DeviceId;
 pub use errors::AddError;
 pub use names::SlotName;
-pub use objects::{Object, Remains};
+pub use objects::{FinalizedParts, Object};
 pub use qo_slots::Key as Oid;
 pub use room::{Side, Work};
 pub use slots::{Slot, SlotView};

@@ -9,9 +9,9 @@ use qo_model::PropertyName;
 use qo_values::Name;
 use std::marker::Model;
 
-/// The text of a slot's name, or what stands for it.
+/// Which name a slot has: one of a table, or a text of its own.
 #[derive(Debug, Drop)]
-enum Given {
+enum NameKind {
     /// The name of a property in a row.
     Row(PropertyName),
     /// The name of the link of a bus to the kid in a slot.
@@ -22,29 +22,29 @@ enum Given {
 
 /// What is compared of two names before their texts: how many bytes they have, and the first.
 #[derive(Clone, Copy, Debug)]
-pub(crate) struct Mark {
+pub(crate) struct Fingerprint {
     /// How many bytes the text has.
     length: usize,
     /// The first of them; 0 of an empty text.
     first: u8,
 }
 
-impl Mark {
+impl Fingerprint {
     ghost use Rattle.std.specs.Prelude.{◌&&◌, ◌==◌};
-    ghost use Rattle.qo_object.specs.Names.{mark_of};
+    ghost use Rattle.qo_object.specs.Names.{fingerprint_of};
 
     /// That of a text.
-    pub(crate) fn of(text: &str) -> Mark
-        ensures { result ≡ mark_of text.now }
+    pub(crate) fn of(text: &str) -> Fingerprint
+        ensures { result ≡ fingerprint_of text.now }
     {
-        Mark {
+        Fingerprint {
             length: text.len(),
             first: text.as_bytes().first().copied().unwrap_or(0),
         }
     }
 
     /// Whether it is like another.
-    fn is_like(self, other: Mark) -> bool
+    fn is_like(self, other: Fingerprint) -> bool
         ensures { result ≡ ((self.length == other.length) && (self.first == other.first)) }
     {
         self.length == other.length && self.first == other.first
@@ -55,19 +55,19 @@ impl Mark {
 /// `/`. One that is constant has no text of its own.
 #[derive(Debug, Drop)]
 pub struct SlotName {
-    given: Given,
-    mark: Mark,
+    given: NameKind,
+    fingerprint: Fingerprint,
 }
 
 impl Model for SlotName {
     ghost use Rattle.std.specs.Prelude.{◌≡◌, List, ℕ};
-    ghost use Rattle.qo_object.specs.Names.{IsGiven, given_text, mark_of};
+    ghost use Rattle.qo_object.specs.Names.{IsGiven, fingerprint_of, given_text};
 
     ghost Value = { List ℕ };
 
     ghost view = { λ n. given_text n.given };
 
-    ghost invariant = { λ n. IsGiven n.given × (n.mark ≡ mark_of (given_text n.given)) };
+    ghost invariant = { λ n. IsGiven n.given × (n.fingerprint ≡ fingerprint_of (given_text n.given)) };
 }
 
 /// The text of the name of the link of a bus to the kid in a slot.
@@ -90,16 +90,16 @@ fn kid_text(slot: u8) -> &'static str
 impl SlotName {
     ghost use Rattle.std.specs.Str.{bytes_eq};
     ghost use Rattle.qo_values.specs.Names.{IsName};
-    ghost use Rattle.qo_object.specs.Names.{mark_of};
+    ghost use Rattle.qo_object.specs.Names.{fingerprint_of};
 
     /// The name of a property in a row. It takes no memory.
     pub fn row(name: PropertyName) -> SlotName
         ensures { result ≡ property_name name }
     {
-        let mark = Mark::of(name.as_str());
+        let fingerprint = Fingerprint::of(name.as_str());
         SlotName {
-            given: Given::Row(name),
-            mark,
+            given: NameKind::Row(name),
+            fingerprint,
         }
     }
 
@@ -108,10 +108,10 @@ impl SlotName {
         requires { slot < BUS_SLOTS }
         ensures { result ≡ kid_name slot }
     {
-        let mark = Mark::of(kid_text(slot));
+        let fingerprint = Fingerprint::of(kid_text(slot));
         SlotName {
-            given: Given::Kid(slot),
-            mark,
+            given: NameKind::Kid(slot),
+            fingerprint,
         }
     }
 
@@ -119,10 +119,10 @@ impl SlotName {
     pub fn own(name: Name) -> SlotName
         ensures { result ≡ name }
     {
-        let mark = Mark::of(name.as_str());
+        let fingerprint = Fingerprint::of(name.as_str());
         SlotName {
-            given: Given::Own(name),
-            mark,
+            given: NameKind::Own(name),
+            fingerprint,
         }
     }
 
@@ -132,17 +132,17 @@ impl SlotName {
         ensures name { IsName self.now }
     {
         match &self.given {
-            Given::Row(name) => name.as_str(),
-            Given::Kid(slot) => kid_text(*slot),
-            Given::Own(name) => name.as_str(),
+            NameKind::Row(name) => name.as_str(),
+            NameKind::Kid(slot) => kid_text(*slot),
+            NameKind::Own(name) => name.as_str(),
         }
     }
 
-    /// Whether it is this text, which has this mark. It takes no memory.
-    pub(crate) fn is(&self, text: &str, mark: Mark) -> bool
-        requires { mark ≡ mark_of text.now }
+    /// Whether it is this text, which has this fingerprint. It takes no memory.
+    pub(crate) fn is(&self, text: &str, fingerprint: Fingerprint) -> bool
+        requires { fingerprint ≡ fingerprint_of text.now }
         ensures { result ≡ bytes_eq text.now self.now }
     {
-        mark.is_like(self.mark) && text == self.as_str()
+        fingerprint.is_like(self.fingerprint) && text == self.as_str()
     }
 }

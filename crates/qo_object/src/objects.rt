@@ -30,7 +30,7 @@ pub struct Object {
 
 /// What has to be ended with an object: its claims, and the path that was kept for its end. It can't
 /// be let go.
-pub struct Remains {
+pub struct FinalizedParts {
     /// Its type.
     pub kind: TypeId,
     /// The claims of its body.
@@ -89,7 +89,7 @@ impl Object {
     ghost use Rattle.qo_kinds.specs.Bodies.{MayAct, kept_of};
     ghost use Rattle.qo_object.specs.Loans.{lends_body};
     ghost use Rattle.qo_object.specs.Slots.{has_name, names_child, names_of};
-    ghost use Rattle.qo_object.specs.Content.{IsObject, acted_at, fresh, with_id, with_path, with_side, with_work, with_slot, furnished, named_at, dropped_at, empty_link_at, pointed_at, set_at, cut_at, with_pin, without_pin, forgotten, holding, is_holder, is_parent};
+    ghost use Rattle.qo_object.specs.Content.{IsObject, acted_at, fresh, with_id, with_path, with_side, with_work, with_slot, with_all_slots, named_at, dropped_at, empty_link_at, pointed_at, set_at, cut_at, with_pin, without_pin, forgotten, holding, is_holder, is_parent};
     ghost use Rattle.qo_object.specs.declared.errors.AddError.TheVariants.{Duplicate, Memory};
 
     /// An object of a type, without slots, pinned once. It takes no memory.
@@ -109,10 +109,10 @@ impl Object {
     }
 
     /// What is so of every object: its slots' names differ, and it has at most 2^32 slots and pins.
-    pub fn facts(&self)
+    pub fn reveal_invariant(&self)
         ensures { IsObject self.now }
     {
-        self.slots.facts();
+        self.slots.reveal_invariant();
     }
 
     /// Its type. It takes no memory.
@@ -261,10 +261,10 @@ impl Object {
     }
 
     /// Gives it these slots, whose names differ, in the place of its own. It takes no memory.
-    pub fn furnish(&mut self, slots: Vec<(SlotName, Slot)>)
+    pub fn set_slots(&mut self, slots: Vec<(SlotName, Slot)>)
         requires differ { IsDistinct bytes_eq (names_of slots.items) }
         requires few { length slots.items ≤ 2 ^ 32 }
-        ensures { self.new ≡ furnished slots.items self.old }
+        ensures { self.new ≡ with_all_slots slots.items self.old }
     {
         self.slots = SlotMap::from_vec(slots);
     }
@@ -361,7 +361,7 @@ impl Object {
     }
 
     /// Ends it, and answers what has to be ended with it. It takes no memory.
-    pub fn into_remains(self) -> Remains
+    pub fn into_finalized_parts(self) -> FinalizedParts
         ensures { result ≡ record { kind = self.kind; kept = kept_of self.body; id = self.device_id; path = self.kept_path } }
     {
         let Object {
@@ -375,7 +375,7 @@ impl Object {
             work: _,
         } = self;
         let kept = body.take_claims();
-        Remains {
+        FinalizedParts {
             kind,
             kept,
             id,

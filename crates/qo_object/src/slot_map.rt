@@ -1,7 +1,7 @@
 //! Slots by name, in the order of adding.
 
 use crate::index::Names;
-use crate::names::{Mark, SlotName};
+use crate::names::{Fingerprint, SlotName};
 use crate::slots::{Slot, SlotView};
 use qo_slots::Key;
 use qo_values::Val;
@@ -71,7 +71,7 @@ impl SlotMap {
     }
 
     /// The names differ.
-    pub fn facts(&self)
+    pub fn reveal_invariant(&self)
         ensures { IsDistinct bytes_eq (names_of self.now) }
     {
         let _len = self.slots.len();
@@ -84,8 +84,10 @@ impl SlotMap {
         match &self.index {
             Some(names) => names.find(name),
             None => {
-                let mark = Mark::of(name);
-                self.slots.iter().position(|slot| slot.0.is(name, mark))
+                let fingerprint = Fingerprint::of(name);
+                self.slots
+                    .iter()
+                    .position(|slot| slot.0.is(name, fingerprint))
             }
         }
     }

@@ -39,7 +39,7 @@ pub struct SlotView<'a> {
 
 impl Slot {
     ghost use Rattle.std.specs.Prelude.{◌≡◌};
-    ghost use Rattle.qo_object.specs.Slots.{target_of, is_strong, child_of, holds, names_child, names_weakly, held, unlinked, pointed, with_val, forgotten_in};
+    ghost use Rattle.qo_object.specs.Slots.{target_of, is_strong, child_of, holds, names_child, names_weakly, referent, unlinked, pointed, with_val, forgotten_in};
 
     /// The child that stands in it.
     pub(crate) fn child(&self) -> Option<Key>
@@ -70,8 +70,8 @@ impl Slot {
     }
 
     /// The object that it holds, as a child or by a strong link. It takes no memory.
-    pub fn held(&self) -> Option<Key>
-        ensures { result ≡ held self.now }
+    pub fn referent(&self) -> Option<Key>
+        ensures { result ≡ referent self.now }
     {
         match self {
             Slot::Child(child) => Some(*child),
@@ -88,7 +88,7 @@ impl Slot {
     pub(crate) fn holds(&self, birth: u64) -> bool
         ensures { result ≡ holds birth self.now }
     {
-        match self.held() {
+        match self.referent() {
             Some(key) => key.birth == birth,
             None => false,
         }

@@ -13,6 +13,7 @@ mod walks;
 mod writing;
 
 pub use errors::PathError;
+pub use parts::is_absolute;
 pub use places::is_attached;
 pub use resolving::resolve;
 pub use writing::canonical;

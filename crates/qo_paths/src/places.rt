@@ -10,7 +10,7 @@ use std::sync::ledger::Ledger;
 
 /// The place of an object in the tree.
 #[derive(Clone, Copy)]
-pub struct Place<'a> {
+pub struct Parent<'a> {
     /// The parent.
     pub parent: Oid,
     /// The name that the object has there.
@@ -18,13 +18,13 @@ pub struct Place<'a> {
 }
 
 /// The place of an object; `None` exactly where it has no parent.
-pub fn place_of<'a, L: Ledger>(heap: &'a Heap, o: Oid, steps: &mut Steps<L>) -> Option<Place<'a>>
+pub fn place_of<'a, L: Ledger>(heap: &'a Heap, o: Oid, steps: &mut Steps<L>) -> Option<Parent<'a>>
     ensures { (b : Board) → Shows b heap.now → option_map (λ p. (p.parent.birth, p.name.now)) result ≡ place_of b o.birth }
 {
-    heap.facts();
+    heap.reveal_invariant();
     let parent = heap.parent(o, steps)?;
     let slot = heap.child_slot(parent, o.birth, steps)?;
-    Some(Place {
+    Some(Parent {
         parent,
         name: slot.name,
     })
@@ -34,7 +34,7 @@ pub fn place_of<'a, L: Ledger>(heap: &'a Heap, o: Oid, steps: &mut Steps<L>) -> 
 pub fn is_attached<L: Ledger>(heap: &Heap, o: Oid, steps: &mut Steps<L>) -> bool
     ensures { (b : Board) → Shows b heap.now → result ≡ attached b o.birth }
 {
-    heap.facts();
+    heap.reveal_invariant();
     let mut at = o;
     // A way that is longer than there are objects goes round, and ends nowhere.
     for _turn in 0..heap.live() + 1 {

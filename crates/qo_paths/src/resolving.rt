@@ -42,7 +42,7 @@ fn root(heap: &Heap) -> Option<Oid>
     ensures live { IfSome result (IsLive heap.now.rows) }
     ensures none { IfNone result (object_at heap.now.rows 1 ≡ None) }
 {
-    heap.facts();
+    heap.reveal_invariant();
     let first = heap.oid_at(0)?;
     if first.birth == 1 {
         return Some(first);
@@ -79,7 +79,7 @@ fn end_at<L: Ledger>(
     ensures end { (b : Board) → Shows b heap.now → birth_of result ≡ option_and_then (λ row. end_from b path.now wanted.now row.0.birth) (slice_get heap.now.rows place) }
     ensures live { IfSome result (IsLive heap.now.rows) }
 {
-    heap.facts();
+    heap.reveal_invariant();
     let from = heap.oid_at(place)?;
     let end = end_of(heap, from, path, wanted, steps)?;
     if !is_attached(heap, from, steps) {

@@ -18,7 +18,7 @@ fn next_of<L: Ledger>(heap: &Heap, o: Oid, name: &str, steps: &mut Steps<L>) -> 
     ensures next { (b : Board) → Shows b heap.now → birth_of result ≡ next_of b o.birth name.now }
     ensures live { IfSome result (IsLive heap.now.rows) }
 {
-    heap.facts();
+    heap.reveal_invariant();
     let slot = heap.slot(o, name, steps)?;
     slot.what.target()
 }

@@ -24,7 +24,7 @@ fn names_up<'a, L: Ledger>(
 ) -> Result<Option<Vec<&'a str>>, AllocError>
     ensures { (b : Board) → Shows b heap.now → IfOk result (λ names. option_map (λ ns. path_up (map (λ n. n.now) ns.items)) names ≡ path_down_to b o.birth) }
 {
-    heap.facts();
+    heap.reveal_invariant();
     let mut names = Vec::new(alloc);
     let mut at = o;
     // A way that is longer than there are objects goes round, and ends nowhere.

@@ -2,7 +2,7 @@
 use Rattle.std.proofs.Common.{◌≡◌, refl, ap, sym, ◌∙◌, ℕ, zero, suc, ◌<◌, ◌≤◌, Bool, true, false, ◌||◌, length, Option, Some, None, option_and_then, codes, arith}
 use Rattle.qo_model.proofs.Common.{if◌then◌else◌, MACHINE_BIRTH, Board, among, by_depth, by_objects, bridge_of, bus_above, bus_of, depth_of, depth_turn, going_turn, is_going, attached, births, is_of}
 use Rattle.std.proofs.lemmas.Option.{same_Some}
-use Rattle.qo_sound.proofs.ViewLemmas.{AtRest, rest-from_sound}
+use Rattle.qo_sound.proofs.ViewLemmas.{PinsRootAlone, rest-from_sound}
 use Rattle.qo_sound_devices.specs.SoundDevices.{SoundDevices}
 use Rattle.qo_sound_devices.specs.SoundPlaces.{bridges, child_entries, HasOwner, IsHome, machines}
 use Rattle.qo_sound_devices.proofs.AttachmentLemmas.{owns-listed, parent-is}
@@ -57,7 +57,7 @@ module _ (b : Board) (k : Placed b) (A : Type 0) (turn : (ℕ → A) → ℕ →
 -- an attached bus has an owner
 owner-of : (b : Board) (h : SoundDevices b) (q : ℕ) → is_of b (codes "bus") q ≡ true → attached b q ≡ true → HasOwner b q
 owner-of b h q is home =
-    let rest : AtRest b = rest-from_sound b h.tree in
+    let rest : PinsRootAlone b = rest-from_sound b h.tree in
     attached-owner b h.tree.0 rest.used.firm h.places.0 None (λ x. false) h.places.1 q is home
 
 -- how many bridges

@@ -4,7 +4,7 @@ use Rattle.qo_model.proofs.Common.{list_any, ANONYMOUS_BIRTH, PERIPHERAL_BIRTH, 
 use Rattle.std.proofs.lemmas.Option.{same_Some}
 use Rattle.qo_model.specs.Paths.{parent_of}
 use Rattle.qo_model.specs.Unplug.{first_of}
-use Rattle.qo_sound.proofs.FirmBoardLemmas.{Firm}
+use Rattle.qo_sound.proofs.FirmBoardLemmas.{WellFormed}
 use Rattle.qo_sound.proofs.TestLemmas.{clash, decide}
 use Rattle.qo_sound.proofs.ViewLemmas.{rest-from_sound}
 use Rattle.qo_sound_devices.specs.SoundPlaces.{child_entries, child_entry, listed, names_it, owns, owns_it, stands}
@@ -41,7 +41,7 @@ unlisted-stays d n c none = go (index_from (is_child_slot d) 0 (slots_at c n)) r
     go (Some i) e = clash (sym (child-found d 0 i (slots_at c n) e) ∙ none)
 
 -- so one of the containers lets go, which is the parent
-module _ (b : Board) (firm : Firm b) (d p : ℕ) (above : parent_of b d ≡ Some p) where
+module _ (b : Board) (firm : WellFormed b) (d p : ℕ) (above : parent_of b d ≡ Some p) where
   none-else : (n : ℕ) → (n ≡ p → ⊥) → listed d (child_entries b n) ≡ false
   none-else n apart = decide (listed d (child_entries b n)) (λ l. absurd (apart (same_Some n p (sym (parent-is b firm n d l) ∙ above)))) (λ l. l)
 
@@ -121,7 +121,7 @@ detached_lem b h d p e none above =
     u : Board
     u = unrealize (pin b d) d
 
-    firm : Firm b
+    firm : WellFormed b
     firm = (rest-from_sound b h.tree).used.firm
 
     less : (n : ℕ) → Within (child_entries (left_bus d (unrealize (pin b d) d)) n) (child_entries b n)

@@ -5,18 +5,18 @@ use Rattle.std.proofs.lemmas.Option.{same_Some}
 use Rattle.qo_model.specs.Paths.{parent_of}
 use Rattle.qo_model.specs.Unplug.{first_of}
 use Rattle.qo_model.proofs.PinLemmas.{IsUp, put-up}
-use Rattle.qo_sound.proofs.FirmBoardLemmas.{Firm}
+use Rattle.qo_sound.proofs.FirmBoardLemmas.{WellFormed}
 use Rattle.qo_sound.proofs.TestLemmas.{clash}
-use Rattle.qo_sound.proofs.UnplugLemmas.{held-unrealize, Sits}
-use Rattle.qo_sound.proofs.ViewLemmas.{AtRest, rest-from_sound}
+use Rattle.qo_sound.proofs.UnplugLemmas.{held-unrealize, HasPins}
+use Rattle.qo_sound.proofs.ViewLemmas.{PinsRootAlone, rest-from_sound}
 use Rattle.qo_sound_devices.specs.SoundDevices.{SoundDevices}
 use Rattle.qo_sound_devices.specs.SoundPlaces.{child_entries, child_entry, IsHome, kid_entries, kid_entry, listed, owns, owns_it, PlacesBut, stands}
 use Rattle.qo_sound_devices.proofs.DepartureLemmas.{unrealized-steps}
 use Rattle.qo_sound_devices.proofs.DepthLemmas.{faded_by, is-bus_of, IsBusOf, room, stands-dimmed, unrealize-all, unrealize-only, unrealize-places}
 use Rattle.qo_sound_devices.proofs.DetachmentLemmas.{closed-steps, dims, entries-short, first-among, first-kid, IsClosed, kid-taken, KidTaken, listed-kid, lost, LostBus, mid-pin, no-length, owned-bus, steps-pin, Takes, takes-apart, under-more}
 use Rattle.qo_sound_devices.proofs.PlacesLemmas.{nothing, of-alike}
-use Rattle.qo_sound_devices.proofs.UnparentingLemmas.{Mid, Went}
-use Rattle.qo_sound_devices.proofs.UnrealizingLemmas.{Dimmed, dimmed-none, Under, here}
+use Rattle.qo_sound_devices.proofs.UnparentingLemmas.{Mid, ReachedBySteps}
+use Rattle.qo_sound_devices.proofs.UnrealizingLemmas.{FewerRealized, dimmed-none, Under, here}
 use Rattle.qo_sound_devices.proofs.AttachmentLemmas.{parent-is}
 use Rattle.qo_sound_devices.proofs.PinLemmas.{pin-children}
 use Rattle.qo_sound_devices.proofs.PlacesLemmas.{or-cases, within-same}
@@ -46,7 +46,7 @@ none-owns b d none = go (first_of (buses_of b d)) refl
 -- a device that loses a bus: what is on the bus is taken out, and the device is where it was
 pub record Loses (depth : ℕ → ℕ) (out : ℕ → Bool) (ps : List ℕ) (d q m : ℕ) (b x c : Board) : Type 0 where
   pub does : Out (the_kids m) b x
-  pub went : Went depth out None ps b c
+  pub went : ReachedBySteps depth out None ps b c
   pub still : (stands c d ≡ true) × (bus_of c d ≡ Some q)
   pub fewer : suc (length (child_entries c d)) ≤ length (child_entries b d)
 
@@ -115,12 +115,12 @@ unfolding pin
 pinned-bus b d y = refl
 
 -- the parent of a device that stands, which lets it go once its buses are gone
-parent-stands : (b : Board) → Firm b → (d : ℕ) → stands b d ≡ true → (p : ℕ) × (parent_of b d ≡ Some p)
+parent-stands : (b : Board) → WellFormed b → (d : ℕ) → stands b d ≡ true → (p : ℕ) × (parent_of b d ≡ Some p)
 parent-stands b firm d e =
     or-cases (listed d (child_entries b PERIPHERAL_BIRTH)) (listed d (child_entries b ANONYMOUS_BIRTH)) e
     (λ l. (PERIPHERAL_BIRTH, parent-is b firm PERIPHERAL_BIRTH d l)) (λ l. (ANONYMOUS_BIRTH, parent-is b firm ANONYMOUS_BIRTH d l))
 
-let-go-bare : (b : Board) → Firm b → (d p : ℕ) → parent_of b d ≡ Some p → (u : Board) → Dimmed (pin b d) u → (n : ℕ) → stands b d ≡ true
+let-go-bare : (b : Board) → WellFormed b → (d p : ℕ) → parent_of b d ≡ Some p → (u : Board) → FewerRealized (pin b d) u → (n : ℕ) → stands b d ≡ true
     → left_parent d (left_bus d (lost_buses (apart_within n) (length (slots_at u d)) d u))
     ≡ let_go_where (is_child_slot d) p (left_bus d (lost_buses (apart_within n) (length (slots_at u d)) d u))
 let-go-bare b firm d p above u dim n e =
@@ -147,7 +147,7 @@ does-apart depth out (suc n) =
     (pinned-bus b d d ∙ on) (unrealized-steps b (pin b d) d (steps-pin b d) dim) (entries-short child_entry (slots_at (pin b d) d))))
 
 -- detaching
-module _ (depth : ℕ → ℕ) (b : Board) (d : ℕ) (rest : AtRest b) (h : PlacesBut depth None (λ x. false) b) (e : stands b d ≡ true) where
+module _ (depth : ℕ → ℕ) (b : Board) (d : ℕ) (rest : PinsRootAlone b) (h : PlacesBut depth None (λ x. false) b) (e : stands b d ≡ true) where
   abbrev p : Board
   p = pin b d
 
@@ -172,7 +172,7 @@ module _ (depth : ℕ → ℕ) (b : Board) (d : ℕ) (rest : AtRest b) (h : Plac
   there : stands p d ≡ true
   there = pinned-stands b d d ∙ e
 
-  sits : Sits qs u
+  sits : HasPins qs u
   sits = held-unrealize qs d p pinned.sits
 
   pub middle : Mid depth out None qs u

@@ -3,9 +3,9 @@ use Rattle.std.proofs.Common.{◌≡◌, refl, sym, ◌∙◌, nat_eq, ℕ, Bool
 use Rattle.qo_model.proofs.Common.{list_any, Board, bus_of, bus_slot_of, is_realized, births, after, finalize, pin, put_in_order, unpin, without_pin, apart_within, detach, taken_by, unrealize}
 use Rattle.std.proofs.lemmas.Bool.{false_from_ne_true}
 use Rattle.qo_model.proofs.PinLemmas.{put-up}
-use Rattle.qo_sound.proofs.FirmBoardLemmas.{Firm}
+use Rattle.qo_sound.proofs.FirmBoardLemmas.{WellFormed}
 use Rattle.qo_sound.proofs.TestLemmas.{clash, decide}
-use Rattle.qo_sound.proofs.ViewLemmas.{AtRest, rest-from_sound}
+use Rattle.qo_sound.proofs.ViewLemmas.{PinsRootAlone, rest-from_sound}
 use Rattle.qo_sound_devices.specs.SoundDevices.{SoundDevices}
 use Rattle.qo_sound_devices.specs.SoundPlaces.{IsHome, stands}
 use Rattle.qo_sound_devices.proofs.DepthLemmas.{faded_by, room, stands-dimmed, unrealize-only}
@@ -49,7 +49,7 @@ steps-unpin c d = go (list_any (nat_eq d) c.pins) refl
     go false p = rw (unpin, p) (steps-none c)
 
 module _ (b : Board) (h : SoundDevices b) (d : ℕ) (e : stands b d ≡ true) where
-  rest : AtRest b
+  rest : PinsRootAlone b
   rest = rest-from_sound b h.tree
 
   home : IsHome b d
@@ -75,7 +75,7 @@ module _ (b : Board) (h : SoundDevices b) (d : ℕ) (e : stands b d ≡ true) wh
   sound : SoundDevices (detach b d)
   sound = detached-below b d h e
 
-  firm : Firm (detach b d)
+  firm : WellFormed (detach b d)
   firm = (rest-from_sound (detach b d) sound.tree).used.firm
 
   is-gone : (y : ℕ) → Below b d y → stands (detach b d) y ≡ false

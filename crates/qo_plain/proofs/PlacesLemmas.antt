@@ -9,7 +9,7 @@ use Rattle.qo_model.proofs.FirstSlotLemmas.{named_in}
 use Rattle.qo_model.proofs.StepLemmas.{live-among}
 use Rattle.qo_model.proofs.TreeLemmas.{paths_lem}
 use Rattle.qo_sound.specs.TreeKept.{SoundTree}
-use Rattle.qo_sound.proofs.FirmBoardLemmas.{Firm}
+use Rattle.qo_sound.proofs.FirmBoardLemmas.{WellFormed}
 use Rattle.qo_sound.proofs.RecordLemmas.{all-both, all-map}
 use Rattle.qo_sound.proofs.TestLemmas.{clash, clash-back, decide}
 use Rattle.qo_sound.proofs.TreeKeptLemmas.{sound_kept_lem}
@@ -71,11 +71,11 @@ settled b (suc n) q low = go (bus_above b q) refl (settled b n)
         let few : suc (by_depth (depth_turn b) (λ y. 0) (suc n) above) ≤ suc n = rw (depth_turn, e) at low in
         rw (depth_turn, e) (ap suc (rest above (omega (arith, few))))
 
-opening-firm : Firm opening_board
+opening-firm : WellFormed opening_board
 opening-firm = (rest-from_sound opening_board (sound_kept_lem.run [], sound_kept_lem.run_aliases [])).used.firm
 
 module _ (b : Board) (tree : SoundTree b) (shape : SoundShape b) (owners : SoundOwners b) (h : PlainPlaces b) where
-  firm : Firm b
+  firm : WellFormed b
   firm = (rest-from_sound b tree).used.firm
 
   -- the machine's objects

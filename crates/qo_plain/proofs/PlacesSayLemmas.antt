@@ -6,7 +6,7 @@ use Rattle.std.proofs.lemmas.Option.{same_Some}
 use Rattle.std.proofs.Math.Bool.{or-true}
 use Rattle.qo_model.specs.Paths.{parent_of}
 use Rattle.qo_sound.specs.TreeKept.{SoundTree}
-use Rattle.qo_sound.proofs.FirmBoardLemmas.{Firm}
+use Rattle.qo_sound.proofs.FirmBoardLemmas.{WellFormed}
 use Rattle.qo_sound.proofs.TestLemmas.{clash, clash-back, decide}
 use Rattle.qo_sound.proofs.ViewLemmas.{rest-from_sound}
 use Rattle.qo_sound_devices.specs.DeviceFacts.{IsOnBus}
@@ -31,7 +31,7 @@ stands-in b m p l k = go (eqb p PERIPHERAL_BIRTH) refl (eqb p ANONYMOUS_BIRTH) r
     go false q false r = clash-back (rw (q, r) at k)
 
 module _ (b : Board) (tree : SoundTree b) (h : SoundPlaces b) where
-  firm : Firm b
+  firm : WellFormed b
   firm = (rest-from_sound b tree).used.firm
 
   -- the board without pending removals and notices

@@ -1,6 +1,6 @@
 -- The law: the board with a device more, as one record.
 use Rattle.std.proofs.Common.{rules, ◌≡◌, ◌⊎◌, inl, inr, refl, ap, ap₂, sym, subst, ◌∙◌, ℕ, suc, ◌+◌, ◌<◌, ◌≤◌, Bool, true, false, List, [], ◌∷◌, map, find, codes, Option, Some, None, option_and_then, unwrap_or, Result, Ok, Err, arith}
-use Rattle.qo_model.proofs.Common.{AllByRecursion, list_any, option_map_or, option_or, bytes_eq, SYSTEM_CLOCK_BIRTH, Code, E18, E20, E25, E38, E39, TypeId, MemDimm, Bus, Clock, MemoryBackend, Range, Board, Record, Slot, plain, strong, is_live, kind_of, add, clock_of, Given, refusal_by, refusal_of, slot_given, is_of, Spot, Wanted, addressed_at, at_stage, barred_early, barred_late, born_from, bus_barred, bus_for, bus_slot_for, clocked, code_in, counted, dimms, drafted, has_backend, id_barred, joined, kind_barred, number_for, ok_in, ok_or_zero, plug, plug_as, plug_by, plug_late, range_barred, range_for, range_of, room_barred, size_of, source_for, spot_of, started, stood, target_for, type_barred, valued, with_body_of, with_device, property_named, edit, TypeInfo, is_a, type_named, types}
+use Rattle.qo_model.proofs.Common.{AllByRecursion, list_any, option_map_or, option_or, bytes_eq, SYSTEM_CLOCK_BIRTH, Code, E18, E20, E25, E38, E39, TypeId, MemDimm, Bus, Clock, MemoryBackend, Range, Board, Record, Slot, plain, strong, is_live, kind_of, add, clock_of, Given, refusal_by, refusal_of, slot_given, is_of, Resources, Wanted, addressed_at, at_stage, barred_early, barred_late, born_from, bus_barred, bus_for, bus_slot_for, clocked, code_in, counted, dimms, drafted, has_backend, id_barred, joined, kind_barred, number_for, ok_in, ok_or_zero, plug, plug_as, plug_by, plug_late, range_barred, range_for, range_of, room_barred, size_of, source_for, resources_of, started, stood, target_for, type_barred, valued, with_body_of, with_device, property_named, edit, TypeInfo, is_a, type_named, types}
 use Rattle.std.proofs.lemmas.Bool.{cases_lt}
 use Rattle.std.proofs.lemmas.Slice.Eq.{bytes_eq-Decides}
 use Rattle.qo_values.specs.declared.properties.Val.TheVariants as val
@@ -9,7 +9,7 @@ use Rattle.qo_model.specs.Plug.{first_of}
 use Rattle.qo_model.proofs.GraphLemmas.{births_at}
 use Rattle.qo_sound.specs.TreeKept.{SoundTree}
 use Rattle.qo_sound.proofs.AddLemmas.{unbarred}
-use Rattle.qo_sound.proofs.FirmBoardLemmas.{Firm}
+use Rattle.qo_sound.proofs.FirmBoardLemmas.{WellFormed}
 use Rattle.qo_sound.proofs.PlugLemmas.{device-of, or-none, place-of, stage-none}
 use Rattle.qo_sound.proofs.ViewLemmas.{rest-from_sound}
 use Rattle.qo_sound_bounds.specs.SoundSources.{SoundSources}
@@ -27,77 +27,78 @@ use Rattle.qo_plain.proofs.StandingLemmas.{counted-is, given, head, joined-low, 
 use Rattle.qo_plain.proofs.DeviceRowsLemmas.{Rowed, body_with, rows}
 
 -- what is known where nothing refuses a device
-record Admitted (b : Board) (t : TypeId) (a : Wanted) (spot : Spot) : Type 0 where
+record Admitted (b : Board) (t : TypeId) (a : Wanted) (resources : Resources) : Type 0 where
   low : Low (b.born + 1) b.records
   begun : 8 ≤ b.born
   free : find (λ (p : Given). bytes_eq p.0 (codes "parent_bus")) a.props ≡ None
-  is_bus : is_of b (codes "bus") spot.bus ≡ true
-  bus_low : spot.bus ≤ b.born
-  is_clock : is_of b (codes "clock") (source_for b spot.bus) ≡ true
+  is_bus : is_of b (codes "bus") resources.bus ≡ true
+  bus_low : resources.bus ≤ b.born
+  is_clock : is_of b (codes "clock") (source_for b resources.bus) ≡ true
 
-module _ (b : Board) (t : TypeId) (a : Wanted) (spot : Spot) (k : Admitted b t a spot) (r : Rowed (b.born + 1) t) where
+module _ (b : Board) (t : TypeId) (a : Wanted) (resources : Resources) (k : Admitted b t a resources) (r : Rowed (b.born + 1) t) where
   abbrev n : ℕ
   n = b.born + 1
 
   abbrev source : ℕ
-  source = source_for b spot.bus
+  source = source_for b resources.bus
 
   abbrev c : Board
-  c = joined b (b.born + 1) a spot (beside b t)
+  c = joined b (b.born + 1) a resources (beside b t)
 
-  low_c : Low (b.born + 1) (joined b (b.born + 1) a spot (beside b t)).records
-  low_c = joined-low b (b.born + 1) a spot (beside b t) k.low
+  low_c : Low (b.born + 1) (joined b (b.born + 1) a resources (beside b t)).records
+  low_c = joined-low b (b.born + 1) a resources (beside b t) k.low
 
   abbrev first : Slots
   first = head r.text (plain (val.Bool false)) (strong Bus None) (plain val.Nothing) r.rest
 
   abbrev after_it : Slots
-  after_it = at_address spot.range (map (slot_given b a.props) r.rest)
+  after_it = at_address resources.range (map (slot_given b a.props) r.rest)
 
   abbrev g0 : Slot
   g0 = given b a.props (codes "type") r.text
 
   abbrev last : Slots → Slots
-  last rest = head (given b a.props (codes "type") r.text) (plain (val.Bool true)) (strong Bus (Some spot.bus)) (plain (val.Uint spot.slot)) rest
+  last rest = head (given b a.props (codes "type") r.text) (plain (val.Bool true)) (strong Bus (Some resources.bus)) (plain (val.Uint resources.slot)) rest
 
   drafted-so : drafted b t ≡ star (beside b t) (made n t first) r.kids
   drafted-so =
       drafted-is b t k.low (r.grows b)
       ∙ ap₂ (λ (ss : Slots) (ks : List Record). star (beside b t) (made n t ss) ks) r.slots_are r.kids_are
 
-  joined-so : joined b n a spot (drafted b t) ≡ star c (made n t first) r.kids
+  joined-so : joined b n a resources (drafted b t) ≡ star c (made n t first) r.kids
   joined-so =
-      ap (joined b n a spot) drafted-so
-      ∙ joined-star b n a spot (beside b t) (made n t first) refl k.low r.kids r.high (parent-low b.born a.id k.begun) (omega (arith, k.bus_low))
+      ap (joined b n a resources) drafted-so
+      ∙ joined-star b n a resources (beside b t) (made n t first) refl k.low r.kids r.high (parent-low b.born a.id k.begun) (omega (arith, k.bus_low))
 
-  stood-so : stood b n a spot (drafted b t) ≡ star c (body_with n t a.id spot.range (last after_it)) r.kids
+  stood-so : stood b n a resources (drafted b t) ≡ star c (body_with n t a.id resources.range (last after_it)) r.kids
   stood-so =
-      ap (λ (e : Board). edit n (with_body_of a.id spot.range) (addressed_at n spot.range (valued b n a.props spot e))) joined-so
-      ∙ ap (λ (e : Board). edit n (with_body_of a.id spot.range) (addressed_at n spot.range e))
-      (valued-is b t n c low_c r.kids r.high a.props spot k.free (joined-of b n a spot (beside b t) (codes "bus") spot.bus k.is_bus) r.text (val.Bool false)
+      ap (λ (e : Board). edit n (with_body_of a.id resources.range) (addressed_at n resources.range (valued b n a.props resources e))) joined-so
+      ∙ ap (λ (e : Board). edit n (with_body_of a.id resources.range) (addressed_at n resources.range e))
+      (valued-is b t n c low_c r.kids r.high a.props resources k.free (joined-of b n a resources (beside b t) (codes "bus") resources.bus k.is_bus) r.text
+      (val.Bool false)
       val.Nothing r.rest)
-      ∙ ap (edit n (with_body_of a.id spot.range))
-      (r.addressed b a.props c low_c spot.range g0 (plain (val.Bool true)) (strong Bus (Some spot.bus)) (plain (val.Uint spot.slot)))
-      ∙ star-own n c (made n t (last after_it)) refl low_c (with_body_of a.id spot.range) r.kids r.high
+      ∙ ap (edit n (with_body_of a.id resources.range))
+      (r.addressed b a.props c low_c resources.range g0 (plain (val.Bool true)) (strong Bus (Some resources.bus)) (plain (val.Uint resources.slot)))
+      ∙ star-own n c (made n t (last after_it)) refl low_c (with_body_of a.id resources.range) r.kids r.high
 
-  slots-so : last after_it ≡ placed_slots spot (begun_slots b n t a)
+  slots-so : last after_it ≡ placed_slots resources (begun_slots b n t a)
   slots-so =
-      sym (r.placed b a.props spot.bus spot.slot spot.range g0 (given b a.props (codes "realized") (plain (val.Bool false)))
+      sym (r.placed b a.props resources.bus resources.slot resources.range g0 (given b a.props (codes "realized") (plain (val.Bool false)))
       (given b a.props (codes "parent_bus") (strong Bus None)) (given b a.props (codes "slot") (plain val.Nothing)))
-      ∙ ap (λ (ss : Slots). placed_slots spot (map (slot_given b a.props) ss)) (sym r.begun_are)
+      ∙ ap (λ (ss : Slots). placed_slots resources (map (slot_given b a.props) ss)) (sym r.begun_are)
 
   abbrev further : List Record
-  further = map (further_record (source_for b spot.bus)) (born_from (suc (b.born + 1)) (kinds_of t))
+  further = map (further_record (source_for b resources.bus)) (born_from (suc (b.born + 1)) (kinds_of t))
 
-  device-by : with_device b t a spot ≡ plain_device b t a spot
+  device-by : with_device b t a resources ≡ plain_device b t a resources
   unfolding add
   device-by =
       ap (λ (e : Board). counted a.id (clocked source n e)) stood-so
       ∙ ap (counted a.id)
-      (r.fed b a.props c low_c source (joined-of b n a spot (beside b t) (codes "clock") source k.is_clock) a.id spot.range g0 (plain (val.Bool true))
-      (strong Bus (Some spot.bus)) (plain (val.Uint spot.slot)))
-      ∙ counted-is a.id (star c (body_with n t a.id spot.range (last after_it)) further)
-      ∙ ap (λ (ss : Slots). record (star c (body_with n t a.id spot.range ss) further) { anonymous = count_with a.id b.anonymous }) slots-so
+      (r.fed b a.props c low_c source (joined-of b n a resources (beside b t) (codes "clock") source k.is_clock) a.id resources.range g0 (plain (val.Bool true))
+      (strong Bus (Some resources.bus)) (plain (val.Uint resources.slot)))
+      ∙ counted-is a.id (star c (body_with n t a.id resources.range (last after_it)) further)
+      ∙ ap (λ (ss : Slots). record (star c (body_with n t a.id resources.range ss) further) { anonymous = count_with a.id b.anonymous }) slots-so
 
 -- nothing is given for its bus
 none-given : (b : Board) (n : ℕ) (t : TypeId) → Rowed n t → (props : List Given) → refusal_of b t props ≡ None
@@ -119,7 +120,7 @@ births-low : (k : ℕ) (rs : List Record) → AllByRecursion (λ n. n ≤ k) (bi
 births-low k [] h = tt
 births-low k (r ∷ rs) h = let low : r.birth ≤ k = h.0 in (omega (arith, low), births-low k rs h.1)
 
-live-low : (b : Board) → Firm b → (m : ℕ) → is_live b m ≡ true → m ≤ b.born
+live-low : (b : Board) → WellFormed b → (m : ℕ) → is_live b m ≡ true → m ≤ b.born
 live-low b firm m e = go (cases_lt b.born m)
   where
     go : (b.born < m) ⊎ (m ≤ b.born) → m ≤ b.born
@@ -139,25 +140,26 @@ source-kind b k h bus (bridges p s o) = ap (kind_of b) (source-bridge b k p bus 
     by-clock None q = h.system
     by-clock (Some m) q = h.clocks p m (k.places.each p s refl) q
 
-admitted : (b : Board) → SoundTree b → (t : TypeId) → is_a t (codes "device") ≡ true → (a : Wanted) → refusal_of b t a.props ≡ None → (spot : Spot)
-    → is_of b (codes "bus") spot.bus ≡ true → is_of b (codes "clock") (source_for b spot.bus) ≡ true → Admitted b t a spot
-admitted b tree t device a given spot is_bus is_clock =
+admitted : (b : Board) → SoundTree b → (t : TypeId) → is_a t (codes "device") ≡ true → (a : Wanted) → refusal_of b t a.props ≡ None → (resources : Resources)
+    → is_of b (codes "bus") resources.bus ≡ true → is_of b (codes "clock") (source_for b resources.bus) ≡ true → Admitted b t a resources
+admitted b tree t device a given resources is_bus is_clock =
     record {
       low = births-low b.born b.records firm.within;
       begun = firm.begun;
       free = none-given b (b.born + 1) t (rows (b.born + 1) t device) a.props given;
       is_bus = is_bus;
-      bus_low = live-low b firm spot.bus (of-live b (codes "bus") spot.bus is_bus);
+      bus_low = live-low b firm resources.bus (of-live b (codes "bus") resources.bus is_bus);
       is_clock = is_clock;
     }
   where
-    firm : Firm b
+    firm : WellFormed b
     firm = (rest-from_sound b tree).used.firm
 
-made-is : (b : Board) → SoundTree b → (t : TypeId) → is_a t (codes "device") ≡ true → (a : Wanted) → refusal_of b t a.props ≡ None → (spot : Spot)
-    → is_of b (codes "bus") spot.bus ≡ true → is_of b (codes "clock") (source_for b spot.bus) ≡ true → with_device b t a spot ≡ plain_device b t a spot
-made-is b tree t device a given spot is_bus is_clock =
-    device-by b t a spot (admitted b tree t device a given spot is_bus is_clock) (rows (b.born + 1) t device)
+made-is : (b : Board) → SoundTree b → (t : TypeId) → is_a t (codes "device") ≡ true → (a : Wanted) → refusal_of b t a.props ≡ None → (resources : Resources)
+    → is_of b (codes "bus") resources.bus ≡ true → is_of b (codes "clock") (source_for b resources.bus) ≡ true
+    → with_device b t a resources ≡ plain_device b t a resources
+made-is b tree t device a given resources is_bus is_clock =
+    device-by b t a resources (admitted b tree t device a given resources is_bus is_clock) (rows (b.born + 1) t device)
 
 -- where it goes
 ok-slot : (o : Result ℕ Code) → code_in o ≡ None → o ≡ Ok (ok_or_zero o)
@@ -188,12 +190,13 @@ has-range b t bus props =
     each (λ (t : TypeId). kind_barred b t bus props ≡ None → HasRange b t props (range_of b t props)) (search (rules, dimm-range)) t
 
 module _ (b : Board) (d : SoundDevices b) (h : SoundSources b) (a : Wanted) where
-  accepted-made : (t : TypeId) (bus : ℕ) → Accepted b t bus a → with_device b t a (spot_of b t bus a.props) ≡ plain_device b t a (spot_of b t bus a.props)
+  accepted-made : (t : TypeId) (bus : ℕ) → Accepted b t bus a
+      → with_device b t a (resources_of b t bus a.props) ≡ plain_device b t a (resources_of b t bus a.props)
   accepted-made t bus k =
-      made-is b d.tree t k.device a (passes b t bus a k).properties (spot_of b t bus a.props) goal.is_bus
+      made-is b d.tree t k.device a (passes b t bus a k).properties (resources_of b t bus a.props) goal.is_bus
       (kind-clock b (source_for b bus) (source-kind b (placed b d) h bus goal.owner))
     where
-      goal : Goal d.places.0 b (b.born + 1) bus (spot_of b t bus a.props).slot a.id t (drafted b t)
+      goal : Goal d.places.0 b (b.born + 1) bus (resources_of b t bus a.props).slot a.id t (drafted b t)
       goal = goal-of d.places.0 b t bus a (rest-from_sound b d.tree) d.places.1 k
 
   module _ (row : TypeInfo) (type : type_named a.driver ≡ Some row) where
@@ -206,7 +209,7 @@ module _ (b : Board) (d : SoundDevices b) (h : SoundSources b) (a : Wanted) wher
         record {
           row = row;
           type = type;
-          spot = spot_of b row.id bus a.props;
+          resources = resources_of b row.id bus a.props;
           goes =
               record {
                 bus = p;

@@ -4,10 +4,10 @@ use Rattle.qo_model.proofs.Common.{cons_option, IsDistinct, option_map_or, if◌
 use Rattle.std.proofs.Math.Bool.{or-true}
 use Rattle.std.proofs.lemmas.Bool.{eqb-true, eq-eqb, false_from_ne_true}
 use Rattle.std.proofs.lemmas.Option.{same_Some}
-use Rattle.qo_model.specs.Board.{held}
+use Rattle.qo_model.specs.Board.{referent}
 use Rattle.qo_model.proofs.AmongLemmas.{among-apart}
 use Rattle.qo_model.proofs.FirstSlotLemmas.{Found, found-at}
-use Rattle.qo_sound.proofs.FirmBoardLemmas.{Firm}
+use Rattle.qo_sound.proofs.FirmBoardLemmas.{WellFormed}
 use Rattle.qo_sound.proofs.TestLemmas.{clash}
 use Rattle.qo_sound_devices.specs.SoundPlaces.{child_entries, child_entry, IsHome, kid_entries, kid_entry, listed, names_it, owns_it, PlacesBut, stands}
 use Rattle.qo_sound_devices.proofs.DepthLemmas.{is-bus_of, IsBusOf, kid-of, kids-listed}
@@ -82,7 +82,8 @@ within-rest_same k (more {xs} {ys} y w) ks e h none has = within-all_same (subst
 
 -- kids and buses by their entries
 
-kids-entries : (slots : List (List ℕ × Slot)) → filter_map (λ (s : List ℕ × Slot). strong_in s.1) slots ≡ map (λ (e : List ℕ × ℕ). e.1) (filter_map kid_entry slots)
+kids-entries : (slots : List (List ℕ × Slot))
+    → filter_map (λ (s : List ℕ × Slot). strong_in s.1) slots ≡ map (λ (e : List ℕ × ℕ). e.1) (filter_map kid_entry slots)
 kids-entries [] = refl
 kids-entries ((name, plain v) ∷ slots) = kids-entries slots
 kids-entries ((name, child m) ∷ slots) = kids-entries slots
@@ -121,7 +122,7 @@ bus-entries_same b c (e ∷ es) alike =
     ∙ ap (cons_option (bus_entry b e)) (bus-entries_same b c es (λ m i. alike m (rw i (or-true (e.1 == m)))))
 
 -- the buses of an object whose children are those of some slots
-buses-as : (b c : Board) → Firm c → ((x : ℕ) → is_live c x ≡ true → is_of c (codes "bus") x ≡ is_of b (codes "bus") x) → (x : ℕ)
+buses-as : (b c : Board) → WellFormed c → ((x : ℕ) → is_live c x ≡ true → is_of c (codes "bus") x ≡ is_of b (codes "bus") x) → (x : ℕ)
     → (slots : List (List ℕ × Slot)) → child_entries c x ≡ filter_map child_entry slots → buses_of c x ≡ filter_map (bus_in b) slots
 buses-as b c firm kind x slots children =
     buses-entries c (slots_at c x)
@@ -130,7 +131,7 @@ buses-as b c firm kind x slots children =
     ∙ sym (buses-entries b slots)
 
 -- an object that keeps its children keeps its buses
-pub buses-kept : (b c : Board) → Firm c → ((x : ℕ) → is_live c x ≡ true → is_of c (codes "bus") x ≡ is_of b (codes "bus") x) → (x : ℕ)
+pub buses-kept : (b c : Board) → WellFormed c → ((x : ℕ) → is_live c x ≡ true → is_of c (codes "bus") x ≡ is_of b (codes "bus") x) → (x : ℕ)
     → child_entries c x ≡ child_entries b x → buses_of c x ≡ buses_of b x
 buses-kept b c firm kind x children = buses-as b c firm kind x (slots_at b x) children
 
@@ -223,7 +224,7 @@ bus-removed b m is (s ∷ slots) i ms at e = go (is_bus_child m s) refl (bus-rem
             head r = cc
 
 -- a device whose first bus is let go
-pub buses-less : (b c : Board) (d m : ℕ) (ms : List ℕ) → Firm c → c ≡ let_go_where (is_bus_child m) d b
+pub buses-less : (b c : Board) (d m : ℕ) (ms : List ℕ) → WellFormed c → c ≡ let_go_where (is_bus_child m) d b
     → ((x : ℕ) → is_live c x ≡ true → is_of c (codes "bus") x ≡ is_of b (codes "bus") x) → is_live c d ≡ true → buses_of b d ≡ m ∷ ms
     → buses_of c d ≡ ms
 unfolding let_go drop_slot
@@ -245,7 +246,7 @@ buses-less b c d m ms firm shape kind live e = go (index_from (is_bus_child m) 0
         slot : slot_at b d i ≡ Some g.entry.1
         slot = ap (option_map (λ (s : List ℕ × Slot). s.1)) g.at
 
-        ends : c ≡ after finalize x (held g.entry.1)
+        ends : c ≡ after finalize x (referent g.entry.1)
         ends = shape ∙ rw (let_go_where, p, let_go, slot) refl
 
         dropped : (o : Option Record) → record_of b d ≡ o → slots_at x d ≡ without_hold i (slots_at b d)
@@ -257,7 +258,7 @@ buses-less b c d m ms firm shape kind live e = go (index_from (is_bus_child m) 0
         entries : child_entries c d ≡ filter_map child_entry (without_hold i (slots_at b d))
         entries =
             ap (λ (y : Board). child_entries y d) ends
-            ∙ (after-alike x (held g.entry.1) d (ap (λ (y : Board). is_live y d) (sym ends) ∙ live)).children
+            ∙ (after-alike x (referent g.entry.1) d (ap (λ (y : Board). is_live y d) (sym ends) ∙ live)).children
             ∙ ap (filter_map child_entry) (dropped (record_of b d) refl)
 
 -- a bus that has a kid is there
@@ -329,7 +330,7 @@ module _ (a : Board) (k : Placed a) where
   f : IsForest next (births a)
   f = forest a k
 
-  pub bus-was : (b : Board) → Firm b → Later a b → (x m : ℕ) → among (buses_of b x) m ≡ true → among (buses_of a x) m ≡ true
+  pub bus-was : (b : Board) → WellFormed b → Later a b → (x m : ℕ) → among (buses_of b x) m ≡ true → among (buses_of a x) m ≡ true
   bus-was b firm h x m e =
       let its : IsBusOf b x m = is-bus_of b x m e in
       owned-bus a m (sym (h.kind m (of-live_bus its.bus)) ∙ its.bus) (slots_at a x) (within-any (owns_it m) (h.children x) its.owned)
@@ -340,7 +341,7 @@ module _ (a : Board) (k : Placed a) where
   pub kid-was : (b : Board) → Later a b → (m y : ℕ) → among (kids_of b m) y ≡ true → among (kids_of a m) y ≡ true
   kid-was b h m y e = within-any (eqb y) (kids-within a b m (h.kids m)) e
 
-  pub under-reach : (b : Board) → Firm b → Later a b → (d y : ℕ) → Under b d y → Reach next d y
+  pub under-reach : (b : Board) → WellFormed b → Later a b → (d y : ℕ) → Under b d y → Reach next d y
   under-reach b firm h d y here = itself
   under-reach b firm h d y (down m j im ij u) =
       let is : among (buses_of a d) m ≡ true = bus-was b firm h d m im in
@@ -388,7 +389,8 @@ module _ (a : Board) (k : Placed a) where
   buses-once d e = let once : IsDistinct eqb (next d) = f.once d in rw (below, stands-no_bus a k d e) at once
 
   -- it stays so while others are taken out
-  module _ (depth : ℕ → ℕ) (out : ℕ → Bool) (b c : Board) (h : PlacesBut depth None out b) (i : PlacesBut depth None out c) (firm : Firm c) (s : Steps b c)
+  module _ (depth : ℕ → ℕ) (out : ℕ → Bool) (b c : Board) (h : PlacesBut depth None out b) (i : PlacesBut depth None out c) (firm : WellFormed c)
+      (s : Steps b c)
       (later : Later a b) where
     was-bus : (m y : ℕ) → is_of a (codes "bus") m ≡ true → among (kids_of b m) y ≡ true → is_of b (codes "bus") m ≡ true
     was-bus m y is e = later.kind m (kid-owner b m y e) ∙ is

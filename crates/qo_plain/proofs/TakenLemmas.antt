@@ -6,17 +6,17 @@ use Rattle.std.proofs.lemmas.Bool.{eqb-true, eq-eqb, false_from_ne_true}
 use Rattle.qo_model.specs.Unplug.{first_of}
 use Rattle.qo_model.proofs.DepthLemmas.{by_objects_is}
 use Rattle.qo_model.proofs.PinLemmas.{IsUp, put-up}
-use Rattle.qo_sound.proofs.FirmBoardLemmas.{Firm}
+use Rattle.qo_sound.proofs.FirmBoardLemmas.{WellFormed}
 use Rattle.qo_sound.proofs.TestLemmas.{clash}
-use Rattle.qo_sound.proofs.ViewLemmas.{AtRest, rest-from_sound}
+use Rattle.qo_sound.proofs.ViewLemmas.{PinsRootAlone, rest-from_sound}
 use Rattle.qo_sound_devices.specs.SoundPlaces.{child_entries, IsHome, listed, owns, PlacesBut, stands}
-use Rattle.qo_sound_devices.proofs.DepartureLemmas.{bus-left, Loose, ownless-steps, parent-left, Parted, unrealized-steps}
+use Rattle.qo_sound_devices.proofs.DepartureLemmas.{bus-left, Unlinked, ownless-steps, parent-left, Parted, unrealized-steps}
 use Rattle.qo_sound_devices.proofs.DepthLemmas.{faded_by, is-bus_of, IsBusOf, kid-of, kids-listed, room, stands-dimmed}
 use Rattle.qo_sound_devices.proofs.DetachmentLemmas.{closed-steps, dims, IsClosed, mid-pin, owned-bus, steps-pin, TakenOut, Takes, takes-apart}
 use Rattle.qo_sound_devices.proofs.LeavingLemmas.{Left}
 use Rattle.qo_sound_devices.proofs.PlacesLemmas.{aside-apart, child-live, within-same, of-alike, stands-live}
 use Rattle.qo_sound_devices.proofs.StepsLemmas.{Steps, steps-then}
-use Rattle.qo_sound_devices.proofs.UnparentingLemmas.{Mid, Went, went-none}
+use Rattle.qo_sound_devices.proofs.UnparentingLemmas.{Mid, ReachedBySteps, went-none}
 use Rattle.qo_sound_devices.proofs.UnrealizingLemmas.{dimmed-none, here}
 use Rattle.qo_sound_phases.proofs.ForestLemmas.{itself, Reach, reach-front}
 use Rattle.qo_sound_phases.proofs.ListLemmas.{From, from-joined, joined-among}
@@ -44,14 +44,15 @@ lost-first f times d m ms b e = rw (lost_buses, e) refl
 
 -- a walk after which the containers are there and have their children
 walked-stands : (depth : ℕ → ℕ) (left : Option ℕ) (out : ℕ → Bool) (Stays : ℕ → Type 0) (b c : Board) → Walked b Stays c → Stays PERIPHERAL_BIRTH
-    → Stays ANONYMOUS_BIRTH → PlacesBut depth left out c → Firm c → (y : ℕ) → stands b y ≡ true → stands c y ≡ true
+    → Stays ANONYMOUS_BIRTH → PlacesBut depth left out c → WellFormed c → (y : ℕ) → stands b y ≡ true → stands c y ≡ true
 walked-stands depth left out Stays b c w one other h firm y e =
     ap₂ (λ (xs zs : List (List ℕ × ℕ)). listed y xs || listed y zs)
     (w.still PERIPHERAL_BIRTH one (child-live c firm MACHINE_BIRTH PERIPHERAL_BIRTH h.parts.0))
     (w.still ANONYMOUS_BIRTH other (child-live c firm MACHINE_BIRTH ANONYMOUS_BIRTH h.parts.1.0))
     ∙ e
 
-spares-walked : (depth : ℕ → ℕ) (out : ℕ → Bool) (d : ℕ) (b c : Board) → stands b d ≡ true → PlacesBut depth None out b → PlacesBut depth None out c → Firm c
+spares-walked : (depth : ℕ → ℕ) (out : ℕ → Bool) (d : ℕ) (b c : Board) → stands b d ≡ true → PlacesBut depth None out b → PlacesBut depth None out c
+    → WellFormed c
     → Walked b (λ y. y ≡ d → ⊥) c → Spares (λ y. y ≡ d) b c
 spares-walked depth out d b c e h i firm w =
     record { stand = λ y n s. stay y s; children = λ y n s. w.still y n (stands-live c firm y (stay y s)) }
@@ -78,7 +79,7 @@ module _ (a : Board) (k : Placed a) (depth : ℕ → ℕ) (out : ℕ → Bool) (
   -- a bus whose kids were taken out
   record Emptied (ps : List ℕ) (m : ℕ) (ks : List ℕ) (b c : Board) : Type 0 where
     is : c ≡ each F ks b
-    went : Went depth out None ps b c
+    went : ReachedBySteps depth out None ps b c
     spares : Spares (Reach next m) b c
 
   module _ (n : ℕ) (f : ℕ → Board → Board) (takes : Takes depth out n f) (does : TakesPlainly n f) (ps : List ℕ) (up : IsUp ps) where
@@ -127,7 +128,7 @@ module _ (a : Board) (k : Placed a) (depth : ℕ → ℕ) (out : ℕ → Bool) (
         first : Plainly x b c
         first = does ps up x m b h shut its.0 its.1 dark deep later (fresh x own)
 
-        firm : Firm c
+        firm : WellFormed c
         firm = one.went.mid.sits.near.firm
 
         apart : (y : ℕ) → among xs y ≡ true → x ≡ y → ⊥
@@ -183,7 +184,7 @@ module _ (a : Board) (k : Placed a) (depth : ℕ → ℕ) (out : ℕ → Bool) (
     -- a device whose buses were let go
     record Bared (d q : ℕ) (ms : List ℕ) (b c : Board) : Type 0 where
       is : c ≡ each (lose d) ms b
-      went : Went depth out None ps b c
+      went : ReachedBySteps depth out None ps b c
       spares : Spares (Reach next d) b c
       still : (stands c d ≡ true) × (bus_of c d ≡ Some q)
       bare : buses_of c d ≡ []
@@ -252,7 +253,7 @@ module _ (a : Board) (k : Placed a) (depth : ℕ → ℕ) (out : ℕ → Bool) (
         lost : Loses depth out ps d q m b (drained f (length (slots_at b m)) m b) x
         lost = loses depth out n f takes outs ps up d q m b h shut e on dim deep has
 
-        firm : Firm x
+        firm : WellFormed x
         firm = lost.went.mid.sits.near.firm
 
         walked : Walked c (λ y. y ≡ d → ⊥) x
@@ -349,7 +350,7 @@ module _ (a : Board) (k : Placed a) (depth : ℕ → ℕ) (out : ℕ → Bool) (
       off_bus : Left depth out (put_in_order d ps) d c (left_bus d c)
       off_bus = bus-left depth out (put_in_order d ps) c bared.went.mid d q bared.still.0 bared.still.1
 
-      loose : Loose d (left_bus d c)
+      loose : Unlinked d (left_bus d c)
       loose =
           record {
             off = off_bus.off;
@@ -374,7 +375,7 @@ module _ (a : Board) (k : Placed a) (depth : ℕ → ℕ) (out : ℕ → Bool) (
       one : TakenOut depth out ps d q b (unpin y d)
       one = takes-apart depth out (suc n) ps up d q b h shut e on dim deep
 
-      firm : Firm (unpin y d)
+      firm : WellFormed (unpin y d)
       firm = one.went.mid.sits.near.firm
 
       stand : (x : ℕ) → (Reach (below a) d x → ⊥) → stands b x ≡ true → stands (unpin y d) x ≡ true
@@ -413,7 +414,7 @@ module _ (b : Board) (k : Placed b) (d : ℕ) where
         kind = λ x e. of-alike (pin b d) (unrealize (pin b d) d) x (codes "bus") ((dims b d).body x);
       }
 
-  faded : Firm (unrealize (pin b d) d) → Fresh b k d (unrealize (pin b d) d)
+  faded : WellFormed (unrealize (pin b d) d) → Fresh b k d (unrealize (pin b d) d)
   unfolding pin
   faded firm =
       record {
@@ -488,7 +489,7 @@ taken_lem b h =
     whole : (d : ℕ) → stands b d ≡ true → detach b d ≡ taken_turn b (steps_of b) d (unrealize (pin b d) d)
     whole d e = ap (λ (c : Board). unpin (left_parent d (left_bus d c)) d) bared.is
       where
-        rest : AtRest b
+        rest : PinsRootAlone b
         rest = rest-from_sound b h.tree
 
         home : IsHome b d

@@ -12,7 +12,7 @@ use Rattle.qo_model.specs.Devices.{kid_name}
 use Rattle.qo_model.specs.Objects.{Given, refusal_of, slot_given}
 use Rattle.qo_model.specs.Opening.{fresh_record, slots_with}
 use Rattle.qo_model.specs.Paths.{is_of}
-use Rattle.qo_model.specs.Plug.{Spot, Wanted, begun_notes, born_from, bus_for, bus_slot_for, further_of, name_for, number_for, objects_in, parent_for, plug, range_for, registers_on, size_of, source_for, started, target_for, types_in, with_device}
+use Rattle.qo_model.specs.Plug.{Resources, Wanted, begun_notes, born_from, bus_for, bus_slot_for, further_of, name_for, number_for, objects_in, parent_for, plug, range_for, registers_on, size_of, source_for, started, target_for, types_in, with_device}
 use Rattle.qo_model.specs.Release.{edited}
 use Rattle.qo_model.specs.Types.{TypeInfo, is_a, type_named}
 use Rattle.qo_sound.specs.TreeKept.{SoundTree}
@@ -38,21 +38,21 @@ at_address None slots = slots
 at_address (Some r) slots = put (codes "addr") (plain (val.Uint r.at)) slots
 
 -- each device is on its bus, in its slot there, and realized
-abbrev pub placed_slots : Spot → List (List ℕ × Slot) → List (List ℕ × Slot)
-placed_slots spot slots =
+abbrev pub placed_slots : Resources → List (List ℕ × Slot) → List (List ℕ × Slot)
+placed_slots resources slots =
     put (codes "realized") (plain (val.Bool true))
-    (put (codes "parent_bus") (strong Bus (Some spot.bus))
-    (put (codes "slot") (plain (val.Uint spot.slot))
-    (at_address spot.range slots)))
+    (put (codes "parent_bus") (strong Bus (Some resources.bus))
+    (put (codes "slot") (plain (val.Uint resources.slot))
+    (at_address resources.range slots)))
 
 -- the device: its range, if it has one, is in its registers
-abbrev pub device_record : Board → ℕ → TypeId → Wanted → Spot → Record
-device_record b n t a spot =
+abbrev pub device_record : Board → ℕ → TypeId → Wanted → Resources → Record
+device_record b n t a resources =
     record {
       birth = n;
       kind = t;
-      slots = placed_slots spot (begun_slots b n t a);
-      registers = registers_on spot.range (fresh_registers t);
+      slots = placed_slots resources (begun_slots b n t a);
+      registers = registers_on resources.range (fresh_registers t);
       device_id = a.id;
       kept_path = None;
     }
@@ -64,9 +64,9 @@ further_record source (m, Clock) =
 further_record source (m, t) = fresh_record m t
 
 -- the objects that were there: the container has the device as a child, and the bus has it in the slot
-abbrev pub hosting : Board → ℕ → Wanted → Spot → List Record
-hosting b n a spot =
-    map (edited spot.bus (with_added (kid_name spot.slot) (strong Device (Some n))))
+abbrev pub hosting : Board → ℕ → Wanted → Resources → List Record
+hosting b n a resources =
+    map (edited resources.bus (with_added (kid_name resources.slot) (strong Device (Some n))))
     (map (edited (parent_for a.id) (with_added (name_for b a.id) (child n))) b.records)
 
 -- one add more of a device without an id
@@ -75,12 +75,12 @@ count_with None count = suc count
 count_with (Some id) count = count
 
 -- the board with a device more: it stands after what was there, and its further objects after it; the initializers are noted
-abbrev pub plain_device : Board → TypeId → Wanted → Spot → Board
-plain_device b t a spot =
+abbrev pub plain_device : Board → TypeId → Wanted → Resources → Board
+plain_device b t a resources =
     let n = b.born + 1 in
     let further = map (λ (f : List ℕ × TypeId). f.1) (further_of t) in
     record b {
-      records = hosting b n a spot ++ device_record b n t a spot ∷ map (further_record (source_for b spot.bus)) (born_from (suc n) further);
+      records = hosting b n a resources ++ device_record b n t a resources ∷ map (further_record (source_for b resources.bus)) (born_from (suc n) further);
       born = b.born + objects_in t;
       anonymous = count_with a.id b.anonymous;
       notes = b.notes ++ begun_notes (born_from n (types_in t));
@@ -95,22 +95,22 @@ HasRange b MemDimm props (Some r) =
 HasRange b t props range = range ≡ None
 
 -- where a device goes: the bus that is given or the machine's, the slot there that is given or the first that is free, and the range
-pub record IsSpot (b : Board) (t : TypeId) (a : Wanted) (spot : Spot) : Type 0 where
-  pub bus : bus_for b t a.bus ≡ Some spot.bus
-  pub slot : bus_slot_for b spot.bus (number_for a.props (codes "slot")) ≡ Ok spot.slot
-  pub range : HasRange b t a.props spot.range
+pub record AreResources (b : Board) (t : TypeId) (a : Wanted) (resources : Resources) : Type 0 where
+  pub bus : bus_for b t a.bus ≡ Some resources.bus
+  pub slot : bus_slot_for b resources.bus (number_for a.props (codes "slot")) ≡ Ok resources.slot
+  pub range : HasRange b t a.props resources.range
 
 -- a board after an add that nothing refuses: the device, of the type that was asked for, starts from that record
 pub record IsAdded (b : Board) (a : Wanted) (c : Board) : Type 0 where
   pub row : TypeInfo
   pub type : type_named a.driver ≡ Some row
-  pub spot : Spot
-  pub goes : IsSpot b row.id a spot
-  pub board : c ≡ started (b.born + 1) row.id (plain_device b row.id a spot)
+  pub resources : Resources
+  pub goes : AreResources b row.id a resources
+  pub board : c ≡ started (b.born + 1) row.id (plain_device b row.id a resources)
 
 pub record PluggedLaw : Type 0 where
   -- on a sound board this comes of every add that nothing refuses
   pub plugged : (b : Board) → SoundDevices b → SoundSources b → (a : Wanted) → (plug b a).refusal ≡ None → IsAdded b a (plug b a).board
   -- the record is the board with a device of any type on any bus, where no property that is given is refused, and the source for the bus is a clock
-  pub made : (b : Board) → SoundTree b → (t : TypeId) → is_a t (codes "device") ≡ true → (a : Wanted) → refusal_of b t a.props ≡ None → (spot : Spot)
-      → is_of b (codes "bus") spot.bus ≡ true → is_of b (codes "clock") (source_for b spot.bus) ≡ true → with_device b t a spot ≡ plain_device b t a spot
+  pub made : (b : Board) → SoundTree b → (t : TypeId) → is_a t (codes "device") ≡ true → (a : Wanted) → refusal_of b t a.props ≡ None → (resources : Resources)
+      → is_of b (codes "bus") resources.bus ≡ true → is_of b (codes "clock") (source_for b resources.bus) ≡ true → with_device b t a resources ≡ plain_device b t a resources

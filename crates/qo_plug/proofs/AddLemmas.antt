@@ -13,11 +13,11 @@ use Rattle.qo_values.specs.declared.codes.Code.TheVariants.{E44}
 use Rattle.qo_model.specs.Objects.{refusal_of}
 use Rattle.qo_model.specs.Devices.{buses_of}
 use Rattle.qo_model.specs.Paths.{canonical}
-use Rattle.qo_model.specs.Plug.{Plugged, Spot, Wanted, barred_late, bus_births, bus_for, clocked, counted, objects_in, parent_for, plug, plug_attempt, plug_late, source_for, spot_of, started, stood, with_plugged}
+use Rattle.qo_model.specs.Plug.{Plugged, Resources, Wanted, barred_late, bus_births, bus_for, clocked, counted, objects_in, parent_for, plug, plug_attempt, plug_late, resources_of, source_for, started, stood, with_plugged}
 use Rattle.qo_model.specs.Release.{unpin}
 use Rattle.qo_model.specs.Types.{TypeInfo, is_a, type_named}
 use Rattle.qo_sound.proofs.PlugLemmas.{IsPlace, place-of}
-use Rattle.qo_sound.proofs.ViewLemmas.{AtRest, rest-from_sound}
+use Rattle.qo_sound.proofs.ViewLemmas.{PinsRootAlone, rest-from_sound}
 use Rattle.qo_heap.specs.Board.{Shows}
 use Rattle.qo_heap.specs.Objects.{Objects, content_of}
 use Rattle.qo_heap.proofs.BoardReads.{shows-kind, shows-record}
@@ -25,27 +25,27 @@ use Rattle.qo_object.specs.BoardObject.{shown}
 use Rattle.qo_object.specs.Content.{Content}
 use Rattle.qo_properties.specs.Filling.{target_in}
 use Rattle.qo_properties.specs.OpeningSteps.{KeepsNames}
-use Rattle.qo_properties.specs.declared.adding.filling.Fill.{Fill}
+use Rattle.qo_properties.specs.declared.adding.filling.InitialValue.{InitialValue}
 use Rattle.qo_reset.specs.Phases.{Holds}
 use Rattle.qo_sound.specs.TreeKept.{SoundTree}
 use Rattle.qo_hotplug.specs.Hotplug.{Asked}
 use Rattle.qo_plug.specs.declared.adding.Added.{Added}
-use Rattle.qo_plug.specs.declared.admitting.Site.{Site}
+use Rattle.qo_plug.specs.declared.targets.Target.{Target}
 use Rattle.qo_plug.specs.declared.planning.Planned.{Planned}
 use Rattle.qo_plug.specs.declared.refusals.AddRefusal.{AddRefusal}
 use Rattle.qo_plug.specs.declared.refusals.AddRefusal.TheVariants.{Refused, Memory}
 use Rattle.qo_plug.specs.declared.refusals.Barred.{Barred}
-use Rattle.qo_plug.specs.declared.spots.Spot.{Spot as Chosen}
+use Rattle.qo_plug.specs.declared.resources.Resources.{Resources as Chosen}
 use Rattle.qo_plug.specs.Admission.{IfRefused, IsAdmitted, barred_in}
 use Rattle.qo_plug.specs.Answers.{IsAdded, IsCut, IsOpen, IsPlugged, IsRefused, IsShown, turned_down}
-use Rattle.qo_plug.specs.Spots.{claims_given}
+use Rattle.qo_plug.specs.Resources.{claims_given}
 use Rattle.qo_plug.specs.DevicePlans.{IsJudgedOn, IsPlanned}
 use Rattle.qo_plug.specs.Drafts.{CutShort, pinned_draft}
-use Rattle.qo_plug.specs.Stages.{spot_barred}
-use Rattle.qo_plug.specs.Placement.{Stood, spot_in}
+use Rattle.qo_plug.specs.Stages.{resources_barred}
+use Rattle.qo_plug.specs.Placement.{Stood, resources_in}
 use Rattle.qo_properties.specs.KeptClaims.{kept_by}
 use Rattle.qo_plug.proofs.AdmissionLemmas.{added-late, admitted-bus}
-use Rattle.qo_plug.proofs.JudgementLemmas.{late-given, late-spot}
+use Rattle.qo_plug.proofs.JudgementLemmas.{late-given, late-resources}
 use Rattle.qo_plug.proofs.PlugSteps.{counted-path, cut-whole, let-go, plugged-kinds, plugged-notices, plugged-pending, plugged-records, seat-holds, seat-notices, seated}
 use Rattle.qo_plug.proofs.StartBuses.{plugged-buses}
 
@@ -76,29 +76,30 @@ module _ {b : Board} {a : Wanted} {p : Planned} {anonymous : ℕ} {holds : List 
         shown = is.shown;
         recounted = is.recounted;
         rings_are = is.rings_are;
-        bus = admitted-bus b a p.site planned.admitted;
+        bus = admitted-bus b a p.target planned.admitted;
         given = planned.has;
       }
 
 module _ (b : Board) (a : Wanted) where
   -- nothing bars the device, and it is plugged in
-  module _ (site : Site) (at : Chosen) (o : IsOpen b a site at) where
-    pub open-place : is_a site.kind (codes "device") ≡ true → IsPlace b site.kind a (spot_in site.bus.birth at)
+  module _ (target : Target) (at : Chosen) (o : IsOpen b a target at) where
+    pub open-place : is_a target.kind (codes "device") ≡ true → IsPlace b target.kind a (resources_in target.bus.birth at)
     open-place device =
-        subst (IsPlace b site.kind a) o.chosen.spot (place-of b site.kind site.bus.birth a device o.admitted.bus o.admitted.early o.late)
+        subst (IsPlace b target.kind a) o.chosen.resources (place-of b target.kind target.bus.birth a device o.admitted.bus o.admitted.early o.late)
 
-    added-plugged : plug b a ≡ record { refusal = None; board = with_plugged b site.kind a (spot_in site.bus.birth at) }
+    added-plugged : plug b a ≡ record { refusal = None; board = with_plugged b target.kind a (resources_in target.bus.birth at) }
     added-plugged =
-        added-late b a site.kind o.admitted.kind o.admitted.driver site.bus.birth o.admitted.early o.admitted.bus
-        ∙ ap (plug_late b site.kind site.bus.birth a) o.late
-        ∙ ap (λ (spot : Spot). late_as spot) o.chosen.spot
+        added-late b a target.kind o.admitted.kind o.admitted.driver target.bus.birth o.admitted.early o.admitted.bus
+        ∙ ap (plug_late b target.kind target.bus.birth a) o.late
+        ∙ ap (λ (resources : Resources). late_as resources) o.chosen.resources
       where
-        late_as : Spot → Plugged
-        late_as spot = record { refusal = None; board = with_plugged b site.kind a spot }
+        late_as : Resources → Plugged
+        late_as resources = record { refusal = None; board = with_plugged b target.kind a resources }
 
-    pub is-added : (x : Added) (h : Asked) (w : Objects) → IsPlugged b site.kind a (spot_in site.bus.birth at) h w → x.birth ≡ b.born + 1 → x.slot ≡ at.slot
+    pub is-added : (x : Added) (h : Asked) (w : Objects) → IsPlugged b target.kind a (resources_in target.bus.birth at) h w → x.birth ≡ b.born + 1
+        → x.slot ≡ at.slot
         → option_and_then (λ (c : Content). c.kept_path) (content_of w x.birth) ≡ Some x.path
-        → kept_by w x.birth ≡ Some (claims_given b site.kind site.bus.birth a.props) → IsAdded b a x h w
+        → kept_by w x.birth ≡ Some (claims_given b target.kind target.bus.birth a.props) → IsAdded b a x h w
     is-added x h w p birth slot path kept =
         record {
           refusal = ap (λ (q : Plugged). q.refusal) added-plugged;
@@ -108,18 +109,18 @@ module _ (b : Board) (a : Wanted) where
           birth = birth;
           slot = λ t bus kind goes.
               slot
-              ∙ ap (λ (s : Spot). s.slot) (sym o.chosen.spot)
-              ∙ own (λ (k : TypeId) (m : ℕ). (spot_of b k m a.props).slot) t bus kind goes;
+              ∙ ap (λ (s : Resources). s.slot) (sym o.chosen.resources)
+              ∙ own (λ (k : TypeId) (m : ℕ). (resources_of b k m a.props).slot) t bus kind goes;
           path = path;
           kept = λ t bus kind goes. kept ∙ own (λ (k : TypeId) (m : ℕ). Some (claims_given b k m a.props)) t bus kind goes;
         }
       where
         own : {A : Type 0} (f : TypeId → ℕ → A) (t : TypeId) (bus : ℕ) → option_map (λ (row : TypeInfo). row.id) (type_named a.driver) ≡ Some t
-            → bus_for b t a.bus ≡ Some bus → f site.kind site.bus.birth ≡ f t bus
+            → bus_for b t a.bus ≡ Some bus → f target.kind target.bus.birth ≡ f t bus
         own f t bus kind goes =
-            let type_is : site.kind ≡ t = same_Some site.kind t (sym o.admitted.kind ∙ kind) in
-            let goes_as : bus_for b site.kind a.bus ≡ Some bus = ap (λ (k : TypeId). bus_for b k a.bus) type_is ∙ goes in
-            let bus_is : site.bus.birth ≡ bus = same_Some site.bus.birth bus (sym o.admitted.bus ∙ goes_as) in
+            let type_is : target.kind ≡ t = same_Some target.kind t (sym o.admitted.kind ∙ kind) in
+            let goes_as : bus_for b target.kind a.bus ≡ Some bus = ap (λ (k : TypeId). bus_for b k a.bus) type_is ∙ goes in
+            let bus_is : target.bus.birth ≡ bus = same_Some target.bus.birth bus (sym o.admitted.bus ∙ goes_as) in
             λ j. f (type_is j) (bus_is j)
 
   -- it is refused before an attempt
@@ -137,42 +138,43 @@ module _ (b : Board) (a : Wanted) where
   refused-only T U Memory w h = tt
 
   -- or after one
-  module _ (site : Site) (admitted : IsAdmitted b a site) (w : Objects) where
-    pub is-refused : (stage : ℕ) (code : Code) → Some (stage, code) ≡ barred_late b site.kind site.bus.birth a.props
-        → Shows (plug_attempt b site.kind site.bus.birth stage) w
+  module _ (target : Target) (admitted : IsAdmitted b a target) (w : Objects) where
+    pub is-refused : (stage : ℕ) (code : Code) → Some (stage, code) ≡ barred_late b target.kind target.bus.birth a.props
+        → Shows (plug_attempt b target.kind target.bus.birth stage) w
         → IsRefused b a stage code w
     is-refused stage code late s =
         record { refusal = ap (λ (q : Plugged). q.refusal) comes; shown = subst (λ (q : Plugged). Shows q.board w) (sym comes) s }
       where
-        comes : plug b a ≡ record { refusal = Some (stage, code); board = plug_attempt b site.kind site.bus.birth stage }
+        comes : plug b a ≡ record { refusal = Some (stage, code); board = plug_attempt b target.kind target.bus.birth stage }
         comes =
-            added-late b a site.kind admitted.kind admitted.driver site.bus.birth admitted.early admitted.bus
-            ∙ ap (plug_late b site.kind site.bus.birth a) (sym late)
+            added-late b a target.kind admitted.kind admitted.driver target.bus.birth admitted.early admitted.bus
+            ∙ ap (plug_late b target.kind target.bus.birth a) (sym late)
 
-    pub cut-late : CutShort b site.kind w → IsCut b a w
-    cut-late cut = inr (site.kind, admitted.kind, admitted.driver, admitted.early, cut)
+    pub cut-late : CutShort b target.kind w → IsCut b a w
+    cut-late cut = inr (target.kind, admitted.kind, admitted.driver, admitted.early, cut)
 
     -- as what is given for its properties is refused
-    module _ (code : Code) (given : Some code ≡ refusal_of b site.kind a.props) where
-      pub turned-refused : (T : Type 0) (r : AddRefusal) → turned_down b site.kind site.bus.birth (record { stage = 4; code = code }) r w
+    module _ (code : Code) (given : Some code ≡ refusal_of b target.kind a.props) where
+      pub turned-refused : (T : Type 0) (r : AddRefusal) → turned_down b target.kind target.bus.birth (record { stage = 4; code = code }) r w
           → IfRefused {T = T} (Err r) (λ stage code. (1 ≤ stage) × (stage ≤ 4) × IsRefused b a stage code w)
       turned-refused T (Refused stage told) h =
           let its_stage : stage ≡ 4 = h.0 in
           let its_code : told ≡ code = h.1 in
-          let late : Some (4, code) ≡ barred_late b site.kind site.bus.birth a.props = late-given b site.bus.birth site.kind a.props code given in
+          let late : Some (4, code) ≡ barred_late b target.kind target.bus.birth a.props = late-given b target.bus.birth target.kind a.props code given in
           (omega (arith, its_stage), omega (arith, its_stage), rw (its_stage, its_code) (is-refused 4 code late h.2))
       turned-refused T Memory h = tt
 
-    -- or as it has no spot on its bus
-    module _ (bar : Barred) (given : None ≡ refusal_of b site.kind a.props)
-        (barred : Some (bar.stage, bar.code) ≡ spot_barred b site.kind site.bus.birth a.props) where
-      pub spot-refused : (T : Type 0) (r : AddRefusal) → turned_down b site.kind site.bus.birth bar r w
+    -- or as its resources are not free
+    module _ (bar : Barred) (given : None ≡ refusal_of b target.kind a.props)
+        (barred : Some (bar.stage, bar.code) ≡ resources_barred b target.kind target.bus.birth a.props) where
+      pub resources-refused : (T : Type 0) (r : AddRefusal) → turned_down b target.kind target.bus.birth bar r w
           → IfRefused {T = T} (Err r) (λ stage code. IsRefused b a stage code w)
-      spot-refused T (Refused stage told) h =
+      resources-refused T (Refused stage told) h =
           let its_stage : stage ≡ bar.stage = h.0 in
           let its_code : told ≡ bar.code = h.1 in
-          rw (its_stage, its_code) (is-refused bar.stage bar.code (late-spot b site.bus.birth site.kind a.props (bar.stage, bar.code) given barred) h.2)
-      spot-refused T Memory h = tt
+          rw (its_stage, its_code)
+          (is-refused bar.stage bar.code (late-resources b target.bus.birth target.kind a.props (bar.stage, bar.code) given barred) h.2)
+      resources-refused T Memory h = tt
 
 -- a refusal of some stages is one
 pub refused-within : (b : Board) (a : Wanted) (first last : ℕ) (T U : Type 0) (r : AddRefusal) (w : Objects)
@@ -189,8 +191,8 @@ refused-last b a T U bar w is h =
     subst (λ (x : ℕ × Code). IsRefused b a x.0 x.1 w) (sym same) h
 
 -- what a plan names stays
-pub plan-live : (v w : Objects) → KeepsNames v w → (fs : List Fill) → AllByRecursion (λ (f : Fill). IfSome (target_in f) (IsLive v.rows)) fs
-    → AllByRecursion (λ (f : Fill). IfSome (target_in f) (IsLive w.rows)) fs
+pub plan-live : (v w : Objects) → KeepsNames v w → (fs : List InitialValue) → AllByRecursion (λ (f : InitialValue). IfSome (target_in f) (IsLive v.rows)) fs
+    → AllByRecursion (λ (f : InitialValue). IfSome (target_in f) (IsLive w.rows)) fs
 plan-live v w keeps [] h = tt
 plan-live v w keeps (f ∷ fs) h = (go (target_in f) h.0, plan-live v w keeps fs h.1)
   where
@@ -217,16 +219,16 @@ old-none k m less (r ∷ rs) low =
 
 -- a device that stands starts, and is let go
 module _ (b : Board) (t : TypeId) (sound : SoundTree b) (device : is_a t (codes "device") ≡ true) (a : Wanted) (bus : ℕ) (at : Chosen) where
-  abbrev spot : Spot
-  spot = spot_in bus at
+  abbrev resources : Resources
+  resources = resources_in bus at
 
   abbrev here : Board
-  here = seated b t sound a spot
+  here = seated b t sound a resources
 
   abbrev n : ℕ
   n = b.born + 1
 
-  rest : AtRest b
+  rest : PinsRootAlone b
   rest = rest-from_sound b sound
 
   -- births 3 and 4 were given when the machine began, and no object has a later birth than the last
@@ -239,8 +241,8 @@ module _ (b : Board) (t : TypeId) (sound : SoundTree b) (device : is_a t (codes 
 
   own-buses : buses_of here n ≡ bus_births n t
   own-buses =
-      counted-buses a.id (clocked (source_for b bus) n (stood b n a spot (pinned_draft b t))) n
-      ∙ plugged-buses b t a spot none-later device (container-apart a.id)
+      counted-buses a.id (clocked (source_for b bus) n (stood b n a resources (pinned_draft b t))) n
+      ∙ plugged-buses b t a resources none-later device (container-apart a.id)
 
   abbrev Starts : List ℕ → List ℕ → Objects → Objects → ℕ → Type 0
   Starts holds path w x m = (c : Board) (u : TypeId) → Holds c holds w → buses_of c m ≡ bus_births m u → canonical c m ≡ Some path → Shows (started m u c) x
@@ -252,34 +254,37 @@ module _ (b : Board) (t : TypeId) (sound : SoundTree b) (device : is_a t (codes 
   LetsGo x y m = (c : Board) → Shows c x → Shows (unpin c m) y
 
   module _ (m : ℕ) (is : m ≡ b.born + 1) (path holds : List ℕ) (h k : Asked) (w x y : Objects) (held : b.holds ≡ holds) (pending : b.pending ≡ h.pending)
-      (notices : b.notices ≡ h.notices) (place : IsPlace b t a spot) (stood_at : Stood b (pinned_draft b t) m a spot path w) (starts : Starts holds path w x m)
+      (notices : b.notices ≡ h.notices) (place : IsPlace b t a resources) (stood_at : Stood b (pinned_draft b t) m a resources path w)
+      (starts : Starts holds path w x m)
       (tells : Tells h k m) (kept : k.pending ≡ h.pending) (goes : LetsGo x y m) where
     started_is : Shows (started n t here) x
     started_is =
-        let own : Stood b (pinned_draft b t) n a spot path w = subst (λ (i : ℕ). Stood b (pinned_draft b t) i a spot path w) is stood_at in
+        let own : Stood b (pinned_draft b t) n a resources path w = subst (λ (i : ℕ). Stood b (pinned_draft b t) i a resources path w) is stood_at in
         let begins : Starts holds path w x n = subst (Starts holds path w x) is starts in
-        let shown : Shows here w = counted-shown a.id (clocked (source_for b bus) n (stood b n a spot (pinned_draft b t))) w own.shown in
-        let path_is : canonical here n ≡ Some path = counted-path a.id (clocked (source_for b bus) n (stood b n a spot (pinned_draft b t))) n ∙ own.path_is in
-        begins here t (shown, seat-holds b t sound a spot ∙ held) own-buses path_is
+        let shown : Shows here w = counted-shown a.id (clocked (source_for b bus) n (stood b n a resources (pinned_draft b t))) w own.shown in
+        let path_is : canonical here n ≡ Some path =
+        counted-path a.id (clocked (source_for b bus) n (stood b n a resources (pinned_draft b t))) n ∙ own.path_is in
+        begins here t (shown, seat-holds b t sound a resources ∙ held) own-buses path_is
 
-    pub plugged-in : IsPlugged b t a spot k y
+    pub plugged-in : IsPlugged b t a resources k y
     plugged-in =
         let told : Tells h k n = subst (Tells h k) is tells in
         let ends : LetsGo x y n = subst (LetsGo x y) is goes in
         record {
-          shown = subst (λ (c : Board). Shows c y) (let-go b t sound a spot place) (ends (started n t here) started_is);
-          pending = plugged-pending b t sound a spot ∙ pending ∙ sym kept;
-          notices = plugged-notices b t sound a spot ∙ told here t (seat-notices b t sound a spot ∙ notices);
+          shown = subst (λ (c : Board). Shows c y) (let-go b t sound a resources place) (ends (started n t here) started_is);
+          pending = plugged-pending b t sound a resources ∙ pending ∙ sym kept;
+          notices = plugged-notices b t sound a resources ∙ told here t (seat-notices b t sound a resources ∙ notices);
         }
 
     -- the path that is kept stays
     pub path-in : (i : ℕ) → option_and_then (λ (c : Content). c.kept_path) (content_of y i) ≡ option_and_then (λ (c : Content). c.kept_path) (content_of x i)
     path-in i =
-        sym (shows-path (with_plugged b t a spot) y plugged-in.shown i)
-        ∙ ap (λ (o : Option Record). option_and_then (λ (r : Record). r.kept_path) o) (plugged-records b t sound a spot i)
+        sym (shows-path (with_plugged b t a resources) y plugged-in.shown i)
+        ∙ ap (λ (o : Option Record). option_and_then (λ (r : Record). r.kept_path) o) (plugged-records b t sound a resources i)
         ∙ shows-path (started n t here) x started_is i
 
     -- nobody ends with the pin
     pub kinds-in : (i : ℕ) → option_map (λ (c : Content). c.kind) (content_of y i) ≡ option_map (λ (c : Content). c.kind) (content_of x i)
     kinds-in i =
-        sym (shows-kind (with_plugged b t a spot) y plugged-in.shown i) ∙ plugged-kinds b t sound a spot i ∙ shows-kind (started n t here) x started_is i
+        sym (shows-kind (with_plugged b t a resources) y plugged-in.shown i) ∙ plugged-kinds b t sound a resources i
+        ∙ shows-kind (started n t here) x started_is i

@@ -14,7 +14,7 @@ use Rattle.qo_model.specs.Types.{TypeInfo, type_named}
 use Rattle.qo_plug.specs.declared.refusals.AddRefusal.{AddRefusal}
 use Rattle.qo_plug.specs.declared.refusals.AddRefusal.TheVariants.{Refused, Memory}
 use Rattle.qo_model.specs.Paths.{is_of}
-use Rattle.qo_plug.specs.declared.admitting.Site.{Site}
+use Rattle.qo_plug.specs.declared.targets.Target.{Target}
 use Rattle.qo_plug.specs.Admission.{IfRefused, IsAdmitted}
 use Rattle.qo_plug.proofs.BarLemmas.{bus-of}
 
@@ -74,7 +74,7 @@ no-bus-bars None None room none = refl
 no-bus-bars None (Some code) room none = absurd (let clash : Some (3, code) ≡ None = none in cc)
 no-bus-bars (Some code) bus room none = absurd (let clash : Some (2, code) ≡ None = none in cc)
 
-pub admitted-bus : (b : Board) (a : Wanted) (s : Site) → IsAdmitted b a s → is_of b (bus_type s.kind) s.bus.birth ≡ true
+pub admitted-bus : (b : Board) (a : Wanted) (s : Target) → IsAdmitted b a s → is_of b (bus_type s.kind) s.bus.birth ≡ true
 admitted-bus b a s is =
     let none : bus_barred b s.kind (bus_for b s.kind a.bus) ≡ None =
     no-bus-bars (id_barred b a.id) (bus_barred b s.kind (bus_for b s.kind a.bus)) (room_barred b s.kind) is.early in

@@ -8,31 +8,31 @@ use Rattle.qo_claims.specs.declared.claims.Claimed.TheVariants as on
 use Rattle.qo_kinds.specs.declared.kept_set.KeptSet.{KeptSet}
 use Rattle.qo_model.specs.Board.{Board}
 use Rattle.qo_model.specs.Objects.{Given}
-use Rattle.qo_model.specs.Plug.{Spot, range_of, spot_of}
+use Rattle.qo_model.specs.Plug.{Resources, range_of, resources_of}
 use Rattle.qo_object.specs.Content.{Content, fresh}
 use Rattle.qo_heap.specs.Objects.{Objects, content_of, with_edit}
-use Rattle.qo_plug.specs.Spots.{IsChosen, backend_given, claims_given, ring_given}
+use Rattle.qo_plug.specs.Resources.{IsChosen, backend_given, claims_given, ring_given}
 use Rattle.qo_plug.specs.Drafts.{bare}
 use Rattle.qo_plug.specs.Placement.{kept_in}
 use Rattle.qo_properties.specs.KeptClaims.{SameKept, kept_by}
 use Rattle.qo_plug.specs.DeviceClaims.{kept_on}
-use Rattle.qo_plug.specs.declared.spots.Memory.{Memory}
-use Rattle.qo_plug.specs.declared.spots.Spot.{Spot as Chosen}
+use Rattle.qo_plug.specs.declared.resources.Memory.{Memory}
+use Rattle.qo_plug.specs.declared.resources.Resources.{Resources as Chosen}
 use Rattle.qo_plug.proofs.BodyLemmas.{given-kept}
 
--- the claims of the spot that was chosen are those of the device
+-- the claims of the resources that were chosen are those of the device
 fused : {A B C : Type 0} (f : A → B) (g : B → C) (o : Option A) → option_map (λ x. g (f x)) o ≡ option_map g (option_map f o)
 fused f g None = refl
 fused f g (Some x) = refl
 
 pub chosen-claims : (b : Board) (t : TypeId) (bus : ℕ) (props : List Given) (c : Chosen) → IsChosen b t bus props c → kept_on bus c ≡ claims_given b t bus props
 chosen-claims b t bus props c is =
-    let slot : c.slot ≡ (spot_of b t bus props).slot = ap (λ (s : Spot). s.slot) (sym is.spot) in
+    let slot : c.slot ≡ (resources_of b t bus props).slot = ap (λ (s : Resources). s.slot) (sym is.resources) in
     let ring : option_map on.Ring c.ring ≡ option_map on.Ring (ring_given t props) = ap (option_map on.Ring) is.ring in
     let backend : option_map (λ (m : Memory). on.Backend m.backend) c.memory ≡ option_map on.Backend (backend_given b t props) =
     fused (λ (m : Memory). m.backend) on.Backend c.memory ∙ ap (option_map on.Backend) is.backend in
     let range : option_map (λ (m : Memory). on.Range m.range) c.memory ≡ option_map on.Range (range_of b t props) =
-    fused (λ (m : Memory). m.range) on.Range c.memory ∙ ap (λ (s : Spot). option_map on.Range s.range) (sym is.spot) in
+    fused (λ (m : Memory). m.range) on.Range c.memory ∙ ap (λ (s : Resources). option_map on.Range s.range) (sym is.resources) in
     λ j. record { slot = Some (on.Slot (bus_slot bus (slot j))); ring = ring j; backend = backend j; range = range j }
 
 -- a device as it was made keeps the claims that it is given

@@ -14,13 +14,13 @@ use Rattle.qo_model.specs.Release.{edit, put_in_order, unpin}
 use Rattle.qo_model.specs.Types.{slots_of}
 use Rattle.qo_model.specs.declared.properties.Property.{Property}
 use Rattle.qo_model.specs.declared.properties.PropertyRole.TheVariants.{Child}
-use Rattle.qo_model.proofs.AttemptLemmas.{IsStar}
+use Rattle.qo_model.proofs.AttemptLemmas.{HasFurtherObjects}
 use Rattle.qo_model.proofs.DraftEndsLemmas.{IsDraft, kinds_in}
 use Rattle.qo_sound.specs.TreeKept.{SoundTree}
 use Rattle.qo_sound.proofs.DraftLemmas.{rows-blind, with_pins}
 use Rattle.qo_sound.proofs.PinLemmas as pinned
 use Rattle.qo_sound.proofs.StepsLemmas.{attempt-steps, cut-steps, draft-changed, draft-of, unjoined-ended}
-use Rattle.qo_sound.proofs.ViewLemmas.{AtRest, rest-from_sound}
+use Rattle.qo_sound.proofs.ViewLemmas.{PinsRootAlone, rest-from_sound}
 use Rattle.qo_object.specs.Content as content
 use Rattle.qo_object.specs.Content.{Content}
 use Rattle.qo_heap.specs.Board.{Shows}
@@ -80,8 +80,8 @@ take-drop (suc k) [] = refl
 take-drop {X = X} (suc k) (x ∷ xs) = ap (λ (l : List X). x ∷ l) (take-drop k xs)
 
 -- values given keep a star, since only plain slots have them
-values-star : (b : Board) (props : List Given) (n lo : ℕ) (ss : List (List ℕ × Slot)) (ls : List Record) → IsStar n lo ss ls
-    → IsStar n lo (map (value_given b props) ss) ls
+values-star : (b : Board) (props : List Given) (n lo : ℕ) (ss : List (List ℕ × Slot)) (ls : List Record) → HasFurtherObjects n lo ss ls
+    → HasFurtherObjects n lo (map (value_given b props) ss) ls
 values-star b props n lo [] [] h = tt
 values-star b props n lo [] (k ∷ ls) h = absurd h
 values-star b props n lo ((name, child m) ∷ ss) [] h = absurd h
@@ -91,15 +91,15 @@ values-star b props n lo ((name, strong t (Some m)) ∷ ss) ls h = absurd h
 values-star b props n lo ((name, weak t target) ∷ ss) ls h = (h.0, values-star b props n lo ss ls h.1)
 values-star b props n lo ((name, plain v) ∷ ss) ls h = go (find (λ (p : Given). bytes_eq p.0 name) props) (values-star b props n lo ss ls h)
   where
-    go : (o : Option Given) → IsStar n lo (map (value_given b props) ss) ls
-        → IsStar n lo ((name, elim o [ None ↦ plain v | Some p ↦ given_to b (plain v) p.1 ]) ∷ map (value_given b props) ss) ls
+    go : (o : Option Given) → HasFurtherObjects n lo (map (value_given b props) ss) ls
+        → HasFurtherObjects n lo ((name, elim o [ None ↦ plain v | Some p ↦ given_to b (plain v) p.1 ]) ∷ map (value_given b props) ss) ls
     go None rest = rest
     go (Some p) rest = rest
 values-star b props n lo ((name, alias m p) ∷ ss) ls h = values-star b props n lo ss ls h
 
 -- the device is held from outside alone
 module _ (b : Board) (t : TypeId) (sound : SoundTree b) where
-  pub rest : AtRest b
+  pub rest : PinsRootAlone b
   rest = rest-from_sound b sound
 
   abbrev pub held : List ℕ

@@ -35,8 +35,8 @@ use Rattle.qo_heap.specs.Objects.{IsHeap, Objects, content_of, slots_of, with_ed
 use Rattle.qo_heap.proofs.BoardObjects.{content-edited, live-content}
 use Rattle.qo_heap.proofs.BoardChanges.{shows-added, shows-made}
 use Rattle.qo_properties.specs.Additions.{IsChild, given_up, with_newest}
-use Rattle.qo_properties.specs.declared.adding.filling.Fill.{Fill}
-use Rattle.qo_properties.specs.declared.adding.filling.Fill.TheVariants as fill
+use Rattle.qo_properties.specs.declared.adding.filling.InitialValue.{InitialValue}
+use Rattle.qo_properties.specs.declared.adding.filling.InitialValue.TheVariants as fill
 use Rattle.qo_properties.specs.Filling.{Fits, filled, filled_with, spent, spent_at, value_alone, value_at}
 use Rattle.qo_properties.specs.NewSlots.{begun, first_slots, new_slots, slot_begun}
 use Rattle.qo_properties.proofs.AddLemmas.{child-unpinned, newest-beside, newest-content, newest-live, shows-tried}
@@ -86,7 +86,7 @@ pub own-aliased : (v w : Objects) (o key : Key) (name of : List ℕ) → IsLive 
 own-aliased v w o key name of live is = own-added v w o name (Alias key of) live is ∙ append-nil (own_slots_of v o.birth)
 
 -- an object gained the slot of a row, with the value planned for it
-module _ (v w : Objects) (o : Key) (t : TypeId) (p : Property) (f : Fill) (x : Slot) (begins : begun t p.role ≡ Some x)
+module _ (v w : Objects) (o : Key) (t : TypeId) (p : Property) (f : InitialValue) (x : Slot) (begins : begun t p.role ≡ Some x)
     (is : w ≡ with_edit o.birth (with_slot (property_name p.name) (filled_with (value_alone f) x)) v) where
   abbrev gained : Named
   gained = (property_name p.name, x)
@@ -249,7 +249,7 @@ alias-given b props v w n t p owner of kind makes c s =
     (subst (λ (d : Board). Shows d w) (sym same) (makes (edit n (with_values b props) c) s))
 
 -- so many properties were made, with the values of so many own slots, which are taken out of the plan
-pub record Reached (o : Key) (t : TypeId) (plan : List Fill) (k at : ℕ) (v w : Objects) (left : List Fill) : Type 0 where
+pub record Reached (o : Key) (t : TypeId) (plan : List InitialValue) (k at : ℕ) (v w : Objects) (left : List InitialValue) : Type 0 where
   pub within : k ≤ length (types.slots_of t)
   pub place : at ≡ length (first_slots k t)
   pub shown : (b : Board) (props : List Given) → AllZip (HasPlanned b props) plan (new_slots t)
@@ -258,7 +258,7 @@ pub record Reached (o : Key) (t : TypeId) (plan : List Fill) (k at : ℕ) (v w :
   pub left_is : left ≡ spent_until at plan
   pub grows : Grows v w
 
-pub reached-none : (o : Key) (t : TypeId) (plan : List Fill) (v : Objects) → Reached o t plan 0 0 v v plan
+pub reached-none : (o : Key) (t : TypeId) (plan : List InitialValue) (v : Objects) → Reached o t plan 0 0 v v plan
 reached-none o t plan v =
     record {
       within = omega arith;
@@ -270,12 +270,12 @@ reached-none o t plan v =
     }
 
 -- what the next value is
-pub record NextValue (t : TypeId) (role : PropertyRole) (at next : ℕ) (plan left : List Fill) (f : Fill) : Type 0 where
+pub record NextValue (t : TypeId) (role : PropertyRole) (at next : ℕ) (plan left : List InitialValue) (f : InitialValue) : Type 0 where
   pub own : (u : TypeId) → is_some (begun u role) ≡ true → (f ≡ value_at at plan) × (next ≡ at + 1) × (left ≡ spent_at at plan)
-  pub other : (u : TypeId) → is_some (begun u role) ≡ false → (f ≡ fill.Nothing) × (next ≡ at) × (left ≡ plan)
+  pub other : (u : TypeId) → is_some (begun u role) ≡ false → (f ≡ fill.Default) × (next ≡ at) × (left ≡ plan)
 
-module _ (o : Key) (t : TypeId) (plan : List Fill) (fitting : AllZip Fits plan (new_slots t)) (k at next : ℕ) (p : Property) (v u w : Objects)
-    (left less : List Fill) (f : Fill) (here : Some p ≡ slice_get (types.slots_of t) k) (r : Reached o t plan k at v u left)
+module _ (o : Key) (t : TypeId) (plan : List InitialValue) (fitting : AllZip Fits plan (new_slots t)) (k at next : ℕ) (p : Property) (v u w : Objects)
+    (left less : List InitialValue) (f : InitialValue) (here : Some p ≡ slice_get (types.slots_of t) k) (r : Reached o t plan k at v u left)
     (value : NextValue t p.role at next left less f) where
   next-row : RowAt t k p
   next-row = row-at t k p here
@@ -305,7 +305,7 @@ module _ (o : Key) (t : TypeId) (plan : List Fill) (fitting : AllZip Fits plan (
     own-told b props has =
         let (g, got, planned) = zip-at (HasPlanned b props) plan (new_slots t) at slot has stands in
         let same : value_alone f ≡ value_alone g = ap value_alone (value-is ∙ value-got at plan g got) ∙ alone-twice g in
-        subst (λ (h : Fill). (slot.0, shown_slot (filled_with h slot.1)) ≡ value_given b props (slot.0, shown_slot slot.1)) (sym same) planned
+        subst (λ (h : InitialValue). (slot.0, shown_slot (filled_with h slot.1)) ≡ value_given b props (slot.0, shown_slot slot.1)) (sym same) planned
 
     own-more : filled (map value_alone plan) (first_slots k t) ++ filled (value_alone f ∷ []) (option_to_list (slot_begun t p))
         ≡ filled (map value_alone plan) (first_slots (k + 1) t)
@@ -313,7 +313,7 @@ module _ (o : Key) (t : TypeId) (plan : List Fill) (fitting : AllZip Fits plan (
         let (g, got, fit) = zip-at Fits plan (new_slots t) at slot fitting stands in
         let same : value_alone f ≡ value_alone g = ap value_alone (value-is ∙ value-got at plan g got) ∙ alone-twice g in
         let there : slice_get plan (length (first_slots k t)) ≡ Some g = subst (λ (n : ℕ). slice_get plan n ≡ Some g) r.place got in
-        ap (λ (h : Fill). filled (map value_alone plan) (first_slots k t) ++ filled (h ∷ []) (option_to_list (slot_begun t p))) same
+        ap (λ (h : InitialValue). filled (map value_alone plan) (first_slots k t) ++ filled (h ∷ []) (option_to_list (slot_begun t p))) same
         ∙ ap (λ (y : Option Named). filled (map value_alone plan) (first_slots k t) ++ filled (value_alone g ∷ []) (option_to_list y)) begins-here
         ∙ sym (filled-more plan (first_slots k t) slot g there)
         ∙ ap (filled (map value_alone plan)) (ap (λ (y : Option Named). first_slots k t ++ option_to_list y) (sym begins-here) ∙ sym next-row.next)
@@ -336,7 +336,7 @@ module _ (o : Key) (t : TypeId) (plan : List Fill) (fitting : AllZip Fits plan (
     none-here : slot_begun t p ≡ None
     none-here = ap (option_map (λ (y : Slot). (property_name p.name, y))) none
 
-    passed : (f ≡ fill.Nothing) × (next ≡ at) × (less ≡ left)
+    passed : (f ≡ fill.Default) × (next ≡ at) × (less ≡ left)
     passed = value.other t (rw none refl)
 
     no-more : first_slots (k + 1) t ≡ first_slots k t
@@ -404,7 +404,7 @@ module _ (o : Key) (t : TypeId) (plan : List Fill) (fitting : AllZip Fits plan (
       (shows-tried (edit o.birth (with_values b props) (properties_made o.birth t (take k (types.slots_of t)) c)) u (r.shown b props has c s) further))
 
 -- all properties were made
-module _ (o : Key) (t : TypeId) (plan : List Fill) (fitting : AllZip Fits plan (new_slots t)) (k at : ℕ) (v w : Objects) (left : List Fill)
+module _ (o : Key) (t : TypeId) (plan : List InitialValue) (fitting : AllZip Fits plan (new_slots t)) (k at : ℕ) (v w : Objects) (left : List InitialValue)
     (end : None ≡ slice_get (types.slots_of t) k) (r : Reached o t plan k at v w left) where
   at-end : k ≡ length (types.slots_of t)
   at-end =
@@ -447,7 +447,7 @@ module _ (v u w : Objects) (o : Key) (t : TypeId) (good : IsHeap v) (birth : o.b
       let born : u.born ≡ v.born + 1 = ap (λ (x : Objects). x.born) is in
       more.rest o.birth (omega (arith, birth, born)) ∙ ap (option_map bare) (newest-content v u o (fresh t) good birth is)
 
-  pub drafted-is : (plan : List Fill) → own_slots_of w o.birth ≡ own_slots_of u o.birth ++ valued_slots t plan → IsDraft t plan v w o
+  pub drafted-is : (plan : List InitialValue) → own_slots_of w o.birth ≡ own_slots_of u o.birth ++ valued_slots t plan → IsDraft t plan v w o
   drafted-is plan own =
       record {
         birth = birth;

@@ -16,7 +16,7 @@ use Rattle.qo_model.specs.Changes.{add, with_added}
 use Rattle.qo_model.specs.Devices.{kid_name}
 use Rattle.qo_model.specs.Objects.{Given, given_to, slot_given}
 use Rattle.qo_model.specs.Paths.{canonical}
-use Rattle.qo_model.specs.Plug.{Spot, Wanted, addressed_at, clocked, link_named, name_for, parent_for, source_for, stood, with_body_of, with_given}
+use Rattle.qo_model.specs.Plug.{Resources, Wanted, addressed_at, clocked, link_named, name_for, parent_for, source_for, stood, with_body_of, with_given}
 use Rattle.qo_model.specs.Release.{edit, edited}
 use Rattle.qo_model.specs.Unplug.{set_named}
 use Rattle.qo_heap.specs.Rows.{IsLive}
@@ -25,8 +25,8 @@ use Rattle.qo_object.specs.Slots.{Named}
 use Rattle.qo_heap.specs.Board.{Shows}
 use Rattle.qo_heap.specs.Objects.{Objects}
 use Rattle.qo_properties.specs.Filling.{Fits, IsGiven, filled, filled_with, spent, target_in, value_alone}
-use Rattle.qo_properties.specs.declared.adding.filling.Fill.{Fill}
-use Rattle.qo_properties.specs.declared.adding.filling.Fill.TheVariants as fill
+use Rattle.qo_properties.specs.declared.adding.filling.InitialValue.{InitialValue}
+use Rattle.qo_properties.specs.declared.adding.filling.InitialValue.TheVariants as fill
 use Rattle.qo_properties.specs.NewSlots.{new_slots}
 use Rattle.qo_properties.specs.OpeningSteps.{KeepsNames}
 use Rattle.qo_properties.specs.Plans.{IsPlan}
@@ -121,24 +121,25 @@ module _ (b : Board) (props : List Given) where
   added-alike n m name s c d e = given-added n m name s c ∙ ap (add m name (added_slot n m name s)) e ∙ sym (given-added n m name s d)
 
 -- a device that was made with its values stands as one that gets them as it stands
-stood-given : (b : Board) (n : ℕ) (a : Wanted) (spot : Spot) (c : Board) → stood b n a spot (edit n (with_values b a.props) c) ≡ stood b n a spot c
-stood-given b n a spot c =
-    ap (λ (d : Board). edit n (with_body_of a.id spot.range) (addressed_at n spot.range (set_named n (codes "realized") (val.Bool true)
-    (link_named n (codes "parent_bus") spot.bus (set_named n (codes "slot") (val.Uint spot.slot) d)))))
-    (added-alike b a.props n spot.bus (kid_name spot.slot) (strong Device (Some n)) (with_child (edit n (with_values b a.props) c)) (with_child c)
+stood-given : (b : Board) (n : ℕ) (a : Wanted) (resources : Resources) (c : Board)
+    → stood b n a resources (edit n (with_values b a.props) c) ≡ stood b n a resources c
+stood-given b n a resources c =
+    ap (λ (d : Board). edit n (with_body_of a.id resources.range) (addressed_at n resources.range (set_named n (codes "realized") (val.Bool true)
+    (link_named n (codes "parent_bus") resources.bus (set_named n (codes "slot") (val.Uint resources.slot) d)))))
+    (added-alike b a.props n resources.bus (kid_name resources.slot) (strong Device (Some n)) (with_child (edit n (with_values b a.props) c)) (with_child c)
     (added-alike b a.props n (parent_for a.id) (name_for b a.id) (child n) (edit n (with_values b a.props) c) c
     (λ j. record c { records = rows-valued b a.props n c.records j })))
   where
     with_child : Board → Board
     with_child d = add (parent_for a.id) (name_for b a.id) (child n) d
 
-module _ (b : Board) (t : TypeId) (n : ℕ) (a : Wanted) (spot : Spot) (birth : n ≡ b.born + 1) where
-  seated-given : seated b n a spot (given_draft b t a.props) ≡ seated b n a spot (pinned_draft b t)
+module _ (b : Board) (t : TypeId) (n : ℕ) (a : Wanted) (resources : Resources) (birth : n ≡ b.born + 1) where
+  seated-given : seated b n a resources (given_draft b t a.props) ≡ seated b n a resources (pinned_draft b t)
   seated-given =
-      ap (λ (k : ℕ). seated b n a spot (edit k (with_values b a.props) (pinned_draft b t))) (sym birth)
-      ∙ ap (clocked (source_for b spot.bus) n) (stood-given b n a spot (pinned_draft b t))
+      ap (λ (k : ℕ). seated b n a resources (edit k (with_values b a.props) (pinned_draft b t))) (sym birth)
+      ∙ ap (clocked (source_for b resources.bus) n) (stood-given b n a resources (pinned_draft b t))
 
-  pub stood-planned : (path : List ℕ) (w : Objects) → Stood b (given_draft b t a.props) n a spot path w → Stood b (pinned_draft b t) n a spot path w
+  pub stood-planned : (path : List ℕ) (w : Objects) → Stood b (given_draft b t a.props) n a resources path w → Stood b (pinned_draft b t) n a resources path w
   stood-planned path w is =
       record {
         shown = subst (λ (c : Board). Shows c w) seated-given is.shown;
@@ -146,50 +147,50 @@ module _ (b : Board) (t : TypeId) (n : ℕ) (a : Wanted) (spot : Spot) (birth : 
       }
 
 -- what is left of a plan, over the slots that have its values
-module _ (R : Fill → Named → Type 0) (left : (f : Fill) (s : Named) → R f s → R (spent f) (s.0, filled_with (value_alone f) s.1)) where
-  zip-spent : (plan : List Fill) (slots : List Named) → AllZip R plan slots → AllZip R (map spent plan) (filled (map value_alone plan) slots)
+module _ (R : InitialValue → Named → Type 0) (left : (f : InitialValue) (s : Named) → R f s → R (spent f) (s.0, filled_with (value_alone f) s.1)) where
+  zip-spent : (plan : List InitialValue) (slots : List Named) → AllZip R plan slots → AllZip R (map spent plan) (filled (map value_alone plan) slots)
   zip-spent [] [] all = tt
   zip-spent [] (s ∷ slots) all = absurd all
   zip-spent (f ∷ fs) [] all = absurd all
   zip-spent (f ∷ fs) (s ∷ slots) all = (left f s all.0, zip-spent fs slots all.1)
 
-spent-fits : (plan : List Fill) (slots : List Named) → AllZip Fits plan slots → AllZip Fits (map spent plan) (filled (map value_alone plan) slots)
+spent-fits : (plan : List InitialValue) (slots : List Named) → AllZip Fits plan slots → AllZip Fits (map spent plan) (filled (map value_alone plan) slots)
 spent-fits = zip-spent Fits left
   where
-    left : (f : Fill) (s : Named) → Fits f s → Fits (spent f) (s.0, filled_with (value_alone f) s.1)
-    left fill.Nothing s is = is
+    left : (f : InitialValue) (s : Named) → Fits f s → Fits (spent f) (s.0, filled_with (value_alone f) s.1)
+    left fill.Default s is = is
     left (fill.Value v) s is = refl
     left (fill.Target key) s is = is
 
-spent-given : (b : Board) (props : List Given) (plan : List Fill) (slots : List Named) → AllZip (IsGiven b props) plan slots
+spent-given : (b : Board) (props : List Given) (plan : List InitialValue) (slots : List Named) → AllZip (IsGiven b props) plan slots
     → AllZip (IsGiven b props) (map spent plan) (filled (map value_alone plan) slots)
 spent-given b props = zip-spent (IsGiven b props) left
   where
-    left : (f : Fill) (s : Named) → IsGiven b props f s → IsGiven b props (spent f) (s.0, filled_with (value_alone f) s.1)
-    left fill.Nothing s is = is
+    left : (f : InitialValue) (s : Named) → IsGiven b props f s → IsGiven b props (spent f) (s.0, filled_with (value_alone f) s.1)
+    left fill.Default s is = is
     left (fill.Value v) s is =
         is
         ∙ ap (λ (x : List ℕ × Slot). x.1) (sym (given-again b props (s.0, shown_slot s.1)))
         ∙ ap (λ (x : Slot). (slot_given b props (s.0, x)).1) (sym is)
     left (fill.Target key) s is = is
 
-spent-live : (P : Key → Type 0) (plan : List Fill) → AllByRecursion (λ (f : Fill). IfSome (target_in f) P) plan
-    → AllByRecursion (λ (f : Fill). IfSome (target_in f) P) (map spent plan)
+spent-live : (P : Key → Type 0) (plan : List InitialValue) → AllByRecursion (λ (f : InitialValue). IfSome (target_in f) P) plan
+    → AllByRecursion (λ (f : InitialValue). IfSome (target_in f) P) (map spent plan)
 spent-live P [] all = tt
 spent-live P (f ∷ fs) all = (left f all.0, spent-live P fs all.1)
   where
-    left : (f : Fill) → IfSome (target_in f) P → IfSome (target_in (spent f)) P
-    left fill.Nothing is = is
+    left : (f : InitialValue) → IfSome (target_in f) P → IfSome (target_in (spent f)) P
+    left fill.Default is = is
     left (fill.Value v) is = tt
     left (fill.Target key) is = is
 
 -- of a vector, which was handed out as a slice
-module _ {Z : Type 0} (plan : Vec Fill Z) (old new : List Fill) (at : old ≡ plan.items) (left : new ≡ map spent old) where
+module _ {Z : Type 0} (plan : Vec InitialValue Z) (old new : List InitialValue) (at : old ≡ plan.items) (left : new ≡ map spent old) where
   left-items : (with_items plan new).items ≡ map spent plan.items
   left-items = with_items_is plan new (ap length left ∙ length-map old spent ∙ ap length at ∙ sym plan.ok.0) ∙ left ∙ ap (map spent) at
 
-  pub left-targets : (v w : Objects) → KeepsNames v w → AllByRecursion (λ (f : Fill). IfSome (target_in f) (IsLive v.rows)) plan.items
-      → AllByRecursion (λ (f : Fill). IfSome (target_in f) (IsLive w.rows)) (with_items plan new).items
+  pub left-targets : (v w : Objects) → KeepsNames v w → AllByRecursion (λ (f : InitialValue). IfSome (target_in f) (IsLive v.rows)) plan.items
+      → AllByRecursion (λ (f : InitialValue). IfSome (target_in f) (IsLive w.rows)) (with_items plan new).items
   left-targets v w keeps live = rw left-items (spent-live (IsLive w.rows) plan.items (plan-live v w keeps plan.items live))
 
   module _ (t : TypeId) (own : List Named) (made : own ≡ valued_slots t old) where

@@ -19,15 +19,15 @@ use Rattle.qo_model.specs.Board.{Board}
 use Rattle.qo_model.specs.Objects.{Given, refusal_of}
 use Rattle.qo_model.specs.Paths.{is_of}
 use Rattle.qo_model.specs.Plug.{at_stage, barred_late, bus_type, claims_ring, code_in, first_of, has_ring, is_free, kind_barred, notice_barred, number_for, ok_or_zero, place_barred, range_of}
-use Rattle.qo_model.specs.Plug.{realize_barred, ring_barred, bus_slot_for, spot_of}
+use Rattle.qo_model.specs.Plug.{realize_barred, ring_barred, bus_slot_for, resources_of}
 use Rattle.qo_buses.specs.Recount.{IsRecounted}
 use Rattle.qo_buses.proofs.PlacingLemmas.{least-same}
 use Rattle.qo_plug.specs.declared.refusals.AddRefusal.{AddRefusal}
 use Rattle.qo_plug.specs.declared.refusals.AddRefusal.TheVariants.{Refused, Memory as NoMemory}
-use Rattle.qo_plug.specs.declared.spots.Memory.{Memory}
+use Rattle.qo_plug.specs.declared.resources.Memory.{Memory}
 use Rattle.qo_plug.specs.Admission.{IfRefused}
-use Rattle.qo_plug.specs.Stages.{spot_barred}
-use Rattle.qo_plug.specs.Placement.{spot_in}
+use Rattle.qo_plug.specs.Stages.{resources_barred}
+use Rattle.qo_plug.specs.Placement.{resources_in}
 
 -- what a refusal tells, another call's refusal tells too
 pub refused-map : (T U : Type 0) (P Q : ℕ → Code → Type 0) (r : AddRefusal) → ((stage : ℕ) (code : Code) → P stage code → Q stage code)
@@ -86,32 +86,32 @@ module _ (b : Board) (bus : ℕ) where
         (sym (e ∙ least-same (λ slot. not (has_bus_slot (bus_slot bus slot) h.slots)) (is_free b bus) 0 BUS_SLOTS
         (λ slot above within. slot-told slot (omega (arith, within)))))
 
-  -- the spot of a device of a type
+  -- the resources of a device of a type
   module _ (t : TypeId) (props : List Given) where
     abbrev asked : Option ℕ
     asked = number_for props (codes "slot")
 
-    abbrev spot_as : Option Code → Option Code → Option Code → Option (ℕ × Code)
-    spot_as slot kind ring = option_or (at_stage 5 (option_or slot kind)) (at_stage 6 ring)
+    abbrev resources_as : Option Code → Option Code → Option Code → Option (ℕ × Code)
+    resources_as slot kind ring = option_or (at_stage 5 (option_or slot kind)) (at_stage 6 ring)
 
     slot-code : (r : Result ℕ Code) → bus_slot_for b bus asked ≡ r → code_in (bus_slot_for b bus asked) ≡ code_in r
     slot-code r e = ap (λ (q : Result ℕ Code). code_in q) e
 
-    pub spot-kind : (slot : ℕ) (code : Code) → bus_slot_for b bus asked ≡ Ok slot → kind_barred b t bus props ≡ Some code
-        → spot_barred b t bus props ≡ Some (5, code)
-    spot-kind slot code e barred = ap₂ (λ (o p : Option Code). spot_as o p (realize_barred b t props)) (slot-code (Ok slot) e) barred
+    pub resources-kind : (slot : ℕ) (code : Code) → bus_slot_for b bus asked ≡ Ok slot → kind_barred b t bus props ≡ Some code
+        → resources_barred b t bus props ≡ Some (5, code)
+    resources-kind slot code e barred = ap₂ (λ (o p : Option Code). resources_as o p (realize_barred b t props)) (slot-code (Ok slot) e) barred
 
-    pub spot-is : (slot : ℕ) (ring : Option (List ℕ)) (memory : Option Memory) → bus_slot_for b bus asked ≡ Ok slot
+    pub resources-are : (slot : ℕ) (ring : Option (List ℕ)) (memory : Option Memory) → bus_slot_for b bus asked ≡ Ok slot
         → option_map (λ (m : Memory). m.range) memory ≡ range_of b t props
-        → spot_of b t bus props ≡ spot_in bus (record { slot = slot; ring = ring; memory = memory })
-    spot-is slot ring memory e range =
+        → resources_of b t bus props ≡ resources_in bus (record { slot = slot; ring = ring; memory = memory })
+    resources-are slot ring memory e range =
         ap₂ (λ (r : Result ℕ Code) (o : Option Range). record { bus = bus; slot = ok_or_zero r; range = o }) e (sym range)
 
-  -- what a call on the kind or on the ring of a device tells of its spot
+  -- what a call on the kind or on the ring of a device tells of its resources
   module _ (t : TypeId) (props : List Given) (slot : ℕ) (has : bus_slot_for b bus (number_for props (codes "slot")) ≡ Ok slot) where
     pub kind-refused : (T U : Type 0) (r : AddRefusal) → IfRefused {T = T} (Err r) (λ stage code. (stage ≡ 5) × (kind_barred b t bus props ≡ Some code))
-        → IfRefused {T = U} (Err r) (λ stage code. spot_barred b t bus props ≡ Some (stage, code))
-    kind-refused T U (Refused stage code) h = spot-kind t props slot code has h.1 ∙ ap (λ (k : ℕ). Some (k, code)) (sym h.0)
+        → IfRefused {T = U} (Err r) (λ stage code. resources_barred b t bus props ≡ Some (stage, code))
+    kind-refused T U (Refused stage code) h = resources-kind t props slot code has h.1 ∙ ap (λ (k : ℕ). Some (k, code)) (sym h.0)
     kind-refused T U NoMemory h = tt
 
   -- what bars a device from its properties on, in order
@@ -123,26 +123,26 @@ module _ (b : Board) (bus : ℕ) where
     late-given code e = ap (λ (o : Option Code). late_by o (place_barred b t bus props) (realize_barred b t props) (notice_barred b)) e
 
     abbrev then_notices : Option (ℕ × Code) → Option (ℕ × Code)
-    then_notices spot = option_or spot (option_or (at_stage 8 (notice_barred b)) None)
+    then_notices resources = option_or resources (option_or (at_stage 8 (notice_barred b)) None)
 
     after-given : (place ring : Option Code) → late_by None place ring (notice_barred b) ≡ then_notices (option_or (at_stage 5 place) (at_stage 6 ring))
     after-given (Some code) ring = refl
     after-given None (Some code) = refl
     after-given None None = refl
 
-    late-after : None ≡ refusal_of b t props → barred_late b t bus props ≡ then_notices (spot_barred b t bus props)
+    late-after : None ≡ refusal_of b t props → barred_late b t bus props ≡ then_notices (resources_barred b t bus props)
     late-after given =
         ap (λ (o : Option Code). late_by o (place_barred b t bus props) (realize_barred b t props) (notice_barred b)) (sym given)
         ∙ after-given (place_barred b t bus props) (realize_barred b t props)
 
-    pub late-spot : (r : ℕ × Code) → None ≡ refusal_of b t props → Some r ≡ spot_barred b t bus props → Some r ≡ barred_late b t bus props
-    late-spot r given e = sym (late-after given ∙ ap then_notices (sym e))
+    pub late-resources : (r : ℕ × Code) → None ≡ refusal_of b t props → Some r ≡ resources_barred b t bus props → Some r ≡ barred_late b t bus props
+    late-resources r given e = sym (late-after given ∙ ap then_notices (sym e))
 
     -- nothing but the notices is left
-    pub late-notices : (full : Bool) → None ≡ refusal_of b t props → None ≡ spot_barred b t bus props
+    pub late-notices : (full : Bool) → None ≡ refusal_of b t props → None ≡ resources_barred b t bus props
         → nat_le NOTICES_MAX (length b.notices) ≡ full → barred_late b t bus props ≡ at_stage 8 (notice_as full)
-    late-notices full given spot e =
-        late-after given ∙ ap then_notices (sym spot) ∙ ap (λ (u : Bool). option_or (at_stage 8 (notice_as u)) None) e ∙ alone (notice_as full)
+    late-notices full given resources e =
+        late-after given ∙ ap then_notices (sym resources) ∙ ap (λ (u : Bool). option_or (at_stage 8 (notice_as u)) None) e ∙ alone (notice_as full)
       where
         alone : (o : Option Code) → option_or (at_stage 8 o) None ≡ at_stage 8 o
         alone None = refl

@@ -5,8 +5,8 @@ use Rattle.qo_object.specs.Content.{Content}
 use Rattle.qo_heap.specs.Objects.{Objects, with_edit}
 use Rattle.qo_heap.proofs.BoardObjects.{content-other}
 use Rattle.qo_properties.specs.KeptClaims.{KeptBefore, KeptOrNew, SameKept}
-use Rattle.qo_plug.specs.declared.placing.Way.{Way}
-use Rattle.qo_plug.specs.declared.placing.Way.TheVariants.{Stands, Full}
+use Rattle.qo_plug.specs.declared.placing.Plugging.{Plugging}
+use Rattle.qo_plug.specs.declared.placing.Plugging.TheVariants.{Attached, NoticesFull}
 use Rattle.qo_plug.specs.KeptClaims.{KeptAs, KeptBut, KeptOrNewBut, KeptSoFar}
 
 pub new-then : (u v w : Objects) → KeptOrNew u v → KeptBefore v w → KeptOrNew u w
@@ -20,16 +20,17 @@ pub given-but : (v w : Objects) (one : ℕ) (f : Content → Content) → SameKe
 given-but v w one f same n k other e = ap (option_map (λ (c : Content). kept_of c.body)) (sym (content-other v one n f other)) ∙ sym (same n) ∙ e
 
 -- a device was begun, and placed
-pub so-far : (u v w : Objects) (one : ℕ) (way : Way) → KeptOrNew u v → KeptAs one way v w → KeptSoFar one way u w
-so-far u v w one (Stands path) h g = λ n k other e. h n k (g n k other e)
-so-far u v w one (Full out) h g = λ n k e. h n k (g n k e)
+pub so-far : (u v w : Objects) (one : ℕ) (plugging : Plugging) → KeptOrNew u v → KeptAs one plugging v w → KeptSoFar one plugging u w
+so-far u v w one (Attached path) h g = λ n k other e. h n k (g n k other e)
+so-far u v w one (NoticesFull out) h g = λ n k e. h n k (g n k e)
 
 -- and finished, or refused by the notices
-pub far-but : (u v w : Objects) (one : ℕ) (way : Way) → KeptSoFar one way u v → KeptBefore v w → KeptOrNewBut one u w
-far-but u v w one (Stands path) h g = λ n k other e. h n k other (g n k e)
-far-but u v w one (Full out) h g = λ n k other e. h n k (g n k e)
+pub far-but : (u v w : Objects) (one : ℕ) (plugging : Plugging) → KeptSoFar one plugging u v → KeptBefore v w → KeptOrNewBut one u w
+far-but u v w one (Attached path) h g = λ n k other e. h n k other (g n k e)
+far-but u v w one (NoticesFull out) h g = λ n k other e. h n k (g n k e)
 
-pub far-new : (u v w : Objects) (one : ℕ) (way : Way) → KeptSoFar one way u v → (out : Bool) × (way ≡ Full out) → KeptBefore v w → KeptOrNew u w
-far-new u v w one way h full g =
-    let before : KeptOrNew u v = subst (λ (x : Way). KeptSoFar one x u v) full.1 h in
+pub far-new : (u v w : Objects) (one : ℕ) (plugging : Plugging) → KeptSoFar one plugging u v → (out : Bool) × (plugging ≡ NoticesFull out) → KeptBefore v w
+    → KeptOrNew u w
+far-new u v w one plugging h full g =
+    let before : KeptOrNew u v = subst (λ (x : Plugging). KeptSoFar one x u v) full.1 h in
     new-then u v w before g

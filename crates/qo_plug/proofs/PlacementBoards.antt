@@ -13,7 +13,7 @@ use Rattle.qo_model.specs.Changes.{add, changed_at, set, with_added, with_change
 use Rattle.qo_model.specs.Devices.{clock_of}
 use Rattle.qo_model.specs.Objects.{Given, given_to, index_from, slot_given}
 use Rattle.qo_model.specs.Paths.{canonical, is_child, only_of}
-use Rattle.qo_model.specs.Plug.{Spot, Wanted, addressed_at, fitted, joined, link_named, source_for, stood, valued, with_body_of, with_given, with_source}
+use Rattle.qo_model.specs.Plug.{Resources, Wanted, addressed_at, fitted, joined, link_named, source_for, stood, valued, with_body_of, with_given, with_source}
 use Rattle.qo_model.specs.Release.{edit, edited}
 use Rattle.qo_model.specs.Types.{is_a}
 use Rattle.qo_model.specs.Unplug.{is_named, set_named}
@@ -117,14 +117,14 @@ pub tree-source : (source : ℕ) (clock : Option ℕ) (c : Board) → SamePlaces
 tree-source source None c = tree-same c
 tree-source source (Some m) c = tree-link m (codes "source") source c
 
-tree-valued : (b : Board) (n : ℕ) (props : List Given) (spot : Spot) (c : Board) → SamePlaces c (valued b n props spot c)
-tree-valued b n props spot c =
+tree-valued : (b : Board) (n : ℕ) (props : List Given) (resources : Resources) (c : Board) → SamePlaces c (valued b n props resources c)
+tree-valued b n props resources c =
     let given : Board = edit n (with_given b props) c in
-    let slotted : Board = set_named n (codes "slot") (val.Uint spot.slot) given in
-    let linked : Board = link_named n (codes "parent_bus") spot.bus slotted in
-    tree-then c given (valued b n props spot c) (tree-given b n props c)
-    (tree-then given slotted (valued b n props spot c) (tree-set n (codes "slot") (val.Uint spot.slot) given)
-    (tree-then slotted linked (valued b n props spot c) (tree-link n (codes "parent_bus") spot.bus slotted)
+    let slotted : Board = set_named n (codes "slot") (val.Uint resources.slot) given in
+    let linked : Board = link_named n (codes "parent_bus") resources.bus slotted in
+    tree-then c given (valued b n props resources c) (tree-given b n props c)
+    (tree-then given slotted (valued b n props resources c) (tree-set n (codes "slot") (val.Uint resources.slot) given)
+    (tree-then slotted linked (valued b n props resources c) (tree-link n (codes "parent_bus") resources.bus slotted)
     (tree-set n (codes "realized") (val.Bool true) linked)))
 
 tree-addressed : (n : ℕ) (range : Option Range) (c : Board) → SamePlaces c (addressed_at n range c)
@@ -134,21 +134,21 @@ tree-addressed n (Some r) c = tree-set n (codes "addr") (val.Uint r.at) c
 tree-body : (n : ℕ) (id : Option (List ℕ)) (range : Option Range) (c : Board) → SamePlaces c (edit n (with_body_of id range) c)
 tree-body n id range c = tree-edit c n (with_body_of id range) (λ r. refl) (λ r. refl) (λ k r. refl)
 
-pub tree-stood : (b : Board) (n : ℕ) (a : Wanted) (spot : Spot) (c : Board) → SamePlaces (joined b n a spot c) (stood b n a spot c)
-tree-stood b n a spot c =
-    let there : Board = joined b n a spot c in
-    let given : Board = valued b n a.props spot there in
-    let addressed : Board = addressed_at n spot.range given in
-    tree-then there given (stood b n a spot c) (tree-valued b n a.props spot there)
-    (tree-then given addressed (stood b n a spot c) (tree-addressed n spot.range given) (tree-body n a.id spot.range addressed))
+pub tree-stood : (b : Board) (n : ℕ) (a : Wanted) (resources : Resources) (c : Board) → SamePlaces (joined b n a resources c) (stood b n a resources c)
+tree-stood b n a resources c =
+    let there : Board = joined b n a resources c in
+    let given : Board = valued b n a.props resources there in
+    let addressed : Board = addressed_at n resources.range given in
+    tree-then there given (stood b n a resources c) (tree-valued b n a.props resources there)
+    (tree-then given addressed (stood b n a resources c) (tree-addressed n resources.range given) (tree-body n a.id resources.range addressed))
 
 -- a device has the path that it has once it has joined
-pub seated-path : (b : Board) (n : ℕ) (a : Wanted) (spot : Spot) (c : Board) (path : List ℕ) → canonical (joined b n a spot c) n ≡ Some path
-    → canonical (seated b n a spot c) n ≡ Some path
-seated-path b n a spot c path is =
-    let d : Board = stood b n a spot c in
-    canonical-same d (seated b n a spot c) (tree-source (source_for b spot.bus) (clock_of d n) d) n
-    ∙ canonical-same (joined b n a spot c) d (tree-stood b n a spot c) n
+pub seated-path : (b : Board) (n : ℕ) (a : Wanted) (resources : Resources) (c : Board) (path : List ℕ) → canonical (joined b n a resources c) n ≡ Some path
+    → canonical (seated b n a resources c) n ≡ Some path
+seated-path b n a resources c path is =
+    let d : Board = stood b n a resources c in
+    canonical-same d (seated b n a resources c) (tree-source (source_for b resources.bus) (clock_of d n) d) n
+    ∙ canonical-same (joined b n a resources c) d (tree-stood b n a resources c) n
     ∙ is
 
 -- types stay where objects join
@@ -157,10 +157,10 @@ pub kinds-added : (n : ℕ) (name : List ℕ) (s : Slot) (b : Board) (m : ℕ) �
 unfolding add
 kinds-added n name s b m = read-edit n (with_added name s) (λ r. refl) (λ (o : Option Record). option_map (λ (r : Record). r.kind) o) (λ r. refl) m b.records
 
-pub kinds-stood : (b : Board) (n : ℕ) (a : Wanted) (spot : Spot) (c : Board) (m : ℕ) → kind_of (stood b n a spot c) m ≡ kind_of c m
-kinds-stood b n a spot c m =
-    (tree-stood b n a spot c).kinds m
-    ∙ kinds-added spot.bus _ _ _ m
+pub kinds-stood : (b : Board) (n : ℕ) (a : Wanted) (resources : Resources) (c : Board) (m : ℕ) → kind_of (stood b n a resources c) m ≡ kind_of c m
+kinds-stood b n a resources c m =
+    (tree-stood b n a resources c).kinds m
+    ∙ kinds-added resources.bus _ _ _ m
     ∙ kinds-added _ _ _ c m
 
 -- no link is pointed at what is not there

@@ -17,8 +17,8 @@ use Rattle.qo_object.specs.Slots.{Named, changed_at, is_empty_link, slot_in}
 use Rattle.qo_heap.specs.Objects.{IsHeap, Objects, content_of, slots_of, with_edit}
 use Rattle.qo_heap.proofs.HeapLemmas.{edit-is, live-edit}
 use Rattle.qo_heap.proofs.BoardObjects.{content-edited, live-content}
-use Rattle.qo_properties.specs.declared.adding.filling.Fill.{Fill}
-use Rattle.qo_properties.specs.declared.adding.filling.Fill.TheVariants as fill
+use Rattle.qo_properties.specs.declared.adding.filling.InitialValue.{InitialValue}
+use Rattle.qo_properties.specs.declared.adding.filling.InitialValue.TheVariants as fill
 use Rattle.qo_properties.specs.Filling.{Fits, IsGiven, filled_at, filled_with, fits_at, target_in}
 use Rattle.qo_heap.proofs.HeapLemmas.{edit-nothing}
 use Rattle.qo_heap.proofs.PlacesLemmas.{slice_get-some}
@@ -33,12 +33,12 @@ edit-on v good n f g c there same = sym (edit-is v good n f c (f c) there refl) 
 
 -- slots of which the own ones from a place on are filled
 
-abbrev own_from : ℕ → List Fill → List Named → List Named
+abbrev own_from : ℕ → List InitialValue → List Named → List Named
 own_from zero fs slots = own_filled fs slots
 own_from (suc k) fs [] = []
 own_from (suc k) fs (s ∷ slots) = s ∷ own_from k fs slots
 
-abbrev pub with_own_from : ℕ → List Fill → Content → Content
+abbrev pub with_own_from : ℕ → List InitialValue → Content → Content
 with_own_from k fs c = record c { slots = own_from k fs c.slots }
 
 own-none : (slots : List Named) → own_filled [] slots ≡ slots
@@ -50,7 +50,7 @@ from-none zero slots = own-none slots
 from-none (suc k) [] = refl
 from-none (suc k) (s ∷ slots) = ap (λ (ss : List Named). s ∷ ss) (from-none k slots)
 
-own-next : (f : Fill) (fs : List Fill) (k : ℕ) (slots : List Named) (s : Named) → slice_get slots k ≡ Some s → is_own s.1 ≡ true
+own-next : (f : InitialValue) (fs : List InitialValue) (k : ℕ) (slots : List Named) (s : Named) → slice_get slots k ≡ Some s → is_own s.1 ≡ true
     → changed_at (filled_with f) k (own_from (suc k) fs slots) ≡ own_from k (f ∷ fs) slots
 own-next f fs k [] s at own = cc
 own-next f fs zero (t ∷ slots) s at own =
@@ -59,17 +59,17 @@ own-next f fs zero (t ∷ slots) s at own =
     rw here refl
 own-next f fs (suc k) (t ∷ slots) s at own = ap (λ (ss : List Named). t ∷ ss) (own-next f fs k slots s at own)
 
-skip-here : (fs : List Fill) (t : Named) (slots : List Named) → is_own t.1 ≡ false → t ∷ own_filled fs slots ≡ own_filled fs (t ∷ slots)
+skip-here : (fs : List InitialValue) (t : Named) (slots : List Named) → is_own t.1 ≡ false → t ∷ own_filled fs slots ≡ own_filled fs (t ∷ slots)
 skip-here [] t slots not_own = ap (λ (ss : List Named). t ∷ ss) (own-none slots)
 skip-here (f ∷ fs) t slots not_own = rw not_own refl
 
-own-skip : (fs : List Fill) (k : ℕ) (slots : List Named) (s : Named) → slice_get slots k ≡ Some s → is_own s.1 ≡ false
+own-skip : (fs : List InitialValue) (k : ℕ) (slots : List Named) (s : Named) → slice_get slots k ≡ Some s → is_own s.1 ≡ false
     → own_from (suc k) fs slots ≡ own_from k fs slots
 own-skip fs k [] s at not_own = cc
 own-skip fs zero (t ∷ slots) s at not_own = let same : t ≡ s = cc in skip-here fs t slots (ap (λ (x : Named). is_own x.1) same ∙ not_own)
 own-skip fs (suc k) (t ∷ slots) s at not_own = ap (λ (ss : List Named). t ∷ ss) (own-skip fs k slots s at not_own)
 
-slot-kept : (k : ℕ) (fs : List Fill) (slots : List Named) → slice_get (own_from (suc k) fs slots) k ≡ slice_get slots k
+slot-kept : (k : ℕ) (fs : List InitialValue) (slots : List Named) → slice_get (own_from (suc k) fs slots) k ≡ slice_get slots k
 slot-kept zero fs [] = refl
 slot-kept (suc k) fs [] = refl
 slot-kept zero fs (s ∷ slots) = refl
@@ -126,20 +126,20 @@ abbrev own_at : List Named → ℕ → Bool
 own_at slots k = option_map_or (λ (s : Named). is_own s.1) (slice_get slots k) false
 
 -- what fits a slot fits it at its place
-fit-slot : (f : Fill) (s : Named) (c : Content) (i : ℕ) → Fits f s → slot_in c.slots i ≡ Some s.1 → fits_at f c i ≡ true
-fit-slot fill.Nothing s c i fit is = refl
+fit-slot : (f : InitialValue) (s : Named) (c : Content) (i : ℕ) → Fits f s → slot_in c.slots i ≡ Some s.1 → fits_at f c i ≡ true
+fit-slot fill.Default s c i fit is = refl
 fit-slot (fill.Value v) s c i fit is = refl
 fit-slot (fill.Target key) s c i fit is = ap (λ (o : Option Slot). option_map_or is_empty_link o false) is ∙ fit
 
 -- the own slots from a place on are filled with the last of what is planned
-pub record Settled (all : List Fill) (o : Key) (at : ℕ) (left : List Fill) (v w : Objects) : Type 0 where
-  pub done : List Fill
+pub record Settled (all : List InitialValue) (o : Key) (at : ℕ) (left : List InitialValue) (v w : Objects) : Type 0 where
+  pub done : List InitialValue
   pub split : all ≡ left ++ done
   pub fits : AllZip Fits left (own_slots (take at (slots_of v o.birth)))
   pub is : w ≡ with_edit o.birth (with_own_from at done) v
   pub within : at ≤ length (slots_of v o.birth)
 
-pub settled-none : (all : List Fill) (o : Key) (at : ℕ) (v : Objects) → at ≡ length (slots_of v o.birth) → AllZip Fits all (own_slots_of v o.birth)
+pub settled-none : (all : List InitialValue) (o : Key) (at : ℕ) (v : Objects) → at ≡ length (slots_of v o.birth) → AllZip Fits all (own_slots_of v o.birth)
     → Settled all o at all v v
 settled-none all o at v end fits =
     record {
@@ -150,15 +150,18 @@ settled-none all o at v end fits =
       within = omega (arith, end);
     }
 
-pub settled-all : (all : List Fill) (o : Key) (left : List Fill) (v w : Objects) → Settled all o 0 left v w → w ≡ with_edit o.birth (with_own all) v
-settled-all all o [] v w h = h.is ∙ ap (λ (fs : List Fill). with_edit o.birth (with_own fs) v) (sym h.split)
+pub settled-all : (all : List InitialValue) (o : Key) (left : List InitialValue) (v w : Objects) → Settled all o 0 left v w
+    → w ≡ with_edit o.birth (with_own all) v
+settled-all all o [] v w h = h.is ∙ ap (λ (fs : List InitialValue). with_edit o.birth (with_own fs) v) (sym h.split)
 settled-all all o (f ∷ left) v w h = absurd h.fits
 
-pub settled-live : (all : List Fill) (o : Key) (at : ℕ) (left : List Fill) (v w : Objects) → Settled all o at left v w → (key : Key) → IsLive v.rows key
+pub settled-live : (all : List InitialValue) (o : Key) (at : ℕ) (left : List InitialValue) (v w : Objects) → Settled all o at left v w → (key : Key)
+    → IsLive v.rows key
     → IsLive w.rows key
 settled-live all o at left v w h key live = subst (λ (x : Objects). IsLive x.rows key) (sym h.is) (live-edit o.birth (with_own_from at h.done) v.rows key live)
 
-module _ (all : List Fill) (o : Key) (at : ℕ) (left : List Fill) (v w : Objects) (h : Settled all o at left v w) (good : IsHeap v) (live : IsLive v.rows o)
+module _ (all : List InitialValue) (o : Key) (at : ℕ) (left : List InitialValue) (v w : Objects) (h : Settled all o at left v w) (good : IsHeap v)
+    (live : IsLive v.rows o)
     (k : ℕ) (less : at ≡ suc k) where
   abbrev c : Content
   c = (live-content v o live).0
@@ -222,22 +225,23 @@ module _ (all : List Fill) (o : Key) (at : ℕ) (left : List Fill) (v w : Object
     -- something is left for it
     pub settled-some : left ≡ [] → ⊥
     settled-some none =
-        zip-none Fits (own_slots (take k c.slots)) s (subst (λ (l : List Fill). AllZip Fits l (own_slots (take k c.slots) ++ s ∷ [])) none fits-here)
+        zip-none Fits (own_slots (take k c.slots)) s (subst (λ (l : List InitialValue). AllZip Fits l (own_slots (take k c.slots) ++ s ∷ [])) none fits-here)
 
-    module _ (rest : List Fill) (f : Fill) (pop : left ≡ rest ++ f ∷ []) where
+    module _ (rest : List InitialValue) (f : InitialValue) (pop : left ≡ rest ++ f ∷ []) where
       last : AllZip Fits rest (own_slots (take k c.slots)) × Fits f s
-      last = zip-last Fits rest f (own_slots (take k c.slots)) s (subst (λ (l : List Fill). AllZip Fits l (own_slots (take k c.slots) ++ s ∷ [])) pop fits-here)
+      last = zip-last Fits rest f (own_slots (take k c.slots)) s
+          (subst (λ (l : List InitialValue). AllZip Fits l (own_slots (take k c.slots) ++ s ∷ [])) pop fits-here)
 
       split-here : all ≡ rest ++ f ∷ h.done
-      split-here = h.split ∙ ap (λ (l : List Fill). l ++ h.done) pop ∙ append_assoc rest (f ∷ []) h.done
+      split-here = h.split ∙ ap (λ (l : List InitialValue). l ++ h.done) pop ∙ append_assoc rest (f ∷ []) h.done
 
-      pub settled-target : AllByRecursion (λ (x : Fill). IfSome (target_in x) (IsLive v.rows)) all → IfSome (target_in f) (IsLive w.rows)
+      pub settled-target : AllByRecursion (λ (x : InitialValue). IfSome (target_in x) (IsLive v.rows)) all → IfSome (target_in f) (IsLive w.rows)
       settled-target targets =
           IfSome_then (target_in f) {P = IsLive v.rows} {Q = IsLive w.rows}
-          (member rest (subst (λ (l : List Fill). AllByRecursion (λ (x : Fill). IfSome (target_in x) (IsLive v.rows)) l) split-here targets))
+          (member rest (subst (λ (l : List InitialValue). AllByRecursion (λ (x : InitialValue). IfSome (target_in x) (IsLive v.rows)) l) split-here targets))
           (settled-live all o at left v w h)
         where
-          member : (xs : List Fill) → AllByRecursion (λ (x : Fill). IfSome (target_in x) (IsLive v.rows)) (xs ++ f ∷ h.done)
+          member : (xs : List InitialValue) → AllByRecursion (λ (x : InitialValue). IfSome (target_in x) (IsLive v.rows)) (xs ++ f ∷ h.done)
               → IfSome (target_in f) (IsLive v.rows)
           member [] given = given.0
           member (x ∷ xs) given = member xs given.1
@@ -286,14 +290,15 @@ not-given b props name (Alias key of) not_own = go (find (λ (p : Given). bytes_
     go None = refl
     go (Some p) = refl
 
-pub own-given : (b : board.Board) (props : List Given) (fs : List Fill) (slots : List Named) → AllZip (IsGiven b props) fs (own_slots slots)
+pub own-given : (b : board.Board) (props : List Given) (fs : List InitialValue) (slots : List Named) → AllZip (IsGiven b props) fs (own_slots slots)
     → shown_slots (own_filled fs slots) ≡ map (slot_given b props) (shown_slots slots)
 own-given b props fs [] all = refl
 own-given b props fs (s ∷ slots) all = go (is_own s.1) refl (λ gs h. own-given b props gs slots h) fs all
   where
     go : (t : Bool) → is_own s.1 ≡ t
-        → ((gs : List Fill) → AllZip (IsGiven b props) gs (own_slots slots) → shown_slots (own_filled gs slots) ≡ map (slot_given b props) (shown_slots slots))
-        → (gs : List Fill) → AllZip (IsGiven b props) gs (cond t (s ∷ own_slots slots) (own_slots slots))
+        → ((gs : List InitialValue) → AllZip (IsGiven b props) gs (own_slots slots)
+        → shown_slots (own_filled gs slots) ≡ map (slot_given b props) (shown_slots slots))
+        → (gs : List InitialValue) → AllZip (IsGiven b props) gs (cond t (s ∷ own_slots slots) (own_slots slots))
         → shown_slots (own_filled gs (s ∷ slots)) ≡ map (slot_given b props) (shown_slots (s ∷ slots))
     go true own rest [] h = absurd h
     go true own rest (f ∷ gs) h = let here = h.0 in let more = rest gs h.1 in rw own (λ j. (s.0, here j) ∷ more j)
@@ -302,10 +307,10 @@ own-given b props fs (s ∷ slots) all = go (is_own s.1) refl (λ gs h. own-give
         ∙ (let here = not-given b props s.0 s.1 not_own in let more = rest gs h in λ j. (s.0, here j) ∷ more j)
 
 -- the first slot was looked at
-pub settled-end : (all : List Fill) (o : Key) (at : ℕ) (left : List Fill) (v w : Objects) → at ≡ 0 → Settled all o at left v w
+pub settled-end : (all : List InitialValue) (o : Key) (at : ℕ) (left : List InitialValue) (v w : Objects) → at ≡ 0 → Settled all o at left v w
     → w ≡ with_edit o.birth (with_own all) v
 settled-end all o at left v w none h = settled-all all o left v w (subst (λ (k : ℕ). Settled all o k left v w) none h)
 
-pub none-left : (left : List Fill) → 0 ≡ length left → left ≡ []
+pub none-left : (left : List InitialValue) → 0 ≡ length left → left ≡ []
 none-left [] e = refl
 none-left (f ∷ left) e = absurd (omega (arith, e))

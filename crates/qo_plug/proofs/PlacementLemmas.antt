@@ -16,7 +16,7 @@ use Rattle.qo_model.specs.Board as board
 use Rattle.qo_model.specs.Changes.{add}
 use Rattle.qo_model.specs.Devices.{clock_of, kid_name}
 use Rattle.qo_model.specs.Paths.{canonical}
-use Rattle.qo_model.specs.Plug.{Spot, Wanted, joined, name_for, source_for, stood, with_source}
+use Rattle.qo_model.specs.Plug.{Resources, Wanted, joined, name_for, source_for, stood, with_source}
 use Rattle.qo_object.specs.declared.slots.Slot.{Slot}
 use Rattle.qo_object.specs.declared.slots.Slot.TheVariants.{Child, Link}
 use Rattle.qo_object.specs.Content.{Content, HasNoClaim, cut_at, dropped_at, empty_link_at, with_slot}
@@ -32,7 +32,7 @@ use Rattle.qo_heap.proofs.BoardObjects.{content-edited, content-other, live-cont
 use Rattle.qo_life.proofs.TreeLemmas.{read-content}
 use Rattle.qo_properties.proofs.FillingLemmas.{edit-twice}
 use Rattle.qo_plug.specs.OwnSlots.{is_own, own_slots, own_slots_of}
-use Rattle.qo_plug.specs.Placement.{Alike, IsSeat, Stood, joined_on, kept_in, named, with_book}
+use Rattle.qo_plug.specs.Placement.{Alike, IsAttachment, Stood, joined_on, kept_in, named, with_book}
 use Rattle.qo_properties.specs.KeptClaims.{SameKept, kept_by}
 use Rattle.qo_plug.proofs.BodyLemmas.{SameBodies, kept-given}
 use Rattle.qo_plug.proofs.PlacementBoards.{kinds-stood, seated-path, source-missing}
@@ -230,9 +230,9 @@ joined-book out v w container bus o name slot is h =
 
 pub joined-shown : (b c : board.Board) (a : Wanted) (v w : Objects) (container bus o : Key) (name : List ℕ) (slot : ℕ) (range : Option Range)
     (id : Option (List ℕ))
-    → w ≡ joined_on container name bus slot o v → Shows c v → IsSeat b a container.birth name id
+    → w ≡ joined_on container name bus slot o v → Shows c v → IsAttachment b a container.birth name id
     → Shows (joined b o.birth a (record { bus = bus.birth; slot = slot; range = range }) c) w
-joined-shown b c a v w container bus o name slot range id is s seat =
+joined-shown b c a v w container bus o name slot range id is s attachment =
     let child : Shows (add container.birth name (board.child o.birth) c) (with_edit container.birth (with_slot name (Child o)) v) =
     shows-added c v s container.birth name (Child o) in
     let link : Shows (add bus.birth (kid_name slot) (board.strong Device (Some o.birth)) (add container.birth name (board.child o.birth) c)) w =
@@ -240,9 +240,9 @@ joined-shown b c a v w container bus o name slot range id is s seat =
     (shows-added (add container.birth name (board.child o.birth) c) (with_edit container.birth (with_slot name (Child o)) v) child bus.birth (kid_name slot)
     (Link Device true (Some o))) in
     subst (λ (n : ℕ). Shows (add bus.birth (kid_name slot) (board.strong Device (Some o.birth)) (add n (name_for b a.id) (board.child o.birth) c)) w)
-    (sym seat.parent_is)
+    (sym attachment.parent_is)
     (subst (λ (l : List ℕ). Shows (add bus.birth (kid_name slot) (board.strong Device (Some o.birth)) (add container.birth l (board.child o.birth) c)) w)
-    (sym seat.name_is) link)
+    (sym attachment.name_is) link)
 
 pub named-alike : (v w : Objects) (n : ℕ) (id : Option (List ℕ)) → w ≡ with_edit n (named id) v → Alike v w
 named-alike v w n id is = alike-edit v w n (named id) (λ c. refl) (λ c. refl) (ap (λ (x : Objects). x.rows) is)
@@ -257,22 +257,22 @@ source-shown d v w n its source (Some o) some none shown same is s =
     subst (λ (m : ℕ). Shows (with_source m (clock_of d n) d) w) (some ∙ sym is) shown
 
 -- all of it
-pub stands : (b c : board.Board) (a : Wanted) (o : Key) (spot : Spot) (path : List ℕ) (v w : Objects) (r : Option Key)
-    → canonical (joined b o.birth a spot c) o.birth ≡ Some path
-    → Shows (stood b o.birth a spot c) v
-    → IfSome r (λ x. x.birth ≡ source_for c spot.bus) → IfNone r (board.kind_of c (source_for c spot.bus) ≡ None)
+pub stands : (b c : board.Board) (a : Wanted) (o : Key) (resources : Resources) (path : List ℕ) (v w : Objects) (r : Option Key)
+    → canonical (joined b o.birth a resources c) o.birth ≡ Some path
+    → Shows (stood b o.birth a resources c) v
+    → IfSome r (λ x. x.birth ≡ source_for c resources.bus) → IfNone r (board.kind_of c (source_for c resources.bus) ≡ None)
     → ((d : board.Board) → Shows d v → IfSome r (λ x. Shows (with_source x.birth (clock_of d o.birth) d) w)) → IfNone r (w ≡ v)
-    → source_for b spot.bus ≡ source_for c spot.bus → Stood b c o.birth a spot path w
-stands b c a o spot path v w r way s some none shown same is =
-    let d : board.Board = stood b o.birth a spot c in
+    → source_for b resources.bus ≡ source_for c resources.bus → Stood b c o.birth a resources path w
+stands b c a o resources path v w r way s some none shown same is =
+    let d : board.Board = stood b o.birth a resources c in
     record {
-      shown = source-shown d v w o.birth (source_for b spot.bus) (source_for c spot.bus) r some (missing r none) (shown d s) same is s;
-      path_is = seated-path b o.birth a spot c path way;
+      shown = source-shown d v w o.birth (source_for b resources.bus) (source_for c resources.bus) r some (missing r none) (shown d s) same is s;
+      path_is = seated-path b o.birth a resources c path way;
     }
   where
-    missing : (r : Option Key) → IfNone r (board.kind_of c (source_for c spot.bus) ≡ None)
-        → IfNone r (board.kind_of (stood b o.birth a spot c) (source_for c spot.bus) ≡ None)
-    missing None e = kinds-stood b o.birth a spot c (source_for c spot.bus) ∙ e
+    missing : (r : Option Key) → IfNone r (board.kind_of c (source_for c resources.bus) ≡ None)
+        → IfNone r (board.kind_of (stood b o.birth a resources c) (source_for c resources.bus) ≡ None)
+    missing None e = kinds-stood b o.birth a resources c (source_for c resources.bus) ∙ e
     missing (Some x) e = tt
 
 -- the steps up to the claims that the body keeps
@@ -308,16 +308,17 @@ module _ (h0 h1 h2 h3 h4 : Objects) (e : ℕ) (o container bus : Key) (name : Li
       (subst (λ (l : List Claimed). IsBook l h3) (append_assoc kept labels out) (joined-book ((kept ++ labels) ++ out) h2 h3 container bus o name
       slot third h))
 
-  module _ (b c : board.Board) (a : Wanted) (id : Option (List ℕ)) (range : Option Range) (s : Shows c h0) (seat : IsSeat b a container.birth name id) where
-    abbrev its_spot : Spot
-    its_spot = record { bus = bus.birth; slot = slot; range = range }
+  module _ (b c : board.Board) (a : Wanted) (id : Option (List ℕ)) (range : Option Range) (s : Shows c h0)
+      (attachment : IsAttachment b a container.birth name id) where
+    abbrev its_resources : Resources
+    its_resources = record { bus = bus.birth; slot = slot; range = range }
 
-    pub placed-shown : Shows (joined b o.birth a its_spot c) h3
+    pub placed-shown : Shows (joined b o.birth a its_resources c) h3
     placed-shown =
-        joined-shown b c a h2 h3 container bus o name slot range id third (shows-book c h1 h2 h2.claims second (reserved-shows c h0 h1 e first s)) seat
+        joined-shown b c a h2 h3 container bus o name slot range id third (shows-book c h1 h2 h2.claims second (reserved-shows c h0 h1 e first s)) attachment
 
-    pub placed-kept : Shows (joined b o.birth a its_spot c) h4
-    placed-kept = shows-kept (joined b o.birth a its_spot c) h3 h4 o.birth k fourth placed-shown
+    pub placed-kept : Shows (joined b o.birth a its_resources c) h4
+    placed-kept = shows-kept (joined b o.birth a its_resources c) h3 h4 o.birth k fourth placed-shown
 
   pub reserved-live : (key : Key) → IsLive h1.rows key → IsLive h0.rows key
   reserved-live key live = subst (λ (x : Objects). IsLive x.rows key) first live

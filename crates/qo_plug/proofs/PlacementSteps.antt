@@ -34,7 +34,7 @@ use Rattle.qo_life.specs.Life.{Goes, with_log}
 use Rattle.qo_heap.specs.Log.{empty_log}
 use Rattle.qo_properties.specs.Filling.{IsGiven}
 use Rattle.qo_properties.specs.OpeningSteps.{KeepsNames}
-use Rattle.qo_properties.specs.declared.adding.filling.Fill.{Fill}
+use Rattle.qo_properties.specs.declared.adding.filling.InitialValue.{InitialValue}
 use Rattle.qo_clocks.specs.Links.{changed_named, index_on, with_slot_changed}
 use Rattle.qo_plug.specs.OwnSlots.{own_slots, own_slots_of}
 use Rattle.qo_plug.specs.Placement.{Alike, Stays, kept_in, with_book, with_own}
@@ -126,7 +126,7 @@ pub alike-kept : (v w : Objects) (n : ℕ) (k : KeptSet) → w ≡ with_edit n (
 alike-kept v w n k is = alike-edit v w n (kept_in k) (λ c. refl) (λ c. refl) (ap (λ (x : Objects). x.rows) is)
 
 -- own slots that are filled as it was given
-pub shows-given : (b c : board.Board) (v w : Objects) (o : Key) (props : List Given) (plan : List Fill) → Shows c v → IsHeap v → IsLive v.rows o
+pub shows-given : (b c : board.Board) (v w : Objects) (o : Key) (props : List Given) (plan : List InitialValue) → Shows c v → IsHeap v → IsLive v.rows o
     → AllZip (IsGiven b props) plan (own_slots_of v o.birth) → w ≡ with_edit o.birth (with_own plan) v → Shows (release.edit o.birth (with_given b props) c) w
 shows-given b c v w o props plan s good live told is =
     let (d, there) = live-content v o live in
@@ -219,7 +219,7 @@ pinned-same v w good fine same n some =
     go zero e = absurd (let clash : false ≡ true = e ∙ was (pins_of v n) some in cc)
     go (suc k) e = omega arith
 
-pub stays-own : (v w : Objects) (n : ℕ) (plan : List Fill) → w ≡ with_edit n (with_own plan) v → Stays v w
+pub stays-own : (v w : Objects) (n : ℕ) (plan : List InitialValue) → w ≡ with_edit n (with_own plan) v → Stays v w
 stays-own v w n plan is = stays-edit v w n (with_own plan) (λ c. refl) is
 
 -- the system's clock is the source where no bridge has one

@@ -16,8 +16,8 @@ use Rattle.qo_model.specs.Properties.{link_target}
 use Rattle.qo_model.specs.Types.{is_a, types}
 use Rattle.qo_object.specs.BoardObject.{birth_of, shown_slot}
 use Rattle.qo_object.specs.declared.slots.Slot.TheVariants.{Link, Plain}
-use Rattle.qo_properties.specs.declared.adding.filling.Fill.{Fill}
-use Rattle.qo_properties.specs.declared.adding.filling.Fill.TheVariants as fill
+use Rattle.qo_properties.specs.declared.adding.filling.InitialValue.{InitialValue}
+use Rattle.qo_properties.specs.declared.adding.filling.InitialValue.TheVariants as fill
 use Rattle.qo_properties.specs.Filling.{filled_with, target_in}
 use Rattle.qo_properties.specs.Plans.{TellsGiven, own_slot_for}
 use Rattle.qo_properties.specs.Planning.{TellsRefusal}
@@ -63,8 +63,8 @@ module _ (b : board.Board) (props : List Given) where
   abbrev shown_by : board.Slot → Option Given → board.Slot
   shown_by s o = elim o [ None ↦ s | Some p ↦ given_to b s p.1 ]
 
-  number-shown : (f : Fill) → number_shown (shown_slot (filled_with f (Plain val.Nothing))) ≡ number_filled f
-  number-shown fill.Nothing = refl
+  number-shown : (f : InitialValue) → number_shown (shown_slot (filled_with f (Plain val.Nothing))) ≡ number_filled f
+  number-shown fill.Default = refl
   number-shown (fill.Value v) = refl
   number-shown (fill.Target key) = refl
 
@@ -72,14 +72,14 @@ module _ (b : board.Board) (props : List Given) where
   number-by None = refl
   number-by (Some p) = refl
 
-  number-told : (name : List ℕ) (o : Option Fill) → TellsGiven b props o (Some (name, Plain val.Nothing))
+  number-told : (name : List ℕ) (o : Option InitialValue) → TellsGiven b props o (Some (name, Plain val.Nothing))
       → option_and_then number_filled o ≡ number_for props name
   number-told name None told = absurd told
   number-told name (Some f) told =
       sym (number-shown f) ∙ ap number_shown told ∙ number-by (find (λ (p : Given). bytes_eq p.0 name) props)
 
-  text-shown : (f : Fill) → text_shown (shown_slot (filled_with f (Plain (val.Text [])))) ≡ unwrap_or (text_filled f) []
-  text-shown fill.Nothing = refl
+  text-shown : (f : InitialValue) → text_shown (shown_slot (filled_with f (Plain (val.Text [])))) ≡ unwrap_or (text_filled f) []
+  text-shown fill.Default = refl
   text-shown (fill.Value v) = refl
   text-shown (fill.Target key) = refl
 
@@ -88,14 +88,14 @@ module _ (b : board.Board) (props : List Given) where
   text-by None = refl
   text-by (Some p) = refl
 
-  text-told : (name : List ℕ) (o : Option Fill) → TellsGiven b props o (Some (name, Plain (val.Text [])))
+  text-told : (name : List ℕ) (o : Option InitialValue) → TellsGiven b props o (Some (name, Plain (val.Text [])))
       → unwrap_or (option_and_then text_filled o) [] ≡ text_for props name
   text-told name None told = absurd told
   text-told name (Some f) told = sym (text-shown f) ∙ ap text_shown told ∙ text-by (find (λ (p : Given). bytes_eq p.0 name) props)
 
   module _ (t : TypeId) where
-    target-shown : (f : Fill) → target_shown (shown_slot (filled_with f (Link t true None))) ≡ birth_of (target_in f)
-    target-shown fill.Nothing = refl
+    target-shown : (f : InitialValue) → target_shown (shown_slot (filled_with f (Link t true None))) ≡ birth_of (target_in f)
+    target-shown fill.Default = refl
     target-shown (fill.Value v) = refl
     target-shown (fill.Target key) = refl
 
@@ -118,13 +118,13 @@ module _ (b : board.Board) (props : List Given) where
     target-by None = refl
     target-by (Some p) = target-val p.1
 
-    target-told : (name : List ℕ) (o : Option Fill) → TellsGiven b props o (Some (name, Link t true None))
+    target-told : (name : List ℕ) (o : Option InitialValue) → TellsGiven b props o (Some (name, Link t true None))
         → birth_of (option_and_then target_in o) ≡ target_for b t props name
     target-told name None told = absurd told
     target-told name (Some f) told = sym (target-shown f) ∙ ap target_shown told ∙ target-by (find (λ (p : Given). bytes_eq p.0 name) props)
 
   -- of the slots that are asked for
-  module _ (t : TypeId) (o : Option Fill) where
+  module _ (t : TypeId) (o : Option InitialValue) where
     pub slot-told : is_a t (codes "device") ≡ true → TellsGiven b props o (own_slot_for t (codes "slot"))
         → option_and_then number_filled o ≡ number_for props (codes "slot")
     slot-told device told = number-told (codes "slot") o (rw (slot-begins t device) at told)
@@ -141,8 +141,8 @@ module _ (b : board.Board) (props : List Given) where
     memdev-told dimm told = target-told MemoryBackend (codes "memdev") o (rw (dimm, memdev-begins) at told)
 
 -- a target that is asked for is one that the plan names
-pub target-lives : (P : Key → Type 0) (o : Option (Bor Fill)) → IfSome o (λ (f : Bor Fill). IfSome (target_in f.now) P)
-    → IfSome (option_and_then target_in (option_map (λ (f : Bor Fill). f.now) o)) P
+pub target-lives : (P : Key → Type 0) (o : Option (Bor InitialValue)) → IfSome o (λ (f : Bor InitialValue). IfSome (target_in f.now) P)
+    → IfSome (option_and_then target_in (option_map (λ (f : Bor InitialValue). f.now) o)) P
 target-lives P None h = tt
 target-lives P (Some f) h = h
 

@@ -4,7 +4,7 @@ use Rattle.std.proofs.lemmas.List.{length-map, take_all}
 use Rattle.qo_values.specs.declared.kinds.TypeId.{TypeId}
 use Rattle.qo_model.specs.Board.{Board, kind_of, record_of}
 use Rattle.qo_model.specs.Paths.{canonical, path_down_to}
-use Rattle.qo_model.specs.Plug.{Spot, Wanted, born_from, clocked, counted, cut_attempt, device_last, further_of, objects_in, plug_attempt, properties_made, source_for, started, stood, types_in, with_ended, with_plugged}
+use Rattle.qo_model.specs.Plug.{Resources, Wanted, born_from, clocked, counted, cut_attempt, device_last, further_of, objects_in, plug_attempt, properties_made, source_for, started, stood, types_in, with_ended, with_plugged}
 use Rattle.qo_model.specs.Release.{unpin}
 use Rattle.qo_model.specs.Types.{slots_of}
 use Rattle.qo_model.proofs.DraftEndsLemmas.{born-length}
@@ -31,28 +31,29 @@ unfolding path_down_to
 counted-path None c n = refl
 counted-path (Some id) c n = refl
 
-module _ (b : Board) (t : TypeId) (sound : SoundTree b) (a : Wanted) (spot : Spot) where
+module _ (b : Board) (t : TypeId) (sound : SoundTree b) (a : Wanted) (resources : Resources) where
   abbrev n : ℕ
   n = b.born + 1
 
   -- the board on which it stands, held from outside
   abbrev pub seated : Board
-  seated = counted a.id (clocked (source_for b spot.bus) n (stood b n a spot (pinned_draft b t)))
+  seated = counted a.id (clocked (source_for b resources.bus) n (stood b n a resources (pinned_draft b t)))
 
-  started-is : started n t seated ≡ with_pins (held b t sound) (with_plugged b t a spot)
+  started-is : started n t seated ≡ with_pins (held b t sound) (with_plugged b t a resources)
   started-is =
-      ap (λ (d : Board). started n t (counted a.id (clocked (source_for b spot.bus) n (stood b n a spot (properties_made n t (slots_of t) d)))))
+      ap (λ (d : Board). started n t (counted a.id (clocked (source_for b resources.bus) n (stood b n a resources (properties_made n t (slots_of t) d)))))
       (begun b t sound)
-      ∙ steps-blind (held b t sound) b t a spot
+      ∙ steps-blind (held b t sound) b t a resources
 
-  pub let-go : IsPlace b t a spot → unpin (started n t seated) n ≡ with_plugged b t a spot
+  pub let-go : IsPlace b t a resources → unpin (started n t seated) n ≡ with_plugged b t a resources
   let-go place =
-      ap (λ (d : Board). unpin (started n t (counted a.id (clocked (source_for b spot.bus) n (stood b n a spot (properties_made n t (slots_of t) d))))) n)
+      ap (λ (d : Board).
+      unpin (started n t (counted a.id (clocked (source_for b resources.bus) n (stood b n a resources (properties_made n t (slots_of t) d))))) n)
       (begun b t sound)
-      ∙ plug-steps b t a spot (held b t sound) (held-is b t sound) (rest-from_sound b sound) place
+      ∙ plug-steps b t a resources (held b t sound) (held-is b t sound) (rest-from_sound b sound) place
 
   seat-aside : aside seated ≡ aside b
-  seat-aside = seated-aside b n a spot (pinned_draft b t) ∙ draft-aside b t
+  seat-aside = seated-aside b n a resources (pinned_draft b t) ∙ draft-aside b t
 
   pub seat-holds : seated.holds ≡ b.holds
   seat-holds = ap (λ (x : Aside). x.holds) seat-aside
@@ -60,14 +61,14 @@ module _ (b : Board) (t : TypeId) (sound : SoundTree b) (a : Wanted) (spot : Spo
   pub seat-notices : seated.notices ≡ b.notices
   seat-notices = ap (λ (x : Aside). x.notices) seat-aside
 
-  pub plugged-notices : (with_plugged b t a spot).notices ≡ (started n t seated).notices
+  pub plugged-notices : (with_plugged b t a resources).notices ≡ (started n t seated).notices
   plugged-notices = sym (ap (λ (c : Board). c.notices) started-is)
 
-  pub plugged-kinds : (m : ℕ) → kind_of (with_plugged b t a spot) m ≡ kind_of (started n t seated) m
+  pub plugged-kinds : (m : ℕ) → kind_of (with_plugged b t a resources) m ≡ kind_of (started n t seated) m
   plugged-kinds m = sym (ap (λ (c : Board). kind_of c m) started-is)
 
-  pub plugged-records : (m : ℕ) → record_of (with_plugged b t a spot) m ≡ record_of (started n t seated) m
+  pub plugged-records : (m : ℕ) → record_of (with_plugged b t a resources) m ≡ record_of (started n t seated) m
   plugged-records m = sym (ap (λ (c : Board). record_of c m) started-is)
 
-  pub plugged-pending : (with_plugged b t a spot).pending ≡ b.pending
+  pub plugged-pending : (with_plugged b t a resources).pending ≡ b.pending
   plugged-pending = sym (ap (λ (c : Board). c.pending) started-is) ∙ started-pending n t seated ∙ ap (λ (x : Aside). x.pending) seat-aside

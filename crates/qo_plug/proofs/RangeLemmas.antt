@@ -23,7 +23,7 @@ use Rattle.qo_heap.proofs.BookLemmas.{sum-edit}
 use Rattle.qo_heap.proofs.BoardObjects.{live-content}
 use Rattle.qo_life.proofs.TreeLemmas.{read-content}
 use Rattle.qo_properties.proofs.FillingLemmas.{edit-twice}
-use Rattle.qo_plug.specs.declared.spots.Memory.{Memory}
+use Rattle.qo_plug.specs.declared.resources.Memory.{Memory}
 use Rattle.qo_plug.specs.Placement.{Alike, HasDimm, IsDimm, named, range_in, ranged}
 use Rattle.qo_properties.specs.KeptClaims.{SameKept, kept_by}
 use Rattle.qo_plug.proofs.PlacementSteps.{alike-edit}

@@ -11,9 +11,9 @@ use Rattle.qo_model.specs.Changes.{add, make, set}
 use Rattle.qo_model.specs.Clocks.{acted}
 use Rattle.qo_model.specs.Devices.{clock_of}
 use Rattle.qo_model.specs.Objects.{index_from}
-use Rattle.qo_model.specs.Plug.{Spot, Wanted, acted_all, addressed_at, aliased, bus_births, clocked, counted, joined, link_named, owned, property_made, properties_made, source_for, started, stood, valued, with_given, with_source}
+use Rattle.qo_model.specs.Plug.{Resources, Wanted, acted_all, addressed_at, aliased, bus_births, clocked, counted, joined, link_named, owned, property_made, properties_made, source_for, started, stood, valued, with_given, with_source}
 use Rattle.qo_model.specs.Release.{edit}
-use Rattle.qo_model.specs.Reset.{is_out, phased, plugged, post}
+use Rattle.qo_model.specs.Reset.{is_not_in_reset, phased, plugged, post}
 use Rattle.qo_model.specs.RowNames.{property_name}
 use Rattle.qo_model.specs.Types.{slots_of}
 use Rattle.qo_model.specs.Unplug.{is_named, set_named}
@@ -69,20 +69,21 @@ unfolding make
 draft-aside b t = rows-aside (b.born + 1) t (slots_of t) (created b t)
 
 -- and takes its place
-valued-aside : (b : Board) (n : ℕ) (a : Wanted) (spot : Spot) (c : Board) → aside (valued b n a.props spot c) ≡ aside c
-valued-aside b n a spot c =
+valued-aside : (b : Board) (n : ℕ) (a : Wanted) (resources : Resources) (c : Board) → aside (valued b n a.props resources c) ≡ aside c
+valued-aside b n a resources c =
     set-aside n (codes "realized") (val.Bool true)
-    (link_named n (codes "parent_bus") spot.bus (set_named n (codes "slot") (val.Uint spot.slot) (edit n (with_given b a.props) c)))
-    ∙ link-aside n (codes "parent_bus") spot.bus (set_named n (codes "slot") (val.Uint spot.slot) (edit n (with_given b a.props) c))
-    ∙ set-aside n (codes "slot") (val.Uint spot.slot) (edit n (with_given b a.props) c)
+    (link_named n (codes "parent_bus") resources.bus (set_named n (codes "slot") (val.Uint resources.slot) (edit n (with_given b a.props) c)))
+    ∙ link-aside n (codes "parent_bus") resources.bus (set_named n (codes "slot") (val.Uint resources.slot) (edit n (with_given b a.props) c))
+    ∙ set-aside n (codes "slot") (val.Uint resources.slot) (edit n (with_given b a.props) c)
 
 addressed-aside : (n : ℕ) (range : Option Range) (c : Board) → aside (addressed_at n range c) ≡ aside c
 addressed-aside n None c = refl
 addressed-aside n (Some r) c = set-aside n (codes "addr") (val.Uint r.at) c
 
-stood-aside : (b : Board) (n : ℕ) (a : Wanted) (spot : Spot) (c : Board) → aside (stood b n a spot c) ≡ aside c
+stood-aside : (b : Board) (n : ℕ) (a : Wanted) (resources : Resources) (c : Board) → aside (stood b n a resources c) ≡ aside c
 unfolding add
-stood-aside b n a spot c = addressed-aside n spot.range (valued b n a.props spot (joined b n a spot c)) ∙ valued-aside b n a spot (joined b n a spot c)
+stood-aside b n a resources c = addressed-aside n resources.range (valued b n a.props resources (joined b n a resources c))
+    ∙ valued-aside b n a resources (joined b n a resources c)
 
 source-aside : (source : ℕ) (o : Option ℕ) (c : Board) → aside (with_source source o c) ≡ aside c
 source-aside source None c = refl
@@ -92,12 +93,12 @@ counted-aside : (id : Option (List ℕ)) (c : Board) → aside (counted id c) �
 counted-aside None c = refl
 counted-aside (Some id) c = refl
 
-pub seated-aside : (b : Board) (n : ℕ) (a : Wanted) (spot : Spot) (c : Board)
-    → aside (counted a.id (clocked (source_for b spot.bus) n (stood b n a spot c))) ≡ aside c
-seated-aside b n a spot c =
-    counted-aside a.id (clocked (source_for b spot.bus) n (stood b n a spot c))
-    ∙ source-aside (source_for b spot.bus) (clock_of (stood b n a spot c) n) (stood b n a spot c)
-    ∙ stood-aside b n a spot c
+pub seated-aside : (b : Board) (n : ℕ) (a : Wanted) (resources : Resources) (c : Board)
+    → aside (counted a.id (clocked (source_for b resources.bus) n (stood b n a resources c))) ≡ aside c
+seated-aside b n a resources c =
+    counted-aside a.id (clocked (source_for b resources.bus) n (stood b n a resources c))
+    ∙ source-aside (source_for b resources.bus) (clock_of (stood b n a resources c) n) (stood b n a resources c)
+    ∙ stood-aside b n a resources c
 
 -- and starts: the pending removals stay
 all-pending : (act : Act) (ns : List ℕ) (c : Board) → (acted_all act ns c).pending ≡ c.pending
@@ -113,7 +114,7 @@ phased-pending act (n ∷ ns) c = phased-pending act ns (acted act n 0 c)
 plugged-pending : (n : ℕ) (c : Board) → (plugged c n).pending ≡ c.pending
 unfolding plugged
 plugged-pending n c =
-    phased-pending Exit (filter (is_out c) (post c n)) (phased Hold (post c n) (phased Enter (post c n) c))
+    phased-pending Exit (filter (is_not_in_reset c) (post c n)) (phased Hold (post c n) (phased Enter (post c n) c))
     ∙ phased-pending Hold (post c n) (phased Enter (post c n) c)
     ∙ phased-pending Enter (post c n) c
 

@@ -17,7 +17,7 @@ use Rattle.qo_model.specs.Paths.{is_child, is_of, place_in, place_of}
 use Rattle.qo_model.specs.Plug.{drafted, source_for}
 use Rattle.qo_model.specs.Release.{edit}
 use Rattle.qo_model.specs.Types.{is_a, slots_of}
-use Rattle.qo_model.proofs.AttemptLemmas.{AreKids, BareSlot, IsStar, star-kids}
+use Rattle.qo_model.proofs.AttemptLemmas.{AreKids, BareSlot, HasFurtherObjects, star-kids}
 use Rattle.qo_model.proofs.DraftEndsLemmas.{IsDraft, kids_from, kinds_in}
 use Rattle.qo_sound.specs.TreeKept.{SoundTree}
 use Rattle.qo_sound.proofs.DraftLemmas.{with_pins}
@@ -43,7 +43,8 @@ find-low p k (x ∷ rs) r low e = go (p x) refl (find-low p k rs r low.1)
 
 -- no new record has an object of before as a child, or its birth
 
-star-none : (n m lo : ℕ) (ss : List (List ℕ × Slot)) (ls : List Record) → m ≤ lo → IsStar n lo ss ls → find (λ (s : List ℕ × Slot). is_child m s.1) ss ≡ None
+star-none : (n m lo : ℕ) (ss : List (List ℕ × Slot)) (ls : List Record) → m ≤ lo → HasFurtherObjects n lo ss ls
+    → find (λ (s : List ℕ × Slot). is_child m s.1) ss ≡ None
 star-none n m lo [] ls le h = refl
 star-none n m lo ((name, child x) ∷ ss) [] le h = absurd h
 star-none n m lo ((name, child x) ∷ ss) (k ∷ ls) le h =

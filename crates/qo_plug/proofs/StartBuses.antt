@@ -17,7 +17,7 @@ use Rattle.qo_model.specs.Changes.{add, changed_at, fresh, make, set, with_added
 use Rattle.qo_model.specs.Devices.{bus_in, buses_of, clock_name, clock_of, kid_name}
 use Rattle.qo_model.specs.Objects.{Given, given_to, index_from, slot_given}
 use Rattle.qo_model.specs.Opening.{first_value, fresh_record}
-use Rattle.qo_model.specs.Plug.{Spot, Wanted, addressed_at, aliased, bus_births, fitted, further_in, further_of, joined, link_named, name_for, owned, parent_for, property_made, properties_made, source_for, stood, with_body_of, with_given, with_kid, with_new, with_source}
+use Rattle.qo_model.specs.Plug.{Resources, Wanted, addressed_at, aliased, bus_births, fitted, further_in, further_of, joined, link_named, name_for, owned, parent_for, property_made, properties_made, source_for, stood, with_body_of, with_given, with_kid, with_new, with_source}
 use Rattle.qo_model.specs.Release.{edit, edited}
 use Rattle.qo_model.specs.RowNames.{property_name}
 use Rattle.qo_model.specs.Types.{is_a, slots_of, types}
@@ -201,29 +201,30 @@ kids-addressed : (n : ℕ) (range : Option Range) (c : Board) (m : ℕ) → kids
 kids-addressed n None c m = refl
 kids-addressed n (Some r) c m = kids-set n (codes "addr") (val.Uint r.at) c m
 
-kids-stood : (b : Board) (n : ℕ) (a : Wanted) (spot : Spot) (c : Board) (m : ℕ) → kids_at (stood b n a spot c) m ≡ kids_at (joined b n a spot c) m
-kids-stood b n a spot c m =
-    let there : Board = joined b n a spot c in
+kids-stood : (b : Board) (n : ℕ) (a : Wanted) (resources : Resources) (c : Board) (m : ℕ)
+    → kids_at (stood b n a resources c) m ≡ kids_at (joined b n a resources c) m
+kids-stood b n a resources c m =
+    let there : Board = joined b n a resources c in
     let given : Board = edit n (with_given b a.props) there in
-    let slotted : Board = set_named n (codes "slot") (val.Uint spot.slot) given in
-    let linked : Board = link_named n (codes "parent_bus") spot.bus slotted in
+    let slotted : Board = set_named n (codes "slot") (val.Uint resources.slot) given in
+    let linked : Board = link_named n (codes "parent_bus") resources.bus slotted in
     let realized : Board = set_named n (codes "realized") (val.Bool true) linked in
-    kids-edit (addressed_at n spot.range realized) n (with_body_of a.id spot.range) (λ r. refl) (λ r. refl) m
-    ∙ kids-addressed n spot.range realized m
+    kids-edit (addressed_at n resources.range realized) n (with_body_of a.id resources.range) (λ r. refl) (λ r. refl) m
+    ∙ kids-addressed n resources.range realized m
     ∙ kids-set n (codes "realized") (val.Bool true) linked m
-    ∙ kids-link n (codes "parent_bus") spot.bus slotted m
-    ∙ kids-set n (codes "slot") (val.Uint spot.slot) given m
+    ∙ kids-link n (codes "parent_bus") resources.bus slotted m
+    ∙ kids-set n (codes "slot") (val.Uint resources.slot) given m
     ∙ kids-edit there n (with_given b a.props) (λ r. refl) (λ r. kids-given b a.props r.slots) m
 
-pub seated-buses : (b : Board) (n : ℕ) (a : Wanted) (spot : Spot) (c : Board) → (parent_for a.id == n) ≡ false
-    → buses_of (seated b n a spot c) n ≡ buses_of c n
-seated-buses b n a spot c other =
-    let d : Board = stood b n a spot c in
-    buses-same c (seated b n a spot c) n
-    (λ m. (tree-source (source_for b spot.bus) (clock_of d n) d).kinds m ∙ kinds-stood b n a spot c m)
-    (kids-source (source_for b spot.bus) (clock_of d n) d n
-    ∙ kids-stood b n a spot c n
-    ∙ kids-added spot.bus (kid_name spot.slot) (strong Device (Some n)) refl (add (parent_for a.id) (name_for b a.id) (child n) c) n
+pub seated-buses : (b : Board) (n : ℕ) (a : Wanted) (resources : Resources) (c : Board) → (parent_for a.id == n) ≡ false
+    → buses_of (seated b n a resources c) n ≡ buses_of c n
+seated-buses b n a resources c other =
+    let d : Board = stood b n a resources c in
+    buses-same c (seated b n a resources c) n
+    (λ m. (tree-source (source_for b resources.bus) (clock_of d n) d).kinds m ∙ kinds-stood b n a resources c m)
+    (kids-source (source_for b resources.bus) (clock_of d n) d n
+    ∙ kids-stood b n a resources c n
+    ∙ kids-added resources.bus (kid_name resources.slot) (strong Device (Some n)) refl (add (parent_for a.id) (name_for b a.id) (child n) c) n
     ∙ kids-other (parent_for a.id) (name_for b a.id) (child n) c n other)
 
 -- a device as it is made: its children, numbered from its birth on
@@ -474,10 +475,10 @@ draft-buses b t low device =
     ∙ table-buses (b.born + 1) t device
 
 -- the buses of a device that was made and stands
-pub plugged-buses : (b : Board) (t : TypeId) (a : Wanted) (spot : Spot) → ((m : ℕ) → b.born < m → kind_of b m ≡ None) → is_a t (codes "device") ≡ true
+pub plugged-buses : (b : Board) (t : TypeId) (a : Wanted) (resources : Resources) → ((m : ℕ) → b.born < m → kind_of b m ≡ None) → is_a t (codes "device") ≡ true
     → (parent_for a.id == (b.born + 1)) ≡ false
-    → buses_of (seated b (b.born + 1) a spot (pinned_draft b t)) (b.born + 1) ≡ bus_births (b.born + 1) t
-plugged-buses b t a spot low device other = seated-buses b (b.born + 1) a spot (pinned_draft b t) other ∙ draft-buses b t low device
+    → buses_of (seated b (b.born + 1) a resources (pinned_draft b t)) (b.born + 1) ≡ bus_births (b.born + 1) t
+plugged-buses b t a resources low device other = seated-buses b (b.born + 1) a resources (pinned_draft b t) other ∙ draft-buses b t low device
 
 -- no object is above the births so far
 rows-low : (above last m : ℕ) (rows : List (Key × Content)) → Rises above (table.births rows) last → last < m → object_at rows m ≡ None

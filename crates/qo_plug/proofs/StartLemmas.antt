@@ -17,7 +17,7 @@ use Rattle.qo_model.specs.Paths.{canonical}
 use Rattle.qo_model.specs.Plug.{acted_all, bus_births, started, notified_plug}
 use Rattle.qo_model.specs.Plug as plug
 use Rattle.qo_model.specs.Release as release
-use Rattle.qo_model.specs.Reset.{is_out, phased, plugged, post}
+use Rattle.qo_model.specs.Reset.{is_not_in_reset, phased, plugged, post}
 use Rattle.qo_model.specs.Types.{is_a}
 use Rattle.qo_model.specs.declared.notes.Deed.TheVariants.{Did}
 use Rattle.qo_object.specs.Content.{Content, acted_at, with_path}
@@ -33,7 +33,7 @@ use Rattle.qo_heap.proofs.HeapLemmas.{live-edit}
 use Rattle.qo_heap.proofs.BoardActs.{shows-acted}
 use Rattle.qo_heap.proofs.BoardEdits.{shows-edit}
 use Rattle.qo_heap.proofs.BoardObjects.{content-edited}
-use Rattle.qo_hotplug.specs.Hotplug.{Asked, told}
+use Rattle.qo_hotplug.specs.Hotplug.{Asked, notified}
 use Rattle.qo_life.proofs.TreeLemmas.{read-content}
 use Rattle.qo_reset.specs.Phases.{Holds}
 use Rattle.qo_properties.specs.KeptClaims.{SameKept, kept_by}
@@ -85,8 +85,9 @@ unfolding plugged
 plugged-still n b =
     let c : Board = phased Enter (post b n) b in
     let d : Board = phased Hold (post b n) c in
-    still-then b c (phased Exit (filter (is_out b) (post b n)) d) (phased-still Enter (post b n) b)
-    (still-then c d (phased Exit (filter (is_out b) (post b n)) d) (phased-still Hold (post b n) c) (phased-still Exit (filter (is_out b) (post b n)) d))
+    still-then b c (phased Exit (filter (is_not_in_reset b) (post b n)) d) (phased-still Enter (post b n) b)
+    (still-then c d (phased Exit (filter (is_not_in_reset b) (post b n)) d) (phased-still Hold (post b n) c)
+    (phased-still Exit (filter (is_not_in_reset b) (post b n)) d))
 
 -- the buses of a device
 
@@ -294,7 +295,8 @@ pub ok-gives : {T E : Type 0} (P : Type 0) (r : Result T E) (x : T) → r ≡ Ok
 ok-gives P (Ok y) x is h = h
 ok-gives P (Err e) x is h = cc
 
-pub started-told : (n : ℕ) (t : TypeId) (b : Board) (old new : Asked) → new ≡ told true n old → b.notices ≡ old.notices → (started n t b).notices ≡ new.notices
+pub started-told : (n : ℕ) (t : TypeId) (b : Board) (old new : Asked) → new ≡ notified true n old → b.notices ≡ old.notices
+    → (started n t b).notices ≡ new.notices
 started-told n t b old new is same =
     ap (λ (l : List Notice). l ++ record { plug = true; birth = n } ∷ []) (acted-notices n (n ∷ bus_births n t) b ∙ same)
     ∙ sym (ap (λ (x : Asked). x.notices) is)

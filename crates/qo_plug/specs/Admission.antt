@@ -1,12 +1,12 @@
--- What the calls that add a device know of it: what is asked for, and that it was admitted.
+-- What the calls that add a device know of it: what is asked for, and that its options were checked.
 use Rattle.std.specs.Prelude.{◌≡◌, ℕ, List, Option, Some, None, Result, Ok, Err, option_map, ⊤}
 use Rattle.qo_values.specs.declared.codes.Code.{Code}
 use Rattle.qo_model.specs.Board.{Board}
 use Rattle.qo_model.specs.Objects.{Given}
 use Rattle.qo_model.specs.Plug.{Wanted, barred_early, bus_for, name_for, parent_for, type_barred}
 use Rattle.qo_model.specs.Types.{TypeInfo, type_named}
-use Rattle.qo_plug.specs.declared.admitting.Place.{Place}
-use Rattle.qo_plug.specs.declared.admitting.Site.{Site}
+use Rattle.qo_plug.specs.declared.targets.ContainerSlot.{ContainerSlot}
+use Rattle.qo_plug.specs.declared.targets.Target.{Target}
 use Rattle.qo_plug.specs.declared.options.DeviceOptions.{DeviceOptions}
 use Rattle.qo_plug.specs.declared.refusals.AddRefusal.{AddRefusal}
 use Rattle.qo_plug.specs.declared.refusals.AddRefusal.TheVariants.{Refused, Memory}
@@ -27,13 +27,13 @@ IfRefused (Err (Refused stage code)) P = P stage code
 IfRefused (Err Memory) P = ⊤
 
 -- the place of a device in its container: it is what the id asks for
-pub record IsPlaced (b : Board) (asked : Option (List ℕ)) (p : Place) : Type 0 where
+pub record IsPlaced (b : Board) (asked : Option (List ℕ)) (p : ContainerSlot) : Type 0 where
   pub container : p.container.birth ≡ parent_for asked
   pub name : p.name ≡ name_for b asked
   pub id : p.id ≡ asked
 
 -- a device was admitted: nothing bars it before an attempt, and it goes where it was asked to
-pub record IsAdmitted (b : Board) (a : Wanted) (s : Site) : Type 0 where
+pub record IsAdmitted (b : Board) (a : Wanted) (s : Target) : Type 0 where
   pub kind : option_map (λ (row : TypeInfo). row.id) (type_named a.driver) ≡ Some s.kind
   pub driver : type_barred a.driver ≡ None
   pub early : barred_early b s.kind a ≡ None

@@ -4,7 +4,7 @@ use Rattle.std.specs.Option.{option_and_then}
 use Rattle.qo_values.specs.declared.codes.Code.{Code}
 use Rattle.qo_values.specs.declared.kinds.TypeId.{TypeId}
 use Rattle.qo_model.specs.Board.{Board, Ring}
-use Rattle.qo_model.specs.Plug.{Spot, Wanted, barred_early, barred_late, bus_for, plug, plug_attempt, spot_of, type_barred, with_plugged}
+use Rattle.qo_model.specs.Plug.{Resources, Wanted, barred_early, barred_late, bus_for, plug, plug_attempt, resources_of, type_barred, with_plugged}
 use Rattle.qo_model.specs.Types.{TypeInfo, type_named}
 use Rattle.qo_sound.specs.TreeKept.{SoundTree}
 use Rattle.qo_object.specs.Content.{Content}
@@ -13,13 +13,13 @@ use Rattle.qo_heap.specs.Objects.{Objects, content_of}
 use Rattle.qo_hotplug.specs.Hotplug.{Asked}
 use Rattle.qo_buses.specs.Recount.{IsRecounted}
 use Rattle.qo_plug.specs.declared.adding.Added.{Added}
-use Rattle.qo_plug.specs.declared.admitting.Site.{Site}
+use Rattle.qo_plug.specs.declared.targets.Target.{Target}
 use Rattle.qo_plug.specs.declared.refusals.AddRefusal.{AddRefusal}
 use Rattle.qo_plug.specs.declared.refusals.AddRefusal.TheVariants.{Refused, Memory}
 use Rattle.qo_plug.specs.declared.refusals.Barred.{Barred}
 use Rattle.qo_plug.specs.Admission.{IsAdmitted}
-use Rattle.qo_plug.specs.Spots.{IsChosen, claims_given}
-use Rattle.qo_plug.specs.declared.spots.Spot.{Spot as Chosen}
+use Rattle.qo_plug.specs.Resources.{IsChosen, claims_given}
+use Rattle.qo_plug.specs.declared.resources.Resources.{Resources as Chosen}
 use Rattle.qo_plug.specs.Drafts.{CutShort}
 use Rattle.qo_properties.specs.KeptClaims.{kept_by}
 
@@ -35,17 +35,17 @@ pub record IsShown (b : Board) (anonymous : ℕ) (holds : List ℕ) (rings : Lis
   pub notices : b.notices ≡ h.notices
   pub sound : SoundTree b
 
--- a site is open for a device, in a spot of its bus: nothing bars it
-pub record IsOpen (b : Board) (a : Wanted) (s : Site) (c : Chosen) : Type 0 where
+-- a target is open for a device, with these resources: nothing bars it
+pub record IsOpen (b : Board) (a : Wanted) (s : Target) (c : Chosen) : Type 0 where
   pub admitted : IsAdmitted b a s
   pub late : barred_late b s.kind s.bus.birth a.props ≡ None
   pub chosen : IsChosen b s.kind s.bus.birth a.props c
 
 -- the heap, and what is asked for, after a device that was plugged in
-pub record IsPlugged (b : Board) (t : TypeId) (a : Wanted) (spot : Spot) (h : Asked) (w : Objects) : Type 0 where
-  pub shown : Shows (with_plugged b t a spot) w
-  pub pending : (with_plugged b t a spot).pending ≡ h.pending
-  pub notices : (with_plugged b t a spot).notices ≡ h.notices
+pub record IsPlugged (b : Board) (t : TypeId) (a : Wanted) (resources : Resources) (h : Asked) (w : Objects) : Type 0 where
+  pub shown : Shows (with_plugged b t a resources) w
+  pub pending : (with_plugged b t a resources).pending ≡ h.pending
+  pub notices : (with_plugged b t a resources).notices ≡ h.notices
 
 -- the body of a device that was added keeps its claims
 abbrev pub KeepsGiven : Board → Wanted → Added → Objects → Type 0
@@ -61,7 +61,7 @@ pub record IsAdded (b : Board) (a : Wanted) (x : Added) (h : Asked) (w : Objects
   pub notices : (plug b a).board.notices ≡ h.notices
   pub birth : x.birth ≡ b.born + 1
   pub slot : (t : TypeId) (bus : ℕ) → option_map (λ (row : TypeInfo). row.id) (type_named a.driver) ≡ Some t → bus_for b t a.bus ≡ Some bus
-      → x.slot ≡ (spot_of b t bus a.props).slot
+      → x.slot ≡ (resources_of b t bus a.props).slot
   pub path : option_and_then (λ (c : Content). c.kept_path) (content_of w x.birth) ≡ Some x.path
   pub kept : KeepsGiven b a x w
 

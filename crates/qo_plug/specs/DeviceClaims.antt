@@ -5,13 +5,13 @@ use Rattle.qo_claims.specs.Lists.{bus_slot}
 use Rattle.qo_claims.specs.declared.claims.Claimed.{Claimed}
 use Rattle.qo_claims.specs.declared.claims.Claimed.TheVariants as on
 use Rattle.qo_kinds.specs.declared.kept_set.KeptSet.{KeptSet}
-use Rattle.qo_plug.specs.declared.claiming.Label.{Label}
-use Rattle.qo_plug.specs.declared.claiming.Taken.{Taken}
-use Rattle.qo_plug.specs.declared.spots.Memory.{Memory}
-use Rattle.qo_plug.specs.declared.spots.Spot.{Spot}
+use Rattle.qo_plug.specs.declared.claiming.IdClaim.{IdClaim}
+use Rattle.qo_plug.specs.declared.claiming.DeviceClaims.{DeviceClaims}
+use Rattle.qo_plug.specs.declared.resources.Memory.{Memory}
+use Rattle.qo_plug.specs.declared.resources.Resources.{Resources}
 
--- the claims of a device in its spot of a bus
-abbrev pub kept_on : ℕ → Spot → KeptSet
+-- the claims of a device with its resources on a bus
+abbrev pub kept_on : ℕ → Resources → KeptSet
 kept_on bus s =
     record {
       slot = Some (on.Slot (bus_slot bus s.slot));
@@ -28,12 +28,12 @@ one_out (Some claim) = claim ∷ []
 abbrev pub kept_out : KeptSet → List Claimed
 kept_out k = one_out k.range ++ one_out k.backend ++ one_out k.ring ++ one_out k.slot
 
-abbrev pub labels_out : Option Label → List Claimed
-labels_out None = []
-labels_out (Some l) = l.claim ∷ []
+abbrev pub id_claims_out : Option IdClaim → List Claimed
+id_claims_out None = []
+id_claims_out (Some l) = l.claim ∷ []
 
-abbrev pub taken_out : Taken → List Claimed
-taken_out t = kept_out t.kept ++ labels_out t.label
+abbrev pub taken_out : DeviceClaims → List Claimed
+taken_out t = kept_out t.kept ++ id_claims_out t.id_claim
 
 -- one claim more is held, if there is one
 abbrev pub with_one : Option Claimed → ClaimsTaken → ClaimsTaken

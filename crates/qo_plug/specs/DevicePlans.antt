@@ -11,9 +11,9 @@ use Rattle.qo_heap.specs.Rows.{IsLive}
 use Rattle.qo_heap.specs.Board.{Shows}
 use Rattle.qo_heap.specs.Objects.{Objects}
 use Rattle.qo_buses.specs.Recount.{IsRecounted}
-use Rattle.qo_plug.specs.FreeSpots.{IsFreeId}
-use Rattle.qo_properties.specs.declared.adding.filling.Fill.{Fill}
-use Rattle.qo_properties.specs.declared.adding.filling.Fill.TheVariants.{Value}
+use Rattle.qo_plug.specs.FreeResources.{IsFreeId}
+use Rattle.qo_properties.specs.declared.adding.filling.InitialValue.{InitialValue}
+use Rattle.qo_properties.specs.declared.adding.filling.InitialValue.TheVariants.{Value}
 use Rattle.qo_properties.specs.Filling.{Fits, target_in}
 use Rattle.qo_properties.specs.Plans.{IsPlan}
 use Rattle.qo_properties.specs.NewSlots.{new_slots}
@@ -21,22 +21,22 @@ use Rattle.qo_plug.specs.declared.planning.Planned.{Planned}
 use Rattle.qo_plug.specs.Admission.{IsAdmitted}
 
 -- the number and the text that a slot is filled with
-abbrev pub number_filled : Fill → Option ℕ
+abbrev pub number_filled : InitialValue → Option ℕ
 number_filled (Value v) = number_in v
 number_filled f = None
 
-abbrev pub text_filled : Fill → Option (List ℕ)
+abbrev pub text_filled : InitialValue → Option (List ℕ)
 text_filled (Value v) = text_in v
 text_filled f = None
 
 -- a planned device is to have what these properties give
 abbrev pub HasGiven : Board → List Given → Planned → Type 0
-HasGiven b props p = IsPlan b p.site.kind props p.plan.items
+HasGiven b props p = IsPlan b p.target.kind props p.plan.items
 
 -- what is planned is what is asked for, and nothing bars it before the device is made
 pub record IsPlanned (b : Board) (a : Wanted) (p : Planned) : Type 0 where
-  pub admitted : IsAdmitted b a p.site
-  pub given : refusal_of b p.site.kind a.props ≡ None
+  pub admitted : IsAdmitted b a p.target
+  pub given : refusal_of b p.target.kind a.props ≡ None
   pub has : HasGiven b a.props p
 
 -- a board of a heap with these rings, on which a planned device is judged: what is held is in the book, its bus is of the kind where it goes, and it is to
@@ -45,14 +45,14 @@ pub record IsJudgedOn (b : Board) (props : List Given) (p : Planned) (rings : Li
   pub shown : Shows b v
   pub recounted : IsRecounted b v.claims
   pub rings_are : b.rings ≡ rings
-  pub bus : is_of b (bus_type p.site.kind) p.site.bus.birth ≡ true
+  pub bus : is_of b (bus_type p.target.kind) p.target.bus.birth ≡ true
   pub given : HasGiven b props p
 
 -- a heap has what a planned device needs: its container, its bus and what its links are to name; its id is free; and its plan is for the slots of its type
 pub record IsFit (p : Planned) (v : Objects) : Type 0 where
-  pub device : is_a p.site.kind (codes "device") ≡ true
-  pub container : IsLive v.rows p.site.place.container
-  pub bus : IsLive v.rows p.site.bus
-  pub free_id : IsFreeId p.site.place.id v.claims
+  pub device : is_a p.target.kind (codes "device") ≡ true
+  pub container : IsLive v.rows p.target.place.container
+  pub bus : IsLive v.rows p.target.bus
+  pub free_id : IsFreeId p.target.place.id v.claims
   pub targets : AllByRecursion (λ f. IfSome (target_in f) (IsLive v.rows)) p.plan.items
-  pub fits : AllZip Fits p.plan.items (new_slots p.site.kind)
+  pub fits : AllZip Fits p.plan.items (new_slots p.target.kind)

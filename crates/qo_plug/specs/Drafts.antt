@@ -21,7 +21,7 @@ use Rattle.qo_heap.specs.Objects.{Objects, content_of}
 use Rattle.qo_properties.specs.Claims.{KeepsBook}
 use Rattle.qo_properties.specs.KeptClaims.{kept_by}
 use Rattle.qo_properties.specs.Filling.{filled, filled_with, value_alone}
-use Rattle.qo_properties.specs.declared.adding.filling.Fill.{Fill}
+use Rattle.qo_properties.specs.declared.adding.filling.InitialValue.{InitialValue}
 use Rattle.qo_properties.specs.NewSlots.{new_slots}
 use Rattle.qo_properties.specs.OpeningSteps.{KeepsNames}
 pub use Rattle.qo_plug.specs.OwnSlots.{is_own, own_slots, own_slots_of}
@@ -55,11 +55,11 @@ abbrev pub MakesGiven : Board → List Given → ℕ → (Board → Board) → O
 MakesGiven b props n step v w = (c : Board) → Shows (edit n (with_values b props) c) v → Shows (edit n (with_values b props) (step c)) w
 
 -- a slot of a new device with the value planned for it has what was given, or is a link
-abbrev pub HasPlanned : Board → List Given → Fill → Named → Type 0
+abbrev pub HasPlanned : Board → List Given → InitialValue → Named → Type 0
 HasPlanned b props f s = (s.0, shown_slot (filled_with (value_alone f) s.1)) ≡ value_given b props (s.0, shown_slot s.1)
 
 -- the own slots of a new object of a type, with the values planned
-abbrev pub valued_slots : TypeId → List Fill → List Named
+abbrev pub valued_slots : TypeId → List InitialValue → List Named
 valued_slots t plan = filled (map value_alone plan) (new_slots t)
 
 -- all of an object but its slots
@@ -86,7 +86,7 @@ pub record Grows (v w : Objects) : Type 0 where
 -- a device of a type was made as planned: it is there, of the next birth, held once, with a new body, without id and path; its own slots have the values
 -- planned,
 -- and its links are empty
-pub record IsDraft (t : TypeId) (plan : List Fill) (v w : Objects) (o : Key) : Type 0 where
+pub record IsDraft (t : TypeId) (plan : List InitialValue) (v w : Objects) (o : Key) : Type 0 where
   pub birth : o.birth ≡ v.born + 1
   pub live : IsLive w.rows o
   pub rest : option_map bare (content_of w o.birth) ≡ Some (bare (fresh t))

@@ -5,10 +5,10 @@ pub mod Cuts
 pub mod DeviceClaims
 pub mod DevicePlans
 pub mod Drafts
-pub mod FreeSpots
+pub mod FreeResources
 pub mod FurtherDrafts
 pub mod KeptClaims
 pub mod OwnSlots
 pub mod Placement
-pub mod Spots
+pub mod Resources
 pub mod Stages

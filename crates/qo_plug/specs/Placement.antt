@@ -12,7 +12,7 @@ use Rattle.qo_kinds.specs.declared.kept_set.KeptSet.{KeptSet}
 use Rattle.qo_model.specs.Board.{Board}
 use Rattle.qo_model.specs.Devices.{kid_name}
 use Rattle.qo_model.specs.Paths.{canonical}
-use Rattle.qo_model.specs.Plug.{Spot, Wanted, clocked, name_for, parent_for, registers_on, source_for, stood}
+use Rattle.qo_model.specs.Plug.{Resources, Wanted, clocked, name_for, parent_for, registers_on, source_for, stood}
 use Rattle.qo_object.specs.declared.slots.Slot.TheVariants.{Child, Link}
 use Rattle.qo_object.specs.Slots.{Named}
 use Rattle.qo_object.specs.Content.{Content, with_slot}
@@ -21,18 +21,18 @@ use Rattle.qo_heap.specs.Objects.{Objects, content_of, with_edit}
 use Rattle.qo_properties.specs.Claims.{KeepsBook}
 use Rattle.qo_properties.specs.Filling.{filled_with}
 use Rattle.qo_properties.specs.OpeningSteps.{KeepsNames}
-use Rattle.qo_properties.specs.declared.adding.filling.Fill.{Fill}
-use Rattle.qo_plug.specs.declared.spots.Memory.{Memory}
-use Rattle.qo_plug.specs.declared.spots.Spot.{Spot as Chosen}
+use Rattle.qo_properties.specs.declared.adding.filling.InitialValue.{InitialValue}
+use Rattle.qo_plug.specs.declared.resources.Memory.{Memory}
+use Rattle.qo_plug.specs.declared.resources.Resources.{Resources as Chosen}
 use Rattle.qo_plug.specs.OwnSlots.{is_own}
 
 -- slots of which the own ones are filled in order, and so an object
-abbrev pub own_filled : List Fill → List Named → List Named
+abbrev pub own_filled : List InitialValue → List Named → List Named
 own_filled fs [] = []
 own_filled [] (s ∷ slots) = s ∷ slots
 own_filled (f ∷ fs) (s ∷ slots) = if is_own s.1 then (s.0, filled_with f s.1) ∷ own_filled fs slots else s ∷ own_filled (f ∷ fs) slots
 
-abbrev pub with_own : List Fill → Content → Content
+abbrev pub with_own : List InitialValue → Content → Content
 with_own fs c = record c { slots = own_filled fs c.slots }
 
 -- an object whose body keeps other claims, and one with another id
@@ -76,24 +76,24 @@ pub record Stays (v w : Objects) : Type 0 where
   pub spare : w.events.spare ≡ v.events.spare
   pub book : KeepsBook v w
 
--- the range of a memory, if there is one, and the spot of a device on a bus
+-- the range of a memory, if there is one, and the resources of a device on a bus
 abbrev pub range_in : Option Memory → Option Range
 range_in memory = option_map (λ (m : Memory). m.range) memory
 
-abbrev pub spot_in : ℕ → Chosen → Spot
-spot_in bus s = record { bus = bus; slot = s.slot; range = range_in s.memory }
+abbrev pub resources_in : ℕ → Chosen → Resources
+resources_in bus s = record { bus = bus; slot = s.slot; range = range_in s.memory }
 
--- a device stands in its spot, with the source of its clock
-abbrev pub seated : Board → ℕ → Wanted → Spot → Board → Board
-seated b n a spot c = clocked (source_for b spot.bus) n (stood b n a spot c)
+-- a device stands with its resources, with the source of its clock
+abbrev pub seated : Board → ℕ → Wanted → Resources → Board → Board
+seated b n a resources c = clocked (source_for b resources.bus) n (stood b n a resources c)
 
 -- what is asked for puts a device into this container, under this name, with this id
-pub record IsSeat (b : Board) (a : Wanted) (parent : ℕ) (name : List ℕ) (id : Option (List ℕ)) : Type 0 where
+pub record IsAttachment (b : Board) (a : Wanted) (parent : ℕ) (name : List ℕ) (id : Option (List ℕ)) : Type 0 where
   pub id_is : a.id ≡ id
   pub name_is : name_for b a.id ≡ name
   pub parent_is : parent_for a.id ≡ parent
 
 -- the heap of the board on which it stands, and its path there
-pub record Stood (b c : Board) (n : ℕ) (a : Wanted) (spot : Spot) (path : List ℕ) (w : Objects) : Type 0 where
-  pub shown : Shows (seated b n a spot c) w
-  pub path_is : canonical (seated b n a spot c) n ≡ Some path
+pub record Stood (b c : Board) (n : ℕ) (a : Wanted) (resources : Resources) (path : List ℕ) (w : Objects) : Type 0 where
+  pub shown : Shows (seated b n a resources c) w
+  pub path_is : canonical (seated b n a resources c) n ≡ Some path

@@ -9,11 +9,11 @@ ghost use Rattle.qo_plug.specs.Admission.{IfRefused, as_wanted};
 ghost use Rattle.qo_plug.specs.Answers.{IsAdded, IsCut, IsRefused, IsShown};
 ghost use Rattle.qo_plug.specs.KeptClaims.{KeptOrNewBut};
 
-use crate::beginning::{choose, make, turn_down};
+use crate::beginning::{choose, make, note_failed_add};
 use crate::finishing::finish;
-use crate::judging::judge;
 use crate::options::DeviceOptions;
 use crate::placing::place;
+use crate::pre_plug::pre_plug;
 use crate::refusals::{AddRefusal, Barred};
 use qo_chardev::Rings;
 use qo_heap::{Heap, Steps};
@@ -35,8 +35,8 @@ pub struct Added {
 }
 
 /// Adds a device that is asked for: by the stages of `begin`, `place` and `finish`, but that a device
-/// which has no spot on its bus is not furnished first. `anonymous` is how many devices without an id
-/// were added before. A refusal is the first in the order of the stages: those of `admit`, before
+/// whose resources are not free is not made first with its values. `anonymous` is how many devices without an id
+/// were added before. A refusal is the first in the order of the stages: those of `check_options`, before
 /// which nothing of the device is made, and then the others, after which its births and notes are
 /// left. Want of memory leaves all as it was, or an attempt that was cut.
 pub fn add<L: Ledger>(
@@ -61,15 +61,15 @@ pub fn add<L: Ledger>(
         Ok(planned) => planned,
         Err(refusal) => return Err(refusal),
     };
-    let spot = match judge(heap, rings, &planned, alloc, steps) {
-        Ok(spot) => spot,
+    let resources = match pre_plug(heap, rings, &planned, alloc, steps) {
+        Ok(resources) => resources,
         Err(AddRefusal::Refused { stage, code }) => {
-            let kind = planned.site.kind;
-            return Err(turn_down(heap, kind, stage, code, alloc, steps));
+            let kind = planned.target.kind;
+            return Err(note_failed_add(heap, kind, stage, code, alloc, steps));
         }
         Err(AddRefusal::Memory) => return Err(AddRefusal::Memory),
     };
-    let begun = match make(heap, resets, planned, rings, Ok(spot), alloc, steps) {
+    let begun = match make(heap, resets, planned, rings, Ok(resources), alloc, steps) {
         Ok(begun) => begun,
         Err(_) => return Err(AddRefusal::Memory),
     };

@@ -1,4 +1,4 @@
-//! Beginning a device, the stages 1 to 4 of adding: it is admitted, what is given for its properties
+//! Beginning a device, the stages 1 to 4 of adding: its options are checked, what is given for its properties
 //! is looked at, and it is made; or an attempt at it is given up. It stands nowhere yet.
 
 ghost use Rattle.std.specs.Prelude.{◌≡◌, ◌≤◌, ◌==◌, ℕ, List, false, Err, IfOk, OnErr, OnOk};
@@ -16,18 +16,18 @@ ghost use Rattle.qo_plug.specs.Drafts.{CutShort};
 ghost use Rattle.qo_plug.specs.DevicePlans.{IsFit, IsPlanned};
 ghost use Rattle.qo_plug.specs.Stages.{IsBegun, IsHeld, IsJudged};
 
-use crate::admitting::{Site, admit};
 use crate::drafting::{give_up, make_device};
-use crate::judging::judge;
+use crate::failed_add::failed_add;
 use crate::options::DeviceOptions;
 use crate::planning::Planned;
+use crate::pre_plug::pre_plug;
 use crate::refusals::{AddRefusal, Barred};
-use crate::spots::Spot;
-use crate::trying::attempt;
+use crate::resources::Resources;
+use crate::targets::{Target, check_options};
 use qo_chardev::Rings;
 use qo_heap::{Heap, Oid, Steps};
 use qo_hotplug::Hotplug;
-use qo_properties::{Fill, Refusal, plan};
+use qo_properties::{InitialValue, Refusal, plan};
 use qo_reset::Resets;
 use qo_values::{Code, TypeId};
 use std::alloc::{AllocError, Global};
@@ -35,15 +35,15 @@ use std::sync::ledger::Ledger;
 
 /// A device that was begun: it is made and held from outside the tree, and stands nowhere. It can't
 /// be let go: it is spent by `place` or `abandon`.
-pub struct Begun {
+pub struct NewDevice {
     /// Where it is to go.
-    pub site: Site,
+    pub target: Target,
     /// The device.
     pub device: Oid,
     /// What is left of its plan: it has its values, and its links are to name these.
-    pub plan: Vec<Fill>,
-    /// Its spot on its bus, or why it has none there.
-    pub spot: Result<Spot, Barred>,
+    pub plan: Vec<InitialValue>,
+    /// Its resources, or why it has none.
+    pub resources: Result<Resources, Barred>,
     /// Whether no hold is on its bus.
     pub out: bool,
 }
@@ -51,7 +51,7 @@ pub struct Begun {
 /// An attempt at a device of a type that is refused before it takes a place, at a stage and with a
 /// code: its objects are made and end at once. This is the refusal, or want of memory: then the
 /// attempt was cut.
-pub(crate) fn turn_down<L: Ledger>(
+pub(crate) fn note_failed_add<L: Ledger>(
     heap: &mut Heap,
     kind: TypeId,
     stage: u8,
@@ -64,47 +64,47 @@ pub(crate) fn turn_down<L: Ledger>(
     ensures book { KeepsBook heap.old heap.new }
     ensures kept { KeptOrNew heap.old heap.new }
 {
-    match attempt(heap, kind, alloc, steps) {
+    match failed_add(heap, kind, alloc, steps) {
         Ok(()) => AddRefusal::Refused { stage, code },
         Err(_) => AddRefusal::Memory,
     }
 }
 
-/// Makes a planned device, for which this was judged of its spot. What is learnt of its bus is learnt
+/// Makes a planned device, for which this was found of its resources. What is learnt of its bus is learnt
 /// before. The error is want of memory: an attempt was cut.
 pub(crate) fn make<L: Ledger>(
     heap: &mut Heap,
     resets: &Resets,
     planned: Planned,
     rings: &Rings,
-    spot: Result<Spot, Barred>,
+    resources: Result<Resources, Barred>,
     alloc: Global,
     steps: &mut Steps<L>,
-) -> Result<Begun, AllocError>
+) -> Result<NewDevice, AllocError>
     requires fit { IsFit planned heap.old }
-    requires spot { IsJudged planned rings.now spot heap.old }
+    requires resources { IsJudged planned rings.now resources heap.old }
     ensures begun { (b : Board) (a : Wanted) (anonymous : ℕ) (h : Asked) → IsShown b anonymous resets.now.births rings.now h heap.old → IsPlanned b a planned → IfOk result (λ d. IsBegun b a d heap.new) }
     ensures held { IfOk result (λ d. IsHeld d heap.new) }
-    ensures err { OnErr result ((b : Board) → Shows b heap.old → SoundTree b → CutShort b planned.site.kind heap.new) }
+    ensures err { OnErr result ((b : Board) → Shows b heap.old → SoundTree b → CutShort b planned.target.kind heap.new) }
     ensures book { KeepsBook heap.old heap.new }
     ensures kept { KeptOrNew heap.old heap.new }
 {
-    heap.facts();
-    let Planned { site, mut plan } = planned;
-    let out = resets.count(heap, site.bus, steps) == 0;
-    let device = make_device(heap, site.kind, plan.as_mut_slice(), alloc, steps)?;
-    Ok(Begun {
-        site,
+    heap.reveal_invariant();
+    let Planned { target, mut plan } = planned;
+    let out = resets.count(heap, target.bus, steps) == 0;
+    let device = make_device(heap, target.kind, plan.as_mut_slice(), alloc, steps)?;
+    Ok(NewDevice {
+        target,
         device,
         plan,
-        spot,
+        resources,
         out,
     })
 }
 
 /// The plan of a device that is asked for, where neither what bars it before an attempt nor what is
 /// given for its properties refuses it. A refusal is the first in the order of the stages: those of
-/// `admit`, before which nothing of the device is made, and then those of `plan` (stage 4), after which
+/// `check_options`, before which nothing of the device is made, and then those of `plan` (stage 4), after which
 /// its births and notes are left. Want of memory leaves all as it was, or an attempt that was cut.
 pub(crate) fn choose<L: Ledger>(
     heap: &mut Heap,
@@ -122,7 +122,7 @@ pub(crate) fn choose<L: Ledger>(
     ensures book { KeepsBook heap.old heap.new }
     ensures kept { KeptOrNew heap.old heap.new }
 {
-    let site = match admit(
+    let target = match check_options(
         heap,
         hotplug.pending(),
         anonymous,
@@ -132,17 +132,24 @@ pub(crate) fn choose<L: Ledger>(
         alloc,
         steps,
     ) {
-        Ok(site) => site,
+        Ok(target) => target,
         Err(refusal) => return Err(refusal),
     };
-    match plan(heap, site.kind, options.props, alloc, steps) {
-        Ok(plan) => Ok(Planned { site, plan }),
-        Err(Refusal::Refused(code)) => Err(turn_down(heap, site.kind, 4, code, alloc, steps)),
+    match plan(heap, target.kind, options.props, alloc, steps) {
+        Ok(plan) => Ok(Planned { target, plan }),
+        Err(Refusal::Refused(code)) => Err(note_failed_add(
+            heap,
+            target.kind,
+            4,
+            code,
+            alloc,
+            steps,
+        )),
         Err(Refusal::Memory) => Err(AddRefusal::Memory),
     }
 }
 
-/// What is judged of the spot of a planned device: where it stands, or why it can't. The error is want
+/// What is found of the resources of a planned device: where it stands, or why it can't. The error is want
 /// of memory.
 fn judged<L: Ledger>(
     heap: &Heap,
@@ -150,19 +157,19 @@ fn judged<L: Ledger>(
     planned: &Planned,
     alloc: Global,
     steps: &mut Steps<L>,
-) -> Result<Result<Spot, Barred>, AllocError>
+) -> Result<Result<Resources, Barred>, AllocError>
     requires { IsFit planned.now heap.now }
-    ensures { IfOk result (λ spot. IsJudged planned.now rings.now spot heap.now) }
+    ensures { IfOk result (λ resources. IsJudged planned.now rings.now resources heap.now) }
 {
-    match judge(heap, rings, planned, alloc, steps) {
-        Ok(spot) => Ok(Ok(spot)),
+    match pre_plug(heap, rings, planned, alloc, steps) {
+        Ok(resources) => Ok(Ok(resources)),
         Err(AddRefusal::Refused { stage, code }) => Ok(Err(Barred { stage, code })),
         Err(AddRefusal::Memory) => Err(AllocError),
     }
 }
 
 /// Begins a device that is asked for: the stages 1 to 4. `anonymous` is how many devices without an id
-/// were added before. A refusal is the first in the order of the stages: those of `admit`, before
+/// were added before. A refusal is the first in the order of the stages: those of `check_options`, before
 /// which nothing of the device is made, and then those of `plan` (stage 4), after which its births and
 /// notes are left. Want of memory leaves all as it was, or an attempt that was cut.
 pub fn begin<L: Ledger>(
@@ -174,7 +181,7 @@ pub fn begin<L: Ledger>(
     options: &DeviceOptions<'_>,
     alloc: Global,
     steps: &mut Steps<L>,
-) -> Result<Begun, AddRefusal>
+) -> Result<NewDevice, AddRefusal>
     ensures begun { (b : Board) → IsShown b anonymous resets.now.births rings.now hotplug.now heap.old → IfOk result (λ d. IsBegun b (as_wanted options.now) d heap.new) }
     ensures held { IfOk result (λ d. IsHeld d heap.new) }
     ensures refused { (b : Board) → IsShown b anonymous resets.now.births rings.now hotplug.now heap.old → IfRefused result (λ stage code. (1 ≤ stage) × (stage ≤ 4) × IsRefused b (as_wanted options.now) stage code heap.new) }
@@ -186,25 +193,25 @@ pub fn begin<L: Ledger>(
         Ok(planned) => planned,
         Err(refusal) => return Err(refusal),
     };
-    let spot = judged(heap, rings, &planned, alloc, steps)?;
-    match make(heap, resets, planned, rings, spot, alloc, steps) {
+    let resources = judged(heap, rings, &planned, alloc, steps)?;
+    match make(heap, resets, planned, rings, resources, alloc, steps) {
         Ok(begun) => Ok(begun),
         Err(_) => Err(AddRefusal::Memory),
     }
 }
 
 /// Gives a device up that was begun: it ends, and its births and notes are left. It takes no memory.
-pub fn abandon<L: Ledger>(heap: &mut Heap, begun: Begun, steps: &mut Steps<L>)
+pub fn abandon<L: Ledger>(heap: &mut Heap, begun: NewDevice, steps: &mut Steps<L>)
     requires { IsHeld begun heap.old }
-    ensures given_up { (b : Board) (a : Wanted) → IsBegun b a begun heap.old → Shows (plug_attempt b begun.site.kind begun.site.bus.birth 4) heap.new }
+    ensures given_up { (b : Board) (a : Wanted) → IsBegun b a begun heap.old → Shows (plug_attempt b begun.target.kind begun.target.bus.birth 4) heap.new }
     ensures book { KeepsBook heap.old heap.new }
     ensures kept { KeptBefore heap.old heap.new }
 {
-    let Begun {
-        site: _site,
+    let NewDevice {
+        target: _target,
         device,
         plan: _plan,
-        spot: _spot,
+        resources: _resources,
         out: _out,
     } = begun;
     give_up(heap, device, steps);

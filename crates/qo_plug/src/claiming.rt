@@ -15,28 +15,28 @@ ghost use Rattle.qo_heap.specs.Objects.{content_of, with_edit};
 ghost use Rattle.qo_kinds.specs.Bodies.{IsBare, none_kept};
 ghost use Rattle.qo_heap.specs.Rows.{IsLive};
 ghost use Rattle.qo_plug.specs.Placement.{kept_in, named, with_book};
-ghost use Rattle.qo_plug.specs.DeviceClaims.{kept_on, kept_out, labels_out, one_out, taken_out, with_one};
-ghost use Rattle.qo_plug.specs.FreeSpots.{IsFreeId, IsFreeSpot};
+ghost use Rattle.qo_plug.specs.DeviceClaims.{id_claims_out, kept_on, kept_out, one_out, taken_out, with_one};
+ghost use Rattle.qo_plug.specs.FreeResources.{AreFreeResources, IsFreeId};
 
-use crate::spots::{Memory, Spot};
+use crate::resources::{Memory, Resources};
 use qo_claims::{Claim, ClaimError, Kept, keep};
 use qo_heap::{Heap, Oid, Steps};
-use qo_kinds::KeptSet;
+use qo_kinds::{KeptSet, no_claim};
 use qo_values::Id;
 use std::alloc::AllocError;
 use std::mem::replace;
 use std::sync::ledger::Ledger;
 
 /// The id of a device, with the claim on it.
-pub struct Label {
+pub struct IdClaim {
     id: Id,
     claim: Claim,
 }
 
 /// The claims that were taken for a device.
-pub struct Taken {
+pub struct DeviceClaims {
     /// That on its id, if it has one.
-    pub label: Option<Label>,
+    pub id_claim: Option<IdClaim>,
     /// Those that its body is to keep.
     pub kept: KeptSet,
 }
@@ -53,20 +53,20 @@ fn memory_alone(error: ClaimError) -> AllocError
 
 /// Claims the id of a device, if it has one, which is free. The error says that memory ran out, and
 /// leaves the heap as it was.
-fn take_label(heap: &mut Heap, id: Option<Id>) -> Result<Option<Label>, AllocError>
+fn take_id_claim(heap: &mut Heap, id: Option<Id>) -> Result<Option<IdClaim>, AllocError>
     requires { IsFreeId id heap.old.claims }
-    ensures id { IfOk result (λ label. option_map (λ l. l.id) label ≡ id) }
-    ensures on { IfOk result (λ label. IfSome label (λ l. l.claim ≡ on.Device l.id)) }
+    ensures id { IfOk result (λ id_claim. option_map (λ l. l.id) id_claim ≡ id) }
+    ensures on { IfOk result (λ id_claim. IfSome id_claim (λ l. l.claim ≡ on.Device l.id)) }
     ensures rest { heap.new ≡ with_book heap.new.claims heap.old }
-    ensures claims { IfOk result (λ label. heap.new.claims ≡ with_one (option_map (λ l. l.claim) label) heap.old.claims) }
-    ensures book { IfOk result (λ label. (out : List Claimed) → IsBook out heap.old → IsBook (labels_out label ++ out) heap.new) }
+    ensures claims { IfOk result (λ id_claim. heap.new.claims ≡ with_one (option_map (λ l. l.claim) id_claim) heap.old.claims) }
+    ensures book { IfOk result (λ id_claim. (out : List Claimed) → IsBook out heap.old → IsBook (id_claims_out id_claim ++ out) heap.new) }
     ensures err { OnErr result (heap.new ≡ heap.old) }
 {
     let Some(id) = id else {
         return Ok(None);
     };
     match heap.claims().take_id(&id) {
-        Ok(claim) => Ok(Some(Label { id, claim })),
+        Ok(claim) => Ok(Some(IdClaim { id, claim })),
         Err(error) => Err(memory_alone(error)),
     }
 }
@@ -155,12 +155,12 @@ fn give_one(heap: &mut Heap, claim: Claim)
 }
 
 /// Gives the claim on the id of a device back, if it has one.
-fn give_label(heap: &mut Heap, label: Option<Label>)
+fn give_id_claim(heap: &mut Heap, id_claim: Option<IdClaim>)
     ensures rest { heap.new ≡ with_book heap.new.claims heap.old }
-    ensures book { (out : List Claimed) → IsBook (labels_out label ++ out) heap.old → IsBook out heap.new }
+    ensures book { (out : List Claimed) → IsBook (id_claims_out id_claim ++ out) heap.old → IsBook out heap.new }
 {
-    match label {
-        Some(Label { id: _, claim }) => give_one(heap, claim),
+    match id_claim {
+        Some(IdClaim { id: _, claim }) => give_one(heap, claim),
         None => {}
     }
 }
@@ -193,16 +193,6 @@ fn free_all(heap: &mut Heap, kept: KeptSet)
     free_one(heap, slot);
 }
 
-/// Ends what can't be there.
-fn no_claim(kept: Option<Kept>)
-    requires { kept ≡ None }
-{
-    match kept {
-        None => {}
-        Some(_) => unreachable!(),
-    }
-}
-
 /// A place without a claim has this one, if there is one.
 fn put_one(place: &mut Option<Kept>, kept: Option<Kept>)
     requires { place.old ≡ None }
@@ -213,21 +203,26 @@ fn put_one(place: &mut Option<Kept>, kept: Option<Kept>)
 
 /// Takes the claims of a device that its body is to keep, which are free, into a set without claims. The
 /// error says that memory ran out; the claims that were taken until then are in the set.
-fn take_into(heap: &mut Heap, bus: u64, spot: &Spot, kept: &mut KeptSet) -> Result<(), AllocError>
+fn take_into(
+    heap: &mut Heap,
+    bus: u64,
+    resources: &Resources,
+    kept: &mut KeptSet,
+) -> Result<(), AllocError>
     requires none { kept.old ≡ none_kept }
-    requires below { spot.now.slot < BUS_SLOTS }
-    requires free { IsFreeSpot bus spot.now heap.old.claims }
-    ensures on { OnOk result (kept.new ≡ kept_on bus spot.now) }
+    requires below { resources.now.slot < BUS_SLOTS }
+    requires free { AreFreeResources bus resources.now heap.old.claims }
+    ensures on { OnOk result (kept.new ≡ kept_on bus resources.now) }
     ensures rest { heap.new ≡ with_book heap.new.claims heap.old }
     ensures book { (out : List Claimed) → IsBook out heap.old → IsBook (kept_out kept.new ++ out) heap.new }
 {
-    let slot = take_slot(heap, bus, spot.slot)?;
+    let slot = take_slot(heap, bus, resources.slot)?;
     put_one(&mut kept.slot, Some(slot));
-    let ring = take_ring(heap, &spot.ring)?;
+    let ring = take_ring(heap, &resources.ring)?;
     put_one(&mut kept.ring, ring);
-    let backend = take_backend(heap, spot.memory)?;
+    let backend = take_backend(heap, resources.memory)?;
     put_one(&mut kept.backend, backend);
-    let range = take_range(heap, spot.memory)?;
+    let range = take_range(heap, resources.memory)?;
     put_one(&mut kept.range, range);
     Ok(())
 }
@@ -238,37 +233,37 @@ pub fn take_claims(
     heap: &mut Heap,
     id: Option<Id>,
     bus: u64,
-    spot: &Spot,
-) -> Result<Taken, AllocError>
-    requires below { spot.now.slot < BUS_SLOTS }
+    resources: &Resources,
+) -> Result<DeviceClaims, AllocError>
+    requires below { resources.now.slot < BUS_SLOTS }
     requires free_id { IsFreeId id heap.old.claims }
-    requires free { IsFreeSpot bus spot.now heap.old.claims }
-    ensures id { IfOk result (λ taken. option_map (λ l. l.id) taken.label ≡ id) }
-    ensures on { IfOk result (λ taken. IfSome taken.label (λ l. l.claim ≡ on.Device l.id)) }
-    ensures kept { IfOk result (λ taken. taken.kept ≡ kept_on bus spot.now) }
+    requires free { AreFreeResources bus resources.now heap.old.claims }
+    ensures id { IfOk result (λ taken. option_map (λ l. l.id) taken.id_claim ≡ id) }
+    ensures on { IfOk result (λ taken. IfSome taken.id_claim (λ l. l.claim ≡ on.Device l.id)) }
+    ensures kept { IfOk result (λ taken. taken.kept ≡ kept_on bus resources.now) }
     ensures rest { heap.new ≡ with_book heap.new.claims heap.old }
     ensures book { IfOk result (λ taken. (out : List Claimed) → IsBook out heap.old → IsBook (taken_out taken ++ out) heap.new) }
     ensures err { OnErr result ((out : List Claimed) → IsBook out heap.old → IsBook out heap.new) }
 {
-    let label = take_label(heap, id)?;
+    let id_claim = take_id_claim(heap, id)?;
     let mut kept = KeptSet::none();
-    match take_into(heap, bus, spot, &mut kept) {
-        Ok(()) => Ok(Taken { label, kept }),
+    match take_into(heap, bus, resources, &mut kept) {
+        Ok(()) => Ok(DeviceClaims { id_claim, kept }),
         Err(error) => {
-            give_back(heap, Taken { label, kept });
+            give_back(heap, DeviceClaims { id_claim, kept });
             Err(error)
         }
     }
 }
 
 /// Gives the claims of a device back.
-pub fn give_back(heap: &mut Heap, taken: Taken)
+pub fn give_back(heap: &mut Heap, taken: DeviceClaims)
     ensures rest { heap.new ≡ with_book heap.new.claims heap.old }
     ensures book { (out : List Claimed) → IsBook (taken_out taken ++ out) heap.old → IsBook out heap.new }
 {
-    let Taken { label, kept } = taken;
+    let DeviceClaims { id_claim, kept } = taken;
     free_all(heap, kept);
-    give_label(heap, label);
+    give_id_claim(heap, id_claim);
 }
 
 /// The body of an object without claims keeps these.
@@ -278,26 +273,26 @@ pub fn keep_claims<L: Ledger>(heap: &mut Heap, o: Oid, kept: KeptSet, steps: &mu
     ensures now { heap.new ≡ with_edit o.birth (kept_in kept) heap.old }
     ensures book { (out : List Claimed) → IsBook (kept_out kept ++ out) heap.old → IsBook out heap.new }
 {
-    heap.facts();
+    heap.reveal_invariant();
     heap.body_mut(o, steps).keep_claims(kept);
 }
 
 /// A device without an id has this one, and keeps the claim on it.
-pub fn keep_label<L: Ledger>(
+pub fn keep_id_claim<L: Ledger>(
     heap: &mut Heap,
     device: Oid,
-    label: Option<Label>,
+    id_claim: Option<IdClaim>,
     steps: &mut Steps<L>,
 )
     requires live { IsLive heap.old.rows device }
-    requires on { IfSome label (λ l. l.claim ≡ on.Device l.id) }
+    requires on { IfSome id_claim (λ l. l.claim ≡ on.Device l.id) }
     requires unnamed { option_and_then (λ c. c.device_id) (content_of heap.old device.birth) ≡ None }
-    ensures now { heap.new ≡ with_edit device.birth (named (option_map (λ l. l.id) label)) heap.old }
-    ensures book { (out : List Claimed) → IsBook (labels_out label ++ out) heap.old → IsBook out heap.new }
+    ensures now { heap.new ≡ with_edit device.birth (named (option_map (λ l. l.id) id_claim)) heap.old }
+    ensures book { (out : List Claimed) → IsBook (id_claims_out id_claim ++ out) heap.old → IsBook out heap.new }
 {
-    heap.facts();
-    match label {
-        Some(Label { id, claim }) => heap.name_device(device, id, claim, steps),
+    heap.reveal_invariant();
+    match id_claim {
+        Some(IdClaim { id, claim }) => heap.name_device(device, id, claim, steps),
         None => {}
     }
 }

@@ -22,13 +22,13 @@ ghost use Rattle.qo_properties.specs.KeptClaims.{KeptBefore, KeptOrNew};
 ghost use Rattle.qo_properties.specs.NewSlots.{begun, new_slots, slot_begun};
 ghost use Rattle.qo_properties.specs.Filling.{Fits, filled, spent, spent_at, value_alone, value_at};
 ghost use Rattle.qo_properties.specs.Plans.{IsPlan};
-ghost use Rattle.qo_properties.specs.declared.adding.filling.Fill.TheVariants.{Nothing};
+ghost use Rattle.qo_properties.specs.declared.adding.filling.InitialValue.TheVariants.{Default};
 ghost use Rattle.qo_plug.specs.Drafts.{CutShort, Fell, Grows, HasPlanned, IsDraft, Makes, MakesGiven, given_draft, own_slots_of, valued_slots};
 
 use qo_heap::{Heap, Oid, Slot, SlotName, Steps};
 use qo_life::{create, drop_pin};
 use qo_model::{Property, PropertyName, PropertyRole};
-use qo_properties::{Fill, add_value, begins, make_child, take_value};
+use qo_properties::{InitialValue, add_value, is_stored, make_child, take_value};
 use qo_types::TypeTable;
 use qo_values::TypeId;
 use std::alloc::{AllocError, Global};
@@ -50,7 +50,7 @@ pub(crate) fn make_kid<L: Ledger>(
     ensures err { OnErr result (IsTried kind heap.old heap.new) }
     ensures grows { Grows heap.old heap.new }
 {
-    heap.facts();
+    heap.reveal_invariant();
     let kid = make_child(heap, device, SlotName::row(name), kind, alloc, steps)?;
     heap.unpin(kid, steps);
     Ok(())
@@ -104,7 +104,7 @@ fn make_property<L: Ledger>(
     device: Oid,
     kind: TypeId,
     row: Property,
-    fill: Fill,
+    fill: InitialValue,
     alloc: Global,
     steps: &mut Steps<L>,
 ) -> Result<(), AllocError>
@@ -114,7 +114,7 @@ fn make_property<L: Ledger>(
     ensures err { OnErr result ((heap.new ≡ heap.old) ⊎ ((further : TypeId) × (row.role ≡ Child further) × (heap.new ≡ given_up further heap.old))) }
     ensures grows { Grows heap.old heap.new }
 {
-    heap.facts();
+    heap.reveal_invariant();
     match row.role {
         PropertyRole::Plain(_, first) => {
             add_value(heap, device, kind, row.name, first, fill, alloc, steps)
@@ -132,13 +132,13 @@ fn make_property<L: Ledger>(
 
 /// Takes the value that is planned for a property with this row out of a plan, of which so many slots
 /// were passed; nothing is planned for a property without a slot of its own.
-fn next_value(plan: &mut [Fill], at: &mut usize, role: PropertyRole) -> Fill
+fn next_value(plan: &mut [InitialValue], at: &mut usize, role: PropertyRole) -> InitialValue
     requires { at.old < 18446744073709551615 }
     ensures own { (t : TypeId) → is_some (begun t role) ≡ true → (result ≡ value_at at.old plan.old) × (at.new ≡ at.old + 1) × (plan.new ≡ spent_at at.old plan.old) }
-    ensures other { (t : TypeId) → is_some (begun t role) ≡ false → (result ≡ Nothing) × (at.new ≡ at.old) × (plan.new ≡ plan.old) }
+    ensures other { (t : TypeId) → is_some (begun t role) ≡ false → (result ≡ Default) × (at.new ≡ at.old) × (plan.new ≡ plan.old) }
 {
-    if !begins(role) {
-        return Fill::Nothing;
+    if !is_stored(role) {
+        return InitialValue::Default;
     }
     let fill = take_value(plan, *at);
     *at += 1;
@@ -153,7 +153,7 @@ fn make_properties<L: Ledger>(
     heap: &mut Heap,
     device: Oid,
     kind: TypeId,
-    plan: &mut [Fill],
+    plan: &mut [InitialValue],
     alloc: Global,
     steps: &mut Steps<L>,
 ) -> Result<(), AllocError>
@@ -182,7 +182,7 @@ fn make_properties<L: Ledger>(
 pub fn make_device<L: Ledger>(
     heap: &mut Heap,
     kind: TypeId,
-    plan: &mut [Fill],
+    plan: &mut [InitialValue],
     alloc: Global,
     steps: &mut Steps<L>,
 ) -> Result<Oid, AllocError>
@@ -196,7 +196,7 @@ pub fn make_device<L: Ledger>(
     ensures book { KeepsBook heap.old heap.new }
     ensures kept { KeptOrNew heap.old heap.new }
 {
-    heap.facts();
+    heap.reveal_invariant();
     let device = create(heap, alloc, kind, steps)?;
     match make_properties(heap, device, kind, plan, alloc, steps) {
         Ok(()) => Ok(device),

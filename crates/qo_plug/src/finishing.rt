@@ -7,14 +7,14 @@ ghost use Rattle.qo_model.specs.Board.{Board};
 ghost use Rattle.qo_model.specs.Plug.{Wanted};
 ghost use Rattle.qo_properties.specs.Claims.{KeepsBook};
 ghost use Rattle.qo_properties.specs.KeptClaims.{KeptBefore};
-ghost use Rattle.qo_plug.specs.declared.placing.Way.TheVariants.{Full};
+ghost use Rattle.qo_plug.specs.declared.placing.Plugging.TheVariants.{NoticesFull};
 ghost use Rattle.qo_plug.specs.Admission.{barred_in};
 ghost use Rattle.qo_plug.specs.Answers.{IsAdded, IsRefused};
 ghost use Rattle.qo_plug.specs.Stages.{IsBeside, IsReady, IsSettled};
 
 use crate::adding::Added;
-use crate::attempting::refuse;
-use crate::placing::{Placed, Way};
+use crate::failed_plug::refuse;
+use crate::placing::{AttachedDevice, Plugging};
 use crate::refusals::Barred;
 use crate::standing::DevicePath;
 use crate::starting::start;
@@ -32,7 +32,7 @@ pub fn finish<L: Ledger>(
     heap: &mut Heap,
     resets: &Resets,
     hotplug: &mut Hotplug,
-    placed: Placed,
+    placed: AttachedDevice,
     steps: &mut Steps<L>,
 ) -> Result<Added, Barred>
     requires { IsReady placed hotplug.old heap.old }
@@ -40,14 +40,18 @@ pub fn finish<L: Ledger>(
     ensures refused { (b : Board) (a : Wanted) → IsSettled b a placed heap.old → OnErr result (IsRefused b a 8 E44 heap.new) }
     ensures code { OnErr result (barred_in result ≡ Some (8, E44)) }
     ensures device { IfOk result (λ x. x.birth ≡ placed.device.birth) }
-    ensures full { OnErr result ((out : Bool) × (placed.way ≡ Full out)) }
+    ensures full { OnErr result ((out : Bool) × (placed.plugging ≡ NoticesFull out)) }
     ensures asked { OnErr result (hotplug.new ≡ hotplug.old) }
     ensures book { KeepsBook heap.old heap.new }
     ensures kept { KeptBefore heap.old heap.new }
 {
-    let Placed { device, slot, way } = placed;
-    match way {
-        Way::Stands(DevicePath { kept, told }) => {
+    let AttachedDevice {
+        device,
+        slot,
+        plugging,
+    } = placed;
+    match plugging {
+        Plugging::Attached(DevicePath { kept, told }) => {
             start(heap, resets, hotplug, device, kept, steps);
             drop_pin(heap, device, steps);
             Ok(Added {
@@ -56,7 +60,7 @@ pub fn finish<L: Ledger>(
                 path: told,
             })
         }
-        Way::Full { out } => {
+        Plugging::NoticesFull { out } => {
             refuse(heap, device, out, steps);
             Err(Barred {
                 stage: 8,

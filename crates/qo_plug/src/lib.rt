@@ -5,33 +5,33 @@
 #![tactic(auto)]
 
 mod adding;
-mod admitting;
-mod attempting;
-mod barring;
 mod beginning;
+mod checks;
 mod claiming;
 mod drafting;
+mod failed_add;
+mod failed_plug;
 mod finishing;
-mod judging;
 mod options;
 mod placing;
 mod planning;
+mod pre_plug;
 mod refusals;
-mod spots;
+mod resources;
 mod standing;
 mod starting;
-mod trying;
+mod targets;
 
 pub use adding::{Added, add};
-pub use admitting::{Place, Site, admit};
-pub use barring::{device_kind, open_bus, room, vacant};
-pub use beginning::{Begun, abandon, begin};
+pub use beginning::{NewDevice, abandon, begin};
+pub use checks::{device_kind, open_bus, room, vacant};
 pub use drafting::{give_up, make_device};
 pub use finishing::finish;
 pub use options::DeviceOptions;
-pub use placing::{Placed, Way, place};
+pub use placing::{AttachedDevice, Plugging, place};
 pub use planning::Planned;
 pub use refusals::{AddRefusal, Barred};
-pub use spots::{Memory, Spot};
-pub use standing::{DevicePath, Seat, stand};
+pub use resources::{Memory, Resources};
+pub use standing::{Attachment, DevicePath, stand};
 pub use starting::start;
+pub use targets::{ContainerSlot, Target, check_options};

@@ -13,12 +13,12 @@ ghost use Rattle.qo_plug.specs.Answers.{IsCut, IsRefused};
 ghost use Rattle.qo_plug.specs.KeptClaims.{KeptAs};
 ghost use Rattle.qo_plug.specs.Stages.{IsBegun, IsHeld, IsReady, IsSettled};
 
-use crate::admitting::{Place, Site};
-use crate::beginning::Begun;
+use crate::beginning::NewDevice;
 use crate::drafting::give_up;
 use crate::refusals::{AddRefusal, Barred};
-use crate::spots::Spot;
-use crate::standing::{DevicePath, Seat, stand};
+use crate::resources::Resources;
+use crate::standing::{Attachment, DevicePath, stand};
+use crate::targets::{ContainerSlot, Target};
 use qo_heap::{Heap, Oid, Steps};
 use qo_hotplug::Hotplug;
 use qo_values::{Id, NOTICES_MAX};
@@ -26,11 +26,11 @@ use std::alloc::Global;
 use std::sync::ledger::Ledger;
 
 /// How a device was placed.
-pub enum Way {
+pub enum Plugging {
     /// It stands in its place; its canonical path.
-    Stands(DevicePath),
+    Attached(DevicePath),
     /// It stands nowhere, since as many notices wait as may; whether no hold is on its bus.
-    Full {
+    NoticesFull {
         /// Whether no hold is on its bus.
         out: bool,
     },
@@ -38,13 +38,13 @@ pub enum Way {
 
 /// A device that was placed, and is held from outside the tree. It can't be let go: it is spent by
 /// `finish`.
-pub struct Placed {
+pub struct AttachedDevice {
     /// The device.
     pub device: Oid,
     /// Its slot of its bus.
     pub slot: u8,
     /// How it was placed.
-    pub way: Way,
+    pub plugging: Plugging,
 }
 
 /// Whether as many notices wait for the guest as may.
@@ -54,27 +54,27 @@ fn are_full(hotplug: &Hotplug) -> bool
     hotplug.notices().len() as u64 >= NOTICES_MAX
 }
 
-/// Where a device is to stand in a spot of its bus, and its id, if it has one.
-fn seat_at(site: Site, spot: Spot) -> (Seat, Option<Id>)
-    ensures container { result.0.container ≡ site.place.container }
-    ensures name { result.0.name ≡ site.place.name }
-    ensures bus { result.0.bus ≡ site.bus }
-    ensures spot { result.0.spot ≡ spot }
-    ensures id { result.1 ≡ site.place.id }
+/// Where a device is to stand with its resources, and its id, if it has one.
+fn attachment_at(target: Target, resources: Resources) -> (Attachment, Option<Id>)
+    ensures container { result.0.container ≡ target.place.container }
+    ensures name { result.0.name ≡ target.place.name }
+    ensures bus { result.0.bus ≡ target.bus }
+    ensures resources { result.0.resources ≡ resources }
+    ensures id { result.1 ≡ target.place.id }
 {
-    let Site { place, bus, .. } = site;
-    let Place {
+    let Target { place, bus, .. } = target;
+    let ContainerSlot {
         container,
         name,
         id,
     } = place;
-    let seat = Seat {
+    let attachment = Attachment {
         container,
         name,
         bus,
-        spot,
+        resources,
     };
-    (seat, id)
+    (attachment, id)
 }
 
 /// Places a device that was begun: the stages 5 to 7. A refusal is that of its slot, its depth or its
@@ -83,44 +83,48 @@ fn seat_at(site: Site, spot: Spot) -> (Seat, Option<Id>)
 pub fn place<L: Ledger>(
     heap: &mut Heap,
     hotplug: &Hotplug,
-    begun: Begun,
+    begun: NewDevice,
     alloc: Global,
     steps: &mut Steps<L>,
-) -> Result<Placed, AddRefusal>
+) -> Result<AttachedDevice, AddRefusal>
     requires { IsHeld begun heap.old }
     ensures settled { (b : Board) (a : Wanted) → IsBegun b a begun heap.old → b.notices ≡ hotplug.now.notices → IfOk result (λ p. IsSettled b a p heap.new) }
     ensures ready { IfOk result (λ p. IsReady p hotplug.now heap.new) }
     ensures refused { (b : Board) (a : Wanted) → IsBegun b a begun heap.old → IfRefused result (λ stage code. (5 ≤ stage) × (stage ≤ 6) × IsRefused b a stage code heap.new) }
     ensures memory { (b : Board) (a : Wanted) → IsBegun b a begun heap.old → result ≡ Err Memory → IsCut b a heap.new }
     ensures book { KeepsBook heap.old heap.new }
-    ensures kept { IfOk result (λ p. KeptAs p.device.birth p.way heap.old heap.new) }
+    ensures kept { IfOk result (λ p. KeptAs p.device.birth p.plugging heap.old heap.new) }
     ensures unkept { OnErr result (KeptBefore heap.old heap.new) }
 {
-    let Begun {
-        site,
+    let NewDevice {
+        target,
         device,
         plan,
-        spot,
+        resources,
         out,
     } = begun;
-    let spot = match spot {
-        Ok(spot) => spot,
+    let resources = match resources {
+        Ok(resources) => resources,
         Err(Barred { stage, code }) => {
             give_up(heap, device, steps);
             return Err(AddRefusal::Refused { stage, code });
         }
     };
-    let slot = spot.slot;
+    let slot = resources.slot;
     if are_full(hotplug) {
-        let way = Way::Full { out };
-        return Ok(Placed { device, slot, way });
-    }
-    let (seat, id) = seat_at(site, spot);
-    match stand(heap, device, seat, id, plan, alloc, steps) {
-        Ok(path) => Ok(Placed {
+        let plugging = Plugging::NoticesFull { out };
+        return Ok(AttachedDevice {
             device,
             slot,
-            way: Way::Stands(path),
+            plugging,
+        });
+    }
+    let (attachment, id) = attachment_at(target, resources);
+    match stand(heap, device, attachment, id, plan, alloc, steps) {
+        Ok(path) => Ok(AttachedDevice {
+            device,
+            slot,
+            plugging: Plugging::Attached(path),
         }),
         Err(_) => {
             give_up(heap, device, steps);

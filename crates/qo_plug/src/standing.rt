@@ -30,27 +30,27 @@ ghost use Rattle.qo_properties.specs.Claims.{KeepsBook};
 ghost use Rattle.qo_properties.specs.Filling.{Fits, IsGiven, filled_at, fits_at, target_in};
 ghost use Rattle.qo_properties.specs.OpeningSteps.{KeepsNames};
 ghost use Rattle.qo_plug.specs.OwnSlots.{is_own, own_slots_of};
-ghost use Rattle.qo_plug.specs.Placement.{Alike, IsDimm, IsSeat, Stays, Stood, joined_on, kept_in, range_in, ranged, spot_in, with_own};
+ghost use Rattle.qo_plug.specs.Placement.{Alike, IsAttachment, IsDimm, Stays, Stood, joined_on, kept_in, range_in, ranged, resources_in, with_own};
 ghost use Rattle.qo_properties.specs.KeptClaims.{SameKept};
-ghost use Rattle.qo_plug.specs.DeviceClaims.{kept_on, labels_out};
-ghost use Rattle.qo_plug.specs.FreeSpots.{IsFreeId, IsFreeSpot};
+ghost use Rattle.qo_plug.specs.DeviceClaims.{id_claims_out, kept_on};
+ghost use Rattle.qo_plug.specs.FreeResources.{AreFreeResources, IsFreeId};
 
-use crate::claiming::{Label, Taken, give_back, keep_claims, keep_label, take_claims};
-use crate::spots::{Memory, Spot};
+use crate::claiming::{DeviceClaims, IdClaim, give_back, keep_claims, keep_id_claim, take_claims};
+use crate::resources::{Memory, Resources};
 use qo_buses::{bridge_of, clock_of, join_bus, kid_name, point_bus, set_named};
 use qo_clocks::connect;
 use qo_dimm::Dimm;
 use qo_heap::{Heap, Oid, Slot, SlotName, Steps};
 use qo_kinds::{Body, Device};
 use qo_paths::canonical;
-use qo_properties::Fill;
+use qo_properties::InitialValue;
 use qo_values::{Id, Name, SYSTEM_CLOCK_BIRTH, Text, Val};
 use std::alloc::{AllocError, Global};
 use std::sync::ledger::Ledger;
 
 /// Where a device goes.
 #[derive(Drop)]
-pub struct Seat {
+pub struct Attachment {
     /// Its container.
     pub container: Oid,
     /// Its name there.
@@ -58,7 +58,7 @@ pub struct Seat {
     /// Its bus.
     pub bus: Oid,
     /// Where it stands there, in a slot below `BUS_SLOTS`, and what it claims besides.
-    pub spot: Spot,
+    pub resources: Resources,
 }
 
 /// Whether a slot is an object's own: a value or a link, and neither a child nor an alias.
@@ -85,28 +85,28 @@ fn is_own_at<L: Ledger>(heap: &Heap, o: Oid, at: usize, steps: &mut Steps<L>) ->
 }
 
 /// Fills the slot of an object at a place.
-fn fill_at<L: Ledger>(heap: &mut Heap, o: Oid, at: usize, fill: Fill, steps: &mut Steps<L>)
+fn fill_at<L: Ledger>(heap: &mut Heap, o: Oid, at: usize, fill: InitialValue, steps: &mut Steps<L>)
     requires live { IsLive heap.old.rows o }
     requires target { IfSome (target_in fill) (IsLive heap.old.rows) }
     requires fits { option_map (λ c. fits_at fill c at) (content_of heap.old o.birth) ≡ Some true }
     ensures { heap.new ≡ with_edit o.birth (filled_at fill at) heap.old }
 {
     match fill {
-        Fill::Nothing => {}
-        Fill::Value(val) => heap.set(o, at, val, steps),
-        Fill::Target(target) => heap.point(o, at, target, steps),
+        InitialValue::Default => {}
+        InitialValue::Value(val) => heap.set(o, at, val, steps),
+        InitialValue::Target(target) => heap.point(o, at, target, steps),
     }
 }
 
 /// Fills the own slots of an object in order as they are planned; its children and aliases stay. It
 /// takes no memory.
-fn settle_own<L: Ledger>(heap: &mut Heap, o: Oid, mut plan: Vec<Fill>, steps: &mut Steps<L>)
+fn settle_own<L: Ledger>(heap: &mut Heap, o: Oid, mut plan: Vec<InitialValue>, steps: &mut Steps<L>)
     requires live { IsLive heap.old.rows o }
     requires targets { AllByRecursion (λ f. IfSome (target_in f) (IsLive heap.old.rows)) plan.items }
     requires fits { AllZip Fits plan.items (own_slots_of heap.old o.birth) }
     ensures { heap.new ≡ with_edit o.birth (with_own plan.items) heap.old }
 {
-    heap.facts();
+    heap.reveal_invariant();
     let mut at = heap.slot_count(o, steps);
     while at > 0 {
         at -= 1;
@@ -125,7 +125,7 @@ fn put_value<L: Ledger>(heap: &mut Heap, device: Oid, name: &str, val: Val, step
     ensures shown { (b : Board) → Shows b heap.old → Shows (set_named device.birth name.now val b) heap.new }
     ensures stays { Stays heap.old heap.new }
 {
-    heap.shown();
+    heap.reveal_board();
     set_named(heap, device, name, val, steps);
 }
 
@@ -136,7 +136,7 @@ fn put_bus<L: Ledger>(heap: &mut Heap, device: Oid, bus: Oid, steps: &mut Steps<
     ensures shown { (b : Board) → Shows b heap.old → Shows (link_named device.birth (codes "parent_bus") bus.birth b) heap.new }
     ensures stays { Stays heap.old heap.new }
 {
-    heap.shown();
+    heap.reveal_board();
     point_bus(heap, device, bus, steps);
 }
 
@@ -167,7 +167,7 @@ fn put_values<L: Ledger>(
     bus: Oid,
     slot: u8,
     memory: Option<Memory>,
-    plan: Vec<Fill>,
+    plan: Vec<InitialValue>,
     steps: &mut Steps<L>,
 )
     requires live { IsLive heap.old.rows device }
@@ -177,7 +177,7 @@ fn put_values<L: Ledger>(
     ensures shown { (b c : Board) (props : List Given) → Shows c heap.old → AllZip (IsGiven b props) plan.items (own_slots_of heap.old device.birth) → Shows (addressed_at device.birth (range_in memory) (valued b device.birth props (record { bus = bus.birth; slot = slot; range = range_in memory }) c)) heap.new }
     ensures stays { Stays heap.old heap.new }
 {
-    heap.facts();
+    heap.reveal_invariant();
     settle_own(heap, device, plan, steps);
     put_value(heap, device, "slot", Val::Uint(u64::from(slot)), steps);
     put_bus(heap, device, bus, steps);
@@ -202,7 +202,7 @@ fn set_range<L: Ledger>(heap: &mut Heap, device: Oid, memory: Option<Memory>, st
     requires { IsLive heap.old.rows device }
     ensures { heap.new ≡ with_edit device.birth (ranged (range_in memory)) heap.old }
 {
-    heap.facts();
+    heap.reveal_invariant();
     put_range(heap.body_mut(device, steps), memory);
 }
 
@@ -212,22 +212,22 @@ fn put_body<L: Ledger>(
     heap: &mut Heap,
     device: Oid,
     memory: Option<Memory>,
-    label: Option<Label>,
+    id_claim: Option<IdClaim>,
     steps: &mut Steps<L>,
 )
     requires live { IsLive heap.old.rows device }
     requires dimm { IfSome memory (λ m. IfSome (content_of heap.old device.birth) (λ c. IsDimm c.body)) }
-    requires on { IfSome label (λ l. l.claim ≡ on.Device l.id) }
+    requires on { IfSome id_claim (λ l. l.claim ≡ on.Device l.id) }
     requires unnamed { option_and_then (λ c. c.device_id) (content_of heap.old device.birth) ≡ None }
-    ensures shown { (b : Board) → Shows b heap.old → Shows (edit device.birth (with_body_of (option_map (λ l. l.id) label) (range_in memory)) b) heap.new }
+    ensures shown { (b : Board) → Shows b heap.old → Shows (edit device.birth (with_body_of (option_map (λ l. l.id) id_claim) (range_in memory)) b) heap.new }
     ensures alike { Alike heap.old heap.new }
     ensures spare { heap.new.events.spare ≡ heap.old.events.spare }
     ensures kept { SameKept heap.old heap.new }
-    ensures book { (out : List Claimed) → IsBook (labels_out label ++ out) heap.old → IsBook out heap.new }
+    ensures book { (out : List Claimed) → IsBook (id_claims_out id_claim ++ out) heap.old → IsBook out heap.new }
 {
-    heap.facts();
+    heap.reveal_invariant();
     set_range(heap, device, memory, steps);
-    keep_label(heap, device, label, steps);
+    keep_id_claim(heap, device, id_claim, steps);
 }
 
 /// The clock that the clock of a device on a bus goes by: that of the device whose bus this is, or the
@@ -253,7 +253,7 @@ fn connect_clock<L: Ledger>(heap: &mut Heap, device: Oid, source: Option<Oid>, s
     ensures none { IfNone source (heap.new ≡ heap.old) }
     ensures stays { Stays heap.old heap.new }
 {
-    heap.shown();
+    heap.reveal_board();
     let Some(source) = source else {
         return;
     };
@@ -308,7 +308,7 @@ fn join_to<L: Ledger>(
     ensures told { IfOk result (λ path. path.told ≡ path.kept) }
     ensures err { OnErr result (heap.new ≡ heap.old) }
 {
-    heap.facts();
+    heap.reveal_invariant();
     let at = heap.slot_count(bus, steps);
     join_bus(heap, bus, device, link, steps)?;
     match path_of(heap, device, alloc, steps) {
@@ -326,28 +326,28 @@ fn join_to<L: Ledger>(
 fn join<L: Ledger>(
     heap: &mut Heap,
     device: Oid,
-    seat: Seat,
+    attachment: Attachment,
     alloc: Global,
     steps: &mut Steps<L>,
 ) -> Result<DevicePath, AllocError>
     requires live { IsLive heap.old.rows device }
-    requires container { IsLive heap.old.rows seat.container }
-    requires bus { IsLive heap.old.rows seat.bus }
-    requires slot { seat.spot.slot < BUS_SLOTS }
-    ensures now { OnOk result (heap.new ≡ joined_on seat.container seat.name seat.bus seat.spot.slot device heap.old) }
+    requires container { IsLive heap.old.rows attachment.container }
+    requires bus { IsLive heap.old.rows attachment.bus }
+    requires slot { attachment.resources.slot < BUS_SLOTS }
+    ensures now { OnOk result (heap.new ≡ joined_on attachment.container attachment.name attachment.bus attachment.resources.slot device heap.old) }
     ensures path { IfOk result (λ path. (b : Board) → Shows b heap.new → canonical b device.birth ≡ Some path.kept) }
     ensures told { IfOk result (λ path. path.told ≡ path.kept) }
     ensures err { OnErr result (heap.new ≡ heap.old) }
 {
-    heap.facts();
-    let Seat {
+    heap.reveal_invariant();
+    let Attachment {
         container,
         name,
         bus,
-        spot,
-    } = seat;
-    let link = kid_name(spot.slot);
-    drop(spot);
+        resources,
+    } = attachment;
+    let link = kid_name(resources.slot);
+    drop(resources);
     let at = heap.slot_count(container, steps);
     heap.add_child(container, SlotName::own(name), device, steps)?;
     match join_to(heap, device, bus, link, alloc, steps) {
@@ -362,53 +362,57 @@ fn join<L: Ledger>(
 /// A device that was made takes its place: it joins its container and its bus, has the values that
 /// are planned for its own slots, its id if it has one, its claims, and its clock's source, and a DIMM
 /// stands on its range; answers its canonical path. What it claims is held by no other. Its body keeps
-/// the claims of its seat, and each other body those that it kept. A place for an event on it is kept
+/// the claims of its attachment, and each other body those that it kept. A place for an event on it is kept
 /// free. The error is want of memory, and a device that has no path counts as that; it leaves all boards
 /// as they were, and to each body its claims.
 pub fn stand<L: Ledger>(
     heap: &mut Heap,
     device: Oid,
-    seat: Seat,
+    attachment: Attachment,
     id: Option<Id>,
-    plan: Vec<Fill>,
+    plan: Vec<InitialValue>,
     alloc: Global,
     steps: &mut Steps<L>,
 ) -> Result<DevicePath, AllocError>
     requires live { IsLive heap.old.rows device }
-    requires container { IsLive heap.old.rows seat.container }
-    requires bus { IsLive heap.old.rows seat.bus }
-    requires slot { seat.spot.slot < BUS_SLOTS }
+    requires container { IsLive heap.old.rows attachment.container }
+    requires bus { IsLive heap.old.rows attachment.bus }
+    requires slot { attachment.resources.slot < BUS_SLOTS }
     requires free_id { IsFreeId id heap.old.claims }
-    requires free { IsFreeSpot seat.bus.birth seat.spot heap.old.claims }
-    requires apart { (device.birth == seat.bus.birth) ≡ false }
+    requires free { AreFreeResources attachment.bus.birth attachment.resources heap.old.claims }
+    requires apart { (device.birth == attachment.bus.birth) ≡ false }
     requires new { IfSome (content_of heap.old device.birth) HasNoClaim }
-    requires dimm { IfSome seat.spot.memory (λ m. IfSome (content_of heap.old device.birth) (λ c. IsDimm c.body)) }
+    requires dimm { IfSome attachment.resources.memory (λ m. IfSome (content_of heap.old device.birth) (λ c. IsDimm c.body)) }
     requires targets { AllByRecursion (λ f. IfSome (target_in f) (IsLive heap.old.rows)) plan.items }
     requires fits { AllZip Fits plan.items (own_slots_of heap.old device.birth) }
-    ensures stood { IfOk result (λ path. (b c : Board) (a : Wanted) → Shows c heap.old → IsSeat b a seat.container.birth seat.name id → source_for b seat.bus.birth ≡ source_for c seat.bus.birth → AllZip (IsGiven b a.props) plan.items (own_slots_of heap.old device.birth) → Stood b c device.birth a (spot_in seat.bus.birth seat.spot) path.kept heap.new) }
+    ensures stood { IfOk result (λ path. (b c : Board) (a : Wanted) → Shows c heap.old → IsAttachment b a attachment.container.birth attachment.name id → source_for b attachment.bus.birth ≡ source_for c attachment.bus.birth → AllZip (IsGiven b a.props) plan.items (own_slots_of heap.old device.birth) → Stood b c device.birth a (resources_in attachment.bus.birth attachment.resources) path.kept heap.new) }
     ensures told { IfOk result (λ path. path.told ≡ path.kept) }
     ensures room { OnOk result (1 ≤ heap.new.events.spare) }
     ensures err { OnErr result ((b : Board) → Shows b heap.old → Shows b heap.new) }
     ensures names { KeepsNames heap.old heap.new }
     ensures paths { option_map (λ c. c.kept_path) (content_of heap.new device.birth) ≡ option_map (λ c. c.kept_path) (content_of heap.old device.birth) }
     ensures pinned { 0 < pins_of heap.old device.birth → 0 < pins_of heap.new device.birth }
-    ensures kept { OnOk result (SameKept (with_edit device.birth (kept_in (kept_on seat.bus.birth seat.spot)) heap.old) heap.new) }
+    ensures kept { OnOk result (SameKept (with_edit device.birth (kept_in (kept_on attachment.bus.birth attachment.resources)) heap.old) heap.new) }
     ensures unkept { OnErr result (SameKept heap.old heap.new) }
     ensures book { KeepsBook heap.old heap.new }
 {
-    heap.facts();
+    heap.reveal_invariant();
     heap.reserve_event()?;
-    let source = source_of(heap, seat.bus, steps);
-    let (bus, slot, memory) = (seat.bus, seat.spot.slot, seat.spot.memory);
-    let taken = take_claims(heap, id, bus.birth, &seat.spot)?;
-    match join(heap, device, seat, alloc, steps) {
+    let source = source_of(heap, attachment.bus, steps);
+    let (bus, slot, memory) = (
+        attachment.bus,
+        attachment.resources.slot,
+        attachment.resources.memory,
+    );
+    let taken = take_claims(heap, id, bus.birth, &attachment.resources)?;
+    match join(heap, device, attachment, alloc, steps) {
         Ok(path) => {
-            let Taken { label, kept } = taken;
+            let DeviceClaims { id_claim, kept } = taken;
             keep_claims(heap, device, kept, steps);
             put_values(heap, device, bus, slot, memory, plan, steps);
-            put_body(heap, device, memory, label, steps);
+            put_body(heap, device, memory, id_claim, steps);
             connect_clock(heap, device, source, steps);
-            heap.facts();
+            heap.reveal_invariant();
             Ok(path)
         }
         Err(error) => {

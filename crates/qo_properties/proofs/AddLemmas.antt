@@ -19,8 +19,8 @@ use Rattle.qo_model.specs.Changes.{add, with_added}
 use Rattle.qo_model.specs.Release.{edited}
 use Rattle.qo_model.specs.Objects.{Given, given_slots, with_attempt, with_object}
 use Rattle.qo_heap.proofs.Logs.{all_lem}
-use Rattle.qo_object.specs.Content.{Content, fresh, furnished, reference_count, holding, with_slot, without_pin, as_made}
-use Rattle.qo_object.specs.Slots.{Named, forgotten_in, held, holds, is_born, target_of}
+use Rattle.qo_object.specs.Content.{Content, fresh, with_all_slots, reference_count, holding, with_slot, without_pin, as_made}
+use Rattle.qo_object.specs.Slots.{Named, forgotten_in, holds, is_born, referent, target_of}
 use Rattle.qo_object.specs.declared.slots.Slot.{Slot}
 use Rattle.qo_object.specs.declared.slots.Slot.TheVariants.{Plain, Child, Link, Alias}
 use Rattle.qo_object.specs.BoardObject.{shown_slots}
@@ -29,7 +29,7 @@ use Rattle.qo_heap.specs.Board.{Shows, pins_in, record_of}
 use Rattle.qo_heap.proofs.HeapLemmas.{each-names, live-edit}
 use Rattle.qo_values.proofs.ListLemmas.{all-imply}
 use Rattle.qo_heap.proofs.BoardChanges.{shows-added}
-use Rattle.qo_heap.specs.Objects.{IsHeap, Objects, content_of, ended, final_notes, forgets, pins_of, refs_of, targets, with_edit}
+use Rattle.qo_heap.specs.Objects.{IsHeap, Objects, content_of, ended, final_notes, forgets, pins_of, refs_of, slots_of, targets, with_edit}
 use Rattle.qo_heap.proofs.BoardObjects.{content-edited, live-content}
 use Rattle.std.proofs.lemmas.Option.{same_Some}
 use Rattle.qo_heap.specs.Log.{IsLogOf, empty_log, noted_all}
@@ -203,7 +203,7 @@ module _ (o : Key) (c : Content) where
       rw (all.0.0) (λ j. (row.0, record row.1 { slots = here j }) ∷ rest j)
 
 -- holding one object is holding some
-pub held-holds : (n : ℕ) (slots : List Named) → count_by (λ (s : Named). holds n s.1) slots ≤ count_by (λ (s : Named). is_some (held s.1)) slots
+pub held-holds : (n : ℕ) (slots : List Named) → count_by (λ (s : Named). holds n s.1) slots ≤ count_by (λ (s : Named). is_some (referent s.1)) slots
 held-holds n [] = omega arith
 held-holds n (s ∷ slots) =
     omega (
@@ -211,7 +211,7 @@ held-holds n (s ∷ slots) =
       held-holds n slots,
       one s.1,
       sum_by-cons (λ (x : Named). cond {A = ℕ} (holds n x.1) 1 0) s slots,
-      sum_by-cons (λ (x : Named). cond {A = ℕ} (is_some (held x.1)) 1 0) s slots,
+      sum_by-cons (λ (x : Named). cond {A = ℕ} (is_some (referent x.1)) 1 0) s slots,
     )
   where
     by : (t : Bool) → cond {A = ℕ} t 1 0 ≤ 1
@@ -222,8 +222,8 @@ held-holds n (s ∷ slots) =
     go None = omega arith
     go (Some key) = by (key.birth == n)
 
-    one : (x : Slot) → cond {A = ℕ} (holds n x) 1 0 ≤ cond {A = ℕ} (is_some (held x)) 1 0
-    one x = go (held x)
+    one : (x : Slot) → cond {A = ℕ} (holds n x) 1 0 ≤ cond {A = ℕ} (is_some (referent x)) 1 0
+    one x = go (referent x)
 
 -- the newest object, which holds nothing and is pinned once
 module _ (v w : Objects) (o : Key) (c : Content) (good : IsHeap v) (birth : o.birth ≡ v.born + 1) (is : w ≡ with_newest o c v) where
@@ -308,19 +308,29 @@ newest-beside v w u o key c f good birth live is change =
     change ∙ ap (λ (x : Objects). with_edit key.birth f x) is
     ∙ (λ j. record v { rows = rows j; born = v.born + 1; log = noted_all (init_notes o.birth c.kind) v.log })
 
+pub beside-bare : (v w u : Objects) (o key : Key) (t : TypeId) (f : Content → Content) → IsHeap v → o.birth ≡ v.born + 1 → IsLive v.rows key
+    → w ≡ with_newest o (fresh t) v → u ≡ with_edit key.birth f w → slots_of u o.birth ≡ []
+beside-bare v w u o key t f good birth live is change =
+    let mid : u ≡ with_newest o (fresh t) (with_edit key.birth f v) = newest-beside v w u o key (fresh t) f good birth live is change in
+    let alone : Others o.birth (with_edit key.birth f v).rows =
+    others-edited o.birth key.birth f v.rows (others o.birth v.rows (apart-from v o.birth (omega (arith, birth)) good)) in
+    ap (λ (x : Objects). slots_of x o.birth) mid
+    ∙ ap (λ (r : Option (Key × Content)). option_map_or (λ (c : Content). c.slots) (option_map (λ (row : Key × Content). row.1) r) [])
+    (row-newest o (fresh t) (with_edit key.birth f v).rows alone)
+
 -- a new object that became a child is given its slots
 
 pub furnished-child : (v w u x : Objects) (o parent : Key) (name : List ℕ) (t : TypeId) (slots : List Named) → IsHeap v → o.birth ≡ v.born + 1
     → IsLive v.rows parent → w ≡ with_newest o (fresh t) v → u ≡ with_edit parent.birth (with_slot name (Child o)) w
-    → x ≡ with_edit o.birth (furnished slots) u → x ≡ with_child parent.birth name o t slots v
+    → x ≡ with_edit o.birth (with_all_slots slots) u → x ≡ with_child parent.birth name o t slots v
 furnished-child v w u x o parent name t slots good birth live is child furnish =
     let beside : Objects = with_edit parent.birth (with_slot name (Child o)) v in
     let mid : u ≡ with_newest o (fresh t) beside = newest-beside v w u o parent (fresh t) (with_slot name (Child o)) good birth live is child in
     let alone : Others o.birth beside.rows =
     others-edited o.birth parent.birth (with_slot name (Child o)) v.rows (others o.birth v.rows (apart-from v o.birth (omega (arith, birth)) good)) in
-    let rows = edit-newest o (fresh t) (furnished slots) beside.rows alone in
+    let rows = edit-newest o (fresh t) (with_all_slots slots) beside.rows alone in
     furnish
-    ∙ ap (λ (y : Objects). with_edit o.birth (furnished slots) y) mid
+    ∙ ap (λ (y : Objects). with_edit o.birth (with_all_slots slots) y) mid
     ∙ (λ j. record v { rows = rows j; born = v.born + 1; log = noted_all (init_notes o.birth t) v.log })
 
 pub beside-live : (v w u : Objects) (o : Key) (c : Content) (n : ℕ) (f : Content → Content) → w ≡ with_newest o c v → u ≡ with_edit n f w → (key : Key)

@@ -17,8 +17,8 @@ use Rattle.qo_model.specs.Board as board
 use Rattle.qo_model.specs.ClockProperties.{in_slot, is_set, led_by, led_to, only_set, own_property, set_row}
 use Rattle.qo_model.specs.Clocks.{derived_period, period, source_of}
 use Rattle.qo_model.specs.Properties.{property_named}
-use Rattle.qo_model.specs.declared.properties.Mark.{Mark}
-use Rattle.qo_model.specs.declared.properties.Mark.TheVariants as mark
+use Rattle.qo_model.specs.declared.properties.Access.{Access}
+use Rattle.qo_model.specs.declared.properties.Access.TheVariants as access
 use Rattle.qo_model.specs.declared.properties.Property.{Property}
 use Rattle.qo_heap.specs.Acts.{Acts}
 use Rattle.qo_heap.specs.Board.{Shows, pins_in}
@@ -43,17 +43,17 @@ row-is b v s n name kind o is found =
     ap (option_and_then only_set) found
     ∙ sym (ap (option_and_then (λ (t : TypeId). option_and_then only_set (property_named t name))) (shows-kind b v s n ∙ is))
 
-pub only-set : (p : Property) → p.mark ≡ mark.Set → only_set p ≡ Some p
-only-set p is = ap (λ (m : Mark). cond (is_set m) (Some p) None) is
+pub only-set : (p : Property) → p.access ≡ access.Set → only_set p ≡ Some p
+only-set p is = ap (λ (m : Access). cond (is_set m) (Some p) None) is
 
-pub only-none : (p : Property) → (p.mark ≡ mark.Set → ⊥) → only_set p ≡ None
-only-none p other = go p.mark other
+pub only-none : (p : Property) → (p.access ≡ access.Set → ⊥) → only_set p ≡ None
+only-none p other = go p.access other
   where
-    go : (m : Mark) → (m ≡ mark.Set → ⊥) → cond (is_set m) (Some p) None ≡ None
-    go mark.Set h = absurd (h refl)
-    go mark.Never h = refl
-    go mark.Add h = refl
-    go mark.Both h = refl
+    go : (m : Access) → (m ≡ access.Set → ⊥) → cond (is_set m) (Some p) None ≡ None
+    go access.Set h = absurd (h refl)
+    go access.Never h = refl
+    go access.Add h = refl
+    go access.Both h = refl
 
 -- the property that a name leads to
 

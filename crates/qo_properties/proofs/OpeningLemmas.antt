@@ -1,5 +1,6 @@
 -- The objects of the opening board.
-use Rattle.std.proofs.Common.{◌≡◌, refl, ap, sym, subst, ◌∙◌, ℕ, ◌+◌, ◌<◌, ◌≤◌, Bool, true, false, eqb, List, [], ◌∷◌, ◌++◌, codes, position, Some, None, option_map, arith}
+use Rattle.std.proofs.Common.{◌≡◌, refl, ap, sym, subst, ◌∙◌, ℕ, ◌+◌, ◌<◌, ◌≤◌, Bool, true, false, eqb, List, [], ◌∷◌, ◌++◌, codes, position, Option, Some, None, option_map, arith}
+use Rattle.std.specs.Option.{option_map_or}
 use Rattle.std.specs.Str.{bytes_eq}
 use Rattle.std.proofs.lemmas.Bool.{eqb-true}
 use Rattle.std.proofs.lemmas.Bool.Decides.{nat_tests}
@@ -17,7 +18,7 @@ use Rattle.qo_model.specs.Types.{types}
 use Rattle.qo_heap.proofs.Logs.{none_lem}
 use Rattle.qo_object.specs.declared.slots.Slot.TheVariants.{Child}
 use Rattle.qo_object.specs.Slots.{Named}
-use Rattle.qo_object.specs.Content.{Content, fresh, furnished, with_slot, as_made}
+use Rattle.qo_object.specs.Content.{Content, fresh, with_all_slots, with_slot, as_made}
 use Rattle.qo_object.specs.Content as content
 use Rattle.qo_heap.specs.Board.{Shows}
 use Rattle.qo_heap.specs.Objects.{IsHeap, Objects, content_of, pins_of, slots_of, with_edit, no_objects_made}
@@ -69,6 +70,9 @@ module _ (v : Objects) (good : IsHeap v) (key : Key) (kind : TypeId) (birth : ke
   pub live-made : IsLive (made_in v key kind).rows key
   live-made = rw row-made refl
 
+  pub bare-made : slots_of (made_in v key kind) key.birth ≡ []
+  bare-made = ap (λ (o : Option Content). option_map_or (λ (c : Content). c.slots) o []) (ap (option_map (λ (row : Row). row.1)) row-made)
+
   pub is-made : IsMade v (with_edit key.birth (with_slots (new_slots kind)) (made_in v key kind)) kind 1 key
   is-made =
       record {
@@ -85,13 +89,13 @@ module _ (v : Objects) (good : IsHeap v) (key : Key) (kind : TypeId) (birth : ke
       }
 
   -- it is given its slots
-  pub begun-in : (w u : Objects) → w ≡ made_in v key kind → u ≡ with_edit key.birth (furnished (new_slots kind)) w
+  pub begun-in : (w u : Objects) → w ≡ made_in v key kind → u ≡ with_edit key.birth (with_all_slots (new_slots kind)) w
       → u ≡ with_edit key.birth (with_slots (new_slots kind)) (made_in v key kind)
   begun-in w u is change =
       let alone = others key.birth v.rows (apart-from v key.birth (omega (arith, birth)) good) in
-      let same = edit-newest key (fresh kind) (furnished (new_slots kind)) v.rows alone
+      let same = edit-newest key (fresh kind) (with_all_slots (new_slots kind)) v.rows alone
       ∙ sym (edit-newest key (fresh kind) (with_slots (new_slots kind)) v.rows alone) in
-      change ∙ ap (λ (x : Objects). with_edit key.birth (furnished (new_slots kind)) x) is ∙ (λ j. record (made_in v key kind) { rows = same j })
+      change ∙ ap (λ (x : Objects). with_edit key.birth (with_all_slots (new_slots kind)) x) is ∙ (λ j. record (made_in v key kind) { rows = same j })
 
   pub shows-new : (b : board.Board) → Shows b v → (w : Objects)
       → (Shows (make kind b) (made_in v key kind) → Shows (with_fresh_slots key.birth kind (make kind b)) w) → Shows (with_new kind b) w

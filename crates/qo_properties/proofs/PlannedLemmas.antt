@@ -10,7 +10,7 @@ use Rattle.qo_model.specs.Objects.{Given}
 use Rattle.qo_model.specs.Properties.{property_named}
 use Rattle.qo_model.specs.RowNames.{property_name}
 use Rattle.qo_object.specs.declared.slots.Slot.{Slot}
-use Rattle.qo_properties.specs.declared.adding.filling.Fill.{Fill}
+use Rattle.qo_properties.specs.declared.adding.filling.InitialValue.{InitialValue}
 use Rattle.qo_properties.specs.declared.adding.planning.PlacedRow.{PlacedRow}
 use Rattle.qo_properties.specs.Filling.{IsGiven}
 use Rattle.qo_properties.specs.NewSlots.{begun, new_slots, slot_begun}
@@ -28,7 +28,7 @@ pub got : {X : Type 0} (xs : List X) (i : ℕ) (r : Option (Bor X)) → IsItemAt
 got xs i None at = let over : length xs ≤ i = grind (arith, nat_tests, at.0) in sym (slice_get_past xs i over)
 got xs i (Some x) at = let below : i < length xs = grind (arith, nat_tests, at.0) in sym (slice_get_read xs (length xs) i x.now refl below at.1)
 
-module _ (b : Board) (props : List Given) (t : TypeId) (name : List ℕ) (plan : List Fill) (has : IsPlan b t props plan) where
+module _ (b : Board) (props : List Given) (t : TypeId) (name : List ℕ) (plan : List InitialValue) (has : IsPlan b t props plan) where
   pub absent-told : (p : PlacedRow) → property_named t name ≡ Some p.row → is_some (begun t p.row.role) ≡ false → TellsGiven b props None (own_slot_for t name)
   absent-told p row absent = rw row (go (begun t p.row.role) absent)
     where
@@ -36,7 +36,7 @@ module _ (b : Board) (props : List Given) (t : TypeId) (name : List ℕ) (plan :
       go None e = refl
       go (Some s) e = absurd (let clash : true ≡ false = e in cc)
 
-  pub place-told : (p : PlacedRow) → property_named t name ≡ Some p.row → StandsAt t p → is_some (begun t p.row.role) ≡ true → (o : Option Fill)
+  pub place-told : (p : PlacedRow) → property_named t name ≡ Some p.row → StandsAt t p → is_some (begun t p.row.role) ≡ true → (o : Option InitialValue)
       → o ≡ slice_get plan p.place → TellsGiven b props o (own_slot_for t name)
   place-told p row stands own o is = rw row (go (begun t p.row.role) refl)
     where

@@ -29,8 +29,8 @@ use Rattle.qo_object.specs.BoardObject.{shown_slot}
 use Rattle.qo_object.specs.Slots.{Named}
 use Rattle.qo_values.proofs.ListLemmas.{found-passes}
 use Rattle.qo_values.proofs.EachLemmas.{each}
-use Rattle.qo_properties.specs.declared.adding.filling.Fill.{Fill}
-use Rattle.qo_properties.specs.declared.adding.filling.Fill.TheVariants as fill
+use Rattle.qo_properties.specs.declared.adding.filling.InitialValue.{InitialValue}
+use Rattle.qo_properties.specs.declared.adding.filling.InitialValue.TheVariants as fill
 use Rattle.qo_properties.specs.declared.adding.planning.PlacedRow.{PlacedRow}
 use Rattle.qo_properties.specs.declared.refusals.Refusal.{Refusal}
 use Rattle.qo_properties.specs.declared.refusals.Refusal.TheVariants.{Refused}
@@ -119,19 +119,19 @@ module _ (b : Board) (given : List Given) (p : Given) (none : find (λ (q : Give
   abbrev found_as : Named → Option Given → board.Slot
   found_as s o = elim o [ None ↦ shown_slot s.1 | Some q ↦ given_to b (shown_slot s.1) q.1 ]
 
-  given-other : (f : Fill) (s : Named) → not (bytes_eq s.0 p.0) ≡ true → IsGiven b given f s → IsGiven b (given ++ p ∷ []) f s
+  given-other : (f : InitialValue) (s : Named) → not (bytes_eq s.0 p.0) ≡ true → IsGiven b given f s → IsGiven b (given ++ p ∷ []) f s
   given-other f s other is =
       let differ : bytes_eq p.0 s.0 ≡ false = nat_list_eq_equiv.symm p.0 s.0 ∙ not-true (bytes_eq s.0 p.0) other in
       is ∙ ap (found_as s) (sym (find-other (λ (q : Given). bytes_eq q.0 s.0) given p differ))
 
-  given-here : (f : Fill) (s : Named) → s.0 ≡ p.0 → HasValue b p.1 f s.1 → IsGiven b (given ++ p ∷ []) f s
+  given-here : (f : InitialValue) (s : Named) → s.0 ≡ p.0 → HasValue b p.1 f s.1 → IsGiven b (given ++ p ∷ []) f s
   given-here f s same is =
       let unfound : find (λ (q : Given). bytes_eq q.0 s.0) given ≡ None = subst (λ (name : List ℕ). find (λ (q : Given). bytes_eq q.0 name) given
       ≡ None) (sym same) none in
       let here : bytes_eq p.0 s.0 ≡ true = ap (bytes_eq p.0) same ∙ nat_list_eq_equiv.refl p.0 in
       is ∙ ap (found_as s) (sym (find-last (λ (q : Given). bytes_eq q.0 s.0) given p unfound here))
 
-  zip-others : (fs : List Fill) (slots : List Named) → list_all (λ (s : Named). not (bytes_eq s.0 p.0)) slots ≡ true → AllZip (IsGiven b given) fs slots
+  zip-others : (fs : List InitialValue) (slots : List Named) → list_all (λ (s : Named). not (bytes_eq s.0 p.0)) slots ≡ true → AllZip (IsGiven b given) fs slots
       → AllZip (IsGiven b (given ++ p ∷ [])) fs slots
   zip-others [] [] others all = tt
   zip-others [] (s ∷ slots) others all = absurd all
@@ -140,7 +140,8 @@ module _ (b : Board) (given : List Given) (p : Given) (none : find (λ (q : Give
       let both = and_parts (not (bytes_eq s.0 p.0)) (list_all (λ (t : Named). not (bytes_eq t.0 p.0)) slots) others in
       (given-other f s both.0 all.0, zip-others fs slots both.1 all.1)
 
-  pub told-set : (fs : List Fill) (slots : List Named) (i : ℕ) (f : Fill) (s : Named) → are_apart slots ≡ true → slice_get slots i ≡ Some s → s.0 ≡ p.0
+  pub told-set : (fs : List InitialValue) (slots : List Named) (i : ℕ) (f : InitialValue) (s : Named) → are_apart slots ≡ true → slice_get slots i ≡ Some s
+      → s.0 ≡ p.0
       → HasValue b p.1 f s.1 → AllZip (IsGiven b given) fs slots → AllZip (IsGiven b (given ++ p ∷ [])) (set fs i f) slots
   told-set [] [] i f s apart at same is all = tt
   told-set [] (t ∷ slots) i f s apart at same is all = absurd all
@@ -227,18 +228,18 @@ module _ (t : TypeId) (rows : List Property) (i : ℕ) (d : Property) (below : i
       by None own = refl
       by (Some x) own = cc
 
-  pub blank-own : true ≡ is_some (begun t (get_or rows i d).role) → (fs : List Fill) → fs ≡ map (λ (s : Named). fill.Nothing) before
-      → fs ++ fill.Nothing ∷ [] ≡ map (λ (s : Named). fill.Nothing) (filter_map (slot_begun t) (take (i + 1) rows))
+  pub blank-own : true ≡ is_some (begun t (get_or rows i d).role) → (fs : List InitialValue) → fs ≡ map (λ (s : Named). fill.Default) before
+      → fs ++ fill.Default ∷ [] ≡ map (λ (s : Named). fill.Default) (filter_map (slot_begun t) (take (i + 1) rows))
   blank-own own fs is =
       let (s, one) = one-more own in
-      ap (λ (l : List Fill). l ++ fill.Nothing ∷ []) is
-      ∙ ap (λ (l : List Named). map (λ (x : Named). fill.Nothing) before ++ map (λ (x : Named). fill.Nothing) l) (sym one)
-      ∙ sym (map-append (λ (x : Named). fill.Nothing) before more)
-      ∙ ap (map (λ (x : Named). fill.Nothing)) (sym next-here)
+      ap (λ (l : List InitialValue). l ++ fill.Default ∷ []) is
+      ∙ ap (λ (l : List Named). map (λ (x : Named). fill.Default) before ++ map (λ (x : Named). fill.Default) l) (sym one)
+      ∙ sym (map-append (λ (x : Named). fill.Default) before more)
+      ∙ ap (map (λ (x : Named). fill.Default)) (sym next-here)
 
-  pub blank-other : false ≡ is_some (begun t (get_or rows i d).role) → (fs : List Fill) → fs ≡ map (λ (s : Named). fill.Nothing) before
-      → fs ≡ map (λ (s : Named). fill.Nothing) (filter_map (slot_begun t) (take (i + 1) rows))
-  blank-other own fs is = is ∙ ap (map (λ (x : Named). fill.Nothing)) (sym (next-here ∙ ap (λ (l : List Named). before ++ l) (none-more own)
+  pub blank-other : false ≡ is_some (begun t (get_or rows i d).role) → (fs : List InitialValue) → fs ≡ map (λ (s : Named). fill.Default) before
+      → fs ≡ map (λ (s : Named). fill.Default) (filter_map (slot_begun t) (take (i + 1) rows))
+  blank-other own fs is = is ∙ ap (map (λ (x : Named). fill.Default)) (sym (next-here ∙ ap (λ (l : List Named). before ++ l) (none-more own)
       ∙ append-nil before))
 
   pub count-own : true ≡ is_some (begun t (get_or rows i d).role) → (n : ℕ) → n ≡ length before → n + 1 ≡ length (filter_map (slot_begun t) (take (i + 1) rows))
@@ -286,20 +287,21 @@ row-name t name r is =
     let same : bytes_eq (property_name r.name) name ≡ true = found-passes (λ (p : Property). bytes_eq (property_name p.name) name) (slots_of t) r (sym is) in
     (bytes_eq-Decides (property_name r.name) name).0 same
 
-module _ (t : TypeId) (fs : List Fill) (p : PlacedRow) (stands : StandsAt t p) (own : is_some (begun t p.row.role) ≡ true) where
-  pub put-within : (R : Fill → Named → Type 0) → AllZip R fs (new_slots t) → p.place < length fs
+module _ (t : TypeId) (fs : List InitialValue) (p : PlacedRow) (stands : StandsAt t p) (own : is_some (begun t p.row.role) ≡ true) where
+  pub put-within : (R : InitialValue → Named → Type 0) → AllZip R fs (new_slots t) → p.place < length fs
   put-within R all =
       let x : Seat t p = seat t p stands own in
       let low : p.place < length (new_slots t) = slice_get_within (new_slots t) p.place (property_name p.row.name, x.slot) x.stands in
       omega (arith, low, zip-length R fs (new_slots t) all)
 
-  pub put-fits : (f : Fill) → IfSome (begun t p.row.role) (λ s. fits f s ≡ true) → AllZip Fits fs (new_slots t) → AllZip Fits (set fs p.place f) (new_slots t)
+  pub put-fits : (f : InitialValue) → IfSome (begun t p.row.role) (λ s. fits f s ≡ true) → AllZip Fits fs (new_slots t)
+      → AllZip Fits (set fs p.place f) (new_slots t)
   put-fits f fit all =
       let x : Seat t p = seat t p stands own in
       zip-set Fits fs (new_slots t) p.place f (property_name p.row.name, x.slot) x.stands (rw x.begins at fit) all
 
   pub put-told : (b : Board) (given : List Given) (q : Given) → find (λ (g : Given). bytes_eq g.0 q.0) given ≡ None → Some p.row ≡ property_named t q.0
-      → (f : Fill) → IfSome (begun t p.row.role) (HasValue b q.1 f) → AllZip (IsGiven b given) fs (new_slots t)
+      → (f : InitialValue) → IfSome (begun t p.row.role) (HasValue b q.1 f) → AllZip (IsGiven b given) fs (new_slots t)
       → AllZip (IsGiven b (given ++ q ∷ [])) (set fs p.place f) (new_slots t)
   put-told b given q none is f told all =
       let x : Seat t p = seat t p stands own in

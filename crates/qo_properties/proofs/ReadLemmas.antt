@@ -12,7 +12,7 @@ use Rattle.qo_object.specs.Content.{Content}
 use Rattle.qo_object.specs.BoardObject.{birth_of, shown_slot}
 use Rattle.qo_object.specs.Slots.{Named}
 use Rattle.qo_model.specs.Board as board
-use Rattle.qo_model.specs.Detachment.{detached_listed, told}
+use Rattle.qo_model.specs.Detachment.{detached_listed, detached_row}
 use Rattle.qo_model.specs.Paths.{place_of}
 use Rattle.qo_model.specs.Properties.{own_value, slot_value, value_of}
 use Rattle.qo_model.specs.References.{refs}
@@ -68,19 +68,21 @@ abbrev pub detached_after : board.Board → List (Key × Content) → ℕ → Li
 detached_after b rows place = filter_map (in_row b) (drop place rows)
 
 detached-rows : (b : board.Board) (rows : List (Key × Content))
-    → map (told b) (filter (λ (r : board.Record). not (eqb r.birth 1) && is_none (place_of b r.birth)) (map record_of rows)) ≡ filter_map (in_row b) rows
+    → map (detached_row b) (filter (λ (r : board.Record). not (eqb r.birth 1) && is_none (place_of b r.birth)) (map record_of rows))
+    ≡ filter_map (in_row b) rows
 detached-rows b [] = refl
 detached-rows b (row ∷ rows) = go (not (eqb row.0.birth 1) && is_none (place_of b row.0.birth)) refl (detached-rows b rows)
   where
-    go : (t : Bool) → not (eqb row.0.birth 1) && is_none (place_of b row.0.birth) ≡ t → map (told b)
-        (filter (λ (r : board.Record). not (eqb r.birth 1) && is_none (place_of b r.birth)) (map record_of rows)) ≡ filter_map (in_row b) rows → map (told b)
+    go : (t : Bool) → not (eqb row.0.birth 1) && is_none (place_of b row.0.birth) ≡ t → map (detached_row b)
+        (filter (λ (r : board.Record). not (eqb r.birth 1) && is_none (place_of b r.birth)) (map record_of rows)) ≡ filter_map (in_row b) rows
+        → map (detached_row b)
         (filter (λ (r : board.Record). not (eqb r.birth 1) && is_none (place_of b r.birth)) (map record_of (row ∷ rows))) ≡ filter_map (in_row b) (row ∷ rows)
-    go true is rest = rw is (ap (λ (l : List Detached). told b (record_of row) ∷ l) rest)
+    go true is rest = rw is (ap (λ (l : List Detached). detached_row b (record_of row) ∷ l) rest)
     go false is rest = rw is rest
 
 pub detached-all : (b : board.Board) (v : Objects) → Shows b v → detached_listed b ≡ detached_after b v.rows 0
 detached-all b v s =
-    ap (λ (rs : List board.Record). map (told b) (filter (λ (r : board.Record). not (eqb r.birth 1) && is_none (place_of b r.birth)) rs)) s.records
+    ap (λ (rs : List board.Record). map (detached_row b) (filter (λ (r : board.Record). not (eqb r.birth 1) && is_none (place_of b r.birth)) rs)) s.records
     ∙ detached-rows b v.rows
 
 -- those from a place on: first the one of the row at the place, if it gives one

@@ -3,7 +3,7 @@ use Rattle.std.proofs.Common.{◌≡◌, refl, ap, sym, subst, ◌∙◌, ℕ, z
 use Rattle.std.specs.Option.{option_map_or}
 use Rattle.qo_slots.specs.declared.keys.Key.{Key}
 use Rattle.qo_heap.specs.Rows.{IsLive}
-use Rattle.qo_model.specs.Board.{Board, is_live, slot_at, slots_at, held}
+use Rattle.qo_model.specs.Board.{Board, is_live, slot_at, slots_at, referent}
 use Rattle.qo_model.specs.Board as board
 use Rattle.qo_model.specs.Objects.{severed_from}
 use Rattle.qo_model.specs.Release.{drop_slot, let_go, pin, unpin}
@@ -75,7 +75,7 @@ module _ (x : ℕ) where
       go : (o : Option board.Slot) → slot_at b n i ≡ o → IsHeld x (let_go b n i)
       go None p = rw (let_go, p) h
       go (Some s) p =
-          rw (let_go, p) (held-after x (drop_slot b n i) (board.held s) (held-drop x b n i h))
+          rw (let_go, p) (held-after x (drop_slot b n i) (board.referent s) (held-drop x b n i h))
 
   severed-held : (b : Board) (n i : ℕ) → IsHeld x b → IsHeld x (severed_at n i b)
   severed-held b n i h = go (slot_at b n i) refl

@@ -20,7 +20,7 @@ use Rattle.qo_object.specs.declared.slots.Slot.{Slot}
 use Rattle.qo_object.specs.declared.slots.Slot.TheVariants.{Plain, Child, Link, Alias}
 use Rattle.qo_object.specs.Content.{Content, dropped_at, empty_link_at}
 use Rattle.qo_object.specs.BoardObject.{birth_of, shown_slot, shown_slots}
-use Rattle.qo_object.specs.Slots.{Named, held, is_empty_link, let_go_at, slot_in}
+use Rattle.qo_object.specs.Slots.{Named, is_empty_link, let_go_at, referent, slot_in}
 use Rattle.qo_object.proofs.BoardObjectLemmas.{length-shown, shown-held}
 use Rattle.qo_model.specs.Board as board
 use Rattle.qo_model.specs.Changes.{set}
@@ -139,24 +139,24 @@ link-slot None is = cc
 link-slot (Some s) is = (s, refl)
 
 pub relinked-is : (b : board.Board) (v : Objects) → Shows b v → (n i : ℕ) (target : Option ℕ) (was : Option Key) → is_link_at v n i ≡ true → was
-    ≡ option_and_then held (slot_in (heap.slots_of v n) i) → after finalize (pointed_at target n i (drop_slot b n i)) (birth_of was) ≡ relinked b n i target
+    ≡ option_and_then referent (slot_in (heap.slots_of v n) i) → after finalize (pointed_at target n i (drop_slot b n i)) (birth_of was) ≡ relinked b n i target
 relinked-is b v s n i target was link e =
     let (t, there) = link-slot (slot_in (heap.slots_of v n) i) link in
     let shown : board.slot_at b n i ≡ Some (shown_slot t) = shows-slot_at b v s n i ∙ ap (option_map shown_slot) there in
-    let its : board.held (shown_slot t) ≡ birth_of was = shown-held t ∙ ap birth_of (sym (e ∙ ap (option_and_then held) there)) in
+    let its : board.referent (shown_slot t) ≡ birth_of was = shown-held t ∙ ap birth_of (sym (e ∙ ap (option_and_then referent) there)) in
     ap (after finalize (pointed_at target n i (drop_slot b n i))) (sym its)
-    ∙ sym (ap (λ (o : Option board.Slot). elim o [ None ↦ b | Some x ↦ after finalize (pointed_at target n i (drop_slot b n i)) (board.held x) ]) shown)
+    ∙ sym (ap (λ (o : Option board.Slot). elim o [ None ↦ b | Some x ↦ after finalize (pointed_at target n i (drop_slot b n i)) (board.referent x) ]) shown)
 
 -- what is held is there, also once it was let go
-pub held-live_dropped : (v : Objects) → IsHeap v → (n i : ℕ) (was : Option Key) → was ≡ option_and_then held (slot_in (heap.slots_of v n) i)
+pub held-live_dropped : (v : Objects) → IsHeap v → (n i : ℕ) (was : Option Key) → was ≡ option_and_then referent (slot_in (heap.slots_of v n) i)
     → IfSome was (IsLive (with_edit n (dropped_at i) v).rows)
 held-live_dropped v good n i was e = go (slot_in (heap.slots_of v n) i) refl e
   where
-    go : (o : Option Slot) → slot_in (heap.slots_of v n) i ≡ o → was ≡ option_and_then held o → IfSome was (IsLive (with_edit n (dropped_at i) v).rows)
+    go : (o : Option Slot) → slot_in (heap.slots_of v n) i ≡ o → was ≡ option_and_then referent o → IfSome was (IsLive (with_edit n (dropped_at i) v).rows)
     go None p q = subst (λ (x : Option Key). IfSome x (IsLive (with_edit n (dropped_at i) v).rows)) (sym q) tt
     go (Some s) p q =
         subst (λ (x : Option Key). IfSome x (IsLive (with_edit n (dropped_at i) v).rows)) (sym q)
-        (IfSome_then (held s) (held-live v good n i s p) (live-edit n (dropped_at i) v.rows))
+        (IfSome_then (referent s) (held-live v good n i s p) (live-edit n (dropped_at i) v.rows))
 
 -- a link that was let go has no target
 emptied : (slots : List Named) (i : ℕ) → is_some (option_and_then link_type (slot_in slots i)) ≡ true

@@ -7,7 +7,7 @@ use Rattle.qo_values.specs.declared.codes.Code.{Code}
 use Rattle.qo_slots.specs.declared.keys.Key.{Key}
 use Rattle.qo_model.specs.Board.{Board, Record, Slot, alias, slot_named}
 use Rattle.qo_model.specs.Clocks.{source_of}
-use Rattle.qo_model.specs.Detachment.{told}
+use Rattle.qo_model.specs.Detachment.{detached_row}
 use Rattle.qo_model.specs.Paths.{place_of}
 use Rattle.qo_model.specs.Properties.{object_at}
 use Rattle.qo_model.specs.declared.detached.Detached.{Detached}
@@ -16,7 +16,7 @@ use Rattle.qo_properties.specs.declared.refusals.Refusal.TheVariants.{Refused, M
 
 -- an object as it is told, if it is one without a parent
 abbrev pub detached_in : Board → Record → Option Detached
-detached_in b r = if not (r.birth == ROOT_BIRTH) && is_none (place_of b r.birth) then Some (told b r) else None
+detached_in b r = if not (r.birth == ROOT_BIRTH) && is_none (place_of b r.birth) then Some (detached_row b r) else None
 
 -- an answer, as f shows it, is what a definition gives, or there was not enough memory
 abbrev pub Answers : {T U : Type 0} → (T → U) → Result T Refusal → Result U Code → Type 0

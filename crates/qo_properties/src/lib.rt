@@ -8,10 +8,10 @@ mod reading;
 mod refusals;
 mod writing;
 
-pub use adding::attempts::{attempt, objects_in};
-pub use adding::barring::{Admitted, admit};
-pub use adding::filling::{Fill, begins, take_value};
-pub use adding::fresh::{add_value, furnish_new, name_of};
+pub use adding::checks::{Admitted, check_object};
+pub use adding::failed_add::{failed_add, objects_in};
+pub use adding::filling::{InitialValue, is_stored, take_value};
+pub use adding::fresh::{add_value, name_of, set_default_slots};
 pub use adding::objects::{add_object, make_child};
 pub use adding::planned::planned_for;
 pub use adding::planning::plan;

@@ -10,7 +10,7 @@ use Rattle.qo_values.specs.Rings.{ring_add, ring_drop, ring_oldest}
 use Rattle.qo_values.specs.declared.codes.Code.{Code}
 use Rattle.qo_values.specs.declared.codes.Code.TheVariants.{E36, E37}
 use Rattle.qo_values.specs.declared.forms.Form.{Form}
-use Rattle.qo_chardev.specs.Texts.{told}
+use Rattle.qo_chardev.specs.Texts.{encoded}
 use Rattle.qo_buses.specs.Recount.{IsRecounted}
 use Rattle.qo_claims.specs.Book.{ClaimsTaken, is_taken}
 use Rattle.qo_claims.specs.declared.claims.Claimed.TheVariants as on
@@ -49,9 +49,9 @@ taken-all P b id most form p q = go (ring_named id b.rings)
     by (Some text) = q
 
     go : (o : Option Ring)
-        → P (elim o as (λ o. Reading) [ None ↦ record { text = Err E36; board = b } | Some r ↦ taken_as b id most (told form (ring_oldest (bytes_in r) most)) ]).board
+        → P (elim o as (λ o. Reading) [ None ↦ record { text = Err E36; board = b } | Some r ↦ taken_as b id most (encoded form (ring_oldest (bytes_in r) most)) ]).board
     go None = p
-    go (Some r) = by (told form (ring_oldest (bytes_in r) most))
+    go (Some r) = by (encoded form (ring_oldest (bytes_in r) most))
 
 pub gained-all : (P : Board → Type 0) (b : Board) (id text : List ℕ) (form : Form) → P b
     → ((bytes : List ℕ) → P (with_rings (ring_changed (λ m. ring_add m bytes) id b.rings) b)) → P (ring_written b id text form).board
@@ -100,13 +100,13 @@ kept-ring b id kept e = go (ring_named id b.rings) refl e
           same = same_Some kept r.id k ∙ (bytes_eq-Decides r.id id).0 (found-passes (is_ring id) b.rings r q);
         }
 
-module _ (b : Board) (id kept : List ℕ) (is : Some kept ≡ kept_id id b.rings) (named : is_id kept ≡ true) (h : ClaimsTaken) (told : IsRecounted b h) where
+module _ (b : Board) (id kept : List ℕ) (is : Some kept ≡ kept_id id b.rings) (named : is_id kept ≡ true) (h : ClaimsTaken) (recounted : IsRecounted b h) where
   removal-as : chardev_removed b id ≡ removed_as b id true (is_taken (on.Ring kept) h)
   removal-as =
       let k = kept-ring b id kept is in
       let some : kept ≢ [] = λ none. absurd (let clash : false ≡ true = subst (λ (own : List ℕ). is_id own ≡ true) none named in cc) in
       let claimed : is_taken (on.Ring kept) h ≡ list_any (claims_ring b id) b.records =
-      told.rings kept some ∙ ap (λ (own : List ℕ). list_any (claims_ring b own) b.records) k.same in
+      recounted.rings kept some ∙ ap (λ (own : List ℕ). list_any (claims_ring b own) b.records) k.same in
       ap₂ (removed_as b id) k.there (sym claimed)
 
   pub removal-claimed : true ≡ is_taken (on.Ring kept) h → chardev_removed b id ≡ by_code b b (Some E37)

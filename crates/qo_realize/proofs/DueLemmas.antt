@@ -21,7 +21,7 @@ use Rattle.qo_model.specs.Devices.{is_realized, is_true, plain_in, text_at}
 use Rattle.qo_model.specs.Objects.{Given}
 use Rattle.qo_model.specs.Opening.{opening_board}
 use Rattle.qo_model.specs.Paths.{is_of}
-use Rattle.qo_model.specs.Plug.{Wanted, at_stage, backend_of, barred_early, bus_barred, bus_for, first_of, id_barred, plug, plug_as, plug_by, range_in, range_of, room_barred, spot_of, target_for}
+use Rattle.qo_model.specs.Plug.{Wanted, at_stage, backend_of, barred_early, bus_barred, bus_for, first_of, id_barred, plug, plug_as, plug_by, range_in, range_of, resources_of, room_barred, target_for}
 use Rattle.qo_model.specs.Plug.{text_for, type_barred}
 use Rattle.qo_model.proofs.FirstSlotLemmas.{named_in, slots_in}
 use Rattle.qo_sound.proofs.SearchLemmas.{all-found}
@@ -36,7 +36,7 @@ use Rattle.qo_properties.specs.KeptClaims.{KeptBefore, KeptOrNew, NoneKept, kept
 use Rattle.qo_plug.specs.Answers.{KeepsGiven}
 use Rattle.qo_plug.specs.KeptClaims.{KeptOrNewBut}
 use Rattle.qo_plug.specs.declared.adding.Added.{Added}
-use Rattle.qo_plug.specs.Spots.{backend_given, claims_given, ring_given}
+use Rattle.qo_plug.specs.Resources.{backend_given, claims_given, ring_given}
 use Rattle.qo_sound_claims.specs.ClaimsStay.{ClaimsAdded, ClaimsAlike, ClaimsGiven, ClaimsKeep, ClaimsStay, ranges_at}
 use Rattle.qo_unplug.specs.RealizedClaims.{KeepsDue, due_if}
 use Rattle.qo_realize.specs.BoardClaims.{backend_due, claims_due, own_range, range_due, ring_due, slot_due}
@@ -126,7 +126,7 @@ pub given-due : (b : Board) (t : TypeId) (bus : ℕ) (props : List Given) (c : B
     → claims_due c n ≡ claims_given b t bus props
 given-due b t bus props c n h =
     let memory = memory-given b t props (backend_of c n) (ranges_at c n) h.backend h.range in
-    let slot : slot_due c n ≡ Some (on.Slot (bus_slot bus (spot_of b t bus props).slot)) = ap₂ slot_on h.on h.slot in
+    let slot : slot_due c n ≡ Some (on.Slot (bus_slot bus (resources_of b t bus props).slot)) = ap₂ slot_on h.on h.slot in
     let ring : ring_due c n ≡ option_map on.Ring (ring_given t props) =
     ap (λ (k : Option TypeId). ring_on k (text_at c n (codes "chardev"))) h.kind ∙ ring-given t props (text_at c n (codes "chardev")) h.ring in
     let backend : backend_due c n ≡ option_map on.Backend (backend_given b t props) =

@@ -16,7 +16,7 @@ use Rattle.qo_model.specs.Objects.{attempted_as, barred_by, with_attempt}
 use Rattle.qo_model.specs.Opening.{opening_board}
 use Rattle.qo_model.specs.Paths.{attached, is_of}
 use Rattle.qo_model.specs.Plug.{Wanted, barred_early, cut_attempt, objects_in, plug, plug_attempt, type_barred}
-use Rattle.qo_model.specs.Reset.{held, is_deep, pulse, released}
+use Rattle.qo_model.specs.Reset.{after_hold, exceeds_depth, pulse, released}
 use Rattle.qo_model.specs.SoundGraph.{graph_of}
 use Rattle.qo_model.specs.Types.{TypeInfo, type_named}
 use Rattle.qo_model.proofs.AmongLemmas.{among-all}
@@ -236,8 +236,8 @@ completed-good b d pending h =
     there = (among-all (IsOn b) b.pending h.run.devices.lists.pending d pending).0
 
 -- a hold of a reset on an attached object that is not held too often, a hold less, both, and the reset of the whole board
-pub held-good : (b : Board) (n : ℕ) → is_of b (codes "resettable") n ≡ true → attached b n ≡ true → is_deep b n ≡ false → SoundBoard b
-    → SoundBoard (held b n)
+pub held-good : (b : Board) (n : ℕ) → is_of b (codes "resettable") n ≡ true → attached b n ≡ true → exceeds_depth b n ≡ false → SoundBoard b
+    → SoundBoard (after_hold b n)
 held-good b n is home deep h =
     record {
       run = held-run b n h.run;

@@ -6,7 +6,7 @@ use Rattle.qo_model.specs.Board.{Board, Ring}
 use Rattle.qo_model.specs.Depth.{among}
 use Rattle.qo_model.specs.Objects.{Changed}
 use Rattle.qo_model.specs.Paths.{Resolution, attached, found, is_of, missing, resolve, several}
-use Rattle.qo_model.specs.Reset.{held, is_deep, pulse, released}
+use Rattle.qo_model.specs.Reset.{after_hold, exceeds_depth, pulse, released}
 use Rattle.qo_heap.specs.Acts.{Acts}
 use Rattle.qo_heap.specs.Objects.{Objects}
 use Rattle.qo_heap.proofs.ActsLemmas.{acts-book}
@@ -44,16 +44,17 @@ at_path-all P b path change p q = by (resolve b path (codes "resettable")) refl
     by missing e = rw (resettable_at, e) p
     by several e = rw (resettable_at, e) p
 
-pub held_of-all : (P : Board → Type 0) (b : Board) (n : ℕ) → P b → (attached b n ≡ true → is_deep b n ≡ false → P (held b n)) → P (held_of b n).board
-held_of-all P b n p q = by (attached b n) refl (is_deep b n) refl
+pub held_of-all : (P : Board → Type 0) (b : Board) (n : ℕ) → P b → (attached b n ≡ true → exceeds_depth b n ≡ false → P (after_hold b n))
+    → P (held_of b n).board
+held_of-all P b n p q = by (attached b n) refl (exceeds_depth b n) refl
   where
     come : Bool → Bool → Changed
     come home deep =
         if not home then record { refusal = Some E15; board = b }
         else if deep then record { refusal = Some E48; board = b }
-        else record { refusal = None; board = held b n }
+        else record { refusal = None; board = after_hold b n }
 
-    by : (home : Bool) → attached b n ≡ home → (deep : Bool) → is_deep b n ≡ deep → P (come home deep).board
+    by : (home : Bool) → attached b n ≡ home → (deep : Bool) → exceeds_depth b n ≡ deep → P (come home deep).board
     by false e deep d = p
     by true e true d = p
     by true e false d = q e d
@@ -69,7 +70,7 @@ released_of-all P b n p q = by (among b.holds n) refl
     by false e = p
 
 held_at-all : (P : Board → Type 0) (b : Board) (path : List ℕ) → P b
-    → ((n : ℕ) → is_of b (codes "resettable") n ≡ true → attached b n ≡ true → is_deep b n ≡ false → P (held b n)) → P (held_at b path).board
+    → ((n : ℕ) → is_of b (codes "resettable") n ≡ true → attached b n ≡ true → exceeds_depth b n ≡ false → P (after_hold b n)) → P (held_at b path).board
 held_at-all P b path p q = at_path-all P b path (held_of b) p (λ n is. held_of-all P b n p (λ home deep. q n is home deep))
 
 released_at-all : (P : Board → Type 0) (b : Board) (path : List ℕ) → P b → ((n : ℕ) → P (released b n)) → P (released_at b path).board

@@ -142,5 +142,5 @@ refused_devices_lem =
       begun = λ b a e h. not_added-left b a e.refusal e.board h.1;
       placed = λ b a e h. not_added-left b a e.refusal e.board h.1;
       finished = λ b a e h. not_added-left b a e.refusal e.board h.1;
-      abandoned = λ b d. plugged-left b d.begun.site.kind d.begun.site.bus.birth 4;
+      abandoned = λ b d. plugged-left b d.begun.target.kind d.begun.target.bus.birth 4;
     }

@@ -5,7 +5,7 @@ use Rattle.qo_values.specs.declared.properties.Val.{Val}
 use Rattle.qo_model.specs.declared.notes.Note.{Note}
 use Rattle.qo_model.specs.Access.{write_at}
 use Rattle.std.specs.Option.{option_map_or}
-use Rattle.qo_events.specs.Queue.{told}
+use Rattle.qo_events.specs.Queue.{cleared}
 use Rattle.qo_object.specs.Content.{Content}
 use Rattle.qo_object.specs.BoardObject.{shown_slots}
 use Rattle.qo_model.specs.Board.{Board, Slot, Ring}
@@ -123,11 +123,11 @@ opening-stands v shows book =
 pub opens : (v w : Objects) → v ≡ no_objects_made → ((b : Board) → Shows b v → Shows (with_all b) w) → KeepsBook v w
     → (holds : HoldList) (asked : Asked) (rings : List Ring) → holds ≡ no_holds → asked ≡ nothing_asked → rings ≡ []
     → OnlyRootPinned w × Stands opening_board (parts_of rings 0 true holds asked w)
-opens v w none makes keeps holds asked rings held told empty = (
+opens v w none makes keeps holds asked rings held cleared empty = (
   opening-pinned w shows,
   subst (λ (r : List Ring). Stands opening_board (parts_of r 0 true holds asked w)) (sym empty)
       (subst (λ (h : HoldList). Stands opening_board (parts_of [] 0 true h asked w)) (sym held)
-      (subst (λ (x : Asked). Stands opening_board (parts_of [] 0 true no_holds x w)) (sym told)
+      (subst (λ (x : Asked). Stands opening_board (parts_of [] 0 true no_holds x w)) (sym cleared)
       (opening-stands w shows (keeps [] (subst (λ (x : Objects). IsBook [] x) (sym none) book-none))))),
 )
   where
@@ -147,9 +147,9 @@ first-told notes l h start = ap (log.first_from start) (log-of notes l h)
 -- the events that waited were let go
 pub cleared-stands : (b : Board) (rings : List Ring) (anonymous : ℕ) (running : Bool) (holds : HoldList) (asked : Asked) (v : Objects)
     → Stands b (parts_of rings anonymous running holds asked v)
-    → Stands (record b { events = [] }) (parts_of rings anonymous running holds asked (record v { events = told v.events }))
+    → Stands (record b { events = [] }) (parts_of rings anonymous running holds asked (record v { events = cleared v.events }))
 cleared-stands b rings anonymous running holds asked v s =
-    stands-by b (record b { events = [] }) (parts_of rings anonymous running holds asked v) (record v { events = told v.events }) s
+    stands-by b (record b { events = [] }) (parts_of rings anonymous running holds asked v) (record v { events = cleared v.events }) s
     (record { anonymous = refl; now = refl; running = refl; holds = refl; pending = refl; notices = refl; rings = refl })
     (record { records = s.shows.records; born = s.shows.born; pins = s.shows.pins; notes = s.shows.notes; events = refl; now = s.shows.now }) (λ out h. h)
 

@@ -13,7 +13,7 @@ use Rattle.qo_model.specs.Hotplug.{asked, completed, refused, reset_whole}
 use Rattle.qo_model.specs.Objects.{with_attempt}
 use Rattle.qo_model.specs.Opening.{opening_board}
 use Rattle.qo_model.specs.Plug.{Wanted, cut_attempt, plug}
-use Rattle.qo_model.specs.Reset.{held, pulse, released}
+use Rattle.qo_model.specs.Reset.{after_hold, pulse, released}
 use Rattle.qo_model.proofs.AmongLemmas.{among-all}
 use Rattle.qo_sound_devices.specs.SoundDevices.{SoundDevices}
 use Rattle.qo_sound_devices.specs.SoundLists.{IsOn}
@@ -157,7 +157,7 @@ completed-run b d pending h =
     }
 
 -- a hold of a reset, a hold less, both, and the reset of the whole board
-pub held-run : (b : Board) (n : ℕ) → SoundRun b → SoundRun (held b n)
+pub held-run : (b : Board) (n : ℕ) → SoundRun b → SoundRun (after_hold b n)
 held-run b n h =
     record {
       devices = devices_kept_lem.held_so b n h.devices;

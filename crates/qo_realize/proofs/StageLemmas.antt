@@ -11,8 +11,8 @@ use Rattle.qo_plug.specs.Admission.{IfRefused}
 use Rattle.qo_plug.specs.Answers.{IsAdded, IsCut, IsRefused, IsShown}
 use Rattle.qo_plug.specs.Stages.{IsBegun, IsBeside, IsSettled}
 use Rattle.qo_plug.specs.declared.adding.Added as device
-use Rattle.qo_plug.specs.declared.beginning.Begun.{Begun}
-use Rattle.qo_plug.specs.declared.placing.Placed.{Placed}
+use Rattle.qo_plug.specs.declared.beginning.NewDevice.{NewDevice}
+use Rattle.qo_plug.specs.declared.placing.AttachedDevice.{AttachedDevice}
 use Rattle.qo_plug.specs.declared.refusals.AddRefusal.{AddRefusal}
 use Rattle.qo_plug.specs.declared.refusals.AddRefusal.TheVariants.{Refused, Memory}
 use Rattle.qo_plug.proofs.PlugSteps.{cut-whole}
@@ -108,11 +108,11 @@ module _ (b : Board) (a : Wanted) (rings : List Ring) (anonymous next : ℕ) (ru
       given_up-stands t bus s = (plug_attempt b t bus 4, since-given_up t bus s, given_up-good b t bus since.good)
 
   -- a draft, and what is plugged of it
-  pub drafted-is : (v w : Objects) (d : Begun) → Stands b (at v) → SoundBoard b → next ≡ counts anonymous a.id → KeepsBook v w → KeepsClaims v → KeptOrNew v w → IsBegun b a d w
+  pub drafted-is : (v w : Objects) (d : NewDevice) → Stands b (at v) → SoundBoard b → next ≡ counts anonymous a.id → KeepsBook v w → KeepsClaims v → KeptOrNew v w → IsBegun b a d w
       → IsDrafted b a (record { parts = at w; next = next; begun = d })
   unfolding since-begun
   drafted-is v w d s good is keeps claims own begun =
-      record { since = since-begun v w s good is keeps claims; begun = begun; kept = own; passed = passed-making b a d.site begun.admitted begun.given }
+      record { since = since-begun v w s good is keeps claims; begun = begun; kept = own; passed = passed-making b a d.target begun.admitted begun.given }
 
   -- where a stage was begun on a board that stood, whatever of it is shown
   module _ (v w : Objects) (p : Parts) (whole : at v ≡ p) (stood : Stands b p) (good : SoundBoard b) (is : next ≡ counts anonymous a.id) (keeps : KeepsBook v w)
@@ -126,7 +126,7 @@ module _ (b : Board) (a : Wanted) (rings : List Ring) (anonymous next : ℕ) (ru
     shown : Shown
     shown = is_shown b rings anonymous running holds old v seen good claims
 
-    pub begun-drafted : (d : Begun) → KeptOrNew v w → (Shown → IsBegun b a d w) → IsDrafted b a (record { parts = at w; next = next; begun = d })
+    pub begun-drafted : (d : NewDevice) → KeptOrNew v w → (Shown → IsBegun b a d w) → IsDrafted b a (record { parts = at w; next = next; begun = d })
     begun-drafted d own begun = drafted-is v w d seen good is keeps claims own (begun shown)
 
     pub begun-barred : (e : AddRefusal)
@@ -134,14 +134,14 @@ module _ (b : Board) (a : Wanted) (rings : List Ring) (anonymous next : ℕ) (ru
         → (Shown → e ≡ Memory → IsCut b a w) → IsWithin 1 4 e × Plugs b a (Err e) (at w)
     begun-barred e refused memory = begin-barred v (since-begun v v seen good is (λ out h. h) claims) w keeps e (refused shown) (memory shown)
 
-  pub plugged-is : (v w : Objects) (p : Placed) (since : Since b a (at v) next) → KeptOrNew since.before v → KeepsBook v w
-      → KeptAs p.device.birth p.way v w → IsSettled b a p w
+  pub plugged-is : (v w : Objects) (p : AttachedDevice) (since : Since b a (at v) next) → KeptOrNew since.before v → KeepsBook v w
+      → KeptAs p.device.birth p.plugging v w → IsSettled b a p w
       → IsPlugged b a (record { parts = at w; next = next; placed = p })
   unfolding since-then
   plugged-is v w p since before keeps own settled =
       record {
         since = since-then v since w keeps;
         settled = settled;
-        kept = so-far since.before v w p.device.birth p.way before own;
+        kept = so-far since.before v w p.device.birth p.plugging before own;
         passed = passed-placing b a p w settled;
       }

@@ -6,7 +6,7 @@ use Rattle.qo_values.specs.declared.kinds.TypeId.{TypeId}
 use Rattle.qo_heap.specs.Objects.{Objects}
 use Rattle.qo_model.specs.Board.{Board, Record, record_of}
 use Rattle.qo_model.specs.Objects.{Changed, Given, attempted_as, object_add}
-use Rattle.qo_model.specs.Plug.{Wanted, bus_for, plug, spot_of}
+use Rattle.qo_model.specs.Plug.{Wanted, bus_for, plug, resources_of}
 use Rattle.qo_model.specs.Types.{TypeInfo, type_named}
 use Rattle.qo_plug.specs.Answers.{KeepsGiven}
 use Rattle.qo_plug.specs.Cuts.{cut_as}
@@ -42,11 +42,11 @@ Changes change b (Ok done) p = (change.refusal ≡ None) × Stands change.board 
 Changes change b (Err (Refused code)) p = (change ≡ record { refusal = Some code; board = b }) × Stands b p
 Changes change b (Err Memory) p = Stands b p
 
--- what is told of a device that was added: it has the next birth, the slot of its spot on its bus, and the path that is kept of it; and its body keeps its claims
+-- what is told of a device that was added: it has the next birth, its slot of its bus, and the path that is kept of it; and its body keeps its claims
 pub record IsTold (b : Board) (a : Wanted) (device : Added) (v : Objects) : Type 0 where
   pub birth : device.birth ≡ b.born + 1
   pub slot : (t : TypeId) (bus : ℕ) → option_map (λ (row : TypeInfo). row.id) (type_named a.driver) ≡ Some t → bus_for b t a.bus ≡ Some bus
-      → device.slot ≡ (spot_of b t bus a.props).slot
+      → device.slot ≡ (resources_of b t bus a.props).slot
   pub path : option_and_then (λ (r : Record). r.kept_path) (record_of (plug b a).board device.birth) ≡ Some device.path
   pub kept : KeepsGiven b a device v
 

@@ -8,7 +8,7 @@ use Rattle.qo_values.specs.declared.codes.Code.{Code}
 use Rattle.qo_values.specs.declared.codes.Code.TheVariants.{E19, E20, E23, E24, E36, E37, E51, E52}
 use Rattle.qo_values.specs.declared.forms.Form.{Form}
 use Rattle.qo_values.specs.declared.forms.Form.TheVariants.{Utf8}
-use Rattle.qo_chardev.specs.Texts.{told}
+use Rattle.qo_chardev.specs.Texts.{encoded}
 use Rattle.qo_model.specs.Board.{Board, Ring}
 use Rattle.qo_model.specs.Objects.{Changed}
 use Rattle.qo_model.specs.Plug.{claims_ring, has_ring}
@@ -62,7 +62,7 @@ taken_as b id most (Some text) = record { text = Ok text; board = with_rings (ri
 
 abbrev pub ring_read : Board → List ℕ → ℕ → Form → Reading
 ring_read b id most form =
-    elim (ring_named id b.rings) [ None ↦ record { text = Err E36; board = b } | Some r ↦ taken_as b id most (told form (ring_oldest (bytes_in r) most)) ]
+    elim (ring_named id b.rings) [ None ↦ record { text = Err E36; board = b } | Some r ↦ taken_as b id most (encoded form (ring_oldest (bytes_in r) most)) ]
 
 abbrev pub ringbuf_read : Board → List ℕ → ℕ → Option Form → Reading
 ringbuf_read b id most form = ring_read b id most (unwrap_or form Utf8)

@@ -8,7 +8,7 @@ use Rattle.qo_model.specs.declared.notes.Note.{Note}
 use Rattle.qo_plug.specs.Cuts.{cut_as}
 use Rattle.qo_realize.specs.Parts.{Parts}
 use Rattle.qo_realize.specs.Representation.{Stands}
-use Rattle.qo_realize.specs.Stages.{Begins, Drafting, Finishes, Places, given_up}
+use Rattle.qo_realize.specs.Stages.{Begins, DraftParts, Finishes, Places, given_up}
 use Rattle.qo_realize.specs.declared.stages.NotAdded.{NotAdded}
 
 -- a board is as it was: its tree, and all that stands beside it; an attempt may have used births and left notes after those that were there
@@ -32,4 +32,4 @@ pub record RefusedDevicesLaw : Type 0 where
   pub begun : (b : Board) (a : Wanted) (e : NotAdded) → Begins b a (Err e) → StandAsItWas b e.board
   pub placed : (b : Board) (a : Wanted) (e : NotAdded) → Places b a (Err e) → StandAsItWas b e.board
   pub finished : (b : Board) (a : Wanted) (e : NotAdded) → Finishes b a (Err e) → StandAsItWas b e.board
-  pub abandoned : (b : Board) (d : Drafting) → AsItWas b (given_up b d)
+  pub abandoned : (b : Board) (d : DraftParts) → AsItWas b (given_up b d)

@@ -6,7 +6,7 @@ use Rattle.qo_model.specs.Board.{Board}
 use Rattle.qo_model.specs.Depth.{among}
 use Rattle.qo_model.specs.Objects.{Changed}
 use Rattle.qo_model.specs.Paths.{attached, found, missing, resolve, several}
-use Rattle.qo_model.specs.Reset.{held, is_deep, released}
+use Rattle.qo_model.specs.Reset.{after_hold, exceeds_depth, released}
 use Rattle.qo_heap.specs.Objects.{Objects}
 use Rattle.qo_properties.specs.declared.refusals.Refusal.{Refusal}
 use Rattle.qo_properties.specs.declared.refusals.Refusal.TheVariants.{Refused, Memory}
@@ -25,8 +25,8 @@ at_path b change (Err code) = record { refusal = Some code; board = b }
 abbrev pub held_of : Board → ℕ → Changed
 held_of b n =
     if not (attached b n) then record { refusal = Some E15; board = b }
-    else if is_deep b n then record { refusal = Some E48; board = b }
-    else record { refusal = None; board = held b n }
+    else if exceeds_depth b n then record { refusal = Some E48; board = b }
+    else record { refusal = None; board = after_hold b n }
 
 abbrev pub held_at : Board → List ℕ → Changed
 held_at b path = at_path b (held_of b) (resettable_at b path)

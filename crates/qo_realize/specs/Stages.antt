@@ -9,8 +9,8 @@ use Rattle.qo_properties.specs.KeptClaims.{KeptOrNew}
 use Rattle.qo_plug.specs.KeptClaims.{KeptSoFar}
 use Rattle.qo_plug.specs.Stages.{IsBegun, IsSettled}
 use Rattle.qo_plug.specs.declared.adding.Added.{Added}
-use Rattle.qo_plug.specs.declared.beginning.Begun.{Begun}
-use Rattle.qo_plug.specs.declared.placing.Placed.{Placed}
+use Rattle.qo_plug.specs.declared.beginning.NewDevice.{NewDevice}
+use Rattle.qo_plug.specs.declared.placing.AttachedDevice.{AttachedDevice}
 use Rattle.qo_plug.specs.declared.refusals.AddRefusal.{AddRefusal}
 use Rattle.qo_plug.specs.declared.refusals.AddRefusal.TheVariants.{Refused, Memory}
 use Rattle.qo_realize.specs.Answers.{Plugs}
@@ -21,15 +21,15 @@ use Rattle.qo_realize.specs.Representation.{Stands}
 use Rattle.qo_realize.specs.declared.stages.NotAdded.{NotAdded}
 
 -- what is seen of it: the board's parts, the device, and how many without an id will have been added
-pub record Drafting : Type 0 where
+pub record DraftParts : Type 0 where
   pub parts : Parts
   pub next : ℕ
-  pub begun : Begun
+  pub begun : NewDevice
 
-pub record Plugging : Type 0 where
+pub record PluggedParts : Type 0 where
   pub parts : Parts
   pub next : ℕ
-  pub placed : Placed
+  pub placed : AttachedDevice
 
 -- this sound board stood before, and since then nothing has changed but its objects, and the book of claims was kept
 pub record Since (b : Board) (a : Wanted) (p : Parts) (next : ℕ) : Type 0 where
@@ -41,22 +41,22 @@ pub record Since (b : Board) (a : Wanted) (p : Parts) (next : ℕ) : Type 0 wher
   pub claims : KeepsClaims before
 
 -- on a board a device was begun as it was asked for, or placed: nothing of the stages so far refuses it
-pub record IsDrafted (b : Board) (a : Wanted) (d : Drafting) : Type 0 where
+pub record IsDrafted (b : Board) (a : Wanted) (d : DraftParts) : Type 0 where
   pub since : Since b a d.parts d.next
   pub begun : IsBegun b a d.begun d.parts.objects
   pub kept : KeptOrNew since.before d.parts.objects
   pub passed : IfSome (plug b a).refusal (λ refusal. 4 < refusal.0)
 
-pub record IsPlugged (b : Board) (a : Wanted) (p : Plugging) : Type 0 where
+pub record IsPlugged (b : Board) (a : Wanted) (p : PluggedParts) : Type 0 where
   pub since : Since b a p.parts p.next
   pub settled : IsSettled b a p.placed p.parts.objects
-  pub kept : KeptSoFar p.placed.device.birth p.placed.way since.before p.parts.objects
+  pub kept : KeptSoFar p.placed.device.birth p.placed.plugging since.before p.parts.objects
   pub passed : IfSome (plug b a).refusal (λ refusal. 7 < refusal.0)
 
-abbrev pub DraftOfGood : Drafting → Type 0
+abbrev pub DraftOfGood : DraftParts → Type 0
 DraftOfGood d = (b : Board) × (a : Wanted) × IsDrafted b a d
 
-abbrev pub PluggedOnGood : Plugging → Type 0
+abbrev pub PluggedOnGood : PluggedParts → Type 0
 PluggedOnGood p = (b : Board) × (a : Wanted) × IsPlugged b a p
 
 -- a refusal is of one of these stages
@@ -65,11 +65,11 @@ IsWithin first last (Refused stage code) = (first ≤ stage) × (stage ≤ last)
 IsWithin first last Memory = ⊤
 
 -- the device was begun, or placed; or `device_add` is refused at one of the stages of the call, and leaves what it leaves
-abbrev pub Begins : Board → Wanted → Result Drafting NotAdded → Type 0
+abbrev pub Begins : Board → Wanted → Result DraftParts NotAdded → Type 0
 Begins b a (Ok d) = IsDrafted b a d
 Begins b a (Err e) = IsWithin 1 4 e.refusal × Plugs b a (Err e.refusal) e.board
 
-abbrev pub Places : Board → Wanted → Result Plugging NotAdded → Type 0
+abbrev pub Places : Board → Wanted → Result PluggedParts NotAdded → Type 0
 Places b a (Ok p) = IsPlugged b a p
 Places b a (Err e) = IsWithin 5 7 e.refusal × Plugs b a (Err e.refusal) e.board
 
@@ -79,5 +79,5 @@ Finishes b a (Ok done) = Plugs b a (Ok done.1) done.0
 Finishes b a (Err e) = (e.refusal ≡ Refused 8 E44) × Plugs b a (Err e.refusal) e.board
 
 -- the board after a draft that was abandoned: nothing is left but births and notes
-abbrev pub given_up : Board → Drafting → Board
-given_up b d = plug_attempt b d.begun.site.kind d.begun.site.bus.birth 4
+abbrev pub given_up : Board → DraftParts → Board
+given_up b d = plug_attempt b d.begun.target.kind d.begun.target.bus.birth 4

@@ -10,7 +10,7 @@ use crate::users::is_used;
 use qo_buses::by_address;
 use qo_chardev::Rings;
 use qo_events::DeviceEvent;
-use qo_guest::{Addr, Steps9};
+use qo_guest::{Addr, SlotPath};
 use qo_heap::{Heap, Oid, Steps};
 use qo_hotplug::{Hotplug, Notice};
 use qo_model::{Detached, Note};
@@ -124,7 +124,7 @@ impl Board {
 
     /// What it stands for: there is a board that stands at it, and it is sound; and each body keeps the claims
     /// of its object while that is realized, and none otherwise.
-    pub fn shown(&self)
+    pub fn reveal_board(&self)
         ensures stands { StandsForGood self.now }
         ensures claims { KeepsClaims self.now.objects }
     {
@@ -462,7 +462,7 @@ impl Board {
     {
         match self.heap.by_birth(birth) {
             Some(dev) => address_of(&self.heap, dev, steps),
-            None => Addr::Slots(Steps9::one(0)),
+            None => Addr::Slots(SlotPath::one(0)),
         }
     }
 }

@@ -9,7 +9,7 @@ ghost use Rattle.qo_heap.specs.Board.{Shows};
 ghost use Rattle.qo_realize.specs.Guest.{above, address_of, is_in_slot, is_on_memory, slot_in, slot_of, slots_to};
 
 use qo_buses::{bridge_of, bus_of, kid_at};
-use qo_guest::{Addr, Steps9};
+use qo_guest::{Addr, SlotPath};
 use qo_heap::{Heap, Oid, Steps};
 use qo_values::{BUS_SLOTS, MEMORY_BUS_BIRTH};
 use std::sync::ledger::Ledger;
@@ -63,7 +63,7 @@ fn above<L: Ledger>(heap: &Heap, dev: Oid, steps: &mut Steps<L>) -> Option<Oid>
 }
 
 /// The slots on the way to a device, at most so many, the outermost first.
-fn slots_to<L: Ledger>(heap: &Heap, dev: Oid, levels: usize, steps: &mut Steps<L>) -> Steps9
+fn slots_to<L: Ledger>(heap: &Heap, dev: Oid, levels: usize, steps: &mut Steps<L>) -> SlotPath
     requires live { IsLive heap.now.rows dev }
     requires some { 1 ≤ levels }
     requires few { levels ≤ STEPS_MAX }
@@ -72,10 +72,10 @@ fn slots_to<L: Ledger>(heap: &Heap, dev: Oid, levels: usize, steps: &mut Steps<L
 {
     let slot = slot_of(heap, dev, steps);
     if levels == 1 {
-        return Steps9::one(slot);
+        return SlotPath::one(slot);
     }
     let Some(device) = above(heap, dev, steps) else {
-        return Steps9::one(slot);
+        return SlotPath::one(slot);
     };
     let mut slots = slots_to(heap, device, levels - 1, steps);
     slots.push(slot);

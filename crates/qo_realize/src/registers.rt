@@ -49,7 +49,7 @@ fn write_register<L: Ledger>(
     ensures live { IsLive heap.new.rows dev }
     ensures absent { IfNone result (heap.new ≡ heap.old) }
 {
-    heap.facts();
+    heap.reveal_invariant();
     let ring = has_ring(heap, dev, steps);
     let period = device_period(heap, dev, steps);
     let time = heap.time();

@@ -5,7 +5,7 @@ ghost use Rattle.std.specs.Prelude.{◌≡◌, true, IfSome, OnOk, OnErr};
 ghost use Rattle.qo_model.specs.Board.{Board};
 ghost use Rattle.qo_model.specs.Depth.{among};
 ghost use Rattle.qo_model.specs.Hotplug.{asked, asked_of, device_at, refused};
-ghost use Rattle.qo_model.specs.Paths.{attached, is_absolute};
+ghost use Rattle.qo_model.specs.Paths.{attached};
 ghost use Rattle.qo_object.specs.BoardObject.{birth_of};
 ghost use Rattle.qo_heap.specs.Rows.{IsLive};
 ghost use Rattle.qo_heap.specs.Board.{Shows};
@@ -15,20 +15,10 @@ ghost use Rattle.qo_realize.specs.Removals.{Asks, HasRoom, IsAsked};
 use qo_buses::child_at;
 use qo_heap::{Heap, Oid, Steps};
 use qo_hotplug::{AskError, Hotplug};
-use qo_paths::{is_attached, resolve};
+use qo_paths::{is_absolute, is_attached, resolve};
 use qo_values::{Code, PERIPHERAL_BIRTH};
 use std::alloc::{AllocError, Global};
 use std::sync::ledger::Ledger;
-
-/// Whether a text begins with `/`.
-fn is_absolute(text: &str) -> bool
-    ensures { result ≡ is_absolute text.now }
-{
-    match text.as_bytes().split_first() {
-        Some((first, _)) => *first == b'/',
-        None => false,
-    }
-}
 
 /// The device that a text is of: of one that begins with `/` the device at that absolute path, of any
 /// other the child of that name of the container of devices with an id.

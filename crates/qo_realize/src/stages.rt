@@ -15,7 +15,8 @@ use qo_chardev::Rings;
 use qo_heap::{Heap, Steps};
 use qo_hotplug::Hotplug;
 use qo_plug::{
-    AddRefusal, Added, Barred, Begun, DeviceOptions, Placed, abandon, begin, finish, place,
+    AddRefusal, Added, AttachedDevice, Barred, DeviceOptions, NewDevice, abandon, begin, finish,
+    place,
 };
 use qo_reset::Resets;
 use std::alloc::Global;
@@ -46,7 +47,7 @@ pub struct Draft {
     heap: Heap,
     beside: Beside,
     next: u64,
-    begun: Begun,
+    begun: NewDevice,
 }
 
 impl Model for Draft {
@@ -54,9 +55,9 @@ impl Model for Draft {
     ghost use Rattle.qo_model.specs.Plug.{Wanted};
     ghost use Rattle.qo_plug.specs.Stages.{IsHeld};
     ghost use Rattle.qo_realize.specs.Parts.{parts_of};
-    ghost use Rattle.qo_realize.specs.Stages.{Drafting, DraftOfGood};
+    ghost use Rattle.qo_realize.specs.Stages.{DraftParts, DraftOfGood};
 
-    ghost Value = { Drafting };
+    ghost Value = { DraftParts };
 
     ghost view = { λ d. record { parts = parts_of d.beside.rings d.beside.anonymous d.beside.running d.beside.resets d.beside.hotplug d.heap; next = d.next; begun = d.begun } };
 
@@ -69,15 +70,15 @@ pub struct Plugged {
     heap: Heap,
     beside: Beside,
     next: u64,
-    placed: Placed,
+    placed: AttachedDevice,
 }
 
 impl Model for Plugged {
     ghost use Rattle.qo_plug.specs.Stages.{IsReady};
     ghost use Rattle.qo_realize.specs.Parts.{parts_of};
-    ghost use Rattle.qo_realize.specs.Stages.{Plugging, PluggedOnGood};
+    ghost use Rattle.qo_realize.specs.Stages.{PluggedParts, PluggedOnGood};
 
-    ghost Value = { Plugging };
+    ghost Value = { PluggedParts };
 
     ghost view = { λ p. record { parts = parts_of p.beside.rings p.beside.anonymous p.beside.running p.beside.resets p.beside.hotplug p.heap; next = p.next; placed = p.placed } };
 

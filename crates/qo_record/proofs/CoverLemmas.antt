@@ -113,20 +113,20 @@ covered_by bytes t rest given before last all split short parts single = go (ord
         absurd (omega (arith, large, short least))
 
 -- the entries that end so far before the end of the bytes taken were given before the last
-pub covered : (bytes held : List ℕ) (given before last : List Input) → stream_read bytes ≡ record { inputs = given; left = [] } →
-    length held < 65700 → given ≡ before ++ last → length last ≤ 1 →
-    (others : List Input) × (before ≡ stream_inputs (take (length (bytes ++ held) - 65700) (bytes ++ held)) ++ others)
-covered bytes held given before last all few parts single =
-    let n : ℕ = length (bytes ++ held) - 65700 in
-    let within : n ≤ length bytes = omega (arith, length-append bytes held, few) in
-    let front : take n (bytes ++ held) ≡ take n bytes = take-append-le n bytes held within in
+pub covered : (bytes buffered : List ℕ) (given before last : List Input) → stream_read bytes ≡ record { inputs = given; left = [] } →
+    length buffered < 65700 → given ≡ before ++ last → length last ≤ 1 →
+    (others : List Input) × (before ≡ stream_inputs (take (length (bytes ++ buffered) - 65700) (bytes ++ buffered)) ++ others)
+covered bytes buffered given before last all few parts single =
+    let n : ℕ = length (bytes ++ buffered) - 65700 in
+    let within : n ≤ length bytes = omega (arith, length-append bytes buffered, few) in
+    let front : take n (bytes ++ buffered) ≡ take n bytes = take-append-le n bytes buffered within in
     let size : length (take n bytes) ≡ n = length-take-le n bytes within in
     let p = covered_by bytes (take n bytes) (drop n bytes) given before last all (sym (take-append-drop n bytes)) (λ some. omega (
       arith,
       some,
       size,
       few,
-      length-append bytes held,
+      length-append bytes buffered,
     )) parts single in
     (p.0, p.1 ∙ ap (λ (l : List ℕ). stream_inputs l ++ p.0) (sym front))
 
@@ -152,14 +152,14 @@ given_first p left_old left_new bytes given more h =
 
 -- the bytes that were taken stand at the front
 pub taken_is : (p : Progress) (left_old left_new : Option (List ℕ)) (bytes : List ℕ) (given : List Input) →
-    Gave unread p left_old left_new bytes given → left_old ≡ prepend_known (bytes ++ p.held) left_new
+    Gave unread p left_old left_new bytes given → left_old ≡ prepend_known (bytes ++ p.buffered) left_new
 taken_is p left_old left_new bytes given h = go left_old left_new h.took
   where
-    go : (old new : Option (List ℕ)) → ahead_of [] old ≡ prepend_known bytes (ahead_of p.held new) → old ≡ prepend_known (bytes ++ p.held) new
+    go : (old new : Option (List ℕ)) → ahead_of [] old ≡ prepend_known bytes (ahead_of p.buffered new) → old ≡ prepend_known (bytes ++ p.buffered) new
     go None None e = refl
     go None (Some rest) e = absurd (none_some e)
     go (Some all) None e = absurd (none_some (sym e))
-    go (Some all) (Some rest) e = e ∙ ap (λ (l : List ℕ). Some l) (sym (append_assoc bytes p.held rest))
+    go (Some all) (Some rest) e = e ∙ ap (λ (l : List ℕ). Some l) (sym (append_assoc bytes p.buffered rest))
 
 -- what the inputs that are left say of those that were taken
 pub record TookInputs (p : Progress) (all : List ℕ) (left : Option (List ℕ)) (given taken : List Input) : Type 0 where
@@ -173,8 +173,8 @@ pub took_inputs : (p : Progress) (all : List ℕ) (left : Option (List ℕ)) (by
     TookInputs p all left given taken
 took_inputs p all None bytes given taken h took = absurd (none_some (sym took))
 took_inputs p all (Some more) bytes given taken h took =
-    let rest : List Input = inputs_from p.headed p.opened (p.held ++ more) in
+    let rest : List Input = inputs_from p.headed p.opened (p.buffered ++ more) in
     let split : stream_inputs all ≡ given ++ rest =
-    ap stream_inputs (some_is h.took) ∙ given_first p (Some all) (Some more) bytes given (p.held ++ more) h in
+    ap stream_inputs (some_is h.took) ∙ given_first p (Some all) (Some more) bytes given (p.buffered ++ more) h in
     let is : stream_inputs all ≡ taken ++ rest = some_is took in
     record { rest = rest; left_is = refl; all_is = is; given_is = append_cancel_right given taken rest (sym split ∙ is) }

@@ -248,8 +248,8 @@ unfolding is_wrong
 empty_right opened = refl
 
 -- where bytes are wrong, no entry is found
-pub wrong_found : (opened : List Bool) (held : List ℕ) (left : Option (List ℕ)) → is_wrong opened held ≡ true → entry_at opened held ≡ None →
-    IfSome left (NoEntry opened held)
-wrong_found opened held None wrong none = tt
-wrong_found opened held (Some more) wrong none =
-    (wrong_stays opened held more wrong none, λ e. absurd (true≢false (sym wrong ∙ ap (is_wrong opened) e ∙ empty_right opened)))
+pub wrong_found : (opened : List Bool) (buffered : List ℕ) (left : Option (List ℕ)) → is_wrong opened buffered ≡ true → entry_at opened buffered ≡ None →
+    IfSome left (NoEntry opened buffered)
+wrong_found opened buffered None wrong none = tt
+wrong_found opened buffered (Some more) wrong none =
+    (wrong_stays opened buffered more wrong none, λ e. absurd (true≢false (sym wrong ∙ ap (is_wrong opened) e ∙ empty_right opened)))

@@ -89,40 +89,42 @@ entry_more opened bytes more e h =
     ∙ entry_again opened e.0 (e.1 ++ more) t.1
 
 -- a front that is no longer than the first part is in it
-pub front_within : (front rest held more : List ℕ) → held ++ more ≡ front ++ rest → length front ≤ length held → held ≡ front ++ drop (length front) held
-front_within front rest held more same few =
-    let is : take (length front) held ≡ front =
-    sym (take-append-le (length front) held more few) ∙ ap (take (length front)) same ∙ take-append_seam front rest in
-    sym (take-append-drop (length front) held) ∙ ap (λ (l : List ℕ). l ++ drop (length front) held) is
+pub front_within : (front rest buffered more : List ℕ) → buffered ++ more ≡ front ++ rest → length front ≤ length buffered
+    → buffered ≡ front ++ drop (length front) buffered
+front_within front rest buffered more same few =
+    let is : take (length front) buffered ≡ front =
+    sym (take-append-le (length front) buffered more few) ∙ ap (take (length front)) same ∙ take-append_seam front rest in
+    sym (take-append-drop (length front) buffered) ∙ ap (λ (l : List ℕ). l ++ drop (length front) buffered) is
 
 -- where a full window has no entry none stands there
-pub none_late : (opened : List Bool) (held more : List ℕ) → 65699 ≤ length held → entry_at opened held ≡ None → entry_at opened (held ++ more) ≡ None
-none_late opened held more full none = go (entry_at opened (held ++ more)) refl
+pub none_late : (opened : List Bool) (buffered more : List ℕ) → 65699 ≤ length buffered → entry_at opened buffered ≡ None
+    → entry_at opened (buffered ++ more) ≡ None
+none_late opened buffered more full none = go (entry_at opened (buffered ++ more)) refl
   where
-    go : (r : Option (Input × List ℕ)) → entry_at opened (held ++ more) ≡ r → entry_at opened (held ++ more) ≡ None
+    go : (r : Option (Input × List ℕ)) → entry_at opened (buffered ++ more) ≡ r → entry_at opened (buffered ++ more) ≡ None
     go None h = h
     go (Some e) h =
-        let t = entry_taken opened (held ++ more) e h in
+        let t = entry_taken opened (buffered ++ more) e h in
         let text : List ℕ = entry_text e.0 in
-        let is = front_within text e.1 held more t.0 (omega (arith, entry_short opened e.0 t.1, full)) in
-        absurd (none_some (sym none ∙ ap (entry_at opened) is ∙ entry_again opened e.0 (drop (length text) held) t.1))
+        let is = front_within text e.1 buffered more t.0 (omega (arith, entry_short opened e.0 t.1, full)) in
+        absurd (none_some (sym none ∙ ap (entry_at opened) is ∙ entry_again opened e.0 (drop (length text) buffered) t.1))
 
 -- where no more is taken for an entry, none is found
-pub none_found : (opened : List Bool) (held now : List ℕ) (left : Option (List ℕ)) → now ≡ held →
-    (length now ≡ 65699) ⊎ IfSome left (λ (more : List ℕ). more ≡ []) → entry_at opened held ≡ None → IfSome left (NoEntry opened now)
-none_found opened held now None same stop none = tt
-none_found opened held now (Some more) same (inl full) none =
+pub none_found : (opened : List Bool) (buffered now : List ℕ) (left : Option (List ℕ)) → now ≡ buffered →
+    (length now ≡ 65699) ⊎ IfSome left (λ (more : List ℕ). more ≡ []) → entry_at opened buffered ≡ None → IfSome left (NoEntry opened now)
+none_found opened buffered now None same stop none = tt
+none_found opened buffered now (Some more) same (inl full) none =
     (none_late opened now more (omega (arith, full)) (ap (entry_at opened) same ∙ none), λ e. absurd (omega (arith, full, ap (length {A = ℕ}) e)))
-none_found opened held now (Some more) same (inr gone) none =
+none_found opened buffered now (Some more) same (inr gone) none =
     (ap (λ (l : List ℕ). entry_at opened (now ++ l)) gone ∙ ap (entry_at opened) (append-nil now ∙ same) ∙ none, λ e. gone)
 
 -- The header is passed.
 
 abbrev fresh : List ℕ → ℕ → List Bool → Progress
-fresh held place opened = record { held = held; headed = false; place = place; opened = opened }
+fresh buffered place opened = record { buffered = buffered; headed = false; place = place; opened = opened }
 
 abbrev headed : List ℕ → ℕ → List Bool → Progress
-headed held place opened = record { held = held; headed = true; place = place; opened = opened }
+headed buffered place opened = record { buffered = buffered; headed = true; place = place; opened = opened }
 
 place_seven : (size whole : ℕ) (left : List ℕ) → whole ≡ size + 7 → length left ≤ size →
     offset_from 7 size left ≡ option_map capped_offset (offset_before whole left)
@@ -134,9 +136,9 @@ bad_passed place opened more =
     place_seven (length more) (length (header ++ more)) ((entries_from none_open more).left) (omega (arith, length-append header more))
     (left_few none_open more)
 
-fresh_is : (p : Progress) (more : List ℕ) → p.headed ≡ false → p.held ≡ header ++ more → p ≡ fresh (header ++ more) p.place p.opened
+fresh_is : (p : Progress) (more : List ℕ) → p.headed ≡ false → p.buffered ≡ header ++ more → p ≡ fresh (header ++ more) p.place p.opened
 fresh_is p more none is =
-    ap (λ (b : Bool). record { held = p.held; headed = b; place = p.place; opened = p.opened }) none
+    ap (λ (b : Bool). record { buffered = p.buffered; headed = b; place = p.place; opened = p.opened }) none
     ∙ ap (λ (l : List ℕ). fresh l p.place p.opened) is
 
 bad_at_header : (place : ℕ) (opened : List Bool) (more : List ℕ) (left : Option (List ℕ)) →
@@ -144,10 +146,10 @@ bad_at_header : (place : ℕ) (opened : List Bool) (more : List ℕ) (left : Opt
 bad_at_header place opened more None = refl
 bad_at_header place opened more (Some rest) = ap (λ (n : Option ℕ). Some n) (bad_passed place opened (more ++ rest))
 
-pub header_bad : (p : Progress) (held : List ℕ) (left : Option (List ℕ)) → p.headed ≡ false → BeginsWithHeader p.held → held ≡ drop 7 p.held →
-    bad_ahead (headed held 7 none_open) left ≡ bad_ahead p left
-header_bad p held left none there is =
-    let rest : held ≡ there.0 = is ∙ ap (drop 7) there.1 in
+pub header_bad : (p : Progress) (buffered : List ℕ) (left : Option (List ℕ)) → p.headed ≡ false → BeginsWithHeader p.buffered → buffered ≡ drop 7 p.buffered →
+    bad_ahead (headed buffered 7 none_open) left ≡ bad_ahead p left
+header_bad p buffered left none there is =
+    let rest : buffered ≡ there.0 = is ∙ ap (drop 7) there.1 in
     ap (λ (l : List ℕ). bad_ahead (headed l 7 none_open) left) rest ∙ bad_at_header p.place p.opened there.0 left
     ∙ ap (λ (q : Progress). bad_ahead q left) (sym (fresh_is p there.0 none there.1))
 
@@ -155,50 +157,51 @@ took_header : (more : List ℕ) (left : Option (List ℕ)) → ahead_of (header 
 took_header more None = refl
 took_header more (Some rest) = refl
 
-pub header_went : (p : Progress) (held : List ℕ) (left : Option (List ℕ)) → p.headed ≡ false → BeginsWithHeader p.held → held ≡ drop 7 p.held →
-    Went p (headed held 7 none_open) left left
-header_went p held left none there is =
-    let rest : there.0 ≡ held = sym (is ∙ ap (drop 7) there.1) in
-    subst (λ (q : Progress). Went q (headed held 7 none_open) left left) (sym (fresh_is p there.0 none there.1))
+pub header_went : (p : Progress) (buffered : List ℕ) (left : Option (List ℕ)) → p.headed ≡ false → BeginsWithHeader p.buffered → buffered ≡ drop 7 p.buffered →
+    Went p (headed buffered 7 none_open) left left
+header_went p buffered left none there is =
+    let rest : there.0 ≡ buffered = sym (is ∙ ap (drop 7) there.1) in
+    subst (λ (q : Progress). Went q (headed buffered 7 none_open) left left) (sym (fresh_is p there.0 none there.1))
     (subst (λ (l : List ℕ). Went (fresh (header ++ there.0) p.place p.opened) (headed l 7 none_open) left left) rest
     (header, [], record { took = took_header there.0 left; gave = λ more. refl }))
 
 -- An entry is passed.
 
-entry_inputs : (held rest : List ℕ) (opened : List Bool) (i : Input) (left : Option (List ℕ)) → entry_at opened held ≡ Some (i, rest) →
-    option_map (inputs_from true opened) (ahead_of held left) ≡ option_map (λ (l : List Input). i ∷ l) (option_map (inputs_from true
+entry_inputs : (buffered rest : List ℕ) (opened : List Bool) (i : Input) (left : Option (List ℕ)) → entry_at opened buffered ≡ Some (i, rest) →
+    option_map (inputs_from true opened) (ahead_of buffered left) ≡ option_map (λ (l : List Input). i ∷ l) (option_map (inputs_from true
     (opened_by opened i.what)) (ahead_of rest left))
-entry_inputs held rest opened i None h = refl
-entry_inputs held rest opened i (Some more) h =
-    ap (λ (r : Read). Some r.inputs) (entries_some opened (held ++ more) (i, rest ++ more) (entry_more opened held more (i, rest) h))
+entry_inputs buffered rest opened i None h = refl
+entry_inputs buffered rest opened i (Some more) h =
+    ap (λ (r : Read). Some r.inputs) (entries_some opened (buffered ++ more) (i, rest ++ more) (entry_more opened buffered more (i, rest) h))
 
 place_passed : (place size before now : ℕ) (left : List ℕ) → before ≡ size + now → length left ≤ now →
     offset_from (capped_offset (place + size)) now left ≡ offset_from place before left
 place_passed place size before now [] same few = refl
 place_passed place size before now (b ∷ left) same few = ap (λ (n : ℕ). Some n) (omega arith)
 
-entry_bad : (held rest : List ℕ) (opened : List Bool) (i : Input) (place size : ℕ) (left : Option (List ℕ)) → entry_at opened held ≡ Some (i, rest) →
-    length held ≡ size + length rest → option_map (bad_from true (capped_offset (place + size)) (opened_by opened i.what)) (ahead_of rest left) ≡ option_map
-    (bad_from true place opened) (ahead_of held left)
-entry_bad held rest opened i place size None h parts = refl
-entry_bad held rest opened i place size (Some more) h parts =
+entry_bad : (buffered rest : List ℕ) (opened : List Bool) (i : Input) (place size : ℕ) (left : Option (List ℕ)) → entry_at opened buffered ≡ Some (i, rest) →
+    length buffered ≡ size + length rest → option_map (bad_from true (capped_offset (place + size)) (opened_by opened i.what)) (ahead_of rest left) ≡ option_map
+    (bad_from true place opened) (ahead_of buffered left)
+entry_bad buffered rest opened i place size None h parts = refl
+entry_bad buffered rest opened i place size (Some more) h parts =
     let now : List Bool = opened_by opened i.what in
     let left : List ℕ = (entries_from now (rest ++ more)).left in
-    let same : left ≡ (entries_from opened (held ++ more)).left =
-    sym (ap (λ (r : Read). r.left) (entries_some opened (held ++ more) (i, rest ++ more) (entry_more opened held more (i, rest) h))) in
+    let same : left ≡ (entries_from opened (buffered ++ more)).left =
+    sym (ap (λ (r : Read). r.left) (entries_some opened (buffered ++ more) (i, rest ++ more) (entry_more opened buffered more (i, rest) h))) in
     ap (λ (n : Option ℕ). Some n)
-    (place_passed place size (length (held ++ more)) (length (rest ++ more)) left (omega (arith, parts, length-append held more, length-append rest more))
+    (place_passed place size (length (buffered ++ more)) (length (rest ++ more)) left
+    (omega (arith, parts, length-append buffered more, length-append rest more))
     (left_few now (rest ++ more))
-    ∙ ap (offset_from place (length (held ++ more))) same)
+    ∙ ap (offset_from place (length (buffered ++ more))) same)
 
 took_entry : (text rest : List ℕ) (left : Option (List ℕ)) → ahead_of (text ++ rest) left ≡ prepend_known text (ahead_of rest left)
 took_entry text rest None = refl
 took_entry text rest (Some more) = ap (λ (l : List ℕ). Some l) (append_assoc text rest more)
 
-entry_went : (held rest : List ℕ) (opened : List Bool) (i : Input) (place now : ℕ) (left : Option (List ℕ)) → entry_at opened held ≡ Some (i, rest) →
-    Went (headed held place opened) (headed rest now (opened_by opened i.what)) left left
-entry_went held rest opened i place now left h =
-    let t = entry_taken opened held (i, rest) h in
+entry_went : (buffered rest : List ℕ) (opened : List Bool) (i : Input) (place now : ℕ) (left : Option (List ℕ)) → entry_at opened buffered ≡ Some (i, rest) →
+    Went (headed buffered place opened) (headed rest now (opened_by opened i.what)) left left
+entry_went buffered rest opened i place now left h =
+    let t = entry_taken opened buffered (i, rest) h in
     let text : List ℕ = entry_text i in (
       text,
       i ∷ [],
@@ -208,49 +211,49 @@ entry_went held rest opened i place now left h =
       },
     )
 
-headed_is : (p : Progress) → p.headed ≡ true → p ≡ headed p.held p.place p.opened
-headed_is p on = ap (λ (b : Bool). record { held = p.held; headed = b; place = p.place; opened = p.opened }) on
+headed_is : (p : Progress) → p.headed ≡ true → p ≡ headed p.buffered p.place p.opened
+headed_is p on = ap (λ (b : Bool). record { buffered = p.buffered; headed = b; place = p.place; opened = p.opened }) on
 
 abbrev pub passed : Progress → First → Progress
-passed p f = headed (drop f.size p.held) (capped_offset (p.place + f.size)) (opened_by p.opened f.input.what)
+passed p f = headed (drop f.size p.buffered) (capped_offset (p.place + f.size)) (opened_by p.opened f.input.what)
 
 -- the progress after an entry, as the code has it
-pub passed_is : (p : Progress) (f : First) (held : List ℕ) (flag : Bool)
-    (place : ℕ) → flag ≡ true → IsFirst p.opened p.held f → held ≡ drop f.size p.held → place ≡ capped_offset
-    (p.place + f.size) → record { held = held; headed = flag; place = place; opened = f.opened } ≡ passed p f
-passed_is p f held flag place on first is moved =
-    ap (λ (b : Bool). record { held = held; headed = b; place = place; opened = f.opened }) on ∙ ap (λ (l : List ℕ). headed l place f.opened) is
-    ∙ ap (λ (n : ℕ). headed (drop f.size p.held) n f.opened) moved
-    ∙ ap (headed (drop f.size p.held) (capped_offset (p.place + f.size))) first.opens
+pub passed_is : (p : Progress) (f : First) (buffered : List ℕ) (flag : Bool)
+    (place : ℕ) → flag ≡ true → IsFirst p.opened p.buffered f → buffered ≡ drop f.size p.buffered → place ≡ capped_offset
+    (p.place + f.size) → record { buffered = buffered; headed = flag; place = place; opened = f.opened } ≡ passed p f
+passed_is p f buffered flag place on first is moved =
+    ap (λ (b : Bool). record { buffered = buffered; headed = b; place = place; opened = f.opened }) on ∙ ap (λ (l : List ℕ). headed l place f.opened) is
+    ∙ ap (λ (n : ℕ). headed (drop f.size p.buffered) n f.opened) moved
+    ∙ ap (headed (drop f.size p.buffered) (capped_offset (p.place + f.size))) first.opens
 
-pub first_some : (p : Progress) (f : First) → IsFirst p.opened p.held f → is_end f.input.what ≡ false
-first_some p f first = not_end p.opened f.input.what (entry_taken p.opened p.held (first_entry p.held f) first.entry).1.1
+pub first_some : (p : Progress) (f : First) → IsFirst p.opened p.buffered f → is_end f.input.what ≡ false
+first_some p f first = not_end p.opened f.input.what (entry_taken p.opened p.buffered (first_entry p.buffered f) first.entry).1.1
 
-pub first_inputs : (p : Progress) (f : First) (left : Option (List ℕ)) → p.headed ≡ true → IsFirst p.opened p.held f →
+pub first_inputs : (p : Progress) (f : First) (left : Option (List ℕ)) → p.headed ≡ true → IsFirst p.opened p.buffered f →
     inputs_ahead p left ≡ option_map (λ (l : List Input). f.input ∷ l) (inputs_ahead (passed p f) left)
 first_inputs p f left on first =
-    ap (λ (q : Progress). inputs_ahead q left) (headed_is p on) ∙ entry_inputs p.held (drop f.size p.held) p.opened f.input left first.entry
+    ap (λ (q : Progress). inputs_ahead q left) (headed_is p on) ∙ entry_inputs p.buffered (drop f.size p.buffered) p.opened f.input left first.entry
 
-pub first_bad : (p : Progress) (f : First) (left : Option (List ℕ)) → p.headed ≡ true → IsFirst p.opened p.held f →
+pub first_bad : (p : Progress) (f : First) (left : Option (List ℕ)) → p.headed ≡ true → IsFirst p.opened p.buffered f →
     bad_ahead (passed p f) left ≡ bad_ahead p left
 first_bad p f left on first =
-    entry_bad p.held (drop f.size p.held) p.opened f.input p.place f.size left first.entry (omega (arith, length-drop f.size p.held, first.within))
+    entry_bad p.buffered (drop f.size p.buffered) p.opened f.input p.place f.size left first.entry (omega (arith, length-drop f.size p.buffered, first.within))
     ∙ ap (λ (q : Progress). bad_ahead q left) (sym (headed_is p on))
 
-pub first_went : (p : Progress) (f : First) (left : Option (List ℕ)) → p.headed ≡ true → IsFirst p.opened p.held f → Went p (passed p f) left left
+pub first_went : (p : Progress) (f : First) (left : Option (List ℕ)) → p.headed ≡ true → IsFirst p.opened p.buffered f → Went p (passed p f) left left
 first_went p f left on first =
     subst (λ (q : Progress). Went q (passed p f) left left) (sym (headed_is p on))
-    (entry_went p.held (drop f.size p.held) p.opened f.input p.place (capped_offset (p.place + f.size)) left first.entry)
+    (entry_went p.buffered (drop f.size p.buffered) p.opened f.input p.place (capped_offset (p.place + f.size)) left first.entry)
 
 -- More bytes are held.
 
 abbrev holding : Progress → List ℕ → Progress
-holding p held = record { held = held; headed = p.headed; place = p.place; opened = p.opened }
+holding p buffered = record { buffered = buffered; headed = p.headed; place = p.place; opened = p.opened }
 
-pub filled_went : (p : Progress) (held : List ℕ) (left_old left_new : Option (List ℕ)) → ahead_of held left_new ≡ ahead_of p.held left_old →
-    Went p (holding p held) left_old left_new
-filled_went p held left_old left_new same =
-    ([], [], record { took = sym same ∙ took_none (ahead_of held left_new); gave = λ more. refl })
+pub filled_went : (p : Progress) (buffered : List ℕ) (left_old left_new : Option (List ℕ)) → ahead_of buffered left_new ≡ ahead_of p.buffered left_old →
+    Went p (holding p buffered) left_old left_new
+filled_went p buffered left_old left_new same =
+    ([], [], record { took = sym same ∙ took_none (ahead_of buffered left_new); gave = λ more. refl })
 
 -- No input is left.
 
@@ -258,86 +261,92 @@ empty_is : (l : List ℕ) → length l ≡ 0 → l ≡ []
 empty_is [] none = refl
 empty_is (b ∷ l) none = absurd (omega arith)
 
-at_end : (held : List ℕ) (place : ℕ) (opened : List Bool) (left : Option (List ℕ)) → held ≡ [] → IfSome left (NoEntry opened held) →
-    AtEnd (option_map (inputs_from true opened) (ahead_of held left)) (option_map (bad_from true place opened) (ahead_of held left)) None
-at_end held place opened None none h = (tt, tt)
-at_end held place opened (Some more) none h =
-    let stop = entries_none opened (held ++ more) h.0 in
-    let all : held ++ more ≡ [] = rw (none, h.1 none) refl in (
+at_end : (buffered : List ℕ) (place : ℕ) (opened : List Bool) (left : Option (List ℕ)) → buffered ≡ [] → IfSome left (NoEntry opened buffered) →
+    AtEnd (option_map (inputs_from true opened) (ahead_of buffered left)) (option_map (bad_from true place opened) (ahead_of buffered left)) None
+at_end buffered place opened None none h = (tt, tt)
+at_end buffered place opened (Some more) none h =
+    let stop = entries_none opened (buffered ++ more) h.0 in
+    let all : buffered ++ more ≡ [] = rw (none, h.1 none) refl in (
       ap (λ (r : Read). r.inputs) stop,
-      ap (λ (r : Read). offset_from place (length (held ++ more)) r.left) stop ∙ ap (offset_from place (length
-          (held ++ more))) all,
+      ap (λ (r : Read). offset_from place (length (buffered ++ more)) r.left) stop ∙ ap (offset_from place (length
+          (buffered ++ more))) all,
     )
 
 place_here : (place : ℕ) (bytes : List ℕ) → place < 2 ^ 64 → 0 < length bytes → offset_from place (length bytes) bytes ≡ Some place
 place_here place [] within some = absurd (omega arith)
 place_here place (b ∷ bytes) within some = ap (λ (n : ℕ). Some n) (omega arith)
 
-at_bad : (held : List ℕ) (place : ℕ) (opened : List Bool) (left : Option (List ℕ)) → place < 2 ^ 64 → 0 < length held → IfSome left (NoEntry opened held) →
-    AtEnd (option_map (inputs_from true opened) (ahead_of held left)) (option_map (bad_from true place opened) (ahead_of held left)) (Some place)
-at_bad held place opened None within some h = (tt, tt)
-at_bad held place opened (Some more) within some h =
-    let stop = entries_none opened (held ++ more) h.0 in (
+at_bad : (buffered : List ℕ) (place : ℕ) (opened : List Bool) (left : Option (List ℕ)) → place < 2 ^ 64 → 0 < length buffered
+    → IfSome left (NoEntry opened buffered) →
+    AtEnd (option_map (inputs_from true opened) (ahead_of buffered left)) (option_map (bad_from true place opened) (ahead_of buffered left)) (Some place)
+at_bad buffered place opened None within some h = (tt, tt)
+at_bad buffered place opened (Some more) within some h =
+    let stop = entries_none opened (buffered ++ more) h.0 in (
       ap (λ (r : Read). r.inputs) stop,
-      ap (λ (r : Read). offset_from place (length (held ++ more)) r.left) stop
-          ∙ place_here place (held ++ more) within (omega (arith, length-append held more)),
+      ap (λ (r : Read). offset_from place (length (buffered ++ more)) r.left) stop
+          ∙ place_here place (buffered ++ more) within (omega (arith, length-append buffered more)),
     )
 
-pub inputs_same : (p : Progress) (held : List ℕ) (left_old left_new : Option (List ℕ)) → ahead_of held left_new ≡ ahead_of p.held left_old →
-    inputs_ahead (holding p held) left_new ≡ inputs_ahead p left_old
-inputs_same p held left_old left_new same = ap (option_map (inputs_from p.headed p.opened)) same
+pub inputs_same : (p : Progress) (buffered : List ℕ) (left_old left_new : Option (List ℕ)) → ahead_of buffered left_new ≡ ahead_of p.buffered left_old →
+    inputs_ahead (holding p buffered) left_new ≡ inputs_ahead p left_old
+inputs_same p buffered left_old left_new same = ap (option_map (inputs_from p.headed p.opened)) same
 
-bad_same : (p : Progress) (held : List ℕ) (left_old left_new : Option (List ℕ)) → ahead_of held left_new ≡ ahead_of p.held left_old →
-    bad_ahead (holding p held) left_new ≡ bad_ahead p left_old
-bad_same p held left_old left_new same = ap (option_map (bad_from p.headed p.place p.opened)) same
+bad_same : (p : Progress) (buffered : List ℕ) (left_old left_new : Option (List ℕ)) → ahead_of buffered left_new ≡ ahead_of p.buffered left_old →
+    bad_ahead (holding p buffered) left_new ≡ bad_ahead p left_old
+bad_same p buffered left_old left_new same = ap (option_map (bad_from p.headed p.place p.opened)) same
 
 -- no entry stands after what is held
-pub end_there : (p : Progress) (held : List ℕ) (left_old left_new : Option (List ℕ)) → p.headed ≡ true → ahead_of held left_new ≡ ahead_of p.held left_old →
-    length held ≡ 0 → IfSome left_new (NoEntry p.opened held) → AtEnd (inputs_ahead p left_old) (bad_ahead p left_old) None
-end_there p held left_old left_new on same none h =
-    subst (λ (xs : Option (List Input)). AtEnd xs (bad_ahead p left_old) None) (inputs_same p held left_old left_new same)
-    (subst (λ (b : Option (Option ℕ)). AtEnd (inputs_ahead (holding p held) left_new) b None) (bad_same p held left_old left_new same)
-    (subst (λ (q : Progress). AtEnd (inputs_ahead (holding q held) left_new) (bad_ahead (holding q held) left_new) None) (sym (headed_is p on))
-    (at_end held p.place p.opened left_new (empty_is held none) h)))
+pub end_there : (p : Progress) (buffered : List ℕ) (left_old left_new : Option (List ℕ)) → p.headed ≡ true
+    → ahead_of buffered left_new ≡ ahead_of p.buffered left_old →
+    length buffered ≡ 0 → IfSome left_new (NoEntry p.opened buffered) → AtEnd (inputs_ahead p left_old) (bad_ahead p left_old) None
+end_there p buffered left_old left_new on same none h =
+    subst (λ (xs : Option (List Input)). AtEnd xs (bad_ahead p left_old) None) (inputs_same p buffered left_old left_new same)
+    (subst (λ (b : Option (Option ℕ)). AtEnd (inputs_ahead (holding p buffered) left_new) b None) (bad_same p buffered left_old left_new same)
+    (subst (λ (q : Progress). AtEnd (inputs_ahead (holding q buffered) left_new) (bad_ahead (holding q buffered) left_new) None) (sym (headed_is p on))
+    (at_end buffered p.place p.opened left_new (empty_is buffered none) h)))
 
-pub bad_there : (p : Progress) (held : List ℕ) (left_old left_new : Option (List ℕ)) → p.headed ≡ true → ahead_of held left_new ≡ ahead_of p.held left_old →
-    0 < length held → p.place < 2 ^ 64 → IfSome left_new (NoEntry p.opened held) → AtEnd (inputs_ahead p left_old) (bad_ahead p left_old) (Some p.place)
-bad_there p held left_old left_new on same some within h =
-    subst (λ (xs : Option (List Input)). AtEnd xs (bad_ahead p left_old) (Some p.place)) (inputs_same p held left_old left_new same)
-    (subst (λ (b : Option (Option ℕ)). AtEnd (inputs_ahead (holding p held) left_new) b (Some p.place)) (bad_same p held left_old left_new same)
-    (subst (λ (q : Progress). AtEnd (inputs_ahead (holding q held) left_new) (bad_ahead (holding q held) left_new) (Some q.place)) (sym (headed_is p on))
-    (at_bad held p.place p.opened left_new within some h)))
+pub bad_there : (p : Progress) (buffered : List ℕ) (left_old left_new : Option (List ℕ)) → p.headed ≡ true
+    → ahead_of buffered left_new ≡ ahead_of p.buffered left_old →
+    0 < length buffered → p.place < 2 ^ 64 → IfSome left_new (NoEntry p.opened buffered) → AtEnd (inputs_ahead p left_old) (bad_ahead p left_old) (Some p.place)
+bad_there p buffered left_old left_new on same some within h =
+    subst (λ (xs : Option (List Input)). AtEnd xs (bad_ahead p left_old) (Some p.place)) (inputs_same p buffered left_old left_new same)
+    (subst (λ (b : Option (Option ℕ)). AtEnd (inputs_ahead (holding p buffered) left_new) b (Some p.place)) (bad_same p buffered left_old left_new same)
+    (subst (λ (q : Progress). AtEnd (inputs_ahead (holding q buffered) left_new) (bad_ahead (holding q buffered) left_new) (Some q.place))
+    (sym (headed_is p on))
+    (at_bad buffered p.place p.opened left_new within some h)))
 
 -- The same, where the progress is known by another name.
 
-pub filled_at : (q p : Progress) (held : List ℕ) (left_old left_new : Option (List ℕ)) → q ≡ p → ahead_of held left_new ≡ ahead_of q.held left_old →
-    Went p (holding q held) left_old left_new
-filled_at q p held left_old left_new is same =
-    subst (λ (r : Progress). Went r (holding q held) left_old left_new) is (filled_went q held left_old left_new same)
+pub filled_at : (q p : Progress) (buffered : List ℕ) (left_old left_new : Option (List ℕ)) → q ≡ p → ahead_of buffered left_new ≡ ahead_of q.buffered left_old →
+    Went p (holding q buffered) left_old left_new
+filled_at q p buffered left_old left_new is same =
+    subst (λ (r : Progress). Went r (holding q buffered) left_old left_new) is (filled_went q buffered left_old left_new same)
 
-pub filled_then : (q p c : Progress) (held : List ℕ) (left_old left_new : Option (List ℕ)) → q ≡ p → ahead_of held left_new ≡ ahead_of q.held left_old →
-    Went (holding q held) c left_new left_new → Went p c left_old left_new
-filled_then q p c held left_old left_new is same after_front =
-    went_then p (holding q held) c left_old left_new left_new (filled_at q p held left_old left_new is same) after_front
+pub filled_then : (q p c : Progress) (buffered : List ℕ) (left_old left_new : Option (List ℕ)) → q ≡ p
+    → ahead_of buffered left_new ≡ ahead_of q.buffered left_old →
+    Went (holding q buffered) c left_new left_new → Went p c left_old left_new
+filled_then q p c buffered left_old left_new is same after_front =
+    went_then p (holding q buffered) c left_old left_new left_new (filled_at q p buffered left_old left_new is same) after_front
 
-pub end_at : (q p : Progress) (held : List ℕ) (left_old left_new : Option (List ℕ)) → q ≡ p → p.headed ≡ true →
-    ahead_of held left_new ≡ ahead_of q.held left_old → length held ≡ 0 → IfSome left_new (NoEntry q.opened held) → (inputs_ahead
-    (holding q held) left_new ≡ inputs_ahead p left_old) × AtEnd (inputs_ahead p left_old) (bad_ahead p left_old) None
-end_at q p held left_old left_new is on same none h =
-    subst (λ (r : Progress). (inputs_ahead (holding q held) left_new ≡ inputs_ahead r left_old) × AtEnd (inputs_ahead r left_old)
+pub end_at : (q p : Progress) (buffered : List ℕ) (left_old left_new : Option (List ℕ)) → q ≡ p → p.headed ≡ true →
+    ahead_of buffered left_new ≡ ahead_of q.buffered left_old → length buffered ≡ 0 → IfSome left_new (NoEntry q.opened buffered) → (inputs_ahead
+    (holding q buffered) left_new ≡ inputs_ahead p left_old) × AtEnd (inputs_ahead p left_old) (bad_ahead p left_old) None
+end_at q p buffered left_old left_new is on same none h =
+    subst (λ (r : Progress). (inputs_ahead (holding q buffered) left_new ≡ inputs_ahead r left_old) × AtEnd (inputs_ahead r left_old)
     (bad_ahead r left_old) None) is (
-      inputs_same q held left_old left_new same,
-      end_there q held left_old left_new (ap (λ (r : Progress). r.headed) is ∙ on) same none h,
+      inputs_same q buffered left_old left_new same,
+      end_there q buffered left_old left_new (ap (λ (r : Progress). r.headed) is ∙ on) same none h,
     )
 
-pub bad_at : (q p : Progress) (held : List ℕ) (left_old left_new : Option (List ℕ)) → q ≡ p → p.headed ≡ true →
-    ahead_of held left_new ≡ ahead_of q.held left_old → 0 < length held → q.place < 2 ^ 64 → IfSome left_new (NoEntry q.opened held) → (inputs_ahead
-    (holding q held) left_new ≡ inputs_ahead p left_old) × AtEnd (inputs_ahead p left_old) (bad_ahead p left_old) (Some q.place)
-bad_at q p held left_old left_new is on same some within h =
-    subst (λ (r : Progress). (inputs_ahead (holding q held) left_new ≡ inputs_ahead r left_old) × AtEnd (inputs_ahead r left_old) (bad_ahead r left_old)
+pub bad_at : (q p : Progress) (buffered : List ℕ) (left_old left_new : Option (List ℕ)) → q ≡ p → p.headed ≡ true →
+    ahead_of buffered left_new ≡ ahead_of q.buffered left_old → 0 < length buffered → q.place < 2 ^ 64 → IfSome left_new (NoEntry q.opened buffered)
+    → (inputs_ahead
+    (holding q buffered) left_new ≡ inputs_ahead p left_old) × AtEnd (inputs_ahead p left_old) (bad_ahead p left_old) (Some q.place)
+bad_at q p buffered left_old left_new is on same some within h =
+    subst (λ (r : Progress). (inputs_ahead (holding q buffered) left_new ≡ inputs_ahead r left_old) × AtEnd (inputs_ahead r left_old) (bad_ahead r left_old)
     (Some q.place)) is (
-      inputs_same q held left_old left_new same,
-      bad_there q held left_old left_new (ap (λ (r : Progress). r.headed) is ∙ on) same some within h,
+      inputs_same q buffered left_old left_new same,
+      bad_there q buffered left_old left_new (ap (λ (r : Progress). r.headed) is ∙ on) same some within h,
     )
 
 -- a hub that has read no further

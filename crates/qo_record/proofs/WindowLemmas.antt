@@ -46,18 +46,18 @@ between_more old new at end n order within same =
     ∙ ap (λ (l : List ℕ). drop at l ++ take n (drop end new)) same ∙ ap (λ (l : List ℕ). between old at end ++ l) (sym piece)
 
 -- bytes may stand with those that are held or with those that are left
-ahead_same : (held piece : List ℕ) (left : Option (List ℕ)) → ahead_of (held ++ piece) left ≡ ahead_of held (prepend_known piece left)
-ahead_same held piece None = refl
-ahead_same held piece (Some more) = ap (λ (l : List ℕ). Some l) (append_assoc held piece more)
+ahead_same : (buffered piece : List ℕ) (left : Option (List ℕ)) → ahead_of (buffered ++ piece) left ≡ ahead_of buffered (prepend_known piece left)
+ahead_same buffered piece None = refl
+ahead_same buffered piece (Some more) = ap (λ (l : List ℕ). Some l) (append_assoc buffered piece more)
 
-pub taken_ahead : (old_bytes new_bytes held : List ℕ) (at end n : ℕ) (old new : Option (List ℕ)) → at ≤ end → end ≤ length old_bytes →
-    take end new_bytes ≡ take end old_bytes → between old_bytes at end ≡ held → old ≡ prepend_known (between new_bytes end (end + n)) new → ahead_of
-    (between new_bytes at (end + n)) new ≡ ahead_of held old
-taken_ahead old_bytes new_bytes held at end n old new order within same is took =
+pub taken_ahead : (old_bytes new_bytes buffered : List ℕ) (at end n : ℕ) (old new : Option (List ℕ)) → at ≤ end → end ≤ length old_bytes →
+    take end new_bytes ≡ take end old_bytes → between old_bytes at end ≡ buffered → old ≡ prepend_known (between new_bytes end (end + n)) new → ahead_of
+    (between new_bytes at (end + n)) new ≡ ahead_of buffered old
+taken_ahead old_bytes new_bytes buffered at end n old new order within same is took =
     let piece : List ℕ = between new_bytes end (end + n) in
     ap (λ (l : List ℕ). ahead_of l new) (between_more old_bytes new_bytes at end n order within same)
     ∙ ahead_same (between old_bytes at end) piece new ∙ ap (λ (l : List ℕ). ahead_of l (prepend_known piece new)) is
-    ∙ ap (ahead_of held) (sym took)
+    ∙ ap (ahead_of buffered) (sym took)
 
 -- the bytes after an entry are no more than all, and are the last so many
 pub after_size : (opened : List Bool) (bytes : List ℕ) (e : Input × List ℕ) → entry_at opened bytes ≡ Some e →

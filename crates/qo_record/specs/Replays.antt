@@ -19,31 +19,31 @@ told_bad bytes = option_map capped_offset (bad_place bytes)
 -- how far a stream was read: the bytes that were taken and are not read yet, whether its header was read, the place of the
 -- first byte that was not read, as it is told, and which sessions are open there
 pub record Progress : Type 0 where
-  pub held : List ℕ
+  pub buffered : List ℕ
   pub headed : Bool
   pub place : ℕ
   pub opened : List Bool
 
 -- nothing was read
 abbrev pub unread : Progress
-unread = record { held = []; headed = false; place = 0; opened = none_open }
+unread = record { buffered = []; headed = false; place = 0; opened = none_open }
 
 -- the bytes ahead of a stream whose source has so many left, where it tells them
 abbrev pub ahead_of : List ℕ → Option (List ℕ) → Option (List ℕ)
-ahead_of held left = option_map (λ more. held ++ more) left
+ahead_of buffered left = option_map (λ more. buffered ++ more) left
 
 -- neither a whole entry nor a wrong one is held
-pub record NoneHeld (opened : List Bool) (held : List ℕ) : Type 0 where
-  pub whole : entry_at opened held ≡ None
-  pub wrong : is_wrong opened held ≡ false
+pub record NoneHeld (opened : List Bool) (buffered : List ℕ) : Type 0 where
+  pub whole : entry_at opened buffered ≡ None
+  pub wrong : is_wrong opened buffered ≡ false
 
 -- what was held where the source failed: no entry after the header, and before it no header; so nothing was asked for that was there
 abbrev pub StarvedWith : Bool → List Bool → List ℕ → Type 0
-StarvedWith true opened held = NoneHeld opened held
-StarvedWith false opened held = after_front header held ≡ None
+StarvedWith true opened buffered = NoneHeld opened buffered
+StarvedWith false opened buffered = after_front header buffered ≡ None
 
 abbrev pub IsStarved : Progress → Type 0
-IsStarved p = StarvedWith p.headed p.opened p.held
+IsStarved p = StarvedWith p.headed p.opened p.buffered
 
 -- a hub over a source and a sink, and how far its stream was read
 pub record Replaying (S K : Type 0) : Type 0 where
@@ -67,10 +67,10 @@ bad_from false place opened bytes = told_bad bytes
 
 -- the inputs and the bad place of a stream that was read so far, where its source has this left
 abbrev pub inputs_ahead : Progress → Option (List ℕ) → Option (List Input)
-inputs_ahead p left = option_map (inputs_from p.headed p.opened) (ahead_of p.held left)
+inputs_ahead p left = option_map (inputs_from p.headed p.opened) (ahead_of p.buffered left)
 
 abbrev pub bad_ahead : Progress → Option (List ℕ) → Option (Option ℕ)
-bad_ahead p left = option_map (bad_from p.headed p.place p.opened) (ahead_of p.held left)
+bad_ahead p left = option_map (bad_from p.headed p.place p.opened) (ahead_of p.buffered left)
 
 -- the entries of a whole stream, and what is left after them
 abbrev pub stream_after : List ℕ → Option (List ℕ) → Read
@@ -86,7 +86,7 @@ with_front inputs r = record { inputs = inputs ++ r.inputs; left = r.left }
 
 -- these bytes of what was ahead were read as these inputs, whatever comes after, and nothing else became of what was ahead
 pub record Gave (old new : Progress) (left_old left_new : Option (List ℕ)) (bytes : List ℕ) (given : List Input) : Type 0 where
-  pub took : ahead_of old.held left_old ≡ prepend_known bytes (ahead_of new.held left_new)
+  pub took : ahead_of old.buffered left_old ≡ prepend_known bytes (ahead_of new.buffered left_new)
   pub gave : (more : List ℕ) → read_from old.headed old.opened (bytes ++ more) ≡ with_front given (read_from new.headed new.opened more)
 
 abbrev pub Went : Progress → Progress → Option (List ℕ) → Option (List ℕ) → Type 0
@@ -99,7 +99,7 @@ took_none None = refl
 took_none (Some bytes) = refl
 
 pub went_nowhere : (p : Progress) (left : Option (List ℕ)) → Went p p left left
-went_nowhere p left = ([], [], record { took = took_none (ahead_of p.held left); gave = λ more. refl })
+went_nowhere p left = ([], [], record { took = took_none (ahead_of p.buffered left); gave = λ more. refl })
 
 took_twice : (a b c : Option (List ℕ)) (xs ys : List ℕ) → a ≡ prepend_known xs b → b ≡ prepend_known ys c → a ≡ prepend_known (xs ++ ys) c
 took_twice a b None xs ys p q = p ∙ ap (prepend_known xs) q
@@ -113,7 +113,7 @@ went_then a b c la lb lc p q = (
   p.0 ++ q.0,
   p.1 ++ q.1,
   record {
-    took = took_twice (ahead_of a.held la) (ahead_of b.held lb) (ahead_of c.held lc) p.0 q.0 p.2.took q.2.took;
+    took = took_twice (ahead_of a.buffered la) (ahead_of b.buffered lb) (ahead_of c.buffered lc) p.0 q.0 p.2.took q.2.took;
     gave =
         λ more. ap (read_from a.headed a.opened) (append_assoc p.0 q.0 more) ∙ p.2.gave (q.0 ++ more) ∙ ap (with_front p.1) (q.2.gave more)
         ∙ front_twice p.1 q.1 (read_from c.headed c.opened more);

@@ -51,9 +51,9 @@ HeaderIn bytes Short = (after_front header bytes ≡ None) × (length bytes ≤ 
 
 -- the header stands at the front of what is held, or is not ahead
 abbrev pub HeaderFound : {E : Type 0} → List ℕ → Option (List ℕ) → Result Bool E → Type 0
-HeaderFound held left (Ok true) = BeginsWithHeader held
-HeaderFound held left (Ok false) = IfSome (ahead_of held left) (λ bytes. after_front header bytes ≡ None)
-HeaderFound held left (Err e) = after_front header held ≡ None
+HeaderFound buffered left (Ok true) = BeginsWithHeader buffered
+HeaderFound buffered left (Ok false) = IfSome (ahead_of buffered left) (λ bytes. after_front header bytes ≡ None)
+HeaderFound buffered left (Err e) = after_front header buffered ≡ None
 
 -- it is the first entry of some bytes, while these sessions are open
 pub record IsFirst (opened : List Bool) (bytes : List ℕ) (f : First) : Type 0 where
@@ -63,15 +63,15 @@ pub record IsFirst (opened : List Bool) (bytes : List ℕ) (f : First) : Type 0 
 
 -- no entry stands ahead; where nothing is held nothing is left
 abbrev pub NoEntry : List Bool → List ℕ → List ℕ → Type 0
-NoEntry opened held left = (entry_at opened (held ++ left) ≡ None) × (held ≡ [] → left ≡ [])
+NoEntry opened buffered left = (entry_at opened (buffered ++ left) ≡ None) × (buffered ≡ [] → left ≡ [])
 
 -- the first entry is held, or none stands ahead; where the source failed neither a whole entry nor a wrong one was held
 abbrev pub EntryFound : List Bool → List ℕ → Option (List ℕ) → Result (Option First) NextError → Type 0
-EntryFound opened held left (Ok (Some f)) = IsFirst opened held f
-EntryFound opened held left (Ok None) = IfSome left (NoEntry opened held)
-EntryFound opened held left (Err (Bad n)) = ⊥
-EntryFound opened held left (Err NextFailed) = NoneHeld opened held
-EntryFound opened held left (Err Memory) = Unit {0}
+EntryFound opened buffered left (Ok (Some f)) = IsFirst opened buffered f
+EntryFound opened buffered left (Ok None) = IfSome left (NoEntry opened buffered)
+EntryFound opened buffered left (Err (Bad n)) = ⊥
+EntryFound opened buffered left (Err NextFailed) = NoneHeld opened buffered
+EntryFound opened buffered left (Err Memory) = Unit {0}
 
 -- the count of faults rose where the source failed, and is as before where it did not
 abbrev pub LookedFor : ℕ → ℕ → Result (Option First) NextError → Type 0

@@ -66,7 +66,7 @@ fn find_header<S: Source>(window: &mut Window, source: &mut S) -> Result<bool, F
     ensures quiet { OnOk result (S.faults source.new ≡ S.faults source.old) }
 {
     loop {
-        match front_of(window.held()) {
+        match front_of(window.buffered()) {
             Front::Header => return Ok(true),
             Front::Other => return Ok(false),
             Front::Short => {}
@@ -91,10 +91,10 @@ fn find_entry<S: Source>(
     ensures looked { LookedFor (S.faults source.old) (S.faults source.new) result }
 {
     loop {
-        match first_of(alloc, opened, window.held()) {
+        match first_of(alloc, opened, window.buffered()) {
             Ok(Some(first)) => return Ok(Some(first)),
             Ok(None) => {
-                if is_wrong(opened, window.held()) {
+                if is_wrong(opened, window.buffered()) {
                     return Ok(None);
                 }
             }
@@ -127,7 +127,7 @@ impl Model for Reader {
 
     ghost Value = { Progress };
 
-    ghost view = { λ r. record { held = r.window; headed = r.headed; place = r.place; opened = r.opened } };
+    ghost view = { λ r. record { buffered = r.window; headed = r.headed; place = r.place; opened = r.opened } };
 
     ghost invariant = { λ r. r.place < 2 ^ 64 };
 }
@@ -147,17 +147,17 @@ impl Reader {
     }
 
     /// How many bytes were taken and are not read yet.
-    pub(crate) fn held_count(&self) -> usize
-        ensures count { result ≡ length self.now.held }
-        ensures few { length self.now.held ≤ ROOM }
+    pub(crate) fn buffered_count(&self) -> usize
+        ensures count { result ≡ length self.now.buffered }
+        ensures few { length self.now.buffered ≤ ROOM }
     {
-        self.window.held().len()
+        self.window.buffered().len()
     }
 
     /// Goes past the header, which stands at the front.
     fn pass_header(&mut self)
         requires fresh { self.old.headed ≡ false }
-        requires there { BeginsWithHeader self.old.held }
+        requires there { BeginsWithHeader self.old.buffered }
         ensures headed { self.new.headed ≡ true }
         ensures inputs { (left : Option (List ℕ)) → inputs_ahead self.new left ≡ inputs_ahead self.old left }
         ensures bad { (left : Option (List ℕ)) → bad_ahead self.new left ≡ bad_ahead self.old left }
@@ -193,7 +193,7 @@ impl Reader {
     /// Goes past the first entry, which is held, and gives it.
     fn pass_entry(&mut self, first: First) -> Input
         requires headed { self.old.headed ≡ true }
-        requires first { IsFirst self.old.opened self.old.held first }
+        requires first { IsFirst self.old.opened self.old.buffered first }
         ensures some { is_end result.what ≡ false }
         ensures inputs { (left : Option (List ℕ)) → inputs_ahead self.old left ≡ option_map (λ rest. result ∷ rest) (inputs_ahead self.new left) }
         ensures bad { (left : Option (List ℕ)) → bad_ahead self.new left ≡ bad_ahead self.old left }
@@ -224,7 +224,7 @@ impl Reader {
         match find_entry(self.alloc, &self.opened, &mut self.window, source) {
             Ok(Some(first)) => Ok(self.pass_entry(first)),
             Ok(None) => {
-                if self.held_count() == 0 {
+                if self.buffered_count() == 0 {
                     return Ok(Input::the_end());
                 }
                 Err(NextError::Bad(self.place))

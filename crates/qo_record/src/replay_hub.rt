@@ -65,9 +65,9 @@ impl<S: Source, K: Sink> ReplayHub<S, K> {
     pub fn into_parts(self) -> (S, K)
         ensures source { result.0 ≡ self.source }
         ensures sink { result.1 ≡ self.sink }
-        ensures few { length self.read.held < AHEAD_BYTES }
+        ensures few { length self.read.buffered < AHEAD_BYTES }
     {
-        let _held = self.reader.held_count();
+        let _held = self.reader.buffered_count();
         let ReplayHub {
             source,
             sink,

@@ -81,8 +81,8 @@ impl Window {
         })
     }
 
-    /// The held bytes.
-    pub(crate) fn held(&self) -> &[u8]
+    /// The bytes that are buffered.
+    pub(crate) fn buffered(&self) -> &[u8]
         ensures value { result.now ≡ self.now }
         ensures few { length self.now ≤ ROOM }
     {

@@ -1,13 +1,10 @@
 //! JSON in ASCII.
 
-ghost use Rattle.std.specs.Prelude.{◌≡◌, ◌<◌, ◌≤◌, ◌^◌, ◌++◌, false, string_bytes, OnOk};
+ghost use Rattle.std.specs.Prelude.{◌≡◌, ◌<◌, ◌≤◌, ◌^◌, ◌++◌, string_bytes, OnOk};
 ghost use Rattle.std.specs.Char.{digit_char};
-ghost use Rattle.serde_json.specs.View.{view};
-ghost use Rattle.serde_json.specs.Written.{has_float};
-ghost use Rattle.qo_replies.specs.Json.{ascii, character_text, json, pair_text, unit_text, units_text};
+ghost use Rattle.qo_replies.specs.Json.{ascii, character_text, pair_text, unit_text, units_text};
 
-use serde_json::Value;
-use std::alloc::{AllocError, Global};
+use std::alloc::AllocError;
 
 /// A hexadecimal digit in lower case.
 fn hex_digit(digit: u32) -> char
@@ -83,13 +80,4 @@ pub(crate) fn push_ascii(text: &mut String, plain: &str) -> Result<(), AllocErro
     } else {
         push_escaped(text, plain)
     }
-}
-
-#[tactic(auto, unfolding(crate::specs::Json::json))]
-/// Adds the text of a value.
-pub(crate) fn push_json(alloc: Global, text: &mut String, value: &Value) -> Result<(), AllocError>
-    ensures { OnOk result (has_float (view value.now) ≡ false → string_bytes text.new ≡ string_bytes text.old ++ json (view value.now)) }
-{
-    let plain = value.to_string(alloc)?;
-    push_ascii(text, plain.as_str())
 }

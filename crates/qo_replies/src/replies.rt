@@ -7,7 +7,7 @@ ghost use Rattle.serde_json.specs.Written.{has_float};
 ghost use Rattle.qo_replies.specs.Json.{json};
 ghost use Rattle.qo_replies.specs.Replies.{error_reply, greeting, greeting_data, id_member, line_end, return_reply, version_data};
 
-use crate::ascii::push_json;
+use crate::written::push_json;
 use qo_values::{Chars, Code, Text};
 use serde_json::{Value, json};
 use std::alloc::{AllocError, Global};

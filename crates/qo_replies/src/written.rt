@@ -4,7 +4,7 @@ ghost use Rattle.std.specs.Prelude.{◌≡◌, ◌++◌, ◌∷◌, false, strin
 ghost use Rattle.std.specs.Str.{IsUtf8};
 ghost use Rattle.serde_json.specs.Find.{is_float};
 ghost use Rattle.serde_json.specs.Data.{boolean};
-ghost use Rattle.serde_json.specs.View.{number_view};
+ghost use Rattle.serde_json.specs.View.{number_view, view as owned_view};
 ghost use Rattle.serde_json.specs.Written.{comma_if, compact_text, has_float, items_have_float, items_text, members_have_float, members_text, number_text};
 ghost use Rattle.qo_json.specs.View.{view, items_view, members_view};
 ghost use Rattle.qo_replies.specs.Json.{ascii, json};
@@ -106,6 +106,17 @@ fn push_members(
     }
     text.push_str("}")?;
     Ok(())
+}
+
+/// Adds the text of a value. A number takes no text of its own.
+#[tactic(auto, unfolding(crate::specs::Json::json))]
+pub(crate) fn push_json(alloc: Global, text: &mut String, value: &Value) -> Result<(), AllocError>
+    ensures { OnOk result (has_float (owned_view value.now) ≡ false → string_bytes text.new ≡ string_bytes text.old ++ json (owned_view value.now)) }
+{
+    if let Value::Number(number) = value {
+        return push_any_number(alloc, text, number);
+    }
+    push_ascii(text, value.to_string(alloc)?.as_str())
 }
 
 /// The text of a value: compact JSON in ASCII, members in their order, every other character

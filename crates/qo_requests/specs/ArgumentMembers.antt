@@ -9,7 +9,7 @@ use Rattle.qo_requests.specs.Arguments.{field_of, type_of, fits, all_named, all_
 use Rattle.qo_requests.specs.Fields.{argument, field_name}
 use Rattle.qo_requests.specs.declared.arguments.Argument.{Argument}
 use Rattle.qo_requests.specs.declared.arguments.Argument.TheVariants.{Needed, Optional}
-use Rattle.qo_requests.specs.declared.given_members.GivenMembers.{GivenMembers}
+use Rattle.qo_requests.specs.declared.argument_values.ArgumentValues.{ArgumentValues}
 
 -- the member that a row names, where there is such a row, among members and in a value
 abbrev pub member_of : Option Argument → Members → Option Data
@@ -33,7 +33,7 @@ is_fit_by None part = true
 is_fit_by (Some row) part = option_map_or (fits (type_of row)) part true
 
 -- the parts are those that the rows name among members, and there are others, all plain or not, as there are
-pub record AreRead (g : GivenMembers) (members : Members) : Type 0 where
+pub record AreRead (g : ArgumentValues) (members : Members) : Type 0 where
   pub first : option_map (λ v. view v.now) g.first ≡ member_of (slice_get g.rows.now 0) members
   pub second : option_map (λ v. view v.now) g.second ≡ member_of (slice_get g.rows.now 1) members
   pub third : option_map (λ v. view v.now) g.third ≡ member_of (slice_get g.rows.now 2) members
@@ -41,7 +41,7 @@ pub record AreRead (g : GivenMembers) (members : Members) : Type 0 where
   pub plain : g.plain ≡ all_plain g.rows.now members
 
 -- the same in the value that they were read of
-pub record AreGiven (g : GivenMembers) : Type 0 where
+pub record AreGiven (g : ArgumentValues) : Type 0 where
   pub few : length g.rows.now ≤ 3
   pub first : option_map (λ v. view v.now) g.first ≡ part_of (slice_get g.rows.now 0) (view g.place.now)
   pub second : option_map (λ v. view v.now) g.second ≡ part_of (slice_get g.rows.now 1) (view g.place.now)

@@ -7,10 +7,10 @@ ghost use Rattle.qo_requests.specs.declared.commands.Command.TheVariants as comm
 ghost use Rattle.qo_requests.specs.Commands.{arguments, request_of, ring_on};
 ghost use Rattle.qo_requests.specs.ArgumentMembers.{AreGiven};
 
+use crate::argument_values::ArgumentValues;
 use crate::calls::{Addition, Alteration, Query};
 use crate::commands::{Command, backend_members, payload_members};
 use crate::fields::Field;
-use crate::given_members::GivenMembers;
 use crate::requests::Request;
 use crate::values::{
     form_at, number_at, number_in, properties_beside, text_at, text_in, texts_at, truth_at,
@@ -22,15 +22,15 @@ use std::alloc::{AllocError, Global};
 /// `chardev-add` with this `backend`.
 fn ring_on(
     alloc: Global,
-    args: &GivenMembers<'_, '_>,
+    args: &ArgumentValues<'_, '_>,
     backend: &Json<'_>,
 ) -> Result<Request, AllocError>
     requires { AreGiven args.now }
     ensures { IfOk result (λ request. request ≡ ring_on (view args.now.place.now) (view backend.now)) }
 {
-    let backend = GivenMembers::of(backend_members(), backend);
+    let backend = ArgumentValues::of(backend_members(), backend);
     let size = match backend.at(Field::Payload) {
-        Some(payload) => number_at(&GivenMembers::of(payload_members(), payload), Field::Size),
+        Some(payload) => number_at(&ArgumentValues::of(payload_members(), payload), Field::Size),
         None => None,
     };
     Ok(Request::alters(Alteration::ChardevAdd {
@@ -41,7 +41,7 @@ fn ring_on(
 }
 
 /// `chardev-add`.
-fn ring_adding(alloc: Global, args: &GivenMembers<'_, '_>) -> Result<Request, AllocError>
+fn ring_adding(alloc: Global, args: &ArgumentValues<'_, '_>) -> Result<Request, AllocError>
     requires { AreGiven args.now }
     ensures { IfOk result (λ request. request ≡ request_of command.ChardevAdd (view args.now.place.now)) }
 {
@@ -52,7 +52,7 @@ fn ring_adding(alloc: Global, args: &GivenMembers<'_, '_>) -> Result<Request, Al
 }
 
 /// `object-add`.
-fn object_adding(alloc: Global, args: &GivenMembers<'_, '_>) -> Result<Request, AllocError>
+fn object_adding(alloc: Global, args: &ArgumentValues<'_, '_>) -> Result<Request, AllocError>
     requires given { AreGiven args.now }
     requires rows { args.now.rows.now ≡ arguments command.ObjectAdd }
     requires ordered { IsOrdered (view args.now.place.now) }
@@ -66,7 +66,7 @@ fn object_adding(alloc: Global, args: &GivenMembers<'_, '_>) -> Result<Request, 
 }
 
 /// `device_add`.
-fn device_adding(alloc: Global, args: &GivenMembers<'_, '_>) -> Result<Request, AllocError>
+fn device_adding(alloc: Global, args: &ArgumentValues<'_, '_>) -> Result<Request, AllocError>
     requires given { AreGiven args.now }
     requires rows { args.now.rows.now ≡ arguments command.DeviceAdd }
     requires ordered { IsOrdered (view args.now.place.now) }
@@ -84,7 +84,7 @@ fn device_adding(alloc: Global, args: &GivenMembers<'_, '_>) -> Result<Request, 
 pub(crate) fn request_of(
     alloc: Global,
     command: Command,
-    args: &GivenMembers<'_, '_>,
+    args: &ArgumentValues<'_, '_>,
 ) -> Result<Request, AllocError>
     requires given { AreGiven args.now }
     requires rows { args.now.rows.now ≡ arguments command }

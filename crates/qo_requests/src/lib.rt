@@ -2,12 +2,12 @@
 //! commands there are and what they take is the profile's).
 #![tactic(auto)]
 
+mod argument_values;
 mod arguments;
 mod building;
 mod calls;
 mod commands;
 mod fields;
-mod given_members;
 mod members;
 mod messages;
 mod requests;

@@ -12,10 +12,10 @@ ghost use Rattle.qo_values.specs.declared.codes.Code.TheVariants.{E1};
 ghost use Rattle.qo_requests.specs.declared.requests.ReadError.TheVariants.{Refused};
 ghost use Rattle.qo_requests.specs.Messages.{backend_complete, backend_closed, backend_fits, backend_of, is_complete, is_closed, is_fitting, call_of, request_in, id_text, with_id, command, Reads, GivesCode};
 
+use crate::argument_values::ArgumentValues;
 use crate::building::request_of;
 use crate::commands::{Command, backend_members, payload_members};
 use crate::fields::Field;
-use crate::given_members::GivenMembers;
 use crate::members::Members;
 use crate::requests::{Parsed, ReadError, Request};
 use json::Scratch;
@@ -75,17 +75,17 @@ fn members_have_float(members: &Vec<(&str, Json<'_>)>) -> bool
 fn backend_complete(backend: &Json<'_>) -> bool
     ensures { result ≡ backend_complete (view backend.now) }
 {
-    !backend.is_object() || GivenMembers::of(backend_members(), backend).all_stand()
+    !backend.is_object() || ArgumentValues::of(backend_members(), backend).all_stand()
 }
 
 /// Whether `backend` and its `data` have no other members.
 fn backend_closed(backend: &Json<'_>) -> bool
     ensures { result ≡ backend_closed (view backend.now) }
 {
-    let given = GivenMembers::of(backend_members(), backend);
+    let given = ArgumentValues::of(backend_members(), backend);
     let closed = given.has_only();
     match given.at(Field::Payload) {
-        Some(payload) => closed && GivenMembers::of(payload_members(), payload).has_only(),
+        Some(payload) => closed && ArgumentValues::of(payload_members(), payload).has_only(),
         None => closed,
     }
 }
@@ -94,16 +94,16 @@ fn backend_closed(backend: &Json<'_>) -> bool
 fn backend_fits(backend: &Json<'_>) -> bool
     ensures { result ≡ backend_fits (view backend.now) }
 {
-    let given = GivenMembers::of(backend_members(), backend);
+    let given = ArgumentValues::of(backend_members(), backend);
     let fits = given.all_fit();
     match given.at(Field::Payload) {
-        Some(payload) => fits && GivenMembers::of(payload_members(), payload).all_fit(),
+        Some(payload) => fits && ArgumentValues::of(payload_members(), payload).all_fit(),
         None => fits,
     }
 }
 
 /// The `backend` of `chardev-add`, where it stands.
-fn backend_of<'v, 'a>(command: Command, args: &GivenMembers<'v, 'a>) -> Option<&'v Json<'a>>
+fn backend_of<'v, 'a>(command: Command, args: &ArgumentValues<'v, 'a>) -> Option<&'v Json<'a>>
     requires { AreGiven args.now }
     ensures { option_map (λ v. view v.now) result ≡ backend_of command (view args.now.place.now) }
 {
@@ -114,7 +114,7 @@ fn backend_of<'v, 'a>(command: Command, args: &GivenMembers<'v, 'a>) -> Option<&
 }
 
 /// Whether each argument that must stand there does.
-fn is_complete(command: Command, args: &GivenMembers<'_, '_>) -> bool
+fn is_complete(command: Command, args: &ArgumentValues<'_, '_>) -> bool
     requires given { AreGiven args.now }
     requires rows { args.now.rows.now ≡ arguments command }
     ensures { result ≡ is_complete command (view args.now.place.now) }
@@ -127,7 +127,7 @@ fn is_complete(command: Command, args: &GivenMembers<'_, '_>) -> bool
 }
 
 /// Whether no argument stands there that the command does not take.
-fn is_closed(command: Command, args: &GivenMembers<'_, '_>) -> bool
+fn is_closed(command: Command, args: &ArgumentValues<'_, '_>) -> bool
     requires given { AreGiven args.now }
     requires rows { args.now.rows.now ≡ arguments command }
     ensures { result ≡ is_closed command (view args.now.place.now) }
@@ -140,7 +140,7 @@ fn is_closed(command: Command, args: &GivenMembers<'_, '_>) -> bool
 }
 
 /// Whether each argument is of its kind, and each further one a plain value.
-fn is_fitting(command: Command, args: &GivenMembers<'_, '_>) -> bool
+fn is_fitting(command: Command, args: &ArgumentValues<'_, '_>) -> bool
     requires given { AreGiven args.now }
     requires rows { args.now.rows.now ≡ arguments command }
     ensures { result ≡ is_fitting command (view args.now.place.now) }
@@ -160,7 +160,7 @@ fn call_of(alloc: Global, command: Option<Command>, args: &Json<'_>) -> Result<R
     let Some(command) = command else {
         return Err(Refusal::Code(Code::E10));
     };
-    let args = GivenMembers::of(command.arguments(), args);
+    let args = ArgumentValues::of(command.arguments(), args);
     if !is_complete(command, &args) {
         return Err(Refusal::Code(Code::E12));
     }

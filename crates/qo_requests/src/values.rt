@@ -10,9 +10,9 @@ ghost use Rattle.qo_values.specs.declared.properties.Val.TheVariants as val;
 ghost use Rattle.qo_requests.specs.ArgumentMembers.{AreGiven};
 ghost use Rattle.qo_requests.specs.Values.{text_of, texts_in, plain_in, form_named, text_at, number_at, truth_at, form_at, texts_at, text_in, number_in, value_in, properties_in, properties_beside};
 
+use crate::argument_values::ArgumentValues;
 use crate::arguments::{Argument, is_named};
 use crate::fields::Field;
-use crate::given_members::GivenMembers;
 use qo_json::Json;
 use qo_values::{Form, PropList, PushError, Text, TextList, Val};
 use serde_json::Number;
@@ -80,7 +80,7 @@ fn form_named(name: &str) -> Option<Form>
 /// An argument that is a text, where it stands.
 pub(crate) fn text_at(
     alloc: Global,
-    args: &GivenMembers<'_, '_>,
+    args: &ArgumentValues<'_, '_>,
     field: Field,
 ) -> Result<Option<Text>, AllocError>
     requires { AreGiven args.now }
@@ -93,7 +93,7 @@ pub(crate) fn text_at(
 }
 
 /// An argument that is a number, where it stands.
-pub(crate) fn number_at(args: &GivenMembers<'_, '_>, field: Field) -> Option<u64>
+pub(crate) fn number_at(args: &ArgumentValues<'_, '_>, field: Field) -> Option<u64>
     requires { AreGiven args.now }
     ensures { result ≡ number_at field (view args.now.place.now) }
 {
@@ -101,7 +101,7 @@ pub(crate) fn number_at(args: &GivenMembers<'_, '_>, field: Field) -> Option<u64
 }
 
 /// An argument that is a truth value, where it stands.
-pub(crate) fn truth_at(args: &GivenMembers<'_, '_>, field: Field) -> Option<bool>
+pub(crate) fn truth_at(args: &ArgumentValues<'_, '_>, field: Field) -> Option<bool>
     requires { AreGiven args.now }
     ensures { result ≡ truth_at field (view args.now.place.now) }
 {
@@ -109,7 +109,7 @@ pub(crate) fn truth_at(args: &GivenMembers<'_, '_>, field: Field) -> Option<bool
 }
 
 /// An argument that is a form, where it stands.
-pub(crate) fn form_at(args: &GivenMembers<'_, '_>, field: Field) -> Option<Form>
+pub(crate) fn form_at(args: &ArgumentValues<'_, '_>, field: Field) -> Option<Form>
     requires { AreGiven args.now }
     ensures { result ≡ form_at field (view args.now.place.now) }
 {
@@ -119,7 +119,7 @@ pub(crate) fn form_at(args: &GivenMembers<'_, '_>, field: Field) -> Option<Form>
 /// An argument that is a list of texts, where it stands.
 pub(crate) fn texts_at(
     alloc: Global,
-    args: &GivenMembers<'_, '_>,
+    args: &ArgumentValues<'_, '_>,
     field: Field,
 ) -> Result<Option<TextList>, AllocError>
     requires { AreGiven args.now }
@@ -134,7 +134,7 @@ pub(crate) fn texts_at(
 /// An argument that is a text; empty where it does not stand there.
 pub(crate) fn text_in(
     alloc: Global,
-    args: &GivenMembers<'_, '_>,
+    args: &ArgumentValues<'_, '_>,
     field: Field,
 ) -> Result<Text, AllocError>
     requires { AreGiven args.now }
@@ -147,7 +147,7 @@ pub(crate) fn text_in(
 }
 
 /// An argument that is a number; 0 where it does not stand there.
-pub(crate) fn number_in(args: &GivenMembers<'_, '_>, field: Field) -> u64
+pub(crate) fn number_in(args: &ArgumentValues<'_, '_>, field: Field) -> u64
     requires { AreGiven args.now }
     ensures { result ≡ number_in field (view args.now.place.now) }
 {
@@ -157,7 +157,7 @@ pub(crate) fn number_in(args: &GivenMembers<'_, '_>, field: Field) -> u64
 /// An argument that is a plain value; nothing where it does not stand there.
 pub(crate) fn value_in(
     alloc: Global,
-    args: &GivenMembers<'_, '_>,
+    args: &ArgumentValues<'_, '_>,
     field: Field,
 ) -> Result<Val, AllocError>
     requires { AreGiven args.now }
@@ -206,7 +206,7 @@ fn properties_in(
 #[tactic(auto, using(crate::proofs::ArgumentMemberLemmas::none_beside))]
 pub(crate) fn properties_beside(
     alloc: Global,
-    args: &GivenMembers<'_, '_>,
+    args: &ArgumentValues<'_, '_>,
 ) -> Result<PropList, AllocError>
     requires given { AreGiven args.now }
     requires ordered { IsOrdered (view args.now.place.now) }

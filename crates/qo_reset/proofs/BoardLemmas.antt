@@ -13,7 +13,7 @@ use Rattle.qo_model.specs.Depth.{among, by_depth}
 use Rattle.qo_model.specs.Devices.{buses_of, bus_in, clock_name, kids_of, strong_in}
 use Rattle.qo_model.specs.Paths.{is_of}
 use Rattle.qo_model.specs.Release.{without_first}
-use Rattle.qo_model.specs.Reset.{below, count, held, is_deep, is_out, phased, plugged, post, pulse, released}
+use Rattle.qo_model.specs.Reset.{after_hold, below, count, exceeds_depth, is_not_in_reset, phased, plugged, post, pulse, released}
 use Rattle.qo_object.specs.declared.slots.Slot.{Slot}
 use Rattle.qo_object.specs.declared.slots.Slot.TheVariants.{Plain, Child, Link, Alias}
 use Rattle.qo_object.specs.BoardObject.{birth_of, shown_slot, shown_slots}
@@ -25,7 +25,7 @@ use Rattle.qo_heap.proofs.ActsLemmas.{acts-then}
 use Rattle.qo_heap.proofs.ActsReads.{acts-length}
 use Rattle.qo_heap.proofs.BoardActs.{shows-acted}
 use Rattle.qo_heap.proofs.BoardReads.{shows-of, shows-size, shows-slots}
-use Rattle.qo_reset.specs.Phases.{acted_on, below_on, chosen, count_on, is_bus, is_crowded, kids_in, phase_on, picked, picks, post_by, turned_to, visited, walked}
+use Rattle.qo_reset.specs.Phases.{acted_on, below_on, chosen, count_on, exceeds_depth_at, is_bus, kids_in, phase_on, picked, picks, post_by, turned_to, visited, walked}
 use Rattle.qo_reset.proofs.WalkLemmas.{acts-below, acts-chosen, walked-acts}
 
 -- acts on objects in order
@@ -86,7 +86,7 @@ counts-shown : (b : Board) (v : Objects) → Shows b v → count b ≡ count_on 
 unfolding count_on
 counts-shown b v s = fun_ext (λ n. ap (λ (f : ℕ → List ℕ). count_by (λ (r : ℕ). among (f r) n) b.holds) (shows-post b v s))
 
-shows-chosen : (only : Bool) (b : Board) (v : Objects) → Shows b v → (λ n. if only then is_out b n else true) ≡ chosen only b.holds v
+shows-chosen : (only : Bool) (b : Board) (v : Objects) → Shows b v → (λ n. if only then is_not_in_reset b n else true) ≡ chosen only b.holds v
 shows-chosen true b v s = fun_ext (λ n. ap (λ (f : ℕ → ℕ). eqb (f n) 0) (counts-shown b v s))
 shows-chosen false b v s = refl
 
@@ -139,8 +139,8 @@ shows-twice n only b v s =
 
 -- the calls
 
-pub shows-held : (n : ℕ) (b : Board) (v : Objects) → Shows b v → Shows (held b n) (phase_on Hold true b.holds n (phase_on Enter true b.holds n v))
-unfolding held
+pub shows-held : (n : ℕ) (b : Board) (v : Objects) → Shows b v → Shows (after_hold b n) (phase_on Hold true b.holds n (phase_on Enter true b.holds n v))
+unfolding after_hold
 shows-held n b v s =
     shows-holds (phased Hold (all_picked true b n) (phased Enter (all_picked true b n) b)) _ (b.holds ++ n ∷ []) (shows-twice n true b v s)
 
@@ -176,24 +176,24 @@ phased-holds : (act : Act) (os : List ℕ) (b : Board) → (phased act os b).hol
 phased-holds act [] b = refl
 phased-holds act (o ∷ os) b = phased-holds act os (acted act o 0 b) ∙ acted-holds act o 0 b
 
-pub held-holds : (b : Board) (n : ℕ) → (held b n).holds ≡ b.holds ++ n ∷ []
-unfolding held
+pub held-holds : (b : Board) (n : ℕ) → (after_hold b n).holds ≡ b.holds ++ n ∷ []
+unfolding after_hold
 held-holds b n = refl
 
 pub released-holds : (b : Board) (n : ℕ) → (released b n).holds ≡ without_first n b.holds
 unfolding released
 released-holds b n =
     let c : Board = record b { holds = without_first n b.holds } in
-    phased-holds Exit (filter (is_out c) (post c n)) c
+    phased-holds Exit (filter (is_not_in_reset c) (post c n)) c
 
 pub plugged-holds : (b : Board) (n : ℕ) → (plugged b n).holds ≡ b.holds
 unfolding plugged
 plugged-holds b n =
     let e : Board = phased Enter (post b n) b in
     let h : Board = phased Hold (post b n) e in
-    phased-holds Exit (filter (is_out b) (post b n)) h ∙ phased-holds Hold (post b n) e ∙ phased-holds Enter (post b n) b
+    phased-holds Exit (filter (is_not_in_reset b) (post b n)) h ∙ phased-holds Hold (post b n) e ∙ phased-holds Enter (post b n) b
 
-pub pulse-is : (b : Board) (n : ℕ) → pulse b n ≡ released (held b n) n
+pub pulse-is : (b : Board) (n : ℕ) → pulse b n ≡ released (after_hold b n) n
 unfolding pulse
 pulse-is b n = refl
 
@@ -203,8 +203,8 @@ pub shows-count : (b : Board) (v : Objects) → Shows b v → (holds : List ℕ)
 shows-count b v s holds same n = ap (λ (f : ℕ → ℕ). f n) (counts-shown b v s) ∙ ap (λ (l : List ℕ). count_on v l n) same
 
 pub shows-deep : (b : Board) (v : Objects) (n levels : ℕ) → Shows b v → levels ≡ length v.rows + 1
-    → list_any (is_crowded v b.holds) (post_by (below_on v) levels n) ≡ is_deep b n
+    → list_any (exceeds_depth_at v b.holds) (post_by (below_on v) levels n) ≡ exceeds_depth b n
 shows-deep b v n levels s e =
     let same : levels ≡ suc (length v.rows) = omega (arith, e) in
-    ap (λ (d : ℕ). list_any (is_crowded v b.holds) (post_by (below_on v) d n)) same
+    ap (λ (d : ℕ). list_any (exceeds_depth_at v b.holds) (post_by (below_on v) d n)) same
     ∙ ap₂ (λ (f : ℕ → List ℕ) (g : ℕ → ℕ). list_any (λ (o : ℕ). nat_lt HOLD_COUNT_MAX (g o)) (f n)) (sym (shows-post b v s)) (sym (counts-shown b v s))

@@ -10,7 +10,7 @@ use Rattle.qo_model.specs.declared.notes.Deed.TheVariants.{Did}
 use Rattle.qo_model.specs.Board.{Board}
 use Rattle.qo_model.specs.Depth.{among, by_depth}
 use Rattle.qo_model.specs.Devices.{clock_name}
-use Rattle.qo_model.specs.Reset.{is_out}
+use Rattle.qo_model.specs.Reset.{is_not_in_reset}
 use Rattle.qo_model.specs.Types.{is_a}
 use Rattle.qo_object.specs.declared.slots.Slot.{Slot}
 use Rattle.qo_object.specs.declared.slots.Slot.TheVariants.{Child, Link}
@@ -62,8 +62,8 @@ abbrev pub out_on : Objects → List ℕ → ℕ → Bool
 out_on v holds n = count_on v holds n == 0
 
 -- a hold more would be too many
-abbrev pub is_crowded : Objects → List ℕ → ℕ → Bool
-is_crowded v holds n = nat_lt HOLD_COUNT_MAX (count_on v holds n)
+abbrev pub exceeds_depth_at : Objects → List ℕ → ℕ → Bool
+exceeds_depth_at v holds n = nat_lt HOLD_COUNT_MAX (count_on v holds n)
 
 -- all, or only those that are out
 abbrev pub chosen : Bool → List ℕ → Objects → ℕ → Bool
@@ -93,7 +93,7 @@ unfoldable pub picks : Bool → List ℕ → ℕ → Objects → List ℕ
 picks only holds n v = filter (chosen only holds v) (post_by (below_on v) (suc (length v.rows)) n)
 
 abbrev pub picked : Bool → Board → List ℕ → List ℕ
-picked only b os = filter (λ n. if only then is_out b n else true) os
+picked only b os = filter (λ n. if only then is_not_in_reset b n else true) os
 
 -- a phase
 abbrev pub phase_on : Act → Bool → List ℕ → ℕ → Objects → Objects

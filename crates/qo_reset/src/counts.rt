@@ -5,7 +5,7 @@ ghost use Rattle.std.specs.Prelude.{◌≡◌, ◌==◌};
 ghost use Rattle.std.specs.List.{list_any};
 ghost use Rattle.qo_model.specs.Depth.{among};
 ghost use Rattle.qo_heap.specs.Rows.{IsLive};
-ghost use Rattle.qo_reset.specs.Phases.{below_on, births_of, count_on, is_crowded, is_under, out_on, post_by};
+ghost use Rattle.qo_reset.specs.Phases.{below_on, births_of, count_on, exceeds_depth_at, is_under, out_on, post_by};
 
 use crate::reach::{below_at, is_bus};
 use qo_heap::{Heap, Oid, Steps};
@@ -13,7 +13,7 @@ use qo_values::HOLD_COUNT_MAX;
 use std::sync::ledger::Ledger;
 
 /// Whether the object of a birth is another one or below it, to a depth.
-fn reaches<L: Ledger>(
+fn contains<L: Ledger>(
     heap: &Heap,
     from: Oid,
     birth: u64,
@@ -30,7 +30,7 @@ fn reaches<L: Ledger>(
     let mut at = 0;
     while let Some(child) = below_at(heap, from, bus, at, steps) {
         if let Some(child) = child {
-            if reaches(heap, child, birth, levels - 1, steps) {
+            if contains(heap, child, birth, levels - 1, steps) {
                 return true;
             }
         }
@@ -44,9 +44,9 @@ fn reaches<L: Ledger>(
 fn is_under<L: Ledger>(heap: &Heap, hold: Oid, birth: u64, steps: &mut Steps<L>) -> bool
     ensures { result ≡ is_under heap.now birth hold.birth }
 {
-    heap.facts();
+    heap.reveal_invariant();
     match heap.by_birth(hold.birth) {
-        Some(from) => reaches(heap, from, birth, heap.live() + 1, steps),
+        Some(from) => contains(heap, from, birth, heap.live() + 1, steps),
         None => birth == hold.birth,
     }
 }
@@ -65,7 +65,7 @@ pub fn count<L: Ledger>(heap: &Heap, holds: &[Oid], o: Oid, steps: &mut Steps<L>
 }
 
 /// Whether no hold is on an object or above it.
-pub fn is_out<L: Ledger>(heap: &Heap, holds: &[Oid], o: Oid, steps: &mut Steps<L>) -> bool
+pub fn is_not_in_reset<L: Ledger>(heap: &Heap, holds: &[Oid], o: Oid, steps: &mut Steps<L>) -> bool
     ensures { result ≡ out_on heap.now (births_of holds.now) o.birth }
 {
     count(heap, holds, o, steps) == 0
@@ -73,13 +73,13 @@ pub fn is_out<L: Ledger>(heap: &Heap, holds: &[Oid], o: Oid, steps: &mut Steps<L
 
 /// Whether there are more holds on an object and above it than there may be before one more.
 fn is_full<L: Ledger>(heap: &Heap, holds: &[Oid], o: Oid, steps: &mut Steps<L>) -> bool
-    ensures { result ≡ is_crowded heap.now (births_of holds.now) o.birth }
+    ensures { result ≡ exceeds_depth_at heap.now (births_of holds.now) o.birth }
 {
     HOLD_COUNT_MAX < count(heap, holds, o, steps) as u64
 }
 
 /// Whether there are so on an object, or on one below it to a depth.
-pub fn is_crowded<L: Ledger>(
+pub fn exceeds_depth_below<L: Ledger>(
     heap: &Heap,
     holds: &[Oid],
     from: Oid,
@@ -87,7 +87,7 @@ pub fn is_crowded<L: Ledger>(
     steps: &mut Steps<L>,
 ) -> bool
     requires { IsLive heap.now.rows from }
-    ensures { result ≡ list_any (is_crowded heap.now (births_of holds.now)) (post_by (below_on heap.now) levels from.birth) }
+    ensures { result ≡ list_any (exceeds_depth_at heap.now (births_of holds.now)) (post_by (below_on heap.now) levels from.birth) }
 {
     if levels == 0 {
         return false;
@@ -96,7 +96,7 @@ pub fn is_crowded<L: Ledger>(
     let mut at = 0;
     while let Some(child) = below_at(heap, from, bus, at, steps) {
         if let Some(child) = child {
-            if is_crowded(heap, holds, child, levels - 1, steps) {
+            if exceeds_depth_below(heap, holds, child, levels - 1, steps) {
                 return true;
             }
         }

@@ -6,20 +6,20 @@ ghost use Rattle.qo_kinds.specs.Bodies.{reads_moment};
 ghost use Rattle.qo_heap.specs.Rows.{IsLive};
 ghost use Rattle.qo_model.specs.Board.{Board};
 ghost use Rattle.qo_model.specs.Release.{without_first};
-ghost use Rattle.qo_model.specs.Reset.{held, plugged, released};
+ghost use Rattle.qo_model.specs.Reset.{after_hold, plugged, released};
 ghost use Rattle.qo_heap.specs.Acts.{Acts};
 ghost use Rattle.qo_heap.specs.Board.{Shows};
 ghost use Rattle.qo_heap.specs.Moments.{Timely};
 ghost use Rattle.qo_reset.specs.Phases.{Holds, births_of, phase_on, turned, visited};
 
-use crate::counts::is_out;
+use crate::counts::is_not_in_reset;
 use crate::reach::{below_at, is_bus};
 use qo_heap::{Heap, Oid, Steps};
 use qo_values::Act;
 use std::sync::ledger::Ledger;
 
-/// A phase of an object, or only where it is out.
-fn turn<L: Ledger>(
+/// A phase of an object, or only where it is in no reset.
+fn visit_one<L: Ledger>(
     heap: &mut Heap,
     holds: &[Oid],
     o: Oid,
@@ -31,13 +31,13 @@ fn turn<L: Ledger>(
     requires phase { reads_moment act ≡ false }
     ensures { heap.new ≡ turned act only_out (births_of holds.now) o.birth heap.old }
 {
-    if !only_out || is_out(heap, holds, o, steps) {
+    if !only_out || is_not_in_reset(heap, holds, o, steps) {
         heap.act(o, act, 0, steps);
     }
 }
 
 /// A phase of all below an object, and then of the object itself, to a depth; only of those that
-/// are out, where it is told so.
+/// are in no reset, where it is told so.
 fn visit<L: Ledger>(
     heap: &mut Heap,
     holds: &[Oid],
@@ -62,10 +62,10 @@ fn visit<L: Ledger>(
         }
         at += 1;
     }
-    turn(heap, holds, o, act, only_out, steps);
+    visit_one(heap, holds, o, act, only_out, steps);
 }
 
-/// A phase of all below an object, and then of the object itself; only of those that are out, where
+/// A phase of all below an object, and then of the object itself; only of those in no reset, where
 /// it is told so.
 fn phase<L: Ledger>(
     heap: &mut Heap,
@@ -82,15 +82,15 @@ fn phase<L: Ledger>(
     ensures timely { Timely heap.old → Timely heap.new }
     ensures live { IsLive heap.new.rows root }
 {
-    heap.facts();
+    heap.reveal_invariant();
     let levels = heap.live() + 1;
     visit(heap, holds, root, act, only_out, levels, steps);
 }
 
-/// The phases of a hold, on those that are out: all enter before one holds.
+/// The phases of a hold, on those in no reset: all enter before one holds.
 pub fn held_phases<L: Ledger>(heap: &mut Heap, holds: &[Oid], root: Oid, steps: &mut Steps<L>)
     requires live { IsLive heap.old.rows root }
-    ensures shown { (b : Board) → Holds b (births_of holds.now) heap.old → Shows (held b root.birth) heap.new }
+    ensures shown { (b : Board) → Holds b (births_of holds.now) heap.old → Shows (after_hold b root.birth) heap.new }
     ensures acts { Acts heap.old heap.new }
     ensures timely { Timely heap.old → Timely heap.new }
     ensures live { IsLive heap.new.rows root }

@@ -63,7 +63,7 @@ pub fn below_at<L: Ledger>(
     ensures live { IfSome result (λ child. IfSome child (IsLive heap.now.rows)) }
     ensures few { IfSome result (λ child. at < 2 ^ 32) }
 {
-    heap.facts();
+    heap.reveal_invariant();
     let slot = heap.slot_at(o, at, steps)?;
     if bus {
         Some(strong_target(slot.what))

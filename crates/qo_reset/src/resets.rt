@@ -2,7 +2,7 @@
 
 ghost use Rattle.std.specs.Prelude.{◌≡◌, nat_eq, position};
 
-use crate::counts::{count, is_crowded};
+use crate::counts::{count, exceeds_depth_below};
 use crate::errors::HoldError;
 use crate::phases::{held_phases, plugged_phases, released_phases};
 use qo_heap::{Heap, Oid, Steps};
@@ -41,7 +41,7 @@ impl Resets {
     ghost use Rattle.qo_model.specs.Board.{Board};
     ghost use Rattle.qo_model.specs.Depth.{among};
     ghost use Rattle.qo_model.specs.Release.{without_first};
-    ghost use Rattle.qo_model.specs.Reset.{count, held, is_deep, plugged, pulse, released};
+    ghost use Rattle.qo_model.specs.Reset.{after_hold, count, exceeds_depth, plugged, pulse, released};
     ghost use Rattle.qo_model.specs.Unplug.{without_all};
     ghost use Rattle.qo_heap.specs.Acts.{Acts};
     ghost use Rattle.qo_heap.specs.Moments.{Timely};
@@ -78,16 +78,16 @@ impl Resets {
     }
 
     /// Whether a hold on an object would be one too many for it or for one below it.
-    fn is_deep<L: Ledger>(&self, heap: &Heap, root: Oid, steps: &mut Steps<L>) -> bool
+    fn exceeds_depth<L: Ledger>(&self, heap: &Heap, root: Oid, steps: &mut Steps<L>) -> bool
         requires { IsLive heap.now.rows root }
-        ensures { (b : Board) → Holds b self.now.births heap.now → result ≡ is_deep b root.birth }
+        ensures { (b : Board) → Holds b self.now.births heap.now → result ≡ exceeds_depth b root.birth }
     {
-        heap.facts();
+        heap.reveal_invariant();
         let levels = heap.live() + 1;
-        is_crowded(heap, &self.holds, root, levels, steps)
+        exceeds_depth_below(heap, &self.holds, root, levels, steps)
     }
 
-    /// Holds an object: those of it and below it that were out enter, all of them before one holds
+    /// Holds an object: those of it and below it that were in no reset enter, all of them before one holds
     /// (docs/devel/reset.rst, "Triggering reset", `resettable_assert_reset`). There must be room
     /// for the hold. Refused with `Depth` exactly where one of them has more holds on it and above
     /// it than `HOLD_COUNT_MAX`, which leaves all as it was. It takes no memory.
@@ -99,14 +99,14 @@ impl Resets {
     ) -> Result<(), HoldError>
         requires live { IsLive heap.old.rows root }
         requires room { 1 ≤ self.old.spare }
-        ensures answer { (b : Board) → Holds b self.old.births heap.old → result ≡ (if is_deep b root.birth then Err Depth else Ok tt) }
-        ensures shown { OnOk result ((b : Board) → Holds b self.old.births heap.old → Holds (held b root.birth) self.new.births heap.new) }
+        ensures answer { (b : Board) → Holds b self.old.births heap.old → result ≡ (if exceeds_depth b root.birth then Err Depth else Ok tt) }
+        ensures shown { OnOk result ((b : Board) → Holds b self.old.births heap.old → Holds (after_hold b root.birth) self.new.births heap.new) }
         ensures holds { OnOk result (self.new ≡ with_hold root.birth self.old) }
         ensures err { OnErr result ((heap.new ≡ heap.old) × (self.new ≡ self.old)) }
         ensures acts { Acts heap.old heap.new }
         ensures timely { Timely heap.old → Timely heap.new }
     {
-        if self.is_deep(heap, root, steps) {
+        if self.exceeds_depth(heap, root, steps) {
             return Err(HoldError::Depth);
         }
         held_phases(heap, &self.holds, root, steps);

@@ -7,15 +7,15 @@ use Rattle.std.proofs.lemmas.List.{map-append}
 use Rattle.std.proofs.lemmas.List.Sums.{sum_by-cons}
 use Rattle.qo_model.proofs.ComesToLemmas.{addition-comes}
 use Rattle.qo_sound.proofs.SlotLemmas.{names_in, one_child}
-use Rattle.qo_sound.proofs.FirmBoardLemmas.{Linked, AllLinked, parents_in, Firm, firm-born}
-use Rattle.qo_sound.proofs.WorkLemmas.{Nearly}
-use Rattle.qo_sound.proofs.ViewLemmas.{AtRest}
+use Rattle.qo_sound.proofs.FirmBoardLemmas.{Linked, AllLinked, parents_in, WellFormed, firm-born}
+use Rattle.qo_sound.proofs.WorkLemmas.{InvariantBut}
+use Rattle.qo_sound.proofs.ViewLemmas.{PinsRootAlone}
 use Rattle.qo_sound.proofs.NewSlotLemmas.{all-lone, new-names}
 use Rattle.qo_sound.proofs.NewObjectLemmas.{IsNew, children-none, grown, grown-near, grown-new, grown-old, grown-parents, new-absent}
 use Rattle.qo_sound.proofs.ChildSlotLemmas.{IsNameless, leads-first, named-near}
 
 -- an attempt takes a birth, and nothing else
-pub attempt-rest : (b : Board) (t : TypeId) → AtRest b → AtRest (with_attempt b t)
+pub attempt-rest : (b : Board) (t : TypeId) → PinsRootAlone b → PinsRootAlone (with_attempt b t)
 attempt-rest b t h =
     record {
       used = record {
@@ -69,14 +69,16 @@ made b t props = record { birth = b.born + 1; kind = t; slots = given_slots b t 
 abbrev noted : Board → TypeId → List Note
 noted b t = b.notes ++ init_notes (b.born + 1) t
 
-object-rest : (b : Board) (t : TypeId) (id : List ℕ) (props : List Given) → is_live b OBJECTS_BIRTH ≡ true → has_slot b OBJECTS_BIRTH id ≡ false → AtRest b
-    → AtRest (with_object b t id props)
+object-rest : (b : Board) (t : TypeId) (id : List ℕ) (props : List Given) → is_live b OBJECTS_BIRTH ≡ true → has_slot b OBJECTS_BIRTH id ≡ false
+    → PinsRootAlone b
+    → PinsRootAlone (with_object b t id props)
 object-rest b t id props there free h = record {
-  used = subst (λ (rs : List Record). Nearly None (record b { records = rs; born = b.born + 1; notes = noted b t })) same (go (record_of b OBJECTS_BIRTH) refl);
+  used = subst (λ (rs : List Record). InvariantBut None (record b { records = rs; born = b.born + 1; notes = noted b t })) same
+      (go (record_of b OBJECTS_BIRTH) refl);
   pinned = h.pinned;
 }
   where
-    f : Firm b
+    f : WellFormed b
     f = h.used.firm
 
     new : IsNew b (made b t props)
@@ -121,7 +123,7 @@ object-rest b t id props there free h = record {
         }
 
     go : (o : Option Record) → record_of b OBJECTS_BIRTH ≡ o
-        → Nearly None (edit OBJECTS_BIRTH (with_added id (child (b.born + 1))) (grown b (made b t props) (noted b t)))
+        → InvariantBut None (edit OBJECTS_BIRTH (with_added id (child (b.born + 1))) (grown b (made b t props) (noted b t)))
     go None e = absurd (let clash : false ≡ true = sym (ap is_some e) ∙ there in cc)
     go (Some o) e =
         named-near (grown b (made b t props) (noted b t)) OBJECTS_BIRTH (b.born + 1) id (bare o e) (grown-near b (made b t props) (noted b t) f new h.used)
@@ -157,11 +159,11 @@ creatable b row id e =
     let second = unbarred (not (is_a row.id (codes "user-creatable"))) E22 _ first.1 in
     not-false (is_a row.id (codes "user-creatable")) second.0
 
-added_as-rest : (b : Board) (t : TypeId) (id : List ℕ) (props : List Given) (refusal : Option Code) → IsFree b id → AtRest b
-    → AtRest (added_as b t id props refusal).board
+added_as-rest : (b : Board) (t : TypeId) (id : List ℕ) (props : List Given) (refusal : Option Code) → IsFree b id → PinsRootAlone b
+    → PinsRootAlone (added_as b t id props refusal).board
 added_as-rest b t id props None free h = object-rest b t id props free.there free.free h
 added_as-rest b t id props (Some code) free h = attempt-rest b t h
 
-pub object_add-rest : (b : Board) (driver id : List ℕ) (props : List Given) → AtRest b → AtRest (object_add b driver id props).board
+pub object_add-rest : (b : Board) (driver id : List ℕ) (props : List Given) → PinsRootAlone b → PinsRootAlone (object_add b driver id props).board
 object_add-rest b driver id props h =
-    addition-comes AtRest b driver id props h (λ row e refusal is. added_as-rest b row.id id props refusal (free-from_barred b row id e) h)
+    addition-comes PinsRootAlone b driver id props h (λ row e refusal is. added_as-rest b row.id id props refusal (free-from_barred b row id e) h)

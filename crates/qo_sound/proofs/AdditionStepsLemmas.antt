@@ -1,6 +1,6 @@
 -- What each small step of adding a device keeps, adding a device keeps.
 use Rattle.std.proofs.Common.{◌≡◌, refl, ℕ, ◌+◌, Bool, true, false, List, [], ◌∷◌, filter, codes, Option, Some, None}
-use Rattle.qo_model.proofs.Common.{⊤, AllByRecursion, Act, Enter, Hold, Exit, TypeId, Device, Val, Range, Board, Record, Slot, plain, child, strong, weak, alias, slots_at, add, fresh, set, with_added, with_changed, with_val, acted, kid_name, deed_type, index_from, first_value, fresh_record, fresh_slots, Spot, Wanted, acted_all, addressed_at, aliased, clocked, drafted, fitted, joined, link_named, name_for, owned, parent_for, property_made, properties_made, source_for, stood, valued, with_body_of, with_given, with_new, with_source, edit, without_slots, is_out, phased, plugged, post, property_name, slots_of, is_named, set_named, disconnected, unseen, unseen_named}
+use Rattle.qo_model.proofs.Common.{⊤, AllByRecursion, Act, Enter, Hold, Exit, TypeId, Device, Val, Range, Board, Record, Slot, plain, child, strong, weak, alias, slots_at, add, fresh, set, with_added, with_changed, with_val, acted, kid_name, deed_type, index_from, first_value, fresh_record, fresh_slots, Resources, Wanted, acted_all, addressed_at, aliased, clocked, drafted, fitted, joined, link_named, name_for, owned, parent_for, property_made, properties_made, source_for, stood, valued, with_body_of, with_given, with_new, with_source, edit, without_slots, is_not_in_reset, phased, plugged, post, property_name, slots_of, is_named, set_named, disconnected, unseen, unseen_named}
 use Rattle.qo_model.specs.declared.notes.Deed.TheVariants.{Did}
 use Rattle.qo_model.specs.declared.properties.Property.{Property}
 use Rattle.qo_model.specs.declared.properties.PropertyRole.{PropertyRole}
@@ -113,14 +113,15 @@ module _ (P : Board → Type 0) (edits : KeepsEdits P) where
     step-drafted t made passes b h = step-rows (b.born + 1) t (slots_of t) passes (with_new (fresh (b.born + 1) t) b) (new t [] made b h)
 
   -- where it stands
-  pub step-joined : (b : Board) (n : ℕ) (a : Wanted) (spot : Spot) (c : Board) → P c → P (joined b n a spot c)
-  step-joined b n a spot c h = step-add spot.bus (kid_name spot.slot) (strong Device (Some n)) _ (step-add (parent_for a.id) (name_for b a.id) (child n) c h)
+  pub step-joined : (b : Board) (n : ℕ) (a : Wanted) (resources : Resources) (c : Board) → P c → P (joined b n a resources c)
+  step-joined b n a resources c h =
+      step-add resources.bus (kid_name resources.slot) (strong Device (Some n)) _ (step-add (parent_for a.id) (name_for b a.id) (child n) c h)
 
-  step-valued : (b : Board) (n : ℕ) (a : Wanted) (spot : Spot) (c : Board) → P c → P (valued b n a.props spot c)
-  step-valued b n a spot c h =
+  step-valued : (b : Board) (n : ℕ) (a : Wanted) (resources : Resources) (c : Board) → P c → P (valued b n a.props resources c)
+  step-valued b n a resources c h =
       step-set n (codes "realized") (val.Bool true) _
-      (step-link n (codes "parent_bus") spot.bus _
-      (step-set n (codes "slot") (val.Uint spot.slot) _
+      (step-link n (codes "parent_bus") resources.bus _
+      (step-set n (codes "slot") (val.Uint resources.slot) _
       (edits n (with_given b a.props) (λ r. refl) c h)))
 
   step-addressed : (n : ℕ) (range : Option Range) (c : Board) → P c → P (addressed_at n range c)
@@ -132,25 +133,27 @@ module _ (P : Board → Type 0) (edits : KeepsEdits P) where
   step-source source (Some m) c h = step-link m (codes "source") source c h
 
   -- its id, and the range of a DIMM, are written beside its slots
-  pub step-stood : (b : Board) (n : ℕ) (a : Wanted) (spot : Spot) → ((c : Board) → P c → P (edit n (with_body_of a.id spot.range) c)) → (c : Board)
-      → P c → P (clocked (source_for b spot.bus) n (stood b n a spot c))
-  step-stood b n a spot body c h =
-      step-source (source_for b spot.bus) _ _
-      (body _ (step-addressed n spot.range _ (step-valued b n a spot _ (step-joined b n a spot c h))))
+  pub step-stood : (b : Board) (n : ℕ) (a : Wanted) (resources : Resources) → ((c : Board) → P c → P (edit n (with_body_of a.id resources.range) c))
+      → (c : Board)
+      → P c → P (clocked (source_for b resources.bus) n (stood b n a resources c))
+  step-stood b n a resources body c h =
+      step-source (source_for b resources.bus) _ _
+      (body _ (step-addressed n resources.range _ (step-valued b n a resources _ (step-joined b n a resources c h))))
 
 -- the steps by which a device comes to stand
-pub record StandSteps (P : Board → Type 0) (b : Board) (n : ℕ) (a : Wanted) (spot : Spot) : Type 0 where
+pub record StandSteps (P : Board → Type 0) (b : Board) (n : ℕ) (a : Wanted) (resources : Resources) : Type 0 where
   pub named : (c : Board) → P c → P (add (parent_for a.id) (name_for b a.id) (child n) c)
-  pub on_bus : (c : Board) → P c → P (add spot.bus (kid_name spot.slot) (strong Device (Some n)) c)
+  pub on_bus : (c : Board) → P c → P (add resources.bus (kid_name resources.slot) (strong Device (Some n)) c)
   pub given : (c : Board) → P c → P (edit n (with_given b a.props) c)
-  pub placed : (c : Board) → P c → P (set_named n (codes "slot") (val.Uint spot.slot) c)
-  pub linked : (c : Board) → P c → P (link_named n (codes "parent_bus") spot.bus c)
+  pub placed : (c : Board) → P c → P (set_named n (codes "slot") (val.Uint resources.slot) c)
+  pub linked : (c : Board) → P c → P (link_named n (codes "parent_bus") resources.bus c)
   pub marked : (c : Board) → P c → P (set_named n (codes "realized") (val.Bool true) c)
-  pub addressed : (c : Board) → P c → P (addressed_at n spot.range c)
-  pub bodied : (c : Board) → P c → P (edit n (with_body_of a.id spot.range) c)
+  pub addressed : (c : Board) → P c → P (addressed_at n resources.range c)
+  pub bodied : (c : Board) → P c → P (edit n (with_body_of a.id resources.range) c)
 
-pub stand-by : (P : Board → Type 0) (b : Board) (n : ℕ) (a : Wanted) (spot : Spot) → StandSteps P b n a spot → (c : Board) → P c → P (stood b n a spot c)
-stand-by P b n a spot s c h = s.bodied _ (s.addressed _ (s.marked _ (s.linked _ (s.placed _ (s.given _ (s.on_bus _ (s.named c h)))))))
+pub stand-by : (P : Board → Type 0) (b : Board) (n : ℕ) (a : Wanted) (resources : Resources) → StandSteps P b n a resources → (c : Board) → P c
+    → P (stood b n a resources c)
+stand-by P b n a resources s c h = s.bodied _ (s.addressed _ (s.marked _ (s.linked _ (s.placed _ (s.given _ (s.on_bus _ (s.named c h)))))))
 
 -- acts
 module _ (On : ℕ → Type 0) (P : Board → Type 0) (acts : KeepsActs On P) where
@@ -174,7 +177,7 @@ module _ (On : ℕ → Type 0) (P : Board → Type 0) (acts : KeepsActs On P) wh
   pub step-plugged : (d : ℕ) (c : Board) → AllByRecursion On (post c d) → P c → P (plugged c d)
   unfolding plugged
   step-plugged d c on h =
-      step-phased Exit refl (filter (is_out c) (post c d)) (some-of (is_out c) (post c d) on) _
+      step-phased Exit refl (filter (is_not_in_reset c) (post c d)) (some-of (is_not_in_reset c) (post c d) on) _
       (step-phased Hold refl (post c d) on _ (step-phased Enter refl (post c d) on c h))
 
 -- acts of every object

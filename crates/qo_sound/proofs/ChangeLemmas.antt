@@ -3,15 +3,15 @@ use Rattle.std.proofs.Common.{◌≡◌, refl, ap, sym, subst, ◌∙◌, ℕ, z
 use Rattle.qo_model.proofs.Common.{AllByRecursion, option_map_or, OBJECTS_BIRTH, TypeId, Val, Board, Record, Slot, plain, child, strong, weak, alias, record_of, kind_of, is_live, slots_at, slot_at, point, pointed, set, changed_at, with_changed, with_val, among, child_of, pointed_at, relinked, refs, refs_in, holds_it, drop_slot, edit, edited, emptied, let_go, with_dropped, without_hold, is_open, lasting, PassesTo}
 use Rattle.std.proofs.lemmas.Bool.{eq-eqb}
 use Rattle.std.proofs.lemmas.Option.{same_Some}
-use Rattle.qo_model.specs.Board.{held}
+use Rattle.qo_model.specs.Board.{referent}
 use Rattle.qo_model.proofs.EditLemmas.{StandsAt, stands-at}
 use Rattle.qo_model.proofs.StepLemmas.{drop-live, drop-record, live-among, found-birth, one_of}
 use Rattle.qo_model.proofs.WrittenLemmas.{IsLink, holding, seeing}
 use Rattle.qo_sound.proofs.SlotLemmas.{clocks-changed, clocks-stay, IsNoClock, no_child}
 use Rattle.qo_sound.proofs.RecordLemmas.{all-edited, sum-edited}
 use Rattle.qo_sound.proofs.SlotLemmas.{all-changed, all-dropped, child-pointed, sum-changed}
-use Rattle.qo_sound.proofs.FirmBoardLemmas.{FitsKind, Linked, Firm, edited-births, edited-kinds, firm-drop, firm-changed}
-use Rattle.qo_sound.proofs.WorkLemmas.{HasOwn, Nearly, after-firm, dropped-held}
+use Rattle.qo_sound.proofs.FirmBoardLemmas.{FitsKind, Linked, WellFormed, edited-births, edited-kinds, firm-drop, firm-changed}
+use Rattle.qo_sound.proofs.WorkLemmas.{HasOwn, InvariantBut, after-firm, dropped-held}
 
 -- what passes on to objects does so where a slot was let go
 left-passes : (ns : List ℕ) (s left : Slot) → emptied s ≡ Some left → PassesTo ns s → PassesTo ns left
@@ -27,7 +27,7 @@ own-dropped i r same h = subst (λ (ns : List ℕ). AllByRecursion (λ (s : List
 
 -- a slot let go that takes no lasting child
 pub near-drop : (b : Board) (n i : ℕ) (s : Slot) → slot_at b n i ≡ Some s → ((r : Record) → record_of b n ≡ Some r → lasting (with_dropped i r) ≡ lasting r)
-    → Nearly None b → Nearly (held s) (drop_slot b n i)
+    → InvariantBut None b → InvariantBut (referent s) (drop_slot b n i)
 unfolding drop_slot
 near-drop b n i s e lasts h =
     record {
@@ -67,19 +67,20 @@ link-lasts b n i s e none r q =
     ap (λ (ns : List ℕ). cond (is_open r.birth) [] ns) (clocks-stay i r.slots here.entry place (no_child (ap child_of here.is ∙ none)))
 
 pub near-let_go : (b : Board) (n i : ℕ) → ((s : Slot) → slot_at b n i ≡ Some s → (r : Record) → record_of b n ≡ Some r → lasting (with_dropped i r) ≡ lasting r)
-    → Nearly None b → Nearly None (let_go b n i)
+    → InvariantBut None b → InvariantBut None (let_go b n i)
 unfolding let_go
 near-let_go b n i lasts h = go (slot_at b n i) refl
   where
-    go : (o : Option Slot) → slot_at b n i ≡ o → Nearly None (let_go b n i)
+    go : (o : Option Slot) → slot_at b n i ≡ o → InvariantBut None (let_go b n i)
     go None p = rw (let_go, p) h
-    go (Some s) p = rw (let_go, p) (after-firm (drop_slot b n i) (held s) (near-drop b n i s p (lasts s p) h))
+    go (Some s) p = rw (let_go, p) (after-firm (drop_slot b n i) (referent s) (near-drop b n i s p (lasts s p) h))
 
 -- a slot of `/objects` is let go, and a link of any object
-pub near-deleted : (b : Board) (i : ℕ) → Nearly None b → Nearly None (let_go b OBJECTS_BIRTH i)
+pub near-deleted : (b : Board) (i : ℕ) → InvariantBut None b → InvariantBut None (let_go b OBJECTS_BIRTH i)
 near-deleted b i h = near-let_go b OBJECTS_BIRTH i (λ s e. open-last b OBJECTS_BIRTH i refl) h
 
-pub near-unlinked : (b : Board) (n i : ℕ) (t : TypeId) (target : Option ℕ) → slot_at b n i ≡ Some (strong t target) → Nearly None b → Nearly None (let_go b n i)
+pub near-unlinked : (b : Board) (n i : ℕ) (t : TypeId) (target : Option ℕ) → slot_at b n i ≡ Some (strong t target) → InvariantBut None b
+    → InvariantBut None (let_go b n i)
 near-unlinked b n i t target e h = near-let_go b n i (λ s q. link-lasts b n i s q (ap child_of (same_Some s (strong t target) (sym q ∙ e)))) h
 
 -- a slot is changed that names the same child, passes on to the same, and holds what it held or held nothing
@@ -95,7 +96,7 @@ own-changed g gentle i r h = subst (λ (ns : List ℕ). AllByRecursion (λ (s : 
     same = ap (λ (ns : List ℕ). cond (is_open r.birth) [] ns) (clocks-changed g gentle.children i r.slots)
 
 -- no object loses a reference
-changed-refs : (g : Slot → Slot) (b : Board) → Firm b → (n i : ℕ) (s : Slot) → slot_at b n i ≡ Some s → (k : ℕ) → one_of k ([], s) ≤ one_of k ([], g s)
+changed-refs : (g : Slot → Slot) (b : Board) → WellFormed b → (n i : ℕ) (s : Slot) → slot_at b n i ≡ Some s → (k : ℕ) → one_of k ([], s) ≤ one_of k ([], g s)
     → refs b k ≤ refs (edit n (with_changed g i) b) k
 changed-refs g b h n i s e k more =
     let here : StandsAt b n i s = stands-at b n i s e in
@@ -108,8 +109,8 @@ changed-refs g b h n i s e k more =
     )
 
 pub near-changed : (g : Slot → Slot) → IsGentle g → (o : Option ℕ) (b : Board) (n i : ℕ) (s : Slot) → slot_at b n i ≡ Some s
-    → (Linked (kind_of b) s → Linked (kind_of b) (g s)) → ((k : ℕ) → one_of k ([], s) ≤ one_of k ([], g s)) → Nearly o b
-    → Nearly o (edit n (with_changed g i) b)
+    → (Linked (kind_of b) s → Linked (kind_of b) (g s)) → ((k : ℕ) → one_of k ([], s) ≤ one_of k ([], g s)) → InvariantBut o b
+    → InvariantBut o (edit n (with_changed g i) b)
 near-changed g gentle o b n i s e fits more h =
     record {
       firm = firm-changed g gentle.children b n i
@@ -150,7 +151,7 @@ gentle-val v = record { children = children; passes = passes }
     passes ns (alias k name) h = h
 
 -- a plain value
-pub near-set : (b : Board) (n i : ℕ) (v old : Val) → slot_at b n i ≡ Some (plain old) → Nearly None b → Nearly None (set n i v b)
+pub near-set : (b : Board) (n i : ℕ) (v old : Val) → slot_at b n i ≡ Some (plain old) → InvariantBut None b → InvariantBut None (set n i v b)
 unfolding set
 near-set b n i v old e h = near-changed (with_val v) (gentle-val v) None b n i (plain old) e (λ k. tt) (λ k. omega arith) h
 
@@ -173,12 +174,12 @@ emptied-at b n i s left e leaves =
     at_place (suc j) (y ∷ slots) x q k = at_place j slots x q k
 
 -- a link that was let go points at an object of its type
-pointed-drop : (b : Board) (n i : ℕ) (t : TypeId) (s left : Slot) (m : ℕ) → slot_at b n i ≡ Some s → emptied s ≡ Some left → held left ≡ None
-    → (FitsKind (kind_of b) t (Some m) → Linked (kind_of b) (pointed m left)) → FitsKind (kind_of b) t (Some m) → Nearly (held s) (drop_slot b n i)
-    → Nearly (held s) (point n i m (drop_slot b n i))
+pointed-drop : (b : Board) (n i : ℕ) (t : TypeId) (s left : Slot) (m : ℕ) → slot_at b n i ≡ Some s → emptied s ≡ Some left → referent left ≡ None
+    → (FitsKind (kind_of b) t (Some m) → Linked (kind_of b) (pointed m left)) → FitsKind (kind_of b) t (Some m) → InvariantBut (referent s) (drop_slot b n i)
+    → InvariantBut (referent s) (point n i m (drop_slot b n i))
 unfolding drop_slot point
 pointed-drop b n i t s left m e leaves empty links fits h =
-    near-changed (pointed m) (gentle-pointed m) (held s) (drop_slot b n i) n i left (emptied-at b n i s left e leaves) (λ old.
+    near-changed (pointed m) (gentle-pointed m) (referent s) (drop_slot b n i) n i left (emptied-at b n i s left e leaves) (λ old.
     subst (λ (kinds : ℕ → Option TypeId). Linked kinds (pointed m left)) (sym (edited-kinds n (with_dropped i) (λ r. refl) (λ r. refl) b)) (links fits))
     (λ k. omega (arith, none k)) h
   where
@@ -187,11 +188,11 @@ pointed-drop b n i t s left m e leaves empty links fits h =
 
 -- a link is written: its new target fits
 pub near-relinked : (b : Board) (n i : ℕ) (t : TypeId) (s : Slot) → IsLink t s → slot_at b n i ≡ Some s → (target : Option ℕ) → FitsKind (kind_of b) t target
-    → Nearly None b → Nearly None (relinked b n i target)
-near-relinked b n i t s link e target fits h = rw (relinked, e) (after-firm (pointed_at target n i (drop_slot b n i)) (held s) (go t s link target fits e))
+    → InvariantBut None b → InvariantBut None (relinked b n i target)
+near-relinked b n i t s link e target fits h = rw (relinked, e) (after-firm (pointed_at target n i (drop_slot b n i)) (referent s) (go t s link target fits e))
   where
     go : (u : TypeId) (x : Slot) → IsLink u x → (to : Option ℕ) → FitsKind (kind_of b) u to → slot_at b n i ≡ Some x
-        → Nearly (held x) (pointed_at to n i (drop_slot b n i))
+        → InvariantBut (referent x) (pointed_at to n i (drop_slot b n i))
     go u x (holding old) None k q = near-drop b n i (strong u old) q (link-lasts b n i (strong u old) q refl) h
     go u x (seeing old) None k q = near-drop b n i (weak u old) q (link-lasts b n i (weak u old) q refl) h
     go u x (holding old) (Some m) k q = pointed-drop b n i u (strong u old) (strong u None) m q refl refl (λ f. f) k

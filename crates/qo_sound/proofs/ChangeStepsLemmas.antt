@@ -1,7 +1,7 @@
 -- What each small step of the commands on objects keeps, the commands keep.
 use Rattle.std.proofs.Common.{◌≡◌, refl, ℕ, List, length, Option, Some, None}
 use Rattle.qo_model.proofs.Common.{OBJECTS_BIRTH, Val, Board, Slot, slot_at, slots_at, point, pointed, set, with_changed, with_val, after_write, object_del, sever, severed_from, pointed_at, relinked, write, drop_slot, pin, with_dropped}
-use Rattle.qo_model.specs.Board.{held}
+use Rattle.qo_model.specs.Board.{referent}
 use Rattle.qo_model.proofs.ComesToLemmas.{deletion-comes, sever-comes, severed-comes}
 use Rattle.qo_model.proofs.WrittenLemmas.{write-comes}
 use Rattle.qo_sound.proofs.AdditionStepsLemmas.{KeepsEdits}
@@ -31,7 +31,8 @@ module _ (P : Board → Type 0) (edits : KeepsEdits P) (pins : KeepsPins P) (end
     where
       go : (s : Option Slot) → slot_at b n i ≡ s → P (relinked b n i target)
       go None p = rw (relinked, p) h
-      go (Some s) p = rw (relinked, p) (ends (held s) (pointed_at target n i (drop_slot b n i)) (step-pointed (drop_slot b n i) n i target (step-drop b n i h)))
+      go (Some s) p =
+          rw (relinked, p) (ends (referent s) (pointed_at target n i (drop_slot b n i)) (step-pointed (drop_slot b n i) n i target (step-drop b n i h)))
 
   pub step-write : (b : Board) (n : ℕ) (name : List ℕ) (v : Val) → P b → P (after_write b (write b n name v))
   step-write b n name v h = write-comes P b h n name v (λ i t p kind e may. record {

@@ -9,7 +9,7 @@ use Rattle.qo_model.proofs.StepLemmas.{found-edited, live-among, found-birth, on
 use Rattle.qo_sound.proofs.RecordLemmas.{all-append, all-edited}
 use Rattle.qo_sound.proofs.SlotLemmas.{names_in, one_child}
 use Rattle.qo_sound.proofs.FirmBoardLemmas.{Linked, AllLinked, HasNames, parents_of, edited-births, edited-kinds}
-use Rattle.qo_sound.proofs.WorkLemmas.{HasOwn, Nearly}
+use Rattle.qo_sound.proofs.WorkLemmas.{HasOwn, InvariantBut}
 use Rattle.qo_sound.proofs.SlotGrowthLemmas.{names-added, own-added, sum-added}
 
 -- what is among numbers with one after them is it, or among them
@@ -77,7 +77,7 @@ pub record IsNameless (c : Board) (p n : ℕ) (id : List ℕ) : Type 0 where
   pub none_back : ¬ (Leads (children_of c) n p)
   pub apart : (p == n) ≡ false
 
-module _ (c : Board) (p n : ℕ) (id : List ℕ) (bare : IsNameless c p n id) (near : Nearly (Some n) c) where
+module _ (c : Board) (p n : ℕ) (id : List ℕ) (bare : IsNameless c p n id) (near : InvariantBut (Some n) c) where
   abbrev after : Board
   after = edit p (with_added id (child n)) c
 
@@ -160,7 +160,7 @@ module _ (c : Board) (p n : ℕ) (id : List ℕ) (bare : IsNameless c p n id) (n
           let is : n ≡ m = same_Some n m (near.used m had (omega (arith, refs-are m, none))) in
           absurd (let clash : true ≡ false = sym (eq-eqb n m is) ∙ q in cc)
 
-  pub named-near : Nearly None (edit p (with_added id (child n)) c)
+  pub named-near : InvariantBut None (edit p (with_added id (child n)) c)
   named-near =
       record {
         firm =

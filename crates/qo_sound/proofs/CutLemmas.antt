@@ -4,13 +4,13 @@ use Rattle.qo_model.proofs.Common.{AllByRecursion, IsDistinct, cons_option, byte
 use Rattle.qo_model.specs.declared.notes.Note.{Note}
 use Rattle.std.proofs.lemmas.Option.{same_Some}
 use Rattle.std.proofs.lemmas.List.Sums.{sum_by-cons}
-use Rattle.qo_model.specs.Board.{held}
+use Rattle.qo_model.specs.Board.{referent}
 use Rattle.qo_model.proofs.EditLemmas.{StandsAt, stands-at}
 use Rattle.qo_model.proofs.StepLemmas.{live-among, one_of}
 use Rattle.qo_sound.proofs.RecordLemmas.{all-edited, sum-edited}
 use Rattle.qo_sound.proofs.SlotLemmas.{clocks_in, names_in, one_child}
-use Rattle.qo_sound.proofs.FirmBoardLemmas.{Linked, parents_in, Firm, edited-births, firm-edit, firm-beside}
-use Rattle.qo_sound.proofs.WorkLemmas.{HasOwn, Nearly}
+use Rattle.qo_sound.proofs.FirmBoardLemmas.{Linked, parents_in, WellFormed, edited-births, firm-edit, firm-beside}
+use Rattle.qo_sound.proofs.WorkLemmas.{HasOwn, InvariantBut}
 
 -- lists without the member at a place
 
@@ -65,8 +65,8 @@ clocks-removed (suc i) (x ∷ slots) s e none = go (is_clock_slot x) refl (clock
 
 -- what is shown of an edit that adds no reference and takes none, and keeps children and aliases
 module _ (n : ℕ) (change : Record → Record) (same_birth : (r : Record) → (change r).birth ≡ r.birth) (same_kind : (r : Record) → (change r).kind ≡ r.kind) where
-  pub near-edit : (o : Option ℕ) (b : Board) → Firm (edit n change b) → ((r : Record) → record_of b n ≡ Some r → HasOwn r → HasOwn (change r))
-      → ((k : ℕ) → refs b k ≤ refs (edit n change b) k) → Nearly o b → Nearly o (edit n change b)
+  pub near-edit : (o : Option ℕ) (b : Board) → WellFormed (edit n change b) → ((r : Record) → record_of b n ≡ Some r → HasOwn r → HasOwn (change r))
+      → ((k : ℕ) → refs b k ≤ refs (edit n change b) k) → InvariantBut o b → InvariantBut o (edit n change b)
   near-edit o b firm owns more h =
       record {
         firm = firm;
@@ -79,7 +79,8 @@ module _ (n : ℕ) (change : Record → Record) (same_birth : (r : Record) → (
           ∙ sym (live-among (edit n change b) m)
 
 -- a slot that holds nothing and names no child is removed
-pub near-cut : (o : Option ℕ) (b : Board) (n i : ℕ) (s : Slot) → slot_at b n i ≡ Some s → held s ≡ None → child_of s ≡ None → Nearly o b → Nearly o (cut n i b)
+pub near-cut : (o : Option ℕ) (b : Board) (n i : ℕ) (s : Slot) → slot_at b n i ≡ Some s → referent s ≡ None → child_of s ≡ None → InvariantBut o b
+    → InvariantBut o (cut n i b)
 unfolding cut
 near-cut o b n i s e empty none h = near-edit n (with_cut i) (λ r. refl) (λ r. refl) o b firm owns more h
   where
@@ -93,7 +94,7 @@ near-cut o b n i s e empty none h = near-edit n (with_cut i) (λ r. refl) (λ r.
     no : child_of here.entry.1 ≡ None
     no = ap child_of here.is ∙ none
 
-    firm : Firm (edit n (with_cut i) b)
+    firm : WellFormed (edit n (with_cut i) b)
     firm =
         firm-edit n (with_cut i) (λ r. refl) (λ r. refl) b h.firm
         (λ r q k. distinct-removed i r.slots k)
@@ -126,10 +127,10 @@ near-cut o b n i s e empty none h = near-edit n (with_cut i) (λ r. refl) (λ r.
 
 -- an object is changed, and its slots stay
 pub near-same_slots : (n : ℕ) (change : Record → Record) → ((r : Record) → (change r).birth ≡ r.birth) → ((r : Record) → (change r).kind ≡ r.kind)
-    → ((r : Record) → (change r).slots ≡ r.slots) → (o : Option ℕ) (b : Board) → Nearly o b → Nearly o (edit n change b)
+    → ((r : Record) → (change r).slots ≡ r.slots) → (o : Option ℕ) (b : Board) → InvariantBut o b → InvariantBut o (edit n change b)
 near-same_slots n change same_birth same_kind same_slots o b h = near-edit n change same_birth same_kind o b firm owns more h
   where
-    firm : Firm (edit n change b)
+    firm : WellFormed (edit n change b)
     firm =
         firm-edit n change same_birth same_kind b h.firm
         (λ r q k. subst (λ (slots : List (List ℕ × Slot)). IsDistinct bytes_eq (names_in slots)) (sym (same_slots r)) k)
@@ -159,8 +160,8 @@ near-same_slots n change same_birth same_kind same_slots o b h = near-edit n cha
     more k = omega (arith, sum-same k b.records)
 
 -- the lists beside the tree, and notes
-pub near-beside : (o : Option ℕ) (b : Board) (holds pending : List ℕ) (notices : List Notice) (notes : List Note) → Nearly o b
-    → Nearly o (record b { holds = holds; pending = pending; notices = notices; notes = notes })
+pub near-beside : (o : Option ℕ) (b : Board) (holds pending : List ℕ) (notices : List Notice) (notes : List Note) → InvariantBut o b
+    → InvariantBut o (record b { holds = holds; pending = pending; notices = notices; notes = notes })
 near-beside o b holds pending notices notes h =
     record {
       firm = firm-beside b (record b { holds = holds; pending = pending; notices = notices; notes = notes }) h.firm;

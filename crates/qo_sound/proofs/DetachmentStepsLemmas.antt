@@ -2,7 +2,7 @@
 use Rattle.std.proofs.Common.{nat_eq, ◌≡◌, refl, ℕ, zero, suc, Bool, true, false, not, ◌==◌, List, [], ◌∷◌, filter, length, codes, Option, Some, None}
 use Rattle.qo_model.proofs.Common.{AllByRecursion, list_any, ANONYMOUS_BIRTH, PERIPHERAL_BIRTH, Unrealize, Board, Notice, Slot, slots_at, slot_at, cut, with_cut, device_period, by_depth, bus_of, buses_of, clock_of, kids_of, index_from, births, after, drop_slot, finalize, let_go, pin, put_in_order, unpin, with_dropped, without_first, detach, each, is_bus_child, is_child_slot, is_named, left_bus, left_parent, let_go_where, names_kid, take_slot, take_where, unheld, unnoticed, unrealize, unrealize_turn, unrealized_bus, unrealized_device, without_all}
 use Rattle.qo_values.specs.declared.properties.Val.TheVariants as val
-use Rattle.qo_model.specs.Board.{held}
+use Rattle.qo_model.specs.Board.{referent}
 use Rattle.qo_sound.proofs.AdditionStepsLemmas.{KeepsActs, KeepsEdits, step-set, step-disconnected}
 use Rattle.qo_sound.proofs.UnplugLemmas.{detached-keeps}
 
@@ -77,7 +77,7 @@ module _ (P : Board → Type 0) (edits : KeepsEdits P) (pins : KeepsPins P) (end
     where
       go : (o : Option Slot) → slot_at c n i ≡ o → P (let_go c n i)
       go None e = rw (let_go, e) h
-      go (Some s) e = rw (let_go, e) (ends (held s) _ (edits n (with_dropped i) (λ r. refl) c h))
+      go (Some s) e = rw (let_go, e) (ends (referent s) _ (edits n (with_dropped i) (λ r. refl) c h))
 
   step-where : (p : List ℕ × Slot → Bool) (n : ℕ) (c : Board) → P c → P (let_go_where p n c)
   step-where p n c h = go (index_from p 0 (slots_at c n)) refl
@@ -92,7 +92,7 @@ module _ (P : Board → Type 0) (edits : KeepsEdits P) (pins : KeepsPins P) (end
     where
       go : (o : Option Slot) → slot_at c n i ≡ o → P (take_slot c n i)
       go None e = rw (take_slot, e) h
-      go (Some s) e = rw (take_slot, e) (ends (held s) _ (edits n (with_cut i) (λ r. refl) _ (edits n (with_dropped i) (λ r. refl) c h)))
+      go (Some s) e = rw (take_slot, e) (ends (referent s) _ (edits n (with_cut i) (λ r. refl) _ (edits n (with_dropped i) (λ r. refl) c h)))
 
   step-take : (p : List ℕ × Slot → Bool) (n : ℕ) (c : Board) → P c → P (take_where p n c)
   step-take p n c h = go (index_from p 0 (slots_at c n)) refl

@@ -1,6 +1,6 @@
 -- The law: what adding and detaching a device leaves of a board beside its objects.
 use Rattle.std.proofs.Common.{◌≡◌, refl, ap, sym, ◌∙◌, ℕ, suc, ◌+◌, Bool, true, false, ◌==◌, List, [], ◌∷◌, ◌++◌, Option, Some, None, append_assoc, append-nil}
-use Rattle.qo_model.proofs.Common.{⊤, Code, Realize, TypeId, Board, DeviceEvent, Notice, acted, buses_of, kids_of, Plugged, Spot, Wanted, acted_all, barred_early, barred_late, bus_births, bus_for, clocked, counted, cut_attempt, drafted, plug, plug_as, plug_attempt, plug_by, plug_late, source_for, spot_of, stood, type_barred, with_device, with_plugged, refs, after, finalize, pin, Leaves, plugged, post, Stays, TypeInfo, type_named, slots_of, detach}
+use Rattle.qo_model.proofs.Common.{⊤, Code, Realize, TypeId, Board, DeviceEvent, Notice, acted, buses_of, kids_of, Plugged, Resources, Wanted, acted_all, barred_early, barred_late, bus_births, bus_for, clocked, counted, cut_attempt, drafted, plug, plug_as, plug_attempt, plug_by, plug_late, source_for, resources_of, stood, type_barred, with_device, with_plugged, refs, after, finalize, pin, Leaves, plugged, post, Stays, TypeInfo, type_named, slots_of, detach}
 use Rattle.qo_model.proofs.ReleaseScopeLemmas.{release_leaves}
 use Rattle.qo_model.proofs.ChangeScopeLemmas.{stays-none, stays-then}
 use Rattle.qo_sound.specs.DeviceScope.{AddLeaves, anonymous_after, AttemptLeaves, DetachLeaves, DevicesStayLaw}
@@ -64,24 +64,24 @@ counted-tells : (id : Option (List ℕ)) (c : Board) → (counted id c).notices 
 counted-tells None c = refl
 counted-tells (Some id) c = refl
 
-module _ (b : Board) (t : TypeId) (a : Wanted) (spot : Spot) where
+module _ (b : Board) (t : TypeId) (a : Wanted) (resources : Resources) where
   abbrev n : ℕ
   n = b.born + 1
 
   -- it stands in its place
   abbrev placed : Board
-  placed = clocked (source_for b spot.bus) n (stood b n a spot (drafted b t))
+  placed = clocked (source_for b resources.bus) n (stood b n a resources (drafted b t))
 
   placed-leaves : AttemptLeaves b placed
   placed-leaves =
-      step-stood (AttemptLeaves b) (attempt-edits b) b n a spot
+      step-stood (AttemptLeaves b) (attempt-edits b) b n a resources
       (λ c h. attempt-then b c _ (record { anonymous = refl; now = refl; running = refl; holds = refl; pending = refl; notices = refl; rings = refl }) refl h)
       (drafted b t)
       (step-drafted (AttemptLeaves b) (attempt-edits b) (λ k. ⊤) (attempt-new b) t tt (any-rows (slots_of t)) b (attempt-none b))
 
   -- it acts, and goes through the phases
   abbrev made : Board
-  made = with_device b t a spot
+  made = with_device b t a resources
 
   abbrev passed_on : Board
   passed_on = plugged (acted_all Realize (n ∷ bus_births n t) made) n
@@ -95,15 +95,15 @@ module _ (b : Board) (t : TypeId) (a : Wanted) (spot : Spot) where
   made-leaves : AddLeaves b made
   made-leaves = add-then b placed made (attempt-adds b placed placed-leaves) (counted-leaves a.id placed)
 
-  plugged-leaves : AddLeaves b (with_plugged b t a spot)
+  plugged-leaves : AddLeaves b (with_plugged b t a resources)
   plugged-leaves =
       let h : AddLeaves b passed_on = add-then b made passed_on made-leaves (attempt-adds made passed_on passed-leaves) in
       record { now = h.now; running = h.running; holds = h.holds; pending = h.pending; rings = h.rings; events = h.events }
 
-  plugged-counts : (with_plugged b t a spot).anonymous ≡ anonymous_after b a.id
+  plugged-counts : (with_plugged b t a resources).anonymous ≡ anonymous_after b a.id
   plugged-counts = passed-leaves.stays.anonymous ∙ counted-counts a.id b placed placed-leaves.stays.anonymous
 
-  plugged-told : (with_plugged b t a spot).notices ≡ b.notices ++ record { plug = true; birth = b.born + 1 } ∷ []
+  plugged-told : (with_plugged b t a resources).notices ≡ b.notices ++ record { plug = true; birth = b.born + 1 } ∷ []
   plugged-told =
       ap (λ (xs : List Notice). xs ++ record { plug = true; birth = b.born + 1 } ∷ [])
       (passed-leaves.stays.notices ∙ counted-tells a.id placed ∙ placed-leaves.stays.notices)
@@ -120,7 +120,7 @@ nothing-came b x h = record { leaves = attempt-adds b x.board h; refused = λ re
 late-outcome : (b : Board) (t : TypeId) (bus : ℕ) (a : Wanted) (o : Option (ℕ × Code)) → Outcome b (plug_late b t bus a o)
 late-outcome b t bus a (Some refusal) = nothing-came b (plug_late b t bus a (Some refusal)) (attempt-given_up b t bus refusal.0)
 late-outcome b t bus a None =
-    record { leaves = plugged-leaves b t a (spot_of b t bus a.props); refused = λ refusal e. absurd (let clash : None ≡ Some refusal = e in cc) }
+    record { leaves = plugged-leaves b t a (resources_of b t bus a.props); refused = λ refusal e. absurd (let clash : None ≡ Some refusal = e in cc) }
 
 as-outcome : (b : Board) (t : TypeId) (a : Wanted) (o : Option (ℕ × Code)) → Outcome b (plug_as b t a o)
 as-outcome b t a (Some refusal) = nothing-came b (plug_as b t a (Some refusal)) (attempt-none b)

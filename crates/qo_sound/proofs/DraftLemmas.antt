@@ -16,12 +16,12 @@ use Rattle.qo_model.proofs.GraphLemmas.{births_at}
 use Rattle.qo_model.proofs.StepLemmas.{found_at, found-edited, found-birth}
 use Rattle.qo_sound.proofs.RecordLemmas.{all-append}
 use Rattle.qo_sound.proofs.SlotLemmas.{clocks_in, names_in, one_child}
-use Rattle.qo_sound.proofs.FirmBoardLemmas.{Firm, Linked, parents_of, edited-leads, firm-beside}
+use Rattle.qo_sound.proofs.FirmBoardLemmas.{WellFormed, Linked, parents_of, edited-leads, firm-beside}
 use Rattle.qo_sound.proofs.NewSlotLemmas.{fresh-names, new-lone}
 use Rattle.qo_sound.proofs.TestLemmas.{decide, clash}
 use Rattle.qo_sound.proofs.NewObjectLemmas.{IsNew, children-none, grown, grown-leads, grown-near, grown-new, grown-old, grown-parents, new-absent}
 use Rattle.qo_sound.proofs.ChildSlotLemmas.{IsNameless, Step, stayed, new_one, leads-first, named-near, named-parents, named-step}
-use Rattle.qo_sound.proofs.WorkLemmas.{Nearly}
+use Rattle.qo_sound.proofs.WorkLemmas.{InvariantBut}
 use Rattle.qo_sound.proofs.AddLemmas.{absent-parents}
 use Rattle.qo_sound.proofs.SlotGrowthLemmas.{children-added, near-added, none-child, sum-added}
 
@@ -29,7 +29,7 @@ use Rattle.qo_sound.proofs.SlotGrowthLemmas.{children-added, near-added, none-ch
 abbrev pub pinned_once : ℕ → Board → Board
 pinned_once n b = record b { pins = n ∷ b.pins }
 
-pub near-pinned_once : (n : ℕ) (b : Board) → Nearly (Some n) b → Nearly None (pinned_once n b)
+pub near-pinned_once : (n : ℕ) (b : Board) → InvariantBut (Some n) b → InvariantBut None (pinned_once n b)
 near-pinned_once n b h =
     record {
       firm = firm-beside b (pinned_once n b) h.firm;
@@ -49,7 +49,7 @@ near-pinned_once n b h =
             absurd (let clash : true ≡ false = sym (eq-eqb n m is) ∙ p in cc)
 
 -- and without the pin n alone may have none
-pub near-let_down : (n : ℕ) (b : Board) → Nearly None (pinned_once n b) → Nearly (Some n) b
+pub near-let_down : (n : ℕ) (b : Board) → InvariantBut None (pinned_once n b) → InvariantBut (Some n) b
 near-let_down n b h =
     record {
       firm = firm-beside (pinned_once n b) b h.firm;
@@ -81,7 +81,7 @@ row_names ps = map (λ (p : Property). (property_name p.name)) ps
 
 -- what is known of a board on which a device n is being made, with these properties still to come, from a board b
 pub record Drafts (b : Board) (n : ℕ) (t : TypeId) (ps : List Property) (c : Board) : Type 0 where
-  pub near : Nearly None c
+  pub near : InvariantBut None c
   pub owner : Record
   pub found : record_of c n ≡ Some owner
   pub kind : owner.kind ≡ t
@@ -129,7 +129,7 @@ found-low k x (y ∷ rs) r h e = go (y.birth == x) refl (found-low k x rs r h.1)
     go false p rest = rest (rw p at e)
 
 -- above all births nothing is there
-pub absent-above : (b : Board) → Firm b → (x : ℕ) → b.born < x → record_of b x ≡ None
+pub absent-above : (b : Board) → WellFormed b → (x : ℕ) → b.born < x → record_of b x ≡ None
 absent-above b firm x high = go (record_of b x) refl
   where
     go : (o : Option Record) → record_of b x ≡ o → record_of b x ≡ None
@@ -233,7 +233,7 @@ module _ (b : Board) (n : ℕ) (t : TypeId) (absent : record_of b n ≡ None) (n
       new : IsNew c k
       new = record { birth = refl; names = fresh-names of; lone = new-lone c of }
 
-      near_g : Nearly (Some (c.born + 1)) g
+      near_g : InvariantBut (Some (c.born + 1)) g
       near_g = grown-near c k notes h.near.firm new h.near
 
       bare : IsNameless g n (c.born + 1) (property_name p.name)
@@ -319,7 +319,7 @@ all-free [] = tt
 all-free (p ∷ ps) = (tt, all-free ps)
 
 -- the device as it begins, held from outside
-pub drafts-begun : (b : Board) (t : TypeId) → Nearly None b
+pub drafts-begun : (b : Board) (t : TypeId) → InvariantBut None b
     → Drafts b (b.born + 1) t (slots_of t) (pinned_once (b.born + 1) (with_new (fresh (b.born + 1) t) b))
 unfolding IsDistinct
 drafts-begun b t h =
@@ -407,7 +407,7 @@ rows-pinned_once : (n : ℕ) (t : TypeId) (ps : List Property) (c : Board) → p
 rows-pinned_once n t ps c = rows-blind (n ∷ c.pins) n t ps c ∙ ap (λ (q : List ℕ). with_pins (n ∷ q) (properties_made n t ps c)) (sym (rows-pins n t ps c))
 
 -- the device as it is made, still held
-pub drafted-drafts : (b : Board) (t : TypeId) → is_open (b.born + 1) ≡ false → Nearly None b
+pub drafted-drafts : (b : Board) (t : TypeId) → is_open (b.born + 1) ≡ false → InvariantBut None b
     → Drafts b (b.born + 1) t [] (pinned_once (b.born + 1) (drafted b t))
 drafted-drafts b t not_open h =
     subst (Drafts b (b.born + 1) t []) (rows-pinned_once (b.born + 1) t (slots_of t) (with_new (fresh (b.born + 1) t) b))

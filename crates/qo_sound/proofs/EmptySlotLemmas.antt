@@ -4,7 +4,7 @@ use Rattle.qo_model.proofs.Common.{⊤, option_map_or, Board, Record, Slot, plai
 use Rattle.std.proofs.lemmas.Bool.{eqb-true, eq-eqb}
 use Rattle.std.proofs.lemmas.List.Sums.{sum_by-cons}
 use Rattle.std.proofs.lemmas.Option.{same_Some}
-use Rattle.qo_model.specs.Board.{held}
+use Rattle.qo_model.specs.Board.{referent}
 use Rattle.qo_model.proofs.EditLemmas.{held-forgotten, StandsAt, stands-at}
 use Rattle.qo_model.proofs.StepLemmas.{drop-record, finish-record, finish-gone, found-birth, one_of}
 use Rattle.qo_sound.proofs.SlotLemmas.{each_slot}
@@ -13,7 +13,7 @@ use Rattle.qo_sound.proofs.SlotLemmas.{each_slot}
 abbrev pub EmptyBefore : ℕ → List (List ℕ × Slot) → Type 0
 EmptyBefore zero slots = ⊤
 EmptyBefore (suc i) [] = ⊤
-EmptyBefore (suc i) (s ∷ slots) = (held s.1 ≡ None) × EmptyBefore i slots
+EmptyBefore (suc i) (s ∷ slots) = (referent s.1 ≡ None) × EmptyBefore i slots
 
 pub empty-dropped : (j i : ℕ) (slots : List (List ℕ × Slot)) → EmptyBefore j slots → EmptyBefore j (without_hold i slots)
 empty-dropped zero i slots h = tt

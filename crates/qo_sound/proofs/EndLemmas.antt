@@ -7,7 +7,7 @@ use Rattle.qo_model.proofs.EditLemmas.{sum-filter_le}
 use Rattle.qo_model.proofs.StepLemmas.{finish-record, finish-gone, finish-births, one_of}
 use Rattle.qo_sound.proofs.RecordLemmas.{all-both, all-map, all-filter}
 use Rattle.qo_sound.proofs.SlotLemmas.{names-each, children-each, sum-each_same, one_child, child-forgotten, one_child-same}
-use Rattle.qo_sound.proofs.FirmBoardLemmas.{FitsKind, Linked, HasNames, parents_in, Firm, Leads-within, rises-filter}
+use Rattle.qo_sound.proofs.FirmBoardLemmas.{FitsKind, Linked, HasNames, parents_in, WellFormed, Leads-within, rises-filter}
 
 -- where no slot counts, none holds it
 none-holds : (x : ℕ) (slots : List (List ℕ × Slot)) → sum_by (one_of x) slots ≡ 0 → AllByRecursion (λ (s : List ℕ × Slot). holds_it x s.1 ≡ false) slots
@@ -81,7 +81,7 @@ LinkedOnes b r = AllByRecursion (λ (s : List ℕ × Slot). Linked (kind_of b) s
 abbrev Both : Board → ℕ → Record → Type 0
 Both b n r = (refs_in n r ≡ 0) × AllByRecursion (λ (s : List ℕ × Slot). Linked (kind_of b) s.1) r.slots
 
-pub firm-finish : (b : Board) (n : ℕ) → refs b n ≡ 0 → Firm b → Firm (finish b n)
+pub firm-finish : (b : Board) (n : ℕ) → refs b n ≡ 0 → WellFormed b → WellFormed (finish b n)
 unfolding finish
 firm-finish b n free h =
     record {

@@ -38,7 +38,7 @@ parents_in x r = count_by (λ (s : List ℕ × Slot). is_child x s.1) r.slots
 abbrev pub parents_of : Board → ℕ → ℕ
 parents_of b x = sum_by (parents_in x) b.records
 
-pub record Firm (b : Board) : Type 0 where
+pub record WellFormed (b : Board) : Type 0 where
   pub rising : Rises (births b)
   pub within : AllByRecursion (λ n. n ≤ b.born) (births b)
   pub begun : 8 ≤ b.born
@@ -48,7 +48,7 @@ pub record Firm (b : Board) : Type 0 where
   pub none_round : (n : ℕ) → ¬ (Leads (children_of b) n n)
 
 -- a board with the same objects and births
-pub firm-beside : (b c : Board) → Firm b → Firm (record c { records = b.records; born = b.born })
+pub firm-beside : (b c : Board) → WellFormed b → WellFormed (record c { records = b.records; born = b.born })
 firm-beside b c f =
     record {
       rising = f.rising;
@@ -61,7 +61,7 @@ firm-beside b c f =
     }
 
 -- births that are taken, and notes
-pub firm-born : (b : Board) (born : ℕ) (notes : List Note) → b.born ≤ born → Firm b → Firm (record b { born = born; notes = notes })
+pub firm-born : (b : Board) (born : ℕ) (notes : List Note) → b.born ≤ born → WellFormed b → WellFormed (record b { born = born; notes = notes })
 firm-born b born notes later f =
     record {
       rising = f.rising;
@@ -126,11 +126,11 @@ module _ (n : ℕ) (change : Record → Record) (same_birth : (r : Record) → (
       go (Some r) q k = at_record r q (r.birth == n) refl k
 
   -- what is to be shown of an edit
-  pub firm-edit : (b : Board) → Firm b → ((r : Record) → record_of b n ≡ Some r → HasNames r → HasNames (change r))
+  pub firm-edit : (b : Board) → WellFormed b → ((r : Record) → record_of b n ≡ Some r → HasNames r → HasNames (change r))
       → ((r : Record) → record_of b n ≡ Some r → AllByRecursion (λ (s : List ℕ × Slot). Linked (kind_of b) s.1) r.slots
       → AllByRecursion (λ (s : List ℕ × Slot). Linked (kind_of b) s.1) (change r).slots) → ((x : ℕ) (r : Record) → parents_in x (change r) ≤ parents_in x r)
       → ((r : Record) (y : ℕ) → record_of b n ≡ Some r → among (children_in (change r).slots) y ≡ true → among (children_in r.slots) y ≡ true)
-      → Firm (edit n change b)
+      → WellFormed (edit n change b)
   firm-edit b h names links parents few =
       record {
         rising = subst Rises (sym (edited-births b.records)) h.rising;
@@ -168,7 +168,7 @@ unseen-linked kinds (strong t target) h = h
 unseen-linked kinds (weak t target) h = tt
 unseen-linked kinds (alias m property) h = h
 
-pub firm-drop : (b : Board) (n i : ℕ) → Firm b → Firm (drop_slot b n i)
+pub firm-drop : (b : Board) (n i : ℕ) → WellFormed b → WellFormed (drop_slot b n i)
 unfolding drop_slot
 firm-drop b n i h =
     firm-edit n (with_dropped i) (λ r. refl) (λ r. refl) b h (λ r e k. distinct-dropped i r.slots k)
@@ -177,7 +177,7 @@ firm-drop b n i h =
 
 -- a slot of n is changed, and names the same child
 pub firm-changed : (g : Slot → Slot) → ((s : Slot) → child_of (g s) ≡ child_of s) → (b : Board) (n i : ℕ)
-    → ((s : Slot) → slot_at b n i ≡ Some s → Linked (kind_of b) s → Linked (kind_of b) (g s)) → Firm b → Firm (edit n (with_changed g i) b)
+    → ((s : Slot) → slot_at b n i ≡ Some s → Linked (kind_of b) s → Linked (kind_of b) (g s)) → WellFormed b → WellFormed (edit n (with_changed g i) b)
 firm-changed g same b n i fits h =
     firm-edit n (with_changed g i) (λ r. refl) (λ r. refl) b h (λ r e k. subst (IsDistinct bytes_eq) (sym (names-changed g i r.slots)) k)
     (λ r e k. all-changed (Linked (kind_of b)) g i r.slots (λ s at_place old. fits s.1 (at_slot r e s at_place) old) k)

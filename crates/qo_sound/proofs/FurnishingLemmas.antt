@@ -7,12 +7,12 @@ use Rattle.std.proofs.lemmas.Option.{same_Some}
 use Rattle.qo_model.proofs.GraphLemmas.{births_at}
 use Rattle.qo_model.proofs.StepLemmas.{found_at}
 use Rattle.qo_sound.proofs.RecordLemmas.{above-none, edited-none}
-use Rattle.qo_sound.proofs.FirmBoardLemmas.{Firm}
+use Rattle.qo_sound.proofs.FirmBoardLemmas.{WellFormed}
 use Rattle.qo_sound.proofs.NewObjectLemmas.{new-absent}
 use Rattle.qo_sound.proofs.DraftLemmas.{with_pins}
 
 -- a new object gets its slots
-furnished : (c : Board) (k : TypeId) (q : List ℕ) → Firm c
+furnished : (c : Board) (k : TypeId) (q : List ℕ) → WellFormed c
     → with_fresh_slots (c.born + 1) k (with_pins q (with_new (fresh (c.born + 1) k) c)) ≡ with_pins q (with_new (fresh_record (c.born + 1) k) c)
 unfolding with_fresh_slots IsDistinct
 furnished c k q f = ap (λ (rs : List Record). record (with_pins q (with_new (fresh_record (c.born + 1) k) c)) { records = rs }) same

@@ -7,15 +7,15 @@ use Rattle.qo_model.proofs.FirstSlotLemmas.{Found, found-at}
 use Rattle.qo_model.proofs.StepLemmas.{one_of}
 use Rattle.qo_sound.proofs.RecordLemmas.{all-map, sum-edited}
 use Rattle.qo_sound.proofs.SlotLemmas.{clocks-cons, clocks_in, one_child}
-use Rattle.qo_sound.proofs.FirmBoardLemmas.{FitsKind, Linked, Firm, firm-edit}
+use Rattle.qo_sound.proofs.FirmBoardLemmas.{FitsKind, Linked, WellFormed, firm-edit}
 use Rattle.qo_sound.proofs.NewSlotLemmas.{given-fits, given-names}
 use Rattle.qo_sound.proofs.NewObjectLemmas.{fits-more}
 use Rattle.qo_sound.proofs.TargetLemmas.{target-fits}
-use Rattle.qo_sound.proofs.WorkLemmas.{HasOwn, Nearly}
+use Rattle.qo_sound.proofs.WorkLemmas.{HasOwn, InvariantBut}
 use Rattle.qo_sound.proofs.ChangeLemmas.{IsGentle, near-changed}
 use Rattle.qo_sound.proofs.CutLemmas.{near-edit}
 use Rattle.qo_sound.proofs.DraftLemmas.{HoldsNone}
-use Rattle.qo_sound.proofs.UnplugLemmas.{Sits, slot-of}
+use Rattle.qo_sound.proofs.UnplugLemmas.{HasPins, slot-of}
 
 -- a link of a name points at what is of its type
 
@@ -65,10 +65,10 @@ fitted-count b m k (weak t None) = omega arith
 fitted-count b m k (weak t (Some j)) = omega arith
 fitted-count b m k (alias j name) = omega arith
 
-pub held-linked : (ps : List ℕ) (n : ℕ) (name : List ℕ) (m : ℕ) (c : Board) → Sits ps c → Sits ps (link_named n name m c)
+pub held-linked : (ps : List ℕ) (n : ℕ) (name : List ℕ) (m : ℕ) (c : Board) → HasPins ps c → HasPins ps (link_named n name m c)
 held-linked ps n name m c h = go (index_from (is_named name) 0 (slots_at c n)) refl
   where
-    go : (o : Option ℕ) → index_from (is_named name) 0 (slots_at c n) ≡ o → Sits ps (link_named n name m c)
+    go : (o : Option ℕ) → index_from (is_named name) 0 (slots_at c n) ≡ o → HasPins ps (link_named n name m c)
     go None e = rw (link_named, e) h
     go (Some i) e =
         let f : Found (is_named name) (slots_at c n) i = found-at (is_named name) i (slots_at c n) e in
@@ -174,10 +174,11 @@ module _ (b : Board) (props : List Given) where
   )
 
   pub near-given : (o : Option ℕ) (c : Board) (n : ℕ) → ((x : ℕ) (k : TypeId) → kind_of b x ≡ Some k → kind_of c x ≡ Some k) → (owner : Record)
-      → record_of c n ≡ Some owner → AllByRecursion (λ (s : List ℕ × Slot). HoldsNone s.1) owner.slots → Nearly o c → Nearly o (edit n (with_given b props) c)
+      → record_of c n ≡ Some owner → AllByRecursion (λ (s : List ℕ × Slot). HoldsNone s.1) owner.slots → InvariantBut o c
+      → InvariantBut o (edit n (with_given b props) c)
   near-given o c n wide owner found empty h = near-edit n (with_given b props) (λ r. refl) (λ r. refl) o c firm owns more h
     where
-      firm : Firm (edit n (with_given b props) c)
+      firm : WellFormed (edit n (with_given b props) c)
       firm =
           firm-edit n (with_given b props) (λ r. refl) (λ r. refl) c h.firm
           (λ r e k. subst (IsDistinct bytes_eq) (sym (given-names b props r.slots)) k)

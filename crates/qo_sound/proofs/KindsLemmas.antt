@@ -1,6 +1,6 @@
 -- The types of objects stay with the steps by which a device is added.
 use Rattle.std.proofs.Common.{◌≡◌, refl, ◌∙◌, ℕ, ◌+◌, true, List, [], ◌∷◌, filter, codes, Option, Some, None}
-use Rattle.qo_model.proofs.Common.{Act, Realize, Enter, Hold, Exit, TypeId, Device, Val, Range, Board, child, strong, kind_of, slots_at, add, set, with_added, with_changed, with_val, acted, with_act_on, clock_of, kid_name, index_from, canonical, Spot, Wanted, acted_all, addressed_at, bus_births, clocked, counted, drafted, fitted, joined, link_named, name_for, parent_for, source_for, stood, valued, with_body_of, with_device, with_given, with_path, with_plugged, with_source, edit, is_out, phased, plugged, post, is_named, set_named}
+use Rattle.qo_model.proofs.Common.{Act, Realize, Enter, Hold, Exit, TypeId, Device, Val, Range, Board, child, strong, kind_of, slots_at, add, set, with_added, with_changed, with_val, acted, with_act_on, clock_of, kid_name, index_from, canonical, Resources, Wanted, acted_all, addressed_at, bus_births, clocked, counted, drafted, fitted, joined, link_named, name_for, parent_for, source_for, stood, valued, with_body_of, with_device, with_given, with_path, with_plugged, with_source, edit, is_not_in_reset, phased, plugged, post, is_named, set_named}
 use Rattle.qo_values.specs.declared.properties.Val.TheVariants as val
 use Rattle.qo_sound.proofs.FirmBoardLemmas.{edited-kinds}
 
@@ -21,24 +21,28 @@ link-kinds n name m c = go (index_from (is_named name) 0 (slots_at c n)) refl
     go None e = rw (link_named, e) refl
     go (Some i) e = rw (link_named, e) (edited-kinds n (with_changed (fitted c m) i) (λ r. refl) (λ r. refl) c)
 
-stood-kinds : (b : Board) (n : ℕ) (a : Wanted) (spot : Spot) (c : Board) → kind_of (stood b n a spot c) ≡ kind_of c
+stood-kinds : (b : Board) (n : ℕ) (a : Wanted) (resources : Resources) (c : Board) → kind_of (stood b n a resources c) ≡ kind_of c
 unfolding add
-stood-kinds b n a spot c =
-    edited-kinds n (with_body_of a.id spot.range) (λ r. refl) (λ r. refl) (addressed_at n spot.range (valued b n a.props spot (joined b n a spot c)))
-    ∙ addressed spot.range
+stood-kinds b n a resources c =
+    edited-kinds n (with_body_of a.id resources.range) (λ r. refl) (λ r. refl)
+    (addressed_at n resources.range (valued b n a.props resources (joined b n a resources c)))
+    ∙ addressed resources.range
     ∙ set-kinds n (codes "realized") (val.Bool true)
-    (link_named n (codes "parent_bus") spot.bus (set_named n (codes "slot") (val.Uint spot.slot) (edit n (with_given b a.props) (joined b n a spot c))))
-    ∙ link-kinds n (codes "parent_bus") spot.bus (set_named n (codes "slot") (val.Uint spot.slot) (edit n (with_given b a.props) (joined b n a spot c)))
-    ∙ set-kinds n (codes "slot") (val.Uint spot.slot) (edit n (with_given b a.props) (joined b n a spot c))
-    ∙ edited-kinds n (with_given b a.props) (λ r. refl) (λ r. refl) (joined b n a spot c)
-    ∙ edited-kinds spot.bus (with_added (kid_name spot.slot) (strong Device (Some n))) (λ r. refl) (λ r. refl)
+    (link_named n (codes "parent_bus") resources.bus
+    (set_named n (codes "slot") (val.Uint resources.slot) (edit n (with_given b a.props) (joined b n a resources c))))
+    ∙ link-kinds n (codes "parent_bus") resources.bus
+    (set_named n (codes "slot") (val.Uint resources.slot) (edit n (with_given b a.props) (joined b n a resources c)))
+    ∙ set-kinds n (codes "slot") (val.Uint resources.slot) (edit n (with_given b a.props) (joined b n a resources c))
+    ∙ edited-kinds n (with_given b a.props) (λ r. refl) (λ r. refl) (joined b n a resources c)
+    ∙ edited-kinds resources.bus (with_added (kid_name resources.slot) (strong Device (Some n))) (λ r. refl) (λ r. refl)
     (add (parent_for a.id) (name_for b a.id) (child n) c)
     ∙ edited-kinds (parent_for a.id) (with_added (name_for b a.id) (child n)) (λ r. refl) (λ r. refl) c
   where
     addressed : (range : Option Range)
-        → kind_of (addressed_at n range (valued b n a.props spot (joined b n a spot c))) ≡ kind_of (valued b n a.props spot (joined b n a spot c))
+        → kind_of (addressed_at n range (valued b n a.props resources (joined b n a resources c)))
+        ≡ kind_of (valued b n a.props resources (joined b n a resources c))
     addressed None = refl
-    addressed (Some r) = set-kinds n (codes "addr") (val.Uint r.at) (valued b n a.props spot (joined b n a spot c))
+    addressed (Some r) = set-kinds n (codes "addr") (val.Uint r.at) (valued b n a.props resources (joined b n a resources c))
 
 source-kinds : (source : ℕ) (clock : Option ℕ) (c : Board) → kind_of (with_source source clock c) ≡ kind_of c
 source-kinds source None c = refl
@@ -63,23 +67,24 @@ phased-kinds act (n ∷ ns) c = phased-kinds act ns (acted act n 0 c) ∙ acted-
 plugged-kinds : (n : ℕ) (c : Board) → kind_of (plugged c n) ≡ kind_of c
 unfolding plugged
 plugged-kinds n c =
-    phased-kinds Exit (filter (is_out c) (post c n)) (phased Hold (post c n) (phased Enter (post c n) c))
+    phased-kinds Exit (filter (is_not_in_reset c) (post c n)) (phased Hold (post c n) (phased Enter (post c n) c))
     ∙ phased-kinds Hold (post c n) (phased Enter (post c n) c)
     ∙ phased-kinds Enter (post c n) c
 
-pub device-kinds : (b : Board) (t : TypeId) (a : Wanted) (spot : Spot) → kind_of (with_device b t a spot) ≡ kind_of (drafted b t)
-device-kinds b t a spot =
-    counted-kinds a.id (clocked (source_for b spot.bus) (b.born + 1) (stood b (b.born + 1) a spot (drafted b t)))
-    ∙ source-kinds (source_for b spot.bus) (clock_of (stood b (b.born + 1) a spot (drafted b t)) (b.born + 1)) (stood b (b.born + 1) a spot (drafted b t))
-    ∙ stood-kinds b (b.born + 1) a spot (drafted b t)
+pub device-kinds : (b : Board) (t : TypeId) (a : Wanted) (resources : Resources) → kind_of (with_device b t a resources) ≡ kind_of (drafted b t)
+device-kinds b t a resources =
+    counted-kinds a.id (clocked (source_for b resources.bus) (b.born + 1) (stood b (b.born + 1) a resources (drafted b t)))
+    ∙ source-kinds (source_for b resources.bus) (clock_of (stood b (b.born + 1) a resources (drafted b t)) (b.born + 1))
+    (stood b (b.born + 1) a resources (drafted b t))
+    ∙ stood-kinds b (b.born + 1) a resources (drafted b t)
 
-pub plug-kinds : (b : Board) (t : TypeId) (a : Wanted) (spot : Spot) → kind_of (with_plugged b t a spot) ≡ kind_of (drafted b t)
-plug-kinds b t a spot =
-    edited-kinds n (with_path (canonical (plugged (acted_all Realize (n ∷ bus_births n t) (with_device b t a spot)) n) n)) (λ r. refl) (λ r. refl)
-    (plugged (acted_all Realize (n ∷ bus_births n t) (with_device b t a spot)) n)
-    ∙ plugged-kinds n (acted_all Realize (n ∷ bus_births n t) (with_device b t a spot))
-    ∙ all-kinds Realize (n ∷ bus_births n t) (with_device b t a spot)
-    ∙ device-kinds b t a spot
+pub plug-kinds : (b : Board) (t : TypeId) (a : Wanted) (resources : Resources) → kind_of (with_plugged b t a resources) ≡ kind_of (drafted b t)
+plug-kinds b t a resources =
+    edited-kinds n (with_path (canonical (plugged (acted_all Realize (n ∷ bus_births n t) (with_device b t a resources)) n) n)) (λ r. refl) (λ r. refl)
+    (plugged (acted_all Realize (n ∷ bus_births n t) (with_device b t a resources)) n)
+    ∙ plugged-kinds n (acted_all Realize (n ∷ bus_births n t) (with_device b t a resources))
+    ∙ all-kinds Realize (n ∷ bus_births n t) (with_device b t a resources)
+    ∙ device-kinds b t a resources
   where
     n : ℕ
     n = b.born + 1

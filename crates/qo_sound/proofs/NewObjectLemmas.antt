@@ -11,9 +11,9 @@ use Rattle.qo_model.proofs.StepLemmas.{found_at}
 use Rattle.qo_sound.proofs.RecordLemmas.{all-append}
 use Rattle.qo_values.proofs.ListLemmas.{all-imply}
 use Rattle.qo_sound.proofs.SlotLemmas.{one_child}
-use Rattle.qo_sound.proofs.FirmBoardLemmas.{FitsKind, Linked, HasNames, parents_in, parents_of, Firm, Leads-within}
+use Rattle.qo_sound.proofs.FirmBoardLemmas.{FitsKind, Linked, HasNames, parents_in, parents_of, WellFormed, Leads-within}
 use Rattle.qo_sound.proofs.NewSlotLemmas.{IsLone}
-use Rattle.qo_sound.proofs.WorkLemmas.{HasOwn, Nearly}
+use Rattle.qo_sound.proofs.WorkLemmas.{HasOwn, InvariantBut}
 
 -- the board with a record more, after other notes
 abbrev pub grown : Board → Record → List Note → Board
@@ -68,7 +68,7 @@ parents-none b x (s ∷ slots) h =
     no-child (alias m name) e = refl
 
 -- what is found on the grown board: the new object, or what was found before
-module _ (b : Board) (r : Record) (notes : List Note) (firm : Firm b) (new : IsNew b r) where
+module _ (b : Board) (r : Record) (notes : List Note) (firm : WellFormed b) (new : IsNew b r) where
   -- nothing had the new birth
   pub new-absent : record_of b (b.born + 1) ≡ None
   new-absent = none b.records firm.within
@@ -121,7 +121,7 @@ module _ (b : Board) (r : Record) (notes : List Note) (firm : Firm b) (new : IsN
   pub grown-parents : (x : ℕ) → parents_of (grown b r notes) x ≡ parents_of b x
   grown-parents x = omega (arith, sum_by-append (parents_in x) b.records (r ∷ []), sum_by-cons (parents_in x) r [], parents-none b x r.slots new.lone)
 
-  pub grown-firm : Firm (grown b r notes)
+  pub grown-firm : WellFormed (grown b r notes)
   grown-firm =
       record {
         rising = subst Rises (sym births_are) (rises-push (b.born + 1) (births b) firm.rising
@@ -149,7 +149,7 @@ module _ (b : Board) (r : Record) (notes : List Note) (firm : Firm b) (new : IsN
       births_are = map-append (λ (x : Record). x.birth) b.records (r ∷ []) ∙ ap (λ (k : ℕ). births b ++ k ∷ []) new.birth
 
   -- the new object alone has no references
-  pub grown-near : Nearly None b → Nearly (Some (b.born + 1)) (grown b r notes)
+  pub grown-near : InvariantBut None b → InvariantBut (Some (b.born + 1)) (grown b r notes)
   grown-near h =
       record {
         firm = grown-firm;

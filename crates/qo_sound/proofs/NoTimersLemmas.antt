@@ -1,9 +1,9 @@
 -- The law: without timers a board stays so after all commands but the adding of a timer.
 use Rattle.std.proofs.Common.{rules, ◌≡◌, refl, ap, sym, ◌∙◌, ℕ, zero, suc, ◌+◌, Bool, true, false, not, ◌==◌, List, ◌∷◌, filter, length, codes, Option, Some, None, is_some, []}
-use Rattle.qo_model.proofs.Common.{⊤, AllByRecursion, body_act, Registers, fresh_registers, MACHINE_BIRTH, OBJECTS_BIRTH, Code, Act, Realize, Enter, Hold, Exit, TypeId, Range, Board, Record, acted, with_act_on, among, buses_of, kids_of, Change, added, deleted, wrote, severed, after_changes, changed, all_completed, asked, asked_of, completed, device_at, reset_whole, Given, added_as, object_add, opening_board, attached, canonical, Spot, Wanted, acted_all, barred_early, barred_late, bus_births, bus_for, counted, drafted, notice_barred, plug, plug_as, plug_by, plug_late, spot_of, type_barred, with_body_of, with_device, with_path, with_plugged, drop_slot, edit, edited, finish, forgotten, pin, with_dropped, without_first, KeepsRelease, is_out, phased, plugged, post, pulse, released, TypeInfo, is_a, type_named, slots_of, types, detach}
+use Rattle.qo_model.proofs.Common.{⊤, AllByRecursion, body_act, Registers, fresh_registers, MACHINE_BIRTH, OBJECTS_BIRTH, Code, Act, Realize, Enter, Hold, Exit, TypeId, Range, Board, Record, acted, with_act_on, among, buses_of, kids_of, Change, added, deleted, wrote, severed, after_changes, changed, all_completed, asked, asked_of, completed, device_at, reset_whole, Given, added_as, object_add, opening_board, attached, canonical, Resources, Wanted, acted_all, barred_early, barred_late, bus_births, bus_for, counted, drafted, notice_barred, plug, plug_as, plug_by, plug_late, resources_of, type_barred, with_body_of, with_device, with_path, with_plugged, drop_slot, edit, edited, finish, forgotten, pin, with_dropped, without_first, KeepsRelease, is_not_in_reset, phased, plugged, post, pulse, released, TypeInfo, is_a, type_named, slots_of, types, detach}
 use Rattle.std.proofs.lemmas.Option.{same_Some}
 use Rattle.qo_values.proofs.EachLemmas.{AllBodies, each, each_act, each_body}
-use Rattle.qo_model.specs.Reset.{held}
+use Rattle.qo_model.specs.Reset.{after_hold}
 use Rattle.qo_model.specs.Unplug.{first_of}
 use Rattle.qo_model.proofs.ComesToLemmas.{addition-comes}
 use Rattle.qo_model.proofs.ReleaseInductionLemmas.{after_keeps}
@@ -127,24 +127,25 @@ counted-timerless : (id : Option (List ℕ)) (c : Board) → Timerless c → Tim
 counted-timerless None c h = h
 counted-timerless (Some id) c h = h
 
-plugged-timerless : (b : Board) (t : TypeId) (a : Wanted) (spot : Spot) → NoTimerType t → Timerless b → Timerless (with_plugged b t a spot)
-plugged-timerless b t a spot made h =
+plugged-timerless : (b : Board) (t : TypeId) (a : Wanted) (resources : Resources) → NoTimerType t → Timerless b → Timerless (with_plugged b t a resources)
+plugged-timerless b t a resources made h =
     edit-timerless n (with_path (canonical passed_on n)) (λ r k. k) passed_on
-    (step-plugged (λ m. ⊤) Timerless timerless-acts n _ (all-any (post (acted_all Realize (n ∷ bus_births n t) (with_device b t a spot)) n))
+    (step-plugged (λ m. ⊤) Timerless timerless-acts n _ (all-any (post (acted_all Realize (n ∷ bus_births n t) (with_device b t a resources)) n))
     (step-acted_all (λ m. ⊤) Timerless timerless-acts Realize refl (n ∷ bus_births n t) (all-any (n ∷ bus_births n t)) _
     (counted-timerless a.id _
-    (step-stood Timerless timerless-edits b n a spot (λ c k. edit-timerless n (with_body_of a.id spot.range) (body-no_timer a.id spot.range) c k) (drafted b t)
+    (step-stood Timerless timerless-edits b n a resources (λ c k. edit-timerless n (with_body_of a.id resources.range) (body-no_timer a.id resources.range) c k)
+    (drafted b t)
     (step-drafted Timerless timerless-edits NoTimerType timerless-new t made (rows-no_timer t) b h)))))
   where
     n : ℕ
     n = b.born + 1
 
     passed_on : Board
-    passed_on = plugged (acted_all Realize (n ∷ bus_births n t) (with_device b t a spot)) n
+    passed_on = plugged (acted_all Realize (n ∷ bus_births n t) (with_device b t a resources)) n
 
 late-timerless : (b : Board) (t : TypeId) (bus : ℕ) (a : Wanted) (o : Option (ℕ × Code)) → NoTimerType t → Timerless b → Timerless (plug_late b t bus a o).board
 late-timerless b t bus a (Some refusal) made h = h
-late-timerless b t bus a None made h = plugged-timerless b t a (spot_of b t bus a.props) made h
+late-timerless b t bus a None made h = plugged-timerless b t a (resources_of b t bus a.props) made h
 
 as-timerless : (b : Board) (t : TypeId) (a : Wanted) (o : Option (ℕ × Code)) → NoTimerType t → Timerless b → Timerless (plug_as b t a o).board
 as-timerless b t a (Some refusal) made h = h
@@ -209,21 +210,21 @@ phased-timerless : (act : Act) (ns : List ℕ) (c : Board) → Timerless c → T
 phased-timerless act [] c h = h
 phased-timerless act (n ∷ ns) c h = phased-timerless act ns (acted act n 0 c) (acted-timerless act n 0 c h)
 
-held-timerless : (b : Board) (n : ℕ) → Timerless b → Timerless (held b n)
-unfolding held
+held-timerless : (b : Board) (n : ℕ) → Timerless b → Timerless (after_hold b n)
+unfolding after_hold
 held-timerless b n h =
-    let out : List ℕ = filter (is_out b) (post b n) in
+    let out : List ℕ = filter (is_not_in_reset b) (post b n) in
     phased-timerless Hold out (phased Enter out b) (phased-timerless Enter out b h)
 
 released-timerless : (b : Board) (n : ℕ) → Timerless b → Timerless (released b n)
 unfolding released
 released-timerless b n h =
     let c : Board = record b { holds = without_first n b.holds } in
-    phased-timerless Exit (filter (is_out c) (post c n)) c h
+    phased-timerless Exit (filter (is_not_in_reset c) (post c n)) c h
 
 pulse-timerless : (b : Board) (n : ℕ) → Timerless b → Timerless (pulse b n)
 unfolding pulse
-pulse-timerless b n h = released-timerless (held b n) n (held-timerless b n h)
+pulse-timerless b n h = released-timerless (after_hold b n) n (held-timerless b n h)
 
 reset-timerless : (b : Board) → Timerless b → Timerless (reset_whole b)
 unfolding reset_whole

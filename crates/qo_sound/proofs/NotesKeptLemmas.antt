@@ -1,13 +1,13 @@
 -- The law: what keeps the notes of a board in order where devices come and go.
 use Rattle.std.proofs.Common.{◌≡◌, refl, ap, sym, ◌∙◌, ℕ, ◌+◌, ◌<◌, ◌≤◌, Bool, true, false, ◌==◌, List, [], ◌∷◌, ◌++◌, filter, length, codes, Option, Some, None, is_some, option_map, append-nil, arith}
-use Rattle.qo_model.proofs.Common.{⊤, AllByRecursion, option_or, Code, Init, Realize, Enter, Hold, Exit, TypeId, Board, Record, Slot, kind_of, add, fresh, acted, with_act_on, among, beginning, NotesInOrder, with_act, asked, asked_of, device_at, refused, with_asked, init_notes, attached, canonical, Spot, Wanted, acted_all, aliased, barred_early, barred_late, bus_births, bus_for, clocked, counted, drafted, notice_barred, owned, plug, plug_as, plug_by, plug_late, property_made, properties_made, source_for, spot_of, stood, type_barred, types_in, with_body_of, with_device, with_new, with_path, with_plugged, edit, pin, without_first, notes_on, is_out, phased, plugged, post, pulse, released, property_name, is_open, TypeInfo, inits, is_a, type_named, slots_of, detach, unrealize}
+use Rattle.qo_model.proofs.Common.{⊤, AllByRecursion, option_or, Code, Init, Realize, Enter, Hold, Exit, TypeId, Board, Record, Slot, kind_of, add, fresh, acted, with_act_on, among, beginning, NotesInOrder, with_act, asked, asked_of, device_at, refused, with_asked, init_notes, attached, canonical, Resources, Wanted, acted_all, aliased, barred_early, barred_late, bus_births, bus_for, clocked, counted, drafted, notice_barred, owned, plug, plug_as, plug_by, plug_late, property_made, properties_made, source_for, resources_of, stood, type_barred, types_in, with_body_of, with_device, with_new, with_path, with_plugged, edit, pin, without_first, notes_on, is_not_in_reset, phased, plugged, post, pulse, released, property_name, is_open, TypeInfo, inits, is_a, type_named, slots_of, detach, unrealize}
 use Rattle.qo_model.specs.declared.notes.Deed.TheVariants.{Did}
 use Rattle.qo_model.specs.declared.notes.Note.{Note}
 use Rattle.qo_model.specs.declared.properties.Property.{Property}
 use Rattle.qo_model.specs.declared.properties.PropertyRole.{PropertyRole}
 use Rattle.std.proofs.lemmas.List.Elements.{filter-append}
 use Rattle.std.proofs.lemmas.List.Folds.{find-append}
-use Rattle.qo_model.specs.Reset.{held}
+use Rattle.qo_model.specs.Reset.{after_hold}
 use Rattle.qo_model.specs.declared.properties.PropertyRole.TheVariants as row
 use Rattle.qo_model.proofs.DraftEndsLemmas.{kinds_in}
 use Rattle.qo_model.proofs.FinalNotesGrowthLemmas.{act-keeps, Grown, grown-keeps, next-absent, next-begins, last-other, last-own, unmapped}
@@ -24,8 +24,8 @@ use Rattle.qo_sound.proofs.AdditionStepsLemmas.{any-rows, KeepsActs, KeepsEdits,
 use Rattle.qo_sound.proofs.PlugLemmas.{device-of, held-all, held-phased, IsPlace, place-of, shut-above, sits-device}
 use Rattle.qo_sound.proofs.RecordLemmas.{all-filter}
 use Rattle.qo_values.proofs.ListLemmas.{all-imply}
-use Rattle.qo_sound.proofs.UnplugLemmas.{Sits}
-use Rattle.qo_sound.proofs.ViewLemmas.{AtRest, rest-from_sound}
+use Rattle.qo_sound.proofs.UnplugLemmas.{HasPins}
+use Rattle.qo_sound.proofs.ViewLemmas.{PinsRootAlone, rest-from_sound}
 
 -- small steps
 
@@ -167,12 +167,12 @@ counted-keeps (Some id) c o = o
 
 -- a device that is added
 
-module _ (b : Board) (t : TypeId) (a : Wanted) (spot : Spot) (rest : AtRest b) (place : IsPlace b t a spot) (o : NotesInOrder b) where
+module _ (b : Board) (t : TypeId) (a : Wanted) (resources : Resources) (rest : PinsRootAlone b) (place : IsPlace b t a resources) (o : NotesInOrder b) where
   abbrev n : ℕ
   n = b.born + 1
 
   abbrev made : Board
-  made = with_device b t a spot
+  made = with_device b t a resources
 
   abbrev acted_on : Board
   acted_on = acted_all Realize (n ∷ bus_births n t) made
@@ -182,14 +182,14 @@ module _ (b : Board) (t : TypeId) (a : Wanted) (spot : Spot) (rest : AtRest b) (
 
   made-notes : NotesInOrder made
   made-notes =
-      counted-keeps a.id (clocked (source_for b spot.bus) n (stood b n a spot (drafted b t)))
-      (step-stood NotesInOrder notes-edits b n a spot (λ c h. edit-keeps n (with_body_of a.id spot.range) (λ r. refl) (λ r. refl) c h) (drafted b t)
+      counted-keeps a.id (clocked (source_for b resources.bus) n (stood b n a resources (drafted b t)))
+      (step-stood NotesInOrder notes-edits b n a resources (λ c h. edit-keeps n (with_body_of a.id resources.range) (λ r. refl) (λ r. refl) c h) (drafted b t)
       (step-drafted NotesInOrder notes-edits (λ k. ⊤) notes-new t tt (any-rows (slots_of t)) b o))
 
   -- it and its further objects are there
   made-there : (x : ℕ) → b.born < x → x ≤ b.born + length (types_in t) → IsThere made x
   made-there x low high =
-      there-still (drafted b t) made (λ y. ap (λ (kinds : ℕ → Option TypeId). kinds y) (device-kinds b t a spot)) x
+      there-still (drafted b t) made (λ y. ap (λ (kinds : ℕ → Option TypeId). kinds y) (device-kinds b t a resources)) x
       (drafted-there b t x (omega (arith, low)) (omega (arith, high, drafted-born b t)))
 
   own-there : IsThere made n
@@ -205,8 +205,8 @@ module _ (b : Board) (t : TypeId) (a : Wanted) (spot : Spot) (rest : AtRest b) (
   acted-tells : Tells made acted_on
   acted-tells = step-acted_all (IsThere made) (Tells made) (tells-acts made) Realize refl (n ∷ bus_births n t) all-there made (tells-none made made-notes)
 
-  acted-sits : Sits (1 ∷ []) acted_on
-  acted-sits = held-all (1 ∷ []) Realize (n ∷ bus_births n t) made (sits-device b t a spot rest shut place)
+  acted-sits : HasPins (1 ∷ []) acted_on
+  acted-sits = held-all (1 ∷ []) Realize (n ∷ bus_births n t) made (sits-device b t a resources rest shut place)
 
   passed-tells : Tells acted_on (plugged acted_on n)
   passed-tells =
@@ -214,19 +214,19 @@ module _ (b : Board) (t : TypeId) (a : Wanted) (spot : Spot) (rest : AtRest b) (
       (post-there acted_on acted-sits.near.firm.linked n (there-still made acted_on acted-tells.kinds n own-there))
       (tells-none acted_on acted-tells.notes)
 
-  plugged-notes : NotesInOrder (with_plugged b t a spot)
+  plugged-notes : NotesInOrder (with_plugged b t a resources)
   plugged-notes =
       let c : Board = plugged acted_on n in
       let d : Board = edit n (with_path (canonical c n)) c in
-      same-keep d (with_plugged b t a spot) refl refl (λ x. refl) (edit-keeps n (with_path (canonical c n)) (λ r. refl) (λ r. refl) c passed-tells.notes)
+      same-keep d (with_plugged b t a resources) refl refl (λ x. refl) (edit-keeps n (with_path (canonical c n)) (λ r. refl) (λ r. refl) c passed-tells.notes)
 
-late-notes : (b : Board) (t : TypeId) (bus : ℕ) (a : Wanted) → AtRest b → NotesInOrder b
-    → (barred_late b t bus a.props ≡ None → IsPlace b t a (spot_of b t bus a.props)) → (r : Option (ℕ × Code)) → barred_late b t bus a.props ≡ r
+late-notes : (b : Board) (t : TypeId) (bus : ℕ) (a : Wanted) → PinsRootAlone b → NotesInOrder b
+    → (barred_late b t bus a.props ≡ None → IsPlace b t a (resources_of b t bus a.props)) → (r : Option (ℕ × Code)) → barred_late b t bus a.props ≡ r
     → NotesInOrder (plug_late b t bus a r).board
 late-notes b t bus a rest o place (Some refusal) e = plug_attempt-keeps b t bus refusal.0 o
-late-notes b t bus a rest o place None e = plugged-notes b t a (spot_of b t bus a.props) rest (place e) o
+late-notes b t bus a rest o place None e = plugged-notes b t a (resources_of b t bus a.props) rest (place e) o
 
-as-notes : (b : Board) (t : TypeId) (a : Wanted) → is_a t (codes "device") ≡ true → AtRest b → NotesInOrder b → (r : Option (ℕ × Code))
+as-notes : (b : Board) (t : TypeId) (a : Wanted) → is_a t (codes "device") ≡ true → PinsRootAlone b → NotesInOrder b → (r : Option (ℕ × Code))
     → barred_early b t a ≡ r → NotesInOrder (plug_as b t a r).board
 as-notes b t a device rest o (Some refusal) e = o
 as-notes b t a device rest o None e = go (bus_for b t a.bus) refl
@@ -235,7 +235,7 @@ as-notes b t a device rest o None e = go (bus_for b t a.bus) refl
     go None p = rw (plug_as, p) o
     go (Some bus) p = rw (plug_as, p) (late-notes b t bus a rest o (place-of b t bus a device p e) (barred_late b t bus a.props) refl)
 
-by-notes : (b : Board) (a : Wanted) → AtRest b → NotesInOrder b → (r : Option Code) → type_barred a.driver ≡ r → NotesInOrder (plug_by b a r).board
+by-notes : (b : Board) (a : Wanted) → PinsRootAlone b → NotesInOrder b → (r : Option Code) → type_barred a.driver ≡ r → NotesInOrder (plug_by b a r).board
 by-notes b a rest o (Some code) e = o
 by-notes b a rest o None e = go (type_named a.driver) refl
   where
@@ -271,11 +271,11 @@ detach-notes b d h there o = step-detach NotesInOrder notes-edits notes-pins not
 
 -- the phases of what is there
 
-held-notes : (b : Board) (n : ℕ) → AtRest b → IsThere b n → NotesInOrder b → Tells b (held b n)
-unfolding held
+held-notes : (b : Board) (n : ℕ) → PinsRootAlone b → IsThere b n → NotesInOrder b → Tells b (after_hold b n)
+unfolding after_hold
 held-notes b n rest there o =
-    let out : List ℕ = filter (is_out b) (post b n) in
-    let on : AllByRecursion (IsThere b) out = all-filter (IsThere b) (is_out b) (post b n) (post-there b rest.used.firm.linked n there) in
+    let out : List ℕ = filter (is_not_in_reset b) (post b n) in
+    let on : AllByRecursion (IsThere b) out = all-filter (IsThere b) (is_not_in_reset b) (post b n) (post-there b rest.used.firm.linked n there) in
     let entered : Tells b (phased Enter out b) = step-phased (IsThere b) (Tells b) (tells-acts b) Enter refl out on b (tells-none b o) in
     let c : Board = phased Hold out (phased Enter out b) in
     let h : Tells b c = step-phased (IsThere b) (Tells b) (tells-acts b) Hold refl out on (phased Enter out b) entered in
@@ -285,26 +285,28 @@ released-notes : (b : Board) (n : ℕ) → AllLinked (kind_of b) b.records → I
 unfolding released
 released-notes b n linked there o =
     let c : Board = record b { holds = without_first n b.holds } in
-    let on : AllByRecursion (IsThere c) (filter (is_out c) (post c n)) = all-filter (IsThere c) (is_out c) (post c n) (post-there c linked n there) in
-    let h : Tells c (phased Exit (filter (is_out c) (post c n)) c) =
-    step-phased (IsThere c) (Tells c) (tells-acts c) Exit refl (filter (is_out c) (post c n)) on c (tells-none c (same-keep b c refl refl (λ x. refl) o))
+    let on : AllByRecursion (IsThere c) (filter (is_not_in_reset c) (post c n)) =
+    all-filter (IsThere c) (is_not_in_reset c) (post c n) (post-there c linked n there) in
+    let h : Tells c (phased Exit (filter (is_not_in_reset c) (post c n)) c) =
+    step-phased (IsThere c) (Tells c) (tells-acts c) Exit refl (filter (is_not_in_reset c) (post c n)) on c
+    (tells-none c (same-keep b c refl refl (λ x. refl) o))
     in
     h.notes
 
-held-linked : (b : Board) (n : ℕ) → AtRest b → AllLinked (kind_of (held b n)) (held b n).records
-unfolding held
+held-linked : (b : Board) (n : ℕ) → PinsRootAlone b → AllLinked (kind_of (after_hold b n)) (after_hold b n).records
+unfolding after_hold
 held-linked b n rest =
-    let out : List ℕ = filter (is_out b) (post b n) in
-    let entered : Sits (1 ∷ []) (phased Enter out b) = held-phased (1 ∷ []) Enter out b (record { near = rest.used; pins = rest.pinned }) in
-    let h : Sits (1 ∷ []) (phased Hold out (phased Enter out b)) = held-phased (1 ∷ []) Hold out (phased Enter out b) entered in
+    let out : List ℕ = filter (is_not_in_reset b) (post b n) in
+    let entered : HasPins (1 ∷ []) (phased Enter out b) = held-phased (1 ∷ []) Enter out b (record { near = rest.used; pins = rest.pinned }) in
+    let h : HasPins (1 ∷ []) (phased Hold out (phased Enter out b)) = held-phased (1 ∷ []) Hold out (phased Enter out b) entered in
     h.near.firm.linked
 
 pulse-notes : (b : Board) (n : ℕ) → SoundTree b → IsThere b n → NotesInOrder b → NotesInOrder (pulse b n)
 unfolding pulse
 pulse-notes b n h there o =
-    let rest : AtRest b = rest-from_sound b h in
-    let k : Tells b (held b n) = held-notes b n rest there o in
-    released-notes (held b n) n (held-linked b n rest) (there-still b (held b n) k.kinds n there) k.notes
+    let rest : PinsRootAlone b = rest-from_sound b h in
+    let k : Tells b (after_hold b n) = held-notes b n rest there o in
+    released-notes (after_hold b n) n (held-linked b n rest) (there-still b (after_hold b n) k.kinds n there) k.notes
 
 -- removals that are asked for
 

@@ -1,6 +1,6 @@
 -- The steps by which a device is added, while it is held from outside, come to the board with it.
 use Rattle.std.proofs.Common.{◌≡◌, refl, ap, sym, subst, ◌∙◌, ℕ, ◌+◌, true, false, ◌==◌, List, [], ◌∷◌, ◌++◌, filter, codes, Option, Some, None}
-use Rattle.qo_model.proofs.Common.{if◌then◌else◌, Act, Realize, Unrealize, Enter, Hold, Exit, TypeId, Val, Range, Board, slots_at, add, fresh, make, set, acted, clock_of, Given, init_notes, index_from, path_down_to, Spot, Wanted, acted_all, addressed_at, bus_births, clocked, counted, drafted, joined, link_named, passed, properties_made, source_for, started, stood, notified_plug, valued, with_body_of, with_device, with_given, with_new, with_plugged, with_source, refs, after, edit, finalize, pin, put_in_order, unpin, count, is_out, phased, plugged, post, slots_of, is_named, set_named}
+use Rattle.qo_model.proofs.Common.{if◌then◌else◌, Act, Realize, Unrealize, Enter, Hold, Exit, TypeId, Val, Range, Board, slots_at, add, fresh, make, set, acted, clock_of, Given, init_notes, index_from, path_down_to, Resources, Wanted, acted_all, addressed_at, bus_births, clocked, counted, drafted, joined, link_named, passed, properties_made, source_for, started, stood, notified_plug, valued, with_body_of, with_device, with_given, with_new, with_plugged, with_source, refs, after, edit, finalize, pin, put_in_order, unpin, count, is_not_in_reset, phased, plugged, post, slots_of, is_named, set_named}
 use Rattle.qo_values.specs.declared.properties.Val.TheVariants as val
 use Rattle.qo_model.proofs.PinLemmas.{IsUp, put-among, put-back}
 use Rattle.qo_sound.proofs.DraftLemmas.{with_pins, rows-blind}
@@ -35,29 +35,33 @@ module _ (q : List ℕ) where
       go None e = rw (link_named, e) refl
       go (Some i) e = rw (link_named, e) refl
 
-  valued-blind : (b : Board) (n : ℕ) (props : List Given) (spot : Spot) (c : Board)
-      → valued b n props spot (with_pins q c) ≡ with_pins q (valued b n props spot c)
-  valued-blind b n props spot c =
-      ap (λ (x : Board). set_named n (codes "realized") (val.Bool true) (link_named n (codes "parent_bus") spot.bus x))
-      (set-blind n (codes "slot") (val.Uint spot.slot) (edit n (with_given b props) c))
+  valued-blind : (b : Board) (n : ℕ) (props : List Given) (resources : Resources) (c : Board)
+      → valued b n props resources (with_pins q c) ≡ with_pins q (valued b n props resources c)
+  valued-blind b n props resources c =
+      ap (λ (x : Board). set_named n (codes "realized") (val.Bool true) (link_named n (codes "parent_bus") resources.bus x))
+      (set-blind n (codes "slot") (val.Uint resources.slot) (edit n (with_given b props) c))
       ∙ ap (set_named n (codes "realized") (val.Bool true))
-      (link-blind n (codes "parent_bus") spot.bus (set_named n (codes "slot") (val.Uint spot.slot) (edit n (with_given b props) c)))
+      (link-blind n (codes "parent_bus") resources.bus (set_named n (codes "slot") (val.Uint resources.slot) (edit n (with_given b props) c)))
       ∙ set-blind n (codes "realized") (val.Bool true)
-      (link_named n (codes "parent_bus") spot.bus (set_named n (codes "slot") (val.Uint spot.slot) (edit n (with_given b props) c)))
+      (link_named n (codes "parent_bus") resources.bus (set_named n (codes "slot") (val.Uint resources.slot) (edit n (with_given b props) c)))
 
   addressed-blind : (n : ℕ) (range : Option Range) (c : Board) → addressed_at n range (with_pins q c) ≡ with_pins q (addressed_at n range c)
   addressed-blind n None c = refl
   addressed-blind n (Some r) c = set-blind n (codes "addr") (val.Uint r.at) c
 
-  joined-blind : (b : Board) (n : ℕ) (a : Wanted) (spot : Spot) (c : Board) → joined b n a spot (with_pins q c) ≡ with_pins q (joined b n a spot c)
+  joined-blind : (b : Board) (n : ℕ) (a : Wanted) (resources : Resources) (c : Board)
+      → joined b n a resources (with_pins q c) ≡ with_pins q (joined b n a resources c)
   unfolding add
-  joined-blind b n a spot c = refl
+  joined-blind b n a resources c = refl
 
-  pub stood-blind : (b : Board) (n : ℕ) (a : Wanted) (spot : Spot) (c : Board) → stood b n a spot (with_pins q c) ≡ with_pins q (stood b n a spot c)
-  stood-blind b n a spot c =
-      ap (λ (x : Board). edit n (with_body_of a.id spot.range) (addressed_at n spot.range (valued b n a.props spot x))) (joined-blind b n a spot c)
-      ∙ ap (λ (x : Board). edit n (with_body_of a.id spot.range) (addressed_at n spot.range x)) (valued-blind b n a.props spot (joined b n a spot c))
-      ∙ ap (edit n (with_body_of a.id spot.range)) (addressed-blind n spot.range (valued b n a.props spot (joined b n a spot c)))
+  pub stood-blind : (b : Board) (n : ℕ) (a : Wanted) (resources : Resources) (c : Board)
+      → stood b n a resources (with_pins q c) ≡ with_pins q (stood b n a resources c)
+  stood-blind b n a resources c =
+      ap (λ (x : Board). edit n (with_body_of a.id resources.range) (addressed_at n resources.range (valued b n a.props resources x)))
+      (joined-blind b n a resources c)
+      ∙ ap (λ (x : Board). edit n (with_body_of a.id resources.range) (addressed_at n resources.range x))
+      (valued-blind b n a.props resources (joined b n a resources c))
+      ∙ ap (edit n (with_body_of a.id resources.range)) (addressed-blind n resources.range (valued b n a.props resources (joined b n a resources c)))
 
   source-blind : (source : ℕ) (clock : Option ℕ) (c : Board) → with_source source clock (with_pins q c) ≡ with_pins q (with_source source clock c)
   source-blind source None c = refl
@@ -80,9 +84,9 @@ module _ (q : List ℕ) where
   plugged-blind : (n : ℕ) (c : Board) → plugged (with_pins q c) n ≡ with_pins q (plugged c n)
   unfolding plugged post
   plugged-blind n c =
-      ap (λ (x : Board). phased Exit (filter (is_out c) (post c n)) (phased Hold (post c n) x)) (phased-blind Enter (post c n) c)
-      ∙ ap (phased Exit (filter (is_out c) (post c n))) (phased-blind Hold (post c n) (phased Enter (post c n) c))
-      ∙ phased-blind Exit (filter (is_out c) (post c n)) (phased Hold (post c n) (phased Enter (post c n) c))
+      ap (λ (x : Board). phased Exit (filter (is_not_in_reset c) (post c n)) (phased Hold (post c n) x)) (phased-blind Enter (post c n) c)
+      ∙ ap (phased Exit (filter (is_not_in_reset c) (post c n))) (phased-blind Hold (post c n) (phased Enter (post c n) c))
+      ∙ phased-blind Exit (filter (is_not_in_reset c) (post c n)) (phased Hold (post c n) (phased Enter (post c n) c))
 
   told-blind : (n : ℕ) (c : Board) → notified_plug n (with_pins q c) ≡ with_pins q (notified_plug n c)
   unfolding path_down_to
@@ -133,17 +137,18 @@ module _ (q : List ℕ) where
         ∙ all-pins Realize (n ∷ buses) c
 
   -- all steps but the pin
-  pub steps-blind : (b : Board) (t : TypeId) (a : Wanted) (spot : Spot) → started (b.born + 1) t (counted a.id (clocked (source_for b spot.bus) (b.born + 1)
-      (stood b (b.born + 1) a spot (properties_made (b.born + 1) t (slots_of t) (with_pins q (with_new (fresh (b.born + 1) t) b))))))
-      ≡ with_pins q (with_plugged b t a spot)
-  steps-blind b t a spot =
-      ap (λ (x : Board). started n t (counted a.id (clocked (source_for b spot.bus) n (stood b n a spot x))))
+  pub steps-blind : (b : Board) (t : TypeId) (a : Wanted) (resources : Resources)
+      → started (b.born + 1) t (counted a.id (clocked (source_for b resources.bus) (b.born + 1)
+      (stood b (b.born + 1) a resources (properties_made (b.born + 1) t (slots_of t) (with_pins q (with_new (fresh (b.born + 1) t) b))))))
+      ≡ with_pins q (with_plugged b t a resources)
+  steps-blind b t a resources =
+      ap (λ (x : Board). started n t (counted a.id (clocked (source_for b resources.bus) n (stood b n a resources x))))
       (rows-blind q n t (slots_of t) (with_new (fresh n t) b))
-      ∙ ap (λ (x : Board). started n t (counted a.id (clocked (source_for b spot.bus) n x))) (stood-blind b n a spot (drafted b t))
+      ∙ ap (λ (x : Board). started n t (counted a.id (clocked (source_for b resources.bus) n x))) (stood-blind b n a resources (drafted b t))
       ∙ ap (λ (x : Board). started n t (counted a.id x))
-      (source-blind (source_for b spot.bus) (clock_of (stood b n a spot (drafted b t)) n) (stood b n a spot (drafted b t)))
-      ∙ ap (started n t) (counted-blind a.id (clocked (source_for b spot.bus) n (stood b n a spot (drafted b t))))
-      ∙ started-blind n t (with_device b t a spot)
+      (source-blind (source_for b resources.bus) (clock_of (stood b n a resources (drafted b t)) n) (stood b n a resources (drafted b t)))
+      ∙ ap (started n t) (counted-blind a.id (clocked (source_for b resources.bus) n (stood b n a resources (drafted b t))))
+      ∙ started-blind n t (with_device b t a resources)
     where
       n : ℕ
       n = b.born + 1

@@ -1,6 +1,6 @@
 -- Adding a device keeps a board at rest, taken or refused, and so does an attempt that was cut.
 use Rattle.std.proofs.Common.{rules, nat_eq, ◌≡◌, refl, ap, sym, subst, ◌∙◌, ℕ, suc, ◌+◌, ◌<◌, ◌≤◌, Bool, true, false, not, ◌==◌, List, [], ◌∷◌, filter, take, length, codes, Option, Some, None, is_some, option_map, arith}
-use Rattle.qo_model.proofs.Common.{nat_lt, if◌then◌else◌, ◌||◌, list_any, option_map_or, option_or, bytes_eq, least, Code, E15, E21, E22, E24, E26, E27, E28, E29, E30, Act, Realize, Enter, Hold, Exit, TypeId, Device, BUS_SLOTS, Range, Board, Record, Slot, child, strong, record_of, kind_of, add, with_added, leads, Leads, one, more, is_going, kid_name, has_slot, refusal_of, attached, canonical, children_of, is_of, Spot, Wanted, acted_all, addressed_at, at_stage, barred_early, barred_late, born_from, bus_barred, bus_births, bus_for, bus_type, code_in, container_barred, counted, cut_attempt, cut_order, device_last, drafted, id_barred, id_refused, is_free, joined, kind_barred, name_for, notice_barred, number_for, ok_or_zero, parent_for, passed_notes, place_barred, plug, plug_as, plug_attempt, plug_by, plug_late, realize_barred, room_barred, bus_slot_for, spot_of, stood, notified_plug, type_barred, types_in, valued, with_body_of, with_device, with_ended, with_given, with_path, with_plugged, with_source, edit, is_out, phased, plugged, post, is_open, TypeInfo, is_a, type_named, types, slots_of}
+use Rattle.qo_model.proofs.Common.{nat_lt, if◌then◌else◌, ◌||◌, list_any, option_map_or, option_or, bytes_eq, least, Code, E15, E21, E22, E24, E26, E27, E28, E29, E30, Act, Realize, Enter, Hold, Exit, TypeId, Device, BUS_SLOTS, Range, Board, Record, Slot, child, strong, record_of, kind_of, add, with_added, leads, Leads, one, more, is_going, kid_name, has_slot, refusal_of, attached, canonical, children_of, is_of, Resources, Wanted, acted_all, addressed_at, at_stage, barred_early, barred_late, born_from, bus_barred, bus_births, bus_for, bus_type, code_in, container_barred, counted, cut_attempt, cut_order, device_last, drafted, id_barred, id_refused, is_free, joined, kind_barred, name_for, notice_barred, number_for, ok_or_zero, parent_for, passed_notes, place_barred, plug, plug_as, plug_attempt, plug_by, plug_late, realize_barred, room_barred, bus_slot_for, resources_of, stood, notified_plug, type_barred, types_in, valued, with_body_of, with_device, with_ended, with_given, with_path, with_plugged, with_source, edit, is_not_in_reset, phased, plugged, post, is_open, TypeInfo, is_a, type_named, types, slots_of}
 use Rattle.qo_model.specs.declared.notes.Note.{Note}
 use Rattle.std.proofs.lemmas.Bool.{eqb-true, not-false, not-true}
 use Rattle.std.proofs.lemmas.Option.{same_Some}
@@ -8,24 +8,24 @@ use Rattle.qo_values.proofs.PlacingLemmas.{least-passes}
 use Rattle.qo_values.specs.declared.properties.Val.TheVariants as val
 use Rattle.qo_values.proofs.EachLemmas.{each}
 use Rattle.qo_model.specs.Plug.{first_of}
-use Rattle.qo_sound.proofs.FirmBoardLemmas.{Firm, edited-kinds, firm-born, firm-beside}
+use Rattle.qo_sound.proofs.FirmBoardLemmas.{WellFormed, edited-kinds, firm-born, firm-beside}
 use Rattle.qo_sound.proofs.ChildSlotLemmas.{IsNameless, named-near}
-use Rattle.qo_sound.proofs.WorkLemmas.{Nearly}
-use Rattle.qo_sound.proofs.ViewLemmas.{AtRest}
+use Rattle.qo_sound.proofs.WorkLemmas.{InvariantBut}
+use Rattle.qo_sound.proofs.ViewLemmas.{PinsRootAlone}
 use Rattle.qo_sound.proofs.AddLemmas.{name-free, unbarred}
 use Rattle.qo_sound.proofs.SlotGrowthLemmas.{near-added}
 use Rattle.qo_sound.proofs.CutLemmas.{near-beside, near-same_slots}
 use Rattle.qo_sound.proofs.DraftLemmas.{Drafts, drafted-drafts, found-low, pinned_once, near-let_down, other-record, rows-pins}
 use Rattle.qo_sound.proofs.GivenPropertyLemmas.{held-linked, near-given}
-use Rattle.qo_sound.proofs.UnplugLemmas.{Sits, held-acted, held-set}
+use Rattle.qo_sound.proofs.UnplugLemmas.{HasPins, held-acted, held-set}
 
 -- what is known where an add is not refused before its attempt: the container is there, and its name for the device is free; the bus is there, and its slot is
 -- free
-pub record IsPlace (b : Board) (t : TypeId) (a : Wanted) (spot : Spot) : Type 0 where
+pub record IsPlace (b : Board) (t : TypeId) (a : Wanted) (resources : Resources) : Type 0 where
   pub container : is_of b (codes "container") (parent_for a.id) ≡ true
   pub free_name : has_slot b (parent_for a.id) (name_for b a.id) ≡ false
-  pub bus : is_of b (bus_type t) spot.bus ≡ true
-  pub free_slot : has_slot b spot.bus (kid_name spot.slot) ≡ false
+  pub bus : is_of b (bus_type t) resources.bus ≡ true
+  pub free_slot : has_slot b resources.bus (kid_name resources.slot) ≡ false
   pub device : is_a t (codes "device") ≡ true
 
 -- no type is that of a container and that of a bus
@@ -64,10 +64,10 @@ free-at b m name r e h = sym (ap (λ (o : Option Record). list_any (λ (s : List
     ∙ h
 
 -- the number of accepted adds is beside the tree
-counted-sits : (id : Option (List ℕ)) (c : Board) → Sits (1 ∷ []) c → Sits (1 ∷ []) (counted id c)
+counted-sits : (id : Option (List ℕ)) (c : Board) → HasPins (1 ∷ []) c → HasPins (1 ∷ []) (counted id c)
 counted-sits (Some id) c h = h
 counted-sits None c h =
-    let g : Firm c = h.near.firm in
+    let g : WellFormed c = h.near.firm in
     record {
       near =
           record {
@@ -83,7 +83,8 @@ leads-up : (next : ℕ → List ℕ) (n : ℕ) → ((x y : ℕ) → n ≤ x → 
 leads-up next n up (one {n = x} {m = y} e) low = up x y low e
 leads-up next n up (more {n = x} {m = k} {k = y} e l) low = leads-up next n up l (let high : n < k = up x k low e in omega (arith, high))
 
-module _ (b : Board) (t : TypeId) (a : Wanted) (spot : Spot) (rest : AtRest b) (shut : is_open (b.born + 1) ≡ false) (place : IsPlace b t a spot) where
+module _ (b : Board) (t : TypeId) (a : Wanted) (resources : Resources) (rest : PinsRootAlone b) (shut : is_open (b.born + 1) ≡ false)
+    (place : IsPlace b t a resources) where
   abbrev n : ℕ
   n = b.born + 1
 
@@ -93,29 +94,29 @@ module _ (b : Board) (t : TypeId) (a : Wanted) (spot : Spot) (rest : AtRest b) (
   d : Drafts b n t [] (pinned_once n c)
   d = drafted-drafts b t shut rest.used
 
-  f : Firm b
+  f : WellFormed b
   f = rest.used.firm
 
   there : Stands b (codes "container") (parent_for a.id)
   there = stands-of b (codes "container") (parent_for a.id) place.container
 
-  bus : Stands b (bus_type t) spot.bus
-  bus = stands-of b (bus_type t) spot.bus place.bus
+  bus : Stands b (bus_type t) resources.bus
+  bus = stands-of b (bus_type t) resources.bus place.bus
 
   parent-low : parent_for a.id ≤ b.born
   parent-low = found-low b.born (parent_for a.id) b.records there.record_is f.within there.found
 
-  bus-low : spot.bus ≤ b.born
-  bus-low = found-low b.born spot.bus b.records bus.record_is f.within bus.found
+  bus-low : resources.bus ≤ b.born
+  bus-low = found-low b.born resources.bus b.records bus.record_is f.within bus.found
 
-  bus-apart : (spot.bus == parent_for a.id) ≡ false
-  bus-apart = go (spot.bus == parent_for a.id) refl
+  bus-apart : (resources.bus == parent_for a.id) ≡ false
+  bus-apart = go (resources.bus == parent_for a.id) refl
     where
-      go : (u : Bool) → (spot.bus == parent_for a.id) ≡ u → (spot.bus == parent_for a.id) ≡ false
+      go : (u : Bool) → (resources.bus == parent_for a.id) ≡ u → (resources.bus == parent_for a.id) ≡ false
       go false p = p
       go true p =
           let same : bus.record_is ≡ there.record_is =
-          same_Some bus.record_is there.record_is (sym bus.found ∙ ap (record_of b) (eqb-true spot.bus (parent_for a.id) p) ∙ there.found) in
+          same_Some bus.record_is there.record_is (sym bus.found ∙ ap (record_of b) (eqb-true resources.bus (parent_for a.id) p) ∙ there.found) in
           absurd (no-bus there.record_is.kind t there.fits (subst (λ (r : Record). is_a r.kind (bus_type t) ≡ true) same bus.fits))
 
   -- its name in the container
@@ -136,7 +137,7 @@ module _ (b : Board) (t : TypeId) (a : Wanted) (spot : Spot) (rest : AtRest b) (
   abbrev c1 : Board
   c1 = edit (parent_for a.id) (with_added (name_for b a.id) (child n)) c
 
-  near1 : Nearly None c1
+  near1 : InvariantBut None c1
   near1 = named-near c (parent_for a.id) n (name_for b a.id) bare (near-let_down n c d.near)
 
   kind1 : kind_of c1 ≡ kind_of c
@@ -147,14 +148,14 @@ module _ (b : Board) (t : TypeId) (a : Wanted) (spot : Spot) (rest : AtRest b) (
 
   -- its link at the bus
   abbrev c2 : Board
-  c2 = add spot.bus (kid_name spot.slot) (strong Device (Some n)) c1
+  c2 = add resources.bus (kid_name resources.slot) (strong Device (Some n)) c1
 
-  near2 : Nearly None c2
+  near2 : InvariantBut None c2
   near2 =
-      near-added None c1 spot.bus (kid_name spot.slot) (strong Device (Some n)) bus.record_is
-      (other-record (parent_for a.id) (with_added (name_for b a.id) (child n)) (λ r. refl) c.records spot.bus bus.record_is bus-apart
-      (d.old spot.bus bus.record_is bus.found))
-      (name-free (kid_name spot.slot) bus.record_is.slots (free-at b spot.bus (kid_name spot.slot) bus.record_is bus.found place.free_slot))
+      near-added None c1 resources.bus (kid_name resources.slot) (strong Device (Some n)) bus.record_is
+      (other-record (parent_for a.id) (with_added (name_for b a.id) (child n)) (λ r. refl) c.records resources.bus bus.record_is bus-apart
+      (d.old resources.bus bus.record_is bus.found))
+      (name-free (kid_name resources.slot) bus.record_is.slots (free-at b resources.bus (kid_name resources.slot) bus.record_is bus.found place.free_slot))
       refl
       (ap (λ (o : Option TypeId). option_map_or (λ (k : TypeId). is_a k (codes "device")) o false)
       (ap (λ (kinds : ℕ → Option TypeId). kinds n) kind1 ∙ device-kind) ∙ place.device)
@@ -164,7 +165,8 @@ module _ (b : Board) (t : TypeId) (a : Wanted) (spot : Spot) (rest : AtRest b) (
   wide : (x : ℕ) (k : TypeId) → kind_of b x ≡ Some k → kind_of c2 x ≡ Some k
   unfolding add
   wide x k e = ap (λ (kinds : ℕ → Option TypeId). kinds x)
-      (edited-kinds spot.bus (with_added (kid_name spot.slot) (strong Device (Some n))) (λ r. refl) (λ r. refl) c1 ∙ kind1) ∙ go (record_of b x) refl e
+      (edited-kinds resources.bus (with_added (kid_name resources.slot) (strong Device (Some n))) (λ r. refl) (λ r. refl) c1 ∙ kind1)
+      ∙ go (record_of b x) refl e
     where
       go : (o : Option Record) → record_of b x ≡ o → option_map (λ (r : Record). r.kind) o ≡ Some k → kind_of c x ≡ Some k
       go None p q = absurd (let clash : None ≡ Some k = q in cc)
@@ -173,47 +175,48 @@ module _ (b : Board) (t : TypeId) (a : Wanted) (spot : Spot) (rest : AtRest b) (
   found2 : record_of c2 n ≡ Some d.owner
   unfolding add
   found2 =
-      other-record spot.bus (with_added (kid_name spot.slot) (strong Device (Some n))) (λ r. refl) c1.records n d.owner (grind (arith, bus-low))
+      other-record resources.bus (with_added (kid_name resources.slot) (strong Device (Some n))) (λ r. refl) c1.records n d.owner (grind (arith, bus-low))
       (other-record (parent_for a.id) (with_added (name_for b a.id) (child n)) (λ r. refl) c.records n d.owner (grind (arith, parent-low)) d.found)
 
-  sits3 : Sits (1 ∷ []) (edit n (with_given b a.props) c2)
+  sits3 : HasPins (1 ∷ []) (edit n (with_given b a.props) c2)
   unfolding add
   sits3 = record { near = near-given b a.props None c2 n wide d.owner found2 d.empty near2; pins = rows-pins n t (slots_of t) _ ∙ rest.pinned }
 
-  sits-valued : Sits (1 ∷ []) (valued b n a.props spot (joined b n a spot c))
+  sits-valued : HasPins (1 ∷ []) (valued b n a.props resources (joined b n a resources c))
   unfolding add
   sits-valued = held-set (1 ∷ []) n (codes "realized") (val.Bool true)
-      _ (held-linked (1 ∷ []) n (codes "parent_bus") spot.bus _ (held-set (1 ∷ []) n (codes "slot") (val.Uint spot.slot) _ sits3))
+      _ (held-linked (1 ∷ []) n (codes "parent_bus") resources.bus _ (held-set (1 ∷ []) n (codes "slot") (val.Uint resources.slot) _ sits3))
 
-  sits-stood : Sits (1 ∷ []) (stood b n a spot c)
-  sits-stood = let k : Sits (1 ∷ []) (addressed_at n spot.range (valued b n a.props spot (joined b n a spot c))) = addressed spot.range in
-      record { near = near-same_slots n (with_body_of a.id spot.range) (λ r. refl) (λ r. refl) (λ r. refl) None _ k.near; pins = k.pins }
+  sits-stood : HasPins (1 ∷ []) (stood b n a resources c)
+  sits-stood =
+      let k : HasPins (1 ∷ []) (addressed_at n resources.range (valued b n a.props resources (joined b n a resources c))) = addressed resources.range in
+      record { near = near-same_slots n (with_body_of a.id resources.range) (λ r. refl) (λ r. refl) (λ r. refl) None _ k.near; pins = k.pins }
     where
-      addressed : (range : Option Range) → Sits (1 ∷ []) (addressed_at n range (valued b n a.props spot (joined b n a spot c)))
+      addressed : (range : Option Range) → HasPins (1 ∷ []) (addressed_at n range (valued b n a.props resources (joined b n a resources c)))
       addressed None = sits-valued
       addressed (Some r) = held-set (1 ∷ []) n (codes "addr") (val.Uint r.at) _ sits-valued
 
-  sits-source : (source : ℕ) (clock : Option ℕ) → Sits (1 ∷ []) (with_source source clock (stood b n a spot c))
+  sits-source : (source : ℕ) (clock : Option ℕ) → HasPins (1 ∷ []) (with_source source clock (stood b n a resources c))
   sits-source source None = sits-stood
   sits-source source (Some m) = held-linked (1 ∷ []) m (codes "source") source _ sits-stood
 
-  pub sits-device : Sits (1 ∷ []) (with_device b t a spot)
+  pub sits-device : HasPins (1 ∷ []) (with_device b t a resources)
   sits-device = counted-sits a.id _ (sits-source _ _)
 
 -- acts, phases and what is told change no slot
-pub held-all : (ps : List ℕ) (act : Act) (ns : List ℕ) (c : Board) → Sits ps c → Sits ps (acted_all act ns c)
+pub held-all : (ps : List ℕ) (act : Act) (ns : List ℕ) (c : Board) → HasPins ps c → HasPins ps (acted_all act ns c)
 held-all ps act [] c h = h
 held-all ps act (m ∷ ns) c h = held-all ps act ns _ (held-acted ps act m 0 c h)
 
-pub held-phased : (ps : List ℕ) (act : Act) (ns : List ℕ) (c : Board) → Sits ps c → Sits ps (phased act ns c)
+pub held-phased : (ps : List ℕ) (act : Act) (ns : List ℕ) (c : Board) → HasPins ps c → HasPins ps (phased act ns c)
 held-phased ps act [] c h = h
 held-phased ps act (m ∷ ns) c h = held-phased ps act ns _ (held-acted ps act m 0 c h)
 
-pub held-plugged : (ps : List ℕ) (m : ℕ) (c : Board) → Sits ps c → Sits ps (plugged c m)
+pub held-plugged : (ps : List ℕ) (m : ℕ) (c : Board) → HasPins ps c → HasPins ps (plugged c m)
 unfolding plugged
-held-plugged ps m c h = held-phased ps Exit (filter (is_out c) (post c m)) _ (held-phased ps Hold (post c m) _ (held-phased ps Enter (post c m) c h))
+held-plugged ps m c h = held-phased ps Exit (filter (is_not_in_reset c) (post c m)) _ (held-phased ps Hold (post c m) _ (held-phased ps Enter (post c m) c h))
 
-held-told : (ps : List ℕ) (m : ℕ) (c : Board) → Sits ps c → Sits ps (notified_plug m c)
+held-told : (ps : List ℕ) (m : ℕ) (c : Board) → HasPins ps c → HasPins ps (notified_plug m c)
 held-told ps m c h =
     record {
       near = near-beside None (edit m (with_path (canonical c m)) c) c.holds c.pending _ c.notes
@@ -222,15 +225,16 @@ held-told ps m c h =
     }
 
 -- a device that is added
-pub plugged-rest : (b : Board) (t : TypeId) (a : Wanted) (spot : Spot) → AtRest b → is_open (b.born + 1) ≡ false → IsPlace b t a spot
-    → AtRest (with_plugged b t a spot)
-plugged-rest b t a spot h shut place =
-    let k : Sits (1 ∷ []) (with_plugged b t a spot) = held-told (1 ∷ []) (b.born + 1) _ (held-plugged (1 ∷ []) (b.born + 1)
-    _ (held-all (1 ∷ []) Realize ((b.born + 1) ∷ bus_births (b.born + 1) t) _ (sits-device b t a spot h shut place))) in
+pub plugged-rest : (b : Board) (t : TypeId) (a : Wanted) (resources : Resources) → PinsRootAlone b → is_open (b.born + 1) ≡ false → IsPlace b t a resources
+    → PinsRootAlone (with_plugged b t a resources)
+plugged-rest b t a resources h shut place =
+    let k : HasPins (1 ∷ []) (with_plugged b t a resources) = held-told (1 ∷ []) (b.born + 1) _ (held-plugged (1 ∷ []) (b.born + 1)
+    _ (held-all (1 ∷ []) Realize ((b.born + 1) ∷ bus_births (b.born + 1) t) _ (sits-device b t a resources h shut place))) in
     record { used = k.near; pinned = k.pins }
 
 -- attempts take births, and are noted
-pub ended-rest : (b : Board) (made : List (ℕ × TypeId)) (passed : List Note) (ended : List (ℕ × TypeId)) → AtRest b → AtRest (with_ended b made passed ended)
+pub ended-rest : (b : Board) (made : List (ℕ × TypeId)) (passed : List Note) (ended : List (ℕ × TypeId)) → PinsRootAlone b
+    → PinsRootAlone (with_ended b made passed ended)
 ended-rest b made passed ended h =
     record {
       used = record {
@@ -241,12 +245,12 @@ ended-rest b made passed ended h =
       pinned = h.pinned;
     }
 
-pub plug_attempt-rest : (b : Board) (t : TypeId) (m stage : ℕ) → AtRest b → AtRest (plug_attempt b t m stage)
+pub plug_attempt-rest : (b : Board) (t : TypeId) (m stage : ℕ) → PinsRootAlone b → PinsRootAlone (plug_attempt b t m stage)
 plug_attempt-rest b t m stage h =
     let os : List (ℕ × TypeId) = born_from (suc b.born) (types_in t) in
     ended-rest b os (if stage == 8 then passed_notes b m (suc b.born) t else []) (device_last os) h
 
-pub cut_attempt-rest : (b : Board) (t : TypeId) (i : ℕ) (joined : Bool) → AtRest b → AtRest (cut_attempt b t i joined)
+pub cut_attempt-rest : (b : Board) (t : TypeId) (i : ℕ) (joined : Bool) → PinsRootAlone b → PinsRootAlone (cut_attempt b t i joined)
 cut_attempt-rest b t i joined h =
     let os : List (ℕ × TypeId) = take i (born_from (suc b.born) (types_in t)) in
     ended-rest b os [] (cut_order joined i os) h
@@ -295,13 +299,14 @@ slot-free b bus None e = go (least (is_free b bus) 0 BUS_SLOTS) refl
 
 -- the stages
 
-late-rest : (b : Board) (t : TypeId) (bus : ℕ) (a : Wanted) (refusal : Option (ℕ × Code)) → barred_late b t bus a.props ≡ refusal → AtRest b
-    → is_open (b.born + 1) ≡ false → (barred_late b t bus a.props ≡ None → IsPlace b t a (spot_of b t bus a.props)) → AtRest (plug_late b t bus a refusal).board
+late-rest : (b : Board) (t : TypeId) (bus : ℕ) (a : Wanted) (refusal : Option (ℕ × Code)) → barred_late b t bus a.props ≡ refusal → PinsRootAlone b
+    → is_open (b.born + 1) ≡ false → (barred_late b t bus a.props ≡ None → IsPlace b t a (resources_of b t bus a.props))
+    → PinsRootAlone (plug_late b t bus a refusal).board
 late-rest b t bus a (Some refusal) e h shut place = plug_attempt-rest b t bus refusal.0 h
-late-rest b t bus a None e h shut place = plugged-rest b t a (spot_of b t bus a.props) h shut (place e)
+late-rest b t bus a None e h shut place = plugged-rest b t a (resources_of b t bus a.props) h shut (place e)
 
 pub place-of : (b : Board) (t : TypeId) (bus : ℕ) (a : Wanted) → is_a t (codes "device") ≡ true → bus_for b t a.bus ≡ Some bus → barred_early b t a ≡ None
-    → barred_late b t bus a.props ≡ None → IsPlace b t a (spot_of b t bus a.props)
+    → barred_late b t bus a.props ≡ None → IsPlace b t a (resources_of b t bus a.props)
 place-of b t bus a device chosen early late =
     let bus_stage : Option (ℕ × Code) = at_stage 3 (bus_barred b t (bus_for b t a.bus)) in
     let room_stages : Option (ℕ × Code) = first_of (at_stage 4 (room_barred b t) ∷ []) in
@@ -328,12 +333,12 @@ place-of b t bus a device chosen early late =
       device = device;
     }
 
-as-rest : (b : Board) (t : TypeId) (a : Wanted) → is_a t (codes "device") ≡ true → AtRest b → is_open (b.born + 1) ≡ false → (o : Option (ℕ × Code))
-    → barred_early b t a ≡ o → AtRest (plug_as b t a o).board
+as-rest : (b : Board) (t : TypeId) (a : Wanted) → is_a t (codes "device") ≡ true → PinsRootAlone b → is_open (b.born + 1) ≡ false → (o : Option (ℕ × Code))
+    → barred_early b t a ≡ o → PinsRootAlone (plug_as b t a o).board
 as-rest b t a device h shut (Some refusal) e = h
 as-rest b t a device h shut None e = go (bus_for b t a.bus) refl
   where
-    go : (m : Option ℕ) → bus_for b t a.bus ≡ m → AtRest (plug_as b t a None).board
+    go : (m : Option ℕ) → bus_for b t a.bus ≡ m → PinsRootAlone (plug_as b t a None).board
     go None p = rw (plug_as, p) h
     go (Some bus) p = rw (plug_as, p) (late-rest b t bus a (barred_late b t bus a.props) refl h shut (place-of b t bus a device p e))
 
@@ -345,11 +350,12 @@ device-of row e =
     let second : (not (is_a row.id (codes "device")) ≡ false) × (None ≡ None) = unbarred (not (is_a row.id (codes "device"))) E22 None first.1 in
     not-false (is_a row.id (codes "device")) second.0
 
-by-rest : (b : Board) (a : Wanted) → AtRest b → is_open (b.born + 1) ≡ false → (o : Option Code) → type_barred a.driver ≡ o → AtRest (plug_by b a o).board
+by-rest : (b : Board) (a : Wanted) → PinsRootAlone b → is_open (b.born + 1) ≡ false → (o : Option Code) → type_barred a.driver ≡ o
+    → PinsRootAlone (plug_by b a o).board
 by-rest b a h shut (Some code) e = h
 by-rest b a h shut None e = go (type_named a.driver) refl
   where
-    go : (row : Option TypeInfo) → type_named a.driver ≡ row → AtRest (plug_by b a None).board
+    go : (row : Option TypeInfo) → type_named a.driver ≡ row → PinsRootAlone (plug_by b a None).board
     go None p = rw (plug_by, p) h
     go (Some row) p = rw (plug_by, p) (as-rest b row.id a (device-of row (rw (type_barred, p) at e)) h shut (barred_early b row.id a) refl)
 
@@ -362,6 +368,6 @@ shut-above k le =
     rw (is_open, three, four, eight) refl
 
 -- adding a device, taken or refused
-pub plug-rest : (b : Board) (a : Wanted) → AtRest b → AtRest (plug b a).board
+pub plug-rest : (b : Board) (a : Wanted) → PinsRootAlone b → PinsRootAlone (plug b a).board
 unfolding plug
 plug-rest b a h = by-rest b a h (shut-above b.born h.used.firm.begun) (type_barred a.driver) refl

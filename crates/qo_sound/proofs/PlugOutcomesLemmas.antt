@@ -42,9 +42,9 @@ misfit-not_full b (row.Alias owner property) v e = let clash : Some E19 ≡ Some
 
 property-not_full : (b : Board) (o : Option Property) (v : Val) → NotFull (refusal_by b o v)
 property-not_full b None v e = let clash : Some E17 ≡ Some E43 = e in cc
-property-not_full b (Some p) v e = go (may_add p.mark) refl
+property-not_full b (Some p) v e = go (may_add p.access) refl
   where
-    go : (u : Bool) → may_add p.mark ≡ u → ⊥
+    go : (u : Bool) → may_add p.access ≡ u → ⊥
     go true q = misfit-not_full b p.role v (rw (refusal_by, q) at e)
     go false q = let clash : Some E18 ≡ Some E43 = rw (refusal_by, q) at e in cc
 

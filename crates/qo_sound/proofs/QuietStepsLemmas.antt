@@ -1,7 +1,7 @@
 -- What acts keep, and what changes none of the objects, holds keep, and removals that are asked for.
 use Rattle.std.proofs.Common.{◌≡◌, refl, ℕ, Bool, true, false, List, [], ◌∷◌, ◌++◌, filter, Option, Some, None, is_some}
-use Rattle.qo_model.proofs.Common.{Act, Enter, Hold, Exit, Board, acted, among, asked, asked_of, device_at, attached, notice_barred, without_first, is_out, phased, post, pulse, released}
-use Rattle.qo_model.specs.Reset.{held}
+use Rattle.qo_model.proofs.Common.{Act, Enter, Hold, Exit, Board, acted, among, asked, asked_of, device_at, attached, notice_barred, without_first, is_not_in_reset, phased, post, pulse, released}
+use Rattle.qo_model.specs.Reset.{after_hold}
 
 module _ (P : Board → Type 0) (same : (b c : Board) → c.records ≡ b.records → P b → P c)
     (acts : (act : Act) (n period : ℕ) (b : Board) → P b → P (acted act n period b)) where
@@ -9,23 +9,23 @@ module _ (P : Board → Type 0) (same : (b c : Board) → c.records ≡ b.record
   quiet-phased act [] b h = h
   quiet-phased act (n ∷ ns) b h = quiet-phased act ns (acted act n 0 b) (acts act n 0 b h)
 
-  pub quiet-held : (b : Board) (n : ℕ) → P b → P (held b n)
-  unfolding held
+  pub quiet-held : (b : Board) (n : ℕ) → P b → P (after_hold b n)
+  unfolding after_hold
   quiet-held b n h =
-      let entered : Board = phased Enter (filter (is_out b) (post b n)) b in
-      let c : Board = phased Hold (filter (is_out b) (post b n)) entered in
+      let entered : Board = phased Enter (filter (is_not_in_reset b) (post b n)) b in
+      let c : Board = phased Hold (filter (is_not_in_reset b) (post b n)) entered in
       same c (record c { holds = b.holds ++ n ∷ [] }) refl
-      (quiet-phased Hold (filter (is_out b) (post b n)) entered (quiet-phased Enter (filter (is_out b) (post b n)) b h))
+      (quiet-phased Hold (filter (is_not_in_reset b) (post b n)) entered (quiet-phased Enter (filter (is_not_in_reset b) (post b n)) b h))
 
   pub quiet-released : (b : Board) (n : ℕ) → P b → P (released b n)
   unfolding released
   quiet-released b n h =
       let c : Board = record b { holds = without_first n b.holds } in
-      quiet-phased Exit (filter (is_out c) (post c n)) c (same b c refl h)
+      quiet-phased Exit (filter (is_not_in_reset c) (post c n)) c (same b c refl h)
 
   pub quiet-pulse : (b : Board) (n : ℕ) → P b → P (pulse b n)
   unfolding pulse
-  quiet-pulse b n h = quiet-released (held b n) n (quiet-held b n h)
+  quiet-pulse b n h = quiet-released (after_hold b n) n (quiet-held b n h)
 
   quiet-asked_of : (b : Board) (d : ℕ) → P b → P (asked_of b d).board
   quiet-asked_of b d h = go (attached b d) refl (among b.pending d) refl (is_some (notice_barred b)) refl

@@ -1,50 +1,51 @@
 -- Holds of resets and the reset of the whole board keep the tree sound; what they leave of a board beside its objects.
 use Rattle.std.proofs.Common.{◌≡◌, refl, ◌∙◌, ℕ, zero, suc, List, [], ◌∷◌, ◌++◌, filter, length, Option, Some, None}
-use Rattle.qo_model.proofs.Common.{MACHINE_BIRTH, Act, Enter, Hold, Exit, Board, Record, acted, all_completed, completed, reset_whole, without_first, is_out, phased, post, pulse, released}
+use Rattle.qo_model.proofs.Common.{MACHINE_BIRTH, Act, Enter, Hold, Exit, Board, Record, acted, all_completed, completed, reset_whole, without_first, is_not_in_reset, phased, post, pulse, released}
 use Rattle.qo_model.specs.declared.notes.Note.{Note}
-use Rattle.qo_model.specs.Reset.{held}
+use Rattle.qo_model.specs.Reset.{after_hold}
 use Rattle.qo_model.specs.Unplug.{first_of}
 use Rattle.qo_sound.specs.DeviceScope.{ResetLeaves}
 use Rattle.qo_sound.proofs.CutLemmas.{near-beside}
 use Rattle.qo_sound.proofs.PlugLemmas.{held-phased}
-use Rattle.qo_sound.proofs.UnplugLemmas.{detach-rest, Sits}
-use Rattle.qo_sound.proofs.ViewLemmas.{AtRest}
+use Rattle.qo_sound.proofs.UnplugLemmas.{detach-rest, HasPins}
+use Rattle.qo_sound.proofs.ViewLemmas.{PinsRootAlone}
 
 -- the tree
 
-phased-rest : (act : Act) (ns : List ℕ) (b : Board) → AtRest b → AtRest (phased act ns b)
+phased-rest : (act : Act) (ns : List ℕ) (b : Board) → PinsRootAlone b → PinsRootAlone (phased act ns b)
 phased-rest act ns b h =
-    let sits : Sits (1 ∷ []) (phased act ns b) = held-phased (1 ∷ []) act ns b (record { near = h.used; pins = h.pinned }) in
+    let sits : HasPins (1 ∷ []) (phased act ns b) = held-phased (1 ∷ []) act ns b (record { near = h.used; pins = h.pinned }) in
     record { used = sits.near; pinned = sits.pins }
 
-holds-rest : (b : Board) (holds : List ℕ) → AtRest b → AtRest (record b { holds = holds })
+holds-rest : (b : Board) (holds : List ℕ) → PinsRootAlone b → PinsRootAlone (record b { holds = holds })
 holds-rest b holds h = record { used = near-beside None b holds b.pending b.notices b.notes h.used; pinned = h.pinned }
 
-pub held-rest : (b : Board) (n : ℕ) → AtRest b → AtRest (held b n)
-unfolding held
+pub held-rest : (b : Board) (n : ℕ) → PinsRootAlone b → PinsRootAlone (after_hold b n)
+unfolding after_hold
 held-rest b n h =
-    let out : List ℕ = filter (is_out b) (post b n) in
+    let out : List ℕ = filter (is_not_in_reset b) (post b n) in
     holds-rest (phased Hold out (phased Enter out b)) (b.holds ++ n ∷ []) (phased-rest Hold out (phased Enter out b) (phased-rest Enter out b h))
 
-pub released-rest : (b : Board) (n : ℕ) → AtRest b → AtRest (released b n)
+pub released-rest : (b : Board) (n : ℕ) → PinsRootAlone b → PinsRootAlone (released b n)
 unfolding released
 released-rest b n h =
     let c : Board = record b { holds = without_first n b.holds } in
-    phased-rest Exit (filter (is_out c) (post c n)) c (holds-rest b (without_first n b.holds) h)
+    phased-rest Exit (filter (is_not_in_reset c) (post c n)) c (holds-rest b (without_first n b.holds) h)
 
-pulse-rest : (b : Board) (n : ℕ) → AtRest b → AtRest (pulse b n)
+pulse-rest : (b : Board) (n : ℕ) → PinsRootAlone b → PinsRootAlone (pulse b n)
 unfolding pulse
-pulse-rest b n h = released-rest (held b n) n (held-rest b n h)
+pulse-rest b n h = released-rest (after_hold b n) n (held-rest b n h)
 
-completed-rest : (times : ℕ) (b : Board) → AtRest b → AtRest (all_completed times b)
+completed-rest : (times : ℕ) (b : Board) → PinsRootAlone b → PinsRootAlone (all_completed times b)
 completed-rest zero b h = h
 completed-rest (suc times) b h = go (first_of b.pending) refl (completed-rest times)
   where
-    go : (o : Option ℕ) → first_of b.pending ≡ o → ((c : Board) → AtRest c → AtRest (all_completed times c)) → AtRest (all_completed (suc times) b)
+    go : (o : Option ℕ) → first_of b.pending ≡ o → ((c : Board) → PinsRootAlone c → PinsRootAlone (all_completed times c))
+        → PinsRootAlone (all_completed (suc times) b)
     go None p rest = rw (all_completed, p) h
     go (Some d) p rest = rw (all_completed, p) (rest (completed b d) (detach-rest b d h))
 
-pub reset-rest : (b : Board) → AtRest b → AtRest (reset_whole b)
+pub reset-rest : (b : Board) → PinsRootAlone b → PinsRootAlone (reset_whole b)
 unfolding reset_whole
 reset-rest b h = pulse-rest (all_completed (length b.pending) b) MACHINE_BIRTH (completed-rest (length b.pending) b h)
 
@@ -78,10 +79,10 @@ holds-leaves b c holds h = beside-leaves b c c.records c.notes holds h
 pub none-leaves : (b : Board) → ResetLeaves b b
 none-leaves b = record { anonymous = refl; now = refl; running = refl; pending = refl; notices = refl; rings = refl; events = refl }
 
-pub held-leaves : (b : Board) (n : ℕ) → ResetLeaves b (held b n)
-unfolding held
+pub held-leaves : (b : Board) (n : ℕ) → ResetLeaves b (after_hold b n)
+unfolding after_hold
 held-leaves b n =
-    let out : List ℕ = filter (is_out b) (post b n) in
+    let out : List ℕ = filter (is_not_in_reset b) (post b n) in
     holds-leaves b (phased Hold out (phased Enter out b)) (b.holds ++ n ∷ [])
     (phased-leaves Hold out b (phased Enter out b) (phased-leaves Enter out b b (none-leaves b)))
 
@@ -89,7 +90,7 @@ pub released-leaves : (b : Board) (n : ℕ) → ResetLeaves b (released b n)
 unfolding released
 released-leaves b n =
     let c : Board = record b { holds = without_first n b.holds } in
-    phased-leaves Exit (filter (is_out c) (post c n)) b c (holds-leaves b b (without_first n b.holds) (none-leaves b))
+    phased-leaves Exit (filter (is_not_in_reset c) (post c n)) b c (holds-leaves b b (without_first n b.holds) (none-leaves b))
 
 leaves-then : (b c d : Board) → ResetLeaves b c → ResetLeaves c d → ResetLeaves b d
 leaves-then b c d h k =
@@ -105,4 +106,4 @@ leaves-then b c d h k =
 
 pub pulse-leaves : (b : Board) (n : ℕ) → ResetLeaves b (pulse b n)
 unfolding pulse
-pulse-leaves b n = leaves-then b (held b n) (released (held b n) n) (held-leaves b n) (released-leaves (held b n) n)
+pulse-leaves b n = leaves-then b (after_hold b n) (released (after_hold b n) n) (held-leaves b n) (released-leaves (after_hold b n) n)

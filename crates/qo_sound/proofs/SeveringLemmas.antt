@@ -7,8 +7,8 @@ use Rattle.qo_model.proofs.ComesToLemmas.{sever-comes, severed-comes}
 use Rattle.qo_model.proofs.PinLemmas.{put-among, put-back, severed-pins, unpin-pins}
 use Rattle.qo_sound.proofs.CountLemmas.{one_at, times}
 use Rattle.qo_sound.proofs.FirmBoardLemmas.{firm-beside}
-use Rattle.qo_sound.proofs.WorkLemmas.{Nearly, after-firm}
-use Rattle.qo_sound.proofs.ViewLemmas.{AtRest}
+use Rattle.qo_sound.proofs.WorkLemmas.{InvariantBut, after-firm}
+use Rattle.qo_sound.proofs.ViewLemmas.{PinsRootAlone}
 use Rattle.qo_sound.proofs.ChangeLemmas.{near-unlinked}
 
 -- a pin more counts once, and one less counts for no other object
@@ -31,7 +31,7 @@ first-times n x apart (m ∷ ns) = go (m == n) refl (first-times n x apart ns)
         rw (without_first, p) (omega (arith, none, sum_by-cons (one_at x) m ns))
     go false p rest = rw (without_first, p) (omega (arith, rest, sum_by-cons (one_at x) m ns, sum_by-cons (one_at x) m (without_first n ns)))
 
-pub near-pin : (b : Board) (n : ℕ) → Nearly None b → Nearly None (pin b n)
+pub near-pin : (b : Board) (n : ℕ) → InvariantBut None b → InvariantBut None (pin b n)
 unfolding pin
 near-pin b n h =
     record {
@@ -44,7 +44,7 @@ pub pin-pins : (b : Board) (n : ℕ) → (pin b n).pins ≡ put_in_order n b.pin
 unfolding pin
 pin-pins b n = refl
 
-pub near-unpin : (b : Board) (n : ℕ) → list_any (nat_eq n) b.pins ≡ true → Nearly None b → Nearly None (unpin b n)
+pub near-unpin : (b : Board) (n : ℕ) → list_any (nat_eq n) b.pins ≡ true → InvariantBut None b → InvariantBut None (unpin b n)
 unfolding unpin
 near-unpin b n e h = rw (unpin, e) (after-firm (without_pin b n) (Some n) free)
   where
@@ -57,7 +57,7 @@ near-unpin b n e h = rw (unpin, e) (after-firm (without_pin b n) (Some n) free)
             let nothing : refs b m ≡ 0 = omega (arith, none, first-times n m p b.pins) in
             absurd (let clash : None ≡ Some m = h.used m there nothing in cc)
 
-    free : Nearly (Some n) (without_pin b n)
+    free : InvariantBut (Some n) (without_pin b n)
     free =
         record {
           firm = firm-beside b (without_pin b n) h.firm;
@@ -65,11 +65,11 @@ near-unpin b n e h = rw (unpin, e) (after-firm (without_pin b n) (Some n) free)
           used = used;
         }
 
-near-severed : (places i n : ℕ) (b : Board) → Nearly None b → Nearly None (severed_from places i n b)
-near-severed places i n b h = severed-comes (Nearly None) n (λ c j t target e k. near-unlinked c n j t target e k) places i b h
+near-severed : (places i n : ℕ) (b : Board) → InvariantBut None b → InvariantBut None (severed_from places i n b)
+near-severed places i n b h = severed-comes (InvariantBut None) n (λ c j t target e k. near-unlinked c n j t target e k) places i b h
 
 -- the strong links of n are let go while it is pinned
-severed-rest : (b : Board) (n places : ℕ) → AtRest b → AtRest (unpin (severed_from places 0 n (pin b n)) n)
+severed-rest : (b : Board) (n places : ℕ) → PinsRootAlone b → PinsRootAlone (unpin (severed_from places 0 n (pin b n)) n)
 severed-rest b n places h =
     let c : Board = severed_from places 0 n (pin b n) in
     let pins : c.pins ≡ put_in_order n (1 ∷ []) = severed-pins places 0 n (pin b n) ∙ pinned in
@@ -82,5 +82,5 @@ severed-rest b n places h =
     pinned : (pin b n).pins ≡ put_in_order n (1 ∷ [])
     pinned = pin-pins b n ∙ ap (put_in_order n) h.pinned
 
-pub sever-rest : (b : Board) (n : ℕ) → AtRest b → AtRest (sever b n).board
-sever-rest b n h = sever-comes AtRest b n h (λ there away. severed-rest b n (length (slots_at b n)) h)
+pub sever-rest : (b : Board) (n : ℕ) → PinsRootAlone b → PinsRootAlone (sever b n).board
+sever-rest b n h = sever-comes PinsRootAlone b n h (λ there away. severed-rest b n (length (slots_at b n)) h)

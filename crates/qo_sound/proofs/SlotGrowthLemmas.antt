@@ -8,8 +8,8 @@ use Rattle.qo_model.proofs.StepLemmas.{found_at, one_of}
 use Rattle.qo_sound.proofs.RecordLemmas.{all-append, sum-edited}
 use Rattle.qo_values.proofs.ListLemmas.{all-imply}
 use Rattle.qo_sound.proofs.SlotLemmas.{clocks_in, names_in, one_child}
-use Rattle.qo_sound.proofs.FirmBoardLemmas.{Linked, HasNames, Firm, firm-edit}
-use Rattle.qo_sound.proofs.WorkLemmas.{HasOwn, Nearly}
+use Rattle.qo_sound.proofs.FirmBoardLemmas.{Linked, HasNames, WellFormed, firm-edit}
+use Rattle.qo_sound.proofs.WorkLemmas.{HasOwn, InvariantBut}
 use Rattle.qo_sound.proofs.CutLemmas.{near-edit}
 
 -- a name that differs from the others comes after them
@@ -90,15 +90,16 @@ none-child x (alias m name) e = refl
 
 -- a slot more that names no child
 pub near-added : (o : Option ℕ) (b : Board) (n : ℕ) (name : List ℕ) (s : Slot) (owner : Record) → record_of b n ≡ Some owner
-    → AllByRecursion (λ x. bytes_eq x name ≡ false) (names_in owner.slots) → child_of s ≡ None → Linked (kind_of b) s → PassesTo (lasting owner) s → Nearly o b
-    → Nearly o (add n name s b)
+    → AllByRecursion (λ x. bytes_eq x name ≡ false) (names_in owner.slots) → child_of s ≡ None → Linked (kind_of b) s → PassesTo (lasting owner) s
+    → InvariantBut o b
+    → InvariantBut o (add n name s b)
 unfolding add
 near-added o b n name s owner found free none links passes h = near-edit n (with_added name s) (λ r. refl) (λ r. refl) o b firm owns more h
   where
     is : (r : Record) → record_of b n ≡ Some r → owner ≡ r
     is r e = same_Some owner r (sym found ∙ e)
 
-    firm : Firm (edit n (with_added name s) b)
+    firm : WellFormed (edit n (with_added name s) b)
     firm =
         firm-edit n (with_added name s) (λ r. refl) (λ r. refl) b h.firm
         (λ r e k. names-added name s r (subst (λ (x : Record). AllByRecursion (λ y. bytes_eq y name ≡ false) (names_in x.slots)) (is r e) free) k)

@@ -1,7 +1,7 @@
 -- The law: each change keeps the tree sound, and so do any changes of the opening board.
 use Rattle.std.proofs.Common.{◌+◌, ◌≤◌, List, [], ◌∷◌, arith}
 use Rattle.qo_model.proofs.Common.{TypeId, Board, Change, added, deleted, wrote, severed, after_changes, changed, with_attempt, opening_board, births, reset_whole, cut_attempt, plug, released, graph_of, SoundGraph, detach}
-use Rattle.qo_model.specs.Reset.{held}
+use Rattle.qo_model.specs.Reset.{after_hold}
 use Rattle.qo_model.proofs.OpeningLemmas.{opening_sound}
 use Rattle.qo_sound.specs.TreeKept.{SoundKeptLaw, SoundTree}
 use Rattle.qo_values.proofs.ListLemmas.{all-imply}
@@ -10,10 +10,10 @@ use Rattle.qo_sound.proofs.PlugLemmas.{cut_attempt-rest, plug-rest}
 use Rattle.qo_sound.proofs.ResetLemmas.{held-rest, released-rest, reset-rest}
 use Rattle.qo_sound.proofs.SeveringLemmas.{sever-rest}
 use Rattle.qo_sound.proofs.UnplugLemmas.{detach-rest}
-use Rattle.qo_sound.proofs.ViewLemmas.{AtRest, rest-from_sound, sound-from_rest}
+use Rattle.qo_sound.proofs.ViewLemmas.{PinsRootAlone, rest-from_sound, sound-from_rest}
 use Rattle.qo_sound.proofs.WriteLemmas.{object_del-rest, write-rest}
 
-changed-rest : (b : Board) (change : Change) → AtRest b → AtRest (changed b change)
+changed-rest : (b : Board) (change : Change) → PinsRootAlone b → PinsRootAlone (changed b change)
 changed-rest b (added driver id props) h = object_add-rest b driver id props h
 changed-rest b (deleted id) h = object_del-rest b id h
 changed-rest b (wrote n name v) h = write-rest b n name v h
@@ -53,7 +53,7 @@ sound_kept_lem =
       plugged = λ b a h. sound-from_rest (plug b a).board (plug-rest b a (rest-from_sound b h));
       cut = λ b t i joined h. sound-from_rest (cut_attempt b t i joined) (cut_attempt-rest b t i joined (rest-from_sound b h));
       detached = λ b d h. sound-from_rest (detach b d) (detach-rest b d (rest-from_sound b h));
-      held_so = λ b n h. sound-from_rest (held b n) (held-rest b n (rest-from_sound b h));
+      held_so = λ b n h. sound-from_rest (after_hold b n) (held-rest b n (rest-from_sound b h));
       released_so = λ b n h. sound-from_rest (released b n) (released-rest b n (rest-from_sound b h));
       reset = λ b h. sound-from_rest (reset_whole b) (reset-rest b (rest-from_sound b h));
       run = λ changes. (after-sound opening_board changes opening-tree).0;

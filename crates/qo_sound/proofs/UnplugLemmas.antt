@@ -12,8 +12,8 @@ use Rattle.qo_model.proofs.ReleaseScopeLemmas.{let_go-leaves}
 use Rattle.qo_model.proofs.StepLemmas.{one_of}
 use Rattle.qo_sound.proofs.FirmBoardLemmas.{val-linked, unseen-linked}
 use Rattle.qo_sound.proofs.SlotLemmas.{IsNoClock, no_child, other_name}
-use Rattle.qo_sound.proofs.WorkLemmas.{Nearly, after-firm}
-use Rattle.qo_sound.proofs.ViewLemmas.{AtRest}
+use Rattle.qo_sound.proofs.WorkLemmas.{InvariantBut, after-firm}
+use Rattle.qo_sound.proofs.ViewLemmas.{PinsRootAlone}
 use Rattle.qo_sound.proofs.ChangeLemmas.{IsGentle, emptied-at, gentle-val, near-changed, near-drop, near-let_go, open-last, other-lasts}
 use Rattle.qo_sound.proofs.SeveringLemmas.{near-pin, near-unpin, pin-pins}
 use Rattle.qo_sound.proofs.CutLemmas.{near-beside, near-cut, near-same_slots}
@@ -29,26 +29,27 @@ on-record b n i s x r e q k =
     same_Some s x (sym e ∙ ap (λ (slots : List (List ℕ × Slot)). slice_get slots i) own ∙ k)
 
 -- a board on which each object has references, and with these pins
-pub record Sits (ps : List ℕ) (c : Board) : Type 0 where
-  pub near : Nearly None c
+pub record HasPins (ps : List ℕ) (c : Board) : Type 0 where
+  pub near : InvariantBut None c
   pub pins : c.pins ≡ ps
 
 -- a slot is let go that passes a test: one of an open object, or none that is the clock's
-held-let_go : (ps : List ℕ) (c : Board) (n i : ℕ) → Nearly None (let_go c n i) → Sits ps c → Sits ps (let_go c n i)
+held-let_go : (ps : List ℕ) (c : Board) (n i : ℕ) → InvariantBut None (let_go c n i) → HasPins ps c → HasPins ps (let_go c n i)
 held-let_go ps c n i near h = record { near = near; pins = (let_go-leaves c n i).pins ∙ h.pins }
 
-pub held-where_open : (ps : List ℕ) (p : List ℕ × Slot → Bool) (n : ℕ) (c : Board) → is_open n ≡ true → Sits ps c → Sits ps (let_go_where p n c)
+pub held-where_open : (ps : List ℕ) (p : List ℕ × Slot → Bool) (n : ℕ) (c : Board) → is_open n ≡ true → HasPins ps c → HasPins ps (let_go_where p n c)
 held-where_open ps p n c wide h = go (index_from p 0 (slots_at c n)) refl
   where
-    go : (o : Option ℕ) → index_from p 0 (slots_at c n) ≡ o → Sits ps (let_go_where p n c)
+    go : (o : Option ℕ) → index_from p 0 (slots_at c n) ≡ o → HasPins ps (let_go_where p n c)
     go None e = rw (let_go_where, e) h
     go (Some i) e = rw (let_go_where, e) (held-let_go ps c n i (near-let_go c n i (λ s q. open-last c n i wide) h.near) h)
 
-pub held-where_other : (ps : List ℕ) (p : List ℕ × Slot → Bool) → ((s : List ℕ × Slot) → p s ≡ true → is_clock_slot s ≡ false) → (n : ℕ) (c : Board) → Sits ps c
-    → Sits ps (let_go_where p n c)
+pub held-where_other : (ps : List ℕ) (p : List ℕ × Slot → Bool) → ((s : List ℕ × Slot) → p s ≡ true → is_clock_slot s ≡ false) → (n : ℕ) (c : Board)
+    → HasPins ps c
+    → HasPins ps (let_go_where p n c)
 held-where_other ps p apart n c h = go (index_from p 0 (slots_at c n)) refl
   where
-    go : (o : Option ℕ) → index_from p 0 (slots_at c n) ≡ o → Sits ps (let_go_where p n c)
+    go : (o : Option ℕ) → index_from p 0 (slots_at c n) ≡ o → HasPins ps (let_go_where p n c)
     go None e = rw (let_go_where, e) h
     go (Some i) e =
         let f : Found p (slots_at c n) i = found-at p i (slots_at c n) e in
@@ -72,15 +73,15 @@ bus-apart m s e = go (is_clock_slot s) refl
         no false k = cc
 
 -- a device is held while something is done that keeps the board so
-held-pinned : (ps : List ℕ) → IsUp ps → (d : ℕ) (f : Board → Board) → ((qs : List ℕ) → IsUp qs → (c : Board) → Sits qs c → Sits qs (f c)) → (c : Board)
-    → Sits ps c → Sits ps (unpin (f (pin c d)) d)
+held-pinned : (ps : List ℕ) → IsUp ps → (d : ℕ) (f : Board → Board) → ((qs : List ℕ) → IsUp qs → (c : Board) → HasPins qs c → HasPins qs (f c)) → (c : Board)
+    → HasPins ps c → HasPins ps (unpin (f (pin c d)) d)
 held-pinned ps up d f keeps c h =
     record {
       near = near-unpin (f (pin c d)) d there inner.near;
       pins = unpin-pins (f (pin c d)) d there ∙ ap (without_first d) inner.pins ∙ put-back d ps up;
     }
   where
-    inner : Sits (put_in_order d ps) (f (pin c d))
+    inner : HasPins (put_in_order d ps) (f (pin c d))
     inner = keeps (put_in_order d ps) (put-up d ps up) (pin c d) (record { near = near-pin c d h.near; pins = pin-pins c d ∙ ap (put_in_order d) h.pins })
 
     there : list_any (nat_eq d) (f (pin c d)).pins ≡ true
@@ -153,11 +154,11 @@ set-count k v (strong t target) = omega arith
 set-count k v (weak t target) = omega arith
 set-count k v (alias m name) = omega arith
 
-pub held-set : (ps : List ℕ) (n : ℕ) (name : List ℕ) (v : Val) (c : Board) → Sits ps c → Sits ps (set_named n name v c)
+pub held-set : (ps : List ℕ) (n : ℕ) (name : List ℕ) (v : Val) (c : Board) → HasPins ps c → HasPins ps (set_named n name v c)
 unfolding set
 held-set ps n name v c h = go (index_from (is_named name) 0 (slots_at c n)) refl
   where
-    go : (o : Option ℕ) → index_from (is_named name) 0 (slots_at c n) ≡ o → Sits ps (set_named n name v c)
+    go : (o : Option ℕ) → index_from (is_named name) 0 (slots_at c n) ≡ o → HasPins ps (set_named n name v c)
     go None e = rw (set_named, e) h
     go (Some i) e =
         let f : Found (is_named name) (slots_at c n) i = found-at (is_named name) i (slots_at c n) e in
@@ -167,7 +168,7 @@ held-set ps n name v c h = go (index_from (is_named name) 0 (slots_at c n)) refl
           pins = h.pins;
         })
 
-pub held-acted : (ps : List ℕ) (act : Act) (n period : ℕ) (c : Board) → Sits ps c → Sits ps (acted act n period c)
+pub held-acted : (ps : List ℕ) (act : Act) (n period : ℕ) (c : Board) → HasPins ps c → HasPins ps (acted act n period c)
 unfolding acted
 held-acted ps act n period c h =
     record {
@@ -176,10 +177,10 @@ held-acted ps act n period c h =
       pins = h.pins;
     }
 
-held-unheld : (ps : List ℕ) (n : ℕ) (c : Board) → Sits ps c → Sits ps (unheld n c)
+held-unheld : (ps : List ℕ) (n : ℕ) (c : Board) → HasPins ps c → HasPins ps (unheld n c)
 held-unheld ps n c h = record { near = near-beside None c (without_all n c.holds) c.pending c.notices c.notes h.near; pins = h.pins }
 
-held-unnoticed : (ps : List ℕ) (n : ℕ) (c : Board) → Sits ps c → Sits ps (unnoticed n c)
+held-unnoticed : (ps : List ℕ) (n : ℕ) (c : Board) → HasPins ps c → HasPins ps (unnoticed n c)
 held-unnoticed ps n c h =
     record { near = near-beside None c c.holds (without_all n c.pending) (filter (λ (x : Notice). not (x.birth == n)) c.notices) c.notes h.near; pins = h.pins }
 
@@ -207,10 +208,10 @@ unseen-count k (strong t target) = omega arith
 unseen-count k (weak t target) = omega arith
 unseen-count k (alias m name) = omega arith
 
-held-unseen : (ps : List ℕ) (n : ℕ) (name : List ℕ) (c : Board) → Sits ps c → Sits ps (unseen_named n name c)
+held-unseen : (ps : List ℕ) (n : ℕ) (name : List ℕ) (c : Board) → HasPins ps c → HasPins ps (unseen_named n name c)
 held-unseen ps n name c h = go (index_from (is_named name) 0 (slots_at c n)) refl
   where
-    go : (o : Option ℕ) → index_from (is_named name) 0 (slots_at c n) ≡ o → Sits ps (unseen_named n name c)
+    go : (o : Option ℕ) → index_from (is_named name) 0 (slots_at c n) ≡ o → HasPins ps (unseen_named n name c)
     go None e = rw (unseen_named, e) h
     go (Some i) e =
         let f : Found (is_named name) (slots_at c n) i = found-at (is_named name) i (slots_at c n) e in
@@ -220,21 +221,21 @@ held-unseen ps n name c h = go (index_from (is_named name) 0 (slots_at c n)) ref
           pins = h.pins;
         })
 
-held-disconnected : (ps : List ℕ) (o : Option ℕ) (c : Board) → Sits ps c → Sits ps (disconnected o c)
+held-disconnected : (ps : List ℕ) (o : Option ℕ) (c : Board) → HasPins ps c → HasPins ps (disconnected o c)
 held-disconnected ps None c h = h
 held-disconnected ps (Some n) c h = held-set ps n (codes "period") (val.Uint 0) _ (held-unseen ps n (codes "source") c h)
 
 -- unrealizing
 
-held-device : (ps : List ℕ) (d : ℕ) (c : Board) → Sits ps c → Sits ps (unrealized_device d c)
+held-device : (ps : List ℕ) (d : ℕ) (c : Board) → HasPins ps c → HasPins ps (unrealized_device d c)
 held-device ps d c h = held-unnoticed ps d _ (held-unheld ps d
     _ (held-set ps d (codes "realized") (val.Bool false) _ (held-disconnected ps (clock_of c d) _ (held-acted ps Unrealize d (device_period c d) c h))))
 
-held-bus : (ps : List ℕ) (m : ℕ) (c : Board) → Sits ps c → Sits ps (unrealized_bus m c)
+held-bus : (ps : List ℕ) (m : ℕ) (c : Board) → HasPins ps c → HasPins ps (unrealized_bus m c)
 held-bus ps m c h = held-unheld ps m _ (held-acted ps Unrealize m 0 c h)
 
-pub held-unrealize : (ps : List ℕ) (d : ℕ) (c : Board) → Sits ps c → Sits ps (unrealize c d)
-held-unrealize ps d c h = unrealize-keeps (Sits ps) (held-device ps) (held-bus ps) c d h
+pub held-unrealize : (ps : List ℕ) (d : ℕ) (c : Board) → HasPins ps c → HasPins ps (unrealize c d)
+held-unrealize ps d c h = unrealize-keeps (HasPins ps) (held-device ps) (held-bus ps) c d h
 
 -- taking out
 
@@ -247,11 +248,11 @@ kid-held d (name, strong t (Some m)) e = (t, ap (λ (k : ℕ). strong t (Some k)
 kid-held d (name, weak t target) e = cc
 kid-held d (name, alias m property) e = cc
 
-pub held-taken : (ps : List ℕ) (d m : ℕ) (c : Board) → Sits ps c → Sits ps (take_where (names_kid d) m c)
+pub held-taken : (ps : List ℕ) (d m : ℕ) (c : Board) → HasPins ps c → HasPins ps (take_where (names_kid d) m c)
 unfolding cut drop_slot
 held-taken ps d m c h = go (index_from (names_kid d) 0 (slots_at c m)) refl
   where
-    go : (o : Option ℕ) → index_from (names_kid d) 0 (slots_at c m) ≡ o → Sits ps (take_where (names_kid d) m c)
+    go : (o : Option ℕ) → index_from (names_kid d) 0 (slots_at c m) ≡ o → HasPins ps (take_where (names_kid d) m c)
     go None e = rw (take_where, e) h
     go (Some i) e =
         let f : Found (names_kid d) (slots_at c m) i = found-at (names_kid d) i (slots_at c m) e in
@@ -259,41 +260,42 @@ held-taken ps d m c h = go (index_from (names_kid d) 0 (slots_at c m)) refl
         let at : slot_at c m i ≡ Some (strong t (Some d)) = slot-of c m i f.entry f.at ∙ ap Some is in
         let other : (r : Record) (s : List ℕ × Slot) → record_of c m ≡ Some r → slice_get r.slots i ≡ Some s → IsNoClock s =
         λ r s q k. subst IsNoClock (on-record c m i f.entry s r f.at q k) (no_child (ap child_of is)) in
-        let dropped : Nearly (Some d) (drop_slot c m i) = near-drop c m i (strong t (Some d)) at (other-lasts c m i other (strong t (Some d)) at) h.near in
-        let gone : Nearly (Some d) (cut m i (drop_slot c m i)) =
+        let dropped : InvariantBut (Some d) (drop_slot c m i) =
+        near-drop c m i (strong t (Some d)) at (other-lasts c m i other (strong t (Some d)) at) h.near in
+        let gone : InvariantBut (Some d) (cut m i (drop_slot c m i)) =
         near-cut (Some d) (drop_slot c m i) m i (strong t None) (emptied-at c m i (strong t (Some d)) (strong t None) at refl) refl refl dropped in
         rw (take_where, e, take_slot, at) (record {
           near = after-firm (cut m i (drop_slot c m i)) (Some d) gone;
           pins = release-pins (cut m i (drop_slot c m i)) (Some d) ∙ h.pins;
         })
 
-held-left_bus : (ps : List ℕ) (d : ℕ) (c : Board) → Sits ps c → Sits ps (left_bus d c)
+held-left_bus : (ps : List ℕ) (d : ℕ) (c : Board) → HasPins ps c → HasPins ps (left_bus d c)
 held-left_bus ps d c h = go (bus_of c d) refl
   where
-    go : (o : Option ℕ) → bus_of c d ≡ o → Sits ps (left_bus d c)
+    go : (o : Option ℕ) → bus_of c d ≡ o → HasPins ps (left_bus d c)
     go None e = rw (left_bus, e) h
     go (Some m) e = rw (left_bus, e) (held-where_other ps (is_named (codes "parent_bus")) (named-apart (codes "parent_bus") refl) d _ (held-taken ps d m c h))
 
-held-left_parent : (ps : List ℕ) (d : ℕ) (c : Board) → Sits ps c → Sits ps (left_parent d c)
+held-left_parent : (ps : List ℕ) (d : ℕ) (c : Board) → HasPins ps c → HasPins ps (left_parent d c)
 held-left_parent ps d c h =
     held-where_open ps (is_child_slot d) ANONYMOUS_BIRTH _ refl (held-where_open ps (is_child_slot d) PERIPHERAL_BIRTH c refl h)
 
-held-out : (ps : List ℕ) (f : ℕ → Board → Board) → ((n : ℕ) (c : Board) → Sits ps c → Sits ps (f n c)) → (d : ℕ) (c : Board) → Sits ps c
-    → Sits ps (taken_by f d c)
-held-out ps = taken-keeps (Sits ps) (λ m. held-where_other ps (is_bus_child m) (bus-apart m)) (held-left_bus ps) (held-left_parent ps)
+held-out : (ps : List ℕ) (f : ℕ → Board → Board) → ((n : ℕ) (c : Board) → HasPins ps c → HasPins ps (f n c)) → (d : ℕ) (c : Board) → HasPins ps c
+    → HasPins ps (taken_by f d c)
+held-out ps = taken-keeps (HasPins ps) (λ m. held-where_other ps (is_bus_child m) (bus-apart m)) (held-left_bus ps) (held-left_parent ps)
 
-held-apart : (depth : ℕ) (ps : List ℕ) → IsUp ps → (d : ℕ) (c : Board) → Sits ps c → Sits ps (apart_within depth d c)
+held-apart : (depth : ℕ) (ps : List ℕ) → IsUp ps → (d : ℕ) (c : Board) → HasPins ps c → HasPins ps (apart_within depth d c)
 unfolding apart_within
 held-apart zero ps up d c h = h
 held-apart (suc depth) ps up d c h =
     held-pinned ps up d (taken_by (apart_within depth) d) (λ qs high e k. held-out qs (apart_within depth) (held-apart depth qs high) d e k) c h
 
 -- a device that is detached
-pub detach-rest : (b : Board) (d : ℕ) → AtRest b → AtRest (detach b d)
+pub detach-rest : (b : Board) (d : ℕ) → PinsRootAlone b → PinsRootAlone (detach b d)
 unfolding detach
-detach-rest b d h = let k : Sits (1 ∷ []) (detach b d) = held in record { used = k.near; pinned = k.pins }
+detach-rest b d h = let k : HasPins (1 ∷ []) (detach b d) = held in record { used = k.near; pinned = k.pins }
   where
-    held : Sits (1 ∷ []) (unpin (taken_by (apart_within (length (births b))) d (unrealize (pin b d) d)) d)
+    held : HasPins (1 ∷ []) (unpin (taken_by (apart_within (length (births b))) d (unrealize (pin b d) d)) d)
     held =
         held-pinned (1 ∷ []) (tt, tt) d (λ c. taken_by (apart_within (length (births b))) d (unrealize c d))
         (λ qs high c k. held-out qs (apart_within (length (births b))) (held-apart (length (births b)) qs high) d (unrealize c d) (held-unrealize qs d c k))

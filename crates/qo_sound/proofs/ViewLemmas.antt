@@ -13,13 +13,13 @@ use Rattle.qo_sound.proofs.SlotLemmas.{clocks_in}
 use Rattle.qo_sound.specs.TreeKept.{SoundTree}
 use Rattle.qo_sound.proofs.RecordLemmas.{all-both, all-map, all-unmap}
 use Rattle.qo_sound.proofs.SlotLemmas.{names-each, one_child, one_child-same, sum-each_same}
-use Rattle.qo_sound.proofs.FirmBoardLemmas.{Linked, AllLinked, HasNames, parents_in, parents_of, Firm}
+use Rattle.qo_sound.proofs.FirmBoardLemmas.{Linked, AllLinked, HasNames, parents_in, parents_of, WellFormed}
 use Rattle.qo_sound.proofs.CountLemmas.{parents-from_distinct, distinct-from_parents}
-use Rattle.qo_sound.proofs.WorkLemmas.{HasOwn, Nearly}
+use Rattle.qo_sound.proofs.WorkLemmas.{HasOwn, InvariantBut}
 
 -- a board at rest: each object has references, and birth 1 alone is pinned
-pub record AtRest (b : Board) : Type 0 where
-  pub used : Nearly None b
+pub record PinsRootAlone (b : Board) : Type 0 where
+  pub used : InvariantBut None b
   pub pinned : b.pins ≡ 1 ∷ []
 
 -- without plain values each object has its type
@@ -135,7 +135,7 @@ same-children b = fun_ext (children_of-graph_of b)
 same-kinds : (b : Board) → kind_of (graph_of b) ≡ kind_of b
 same-kinds b = fun_ext (kind-graph_of b)
 
-firm-from_sound : (b : Board) → SoundGraph b → Firm b
+firm-from_sound : (b : Board) → SoundGraph b → WellFormed b
 unfolding graph_of
 firm-from_sound b h =
     record {
@@ -154,7 +154,7 @@ firm-from_sound b h =
     }
 
 -- a sound tree is at rest
-pub rest-from_sound : (b : Board) → SoundTree b → AtRest b
+pub rest-from_sound : (b : Board) → SoundTree b → PinsRootAlone b
 unfolding graph_of
 rest-from_sound b t = record { used = record { firm = firm-from_sound b t.0; aliases = t.1; used = used }; pinned = pinned }
   where
@@ -180,7 +180,7 @@ rest-from_sound b t = record { used = record { firm = firm-from_sound b t.0; ali
             absurd (let some : 0 < refs b m = others m there apart in omega (arith, some, none))
 
 -- and a board at rest has a sound tree
-pub sound-from_rest : (b : Board) → AtRest b → SoundTree b
+pub sound-from_rest : (b : Board) → PinsRootAlone b → SoundTree b
 unfolding graph_of
 sound-from_rest b h = (graph, h.used.aliases)
   where

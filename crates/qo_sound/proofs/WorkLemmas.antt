@@ -5,7 +5,7 @@ use Rattle.std.proofs.lemmas.Bool.{eqb-true, eq-eqb}
 use Rattle.std.proofs.lemmas.List.Sums.{sum_by-cons}
 use Rattle.std.proofs.lemmas.Option.{same_Some}
 use Rattle.std.proofs.Math.Bool.{or-true}
-use Rattle.qo_model.specs.Board.{held}
+use Rattle.qo_model.specs.Board.{referent}
 use Rattle.qo_model.proofs.EditLemmas.{sum-held, one_is, held-forgotten, sum-without_hold, StandsAt, stands-at}
 use Rattle.qo_model.proofs.ReleaseInductionLemmas.{after_keeps}
 use Rattle.qo_model.proofs.StepLemmas.{drop-live, drop-refs, finish-live, finish-refs, found_at, found-birth, one_of}
@@ -13,7 +13,7 @@ use Rattle.qo_sound.proofs.SlotLemmas.{clocks-each}
 use Rattle.qo_sound.proofs.RecordLemmas.{all-map, all-passing, all-edited, sum-edited, sum-filtered}
 use Rattle.qo_values.proofs.ListLemmas.{all-imply}
 use Rattle.qo_sound.proofs.SlotLemmas.{each_slot, child-forgotten}
-use Rattle.qo_sound.proofs.FirmBoardLemmas.{Firm, firm-drop}
+use Rattle.qo_sound.proofs.FirmBoardLemmas.{WellFormed, firm-drop}
 use Rattle.qo_sound.proofs.EndLemmas.{firm-finish}
 use Rattle.qo_sound.proofs.EmptySlotLemmas.{EmptyBefore, empty-drop, empty-drop_next, empty-all, empty-finish}
 
@@ -29,7 +29,7 @@ abbrev pub OwnBut : List ℕ → Record → Type 0
 OwnBut ns r = among ns r.birth ≡ false → HasOwn r
 
 pub record Midst (work : List (ℕ × ℕ)) (b : Board) : Type 0 where
-  pub firm : Firm b
+  pub firm : WellFormed b
   pub aliases : AllByRecursion (OwnBut (births_of work)) b.records
   -- the objects of the work have no references, and their slots before the place hold nothing
   pub free : AllByRecursion (λ (p : ℕ × ℕ). refs b p.0 ≡ 0) work
@@ -38,20 +38,20 @@ pub record Midst (work : List (ℕ × ℕ)) (b : Board) : Type 0 where
   pub used : (m : ℕ) → is_live b m ≡ true → refs b m ≡ 0 → among (births_of work) m ≡ true
 
 -- a slot that holds m holds nothing else
-holds-held : (m : ℕ) (s : Slot) → holds_it m s ≡ true → held s ≡ Some m
-holds-held m s e = go (held s) refl
+holds-held : (m : ℕ) (s : Slot) → holds_it m s ≡ true → referent s ≡ Some m
+holds-held m s e = go (referent s) refl
   where
-    go : (o : Option ℕ) → held s ≡ o → held s ≡ Some m
+    go : (o : Option ℕ) → referent s ≡ o → referent s ≡ Some m
     go None p = absurd (let clash : false ≡ true = rw (holds_it, p) at e in cc)
     go (Some k) p = p ∙ ap Some (eqb-true k m (rw (holds_it, p) at e))
 
 -- where an object loses its last reference by a slot that was let go, the slot held it
 pub dropped-held : (b : Board) → Rises (births b) → (n i : ℕ) (s : Slot) → slot_at b n i ≡ Some s → (m : ℕ) → 0 < refs b m → refs (drop_slot b n i) m ≡ 0
-    → held s ≡ Some m
+    → referent s ≡ Some m
 unfolding drop_slot
 dropped-held b up n i s e m some none = go (holds_it m s) refl
   where
-    go : (t : Bool) → holds_it m s ≡ t → held s ≡ Some m
+    go : (t : Bool) → holds_it m s ≡ t → referent s ≡ Some m
     go true p = holds-held m s p
     go false p =
         let at_place : StandsAt b n i s = stands-at b n i s e in
@@ -75,11 +75,11 @@ first-among m ns = rw (eq-eqb m m refl) refl
 
 -- after a slot of the first object of the work that was let go
 record Dropped (b : Board) (n i : ℕ) (work : List (ℕ × ℕ)) (s : Slot) : Type 0 where
-  firm : Firm (drop_slot b n i)
+  firm : WellFormed (drop_slot b n i)
   aliases : AllByRecursion (OwnBut (n ∷ births_of work)) (drop_slot b n i).records
   free : AllByRecursion (λ (p : ℕ × ℕ). refs (drop_slot b n i) p.0 ≡ 0) ((n, next_index s i) ∷ work)
   done : AllByRecursion (λ (p : ℕ × ℕ). EmptyBefore p.1 (slots_at (drop_slot b n i) p.0)) ((n, next_index s i) ∷ work)
-  used : (m : ℕ) → is_live (drop_slot b n i) m ≡ true → refs (drop_slot b n i) m ≡ 0 → among (n ∷ births_of work) m ≡ false → held s ≡ Some m
+  used : (m : ℕ) → is_live (drop_slot b n i) m ≡ true → refs (drop_slot b n i) m ≡ 0 → among (n ∷ births_of work) m ≡ false → referent s ≡ Some m
 
 dropped : (b : Board) (n i : ℕ) (work : List (ℕ × ℕ)) (s : Slot) → slot_at b n i ≡ Some s → Midst ((n, i) ∷ work) b → Dropped b n i work s
 unfolding drop_slot
@@ -111,7 +111,7 @@ dropped b n i work s e h =
 
 -- a slot let go whose object still has references, or that held none
 kept-midst : (b : Board) (n i : ℕ) (work : List (ℕ × ℕ)) (s : Slot) → Midst ((n, i) ∷ work) b → slot_at b n i ≡ Some s
-    → ((m : ℕ) → held s ≡ Some m → 0 < refs (drop_slot b n i) m) → Midst ((n, next_index s i) ∷ work) (drop_slot b n i)
+    → ((m : ℕ) → referent s ≡ Some m → 0 < refs (drop_slot b n i) m) → Midst ((n, next_index s i) ∷ work) (drop_slot b n i)
 kept-midst b n i work s h e held_on = let d : Dropped b n i work s = dropped b n i work s e h in
     record { firm = d.firm; aliases = d.aliases; free = d.free; done = d.done; used = used d }
   where
@@ -123,7 +123,7 @@ kept-midst b n i work s h e held_on = let d : Dropped b n i work s = dropped b n
         go false p = absurd (let some : 0 < refs (drop_slot b n i) m = held_on m (d.used m there none p) in omega (arith, some, none))
 
 -- and one whose object has none any more
-freed-midst : (b : Board) (n i : ℕ) (work : List (ℕ × ℕ)) (s : Slot) (k : ℕ) → Midst ((n, i) ∷ work) b → slot_at b n i ≡ Some s → held s ≡ Some k
+freed-midst : (b : Board) (n i : ℕ) (work : List (ℕ × ℕ)) (s : Slot) (k : ℕ) → Midst ((n, i) ∷ work) b → slot_at b n i ≡ Some s → referent s ≡ Some k
     → refs (drop_slot b n i) k ≡ 0 → Midst ((k, 0) ∷ (n, next_index s i) ∷ work) (drop_slot b n i)
 freed-midst b n i work s k h e holds free =
     let d : Dropped b n i work s = dropped b n i work s e h in
@@ -225,13 +225,13 @@ midst-keeps =
     }
 
 -- a board on which each object but one, if there is one, has references
-pub record Nearly (o : Option ℕ) (b : Board) : Type 0 where
-  pub firm : Firm b
+pub record InvariantBut (o : Option ℕ) (b : Board) : Type 0 where
+  pub firm : WellFormed b
   pub aliases : AllByRecursion HasOwn b.records
   pub used : (m : ℕ) → is_live b m ≡ true → refs b m ≡ 0 → o ≡ Some m
 
 -- after what follows a slot that held this one, all have
-pub after-firm : (b : Board) (o : Option ℕ) → Nearly o b → Nearly None (after finalize b o)
+pub after-firm : (b : Board) (o : Option ℕ) → InvariantBut o b → InvariantBut None (after finalize b o)
 after-firm b o h = at_rest (after_keeps Midst midst-keeps b o [] free held_on)
   where
     free : (m : ℕ) → o ≡ Some m → refs b m ≡ 0 → Midst ((m, 0) ∷ []) b
@@ -254,7 +254,7 @@ after-firm b o h = at_rest (after_keeps Midst midst-keeps b o [] free held_on)
           used = λ k there none. absurd (let more : 0 < refs b k = some k (h.used k there none) in omega (arith, more, none));
         }
 
-    at_rest : {c : Board} → Midst [] c → Nearly None c
+    at_rest : {c : Board} → Midst [] c → InvariantBut None c
     at_rest {c} k =
         record {
           firm = k.firm;

@@ -3,8 +3,8 @@ use Rattle.std.specs.Prelude.{◌≡◌, ℕ, suc, ◌+◌, Bool, true, List, []
 use Rattle.qo_values.specs.declared.codes.Code.{Code}
 use Rattle.qo_values.specs.declared.kinds.TypeId.{TypeId}
 use Rattle.qo_model.specs.Board.{Board, DeviceEvent}
-use Rattle.qo_model.specs.Plug.{Spot, Wanted, cut_attempt, plug, with_plugged}
-use Rattle.qo_model.specs.Reset.{held, pulse, released}
+use Rattle.qo_model.specs.Plug.{Resources, Wanted, cut_attempt, plug, with_plugged}
+use Rattle.qo_model.specs.Reset.{after_hold, pulse, released}
 use Rattle.qo_model.specs.ChangeScope.{Stays}
 use Rattle.qo_model.specs.Unplug.{detach}
 
@@ -52,13 +52,13 @@ pub record DevicesStayLaw : Type 0 where
   pub refused : (b : Board) (a : Wanted) (refusal : ℕ × Code) → (plug b a).refusal ≡ Some refusal → AttemptLeaves b (plug b a).board
   pub cut : (b : Board) (t : TypeId) (i : ℕ) (joined : Bool) → AttemptLeaves b (cut_attempt b t i joined)
   -- a device that is added: the guest is told, and without an id it counts
-  pub added : (b : Board) (t : TypeId) (a : Wanted) (spot : Spot) → AddLeaves b (with_plugged b t a spot)
-  pub counted : (b : Board) (t : TypeId) (a : Wanted) (spot : Spot) → (with_plugged b t a spot).anonymous ≡ anonymous_after b a.id
-  pub told : (b : Board) (t : TypeId) (a : Wanted) (spot : Spot)
-      → (with_plugged b t a spot).notices ≡ b.notices ++ record { plug = true; birth = b.born + 1 } ∷ []
+  pub added : (b : Board) (t : TypeId) (a : Wanted) (resources : Resources) → AddLeaves b (with_plugged b t a resources)
+  pub counted : (b : Board) (t : TypeId) (a : Wanted) (resources : Resources) → (with_plugged b t a resources).anonymous ≡ anonymous_after b a.id
+  pub told : (b : Board) (t : TypeId) (a : Wanted) (resources : Resources)
+      → (with_plugged b t a resources).notices ≡ b.notices ++ record { plug = true; birth = b.born + 1 } ∷ []
   -- a device that is detached
   pub detached : (b : Board) (d : ℕ) → DetachLeaves b (detach b d)
   -- a hold, a hold less, and both
-  pub held_so : (b : Board) (n : ℕ) → ResetLeaves b (held b n)
+  pub held_so : (b : Board) (n : ℕ) → ResetLeaves b (after_hold b n)
   pub released_so : (b : Board) (n : ℕ) → ResetLeaves b (released b n)
   pub pulsed : (b : Board) (n : ℕ) → ResetLeaves b (pulse b n)

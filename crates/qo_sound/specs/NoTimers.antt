@@ -12,7 +12,7 @@ use Rattle.qo_model.specs.Hotplug.{asked, refused, reset_whole}
 use Rattle.qo_model.specs.Objects.{with_attempt}
 use Rattle.qo_model.specs.Opening.{opening_board}
 use Rattle.qo_model.specs.Plug.{Wanted, cut_attempt, plug}
-use Rattle.qo_model.specs.Reset.{held, pulse, released}
+use Rattle.qo_model.specs.Reset.{after_hold, pulse, released}
 use Rattle.qo_model.specs.Types.{TypeInfo, type_named}
 use Rattle.qo_model.specs.Unplug.{detach}
 
@@ -48,7 +48,7 @@ pub record TimerlessKeptLaw : Type 0 where
   pub refused_by : (b : Board) (d : ℕ) → Timerless b → Timerless (refused b d)
   pub acts : (act : Act) (n period : ℕ) (b : Board) → Timerless b → Timerless (acted act n period b)
   -- a hold of a reset, a hold less, and both; and the reset of the whole board
-  pub held_so : (b : Board) (n : ℕ) → Timerless b → Timerless (held b n)
+  pub held_so : (b : Board) (n : ℕ) → Timerless b → Timerless (after_hold b n)
   pub released_so : (b : Board) (n : ℕ) → Timerless b → Timerless (released b n)
   pub pulsed : (b : Board) (n : ℕ) → Timerless b → Timerless (pulse b n)
   pub reset : (b : Board) → Timerless b → Timerless (reset_whole b)

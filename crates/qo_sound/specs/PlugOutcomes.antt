@@ -3,7 +3,7 @@ use Rattle.std.specs.Prelude.{◌≡◌, ◌≢◌, ℕ, ◌≤◌, None, Some}
 use Rattle.qo_values.specs.declared.codes.Code.{Code}
 use Rattle.qo_values.specs.declared.codes.Code.TheVariants.{E43}
 use Rattle.qo_model.specs.Board.{Board}
-use Rattle.qo_model.specs.Plug.{Wanted, barred_early, barred_late, bus_for, plug, plug_attempt, spot_of, type_barred, with_plugged}
+use Rattle.qo_model.specs.Plug.{Wanted, barred_early, barred_late, bus_for, plug, plug_attempt, resources_of, type_barred, with_plugged}
 use Rattle.qo_model.specs.Types.{TypeInfo, type_named}
 
 -- an attempt is made: at a device of a type, on a bus, since nothing bars it early
@@ -27,7 +27,7 @@ pub record Added (b : Board) (a : Wanted) (c : Board) : Type 0 where
   pub bus : ℕ
   pub attempted : IsAttempted b a row bus
   pub late : barred_late b row.id bus a.props ≡ None
-  pub board : c ≡ with_plugged b row.id a (spot_of b row.id bus a.props)
+  pub board : c ≡ with_plugged b row.id a (resources_of b row.id bus a.props)
 
 -- on every board
 pub record PlugComesToLaw : Type 0 where

@@ -6,7 +6,7 @@ use Rattle.std.proofs.lemmas.Option.{same_Some}
 use Rattle.std.proofs.lemmas.Slice.Eq.{bytes_eq-Decides}
 use Rattle.std.proofs.Math.Bool.{or-true}
 use Rattle.qo_model.proofs.FirstSlotLemmas.{named_in}
-use Rattle.qo_sound.proofs.FirmBoardLemmas.{Firm}
+use Rattle.qo_sound.proofs.FirmBoardLemmas.{WellFormed}
 use Rattle.qo_sound.proofs.SlotLemmas.{names_in}
 use Rattle.qo_sound.proofs.TestLemmas.{clash}
 use Rattle.qo_sound_devices.specs.SoundPlaces.{child_entries, child_entry, HasOwner, machines, bridges, listed, owns, owns_it, stands}
@@ -65,7 +65,7 @@ named-child name (x ∷ xs) h = go (bytes_eq x.0 name) refl (named-child name xs
     go true p rest = rw p (own x p h.0)
     go false p rest = rw p (rest ∙ skip x p)
 
-clock-by : (b : Board) → Firm b → (n : ℕ) → clock_of b n ≡ entry_named (codes "clk") (child_entries b n)
+clock-by : (b : Board) → WellFormed b → (n : ℕ) → clock_of b n ≡ entry_named (codes "clk") (child_entries b n)
 clock-by b firm n = go (record_of b n) refl
   where
     go : (o : Option Record) → record_of b n ≡ o → clock_of b n ≡ entry_named (codes "clk") (child_entries b n)
@@ -78,7 +78,7 @@ clock-by b firm n = go (record_of b n) refl
         ∙ sym (ap (λ (o : Option Record). entry_named (codes "clk") (filter_map child_entry (option_map_or (λ (r : Record). r.slots) o []))) e)
 
 -- the same children, the same clock
-pub clock-same : (b c : Board) → Firm b → Firm c → (x : ℕ) → child_entries c x ≡ child_entries b x → clock_of c x ≡ clock_of b x
+pub clock-same : (b c : Board) → WellFormed b → WellFormed c → (x : ℕ) → child_entries c x ≡ child_entries b x → clock_of c x ≡ clock_of b x
 clock-same b c firm also x same = clock-by c also x ∙ ap (entry_named (codes "clk")) same ∙ sym (clock-by b firm x)
 
 entry-listed : (name : List ℕ) (m : ℕ) (es : List (List ℕ × ℕ)) → entry_named name es ≡ Some m → listed m es ≡ true
@@ -93,10 +93,10 @@ entry-listed name m (x ∷ es) e = go (bytes_eq x.0 name) refl (entry-listed nam
     go false p rest = rw (rest (rw p at e)) (or-true (x.1 == m))
 
 -- it is a child
-pub clock-listed : (b : Board) → Firm b → (d k : ℕ) → clock_of b d ≡ Some k → listed k (child_entries b d) ≡ true
+pub clock-listed : (b : Board) → WellFormed b → (d k : ℕ) → clock_of b d ≡ Some k → listed k (child_entries b d) ≡ true
 clock-listed b firm d k e = entry-listed (codes "clk") k (child_entries b d) (sym (clock-by b firm d) ∙ e)
 
-pub clock-live : (b : Board) → Firm b → (d k : ℕ) → clock_of b d ≡ Some k → is_live b k ≡ true
+pub clock-live : (b : Board) → WellFormed b → (d k : ℕ) → clock_of b d ≡ Some k → is_live b k ≡ true
 clock-live b firm d k e = child-live b firm d k (clock-listed b firm d k e)
 
 -- the source for a bus

@@ -1,6 +1,6 @@
 -- A device that is added: its clock goes by the one for its bus, and the others go by what they went by.
 use Rattle.std.proofs.Common.{◌≡◌, ◌⊎◌, inl, inr, refl, ap, sym, subst, ◌∙◌, ℕ, suc, ◌+◌, ◌<◌, ◌≤◌, Bool, true, false, ◌==◌, List, [], ◌∷◌, Option, Some, None, option_map, option_and_then, unwrap_or, codes, arith}
-use Rattle.qo_model.proofs.Common.{if◌then◌else◌, nat_eq_equiv, AllByRecursion, list_any, option_map_or, ANONYMOUS_BIRTH, MACHINE_BIRTH, PERIPHERAL_BIRTH, SYSTEM_CLOCK_BIRTH, Realize, TypeId, Clock, Device, Val, Range, Board, Record, child, strong, is_live, kind_of, record_of, slots_at, add, changed_at, fresh, set, with_added, with_changed, with_val, source_of, bus_of, child_named, clock_of, is_realized, kid_name, index_from, fresh_slots, is_of, only_of, Spot, Wanted, acted_all, addressed_at, bus_births, clocked, counted, drafted, fitted, joined, link_named, name_for, parent_for, plug, plug_attempt, source_for, spot_of, stood, valued, with_body_of, with_device, with_given, with_new, with_plugged, with_source, edit, is_a, slots_of, types, is_named, set_named}
+use Rattle.qo_model.proofs.Common.{if◌then◌else◌, nat_eq_equiv, AllByRecursion, list_any, option_map_or, ANONYMOUS_BIRTH, MACHINE_BIRTH, PERIPHERAL_BIRTH, SYSTEM_CLOCK_BIRTH, Realize, TypeId, Clock, Device, Val, Range, Board, Record, child, strong, is_live, kind_of, record_of, slots_at, add, changed_at, fresh, set, with_added, with_changed, with_val, source_of, bus_of, child_named, clock_of, is_realized, kid_name, index_from, fresh_slots, is_of, only_of, Resources, Wanted, acted_all, addressed_at, bus_births, clocked, counted, drafted, fitted, joined, link_named, name_for, parent_for, plug, plug_attempt, source_for, resources_of, stood, valued, with_body_of, with_device, with_given, with_new, with_plugged, with_source, edit, is_a, slots_of, types, is_named, set_named}
 use Rattle.std.proofs.lemmas.Bool.{cases_lt, eqb-true}
 use Rattle.std.proofs.lemmas.Option.{same_Some}
 use Rattle.qo_values.specs.declared.properties.Val.TheVariants as val
@@ -12,7 +12,7 @@ use Rattle.qo_sound.proofs.DraftLemmas.{absent-above, live-apart}
 use Rattle.qo_sound.proofs.PlugLemmas.{plugged-rest, shut-above}
 use Rattle.qo_sound.proofs.RecordLemmas.{all-map}
 use Rattle.qo_sound.proofs.TestLemmas.{decide, clash}
-use Rattle.qo_sound.proofs.ViewLemmas.{AtRest, rest-from_sound}
+use Rattle.qo_sound.proofs.ViewLemmas.{PinsRootAlone, rest-from_sound}
 use Rattle.qo_sound_devices.specs.SoundDevices.{SoundDevices}
 use Rattle.qo_sound_devices.specs.SoundPlaces.{child_entries, HasOwner, machines, bridges, owns_it, stands}
 use Rattle.qo_sound_devices.proofs.DropLemmas.{edited-slots}
@@ -23,7 +23,7 @@ use Rattle.qo_sound_devices.proofs.PlugLemmas.{Accepted, after-plug}
 use Rattle.qo_sound_devices.proofs.PlugStageLemmas.{accepted-joined}
 use Rattle.qo_sound_devices.proofs.SourceLemmas.{add-other, addressed-other, edit-other, link-other, set-other, stood-other}
 use Rattle.qo_sound_clocks.proofs.SlotLemmas.{sees, Slots}
-use Rattle.qo_sound_clocks.proofs.PlugLemmas.{Calm, edited-at, Growing, growing-first, growing-rows, growing-stood, rows-quiet}
+use Rattle.qo_sound_clocks.proofs.PlugLemmas.{OnlySource, edited-at, Growing, growing-first, growing-rows, growing-stood, rows-quiet}
 use Rattle.qo_sound_clocks.proofs.PlugStageLemmas.{growing}
 use Rattle.qo_sound_clocks.proofs.ReadLemmas.{named-reads, Reads, tree-reads}
 use Rattle.qo_sound_phases.proofs.ResetTreeLemmas.{Placed}
@@ -40,17 +40,17 @@ counted-shape : (id : Option (List ℕ)) (b : Board) → SameShape b (counted id
 counted-shape None b = shape-records b (counted None b) refl
 counted-shape (Some id) b = shape-none b
 
-started-shape : (b : Board) (t : TypeId) (a : Wanted) (spot : Spot)
-    → SameShape (clocked (source_for b spot.bus) (b.born + 1) (stood b (b.born + 1) a spot (drafted b t))) (with_plugged b t a spot)
-started-shape b t a spot =
-    shape-then q made (with_plugged b t a spot) (counted-shape a.id q)
-    (shape-then made f (with_plugged b t a spot) acts.shape (told-so (b.born + 1) f).shape)
+started-shape : (b : Board) (t : TypeId) (a : Wanted) (resources : Resources)
+    → SameShape (clocked (source_for b resources.bus) (b.born + 1) (stood b (b.born + 1) a resources (drafted b t))) (with_plugged b t a resources)
+started-shape b t a resources =
+    shape-then q made (with_plugged b t a resources) (counted-shape a.id q)
+    (shape-then made f (with_plugged b t a resources) acts.shape (told-so (b.born + 1) f).shape)
   where
     q : Board
-    q = clocked (source_for b spot.bus) (b.born + 1) (stood b (b.born + 1) a spot (drafted b t))
+    q = clocked (source_for b resources.bus) (b.born + 1) (stood b (b.born + 1) a resources (drafted b t))
 
     made : Board
-    made = with_device b t a spot
+    made = with_device b t a resources
 
     ns : List ℕ
     ns = (b.born + 1) ∷ bus_births (b.born + 1) t
@@ -63,28 +63,28 @@ started-shape b t a spot =
 
 -- the board after a device that nothing refuses
 pub added-placed : (b : Board) (a : Wanted) → SoundDevices b → (t : TypeId) (at : ℕ) → Accepted b t at a
-    → Placed (with_plugged b t a (spot_of b t at a.props))
+    → Placed (with_plugged b t a (resources_of b t at a.props))
 added-placed b a d t at k =
     record {
       depth = deepened d.places.0 (b.born + 1) at c;
-      places = places-joined d.places.0 b (b.born + 1) at spot.slot a.id t c j rest.used.firm d.places.1;
-      firm = (plugged-rest b t a spot rest (shut-above b.born rest.used.firm.begun) k.place).used.firm;
+      places = places-joined d.places.0 b (b.born + 1) at resources.slot a.id t c j rest.used.firm d.places.1;
+      firm = (plugged-rest b t a resources rest (shut-above b.born rest.used.firm.begun) k.place).used.firm;
     }
   where
-    spot : Spot
-    spot = spot_of b t at a.props
+    resources : Resources
+    resources = resources_of b t at a.props
 
     c : Board
-    c = with_plugged b t a (spot_of b t at a.props)
+    c = with_plugged b t a (resources_of b t at a.props)
 
-    rest : AtRest b
+    rest : PinsRootAlone b
     rest = rest-from_sound b d.tree
 
-    j : Joined d.places.0 b (b.born + 1) at spot.slot a.id t (done b at spot.slot a.id) c
+    j : Joined d.places.0 b (b.born + 1) at resources.slot a.id t (done b at resources.slot a.id) c
     j = accepted-joined d.places.0 b a rest d.places.1 t at k
 
 -- the device where it stands
-module _ (b : Board) (a : Wanted) (spot : Spot) (c : Board) where
+module _ (b : Board) (a : Wanted) (resources : Resources) (c : Board) where
   abbrev n : ℕ
   n = b.born + 1
 
@@ -92,30 +92,30 @@ module _ (b : Board) (a : Wanted) (spot : Spot) (c : Board) where
   c1 = add (parent_for a.id) (name_for b a.id) (child (b.born + 1)) c
 
   abbrev c2 : Board
-  c2 = joined b (b.born + 1) a spot c
+  c2 = joined b (b.born + 1) a resources c
 
   -- another object
-  valued-other : (x : ℕ) → (x == b.born + 1) ≡ false → record_of (stood b (b.born + 1) a spot c) x ≡ record_of (joined b (b.born + 1) a spot c) x
+  valued-other : (x : ℕ) → (x == b.born + 1) ≡ false → record_of (stood b (b.born + 1) a resources c) x ≡ record_of (joined b (b.born + 1) a resources c) x
   valued-other x apart =
       let c3 : Board = edit n (with_given b a.props) c2 in
-      let c4 : Board = set_named n (codes "slot") (val.Uint spot.slot) c3 in
-      let c5 : Board = link_named n (codes "parent_bus") spot.bus c4 in
-      edit-other x n (with_body_of a.id spot.range) (λ r. refl) apart (addressed_at n spot.range (valued b n a.props spot c2))
-      ∙ addressed-other x n spot.range apart (valued b n a.props spot c2)
+      let c4 : Board = set_named n (codes "slot") (val.Uint resources.slot) c3 in
+      let c5 : Board = link_named n (codes "parent_bus") resources.bus c4 in
+      edit-other x n (with_body_of a.id resources.range) (λ r. refl) apart (addressed_at n resources.range (valued b n a.props resources c2))
+      ∙ addressed-other x n resources.range apart (valued b n a.props resources c2)
       ∙ set-other x n (codes "realized") (val.Bool true) apart c5
-      ∙ link-other x n (codes "parent_bus") spot.bus apart c4
-      ∙ set-other x n (codes "slot") (val.Uint spot.slot) apart c3
+      ∙ link-other x n (codes "parent_bus") resources.bus apart c4
+      ∙ set-other x n (codes "slot") (val.Uint resources.slot) apart c3
       ∙ edit-other x n (with_given b a.props) (λ r. refl) apart c2
 
-  joined-seen : (x s : ℕ) → sees s (slots_at c x) ≡ true → sees s (slots_at (joined b (b.born + 1) a spot c) x) ≡ true
+  joined-seen : (x s : ℕ) → sees s (slots_at c x) ≡ true → sees s (slots_at (joined b (b.born + 1) a resources c) x) ≡ true
   unfolding add
   joined-seen x s e =
-      edit-seen spot.bus (with_added (kid_name spot.slot) (strong Device (Some n))) (λ r. refl) c1
-      (λ r q. sees-added (kid_name spot.slot) (strong Device (Some n)) r.slots) x s
+      edit-seen resources.bus (with_added (kid_name resources.slot) (strong Device (Some n))) (λ r. refl) c1
+      (λ r q. sees-added (kid_name resources.slot) (strong Device (Some n)) r.slots) x s
       (edit-seen (parent_for a.id) (with_added (name_for b a.id) (child n)) (λ r. refl) c (λ r q. sees-added (name_for b a.id) (child n) r.slots) x s e)
 
   pub stood-seen : (x : ℕ) → (x == b.born + 1) ≡ false → (s : ℕ) → sees s (slots_at c x) ≡ true
-      → sees s (slots_at (stood b (b.born + 1) a spot c) x) ≡ true
+      → sees s (slots_at (stood b (b.born + 1) a resources c) x) ≡ true
   stood-seen x apart s e = subst (λ (o : Option Record). sees s (slots_in o) ≡ true) (sym (valued-other x apart)) (joined-seen x s e)
 
   -- its own slots
@@ -151,21 +151,21 @@ module _ (b : Board) (a : Wanted) (spot : Spot) (c : Board) where
     own-addressed None e h = h
     own-addressed (Some r) e h = own-set (codes "addr") (val.Uint r.at) e h
 
-    pub stood-own : (b.born + 1 == spot.bus) ≡ false → (b.born + 1 == parent_for a.id) ≡ false → Own (slots_at c (b.born + 1))
-        → Own (slots_at (stood b (b.born + 1) a spot c) (b.born + 1))
+    pub stood-own : (b.born + 1 == resources.bus) ≡ false → (b.born + 1 == parent_for a.id) ≡ false → Own (slots_at c (b.born + 1))
+        → Own (slots_at (stood b (b.born + 1) a resources c) (b.born + 1))
     stood-own bus parent h =
         let c3 : Board = edit n (with_given b a.props) c2 in
-        let c4 : Board = set_named n (codes "slot") (val.Uint spot.slot) c3 in
-        let c5 : Board = link_named n (codes "parent_bus") spot.bus c4 in
+        let c4 : Board = set_named n (codes "slot") (val.Uint resources.slot) c3 in
+        let c5 : Board = link_named n (codes "parent_bus") resources.bus c4 in
         let first : Own (slots_at c1 n) =
         subst Own (sym (ap slots_in (add-other n (parent_for a.id) (name_for b a.id) (child n) parent c))) h in
         let second : Own (slots_at c2 n) =
-        subst Own (sym (ap slots_in (add-other n spot.bus (kid_name spot.slot) (strong Device (Some n)) bus c1))) first in
-        own-edit (with_body_of a.id spot.range) (λ r. refl) (λ r k. k) (addressed_at n spot.range (valued b n a.props spot c2))
-        (own-addressed spot.range (valued b n a.props spot c2)
+        subst Own (sym (ap slots_in (add-other n resources.bus (kid_name resources.slot) (strong Device (Some n)) bus c1))) first in
+        own-edit (with_body_of a.id resources.range) (λ r. refl) (λ r k. k) (addressed_at n resources.range (valued b n a.props resources c2))
+        (own-addressed resources.range (valued b n a.props resources c2)
         (own-set (codes "realized") (val.Bool true) c5
-        (own-link (codes "parent_bus") spot.bus c4
-        (own-set (codes "slot") (val.Uint spot.slot) c3
+        (own-link (codes "parent_bus") resources.bus c4
+        (own-set (codes "slot") (val.Uint resources.slot) c3
         (own-edit (with_given b a.props) (λ r. refl)
         (λ r k. all-map (ClockIn n dr) (ClockIn n dr) _ (clock-given n dr b a.props) r.slots k) c2 second)))))
 
@@ -205,37 +205,37 @@ kind-link n name m c x =
 
 -- a device that nothing refuses
 module _ (b : Board) (a : Wanted) (d : SoundDevices b) (h : SoundSources b) (t : TypeId) (at : ℕ) (k : Accepted b t at a) where
-  abbrev spot : Spot
-  spot = spot_of b t at a.props
+  abbrev resources : Resources
+  resources = resources_of b t at a.props
 
   abbrev source : ℕ
   source = source_for b at
 
   abbrev made : Board
-  made = stood b (b.born + 1) a (spot_of b t at a.props) (drafted b t)
+  made = stood b (b.born + 1) a (resources_of b t at a.props) (drafted b t)
 
   abbrev fed_so : Board
-  fed_so = clocked (source_for b at) (b.born + 1) (stood b (b.born + 1) a (spot_of b t at a.props) (drafted b t))
+  fed_so = clocked (source_for b at) (b.born + 1) (stood b (b.born + 1) a (resources_of b t at a.props) (drafted b t))
 
   abbrev c : Board
-  c = with_plugged b t a (spot_of b t at a.props)
+  c = with_plugged b t a (resources_of b t at a.props)
 
-  rest : AtRest b
+  rest : PinsRootAlone b
   rest = rest-from_sound b d.tree
 
   abbrev kb : Placed b
   kb = record { depth = d.places.0; places = d.places.1; firm = (rest-from_sound b d.tree).used.firm }
 
-  j : Joined kb.depth b (b.born + 1) at (spot_of b t at a.props).slot a.id t (done b at (spot_of b t at a.props).slot a.id)
-      (with_plugged b t a (spot_of b t at a.props))
+  j : Joined kb.depth b (b.born + 1) at (resources_of b t at a.props).slot a.id t (done b at (resources_of b t at a.props).slot a.id)
+      (with_plugged b t a (resources_of b t at a.props))
   j = accepted-joined d.places.0 b a (rest-from_sound b d.tree) d.places.1 t at k
 
-  kc : Placed (with_plugged b t a (spot_of b t at a.props))
+  kc : Placed (with_plugged b t a (resources_of b t at a.props))
   kc = added-placed b a d t at k
 
-  shape : SameShape (clocked (source_for b at) (b.born + 1) (stood b (b.born + 1) a (spot_of b t at a.props) (drafted b t)))
-      (with_plugged b t a (spot_of b t at a.props))
-  shape = started-shape b t a (spot_of b t at a.props)
+  shape : SameShape (clocked (source_for b at) (b.born + 1) (stood b (b.born + 1) a (resources_of b t at a.props) (drafted b t)))
+      (with_plugged b t a (resources_of b t at a.props))
+  shape = started-shape b t a (resources_of b t at a.props)
 
   dead : (x : ℕ) → b.born < x → is_live b x ≡ false
   dead x high = high-absent b kb.firm x high
@@ -257,40 +257,41 @@ module _ (b : Board) (a : Wanted) (d : SoundDevices b) (h : SoundSources b) (t :
   live-old x there = decide (x == b.born + 1) (λ p. clash (sym there ∙ ap (is_live b) (eqb-true x (b.born + 1) p) ∙ new-dead)) (λ p. p)
 
   -- the clock of the device
-  its-clock : (m : ℕ) → clock_of (stood b (b.born + 1) a (spot_of b t at a.props) (drafted b t)) (b.born + 1) ≡ Some m → IsNewClock (b.born + 1) (drafted b t) m
+  its-clock : (m : ℕ) → clock_of (stood b (b.born + 1) a (resources_of b t at a.props) (drafted b t)) (b.born + 1) ≡ Some m
+      → IsNewClock (b.born + 1) (drafted b t) m
   its-clock m e =
       clock-in n (drafted b t) (slots_at made n)
-      (stood-own b a spot (drafted b t) (drafted b t) (live-apart b n at new-dead bus-live) (live-apart b n (parent_for a.id) new-dead parent-live)
+      (stood-own b a resources (drafted b t) (drafted b t) (live-apart b n at new-dead bus-live) (live-apart b n (parent_for a.id) new-dead parent-live)
       (drafted-clock b (absent-above b kb.firm) t)) m e
     where
       n : ℕ
       n = b.born + 1
 
   clock-record : (m : ℕ) (i : IsNewClock (b.born + 1) (drafted b t) m)
-      → record_of (stood b (b.born + 1) a (spot_of b t at a.props) (drafted b t)) m ≡ Some i.its
+      → record_of (stood b (b.born + 1) a (resources_of b t at a.props) (drafted b t)) m ≡ Some i.its
   clock-record m i =
       let none : is_live b m ≡ false = dead m (omega (arith, i.young)) in
-      stood-other m b (b.born + 1) a spot (drafted b t) (young-apart (b.born + 1) m i.young) (live-apart b m at none bus-live)
+      stood-other m b (b.born + 1) a resources (drafted b t) (young-apart (b.born + 1) m i.young) (live-apart b m at none bus-live)
       (live-apart b m (parent_for a.id) none parent-live)
       ∙ i.found
 
   -- what was there goes by what it went by
   old-made : (x s : ℕ) → is_live b x ≡ true → sees s (slots_at b x) ≡ true
-      → sees s (slots_at (stood b (b.born + 1) a (spot_of b t at a.props) (drafted b t)) x) ≡ true
+      → sees s (slots_at (stood b (b.born + 1) a (resources_of b t at a.props) (drafted b t)) x) ≡ true
   old-made x s there e =
-      stood-seen b a spot (drafted b t) x (live-old x there) s
+      stood-seen b a resources (drafted b t) x (live-old x there) s
       (subst (λ (o : Option Record). sees s (slots_in o) ≡ true)
       (sym ((drafted-made b t (shut-above b.born kb.firm.begun) rest.used k.device).old x there)) e)
 
   -- and what is new goes by nothing
-  grown : (s : ℕ) → Growing b s (stood b (b.born + 1) a (spot_of b t at a.props) (drafted b t))
+  grown : (s : ℕ) → Growing b s (stood b (b.born + 1) a (resources_of b t at a.props) (drafted b t))
   grown s =
-      growing-stood b s a spot (drafted b t)
+      growing-stood b s a resources (drafted b t)
       (growing-rows b s t (slots_of t) (rows-quiet t k.device) (with_new (fresh (b.born + 1) t) b) (growing-first b s (absent-above b kb.firm) t))
 
-  new-made : (x s : ℕ) → b.born < x → sees s (slots_at (stood b (b.born + 1) a (spot_of b t at a.props) (drafted b t)) x) ≡ true → ⊥
+  new-made : (x s : ℕ) → b.born < x → sees s (slots_at (stood b (b.born + 1) a (resources_of b t at a.props) (drafted b t)) x) ≡ true → ⊥
   new-made x s high e =
-      let calm : Calm (suc s) (slots_at made x) = (grown (suc s)).new x high in
+      let calm : OnlySource (suc s) (slots_at made x) = (grown (suc s)).new x high in
       let is : s ≡ suc s = calm.only s e in
       omega (arith, is)
 
@@ -310,7 +311,7 @@ module _ (b : Board) (a : Wanted) (d : SoundDevices b) (h : SoundSources b) (t :
   kind-fed None x = refl
   kind-fed (Some m) x = kind-link m (codes "source") source made x
 
-  made-kind : kind_of (stood b (b.born + 1) a (spot_of b t at a.props) (drafted b t)) (source_for b at) ≡ Some Clock
+  made-kind : kind_of (stood b (b.born + 1) a (resources_of b t at a.props) (drafted b t)) (source_for b at) ≡ Some Clock
   made-kind =
       sym (kind-fed (clock_of made (b.born + 1)) source)
       ∙ sym (shape.kind source)
@@ -324,8 +325,8 @@ module _ (b : Board) (a : Wanted) (d : SoundDevices b) (h : SoundSources b) (t :
     its : (m : ℕ) → clock_of q (b.born + 1) ≡ Some m → source_of q m ≡ Some (source_for b at)
     new : (x s : ℕ) → b.born < x → sees s (slots_at q x) ≡ true → clock_of q (b.born + 1) ≡ Some x
 
-  fed-at : (o : Option ℕ) → clock_of (stood b (b.born + 1) a (spot_of b t at a.props) (drafted b t)) (b.born + 1) ≡ o
-      → Fed (with_source (source_for b at) o (stood b (b.born + 1) a (spot_of b t at a.props) (drafted b t)))
+  fed-at : (o : Option ℕ) → clock_of (stood b (b.born + 1) a (resources_of b t at a.props) (drafted b t)) (b.born + 1) ≡ o
+      → Fed (with_source (source_for b at) o (stood b (b.born + 1) a (resources_of b t at a.props) (drafted b t)))
   fed-at None e =
       record {
         old = old-made;
@@ -363,7 +364,7 @@ module _ (b : Board) (a : Wanted) (d : SoundDevices b) (h : SoundSources b) (t :
           ap (λ (o : Option Record). option_and_then child_named (named_in (codes "clk") (slots_in o)))
           (link-other (b.born + 1) m (codes "source") source (nat_eq_equiv.symm (b.born + 1) m ∙ young-apart (b.born + 1) m i.young) made)
 
-  fed-now : Fed (with_plugged b t a (spot_of b t at a.props))
+  fed-now : Fed (with_plugged b t a (resources_of b t at a.props))
   fed-now =
       let f : Fed fed_so = fed-at (clock_of made (b.born + 1)) refl in
       let same : clock_of c (b.born + 1) ≡ clock_of fed_so (b.born + 1) =
@@ -378,33 +379,33 @@ module _ (b : Board) (a : Wanted) (d : SoundDevices b) (h : SoundSources b) (t :
   on : Reads b
   on = tree-reads b d.tree
 
-  now : Reads (with_plugged b t a (spot_of b t at a.props))
+  now : Reads (with_plugged b t a (resources_of b t at a.props))
   now = named-reads c kc.firm.named
 
-  old-children : (x : ℕ) → is_live b x ≡ true → stands b x ≡ true → child_entries (with_plugged b t a (spot_of b t at a.props)) x ≡ child_entries b x
+  old-children : (x : ℕ) → is_live b x ≡ true → stands b x ≡ true → child_entries (with_plugged b t a (resources_of b t at a.props)) x ≡ child_entries b x
   old-children x there s =
       j.children x there (aside-apart b (PERIPHERAL_BIRTH ∷ ANONYMOUS_BIRTH ∷ []) (kb.places.aside.1.1.0, (kb.places.aside.1.1.1.0, tt)) x s)
 
-  old-clock : (x : ℕ) → is_live b x ≡ true → stands b x ≡ true → clock_of (with_plugged b t a (spot_of b t at a.props)) x ≡ clock_of b x
+  old-clock : (x : ℕ) → is_live b x ≡ true → stands b x ≡ true → clock_of (with_plugged b t a (resources_of b t at a.props)) x ≡ clock_of b x
   old-clock x there s = clock-same b c kb.firm kc.firm x (old-children x there s)
 
-  source-old : (q : ℕ) → HasOwner b q → source_for (with_plugged b t a (spot_of b t at a.props)) q ≡ source_for b q
+  source-old : (q : ℕ) → HasOwner b q → source_for (with_plugged b t a (resources_of b t at a.props)) q ≡ source_for b q
   source-old q (machines u) = source-machines c kc q u ∙ sym (source-machines b kb q u)
   source-old q (bridges p s o) =
       let there : is_live b p ≡ true = stands-live b kb.firm p s in
-      source-bridge c kc p q (old-stands kb.depth b (b.born + 1) at spot.slot a.id t c j kb.firm kb.places p s)
+      source-bridge c kc p q (old-stands kb.depth b (b.born + 1) at resources.slot a.id t c j kb.firm kb.places p s)
       (ap (list_any (owns_it q)) (old-children p there s) ∙ o)
       ∙ ap (λ (u : Option ℕ). unwrap_or u SYSTEM_CLOCK_BIRTH) (old-clock p there s)
       ∙ sym (source-bridge b kb p q s o)
 
   -- who is realized was so, or is the device
-  lit-cases : (x : ℕ) → is_realized (with_plugged b t a (spot_of b t at a.props)) x ≡ true → {A : Type 0}
+  lit-cases : (x : ℕ) → is_realized (with_plugged b t a (resources_of b t at a.props)) x ≡ true → {A : Type 0}
       → (is_live b x ≡ true → is_realized b x ≡ true → A) → (x ≡ b.born + 1 → A) → A
   lit-cases x r f g =
       decide (is_live b x) (λ there. f there (sym (j.realized x there) ∙ r))
       (λ none. decide (x == b.born + 1) (λ p. g (eqb-true x (b.born + 1) p)) (λ p. clash (sym r ∙ j.unrealized x none p)))
 
-  accepted-sources : SoundSources (with_plugged b t a (spot_of b t at a.props))
+  accepted-sources : SoundSources (with_plugged b t a (resources_of b t at a.props))
   accepted-sources =
       record {
         fed = λ x bus m r held its. lit-cases x r (old-fed x bus m held its) (new-fed x bus m held its);
@@ -439,7 +440,7 @@ module _ (b : Board) (a : Wanted) (d : SoundDevices b) (h : SoundSources b) (t :
           go : (b.born < m) ⊎ (m ≤ b.born) → IsDeviceClock c m
           go (inl high) = record { device = b.born + 1; realized = j.stands_realized; its = fed-now.new m s high (now.seen m s e) }
           go (inr low) =
-              let i : IsDeviceClock b m = h.only m s (on.source m s (((growing b t a spot k.device d.tree).old m low).source s (now.seen m s e))) in
+              let i : IsDeviceClock b m = h.only m s (on.source m s (((growing b t a resources k.device d.tree).old m low).source s (now.seen m s e))) in
               let stood : stands b i.device ≡ true = kb.places.only i.device i.realized in
               let there : is_live b i.device ≡ true = stands-live b kb.firm i.device stood in
               record { device = i.device; realized = j.realized i.device there ∙ i.realized; its = old-clock i.device there stood ∙ i.its }

@@ -1,10 +1,10 @@
 -- The law: what keeps the holds of a board sound.
 use Rattle.std.proofs.Common.{◌≡◌, ◌⊎◌, inl, inr, refl, ap, sym, subst, ◌∙◌, ℕ, zero, suc, ◌+◌, ◌≤◌, Bool, true, false, ◌==◌, eqb, List, [], ◌∷◌, ◌++◌, length, Option, Some, None, is_some, Ok, arith}
-use Rattle.qo_model.proofs.Common.{count_by, nat_lt, AllByRecursion, list_any, Registers, MACHINE_BIRTH, Act, TypeId, Board, is_live, clock_scaled, clock_set, acted, among, Change, changed, all_completed, asked, asked_of, completed, device_at, refused, reset_whole, with_attempt, opening_board, attached, births, Wanted, cut_attempt, notice_barred, plug, plug_attempt, spot_of, with_plugged, without_first, below, count, is_deep, post, pulse, released, detach}
+use Rattle.qo_model.proofs.Common.{count_by, nat_lt, AllByRecursion, list_any, Registers, MACHINE_BIRTH, Act, TypeId, Board, is_live, clock_scaled, clock_set, acted, among, Change, changed, all_completed, asked, asked_of, completed, device_at, refused, reset_whole, with_attempt, opening_board, attached, births, Wanted, cut_attempt, notice_barred, plug, plug_attempt, resources_of, with_plugged, without_first, below, count, exceeds_depth, post, pulse, released, detach}
 use Rattle.std.proofs.lemmas.Bool.{eqb-true, eq-eqb}
 use Rattle.std.proofs.lemmas.Bool.Decides.{nat_tests}
 use Rattle.std.proofs.lemmas.List.Sums.{sum_by-cons}
-use Rattle.qo_model.specs.Reset.{held}
+use Rattle.qo_model.specs.Reset.{after_hold}
 use Rattle.qo_model.specs.Unplug.{first_of}
 use Rattle.qo_model.proofs.ChangeScopeLemmas.{changed-stays}
 use Rattle.qo_sound.proofs.DeviceScopeLemmas.{devices_stay_lem}
@@ -81,7 +81,7 @@ acted-holds act n period b h = shape-holds b (acted act n period b) (shape-acted
 
 -- a hold
 
-deep-none : (b : Board) (n : ℕ) → is_deep b n ≡ false → (o : ℕ) → among (post b n) o ≡ true → count b o ≤ 48
+deep-none : (b : Board) (n : ℕ) → exceeds_depth b n ≡ false → (o : ℕ) → among (post b n) o ≡ true → count b o ≤ 48
 deep-none b n e o i = go (post b n) e i
   where
     go : (os : List ℕ) → list_any (λ x. nat_lt 48 (count b x)) os ≡ false → among os o ≡ true → count b o ≤ 48
@@ -93,28 +93,29 @@ deep-none b n e o i = go (post b n) e i
         (λ q. subst (λ (y : ℕ). count b y ≤ 48) (sym (eqb-true o x q)) (grind (arith, nat_tests, p)))
         (λ q. go os (rw p at f) (rw q at j)))
 
-held-holds : (b : Board) (n : ℕ) → IsReached b n → is_deep b n ≡ false → SoundHolds b → SoundHolds (held b n)
+held-holds : (b : Board) (n : ℕ) → IsReached b n → exceeds_depth b n ≡ false → SoundHolds b → SoundHolds (after_hold b n)
 held-holds b n reached e h =
     record {
       on =
-          subst (AllByRecursion (IsReached (held b n))) (sym s.holds)
-          (all-append (IsReached (held b n)) b.holds (n ∷ []) (all-imply (IsReached b) (IsReached (held b n)) still b.holds h.on) (still n reached, tt));
+          subst (AllByRecursion (IsReached (after_hold b n))) (sym s.holds)
+          (all-append (IsReached (after_hold b n)) b.holds (n ∷ []) (all-imply (IsReached b) (IsReached (after_hold b n)) still b.holds h.on)
+          (still n reached, tt));
       few = few;
     }
   where
-    s : HeldSo b n (held b n)
+    s : HeldSo b n (after_hold b n)
     s = held-so b n
 
-    still : StaysReached b (held b n)
-    still = shape-reached b (held b n) s.shape
+    still : StaysReached b (after_hold b n)
+    still = shape-reached b (after_hold b n) s.shape
 
-    counted : (o : ℕ) → count (held b n) o ≡ count b o + one_if (among (post b n) o)
+    counted : (o : ℕ) → count (after_hold b n) o ≡ count b o + one_if (among (post b n) o)
     counted o =
-        count-shape b (held b n) s.shape o
+        count-shape b (after_hold b n) s.shape o
         ∙ ap (count_by (λ x. among (post b x) o)) s.holds
         ∙ count-more (λ x. among (post b x) o) n b.holds
 
-    few : (o : ℕ) → count (held b n) o ≤ 49
+    few : (o : ℕ) → count (after_hold b n) o ≤ 49
     few o =
         decide (among (post b n) o)
         (λ p.
@@ -172,11 +173,11 @@ released-holds b n h =
 pulse-count : (b : Board) (n o : ℕ) → count (pulse b n) o ≡ count b o
 unfolding pulse
 pulse-count b n o =
-    let s : HeldSo b n (held b n) = held-so b n in
+    let s : HeldSo b n (after_hold b n) = held-so b n in
     let f : ℕ → Bool = λ x. among (post b x) o in
-    released-count (held b n) n o
-    ∙ counted-same (λ x. among (post (held b n) x) o) f (λ x. ap (λ (os : List ℕ). among os o) (shape-post b (held b n) s.shape x))
-    (without_first n (held b n).holds)
+    released-count (after_hold b n) n o
+    ∙ counted-same (λ x. among (post (after_hold b n) x) o) f (λ x. ap (λ (os : List ℕ). among os o) (shape-post b (after_hold b n) s.shape x))
+    (without_first n (after_hold b n).holds)
     ∙ ap (λ (hs : List ℕ). count_by f (without_first n hs)) s.holds
     ∙ (let less : count_by f (without_first n (b.holds ++ n ∷ [])) + one_if (f n) ≡ count_by f (b.holds ++ n ∷ []) =
     count-less f n (b.holds ++ n ∷ []) (among-right n b.holds (n ∷ []) (one-among n)) in
@@ -197,18 +198,18 @@ unfolding pulse
 pulse-holds b n h =
     record {
       on =
-          subst (AllByRecursion (IsReached (released (held b n) n)))
+          subst (AllByRecursion (IsReached (released (after_hold b n) n)))
           (sym (s.holds ∙ s.fewer ∙ ap (without_first n) (held-so b n).holds))
-          (back-all (IsReached (released (held b n) n)) n b.holds
-          (all-imply (IsReached b) (IsReached (released (held b n) n)) (shape-reached b (released (held b n) n) shape) b.holds h.on));
+          (back-all (IsReached (released (after_hold b n) n)) n b.holds
+          (all-imply (IsReached b) (IsReached (released (after_hold b n) n)) (shape-reached b (released (after_hold b n) n) shape) b.holds h.on));
       few = λ o. subst (λ (k : ℕ). k ≤ 49) (sym (pulse-count b n o)) (h.few o);
     }
   where
-    s : ReleasedSo (held b n) n (released (held b n) n)
-    s = released-so (held b n) n
+    s : ReleasedSo (after_hold b n) n (released (after_hold b n) n)
+    s = released-so (after_hold b n) n
 
-    shape : SameShape b (released (held b n) n)
-    shape = shape-then b (held b n) (released (held b n) n) (held-so b n).shape (released-shape (held b n) n)
+    shape : SameShape b (released (after_hold b n) n)
+    shape = shape-then b (after_hold b n) (released (after_hold b n) n) (held-so b n).shape (released-shape (after_hold b n) n)
 
 -- removals that are asked for
 
@@ -275,7 +276,7 @@ more-counted f g (r ∷ rs) h =
 
 module _ (b : Board) (a : Wanted) (w : SoundDevices b) (h : SoundHolds b) (t : TypeId) (at : ℕ) (k : Accepted b t at a) where
   abbrev c : Board
-  c = with_plugged b t a (spot_of b t at a.props)
+  c = with_plugged b t a (resources_of b t at a.props)
 
   abbrev n : ℕ
   n = b.born + 1
@@ -283,27 +284,27 @@ module _ (b : Board) (a : Wanted) (w : SoundDevices b) (h : SoundHolds b) (t : T
   abbrev kb : Placed b
   kb = record { depth = w.places.0; places = w.places.1; firm = (rest-from_sound b w.tree).used.firm }
 
-  j : Joined kb.depth b (b.born + 1) at (spot_of b t at a.props).slot a.id t (done b at (spot_of b t at a.props).slot a.id)
-      (with_plugged b t a (spot_of b t at a.props))
+  j : Joined kb.depth b (b.born + 1) at (resources_of b t at a.props).slot a.id t (done b at (resources_of b t at a.props).slot a.id)
+      (with_plugged b t a (resources_of b t at a.props))
   j = accepted-joined w.places.0 b a (rest-from_sound b w.tree) w.places.1 t at k
 
-  kc : Placed (with_plugged b t a (spot_of b t at a.props))
+  kc : Placed (with_plugged b t a (resources_of b t at a.props))
   kc = added-placed b a w t at k
 
-  holds : (with_plugged b t a (spot_of b t at a.props)).holds ≡ b.holds
-  holds = (devices_stay_lem.added b t a (spot_of b t at a.props)).holds
+  holds : (with_plugged b t a (resources_of b t at a.props)).holds ≡ b.holds
+  holds = (devices_stay_lem.added b t a (resources_of b t at a.props)).holds
 
   -- who was reached has as many
-  old-count : (o : ℕ) → IsReached b o → count (with_plugged b t a (spot_of b t at a.props)) o ≡ count b o
+  old-count : (o : ℕ) → IsReached b o → count (with_plugged b t a (resources_of b t at a.props)) o ≡ count b o
   old-count o i =
-      sym (frame-count c b kc kb (back b kb n at (spot_of b t at a.props).slot a.id t c kc j) o i (sym holds))
+      sym (frame-count c b kc kb (back b kb n at (resources_of b t at a.props).slot a.id t c kc j) o i (sym holds))
 
-  stood : stands (with_plugged b t a (spot_of b t at a.props)) (b.born + 1) ≡ true
-  stood = new-there b kb n at (spot_of b t at a.props).slot a.id t c kc j
+  stood : stands (with_plugged b t a (resources_of b t at a.props)) (b.born + 1) ≡ true
+  stood = new-there b kb n at (resources_of b t at a.props).slot a.id t c kc j
 
   -- a hold above what is below the device is above its bus
-  over-bus : (o : ℕ) → among (post (with_plugged b t a (spot_of b t at a.props)) (b.born + 1)) o ≡ true → (r : ℕ) → IsReached b r
-      → among (post (with_plugged b t a (spot_of b t at a.props)) r) o ≡ true → among (post (with_plugged b t a (spot_of b t at a.props)) r) at ≡ true
+  over-bus : (o : ℕ) → among (post (with_plugged b t a (resources_of b t at a.props)) (b.born + 1)) o ≡ true → (r : ℕ) → IsReached b r
+      → among (post (with_plugged b t a (resources_of b t at a.props)) r) o ≡ true → among (post (with_plugged b t a (resources_of b t at a.props)) r) at ≡ true
   over-bus o e r i q =
       above (below c) (births c) (forest c kc) r n o (post-reach c kc r o q) (post-reach c kc n o e) high low
     where
@@ -311,7 +312,7 @@ module _ (b : Board) (a : Wanted) (w : SoundDevices b) (h : SoundHolds b) (t : T
       there = reached-live b kb r i
 
       low : Reach (below c) n r → among (post c r) at ≡ true
-      low v = clash (sym there ∙ below-new b kb n at (spot_of b t at a.props).slot a.id t c kc j r v)
+      low v = clash (sym there ∙ below-new b kb n at (resources_of b t at a.props).slot a.id t c kc j r v)
 
       apart : eqb r n ≡ false
       apart = decide (eqb r n) (λ p. clash (sym there ∙ ap (is_live b) (eqb-true r n p) ∙ j.absent)) (λ p. p)
@@ -319,15 +320,15 @@ module _ (b : Board) (a : Wanted) (w : SoundDevices b) (h : SoundHolds b) (t : T
       high : Reach (below c) r n → among (post c r) at ≡ true
       high v = reach-post c kc r at (before (below c) (births c) (forest c kc) r at n v (kid-leads c kc n at stood j.on) apart)
 
-  on : AllByRecursion (IsReached (with_plugged b t a (spot_of b t at a.props))) (with_plugged b t a (spot_of b t at a.props)).holds
-  on = on-still b c (reached-on_new b kb n at (spot_of b t at a.props).slot a.id t c kc j) holds h.on
+  on : AllByRecursion (IsReached (with_plugged b t a (resources_of b t at a.props))) (with_plugged b t a (resources_of b t at a.props)).holds
+  on = on-still b c (reached-on_new b kb n at (resources_of b t at a.props).slot a.id t c kc j) holds h.on
 
-  reached-few : (o : ℕ) → IsReached (with_plugged b t a (spot_of b t at a.props)) o → count (with_plugged b t a (spot_of b t at a.props)) o ≤ 49
+  reached-few : (o : ℕ) → IsReached (with_plugged b t a (resources_of b t at a.props)) o → count (with_plugged b t a (resources_of b t at a.props)) o ≤ 49
   reached-few o i = decide (among (post c n) o) below-it other
     where
       other : among (post c n) o ≡ false → count c o ≤ 49
       other e =
-          let was : IsReached b o = reached-old b kb n at (spot_of b t at a.props).slot a.id t c kc j o i e in
+          let was : IsReached b o = reached-old b kb n at (resources_of b t at a.props).slot a.id t c kc j o i e in
           let same : count c o ≡ count b o = old-count o was in
           let few : count b o ≤ 49 = h.few o in
           omega (arith, same, few)
@@ -343,7 +344,7 @@ module _ (b : Board) (a : Wanted) (w : SoundDevices b) (h : SoundHolds b) (t : T
           (all-imply (IsReached b) (λ r. among (post c r) o ≡ true → among (post c r) at ≡ true) (λ r v. over-bus o e r v) b.holds h.on)) in
           omega (arith, less, same, few)
 
-  accepted-holds : SoundHolds (with_plugged b t a (spot_of b t at a.props))
+  accepted-holds : SoundHolds (with_plugged b t a (resources_of b t at a.props))
   accepted-holds = record { on = on; few = all-few c kc on reached-few }
 
 plug-holds : (b : Board) (a : Wanted) → SoundDevices b → SoundHolds b → SoundHolds (plug b a).board

@@ -11,8 +11,8 @@ use Rattle.qo_sound.proofs.TreeKeptLemmas.{sound_kept_lem}
 use Rattle.qo_sound.proofs.AdditionStepsLemmas.{set-by}
 use Rattle.qo_sound.proofs.SeveringLemmas.{near-pin, pin-pins}
 use Rattle.qo_sound.proofs.TestLemmas.{decide, clash}
-use Rattle.qo_sound.proofs.UnplugLemmas.{held-unrealize, Sits}
-use Rattle.qo_sound.proofs.ViewLemmas.{AtRest, rest-from_sound}
+use Rattle.qo_sound.proofs.UnplugLemmas.{held-unrealize, HasPins}
+use Rattle.qo_sound.proofs.ViewLemmas.{PinsRootAlone, rest-from_sound}
 use Rattle.qo_sound_devices.specs.SoundDevices.{SoundDevices}
 use Rattle.qo_sound_devices.specs.SoundLists.{IsOn}
 use Rattle.qo_sound_devices.specs.SoundPlaces.{child_entries, listed, stands}
@@ -22,7 +22,7 @@ use Rattle.qo_sound_devices.proofs.DepthLemmas.{unrealize-dimmed, unrealize-only
 use Rattle.qo_sound_devices.proofs.PinLemmas.{pin-realized, pin-clock, pin-bus}
 use Rattle.qo_sound_devices.proofs.ResetLemmas.{detached-below, first-on}
 use Rattle.qo_sound_devices.proofs.SourceLemmas.{edit-other}
-use Rattle.qo_sound_devices.proofs.UnrealizingLemmas.{Dimmed, dimmed-none, dimmed-then, dims-bus, Fades, fades-device, reads}
+use Rattle.qo_sound_devices.proofs.UnrealizingLemmas.{FewerRealized, dimmed-none, dimmed-then, dims-bus, Fades, fades-device, reads}
 use Rattle.qo_sound_clocks.proofs.DecreaseLemmas.{Fewer, fewer-detached, fewer-none}
 use Rattle.qo_sound_clocks.proofs.ReadLemmas.{named-reads, Reads, tree-reads}
 use Rattle.qo_sound_clocks.proofs.DependenceLemmas.{acted-slots}
@@ -31,7 +31,7 @@ use Rattle.qo_sound_phases.proofs.DetachmentLemmas.{frame, kp, lit-stands, unsto
 use Rattle.qo_sound_phases.proofs.UnrealizingLemmas.{unrealize-walk}
 use Rattle.qo_sound_bounds.specs.SoundSources.{IsDeviceClock, SoundSources}
 use Rattle.qo_sound_bounds.proofs.ClockLemmas.{clock-listed, frame-sources}
-use Rattle.qo_sound_bounds.proofs.SightLemmas.{Sight, sight-detached, sight-none}
+use Rattle.qo_sound_bounds.proofs.SightLemmas.{KeepsClockLinks, sight-detached, sight-none}
 use Rattle.qo_sound_bounds.proofs.SourceLemmas.{pulse-sources}
 use Rattle.qo_sound_bounds.proofs.ClockWriteLemmas.{set-source}
 
@@ -146,7 +146,7 @@ device-own d c n e =
 -- what is told of the sources as devices are unrealized
 module _ (b p : Board) (k : Placed p) where
   record Told (c : Board) : Type 0 where
-    dimmed : Dimmed p c
+    dimmed : FewerRealized p c
     clock : (x : ℕ) → clock_of c x ≡ clock_of p x
     fed : (x bus m : ℕ) → is_realized c x ≡ true → bus_of p x ≡ Some bus → clock_of p x ≡ Some m → source_of c m ≡ Some (source_for b bus)
     only : (m s : ℕ) → source_of c m ≡ Some s → IsDeviceClock c m
@@ -242,9 +242,9 @@ module _ (b : Board) (d : ℕ) (s : SoundDevices b) (e : stands b d ≡ true) (h
       (λ x m c v i t. told-bus b (pin b d) (kp b d s e) m c t) told-first
 
   -- names differ on the way
-  sits : Sits (put_in_order d (1 ∷ [])) (unrealize (pin b d) d)
+  sits : HasPins (put_in_order d (1 ∷ [])) (unrealize (pin b d) d)
   sits =
-      let rest : AtRest b = rest-from_sound b s.tree in
+      let rest : PinsRootAlone b = rest-from_sound b s.tree in
       held-unrealize (put_in_order d (1 ∷ [])) d (pin b d)
       (record { near = near-pin b d rest.used; pins = pin-pins b d ∙ ap (put_in_order d) rest.pinned })
 
@@ -254,7 +254,7 @@ module _ (b : Board) (d : ℕ) (s : SoundDevices b) (e : stands b d ≡ true) (h
   now : Reads (detach b d)
   now = tree-reads (detach b d) (sound_kept_lem.detached b d s.tree)
 
-  sight : Sight (unrealize (pin b d) d) (detach b d)
+  sight : KeepsClockLinks (unrealize (pin b d) d) (detach b d)
   sight = sight-detached u b d (sight-none u)
 
   fewer : Fewer (unrealize (pin b d) d) (detach b d)

@@ -5,7 +5,7 @@ use Rattle.std.proofs.Math.Bool.{and-false}
 use Rattle.std.proofs.lemmas.Bool.{and_parts, eqb-true, eq-eqb, or_right, not-true}
 use Rattle.std.proofs.lemmas.Option.{same_Some}
 use Rattle.std.proofs.lemmas.Slice.Eq.{bytes_eq-Decides}
-use Rattle.qo_model.specs.Board.{held}
+use Rattle.qo_model.specs.Board.{referent}
 use Rattle.qo_model.proofs.ComesToLemmas.{addition-comes, deletion-comes, sever-comes, severed-comes}
 use Rattle.qo_model.proofs.FirstSlotLemmas.{slots_in, Found, found-at}
 use Rattle.qo_model.proofs.ReleaseInductionLemmas.{after_keeps}
@@ -107,14 +107,14 @@ sees-forgotten n s apart (x ∷ xs) e =
 
 -- boards
 
-pub record Sight (b c : Board) : Type 0 where
+pub record KeepsClockLinks (b c : Board) : Type 0 where
   pub live : (x : ℕ) → is_live c x ≡ true → is_live b x ≡ true
   pub seen : (k s : ℕ) → is_live c k ≡ true → is_live c s ≡ true → sees s (slots_at b k) ≡ true → sees s (slots_at c k) ≡ true
 
-pub sight-none : (b : Board) → Sight b b
+pub sight-none : (b : Board) → KeepsClockLinks b b
 sight-none b = record { live = λ x e. e; seen = λ k s i j e. e }
 
-pub sight-then : (b c d : Board) → Sight b c → Sight c d → Sight b d
+pub sight-then : (b c d : Board) → KeepsClockLinks b c → KeepsClockLinks c d → KeepsClockLinks b d
 sight-then b c d h k =
     record {
       live = λ x e. h.live x (k.live x e);
@@ -128,7 +128,7 @@ pub edit-seen : (n : ℕ) (change : Record → Record) → ((r : Record) → (ch
 edit-seen n change same_birth c on k s e = edit-slots SeesOn (λ xs m q. q) n change same_birth c on k s e
 
 pub edit-sight : (n : ℕ) (change : Record → Record) → ((r : Record) → (change r).birth ≡ r.birth) → (c : Board)
-    → ((r : Record) → record_of c n ≡ Some r → SeesOn r.slots (change r).slots) → Sight c (edit n change c)
+    → ((r : Record) → record_of c n ≡ Some r → SeesOn r.slots (change r).slots) → KeepsClockLinks c (edit n change c)
 edit-sight n change same_birth c on =
     record {
       live = λ x e. sym (ap is_some (found-edited n change same_birth x c.records) ∙ is_some-map (edited n change) (record_of c x)) ∙ e;
@@ -197,7 +197,7 @@ release-sight b =
       kept = λ c n i work s h e held_on. but-drop b n i work c h _;
     }
 
-pub after-sight : (o : Option ℕ) (c : Board) → Sight c (after finalize c o)
+pub after-sight : (o : Option ℕ) (c : Board) → KeepsClockLinks c (after finalize c o)
 after-sight o c =
     let k : SightBut c [] (after finalize c o) =
     after_keeps (λ (work : List (ℕ × ℕ)) (d : Board). SightBut c work d) (release-sight c) c o [] (λ m e free. but-more c m [] c none) (λ held_on. none) in
@@ -207,44 +207,44 @@ after-sight o c =
     none = record { live = λ x e. e; seen = λ k s out i j e. e }
 
 -- small steps
-pub drop-sight : (c : Board) (n i : ℕ) → ((x : List ℕ × Slot) → slice_get (slots_at c n) i ≡ Some x → harmless x ≡ true) → Sight c (drop_slot c n i)
+pub drop-sight : (c : Board) (n i : ℕ) → ((x : List ℕ × Slot) → slice_get (slots_at c n) i ≡ Some x → harmless x ≡ true) → KeepsClockLinks c (drop_slot c n i)
 unfolding drop_slot
 drop-sight c n i fine =
     edit-sight n (with_dropped i) (λ r. refl) c
     (λ r q. sees-dropped i r.slots (λ x e. fine x (ap (λ (o : Option Record). slice_get (slots_in o) i) q ∙ e)))
 
 module _ (b : Board) where
-  pub sight-after : (o : Option ℕ) (c : Board) → Sight b c → Sight b (after finalize c o)
+  pub sight-after : (o : Option ℕ) (c : Board) → KeepsClockLinks b c → KeepsClockLinks b (after finalize c o)
   sight-after o c h = sight-then b c (after finalize c o) h (after-sight o c)
 
-  pub sight-pin : (n : ℕ) (c : Board) → Sight b c → Sight b (pin c n)
+  pub sight-pin : (n : ℕ) (c : Board) → KeepsClockLinks b c → KeepsClockLinks b (pin c n)
   unfolding pin
   sight-pin n c h = record { live = h.live; seen = h.seen }
 
-  pub sight-unpin : (n : ℕ) (c : Board) → Sight b c → Sight b (unpin c n)
+  pub sight-unpin : (n : ℕ) (c : Board) → KeepsClockLinks b c → KeepsClockLinks b (unpin c n)
   unfolding unpin
   sight-unpin n c h = go (list_any (nat_eq n) c.pins) refl
     where
-      go : (u : Bool) → list_any (nat_eq n) c.pins ≡ u → Sight b (unpin c n)
+      go : (u : Bool) → list_any (nat_eq n) c.pins ≡ u → KeepsClockLinks b (unpin c n)
       go true e = rw (unpin, e) (sight-after (Some n) (without_pin c n) (record { live = h.live; seen = h.seen }))
       go false e = rw (unpin, e) h
 
-  pub sight-let_go : (n i : ℕ) (c : Board) → ((x : List ℕ × Slot) → slice_get (slots_at c n) i ≡ Some x → harmless x ≡ true) → Sight b c
-      → Sight b (let_go c n i)
+  pub sight-let_go : (n i : ℕ) (c : Board) → ((x : List ℕ × Slot) → slice_get (slots_at c n) i ≡ Some x → harmless x ≡ true) → KeepsClockLinks b c
+      → KeepsClockLinks b (let_go c n i)
   unfolding let_go
   sight-let_go n i c fine h = go (slot_at c n i) refl
     where
-      go : (o : Option Slot) → slot_at c n i ≡ o → Sight b (let_go c n i)
+      go : (o : Option Slot) → slot_at c n i ≡ o → KeepsClockLinks b (let_go c n i)
       go None e = rw (let_go, e) h
-      go (Some s) e = rw (let_go, e) (sight-after (held s) _ (sight-then b c (drop_slot c n i) h (drop-sight c n i fine)))
+      go (Some s) e = rw (let_go, e) (sight-after (referent s) _ (sight-then b c (drop_slot c n i) h (drop-sight c n i fine)))
 
   -- taking out
 
-  sight-where : (p : List ℕ × Slot → Bool) → ((x : List ℕ × Slot) → p x ≡ true → harmless x ≡ true) → (n : ℕ) (c : Board) → Sight b c
-      → Sight b (let_go_where p n c)
+  sight-where : (p : List ℕ × Slot → Bool) → ((x : List ℕ × Slot) → p x ≡ true → harmless x ≡ true) → (n : ℕ) (c : Board) → KeepsClockLinks b c
+      → KeepsClockLinks b (let_go_where p n c)
   sight-where p fine n c h = go (index_from p 0 (slots_at c n)) refl
     where
-      go : (o : Option ℕ) → index_from p 0 (slots_at c n) ≡ o → Sight b (let_go_where p n c)
+      go : (o : Option ℕ) → index_from p 0 (slots_at c n) ≡ o → KeepsClockLinks b (let_go_where p n c)
       go None e = rw (let_go_where, e) h
       go (Some i) e =
           let f : Found p (slots_at c n) i = found-at p i (slots_at c n) e in
@@ -253,7 +253,7 @@ module _ (b : Board) where
 
   -- a link to a kid is let go and removed
   sight-taken : (n i : ℕ) (own : List ℕ) (t : TypeId) (target : Option ℕ) (c : Board) → slice_get (slots_at c n) i ≡ Some (own, strong t target)
-      → Sight b c → Sight b (take_slot c n i)
+      → KeepsClockLinks b c → KeepsClockLinks b (take_slot c n i)
   unfolding cut
   sight-taken n i own t target c at h =
       let there : slot_at c n i ≡ Some (strong t target) = ap (option_map (λ (s : List ℕ × Slot). s.1)) at in
@@ -275,17 +275,17 @@ module _ (b : Board) where
           let same : without_hold i (slots_at c n) ≡ r.slots = dropped-at c n i (own, strong t target) at r e in
           ap harmless (same_Some x (own, strong t None) (sym q ∙ sym (ap (λ (xs : Slots). slice_get xs i) same) ∙ left)))
 
-  sight-take : (d n : ℕ) (c : Board) → Sight b c → Sight b (take_where (names_kid d) n c)
+  sight-take : (d n : ℕ) (c : Board) → KeepsClockLinks b c → KeepsClockLinks b (take_where (names_kid d) n c)
   sight-take d n c h = go (index_from (names_kid d) 0 (slots_at c n)) refl
     where
-      of : (i : ℕ) (x : List ℕ × Slot) → slice_get (slots_at c n) i ≡ Some x → names_kid d x ≡ true → Sight b (take_slot c n i)
+      of : (i : ℕ) (x : List ℕ × Slot) → slice_get (slots_at c n) i ≡ Some x → names_kid d x ≡ true → KeepsClockLinks b (take_slot c n i)
       of i (own, plain v) at passes = clash-back passes
       of i (own, child m) at passes = clash-back passes
       of i (own, strong t target) at passes = sight-taken n i own t target c at h
       of i (own, weak t target) at passes = clash-back passes
       of i (own, alias m property) at passes = clash-back passes
 
-      go : (o : Option ℕ) → index_from (names_kid d) 0 (slots_at c n) ≡ o → Sight b (take_where (names_kid d) n c)
+      go : (o : Option ℕ) → index_from (names_kid d) 0 (slots_at c n) ≡ o → KeepsClockLinks b (take_where (names_kid d) n c)
       go None e = rw (take_where, e) h
       go (Some i) e =
           let f : Found (names_kid d) (slots_at c n) i = found-at (names_kid d) i (slots_at c n) e in
@@ -315,29 +315,29 @@ module _ (b : Board) where
       rw other refl
   named-fine name apart (own, alias k property) e = refl
 
-  sight-left_bus : (d : ℕ) (c : Board) → Sight b c → Sight b (left_bus d c)
+  sight-left_bus : (d : ℕ) (c : Board) → KeepsClockLinks b c → KeepsClockLinks b (left_bus d c)
   sight-left_bus d c h = go (bus_of c d) refl
     where
-      go : (o : Option ℕ) → bus_of c d ≡ o → Sight b (left_bus d c)
+      go : (o : Option ℕ) → bus_of c d ≡ o → KeepsClockLinks b (left_bus d c)
       go None e = rw (left_bus, e) h
       go (Some m) e =
           rw (left_bus, e)
           (sight-where (is_named (codes "parent_bus")) (named-fine (codes "parent_bus") refl) d (take_where (names_kid d) m c) (sight-take d m c h))
 
-  sight-left_parent : (d : ℕ) (c : Board) → Sight b c → Sight b (left_parent d c)
+  sight-left_parent : (d : ℕ) (c : Board) → KeepsClockLinks b c → KeepsClockLinks b (left_parent d c)
   sight-left_parent d c h =
       sight-where (is_child_slot d) (child-fine d) ANONYMOUS_BIRTH (let_go_where (is_child_slot d) PERIPHERAL_BIRTH c)
       (sight-where (is_child_slot d) (child-fine d) PERIPHERAL_BIRTH c h)
 
   -- a device that was unrealized while it was held
-  pub sight-detached : (c : Board) (d : ℕ) → Sight b (unrealize (pin c d) d) → Sight b (detach c d)
+  pub sight-detached : (c : Board) (d : ℕ) → KeepsClockLinks b (unrealize (pin c d) d) → KeepsClockLinks b (detach c d)
   sight-detached c d h =
-      detached-keeps (Sight b) (λ m. sight-where (is_bus_child m) (bus-fine m)) sight-left_bus sight-left_parent sight-pin sight-unpin c d h
+      detached-keeps (KeepsClockLinks b) (λ m. sight-where (is_bus_child m) (bus-fine m)) sight-left_bus sight-left_parent sight-pin sight-unpin c d h
 
 -- the commands on objects
 
 -- `qom-set`
-set-sight : (b : Board) (n i : ℕ) (v : Val) → Sight b (set n i v b)
+set-sight : (b : Board) (n i : ℕ) (v : Val) → KeepsClockLinks b (set n i v b)
 unfolding set
 set-sight b n i v = edit-sight n (with_changed (with_val v) i) (λ r. refl) b (λ r q. sees-changed (with_val v) i r.slots (λ x e s k. sees-val v x s k))
 
@@ -350,10 +350,10 @@ other-fine (own, alias k property) e = refl
 
 module _ (b : Board) (n i : ℕ) (own : List ℕ) (s left : Slot)
     (at : slice_get (slots_at b n) i ≡ Some (own, s)) (stays : emptied s ≡ Some left) (other : bytes_eq own (codes "source") ≡ false) where
-  dropped : Sight b (drop_slot b n i)
+  dropped : KeepsClockLinks b (drop_slot b n i)
   dropped = drop-sight b n i (λ x q. other-fine x (ap (λ (y : List ℕ × Slot). bytes_eq y.0 (codes "source")) (same_Some x (own, s) (sym q ∙ at)) ∙ other))
 
-  pointed-sight : (target : Option ℕ) → Sight b (pointed_at target n i (drop_slot b n i))
+  pointed-sight : (target : Option ℕ) → KeepsClockLinks b (pointed_at target n i (drop_slot b n i))
   unfolding point
   pointed-sight None = dropped
   pointed-sight (Some m) =
@@ -367,13 +367,13 @@ module _ (b : Board) (n i : ℕ) (own : List ℕ) (s left : Slot)
       ap (λ (y : List ℕ × Slot). bytes_eq y.0 (codes "source")) (same_Some x (own, left) (sym q ∙ there)) ∙ other in
       clash-back (sym (sees-none z x (other-fine x name)) ∙ k))))
 
-  relinked-sight : (target : Option ℕ) → Sight b (relinked b n i target)
+  relinked-sight : (target : Option ℕ) → KeepsClockLinks b (relinked b n i target)
   relinked-sight target =
       let there : slot_at b n i ≡ Some s = ap (option_map (λ (x : List ℕ × Slot). x.1)) at in
-      rw (relinked, there) (sight-after b (held s) (pointed_at target n i (drop_slot b n i)) (pointed-sight target))
+      rw (relinked, there) (sight-after b (referent s) (pointed_at target n i (drop_slot b n i)) (pointed-sight target))
 
-write-sight : (b : Board) (n : ℕ) (name : List ℕ) (v : Val) → Sight b (after_write b (write b n name v))
-write-sight b n name v = write-comes (Sight b) b (sight-none b) n name v (λ i t p kind e may.
+write-sight : (b : Board) (n : ℕ) (name : List ℕ) (v : Val) → KeepsClockLinks b (after_write b (write b n name v))
+write-sight b n name v = write-comes (KeepsClockLinks b) b (sight-none b) n name v (λ i t p kind e may.
     let other : OtherName name = set-other t name (may-set t name p e may) in
     record {
       value = λ old at type first is fits. set-sight b n i v;
@@ -388,8 +388,8 @@ object-fine id (own, strong t target) e = refl
 object-fine id (own, weak t target) e = clash-back e
 object-fine id (own, alias m property) e = refl
 
-object_del-sight : (b : Board) (id : List ℕ) → Sight b (object_del b id).board
-object_del-sight b id = deletion-comes (Sight b) b id (sight-none b) (λ i p.
+object_del-sight : (b : Board) (id : List ℕ) → KeepsClockLinks b (object_del b id).board
+object_del-sight b id = deletion-comes (KeepsClockLinks b) b id (sight-none b) (λ i p.
     let f : Found (is_object_named id) (slots_at b OBJECTS_BIRTH) i = found-at (is_object_named id) i (slots_at b OBJECTS_BIRTH) p in
     sight-let_go b OBJECTS_BIRTH i b
     (λ x q. object-fine id x (ap (is_object_named id) (same_Some x f.entry (sym q ∙ f.at)) ∙ f.passes)) (sight-none b))
@@ -402,14 +402,14 @@ strong-fine (own, strong to at) t target e = refl
 strong-fine (own, weak to at) t target e = cc
 strong-fine (own, alias m property) t target e = refl
 
-severed-sight : (b : Board) (places i n : ℕ) (c : Board) → Sight b c → Sight b (severed_from places i n c)
-severed-sight b places i n c h = severed-comes (Sight b) n (λ d j t target e k.
+severed-sight : (b : Board) (places i n : ℕ) (c : Board) → KeepsClockLinks b c → KeepsClockLinks b (severed_from places i n c)
+severed-sight b places i n c h = severed-comes (KeepsClockLinks b) n (λ d j t target e k.
     sight-let_go b n j d
     (λ x q. strong-fine x t target (same_Some x.1 (strong t target) (sym (ap (option_map (λ (y : List ℕ × Slot). y.1)) q) ∙ e))) k) places i c h
 
-sever-sight : (b : Board) (n : ℕ) → Sight b (sever b n).board
+sever-sight : (b : Board) (n : ℕ) → KeepsClockLinks b (sever b n).board
 sever-sight b n =
-    sever-comes (Sight b) b n (sight-none b) (λ there away.
+    sever-comes (KeepsClockLinks b) b n (sight-none b) (λ there away.
     sight-unpin b n (severed_from (length (slots_at b n)) 0 n (pin b n))
     (severed-sight b (length (slots_at b n)) 0 n (pin b n) (sight-pin b n b (sight-none b))))
 

@@ -1,8 +1,8 @@
 -- What keeps the sources of clocks: changes that leave what stands, and commands on objects.
 use Rattle.std.proofs.Common.{◌≡◌, refl, ap, sym, subst, ◌∙◌, ℕ, true, false, List, [], ◌∷◌, ◌++◌, filter, filter_map, Option, Some, None, is_some, option_and_then, codes, Ok}
-use Rattle.qo_model.proofs.Common.{option_map_or, Registers, MACHINE_BIRTH, Act, Enter, Hold, Exit, Board, Record, Slot, is_live, clock_scaled, clock_set, acted, source_of, among, is_realized, is_true, plain_in, strong_in, Change, changed, asked, asked_of, device_at, attached, notice_barred, without_first, is_out, phased, post, pulse, released}
+use Rattle.qo_model.proofs.Common.{option_map_or, Registers, MACHINE_BIRTH, Act, Enter, Hold, Exit, Board, Record, Slot, is_live, clock_scaled, clock_set, acted, source_of, among, is_realized, is_true, plain_in, strong_in, Change, changed, asked, asked_of, device_at, attached, notice_barred, without_first, is_not_in_reset, phased, post, pulse, released}
 use Rattle.qo_model.specs.Clocks.{weak_in}
-use Rattle.qo_model.specs.Reset.{held}
+use Rattle.qo_model.specs.Reset.{after_hold}
 use Rattle.qo_model.proofs.FirstSlotLemmas.{named_in}
 use Rattle.qo_sound.proofs.TreeKeptLemmas.{sound_kept_lem}
 use Rattle.qo_sound.proofs.TestLemmas.{decide}
@@ -78,10 +78,10 @@ phased-sources act [] b d h = (d, h)
 phased-sources act (n ∷ ns) b d h =
     phased-sources act ns (acted act n 0 b) (devices_kept_lem.acts act n 0 b d) (acted-sources act n 0 b d h)
 
-pub held-sources : (b : Board) (n : ℕ) → SoundDevices b → SoundSources b → SoundSources (held b n)
-unfolding held
+pub held-sources : (b : Board) (n : ℕ) → SoundDevices b → SoundSources b → SoundSources (after_hold b n)
+unfolding after_hold
 held-sources b n d h =
-    let out : List ℕ = filter (is_out b) (post b n) in
+    let out : List ℕ = filter (is_not_in_reset b) (post b n) in
     let first : SoundDevices (phased Enter out b) × SoundSources (phased Enter out b) = phased-sources Enter out b d h in
     let c : Board = phased Hold out (phased Enter out b) in
     let second : SoundDevices c × SoundSources c = phased-sources Hold out (phased Enter out b) first.0 first.1 in
@@ -91,11 +91,11 @@ pub released-sources : (b : Board) (n : ℕ) → SoundDevices b → SoundSources
 unfolding released
 released-sources b n d h =
     let c : Board = record b { holds = without_first n b.holds } in
-    (phased-sources Exit (filter (is_out c) (post c n)) c (devices_kept_lem.beside b c refl refl refl refl refl refl d) (beside-sources b c refl h)).1
+    (phased-sources Exit (filter (is_not_in_reset c) (post c n)) c (devices_kept_lem.beside b c refl refl refl refl refl refl d) (beside-sources b c refl h)).1
 
 pub pulse-sources : (b : Board) (n : ℕ) → SoundDevices b → SoundSources b → SoundSources (pulse b n)
 unfolding pulse
-pulse-sources b n d h = released-sources (held b n) n (devices_kept_lem.held_so b n d) (held-sources b n d h)
+pulse-sources b n d h = released-sources (after_hold b n) n (devices_kept_lem.held_so b n d) (held-sources b n d h)
 
 -- other registers
 pub registers-sources : (b : Board) (n : ℕ) (registers : Registers) → SoundDevices b → SoundSources b → SoundSources (registers_set b n registers)

@@ -11,7 +11,7 @@ use Rattle.qo_model.specs.Hotplug.{asked, refused, reset_whole}
 use Rattle.qo_model.specs.Objects.{with_attempt}
 use Rattle.qo_model.specs.Opening.{opening_board}
 use Rattle.qo_model.specs.Plug.{Wanted, cut_attempt, plug, plug_attempt}
-use Rattle.qo_model.specs.Reset.{held, is_deep, pulse, released}
+use Rattle.qo_model.specs.Reset.{after_hold, exceeds_depth, pulse, released}
 use Rattle.qo_model.specs.Unplug.{detach}
 use Rattle.qo_sound_devices.specs.SoundDevices.{SoundDevices}
 use Rattle.qo_sound_devices.specs.SoundPlaces.{stands}
@@ -33,7 +33,7 @@ pub record HoldsKeptLaw : Type 0 where
   pub refused_by : (b : Board) (d : ℕ) → SoundHolds b → SoundHolds (refused b d)
   -- an act; a hold that is not one too many on what a reset reaches, a hold less, and both
   pub acts : (act : Act) (n period : ℕ) (b : Board) → SoundHolds b → SoundHolds (acted act n period b)
-  pub held_so : (b : Board) (n : ℕ) → IsReached b n → is_deep b n ≡ false → SoundHolds b → SoundHolds (held b n)
+  pub held_so : (b : Board) (n : ℕ) → IsReached b n → exceeds_depth b n ≡ false → SoundHolds b → SoundHolds (after_hold b n)
   pub released_so : (b : Board) (n : ℕ) → SoundHolds b → SoundHolds (released b n)
   pub pulsed : (b : Board) (n : ℕ) → SoundHolds b → SoundHolds (pulse b n)
   -- a write of a clock's period, and of its mul and div, that is not refused; other registers of an object, whatever they are

@@ -12,7 +12,7 @@ use Rattle.qo_model.specs.Hotplug.{asked, refused, reset_whole}
 use Rattle.qo_model.specs.Objects.{with_attempt}
 use Rattle.qo_model.specs.Opening.{opening_board}
 use Rattle.qo_model.specs.Plug.{Wanted, cut_attempt, plug, plug_attempt}
-use Rattle.qo_model.specs.Reset.{held, pulse, released}
+use Rattle.qo_model.specs.Reset.{after_hold, pulse, released}
 use Rattle.qo_model.specs.Unplug.{detach}
 use Rattle.qo_sound_clocks.specs.RegisterWrites.{registers_set}
 use Rattle.qo_sound_clocks.specs.SoundTimes.{IsTimely, SoundTimes}
@@ -36,7 +36,7 @@ pub record SegmentsKeptLaw : Type 0 where
   -- an act but Pre, which Update follows; these two; a hold, a hold less, and both
   pub acts : (act : Act) (n period : ℕ) (b : Board) → act ≢ Pre → SoundTimes b → SoundSegments b → SoundSegments (acted act n period b)
   pub called_back : (n old new : ℕ) (b : Board) → SoundTimes b → SoundSegments b → SoundSegments (acted Update n new (acted Pre n old b))
-  pub held_so : (b : Board) (n : ℕ) → SoundTimes b → SoundSegments b → SoundSegments (held b n)
+  pub held_so : (b : Board) (n : ℕ) → SoundTimes b → SoundSegments b → SoundSegments (after_hold b n)
   pub released_so : (b : Board) (n : ℕ) → SoundTimes b → SoundSegments b → SoundSegments (released b n)
   pub pulsed : (b : Board) (n : ℕ) → SoundTimes b → SoundSegments b → SoundSegments (pulse b n)
   -- a write of a clock's period, and of its mul and div, that is not refused; other registers of an object, whose segments are sound

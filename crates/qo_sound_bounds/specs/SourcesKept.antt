@@ -11,7 +11,7 @@ use Rattle.qo_model.specs.Hotplug.{asked, refused, reset_whole}
 use Rattle.qo_model.specs.Objects.{with_attempt}
 use Rattle.qo_model.specs.Opening.{opening_board}
 use Rattle.qo_model.specs.Plug.{Wanted, cut_attempt, plug, plug_attempt}
-use Rattle.qo_model.specs.Reset.{held, pulse, released}
+use Rattle.qo_model.specs.Reset.{after_hold, pulse, released}
 use Rattle.qo_model.specs.Unplug.{detach}
 use Rattle.qo_sound_devices.specs.SoundDevices.{SoundDevices}
 use Rattle.qo_sound_devices.specs.SoundPlaces.{stands}
@@ -31,7 +31,7 @@ pub record SourcesKeptLaw : Type 0 where
   pub refused_by : (b : Board) (d : ℕ) → SoundSources b → SoundSources (refused b d)
   -- an act; a hold, a hold less, and both
   pub acts : (act : Act) (n period : ℕ) (b : Board) → SoundDevices b → SoundSources b → SoundSources (acted act n period b)
-  pub held_so : (b : Board) (n : ℕ) → SoundDevices b → SoundSources b → SoundSources (held b n)
+  pub held_so : (b : Board) (n : ℕ) → SoundDevices b → SoundSources b → SoundSources (after_hold b n)
   pub released_so : (b : Board) (n : ℕ) → SoundDevices b → SoundSources b → SoundSources (released b n)
   pub pulsed : (b : Board) (n : ℕ) → SoundDevices b → SoundSources b → SoundSources (pulse b n)
   -- a write of a clock's period, and of its mul and div, that is not refused; other registers of an object, whatever they are

@@ -1,6 +1,6 @@
 -- What a device that is added has under the names of its claims: the value that is given, or that its type begins with; of a DIMM its address and its range.
 use Rattle.std.proofs.Common.{◌≡◌, refl, ap, sym, subst, ◌∙◌, ℕ, ◌+◌, ◌<◌, Bool, true, false, cond, ◌==◌, List, [], ◌∷◌, ◌++◌, filter, map, Option, Some, None, option_map, codes, arith}
-use Rattle.qo_model.proofs.Common.{option_map_or, option_or, bytes_eq, Act, Realize, Enter, Hold, Exit, TypeId, Device, Val, Range, Board, Record, Slot, plain, child, strong, weak, alias, record_of, slots_at, add, fresh, set, with_added, with_changed, with_val, acted, with_act_on, clock_of, kid_name, Given, index_from, slot_given, first_value, fresh_record, canonical, Spot, Wanted, acted_all, addressed_at, aliased, bus_births, clocked, counted, drafted, fitted, joined, link_named, name_for, owned, parent_for, range_in, property_made, properties_made, source_for, stood, valued, with_body_of, with_device, with_given, with_new, with_path, with_plugged, with_source, edit, edited, is_out, phased, plugged, post, property_name, slots_of, is_named, set_named}
+use Rattle.qo_model.proofs.Common.{option_map_or, option_or, bytes_eq, Act, Realize, Enter, Hold, Exit, TypeId, Device, Val, Range, Board, Record, Slot, plain, child, strong, weak, alias, record_of, slots_at, add, fresh, set, with_added, with_changed, with_val, acted, with_act_on, clock_of, kid_name, Given, index_from, slot_given, first_value, fresh_record, canonical, Resources, Wanted, acted_all, addressed_at, aliased, bus_births, clocked, counted, drafted, fitted, joined, link_named, name_for, owned, parent_for, range_in, property_made, properties_made, source_for, stood, valued, with_body_of, with_device, with_given, with_new, with_path, with_plugged, with_source, edit, edited, is_not_in_reset, phased, plugged, post, property_name, slots_of, is_named, set_named}
 use Rattle.qo_model.specs.declared.properties.Property.{Property}
 use Rattle.qo_model.specs.declared.properties.PropertyRole.{PropertyRole}
 use Rattle.std.proofs.lemmas.Bool.{eq-eqb}
@@ -202,7 +202,7 @@ module _ (n : ℕ) (name : List ℕ) where
   plugged-is s d c h =
       let c1 : Board = phased Enter (post c d) c in
       let c2 : Board = phased Hold (post c d) c1 in
-      phased-is s Exit (filter (is_out c) (post c d)) c2 (phased-is s Hold (post c d) c1 (phased-is s Enter (post c d) c h))
+      phased-is s Exit (filter (is_not_in_reset c) (post c d)) c2 (phased-is s Hold (post c d) c1 (phased-is s Enter (post c d) c h))
 
 -- the range of an object
 
@@ -237,7 +237,7 @@ unfolding plugged
 range-plugged n d c =
     let c1 : Board = phased Enter (post c d) c in
     let c2 : Board = phased Hold (post c d) c1 in
-    range-phased n Exit (filter (is_out c) (post c d)) c2 ∙ range-phased n Hold (post c d) c1 ∙ range-phased n Enter (post c d) c
+    range-phased n Exit (filter (is_not_in_reset c) (post c d)) c2 ∙ range-phased n Hold (post c d) c1 ∙ range-phased n Enter (post c d) c
 
 range-link : (n m : ℕ) (name : List ℕ) (target : ℕ) (c : Board) → ranges_at (link_named m name target c) n ≡ ranges_at c n
 range-link n m name target c = go (index_from (is_named name) 0 (slots_at c m)) refl
@@ -273,7 +273,7 @@ pub record Apart (name : List ℕ) : Type 0 where
   pub realized : bytes_eq (codes "realized") name ≡ false
   pub source : bytes_eq (codes "source") name ≡ false
 
-module _ (b : Board) (absent : (m : ℕ) → b.born < m → record_of b m ≡ None) (t : TypeId) (a : Wanted) (spot : Spot) where
+module _ (b : Board) (absent : (m : ℕ) → b.born < m → record_of b m ≡ None) (t : TypeId) (a : Wanted) (resources : Resources) where
   abbrev n : ℕ
   n = b.born + 1
 
@@ -290,31 +290,31 @@ module _ (b : Board) (absent : (m : ℕ) → b.born < m → record_of b m ≡ No
       }
 
   abbrev has_values : Board
-  has_values = valued b (b.born + 1) a.props spot (joined b (b.born + 1) a spot (drafted b t))
+  has_values = valued b (b.born + 1) a.props resources (joined b (b.born + 1) a resources (drafted b t))
 
   -- with the values given
   valued-is : (name : List ℕ) → Apart name → (s : Slot) → first_row t name (slots_of t) ≡ Some s
       → SlotIs name (slot_given b a.props (name, s)).1 (slots_at has_values n)
   valued-is name apart s e =
-      let c : Board = joined b n a spot (drafted b t) in
+      let c : Board = joined b n a resources (drafted b t) in
       let c3 : Board = edit n (with_given b a.props) c in
-      let c4 : Board = set_named n (codes "slot") (val.Uint spot.slot) c3 in
-      let c5 : Board = link_named n (codes "parent_bus") spot.bus c4 in
+      let c4 : Board = set_named n (codes "slot") (val.Uint resources.slot) c3 in
+      let c5 : Board = link_named n (codes "parent_bus") resources.bus c4 in
       let x : Slot = (slot_given b a.props (name, s)).1 in
       set-other n name (codes "realized") (val.Bool true) x apart.realized c5
-      (link-other n name n (codes "parent_bus") spot.bus x apart.parent_bus c4
-      (set-other n name (codes "slot") (val.Uint spot.slot) x apart.slot c3
+      (link-other n name n (codes "parent_bus") resources.bus x apart.parent_bus c4
+      (set-other n name (codes "slot") (val.Uint resources.slot) x apart.slot c3
       (own-edit (SlotIs name s) (SlotIs name x) (slot-none name s) n (with_given b a.props) (λ r. refl) c (λ r q k. slot-given b a.props name s r.slots k)
-      (stay-add (SlotIs name s) (slot-none name s) (slot-more name s) n spot.bus (kid_name spot.slot) (strong Device (Some n)) _
+      (stay-add (SlotIs name s) (slot-none name s) (slot-more name s) n resources.bus (kid_name resources.slot) (strong Device (Some n)) _
       (stay-add (SlotIs name s) (slot-none name s) (slot-more name s) n (parent_for a.id) (name_for b a.id) (child n) (drafted b t)
       (rows-are n name t s (slots_of t) e (with_new (fresh n t) b) (bare name)))))))
 
   -- the board as the device stands, has been realized, and has been plugged
   abbrev c1 : Board
-  c1 = stood b n a spot (drafted b t)
+  c1 = stood b n a resources (drafted b t)
 
   abbrev c2 : Board
-  c2 = acted_all Realize (n ∷ bus_births n t) (with_device b t a spot)
+  c2 = acted_all Realize (n ∷ bus_births n t) (with_device b t a resources)
 
   abbrev c3 : Board
   c3 = plugged c2 n
@@ -326,59 +326,59 @@ module _ (b : Board) (absent : (m : ℕ) → b.born < m → record_of b m ≡ No
   addressed-is name apart s (Some g) h = set-other n name (codes "addr") (val.Uint g.at) s apart has_values h
 
   -- and in its place
-  plugged-is_so : (name : List ℕ) → Apart name → (s : Slot) → SlotIs name s (slots_at (addressed_at n spot.range has_values) n)
-      → SlotIs name s (slots_at (with_plugged b t a spot) n)
+  plugged-is_so : (name : List ℕ) → Apart name → (s : Slot) → SlotIs name s (slots_at (addressed_at n resources.range has_values) n)
+      → SlotIs name s (slots_at (with_plugged b t a resources) n)
   plugged-is_so name apart s h =
       any-edit (SlotIs name s) n n (with_path (canonical c3 n)) (λ r. refl) c3 (λ r e k. k)
       (plugged-is n name s n c2
-      (acted_all-is n name s Realize (n ∷ bus_births n t) (with_device b t a spot)
-      (counted-is a.id (clocked (source_for b spot.bus) n c1)
+      (acted_all-is n name s Realize (n ∷ bus_births n t) (with_device b t a resources)
+      (counted-is a.id (clocked (source_for b resources.bus) n c1)
       (clocked-is
-      (any-edit (SlotIs name s) n n (with_body_of a.id spot.range) (λ r. refl) (addressed_at n spot.range has_values) (λ r e k. k) h)))))
+      (any-edit (SlotIs name s) n n (with_body_of a.id resources.range) (λ r. refl) (addressed_at n resources.range has_values) (λ r e k. k) h)))))
     where
       counted-is : (id : Option (List ℕ)) (c : Board) → SlotIs name s (slots_at c n) → SlotIs name s (slots_at (counted id c) n)
       counted-is None c k = k
       counted-is (Some id) c k = k
 
-      clocked-is : SlotIs name s (slots_at c1 n) → SlotIs name s (slots_at (clocked (source_for b spot.bus) n c1) n)
+      clocked-is : SlotIs name s (slots_at c1 n) → SlotIs name s (slots_at (clocked (source_for b resources.bus) n c1) n)
       clocked-is k = go (clock_of c1 n)
         where
-          go : (o : Option ℕ) → SlotIs name s (slots_at (with_source (source_for b spot.bus) o c1) n)
+          go : (o : Option ℕ) → SlotIs name s (slots_at (with_source (source_for b resources.bus) o c1) n)
           go None = k
-          go (Some m) = link-other n name m (codes "source") (source_for b spot.bus) s apart.source c1 k
+          go (Some m) = link-other n name m (codes "source") (source_for b resources.bus) s apart.source c1 k
 
   -- what is given for a name, or what its type begins with
   pub own-is : (name : List ℕ) → Apart name → bytes_eq (codes "addr") name ≡ false → (s : Slot) → first_row t name (slots_of t) ≡ Some s
-      → named_in name (slots_at (with_plugged b t a spot) (b.born + 1)) ≡ Some (slot_given b a.props (name, s)).1
+      → named_in name (slots_at (with_plugged b t a resources) (b.born + 1)) ≡ Some (slot_given b a.props (name, s)).1
   own-is name apart other s e =
       plugged-is_so name apart (slot_given b a.props (name, s)).1
-      (addressed-is name other (slot_given b a.props (name, s)).1 spot.range (valued-is name apart s e))
+      (addressed-is name other (slot_given b a.props (name, s)).1 resources.range (valued-is name apart s e))
 
   -- the address, and the registers
-  pub own-addr : (g : Range) → spot.range ≡ Some g → (w x : Val) → first_row t (codes "addr") (slots_of t) ≡ Some (plain w)
+  pub own-addr : (g : Range) → resources.range ≡ Some g → (w x : Val) → first_row t (codes "addr") (slots_of t) ≡ Some (plain w)
       → (slot_given b a.props (codes "addr", plain w)).1 ≡ plain x
-      → named_in (codes "addr") (slots_at (with_plugged b t a spot) (b.born + 1)) ≡ Some (plain (val.Uint g.at))
+      → named_in (codes "addr") (slots_at (with_plugged b t a resources) (b.born + 1)) ≡ Some (plain (val.Uint g.at))
   own-addr g is w x e given =
       plugged-is_so (codes "addr") (record { slot = refl; parent_bus = refl; realized = refl; source = refl }) (plain (val.Uint g.at))
       (subst (λ (o : Option Range). SlotIs (codes "addr") (plain (val.Uint g.at)) (slots_at (addressed_at n o has_values) n)) (sym is)
       (set-own n (codes "addr") (val.Uint g.at) x has_values
       (valued-is (codes "addr") (record { slot = refl; parent_bus = refl; realized = refl; source = refl }) (plain w) e ∙ ap Some given)))
 
-  pub own-range : (g : Range) → spot.range ≡ Some g → (name : List ℕ) → Apart name → bytes_eq (codes "addr") name ≡ false → (s : Slot)
-      → first_row t name (slots_of t) ≡ Some s → ranges_at (with_plugged b t a spot) (b.born + 1) ≡ Some (g ∷ [])
+  pub own-range : (g : Range) → resources.range ≡ Some g → (name : List ℕ) → Apart name → bytes_eq (codes "addr") name ≡ false → (s : Slot)
+      → first_row t name (slots_of t) ≡ Some s → ranges_at (with_plugged b t a resources) (b.born + 1) ≡ Some (g ∷ [])
   own-range g is name apart other s e =
       range-edit n n (with_path (canonical c3 n)) (λ r. refl) (λ r. refl) c3
       ∙ range-plugged n n c2
-      ∙ range-acted_all n Realize (n ∷ bus_births n t) (with_device b t a spot)
-      ∙ range-counted n a.id (clocked (source_for b spot.bus) n c1)
-      ∙ range-clocked n (source_for b spot.bus) c1
+      ∙ range-acted_all n Realize (n ∷ bus_births n t) (with_device b t a resources)
+      ∙ range-counted n a.id (clocked (source_for b resources.bus) n c1)
+      ∙ range-clocked n (source_for b resources.bus) c1
       ∙ body (record_of c0 n) refl
     where
       c0 : Board
-      c0 = addressed_at n spot.range has_values
+      c0 = addressed_at n resources.range has_values
 
       there : SlotIs name (slot_given b a.props (name, s)).1 (slots_at c0 n)
-      there = addressed-is name other (slot_given b a.props (name, s)).1 spot.range (valued-is name apart s e)
+      there = addressed-is name other (slot_given b a.props (name, s)).1 resources.range (valued-is name apart s e)
 
       body : (o : Option Record) → record_of c0 n ≡ o → ranges_at c1 n ≡ Some (g ∷ [])
       body None q =

@@ -2,7 +2,7 @@
 use Rattle.std.proofs.Common.{◌≡◌, inl, inr, refl, ap, sym, ◌∙◌, rules, ℕ, ◌+◌, Bool, true, false, ◌==◌, List, [], ◌∷◌, map, length, slice_get, Option, Some, None, option_map, codes}
 use Rattle.qo_model.proofs.Common.{AllByRecursion, option_or, bytes_eq, OBJECTS_BIRTH, Code, TypeId, Val, Board, Record, Slot, plain, child, strong, weak, alias, record_of, slot_at, slots_at, point, pointed, set, with_added, with_changed, with_val, is_realized, Change, added, deleted, wrote, severed, after_write, changed, Given, added_as, is_object_named, object_add, object_del, sever, severed_from, slot_given, with_object, fresh_slots, attached, is_of, pointed_at, relinked, write, drop_slot, edited, emptied, pin, is_a, types}
 use Rattle.qo_values.proofs.EachLemmas.{each}
-use Rattle.qo_model.specs.Board.{held}
+use Rattle.qo_model.specs.Board.{referent}
 use Rattle.qo_model.proofs.ComesToLemmas.{addition-comes, deletion-comes, sever-comes, severed-comes}
 use Rattle.qo_model.proofs.FirstSlotLemmas.{Found, found-at}
 use Rattle.qo_model.proofs.StepLemmas.{found-edited, found_at}
@@ -84,7 +84,7 @@ module _ (b : Board) (n i : ℕ) (own : List ℕ) (s left : Slot)
   relinked-fewer : (target : Option ℕ) → Fewer false b (relinked b n i target)
   relinked-fewer target =
       let there : slot_at b n i ≡ Some s = ap (option_map (λ (x : List ℕ × Slot). x.1)) at in
-      rw (relinked, there) (fewer-after false b (held s) (pointed_at target n i (drop_slot b n i)) (pointed-fewer target))
+      rw (relinked, there) (fewer-after false b (referent s) (pointed_at target n i (drop_slot b n i)) (pointed-fewer target))
 
 write-fewer : (b : Board) (n : ℕ) (name : List ℕ) (v : Val) → Fewer false b (after_write b (write b n name v))
 write-fewer b n name v = write-comes (Fewer false b) b (fewer-none false b) n name v (λ i t p kind e may.

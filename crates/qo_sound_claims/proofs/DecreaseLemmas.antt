@@ -5,7 +5,7 @@ use Rattle.std.proofs.lemmas.Bool.{eqb-true}
 use Rattle.std.proofs.lemmas.Slice.Eq.{bytes_eq-Decides}
 use Rattle.qo_values.specs.declared.properties.Val.TheVariants as val
 use Rattle.qo_values.proofs.EachLemmas.{AllBodies, each_act, each_body}
-use Rattle.qo_model.specs.Board.{held}
+use Rattle.qo_model.specs.Board.{referent}
 use Rattle.qo_model.proofs.FirstSlotLemmas.{slots_in, Found, found-at}
 use Rattle.qo_model.proofs.ReleaseInductionLemmas.{after_keeps}
 use Rattle.qo_model.proofs.StepLemmas.{drop-record, finish-gone, finish-record, found-edited, found-birth}
@@ -229,7 +229,7 @@ module _ (strict : Bool) (b : Board) where
     where
       go : (o : Option Slot) → slot_at c n i ≡ o → Fewer strict b (let_go c n i)
       go None e = rw (let_go, e) h
-      go (Some s) e = rw (let_go, e) (fewer-after (held s) _ (fewer-drop c n i spares h))
+      go (Some s) e = rw (let_go, e) (fewer-after (referent s) _ (fewer-drop c n i spares h))
 
   pub fewer-where : (p : List ℕ × Slot → Bool) → ((s : List ℕ × Slot) → p s ≡ true → Harmless s) → (n : ℕ) (c : Board) → Fewer strict b c
       → Fewer strict b (let_go_where p n c)

@@ -1,6 +1,6 @@
 -- A device that is added leaves the claims of all others, and the further objects that it brings claim nothing.
 use Rattle.std.proofs.Common.{rules, ◌≡◌, ◌⊎◌, inl, inr, refl, ap, sym, subst, ◌∙◌, ℕ, ◌+◌, ◌<◌, Bool, true, false, ◌==◌, List, [], ◌∷◌, Option, Some, None, option_map, codes, arith}
-use Rattle.qo_model.proofs.Common.{option_or, ⊤, Realize, TypeId, Device, Val, Range, Board, Record, Slot, plain, child, strong, weak, alias, record_of, slots_at, add, fresh, with_added, with_changed, with_val, acted, with_act_on, clock_of, kid_name, plain_in, strong_in, index_from, first_value, fresh_record, fresh_slots, canonical, Spot, Wanted, acted_all, addressed_at, aliased, bus_births, clocked, counted, drafted, fitted, link_named, name_for, owned, parent_for, property_made, properties_made, source_for, stood, with_body_of, with_device, with_given, with_new, with_path, with_plugged, with_source, edit, edited, plugged, post, property_name, is_a, slots_of, types, is_named, set_named}
+use Rattle.qo_model.proofs.Common.{option_or, ⊤, Realize, TypeId, Device, Val, Range, Board, Record, Slot, plain, child, strong, weak, alias, record_of, slots_at, add, fresh, with_added, with_changed, with_val, acted, with_act_on, clock_of, kid_name, plain_in, strong_in, index_from, first_value, fresh_record, fresh_slots, canonical, Resources, Wanted, acted_all, addressed_at, aliased, bus_births, clocked, counted, drafted, fitted, link_named, name_for, owned, parent_for, property_made, properties_made, source_for, stood, with_body_of, with_device, with_given, with_new, with_path, with_plugged, with_source, edit, edited, plugged, post, property_name, is_a, slots_of, types, is_named, set_named}
 use Rattle.qo_model.specs.declared.properties.Property.{Property}
 use Rattle.qo_model.specs.declared.properties.PropertyRole.{PropertyRole}
 use Rattle.std.proofs.lemmas.Bool.{eqb-true, eq-eqb}
@@ -142,18 +142,18 @@ module _ (b : Board) (absent : (m : ℕ) → b.born < m → record_of b m ≡ No
   growing-addressed None c h = h
   growing-addressed (Some r) c h = growing-set (codes "addr") (val.Uint r.at) c h
 
-  growing-stood : (a : Wanted) (spot : Spot) (c : Board) → Growing c → Growing (stood b n a spot c)
-  growing-stood a spot c h =
-      stand-by Growing b n a spot
+  growing-stood : (a : Wanted) (resources : Resources) (c : Board) → Growing c → Growing (stood b n a resources c)
+  growing-stood a resources c h =
+      stand-by Growing b n a resources
       (record {
         named = growing-add (parent_for a.id) (name_for b a.id) (child n) refl (inl refl);
-        on_bus = growing-add spot.bus (kid_name spot.slot) (strong Device (Some n)) refl (inr (record { memdev = refl; home = refl }));
+        on_bus = growing-add resources.bus (kid_name resources.slot) (strong Device (Some n)) refl (inr (record { memdev = refl; home = refl }));
         given = growing-own (with_given b a.props) (λ r. refl);
-        placed = growing-set (codes "slot") (val.Uint spot.slot);
-        linked = growing-link (codes "parent_bus") spot.bus;
+        placed = growing-set (codes "slot") (val.Uint resources.slot);
+        linked = growing-link (codes "parent_bus") resources.bus;
         marked = growing-set (codes "realized") (val.Bool true);
-        addressed = growing-addressed spot.range;
-        bodied = growing-own (with_body_of a.id spot.range) (λ r. refl);
+        addressed = growing-addressed resources.range;
+        bodied = growing-own (with_body_of a.id resources.range) (λ r. refl);
       }) c h
 
   -- a clock gets its source
@@ -190,18 +190,18 @@ module _ (b : Board) (absent : (m : ℕ) → b.born < m → record_of b m ≡ No
       (λ r e apart.
       record { kind = refl; range = act-range act c.now period r.registers; slots = less-none (is_a r.kind (codes "mem-dimm")) false r.slots }) h)
 
-  pub growing-all : (t : TypeId) (a : Wanted) (spot : Spot) → Growing (with_plugged b t a spot)
-  growing-all t a spot =
+  pub growing-all : (t : TypeId) (a : Wanted) (resources : Resources) → Growing (with_plugged b t a resources)
+  growing-all t a resources =
       growing-like (edit n (with_path (canonical e n)) e) _ refl refl
       (growing-own (with_path (canonical e n)) (λ r. refl) e
       (step-plugged (λ m. ⊤) Growing growing-acts n d (all-any (post d n))
-      (step-acted_all (λ m. ⊤) Growing growing-acts Realize refl (n ∷ bus_births n t) (all-any (n ∷ bus_births n t)) (with_device b t a spot)
+      (step-acted_all (λ m. ⊤) Growing growing-acts Realize refl (n ∷ bus_births n t) (all-any (n ∷ bus_births n t)) (with_device b t a resources)
       (growing-counted a.id _
-      (growing-clocked (source_for b spot.bus) (stood b n a spot (drafted b t))
-      (growing-stood a spot (drafted b t) (growing-rows t (slots_of t) (with_new (fresh n t) b) (growing-first t))))))))
+      (growing-clocked (source_for b resources.bus) (stood b n a resources (drafted b t))
+      (growing-stood a resources (drafted b t) (growing-rows t (slots_of t) (with_new (fresh n t) b) (growing-first t))))))))
     where
       d : Board
-      d = acted_all Realize (n ∷ bus_births n t) (with_device b t a spot)
+      d = acted_all Realize (n ∷ bus_births n t) (with_device b t a resources)
 
       e : Board
       e = plugged d n

@@ -1,6 +1,6 @@
 -- Adding a device, taken or refused at any stage, keeps the backends sound: what bars it late is what the claims need.
 use Rattle.std.proofs.Common.{rules, ◌≡◌, ◌≢◌, ◌⊎◌, inl, inr, refl, ap, sym, subst, ◌∙◌, ℕ, ◌+◌, ◌<◌, ◌%◌, Bool, true, false, not, ◌&&◌, ◌==◌, List, [], ◌∷◌, ◌++◌, filter, find, map, Option, Some, None, is_some, option_map, option_and_then, codes, Result, Ok, Err, arith}
-use Rattle.qo_model.proofs.Common.{if◌then◌else◌, nat_le, nat_lt, unwrap_or, list_any, option_map_or, option_or, bytes_eq, fits_at, is_in_window, overlap, overlaps_any, free_address, range_at, window_size, window_start, dimm, Code, E19, E36, E37, E38, E39, E40, E41, TypeId, SlotUart, MemDimm, MemoryBackend, DIMM_ALIGN, Val, Range, Board, Record, Ring, Slot, plain, strong, is_live, kind_of, record_of, is_realized, number_at, number_in, plain_in, strong_in, text_at, text_in, Given, given_to, refusal_by, refusal_of, slot_given, target_given, is_of, Spot, Wanted, at_stage, backend_of, barred_late, claims_ring, code_in, dimms, has_backend, has_ring, is_dimm, kind_barred, notice_barred, number_for, ok_in, place_barred, plug, plug_attempt, range_barred, range_for, range_in, range_of, ranges_of, realize_barred, ring_barred, size_of, spot_of, target_for, text_for, with_plugged, link_target, property_named, is_a, slots_of, types}
+use Rattle.qo_model.proofs.Common.{if◌then◌else◌, nat_le, nat_lt, unwrap_or, list_any, option_map_or, option_or, bytes_eq, fits_at, is_in_window, overlap, overlaps_any, free_address, range_at, window_size, window_start, dimm, Code, E19, E36, E37, E38, E39, E40, E41, TypeId, SlotUart, MemDimm, MemoryBackend, DIMM_ALIGN, Val, Range, Board, Record, Ring, Slot, plain, strong, is_live, kind_of, record_of, is_realized, number_at, number_in, plain_in, strong_in, text_at, text_in, Given, given_to, refusal_by, refusal_of, slot_given, target_given, is_of, Resources, Wanted, at_stage, backend_of, barred_late, claims_ring, code_in, dimms, has_backend, has_ring, is_dimm, kind_barred, notice_barred, number_for, ok_in, place_barred, plug, plug_attempt, range_barred, range_for, range_in, range_of, ranges_of, realize_barred, ring_barred, size_of, resources_of, target_for, text_for, with_plugged, link_target, property_named, is_a, slots_of, types}
 use Rattle.std.specs.List.{flat_map}
 use Rattle.std.proofs.lemmas.Bool.{and_parts, eqb-true, eq-eqb, not-true, not-false}
 use Rattle.std.proofs.lemmas.Option.{same_Some}
@@ -16,7 +16,7 @@ use Rattle.qo_sound.proofs.PlugLemmas.{or-none, plugged-rest, shut-above, stage-
 use Rattle.qo_values.proofs.PlacingLemmas.{least-passes}
 use Rattle.qo_values.proofs.EachLemmas.{each}
 use Rattle.qo_sound.proofs.TargetLemmas.{FitsResult, target-fits}
-use Rattle.qo_sound.proofs.ViewLemmas.{AtRest, rest-from_sound, sound-from_rest}
+use Rattle.qo_sound.proofs.ViewLemmas.{PinsRootAlone, rest-from_sound, sound-from_rest}
 use Rattle.qo_sound_devices.specs.SoundDevices.{SoundDevices}
 use Rattle.qo_sound_devices.specs.SoundPlaces.{IsHome}
 use Rattle.qo_sound_devices.proofs.AcceptanceLemmas.{Passes, passes}
@@ -384,26 +384,26 @@ module _ (b : Board) (a : Wanted) (devices : SoundDevices b) (h : SoundBackends 
   abbrev n : ℕ
   n = b.born + 1
 
-  abbrev spot : Spot
-  spot = spot_of b t bus a.props
+  abbrev resources : Resources
+  resources = resources_of b t bus a.props
 
   abbrev c : Board
-  c = with_plugged b t a (spot_of b t bus a.props)
+  c = with_plugged b t a (resources_of b t bus a.props)
 
-  rest : AtRest b
+  rest : PinsRootAlone b
   rest = rest-from_sound b devices.tree
 
   absent : (m : ℕ) → b.born < m → record_of b m ≡ None
   absent = absent-above b rest.used.firm
 
   after : SoundTree c
-  after = sound-from_rest c (plugged-rest b t a spot rest (shut-above b.born rest.used.firm.begun) k.place)
+  after = sound-from_rest c (plugged-rest b t a resources rest (shut-above b.born rest.used.firm.begun) k.place)
 
   same : c.rings ≡ b.rings
-  same = (devices_stay_lem.added b t a spot).rings
+  same = (devices_stay_lem.added b t a resources).rings
 
   grown : Growing b absent c
-  grown = growing-all b absent t a spot
+  grown = growing-all b absent t a resources
 
   old : (x : ℕ) → (x == n) ≡ false → Old b c devices.tree after x
   old x apart = grown.others x apart
@@ -417,7 +417,7 @@ module _ (b : Board) (a : Wanted) (devices : SoundDevices b) (h : SoundBackends 
           absurd (let clash : false ≡ true = rw none at e in cc)
       go false p = p
 
-  joined : Joined devices.places.0 b n bus spot.slot a.id t (done b bus spot.slot a.id) c
+  joined : Joined devices.places.0 b n bus resources.slot a.id t (done b bus resources.slot a.id) c
   joined = accepted-joined devices.places.0 b a rest devices.places.1 t bus k
 
   kind : kind_of c n ≡ Some t
@@ -434,7 +434,7 @@ module _ (b : Board) (a : Wanted) (devices : SoundDevices b) (h : SoundBackends 
   unfolding types
   own-uart is =
       ap (λ (o : Option Slot). option_and_then text_in (option_and_then plain_in o))
-      (own-is b absent t a spot (codes "chardev") (record { slot = refl; parent_bus = refl; realized = refl; source = refl }) refl (plain (val.Text []))
+      (own-is b absent t a resources (codes "chardev") (record { slot = refl; parent_bus = refl; realized = refl; source = refl }) refl (plain (val.Text []))
       (subst (λ (x : TypeId). first_row x (codes "chardev") (slots_of x) ≡ Some (plain (val.Text []))) (sym is) refl)
       ∙ ap Some (text-given b a.props (subst (λ (x : TypeId). refusal_of b x a.props ≡ None) is passed.properties)))
 
@@ -478,8 +478,8 @@ module _ (b : Board) (a : Wanted) (devices : SoundDevices b) (h : SoundBackends 
         dimm-passes b a.props (subst (λ (x : TypeId). refusal_of b x a.props ≡ None) is passed.properties)
         (subst (λ (x : TypeId). kind_barred b x bus a.props ≡ None) is passed.kind)
 
-    spot-range : (spot_of b t bus a.props).range ≡ Some fits.range
-    spot-range =
+    range-claimed : (resources_of b t bus a.props).range ≡ Some fits.range
+    range-claimed =
         subst (λ (x : TypeId). range_of b x a.props ≡ Some fits.range) (sym is)
         (ap (option_and_then (λ m. ok_in (range_for b (number_for a.props (codes "addr")) (size_of b m)))) fits.target ∙ ap ok_in fits.chosen)
 
@@ -497,17 +497,17 @@ module _ (b : Board) (a : Wanted) (devices : SoundDevices b) (h : SoundBackends 
     own-backend : backend_of c n ≡ Some fits.backend
     own-backend =
         ap (option_and_then strong_in)
-        (own-is b absent t a spot (codes "memdev") apart-memdev refl (strong MemoryBackend None) first-memdev
+        (own-is b absent t a resources (codes "memdev") apart-memdev refl (strong MemoryBackend None) first-memdev
         ∙ ap Some (memdev-given b a.props fits.backend fits.target))
 
     own-at : number_at c n (codes "addr") ≡ Some fits.range.at
     own-at =
         let p : IsPlain (slot_given b a.props (codes "addr", plain val.Nothing)).1 = plain-given b a.props (codes "addr") val.Nothing in
         ap (λ (o : Option Slot). option_and_then number_in (option_and_then plain_in o))
-        (own-addr b absent t a spot fits.range spot-range val.Nothing p.val first-addr p.is)
+        (own-addr b absent t a resources fits.range range-claimed val.Nothing p.val first-addr p.is)
 
     own-ranges : ranges_at c n ≡ Some (fits.range ∷ [])
-    own-ranges = own-range b absent t a spot fits.range spot-range (codes "memdev") apart-memdev refl (strong MemoryBackend None) first-memdev
+    own-ranges = own-range b absent t a resources fits.range range-claimed (codes "memdev") apart-memdev refl (strong MemoryBackend None) first-memdev
 
     own-stands : StandsOn c n fits.range
     own-stands =
@@ -567,7 +567,7 @@ module _ (b : Board) (a : Wanted) (devices : SoundDevices b) (h : SoundBackends 
         subst (λ (g : Range). overlap g s ≡ false) own (clear-of b fits.range fits.fits.clear e s before was)
 
   -- it claims what it was given
-  pub added-given : ClaimsGiven b t bus a.props (with_plugged b t a (spot_of b t bus a.props)) (b.born + 1)
+  pub added-given : ClaimsGiven b t bus a.props (with_plugged b t a (resources_of b t bus a.props)) (b.born + 1)
   added-given =
       record {
         realized = joined.stands_realized;
@@ -576,19 +576,19 @@ module _ (b : Board) (a : Wanted) (devices : SoundDevices b) (h : SoundBackends 
         slot = joined.at;
         ring = own-uart;
         backend = λ is. own-backend is ∙ sym (fits is).target;
-        range = λ is. own-ranges is ∙ sym (ap (option_map (λ (g : Range). g ∷ [])) (spot-range is));
+        range = λ is. own-ranges is ∙ sym (ap (option_map (λ (g : Range). g ∷ [])) (range-claimed is));
       }
 
   -- of the others the same are realized, and claim the same
-  pub added-same : (x : ℕ) → (x == (b.born + 1)) ≡ false → is_realized (with_plugged b t a (spot_of b t bus a.props)) x ≡ is_realized b x
+  pub added-same : (x : ℕ) → (x == (b.born + 1)) ≡ false → is_realized (with_plugged b t a (resources_of b t bus a.props)) x ≡ is_realized b x
   added-same x apart = go (record_of b x) refl
     where
       go : (o : Option Record) → record_of b x ≡ o → is_realized c x ≡ is_realized b x
       go None q = let none : is_live b x ≡ false = ap is_some q in rw q (joined.unrealized x none apart)
       go (Some r) q = joined.realized x (ap is_some q)
 
-  pub added-stay : (x : ℕ) → (x == (b.born + 1)) ≡ false → is_realized (with_plugged b t a (spot_of b t bus a.props)) x ≡ true
-      → ClaimsAlike b (with_plugged b t a (spot_of b t bus a.props)) x
+  pub added-stay : (x : ℕ) → (x == (b.born + 1)) ≡ false → is_realized (with_plugged b t a (resources_of b t bus a.props)) x ≡ true
+      → ClaimsAlike b (with_plugged b t a (resources_of b t bus a.props)) x
   added-stay x apart e =
       let lit : is_realized b x ≡ true = sym (added-same x apart) ∙ e in
       let home : IsHome b x = devices.places.1.home x (devices.places.1.only x lit) (λ z. cc) in
@@ -656,7 +656,7 @@ module _ (b : Board) (a : Wanted) (devices : SoundDevices b) (h : SoundBackends 
       (stands-before b c devices.tree after same h.claims x r (old x apart) on e)
       (stands-before b c devices.tree after same h.claims y s (old y further) other f)
 
-  pub added-backends : SoundBackends (with_plugged b t a (spot_of b t bus a.props))
+  pub added-backends : SoundBackends (with_plugged b t a (resources_of b t bus a.props))
   added-backends =
       record {
         rings = subst AreGoodRings (sym same) h.rings;

@@ -1,9 +1,9 @@
 -- The law: what changes leave of the claims of devices.
 use Rattle.std.proofs.Common.{◌≡◌, refl, ap, sym, subst, ◌∙◌, ℕ, ◌+◌, zero, suc, Bool, true, false, List, [], ◌∷◌, ◌++◌, filter, length, codes, Option, Some, None, is_some, option_map, Ok}
-use Rattle.qo_model.proofs.Common.{option_map_or, Effect, body_write, Registers, MACHINE_BIRTH, Code, Act, Enter, Hold, Exit, TypeId, Board, Record, record_of, clock_scaled, clock_set, acted, is_realized, Change, changed, all_completed, asked, asked_of, completed, device_at, reset_whole, attached, among, Wanted, barred_early, barred_late, bus_for, notice_barred, plug, plug_as, plug_by, plug_late, spot_of, type_barred, with_plugged, without_first, is_out, phased, post, pulse, released, TypeInfo, is_a, type_named, detach, set_named}
+use Rattle.qo_model.proofs.Common.{option_map_or, Effect, body_write, Registers, MACHINE_BIRTH, Code, Act, Enter, Hold, Exit, TypeId, Board, Record, record_of, clock_scaled, clock_set, acted, is_realized, Change, changed, all_completed, asked, asked_of, completed, device_at, reset_whole, attached, among, Wanted, barred_early, barred_late, bus_for, notice_barred, plug, plug_as, plug_by, plug_late, resources_of, type_barred, with_plugged, without_first, is_not_in_reset, phased, post, pulse, released, TypeInfo, is_a, type_named, detach, set_named}
 use Rattle.std.proofs.lemmas.Option.{same_Some}
 use Rattle.qo_values.specs.declared.properties.Val.TheVariants as val
-use Rattle.qo_model.specs.Reset.{held}
+use Rattle.qo_model.specs.Reset.{after_hold}
 use Rattle.qo_model.specs.Unplug.{first_of}
 use Rattle.qo_model.proofs.FirstSlotLemmas.{slots_in}
 use Rattle.qo_model.proofs.StepLemmas.{found-edited, slots-edited}
@@ -99,30 +99,30 @@ dims-holds b c holds h =
     dims-then b c (record c { holds = holds }) h
     (dims-alike c (record c { holds = holds }) refl (λ x. alike-record c (record c { holds = holds }) x refl))
 
-dims-held : (b c : Board) (n : ℕ) → Dims b c → Dims b (held c n)
-unfolding held
+dims-held : (b c : Board) (n : ℕ) → Dims b c → Dims b (after_hold c n)
+unfolding after_hold
 dims-held b c n h =
     dims-holds b _ (c.holds ++ n ∷ [])
-    (dims-phased Hold (filter (is_out c) (post c n)) b _ (dims-phased Enter (filter (is_out c) (post c n)) b c h))
+    (dims-phased Hold (filter (is_not_in_reset c) (post c n)) b _ (dims-phased Enter (filter (is_not_in_reset c) (post c n)) b c h))
 
 dims-released : (b c : Board) (n : ℕ) → Dims b c → Dims b (released c n)
 unfolding released
 dims-released b c n h =
     let x : Board = record c { holds = without_first n c.holds } in
-    dims-phased Exit (filter (is_out x) (post x n)) b x (dims-holds b c (without_first n c.holds) h)
+    dims-phased Exit (filter (is_not_in_reset x) (post x n)) b x (dims-holds b c (without_first n c.holds) h)
 
 dims-pulse : (b c : Board) (n : ℕ) → Dims b c → Dims b (pulse c n)
 unfolding pulse
-dims-pulse b c n h = dims-released b (held c n) n (dims-held b c n h)
+dims-pulse b c n h = dims-released b (after_hold c n) n (dims-held b c n h)
 
 keep-acted : (act : Act) (n period : ℕ) (b : Board) → SoundDevices b → ClaimsKeep b (acted act n period b)
 keep-acted act n period b h =
     keep-dims b (acted act n period b) h (devices_kept_lem.acts act n period b h) (fewer-acted false b act n period b (fewer-none false b))
     (dims-acted act n period b)
 
-keep-held : (b : Board) (n : ℕ) → SoundDevices b → ClaimsKeep b (held b n)
+keep-held : (b : Board) (n : ℕ) → SoundDevices b → ClaimsKeep b (after_hold b n)
 keep-held b n h =
-    keep-dims b (held b n) h (devices_kept_lem.held_so b n h) (fewer-held b b n (fewer-none false b)) (dims-held b b n (dims-none b))
+    keep-dims b (after_hold b n) h (devices_kept_lem.held_so b n h) (fewer-held b b n (fewer-none false b)) (dims-held b b n (dims-none b))
 
 keep-released : (b : Board) (n : ℕ) → SoundDevices b → ClaimsKeep b (released b n)
 keep-released b n h =
@@ -232,17 +232,17 @@ added-claims b a devices backends e = subst (ClaimsAdded b a) (sym x.board) clai
     k = accepted-of b a x.row x.bus x.attempted x.late
 
     given : (t : TypeId) (bus : ℕ) → option_map (λ (row : TypeInfo). row.id) (type_named a.driver) ≡ Some t → bus_for b t a.bus ≡ Some bus
-        → ClaimsGiven b t bus a.props (with_plugged b x.row.id a (spot_of b x.row.id x.bus a.props)) (b.born + 1)
+        → ClaimsGiven b t bus a.props (with_plugged b x.row.id a (resources_of b x.row.id x.bus a.props)) (b.born + 1)
     given t bus named chosen =
-        subst (λ (m : ℕ). ClaimsGiven b t m a.props (with_plugged b x.row.id a (spot_of b x.row.id x.bus a.props)) (b.born + 1)) (same_Some x.bus bus
+        subst (λ (m : ℕ). ClaimsGiven b t m a.props (with_plugged b x.row.id a (resources_of b x.row.id x.bus a.props)) (b.born + 1)) (same_Some x.bus bus
         (sym x.attempted.chosen ∙ ap (λ (u : TypeId). bus_for b u a.bus) is ∙ chosen))
-        (subst (λ (u : TypeId). ClaimsGiven b u x.bus a.props (with_plugged b x.row.id a (spot_of b x.row.id x.bus a.props)) (b.born + 1)) is
+        (subst (λ (u : TypeId). ClaimsGiven b u x.bus a.props (with_plugged b x.row.id a (resources_of b x.row.id x.bus a.props)) (b.born + 1)) is
         (added-given b a devices backends x.row.id x.bus k))
       where
         is : x.row.id ≡ t
         is = same_Some x.row.id t (sym (ap (option_map (λ (row : TypeInfo). row.id)) x.attempted.named) ∙ named)
 
-    claims : ClaimsAdded b a (with_plugged b x.row.id a (spot_of b x.row.id x.bus a.props))
+    claims : ClaimsAdded b a (with_plugged b x.row.id a (resources_of b x.row.id x.bus a.props))
     claims =
         record {
           given = given;

@@ -1,10 +1,10 @@
 -- Acts, holds, clocks that are written, registers that a guest writes, devices that go, and the reset of the whole board keep the backends sound.
 use Rattle.std.proofs.Common.{◌≡◌, inl, refl, ap, sym, subst, ◌∙◌, ℕ, zero, suc, Bool, true, false, eqb, List, [], ◌∷◌, filter, length, codes, Option, Some, None, is_some, Ok, Err, rules}
-use Rattle.qo_model.proofs.Common.{AllByRecursion, Effect, body_write, Registers, MACHINE_BIRTH, E45, E46, Act, Enter, Hold, Exit, Board, Record, record_of, slots_at, set, clock_scaled, clock_set, acted, source_of, among, Change, changed, all_completed, asked, asked_of, completed, device_at, reset_whole, index_from, attached, notice_barred, range_in, without_first, is_out, phased, post, pulse, released, is_a, detach, is_named, set_named}
+use Rattle.qo_model.proofs.Common.{AllByRecursion, Effect, body_write, Registers, MACHINE_BIRTH, E45, E46, Act, Enter, Hold, Exit, Board, Record, record_of, slots_at, set, clock_scaled, clock_set, acted, source_of, among, Change, changed, all_completed, asked, asked_of, completed, device_at, reset_whole, index_from, attached, notice_barred, range_in, without_first, is_not_in_reset, phased, post, pulse, released, is_a, detach, is_named, set_named}
 use Rattle.std.proofs.lemmas.Option.{same_Some}
 use Rattle.qo_values.specs.declared.properties.Val.TheVariants as val
 use Rattle.qo_values.proofs.EachLemmas.{each_write}
-use Rattle.qo_model.specs.Reset.{held}
+use Rattle.qo_model.specs.Reset.{after_hold}
 use Rattle.qo_model.specs.Unplug.{first_of}
 use Rattle.qo_model.proofs.ChangeScopeLemmas.{stays_lem}
 use Rattle.qo_sound.proofs.DeviceScopeLemmas.{devices_stay_lem}
@@ -68,25 +68,25 @@ acted-backends act n period b d h =
     (fewer-acted false b act n period b (fewer-none false b)) h
 
 module _ (b : Board) where
-  pub fewer-held : (c : Board) (n : ℕ) → Fewer false b c → Fewer false b (held c n)
-  unfolding held
+  pub fewer-held : (c : Board) (n : ℕ) → Fewer false b c → Fewer false b (after_hold c n)
+  unfolding after_hold
   fewer-held c n h =
-      fewer-phased false b Hold (filter (is_out c) (post c n)) (phased Enter (filter (is_out c) (post c n)) c)
-      (fewer-phased false b Enter (filter (is_out c) (post c n)) c h)
+      fewer-phased false b Hold (filter (is_not_in_reset c) (post c n)) (phased Enter (filter (is_not_in_reset c) (post c n)) c)
+      (fewer-phased false b Enter (filter (is_not_in_reset c) (post c n)) c h)
 
   pub fewer-released : (c : Board) (n : ℕ) → Fewer false b c → Fewer false b (released c n)
   unfolding released
   fewer-released c n h =
       let x : Board = record c { holds = without_first n c.holds } in
-      fewer-phased false b Exit (filter (is_out x) (post x n)) x h
+      fewer-phased false b Exit (filter (is_not_in_reset x) (post x n)) x h
 
   pub fewer-pulse : (c : Board) (n : ℕ) → Fewer false b c → Fewer false b (pulse c n)
   unfolding pulse
-  fewer-pulse c n h = fewer-released (held c n) n (fewer-held c n h)
+  fewer-pulse c n h = fewer-released (after_hold c n) n (fewer-held c n h)
 
-pub held-backends : (b : Board) (n : ℕ) → SoundDevices b → SoundBackends b → SoundBackends (held b n)
+pub held-backends : (b : Board) (n : ℕ) → SoundDevices b → SoundBackends b → SoundBackends (after_hold b n)
 held-backends b n d h =
-    backends-fewer b (held b n) d (devices_kept_lem.held_so b n d) (devices_stay_lem.held_so b n).rings (fewer-held b b n (fewer-none false b)) h
+    backends-fewer b (after_hold b n) d (devices_kept_lem.held_so b n d) (devices_stay_lem.held_so b n).rings (fewer-held b b n (fewer-none false b)) h
 
 pub released-backends : (b : Board) (n : ℕ) → SoundDevices b → SoundBackends b → SoundBackends (released b n)
 released-backends b n d h =

@@ -13,7 +13,7 @@ use Rattle.qo_model.specs.Hotplug.{asked, refused, reset_whole}
 use Rattle.qo_model.specs.Objects.{with_attempt}
 use Rattle.qo_model.specs.Opening.{opening_board}
 use Rattle.qo_model.specs.Plug.{Wanted, claims_ring, cut_attempt, has_ring, plug, plug_attempt}
-use Rattle.qo_model.specs.Reset.{held, pulse, released}
+use Rattle.qo_model.specs.Reset.{after_hold, pulse, released}
 use Rattle.qo_model.specs.Unplug.{detach}
 use Rattle.qo_sound_clocks.specs.RegisterWrites.{registers_set}
 use Rattle.qo_sound_devices.specs.SoundDevices.{SoundDevices}
@@ -47,7 +47,7 @@ pub record ClaimsKeptLaw : Type 0 where
       → body_write r.registers reg value ring now period ≡ Some (s, effect) → SoundDevices b → SoundBackends b → SoundBackends (registers_set b n s)
   -- an act; a hold, a hold less, and both
   pub acts : (act : Act) (n period : ℕ) (b : Board) → SoundDevices b → SoundBackends b → SoundBackends (acted act n period b)
-  pub held_so : (b : Board) (n : ℕ) → SoundDevices b → SoundBackends b → SoundBackends (held b n)
+  pub held_so : (b : Board) (n : ℕ) → SoundDevices b → SoundBackends b → SoundBackends (after_hold b n)
   pub released_so : (b : Board) (n : ℕ) → SoundDevices b → SoundBackends b → SoundBackends (released b n)
   pub pulsed : (b : Board) (n : ℕ) → SoundDevices b → SoundBackends b → SoundBackends (pulse b n)
   -- a write of a clock's period, and of its mul and div, that is not refused

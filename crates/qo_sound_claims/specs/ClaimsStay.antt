@@ -14,8 +14,8 @@ use Rattle.qo_model.specs.FinalNotesRuns.{Change, changed}
 use Rattle.qo_model.specs.Hotplug.{asked, reset_whole}
 use Rattle.qo_model.specs.Objects.{Given}
 use Rattle.qo_model.specs.Paths.{is_of}
-use Rattle.qo_model.specs.Plug.{Wanted, backend_of, bus_for, plug, range_in, range_of, spot_of, target_for, text_for}
-use Rattle.qo_model.specs.Reset.{held, pulse, released}
+use Rattle.qo_model.specs.Plug.{Wanted, backend_of, bus_for, plug, range_in, range_of, resources_of, target_for, text_for}
+use Rattle.qo_model.specs.Reset.{after_hold, pulse, released}
 use Rattle.qo_model.specs.Types.{TypeInfo, type_named}
 use Rattle.qo_model.specs.Unplug.{detach}
 use Rattle.qo_sound_clocks.specs.RegisterWrites.{registers_set}
@@ -51,7 +51,7 @@ pub record ClaimsGiven (b : Board) (t : TypeId) (bus : ℕ) (props : List Given)
   pub realized : is_realized c n ≡ true
   pub kind : kind_of c n ≡ Some t
   pub on : bus_of c n ≡ Some bus
-  pub slot : bus_slot_of c n ≡ Some (spot_of b t bus props).slot
+  pub slot : bus_slot_of c n ≡ Some (resources_of b t bus props).slot
   pub ring : t ≡ SlotUart → text_at c n (codes "chardev") ≡ Some (text_for props (codes "chardev"))
   pub backend : t ≡ MemDimm → backend_of c n ≡ target_for b MemoryBackend props (codes "memdev")
   pub range : t ≡ MemDimm → ranges_at c n ≡ option_map (λ (g : Range). g ∷ []) (range_of b t props)
@@ -73,7 +73,7 @@ pub record ClaimsStayLaw : Type 0 where
       → body_write r.registers reg value ring now period ≡ Some (s, effect) → SoundDevices b → ClaimsKeep b (registers_set b n s)
   -- an act; a hold, a hold less, and both
   pub acts : (act : Act) (n period : ℕ) (b : Board) → SoundDevices b → ClaimsKeep b (acted act n period b)
-  pub held_so : (b : Board) (n : ℕ) → SoundDevices b → ClaimsKeep b (held b n)
+  pub held_so : (b : Board) (n : ℕ) → SoundDevices b → ClaimsKeep b (after_hold b n)
   pub released_so : (b : Board) (n : ℕ) → SoundDevices b → ClaimsKeep b (released b n)
   pub pulsed : (b : Board) (n : ℕ) → SoundDevices b → ClaimsKeep b (pulse b n)
   -- a write of a clock's period, and of its mul and div, that is not refused

@@ -4,7 +4,7 @@ use Rattle.qo_model.proofs.Common.{AllByRecursion, option_map_or, option_or, byt
 use Rattle.qo_model.specs.declared.properties.Property.{Property}
 use Rattle.std.proofs.lemmas.Slice.Eq.{bytes_eq-Decides}
 use Rattle.qo_values.proofs.EachLemmas.{each}
-use Rattle.qo_model.specs.Board.{held}
+use Rattle.qo_model.specs.Board.{referent}
 use Rattle.qo_model.proofs.ComesToLemmas.{addition-comes, deletion-comes, sever-comes, severed-comes}
 use Rattle.qo_model.proofs.FirstSlotLemmas.{slots_in}
 use Rattle.qo_model.proofs.StepLemmas.{found-edited, found_at}
@@ -24,7 +24,7 @@ use Rattle.qo_sound_clocks.proofs.DependenceLemmas.{KeptByFewer}
 -- no property of a clock is written by `qom-set` yet
 
 abbrev pub MaySet : TypeId → List ℕ → Bool
-MaySet t name = option_map_or (λ (p : Property). may_set p.mark) (property_named t name) false
+MaySet t name = option_map_or (λ (p : Property). may_set p.access) (property_named t name) false
 
 record NeverSet (t : TypeId) : Type 0 where
   period : MaySet t (codes "period") ≡ false
@@ -57,8 +57,8 @@ set-other t name e =
     n = never-set t
 
 -- the row of a property that may be set says so
-pub may-set : (t : TypeId) (name : List ℕ) (p : Property) → property_named t name ≡ Some p → may_set p.mark ≡ true → MaySet t name ≡ true
-may-set t name p e may = ap (λ (o : Option Property). option_map_or (λ (x : Property). may_set x.mark) o false) e ∙ may
+pub may-set : (t : TypeId) (name : List ℕ) (p : Property) → property_named t name ≡ Some p → may_set p.access ≡ true → MaySet t name ≡ true
+may-set t name p e may = ap (λ (o : Option Property). option_map_or (λ (x : Property). may_set x.access) o false) e ∙ may
 
 -- the slot that is written
 
@@ -85,7 +85,7 @@ module _ (b : Board) (n i : ℕ) (own : List ℕ) (s left : Slot)
   relinked-fewer : (target : Option ℕ) → Fewer b (relinked b n i target)
   relinked-fewer target =
       let there : slot_at b n i ≡ Some s = ap (option_map (λ (x : List ℕ × Slot). x.1)) at in
-      rw (relinked, there) (fewer-after b (held s) (pointed_at target n i (drop_slot b n i)) (pointed-fewer target))
+      rw (relinked, there) (fewer-after b (referent s) (pointed_at target n i (drop_slot b n i)) (pointed-fewer target))
 
 write-fewer : (b : Board) (n : ℕ) (name : List ℕ) (v : Val) → Fewer b (after_write b (write b n name v))
 write-fewer b n name v = write-comes (Fewer b) b (fewer-none b) n name v (λ i t p kind e may.

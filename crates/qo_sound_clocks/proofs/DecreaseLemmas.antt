@@ -3,7 +3,7 @@ use Rattle.std.proofs.Common.{◌≡◌, refl, ap, sym, ◌∙◌, ℕ, Bool, tr
 use Rattle.qo_model.proofs.Common.{⊤, list_any, Act, Unrealize, TypeId, Val, Board, Record, Slot, strong, record_of, slots_at, slot_at, cut, set, with_changed, with_cut, with_val, acted, with_act_on, buses_of, kids_of, after, drop_slot, edit, finalize, finish, forgotten, let_go, pin, unpin, with_dropped, without_pin, KeepsRelease, detach, disconnected, unseen, set_named, unrealize}
 use Rattle.std.proofs.lemmas.Bool.{eqb-true}
 use Rattle.qo_values.specs.declared.properties.Val.TheVariants as val
-use Rattle.qo_model.specs.Board.{held}
+use Rattle.qo_model.specs.Board.{referent}
 use Rattle.qo_model.proofs.FirstSlotLemmas.{slots_in}
 use Rattle.qo_model.proofs.ReleaseInductionLemmas.{after_keeps}
 use Rattle.qo_model.proofs.StepLemmas.{finish-gone, finish-record}
@@ -85,7 +85,7 @@ module _ (b : Board) where
     where
       go : (o : Option Slot) → slot_at c n i ≡ o → Fewer b (let_go c n i)
       go None e = rw (let_go, e) h
-      go (Some s) e = rw (let_go, e) (fewer-after (held s) _ (fewer-drop c n i h))
+      go (Some s) e = rw (let_go, e) (fewer-after (referent s) _ (fewer-drop c n i h))
 
   -- a value is set by another name than those of clocks, or a period to 0
 

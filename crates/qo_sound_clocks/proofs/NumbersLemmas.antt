@@ -1,6 +1,6 @@
 -- The law: the numbers of clocks stay as wide as their properties.
 use Rattle.std.proofs.Common.{◌≡◌, ◌⊎◌, inl, inr, refl, ap, sym, subst, ◌∙◌, rules, ℕ, ◌<◌, ◌≤◌, ◌^◌, Bool, true, false, ◌&&◌, eqb, List, Option, Some, None, is_some, option_and_then, unwrap_or, codes, Ok, Err, arith}
-use Rattle.qo_model.proofs.Common.{nat_lt, AllByRecursion, bytes_eq, E45, E46, TypeId, Val, Board, Record, record_of, slots_at, clock_scaled, clock_set, div_of, mul_of, own_period, source_of, number_at, number_in, opening_board, Spot, Wanted, plug, plug_attempt, source_for, with_plugged, is_a, types, set_named}
+use Rattle.qo_model.proofs.Common.{nat_lt, AllByRecursion, bytes_eq, E45, E46, TypeId, Val, Board, Record, record_of, slots_at, clock_scaled, clock_set, div_of, mul_of, own_period, source_of, number_at, number_in, opening_board, Resources, Wanted, plug, plug_attempt, source_for, with_plugged, is_a, types, set_named}
 use Rattle.std.proofs.lemmas.Bool.{and_parts, cases_lt, eqb-true}
 use Rattle.std.proofs.lemmas.Bool.Decides.{nat_tests}
 use Rattle.qo_values.specs.declared.properties.Val.TheVariants as val
@@ -94,15 +94,16 @@ fewer-numbers : KeptByFewer SoundNumbers
 fewer-numbers b c on now less h n = less-numbers b c on now n (less n) (h n)
 
 -- a device is added
-plugged-numbers : (b : Board) (t : TypeId) (a : Wanted) (spot : Spot) → is_a t (codes "device") ≡ true → SoundTree b → SoundTree (with_plugged b t a spot)
-    → SoundNumbers b → SoundNumbers (with_plugged b t a spot)
-plugged-numbers b t a spot device tree after h n = go (cases_lt b.born n)
+plugged-numbers : (b : Board) (t : TypeId) (a : Wanted) (resources : Resources) → is_a t (codes "device") ≡ true → SoundTree b
+    → SoundTree (with_plugged b t a resources)
+    → SoundNumbers b → SoundNumbers (with_plugged b t a resources)
+plugged-numbers b t a resources device tree after h n = go (cases_lt b.born n)
   where
     c : Board
-    c = with_plugged b t a spot
+    c = with_plugged b t a resources
 
-    g : Growing b (source_for b spot.bus) c
-    g = growing b t a spot device tree
+    g : Growing b (source_for b resources.bus) c
+    g = growing b t a resources device tree
 
     now : Reads c
     now = tree-reads c after
@@ -120,7 +121,7 @@ plugged-numbers b t a spot device tree after h n = go (cases_lt b.born n)
 plug-numbers : (b : Board) (a : Wanted) → SoundTree b → SoundNumbers b → SoundNumbers (plug b a).board
 plug-numbers b a tree h =
     kept-plug SoundNumbers b a h (λ t bus stage. kept-beside SoundNumbers same-numbers b (plug_attempt b t bus stage) refl h)
-    (λ t spot device after. plugged-numbers b t a spot device tree after h) (sound_kept_lem.plugged b a tree)
+    (λ t resources device after. plugged-numbers b t a resources device tree after h) (sound_kept_lem.plugged b a tree)
 
 -- a number is written
 

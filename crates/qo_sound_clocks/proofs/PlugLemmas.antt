@@ -1,6 +1,6 @@
 -- A device that is added brings clocks as new, which go by an older clock; the others stay as they are.
 use Rattle.std.proofs.Common.{◌≡◌, ◌⊎◌, inl, inr, refl, ap, sym, subst, ◌∙◌, rules, ℕ, zero, suc, ◌+◌, ◌<◌, ◌≤◌, Bool, true, false, ◌==◌, List, [], ◌∷◌, find, Option, Some, None, option_map, option_and_then, codes, arith}
-use Rattle.qo_model.proofs.Common.{⊤, AllByRecursion, option_or, bytes_eq, type_name, Realize, TypeId, Device, Val, Range, Board, Record, Slot, plain, child, strong, weak, alias, record_of, slots_at, add, changed_at, fresh, with_added, with_changed, with_val, acted, child_named, clock_of, kid_name, plain_in, Given, slot_given, first_value, fresh_record, fresh_slots, canonical, is_of, only_of, Spot, Wanted, acted_all, addressed_at, aliased, bus_births, clocked, counted, drafted, fitted, link_named, name_for, owned, parent_for, property_made, properties_made, source_for, stood, with_body_of, with_device, with_given, with_new, with_path, with_plugged, with_source, edit, edited, plugged, post, property_name, is_a, slots_of, types, set_named}
+use Rattle.qo_model.proofs.Common.{⊤, AllByRecursion, option_or, bytes_eq, type_name, Realize, TypeId, Device, Val, Range, Board, Record, Slot, plain, child, strong, weak, alias, record_of, slots_at, add, changed_at, fresh, with_added, with_changed, with_val, acted, child_named, clock_of, kid_name, plain_in, Given, slot_given, first_value, fresh_record, fresh_slots, canonical, is_of, only_of, Resources, Wanted, acted_all, addressed_at, aliased, bus_births, clocked, counted, drafted, fitted, link_named, name_for, owned, parent_for, property_made, properties_made, source_for, stood, with_body_of, with_device, with_given, with_new, with_path, with_plugged, with_source, edit, edited, plugged, post, property_name, is_a, slots_of, types, set_named}
 use Rattle.qo_model.specs.declared.properties.Property.{Property}
 use Rattle.qo_model.specs.declared.properties.PropertyRole.{PropertyRole}
 use Rattle.std.proofs.lemmas.Bool.{and_parts, eqb-true, or_cases, or_right}
@@ -34,13 +34,13 @@ NewSlots k xs = AllByRecursion (NewSlot k) xs
 
 -- a clock as new goes by nothing but one clock
 
-pub record Calm (source : ℕ) (ys : Slots) : Type 0 where
+pub record OnlySource (source : ℕ) (ys : Slots) : Type 0 where
   pub own : own_in ys ≡ 0
   pub mul : mul_in ys ≡ 1
   pub div : div_in ys ≡ 1
   pub only : (s : ℕ) → sees s ys ≡ true → s ≡ source
 
-calm-blank : (source : ℕ) (ys : Slots) → Blank ys → Calm source ys
+calm-blank : (source : ℕ) (ys : Slots) → Blank ys → OnlySource source ys
 calm-blank source ys h =
     record { own = h.own; mul = h.mul; div = h.div; only = λ s e. absurd (let clash : true ≡ false = sym e ∙ h.source s in cc) }
 
@@ -48,13 +48,13 @@ news-quiet : (k : ℕ) (xs : Slots) → NewSlots k xs → AllByRecursion Quiet x
 news-quiet k [] h = tt
 news-quiet k (x ∷ xs) h = (h.0.0, news-quiet k xs h.1)
 
-calm-news : (source k : ℕ) (xs : Slots) → NewSlots k xs → Calm source xs
+calm-news : (source k : ℕ) (xs : Slots) → NewSlots k xs → OnlySource source xs
 calm-news source k xs h = calm-blank source xs (quiet-blank xs (news-quiet k xs h))
 
-calm-less : (source : ℕ) (xs ys : Slots) → Less xs ys → Calm source xs → Calm source ys
+calm-less : (source : ℕ) (xs ys : Slots) → Less xs ys → OnlySource source xs → OnlySource source ys
 calm-less source xs ys less h = go less.scale
   where
-    go : ((mul_in ys ≡ mul_in xs) × (div_in ys ≡ div_in xs)) ⊎ Blank ys → Calm source ys
+    go : ((mul_in ys ≡ mul_in xs) × (div_in ys ≡ div_in xs)) ⊎ Blank ys → OnlySource source ys
     go (inl same) =
         record {
           own = let none : own_in xs ≡ 0 = h.own in omega (arith, none, less.own);
@@ -151,7 +151,7 @@ sees-fitted c m s (suc i) (x ∷ xs) e = go (or_cases (sees_it s x) (sees s (cha
         by (inl own) = inl (or_right (sees_it s x) (sees s xs) own)
         by (inr is) = inr is
 
-calm-fitted : (c : Board) (source i : ℕ) (xs : Slots) → Calm source xs → Calm source (changed_at (fitted c source) i xs)
+calm-fitted : (c : Board) (source i : ℕ) (xs : Slots) → OnlySource source xs → OnlySource source (changed_at (fitted c source) i xs)
 calm-fitted c source i xs h =
     record {
       own = number-same (codes "period") 0 xs ys (same (codes "period")) ∙ h.own;
@@ -219,7 +219,7 @@ module _ (b : Board) (source : ℕ) where
     pub born : b.born < c.born
     pub old : (m : ℕ) → m ≤ b.born → Less (slots_at b m) (slots_at c m)
     pub device : NewSlots b.born (slots_at c n)
-    pub new : (m : ℕ) → b.born < m → Calm source (slots_at c m)
+    pub new : (m : ℕ) → b.born < m → OnlySource source (slots_at c m)
 
   -- slots are as before
   growing-like : (c d : Board) → ((m : ℕ) → slots_at d m ≡ slots_at c m) → c.born ≡ d.born → Growing c → Growing d
@@ -228,7 +228,7 @@ module _ (b : Board) (source : ℕ) where
         born = let low : b.born < c.born = h.born in omega (arith, low, births);
         old = λ m le. subst (Less (slots_at b m)) (sym (same m)) (h.old m le);
         device = subst (NewSlots b.born) (sym (same n)) h.device;
-        new = λ m high. subst (Calm source) (sym (same m)) (h.new m high);
+        new = λ m high. subst (OnlySource source) (sym (same m)) (h.new m high);
       }
 
   -- an edit of any object that reads no more
@@ -243,8 +243,8 @@ module _ (b : Board) (source : ℕ) where
             (none m le);
         device = edited-at (NewSlots b.born) x change same_birth c n (λ p. h.device) (λ r e p. keeps r (subst (NewSlots b.born) (ap slots_in e) h.device)) tt;
         new = λ m high.
-            edited-at (Calm source) x change same_birth c m (λ p. h.new m high)
-            (λ r e p. calm-less source r.slots (change r).slots (less r) (subst (Calm source) (ap slots_in e) (h.new m high)))
+            edited-at (OnlySource source) x change same_birth c m (λ p. h.new m high)
+            (λ r e p. calm-less source r.slots (change r).slots (less r) (subst (OnlySource source) (ap slots_in e) (h.new m high)))
             (calm-blank source [] blank-none);
       }
     where
@@ -262,7 +262,7 @@ module _ (b : Board) (source : ℕ) where
             (λ r e p. absurd (let is : m ≡ b.born + 1 = eqb-true m n p in omega (arith, is, le))) (less-blank (slots_at b m) [] blank-none);
         device = edited-at (NewSlots b.born) n change same_birth c n (λ p. h.device) (λ r e p. kept r e) tt;
         new = λ m high.
-            edited-at (Calm source) n change same_birth c m (λ p. h.new m high)
+            edited-at (OnlySource source) n change same_birth c m (λ p. h.new m high)
             (λ r e p. calm-news source b.born (change r).slots (kept r (subst (λ (k : ℕ). record_of c k ≡ Some r) (eqb-true m n p) e)))
             (calm-blank source [] blank-none);
       }
@@ -282,8 +282,8 @@ module _ (b : Board) (source : ℕ) where
             edited-at (NewSlots b.born) x change (λ r. refl) c n (λ p. h.device)
             (λ r e p. news-changed b.born (fitted c source) (new-fitted b.born c source) i r.slots (subst (NewSlots b.born) (ap slots_in e) h.device)) tt;
         new = λ m above.
-            edited-at (Calm source) x change (λ r. refl) c m (λ p. h.new m above)
-            (λ r e p. calm-fitted c source i r.slots (subst (Calm source) (ap slots_in e) (h.new m above))) (calm-blank source [] blank-none);
+            edited-at (OnlySource source) x change (λ r. refl) c m (λ p. h.new m above)
+            (λ r e p. calm-fitted c source i r.slots (subst (OnlySource source) (ap slots_in e) (h.new m above))) (calm-blank source [] blank-none);
       }
     where
       change : Record → Record
@@ -309,7 +309,7 @@ module _ (b : Board) (source : ℕ) where
         device =
             with_new-slots (NewSlots b.born) r c n h.device
             (λ e p. absurd (let is : c.born + 1 ≡ b.born + 1 = eqb-true (c.born + 1) n p in let low : b.born < c.born = h.born in omega (arith, is, low)));
-        new = λ m high. with_new-slots (Calm source) r c m (h.new m high) (λ e p. calm-blank source (fresh_slots t) (blank-fresh t));
+        new = λ m high. with_new-slots (OnlySource source) r c m (h.new m high) (λ e p. calm-blank source (fresh_slots t) (blank-fresh t));
       }
     where
       r : Record
@@ -324,7 +324,7 @@ module _ (b : Board) (source : ℕ) where
             (λ e p. absurd (let is : b.born + 1 ≡ m = eqb-true (b.born + 1) m p in omega (arith, is, le)));
         device = with_new-slots (NewSlots b.born) (fresh n t) b n (subst (NewSlots b.born) (sym (ap slots_in (absent n (omega arith)))) tt) (λ e p. tt);
         new = λ m high.
-            with_new-slots (Calm source) (fresh n t) b m (subst (Calm source) (sym (ap slots_in (absent m high))) (calm-blank source [] blank-none))
+            with_new-slots (OnlySource source) (fresh n t) b m (subst (OnlySource source) (sym (ap slots_in (absent m high))) (calm-blank source [] blank-none))
             (λ e p. calm-blank source [] blank-none);
       }
 
@@ -387,18 +387,18 @@ module _ (b : Board) (source : ℕ) where
   growing-addressed None c h = h
   growing-addressed (Some r) c h = growing-set (codes "addr") (val.Uint r.at) c h
 
-  pub growing-stood : (a : Wanted) (spot : Spot) (c : Board) → Growing c → Growing (stood b n a spot c)
-  growing-stood a spot c h =
-      stand-by Growing b n a spot
+  pub growing-stood : (a : Wanted) (resources : Resources) (c : Board) → Growing c → Growing (stood b n a resources c)
+  growing-stood a resources c h =
+      stand-by Growing b n a resources
       (record {
         named = λ d. growing-add (parent_for a.id) (name_for b a.id) (child n) refl refl (tt, omega arith) d;
-        on_bus = λ d. growing-add spot.bus (kid_name spot.slot) (strong Device (Some n)) refl refl (tt, tt) d;
+        on_bus = λ d. growing-add resources.bus (kid_name resources.slot) (strong Device (Some n)) refl refl (tt, tt) d;
         given = growing-given a.props;
-        placed = growing-set (codes "slot") (val.Uint spot.slot);
-        linked = growing-link (codes "parent_bus") spot.bus;
+        placed = growing-set (codes "slot") (val.Uint resources.slot);
+        linked = growing-link (codes "parent_bus") resources.bus;
         marked = growing-set (codes "realized") (val.Bool true);
-        addressed = growing-addressed spot.range;
-        bodied = growing-own (with_body_of a.id spot.range) (λ r. refl) (λ r k. k);
+        addressed = growing-addressed resources.range;
+        bodied = growing-own (with_body_of a.id resources.range) (λ r. refl) (λ r k. k);
       }) c h
 
   growing-clocked : (c : Board) → Growing c → Growing (clocked source n c)
@@ -419,30 +419,30 @@ module _ (b : Board) (source : ℕ) where
   unfolding acted
   growing-acts act x period unbound on c h = growing-like c (acted act x period c) (acted-slots act x period c) refl h
 
-pub growing-all : (b : Board) (t : TypeId) (a : Wanted) (spot : Spot) → ((m : ℕ) → b.born < m → record_of b m ≡ None) → is_a t (codes "device") ≡ true
-    → Growing b (source_for b spot.bus) (with_plugged b t a spot)
-growing-all b t a spot absent device =
+pub growing-all : (b : Board) (t : TypeId) (a : Wanted) (resources : Resources) → ((m : ℕ) → b.born < m → record_of b m ≡ None) → is_a t (codes "device") ≡ true
+    → Growing b (source_for b resources.bus) (with_plugged b t a resources)
+growing-all b t a resources absent device =
     growing-like b source (edit m (with_path (canonical c3 m)) c3) _ (λ x. refl) refl
     (growing-edit b source m (with_path (canonical c3 m)) (λ r. refl) (λ r. less-none r.slots) (λ r k. k) c3
     (step-plugged (λ x. ⊤) (Growing b source) (growing-acts b source) m c2 (all-any (post c2 m))
     (step-acted_all (λ x. ⊤) (Growing b source) (growing-acts b source) Realize refl (m ∷ bus_births m t) (all-any (m ∷ bus_births m t))
-    (with_device b t a spot)
+    (with_device b t a resources)
     (growing-counted b source a.id (clocked source m c1)
     (growing-clocked b source c1
-    (growing-stood b source a spot (drafted b t)
+    (growing-stood b source a resources (drafted b t)
     (growing-rows b source t (slots_of t) (rows-quiet t device) (with_new (fresh m t) b) (growing-first b source absent t))))))))
   where
     source : ℕ
-    source = source_for b spot.bus
+    source = source_for b resources.bus
 
     m : ℕ
     m = b.born + 1
 
     c1 : Board
-    c1 = stood b m a spot (drafted b t)
+    c1 = stood b m a resources (drafted b t)
 
     c2 : Board
-    c2 = acted_all Realize (m ∷ bus_births m t) (with_device b t a spot)
+    c2 = acted_all Realize (m ∷ bus_births m t) (with_device b t a resources)
 
     c3 : Board
     c3 = plugged c2 m

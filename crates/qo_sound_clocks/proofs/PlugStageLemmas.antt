@@ -1,11 +1,11 @@
 -- Adding a device, taken or refused at any stage, keeps clocks sound.
 use Rattle.std.proofs.Common.{◌≡◌, refl, ap, sym, ◌∙◌, ℕ, ◌≤◌, true, false, List, Option, Some, None, is_some, codes, arith}
-use Rattle.qo_model.proofs.Common.{AllByRecursion, Code, TypeId, Board, Record, Slot, kind_of, record_of, slots_at, bridge_of, clock_of, Spot, Wanted, barred_early, barred_late, bus_for, plug, plug_as, plug_attempt, plug_by, plug_late, source_for, spot_of, type_barred, with_plugged, TypeInfo, is_a, type_named}
+use Rattle.qo_model.proofs.Common.{AllByRecursion, Code, TypeId, Board, Record, Slot, kind_of, record_of, slots_at, bridge_of, clock_of, Resources, Wanted, barred_early, barred_late, bus_for, plug, plug_as, plug_attempt, plug_by, plug_late, source_for, resources_of, type_barred, with_plugged, TypeInfo, is_a, type_named}
 use Rattle.qo_model.proofs.FirstSlotLemmas.{slots_in}
 use Rattle.qo_model.proofs.StepLemmas.{is_some-map}
 use Rattle.qo_sound.specs.TreeKept.{SoundTree}
 use Rattle.qo_sound.proofs.DraftLemmas.{absent-above, found-low}
-use Rattle.qo_sound.proofs.FirmBoardLemmas.{Firm, Linked}
+use Rattle.qo_sound.proofs.FirmBoardLemmas.{Linked, WellFormed}
 use Rattle.qo_sound.proofs.SearchLemmas.{all-found}
 use Rattle.qo_sound.proofs.TreeKeptLemmas.{sound_kept_lem}
 use Rattle.qo_sound.proofs.PlugLemmas.{device-of}
@@ -18,7 +18,7 @@ use Rattle.qo_sound_clocks.proofs.DependenceLemmas.{kept-beside}
 
 -- what a clock goes by is there
 
-module _ (b : Board) (firm : Firm b) where
+module _ (b : Board) (firm : WellFormed b) where
   there-low : (m : ℕ) → is_some (record_of b m) ≡ true → m ≤ b.born
   there-low m e = go (record_of b m) refl
     where
@@ -53,13 +53,14 @@ module _ (b : Board) (firm : Firm b) where
       go (Some p) e = by p e (clock_of b p) refl
 
 -- what a device that was added leaves of the clocks that were there, and what it brings
-pub growing : (b : Board) (t : TypeId) (a : Wanted) (spot : Spot) → is_a t (codes "device") ≡ true → SoundTree b
-    → Growing b (source_for b spot.bus) (with_plugged b t a spot)
-growing b t a spot device tree = growing-all b t a spot (absent-above b (rest-from_sound b tree).used.firm) device
+pub growing : (b : Board) (t : TypeId) (a : Wanted) (resources : Resources) → is_a t (codes "device") ≡ true → SoundTree b
+    → Growing b (source_for b resources.bus) (with_plugged b t a resources)
+growing b t a resources device tree = growing-all b t a resources (absent-above b (rest-from_sound b tree).used.firm) device
 
-plugged-clocks : (b : Board) (t : TypeId) (a : Wanted) (spot : Spot) → is_a t (codes "device") ≡ true → SoundTree b → SoundTree (with_plugged b t a spot)
-    → SoundClocks b → SoundClocks (with_plugged b t a spot)
-plugged-clocks b t a spot device tree after h =
+plugged-clocks : (b : Board) (t : TypeId) (a : Wanted) (resources : Resources) → is_a t (codes "device") ≡ true → SoundTree b
+    → SoundTree (with_plugged b t a resources)
+    → SoundClocks b → SoundClocks (with_plugged b t a resources)
+plugged-clocks b t a resources device tree after h =
     grown-sound b c (tree-reads b tree) (tree-reads c after) h b.born g.old
     (λ m high.
     let new = g.new m high in
@@ -68,24 +69,25 @@ plugged-clocks b t a spot device tree after h =
       mul = new.mul;
       div = new.div;
       older = λ s e.
-          let is : s ≡ source_for b spot.bus = new.only s e in
-          omega (arith, is, high, source-low b (rest-from_sound b tree).used.firm spot.bus);
+          let is : s ≡ source_for b resources.bus = new.only s e in
+          omega (arith, is, high, source-low b (rest-from_sound b tree).used.firm resources.bus);
     })
   where
     c : Board
-    c = with_plugged b t a spot
+    c = with_plugged b t a resources
 
-    g : Growing b (source_for b spot.bus) c
-    g = growing b t a spot device tree
+    g : Growing b (source_for b resources.bus) c
+    g = growing b t a resources device tree
 
 -- at each stage
 module _ (P : Board → Type 0) (b : Board) (a : Wanted) (h : P b)
     (given_up : (t : TypeId) (bus stage : ℕ) → P (plug_attempt b t bus stage))
-    (added : (t : TypeId) (spot : Spot) → is_a t (codes "device") ≡ true → SoundTree (with_plugged b t a spot) → P (with_plugged b t a spot)) where
+    (added : (t : TypeId) (resources : Resources) → is_a t (codes "device") ≡ true → SoundTree (with_plugged b t a resources) → P
+    (with_plugged b t a resources)) where
   kept-late : (t : TypeId) (bus : ℕ) (o : Option (ℕ × Code)) → is_a t (codes "device") ≡ true → SoundTree (plug_late b t bus a o).board
       → P (plug_late b t bus a o).board
   kept-late t bus (Some refusal) device after = given_up t bus refusal.0
-  kept-late t bus None device after = added t (spot_of b t bus a.props) device after
+  kept-late t bus None device after = added t (resources_of b t bus a.props) device after
 
   kept-as : (t : TypeId) (o : Option (ℕ × Code)) → is_a t (codes "device") ≡ true → SoundTree (plug_as b t a o).board → P (plug_as b t a o).board
   kept-as t (Some refusal) device after = h
@@ -110,4 +112,4 @@ module _ (P : Board → Type 0) (b : Board) (a : Wanted) (h : P b)
 pub plug-clocks : (b : Board) (a : Wanted) → SoundTree b → SoundClocks b → SoundClocks (plug b a).board
 plug-clocks b a tree h =
     kept-plug SoundClocks b a h (λ t bus stage. kept-beside SoundClocks same-sound b (plug_attempt b t bus stage) refl h)
-    (λ t spot device after. plugged-clocks b t a spot device tree after h) (sound_kept_lem.plugged b a tree)
+    (λ t resources device after. plugged-clocks b t a resources device tree after h) (sound_kept_lem.plugged b a tree)

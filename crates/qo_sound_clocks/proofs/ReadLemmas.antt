@@ -10,7 +10,7 @@ use Rattle.qo_sound.specs.TreeKept.{SoundTree}
 use Rattle.qo_sound.proofs.FirmBoardLemmas.{HasNames}
 use Rattle.qo_sound.proofs.SearchLemmas.{all-found}
 use Rattle.qo_sound.proofs.SlotLemmas.{names_in}
-use Rattle.qo_sound.proofs.ViewLemmas.{AtRest, rest-from_sound}
+use Rattle.qo_sound.proofs.ViewLemmas.{PinsRootAlone, rest-from_sound}
 use Rattle.qo_sound_clocks.proofs.SlotLemmas.{div_in, is_target, mul_in, own_in, plain_of, sees, sees_it, Slots}
 
 -- a source is seen
@@ -117,7 +117,7 @@ named-reads b named =
         go (Some r) e = all-found HasNames c b.records named r e
 
 pub tree-named : (b : Board) → SoundTree b → AllByRecursion HasNames b.records
-tree-named b tree = let rest : AtRest b = rest-from_sound b tree in rest.used.firm.named
+tree-named b tree = let rest : PinsRootAlone b = rest-from_sound b tree in rest.used.firm.named
 
 pub tree-reads : (b : Board) → SoundTree b → Reads b
 tree-reads b tree = named-reads b (tree-named b tree)

@@ -6,9 +6,9 @@ use Rattle.qo_model.proofs.FirstSlotLemmas.{slots_in}
 use Rattle.qo_model.proofs.StepLemmas.{found-edited, map-edited, slots-edited}
 use Rattle.qo_sound.specs.TreeKept.{SoundTree}
 use Rattle.qo_sound.proofs.CutLemmas.{near-same_slots}
-use Rattle.qo_sound.proofs.FirmBoardLemmas.{Firm}
-use Rattle.qo_sound.proofs.ViewLemmas.{AtRest, rest-from_sound, sound-from_rest}
-use Rattle.qo_sound.proofs.WorkLemmas.{Nearly}
+use Rattle.qo_sound.proofs.FirmBoardLemmas.{WellFormed}
+use Rattle.qo_sound.proofs.ViewLemmas.{PinsRootAlone, rest-from_sound, sound-from_rest}
+use Rattle.qo_sound.proofs.WorkLemmas.{InvariantBut}
 use Rattle.qo_sound_devices.specs.SoundDevices.{SoundDevices}
 use Rattle.qo_sound_devices.specs.SoundPlaces.{PlacesBut}
 use Rattle.qo_sound_devices.proofs.LikenessLemmas.{Alike, bodiless, alike-same}
@@ -40,15 +40,15 @@ module _ (b : Board) (n : ℕ) (registers : Registers) where
   dims-set : Dims b set
   dims-set = dims-alike b set refl alike-set
 
-  near-set : Nearly None b → Nearly None set
+  near-set : InvariantBut None b → InvariantBut None set
   near-set near = near-same_slots n (with_registers registers) (λ r. refl) (λ r. refl) (λ r. refl) None b near
 
   tree-set : SoundTree b → SoundTree set
   tree-set h =
-      let rest : AtRest b = rest-from_sound b h in
+      let rest : PinsRootAlone b = rest-from_sound b h in
       sound-from_rest set (record { used = near-set rest.used; pinned = rest.pinned })
 
-  places-set : (depth : ℕ → ℕ) → Firm set → PlacesBut depth None (λ x. false) b → PlacesBut depth None (λ x. false) set
+  places-set : (depth : ℕ → ℕ) → WellFormed set → PlacesBut depth None (λ x. false) b → PlacesBut depth None (λ x. false) set
   places-set depth firm h =
       let d : Dims b set = dims-set in
       places-moved b set depth None None (λ x. false) (λ x. false) (moved-dimmed depth None (λ x. false) b set firm h d.dimmed) h (λ x e k. k)
@@ -57,8 +57,8 @@ module _ (b : Board) (n : ℕ) (registers : Registers) where
 
   devices-set : SoundDevices b → SoundDevices set
   devices-set h =
-      let rest : AtRest b = rest-from_sound b h.tree in
-      let near : Nearly None set = near-set rest.used in
+      let rest : PinsRootAlone b = rest-from_sound b h.tree in
+      let near : InvariantBut None set = near-set rest.used in
       let d : Dims b set = dims-set in
       record {
         tree = tree-set h.tree;

@@ -3,8 +3,8 @@ use Rattle.std.proofs.Common.{◌≡◌, refl, sym, ◌∙◌, ℕ, false, [], �
 use Rattle.qo_model.proofs.Common.{Act, Board, slots_at, set, acted, period, index_from, is_named, set_named}
 use Rattle.qo_values.specs.declared.properties.Val.TheVariants as val
 use Rattle.qo_sound.specs.TreeKept.{SoundTree}
-use Rattle.qo_sound.proofs.UnplugLemmas.{held-acted, held-set, Sits}
-use Rattle.qo_sound.proofs.ViewLemmas.{AtRest, rest-from_sound, sound-from_rest}
+use Rattle.qo_sound.proofs.UnplugLemmas.{held-acted, held-set, HasPins}
+use Rattle.qo_sound.proofs.ViewLemmas.{PinsRootAlone, rest-from_sound, sound-from_rest}
 use Rattle.qo_sound_devices.specs.SoundDevices.{SoundDevices}
 use Rattle.qo_sound_devices.specs.SoundLists.{IsOn, SoundLists}
 use Rattle.qo_sound_devices.specs.SoundPlaces.{PlacesBut}
@@ -19,11 +19,11 @@ use Rattle.qo_sound_clocks.proofs.StepsLemmas.{kept-scaled, kept-set, KeepsNumbe
 
 -- the tree
 
-sits-sound : (c : Board) → Sits (1 ∷ []) c → SoundTree c
+sits-sound : (c : Board) → HasPins (1 ∷ []) c → SoundTree c
 sits-sound c h = sound-from_rest c (record { used = h.near; pinned = h.pins })
 
-sits-from : (c : Board) → SoundTree c → Sits (1 ∷ []) c
-sits-from c h = let rest : AtRest c = rest-from_sound c h in record { near = rest.used; pins = rest.pinned }
+sits-from : (c : Board) → SoundTree c → HasPins (1 ∷ []) c
+sits-from c h = let rest : PinsRootAlone c = rest-from_sound c h in record { near = rest.used; pins = rest.pinned }
 
 tree-acted : (act : Act) (n period : ℕ) (b : Board) → SoundTree b → SoundTree (acted act n period b)
 tree-acted act n period b h = sits-sound (acted act n period b) (held-acted (1 ∷ []) act n period b (sits-from b h))
@@ -46,7 +46,7 @@ devices-set name no_slot no_mark n v b h =
     c : Board
     c = set_named n name (val.Uint v) b
 
-    sits : Sits (1 ∷ []) c
+    sits : HasPins (1 ∷ []) c
     sits = held-set (1 ∷ []) n name (val.Uint v) b (sits-from b h.tree)
 
     d : Dims b c

@@ -10,7 +10,7 @@ use Rattle.qo_model.specs.Hotplug.{asked, refused, reset_whole}
 use Rattle.qo_model.specs.Objects.{with_attempt}
 use Rattle.qo_model.specs.Opening.{opening_board}
 use Rattle.qo_model.specs.Plug.{Wanted, cut_attempt, plug, plug_attempt}
-use Rattle.qo_model.specs.Reset.{held, pulse, released}
+use Rattle.qo_model.specs.Reset.{after_hold, pulse, released}
 use Rattle.qo_model.specs.Unplug.{detach}
 use Rattle.qo_sound.specs.TreeKept.{SoundTree}
 use Rattle.qo_sound_clocks.specs.SoundClocks.{SoundClocks}
@@ -28,7 +28,7 @@ pub record ClocksKeptLaw : Type 0 where
   pub refused_by : (b : Board) (d : ℕ) → SoundClocks b → SoundClocks (refused b d)
   -- an act; a hold, a hold less, and both
   pub acts : (act : Act) (n period : ℕ) (b : Board) → SoundClocks b → SoundClocks (acted act n period b)
-  pub held_so : (b : Board) (n : ℕ) → SoundClocks b → SoundClocks (held b n)
+  pub held_so : (b : Board) (n : ℕ) → SoundClocks b → SoundClocks (after_hold b n)
   pub released_so : (b : Board) (n : ℕ) → SoundClocks b → SoundClocks (released b n)
   pub pulsed : (b : Board) (n : ℕ) → SoundClocks b → SoundClocks (pulse b n)
   -- a write of a clock's period, and of its mul and div, that is not refused

@@ -8,7 +8,7 @@ use Rattle.qo_model.specs.FinalNotesRuns.{Change, changed}
 use Rattle.qo_model.specs.Hotplug.{asked, reset_whole}
 use Rattle.qo_model.specs.Opening.{opening_board}
 use Rattle.qo_model.specs.Plug.{Wanted, plug}
-use Rattle.qo_model.specs.Reset.{held, pulse, released}
+use Rattle.qo_model.specs.Reset.{after_hold, pulse, released}
 use Rattle.qo_model.specs.Unplug.{detach}
 use Rattle.qo_sound.specs.TreeKept.{SoundTree}
 use Rattle.qo_sound_clocks.specs.SoundNumbers.{SoundNumbers}
@@ -22,7 +22,7 @@ pub record NumbersKeptLaw : Type 0 where
   pub asked_for : (b : Board) (id : List ℕ) → SoundNumbers b → SoundNumbers (asked b id).board
   -- an act; a hold, a hold less, and both
   pub acts : (act : Act) (n period : ℕ) (b : Board) → SoundNumbers b → SoundNumbers (acted act n period b)
-  pub held_so : (b : Board) (n : ℕ) → SoundNumbers b → SoundNumbers (held b n)
+  pub held_so : (b : Board) (n : ℕ) → SoundNumbers b → SoundNumbers (after_hold b n)
   pub released_so : (b : Board) (n : ℕ) → SoundNumbers b → SoundNumbers (released b n)
   pub pulsed : (b : Board) (n : ℕ) → SoundNumbers b → SoundNumbers (pulse b n)
   -- a write of a clock's period, and of its mul and div, with numbers as wide

@@ -11,7 +11,7 @@ use Rattle.qo_model.specs.Hotplug.{asked, refused, reset_whole}
 use Rattle.qo_model.specs.Objects.{with_attempt}
 use Rattle.qo_model.specs.Opening.{opening_board}
 use Rattle.qo_model.specs.Plug.{Wanted, cut_attempt, plug, plug_attempt}
-use Rattle.qo_model.specs.Reset.{held, pulse, released}
+use Rattle.qo_model.specs.Reset.{after_hold, pulse, released}
 use Rattle.qo_model.specs.Unplug.{detach}
 use Rattle.qo_sound_clocks.specs.SoundTimes.{IsTimely, SoundTimes}
 
@@ -32,7 +32,7 @@ pub record TimesKeptLaw : Type 0 where
       → IsTimely now r → IsTimely now s
   -- an act; a hold, a hold less, and both
   pub acts : (act : Act) (n period : ℕ) (b : Board) → SoundTimes b → SoundTimes (acted act n period b)
-  pub held_so : (b : Board) (n : ℕ) → SoundTimes b → SoundTimes (held b n)
+  pub held_so : (b : Board) (n : ℕ) → SoundTimes b → SoundTimes (after_hold b n)
   pub released_so : (b : Board) (n : ℕ) → SoundTimes b → SoundTimes (released b n)
   pub pulsed : (b : Board) (n : ℕ) → SoundTimes b → SoundTimes (pulse b n)
   -- a write of a clock's period, and of its mul and div, that is not refused

@@ -1,13 +1,13 @@
 -- A device that nothing refuses goes where places allow it.
 use Rattle.std.proofs.Common.{rules, ◌≡◌, refl, ap, sym, ◌∙◌, ℕ, suc, ◌+◌, ◌<◌, ◌≤◌, Bool, true, false, not, ◌||◌, List, [], ◌∷◌, Option, Some, None, codes, arith}
-use Rattle.qo_model.proofs.Common.{if◌then◌else◌, nat_le, option_or, is_id, Code, E23, E24, E26, E27, E42, TypeId, SlotBridge, BUS_DEPTH_MAX, Board, depth_of, device_named, is_going, Given, refusal_of, attached, is_of, Wanted, at_stage, bus_barred, bus_for, bus_type, code_in, container_barred, drafted, id_barred, id_refused, kind_barred, name_for, notice_barred, number_for, parent_for, place_barred, realize_barred, room_barred, bus_slot_for, spot_of}
+use Rattle.qo_model.proofs.Common.{if◌then◌else◌, nat_le, option_or, is_id, Code, E23, E24, E26, E27, E42, TypeId, SlotBridge, BUS_DEPTH_MAX, Board, depth_of, device_named, is_going, Given, refusal_of, attached, is_of, Wanted, at_stage, bus_barred, bus_for, bus_type, code_in, container_barred, drafted, id_barred, id_refused, kind_barred, name_for, notice_barred, number_for, parent_for, place_barred, realize_barred, room_barred, bus_slot_for, resources_of}
 use Rattle.std.proofs.lemmas.Bool.{not-false}
 use Rattle.std.proofs.lemmas.Option.{same_Some}
 use Rattle.qo_values.proofs.EachLemmas.{each}
 use Rattle.qo_model.specs.Plug.{first_of}
 use Rattle.qo_sound.proofs.AddLemmas.{unbarred}
 use Rattle.qo_sound.proofs.PlugLemmas.{or-none, shut-above, stage-none}
-use Rattle.qo_sound.proofs.ViewLemmas.{AtRest, sound-from_rest}
+use Rattle.qo_sound.proofs.ViewLemmas.{PinsRootAlone, sound-from_rest}
 use Rattle.qo_sound_devices.specs.SoundPlaces.{HasOwner, id_of, owns, PlacesBut}
 use Rattle.qo_sound_devices.proofs.AdditionLemmas.{Goal}
 use Rattle.qo_sound_devices.proofs.DraftLemmas.{drafted-bridge, is_bridge}
@@ -81,8 +81,8 @@ bridge-room : (b : Board) (t : TypeId) (bus : ℕ) (props : List Given) → is_b
 bridge-room b t bus props =
     each (λ (t : TypeId). is_bridge t ≡ true → kind_barred b t bus props ≡ None → nat_le BUS_DEPTH_MAX (depth_of b bus) ≡ false) (search (rules, bridge-shallow)) t
 
-pub goal-of : (depth : ℕ → ℕ) (b : Board) (t : TypeId) (bus : ℕ) (a : Wanted) → AtRest b → PlacesBut depth None (λ x. false) b → Accepted b t bus a
-    → Goal depth b (b.born + 1) bus (spot_of b t bus a.props).slot a.id t (drafted b t)
+pub goal-of : (depth : ℕ → ℕ) (b : Board) (t : TypeId) (bus : ℕ) (a : Wanted) → PinsRootAlone b → PlacesBut depth None (λ x. false) b → Accepted b t bus a
+    → Goal depth b (b.born + 1) bus (resources_of b t bus a.props).slot a.id t (drafted b t)
 goal-of depth b t bus a rest h k =
     record {
       device = k.device;

@@ -7,11 +7,11 @@ use Rattle.qo_values.specs.declared.properties.Val.TheVariants as val
 use Rattle.qo_model.proofs.ComesToLemmas.{addition-comes}
 use Rattle.qo_model.proofs.StepLemmas.{found_at, found-edited, found-birth}
 use Rattle.qo_sound.proofs.AddLemmas.{attempt-rest, creatable}
-use Rattle.qo_sound.proofs.FirmBoardLemmas.{Firm}
+use Rattle.qo_sound.proofs.FirmBoardLemmas.{WellFormed}
 use Rattle.qo_values.proofs.ListLemmas.{all-imply}
 use Rattle.qo_values.proofs.EachLemmas.{each}
 use Rattle.qo_sound.proofs.TestLemmas.{decide}
-use Rattle.qo_sound.proofs.ViewLemmas.{AtRest}
+use Rattle.qo_sound.proofs.ViewLemmas.{PinsRootAlone}
 use Rattle.qo_sound_devices.specs.SoundPlaces.{child_entries, child_entry, id_of, IsAnonymous, IsAtHome, IsHome, IsKid, IsPeripheral, kid_entries, kid_entry, listed, owns_it, PlacesBut, stands}
 use Rattle.qo_sound_devices.proofs.LikenessLemmas.{alike-record, bodiless, realized_in}
 use Rattle.qo_sound_devices.proofs.PlacesLemmas.{child-live, Keeps, keeps-none, children-grown, high-absent, MoreChildren, rooted-same, no-more, id-alike, kept-alike, of-alike, of-live, owner-live, places-kept, SameBody, stands-live, suits-alike, parts-same, OwnersStay, owners-stay, stands-same, peripheral-stays, anonymous-stays}
@@ -34,7 +34,7 @@ pub record Grown (b c : Board) : Type 0 where
   pub no_device : (x : ℕ) → is_live b x ≡ false → is_of c (codes "device") x ≡ false
   pub no_children : (x : ℕ) → is_live b x ≡ false → child_entries c x ≡ []
 
-module _ (depth : ℕ → ℕ) (b c : Board) (g : Grown b c) (firm : Firm b) (h : PlacesBut depth None (λ x. false) b) where
+module _ (depth : ℕ → ℕ) (b c : Board) (g : Grown b c) (firm : WellFormed b) (h : PlacesBut depth None (λ x. false) b) where
   first : child_entries c 1 ≡ child_entries b 1
   first = g.children 1 (owner-live b 1 MACHINE_BIRTH h.machine) refl
 
@@ -252,7 +252,7 @@ named-added f s none name (x ∷ slots) = go (bytes_eq x.0 name) refl (named-add
     go true p rest = rw p refl
     go false p rest = rw p rest
 
-module _ (b : Board) (t : TypeId) (id : List ℕ) (props : List Given) (its : IsUsers b t props) (firm : Firm b) where
+module _ (b : Board) (t : TypeId) (id : List ℕ) (props : List Given) (its : IsUsers b t props) (firm : WellFormed b) where
   abbrev c : Board
   c = with_object b t id props
 
@@ -373,7 +373,7 @@ module _ (b : Board) (t : TypeId) (id : List ℕ) (props : List Given) (its : Is
               ∙ rw (edited, other) refl in
               ap (λ (o : Option Record). filter_map child_entry (option_map_or (λ (z : Record). z.slots) o [])) (is ∙ sym q)
 
-pub attempt-places : (depth : ℕ → ℕ) (b : Board) (t : TypeId) → AtRest b → PlacesBut depth None (λ x. false) b
+pub attempt-places : (depth : ℕ → ℕ) (b : Board) (t : TypeId) → PinsRootAlone b → PlacesBut depth None (λ x. false) b
     → PlacesBut depth None (λ x. false) (with_attempt b t)
 attempt-places depth b t rest h =
     places-kept b (with_attempt b t)
@@ -382,7 +382,7 @@ attempt-places depth b t rest h =
     (λ x. false) h
 
 added_as-places : (depth : ℕ → ℕ) (b : Board) (t : TypeId) (id : List ℕ) (props : List Given) (refusal : Option Code)
-    → is_a t (codes "user-creatable") ≡ true → AtRest b → PlacesBut depth None (λ x. false) b → Keeps depth b (added_as b t id props refusal).board
+    → is_a t (codes "user-creatable") ≡ true → PinsRootAlone b → PlacesBut depth None (λ x. false) b → Keeps depth b (added_as b t id props refusal).board
 added_as-places depth b t id props None may rest h =
     let g : Grown b (with_object b t id props) = grown-object b t id props (users b t props may) rest.used.firm in
     record {
@@ -391,7 +391,7 @@ added_as-places depth b t id props None may rest h =
     }
 added_as-places depth b t id props (Some code) may rest h = record { places = attempt-places depth b t rest h; stood = λ d. refl }
 
-pub object_add-places : (depth : ℕ → ℕ) (b : Board) (driver id : List ℕ) (props : List Given) → AtRest b → PlacesBut depth None (λ x. false) b
+pub object_add-places : (depth : ℕ → ℕ) (b : Board) (driver id : List ℕ) (props : List Given) → PinsRootAlone b → PlacesBut depth None (λ x. false) b
     → Keeps depth b (object_add b driver id props).board
 object_add-places depth b driver id props rest h =
     addition-comes (Keeps depth b) b driver id props (keeps-none depth b h)

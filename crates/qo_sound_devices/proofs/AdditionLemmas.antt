@@ -5,7 +5,7 @@ use Rattle.qo_model.proofs.Common.{if◌then◌else◌, AllByRecursion, list_any
 use Rattle.std.proofs.lemmas.Bool.{eqb-true, eq-eqb}
 use Rattle.std.proofs.lemmas.Option.{same_Some}
 use Rattle.std.proofs.Math.Bool.{or-true, or-false}
-use Rattle.qo_sound.proofs.FirmBoardLemmas.{Firm}
+use Rattle.qo_sound.proofs.FirmBoardLemmas.{WellFormed}
 use Rattle.qo_sound.proofs.RecordLemmas.{all-append}
 use Rattle.qo_values.proofs.ListLemmas.{all-imply}
 use Rattle.qo_values.proofs.EachLemmas.{each}
@@ -141,7 +141,7 @@ only-listed : (name : List ℕ) (n d : ℕ) → listed d ((name, n) ∷ []) ≡ 
 only-listed name n d e = sym (eqb-true n d (sym (or-false (n == d)) ∙ e))
 
 module _ (depth : ℕ → ℕ) (b : Board) (n bus slot : ℕ) (id : Option (List ℕ)) (t : TypeId) (c : Board)
-    (j : Joined depth b n bus slot id t (done b bus slot id) c) (firm : Firm b) (h : PlacesBut depth None (λ x. false) b) where
+    (j : Joined depth b n bus slot id t (done b bus slot id) c) (firm : WellFormed b) (h : PlacesBut depth None (λ x. false) b) where
   live-machine : is_live b MACHINE_BIRTH ≡ true
   live-machine = child-live b firm 1 MACHINE_BIRTH h.machine
 

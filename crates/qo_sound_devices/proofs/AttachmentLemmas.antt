@@ -8,7 +8,7 @@ use Rattle.qo_model.specs.Paths.{place_in}
 use Rattle.qo_model.proofs.ReleaseLemmas.{found-within}
 use Rattle.qo_model.proofs.StepLemmas.{found_at}
 use Rattle.qo_model.proofs.TreeLemmas.{paths_lem, place_at}
-use Rattle.qo_sound.proofs.FirmBoardLemmas.{Firm, parents_in}
+use Rattle.qo_sound.proofs.FirmBoardLemmas.{WellFormed, parents_in}
 use Rattle.qo_sound.proofs.SlotLemmas.{one_child}
 use Rattle.qo_sound_devices.specs.SoundPlaces.{child_entries, child_entry, HasOwner, machines, bridges, listed, owns_it, PlacesBut, stands}
 use Rattle.qo_sound_devices.proofs.PlacesLemmas.{or-cases}
@@ -81,14 +81,14 @@ place-is x p r child_there (y ∷ rs) e few = go (y.birth == p) refl (is_some (p
         omega (arith, clash))
 
 -- the parent of a child is the object that has it
-pub parent-is : (b : Board) → Firm b → (p x : ℕ) → listed x (child_entries b p) ≡ true → option_map (λ (q : ℕ × List ℕ). q.0) (place_of b x) ≡ Some p
+pub parent-is : (b : Board) → WellFormed b → (p x : ℕ) → listed x (child_entries b p) ≡ true → option_map (λ (q : ℕ × List ℕ). q.0) (place_of b x) ≡ Some p
 parent-is b firm p x e = go (record_of b p) refl
   where
     go : (o : Option Record) → record_of b p ≡ o → option_map (λ (q : ℕ × List ℕ). q.0) (place_of b x) ≡ Some p
     go None q = absurd (let clash : false ≡ true = rw q at e in cc)
     go (Some r) q = place-is x p r (rw q at e) b.records q (firm.one_parent x)
 
-pub child-attached : (b : Board) → SoundGraph b → Firm b → (p x : ℕ) → listed x (child_entries b p) ≡ true → attached b p ≡ true → attached b x ≡ true
+pub child-attached : (b : Board) → SoundGraph b → WellFormed b → (p x : ℕ) → listed x (child_entries b p) ≡ true → attached b p ≡ true → attached b x ≡ true
 child-attached b sound firm p x e above = paths_lem.attached_by_parent b sound x ∙ go (x == 1) refl
   where
     go : (t : Bool) → (x == 1) ≡ t → attached_turn b (attached b) x ≡ true
@@ -109,7 +109,7 @@ owns-listed q (x ∷ es) e = go (x.1 == q) refl (owns-listed q es)
     go true p rest = rw p refl
     go false p rest = rw p (rest (rw p at e))
 
-module _ (b : Board) (sound : SoundGraph b) (firm : Firm b) (depth : ℕ → ℕ) (left : Option ℕ) (out : ℕ → Bool) (h : PlacesBut depth left out b) where
+module _ (b : Board) (sound : SoundGraph b) (firm : WellFormed b) (depth : ℕ → ℕ) (left : Option ℕ) (out : ℕ → Bool) (h : PlacesBut depth left out b) where
   machine-attached : attached b MACHINE_BIRTH ≡ true
   machine-attached = child-attached b sound firm 1 MACHINE_BIRTH h.machine (paths_lem.attached_by_parent b sound 1)
 

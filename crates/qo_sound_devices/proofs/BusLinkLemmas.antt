@@ -1,11 +1,11 @@
 -- The link of a device that is added holds its bus.
 use Rattle.std.proofs.Common.{rules, ◌≡◌, refl, ap, sym, ◌∙◌, ℕ, ◌+◌, Bool, true, false, List, [], ◌∷◌, ◌++◌, find, map, Option, Some, None, option_map, option_and_then, codes, arith}
-use Rattle.qo_model.proofs.Common.{option_map_or, bytes_eq, Code, E18, TypeId, Device, Bus, Val, Board, Record, Slot, child, strong, record_of, slots_at, with_changed, bus_of, kid_name, strong_in, Given, index_from, refusal_by, refusal_of, slot_given, is_of, Spot, Wanted, drafted, fitted, joined, link_named, name_for, parent_for, valued, with_given, property_named, edit, is_a, types, is_named, set_named}
+use Rattle.qo_model.proofs.Common.{option_map_or, bytes_eq, Code, E18, TypeId, Device, Bus, Val, Board, Record, Slot, child, strong, record_of, slots_at, with_changed, bus_of, kid_name, strong_in, Given, index_from, refusal_by, refusal_of, slot_given, is_of, Resources, Wanted, drafted, fitted, joined, link_named, name_for, parent_for, valued, with_given, property_named, edit, is_a, types, is_named, set_named}
 use Rattle.std.proofs.lemmas.Slice.Eq.{bytes_eq-Decides}
 use Rattle.qo_values.specs.declared.properties.Val.TheVariants as val
 use Rattle.qo_values.proofs.EachLemmas.{each}
 use Rattle.qo_model.proofs.FirstSlotLemmas.{named_in, first-changed, none-found}
-use Rattle.qo_sound.proofs.FirmBoardLemmas.{Firm}
+use Rattle.qo_sound.proofs.FirmBoardLemmas.{WellFormed}
 use Rattle.qo_sound_devices.proofs.DropLemmas.{edited-slots}
 use Rattle.qo_sound_devices.proofs.PlainSlotLemmas.{stay-add, stay-given}
 use Rattle.qo_sound_devices.proofs.RealizationLemmas.{rows-stay, slot-set}
@@ -45,7 +45,8 @@ slot-given b props name s none (x ∷ slots) e = go (bytes_eq x.0 name) refl (sl
 -- it is no property that may be given
 parent-row : (t : TypeId) (v : Val) (b : Board) → is_a t (codes "device") ≡ true → refusal_by b (property_named t (codes "parent_bus")) v ≡ Some E18
 unfolding types
-parent-row = each (λ (t : TypeId). (v : Val) (b : Board) → is_a t (codes "device") ≡ true → refusal_by b (property_named t (codes "parent_bus")) v ≡ Some E18) (search rules)
+parent-row = each (λ (t : TypeId). (v : Val) (b : Board) → is_a t (codes "device") ≡ true → refusal_by b (property_named t (codes "parent_bus")) v ≡ Some E18)
+    (search rules)
 
 none-given : (b : Board) (t : TypeId) → is_a t (codes "device") ≡ true → (props : List Given) → refusal_of b t props ≡ None
     → find (λ (p : Given). bytes_eq p.0 (codes "parent_bus")) props ≡ None
@@ -81,26 +82,27 @@ slot-linked n name m s c h = go (index_from (is_named name) 0 (slots_at c n)) re
     go None e = absurd (let clash : None ≡ Some s = sym (none-found name (slots_at c n) 0 e) ∙ h in cc)
     go (Some i) e = rw (link_named, e) (there i e (record_of c n) refl)
 
-module _ (b : Board) (t : TypeId) (firm : Firm b) (device : is_a t (codes "device") ≡ true) (a : Wanted) (spot : Spot)
+module _ (b : Board) (t : TypeId) (firm : WellFormed b) (device : is_a t (codes "device") ≡ true) (a : Wanted) (resources : Resources)
     (given : refusal_of b t a.props ≡ None) where
   abbrev n : ℕ
   n = b.born + 1
 
   abbrev begun : Board
-  begun = joined b (b.born + 1) a spot (drafted b t)
+  begun = joined b (b.born + 1) a resources (drafted b t)
 
   abbrev given_to_it : Board
-  given_to_it = edit (b.born + 1) (with_given b a.props) (joined b (b.born + 1) a spot (drafted b t))
+  given_to_it = edit (b.born + 1) (with_given b a.props) (joined b (b.born + 1) a resources (drafted b t))
 
   abbrev slotted : Board
-  slotted = set_named (b.born + 1) (codes "slot") (val.Uint spot.slot) (edit (b.born + 1) (with_given b a.props) (joined b (b.born + 1) a spot (drafted b t)))
+  slotted = set_named (b.born + 1) (codes "slot") (val.Uint resources.slot)
+      (edit (b.born + 1) (with_given b a.props) (joined b (b.born + 1) a resources (drafted b t)))
 
   empty-link : SlotIs (codes "parent_bus") (strong Bus None) (slots_at slotted n)
   empty-link =
-      slot-set n (codes "parent_bus") (codes "slot") (val.Uint spot.slot) refl given_to_it
+      slot-set n (codes "parent_bus") (codes "slot") (val.Uint resources.slot) refl given_to_it
       ∙ stay-given (SlotIs (codes "parent_bus") (strong Bus None)) none more n b a.props
       (slot-given b a.props (codes "parent_bus") (strong Bus None) (none-given b t device a.props given)) begun
-      (stay-add (SlotIs (codes "parent_bus") (strong Bus None)) none more n spot.bus (kid_name spot.slot) (strong Device (Some n)) _
+      (stay-add (SlotIs (codes "parent_bus") (strong Bus None)) none more n resources.bus (kid_name resources.slot) (strong Device (Some n)) _
       (stay-add (SlotIs (codes "parent_bus") (strong Bus None)) none more n (parent_for a.id) (name_for b a.id) (child n) (drafted b t)
       (rows-stay b t firm device (SlotIs (codes "parent_bus") (strong Bus None)) none more refl)))
     where
@@ -112,11 +114,12 @@ module _ (b : Board) (t : TypeId) (firm : Firm b) (device : is_a t (codes "devic
       more = slot-more (codes "parent_bus") (strong Bus None)
 
   pub holds-bus :
-      is_of (set_named (b.born + 1) (codes "slot") (val.Uint spot.slot) (edit (b.born + 1) (with_given b a.props) (joined b (b.born + 1) a spot (drafted b t))))
-      (codes "bus") spot.bus ≡ true
-      → bus_of (valued b (b.born + 1) a.props spot (joined b (b.born + 1) a spot (drafted b t))) (b.born + 1) ≡ Some spot.bus
+      is_of (set_named (b.born + 1) (codes "slot") (val.Uint resources.slot)
+      (edit (b.born + 1) (with_given b a.props) (joined b (b.born + 1) a resources (drafted b t))))
+      (codes "bus") resources.bus ≡ true
+      → bus_of (valued b (b.born + 1) a.props resources (joined b (b.born + 1) a resources (drafted b t))) (b.born + 1) ≡ Some resources.bus
   holds-bus is =
       ap (option_and_then strong_in)
-      (slot-set n (codes "parent_bus") (codes "realized") (val.Bool true) refl (link_named n (codes "parent_bus") spot.bus slotted))
-      ∙ ap (option_and_then strong_in) (slot-linked n (codes "parent_bus") spot.bus (strong Bus None) slotted empty-link)
+      (slot-set n (codes "parent_bus") (codes "realized") (val.Bool true) refl (link_named n (codes "parent_bus") resources.bus slotted))
+      ∙ ap (option_and_then strong_in) (slot-linked n (codes "parent_bus") resources.bus (strong Bus None) slotted empty-link)
       ∙ rw is refl

@@ -3,16 +3,16 @@ use Rattle.std.proofs.Common.{◌⊎◌, nat_eq, ◌≡◌, refl, ap, sym, subst
 use Rattle.qo_model.proofs.Common.{list_any, option_map_or, bytes_eq, MACHINE_BIRTH, OBJECTS_BIRTH, TypeId, Board, Record, Slot, plain, child, strong, weak, alias, slots_at, slot_at, among, is_object_named, object_del, sever, severed_from, attached, child_of, is_of, after, drop_slot, finalize, let_go, pin, put_in_order, unpin, without_first, without_pin, SoundGraph}
 use Rattle.std.proofs.lemmas.Option.{same_Some}
 use Rattle.std.proofs.Math.Bool.{or-true}
-use Rattle.qo_model.specs.Board.{held}
+use Rattle.qo_model.specs.Board.{referent}
 use Rattle.qo_model.proofs.ComesToLemmas.{deletion-comes, sever-comes, severed-comes}
 use Rattle.qo_model.proofs.EditLemmas.{StandsAt, stands-at}
 use Rattle.qo_sound.proofs.ChangeLemmas.{near-deleted, near-unlinked}
-use Rattle.qo_sound.proofs.FirmBoardLemmas.{Firm, firm-beside}
+use Rattle.qo_sound.proofs.FirmBoardLemmas.{WellFormed, firm-beside}
 use Rattle.qo_model.proofs.FirstSlotLemmas.{Found, found-at}
 use Rattle.qo_model.proofs.PinLemmas.{put-among, put-back, release-pins, severed-pins}
 use Rattle.qo_sound.proofs.SeveringLemmas.{near-pin, near-unpin, pin-pins}
-use Rattle.qo_sound.proofs.ViewLemmas.{AtRest, sound-from_rest}
-use Rattle.qo_sound.proofs.WorkLemmas.{Nearly}
+use Rattle.qo_sound.proofs.ViewLemmas.{PinsRootAlone, sound-from_rest}
+use Rattle.qo_sound.proofs.WorkLemmas.{InvariantBut}
 use Rattle.qo_sound_devices.specs.SoundPlaces.{HasOwner, kid_entry, PlacesBut, stands}
 use Rattle.qo_sound_devices.proofs.LikenessLemmas.{alike-record}
 use Rattle.qo_sound_devices.proofs.AttachmentLemmas.{owner-attached, stands-attached}
@@ -42,7 +42,7 @@ goes-kept depth left out b c kept pinned h =
 pub goes-none : (depth : ℕ → ℕ) (left : Option ℕ) (out : ℕ → Bool) (b : Board) → among b.pins 1 ≡ true → PlacesBut depth left out b → Goes depth left out b b
 goes-none depth left out b pinned h = record { places = h; stood = λ d. refl; owned = λ q o. o; pinned = pinned }
 
-pub goes-after : (depth : ℕ → ℕ) (left : Option ℕ) (out : ℕ → Bool) (b : Board) (o : Option ℕ) → Firm (after finalize b o) → among b.pins 1 ≡ true
+pub goes-after : (depth : ℕ → ℕ) (left : Option ℕ) (out : ℕ → Bool) (b : Board) (o : Option ℕ) → WellFormed (after finalize b o) → among b.pins 1 ≡ true
     → PlacesBut depth left out b → Goes depth left out b (after finalize b o)
 goes-after depth left out b o firm pinned h =
     goes-kept depth left out b (after finalize b o) (after-kept b o firm (owner-live b 1 MACHINE_BIRTH h.machine) pinned)
@@ -52,19 +52,19 @@ pub keeps-goes : (depth : ℕ → ℕ) (b c : Board) → Goes depth None (λ d. 
 keeps-goes depth b c g = record { places = g.places; stood = g.stood }
 
 -- other pins
-pub goes-pins : (depth : ℕ → ℕ) (left : Option ℕ) (out : ℕ → Bool) (b : Board) (ps : List ℕ) → Firm b → among ps 1 ≡ true → PlacesBut depth left out b
+pub goes-pins : (depth : ℕ → ℕ) (left : Option ℕ) (out : ℕ → Bool) (b : Board) (ps : List ℕ) → WellFormed b → among ps 1 ≡ true → PlacesBut depth left out b
     → Goes depth left out b (record b { pins = ps })
 goes-pins depth left out b ps f pinned h =
     goes-kept depth left out b (record b { pins = ps })
     (kept-alike b (record b { pins = ps }) firm (owner-live b 1 MACHINE_BIRTH h.machine) refl (λ x there. alike-record b (record b { pins = ps }) x refl))
     pinned h
   where
-    firm : Firm (record b { pins = ps })
+    firm : WellFormed (record b { pins = ps })
     firm =
         firm-beside b (record b { pins = ps }) f
 
 -- a slot is let go of which places do not speak
-pub goes-let_go : (depth : ℕ → ℕ) (left : Option ℕ) (out : ℕ → Bool) (b : Board) (n i : ℕ) → Firm b → Firm (let_go b n i) → among b.pins 1 ≡ true
+pub goes-let_go : (depth : ℕ → ℕ) (left : Option ℕ) (out : ℕ → Bool) (b : Board) (n i : ℕ) → WellFormed b → WellFormed (let_go b n i) → among b.pins 1 ≡ true
     → ((s : List ℕ × Slot) → slice_get (slots_at b n) i ≡ Some s → stands b n ≡ true → (is_some (child_of s.1) ≡ true) ⊎
     (bytes_eq s.0 (codes "parent_bus") ≡ false))
     → ((s : List ℕ × Slot) → slice_get (slots_at b n) i ≡ Some s → keeper b n ≡ true → child_of s.1 ≡ None)
@@ -83,10 +83,10 @@ goes-let_go depth left out b n i firm firm_after pinned link children kids h = g
         kept-drop b firm (owner-live b 1 MACHINE_BIRTH h.machine) n i at.entry at.owner at.found at.at (link at.entry here) (children at.entry here)
         (kids at.entry here) in
         let first : Goes depth left out b (drop_slot b n i) = goes-kept depth left out b (drop_slot b n i) kept pinned h in
-        let ends : Firm (after finalize (drop_slot b n i) (held s)) = rw (let_go, e) at firm_after in
+        let ends : WellFormed (after finalize (drop_slot b n i) (referent s)) = rw (let_go, e) at firm_after in
         rw (let_go, e)
-        (goes-then depth left out b (drop_slot b n i) (after finalize (drop_slot b n i) (held s)) first
-        (goes-after depth left out (drop_slot b n i) (held s) ends pinned first.places))
+        (goes-then depth left out b (drop_slot b n i) (after finalize (drop_slot b n i) (referent s)) first
+        (goes-after depth left out (drop_slot b n i) (referent s) ends pinned first.places))
 
 -- `object-del`
 all-aside : (b : Board) (depth : ℕ → ℕ) (left : Option ℕ) (out : ℕ → Bool) → PlacesBut depth left out b → stands b OBJECTS_BIRTH ≡ false
@@ -99,7 +99,8 @@ is-child id (name, strong t target) e = absurd (let clash : false ≡ true = e i
 is-child id (name, weak t target) e = refl
 is-child id (name, alias m property) e = refl
 
-pub object_del-places : (depth : ℕ → ℕ) (b : Board) (id : List ℕ) → AtRest b → PlacesBut depth None (λ d. false) b → Keeps depth b (object_del b id).board
+pub object_del-places : (depth : ℕ → ℕ) (b : Board) (id : List ℕ) → PinsRootAlone b → PlacesBut depth None (λ d. false) b
+    → Keeps depth b (object_del b id).board
 object_del-places depth b id rest h = deletion-comes (Keeps depth b) b id (keeps-none depth b h) (λ i e.
     let apart : stands b OBJECTS_BIRTH ≡ false = all-aside b depth None (λ d. false) h in
     let f : Found (is_object_named id) (slots_at b OBJECTS_BIRTH) i = found-at (is_object_named id) i (slots_at b OBJECTS_BIRTH) e in
@@ -112,7 +113,7 @@ object_del-places depth b id rest h = deletion-comes (Keeps depth b) b id (keeps
 
 -- `x-sever`
 record Severing (depth : ℕ → ℕ) (n : ℕ) (b c : Board) : Type 0 where
-  near : Nearly None c
+  near : InvariantBut None c
   places : PlacesBut depth None (λ d. false) c
   pinned : among c.pins 1 ≡ true
   out : stands c n ≡ false
@@ -122,7 +123,7 @@ record Severing (depth : ℕ → ℕ) (n : ℕ) (b c : Board) : Type 0 where
 severed-let_go : (depth : ℕ → ℕ) (n i : ℕ) (t : TypeId) (target : Option ℕ) (b c : Board) → slot_at c n i ≡ Some (strong t target) → Severing depth n b c
     → Severing depth n b (let_go c n i)
 severed-let_go depth n i t target b c e h =
-    let near : Nearly None (let_go c n i) = near-unlinked c n i t target e h.near in
+    let near : InvariantBut None (let_go c n i) = near-unlinked c n i t target e h.near in
     let goes : Goes depth None (λ d. false) c (let_go c n i) =
     goes-let_go depth None (λ d. false) c n i h.near.firm near.firm h.pinned
     (λ s k q. absurd (let clash : false ≡ true = sym h.out ∙ q in cc))
@@ -149,7 +150,7 @@ put-one n = go (leb 1 n) refl
     go true p = rw (put_in_order, p) refl
     go false p = rw (put_in_order, p) (or-true (eqb 1 n))
 
-severed-places : (depth : ℕ → ℕ) (b : Board) (n places : ℕ) → AtRest b → PlacesBut depth None (λ d. false) b → attached b n ≡ false
+severed-places : (depth : ℕ → ℕ) (b : Board) (n places : ℕ) → PinsRootAlone b → PlacesBut depth None (λ d. false) b → attached b n ≡ false
     → Keeps depth b (unpin (severed_from places 0 n (pin b n)) n)
 unfolding pin unpin
 severed-places depth b n places rest h apart = ends
@@ -198,7 +199,7 @@ severed-places depth b n places rest h apart = ends
     has : list_any (nat_eq n) c.pins ≡ true
     has = ap (list_any (nat_eq n)) pins_stay ∙ put-among n (1 ∷ [])
 
-    near_after : Nearly None (unpin c n)
+    near_after : InvariantBut None (unpin c n)
     near_after = near-unpin c n has there.near
 
     one_left : among (without_first n c.pins) 1 ≡ true
@@ -208,11 +209,11 @@ severed-places depth b n places rest h apart = ends
     ends =
         let less : Goes depth None (λ d. false) c (without_pin c n) =
         goes-pins depth None (λ d. false) c (without_first n c.pins) there.near.firm one_left there.places in
-        let firm_after : Firm (after finalize (without_pin c n) (Some n)) = rw (unpin, has) at near_after.firm in
+        let firm_after : WellFormed (after finalize (without_pin c n) (Some n)) = rw (unpin, has) at near_after.firm in
         let last : Goes depth None (λ d. false) (without_pin c n) (after finalize (without_pin c n) (Some n)) =
         goes-after depth None (λ d. false) (without_pin c n) (Some n) firm_after one_left less.places in
         rw (unpin, has) (record { places = last.places; stood = λ d. last.stood d ∙ less.stood d ∙ there.stood d })
 
-pub sever-places : (depth : ℕ → ℕ) (b : Board) (n : ℕ) → AtRest b → PlacesBut depth None (λ d. false) b → Keeps depth b (sever b n).board
+pub sever-places : (depth : ℕ → ℕ) (b : Board) (n : ℕ) → PinsRootAlone b → PlacesBut depth None (λ d. false) b → Keeps depth b (sever b n).board
 sever-places depth b n rest h =
     sever-comes (Keeps depth b) b n (keeps-none depth b h) (λ there away. severed-places depth b n (length (slots_at b n)) rest h away)

@@ -3,20 +3,20 @@ use Rattle.std.proofs.Common.{◌⊎◌, inl, inr, ◌≡◌, ◌≢◌, refl, a
 use Rattle.qo_model.proofs.Common.{AllByRecursion, option_map_or, bytes_eq, ANONYMOUS_BIRTH, MACHINE_BIRTH, PERIPHERAL_BIRTH, Board, Record, Slot, plain, child, strong, weak, alias, record_of, is_live, slots_at, slot_at, among, bus_of, is_realized, strong_in, index_from, child_of, is_of, after, drop_slot, finalize, let_go, with_dropped, is_child_slot, is_named, left_bus, left_parent, let_go_where, names_kid, take_where, is_open}
 use Rattle.std.proofs.lemmas.Bool.{eqb-true, eq-eqb, false_from_ne_true}
 use Rattle.std.proofs.lemmas.Option.{same_Some}
-use Rattle.qo_model.specs.Board.{held}
+use Rattle.qo_model.specs.Board.{referent}
 use Rattle.qo_model.proofs.FirstSlotLemmas.{Found, found-at, first-found}
 use Rattle.qo_model.proofs.ReleaseLemmas.{found-within}
-use Rattle.qo_sound.proofs.FirmBoardLemmas.{Firm, parents_in}
+use Rattle.qo_sound.proofs.FirmBoardLemmas.{WellFormed, parents_in}
 use Rattle.qo_sound.proofs.SlotLemmas.{one_child}
 use Rattle.qo_sound.proofs.TestLemmas.{decide}
-use Rattle.qo_sound.proofs.UnplugLemmas.{held-where_open, held-where_other, named-apart, Sits}
+use Rattle.qo_sound.proofs.UnplugLemmas.{held-where_open, held-where_other, named-apart, HasPins}
 use Rattle.qo_sound_devices.specs.SoundPlaces.{child_entries, child_entry, IsKid, kid_entries, kid_entry, listed, owns, owns_it, PlacesBut, stands, names_it}
 use Rattle.qo_sound_devices.proofs.DropLemmas.{edited-slots, names-at}
-use Rattle.qo_sound_devices.proofs.LeavingLemmas.{all-at, IsUnlisted, Left, Stay, stay-kept, stay-none, stay-then, strong-gone, Taken, taken-kid, unlisted-steps, unnamed}
+use Rattle.qo_sound_devices.proofs.LeavingLemmas.{all-at, IsUnlisted, Left, OthersStay, stay-kept, stay-none, stay-then, strong-gone, Taken, taken-kid, unlisted-steps, unnamed}
 use Rattle.qo_sound_devices.proofs.PlacesLemmas.{within-any, stands-same}
 use Rattle.qo_sound_devices.proofs.PlacesLemmas.{after-kept, child-live, Kept, of-alike, of-live, owner-live, realized-live, stands-live, within-any}
 use Rattle.qo_sound_devices.proofs.StepsLemmas.{Steps, steps-after, steps-then}
-use Rattle.qo_sound_devices.proofs.UnparentingLemmas.{child-dropped, child-gone, dropped, for-each, is-child_slot, IsChildSlot, link-dropped, link-stands, Mid, none-listed, record-at, Went, went-let_go, went-none, bus-stays, listed-stays}
+use Rattle.qo_sound_devices.proofs.UnparentingLemmas.{child-dropped, child-gone, dropped, for-each, is-child_slot, IsChildSlot, link-dropped, link-stands, Mid, none-listed, record-at, ReachedBySteps, went-let_go, went-none, bus-stays, listed-stays}
 
 pub none-of : {A : Type 0} (o : Option A) → ((x : A) → o ≡ Some x → ⊥) → o ≡ None
 none-of None f = refl
@@ -37,19 +37,20 @@ is-strong m (name, alias k property) e = absurd (let clash : None ≡ Some m = e
 
 -- after a slot that was let go, all but its object stand as before where the drop leaves them so
 pub stay-let_go : (depth : ℕ → ℕ) (out : ℕ → Bool) (left now : Option ℕ) (ps : List ℕ) (b : Board) → Mid depth out left ps b → (n i d : ℕ) (s : Slot)
-    → slot_at b n i ≡ Some s → Firm (let_go b n i) → PlacesBut depth now out (drop_slot b n i) → Stay d b (drop_slot b n i) → Stay d b (let_go b n i)
+    → slot_at b n i ≡ Some s → WellFormed (let_go b n i) → PlacesBut depth now out (drop_slot b n i) → OthersStay d b (drop_slot b n i)
+    → OthersStay d b (let_go b n i)
 unfolding let_go drop_slot
 stay-let_go depth out left now ps b h n i d s slot firm places first =
     let c : Board = drop_slot b n i in
-    let ends : Firm (after finalize c (held s)) = rw (let_go, slot) at firm in
+    let ends : WellFormed (after finalize c (referent s)) = rw (let_go, slot) at firm in
     let pinned : among c.pins 1 ≡ true = ap (λ (qs : List ℕ). among qs 1) h.sits.pins ∙ h.one in
-    let kept : Kept c (after finalize c (held s)) = after-kept c (held s) ends (owner-live c 1 MACHINE_BIRTH places.machine) pinned in
-    rw (let_go, slot) (stay-then d b c (after finalize c (held s)) first (stay-kept depth now out d c (after finalize c (held s)) kept places))
+    let kept : Kept c (after finalize c (referent s)) = after-kept c (referent s) ends (owner-live c 1 MACHINE_BIRTH places.machine) pinned in
+    rw (let_go, slot) (stay-then d b c (after finalize c (referent s)) first (stay-kept depth now out d c (after finalize c (referent s)) kept places))
 
 -- the rest of a slot let go are steps of the board without the slot
 pub steps-let_go : (b : Board) (n i : ℕ) (s : Slot) → slot_at b n i ≡ Some s → Steps (drop_slot b n i) (let_go b n i)
 unfolding let_go
-steps-let_go b n i s slot = rw (let_go, slot) (steps-after (drop_slot b n i) (held s))
+steps-let_go b n i s slot = rw (let_go, slot) (steps-after (drop_slot b n i) (referent s))
 
 pub slot-is : (b : Board) (n i : ℕ) (r : Record) (s : List ℕ × Slot) → record_of b n ≡ Some r → slice_get r.slots i ≡ Some s → slot_at b n i ≡ Some s.1
 slot-is b n i r s found at =
@@ -70,10 +71,10 @@ unlinked depth out ps d m b c t = go (index_from (is_named (codes "parent_bus"))
     h : Mid depth out (Some d) ps c
     h = t.went.mid
 
-    firm : Firm c
+    firm : WellFormed c
     firm = h.sits.near.firm
 
-    sits : Sits ps (let_go_where (is_named (codes "parent_bus")) d c)
+    sits : HasPins ps (let_go_where (is_named (codes "parent_bus")) d c)
     sits = held-where_other ps (is_named (codes "parent_bus")) (named-apart (codes "parent_bus") refl) d c h.sits
 
     go : (o : Option ℕ) → index_from (is_named (codes "parent_bus")) 0 (slots_at c d) ≡ o
@@ -138,13 +139,13 @@ unlinked depth out ps d m b c t = go (index_from (is_named (codes "parent_bus"))
         places : PlacesBut depth (Some d) out e
         places = link-dropped depth out (Some d) ps c h d i r owner.1 s at d is.no_child (is-or-differs d) same-bus kid hold
 
-        sits_here : Sits ps (let_go c d i)
+        sits_here : HasPins ps (let_go c d i)
         sits_here = rw (let_go_where, q) at sits
 
         slot : slot_at c d i ≡ Some s.1
         slot = slot-is c d i r s owner.1 at
 
-        later : Went depth out (Some d) ps c (let_go c d i)
+        later : ReachedBySteps depth out (Some d) ps c (let_go c d i)
         later = went-let_go depth out (Some d) ps c h d i r owner.1 s at (Some d) sits_here places
 
         off_first : bus_of e d ≡ None
@@ -155,7 +156,7 @@ unlinked depth out ps d m b c t = go (index_from (is_named (codes "parent_bus"))
             (edited-slots c d (with_dropped i) (λ x. refl) r owner.1)
             ∙ strong-gone (codes "parent_bus") i r.slots (names-at c firm d r owner.1) s at f.passes
 
-        stay_first : Stay d c e
+        stay_first : OthersStay d c e
         stay_first =
             record {
               stands_on = λ x p k. stands-same c e (link-stands depth out (Some d) ps c h d i r owner.1 s at is.no_child PERIPHERAL_BIRTH)
@@ -179,7 +180,7 @@ pub bus-left : (depth : ℕ → ℕ) (out : ℕ → Bool) (ps : List ℕ) (b : B
 bus-left depth out ps b h d m e on = rw (left_bus, on) (unlinked depth out ps d m b (take_where (names_kid d) m b) (taken-kid depth out ps b h d m e on))
 
 -- a device without bus, unrealized, whose buses no bus has: what stays of it after steps
-pub record Loose (d : ℕ) (b : Board) : Type 0 where
+pub record Unlinked (d : ℕ) (b : Board) : Type 0 where
   pub off : bus_of b d ≡ None
   pub unrealized : is_realized b d ≡ false
   pub ownless : (q : ℕ) → is_of b (codes "bus") q ≡ true → owns b d q ≡ false
@@ -195,7 +196,7 @@ ownless-steps b c d s h q is =
 pub unrealized-steps : (b c : Board) (d : ℕ) → Steps b c → is_realized b d ≡ false → is_realized c d ≡ false
 unrealized-steps b c d s h = false_from_ne_true (is_realized c d) (λ e. let clash : true ≡ false = sym e ∙ s.realized d (realized-live c d e) ∙ h in absurd cc)
 
-loose-steps : (b c : Board) (d : ℕ) → Steps b c → Loose d b → Loose d c
+loose-steps : (b c : Board) (d : ℕ) → Steps b c → Unlinked d b → Unlinked d c
 loose-steps b c d s h =
     record {
       off = none-of (bus_of c d) (λ x k. let clash : None ≡ Some x = sym h.off ∙ s.bus d x k in absurd cc);
@@ -205,22 +206,22 @@ loose-steps b c d s h =
     }
 
 record Shelved (depth : ℕ → ℕ) (out : ℕ → Bool) (ps : List ℕ) (d n : ℕ) (b c : Board) : Type 0 where
-  went : Went depth out (Some d) ps b c
-  stay : Stay d b c
-  loose : Loose d c
+  went : ReachedBySteps depth out (Some d) ps b c
+  stay : OthersStay d b c
+  loose : Unlinked d c
   gone : listed d (child_entries c n) ≡ false
 
 -- it leaves a container
 shelved : (depth : ℕ → ℕ) (out : ℕ → Bool) (ps : List ℕ) (d : ℕ) (b : Board) → Mid depth out (Some d) ps b → (n : ℕ)
-    → among (PERIPHERAL_BIRTH ∷ ANONYMOUS_BIRTH ∷ []) n ≡ true → is_open n ≡ true → is_live b n ≡ true → Loose d b
+    → among (PERIPHERAL_BIRTH ∷ ANONYMOUS_BIRTH ∷ []) n ≡ true → is_open n ≡ true → is_live b n ≡ true → Unlinked d b
     → Shelved depth out ps d n b (let_go_where (is_child_slot d) n b)
 unfolding drop_slot
 shelved depth out ps d b h n shelf wide live loose = go (index_from (is_child_slot d) 0 (slots_at b n)) refl
   where
-    firm : Firm b
+    firm : WellFormed b
     firm = h.sits.near.firm
 
-    sits : Sits ps (let_go_where (is_child_slot d) n b)
+    sits : HasPins ps (let_go_where (is_child_slot d) n b)
     sits = held-where_open ps (is_child_slot d) n b wide h.sits
 
     go : (o : Option ℕ) → index_from (is_child_slot d) 0 (slots_at b n) ≡ o → Shelved depth out ps d n b (let_go_where (is_child_slot d) n b)
@@ -256,16 +257,16 @@ shelved depth out ps d b h n shelf wide live loose = go (index_from (is_child_sl
         places : PlacesBut depth (Some d) out c
         places = child-dropped depth out (Some d) ps b h n i r owner.1 s at d shelf is (is-or-differs d) loose.off loose.unrealized loose.ownless loose.unlisted
 
-        sits_here : Sits ps (let_go b n i)
+        sits_here : HasPins ps (let_go b n i)
         sits_here = rw (let_go_where, q) at sits
 
         slot : slot_at b n i ≡ Some s.1
         slot = slot-is b n i r s owner.1 at
 
-        later : Went depth out (Some d) ps b (let_go b n i)
+        later : ReachedBySteps depth out (Some d) ps b (let_go b n i)
         later = went-let_go depth out (Some d) ps b h n i r owner.1 s at (Some d) sits_here places
 
-        stay_first : Stay d b c
+        stay_first : OthersStay d b c
         stay_first =
             record {
               stands_on = λ x p k.
@@ -297,12 +298,12 @@ shelved depth out ps d b h n shelf wide live loose = go (index_from (is_child_sl
 
 -- and both
 pub record Parted (depth : ℕ → ℕ) (out : ℕ → Bool) (ps : List ℕ) (d : ℕ) (b c : Board) : Type 0 where
-  pub went : Went depth out None ps b c
-  pub stay : Stay d b c
+  pub went : ReachedBySteps depth out None ps b c
+  pub stay : OthersStay d b c
   pub gone : stands c d ≡ false
   pub unlisted : IsUnlisted c d
 
-pub parent-left : (depth : ℕ → ℕ) (out : ℕ → Bool) (ps : List ℕ) (d : ℕ) (b : Board) → Mid depth out (Some d) ps b → Loose d b
+pub parent-left : (depth : ℕ → ℕ) (out : ℕ → Bool) (ps : List ℕ) (d : ℕ) (b : Board) → Mid depth out (Some d) ps b → Unlinked d b
     → Parted depth out ps d b (left_parent d b)
 parent-left depth out ps d b h loose =
     record {

@@ -2,7 +2,7 @@
 use Rattle.std.proofs.Common.{◌≡◌, refl, ap, sym, subst, ◌∙◌, ℕ, ◌≤◌, Bool, true, false, ◌==◌, List, [], find, map, sum_by, option_map, Option, Some, None, is_some, arith}
 use Rattle.qo_model.proofs.Common.{AllByRecursion, option_map_or, MACHINE_BIRTH, TypeId, Board, Record, among, Leads, asked, asked_of, device_at, refused, with_asked, attached, births, children_in, notice_barred, Rises}
 use Rattle.qo_model.proofs.StepLemmas.{found_at}
-use Rattle.qo_sound.proofs.FirmBoardLemmas.{AllLinked, Firm, HasNames, parents_in}
+use Rattle.qo_sound.proofs.FirmBoardLemmas.{AllLinked, HasNames, WellFormed, parents_in}
 use Rattle.qo_values.proofs.ListLemmas.{all-imply}
 use Rattle.qo_sound_devices.specs.SoundPlaces.{PlacesBut}
 use Rattle.qo_sound_devices.proofs.LikenessLemmas.{alike-record}
@@ -16,7 +16,7 @@ abbrev children_at : List Record → ℕ → List ℕ
 children_at rs n = children_in (option_map_or (λ (r : Record). r.slots) (found_at n rs) [])
 
 -- the same objects, and no fewer births
-firm-same : (b c : Board) → c.records ≡ b.records → b.born ≤ c.born → Firm b → Firm c
+firm-same : (b c : Board) → c.records ≡ b.records → b.born ≤ c.born → WellFormed b → WellFormed c
 firm-same b c same grows f =
     record {
       rising = subst Rises (sym same_births) f.rising;
@@ -33,7 +33,7 @@ firm-same b c same grows f =
     same_births : births c ≡ births b
     same_births = ap (map (λ (r : Record). r.birth)) same
 
-pub beside-places : (depth : ℕ → ℕ) (left : Option ℕ) (out : ℕ → Bool) (b c : Board) → Firm b → c.records ≡ b.records → b.born ≤ c.born
+pub beside-places : (depth : ℕ → ℕ) (left : Option ℕ) (out : ℕ → Bool) (b c : Board) → WellFormed b → c.records ≡ b.records → b.born ≤ c.born
     → c.anonymous ≡ b.anonymous → PlacesBut depth left out b → PlacesBut depth left out c
 beside-places depth left out b c firm same grows anonymous h =
     places-kept b c
@@ -45,7 +45,7 @@ beside-places depth left out b c firm same grows anonymous h =
     found x = ap (find (λ (r : Record). r.birth == x)) same
 
 -- a removal that is asked for, and one that is refused
-module _ (depth : ℕ → ℕ) (b : Board) (firm : Firm b) (h : PlacesBut depth None (λ x. false) b) where
+module _ (depth : ℕ → ℕ) (b : Board) (firm : WellFormed b) (h : PlacesBut depth None (λ x. false) b) where
   asked_of-places : (d : ℕ) → PlacesBut depth None (λ x. false) (asked_of b d).board
   asked_of-places d = go (attached b d) refl (among b.pending d) refl (is_some (notice_barred b)) refl
     where

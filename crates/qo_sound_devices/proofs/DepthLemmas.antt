@@ -4,12 +4,12 @@ use Rattle.qo_model.proofs.Common.{⊤, AllByRecursion, list_any, bytes_eq, ANON
 use Rattle.std.proofs.lemmas.Bool.{eqb-true}
 use Rattle.std.proofs.Math.Bool.{or-true}
 use Rattle.qo_model.proofs.StepLemmas.{live-among}
-use Rattle.qo_sound.proofs.FirmBoardLemmas.{Firm}
+use Rattle.qo_sound.proofs.FirmBoardLemmas.{WellFormed}
 use Rattle.qo_values.proofs.ListLemmas.{all-imply}
 use Rattle.qo_sound_devices.specs.SoundPlaces.{child_entries, child_entry, HasOwner, machines, bridges, IsKid, kid_entries, kid_entry, listed, owns, owns_it, PlacesBut, stands}
 use Rattle.qo_sound_devices.proofs.RemovalLemmas.{Moved, places-moved}
 use Rattle.qo_sound_devices.proofs.PlacesLemmas.{all-listed, child-live, owner-live, within-same, stands-same}
-use Rattle.qo_sound_devices.proofs.UnrealizingLemmas.{Dimmed, dimmed-live, IsLow, turns-all, turns-dimmed, turns-only, Under, here, down}
+use Rattle.qo_sound_devices.proofs.UnrealizingLemmas.{FewerRealized, dimmed-live, IsLow, turns-all, turns-dimmed, turns-only, Under, here, down}
 
 -- the kids and buses that recursions go over
 pub kids-listed : (k : ℕ) (slots : List (List ℕ × Slot)) → among (filter_map (λ (s : List ℕ × Slot). strong_in s.1) slots) k ≡ true
@@ -132,7 +132,7 @@ room-of (x ∷ xs) ns a h = omega (arith, room-of xs (without_all x ns) a.1 (sta
     stay [] b k = tt
     stay (y ∷ ys) b k = (still-among x y b.0 ns k.0, stay ys b.1 k.1)
 
-pub room : (depth : ℕ → ℕ) (left : Option ℕ) (out : ℕ → Bool) (b : Board) → Firm b → PlacesBut depth left out b → 8 ≤ length (births b)
+pub room : (depth : ℕ → ℕ) (left : Option ℕ) (out : ℕ → Bool) (b : Board) → WellFormed b → PlacesBut depth left out b → 8 ≤ length (births b)
 unfolding IsApart
 room depth left out b firm h =
     room-of (1 ∷ 2 ∷ 3 ∷ 4 ∷ 5 ∷ 6 ∷ 7 ∷ 8 ∷ []) (births b) (
@@ -169,10 +169,11 @@ room depth left out b firm h =
 
 -- unrealizing
 
-pub stands-dimmed : (b c : Board) → Dimmed b c → (x : ℕ) → stands c x ≡ stands b x
+pub stands-dimmed : (b c : Board) → FewerRealized b c → (x : ℕ) → stands c x ≡ stands b x
 stands-dimmed b c h = stands-same b c (h.children PERIPHERAL_BIRTH) (h.children ANONYMOUS_BIRTH)
 
-pub moved-dimmed : (depth : ℕ → ℕ) (left : Option ℕ) (out : ℕ → Bool) (b c : Board) → Firm c → PlacesBut depth left out b → Dimmed b c → Moved left b c
+pub moved-dimmed : (depth : ℕ → ℕ) (left : Option ℕ) (out : ℕ → Bool) (b c : Board) → WellFormed c → PlacesBut depth left out b → FewerRealized b c
+    → Moved left b c
 moved-dimmed depth left out b c firm h d =
     record {
       firm = firm;
@@ -197,7 +198,7 @@ moved-dimmed depth left out b c firm h d =
     owned q (machines k) = machines k
     owned q (bridges p s o) = bridges p (stands-dimmed b c d p ∙ s) (ap (list_any (owns_it q)) (d.children p) ∙ o)
 
-pub unrealize-dimmed : (b : Board) (d : ℕ) → Dimmed b (unrealize b d)
+pub unrealize-dimmed : (b : Board) (d : ℕ) → FewerRealized b (unrealize b d)
 unfolding unrealize
 unrealize-dimmed b d = turns-dimmed b (suc (length (births b))) d b
 
@@ -205,7 +206,7 @@ pub unrealize-only : (b : Board) (d y : ℕ) → is_realized b y ≡ true → is
 unfolding unrealize
 unrealize-only b d y was is = turns-only b (suc (length (births b))) d b y was is
 
-pub unrealize-all : (depth : ℕ → ℕ) (left : Option ℕ) (out : ℕ → Bool) (b : Board) → Firm b → PlacesBut depth left out b → (d q : ℕ)
+pub unrealize-all : (depth : ℕ → ℕ) (left : Option ℕ) (out : ℕ → Bool) (b : Board) → WellFormed b → PlacesBut depth left out b → (d q : ℕ)
     → stands b d ≡ true → bus_of b d ≡ Some q → (y : ℕ) → Under b d y → is_realized (unrealize b d) y ≡ false
 unfolding unrealize
 unrealize-all depth left out b firm h d q e on y u =
@@ -215,7 +216,7 @@ unrealize-all depth left out b firm h d q e on y u =
 abbrev pub faded_by : Board → Board → ℕ → Bool
 faded_by b c x = is_realized b x && not (is_realized c x)
 
-pub unrealize-places : (depth : ℕ → ℕ) (b : Board) (d : ℕ) → Firm (unrealize b d) → PlacesBut depth None (λ x. false) b
+pub unrealize-places : (depth : ℕ → ℕ) (b : Board) (d : ℕ) → WellFormed (unrealize b d) → PlacesBut depth None (λ x. false) b
     → PlacesBut depth None (faded_by b (unrealize b d)) (unrealize b d)
 unrealize-places depth b d firm h =
     places-moved b (unrealize b d) depth None None (faded_by b (unrealize b d)) (λ x. false)

@@ -5,25 +5,25 @@ use Rattle.std.proofs.lemmas.Bool.{eqb-true, eq-eqb, false_from_ne_true}
 use Rattle.std.proofs.lemmas.Option.{same_Some}
 use Rattle.std.proofs.Math.Bool.{or-true}
 use Rattle.qo_model.specs.Unplug.{first_of}
-use Rattle.qo_sound.proofs.FirmBoardLemmas.{Firm}
+use Rattle.qo_sound.proofs.FirmBoardLemmas.{WellFormed}
 use Rattle.qo_model.proofs.FirstSlotLemmas.{Found, found-at}
 use Rattle.qo_model.proofs.PinLemmas.{IsUp, put-among, put-back, put-up, unpin-pins}
 use Rattle.qo_sound.proofs.SeveringLemmas.{near-pin, near-unpin, pin-pins}
-use Rattle.qo_sound.proofs.UnplugLemmas.{bus-apart, held-unrealize, held-where_other, Sits}
-use Rattle.qo_sound.proofs.ViewLemmas.{AtRest}
-use Rattle.qo_sound.proofs.WorkLemmas.{Nearly}
+use Rattle.qo_sound.proofs.UnplugLemmas.{bus-apart, held-unrealize, held-where_other, HasPins}
+use Rattle.qo_sound.proofs.ViewLemmas.{PinsRootAlone}
+use Rattle.qo_sound.proofs.WorkLemmas.{InvariantBut}
 use Rattle.qo_sound_devices.specs.SoundPlaces.{child_entries, child_entry, HasOwner, machines, bridges, IsHome, kid_entries, kid_entry, listed, owns, owns_it, PlacesBut, stands, names_it}
 use Rattle.qo_sound_devices.proofs.LikenessLemmas.{alike-record}
 use Rattle.qo_sound_devices.proofs.AttachmentLemmas.{owns-listed, parent-is}
 use Rattle.qo_sound_devices.proofs.CommandLemmas.{Goes, goes-after, goes-pins}
 use Rattle.qo_sound_devices.proofs.DropLemmas.{edited-slots, names-at, strong-dropped}
-use Rattle.qo_sound_devices.proofs.LeavingLemmas.{IsUnlisted, Left, Stay, stay-kept, stay-then, unlisted-steps}
+use Rattle.qo_sound_devices.proofs.LeavingLemmas.{IsUnlisted, Left, OthersStay, stay-kept, stay-then, unlisted-steps}
 use Rattle.qo_sound_devices.proofs.DepthLemmas.{faded_by, is-bus_of, IsBusOf, kid-of, kids-listed, room, unrealize-all, unrealize-dimmed, unrealize-only, unrealize-places, stands-dimmed}
-use Rattle.qo_sound_devices.proofs.DepartureLemmas.{bus-left, Loose, ownless-steps, parent-left, Parted, slot-is, stay-let_go, steps-let_go, unrealized-steps}
+use Rattle.qo_sound_devices.proofs.DepartureLemmas.{bus-left, Unlinked, ownless-steps, parent-left, Parted, slot-is, stay-let_go, steps-let_go, unrealized-steps}
 use Rattle.qo_sound_devices.proofs.PlacesLemmas.{after-kept, Kept, owner-live, kid-live, more, nothing, of-alike, of-live, or-cases, same, stands-live, Within, aside-apart, within-any}
 use Rattle.qo_sound_devices.proofs.StepsLemmas.{Steps, steps-after, steps-alike, steps-then}
-use Rattle.qo_sound_devices.proofs.UnparentingLemmas.{bus-dropped, dropped-read, for-each, is-child_slot, IsChildSlot, Mid, record-at, Went, went-let_go, went-none}
-use Rattle.qo_sound_devices.proofs.UnrealizingLemmas.{Dimmed, Under, here, down}
+use Rattle.qo_sound_devices.proofs.UnparentingLemmas.{bus-dropped, dropped-read, for-each, is-child_slot, IsChildSlot, Mid, record-at, ReachedBySteps, went-let_go, went-none}
+use Rattle.qo_sound_devices.proofs.UnrealizingLemmas.{FewerRealized, Under, here, down}
 
 -- lengths of what is left
 
@@ -152,7 +152,7 @@ stood-steps b c s x e =
     (λ k. rw (within-any (names_it x) (s.children PERIPHERAL_BIRTH) k) refl)
     (λ k. rw (within-any (names_it x) (s.children ANONYMOUS_BIRTH) k) (or-true (listed x (child_entries b PERIPHERAL_BIRTH))))
 
-pub closed-steps : (b c : Board) → Firm c → Steps b c → IsClosed b → IsClosed c
+pub closed-steps : (b c : Board) → WellFormed c → Steps b c → IsClosed b → IsClosed c
 closed-steps b c firm s h p m k e o is l dim =
     let was : is_of b (codes "bus") m ≡ true = sym (of-alike b c m (codes "bus") (s.body m (of-live c (codes "bus") m is))) ∙ is in
     s.realized k (kid-live c firm m k l)
@@ -173,7 +173,7 @@ above-then depth l b c d h k =
 above-lower : (depth : ℕ → ℕ) (l k : ℕ) (b c : Board) → k ≤ l → Above depth l b c → Above depth k b c
 above-lower depth l k b c less h = record { on = λ x q e o low. h.on x q e o (omega (arith, less, low)) }
 
-above-stay : (depth : ℕ → ℕ) (d q : ℕ) (b c : Board) → bus_of b d ≡ Some q → Stay d b c → Above depth (depth q) b c
+above-stay : (depth : ℕ → ℕ) (d q : ℕ) (b c : Board) → bus_of b d ≡ Some q → OthersStay d b c → Above depth (depth q) b c
 above-stay depth d q b c on h =
     record {
       on = λ x p e o low.
@@ -185,7 +185,7 @@ above-stay depth d q b c on h =
           (h.stands_on x differs e, h.bus_on x p differs e o);
     }
 
-above-all : (depth : ℕ → ℕ) (left : Option ℕ) (out : ℕ → Bool) (l : ℕ) (b c : Board) → PlacesBut depth left out b → Stay 1 b c → Above depth l b c
+above-all : (depth : ℕ → ℕ) (left : Option ℕ) (out : ℕ → Bool) (l : ℕ) (b c : Board) → PlacesBut depth left out b → OthersStay 1 b c → Above depth l b c
 above-all depth left out l b c h s =
     record {
       on = λ x q e o low.
@@ -204,12 +204,12 @@ pub record Lit (b c : Board) : Type 0 where
 lit-none : (b : Board) → Lit b b
 lit-none b = record { on = λ x e lit. e }
 
-lit-then : (b c d : Board) → Firm c → Steps b c → Lit b c → Lit c d → Lit b d
+lit-then : (b c d : Board) → WellFormed c → Steps b c → Lit b c → Lit c d → Lit b d
 lit-then b c d firm s h k =
     record { on = λ x e lit. let there : stands c x ≡ true = h.on x e lit in k.on x there (s.realized x (stands-live c firm x there) ∙ lit) }
 
 -- where only one that is not realized may stand no more
-lit-stay : (d : ℕ) (b c : Board) → is_realized b d ≡ false → Stay d b c → Lit b c
+lit-stay : (d : ℕ) (b c : Board) → is_realized b d ≡ false → OthersStay d b c → Lit b c
 lit-stay d b c dim s =
     record {
       on =
@@ -217,7 +217,7 @@ lit-stay d b c dim s =
           absurd cc)) e;
     }
 
-lit-all : (depth : ℕ → ℕ) (left : Option ℕ) (out : ℕ → Bool) (b c : Board) → PlacesBut depth left out b → Stay 1 b c → Lit b c
+lit-all : (depth : ℕ → ℕ) (left : Option ℕ) (out : ℕ → Bool) (b c : Board) → PlacesBut depth left out b → OthersStay 1 b c → Lit b c
 lit-all depth left out b c h s =
     record {
       on =
@@ -226,7 +226,7 @@ lit-all depth left out b c h s =
     }
 
 pub record TakenOut (depth : ℕ → ℕ) (out : ℕ → Bool) (ps : List ℕ) (d q : ℕ) (b c : Board) : Type 0 where
-  pub went : Went depth out None ps b c
+  pub went : ReachedBySteps depth out None ps b c
   pub above : Above depth (depth q) b c
   pub gone : stands c d ≡ false
   pub unlisted : IsUnlisted c d
@@ -240,7 +240,7 @@ Takes depth out n f =
     (f d b)
 
 record Drained (depth : ℕ → ℕ) (out : ℕ → Bool) (ps : List ℕ) (m : ℕ) (b c : Board) : Type 0 where
-  went : Went depth out None ps b c
+  went : ReachedBySteps depth out None ps b c
   above : Above depth (depth m) b c
   empty : kid_entries c m ≡ []
   lit : Lit b c
@@ -253,7 +253,7 @@ listed-owner b k m e = go (record_of b m) refl
     go (Some r) q = ap is_some q
 
 pub record LostBus (depth : ℕ → ℕ) (out : ℕ → Bool) (ps : List ℕ) (d m : ℕ) (b c : Board) : Type 0 where
-  pub went : Went depth out None ps b c
+  pub went : ReachedBySteps depth out None ps b c
   pub above : Above depth (depth m) b c
   pub fewer : suc (length (child_entries c d)) ≤ length (child_entries b d)
   pub lit : Lit b c
@@ -269,7 +269,7 @@ pub record KidTaken (depth : ℕ → ℕ) (out : ℕ → Bool) (ps : List ℕ) (
   pub fewer : suc (length (kid_entries c m)) ≤ length (kid_entries b m)
 
 record LostAll (depth : ℕ → ℕ) (out : ℕ → Bool) (ps : List ℕ) (d q : ℕ) (b c : Board) : Type 0 where
-  went : Went depth out None ps b c
+  went : ReachedBySteps depth out None ps b c
   above : Above depth (suc (depth q)) b c
   ownless : (m : ℕ) → is_of c (codes "bus") m ≡ true → owns c d m ≡ false
   lit : Lit b c
@@ -323,7 +323,7 @@ module _ (depth : ℕ → ℕ) (out : ℕ → Bool) (n : ℕ) (f : ℕ → Board
           (record { went = went-none depth out None ps b h; above = above-none depth (depth m) b; empty = no-kid (slots_at b m) e; lit = lit-none b })
       go (Some k) e rest =
           let t : KidTaken depth out ps m k b (f k b) = kid-taken m k deep b h closed bus dim e in
-          let first : Went depth out None ps b (f k b) = t.one.went in
+          let first : ReachedBySteps depth out None ps b (f k b) = t.one.went in
           let last : Drained depth out ps m (f k b) (drained f times m (f k b)) =
           rest (f k b) first.mid t.closed t.bus t.dims (omega (arith, t.fewer, few)) in
           rw (drained, e) (record {
@@ -358,10 +358,10 @@ module _ (depth : ℕ → ℕ) (out : ℕ → Bool) (n : ℕ) (f : ℕ → Board
       k : Mid depth out None ps c
       k = dr.went.mid
 
-      firm : Firm c
+      firm : WellFormed c
       firm = k.sits.near.firm
 
-      sits : Sits ps (let_go_where (is_bus_child m) d c)
+      sits : HasPins ps (let_go_where (is_bus_child m) d c)
       sits = held-where_other ps (is_bus_child m) (bus-apart m) d c k.sits
 
       go : (o : Option ℕ) → index_from (is_bus_child m) 0 (slots_at c d) ≡ o → LostBus depth out ps d m b (let_go_where (is_bus_child m) d c)
@@ -399,13 +399,13 @@ module _ (depth : ℕ → ℕ) (out : ℕ → Bool) (n : ℕ) (f : ℕ → Board
           places : PlacesBut depth None out x
           places = bus-dropped depth out None ps c k d i r owner.1 s at m on_here.0 is dr.empty refl
 
-          sits_here : Sits ps (let_go c d i)
+          sits_here : HasPins ps (let_go c d i)
           sits_here = rw (let_go_where, p) at sits
 
           slot : slot_at c d i ≡ Some s.1
           slot = slot-is c d i r s owner.1 at
 
-          later : Went depth out None ps c (let_go c d i)
+          later : ReachedBySteps depth out None ps c (let_go c d i)
           later = went-let_go depth out None ps c k d i r owner.1 s at None sits_here places
 
           aside : among (1 ∷ MACHINE_BIRTH ∷ PERIPHERAL_BIRTH ∷ ANONYMOUS_BIRTH ∷ ROOT_BUS_BIRTH ∷ MEMORY_BUS_BIRTH ∷ OBJECTS_BIRTH ∷ []) d ≡ false
@@ -430,7 +430,7 @@ module _ (depth : ℕ → ℕ) (out : ℕ → Bool) (n : ℕ) (f : ℕ → Board
               (λ ss. option_and_then strong_in (option_map (λ (y : List ℕ × Slot). y.1) (find (λ y. bytes_eq y.0 (codes "parent_bus")) ss)))
               (strong-dropped (codes "parent_bus") i r.slots (names-at c firm d r owner.1) s at (inl is.some)))
 
-          stay_first : Stay 1 c x
+          stay_first : OthersStay 1 c x
           stay_first =
               record {
                 stands_on =
@@ -438,7 +438,7 @@ module _ (depth : ℕ → ℕ) (out : ℕ → Bool) (n : ℕ) (f : ℕ → Board
                 bus_on = λ y w u z o. same-bus y ∙ o;
               }
 
-          stay : Stay 1 c (let_go c d i)
+          stay : OthersStay 1 c (let_go c d i)
           stay = stay-let_go depth out None None ps c k d i 1 s.1 slot sits_here.near.firm places stay_first
 
           entries : child_entries x d ≡ filter_map child_entry (without_hold i r.slots)
@@ -522,7 +522,7 @@ module _ (depth : ℕ → ℕ) (out : ℕ → Bool) (n : ℕ) (f : ℕ → Board
       gone_bus : Left depth out ps d c x
       gone_bus = bus-left depth out ps c all.went.mid d q still.0 still.1
 
-      loose : Loose d x
+      loose : Unlinked d x
       loose =
           record {
             off = gone_bus.off;
@@ -597,7 +597,7 @@ mid-pin depth out ps b d h =
 record Unpinned (depth : ℕ → ℕ) (out : ℕ → Bool) (ps : List ℕ) (b c : Board) : Type 0 where
   mid : Mid depth out None ps c
   steps : Steps b c
-  stay : Stay 1 b c
+  stay : OthersStay 1 b c
 
 unpinned : (depth : ℕ → ℕ) (out : ℕ → Bool) (ps : List ℕ) → IsUp ps → among ps 1 ≡ true → (b : Board) (d : ℕ)
     → Mid depth out None (put_in_order d ps) b → Unpinned depth out ps b (unpin b d)
@@ -607,7 +607,7 @@ unpinned depth out ps up one b d h = result
     there : list_any (nat_eq d) b.pins ≡ true
     there = ap (list_any (nat_eq d)) h.sits.pins ∙ put-among d ps
 
-    near : Nearly None (unpin b d)
+    near : InvariantBut None (unpin b d)
     near = near-unpin b d there h.sits.near
 
     less : without_first d b.pins ≡ ps
@@ -622,7 +622,7 @@ unpinned depth out ps up one b d h = result
     first : Goes depth None out b c
     first = goes-pins depth None out b (without_first d b.pins) h.sits.near.firm one_left h.places
 
-    ends : Firm (after finalize c (Some d))
+    ends : WellFormed (after finalize c (Some d))
     ends = rw (unpin, there) at near.firm
 
     kept : Kept c (after finalize c (Some d))
@@ -631,7 +631,7 @@ unpinned depth out ps up one b d h = result
     second : Goes depth None out c (after finalize c (Some d))
     second = goes-after depth None out c (Some d) ends one_left first.places
 
-    stay : Stay 1 b (after finalize c (Some d))
+    stay : OthersStay 1 b (after finalize c (Some d))
     stay =
         stay-then 1 b c (after finalize c (Some d)) (record { stands_on = λ x p e. e; bus_on = λ x q p e o. o })
         (stay-kept depth None out 1 c (after finalize c (Some d)) kept first.places)
@@ -751,11 +751,11 @@ listed-kid k ((name, weak t target) ∷ slots) e = listed-kid k slots e
 listed-kid k ((name, alias m property) ∷ slots) e = listed-kid k slots e
 
 -- what detaching unrealizes
-pub dims : (b : Board) (d : ℕ) → Dimmed (pin b d) (unrealize (pin b d) d)
+pub dims : (b : Board) (d : ℕ) → FewerRealized (pin b d) (unrealize (pin b d) d)
 dims b d = unrealize-dimmed (pin b d) d
 
 -- detaching
-module _ (depth : ℕ → ℕ) (b : Board) (d : ℕ) (rest : AtRest b) (h : PlacesBut depth None (λ x. false) b) (e : stands b d ≡ true) where
+module _ (depth : ℕ → ℕ) (b : Board) (d : ℕ) (rest : PinsRootAlone b) (h : PlacesBut depth None (λ x. false) b) (e : stands b d ≡ true) where
   p : Board
   p = pin b d
 
@@ -777,7 +777,7 @@ module _ (depth : ℕ → ℕ) (b : Board) (d : ℕ) (rest : AtRest b) (h : Plac
   at_home : (stands (pin b d) d ≡ true) × (bus_of (pin b d) d ≡ Some home.bus)
   at_home = (above-pin depth (suc (depth home.bus)) b d).on d home.bus e home.on (omega arith)
 
-  sits : Sits (put_in_order d (1 ∷ [])) (unrealize (pin b d) d)
+  sits : HasPins (put_in_order d (1 ∷ [])) (unrealize (pin b d) d)
   sits = held-unrealize (put_in_order d (1 ∷ [])) d (pin b d) pinned.sits
 
   abbrev out : ℕ → Bool
@@ -910,12 +910,12 @@ module _ (depth : ℕ → ℕ) (b : Board) (d : ℕ) (rest : AtRest b) (h : Plac
       (stands-dimmed (pin b d) (unrealize (pin b d) d) (dims b d) y ∙ stood-pin b d y s) lit
 
 -- a device that stands is detached: places are sound, and it stands no more
-pub detach-places : (depth : ℕ → ℕ) (b : Board) (d : ℕ) → AtRest b → PlacesBut depth None (λ x. false) b → stands b d ≡ true
+pub detach-places : (depth : ℕ → ℕ) (b : Board) (d : ℕ) → PinsRootAlone b → PlacesBut depth None (λ x. false) b → stands b d ≡ true
     → PlacesBut depth None (λ x. false) (detach b d)
 unfolding detach
 detach-places depth b d rest h e = subst (PlacesBut depth None (λ x. false)) refl (detached depth b d rest h e)
 
-pub detach-lit : (depth : ℕ → ℕ) (b : Board) (d : ℕ) → AtRest b → PlacesBut depth None (λ x. false) b → stands b d ≡ true → (y : ℕ) → stands b y ≡ true
+pub detach-lit : (depth : ℕ → ℕ) (b : Board) (d : ℕ) → PinsRootAlone b → PlacesBut depth None (λ x. false) b → stands b d ≡ true → (y : ℕ) → stands b y ≡ true
     → is_realized (unrealize (pin b d) d) y ≡ true → stands (detach b d) y ≡ true
 unfolding detach
 detach-lit depth b d rest h e y s lit = still-lit depth b d rest h e y s lit

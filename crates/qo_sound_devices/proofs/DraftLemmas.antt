@@ -10,13 +10,13 @@ use Rattle.qo_model.specs.declared.properties.PropertyRole.TheVariants as row
 use Rattle.qo_model.proofs.FirstSlotLemmas.{named_in}
 use Rattle.qo_model.proofs.StepLemmas.{found_at, found-edited}
 use Rattle.qo_sound.proofs.DraftLemmas.{Drafts, drafted-drafts, pinned_once}
-use Rattle.qo_sound.proofs.FirmBoardLemmas.{Firm}
+use Rattle.qo_sound.proofs.FirmBoardLemmas.{WellFormed}
 use Rattle.qo_sound.proofs.NewSlotLemmas.{slots_for}
 use Rattle.qo_sound.proofs.RecordLemmas.{all-append}
 use Rattle.qo_values.proofs.ListLemmas.{all-imply}
 use Rattle.qo_values.proofs.EachLemmas.{each}
 use Rattle.qo_sound.proofs.TestLemmas.{decide}
-use Rattle.qo_sound.proofs.WorkLemmas.{Nearly}
+use Rattle.qo_sound.proofs.WorkLemmas.{InvariantBut}
 use Rattle.qo_sound_devices.specs.SoundPlaces.{child_entries, child_entry, id_of, kid_entry, listed, owns, owns_it}
 use Rattle.qo_sound_devices.proofs.LikenessLemmas.{other-record}
 use Rattle.qo_sound_devices.proofs.AdditionLemmas.{IsFurther}
@@ -189,7 +189,7 @@ record Draft (b : Board) (n : ℕ) (t : TypeId) (c : Board) : Type 0 where
 entries-of : Option Record → List (List ℕ × ℕ)
 entries-of o = filter_map child_entry (option_map_or (λ (r : Record). r.slots) o [])
 
-draft-none : (b : Board) (n : ℕ) (t : TypeId) → Firm b → is_live b n ≡ false → Draft b n t b
+draft-none : (b : Board) (n : ℕ) (t : TypeId) → WellFormed b → is_live b n ≡ false → Draft b n t b
 unfolding entries-of
 draft-none b n t firm absent =
     record {
@@ -301,7 +301,7 @@ draft-new b n t c r blank bare none birth h =
         last false p = rw p refl
         last true p = absurd (let is : r.birth ≡ x = eqb-true r.birth x p in let clash : 0 < 0 = omega (arith, is, birth, high) in omega arith)
 
-module _ (b : Board) (firm : Firm b) (n : ℕ) (absent : is_live b n ≡ false) (t : TypeId) where
+module _ (b : Board) (firm : WellFormed b) (n : ℕ) (absent : is_live b n ≡ false) (t : TypeId) where
   draft-add : (c : Board) (name : List ℕ) (s : Slot) → BlankSlot b (name, s) → ((m : ℕ) → s ≡ child m → IsHeir t c (name, m)) → Draft b n t c
       → Draft b n t (add n name s c)
   unfolding add
@@ -396,7 +396,7 @@ module _ (b : Board) (firm : Firm b) (n : ℕ) (absent : is_live b n ≡ false) 
   draft-rows [] c k h = h
   draft-rows (p ∷ ps) c k h = draft-rows ps (property_made n t (property_name p.name) p.role c) k.1 (draft-row (property_name p.name) p.role c k.0 h)
 
-module _ (b : Board) (t : TypeId) (shut : is_open (b.born + 1) ≡ false) (near : Nearly None b) where
+module _ (b : Board) (t : TypeId) (shut : is_open (b.born + 1) ≡ false) (near : InvariantBut None b) where
   absent : is_live b (b.born + 1) ≡ false
   absent = high-absent b near.firm (b.born + 1) (omega arith)
 

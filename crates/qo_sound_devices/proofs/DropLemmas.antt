@@ -8,7 +8,7 @@ use Rattle.qo_model.proofs.FirstSlotLemmas.{named_in}
 use Rattle.qo_model.proofs.StepLemmas.{found-edited, is_some-map, found-birth, map-edited}
 use Rattle.qo_sound.proofs.SearchLemmas.{all-found}
 use Rattle.qo_sound.proofs.SlotLemmas.{names_in}
-use Rattle.qo_sound.proofs.FirmBoardLemmas.{Firm, firm-drop, HasNames}
+use Rattle.qo_sound.proofs.FirmBoardLemmas.{WellFormed, firm-drop, HasNames}
 use Rattle.qo_sound_devices.specs.SoundPlaces.{child_entries, child_entry, HasOwner, kid_entries, kid_entry, stands}
 use Rattle.qo_sound_devices.proofs.LikenessLemmas.{bodiless, Alike, alike-record, other-record}
 use Rattle.qo_sound_devices.proofs.PlacesLemmas.{Kept, keeper, more, nothing, same, Within, within-all, within-same}
@@ -35,7 +35,7 @@ module _ (n : ℕ) (change : Record → Record) (same_birth : (r : Record) → (
   edit-alike x apart =
       alike-record b (edit n change b) x (found-edited n change same_birth x b.records ∙ other-record n x change b refl apart (record_of b x) refl)
 
-  pub kept-edit : Firm (edit n change b) → is_live b 1 ≡ true → KeptAt b (edit n change b) n → Kept b (edit n change b)
+  pub kept-edit : WellFormed (edit n change b) → is_live b 1 ≡ true → KeptAt b (edit n change b) n → Kept b (edit n change b)
   kept-edit firm root h =
       record {
         firm = firm;
@@ -195,7 +195,7 @@ edited-slots b n change same_birth r e =
 slots-are : (b : Board) (n : ℕ) (r : Record) → record_of b n ≡ Some r → slots_at b n ≡ r.slots
 slots-are b n r e = ap (λ (o : Option Record). option_map_or (λ (x : Record). x.slots) o []) e
 
-pub names-at : (b : Board) → Firm b → (n : ℕ) (r : Record) → record_of b n ≡ Some r → IsDistinct bytes_eq (names_in r.slots)
+pub names-at : (b : Board) → WellFormed b → (n : ℕ) (r : Record) → record_of b n ≡ Some r → IsDistinct bytes_eq (names_in r.slots)
 names-at b h n r e = all-found HasNames n b.records h.named r e
 
 pub children-fewer : (i : ℕ) (slots : List (List ℕ × Slot)) → Within (filter_map child_entry (without_hold i slots)) (filter_map child_entry slots)
@@ -208,7 +208,8 @@ children-fewer zero ((name, weak t target) ∷ slots) = within-all (filter_map c
 children-fewer zero ((name, alias m property) ∷ slots) = within-all (filter_map child_entry slots)
 
 -- a slot let go, with what it needs: that places do not speak of it
-pub kept-drop : (b : Board) → Firm b → is_live b 1 ≡ true → (n i : ℕ) (s : List ℕ × Slot) (r : Record) → record_of b n ≡ Some r → slice_get r.slots i ≡ Some s
+pub kept-drop : (b : Board) → WellFormed b → is_live b 1 ≡ true → (n i : ℕ) (s : List ℕ × Slot) (r : Record) → record_of b n ≡ Some r
+    → slice_get r.slots i ≡ Some s
     → (stands b n ≡ true → (is_some (child_of s.1) ≡ true) ⊎ (bytes_eq s.0 (codes "parent_bus") ≡ false))
     → (keeper b n ≡ true → child_of s.1 ≡ None)
     → (is_of b (codes "bus") n ≡ true → HasOwner b n → kid_entry s ≡ None)

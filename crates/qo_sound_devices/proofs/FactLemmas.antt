@@ -4,9 +4,9 @@ use Rattle.qo_model.proofs.Common.{AllByRecursion, IsDistinct, option_map_or, by
 use Rattle.std.proofs.lemmas.Slice.Eq.{bytes_eq-Decides}
 use Rattle.std.proofs.lemmas.Bool.{eqb-true}
 use Rattle.qo_model.proofs.FirstSlotLemmas.{named_in}
-use Rattle.qo_sound.proofs.FirmBoardLemmas.{Firm}
+use Rattle.qo_sound.proofs.FirmBoardLemmas.{WellFormed}
 use Rattle.qo_sound.proofs.SlotLemmas.{names_in}
-use Rattle.qo_sound.proofs.ViewLemmas.{AtRest, rest-from_sound}
+use Rattle.qo_sound.proofs.ViewLemmas.{PinsRootAlone, rest-from_sound}
 use Rattle.qo_sound_devices.specs.DeviceFacts.{DevicesSayLaw, IsOnBus}
 use Rattle.qo_sound_devices.specs.SoundDevices.{SoundDevices}
 use Rattle.qo_sound_devices.specs.SoundPlaces.{child_entries, has_entry, HasOwner, IsAnonymous, IsHome, IsKid, IsPeripheral, kid_entries, kid_entry, listed, path_of, stands}
@@ -72,7 +72,7 @@ kid-named name d (s ∷ slots) h e = go (bytes_eq s.0 name) refl (kid-named name
     go true p rest = rw p (here s h.0 p e)
     go false p rest = rw p (rest (after s p e))
 
-kid-in : (b : Board) → Firm b → (q d : ℕ) (name : List ℕ) → has_entry (name, d) (kid_entries b q) ≡ true → strong_at b q name ≡ Some d
+kid-in : (b : Board) → WellFormed b → (q d : ℕ) (name : List ℕ) → has_entry (name, d) (kid_entries b q) ≡ true → strong_at b q name ≡ Some d
 kid-in b firm q d name e = go (record_of b q) refl
   where
     go : (o : Option Record) → record_of b q ≡ o → strong_at b q name ≡ Some d
@@ -83,7 +83,7 @@ kid-in b firm q d name e = go (record_of b q) refl
         (sym (ap (λ (o : Option Record). has_entry (name, d) (filter_map kid_entry (option_map_or (λ (x : Record). x.slots) o []))) p) ∙ e)
 
 module _ (b : Board) (h : SoundDevices b) where
-  rest : AtRest b
+  rest : PinsRootAlone b
   rest = rest-from_sound b h.tree
 
   -- a device is realized where it is attached

@@ -1,11 +1,11 @@
 -- A device that was made is joined to its container and to its bus.
 use Rattle.std.proofs.Common.{◌≡◌, refl, ap, ap₂, sym, subst, ◌∙◌, ℕ, Bool, true, false, ◌==◌, eqb, List, [], ◌∷◌, ◌++◌, filter_map, find, Option, Some, None, is_some, option_map, option_and_then, codes, append-nil}
-use Rattle.qo_model.proofs.Common.{option_map_or, bytes_eq, ANONYMOUS_BIRTH, MACHINE_BIRTH, PERIPHERAL_BIRTH, TypeId, Device, Val, Board, Record, Slot, child, strong, record_of, kind_of, is_live, slots_at, add, with_added, among, bus_of, is_realized, is_true, kid_name, number_in, bus_slot_of, plain_in, strong_in, joined, name_for, parent_for, Spot, Wanted, edited}
+use Rattle.qo_model.proofs.Common.{option_map_or, bytes_eq, ANONYMOUS_BIRTH, MACHINE_BIRTH, PERIPHERAL_BIRTH, TypeId, Device, Val, Board, Record, Slot, child, strong, record_of, kind_of, is_live, slots_at, add, with_added, among, bus_of, is_realized, is_true, kid_name, number_in, bus_slot_of, plain_in, strong_in, joined, name_for, parent_for, Resources, Wanted, edited}
 use Rattle.std.proofs.lemmas.Bool.{eqb-true}
 use Rattle.qo_model.proofs.FirstSlotLemmas.{slots_in, named_in}
 use Rattle.qo_model.proofs.StepLemmas.{found-edited}
 use Rattle.qo_sound.proofs.DraftLemmas.{live-apart}
-use Rattle.qo_sound.proofs.FirmBoardLemmas.{Firm}
+use Rattle.qo_sound.proofs.FirmBoardLemmas.{WellFormed}
 use Rattle.qo_sound.proofs.TestLemmas.{decide}
 use Rattle.qo_sound_devices.specs.SoundPlaces.{child_entries, child_entry, id_of, kid_entries, kid_entry, listed, path_of, PlacesBut}
 use Rattle.qo_sound_devices.proofs.AddLemmas.{entries-added, entry-added, named-added}
@@ -74,7 +74,7 @@ abbrev pub KeepsOld : Board → Board → Type 0
 KeepsOld b c = (x : ℕ) → is_live b x ≡ true → record_of c x ≡ record_of b x
 
 -- the container of a device is there, whether it has an id or none
-pub parent-live : (depth : ℕ → ℕ) (left : Option ℕ) (out : ℕ → Bool) (b : Board) → Firm b → PlacesBut depth left out b → (o : Option (List ℕ))
+pub parent-live : (depth : ℕ → ℕ) (left : Option ℕ) (out : ℕ → Bool) (b : Board) → WellFormed b → PlacesBut depth left out b → (o : Option (List ℕ))
     → is_live b (parent_for o) ≡ true
 parent-live depth left out b firm h None = child-live b firm MACHINE_BIRTH ANONYMOUS_BIRTH h.parts.1.0
 parent-live depth left out b firm h (Some i) = child-live b firm MACHINE_BIRTH PERIPHERAL_BIRTH h.parts.0
@@ -101,7 +101,7 @@ abbrev pub now_at : ℕ → Board → Now
 now_at n c = record { its = id_of c n; path = path_of c n; count = c.anonymous; on = bus_of c n; at = bus_slot_of c n; realized = is_realized c n }
 
 module _ (depth : ℕ → ℕ) (b : Board) (n bus slot : ℕ) (id : Option (List ℕ)) (t : TypeId) (c : Board) (m : Made b n t c) (g : Goal depth b n bus slot id t c)
-    (firm : Firm b) (h : PlacesBut depth None (λ x. false) b) where
+    (firm : WellFormed b) (h : PlacesBut depth None (λ x. false) b) where
   abbrev parent : ℕ
   parent = parent_for id
 
@@ -261,7 +261,7 @@ module _ (depth : ℕ → ℕ) (b : Board) (n bus slot : ℕ) (id : Option (List
       }
 
 -- as it is written of what was asked for
-pub joined-wanted : (depth : ℕ → ℕ) (b : Board) (n : ℕ) (a : Wanted) (spot : Spot) (t : TypeId) (c : Board) → Made b n t c
-    → Goal depth b n spot.bus spot.slot a.id t c → Firm b → PlacesBut depth None (λ x. false) b
-    → Joined depth b n spot.bus spot.slot a.id t (now_at n (joined b n a spot c)) (joined b n a spot c)
-joined-wanted depth b n a spot t c m g firm h = joined-made depth b n spot.bus spot.slot a.id t c m g firm h
+pub joined-wanted : (depth : ℕ → ℕ) (b : Board) (n : ℕ) (a : Wanted) (resources : Resources) (t : TypeId) (c : Board) → Made b n t c
+    → Goal depth b n resources.bus resources.slot a.id t c → WellFormed b → PlacesBut depth None (λ x. false) b
+    → Joined depth b n resources.bus resources.slot a.id t (now_at n (joined b n a resources c)) (joined b n a resources c)
+joined-wanted depth b n a resources t c m g firm h = joined-made depth b n resources.bus resources.slot a.id t c m g firm h

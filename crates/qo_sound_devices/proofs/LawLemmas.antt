@@ -2,9 +2,9 @@
 use Rattle.std.proofs.Common.{ℕ, false, List, [], ◌∷◌, None}
 use Rattle.qo_model.proofs.Common.{Board, Change, added, after_changes, deleted, wrote, severed, changed, opening_board}
 use Rattle.qo_sound.specs.TreeKept.{SoundTree}
-use Rattle.qo_sound.proofs.FirmBoardLemmas.{Firm}
+use Rattle.qo_sound.proofs.FirmBoardLemmas.{WellFormed}
 use Rattle.qo_sound.proofs.TreeKeptLemmas.{changed-sound, sound_kept_lem}
-use Rattle.qo_sound.proofs.ViewLemmas.{AtRest, rest-from_sound}
+use Rattle.qo_sound.proofs.ViewLemmas.{PinsRootAlone, rest-from_sound}
 use Rattle.qo_sound_devices.specs.PlacesKept.{PlacesKeptLaw}
 use Rattle.qo_sound_devices.specs.SoundPlaces.{PlacesBut, SoundPlaces}
 use Rattle.qo_sound_devices.proofs.AddLemmas.{attempt-places, object_add-places}
@@ -18,13 +18,13 @@ use Rattle.qo_sound_devices.proofs.PlugStageLemmas.{plugged-places}
 use Rattle.qo_sound_devices.proofs.WriteLemmas.{write-places}
 
 -- each change keeps places, and the same devices stand
-pub changed-keeps : (depth : ℕ → ℕ) (b : Board) (change : Change) → AtRest b → PlacesBut depth None (λ x. false) b → Keeps depth b (changed b change)
+pub changed-keeps : (depth : ℕ → ℕ) (b : Board) (change : Change) → PinsRootAlone b → PlacesBut depth None (λ x. false) b → Keeps depth b (changed b change)
 changed-keeps depth b (added driver id props) rest h = object_add-places depth b driver id props rest h
 changed-keeps depth b (deleted id) rest h = object_del-places depth b id rest h
 changed-keeps depth b (wrote n name v) rest h = write-places depth b n name v rest h
 changed-keeps depth b (severed n) rest h = sever-places depth b n rest h
 
-pub changed-places : (depth : ℕ → ℕ) (b : Board) (change : Change) → AtRest b → PlacesBut depth None (λ x. false) b
+pub changed-places : (depth : ℕ → ℕ) (b : Board) (change : Change) → PinsRootAlone b → PlacesBut depth None (λ x. false) b
     → PlacesBut depth None (λ x. false) (changed b change)
 changed-places depth b change rest h = (changed-keeps depth b change rest h).places
 
@@ -33,7 +33,7 @@ after_changes-places b [] tree h = h
 after_changes-places b (change ∷ changes) tree h =
     after_changes-places (changed b change) changes (changed-sound b change tree) (h.0, changed-places h.0 b change (rest-from_sound b tree) h.1)
 
-firm : (b : Board) → SoundTree b → Firm b
+firm : (b : Board) → SoundTree b → WellFormed b
 firm b tree = (rest-from_sound b tree).used.firm
 
 pub places_kept_lem : PlacesKeptLaw

@@ -8,18 +8,18 @@ use Rattle.qo_model.proofs.EditLemmas.{StandsAt, stands-at}
 use Rattle.qo_model.proofs.FirstSlotLemmas.{Found, found-at, none-found}
 use Rattle.qo_sound.proofs.CutLemmas.{near-cut}
 use Rattle.qo_sound.proofs.ChangeLemmas.{emptied-at, near-drop, other-lasts}
-use Rattle.qo_sound.proofs.FirmBoardLemmas.{Firm}
+use Rattle.qo_sound.proofs.FirmBoardLemmas.{WellFormed}
 use Rattle.qo_values.proofs.ListLemmas.{all-imply}
 use Rattle.qo_sound.proofs.SlotLemmas.{IsNoClock, names_in, no_child}
-use Rattle.qo_sound.proofs.UnplugLemmas.{held-taken, kid-held, on-record, Sits, slot-of}
-use Rattle.qo_sound.proofs.WorkLemmas.{Nearly}
+use Rattle.qo_sound.proofs.UnplugLemmas.{held-taken, kid-held, on-record, HasPins, slot-of}
+use Rattle.qo_sound.proofs.WorkLemmas.{InvariantBut}
 use Rattle.qo_sound_devices.specs.SoundPlaces.{IsHome, IsKid, kid_entries, kid_entry, listed, PlacesBut, stands, names_it}
 use Rattle.qo_sound_devices.proofs.DropLemmas.{edited-slots, names-at, none-named, strong-dropped}
 use Rattle.qo_sound_devices.proofs.DepthLemmas.{kid-of}
 use Rattle.qo_sound_devices.proofs.PlacesLemmas.{within-any, stands-same}
 use Rattle.qo_sound_devices.proofs.PlacesLemmas.{after-kept, after-places, Kept, of-alike, of-live, owner-live, places-kept, same-stands, stands-live}
 use Rattle.qo_sound_devices.proofs.StepsLemmas.{Steps, steps-after, steps-then}
-use Rattle.qo_sound_devices.proofs.UnparentingLemmas.{any-kid_dropped, cut-kept, dropped, dropped-read, for-each, kid-gone, link-dropped, link-stands, Mid, record-at, Went}
+use Rattle.qo_sound_devices.proofs.UnparentingLemmas.{any-kid_dropped, cut-kept, dropped, dropped-read, for-each, kid-gone, link-dropped, link-stands, Mid, record-at, ReachedBySteps}
 
 -- a fact of the entry of a slot
 pub all-at : (P : List ℕ × ℕ → Type 0) (i : ℕ) (slots : List (List ℕ × Slot)) (s : List ℕ × Slot) (e : List ℕ × ℕ) → slice_get slots i ≡ Some s
@@ -94,18 +94,18 @@ unlisted-steps b c d s h q is =
     false_from_ne_true (listed d (kid_entries c q)) (λ e. let clash : true ≡ false = sym (within-any (names_it d) (s.kids q) e) ∙ h q was in absurd cc)
 
 -- others stand as before, on the same bus
-pub record Stay (d : ℕ) (b c : Board) : Type 0 where
+pub record OthersStay (d : ℕ) (b c : Board) : Type 0 where
   pub stands_on : (x : ℕ) → (d == x) ≡ false → stands b x ≡ true → stands c x ≡ true
   pub bus_on : (x q : ℕ) → (d == x) ≡ false → stands b x ≡ true → bus_of b x ≡ Some q → bus_of c x ≡ Some q
 
-pub stay-then : (d : ℕ) (b c e : Board) → Stay d b c → Stay d c e → Stay d b e
+pub stay-then : (d : ℕ) (b c e : Board) → OthersStay d b c → OthersStay d c e → OthersStay d b e
 stay-then d b c e h k =
     record { stands_on = λ x p t. k.stands_on x p (h.stands_on x p t); bus_on = λ x q p t o. k.bus_on x q p (h.stands_on x p t) (h.bus_on x q p t o) }
 
-pub stay-none : (d : ℕ) (b : Board) → Stay d b b
+pub stay-none : (d : ℕ) (b : Board) → OthersStay d b b
 stay-none d b = record { stands_on = λ x p t. t; bus_on = λ x q p t o. o }
 
-pub stay-kept : (depth : ℕ → ℕ) (left : Option ℕ) (out : ℕ → Bool) (d : ℕ) (b c : Board) → Kept b c → PlacesBut depth left out b → Stay d b c
+pub stay-kept : (depth : ℕ → ℕ) (left : Option ℕ) (out : ℕ → Bool) (d : ℕ) (b c : Board) → Kept b c → PlacesBut depth left out b → OthersStay d b c
 stay-kept depth left out d b c k h =
     record {
       stands_on = λ x p t. same-stands b c k depth left out h x ∙ t;
@@ -114,15 +114,15 @@ stay-kept depth left out d b c k h =
 
 -- a device that left its bus
 pub record Left (depth : ℕ → ℕ) (out : ℕ → Bool) (ps : List ℕ) (d : ℕ) (b c : Board) : Type 0 where
-  pub went : Went depth out (Some d) ps b c
-  pub stay : Stay d b c
+  pub went : ReachedBySteps depth out (Some d) ps b c
+  pub stay : OthersStay d b c
   pub off : bus_of c d ≡ None
   pub unlisted : IsUnlisted c d
 
 -- a bus of which d is taken
 pub record Taken (depth : ℕ → ℕ) (out : ℕ → Bool) (ps : List ℕ) (d m : ℕ) (b c : Board) : Type 0 where
-  pub went : Went depth out (Some d) ps b c
-  pub stay : Stay d b c
+  pub went : ReachedBySteps depth out (Some d) ps b c
+  pub stay : OthersStay d b c
   pub there : stands c d ≡ true
   pub on : bus_of c d ≡ Some m
   pub unlisted : IsUnlisted c d
@@ -144,7 +144,7 @@ taken-kid depth out ps b h d m e on = go (index_from (names_kid d) 0 (slots_at b
     has : listed d (kid_entries b m) ≡ true
     has = subst (λ (y : ℕ). listed d (kid_entries b y) ≡ true) its home.kid
 
-    firm : Firm b
+    firm : WellFormed b
     firm = h.sits.near.firm
 
     go : (o : Option ℕ) → index_from (names_kid d) 0 (slots_at b m) ≡ o → Taken depth out ps d m b (take_where (names_kid d) m b)
@@ -248,13 +248,13 @@ taken-kid depth out ps b h d m e on = go (index_from (names_kid d) 0 (slots_at b
         other : (x : Record) (s : List ℕ × Slot) → record_of b m ≡ Some x → slice_get x.slots i ≡ Some s → IsNoClock s
         other x s k l = subst IsNoClock (on-record b m i f.entry s x f.at k l) (no_child none)
 
-        near_first : Nearly (Some d) c
+        near_first : InvariantBut (Some d) c
         near_first = near-drop b m i (strong typed.0 (Some d)) slot (other-lasts b m i other (strong typed.0 (Some d)) slot) h.sits.near
 
         empty : slot_at c m i ≡ Some (strong typed.0 None)
         empty = emptied-at b m i (strong typed.0 (Some d)) (strong typed.0 None) slot refl
 
-        near_second : Nearly (Some d) (cut m i c)
+        near_second : InvariantBut (Some d) (cut m i c)
         near_second = near-cut (Some d) c m i (strong typed.0 None) empty refl refl near_first
 
         here : StandsAt c m i (strong typed.0 None)
@@ -268,10 +268,10 @@ taken-kid depth out ps b h d m e on = go (index_from (names_kid d) 0 (slots_at b
         places_second : PlacesBut depth (Some d) out (cut m i c)
         places_second = places-kept c (cut m i c) second.0 depth (Some d) out first
 
-        sits : Sits ps (take_where (names_kid d) m b)
+        sits : HasPins ps (take_where (names_kid d) m b)
         sits = held-taken ps d m b h.sits
 
-        ends : Firm (after finalize (cut m i c) (Some d))
+        ends : WellFormed (after finalize (cut m i c) (Some d))
         ends = rw (take_where, q, take_slot, slot) at sits.near.firm
 
         pinned : among (cut m i c).pins 1 ≡ true
@@ -289,7 +289,7 @@ taken-kid depth out ps b h d m e on = go (index_from (names_kid d) 0 (slots_at b
             (link-stands depth out None ps b h m i r owner.1 f.entry at none PERIPHERAL_BIRTH)
             (link-stands depth out None ps b h m i r owner.1 f.entry at none ANONYMOUS_BIRTH)
 
-        stay_first : Stay d b c
+        stay_first : OthersStay d b c
         stay_first = record { stands_on = λ x p t. stands_first x ∙ t; bus_on = λ x k p t o. same-bus x ∙ o }
 
         stands_second : (x : ℕ) → stands (cut m i c) x ≡ stands c x
@@ -318,7 +318,7 @@ taken-kid depth out ps b h d m e on = go (index_from (names_kid d) 0 (slots_at b
                   record {
                     mid =
                         record {
-                          sits = subst (Sits ps) (shape q slot) sits;
+                          sits = subst (HasPins ps) (shape q slot) sits;
                           one = h.one;
                           places = after-places depth (Some d) out (cut m i c) (Some d) ends pinned places_second;
                         };

@@ -1,6 +1,6 @@
 -- What keeps the lists of pending removals and of notices: commands, attempts, removals that are asked for or refused, and adding a device.
 use Rattle.std.proofs.Common.{nat_eq, ◌≡◌, refl, ap, sym, subst, ◌∙◌, ℕ, ◌+◌, ◌<◌, ◌≤◌, Bool, true, false, not, ◌||◌, ◌==◌, eqb, List, [], ◌∷◌, ◌++◌, filter_map, find, length, Option, Some, None, option_map, option_and_then, codes, arith}
-use Rattle.qo_model.proofs.Common.{nat_le, AllByRecursion, IsDistinct, bytes_eq, PERIPHERAL_BIRTH, Code, E44, TypeId, NOTICES_MAX, Board, Notice, Slot, plain, child, strong, weak, alias, slots_at, among, Change, changed, asked, asked_of, device_at, refused, with_asked, with_attempt, opening_board, attached, child_of, components, is_absolute, is_of, only_of, resolve_absolute, walk, Wanted, cut_attempt, notice_barred, plug, plug_attempt, spot_of, with_plugged}
+use Rattle.qo_model.proofs.Common.{nat_le, AllByRecursion, IsDistinct, bytes_eq, PERIPHERAL_BIRTH, Code, E44, TypeId, NOTICES_MAX, Board, Notice, Slot, plain, child, strong, weak, alias, slots_at, among, Change, changed, asked, asked_of, device_at, refused, with_asked, with_attempt, opening_board, attached, child_of, components, is_absolute, is_of, only_of, resolve_absolute, walk, Wanted, cut_attempt, notice_barred, plug, plug_attempt, resources_of, with_plugged}
 use Rattle.std.proofs.lemmas.Bool.{eq-eqb}
 use Rattle.std.proofs.lemmas.List.{length-append}
 use Rattle.std.proofs.lemmas.Option.{same_Some}
@@ -10,7 +10,7 @@ use Rattle.qo_sound.proofs.AddLemmas.{unbarred}
 use Rattle.qo_sound.proofs.DeviceScopeLemmas.{devices_stay_lem}
 use Rattle.qo_sound.proofs.RecordLemmas.{all-append}
 use Rattle.qo_values.proofs.ListLemmas.{all-imply}
-use Rattle.qo_sound.proofs.ViewLemmas.{AtRest, sound-from_rest}
+use Rattle.qo_sound.proofs.ViewLemmas.{PinsRootAlone, sound-from_rest}
 use Rattle.qo_sound_devices.specs.SoundLists.{IsOn, SoundLists}
 use Rattle.qo_sound_devices.specs.SoundPlaces.{child_entry, listed, PlacesBut, stands}
 use Rattle.qo_sound_devices.proofs.AcceptanceLemmas.{passes}
@@ -26,7 +26,7 @@ pub opening-lists : SoundLists opening_board
 unfolding opening_board IsDistinct
 opening-lists = record { pending = tt; once = tt; notices = tt; few = omega arith }
 
-pub changed-lists : (depth : ℕ → ℕ) (b : Board) (change : Change) → AtRest b → PlacesBut depth None (λ x. false) b → SoundLists b
+pub changed-lists : (depth : ℕ → ℕ) (b : Board) (change : Change) → PinsRootAlone b → PlacesBut depth None (λ x. false) b → SoundLists b
     → SoundLists (changed b change)
 changed-lists depth b change rest h lists =
     let k : Keeps depth b (changed b change) = changed-keeps depth b change rest h in
@@ -105,7 +105,7 @@ named-child d name (s ∷ slots) e = go (bytes_eq s.0 name) refl (named-child d 
     go true p rest = here s (rw p at e)
     go false p rest = there s (rest (rw p at e))
 
-module _ (depth : ℕ → ℕ) (b : Board) (rest : AtRest b) (h : PlacesBut depth None (λ x. false) b) where
+module _ (depth : ℕ → ℕ) (b : Board) (rest : PinsRootAlone b) (h : PlacesBut depth None (λ x. false) b) where
   only-device : (o : Option ℕ) (d : ℕ) → option_and_then (only_of b (codes "device")) o ≡ Some d → is_of b (codes "device") d ≡ true
   only-device None d e = absurd (let clash : None ≡ Some d = e in cc)
   only-device (Some n) d e = go (is_of b (codes "device") n) refl
@@ -152,7 +152,7 @@ module _ (depth : ℕ → ℕ) (b : Board) (rest : AtRest b) (h : PlacesBut dept
 
   -- a device that is added
   module _ (a : Wanted) (lists : SoundLists b) where
-    plugged-on : (t : TypeId) (bus : ℕ) → Accepted b t bus a → SoundLists (with_plugged b t a (spot_of b t bus a.props))
+    plugged-on : (t : TypeId) (bus : ℕ) → Accepted b t bus a → SoundLists (with_plugged b t a (resources_of b t bus a.props))
     plugged-on t bus k =
         record {
           pending = subst (AllByRecursion (IsOn c)) (sym pending) (all-imply (IsOn b) (IsOn c) old b.pending lists.pending);
@@ -167,25 +167,25 @@ module _ (depth : ℕ → ℕ) (b : Board) (rest : AtRest b) (h : PlacesBut dept
         }
       where
         c : Board
-        c = with_plugged b t a (spot_of b t bus a.props)
+        c = with_plugged b t a (resources_of b t bus a.props)
 
-        j : Joined depth b (b.born + 1) bus (spot_of b t bus a.props).slot a.id t (done b bus (spot_of b t bus a.props).slot a.id) c
+        j : Joined depth b (b.born + 1) bus (resources_of b t bus a.props).slot a.id t (done b bus (resources_of b t bus a.props).slot a.id) c
         j = accepted-joined depth b a rest h t bus k
 
         pending : c.pending ≡ b.pending
-        pending = (devices_stay_lem.added b t a (spot_of b t bus a.props)).pending
+        pending = (devices_stay_lem.added b t a (resources_of b t bus a.props)).pending
 
         notices : c.notices ≡ b.notices ++ record { plug = true; birth = b.born + 1 } ∷ []
-        notices = devices_stay_lem.told b t a (spot_of b t bus a.props)
+        notices = devices_stay_lem.told b t a (resources_of b t bus a.props)
 
         old : (x : ℕ) → IsOn b x → IsOn c x
         old x on = (
-          old-stands depth b (b.born + 1) bus (spot_of b t bus a.props).slot a.id t c j rest.used.firm h x on.0,
+          old-stands depth b (b.born + 1) bus (resources_of b t bus a.props).slot a.id t c j rest.used.firm h x on.0,
           j.realized x (stands-live b rest.used.firm x on.0) ∙ on.1,
         )
 
         new : IsOn c (b.born + 1)
-        new = (new-stands depth b (b.born + 1) bus (spot_of b t bus a.props).slot a.id t c j rest.used.firm h, j.stands_realized)
+        new = (new-stands depth b (b.born + 1) bus (resources_of b t bus a.props).slot a.id t c j rest.used.firm h, j.stands_realized)
 
     pub plugged-lists : SoundLists (plug b a).board
     plugged-lists = after-plug SoundLists b a lists (λ t bus stage. plug_attempt-lists b t bus stage lists) plugged-on

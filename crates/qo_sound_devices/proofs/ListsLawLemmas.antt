@@ -2,7 +2,7 @@
 use Rattle.std.proofs.Common.{List, [], ◌∷◌}
 use Rattle.qo_model.proofs.Common.{Board, Change, after_changes, changed, opening_board}
 use Rattle.qo_sound.proofs.TreeKeptLemmas.{changed-sound, sound_kept_lem}
-use Rattle.qo_sound.proofs.ViewLemmas.{AtRest, rest-from_sound}
+use Rattle.qo_sound.proofs.ViewLemmas.{PinsRootAlone, rest-from_sound}
 use Rattle.qo_sound_devices.specs.ListsKept.{ListsKeptLaw}
 use Rattle.qo_sound_devices.specs.SoundDevices.{SoundDevices}
 use Rattle.qo_sound_devices.proofs.LawLemmas.{changed-places}
@@ -10,7 +10,7 @@ use Rattle.qo_sound_devices.proofs.ListsKeptLemmas.{asked-lists, attempt-lists, 
 use Rattle.qo_sound_devices.proofs.PlaceRows.{opening-places}
 use Rattle.qo_sound_devices.proofs.UnlistingLemmas.{detach-lists}
 
-at_rest : (b : Board) → SoundDevices b → AtRest b
+at_rest : (b : Board) → SoundDevices b → PinsRootAlone b
 at_rest b h = rest-from_sound b h.tree
 
 pub changed-below : (b : Board) (change : Change) → SoundDevices b → SoundDevices (changed b change)

@@ -11,7 +11,7 @@ use Rattle.qo_model.proofs.GraphLemmas.{births_at}
 use Rattle.qo_model.proofs.ReleaseLemmas.{found-within}
 use Rattle.qo_model.proofs.StepLemmas.{found_at}
 use Rattle.qo_model.proofs.TreeLemmas.{paths_lem, place_at}
-use Rattle.qo_sound.proofs.FirmBoardLemmas.{Firm, parents_in}
+use Rattle.qo_sound.proofs.FirmBoardLemmas.{WellFormed, parents_in}
 use Rattle.qo_sound.proofs.SlotLemmas.{one_child}
 use Rattle.qo_sound_devices.specs.SoundPlaces.{child_entries, child_entry, has_entry, HasOwner, machines, bridges, IsAtHome, IsHosted, on_machine, on_device, listed, owns_it, PlacesBut, stands}
 use Rattle.qo_sound_devices.proofs.AttachmentLemmas.{found-counted, listed-found, parent-is, place-birth, place-some}
@@ -50,7 +50,7 @@ place-owner (r ∷ rs) h x u e = go (is_some (place_in x r)) refl (place-owner r
         not_here true q low = absurd (let is : r.birth ≡ u.0 = eqb-true r.birth u.0 q in let clash : 0 < 0 = omega (arith, is, low) in omega arith)
 
 -- an object that has a place is a child of its owner
-pub place-listed : (b : Board) → Firm b → (x : ℕ) (u : ℕ × List ℕ) → place_of b x ≡ Some u → listed x (child_entries b u.0) ≡ true
+pub place-listed : (b : Board) → WellFormed b → (x : ℕ) (u : ℕ × List ℕ) → place_of b x ≡ Some u → listed x (child_entries b u.0) ≡ true
 place-listed b firm x u e =
     let k : Owns b.records x u = place-owner b.records firm.rising x u e in
     ap (λ (o : Option Record). listed x (filter_map child_entry (option_map_or (λ (r : Record). r.slots) o []))) k.found
@@ -104,7 +104,7 @@ first-named x name (y ∷ slots) few h s e = go (is_child x y.1) refl (first-nam
     go true p rest = subst (λ (z : List ℕ × Slot). z.0 ≡ name) (same_Some y s (rw p at e)) (here y p h few)
     go false p rest = rest (omega (arith, few, sum_by-cons (one_child x) y slots)) (after y p h) s (rw p at e)
 
-pub place-named : (b : Board) → Firm b → (p x : ℕ) (name : List ℕ) → has_entry (name, x) (child_entries b p) ≡ true → place_of b x ≡ Some (p, name)
+pub place-named : (b : Board) → WellFormed b → (p x : ℕ) (name : List ℕ) → has_entry (name, x) (child_entries b p) ≡ true → place_of b x ≡ Some (p, name)
 place-named b firm p x name e = go (place_of b x) refl
   where
     parent : option_map (λ (u : ℕ × List ℕ). u.0) (place_of b x) ≡ Some p
@@ -181,7 +181,7 @@ machine-no_device depth left out b h = go (is_of b (codes "device") MACHINE_BIRT
     go true p = absurd (let clash : false ≡ true = (entry-of (IsAtHome b 1) MACHINE_BIRTH (child_entries b 1) (h.children 1) h.machine).holds.device p in cc)
 
 -- what is attached
-module _ (b : Board) (sound : SoundGraph b) (firm : Firm b) (depth : ℕ → ℕ) (left : Option ℕ) (out : ℕ → Bool) (h : PlacesBut depth left out b) where
+module _ (b : Board) (sound : SoundGraph b) (firm : WellFormed b) (depth : ℕ → ℕ) (left : Option ℕ) (out : ℕ → Bool) (h : PlacesBut depth left out b) where
   root-is : (name : List ℕ) → is_of b name 1 ≡ is_a Container name
   root-is name = ap (λ (o : Option TypeId). option_map_or (λ (t : TypeId). is_a t name) o false) h.rooted.root
 

@@ -1,15 +1,15 @@
 -- The path of a device that is added is the one below its container.
 use Rattle.std.proofs.Common.{◌≡◌, refl, ap, sym, ◌∙◌, ℕ, ◌+◌, true, false, ◌==◌, ◌&&◌, List, [], ◌∷◌, ◌++◌, Option, Some, None, option_map, codes}
-use Rattle.qo_model.proofs.Common.{bytes_eq, ANONYMOUS_BIRTH, MACHINE_BIRTH, PERIPHERAL_BIRTH, Realize, TypeId, Board, is_live, anonymous_name, place_of, path_down_to, path_turn, Spot, Wanted, bus_births, clocked, drafted, source_for, stood, with_device, SoundGraph}
+use Rattle.qo_model.proofs.Common.{bytes_eq, ANONYMOUS_BIRTH, MACHINE_BIRTH, PERIPHERAL_BIRTH, Realize, TypeId, Board, is_live, anonymous_name, place_of, path_down_to, path_turn, Resources, Wanted, bus_births, clocked, drafted, source_for, stood, with_device, SoundGraph}
 use Rattle.std.proofs.lemmas.Bool.{eqb-true, eq-eqb}
 use Rattle.std.proofs.lemmas.Slice.Eq.{bytes_eq-Decides}
 use Rattle.std.proofs.Math.Bool.{or-true}
 use Rattle.qo_model.proofs.TreeLemmas.{paths_lem}
-use Rattle.qo_sound.proofs.FirmBoardLemmas.{Firm}
+use Rattle.qo_sound.proofs.FirmBoardLemmas.{WellFormed}
 use Rattle.qo_sound.proofs.PlugLemmas.{IsPlace, held-all, shut-above, sits-device, held-plugged}
 use Rattle.qo_sound.proofs.TestLemmas.{decide}
-use Rattle.qo_sound.proofs.UnplugLemmas.{Sits}
-use Rattle.qo_sound.proofs.ViewLemmas.{AtRest, sound-from_rest}
+use Rattle.qo_sound.proofs.UnplugLemmas.{HasPins}
+use Rattle.qo_sound.proofs.ViewLemmas.{PinsRootAlone, sound-from_rest}
 use Rattle.qo_sound_devices.specs.SoundPlaces.{child_entries, has_entry, IsRooted, PlacesBut}
 use Rattle.qo_sound_devices.proofs.AdditionLemmas.{Goal, Joined, named_entry, numbered_entry, Now, path_after}
 use Rattle.qo_sound_devices.proofs.PlacesLemmas.{child-live, owner-live, rooted-same}
@@ -25,7 +25,7 @@ has-last name x [] =
 has-last name x (e ∷ es) = rw (has-last name x es) (or-true (e.1 == x && bytes_eq e.0 name))
 
 -- steps from the root, where objects are children under these names
-module _ (e : Board) (sound : SoundGraph e) (firm : Firm e) where
+module _ (e : Board) (sound : SoundGraph e) (firm : WellFormed e) where
   steps-root : path_down_to e 1 ≡ Some []
   steps-root = paths_lem.steps_by_parent e sound 1
 
@@ -51,23 +51,23 @@ module _ (e : Board) (sound : SoundGraph e) (firm : Firm e) where
         steps-below ANONYMOUS_BIRTH x name (codes "/machine/peripheral-anon") apart there
         (steps-below MACHINE_BIRTH ANONYMOUS_BIRTH (codes "peripheral-anon") (codes "/machine") refl rooted.anonymous machine-steps)
 
-module _ (depth : ℕ → ℕ) (b : Board) (t : TypeId) (a : Wanted) (spot : Spot) (rest : AtRest b) (h : PlacesBut depth None (λ x. false) b)
-    (goal : Goal depth b (b.born + 1) spot.bus spot.slot a.id t (drafted b t)) (place : IsPlace b t a spot) where
+module _ (depth : ℕ → ℕ) (b : Board) (t : TypeId) (a : Wanted) (resources : Resources) (rest : PinsRootAlone b) (h : PlacesBut depth None (λ x. false) b)
+    (goal : Goal depth b (b.born + 1) resources.bus resources.slot a.id t (drafted b t)) (place : IsPlace b t a resources) where
   abbrev n : ℕ
   n = b.born + 1
 
   abbrev placed : Board
-  placed = with_device b t a spot
+  placed = with_device b t a resources
 
   abbrev e : Board
-  e = acting (b.born + 1) t (with_device b t a spot)
+  e = acting (b.born + 1) t (with_device b t a resources)
 
-  sits : Sits (1 ∷ []) e
+  sits : HasPins (1 ∷ []) e
   sits =
       held-plugged (1 ∷ []) n _
-      (held-all (1 ∷ []) Realize (n ∷ bus_births n t) placed (sits-device b t a spot rest (shut-above b.born rest.used.firm.begun) place))
+      (held-all (1 ∷ []) Realize (n ∷ bus_births n t) placed (sits-device b t a resources rest (shut-above b.born rest.used.firm.begun) place))
 
-  at_rest : AtRest e
+  at_rest : PinsRootAlone e
   at_rest = record { used = sits.near; pinned = sits.pins }
 
   sound : SoundGraph e
@@ -76,18 +76,19 @@ module _ (depth : ℕ → ℕ) (b : Board) (t : TypeId) (a : Wanted) (spot : Spo
   -- what stands on it then
   record Standing : Type 0 where
     now : Now
-    joined : Joined depth b (b.born + 1) spot.bus spot.slot a.id t now (acting (b.born + 1) t (with_device b t a spot))
+    joined : Joined depth b (b.born + 1) resources.bus resources.slot a.id t now (acting (b.born + 1) t (with_device b t a resources))
 
   standing : Standing
   standing =
-      let d : Board = clocked (source_for b spot.bus) n (stood b n a spot (drafted b t)) in
+      let d : Board = clocked (source_for b resources.bus) n (stood b n a resources (drafted b t)) in
       record {
         now = _;
         joined =
-            joined-dims depth b n spot.bus spot.slot a.id t _ placed e (dims-acting n t placed)
-            (joined-counted depth b n spot.bus spot.slot a.id t _ d a.id
-            (joined-dims depth b n spot.bus spot.slot a.id t _ (stood b n a spot (drafted b t)) d (holds-source depth b t a spot rest h goal)
-            (joined-stood depth b t a spot rest h goal)));
+            joined-dims depth b n resources.bus resources.slot a.id t _ placed e (dims-acting n t placed)
+            (joined-counted depth b n resources.bus resources.slot a.id t _ d a.id
+            (joined-dims depth b n resources.bus resources.slot a.id t _ (stood b n a resources (drafted b t)) d
+            (holds-source depth b t a resources rest h goal)
+            (joined-stood depth b t a resources rest h goal)));
       }
 
   root_live : is_live b 1 ≡ true
@@ -106,7 +107,7 @@ module _ (depth : ℕ → ℕ) (b : Board) (t : TypeId) (a : Wanted) (spot : Spo
       decide (n == 1) {A = (n == 1) ≡ false}
       (λ p. absurd (let clash : false ≡ true = sym standing.joined.absent ∙ ap (is_live b) (eqb-true n 1 p) ∙ root_live in cc)) (λ p. p)
 
-  pub holds-path : HasPath b t a spot
+  pub holds-path : HasPath b t a resources
   holds-path = rw not_root (go a.id refl)
     where
       go : (o : Option (List ℕ)) → a.id ≡ o → path_down_to e n ≡ Some (path_after b o)

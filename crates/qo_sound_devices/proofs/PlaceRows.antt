@@ -1,7 +1,7 @@
 -- The places of the opening board, of a bridge, and of a bridge below a bridge are sound.
 use Rattle.std.proofs.Common.{◌≡◌, refl, ℕ, ◌==◌, List, [], codes, if◌then◌else◌, Some, None, arith}
 use Rattle.qo_model.proofs.Common.{Board, add, cut, set, acted, clocks_below, period, depth_of, is_going, opening_board, attached, path_down_to, Wanted, plug, drop_slot, finish, finalize, finalize_within, let_go, pin, unpin, plugged, post, pulse, released, types, apart_within, detach, unrealize, least}
-use Rattle.qo_model.specs.Reset.{held}
+use Rattle.qo_model.specs.Reset.{after_hold}
 use Rattle.qo_sound.proofs.TestLemmas.{clash as differs, clash-back as never}
 use Rattle.qo_sound_devices.specs.SoundPlaces.{SoundPlaces, machines, bridges, on_machine, on_device}
 use Rattle.qo_sound_devices.proofs.CheckLemmas.{Checked, checked-sound}
@@ -66,7 +66,7 @@ depth_two q = if q == 11 then 1 else if q == 14 then 2 else 0
 
 places-two : Checked two
 unfolding types opening_board path_down_to attached drop_slot finish finalize finalize_within let_go pin unpin add set cut acted period clocks_below depth_of
-    is_going plug plugged post held released pulse least
+    is_going plug plugged post after_hold released pulse least
 places-two =
     record {
       machine = refl;
@@ -198,5 +198,5 @@ two-places = checked-sound two places-two
 -- without the upper one, whose removal takes both
 places-removed : Checked (detach two 9)
 unfolding types opening_board path_down_to attached drop_slot finish finalize finalize_within let_go pin unpin add set cut acted period clocks_below depth_of
-    is_going plug plugged post held released pulse least unrealize apart_within detach
+    is_going plug plugged post after_hold released pulse least unrealize apart_within detach
 places-removed = objects-opening (detach two 9)

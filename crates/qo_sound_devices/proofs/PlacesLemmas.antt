@@ -14,7 +14,7 @@ use Rattle.qo_sound.proofs.WorkLemmas.{births_of}
 use Rattle.qo_sound.proofs.RecordLemmas.{all-append, all-both}
 use Rattle.qo_values.proofs.ListLemmas.{all-imply}
 use Rattle.qo_sound.proofs.DraftLemmas.{found-low}
-use Rattle.qo_sound.proofs.FirmBoardLemmas.{FitsKind, Firm, Linked}
+use Rattle.qo_sound.proofs.FirmBoardLemmas.{FitsKind, WellFormed, Linked}
 use Rattle.qo_sound_devices.specs.SoundPlaces.{child_entries, child_entry, has_entry, HasOwner, machines, bridges, id_of, IsAnonymous, IsAtHome, IsHome, IsHosted, on_machine, on_device, IsRooted, IsKid, IsPeripheral, IsShallow, kid_entries, kid_entry, listed, owns_it, path_of, PlacesBut, stands, suits, owns}
 use Rattle.qo_sound_devices.proofs.LikenessLemmas.{bodiless, after-alike, Alike, apart-first}
 
@@ -61,7 +61,7 @@ path-alike b c x h =
 
 -- what is named is there
 
-pub linked-at : (c : Board) → Firm c → (n : ℕ) → AllByRecursion (λ (s : List ℕ × Slot). Linked (kind_of c) s.1) (slots_at c n)
+pub linked-at : (c : Board) → WellFormed c → (n : ℕ) → AllByRecursion (λ (s : List ℕ × Slot). Linked (kind_of c) s.1) (slots_at c n)
 linked-at c h n = go (record_of c n) refl
   where
     go : (o : Option Record) → record_of c n ≡ o → AllByRecursion (λ (s : List ℕ × Slot). Linked (kind_of c) s.1) (option_map_or (λ (r : Record). r.slots) o [])
@@ -109,17 +109,17 @@ all-listed P (x ∷ es) h d e = go (x.1 == d) refl (all-listed P es h.1 d)
     go true p rest = subst P (eqb-true x.1 d p) h.0
     go false p rest = rest (rw p at e)
 
-pub child-live : (c : Board) → Firm c → (n d : ℕ) → listed d (child_entries c n) ≡ true → is_live c d ≡ true
+pub child-live : (c : Board) → WellFormed c → (n d : ℕ) → listed d (child_entries c n) ≡ true → is_live c d ≡ true
 child-live c h n d e = all-listed (λ x. is_live c x ≡ true) (child_entries c n) (children-there c (slots_at c n) (linked-at c h n)) d e
 
-pub kid-live : (c : Board) → Firm c → (n d : ℕ) → listed d (kid_entries c n) ≡ true → is_live c d ≡ true
+pub kid-live : (c : Board) → WellFormed c → (n d : ℕ) → listed d (kid_entries c n) ≡ true → is_live c d ≡ true
 kid-live c h n d e = all-listed (λ x. is_live c x ≡ true) (kid_entries c n) (kids-there c (slots_at c n) (linked-at c h n)) d e
 
 pub or-cases : (t u : Bool) → t || u ≡ true → {A : Type 0} → (t ≡ true → A) → (u ≡ true → A) → A
 or-cases true u e f g = f refl
 or-cases false u e f g = g e
 
-pub stands-live : (c : Board) → Firm c → (d : ℕ) → stands c d ≡ true → is_live c d ≡ true
+pub stands-live : (c : Board) → WellFormed c → (d : ℕ) → stands c d ≡ true → is_live c d ≡ true
 stands-live c h d e =
     or-cases (listed d (child_entries c PERIPHERAL_BIRTH)) (listed d (child_entries c ANONYMOUS_BIRTH)) e (child-live c h PERIPHERAL_BIRTH d)
     (child-live c h ANONYMOUS_BIRTH d)
@@ -266,13 +266,13 @@ parts-same b c now h =
     (PERIPHERAL_BIRTH ∷ ANONYMOUS_BIRTH ∷ ROOT_BUS_BIRTH ∷ MEMORY_BUS_BIRTH ∷ SYSTEM_CLOCK_BIRTH ∷ []) h
 
 -- a part of the machine is there
-pub part-live : (b c : Board) → Firm c → child_entries c MACHINE_BIRTH ≡ child_entries b MACHINE_BIRTH → (n : ℕ)
+pub part-live : (b c : Board) → WellFormed c → child_entries c MACHINE_BIRTH ≡ child_entries b MACHINE_BIRTH → (n : ℕ)
     → listed n (child_entries b MACHINE_BIRTH) ≡ true → is_live c n ≡ true
 part-live b c firm now n e = child-live c firm MACHINE_BIRTH n (ap (listed n) now ∙ e)
 
 -- what places speak of is on a board as on another
 pub record Kept (b c : Board) : Type 0 where
-  pub firm : Firm c
+  pub firm : WellFormed c
   pub root : is_live c 1 ≡ true
   pub anonymous : c.anonymous ≡ b.anonymous
   pub body : (x : ℕ) → is_live c x ≡ true → option_map bodiless (record_of c x) ≡ option_map bodiless (record_of b x)
@@ -284,7 +284,7 @@ pub record Kept (b c : Board) : Type 0 where
   pub fewer : (q : ℕ) → is_live c q ≡ true → is_of b (codes "bus") q ≡ true → Within (kid_entries c q) (kid_entries b q)
   pub within : (x : ℕ) → is_live c x ≡ true → Within (child_entries c x) (child_entries b x)
 
-pub kept-alike : (b c : Board) → Firm c → is_live c 1 ≡ true → c.anonymous ≡ b.anonymous → ((x : ℕ) → is_live c x ≡ true → Alike b c x) → Kept b c
+pub kept-alike : (b c : Board) → WellFormed c → is_live c 1 ≡ true → c.anonymous ≡ b.anonymous → ((x : ℕ) → is_live c x ≡ true → Alike b c x) → Kept b c
 kept-alike b c firm root anonymous alike =
     record {
       firm = firm;
@@ -313,7 +313,7 @@ at-home b c p e above own k =
     hosted (on_device is apart) = on_device (of-alike b c p (codes "device") above ∙ is) apart
 
 -- with fewer children
-pub children-within : (b c : Board) → Firm c → ((x : ℕ) → is_live c x ≡ true → SameBody b c x)
+pub children-within : (b c : Board) → WellFormed c → ((x : ℕ) → is_live c x ≡ true → SameBody b c x)
     → ((x : ℕ) → is_live c x ≡ true → Within (child_entries c x) (child_entries b x)) → ((p : ℕ) → AllByRecursion (IsAtHome b p) (child_entries b p))
     → (p : ℕ) → AllByRecursion (IsAtHome c p) (child_entries c p)
 children-within b c firm body within h p = go (record_of c p) refl
@@ -336,7 +336,7 @@ pub record MoreChildren (b c : Board) (p : ℕ) : Type 0 where
 pub no-more : (b c : Board) (p : ℕ) → child_entries c p ≡ child_entries b p → MoreChildren b c p
 no-more b c p e = record { added = []; later = e ∙ sym (append-nil (child_entries b p)); at_home = tt }
 
-pub children-grown : (b c : Board) → Firm b → ((x : ℕ) → is_live b x ≡ true → SameBody b c x) → ((p : ℕ) → is_live b p ≡ true → MoreChildren b c p)
+pub children-grown : (b c : Board) → WellFormed b → ((x : ℕ) → is_live b x ≡ true → SameBody b c x) → ((p : ℕ) → is_live b p ≡ true → MoreChildren b c p)
     → ((p : ℕ) → is_live b p ≡ false → AllByRecursion (IsAtHome c p) (child_entries c p)) → ((p : ℕ) → AllByRecursion (IsAtHome b p) (child_entries b p))
     → (p : ℕ) → AllByRecursion (IsAtHome c p) (child_entries c p)
 children-grown b c firm body grows new h p = go (is_live b p) refl
@@ -352,7 +352,7 @@ children-grown b c firm body grows new h p = go (is_live b p) refl
         m.at_home)
 
 -- above all births nothing is there
-pub high-absent : (b : Board) → Firm b → (x : ℕ) → b.born < x → is_live b x ≡ false
+pub high-absent : (b : Board) → WellFormed b → (x : ℕ) → b.born < x → is_live b x ≡ false
 high-absent b firm x high = go (record_of b x) refl
   where
     go : (o : Option Record) → record_of b x ≡ o → is_live b x ≡ false
@@ -386,7 +386,7 @@ module _ (b c : Board) (body : (x : ℕ) → is_live b x ≡ true → SameBody b
       all-imply (IsAnonymous b) (IsAnonymous c) (λ e k. anonymous-alike b c e raised (body e.1 (of-live b (codes "device") e.1 k.device)) k)
 
 -- with fewer entries, where what is there stays
-module _ (b c : Board) (firm : Firm c) (body : (x : ℕ) → is_live c x ≡ true → SameBody b c x) where
+module _ (b c : Board) (firm : WellFormed c) (body : (x : ℕ) → is_live c x ≡ true → SameBody b c x) where
   pub peripheral-within : (p : ℕ) → Within (child_entries c p) (child_entries b p) → AllByRecursion (IsPeripheral b) (child_entries b p)
       → AllByRecursion (IsPeripheral c) (child_entries c p)
   peripheral-within p within h =
@@ -585,10 +585,10 @@ owner-live b n d e = go (record_of b n) refl
     go (Some r) q = ap is_some q
 
 -- a release keeps what is shown of any board, where it keeps the tree and birth 1 is pinned
-pub after-kept : (b : Board) (o : Option ℕ) → Firm (after finalize b o) → is_live b 1 ≡ true → among b.pins 1 ≡ true → Kept b (after finalize b o)
+pub after-kept : (b : Board) (o : Option ℕ) → WellFormed (after finalize b o) → is_live b 1 ≡ true → among b.pins 1 ≡ true → Kept b (after finalize b o)
 after-kept b o firm there pinned = kept-alike b (after finalize b o) firm (after-root b o 1 there pinned) (after-anonymous b o) (after-alike b o)
 
-pub after-places : (depth : ℕ → ℕ) (left : Option ℕ) (out : ℕ → Bool) (b : Board) (o : Option ℕ) → Firm (after finalize b o) → among b.pins 1 ≡ true
+pub after-places : (depth : ℕ → ℕ) (left : Option ℕ) (out : ℕ → Bool) (b : Board) (o : Option ℕ) → WellFormed (after finalize b o) → among b.pins 1 ≡ true
     → PlacesBut depth left out b → PlacesBut depth left out (after finalize b o)
 after-places depth left out b o firm pinned h =
     places-kept b (after finalize b o) (after-kept b o firm (owner-live b 1 MACHINE_BIRTH h.machine) pinned) depth left out h

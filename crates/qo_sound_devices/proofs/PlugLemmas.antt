@@ -1,12 +1,12 @@
 -- Adding a device, and the places of devices: refused attempts keep them, and what is known of a board on which one may be added.
 use Rattle.std.proofs.Common.{◌≡◌, refl, ap, sym, ◌∙◌, ℕ, zero, suc, ◌<◌, Bool, true, false, ◌==◌, List, [], ◌∷◌, find, length, codes, Option, Some, None, option_and_then, arith}
-use Rattle.qo_model.proofs.Common.{if◌then◌else◌, list_any, option_map_or, bytes_eq, ANONYMOUS_BIRTH, MACHINE_BIRTH, MEMORY_BUS_BIRTH, PERIPHERAL_BIRTH, ROOT_BUS_BIRTH, Code, TypeId, Board, Record, by_depth, bridge_of, bus_above, bus_of, depth_of, depth_turn, device_named, has_id, births, is_of, Wanted, barred_early, barred_late, bus_for, cut_attempt, plug, plug_as, plug_attempt, plug_by, plug_late, spot_of, type_barred, with_plugged, TypeInfo, is_a, type_named}
+use Rattle.qo_model.proofs.Common.{if◌then◌else◌, list_any, option_map_or, bytes_eq, ANONYMOUS_BIRTH, MACHINE_BIRTH, MEMORY_BUS_BIRTH, PERIPHERAL_BIRTH, ROOT_BUS_BIRTH, Code, TypeId, Board, Record, by_depth, bridge_of, bus_above, bus_of, depth_of, depth_turn, device_named, has_id, births, is_of, Wanted, barred_early, barred_late, bus_for, cut_attempt, plug, plug_as, plug_attempt, plug_by, plug_late, resources_of, type_barred, with_plugged, TypeInfo, is_a, type_named}
 use Rattle.std.proofs.lemmas.Slice.Eq.{bytes_eq-Decides}
 use Rattle.qo_model.proofs.AmongLemmas.{among-all}
-use Rattle.qo_sound.proofs.FirmBoardLemmas.{Firm}
+use Rattle.qo_sound.proofs.FirmBoardLemmas.{WellFormed}
 use Rattle.qo_sound.proofs.PlugLemmas.{IsPlace, cut_attempt-rest, device-of, place-of, plug_attempt-rest}
 use Rattle.qo_values.proofs.ListLemmas.{all-imply}
-use Rattle.qo_sound.proofs.ViewLemmas.{AtRest}
+use Rattle.qo_sound.proofs.ViewLemmas.{PinsRootAlone}
 use Rattle.qo_sound_devices.specs.SoundPlaces.{child_entries, HasOwner, machines, bridges, id_of, IsAnonymous, IsHome, IsPeripheral, listed, PlacesBut, stands}
 use Rattle.qo_sound_devices.proofs.LikenessLemmas.{alike-record}
 use Rattle.qo_sound_devices.proofs.AttachmentLemmas.{owns-listed, parent-is}
@@ -14,7 +14,7 @@ use Rattle.qo_sound_devices.proofs.DepthLemmas.{room}
 use Rattle.qo_sound_devices.proofs.PlacesLemmas.{all-listed, kept-alike, or-cases, owner-live, places-kept}
 
 -- attempts take births, and are noted
-pub plug_attempt-places : (depth : ℕ → ℕ) (b : Board) (t : TypeId) (bus stage : ℕ) → AtRest b → PlacesBut depth None (λ x. false) b
+pub plug_attempt-places : (depth : ℕ → ℕ) (b : Board) (t : TypeId) (bus stage : ℕ) → PinsRootAlone b → PlacesBut depth None (λ x. false) b
     → PlacesBut depth None (λ x. false) (plug_attempt b t bus stage)
 plug_attempt-places depth b t bus stage rest h =
     places-kept b (plug_attempt b t bus stage)
@@ -22,7 +22,7 @@ plug_attempt-places depth b t bus stage rest h =
     (λ x e. alike-record b (plug_attempt b t bus stage) x refl))
     depth None (λ x. false) h
 
-pub cut_attempt-places : (depth : ℕ → ℕ) (b : Board) (t : TypeId) (i : ℕ) (joined : Bool) → AtRest b → PlacesBut depth None (λ x. false) b
+pub cut_attempt-places : (depth : ℕ → ℕ) (b : Board) (t : TypeId) (i : ℕ) (joined : Bool) → PinsRootAlone b → PlacesBut depth None (λ x. false) b
     → PlacesBut depth None (λ x. false) (cut_attempt b t i joined)
 cut_attempt-places depth b t i joined rest h =
     places-kept b (cut_attempt b t i joined)
@@ -36,11 +36,11 @@ pub record Accepted (b : Board) (t : TypeId) (bus : ℕ) (a : Wanted) : Type 0 w
   pub chosen : bus_for b t a.bus ≡ Some bus
   pub early : barred_early b t a ≡ None
   pub late : barred_late b t bus a.props ≡ None
-  pub place : IsPlace b t a (spot_of b t bus a.props)
+  pub place : IsPlace b t a (resources_of b t bus a.props)
 
 -- a fact of the board after an add: as it was, after an attempt, or after a device that was added
 module _ (P : Board → Type 0) (b : Board) (a : Wanted) (same : P b) (attempt : (t : TypeId) (bus stage : ℕ) → P (plug_attempt b t bus stage))
-    (taken : (t : TypeId) (bus : ℕ) → Accepted b t bus a → P (with_plugged b t a (spot_of b t bus a.props))) where
+    (taken : (t : TypeId) (bus : ℕ) → Accepted b t bus a → P (with_plugged b t a (resources_of b t bus a.props))) where
   by-late : (t : TypeId) (bus : ℕ) (o : Option (ℕ × Code)) → barred_late b t bus a.props ≡ o
       → (barred_late b t bus a.props ≡ None → Accepted b t bus a) → P (plug_late b t bus a o).board
   by-late t bus (Some refusal) e accepted = attempt t bus refusal.0
@@ -80,7 +80,7 @@ stands-device depth left out b h d e =
     (all-listed (λ x. is_of b (codes "device") x ≡ true) (child_entries b ANONYMOUS_BIRTH)
     (all-imply (IsAnonymous b) (λ (x : List ℕ × ℕ). is_of b (codes "device") x.1 ≡ true) (λ x k. k.device) (child_entries b ANONYMOUS_BIRTH) h.anonymous) d)
 
-module _ (depth : ℕ → ℕ) (out : ℕ → Bool) (b : Board) (firm : Firm b) (h : PlacesBut depth None out b) where
+module _ (depth : ℕ → ℕ) (out : ℕ → Bool) (b : Board) (firm : WellFormed b) (h : PlacesBut depth None out b) where
   module _ (machine : is_of b (codes "device") MACHINE_BIRTH ≡ false) where
     none-above : (q : ℕ) → listed q (child_entries b MACHINE_BIRTH) ≡ true → bus_above b q ≡ None
     none-above q e =

@@ -1,7 +1,7 @@
 -- A device that is added reads as realized.
 use Rattle.std.proofs.Common.{rules, ◌≡◌, refl, ap, sym, subst, ◌∙◌, ℕ, ◌+◌, true, false, ◌==◌, List, [], ◌∷◌, ◌++◌, drop, slice_get, Option, Some, None, is_some, option_map, option_and_then, codes, arith}
-use Rattle.qo_model.proofs.Common.{IsDistinct, option_map_or, bytes_eq, TypeId, Device, Bus, Val, Board, Record, Slot, plain, child, strong, weak, alias, record_of, slots_at, add, fresh, set, with_added, with_changed, with_val, is_realized, is_true, kid_name, number_in, bus_slot_of, plain_in, init_notes, index_from, first_value, Spot, Wanted, drafted, fitted, joined, link_named, name_for, parent_for, properties_made, valued, with_given, with_new, edit, edited, property, is_a, slots_of, types, up_to, is_named, set_named}
-use Rattle.qo_model.specs.declared.properties.Mark.TheVariants.{Never, Add}
+use Rattle.qo_model.proofs.Common.{IsDistinct, option_map_or, bytes_eq, TypeId, Device, Bus, Val, Board, Record, Slot, plain, child, strong, weak, alias, record_of, slots_at, add, fresh, set, with_added, with_changed, with_val, is_realized, is_true, kid_name, number_in, bus_slot_of, plain_in, init_notes, index_from, first_value, Resources, Wanted, drafted, fitted, joined, link_named, name_for, parent_for, properties_made, valued, with_given, with_new, edit, edited, property, is_a, slots_of, types, up_to, is_named, set_named}
+use Rattle.qo_model.specs.declared.properties.Access.TheVariants.{Never, Add}
 use Rattle.qo_model.specs.declared.properties.Property.{Property}
 use Rattle.std.proofs.lemmas.Bool.{eq-eqb}
 use Rattle.qo_values.specs.declared.properties.PropType.TheVariants as ty
@@ -12,7 +12,7 @@ use Rattle.qo_model.specs.declared.properties.First.TheVariants as first
 use Rattle.qo_model.specs.declared.properties.PropertyName.TheVariants as prop
 use Rattle.qo_model.proofs.FirstSlotLemmas.{named_in, Found, found-at, first-changed, none-found, named-changed, named-other, other-name}
 use Rattle.qo_model.proofs.StepLemmas.{found-edited}
-use Rattle.qo_sound.proofs.FirmBoardLemmas.{Firm}
+use Rattle.qo_sound.proofs.FirmBoardLemmas.{WellFormed}
 use Rattle.qo_sound.proofs.NewObjectLemmas.{grown-new}
 use Rattle.qo_sound.proofs.ReadLemmas.{plain-fitted}
 use Rattle.qo_sound_devices.proofs.DropLemmas.{edited-slots}
@@ -39,7 +39,7 @@ own-added n name s c r is e =
     let own : (r.birth == n) ≡ true = eq-eqb r.birth n is in
     found-edited n (with_added name s) (λ x. refl) n c.records ∙ ap (option_map (edited n (with_added name s))) e ∙ rw (edited, own) refl
 
-begun-found : (b : Board) (t : TypeId) → Firm b → record_of (with_new (fresh (b.born + 1) t) b) (b.born + 1) ≡ Some (fresh (b.born + 1) t)
+begun-found : (b : Board) (t : TypeId) → WellFormed b → record_of (with_new (fresh (b.born + 1) t) b) (b.born + 1) ≡ Some (fresh (b.born + 1) t)
 unfolding IsDistinct
 begun-found b t firm = grown-new b (fresh (b.born + 1) t) (b.notes ++ init_notes (b.born + 1) t) firm (record { birth = refl; names = tt; lone = tt })
 
@@ -116,7 +116,7 @@ link-other n name own m c = go (index_from (is_named own) 0 (slots_at c n)) refl
     go None e = rw (link_named, e) refl
     go (Some i) e = rw (link_named, e) (there i (record_of c n) refl)
 
-module _ (b : Board) (t : TypeId) (firm : Firm b) (device : is_a t (codes "device") ≡ true) where
+module _ (b : Board) (t : TypeId) (firm : WellFormed b) (device : is_a t (codes "device") ≡ true) where
   abbrev n : ℕ
   n = b.born + 1
 
@@ -166,38 +166,38 @@ module _ (b : Board) (t : TypeId) (firm : Firm b) (device : is_a t (codes "devic
   rows-plain : (name : List ℕ) → PlainIn name r4.slots → PlainIn name (slots_at (drafted b t) (b.born + 1))
   rows-plain name begins = rows-stay (PlainIn name) (λ e. absurd (let clash : false ≡ true = e in cc)) (kept-append name) begins
 
-  joined-plain : (name : List ℕ) (a : Wanted) (spot : Spot) → PlainIn name r4.slots
-      → PlainIn name (slots_at (joined b (b.born + 1) a spot (drafted b t)) (b.born + 1))
-  joined-plain name a spot begins =
-      stay-add (PlainIn name) never (kept-append name) n spot.bus (kid_name spot.slot) (strong Device (Some n))
+  joined-plain : (name : List ℕ) (a : Wanted) (resources : Resources) → PlainIn name r4.slots
+      → PlainIn name (slots_at (joined b (b.born + 1) a resources (drafted b t)) (b.born + 1))
+  joined-plain name a resources begins =
+      stay-add (PlainIn name) never (kept-append name) n resources.bus (kid_name resources.slot) (strong Device (Some n))
       (add (parent_for a.id) (name_for b a.id) (child n) (drafted b t))
       (stay-add (PlainIn name) never (kept-append name) n (parent_for a.id) (name_for b a.id) (child n) (drafted b t) (rows-plain name begins))
     where
       never : PlainIn name [] → ⊥
       never e = absurd (let clash : false ≡ true = e in cc)
 
-  pub valued-realized : (a : Wanted) (spot : Spot)
-      → is_realized (valued b (b.born + 1) a.props spot (joined b (b.born + 1) a spot (drafted b t))) (b.born + 1) ≡ true
-  valued-realized a spot =
-      let c : Board = joined b n a spot (drafted b t) in
+  pub valued-realized : (a : Wanted) (resources : Resources)
+      → is_realized (valued b (b.born + 1) a.props resources (joined b (b.born + 1) a resources (drafted b t))) (b.born + 1) ≡ true
+  valued-realized a resources =
+      let c : Board = joined b n a resources (drafted b t) in
       let c3 : Board = edit n (with_given b a.props) c in
-      let c4 : Board = set_named n (codes "slot") (val.Uint spot.slot) c3 in
-      let c5 : Board = link_named n (codes "parent_bus") spot.bus c4 in
+      let c4 : Board = set_named n (codes "slot") (val.Uint resources.slot) c3 in
+      let c5 : Board = link_named n (codes "parent_bus") resources.bus c4 in
       let there : PlainIn (codes "realized") (slots_at c5 n) =
-      kept-link (codes "realized") n (codes "parent_bus") spot.bus c4
-      (kept-set (codes "realized") n (codes "slot") (val.Uint spot.slot) c3
-      (kept-given_at (codes "realized") n b a.props c (joined-plain (codes "realized") a spot refl))) in
+      kept-link (codes "realized") n (codes "parent_bus") resources.bus c4
+      (kept-set (codes "realized") n (codes "slot") (val.Uint resources.slot) c3
+      (kept-given_at (codes "realized") n b a.props c (joined-plain (codes "realized") a resources refl))) in
       ap (λ (o : Option Val). option_map_or is_true o false) (set-read n (codes "realized") (val.Bool true) c5 there)
 
-  pub valued-at : (a : Wanted) (spot : Spot)
-      → bus_slot_of (valued b (b.born + 1) a.props spot (joined b (b.born + 1) a spot (drafted b t))) (b.born + 1) ≡ Some spot.slot
-  valued-at a spot =
-      let c : Board = joined b n a spot (drafted b t) in
+  pub valued-at : (a : Wanted) (resources : Resources)
+      → bus_slot_of (valued b (b.born + 1) a.props resources (joined b (b.born + 1) a resources (drafted b t))) (b.born + 1) ≡ Some resources.slot
+  valued-at a resources =
+      let c : Board = joined b n a resources (drafted b t) in
       let c3 : Board = edit n (with_given b a.props) c in
-      let c4 : Board = set_named n (codes "slot") (val.Uint spot.slot) c3 in
-      let c5 : Board = link_named n (codes "parent_bus") spot.bus c4 in
-      let there : PlainIn (codes "slot") (slots_at c3 n) = kept-given_at (codes "slot") n b a.props c (joined-plain (codes "slot") a spot refl) in
+      let c4 : Board = set_named n (codes "slot") (val.Uint resources.slot) c3 in
+      let c5 : Board = link_named n (codes "parent_bus") resources.bus c4 in
+      let there : PlainIn (codes "slot") (slots_at c3 n) = kept-given_at (codes "slot") n b a.props c (joined-plain (codes "slot") a resources refl) in
       ap (option_and_then number_in)
       (set-other n (codes "slot") (codes "realized") (val.Bool true) refl c5
-      ∙ link-other n (codes "slot") (codes "parent_bus") spot.bus c4
-      ∙ set-read n (codes "slot") (val.Uint spot.slot) c3 there)
+      ∙ link-other n (codes "slot") (codes "parent_bus") resources.bus c4
+      ∙ set-read n (codes "slot") (val.Uint resources.slot) c3 there)

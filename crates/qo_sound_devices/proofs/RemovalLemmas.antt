@@ -3,7 +3,7 @@ use Rattle.std.proofs.Common.{◌≡◌, ◌≢◌, refl, ap, sym, ◌∙◌, �
 use Rattle.qo_model.proofs.Common.{AllByRecursion, ANONYMOUS_BIRTH, MACHINE_BIRTH, MEMORY_BUS_BIRTH, OBJECTS_BIRTH, PERIPHERAL_BIRTH, ROOT_BUS_BIRTH, Board, is_live, slots_at, among, bus_of, is_realized, bus_slot_of, is_of}
 use Rattle.std.proofs.lemmas.Bool.{eq-eqb}
 use Rattle.std.proofs.Math.Bool.{or-true}
-use Rattle.qo_sound.proofs.FirmBoardLemmas.{Firm}
+use Rattle.qo_sound.proofs.FirmBoardLemmas.{WellFormed}
 use Rattle.qo_sound.proofs.RecordLemmas.{all-both}
 use Rattle.qo_values.proofs.ListLemmas.{all-imply}
 use Rattle.qo_sound_devices.specs.SoundPlaces.{child_entries, HasOwner, IsHome, IsKid, IsShallow, kid_entries, listed, owns, PlacesBut, stands, names_it}
@@ -19,7 +19,7 @@ all-in (x ∷ es) = (
 
 -- a step: fewer devices stand, on fewer buses, and what stays is as before, but that `left` may have left its bus
 pub record Moved (left : Option ℕ) (b c : Board) : Type 0 where
-  pub firm : Firm c
+  pub firm : WellFormed c
   pub root : is_live c 1 ≡ true
   pub anonymous : c.anonymous ≡ b.anonymous
   pub body : (x : ℕ) → is_live c x ≡ true → SameBody b c x

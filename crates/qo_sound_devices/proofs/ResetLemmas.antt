@@ -1,15 +1,15 @@
 -- Acts, phases and the reset of the whole board keep the tree, the places and the lists sound.
 use Rattle.std.proofs.Common.{◌≡◌, refl, sym, ◌∙◌, ℕ, zero, suc, true, false, List, [], ◌∷◌, ◌++◌, filter, length, Option, Some, None, subst, arith}
-use Rattle.qo_model.proofs.Common.{AllByRecursion, MACHINE_BIRTH, Act, Enter, Hold, Exit, Board, acted, all_completed, completed, reset_whole, without_first, is_out, phased, post, pulse, released, detach}
+use Rattle.qo_model.proofs.Common.{AllByRecursion, MACHINE_BIRTH, Act, Enter, Hold, Exit, Board, acted, all_completed, completed, reset_whole, without_first, is_not_in_reset, phased, post, pulse, released, detach}
 use Rattle.std.proofs.lemmas.Option.{same_Some}
-use Rattle.qo_model.specs.Reset.{held}
+use Rattle.qo_model.specs.Reset.{after_hold}
 use Rattle.qo_model.specs.Unplug.{first_of}
 use Rattle.qo_sound.proofs.CutLemmas.{near-beside}
-use Rattle.qo_sound.proofs.FirmBoardLemmas.{Firm}
+use Rattle.qo_sound.proofs.FirmBoardLemmas.{WellFormed}
 use Rattle.qo_sound.proofs.TreeKeptLemmas.{sound_kept_lem}
-use Rattle.qo_sound.proofs.UnplugLemmas.{Sits, held-acted}
-use Rattle.qo_sound.proofs.ViewLemmas.{AtRest, rest-from_sound, sound-from_rest}
-use Rattle.qo_sound.proofs.WorkLemmas.{Nearly}
+use Rattle.qo_sound.proofs.UnplugLemmas.{HasPins, held-acted}
+use Rattle.qo_sound.proofs.ViewLemmas.{PinsRootAlone, rest-from_sound, sound-from_rest}
+use Rattle.qo_sound.proofs.WorkLemmas.{InvariantBut}
 use Rattle.qo_sound_devices.specs.SoundDevices.{SoundDevices}
 use Rattle.qo_sound_devices.specs.SoundLists.{IsOn, SoundLists}
 use Rattle.qo_sound_devices.specs.SoundPlaces.{PlacesBut, stands}
@@ -22,7 +22,7 @@ use Rattle.qo_sound_devices.proofs.UnlistingLemmas.{detach-lists}
 use Rattle.qo_sound_devices.proofs.UnrealizingLemmas.{Dims, dims-acted}
 
 -- what changes nothing that places speak of keeps them
-dims-places : (depth : ℕ → ℕ) (b c : Board) → Firm c → Dims b c → PlacesBut depth None (λ x. false) b → PlacesBut depth None (λ x. false) c
+dims-places : (depth : ℕ → ℕ) (b c : Board) → WellFormed c → Dims b c → PlacesBut depth None (λ x. false) b → PlacesBut depth None (λ x. false) c
 dims-places depth b c firm d h =
     places-moved b c depth None None (λ x. false) (λ x. false) (moved-dimmed depth None (λ x. false) b c firm h d.dimmed) h (λ x e k. k)
     (λ x there lit s. stands-dimmed b c d.dimmed x ∙ s)
@@ -44,10 +44,10 @@ acted-below act n period b h =
       lists = acted-lists act n period b h.lists;
     }
   where
-    rest : AtRest b
+    rest : PinsRootAlone b
     rest = rest-from_sound b h.tree
 
-    sits : Sits (1 ∷ []) (acted act n period b)
+    sits : HasPins (1 ∷ []) (acted act n period b)
     sits = held-acted (1 ∷ []) act n period b (record { near = rest.used; pins = rest.pinned })
 
 phased-below : (act : Act) (ns : List ℕ) (b : Board) → SoundDevices b → SoundDevices (phased act ns b)
@@ -86,27 +86,27 @@ holds-below b holds h =
       lists = lists-same b (record b { holds = holds }) refl refl (λ x on. on) h.lists;
     }
   where
-    rest : AtRest b
+    rest : PinsRootAlone b
     rest = rest-from_sound b h.tree
 
-    near : Nearly None (record b { holds = holds })
+    near : InvariantBut None (record b { holds = holds })
     near = near-beside None b holds b.pending b.notices b.notes rest.used
 
-pub held-below : (b : Board) (n : ℕ) → SoundDevices b → SoundDevices (held b n)
-unfolding held
+pub held-below : (b : Board) (n : ℕ) → SoundDevices b → SoundDevices (after_hold b n)
+unfolding after_hold
 held-below b n h =
     holds-below _ (b.holds ++ n ∷ [])
-    (phased-below Hold (filter (is_out b) (post b n)) _ (phased-below Enter (filter (is_out b) (post b n)) b h))
+    (phased-below Hold (filter (is_not_in_reset b) (post b n)) _ (phased-below Enter (filter (is_not_in_reset b) (post b n)) b h))
 
 pub released-below : (b : Board) (n : ℕ) → SoundDevices b → SoundDevices (released b n)
 unfolding released
 released-below b n h =
     let c : Board = record b { holds = without_first n b.holds } in
-    phased-below Exit (filter (is_out c) (post c n)) c (holds-below b (without_first n b.holds) h)
+    phased-below Exit (filter (is_not_in_reset c) (post c n)) c (holds-below b (without_first n b.holds) h)
 
 pub pulse-below : (b : Board) (n : ℕ) → SoundDevices b → SoundDevices (pulse b n)
 unfolding pulse
-pulse-below b n h = released-below (held b n) n (held-below b n h)
+pulse-below b n h = released-below (after_hold b n) n (held-below b n h)
 
 pub reset-below : (b : Board) → SoundDevices b → SoundDevices (reset_whole b)
 unfolding reset_whole

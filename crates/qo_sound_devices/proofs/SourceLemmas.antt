@@ -1,6 +1,6 @@
 -- The clock of a device that is added gets its source, which changes nothing that places speak of.
 use Rattle.std.proofs.Common.{◌≡◌, refl, ap, sym, subst, ◌∙◌, ℕ, zero, suc, ◌+◌, Bool, true, false, ◌==◌, List, [], ◌∷◌, filter_map, slice_get, Option, Some, None, option_and_then, codes, arith, option_map}
-use Rattle.qo_model.proofs.Common.{cons_option, option_map_or, bytes_eq, TypeId, Device, Val, Range, Board, Record, Slot, plain, child, strong, weak, alias, record_of, is_live, slots_at, add, changed_at, set, with_added, with_changed, with_val, child_named, clock_of, is_true, kid_name, number_in, plain_in, strong_in, index_from, is_of, Spot, Wanted, addressed_at, drafted, fitted, joined, link_named, name_for, parent_for, source_for, stood, valued, with_body_of, with_given, with_source, edit, is_a, is_named, set_named}
+use Rattle.qo_model.proofs.Common.{cons_option, option_map_or, bytes_eq, TypeId, Device, Val, Range, Board, Record, Slot, plain, child, strong, weak, alias, record_of, is_live, slots_at, add, changed_at, set, with_added, with_changed, with_val, child_named, clock_of, is_true, kid_name, number_in, plain_in, strong_in, index_from, is_of, Resources, Wanted, addressed_at, drafted, fitted, joined, link_named, name_for, parent_for, source_for, stood, valued, with_body_of, with_given, with_source, edit, is_a, is_named, set_named}
 use Rattle.std.proofs.lemmas.Bool.{eqb-true, eq-eqb}
 use Rattle.std.proofs.Math.Bool.{or-true}
 use Rattle.std.proofs.lemmas.Option.{same_Some}
@@ -9,7 +9,7 @@ use Rattle.qo_model.proofs.FirstSlotLemmas.{named_in, Found, found-at, named-oth
 use Rattle.qo_model.proofs.StepLemmas.{found-edited}
 use Rattle.qo_sound.proofs.PlugLemmas.{shut-above}
 use Rattle.qo_sound.proofs.TestLemmas.{decide}
-use Rattle.qo_sound.proofs.ViewLemmas.{AtRest}
+use Rattle.qo_sound.proofs.ViewLemmas.{PinsRootAlone}
 use Rattle.qo_sound_devices.specs.SoundPlaces.{child_entries, child_entry, kid_entry, listed, PlacesBut}
 use Rattle.qo_sound_devices.proofs.LikenessLemmas.{other-record}
 use Rattle.qo_sound_devices.proofs.DraftLemmas.{drafted-source, may_see}
@@ -118,21 +118,22 @@ module _ (x : ℕ) where
   addressed-other n None apart c = refl
   addressed-other n (Some r) apart c = set-other n (codes "addr") (val.Uint r.at) apart c
 
-  pub stood-other : (b : Board) (n : ℕ) (a : Wanted) (spot : Spot) (c : Board) → (x == n) ≡ false → (x == spot.bus) ≡ false → (x == parent_for a.id) ≡ false
-      → record_of (stood b n a spot c) x ≡ record_of c x
-  stood-other b n a spot c apart bus parent =
+  pub stood-other : (b : Board) (n : ℕ) (a : Wanted) (resources : Resources) (c : Board) → (x == n) ≡ false → (x == resources.bus) ≡ false
+      → (x == parent_for a.id) ≡ false
+      → record_of (stood b n a resources c) x ≡ record_of c x
+  stood-other b n a resources c apart bus parent =
       let c1 : Board = add (parent_for a.id) (name_for b a.id) (child n) c in
-      let c2 : Board = joined b n a spot c in
+      let c2 : Board = joined b n a resources c in
       let c3 : Board = edit n (with_given b a.props) c2 in
-      let c4 : Board = set_named n (codes "slot") (val.Uint spot.slot) c3 in
-      let c5 : Board = link_named n (codes "parent_bus") spot.bus c4 in
-      edit-other n (with_body_of a.id spot.range) (λ r. refl) apart (addressed_at n spot.range (valued b n a.props spot c2))
-      ∙ addressed-other n spot.range apart (valued b n a.props spot c2)
+      let c4 : Board = set_named n (codes "slot") (val.Uint resources.slot) c3 in
+      let c5 : Board = link_named n (codes "parent_bus") resources.bus c4 in
+      edit-other n (with_body_of a.id resources.range) (λ r. refl) apart (addressed_at n resources.range (valued b n a.props resources c2))
+      ∙ addressed-other n resources.range apart (valued b n a.props resources c2)
       ∙ set-other n (codes "realized") (val.Bool true) apart c5
-      ∙ link-other n (codes "parent_bus") spot.bus apart c4
-      ∙ set-other n (codes "slot") (val.Uint spot.slot) apart c3
+      ∙ link-other n (codes "parent_bus") resources.bus apart c4
+      ∙ set-other n (codes "slot") (val.Uint resources.slot) apart c3
       ∙ edit-other n (with_given b a.props) (λ r. refl) apart c2
-      ∙ add-other spot.bus (kid_name spot.slot) (strong Device (Some n)) bus c1
+      ∙ add-other resources.bus (kid_name resources.slot) (strong Device (Some n)) bus c1
       ∙ add-other (parent_for a.id) (name_for b a.id) (child n) parent c
 
 -- the clock is a child
@@ -161,24 +162,25 @@ clock-listed m (s ∷ slots) e = go (bytes_eq s.0 (codes "clk")) refl (clock-lis
     go true p rest = here s (rw p at e)
     go false p rest = there s (rest (rw p at e))
 
-module _ (depth : ℕ → ℕ) (b : Board) (t : TypeId) (a : Wanted) (spot : Spot) (rest : AtRest b) (h : PlacesBut depth None (λ x. false) b)
-    (goal : Goal depth b (b.born + 1) spot.bus spot.slot a.id t (drafted b t)) where
+module _ (depth : ℕ → ℕ) (b : Board) (t : TypeId) (a : Wanted) (resources : Resources) (rest : PinsRootAlone b) (h : PlacesBut depth None (λ x. false) b)
+    (goal : Goal depth b (b.born + 1) resources.bus resources.slot a.id t (drafted b t)) where
   abbrev n : ℕ
   n = b.born + 1
 
   abbrev d : Board
-  d = stood b (b.born + 1) a spot (drafted b t)
+  d = stood b (b.born + 1) a resources (drafted b t)
 
   -- the clock is new
   source-blank : (m : ℕ) → clock_of d n ≡ Some m → may_see (named_in (codes "source") (slots_at d m)) ≡ true
   source-blank m e =
       ap (λ (o : Option Record). may_see (named_in (codes "source") (option_map_or (λ (r : Record). r.slots) o [])))
-      (stood-other m b n a spot (drafted b t) (not_it m_new) (apart spot.bus bus_live)
+      (stood-other m b n a resources (drafted b t) (not_it m_new) (apart resources.bus bus_live)
       (apart (parent_for a.id) (parent-live depth None (λ x. false) b rest.used.firm h a.id)))
       ∙ drafted-source b t (shut-above b.born rest.used.firm.begun) rest.used m m_new
     where
-      j : Joined depth b n spot.bus spot.slot a.id t (record (now_at n (valued b n a.props spot (joined b n a spot (drafted b t)))) { its = a.id }) d
-      j = joined-stood depth b t a spot rest h goal
+      j : Joined depth b n resources.bus resources.slot a.id t
+          (record (now_at n (valued b n a.props resources (joined b n a resources (drafted b t)))) { its = a.id }) d
+      j = joined-stood depth b t a resources rest h goal
 
       heir : listed m (child_entries d n) ≡ true
       heir = clock-listed m (slots_at d n) e
@@ -191,8 +193,8 @@ module _ (depth : ℕ → ℕ) (b : Board) (t : TypeId) (a : Wanted) (spot : Spo
           decide (m == y) {A = (m == y) ≡ false} (λ p. absurd (let clash : false ≡ true = sym m_new ∙ ap (is_live b) (eqb-true m y p) ∙ k in cc))
           (λ p. p)
 
-      bus_live : is_live b spot.bus ≡ true
-      bus_live = of-live b (codes "bus") spot.bus goal.is_bus
+      bus_live : is_live b resources.bus ≡ true
+      bus_live = of-live b (codes "bus") resources.bus goal.is_bus
 
       is_device : is_of d (codes "device") n ≡ true
       is_device = ap (λ (o : Option TypeId). option_map_or (λ (k : TypeId). is_a k (codes "device")) o false) j.kind ∙ goal.device
@@ -208,9 +210,9 @@ module _ (depth : ℕ → ℕ) (b : Board) (t : TypeId) (a : Wanted) (spot : Spo
           cc))
           (λ p. p)
 
-  pub holds-source : HasSource b t a spot
+  pub holds-source : HasSource b t a resources
   holds-source = go (clock_of d n) refl
     where
-      go : (o : Option ℕ) → clock_of d n ≡ o → Dims d (with_source (source_for b spot.bus) o d)
+      go : (o : Option ℕ) → clock_of d n ≡ o → Dims d (with_source (source_for b resources.bus) o d)
       go None e = dims-none d
-      go (Some m) e = dims-source m (source_for b spot.bus) d (source-blank m e)
+      go (Some m) e = dims-source m (source_for b resources.bus) d (source-blank m e)

@@ -1,10 +1,10 @@
 -- The steps by which a device that was made comes to stand in its place: what each leaves of what places speak of.
 use Rattle.std.proofs.Common.{◌≡◌, refl, ap, sym, subst, ◌∙◌, ℕ, suc, Bool, true, false, ◌==◌, List, [], ◌∷◌, filter, filter_map, Option, Some, None, option_map, option_and_then, codes}
-use Rattle.qo_model.proofs.Common.{option_map_or, ANONYMOUS_BIRTH, MACHINE_BIRTH, PERIPHERAL_BIRTH, Act, Realize, Enter, Hold, Exit, TypeId, Range, Board, Record, Slot, record_of, kind_of, is_live, slots_at, acted, bus_of, is_realized, is_true, number_in, bus_slot_of, plain_in, strong_in, canonical, is_of, acted_all, bus_births, counted, started, notified_plug, with_body_of, with_path, edit, edited, is_out, phased, plugged, post, is_a}
+use Rattle.qo_model.proofs.Common.{option_map_or, ANONYMOUS_BIRTH, MACHINE_BIRTH, PERIPHERAL_BIRTH, Act, Realize, Enter, Hold, Exit, TypeId, Range, Board, Record, Slot, record_of, kind_of, is_live, slots_at, acted, bus_of, is_realized, is_true, number_in, bus_slot_of, plain_in, strong_in, canonical, is_of, acted_all, bus_births, counted, started, notified_plug, with_body_of, with_path, edit, edited, is_not_in_reset, phased, plugged, post, is_a}
 use Rattle.std.proofs.lemmas.Bool.{eqb-true, eq-eqb}
 use Rattle.qo_model.proofs.FirstSlotLemmas.{named_in}
 use Rattle.qo_model.proofs.StepLemmas.{found-edited, found-birth}
-use Rattle.qo_sound.proofs.FirmBoardLemmas.{Firm}
+use Rattle.qo_sound.proofs.FirmBoardLemmas.{WellFormed}
 use Rattle.qo_sound.proofs.TestLemmas.{decide}
 use Rattle.qo_sound_devices.proofs.JoiningLemmas.{differs}
 use Rattle.qo_sound_devices.specs.SoundPlaces.{child_entries, child_entry, id_of, kid_entries, listed, path_of, PlacesBut}
@@ -27,9 +27,9 @@ unfolding plugged
 dims-plugged d b =
     let entered : Board = phased Enter (post b d) b in
     let held : Board = phased Hold (post b d) entered in
-    dims-then b held (phased Exit (filter (is_out b) (post b d)) held)
+    dims-then b held (phased Exit (filter (is_not_in_reset b) (post b d)) held)
     (dims-then b entered held (dims-phased Enter (post b d) b) (dims-phased Hold (post b d) entered))
-    (dims-phased Exit (filter (is_out b) (post b d)) held)
+    (dims-phased Exit (filter (is_not_in_reset b) (post b d)) held)
 
 -- a step at the device alone, that leaves its children
 pub record Beside (n : ℕ) (c d : Board) : Type 0 where
@@ -75,7 +75,7 @@ module _ (depth : ℕ → ℕ) (b : Board) (n bus slot : ℕ) (id : Option (List
         goal = goal-same depth b n bus slot id t c d (k.dimmed.children n) j.goal;
       }
 
-  pub joined-beside : (left : Option ℕ) (out : ℕ → Bool) → Firm b → PlacesBut depth left out b → (now next : Now) (c d : Board) → Beside n c d
+  pub joined-beside : (left : Option ℕ) (out : ℕ → Bool) → WellFormed b → PlacesBut depth left out b → (now next : Now) (c d : Board) → Beside n c d
       → IsNow n next d → Joined depth b n bus slot id t now c → Joined depth b n bus slot id t next d
   joined-beside left out firm h now next c d k is j =
       record {
@@ -204,7 +204,7 @@ dims-acting n t c =
     let ran : Board = acted_all Realize (n ∷ bus_births n t) c in
     dims-then c ran (acting n t c) (dims-all Realize (n ∷ bus_births n t) c) (dims-plugged n ran)
 
-module _ (depth : ℕ → ℕ) (b : Board) (n bus slot : ℕ) (id : Option (List ℕ)) (t : TypeId) (firm : Firm b) (h : PlacesBut depth None (λ x. false) b) where
+module _ (depth : ℕ → ℕ) (b : Board) (n bus slot : ℕ) (id : Option (List ℕ)) (t : TypeId) (firm : WellFormed b) (h : PlacesBut depth None (λ x. false) b) where
   -- how it is now, where its slots stay
   now-same : (now : Now) (its path : Option (List ℕ)) (c d : Board) → Joined depth b n bus slot id t now c → d.anonymous ≡ c.anonymous
       → slots_at d n ≡ slots_at c n → id_of d n ≡ its → path_of d n ≡ path → IsNow n (record now { its = its; path = path }) d

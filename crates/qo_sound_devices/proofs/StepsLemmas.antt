@@ -6,7 +6,7 @@ use Rattle.std.proofs.lemmas.Option.{same_Some}
 use Rattle.std.proofs.lemmas.Slice.Eq.{bytes_eq-Decides}
 use Rattle.qo_model.proofs.FirstSlotLemmas.{named_in}
 use Rattle.qo_model.proofs.StepLemmas.{found-edited, is_some-map, map-edited}
-use Rattle.qo_sound.proofs.FirmBoardLemmas.{Firm}
+use Rattle.qo_sound.proofs.FirmBoardLemmas.{WellFormed}
 use Rattle.qo_sound.proofs.SlotLemmas.{names_in}
 use Rattle.qo_sound_devices.specs.SoundPlaces.{child_entries, child_entry, HasOwner, kid_entries, kid_entry, listed, owns_it, stands}
 use Rattle.qo_sound_devices.proofs.LikenessLemmas.{after-alike, Alike, alike-record, bodiless, other-record}
@@ -223,7 +223,7 @@ module _ (b : Board) (n : ℕ) (change : Record → Record) (same_birth : (r : R
       }
 
 -- steps are moves, where these are shown too
-pub moved-steps : (left : Option ℕ) (b c : Board) → Firm c → is_live c 1 ≡ true → Steps b c
+pub moved-steps : (left : Option ℕ) (b c : Board) → WellFormed c → is_live c 1 ≡ true → Steps b c
     → ((x : ℕ) → among (1 ∷ MACHINE_BIRTH ∷ []) x ≡ true → child_entries c x ≡ child_entries b x)
     → ((x : ℕ) → stands c x ≡ true → left ≢ Some x → bus_of c x ≡ bus_of b x)
     → ((q x : ℕ) → is_of b (codes "bus") q ≡ true → listed x (kid_entries c q) ≡ true → (stands c x ≡ true) × (bus_of c x ≡ bus_of b x))

@@ -6,7 +6,7 @@ use Rattle.qo_values.specs.declared.properties.Val.TheVariants as val
 use Rattle.qo_model.proofs.ReleaseScopeLemmas.{release_leaves}
 use Rattle.qo_sound.proofs.DetachmentStepsLemmas.{step-detach}
 use Rattle.qo_sound.proofs.AdditionStepsLemmas.{step-set}
-use Rattle.qo_sound.proofs.ViewLemmas.{AtRest}
+use Rattle.qo_sound.proofs.ViewLemmas.{PinsRootAlone}
 use Rattle.qo_sound_devices.specs.SoundLists.{IsOn, SoundLists}
 use Rattle.qo_sound_devices.specs.SoundPlaces.{PlacesBut, stands}
 use Rattle.qo_sound_devices.proofs.DetachmentLemmas.{detach-lit, detach-places}
@@ -165,7 +165,7 @@ pinned-same : (b : Board) (d : ℕ) → LeavesListed b (pin b d)
 unfolding pin
 pinned-same b d = record { fewer = fewer-same b (pin b d) refl refl; lit = λ x e lit. lit }
 
-pub detach-lists : (depth : ℕ → ℕ) (b : Board) (d : ℕ) → AtRest b → PlacesBut depth None (λ x. false) b → stands b d ≡ true → SoundLists b
+pub detach-lists : (depth : ℕ → ℕ) (b : Board) (d : ℕ) → PinsRootAlone b → PlacesBut depth None (λ x. false) b → stands b d ≡ true → SoundLists b
     → SoundLists (detach b d)
 detach-lists depth b d rest h e lists = lists-fewer b (detach b d) fewer stay lists
   where

@@ -5,13 +5,13 @@ use Rattle.std.proofs.lemmas.Bool.{eqb-true}
 use Rattle.std.proofs.lemmas.Option.{same_Some}
 use Rattle.std.proofs.lemmas.Slice.Eq.{bytes_eq-Decides}
 use Rattle.std.proofs.Math.Bool.{or-true}
-use Rattle.qo_model.specs.Board.{held}
+use Rattle.qo_model.specs.Board.{referent}
 use Rattle.qo_model.proofs.EditLemmas.{left_of, sum-without_hold}
 use Rattle.qo_model.proofs.FirstSlotLemmas.{named_in}
 use Rattle.qo_model.proofs.StepLemmas.{drop-record, is_some-map}
-use Rattle.qo_sound.proofs.FirmBoardLemmas.{Firm, firm-drop}
+use Rattle.qo_sound.proofs.FirmBoardLemmas.{WellFormed, firm-drop}
 use Rattle.qo_sound.proofs.SlotLemmas.{names_in, one_child}
-use Rattle.qo_sound.proofs.UnplugLemmas.{Sits}
+use Rattle.qo_sound.proofs.UnplugLemmas.{HasPins}
 use Rattle.qo_sound_devices.specs.SoundPlaces.{child_entries, child_entry, HasOwner, machines, bridges, IsHome, kid_entries, kid_entry, listed, owns, owns_it, PlacesBut, stands, names_it}
 use Rattle.qo_sound_devices.proofs.LikenessLemmas.{Alike}
 use Rattle.qo_sound_devices.proofs.DropLemmas.{children-kept, KeptAt, kept-edit, kids-kept, names-at, strong-dropped}
@@ -23,15 +23,15 @@ use Rattle.qo_sound_devices.proofs.StepsLemmas.{apart-alike, at-slots, dropped-s
 
 -- a board while something is taken out of it
 pub record Mid (depth : ℕ → ℕ) (out : ℕ → Bool) (left : Option ℕ) (ps : List ℕ) (c : Board) : Type 0 where
-  pub sits : Sits ps c
+  pub sits : HasPins ps c
   pub one : among ps 1 ≡ true
   pub places : PlacesBut depth left out c
 
-pub record Went (depth : ℕ → ℕ) (out : ℕ → Bool) (left : Option ℕ) (ps : List ℕ) (b c : Board) : Type 0 where
+pub record ReachedBySteps (depth : ℕ → ℕ) (out : ℕ → Bool) (left : Option ℕ) (ps : List ℕ) (b c : Board) : Type 0 where
   pub mid : Mid depth out left ps c
   pub steps : Steps b c
 
-pub went-none : (depth : ℕ → ℕ) (out : ℕ → Bool) (left : Option ℕ) (ps : List ℕ) (b : Board) → Mid depth out left ps b → Went depth out left ps b b
+pub went-none : (depth : ℕ → ℕ) (out : ℕ → Bool) (left : Option ℕ) (ps : List ℕ) (b : Board) → Mid depth out left ps b → ReachedBySteps depth out left ps b b
 went-none depth out left ps b h = record { mid = h; steps = steps-none b }
 
 -- the object of what is there
@@ -99,7 +99,7 @@ any-kid_dropped p zero (x ∷ slots) s e at is no_more = go x (ap kid_entry (sam
 -- a slot of one object that is let go
 module _ (depth : ℕ → ℕ) (out : ℕ → Bool) (left : Option ℕ) (ps : List ℕ) (b : Board) (h : Mid depth out left ps b) (n i : ℕ) (r : Record)
     (found : record_of b n ≡ Some r) (s : List ℕ × Slot) (at : slice_get r.slots i ≡ Some s) where
-  firm : Firm b
+  firm : WellFormed b
   firm = h.sits.near.firm
 
   root : is_live b 1 ≡ true
@@ -160,23 +160,23 @@ module _ (depth : ℕ → ℕ) (out : ℕ → Bool) (left : Option ℕ) (ps : Li
       go (inr a) = absurd (differs (ap Some a))
 
   -- the places after it, from those of the board without the slot
-  pub went-let_go : (now : Option ℕ) → Sits ps (let_go b n i) → PlacesBut depth now out (drop_slot b n i) → Went depth out now ps b (let_go b n i)
+  pub went-let_go : (now : Option ℕ) → HasPins ps (let_go b n i) → PlacesBut depth now out (drop_slot b n i) → ReachedBySteps depth out now ps b (let_go b n i)
   unfolding let_go drop_slot
   went-let_go now sits places =
       let slot : slot_at b n i ≡ Some s.1 =
       ap (λ (o : Option Record). option_map (λ (x : List ℕ × Slot). x.1) (slice_get (option_map_or (λ (x : Record). x.slots) o []) i)) found
       ∙ ap (option_map (λ (x : List ℕ × Slot). x.1)) at in
       let c : Board = drop_slot b n i in
-      let ends : Firm (after finalize c (held s.1)) = rw (let_go, slot) at sits.near.firm in
+      let ends : WellFormed (after finalize c (referent s.1)) = rw (let_go, slot) at sits.near.firm in
       let pinned : among c.pins 1 ≡ true = ap (λ (qs : List ℕ). among qs 1) h.sits.pins ∙ h.one in
       record {
         mid =
             record {
               sits = sits;
               one = h.one;
-              places = rw (let_go, slot) (after-places depth now out c (held s.1) ends pinned places);
+              places = rw (let_go, slot) (after-places depth now out c (referent s.1) ends pinned places);
             };
-        steps = rw (let_go, slot) (steps-then b c (after finalize c (held s.1)) dropped (steps-after c (held s.1)));
+        steps = rw (let_go, slot) (steps-then b c (after finalize c (referent s.1)) dropped (steps-after c (referent s.1)));
       }
 
   -- a child slot of an object that stands, whose child is no bus with kids
@@ -368,7 +368,8 @@ module _ (depth : ℕ → ℕ) (out : ℕ → Bool) (left : Option ℕ) (ps : Li
           (λ q x isb a l. ap (listed x) (kids-stay d is q) ∙ l) owned
 
 -- an empty link is removed
-pub cut-kept : (b : Board) → is_live b 1 ≡ true → (n i : ℕ) → Firm b → Firm (cut n i b) → (r : Record) → record_of b n ≡ Some r → (s : List ℕ × Slot)
+pub cut-kept : (b : Board) → is_live b 1 ≡ true → (n i : ℕ) → WellFormed b → WellFormed (cut n i b) → (r : Record) → record_of b n ≡ Some r
+    → (s : List ℕ × Slot)
     → slice_get r.slots i ≡ Some s → (t : TypeId) → s.1 ≡ strong t None → Kept b (cut n i b) × Steps b (cut n i b)
 unfolding cut
 cut-kept b root n i firm firm_after r found s at t is =

@@ -13,7 +13,7 @@ use Rattle.qo_sound_devices.proofs.DropLemmas.{edited-slots}
 use Rattle.qo_sound_devices.proofs.PlacesLemmas.{SameBody}
 
 -- two boards that differ, of what places speak of, only in that fewer are realized
-pub record Dimmed (b c : Board) : Type 0 where
+pub record FewerRealized (b c : Board) : Type 0 where
   pub body : (x : ℕ) → SameBody b c x
   pub children : (x : ℕ) → child_entries c x ≡ child_entries b x
   pub kids : (x : ℕ) → kid_entries c x ≡ kid_entries b x
@@ -22,10 +22,10 @@ pub record Dimmed (b c : Board) : Type 0 where
   pub fading : (x : ℕ) → is_realized c x ≡ true → is_realized b x ≡ true
   pub anonymous : c.anonymous ≡ b.anonymous
 
-pub dimmed-none : (b : Board) → Dimmed b b
+pub dimmed-none : (b : Board) → FewerRealized b b
 dimmed-none b = record { body = λ x. refl; children = λ x. refl; kids = λ x. refl; bus = λ x. refl; place = λ x. refl; fading = λ x e. e; anonymous = refl }
 
-pub dimmed-then : (b c d : Board) → Dimmed b c → Dimmed c d → Dimmed b d
+pub dimmed-then : (b c d : Board) → FewerRealized b c → FewerRealized c d → FewerRealized b d
 dimmed-then b c d h k =
     record {
       body = λ x. k.body x ∙ h.body x;
@@ -37,12 +37,12 @@ dimmed-then b c d h k =
       anonymous = k.anonymous ∙ h.anonymous;
     }
 
-pub dimmed-live : (b c : Board) → Dimmed b c → (x : ℕ) → is_live c x ≡ is_live b x
+pub dimmed-live : (b c : Board) → FewerRealized b c → (x : ℕ) → is_live c x ≡ is_live b x
 dimmed-live b c h x = sym (is_some-map bodiless (record_of c x)) ∙ ap is_some (h.body x) ∙ is_some-map bodiless (record_of b x)
 
 -- how two boards differ in who is realized
 pub record Dims (b c : Board) : Type 0 where
-  pub dimmed : Dimmed b c
+  pub dimmed : FewerRealized b c
   pub same : (x : ℕ) → is_realized c x ≡ is_realized b x
 
 pub dims-none : (b : Board) → Dims b b
@@ -117,7 +117,7 @@ module _ (g : Slot → Slot) (mild : IsMild g) (n i : ℕ) (b : Board) where
   -- where the value of one name is changed
   pub mild-dimmed : ((slots : List (List ℕ × Slot)) → slots_at b n ≡ slots
       → option_and_then plain_in (named_in (codes "slot") (changed_at g i slots)) ≡ option_and_then plain_in (named_in (codes "slot") slots))
-      → ((x : ℕ) → is_realized (edit n (with_changed g i) b) x ≡ true → is_realized b x ≡ true) → Dimmed b (edit n (with_changed g i) b)
+      → ((x : ℕ) → is_realized (edit n (with_changed g i) b) x ≡ true → is_realized b x ≡ true) → FewerRealized b (edit n (with_changed g i) b)
   mild-dimmed slot fading =
       record {
         body = bodies g n i b;
@@ -216,7 +216,7 @@ dims-set n name v no_slot no_mark b = go (index_from (is_named name) 0 (slots_at
 
 -- a device is not realized any more, and each other is as before
 pub record Fades (d : ℕ) (b c : Board) : Type 0 where
-  pub dimmed : Dimmed b c
+  pub dimmed : FewerRealized b c
   pub gone : is_realized c d ≡ false
   pub same : (x : ℕ) → (x == d) ≡ false → is_realized c x ≡ is_realized b x
 
@@ -374,15 +374,15 @@ module _ (b : Board) where
   abbrev on_bus : ℕ → ℕ → Board → Board
   on_bus depth m e = unrealized_bus m (each (turns depth) (kids_of b m) e)
 
-  pub turns-dimmed : (depth d : ℕ) (c : Board) → Dimmed c (turns depth d c)
+  pub turns-dimmed : (depth d : ℕ) (c : Board) → FewerRealized c (turns depth d c)
   turns-dimmed zero d c = dimmed-none c
   turns-dimmed (suc depth) d c = turn (turns-dimmed depth)
     where
-      turn : ((k : ℕ) (e : Board) → Dimmed e (turns depth k e)) → Dimmed c (turns (suc depth) d c)
+      turn : ((k : ℕ) (e : Board) → FewerRealized e (turns depth k e)) → FewerRealized c (turns (suc depth) d c)
       turn keeps =
-          let inner : Dimmed c (each (on_bus depth) (buses_of b d) c) =
-          each-keeps (Dimmed c) (on_bus depth) (buses_of b d)
-          (λ m q e h. dimmed-then c (each (turns depth) (kids_of b m) e) (on_bus depth m e) (each-keeps (Dimmed c) (turns depth) (kids_of b m)
+          let inner : FewerRealized c (each (on_bus depth) (buses_of b d) c) =
+          each-keeps (FewerRealized c) (on_bus depth) (buses_of b d)
+          (λ m q e h. dimmed-then c (each (turns depth) (kids_of b m) e) (on_bus depth m e) (each-keeps (FewerRealized c) (turns depth) (kids_of b m)
           (λ k r x j. dimmed-then c x (turns depth k x) j (keeps k x)) e h) (dims-bus m (each (turns depth) (kids_of b m) e)).dimmed) c
           (dimmed-none c) in
           dimmed-then c (each (on_bus depth) (buses_of b d) c) (turns (suc depth) d c) inner (fades-device d (each (on_bus depth) (buses_of b d) c)).dimmed
@@ -416,7 +416,7 @@ module _ (b : Board) where
           own e h false p lost = h (sym ((fades-device d e).same y p) ∙ lost)
 
   -- and all of it, where the recursion goes deep enough
-  faded : (c e : Board) (y : ℕ) → Dimmed c e → is_realized c y ≡ false → is_realized e y ≡ false
+  faded : (c e : Board) (y : ℕ) → FewerRealized c e → is_realized c y ≡ false → is_realized e y ≡ false
   faded c e y h lost = go (is_realized e y) refl
     where
       go : (t : Bool) → is_realized e y ≡ t → is_realized e y ≡ false
@@ -444,7 +444,7 @@ module _ (b : Board) where
           (λ n e.
           faded e (on_bus depth n e) x
           (dimmed-then e (each (turns depth) (kids_of b n) e) (on_bus depth n e)
-          (each-keeps (Dimmed e) (turns depth) (kids_of b n) (λ j s z h. dimmed-then e z (turns depth j z) h (turns-dimmed depth j z)) e
+          (each-keeps (FewerRealized e) (turns depth) (kids_of b n) (λ j s z h. dimmed-then e z (turns depth j z) h (turns-dimmed depth j z)) e
           (dimmed-none e))
           (dims-bus n (each (turns depth) (kids_of b n) e)).dimmed))
           c)

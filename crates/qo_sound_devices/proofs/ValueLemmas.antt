@@ -1,12 +1,12 @@
 -- A device that was made and joined gets its values, its address and its id: of what places speak of, only what stands on itself changes.
 use Rattle.std.proofs.Common.{◌≡◌, refl, ap, subst, ◌∙◌, ℕ, ◌+◌, Bool, true, false, ◌==◌, List, [], filter_map, Option, Some, None, option_map, codes}
-use Rattle.qo_model.proofs.Common.{option_map_or, TypeId, Val, Range, Board, Record, Slot, plain, child, strong, weak, alias, record_of, slots_at, add, set, with_changed, with_val, bus_of, is_realized, bus_slot_of, Given, index_from, canonical, Spot, Wanted, addressed_at, clocked, drafted, fitted, joined, link_named, source_for, stood, valued, with_device, with_given, with_plugged, edit, edited, is_named, set_named}
+use Rattle.qo_model.proofs.Common.{option_map_or, TypeId, Val, Range, Board, Record, Slot, plain, child, strong, weak, alias, record_of, slots_at, add, set, with_changed, with_val, bus_of, is_realized, bus_slot_of, Given, index_from, canonical, Resources, Wanted, addressed_at, clocked, drafted, fitted, joined, link_named, source_for, stood, valued, with_device, with_given, with_plugged, edit, edited, is_named, set_named}
 use Rattle.qo_values.specs.declared.properties.Val.TheVariants as val
 use Rattle.qo_model.proofs.StepLemmas.{found-edited, map-edited}
-use Rattle.qo_sound.proofs.FirmBoardLemmas.{Firm}
+use Rattle.qo_sound.proofs.FirmBoardLemmas.{WellFormed}
 use Rattle.qo_sound.proofs.PlugLemmas.{shut-above}
 use Rattle.qo_sound.proofs.TestLemmas.{decide}
-use Rattle.qo_sound.proofs.ViewLemmas.{AtRest}
+use Rattle.qo_sound.proofs.ViewLemmas.{PinsRootAlone}
 use Rattle.qo_sound_devices.specs.SoundPlaces.{child_entry, path_of, PlacesBut}
 use Rattle.qo_sound_devices.proofs.AddLemmas.{children-given}
 use Rattle.qo_sound_devices.proofs.LikenessLemmas.{alike-none, alike-record, other-record}
@@ -97,103 +97,115 @@ read-now : (n : ℕ) (d : Board) → IsNow n (now_at n d) d
 read-now n d = record { its_id = refl; its_path = refl; anonymous = refl; on = refl; at = refl; realized = refl }
 
 -- its clock gets its source, which leaves all that is read of places
-abbrev pub HasSource : Board → TypeId → Wanted → Spot → Type 0
-HasSource b t a spot =
-    Dims (stood b (b.born + 1) a spot (drafted b t)) (clocked (source_for b spot.bus) (b.born + 1) (stood b (b.born + 1) a spot (drafted b t)))
+abbrev pub HasSource : Board → TypeId → Wanted → Resources → Type 0
+HasSource b t a resources =
+    Dims (stood b (b.born + 1) a resources (drafted b t)) (clocked (source_for b resources.bus) (b.born + 1) (stood b (b.born + 1) a resources (drafted b t)))
 
 -- its path is the one below its container
-abbrev pub HasPath : Board → TypeId → Wanted → Spot → Type 0
-HasPath b t a spot = canonical (acting (b.born + 1) t (with_device b t a spot)) (b.born + 1) ≡ Some (path_after b a.id)
+abbrev pub HasPath : Board → TypeId → Wanted → Resources → Type 0
+HasPath b t a resources = canonical (acting (b.born + 1) t (with_device b t a resources)) (b.born + 1) ≡ Some (path_after b a.id)
 
-module _ (depth : ℕ → ℕ) (b : Board) (t : TypeId) (a : Wanted) (spot : Spot) (rest : AtRest b) (h : PlacesBut depth None (λ x. false) b)
-    (goal : Goal depth b (b.born + 1) spot.bus spot.slot a.id t (drafted b t)) where
+module _ (depth : ℕ → ℕ) (b : Board) (t : TypeId) (a : Wanted) (resources : Resources) (rest : PinsRootAlone b) (h : PlacesBut depth None (λ x. false) b)
+    (goal : Goal depth b (b.born + 1) resources.bus resources.slot a.id t (drafted b t)) where
   abbrev n : ℕ
   n = b.born + 1
 
   abbrev IsJoined : Now → Board → Type 0
-  IsJoined now c = Joined depth b n spot.bus spot.slot a.id t now c
+  IsJoined now c = Joined depth b n resources.bus resources.slot a.id t now c
 
-  firm : Firm b
+  firm : WellFormed b
   firm = rest.used.firm
 
   step : (now : Now) (c d : Board) → Beside n c d → IsJoined now c → IsJoined (now_at n d) d
-  step now c d k j = joined-beside depth b n spot.bus spot.slot a.id t None (λ x. false) firm h now (now_at n d) c d k (read-now n d) j
+  step now c d k j = joined-beside depth b n resources.bus resources.slot a.id t None (λ x. false) firm h now (now_at n d) c d k (read-now n d) j
 
   -- the device stands in its container and at its bus
-  pub joined-drafted : Joined depth b (b.born + 1) spot.bus spot.slot a.id t (now_at (b.born + 1) (joined b (b.born + 1) a spot (drafted b t)))
-      (joined b (b.born + 1) a spot (drafted b t))
-  joined-drafted = joined-wanted depth b n a spot t (drafted b t) (drafted-made b t (shut-above b.born rest.used.firm.begun) rest.used goal.device) goal firm h
+  pub joined-drafted : Joined depth b (b.born + 1) resources.bus resources.slot a.id t (now_at (b.born + 1) (joined b (b.born + 1) a resources (drafted b t)))
+      (joined b (b.born + 1) a resources (drafted b t))
+  joined-drafted =
+      joined-wanted depth b n a resources t (drafted b t) (drafted-made b t (shut-above b.born rest.used.firm.begun) rest.used goal.device) goal firm h
 
   -- with the values given and its slot
-  pub joined-slotted : Joined depth b (b.born + 1) spot.bus spot.slot a.id t (now_at (b.born + 1)
-      (set_named (b.born + 1) (codes "slot") (val.Uint spot.slot) (edit (b.born + 1) (with_given b a.props) (joined b (b.born + 1) a spot (drafted b t)))))
-      (set_named (b.born + 1) (codes "slot") (val.Uint spot.slot) (edit (b.born + 1) (with_given b a.props) (joined b (b.born + 1) a spot (drafted b t))))
+  pub joined-slotted : Joined depth b (b.born + 1) resources.bus resources.slot a.id t (now_at (b.born + 1)
+      (set_named (b.born + 1) (codes "slot") (val.Uint resources.slot)
+      (edit (b.born + 1) (with_given b a.props) (joined b (b.born + 1) a resources (drafted b t)))))
+      (set_named (b.born + 1) (codes "slot") (val.Uint resources.slot)
+      (edit (b.born + 1) (with_given b a.props) (joined b (b.born + 1) a resources (drafted b t))))
   joined-slotted =
-      let c : Board = joined b n a spot (drafted b t) in
+      let c : Board = joined b n a resources (drafted b t) in
       let c3 : Board = edit n (with_given b a.props) c in
-      step (now_at n c3) c3 (set_named n (codes "slot") (val.Uint spot.slot) c3) (beside-set n (codes "slot") (val.Uint spot.slot) c3)
+      step (now_at n c3) c3 (set_named n (codes "slot") (val.Uint resources.slot) c3) (beside-set n (codes "slot") (val.Uint resources.slot) c3)
       (step (now_at n c) c c3 (beside-given b n a.props c) joined-drafted)
 
   -- with its values
   pub joined-valued : Joined depth b
-      (b.born + 1) spot.bus spot.slot a.id t (now_at (b.born + 1) (valued b (b.born + 1) a.props spot (joined b (b.born + 1) a spot (drafted b t))))
-      (valued b (b.born + 1) a.props spot (joined b (b.born + 1) a spot (drafted b t)))
+      (b.born + 1) resources.bus resources.slot a.id t
+      (now_at (b.born + 1) (valued b (b.born + 1) a.props resources (joined b (b.born + 1) a resources (drafted b t))))
+      (valued b (b.born + 1) a.props resources (joined b (b.born + 1) a resources (drafted b t)))
   joined-valued =
-      let c : Board = joined b n a spot (drafted b t) in
+      let c : Board = joined b n a resources (drafted b t) in
       let c3 : Board = edit n (with_given b a.props) c in
-      let c4 : Board = set_named n (codes "slot") (val.Uint spot.slot) c3 in
-      let c5 : Board = link_named n (codes "parent_bus") spot.bus c4 in
+      let c4 : Board = set_named n (codes "slot") (val.Uint resources.slot) c3 in
+      let c5 : Board = link_named n (codes "parent_bus") resources.bus c4 in
       step (now_at n c5) c5 (set_named n (codes "realized") (val.Bool true) c5) (beside-set n (codes "realized") (val.Bool true) c5)
-      (step (now_at n c4) c4 c5 (beside-link n (codes "parent_bus") spot.bus c4) joined-slotted)
+      (step (now_at n c4) c4 c5 (beside-link n (codes "parent_bus") resources.bus c4) joined-slotted)
 
   abbrev has_values : Board
-  has_values = valued b (b.born + 1) a.props spot (joined b (b.born + 1) a spot (drafted b t))
+  has_values = valued b (b.born + 1) a.props resources (joined b (b.born + 1) a resources (drafted b t))
 
   -- and with its address and its id
   pub joined-stood : Joined depth b (b.born + 1)
-      spot.bus spot.slot a.id t (record (now_at (b.born + 1) (valued b (b.born + 1) a.props spot (joined b (b.born + 1) a spot (drafted b t)))) { its = a.id })
-      (stood b (b.born + 1) a spot (drafted b t))
+      resources.bus resources.slot a.id t
+      (record (now_at (b.born + 1) (valued b (b.born + 1) a.props resources (joined b (b.born + 1) a resources (drafted b t)))) { its = a.id })
+      (stood b (b.born + 1) a resources (drafted b t))
   joined-stood =
-      joined-body depth b n spot.bus spot.slot a.id t firm h (now_at n has_values) (addressed_at n spot.range has_values) spot.range
-      (joined-dims depth b n spot.bus spot.slot a.id t (now_at n has_values) has_values (addressed_at n spot.range has_values)
-      (dims-addressed n spot.range has_values) joined-valued)
+      joined-body depth b n resources.bus resources.slot a.id t firm h (now_at n has_values) (addressed_at n resources.range has_values) resources.range
+      (joined-dims depth b n resources.bus resources.slot a.id t (now_at n has_values) has_values (addressed_at n resources.range has_values)
+      (dims-addressed n resources.range has_values) joined-valued)
 
   -- what is left: its link holds its bus; its clock gets its source; its path is the one below its container
   pub record Holds : Type 0 where
-    pub on : bus_of (valued b (b.born + 1) a.props spot (joined b (b.born + 1) a spot (drafted b t))) (b.born + 1) ≡ Some spot.bus
-    pub source : HasSource b t a spot
-    pub path : HasPath b t a spot
+    pub on : bus_of (valued b (b.born + 1) a.props resources (joined b (b.born + 1) a resources (drafted b t))) (b.born + 1) ≡ Some resources.bus
+    pub source : HasSource b t a resources
+    pub path : HasPath b t a resources
 
   uncounted : has_values.anonymous ≡ b.anonymous
   unfolding add
   uncounted =
-      let c : Board = joined b n a spot (drafted b t) in
+      let c : Board = joined b n a resources (drafted b t) in
       let c3 : Board = edit n (with_given b a.props) c in
-      let c4 : Board = set_named n (codes "slot") (val.Uint spot.slot) c3 in
-      let c5 : Board = link_named n (codes "parent_bus") spot.bus c4 in
+      let c4 : Board = set_named n (codes "slot") (val.Uint resources.slot) c3 in
+      let c5 : Board = link_named n (codes "parent_bus") resources.bus c4 in
       set-count n (codes "realized") (val.Bool true) c5
-      ∙ link-count n (codes "parent_bus") spot.bus c4
-      ∙ set-count n (codes "slot") (val.Uint spot.slot) c3
+      ∙ link-count n (codes "parent_bus") resources.bus c4
+      ∙ set-count n (codes "slot") (val.Uint resources.slot) c3
       ∙ (drafted-made b t (shut-above b.born rest.used.firm.begun) rest.used goal.device).anonymous
 
   module _ (k : Holds) where
     stands_so : Now
-    stands_so = record { its = a.id; path = path_of has_values n; count = b.anonymous; on = Some spot.bus; at = Some spot.slot; realized = true }
+    stands_so = record { its = a.id; path = path_of has_values n; count = b.anonymous; on = Some resources.bus; at = Some resources.slot; realized = true }
 
-    joined-so : IsJoined (record { its = a.id; path = path_of has_values n; count = b.anonymous; on = Some spot.bus; at = Some spot.slot; realized = true })
-        (stood b n a spot (drafted b t))
+    joined-so : IsJoined (record {
+      its = a.id;
+      path = path_of has_values n;
+      count = b.anonymous;
+      on = Some resources.bus;
+      at = Some resources.slot;
+      realized = true;
+    })
+        (stood b n a resources (drafted b t))
     joined-so =
         subst
         (λ (x : Bool).
-        IsJoined (record { its = a.id; path = path_of has_values n; count = b.anonymous; on = Some spot.bus; at = Some spot.slot; realized = x })
-        (stood b n a spot (drafted b t)))
-        (valued-realized b t firm goal.device a spot)
+        IsJoined (record { its = a.id; path = path_of has_values n; count = b.anonymous; on = Some resources.bus; at = Some resources.slot; realized = x })
+        (stood b n a resources (drafted b t)))
+        (valued-realized b t firm goal.device a resources)
         (subst (λ (x : Option ℕ).
-        IsJoined (record { its = a.id; path = path_of has_values n; count = b.anonymous; on = Some spot.bus; at = x; realized = is_realized has_values n })
-        (stood b n a spot (drafted b t))) (valued-at b t firm goal.device a spot)
+        IsJoined (record { its = a.id; path = path_of has_values n; count = b.anonymous; on = Some resources.bus; at = x; realized = is_realized has_values n })
+        (stood b n a resources (drafted b t))) (valued-at b t firm goal.device a resources)
         (subst (λ (x : Option ℕ). IsJoined
         (record { its = a.id; path = path_of has_values n; count = b.anonymous; on = x; at = bus_slot_of has_values n; realized = is_realized has_values n })
-        (stood b n a spot (drafted b t))) k.on
+        (stood b n a resources (drafted b t))) k.on
         (subst
         (λ (x : ℕ). IsJoined (record {
           its = a.id;
@@ -202,13 +214,15 @@ module _ (depth : ℕ → ℕ) (b : Board) (t : TypeId) (a : Wanted) (spot : Spo
           on = bus_of has_values n;
           at = bus_slot_of has_values n;
           realized = is_realized has_values n;
-        }) (stood b n a spot (drafted b t))) uncounted joined-stood)))
+        }) (stood b n a resources (drafted b t))) uncounted joined-stood)))
 
-    pub plugged-joined : Joined depth b (b.born + 1) spot.bus spot.slot a.id t (done b spot.bus spot.slot a.id) (with_plugged b t a spot)
+    pub plugged-joined : Joined depth b (b.born + 1) resources.bus resources.slot a.id t (done b resources.bus resources.slot a.id)
+        (with_plugged b t a resources)
     plugged-joined =
-        let e : Board = clocked (source_for b spot.bus) n (stood b n a spot (drafted b t)) in
-        let now : Now = record { its = a.id; path = path_of has_values n; count = b.anonymous; on = Some spot.bus; at = Some spot.slot; realized = true } in
-        started-joined depth b n spot.bus spot.slot a.id t firm h (with_device b t a spot) (path_of has_values n)
-        (joined-counted depth b n spot.bus spot.slot a.id t now e a.id
-        (joined-dims depth b n spot.bus spot.slot a.id t now (stood b n a spot (drafted b t)) e k.source joined-so))
+        let e : Board = clocked (source_for b resources.bus) n (stood b n a resources (drafted b t)) in
+        let now : Now =
+        record { its = a.id; path = path_of has_values n; count = b.anonymous; on = Some resources.bus; at = Some resources.slot; realized = true } in
+        started-joined depth b n resources.bus resources.slot a.id t firm h (with_device b t a resources) (path_of has_values n)
+        (joined-counted depth b n resources.bus resources.slot a.id t now e a.id
+        (joined-dims depth b n resources.bus resources.slot a.id t now (stood b n a resources (drafted b t)) e k.source joined-so))
         k.path

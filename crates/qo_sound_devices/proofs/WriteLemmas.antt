@@ -6,29 +6,29 @@ use Rattle.std.proofs.lemmas.Bool.{not-true, and_parts}
 use Rattle.std.proofs.lemmas.Option.{same_Some}
 use Rattle.std.proofs.lemmas.Slice.Eq.{bytes_eq-Decides}
 use Rattle.qo_values.proofs.EachLemmas.{each}
-use Rattle.qo_model.specs.Board.{held}
+use Rattle.qo_model.specs.Board.{referent}
 use Rattle.qo_model.proofs.EditLemmas.{StandsAt, stands-at}
 use Rattle.qo_model.proofs.FirstSlotLemmas.{named-changed, named-other}
 use Rattle.qo_model.proofs.StepLemmas.{drop-live, found-edited}
 use Rattle.qo_sound.proofs.ChangeLemmas.{emptied-at, near-relinked, near-set}
 use Rattle.qo_model.proofs.WrittenLemmas.{IsLink, holding, seeing, link-childless}
 use Rattle.qo_sound.proofs.TargetLemmas.{target-fit}
-use Rattle.qo_sound.proofs.FirmBoardLemmas.{edited-kinds, FitsKind, Firm, firm-changed, firm-drop, Linked}
+use Rattle.qo_sound.proofs.FirmBoardLemmas.{edited-kinds, FitsKind, WellFormed, firm-changed, firm-drop, Linked}
 use Rattle.qo_sound.proofs.ReadLemmas.{plain-pointed}
 use Rattle.qo_sound.proofs.SlotLemmas.{child-pointed}
-use Rattle.qo_sound.proofs.ViewLemmas.{AtRest}
+use Rattle.qo_sound.proofs.ViewLemmas.{PinsRootAlone}
 use Rattle.qo_model.proofs.WrittenLemmas.{SlotFound, write-comes}
 use Rattle.qo_sound_devices.specs.SoundPlaces.{child_entry, PlacesBut}
 use Rattle.qo_sound_devices.proofs.LikenessLemmas.{Alike}
 use Rattle.qo_sound_devices.proofs.CommandLemmas.{Goes, goes-after, goes-kept, goes-then, keeps-goes}
 use Rattle.qo_sound_devices.proofs.DropLemmas.{edited-slots, kept-drop, kept-edit, KeptAt}
 use Rattle.qo_sound_devices.proofs.PlacesLemmas.{Keeps, keeps-none, Kept, kept-alike, of-alike, owner-live, within-same}
-use Rattle.qo_sound_devices.proofs.UnrealizingLemmas.{Dimmed, dimmed-live, entries-changed, mild-dimmed, mild-val, reads}
+use Rattle.qo_sound_devices.proofs.UnrealizingLemmas.{FewerRealized, dimmed-live, entries-changed, mild-dimmed, mild-val, reads}
 
 -- what `qom-set` may write: no property of buses, and none that places speak of
 abbrev fits_places : TypeId → Property → Bool
 fits_places t p =
-    not (may_set p.mark) ||
+    not (may_set p.access) ||
     ((not (is_a t (codes "bus")) && not (bytes_eq (property_name p.name) (codes "parent_bus"))) &&
     (not (bytes_eq (property_name p.name) (codes "realized")) && not (bytes_eq (property_name p.name) (codes "slot"))))
 
@@ -56,7 +56,7 @@ found-fits t name (p ∷ ps) h row e = go (bytes_eq (property_name p.name) name)
     go false q rest = rest (rw q at e)
 
 pub row-fits : (b : Board) (n : ℕ) (name : List ℕ) (row : Property) → option_and_then (λ t. property_named t name) (kind_of b n) ≡ Some row
-    → may_set row.mark ≡ true → Fits b n name
+    → may_set row.access ≡ true → Fits b n name
 row-fits b n name row e may = go (kind_of b n) refl e
   where
     go : (o : Option TypeId) → kind_of b n ≡ o → option_and_then (λ t. property_named t name) o ≡ Some row → Fits b n name
@@ -86,7 +86,7 @@ row-fits b n name row e may = go (kind_of b n) refl e
         }
 
 -- a plain value
-set-kept : (b : Board) (n i : ℕ) (v : Val) (name : List ℕ) → Fits b n name → SlotFound name (slots_at b n) i → Firm (set n i v b) → is_live b 1 ≡ true
+set-kept : (b : Board) (n i : ℕ) (v : Val) (name : List ℕ) → Fits b n name → SlotFound name (slots_at b n) i → WellFormed (set n i v b) → is_live b 1 ≡ true
     → Kept b (set n i v b)
 unfolding set
 set-kept b n i v name fits f firm root = kept-alike b c firm (dimmed-live b c dims 1 ∙ root) refl alike
@@ -111,7 +111,7 @@ set-kept b n i v name fits f firm root = kept-alike b c firm (dimmed-live b c di
         option_map_or is_true (option_and_then plain_in (option_map (λ (s : List ℕ × Slot). s.1) (find (λ s. bytes_eq s.0 (codes "realized")) slots))) false)
         (λ slots q. ap (λ (o : Option Slot). option_map_or is_true (option_and_then plain_in o) false) (same_named (codes "realized") fits.unmarked slots q))
 
-    dims : Dimmed b c
+    dims : FewerRealized b c
     dims =
         mild-dimmed (with_val v) (mild-val v) n i b (λ slots q. ap (option_and_then plain_in) (same_named (codes "slot") fits.unplaced slots q))
         (λ x q. sym (realized x) ∙ q)
@@ -128,7 +128,7 @@ child-entry-pointed m (name, alias k property) = refl
 
 -- a link of an object that is no bus, and that is no bus's link, points elsewhere
 point-kept : (depth : ℕ → ℕ) (b : Board) → PlacesBut depth None (λ x. false) b → (n i m : ℕ) (name : List ℕ) → SlotFound name (slots_at b n) i
-    → bytes_eq name (codes "parent_bus") ≡ false → is_of b (codes "bus") n ≡ false → Firm (point n i m b) → Kept b (point n i m b)
+    → bytes_eq name (codes "parent_bus") ≡ false → is_of b (codes "bus") n ≡ false → WellFormed (point n i m b) → Kept b (point n i m b)
 unfolding point
 point-kept depth b h n i m name f unlinked no_bus firm =
     kept-edit n (with_changed (pointed m) i) (λ r. refl) (λ r. refl) b firm (owner-live b 1 MACHINE_BIRTH h.machine) here
@@ -202,7 +202,7 @@ unfolding set
 set-pins n i v b e = e
 
 relinked-places : (depth : ℕ → ℕ) (b : Board) (n i : ℕ) (name : List ℕ) (t : TypeId) (s : Slot) → Fits b n name → SlotFound name (slots_at b n) i
-    → IsLink t s → slot_at b n i ≡ Some s → (target : Option ℕ) → FitsKind (kind_of b) t target → AtRest b → PlacesBut depth None (λ x. false) b
+    → IsLink t s → slot_at b n i ≡ Some s → (target : Option ℕ) → FitsKind (kind_of b) t target → PinsRootAlone b → PlacesBut depth None (λ x. false) b
     → Keeps depth b (relinked b n i target)
 unfolding drop_slot point
 relinked-places depth b n i name t s fits f link e target fits_target rest h = rw (relinked, e) (ends target fits_target refl)
@@ -248,16 +248,16 @@ relinked-places depth b n i name t s fits f link e target fits_target rest h = r
     live_n : is_live c n ≡ true
     live_n = drop-live b n i n ∙ ap is_some at.found
 
-    ends : (to : Option ℕ) → FitsKind (kind_of b) t to → to ≡ target → Keeps depth b (after finalize (pointed_at to n i c) (held s))
+    ends : (to : Option ℕ) → FitsKind (kind_of b) t to → to ≡ target → Keeps depth b (after finalize (pointed_at to n i c) (referent s))
     ends to fits_to is =
-        keeps-goes depth b (after finalize (pointed_at to n i c) (held s))
-        (goes-then depth None (λ x. false) b (pointed_at to n i c) (after finalize (pointed_at to n i c) (held s)) (middle to fits_to)
-        (goes-after depth None (λ x. false) (pointed_at to n i c) (held s) firm_after (pins_to to) (middle to fits_to).places))
+        keeps-goes depth b (after finalize (pointed_at to n i c) (referent s))
+        (goes-then depth None (λ x. false) b (pointed_at to n i c) (after finalize (pointed_at to n i c) (referent s)) (middle to fits_to)
+        (goes-after depth None (λ x. false) (pointed_at to n i c) (referent s) firm_after (pins_to to) (middle to fits_to).places))
       where
-        near_firm : Firm (relinked b n i to)
+        near_firm : WellFormed (relinked b n i to)
         near_firm = (near-relinked b n i t s link e to fits_to rest.used).firm
 
-        firm_after : Firm (after finalize (pointed_at to n i c) (held s))
+        firm_after : WellFormed (after finalize (pointed_at to n i c) (referent s))
         firm_after = rw (relinked, e) at near_firm
 
         pins_to : (goal : Option ℕ) → among (pointed_at goal n i c).pins 1 ≡ true
@@ -270,7 +270,7 @@ relinked-places depth b n i name t s fits f link e target fits_target rest h = r
             let (left, (leaves, points)) = left-link t s link in
             let empty : slot_at c n i ≡ Some left = emptied-at b n i s left e leaves in
             let same_kinds : kind_of c ≡ kind_of b = edited-kinds n (with_dropped i) (λ r. refl) (λ r. refl) b in
-            let firm : Firm (point n i m c) =
+            let firm : WellFormed (point n i m c) =
             firm-changed (pointed m) (child-pointed m) c n i
             (λ x q old.
             subst (λ (y : Slot). Linked (kind_of c) (pointed m y)) (same_Some left x (sym empty ∙ q))
@@ -281,7 +281,7 @@ relinked-places depth b n i name t s fits f link e target fits_target rest h = r
             (goes-kept depth None (λ x. false) c (point n i m c)
             (point-kept depth c first.places n i m name (named_after left leaves) fits.unlinked no_bus firm) pinned first.places)
 
-pub write-places : (depth : ℕ → ℕ) (b : Board) (n : ℕ) (name : List ℕ) (v : Val) → AtRest b → PlacesBut depth None (λ x. false) b
+pub write-places : (depth : ℕ → ℕ) (b : Board) (n : ℕ) (name : List ℕ) (v : Val) → PinsRootAlone b → PlacesBut depth None (λ x. false) b
     → Keeps depth b (after_write b (write b n name v))
 write-places depth b n name v rest h = write-comes (Keeps depth b) b (keeps-none depth b h) n name v (λ i t p kind e may.
     let fits_row : Fits b n name = row-fits b n name p (ap (option_and_then (λ k. property_named k name)) kind ∙ e) may in

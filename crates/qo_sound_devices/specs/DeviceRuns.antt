@@ -8,7 +8,7 @@ use Rattle.qo_model.specs.Depth.{among}
 use Rattle.qo_model.specs.FinalNotesRuns.{Change, changed}
 use Rattle.qo_model.specs.Hotplug.{asked, completed, refused, reset_whole}
 use Rattle.qo_model.specs.Plug.{Wanted, cut_attempt, plug}
-use Rattle.qo_model.specs.Reset.{held, released}
+use Rattle.qo_model.specs.Reset.{after_hold, released}
 
 -- a step: a command on objects; a device is added, or the attempt is cut; its removal is asked for, and the guest refuses it or lets it go; a notice is read;
 -- an object acts, is held, and no longer; the whole board is reset; the events are sent
@@ -40,7 +40,7 @@ stepped b (refuses d) = refused b d
 stepped b (lets_go d) = if among b.pending d then completed b d else b
 stepped b reads = notice_read b
 stepped b (acts act n period) = acted act n period b
-stepped b (holds n) = held b n
+stepped b (holds n) = after_hold b n
 stepped b (releases n) = released b n
 stepped b resets = reset_whole b
 stepped b sends = record b { events = [] }

@@ -9,7 +9,7 @@ use Rattle.qo_model.specs.Hotplug.{asked, refused, reset_whole}
 use Rattle.qo_model.specs.Objects.{with_attempt}
 use Rattle.qo_model.specs.Opening.{opening_board}
 use Rattle.qo_model.specs.Plug.{Wanted, cut_attempt, plug, plug_attempt}
-use Rattle.qo_model.specs.Reset.{held, pulse, released}
+use Rattle.qo_model.specs.Reset.{after_hold, pulse, released}
 use Rattle.qo_model.specs.Unplug.{detach}
 use Rattle.qo_sound_devices.specs.DeviceRuns.{DeviceStep, after_steps}
 use Rattle.qo_sound_devices.specs.SoundDevices.{SoundDevices}
@@ -39,7 +39,7 @@ pub record DevicesKeptLaw : Type 0 where
   pub detached : (b : Board) (d : ℕ) → SoundDevices b → stands b d ≡ true → SoundDevices (detach b d)
   -- an act; a hold, a hold less, and both; and the reset of the whole board, which lets go of each device whose removal is pending
   pub acts : (act : Act) (n period : ℕ) (b : Board) → SoundDevices b → SoundDevices (acted act n period b)
-  pub held_so : (b : Board) (n : ℕ) → SoundDevices b → SoundDevices (held b n)
+  pub held_so : (b : Board) (n : ℕ) → SoundDevices b → SoundDevices (after_hold b n)
   pub released_so : (b : Board) (n : ℕ) → SoundDevices b → SoundDevices (released b n)
   pub pulsed : (b : Board) (n : ℕ) → SoundDevices b → SoundDevices (pulse b n)
   pub reset : (b : Board) → SoundDevices b → SoundDevices (reset_whole b)

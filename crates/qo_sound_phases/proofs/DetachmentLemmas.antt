@@ -12,7 +12,7 @@ use Rattle.qo_sound.proofs.RecordLemmas.{all-both}
 use Rattle.qo_values.proofs.ListLemmas.{all-imply}
 use Rattle.qo_sound.proofs.SlotLemmas.{one_child}
 use Rattle.qo_sound.proofs.TestLemmas.{decide, clash}
-use Rattle.qo_sound.proofs.ViewLemmas.{AtRest, rest-from_sound}
+use Rattle.qo_sound.proofs.ViewLemmas.{PinsRootAlone, rest-from_sound}
 use Rattle.qo_sound_devices.specs.SoundDevices.{SoundDevices}
 use Rattle.qo_sound_devices.specs.SoundPlaces.{child_entries, HasOwner, machines, bridges, IsHome, kid_entries, listed, owns, owns_it, stands, names_it}
 use Rattle.qo_sound_devices.proofs.AttachmentLemmas.{owns-listed}
@@ -80,7 +80,7 @@ module _ (b : Board) (d : ℕ) where
       (gone-left_parent (pin b d) (unrealize (pin b d) d) (dims b d) d d before walked-before)
 
 module _ (b : Board) (d : ℕ) (s : SoundDevices b) (e : stands b d ≡ true) where
-  rest : AtRest b
+  rest : PinsRootAlone b
   rest = rest-from_sound b s.tree
 
   abbrev depth : ℕ → ℕ

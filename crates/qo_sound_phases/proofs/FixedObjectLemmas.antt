@@ -3,14 +3,14 @@ use Rattle.std.proofs.Common.{inr, ◌≡◌, refl, ap, sym, subst, ◌∙◌, �
 use Rattle.qo_model.proofs.Common.{option_map_or, bytes_eq, Val, Board, Record, Slot, plain, child, strong, weak, alias, record_of, kind_of, is_live, slots_at, slot_at, changed_at, point, pointed, set, with_changed, with_val, bus_of, strong_in, after_write, child_of, pointed_at, relinked, property_named, write, after, drop_slot, edit, edited, finalize, let_go, with_dropped, without_hold}
 use Rattle.std.proofs.lemmas.Bool.{eqb-true}
 use Rattle.std.proofs.lemmas.Option.{same_Some}
-use Rattle.qo_model.specs.Board.{held}
+use Rattle.qo_model.specs.Board.{referent}
 use Rattle.qo_model.proofs.EditLemmas.{StandsAt, stands-at}
 use Rattle.qo_model.proofs.FirstSlotLemmas.{named_in, named-other}
 use Rattle.qo_model.proofs.StepLemmas.{found-edited, is_some-map, map-edited}
 use Rattle.qo_model.proofs.WrittenLemmas.{link-childless}
 use Rattle.qo_model.proofs.WrittenLemmas.{write-comes}
 use Rattle.qo_sound_devices.proofs.WriteLemmas.{row-fits}
-use Rattle.qo_sound.proofs.FirmBoardLemmas.{Firm}
+use Rattle.qo_sound.proofs.FirmBoardLemmas.{WellFormed}
 use Rattle.qo_sound.proofs.TestLemmas.{decide, clash-back}
 use Rattle.qo_sound_devices.specs.SoundPlaces.{child_entries, child_entry}
 use Rattle.qo_sound_devices.proofs.LikenessLemmas.{after-alike, other-record}
@@ -128,8 +128,8 @@ fixed-let_go On n i b apart = go (slot_at b n i) refl
     go None e = rw (let_go, e) (fixed-none On b)
     go (Some s) e =
         rw (let_go, e)
-        (fixed-then On b (drop_slot b n i) (after finalize (drop_slot b n i) (held s)) (fixed-apart On n (with_dropped i) (λ r. refl) (λ r. refl) b apart)
-        (fixed-after On (drop_slot b n i) (held s)))
+        (fixed-then On b (drop_slot b n i) (after finalize (drop_slot b n i) (referent s)) (fixed-apart On n (with_dropped i) (λ r. refl) (λ r. refl) b apart)
+        (fixed-after On (drop_slot b n i) (referent s)))
 
 -- a slot of another name is changed
 pub child-val : (v : Val) (s : List ℕ × Slot) → child_entry (s.0, with_val v s.1) ≡ child_entry s
@@ -167,7 +167,7 @@ fixed-changed On g same n i b other = fixed-edit On n (with_changed g i) (λ r. 
         go None e = subst (SameSlots r.slots) (sym (past g i r.slots e)) (record { children = refl; bus = refl })
         go (Some s) e = changed-slots g same i r.slots s e (other.named r s q e)
 
-module _ (On : ℕ → Type 0) (b : Board) (firm : Firm b) (n i : ℕ) (other : Other b n i) where
+module _ (On : ℕ → Type 0) (b : Board) (firm : WellFormed b) (n i : ℕ) (other : Other b n i) where
   fixed-set : (v : Val) → Fixed On b (set n i v b)
   unfolding set
   fixed-set v = fixed-changed On (with_val v) (child-val v) n i b other
@@ -234,15 +234,15 @@ module _ (On : ℕ → Type 0) (b : Board) (firm : Firm b) (n i : ℕ) (other : 
   unfolding point
   fixed-relinked s e none target =
       rw (relinked, e)
-      (fixed-then On b (pointed_at target n i (drop_slot b n i)) (after finalize (pointed_at target n i (drop_slot b n i)) (held s))
+      (fixed-then On b (pointed_at target n i (drop_slot b n i)) (after finalize (pointed_at target n i (drop_slot b n i)) (referent s))
       (fixed-then On b (drop_slot b n i) (pointed_at target n i (drop_slot b n i)) (fixed-drop s e none) (points target))
-      (fixed-after On (pointed_at target n i (drop_slot b n i)) (held s)))
+      (fixed-after On (pointed_at target n i (drop_slot b n i)) (referent s)))
     where
       points : (to : Option ℕ) → Fixed On (drop_slot b n i) (pointed_at to n i (drop_slot b n i))
       points None = fixed-none On (drop_slot b n i)
       points (Some m) = fixed-changed On (pointed m) (child-entry-pointed m) n i (drop_slot b n i) (still-other s e none)
 
-pub fixed-write : (On : ℕ → Type 0) (b : Board) → Firm b → (n : ℕ) (name : List ℕ) (v : Val) → Fixed On b (after_write b (write b n name v))
+pub fixed-write : (On : ℕ → Type 0) (b : Board) → WellFormed b → (n : ℕ) (name : List ℕ) (v : Val) → Fixed On b (after_write b (write b n name v))
 fixed-write On b firm n name v = write-comes (Fixed On b) b (fixed-none On b) n name v (λ i t p kind e may.
     let apart : bytes_eq name (codes "parent_bus") ≡ false =
     (row-fits b n name p (ap (option_and_then (λ k. property_named k name)) kind ∙ e) may).unlinked in

@@ -1,10 +1,10 @@
 -- A hold, a hold less, and both keep phases sound.
 use Rattle.std.proofs.Common.{◌≡◌, refl, ap, sym, subst, ◌∙◌, ℕ, ◌+◌, ◌<◌, Bool, true, false, ◌&&◌, ◌==◌, eqb, cond, List, [], ◌∷◌, ◌++◌, filter, map, Some, is_some, arith}
-use Rattle.qo_model.proofs.Common.{count_by, if◌then◌else◌, AllByRecursion, IsDistinct, Enter, Hold, Exit, Board, among, did, without_first, count, is_out, phased, post, pulse, released}
+use Rattle.qo_model.proofs.Common.{count_by, if◌then◌else◌, AllByRecursion, IsDistinct, Enter, Hold, Exit, Board, among, did, without_first, count, is_not_in_reset, phased, post, pulse, released}
 use Rattle.qo_model.specs.declared.notes.Note.{Note}
 use Rattle.std.proofs.lemmas.Bool.{and_parts, eqb-true, eq-eqb}
 use Rattle.std.proofs.lemmas.List.Sums.{sum_by-append, sum_by-cons}
-use Rattle.qo_model.specs.Reset.{held}
+use Rattle.qo_model.specs.Reset.{after_hold}
 use Rattle.qo_sound.proofs.RecordLemmas.{all-append}
 use Rattle.qo_values.proofs.ListLemmas.{all-imply}
 use Rattle.qo_sound.proofs.TestLemmas.{decide, clash-back}
@@ -57,22 +57,22 @@ not-out : (p : ℕ → Bool) (n : ℕ) (xs : List ℕ) → among (filter p xs) n
 not-out p n xs e i = let both : among xs n && p n ≡ false = sym (among-filter p n xs) ∙ e in rw i at both
 
 -- by the number of holds
-out-none : (b : Board) (o : ℕ) → is_out b o ≡ true → count b o ≡ 0
+out-none : (b : Board) (o : ℕ) → is_not_in_reset b o ≡ true → count b o ≡ 0
 out-none b o e = eqb-true (count b o) 0 e
 
-in-some : (b : Board) (o : ℕ) → is_out b o ≡ false → 0 < count b o
+in-some : (b : Board) (o : ℕ) → is_not_in_reset b o ≡ false → 0 < count b o
 in-some b o e = grind (arith, e)
 
-none-out : (b : Board) (o : ℕ) → count b o ≡ 0 → is_out b o ≡ true
+none-out : (b : Board) (o : ℕ) → count b o ≡ 0 → is_not_in_reset b o ≡ true
 none-out b o e = eq-eqb (count b o) 0 e
 
-some-in : (b : Board) (o : ℕ) → 0 < count b o → is_out b o ≡ false
+some-in : (b : Board) (o : ℕ) → 0 < count b o → is_not_in_reset b o ≡ false
 some-in b o e = grind (arith, e)
 
-now-out : (b : Board) (o : ℕ) → is_out b o ≡ true → stage_now b o ≡ stage.out
+now-out : (b : Board) (o : ℕ) → is_not_in_reset b o ≡ true → stage_now b o ≡ stage.out
 now-out b o e = rw e refl
 
-now-held : (b : Board) (o : ℕ) → is_out b o ≡ false → stage_now b o ≡ stage.held
+now-held : (b : Board) (o : ℕ) → is_not_in_reset b o ≡ false → stage_now b o ≡ stage.held
 now-held b o e = rw e refl
 
 -- what holds count on boards of one shape
@@ -84,18 +84,18 @@ pub record HeldSo (b : Board) (r : ℕ) (c : Board) : Type 0 where
   pub shape : SameShape b c
   pub holds : c.holds ≡ b.holds ++ r ∷ []
   born : c.born ≡ b.born
-  notes : c.notes ≡ (b.notes ++ map (did Enter) (filter (is_out b) (post b r))) ++ map (did Hold) (filter (is_out b) (post b r))
+  notes : c.notes ≡ (b.notes ++ map (did Enter) (filter (is_not_in_reset b) (post b r))) ++ map (did Hold) (filter (is_not_in_reset b) (post b r))
 
-pub held-so : (b : Board) (r : ℕ) → HeldSo b r (held b r)
-unfolding held
+pub held-so : (b : Board) (r : ℕ) → HeldSo b r (after_hold b r)
+unfolding after_hold
 held-so b r =
-    let os : List ℕ = filter (is_out b) (post b r) in
+    let os : List ℕ = filter (is_not_in_reset b) (post b r) in
     let first : PhasedSo Enter os b (phased Enter os b) = phased-so Enter os b in
     let second : PhasedSo Hold os (phased Enter os b) (phased Hold os (phased Enter os b)) = phased-so Hold os (phased Enter os b) in
     record {
       shape =
-          shape-then b (phased Enter os b) (held b r) first.shape
-          (shape-then (phased Enter os b) (phased Hold os (phased Enter os b)) (held b r) second.shape (shape-records _ _ refl));
+          shape-then b (phased Enter os b) (after_hold b r) first.shape
+          (shape-then (phased Enter os b) (phased Hold os (phased Enter os b)) (after_hold b r) second.shape (shape-records _ _ refl));
       holds = refl;
       born = second.born ∙ first.born;
       notes = second.notes ∙ ap (λ (xs : List Note). xs ++ map (did Hold) os) first.notes;
@@ -103,10 +103,10 @@ held-so b r =
 
 module _ (b : Board) (r : ℕ) (k : Placed b) (reached : IsReached b r) (h : SoundPhases b) where
   abbrev os : List ℕ
-  os = filter (is_out b) (post b r)
+  os = filter (is_not_in_reset b) (post b r)
 
-  once : IsDistinct eqb (filter (is_out b) (post b r))
-  once = distinct-filter (is_out b) (post b r) (post-once b k r)
+  once : IsDistinct eqb (filter (is_not_in_reset b) (post b r))
+  once = distinct-filter (is_not_in_reset b) (post b r) (post-once b k r)
 
   module _ (c : Board) (s : HeldSo b r c) where
     count-held : (o : ℕ) → count c o ≡ count b o + one_if (among (post b r) o)
@@ -115,31 +115,33 @@ module _ (b : Board) (r : ℕ) (k : Placed b) (reached : IsReached b r) (h : Sou
         ∙ ap (count_by (λ x. among (post b x) o)) s.holds
         ∙ count-more (λ x. among (post b x) o) r b.holds
 
-    in-stage : (o : ℕ) → among (filter (is_out b) (post b r)) o ≡ true → stage_of o c.notes ≡ Some stage.held
+    in-stage : (o : ℕ) → among (filter (is_not_in_reset b) (post b r)) o ≡ true → stage_of o c.notes ≡ Some stage.held
     in-stage o e =
-        let both : (among (post b r) o ≡ true) × (is_out b o ≡ true) = in-out (is_out b) o (post b r) e in
+        let both : (among (post b r) o ≡ true) × (is_not_in_reset b o ≡ true) = in-out (is_not_in_reset b) o (post b r) e in
         let before : stage_of o b.notes ≡ Some stage.out =
         h.reached o (post-reached b k r o reached both.0) ∙ ap Some (now-out b o both.1) in
         ap (stage_of o) s.notes
-        ∙ noted-in Hold refl (filter (is_out b) (post b r)) once (b.notes ++ map (did Enter) (filter (is_out b) (post b r))) o e stage.entered stage.held
-        (noted-in Enter refl (filter (is_out b) (post b r)) once b.notes o e stage.out stage.entered before refl) refl
+        ∙ noted-in Hold refl (filter (is_not_in_reset b) (post b r)) once (b.notes ++ map (did Enter) (filter (is_not_in_reset b) (post b r))) o e stage.entered
+        stage.held
+        (noted-in Enter refl (filter (is_not_in_reset b) (post b r)) once b.notes o e stage.out stage.entered before refl) refl
 
-    out-stage : (o : ℕ) → among (filter (is_out b) (post b r)) o ≡ false → stage_of o c.notes ≡ stage_of o b.notes
+    out-stage : (o : ℕ) → among (filter (is_not_in_reset b) (post b r)) o ≡ false → stage_of o c.notes ≡ stage_of o b.notes
     out-stage o e =
         ap (stage_of o) s.notes
-        ∙ noted-out Hold refl (filter (is_out b) (post b r)) once (b.notes ++ map (did Enter) (filter (is_out b) (post b r))) o e
-        ∙ noted-out Enter refl (filter (is_out b) (post b r)) once b.notes o e
+        ∙ noted-out Hold refl (filter (is_not_in_reset b) (post b r)) once (b.notes ++ map (did Enter) (filter (is_not_in_reset b) (post b r))) o e
+        ∙ noted-out Enter refl (filter (is_not_in_reset b) (post b r)) once b.notes o e
 
     held-phases : SoundPhases c
     held-phases =
         record {
-          in_turn = λ o. decide (among (filter (is_out b) (post b r)) o) (λ e. ap is_some (in-stage o e)) (λ e. ap is_some (out-stage o e) ∙ h.in_turn o);
+          in_turn =
+              λ o. decide (among (filter (is_not_in_reset b) (post b r)) o) (λ e. ap is_some (in-stage o e)) (λ e. ap is_some (out-stage o e) ∙ h.in_turn o);
           unborn = λ o high.
-              decide (among (filter (is_out b) (post b r)) o)
+              decide (among (filter (is_not_in_reset b) (post b r)) o)
               (λ e. absurd (young o e (subst (λ (x : ℕ). x < o) s.born high)))
               (λ e. out-stage o e ∙ h.unborn o (subst (λ (x : ℕ). x < o) s.born high));
           reached = λ o i.
-              decide (among (filter (is_out b) (post b r)) o) (λ e. in-stage o e ∙ ap Some (sym (now-held c o (some-in c o (more o e)))))
+              decide (among (filter (is_not_in_reset b) (post b r)) o) (λ e. in-stage o e ∙ ap Some (sym (now-held c o (some-in c o (more o e)))))
               (λ e. out-stage o e ∙ h.reached o (shape-reached c b (shape-back b c s.shape) o i) ∙ ap Some (same o e));
           holds =
               subst (AllByRecursion (IsReached c)) (sym s.holds)
@@ -149,28 +151,28 @@ module _ (b : Board) (r : ℕ) (k : Placed b) (reached : IsReached b r) (h : Sou
           lone = λ x e. h.lone x (sym (s.shape.kind x) ∙ e);
         }
       where
-        young : (o : ℕ) → among (filter (is_out b) (post b r)) o ≡ true → b.born < o → ⊥
-        young o e high = live-born b k o (reached-live b k o (post-reached b k r o reached (in-out (is_out b) o (post b r) e).0)) high
+        young : (o : ℕ) → among (filter (is_not_in_reset b) (post b r)) o ≡ true → b.born < o → ⊥
+        young o e high = live-born b k o (reached-live b k o (post-reached b k r o reached (in-out (is_not_in_reset b) o (post b r) e).0)) high
 
-        more : (o : ℕ) → among (filter (is_out b) (post b r)) o ≡ true → 0 < count c o
+        more : (o : ℕ) → among (filter (is_not_in_reset b) (post b r)) o ≡ true → 0 < count c o
         more o e =
-            let one : one_if (among (post b r) o) ≡ 1 = ap one_if (in-out (is_out b) o (post b r) e).0 in
+            let one : one_if (among (post b r) o) ≡ 1 = ap one_if (in-out (is_not_in_reset b) o (post b r) e).0 in
             omega (arith, count-held o, one)
 
-        same : (o : ℕ) → among (filter (is_out b) (post b r)) o ≡ false → stage_now b o ≡ stage_now c o
+        same : (o : ℕ) → among (filter (is_not_in_reset b) (post b r)) o ≡ false → stage_now b o ≡ stage_now c o
         same o e =
             decide (among (post b r) o)
             (λ i.
-            let was : is_out b o ≡ false = not-out (is_out b) o (post b r) e i in
-            let is : is_out c o ≡ false = some-in c o (omega (arith, count-held o, in-some b o was)) in
+            let was : is_not_in_reset b o ≡ false = not-out (is_not_in_reset b) o (post b r) e i in
+            let is : is_not_in_reset c o ≡ false = some-in c o (omega (arith, count-held o, in-some b o was)) in
             now-held b o was ∙ sym (now-held c o is))
             (λ i.
             let none : one_if (among (post b r) o) ≡ 0 = ap one_if i in
             let counts : count c o ≡ count b o = omega (arith, count-held o, none) in
             ap (λ (n : ℕ). if n == 0 then stage.out else stage.held) (sym counts))
 
-pub hold-phases : (b : Board) (r : ℕ) → SoundDevices b → IsReached b r → SoundPhases b → SoundPhases (held b r)
-hold-phases b r d reached h = held-phases b r (placed b d) reached h (held b r) (held-so b r)
+pub hold-phases : (b : Board) (r : ℕ) → SoundDevices b → IsReached b r → SoundPhases b → SoundPhases (after_hold b r)
+hold-phases b r d reached h = held-phases b r (placed b d) reached h (after_hold b r) (held-so b r)
 
 -- a hold less
 pub record ReleasedSo (b : Board) (r : ℕ) (c : Board) : Type 0 where
@@ -180,13 +182,13 @@ pub record ReleasedSo (b : Board) (r : ℕ) (c : Board) : Type 0 where
   pub shape : SameShape less c
   pub holds : c.holds ≡ less.holds
   born : c.born ≡ b.born
-  notes : c.notes ≡ b.notes ++ map (did Exit) (filter (is_out less) (post less r))
+  notes : c.notes ≡ b.notes ++ map (did Exit) (filter (is_not_in_reset less) (post less r))
 
 pub released-so : (b : Board) (r : ℕ) → ReleasedSo b r (released b r)
 unfolding released
 released-so b r =
     let less : Board = record b { holds = without_first r b.holds } in
-    let os : List ℕ = filter (is_out less) (post less r) in
+    let os : List ℕ = filter (is_not_in_reset less) (post less r) in
     let k : PhasedSo Exit os less (phased Exit os less) = phased-so Exit os less in
     record {
       less = less;
@@ -208,8 +210,8 @@ module _ (b : Board) (r : ℕ) (k : Placed b) (on : among b.holds r ≡ true) (h
   same_post : post s.less r ≡ post b r
   same_post = shape-post b s.less s.same r
 
-  once-less : IsDistinct eqb (filter (is_out s.less) (post s.less r))
-  once-less = distinct-filter (is_out s.less) (post s.less r) (subst (IsDistinct eqb) (sym same_post) (post-once b k r))
+  once-less : IsDistinct eqb (filter (is_not_in_reset s.less) (post s.less r))
+  once-less = distinct-filter (is_not_in_reset s.less) (post s.less r) (subst (IsDistinct eqb) (sym same_post) (post-once b k r))
 
   count-released : (o : ℕ) → count s.less o + one_if (among (post b r) o) ≡ count b o
   count-released o =
@@ -219,32 +221,33 @@ module _ (b : Board) (r : ℕ) (k : Placed b) (on : among b.holds r ≡ true) (h
   count-same : (o : ℕ) → count c o ≡ count s.less o
   count-same o = count-shape s.less c s.shape o ∙ ap (count_by (λ x. among (post s.less x) o)) s.holds
 
-  went : (o : ℕ) → among (filter (is_out s.less) (post s.less r)) o ≡ true → (among (post b r) o ≡ true) × (is_out s.less o ≡ true)
+  went : (o : ℕ) → among (filter (is_not_in_reset s.less) (post s.less r)) o ≡ true → (among (post b r) o ≡ true) × (is_not_in_reset s.less o ≡ true)
   went o e =
-      let both : (among (post s.less r) o ≡ true) × (is_out s.less o ≡ true) = in-out (is_out s.less) o (post s.less r) e in
+      let both : (among (post s.less r) o ≡ true) × (is_not_in_reset s.less o ≡ true) = in-out (is_not_in_reset s.less) o (post s.less r) e in
       (sym (ap (λ (xs : List ℕ). among xs o) same_post) ∙ both.0, both.1)
 
-  less-in : (o : ℕ) → among (filter (is_out s.less) (post s.less r)) o ≡ true → stage_of o c.notes ≡ Some stage.out
+  less-in : (o : ℕ) → among (filter (is_not_in_reset s.less) (post s.less r)) o ≡ true → stage_of o c.notes ≡ Some stage.out
   less-in o e =
-      let both : (among (post b r) o ≡ true) × (is_out s.less o ≡ true) = went o e in
+      let both : (among (post b r) o ≡ true) × (is_not_in_reset s.less o ≡ true) = went o e in
       let one : one_if (among (post b r) o) ≡ 1 = ap one_if both.0 in
-      let was : is_out b o ≡ false = some-in b o (omega (arith, count-released o, one)) in
+      let was : is_not_in_reset b o ≡ false = some-in b o (omega (arith, count-released o, one)) in
       let before : stage_of o b.notes ≡ Some stage.held = h.reached o (post-reached b k r o on-reached both.0) ∙ ap Some (now-held b o was) in
-      ap (stage_of o) s.notes ∙ noted-in Exit refl (filter (is_out s.less) (post s.less r)) once-less b.notes o e stage.held stage.out before refl
+      ap (stage_of o) s.notes ∙ noted-in Exit refl (filter (is_not_in_reset s.less) (post s.less r)) once-less b.notes o e stage.held stage.out before refl
 
-  less-out : (o : ℕ) → among (filter (is_out s.less) (post s.less r)) o ≡ false → stage_of o c.notes ≡ stage_of o b.notes
-  less-out o e = ap (stage_of o) s.notes ∙ noted-out Exit refl (filter (is_out s.less) (post s.less r)) once-less b.notes o e
+  less-out : (o : ℕ) → among (filter (is_not_in_reset s.less) (post s.less r)) o ≡ false → stage_of o c.notes ≡ stage_of o b.notes
+  less-out o e = ap (stage_of o) s.notes ∙ noted-out Exit refl (filter (is_not_in_reset s.less) (post s.less r)) once-less b.notes o e
 
   released-phases : SoundPhases c
   released-phases =
       record {
-        in_turn = λ o. decide (among (filter (is_out s.less) (post s.less r)) o) (λ e. ap is_some (less-in o e)) (λ e. ap is_some (less-out o e) ∙ h.in_turn o);
+        in_turn = λ o.
+            decide (among (filter (is_not_in_reset s.less) (post s.less r)) o) (λ e. ap is_some (less-in o e)) (λ e. ap is_some (less-out o e) ∙ h.in_turn o);
         unborn = λ o high.
-            decide (among (filter (is_out s.less) (post s.less r)) o)
+            decide (among (filter (is_not_in_reset s.less) (post s.less r)) o)
             (λ e. absurd (live-born b k o (reached-live b k o (post-reached b k r o on-reached (went o e).0)) (subst (λ (x : ℕ). x < o) s.born high)))
             (λ e. less-out o e ∙ h.unborn o (subst (λ (x : ℕ). x < o) s.born high));
         reached = λ o i.
-            decide (among (filter (is_out s.less) (post s.less r)) o)
+            decide (among (filter (is_not_in_reset s.less) (post s.less r)) o)
             (λ e. less-in o e ∙ ap Some (sym (now-out c o (none-out c o (count-same o ∙ out-none s.less o (went o e).1)))))
             (λ e. less-out o e ∙ h.reached o (shape-reached c b (shape-back b c shape) o i) ∙ ap Some (still o e));
         holds =
@@ -258,14 +261,14 @@ module _ (b : Board) (r : ℕ) (k : Placed b) (on : among b.holds r ≡ true) (h
       shape : SameShape b c
       shape = shape-then b s.less c s.same s.shape
 
-      still : (o : ℕ) → among (filter (is_out s.less) (post s.less r)) o ≡ false → stage_now b o ≡ stage_now c o
+      still : (o : ℕ) → among (filter (is_not_in_reset s.less) (post s.less r)) o ≡ false → stage_now b o ≡ stage_now c o
       still o e =
           decide (among (post b r) o)
           (λ i.
           let there : among (post s.less r) o ≡ true = ap (λ (xs : List ℕ). among xs o) same_post ∙ i in
-          let lit : is_out s.less o ≡ false = not-out (is_out s.less) o (post s.less r) e there in
-          let was : is_out b o ≡ false = some-in b o (omega (arith, count-released o, in-some s.less o lit)) in
-          let is : is_out c o ≡ false = some-in c o (omega (arith, count-same o, in-some s.less o lit)) in
+          let lit : is_not_in_reset s.less o ≡ false = not-out (is_not_in_reset s.less) o (post s.less r) e there in
+          let was : is_not_in_reset b o ≡ false = some-in b o (omega (arith, count-released o, in-some s.less o lit)) in
+          let is : is_not_in_reset c o ≡ false = some-in c o (omega (arith, count-same o, in-some s.less o lit)) in
           now-held b o was ∙ sym (now-held c o is))
           (λ i.
           let none : one_if (among (post b r) o) ≡ 0 = ap one_if i in
@@ -282,5 +285,5 @@ last-among r rs = among-right r rs (r ∷ []) (one-among r)
 pub pulse-phases : (b : Board) (r : ℕ) → SoundDevices b → IsReached b r → SoundPhases b → SoundPhases (pulse b r)
 unfolding pulse
 pulse-phases b r d reached h =
-    release-phases (held b r) r (held-below b r d) (ap (λ (xs : List ℕ). among xs r) (held-so b r).holds ∙ last-among r b.holds)
+    release-phases (after_hold b r) r (held-below b r d) (ap (λ (xs : List ℕ). among xs r) (held-so b r).holds ∙ last-among r b.holds)
     (hold-phases b r d reached h)

@@ -10,7 +10,7 @@ use Rattle.qo_sound.proofs.SearchLemmas.{all-found}
 use Rattle.qo_values.proofs.ListLemmas.{all-imply}
 use Rattle.qo_values.proofs.EachLemmas.{each}
 use Rattle.qo_sound.proofs.TestLemmas.{decide, clash-back}
-use Rattle.qo_sound.proofs.ViewLemmas.{AtRest, rest-from_sound}
+use Rattle.qo_sound.proofs.ViewLemmas.{PinsRootAlone, rest-from_sound}
 use Rattle.qo_sound_devices.specs.SoundDevices.{SoundDevices}
 use Rattle.qo_sound_devices.specs.SoundLists.{IsOn}
 use Rattle.qo_sound_devices.specs.SoundPlaces.{machines}
@@ -119,7 +119,7 @@ may-reached b d lone n e = go (kind_of b n) refl both.1
     both : (attached b n ≡ true) × (is_of b (codes "resettable") n ≡ true)
     both = and_parts (attached b n) (is_of b (codes "resettable") n) e
 
-    rest : AtRest b
+    rest : PinsRootAlone b
     rest = rest-from_sound b d.tree
 
     is : (t : TypeId) → kind_of b n ≡ Some t → (name : List ℕ) → is_a t name ≡ true → is_of b name n ≡ true

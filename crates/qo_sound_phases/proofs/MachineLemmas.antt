@@ -1,6 +1,6 @@
 -- No step makes another machine.
 use Rattle.std.proofs.Common.{◌≡◌, refl, ap, sym, subst, ◌∙◌, ℕ, ◌+◌, Bool, true, false, ◌==◌, List, [], ◌∷◌, map, Option, Some, None, option_map, rules, codes}
-use Rattle.qo_model.proofs.Common.{⊤, AllByRecursion, option_or, fresh_registers, OBJECTS_BIRTH, Code, TypeId, Machine, Board, Record, child, kind_of, record_of, with_added, Change, added, changed, deleted, severed, wrote, Given, added_as, given_slots, with_object, Spot, Wanted, drafted, with_plugged, after, edited, finalize, is_a, slots_of, types}
+use Rattle.qo_model.proofs.Common.{⊤, AllByRecursion, option_or, fresh_registers, OBJECTS_BIRTH, Code, TypeId, Machine, Board, Record, child, kind_of, record_of, with_added, Change, added, changed, deleted, severed, wrote, Given, added_as, given_slots, with_object, Resources, Wanted, drafted, with_plugged, after, edited, finalize, is_a, slots_of, types}
 use Rattle.std.proofs.lemmas.List.Folds.{find-append}
 use Rattle.std.proofs.lemmas.Option.{same_Some}
 use Rattle.qo_values.proofs.EachLemmas.{each}
@@ -69,10 +69,11 @@ rows-other : (t : TypeId) → AllByRecursion (RowPasses Other) (slots_of t)
 unfolding types
 rows-other = each (λ (t : TypeId). AllByRecursion (RowPasses Other) (slots_of t)) (search rules)
 
-pub lone-plugged : (b : Board) (t : TypeId) (a : Wanted) (spot : Spot) → is_a t (codes "device") ≡ true → LoneMachine b → LoneMachine (with_plugged b t a spot)
-lone-plugged b t a spot its h =
+pub lone-plugged : (b : Board) (t : TypeId) (a : Wanted) (resources : Resources) → is_a t (codes "device") ≡ true → LoneMachine b
+    → LoneMachine (with_plugged b t a resources)
+lone-plugged b t a resources its h =
     let made : LoneMachine (drafted b t) = step-drafted LoneMachine edits Other new t (device-other t its) (rows-other t) b h in
-    λ x e. made x (ap (λ (kinds : ℕ → Option TypeId). kinds x) (sym (plug-kinds b t a spot)) ∙ e)
+    λ x e. made x (ap (λ (kinds : ℕ → Option TypeId). kinds x) (sym (plug-kinds b t a resources)) ∙ e)
 
 -- commands on objects
 lone-object : (b : Board) (t : TypeId) (id : List ℕ) (props : List Given) → Other t → LoneMachine b → LoneMachine (with_object b t id props)

@@ -1,6 +1,6 @@
 -- A device that is added keeps phases sound: it goes through them, and stays held where it is below a hold.
 use Rattle.std.proofs.Common.{◌≡◌, refl, ap, ap₂, sym, subst, ◌∙◌, ℕ, ◌+◌, ◌<◌, ◌≤◌, Bool, true, false, ◌==◌, eqb, List, [], ◌∷◌, ◌++◌, filter, map, Option, Some, None, is_some, arith, codes}
-use Rattle.qo_model.proofs.Common.{if◌then◌else◌, ⊤, AllByRecursion, IsDistinct, list_any, option_or, ANONYMOUS_BIRTH, MACHINE_BIRTH, PERIPHERAL_BIRTH, ROOT_BIRTH, Code, Act, Realize, Enter, Hold, Exit, TypeId, Board, Record, is_live, record_of, among, bus_of, canonical, is_of, Spot, Wanted, acted_all, barred_early, barred_late, bus_births, bus_for, counted, did, drafted, plug, plug_as, plug_by, plug_late, spot_of, notified_plug, type_barred, with_body_of, with_device, with_new, with_path, with_plugged, edit, edited, below, is_out, phased, plugged, post, TypeInfo, is_a, type_named, slots_of}
+use Rattle.qo_model.proofs.Common.{if◌then◌else◌, ⊤, AllByRecursion, IsDistinct, list_any, option_or, ANONYMOUS_BIRTH, MACHINE_BIRTH, PERIPHERAL_BIRTH, ROOT_BIRTH, Code, Act, Realize, Enter, Hold, Exit, TypeId, Board, Record, is_live, record_of, among, bus_of, canonical, is_of, Resources, Wanted, acted_all, barred_early, barred_late, bus_births, bus_for, counted, did, drafted, plug, plug_as, plug_by, plug_late, resources_of, notified_plug, type_barred, with_body_of, with_device, with_new, with_path, with_plugged, edit, edited, below, is_not_in_reset, phased, plugged, post, TypeInfo, is_a, type_named, slots_of}
 use Rattle.qo_model.specs.declared.notes.Note.{Note}
 use Rattle.std.proofs.lemmas.Bool.{eqb-true}
 use Rattle.std.proofs.lemmas.List.Folds.{find-append}
@@ -80,11 +80,12 @@ younger-new b k slots made c h = (omega (arith, h.0), λ x e apart. new x e apar
                 let none : found_at x (new_with c k slots ∷ []) ≡ None = rw p refl in
                 clash-back (sym (ap is_some (found ∙ ap₂ (λ (u v : Option Record). option_or u v) q none)) ∙ e)
 
-younger-device : (b : Board) (t : TypeId) (a : Wanted) (spot : Spot) → Younger b (with_device b t a spot)
+younger-device : (b : Board) (t : TypeId) (a : Wanted) (resources : Resources) → Younger b (with_device b t a resources)
 unfolding Younger
-younger-device b t a spot =
+younger-device b t a resources =
     count_in a.id _
-    (step-stood (Younger b) (younger-edits b) b (b.born + 1) a spot (λ c h. younger-edit b (b.born + 1) (with_body_of a.id spot.range) (λ r. refl) c h)
+    (step-stood (Younger b) (younger-edits b) b (b.born + 1) a resources
+    (λ c h. younger-edit b (b.born + 1) (with_body_of a.id resources.range) (λ r. refl) c h)
     (drafted b t)
     (step-drafted (Younger b) (younger-edits b) (λ k. ⊤) (younger-new b) t tt (any-rows (slots_of t)) b (omega arith, λ x e apart. clash (sym e ∙ apart))))
   where
@@ -102,7 +103,7 @@ pub record StartedSo (f : Board) (n : ℕ) (c : Board) : Type 0 where
   pub shape : SameShape f c
   holds : c.holds ≡ f.holds
   born : c.born ≡ f.born
-  notes : c.notes ≡ ((f.notes ++ map (did Enter) (post f n)) ++ map (did Hold) (post f n)) ++ map (did Exit) (filter (is_out f) (post f n))
+  notes : c.notes ≡ ((f.notes ++ map (did Enter) (post f n)) ++ map (did Hold) (post f n)) ++ map (did Exit) (filter (is_not_in_reset f) (post f n))
 
 pub told-so : (n : ℕ) (f : Board) → StartedSo f n (notified_plug n (plugged f n))
 unfolding plugged
@@ -110,7 +111,7 @@ told-so n f =
     let os : List ℕ = post f n in
     let one : PhasedSo Enter os f (phased Enter os f) = phased-so Enter os f in
     let two : PhasedSo Hold os (phased Enter os f) (phased Hold os (phased Enter os f)) = phased-so Hold os (phased Enter os f) in
-    let out : List ℕ = filter (is_out f) os in
+    let out : List ℕ = filter (is_not_in_reset f) os in
     let held : Board = phased Hold os (phased Enter os f) in
     let three : PhasedSo Exit out held (phased Exit out held) = phased-so Exit out held in
     let end : Board = phased Exit out held in
@@ -201,7 +202,8 @@ module _ (b : Board) (kb : Placed b) (n on slot : ℕ) (id : Option (List ℕ)) 
       let own : owns c n o ≡ true = subst (λ (x : ℕ). owns c x o ≡ true) new w in
       clash (sym (reach-post c kc n o (further itself (bus-leads c kc n o (stands-no_bus c kc n new-there) is own))) ∙ apart))
 
-  module _ (h : SoundPhases b) (f : Board) (s : StartedSo f n c) (younger : (x : ℕ) → is_live c x ≡ true → is_live b x ≡ false → b.born < x) (older : b.born ≤ c.born)
+  module _ (h : SoundPhases b) (f : Board) (s : StartedSo f n c) (younger : (x : ℕ) → is_live c x ≡ true → is_live b x ≡ false → b.born < x)
+      (older : b.born ≤ c.born)
       (holds : c.holds ≡ b.holds) (quiet : Quiet b f) (lone : LoneMachine c) where
     same_post : post c n ≡ post f n
     same_post = shape-post f c s.shape n
@@ -218,42 +220,44 @@ module _ (b : Board) (kb : Placed b) (n on slot : ℕ) (id : Option (List ℕ)) 
     fresh : (o : ℕ) → among (post f n) o ≡ true → b.born < o
     fresh o e = younger o (reached-live c kc o (is-reached o e)) (below-new o (post-reach c kc n o (in-post o e)))
 
-    same-out : (o : ℕ) → is_out c o ≡ is_out f o
+    same-out : (o : ℕ) → is_not_in_reset c o ≡ is_not_in_reset f o
     same-out o = ap (λ (m : ℕ). m == 0) (shape-count f c s.shape s.holds o)
 
-    out-once : IsDistinct eqb (filter (is_out f) (post f n))
-    out-once = distinct-filter (is_out f) (post f n) once
+    out-once : IsDistinct eqb (filter (is_not_in_reset f) (post f n))
+    out-once = distinct-filter (is_not_in_reset f) (post f n) once
 
     in-stage : (o : ℕ) → among (post f n) o ≡ true → stage_of o c.notes ≡ Some (stage_now c o)
-    in-stage o e = ap (stage_of o) s.notes ∙ decide (is_out f o) leaves stays
+    in-stage o e = ap (stage_of o) s.notes ∙ decide (is_not_in_reset f o) leaves stays
       where
         at_hold : stage_of o ((f.notes ++ map (did Enter) (post f n)) ++ map (did Hold) (post f n)) ≡ Some stage.held
         at_hold =
             noted-in Hold refl (post f n) once (f.notes ++ map (did Enter) (post f n)) o e stage.entered stage.held
             (noted-in Enter refl (post f n) once f.notes o e stage.out stage.entered (quiet o ∙ h.unborn o (fresh o e)) refl) refl
 
-        leaves : is_out f o ≡ true
-            → stage_of o (((f.notes ++ map (did Enter) (post f n)) ++ map (did Hold) (post f n)) ++ map (did Exit) (filter (is_out f) (post f n))) ≡ Some
+        leaves : is_not_in_reset f o ≡ true
+            → stage_of o (((f.notes ++ map (did Enter) (post f n)) ++ map (did Hold) (post f n)) ++ map (did Exit) (filter (is_not_in_reset f) (post f n)))
+            ≡ Some
             (stage_now c o)
         leaves q =
-            let both : among (filter (is_out f) (post f n)) o ≡ true = among-filter (is_out f) o (post f n) ∙ rw (e, q) refl in
-            noted-in Exit refl (filter (is_out f) (post f n)) out-once _ o both stage.held stage.out at_hold refl
+            let both : among (filter (is_not_in_reset f) (post f n)) o ≡ true = among-filter (is_not_in_reset f) o (post f n) ∙ rw (e, q) refl in
+            noted-in Exit refl (filter (is_not_in_reset f) (post f n)) out-once _ o both stage.held stage.out at_hold refl
             ∙ ap (λ (u : Bool). Some (if u then stage.out else stage.held)) (sym (same-out o ∙ q))
 
-        stays : is_out f o ≡ false
-            → stage_of o (((f.notes ++ map (did Enter) (post f n)) ++ map (did Hold) (post f n)) ++ map (did Exit) (filter (is_out f) (post f n))) ≡ Some
+        stays : is_not_in_reset f o ≡ false
+            → stage_of o (((f.notes ++ map (did Enter) (post f n)) ++ map (did Hold) (post f n)) ++ map (did Exit) (filter (is_not_in_reset f) (post f n)))
+            ≡ Some
             (stage_now c o)
         stays q =
-            let none : among (filter (is_out f) (post f n)) o ≡ false = among-filter (is_out f) o (post f n) ∙ rw (e, q) refl in
-            noted-out Exit refl (filter (is_out f) (post f n)) out-once _ o none
+            let none : among (filter (is_not_in_reset f) (post f n)) o ≡ false = among-filter (is_not_in_reset f) o (post f n) ∙ rw (e, q) refl in
+            noted-out Exit refl (filter (is_not_in_reset f) (post f n)) out-once _ o none
             ∙ at_hold
             ∙ ap (λ (u : Bool). Some (if u then stage.out else stage.held)) (sym (same-out o ∙ q))
 
     out-stage : (o : ℕ) → among (post f n) o ≡ false → stage_of o c.notes ≡ stage_of o b.notes
     out-stage o e =
-        let none : among (filter (is_out f) (post f n)) o ≡ false = among-filter (is_out f) o (post f n) ∙ rw e refl in
+        let none : among (filter (is_not_in_reset f) (post f n)) o ≡ false = among-filter (is_not_in_reset f) o (post f n) ∙ rw e refl in
         ap (stage_of o) s.notes
-        ∙ noted-out Exit refl (filter (is_out f) (post f n)) out-once _ o none
+        ∙ noted-out Exit refl (filter (is_not_in_reset f) (post f n)) out-once _ o none
         ∙ noted-out Hold refl (post f n) once _ o e
         ∙ noted-out Enter refl (post f n) once f.notes o e
         ∙ quiet o
@@ -279,40 +283,41 @@ module _ (b : Board) (kb : Placed b) (n on slot : ℕ) (id : Option (List ℕ)) 
 
 -- a device that nothing refuses
 accepted-phases : (b : Board) (a : Wanted) → SoundDevices b → SoundPhases b → (t : TypeId) (at : ℕ) → Accepted b t at a
-    → SoundPhases (with_plugged b t a (spot_of b t at a.props))
+    → SoundPhases (with_plugged b t a (resources_of b t at a.props))
 unfolding Younger
 accepted-phases b a d h t at k =
-    device-phases b kb (b.born + 1) at spot.slot a.id t c kc j h f so (λ x e gone. younger x e gone) (omega (arith, so.born, acts.born, young.0)) stays.holds
-    (quiet-then b made f (quiet-device b t a spot) quiet) (lone-plugged b t a spot k.device h.lone)
+    device-phases b kb (b.born + 1)
+    at resources.slot a.id t c kc j h f so (λ x e gone. younger x e gone) (omega (arith, so.born, acts.born, young.0)) stays.holds
+    (quiet-then b made f (quiet-device b t a resources) quiet) (lone-plugged b t a resources k.device h.lone)
   where
-    spot : Spot
-    spot = spot_of b t at a.props
+    resources : Resources
+    resources = resources_of b t at a.props
 
     kb : Placed b
     kb = record { depth = d.places.0; places = d.places.1; firm = (rest-from_sound b d.tree).used.firm }
 
     c : Board
-    c = with_plugged b t a (spot_of b t at a.props)
+    c = with_plugged b t a (resources_of b t at a.props)
 
-    j : Joined kb.depth b (b.born + 1) at spot.slot a.id t (done b at spot.slot a.id) c
+    j : Joined kb.depth b (b.born + 1) at resources.slot a.id t (done b at resources.slot a.id) c
     j = accepted-joined d.places.0 b a (rest-from_sound b d.tree) d.places.1 t at k
 
     kc : Placed c
     kc =
         record {
           depth = deepened kb.depth (b.born + 1) at c;
-          places = places-joined kb.depth b (b.born + 1) at spot.slot a.id t c j kb.firm kb.places;
-          firm = (plugged-rest b t a spot (rest-from_sound b d.tree) (shut-above b.born kb.firm.begun) k.place).used.firm;
+          places = places-joined kb.depth b (b.born + 1) at resources.slot a.id t c j kb.firm kb.places;
+          firm = (plugged-rest b t a resources (rest-from_sound b d.tree) (shut-above b.born kb.firm.begun) k.place).used.firm;
         }
 
     made : Board
-    made = with_device b t a (spot_of b t at a.props)
+    made = with_device b t a (resources_of b t at a.props)
 
     ns : List ℕ
     ns = (b.born + 1) ∷ bus_births (b.born + 1) t
 
     f : Board
-    f = acted_all Realize ((b.born + 1) ∷ bus_births (b.born + 1) t) (with_device b t a (spot_of b t at a.props))
+    f = acted_all Realize ((b.born + 1) ∷ bus_births (b.born + 1) t) (with_device b t a (resources_of b t at a.props))
 
     so : StartedSo f (b.born + 1) c
     so = told-so (b.born + 1) f
@@ -321,10 +326,10 @@ accepted-phases b a d h t at k =
     acts = subst (PhasedSo Realize ns made) (sym (same-acts Realize ns made)) (phased-so Realize ns made)
 
     young : Younger b made
-    young = younger-device b t a spot
+    young = younger-device b t a resources
 
     stays : AddLeaves b c
-    stays = devices_stay_lem.added b t a spot
+    stays = devices_stay_lem.added b t a resources
 
     quiet : Quiet made f
     quiet = quiet-acted_all Realize refl ns made

@@ -1,6 +1,6 @@
 -- Changes that note no phase, and those that change no object.
 use Rattle.std.proofs.Common.{◌≡◌, refl, ap, sym, subst, ◌∙◌, ℕ, ◌+◌, ◌<◌, ◌≤◌, leb, Bool, true, false, ◌==◌, List, [], ◌∷◌, ◌++◌, map, append-nil, Option, Some, None, is_some, arith}
-use Rattle.qo_model.proofs.Common.{if◌then◌else◌, ⊤, option_map_or, AllByRecursion, cons_option, fresh_registers, Act, Init, TypeId, Board, Record, is_live, record_of, acted, Change, added, changed, deleted, severed, wrote, Given, added_as, init_notes, object_add, with_attempt, Spot, Wanted, acted_all, counted, drafted, with_device, with_new, after, final_notes, finalize, finals_of, NotesEnds, notes_on, refs, finals, inits, slots_of, Code}
+use Rattle.qo_model.proofs.Common.{if◌then◌else◌, ⊤, option_map_or, AllByRecursion, cons_option, fresh_registers, Act, Init, TypeId, Board, Record, is_live, record_of, acted, Change, added, changed, deleted, severed, wrote, Given, added_as, init_notes, object_add, with_attempt, Resources, Wanted, acted_all, counted, drafted, with_device, with_new, after, final_notes, finalize, finals_of, NotesEnds, notes_on, refs, finals, inits, slots_of, Code}
 use Rattle.qo_model.specs.declared.notes.Deed.{Deed}
 use Rattle.qo_model.specs.declared.notes.Deed.TheVariants.{Did, Final}
 use Rattle.qo_model.specs.declared.notes.Note.{Note}
@@ -124,10 +124,10 @@ new : (b : Board) → KeepsNew (λ k. ⊤) (Quiet b)
 new b k slots made c h =
     quiet-then b c (with_new (new_with c k slots) c) h (λ n. noted-none n c.notes (init_notes (c.born + 1) k) (phases-init (c.born + 1) k n))
 
-pub quiet-device : (b : Board) (t : TypeId) (a : Wanted) (spot : Spot) → Quiet b (with_device b t a spot)
-quiet-device b t a spot =
+pub quiet-device : (b : Board) (t : TypeId) (a : Wanted) (resources : Resources) → Quiet b (with_device b t a resources)
+quiet-device b t a resources =
     count_in a.id _
-    (step-stood (Quiet b) (edits b) b (b.born + 1) a spot (λ c h. h) (drafted b t)
+    (step-stood (Quiet b) (edits b) b (b.born + 1) a resources (λ c h. h) (drafted b t)
     (step-drafted (Quiet b) (edits b) (λ k. ⊤) (new b) t tt (any-rows (slots_of t)) b (λ n. refl)))
   where
     count_in : (id : Option (List ℕ)) (c : Board) → Quiet b c → Quiet b (counted id c)

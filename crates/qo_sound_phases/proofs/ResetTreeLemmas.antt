@@ -7,7 +7,7 @@ use Rattle.std.proofs.lemmas.Option.{same_Some}
 use Rattle.std.proofs.lemmas.Slice.Eq.{bytes_eq-Decides}
 use Rattle.qo_model.proofs.ReleaseLemmas.{found-within}
 use Rattle.qo_model.proofs.StepLemmas.{live-among}
-use Rattle.qo_sound.proofs.FirmBoardLemmas.{Firm, parents_in}
+use Rattle.qo_sound.proofs.FirmBoardLemmas.{WellFormed, parents_in}
 use Rattle.qo_values.proofs.ListLemmas.{all-imply}
 use Rattle.qo_sound.proofs.SlotLemmas.{names_in, one_child}
 use Rattle.qo_sound.proofs.TestLemmas.{decide, clash, clash-back}
@@ -28,7 +28,7 @@ use Rattle.qo_model.proofs.AmongLemmas.{among-apart}
 pub record Placed (b : Board) : Type 0 where
   pub depth : ℕ → ℕ
   pub places : PlacesBut depth None (λ d. false) b
-  pub firm : Firm b
+  pub firm : WellFormed b
 
 pub placed : (b : Board) → SoundDevices b → Placed b
 placed b h = record { depth = h.places.0; places = h.places.1; firm = (rest-from_sound b h.tree).used.firm }

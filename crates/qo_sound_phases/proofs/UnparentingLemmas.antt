@@ -4,7 +4,7 @@ use Rattle.qo_model.proofs.Common.{cons_option, list_any, option_map_or, ANONYMO
 use Rattle.std.proofs.lemmas.Bool.{eqb-true}
 use Rattle.std.proofs.lemmas.List.Sums.{sum_by-cons}
 use Rattle.std.proofs.lemmas.Option.{same_Some}
-use Rattle.qo_model.specs.Board.{held}
+use Rattle.qo_model.specs.Board.{referent}
 use Rattle.qo_model.specs.Unplug.{first_of}
 use Rattle.qo_model.proofs.FirstSlotLemmas.{Found, found-at}
 use Rattle.qo_model.proofs.StepLemmas.{found-edited, is_some-map, map-edited}
@@ -19,7 +19,7 @@ use Rattle.qo_sound_devices.proofs.PlacesLemmas.{within-any}
 use Rattle.qo_sound_devices.proofs.PlacesLemmas.{kind-alike, more, nothing, of-alike, of-live, same, Within, within-all, within-same, within-any}
 use Rattle.qo_sound_devices.proofs.StepsLemmas.{entries-removed, steps-after, within-then, FewerEntries}
 use Rattle.qo_sound_devices.proofs.UnparentingLemmas.{none-listed}
-use Rattle.qo_sound_devices.proofs.UnrealizingLemmas.{Dimmed, Under}
+use Rattle.qo_sound_devices.proofs.UnrealizingLemmas.{FewerRealized, Under}
 
 -- lists of entries without some of them
 within-skip : (o : Option (List ℕ × ℕ)) (xs : List (List ℕ × ℕ)) → Within xs (cons_option o xs)
@@ -129,7 +129,7 @@ module _ (b : Board) (Stays : ℕ → Type 0) where
       go None e = rw (let_go, e) h
       go (Some s) e =
           rw (let_go, e)
-          (walked-after (edit n (with_dropped i) c) (held s)
+          (walked-after (edit n (with_dropped i) c) (referent s)
           (walked-edit n (with_dropped i) (λ r. refl) (λ r. refl) c (λ r q. record { children = children-fewer i r.slots; kids = kids-fewer i r.slots })
           (λ at r q. absurd (apart at)) h))
 
@@ -202,7 +202,7 @@ module _ (b : Board) (Stays : ℕ → Type 0) where
 
           at_slot : (o : Option Slot) → slot_at c m i ≡ o → Walked (take_slot c m i)
           at_slot None w = rw (take_slot, w) h
-          at_slot (Some s) w = rw (take_slot, w) (walked-after (edit m (with_cut i) (edit m (with_dropped i) c)) (held s) removed)
+          at_slot (Some s) w = rw (take_slot, w) (walked-after (edit m (with_cut i) (edit m (with_dropped i) c)) (referent s) removed)
 
   pub walked-pin : (n : ℕ) (c : Board) → Walked c → Walked (pin c n)
   unfolding pin
@@ -218,7 +218,7 @@ module _ (b : Board) (Stays : ℕ → Type 0) where
 
 -- first kids, and first buses
 -- a device d, unrealized with all that is below it, is taken out
-module _ (p u : Board) (dims : Dimmed p u) (d : ℕ) where
+module _ (p u : Board) (dims : FewerRealized p u) (d : ℕ) where
   -- what is below the device and the containers of devices may lose children; nothing else does
   abbrev pub Keeps : ℕ → Type 0
   Keeps x = (Under p d x → ⊥) × (among (PERIPHERAL_BIRTH ∷ ANONYMOUS_BIRTH ∷ []) x ≡ false)
@@ -387,7 +387,7 @@ unlisted-where d n c few = go (index_from (is_child_slot d) 0 (slots_at c n)) re
 
         at_record : (o : Option Record) → record_of c n ≡ o → listed d (child_entries (let_go c n i) n) ≡ false
         at_record None q = absurd (let bad : None ≡ Some i = rw q at e in cc)
-        at_record (Some r) q = rw (let_go, slot) (dropped (held f.entry.1))
+        at_record (Some r) q = rw (let_go, slot) (dropped (referent f.entry.1))
           where
             was : slots_at c n ≡ r.slots
             was = ap (λ (o : Option Record). option_map_or (λ (y : Record). y.slots) o []) q

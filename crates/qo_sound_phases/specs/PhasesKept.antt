@@ -14,7 +14,7 @@ use Rattle.qo_model.specs.Objects.{with_attempt}
 use Rattle.qo_model.specs.Opening.{opening_board}
 use Rattle.qo_model.specs.Paths.{attached, is_of}
 use Rattle.qo_model.specs.Plug.{Wanted, cut_attempt, plug, plug_attempt}
-use Rattle.qo_model.specs.Reset.{held, pulse, released}
+use Rattle.qo_model.specs.Reset.{after_hold, pulse, released}
 use Rattle.qo_model.specs.Types.{is_a}
 use Rattle.qo_model.specs.Unplug.{detach}
 use Rattle.qo_sound_devices.specs.SoundDevices.{SoundDevices}
@@ -47,7 +47,7 @@ pub record PhasesKeptLaw : Type 0 where
   -- an act that is no phase
   pub acts : (act : Act) (n period : ℕ) (b : Board) → phase_of (Did act) ≡ None → SoundPhases b → SoundPhases (acted act n period b)
   -- a hold on an object that may be held, a hold less where one is, and both; and the reset of the whole board
-  pub held_so : (b : Board) (n : ℕ) → may_reset b n ≡ true → SoundDevices b → SoundPhases b → SoundPhases (held b n)
+  pub held_so : (b : Board) (n : ℕ) → may_reset b n ≡ true → SoundDevices b → SoundPhases b → SoundPhases (after_hold b n)
   pub released_so : (b : Board) (n : ℕ) → among b.holds n ≡ true → SoundDevices b → SoundPhases b → SoundPhases (released b n)
   pub pulsed : (b : Board) (n : ℕ) → may_reset b n ≡ true → SoundDevices b → SoundPhases b → SoundPhases (pulse b n)
   pub reset : (b : Board) → SoundDevices b → SoundPhases b → SoundPhases (reset_whole b)

@@ -5,7 +5,7 @@ use Rattle.qo_values.specs.declared.births.TheConstants.{MACHINE_BIRTH, MEMORY_B
 use Rattle.qo_values.specs.declared.kinds.TypeId.TheVariants.{Machine}
 use Rattle.qo_model.specs.Board.{Board, kind_of}
 use Rattle.qo_model.specs.Paths.{is_of}
-use Rattle.qo_model.specs.Reset.{is_out}
+use Rattle.qo_model.specs.Reset.{is_not_in_reset}
 use Rattle.qo_sound_devices.specs.SoundPlaces.{HasOwner, stands}
 use Rattle.qo_sound_phases.specs.Phases.{Stage, held, out, stage_of}
 
@@ -17,7 +17,7 @@ pub data IsReached (b : Board) (n : ℕ) : Type 0 where
 
 -- where the holds on it and above it say that an object is
 abbrev pub stage_now : Board → ℕ → Stage
-stage_now b n = if is_out b n then out else held
+stage_now b n = if is_not_in_reset b n then out else held
 
 -- there is one machine
 abbrev pub LoneMachine : Board → Type 0

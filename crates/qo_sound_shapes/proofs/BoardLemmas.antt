@@ -3,7 +3,7 @@ use Rattle.std.proofs.Common.{◌≡◌, refl, ap, sym, subst, ◌∙◌, ℕ, B
 use Rattle.qo_model.proofs.Common.{nat_eq_equiv, AllByRecursion, list_any, option_map_or, option_or, nat_eq, MACHINE_BIRTH, OBJECTS_BIRTH, ROOT_BIRTH, TypeId, Container, Board, Record, Slot, is_live, kind_of, record_of, slot_at, slots_at, opening_board, after, drop_slot, edit, edited, finalize, finish, forgotten, let_go, next_index, pin, unpin, with_dropped, without_pin, KeepsRelease, types}
 use Rattle.std.proofs.lemmas.Bool.{eqb-true}
 use Rattle.std.proofs.lemmas.Option.{same_Some}
-use Rattle.qo_model.specs.Board.{held}
+use Rattle.qo_model.specs.Board.{referent}
 use Rattle.qo_model.proofs.ReleaseInductionLemmas.{after_keeps}
 use Rattle.qo_model.proofs.StepLemmas.{drop-record, finish-gone, finish-record, found-edited, found_at, found-birth}
 use Rattle.qo_sound.proofs.SearchLemmas.{found-append}
@@ -140,7 +140,7 @@ module _ (Q : Record → Type 0) (forgets : (n : ℕ) (r : Record) → Q r → Q
     where
       go : (o : Option Slot) → slot_at c n i ≡ o → AllOf Q (let_go c n i)
       go None e = rw (let_go, e) h
-      go (Some s) e = rw (let_go, e) (all-after (held s) _ (all-edit Q n (with_dropped i) (λ r. refl) c keeps h))
+      go (Some s) e = rw (let_go, e) (all-after (referent s) _ (all-edit Q n (with_dropped i) (λ r. refl) c keeps h))
 
 pub all-pin : (Q : Record → Type 0) (n : ℕ) (c : Board) → AllOf Q c → AllOf Q (pin c n)
 unfolding pin

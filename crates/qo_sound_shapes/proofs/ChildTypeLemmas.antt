@@ -6,7 +6,7 @@ use Rattle.std.proofs.lemmas.Bool.{eqb-true}
 use Rattle.std.proofs.lemmas.Option.{same_Some}
 use Rattle.qo_model.proofs.FinalNotesLemmas.{live-of-kind}
 use Rattle.qo_model.proofs.StepLemmas.{found-birth, found-edited, found_at}
-use Rattle.qo_sound.proofs.FirmBoardLemmas.{edited-kind, Firm}
+use Rattle.qo_sound.proofs.FirmBoardLemmas.{edited-kind, WellFormed}
 use Rattle.qo_sound.proofs.RecordLemmas.{all-both}
 use Rattle.qo_sound.proofs.SearchLemmas.{all-found, found-append}
 use Rattle.qo_values.proofs.ListLemmas.{all-imply}
@@ -20,7 +20,7 @@ abbrev pub Typed : Board → Type 0
 Typed b = (n : ℕ) (t : TypeId) → kind_of b n ≡ Some t → AllByRecursion (HasChildType b t) (child_entries b n)
 
 -- no child more, and who is there is of the type that it was of
-pub typed-within : (b c : Board) → Firm c → ((x : ℕ) → is_live c x ≡ true → kind_of c x ≡ kind_of b x)
+pub typed-within : (b c : Board) → WellFormed c → ((x : ℕ) → is_live c x ≡ true → kind_of c x ≡ kind_of b x)
     → ((x : ℕ) → Within (child_entries c x) (child_entries b x)) → Typed b → Typed c
 typed-within b c firm kin within h n t e =
     all-imply (λ x. IsThere c x × HasChildType b t x) (HasChildType c t) (λ x k to named. kin x.1 k.0 ∙ k.1 to named) (child_entries c n)

@@ -6,14 +6,14 @@ use Rattle.qo_model.specs.declared.properties.PropertyRole.{PropertyRole}
 use Rattle.std.proofs.lemmas.Bool.{eqb-true}
 use Rattle.std.proofs.lemmas.Option.{same_Some}
 use Rattle.std.proofs.lemmas.Slice.Eq.{bytes_eq-Decides}
-use Rattle.qo_model.specs.Board.{held}
+use Rattle.qo_model.specs.Board.{referent}
 use Rattle.qo_model.specs.declared.properties.PropertyRole.TheVariants as row
 use Rattle.qo_model.proofs.ComesToLemmas.{addition-comes, deletion-comes, sever-comes, severed-comes}
 use Rattle.qo_model.proofs.StepLemmas.{found-birth}
 use Rattle.qo_model.proofs.WrittenLemmas.{link-childless}
 use Rattle.qo_model.proofs.WrittenLemmas.{write-comes}
 use Rattle.qo_sound.proofs.AddLemmas.{creatable, made}
-use Rattle.qo_sound.proofs.FirmBoardLemmas.{Firm}
+use Rattle.qo_sound.proofs.FirmBoardLemmas.{WellFormed}
 use Rattle.qo_sound.proofs.SlotLemmas.{names-changed, names-each, names_in}
 use Rattle.qo_sound.proofs.ViewLemmas.{rest-from_sound}
 use Rattle.qo_sound_devices.proofs.WriteLemmas.{child-entry-pointed}
@@ -60,7 +60,7 @@ live-devices b h = (
     p : PlacesBut h.places.0 None (λ d. false) b
     p = h.places.1
 
-    firm : Firm b
+    firm : WellFormed b
     firm = (rest-from_sound b h.tree).used.firm
 
     there : (m n : ℕ) → listed n (child_entries b m) ≡ true → is_live b n ≡ true
@@ -314,7 +314,7 @@ module _ (base : Board) (aside : stands base OBJECTS_BIRTH ≡ false) where
     relinked-all : IsApart → (s : Slot) → slot_at b n i ≡ Some s → child_of s ≡ None → (target : Option ℕ) → AllOf (Full base) (relinked b n i target)
     unfolding point drop_slot
     relinked-all apart s e none target =
-        rw (relinked, e) (all-after (Full base) (full-forgotten base) (held s) (pointed_at target n i (drop_slot b n i)) (points target))
+        rw (relinked, e) (all-after (Full base) (full-forgotten base) (referent s) (pointed_at target n i (drop_slot b n i)) (points target))
       where
         dropped : AllOf (Full base) (drop_slot b n i)
         dropped =
@@ -365,7 +365,7 @@ begun-devices b h = (rest-from_sound b h.tree).used.firm.begun
 pub unborn-apart : (b : Board) → SoundDevices b → stands b (b.born + 1) ≡ false
 unborn-apart b h = go (stands b (b.born + 1)) refl
   where
-    firm : Firm b
+    firm : WellFormed b
     firm = (rest-from_sound b h.tree).used.firm
 
     go : (t : Bool) → stands b (b.born + 1) ≡ t → stands b (b.born + 1) ≡ false

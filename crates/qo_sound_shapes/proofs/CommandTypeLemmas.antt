@@ -1,12 +1,12 @@
 -- The commands on objects, and a device that is detached, keep it so that children are of the types of their properties.
 use Rattle.std.proofs.Common.{◌≡◌, refl, ap, ap₂, sym, subst, ◌∙◌, ℕ, ◌+◌, Bool, true, false, ◌==◌, nat_eq, List, [], ◌∷◌, length, map, Option, Some, None, is_some, option_map}
 use Rattle.qo_model.proofs.Common.{cons_option, list_any, option_map_or, OBJECTS_BIRTH, Code, Container, Val, Board, Record, Slot, child, is_live, kind_of, record_of, slot_at, slots_at, point, pointed, set, with_added, with_changed, with_val, Change, added, after_write, changed, deleted, severed, wrote, Given, added_as, object_add, object_del, sever, severed_from, slot_given, with_object, fresh_slots, pointed_at, relinked, write, after, drop_slot, edit, edited, finalize, let_go, pin, unpin, with_dropped, without_pin, TypeInfo, detach, unrealize}
-use Rattle.qo_model.specs.Board.{held}
+use Rattle.qo_model.specs.Board.{referent}
 use Rattle.qo_model.proofs.ComesToLemmas.{addition-comes, deletion-comes, sever-comes, severed-comes}
 use Rattle.qo_model.proofs.WrittenLemmas.{write-comes}
 use Rattle.qo_model.proofs.StepLemmas.{found-edited, is_some-map}
 use Rattle.qo_sound.proofs.AddLemmas.{made}
-use Rattle.qo_sound.proofs.FirmBoardLemmas.{edited-kind, Firm}
+use Rattle.qo_sound.proofs.FirmBoardLemmas.{edited-kind, WellFormed}
 use Rattle.qo_sound.proofs.GivenPropertyLemmas.{given-cases}
 use Rattle.qo_sound.proofs.ViewLemmas.{rest-from_sound}
 use Rattle.qo_sound_devices.specs.SoundDevices.{SoundDevices}
@@ -76,7 +76,7 @@ module _ (b : Board) where
       go None e = rw (let_go, e) h
       go (Some s) e =
           rw (let_go, e)
-          (shrinks-after (held s) _ (shrinks-edit n (with_dropped i) (λ r. refl) (λ r. refl) (λ r. children-fewer i r.slots) c h))
+          (shrinks-after (referent s) _ (shrinks-edit n (with_dropped i) (λ r. refl) (λ r. refl) (λ r. children-fewer i r.slots) c h))
 
   shrinks-pin : (n : ℕ) (c : Board) → Shrinks b c → Shrinks b (pin c n)
   unfolding pin
@@ -105,7 +105,7 @@ module _ (b : Board) where
 
   shrinks-relinked : (n i : ℕ) (s : Slot) → slot_at b n i ≡ Some s → (target : Option ℕ) → Shrinks b (relinked b n i target)
   unfolding point drop_slot
-  shrinks-relinked n i s e target = rw (relinked, e) (shrinks-after (held s) (pointed_at target n i (drop_slot b n i)) (points target))
+  shrinks-relinked n i s e target = rw (relinked, e) (shrinks-after (referent s) (pointed_at target n i (drop_slot b n i)) (points target))
     where
       dropped : Shrinks b (drop_slot b n i)
       dropped = shrinks-edit n (with_dropped i) (λ r. refl) (λ r. refl) (λ r. children-fewer i r.slots) b shrinks-none
@@ -158,10 +158,10 @@ object_add-typed b driver id props container h =
 pub changed-typed : (b : Board) (change : Change) → SoundDevices b → SoundShape b → Typed (changed b change)
 changed-typed b change devices h = go change (rest-from_sound (changed b change) (devices_kept_lem.change b change devices).tree).used.firm
   where
-    shrunk : (c : Board) → Firm c → Shrinks b c → Typed c
+    shrunk : (c : Board) → WellFormed c → Shrinks b c → Typed c
     shrunk c firm s = typed-within b c firm s.kin s.within h.children
 
-    go : (x : Change) → Firm (changed b x) → Typed (changed b x)
+    go : (x : Change) → WellFormed (changed b x) → Typed (changed b x)
     go (added driver id props) firm =
         object_add-typed b driver id props (opening-kind b h.opening OBJECTS_BIRTH Container container-eight) h.children
     go (deleted id) firm = shrunk (object_del b id).board firm (shrinks-del b id)

@@ -1,7 +1,7 @@
 -- The law: what the shape of objects says of their properties.
 use Rattle.std.proofs.Common.{◌≡◌, ◌⊎◌, inl, inr, refl, ap, sym, subst, ◌∙◌, rules, ℕ, zero, suc, ◌-◌, ◌^◌, Bool, true, false, List, [], ◌∷◌, filter_map, find, slice_get, codes, Option, Some, None, option_map, option_and_then}
 use Rattle.qo_model.proofs.Common.{AllByRecursion, list_any, option_map_or, bytes_eq, TypeId, Clock, BACKEND_SIZE_AT_FIRST, BACKEND_SIZE_MAX, DIMM_ALIGN, Board, Record, Slot, plain, child, strong, weak, alias, kind_of, record_of, slot_at, slot_named, slots_at, child_of, is_of, property_named, property_name, is_a, property, slots_of, types, uint64, up_to}
-use Rattle.qo_model.specs.declared.properties.Mark.TheVariants.{Add, Set}
+use Rattle.qo_model.specs.declared.properties.Access.TheVariants.{Add, Set}
 use Rattle.qo_model.specs.declared.properties.Property.{Property}
 use Rattle.std.proofs.lemmas.Option.{same_Some}
 use Rattle.std.proofs.Math.Bool.{or-true}

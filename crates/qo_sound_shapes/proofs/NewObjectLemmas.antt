@@ -195,9 +195,9 @@ module _ (b : Board) where
       go None q false r rest = rest (rw r at e) (rw (refusal_of, q) at none)
 
   pub fits-by : (p : Property) (v : Val) → refusal_by b (Some p) v ≡ None → misfit b p.role v ≡ None
-  fits-by p v e = go (may_add p.mark) refl
+  fits-by p v e = go (may_add p.access) refl
     where
-      go : (t : Bool) → may_add p.mark ≡ t → misfit b p.role v ≡ None
+      go : (t : Bool) → may_add p.access ≡ t → misfit b p.role v ≡ None
       go true q = rw q at e
       go false q = absurd (let clash : Some E18 ≡ None = rw q at e in cc)
 

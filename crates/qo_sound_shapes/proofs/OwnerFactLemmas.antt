@@ -1,6 +1,6 @@
 -- A fact of each object that reads nothing of its slots and registers: what keeps it.
 use Rattle.std.proofs.Common.{◌≡◌, refl, ap, ℕ, ◌+◌, List, ◌∷◌, Option, Some, None}
-use Rattle.qo_model.proofs.Common.{⊤, AllByRecursion, Registers, fresh_registers, OBJECTS_BIRTH, Act, Realize, TypeId, Board, Record, child, with_added, acted, with_act_on, buses_of, kids_of, Given, given_slots, object_del, sever, with_object, after_write, canonical, Spot, Wanted, acted_all, bus_births, clocked, counted, drafted, registers_on, source_for, stood, with_body_of, with_device, with_new, with_path, with_plugged, write, edit, forgotten, pin, without_slots, plugged, post, slots_of, detach, set_named, Val}
+use Rattle.qo_model.proofs.Common.{⊤, AllByRecursion, Registers, fresh_registers, OBJECTS_BIRTH, Act, Realize, TypeId, Board, Record, child, with_added, acted, with_act_on, buses_of, kids_of, Given, given_slots, object_del, sever, with_object, after_write, canonical, Resources, Wanted, acted_all, bus_births, clocked, counted, drafted, registers_on, source_for, stood, with_body_of, with_device, with_new, with_path, with_plugged, write, edit, forgotten, pin, without_slots, plugged, post, slots_of, detach, set_named, Val}
 use Rattle.qo_sound.proofs.ChangeStepsLemmas.{step-object_del, step-sever, step-write}
 use Rattle.qo_sound.proofs.DetachmentStepsLemmas.{KeepsEnds, KeepsLists, KeepsPins, step-detach, step-pin, step-unrealize}
 use Rattle.qo_sound.proofs.AdditionStepsLemmas.{all-any, KeepsActs, KeepsEdits, KeepsNew, new_with, RowPasses, step-acted_all, step-drafted, step-plugged, step-set, step-stood}
@@ -75,23 +75,24 @@ module _ (Q : Record → Type 0) (slots : (r s : Record) → without_slots s ≡
   fact-counted None c h = h
   fact-counted (Some id) c h = h
 
-  pub fact-plugged : (b : Board) (t : TypeId) (a : Wanted) (spot : Spot)
+  pub fact-plugged : (b : Board) (t : TypeId) (a : Wanted) (resources : Resources)
       → ((path : Option (List ℕ)) (r : Record) → r.birth ≡ b.born + 1 → Q r → Q (with_path path r))
-      → AllOf Q (drafted b t) → AllOf Q (with_plugged b t a spot)
-  fact-plugged b t a spot told h =
+      → AllOf Q (drafted b t) → AllOf Q (with_plugged b t a resources)
+  fact-plugged b t a resources told h =
       all-edit Q n (with_path (canonical c n)) (λ r. refl) c (λ r e own k. told (canonical c n) r own k)
       (step-plugged (λ n. ⊤) (AllOf Q) fact-acted n acting (all-any (post acting n))
-      (step-acted_all (λ n. ⊤) (AllOf Q) fact-acted Realize refl (n ∷ bus_births n t) (all-any (n ∷ bus_births n t)) (with_device b t a spot)
-      (fact-counted a.id (clocked (source_for b spot.bus) n (stood b n a spot (drafted b t)))
-      (step-stood (AllOf Q) fact-edits b n a spot
+      (step-acted_all (λ n. ⊤) (AllOf Q) fact-acted Realize refl (n ∷ bus_births n t) (all-any (n ∷ bus_births n t)) (with_device b t a resources)
+      (fact-counted a.id (clocked (source_for b resources.bus) n (stood b n a resources (drafted b t)))
+      (step-stood (AllOf Q) fact-edits b n a resources
       (λ e k.
-      all-edit Q n (with_body_of a.id spot.range) (λ r. refl) e (λ r q own w. body (registers_on spot.range r.registers) a.id r w) k) (drafted b t) h))))
+      all-edit Q n (with_body_of a.id resources.range) (λ r. refl) e (λ r q own w. body (registers_on resources.range r.registers) a.id r w) k) (drafted b t)
+      h))))
     where
       n : ℕ
       n = b.born + 1
 
       acting : Board
-      acting = acted_all Realize (n ∷ bus_births n t) (with_device b t a spot)
+      acting = acted_all Realize (n ∷ bus_births n t) (with_device b t a resources)
 
       c : Board
       c = plugged acting n

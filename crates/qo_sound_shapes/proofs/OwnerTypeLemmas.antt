@@ -1,6 +1,6 @@
 -- What an object is by its type alone: who has a kept path, and which births are those of a container and of the machine.
 use Rattle.std.proofs.Common.{◌≡◌, ap, sym, subst, ◌∙◌, rules, ℕ, ◌+◌, ◌&&◌, ◌||◌, ◌==◌, Bool, true, false, not, List, codes, Option, Some, None, is_some, option_map}
-use Rattle.qo_model.proofs.Common.{⊤, AllByRecursion, Registers, MACHINE_BIRTH, Code, TypeId, Container, Machine, Board, Record, record_of, among, Change, added, changed, deleted, severed, wrote, Given, added_as, opening_board, Wanted, drafted, plug, spot_of, with_path, with_plugged, without_slots, is_a, slots_of, types}
+use Rattle.qo_model.proofs.Common.{⊤, AllByRecursion, Registers, MACHINE_BIRTH, Code, TypeId, Container, Machine, Board, Record, record_of, among, Change, added, changed, deleted, severed, wrote, Given, added_as, opening_board, Wanted, drafted, plug, resources_of, with_path, with_plugged, without_slots, is_a, slots_of, types}
 use Rattle.std.proofs.lemmas.Bool.{and_parts, eqb-true}
 use Rattle.std.proofs.lemmas.Option.{same_Some}
 use Rattle.qo_values.proofs.EachLemmas.{each}
@@ -10,7 +10,7 @@ use Rattle.qo_sound.proofs.AddLemmas.{creatable}
 use Rattle.qo_sound.proofs.SearchLemmas.{all-found}
 use Rattle.qo_sound.proofs.AdditionStepsLemmas.{RowPasses}
 use Rattle.qo_sound.proofs.PlugLemmas.{shut-above}
-use Rattle.qo_sound.proofs.ViewLemmas.{AtRest, rest-from_sound}
+use Rattle.qo_sound.proofs.ViewLemmas.{PinsRootAlone, rest-from_sound}
 use Rattle.qo_sound_devices.specs.SoundDevices.{SoundDevices}
 use Rattle.qo_sound_devices.proofs.DraftLemmas.{drafted-made}
 use Rattle.qo_sound_devices.proofs.JoiningLemmas.{Made}
@@ -129,12 +129,13 @@ placed-path : (n : ℕ) (path : Option (List ℕ)) (r : Record) → r.birth ≡ 
 placed-path n path r own h = record { apt = (λ p e. h.device own, h.apt.1); device = h.device }
 
 apt-with_plugged : (b : Board) (a : Wanted) (t : TypeId) (bus : ℕ) → SoundDevices b → Accepted b t bus a → AllOf Apt b
-    → AllOf Apt (with_plugged b t a (spot_of b t bus a.props))
+    → AllOf Apt (with_plugged b t a (resources_of b t bus a.props))
 apt-with_plugged b a t bus devices k h =
-    all-imply_of (Placed (b.born + 1)) Apt (λ r p. p.apt) (with_plugged b t a (spot_of b t bus a.props))
-    (fact-plugged (Placed (b.born + 1)) (placed-slots (b.born + 1)) (placed-body (b.born + 1)) b t a (spot_of b t bus a.props) (placed-path (b.born + 1)) begin)
+    all-imply_of (Placed (b.born + 1)) Apt (λ r p. p.apt) (with_plugged b t a (resources_of b t bus a.props))
+    (fact-plugged (Placed (b.born + 1)) (placed-slots (b.born + 1)) (placed-body (b.born + 1)) b t a (resources_of b t bus a.props) (placed-path (b.born + 1))
+    begin)
   where
-    rest : AtRest b
+    rest : PinsRootAlone b
     rest = rest-from_sound b devices.tree
 
     made : Made b (b.born + 1) t (drafted b t)

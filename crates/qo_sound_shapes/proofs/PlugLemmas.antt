@@ -1,6 +1,6 @@
 -- A device that is added stands in its place, and is shaped as its type says, as all others are.
 use Rattle.std.proofs.Common.{rules, ◌≡◌, ◌⊎◌, inl, inr, refl, ap, sym, subst, ◌∙◌, ℕ, ◌<◌, ◌≤◌, ◌+◌, ◌-◌, ◌^◌, ◌%◌, ◌&&◌, ◌||◌, Bool, true, false, not, ◌==◌, List, [], ◌∷◌, ◌++◌, map, find, codes, Option, Some, None, is_some, option_map, option_and_then, arith}
-use Rattle.qo_model.proofs.Common.{nat_le, list_any, option_map_or, bytes_eq, ⊤, fits_at, is_in_window, overlaps_any, free_address, range_at, window_end, window_size, window_start, admits, fresh_registers, ANONYMOUS_BIRTH, PERIPHERAL_BIRTH, E17, E19, Realize, TypeId, Container, Device, MemDimm, SlotBus, MemBus, MemoryBackend, BUS_SLOTS, DIMM_ALIGN, Val, Range, Board, Record, Slot, child, strong, is_live, kind_of, record_of, add, changed_at, with_added, with_changed, with_val, acted, with_act_on, among, clock_of, kid_name, number_in, Given, misfit, refusal_by, refusal_of, slot_given, opening_board, canonical, Spot, Wanted, acted_all, addressed_at, bus_births, bus_type, clocked, counted, drafted, fitted, link_named, name_for, number_for, ok_in, parent_for, plug, range_for, range_of, ranges_of, registers_on, size_of, source_for, spot_of, stood, target_for, notified_plug, with_body_of, with_device, with_given, with_path, with_plugged, with_source, property_named, edit, property_name, plugged, post, is_a, multiple_of, slots_of, types, up_to}
+use Rattle.qo_model.proofs.Common.{nat_le, list_any, option_map_or, bytes_eq, ⊤, fits_at, is_in_window, overlaps_any, free_address, range_at, window_end, window_size, window_start, admits, fresh_registers, ANONYMOUS_BIRTH, PERIPHERAL_BIRTH, E17, E19, Realize, TypeId, Container, Device, MemDimm, SlotBus, MemBus, MemoryBackend, BUS_SLOTS, DIMM_ALIGN, Val, Range, Board, Record, Slot, child, strong, is_live, kind_of, record_of, add, changed_at, with_added, with_changed, with_val, acted, with_act_on, among, clock_of, kid_name, number_in, Given, misfit, refusal_by, refusal_of, slot_given, opening_board, canonical, Resources, Wanted, acted_all, addressed_at, bus_births, bus_type, clocked, counted, drafted, fitted, link_named, name_for, number_for, ok_in, parent_for, plug, range_for, range_of, ranges_of, registers_on, size_of, source_for, resources_of, stood, target_for, notified_plug, with_body_of, with_device, with_given, with_path, with_plugged, with_source, property_named, edit, property_name, plugged, post, is_a, multiple_of, slots_of, types, up_to}
 use Rattle.qo_model.specs.declared.properties.Property.{Property}
 use Rattle.qo_model.specs.declared.properties.PropertyRole.{PropertyRole}
 use Rattle.std.proofs.lemmas.Bool.{and_parts}
@@ -18,7 +18,7 @@ use Rattle.qo_sound.proofs.PlugLemmas.{shut-above}
 use Rattle.qo_values.proofs.ListLemmas.{all-imply}
 use Rattle.qo_values.proofs.EachLemmas.{each}
 use Rattle.qo_sound.proofs.SlotLemmas.{names-changed, names_in}
-use Rattle.qo_sound.proofs.ViewLemmas.{AtRest, rest-from_sound}
+use Rattle.qo_sound.proofs.ViewLemmas.{PinsRootAlone, rest-from_sound}
 use Rattle.qo_sound_devices.specs.SoundDevices.{SoundDevices}
 use Rattle.qo_sound_devices.specs.SoundPlaces.{stands}
 use Rattle.qo_sound_devices.proofs.AcceptanceLemmas.{goal-of, passes}
@@ -240,12 +240,12 @@ module _ (kinds : ℕ → Option TypeId) (new : ℕ) where
       placed-edit n (with_path (canonical c n)) (λ r. refl) (λ r. refl) (λ r k. k) c
       (λ r e own k. record { shaped = record { slots = k.good.shaped.slots; registers = k.good.shaped.registers }; kind = k.good.kind; fixed = k.good.fixed }) h
 
-  -- a device n of type t that goes to a spot on a bus
+  -- a device n of type t that goes to a bus with its resources
   module _ (b : Board) (n : ℕ) (t : TypeId) (a : Wanted) (bus : ℕ) (its : kinds n ≡ Some t) (late : 8 < n)
-      (home : (k : TypeId) → kinds bus ≡ Some k → (k ≡ SlotBus) ⊎ (k ≡ MemBus)) (low : (spot_of b t bus a.props).slot < 8)
+      (home : (k : TypeId) → kinds bus ≡ Some k → (k ≡ SlotBus) ⊎ (k ≡ MemBus)) (low : (resources_of b t bus a.props).slot < 8)
       (taken : refusal_of b t a.props ≡ None) where
-    abbrev spot : Spot
-    spot = spot_of b t bus a.props
+    abbrev resources : Resources
+    resources = resources_of b t bus a.props
 
     placed-container : (c : Board) → H c → H (add (parent_for a.id) (name_for b a.id) (child n) c)
     placed-container c h = placed-add (parent_for a.id) (name_for b a.id) (child n) (more a.id (name_for b a.id)) c h
@@ -313,18 +313,18 @@ module _ (kinds : ℕ → Option TypeId) (new : ℕ) where
               fixed = k.good.fixed;
             }
 
-    placed-stood : (c : Board) → H c → H (stood b n a (spot_of b t bus a.props) c)
+    placed-stood : (c : Board) → H c → H (stood b n a (resources_of b t bus a.props) c)
     placed-stood c h =
-        stand-by H b n a spot
+        stand-by H b n a resources
         (record {
           named = placed-container;
-          on_bus = placed-kid spot.slot low;
+          on_bus = placed-kid resources.slot low;
           given = placed-given;
-          placed = placed-set n (codes "slot") (val.Uint spot.slot) (λ k. takes-slot k spot.slot low);
-          linked = placed-link n (codes "parent_bus") spot.bus;
+          placed = placed-set n (codes "slot") (val.Uint resources.slot) (λ k. takes-slot k resources.slot low);
+          linked = placed-link n (codes "parent_bus") resources.bus;
           marked = placed-set n (codes "realized") (val.Bool true) (λ k. takes-realized k true);
-          addressed = placed-address spot.range refl;
-          bodied = placed-body spot.range refl;
+          addressed = placed-address resources.range refl;
+          bodied = placed-body resources.range refl;
         }) c h
 
   placed-source : (source : ℕ) (o : Option ℕ) (c : Board) → H c → H (with_source source o c)
@@ -340,19 +340,19 @@ module _ (b : Board) (t : TypeId) (bus : ℕ) (a : Wanted) (devices : SoundDevic
   n : ℕ
   n = b.born + 1
 
-  abbrev its_spot : Spot
-  its_spot = spot_of b t bus a.props
+  abbrev its_resources : Resources
+  its_resources = resources_of b t bus a.props
 
   abbrev kinds : ℕ → Option TypeId
   kinds = kind_of (drafted b t)
 
-  rest : AtRest b
+  rest : PinsRootAlone b
   rest = rest-from_sound b devices.tree
 
   begun : 8 ≤ b.born
   begun = begun-devices b devices
 
-  goal : Goal devices.places.0 b (b.born + 1) bus (spot_of b t bus a.props).slot a.id t (drafted b t)
+  goal : Goal devices.places.0 b (b.born + 1) bus (resources_of b t bus a.props).slot a.id t (drafted b t)
   goal = goal-of devices.places.0 b t bus a rest devices.places.1 k
 
   made : Made b (b.born + 1) t (drafted b t)
@@ -379,38 +379,40 @@ module _ (b : Board) (t : TypeId) (bus : ℕ) (a : Wanted) (devices : SoundDevic
         each = λ own. drafted-rows b t begun absent (good-all b shape) x r e own;
       }
 
-  placed : AllOf (Placed (kind_of (drafted b t)) (b.born + 1)) (with_plugged b t a (spot_of b t bus a.props))
+  placed : AllOf (Placed (kind_of (drafted b t)) (b.born + 1)) (with_plugged b t a (resources_of b t bus a.props))
   placed =
       let m : ℕ = b.born + 1 in
-      let run : Board = acted_all Realize (m ∷ bus_births m t) (with_device b t a its_spot) in
+      let run : Board = acted_all Realize (m ∷ bus_births m t) (with_device b t a its_resources) in
       placed-told kinds m m (plugged run m)
       (step-plugged (λ x. ⊤) (H kinds m) (placed-acts kinds m) m run (all-any (post run m))
-      (step-acted_all (λ x. ⊤) (H kinds m) (placed-acts kinds m) Realize refl (m ∷ bus_births m t) (all-any (m ∷ bus_births m t)) (with_device b t a its_spot)
-      (placed-counted kinds m a.id (clocked (source_for b its_spot.bus) m (stood b m a its_spot (drafted b t)))
-      (placed-source kinds m (source_for b its_spot.bus) (clock_of (stood b m a its_spot (drafted b t)) m) (stood b m a its_spot (drafted b t))
+      (step-acted_all (λ x. ⊤) (H kinds m) (placed-acts kinds m) Realize refl (m ∷ bus_births m t) (all-any (m ∷ bus_births m t))
+      (with_device b t a its_resources)
+      (placed-counted kinds m a.id (clocked (source_for b its_resources.bus) m (stood b m a its_resources (drafted b t)))
+      (placed-source kinds m (source_for b its_resources.bus) (clock_of (stood b m a its_resources (drafted b t)) m) (stood b m a its_resources (drafted b t))
       (placed-stood kinds m b m t a bus made.kind (omega (arith, begun)) home goal.low (passes b t bus a k).properties (drafted b t) begin)))))
 
-  with_plugged-good : AllOf Good (with_plugged b t a (spot_of b t bus a.props))
+  with_plugged-good : AllOf Good (with_plugged b t a (resources_of b t bus a.props))
   with_plugged-good x r e = (placed x r e).good
 
   -- who stands in a container: who did before, or the new device
 
-  joined-so : Joined devices.places.0 b (b.born + 1) bus (spot_of b t bus a.props).slot a.id t (done b bus (spot_of b t bus a.props).slot a.id)
-      (with_plugged b t a (spot_of b t bus a.props))
+  joined-so : Joined devices.places.0 b (b.born + 1) bus (resources_of b t bus a.props).slot a.id t (done b bus (resources_of b t bus a.props).slot a.id)
+      (with_plugged b t a (resources_of b t bus a.props))
   joined-so = accepted-joined devices.places.0 b a rest devices.places.1 t bus k
 
-  stood-or-new : (d : ℕ) → stands (with_plugged b t a (spot_of b t bus a.props)) d ≡ true → (stands b d ≡ true) ⊎ (d ≡ b.born + 1)
+  stood-or-new : (d : ℕ) → stands (with_plugged b t a (resources_of b t bus a.props)) d ≡ true → (stands b d ≡ true) ⊎ (d ≡ b.born + 1)
   stood-or-new d e =
-      by-stand devices.places.0 b (b.born + 1) bus (spot_of b t bus a.props).slot a.id t (with_plugged b t a (spot_of b t bus a.props)) joined-so
+      by-stand devices.places.0 b (b.born + 1) bus (resources_of b t bus a.props).slot a.id t (with_plugged b t a (resources_of b t bus a.props)) joined-so
       rest.used.firm devices.places.1 d e {A = (stands b d ≡ true) ⊎ (d ≡ b.born + 1)} (λ k. inl k) (λ is. inr is)
 
-  stays-so : (x : ℕ) → stands (with_plugged b t a (spot_of b t bus a.props)) x ≡ true
-      → Stood b (with_plugged b t a (spot_of b t bus a.props)) x
-      ⊎ ((y : TypeId) → kind_of (with_plugged b t a (spot_of b t bus a.props)) x ≡ Some y → HasEach (with_plugged b t a (spot_of b t bus a.props)) x y)
+  stays-so : (x : ℕ) → stands (with_plugged b t a (resources_of b t bus a.props)) x ≡ true
+      → Stood b (with_plugged b t a (resources_of b t bus a.props)) x
+      ⊎ ((y : TypeId) → kind_of (with_plugged b t a (resources_of b t bus a.props)) x ≡ Some y
+      → HasEach (with_plugged b t a (resources_of b t bus a.props)) x y)
   stays-so x e = by (stood-or-new x e)
     where
       c : Board
-      c = with_plugged b t a (spot_of b t bus a.props)
+      c = with_plugged b t a (resources_of b t bus a.props)
 
       by : (stands b x ≡ true) ⊎ (x ≡ b.born + 1) → Stood b c x ⊎ ((y : TypeId) → kind_of c x ≡ Some y → HasEach c x y)
       by (inl was) =
@@ -430,15 +432,16 @@ module _ (b : Board) (t : TypeId) (bus : ℕ) (a : Wanted) (devices : SoundDevic
               subst (HasRows y) (sym (ap (λ (o : Option Record). option_map_or (λ (z : Record). z.slots) o []) f))
               (subst (λ (z : TypeId). HasRows z r.slots) kind ((placed x r f).each own))
 
-  with_plugged-whole : Whole (with_plugged b t a (spot_of b t bus a.props))
+  with_plugged-whole : Whole (with_plugged b t a (resources_of b t bus a.props))
   with_plugged-whole =
-      whole-stays b (with_plugged b t a (spot_of b t bus a.props)) (good-all b shape) with_plugged-good stays-so
+      whole-stays b (with_plugged b t a (resources_of b t bus a.props)) (good-all b shape) with_plugged-good stays-so
       (λ x e. stands-device devices.places.0 None (λ y. false) b devices.places.1 x e) shape.whole
 
 pub plug-shape : (b : Board) (a : Wanted) → SoundDevices b → SoundShape b → SoundShape (plug b a).board
 plug-shape b a devices h =
     let all : AllOf Good (plug b a).board × (Whole (plug b a).board × Typed (plug b a).board) =
-    after-plug (λ (c : Board). AllOf Good c × (Whole c × Typed c)) b a (good-all b h, (h.whole, h.children)) (λ t bus stage. (good-all b h, (h.whole, h.children)))
+    after-plug (λ (c : Board). AllOf Good c × (Whole c × Typed c)) b a (good-all b h, (h.whole, h.children))
+    (λ t bus stage. (good-all b h, (h.whole, h.children)))
     (λ t bus k. (
       with_plugged-good b t bus a devices k h,
       (with_plugged-whole b t bus a devices k h, plugged-typed b t bus a devices k h),

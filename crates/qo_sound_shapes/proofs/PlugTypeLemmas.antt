@@ -1,6 +1,6 @@
 -- A device that is added: the children that it is made with are of the types of their properties.
 use Rattle.std.proofs.Common.{◌≡◌, refl, ap, sym, ◌∙◌, subst, ℕ, ◌+◌, ◌<◌, true, false, ◌==◌, List, [], ◌∷◌, ◌++◌, codes, Option, Some, None, option_map, option_and_then, arith}
-use Rattle.qo_model.proofs.Common.{⊤, AllByRecursion, cons_option, option_or, Realize, TypeId, Container, Device, Val, Range, Board, Record, Slot, plain, child, strong, weak, alias, kind_of, record_of, add, fresh, with_added, with_changed, with_val, acted, with_act_on, clock_of, kid_name, first_value, fresh_record, canonical, Spot, Wanted, acted_all, addressed_at, aliased, bus_births, clocked, counted, drafted, fitted, link_named, name_for, notified_plug, owned, parent_for, property_made, properties_made, source_for, spot_of, stood, with_body_of, with_device, with_given, with_new, with_path, with_plugged, with_source, edit, edited, plugged, post, property_name, slots_of, set_named}
+use Rattle.qo_model.proofs.Common.{⊤, AllByRecursion, cons_option, option_or, Realize, TypeId, Container, Device, Val, Range, Board, Record, Slot, plain, child, strong, weak, alias, kind_of, record_of, add, fresh, with_added, with_changed, with_val, acted, with_act_on, clock_of, kid_name, first_value, fresh_record, canonical, Resources, Wanted, acted_all, addressed_at, aliased, bus_births, clocked, counted, drafted, fitted, link_named, name_for, notified_plug, owned, parent_for, property_made, properties_made, source_for, resources_of, stood, with_body_of, with_device, with_given, with_new, with_path, with_plugged, with_source, edit, edited, plugged, post, property_name, slots_of, set_named}
 use Rattle.qo_model.specs.declared.properties.Property.{Property}
 use Rattle.qo_model.specs.declared.properties.PropertyRole.{PropertyRole}
 use Rattle.std.proofs.lemmas.Bool.{eq-eqb}
@@ -10,7 +10,7 @@ use Rattle.qo_model.specs.declared.properties.PropertyRole.TheVariants as row
 use Rattle.qo_model.proofs.StepLemmas.{found-edited, found_at}
 use Rattle.qo_sound.proofs.AdditionStepsLemmas.{all-any, KeepsActs, link-by, set-by, stand-by, step-acted_all, step-plugged}
 use Rattle.qo_sound.proofs.DraftLemmas.{absent-above}
-use Rattle.qo_sound.proofs.FirmBoardLemmas.{edited-kind, Firm}
+use Rattle.qo_sound.proofs.FirmBoardLemmas.{edited-kind, WellFormed}
 use Rattle.qo_sound.proofs.RecordLemmas.{all-append}
 use Rattle.qo_sound.proofs.SearchLemmas.{found-append}
 use Rattle.qo_sound.proofs.ViewLemmas.{rest-from_sound}
@@ -177,18 +177,18 @@ module _ (n : ℕ) (t : TypeId) where
   typing-addressed None c h = h
   typing-addressed (Some r) c h = typing-set n (codes "addr") (val.Uint r.at) c h
 
-  typing-stood : (b : Board) (a : Wanted) (spot : Spot) (c : Board) → Typing c → Typing (stood b n a spot c)
-  typing-stood b a spot c h =
-      stand-by Typing b n a spot
+  typing-stood : (b : Board) (a : Wanted) (resources : Resources) (c : Board) → Typing c → Typing (stood b n a resources c)
+  typing-stood b a resources c h =
+      stand-by Typing b n a resources
       (record {
         named = typing-named a.id (name_for b a.id);
-        on_bus = typing-add spot.bus (kid_name spot.slot) (strong Device (Some n)) refl;
+        on_bus = typing-add resources.bus (kid_name resources.slot) (strong Device (Some n)) refl;
         given = typing-mild n (with_given b a.props) (λ r. refl) (λ r. refl) (λ r. entries-given b a.props r.slots);
-        placed = typing-set n (codes "slot") (val.Uint spot.slot);
-        linked = typing-link n (codes "parent_bus") spot.bus;
+        placed = typing-set n (codes "slot") (val.Uint resources.slot);
+        linked = typing-link n (codes "parent_bus") resources.bus;
         marked = typing-set n (codes "realized") (val.Bool true);
-        addressed = typing-addressed spot.range;
-        bodied = typing-mild n (with_body_of a.id spot.range) (λ r. refl) (λ r. refl) (λ r. refl);
+        addressed = typing-addressed resources.range;
+        bodied = typing-mild n (with_body_of a.id resources.range) (λ r. refl) (λ r. refl) (λ r. refl);
       }) c h
 
   typing-source : (source : ℕ) (o : Option ℕ) (c : Board) → Typing c → Typing (with_source source o c)
@@ -211,16 +211,16 @@ module _ (n : ℕ) (t : TypeId) where
 
 -- the whole
 pub plugged-typed : (b : Board) (t : TypeId) (bus : ℕ) (a : Wanted) → SoundDevices b → Accepted b t bus a → SoundShape b
-    → Typed (with_plugged b t a (spot_of b t bus a.props))
+    → Typed (with_plugged b t a (resources_of b t bus a.props))
 plugged-typed b t bus a devices k h = all.typed
   where
     n : ℕ
     n = b.born + 1
 
-    spot : Spot
-    spot = spot_of b t bus a.props
+    resources : Resources
+    resources = resources_of b t bus a.props
 
-    firm : Firm b
+    firm : WellFormed b
     firm = (rest-from_sound b devices.tree).used.firm
 
     new : Board
@@ -249,15 +249,15 @@ plugged-typed b t bus a devices k h = all.typed
               ∙ rw apart refl;
         }
 
-    all : Typing (b.born + 1) t (with_plugged b t a (spot_of b t bus a.props))
+    all : Typing (b.born + 1) t (with_plugged b t a (resources_of b t bus a.props))
     all =
-        let d : Board = stood b (b.born + 1) a (spot_of b t bus a.props) (drafted b t) in
-        let run : Board = acted_all Realize ((b.born + 1) ∷ bus_births (b.born + 1) t) (with_device b t a (spot_of b t bus a.props)) in
+        let d : Board = stood b (b.born + 1) a (resources_of b t bus a.props) (drafted b t) in
+        let run : Board = acted_all Realize ((b.born + 1) ∷ bus_births (b.born + 1) t) (with_device b t a (resources_of b t bus a.props)) in
         typing-told (b.born + 1) t (plugged run (b.born + 1))
         (step-plugged (λ x. ⊤) (Typing (b.born + 1) t) (typing-acts (b.born + 1) t) (b.born + 1) run (all-any (post run (b.born + 1)))
         (step-acted_all (λ x. ⊤) (Typing (b.born + 1) t) (typing-acts (b.born + 1) t) Realize refl ((b.born + 1) ∷ bus_births (b.born + 1) t)
-        (all-any ((b.born + 1) ∷ bus_births (b.born + 1) t)) (with_device b t a (spot_of b t bus a.props))
+        (all-any ((b.born + 1) ∷ bus_births (b.born + 1) t)) (with_device b t a (resources_of b t bus a.props))
         (typing-counted (b.born + 1) t a.id (clocked (source_for b bus) (b.born + 1) d)
         (typing-source (b.born + 1) t (source_for b bus) (clock_of d (b.born + 1)) d
-        (typing-stood (b.born + 1) t b a (spot_of b t bus a.props) (drafted b t)
+        (typing-stood (b.born + 1) t b a (resources_of b t bus a.props) (drafted b t)
         (typing-rows (b.born + 1) t (slots_of t) (own-rows t) (with_new (fresh (b.born + 1) t) b) first))))))

@@ -69,7 +69,7 @@ unfolding types
 further-same = each SameFurther (search rules)
 
 -- a change of slots that leaves children, and what links are to
-pub record Mild (g : Slot → Slot) : Type 0 where
+pub record KeepsTargets (g : Slot → Slot) : Type 0 where
   pub steady : (s : Slot) → IsCalm s → without_value (g s) ≡ without_value s
   pub kid : (name : List ℕ) (s : Slot) → IsKidLink name s → IsKidLink name (g s)
   pub kin : (s : Slot) → IsChildSlot s → IsChildSlot (g s)
@@ -77,25 +77,26 @@ pub record Mild (g : Slot → Slot) : Type 0 where
 abbrev pub KeepsRows : (Slot → Slot) → Type 0
 KeepsRows g = (kind : PropertyRole) (s : Slot) → HasRole kind s → HasRole kind (g s)
 
-each-unvalued : (g : Slot → Slot) → Mild g → (slots : Slots) → AllByRecursion (λ (s : List ℕ × Slot). IsCalm s.1) slots
+each-unvalued : (g : Slot → Slot) → KeepsTargets g → (slots : Slots) → AllByRecursion (λ (s : List ℕ × Slot). IsCalm s.1) slots
     → unvalued (map (λ (s : List ℕ × Slot). (s.0, g s.1)) slots) ≡ unvalued slots
 each-unvalued g mild [] h = refl
 each-unvalued g mild (s ∷ slots) h = rw (mild.steady s.1 h.0, each-unvalued g mild slots h.1) refl
 
-changed-unvalued : (g : Slot → Slot) → Mild g → (i : ℕ) (slots : Slots) → AllByRecursion (λ (s : List ℕ × Slot). IsCalm s.1) slots
+changed-unvalued : (g : Slot → Slot) → KeepsTargets g → (i : ℕ) (slots : Slots) → AllByRecursion (λ (s : List ℕ × Slot). IsCalm s.1) slots
     → unvalued (changed_at g i slots) ≡ unvalued slots
 changed-unvalued g mild i [] h = refl
 changed-unvalued g mild zero (s ∷ slots) h = rw (mild.steady s.1 h.0) refl
 changed-unvalued g mild (suc i) (s ∷ slots) h = ap (λ (xs : Slots). (s.0, without_value s.1) ∷ xs) (changed-unvalued g mild i slots h.1)
 
-pub good-each : (g : Slot → Slot) → Mild g → KeepsRows g → (r : Record) → Good r → Good (record r { slots = map (λ (s : List ℕ × Slot). (s.0, g s.1)) r.slots })
+pub good-each : (g : Slot → Slot) → KeepsTargets g → KeepsRows g → (r : Record) → Good r
+    → Good (record r { slots = map (λ (s : List ℕ × Slot). (s.0, g s.1)) r.slots })
 good-each g mild rows r h =
     good-slots r (map (λ (s : List ℕ × Slot). (s.0, g s.1)) r.slots) h
     (has-each (IsRowOf r.kind) r.kind (λ (s : List ℕ × Slot). (s.0, g s.1)) (λ p s own is. record { name = is.name; fits = rows p.role s.1 is.fits })
     (λ s k. further-same r.kind s.0 s.1 (g s.1) (λ bus. mild.kid s.0 s.1) (mild.kin s.1) k) (slots_of r.kind) (own-rows r.kind) h.shaped.slots)
     (λ e. each-unvalued g mild r.slots (calm r h e))
 
-pub good-changed : (g : Slot → Slot) → Mild g → (i : ℕ) (r : Record)
+pub good-changed : (g : Slot → Slot) → KeepsTargets g → (i : ℕ) (r : Record)
     → ((p : Property) (s : List ℕ × Slot) → IsRowOf r.kind p → slice_get r.slots i ≡ Some s → IsOfProperty p s → HasRole p.role (g s.1)) → Good r
     → Good (with_changed g i r)
 good-changed g mild i r rows h =
@@ -107,7 +108,7 @@ good-changed g mild i r rows h =
 
 -- weak links that are emptied
 
-pub mild-forgotten : (n : ℕ) → Mild (forgotten_in n)
+pub mild-forgotten : (n : ℕ) → KeepsTargets (forgotten_in n)
 mild-forgotten n = record { steady = steady; kid = kid; kin = kin }
   where
     steady : (s : Slot) → IsCalm s → without_value (forgotten_in n s) ≡ without_value s
@@ -148,7 +149,7 @@ rows-forgotten n kind (alias m property) h = h
 pub good-forgotten : (n : ℕ) (r : Record) → Good r → Good (forgotten n r)
 good-forgotten n r h = good-each (forgotten_in n) (mild-forgotten n) (rows-forgotten n) r h
 
-pub mild-unseen : Mild unseen
+pub mild-unseen : KeepsTargets unseen
 mild-unseen = record { steady = steady; kid = kid; kin = kin }
   where
     steady : (s : Slot) → IsCalm s → without_value (unseen s) ≡ without_value s
@@ -185,7 +186,7 @@ rows-unseen kind (alias m property) h = h
 
 -- links that are pointed
 
-pub mild-pointed : (n : ℕ) → Mild (pointed n)
+pub mild-pointed : (n : ℕ) → KeepsTargets (pointed n)
 mild-pointed n = record { steady = steady; kid = kid; kin = kin }
   where
     steady : (s : Slot) → IsCalm s → without_value (pointed n s) ≡ without_value s
@@ -232,7 +233,7 @@ rows-pointed n kind (strong t target) h = strong-row kind t target (Some n) h
 rows-pointed n kind (weak t target) h = weak-row kind t target (Some n) h
 rows-pointed n kind (alias m property) h = h
 
-pub mild-fitted : (b : Board) (n : ℕ) → Mild (fitted b n)
+pub mild-fitted : (b : Board) (n : ℕ) → KeepsTargets (fitted b n)
 mild-fitted b n = record { steady = steady; kid = kid; kin = kin }
   where
     steady : (s : Slot) → IsCalm s → without_value (fitted b n s) ≡ without_value s
@@ -271,7 +272,7 @@ rows-fitted b n kind (alias m property) h = h
 
 -- a value that is set
 
-pub mild-val : (v : Val) → Mild (with_val v)
+pub mild-val : (v : Val) → KeepsTargets (with_val v)
 mild-val v = record { steady = steady; kid = kid; kin = kin }
   where
     steady : (s : Slot) → IsCalm s → without_value (with_val v s) ≡ without_value s

@@ -1,17 +1,17 @@
 -- What stands in `/objects` is of a type of objects that a user creates: what keeps it so.
 use Rattle.std.proofs.Common.{◌≡◌, refl, ap, sym, subst, ◌∙◌, rules, ℕ, ◌+◌, ◌==◌, true, false, List, [], ◌∷◌, ◌++◌, filter_map, map, length, codes, arith, Option, Some, None, is_some, option_map}
-use Rattle.qo_model.proofs.Common.{⊤, AllByRecursion, option_map_or, option_or, bytes_eq, Registers, fresh_registers, OBJECTS_BIRTH, Code, Act, TypeId, Val, Board, Record, child, is_live, kind_of, record_of, slots_at, with_added, acted, after_write, Change, added, changed, deleted, severed, wrote, Given, added_as, given_slots, object_del, sever, severed_from, with_attempt, with_object, opening_board, is_of, Wanted, plug, plug_attempt, spot_of, with_plugged, write, edited, let_go, pin, unpin, is_a, types, detach, set_named, unrealize}
+use Rattle.qo_model.proofs.Common.{⊤, AllByRecursion, option_map_or, option_or, bytes_eq, Registers, fresh_registers, OBJECTS_BIRTH, Code, Act, TypeId, Val, Board, Record, child, is_live, kind_of, record_of, slots_at, with_added, acted, after_write, Change, added, changed, deleted, severed, wrote, Given, added_as, given_slots, object_del, sever, severed_from, with_attempt, with_object, opening_board, is_of, Wanted, plug, plug_attempt, resources_of, with_plugged, write, edited, let_go, pin, unpin, is_a, types, detach, set_named, unrealize}
 use Rattle.std.proofs.lemmas.Bool.{eq-eqb}
 use Rattle.qo_model.proofs.ComesToLemmas.{addition-comes, deletion-comes, sever-comes, severed-comes}
 use Rattle.qo_model.proofs.StepLemmas.{found_at, found-edited, found-birth}
 use Rattle.qo_sound.proofs.AddLemmas.{creatable}
 use Rattle.qo_sound.proofs.DraftLemmas.{absent-above}
-use Rattle.qo_sound.proofs.FirmBoardLemmas.{edited-kind, Firm}
+use Rattle.qo_sound.proofs.FirmBoardLemmas.{edited-kind, WellFormed}
 use Rattle.qo_sound.proofs.SearchLemmas.{found-append}
 use Rattle.qo_sound.proofs.RecordLemmas.{all-append, all-both}
 use Rattle.qo_values.proofs.ListLemmas.{all-imply}
 use Rattle.qo_sound.proofs.TestLemmas.{decide}
-use Rattle.qo_sound.proofs.ViewLemmas.{AtRest, rest-from_sound}
+use Rattle.qo_sound.proofs.ViewLemmas.{PinsRootAlone, rest-from_sound}
 use Rattle.qo_sound_clocks.specs.RegisterWrites.{registers_set, with_registers}
 use Rattle.qo_sound_devices.specs.SoundDevices.{SoundDevices}
 use Rattle.qo_sound_devices.specs.SoundPlaces.{child_entries, child_entry}
@@ -22,7 +22,7 @@ use Rattle.qo_sound_devices.proofs.PinLemmas.{pin-kind, pin-children}
 use Rattle.qo_sound_devices.proofs.PlacesLemmas.{all-within, child-live, children-there, IsThere, kind-alike, linked-at, nothing, Within, within-all, within-same}
 use Rattle.qo_sound_devices.proofs.PlugLemmas.{Accepted, after-plug}
 use Rattle.qo_sound_devices.proofs.PlugStageLemmas.{accepted-joined}
-use Rattle.qo_sound_devices.proofs.UnrealizingLemmas.{Dimmed, dims-acted, dims-set}
+use Rattle.qo_sound_devices.proofs.UnrealizingLemmas.{FewerRealized, dims-acted, dims-set}
 use Rattle.qo_sound_phases.proofs.UnparentingLemmas.{Keeps, Walked, walked-let_go, walked-none, walked-pin, walked-unpin}
 use Rattle.qo_sound_phases.proofs.DetachmentLemmas.{walked}
 use Rattle.qo_sound_devices.proofs.DetachmentLemmas.{dims}
@@ -51,7 +51,7 @@ creatable-beside b c e h =
     creatable-same b c (λ x. ap (λ (rs : List Record). option_map (λ (r : Record). r.kind) (found_at x rs)) e)
     (ap (λ (rs : List Record). filter_map child_entry (option_map_or (λ (r : Record). r.slots) (found_at OBJECTS_BIRTH rs) [])) e) h
 
-creatable-dimmed : (b c : Board) → Dimmed b c → Creatable b → Creatable c
+creatable-dimmed : (b c : Board) → FewerRealized b c → Creatable b → Creatable c
 creatable-dimmed b c dims h = creatable-same b c (λ x. kind-alike b c x (dims.body x)) (dims.children OBJECTS_BIRTH) h
 
 pub creatable-acted : (act : Act) (n period : ℕ) (b : Board) → Creatable b → Creatable (acted act n period b)
@@ -74,7 +74,7 @@ record Thin (b c : Board) : Type 0 where
 thin-none : (b : Board) → Thin b b
 thin-none b = record { kind = λ x e. refl; children = within-all (child_entries b OBJECTS_BIRTH) }
 
-creatable-thin : (b c : Board) → Firm c → Thin b c → Creatable b → Creatable c
+creatable-thin : (b c : Board) → WellFormed c → Thin b c → Creatable b → Creatable c
 creatable-thin b c firm thin h =
     all-imply (λ (e : List ℕ × ℕ). IsThere c e × IsCreatable b e) (IsCreatable c)
     (λ e k. of-kind b c (codes "user-creatable") e.1 (thin.kind e.1 k.0) ∙ k.1) (child_entries c OBJECTS_BIRTH)
@@ -82,14 +82,14 @@ creatable-thin b c firm thin h =
     (all-within (IsCreatable b) thin.children h))
 
 -- the same children, where what was there keeps its type
-pub creatable-grown : (b c : Board) → Firm b → ((x : ℕ) → is_live b x ≡ true → kind_of c x ≡ kind_of b x)
+pub creatable-grown : (b c : Board) → WellFormed b → ((x : ℕ) → is_live b x ≡ true → kind_of c x ≡ kind_of b x)
     → AllByRecursion (IsCreatable b) (child_entries b OBJECTS_BIRTH) → AllByRecursion (IsCreatable c) (child_entries b OBJECTS_BIRTH)
 creatable-grown b c firm kinds h =
     all-imply (λ (e : List ℕ × ℕ). IsThere b e × IsCreatable b e) (IsCreatable c)
     (λ e k. of-kind b c (codes "user-creatable") e.1 (kinds e.1 k.0) ∙ k.1) (child_entries b OBJECTS_BIRTH)
     (all-both (IsThere b) (IsCreatable b) (child_entries b OBJECTS_BIRTH) (children-there b (slots_at b OBJECTS_BIRTH) (linked-at b firm OBJECTS_BIRTH)) h)
 
-pub firm-devices : (b : Board) → SoundDevices b → Firm b
+pub firm-devices : (b : Board) → SoundDevices b → WellFormed b
 firm-devices b h = (rest-from_sound b h.tree).used.firm
 
 -- where some children were taken away
@@ -120,7 +120,7 @@ thin-severed b n =
     (walked-severed b (length (slots_at b n)) 0 n (pin b n) (walked-pin b Nobody n b (walked-none b Nobody)))))
 
 -- `qom-set`
-thin-wrote : (b : Board) → Firm b → (n : ℕ) (name : List ℕ) (v : Val) → Thin b (after_write b (write b n name v))
+thin-wrote : (b : Board) → WellFormed b → (n : ℕ) (name : List ℕ) (v : Val) → Thin b (after_write b (write b n name v))
 thin-wrote b firm n name v = record { kind = λ x e. (fixed x tt e).kind; children = go (record_of c OBJECTS_BIRTH) refl }
   where
     c : Board
@@ -135,19 +135,19 @@ thin-wrote b firm n name v = record { kind = λ x e. (fixed x tt e).kind; childr
         (sym (ap (λ (o : Option Record). filter_map child_entry (option_map_or (λ (r : Record). r.slots) o [])) e)) (nothing (child_entries b OBJECTS_BIRTH))
     go (Some r) e = within-same (fixed OBJECTS_BIRTH tt (ap is_some e)).children
 
-pub creatable-deleted : (b : Board) (id : List ℕ) → Firm (object_del b id).board → Creatable b → Creatable (object_del b id).board
+pub creatable-deleted : (b : Board) (id : List ℕ) → WellFormed (object_del b id).board → Creatable b → Creatable (object_del b id).board
 creatable-deleted b id firm h = creatable-thin b (object_del b id).board firm (thin-deleted b id) h
 
-pub creatable-severed : (b : Board) (n : ℕ) → Firm (sever b n).board → Creatable b → Creatable (sever b n).board
+pub creatable-severed : (b : Board) (n : ℕ) → WellFormed (sever b n).board → Creatable b → Creatable (sever b n).board
 creatable-severed b n firm h = creatable-thin b (sever b n).board firm (thin-severed b n) h
 
-pub creatable-wrote : (b : Board) (n : ℕ) (name : List ℕ) (v : Val) → Firm b → Firm (after_write b (write b n name v)) → Creatable b
+pub creatable-wrote : (b : Board) (n : ℕ) (name : List ℕ) (v : Val) → WellFormed b → WellFormed (after_write b (write b n name v)) → Creatable b
     → Creatable (after_write b (write b n name v))
 creatable-wrote b n name v firm after h = creatable-thin b (after_write b (write b n name v)) after (thin-wrote b firm n name v) h
 
 -- a device that is detached
 module _ (b : Board) (d : ℕ) where
-  pub creatable-detach : Firm (detach b d) → Creatable b → Creatable (detach b d)
+  pub creatable-detach : WellFormed (detach b d) → Creatable b → Creatable (detach b d)
   creatable-detach firm h =
       creatable-thin (unrealize (pin b d) d) (detach b d) firm
       (thin-walked (Keeps (pin b d) (unrealize (pin b d) d) (dims b d) d) (unrealize (pin b d) d) (detach b d) (walked b d))
@@ -156,19 +156,19 @@ module _ (b : Board) (d : ℕ) where
 
 -- a device that is added
 pub creatable-with_plugged : (b : Board) (a : Wanted) (t : TypeId) (bus : ℕ) → SoundDevices b → Accepted b t bus a → Creatable b
-    → Creatable (with_plugged b t a (spot_of b t bus a.props))
+    → Creatable (with_plugged b t a (resources_of b t bus a.props))
 creatable-with_plugged b a t bus devices k h =
     subst (AllByRecursion (IsCreatable c)) (sym (joined.children OBJECTS_BIRTH (child-live b rest.used.firm 1 OBJECTS_BIRTH devices.places.1.objects) refl))
     (creatable-grown b c rest.used.firm (λ x e. kind-alike b c x (joined.body x e)) h)
   where
     c : Board
-    c = with_plugged b t a (spot_of b t bus a.props)
+    c = with_plugged b t a (resources_of b t bus a.props)
 
-    rest : AtRest b
+    rest : PinsRootAlone b
     rest = rest-from_sound b devices.tree
 
-    joined : Joined devices.places.0 b (b.born + 1) bus (spot_of b t bus a.props).slot a.id t (done b bus (spot_of b t bus a.props).slot a.id)
-        (with_plugged b t a (spot_of b t bus a.props))
+    joined : Joined devices.places.0 b (b.born + 1) bus (resources_of b t bus a.props).slot a.id t (done b bus (resources_of b t bus a.props).slot a.id)
+        (with_plugged b t a (resources_of b t bus a.props))
     joined = accepted-joined devices.places.0 b a rest devices.places.1 t bus k
 
 -- `object-add`
@@ -210,7 +210,8 @@ module _ (b : Board) (t : TypeId) (id : List ℕ) (props : List Given) where
       let its : found_at (b.born + 1) (new ∷ []) ≡ Some new = rw own refl in
       ap (option_map (λ (r : Record). r.kind)) (none-old (b.born + 1) e ∙ its)
 
-  pub creatable-object : Firm b → is_live b OBJECTS_BIRTH ≡ true → is_a t (codes "user-creatable") ≡ true → Creatable b → Creatable (with_object b t id props)
+  pub creatable-object : WellFormed b → is_live b OBJECTS_BIRTH ≡ true → is_a t (codes "user-creatable") ≡ true → Creatable b
+      → Creatable (with_object b t id props)
   creatable-object firm live its h = go (record_of b OBJECTS_BIRTH) refl
     where
       go : (o : Option Record) → record_of b OBJECTS_BIRTH ≡ o → Creatable (with_object b t id props)
@@ -237,7 +238,7 @@ module _ (b : Board) (t : TypeId) (id : List ℕ) (props : List Given) where
               (kind-new (absent-above b firm (b.born + 1) (omega arith))) ∙ its
 
 -- each change by command on objects
-creatable-added : (b : Board) (t : TypeId) (id : List ℕ) (props : List Given) (o : Option Code) → Firm b → is_live b OBJECTS_BIRTH ≡ true
+creatable-added : (b : Board) (t : TypeId) (id : List ℕ) (props : List Given) (o : Option Code) → WellFormed b → is_live b OBJECTS_BIRTH ≡ true
     → is_a t (codes "user-creatable") ≡ true → Creatable b → Creatable (added_as b t id props o).board
 creatable-added b t id props None firm live its h = creatable-object b t id props firm live its h
 creatable-added b t id props (Some code) firm live its h = creatable-beside b (with_attempt b t) refl h

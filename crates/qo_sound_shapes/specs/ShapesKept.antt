@@ -11,7 +11,7 @@ use Rattle.qo_model.specs.Hotplug.{asked, refused, reset_whole}
 use Rattle.qo_model.specs.Objects.{with_attempt}
 use Rattle.qo_model.specs.Opening.{opening_board}
 use Rattle.qo_model.specs.Plug.{Wanted, cut_attempt, plug, plug_attempt}
-use Rattle.qo_model.specs.Reset.{held, pulse, released}
+use Rattle.qo_model.specs.Reset.{after_hold, pulse, released}
 use Rattle.qo_model.specs.Unplug.{detach}
 use Rattle.qo_sound_clocks.specs.RegisterWrites.{registers_set}
 use Rattle.qo_sound_devices.specs.SoundDevices.{SoundDevices}
@@ -31,7 +31,7 @@ pub record ShapesKeptLaw : Type 0 where
   pub refused_by : (b : Board) (d : ℕ) → SoundShape b → SoundShape (refused b d)
   -- an act; a hold, a hold less, and both
   pub acts : (act : Act) (n period : ℕ) (b : Board) → SoundShape b → SoundShape (acted act n period b)
-  pub held_so : (b : Board) (n : ℕ) → SoundShape b → SoundShape (held b n)
+  pub held_so : (b : Board) (n : ℕ) → SoundShape b → SoundShape (after_hold b n)
   pub released_so : (b : Board) (n : ℕ) → SoundShape b → SoundShape (released b n)
   pub pulsed : (b : Board) (n : ℕ) → SoundShape b → SoundShape (pulse b n)
   -- a write of a clock's period, and of its mul and div, with numbers as wide as their properties, that is not refused

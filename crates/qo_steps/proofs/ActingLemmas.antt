@@ -1,6 +1,6 @@
 -- Who acts: an act leaves who is there, and so do phases. What each act keeps, phases keep.
 use Rattle.std.proofs.Common.{◌≡◌, refl, ap, ◌∙◌, ℕ, true, List, [], ◌∷◌, filter, is_some}
-use Rattle.qo_model.proofs.Common.{AllByRecursion, Act, Enter, Hold, Exit, Val, Board, Record, is_live, record_of, set, with_changed, with_val, acted, with_act_on, acted_all, edit, edited, is_out, phased, plugged, post}
+use Rattle.qo_model.proofs.Common.{AllByRecursion, Act, Enter, Hold, Exit, Val, Board, Record, is_live, record_of, set, with_changed, with_val, acted, with_act_on, acted_all, edit, edited, is_not_in_reset, phased, plugged, post}
 use Rattle.qo_values.proofs.ListLemmas.{all-imply}
 use Rattle.qo_model.proofs.StepLemmas.{found-edited, is_some-map}
 use Rattle.qo_sound.proofs.RecordLemmas.{all-filter}
@@ -44,7 +44,7 @@ unfolding plugged
 plugged-there d c x =
     let entered : Board = phased Enter (post c d) c in
     let holding : Board = phased Hold (post c d) entered in
-    phased-there Exit (filter (is_out c) (post c d)) holding x ∙ phased-there Hold (post c d) entered x ∙ phased-there Enter (post c d) c x
+    phased-there Exit (filter (is_not_in_reset c) (post c d)) holding x ∙ phased-there Hold (post c d) entered x ∙ phased-there Enter (post c d) c x
 
 -- acts of objects that may act keep P
 abbrev pub KeepsCalm : (Board → ℕ → Type 0) → (Board → Type 0) → Type 0
@@ -69,9 +69,9 @@ module _ (On : Board → ℕ → Type 0) (steady : IsSteady On) (P : Board → T
   plugged-by d c on h =
       let entered : Board = phased Enter (post c d) c in
       let holding : Board = phased Hold (post c d) entered in
-      let out : List ℕ = filter (is_out c) (post c d) in
+      let out : List ℕ = filter (is_not_in_reset c) (post c d) in
       let one : SameThere c entered = phased-there Enter (post c d) c in
       let two : SameThere c holding = there-both c entered holding one (phased-there Hold (post c d) entered) in
-      phased-by Exit refl out holding (steady-all On steady c holding two out (all-filter (On c) (is_out c) (post c d) on))
+      phased-by Exit refl out holding (steady-all On steady c holding two out (all-filter (On c) (is_not_in_reset c) (post c d) on))
       (phased-by Hold refl (post c d) entered (steady-all On steady c entered one (post c d) on)
       (phased-by Enter refl (post c d) c on h))

@@ -1,6 +1,6 @@
 -- What adding an object or a device comes to, with what is known there: that there is room for all that is made, and of which types it is.
 use Rattle.std.proofs.Common.{◌≡◌, refl, ℕ, ◌+◌, ◌≤◌, Bool, true, false, not, leb, nat_le, if◌then◌else◌, List, [], ◌∷◌, length, codes, Option, Some, None, arith}
-use Rattle.qo_model.proofs.Common.{option_or, is_id, OBJECTS_BIRTH, Code, E15, E21, E22, E23, E24, E43, E44, TypeId, LIVE_OBJECTS_MAX, NOTICES_MAX, Board, is_live, Given, added_as, added_by, barred, has_slot, object_add, refusal_of, Wanted, at_stage, barred_early, barred_late, bus_barred, bus_for, id_barred, notice_barred, objects_in, place_barred, realize_barred, plug, plug_as, plug_attempt, plug_by, plug_late, room_barred, spot_of, type_barred, with_plugged, TypeInfo, is_a, type_named}
+use Rattle.qo_model.proofs.Common.{option_or, is_id, OBJECTS_BIRTH, Code, E15, E21, E22, E23, E24, E43, E44, TypeId, LIVE_OBJECTS_MAX, NOTICES_MAX, Board, is_live, Given, added_as, added_by, barred, has_slot, object_add, refusal_of, Wanted, at_stage, barred_early, barred_late, bus_barred, bus_for, id_barred, notice_barred, objects_in, place_barred, realize_barred, plug, plug_as, plug_attempt, plug_by, plug_late, room_barred, resources_of, type_barred, with_plugged, TypeInfo, is_a, type_named}
 use Rattle.std.proofs.lemmas.Bool.Decides.{nat_tests}
 use Rattle.qo_model.specs.Plug.{first_of}
 use Rattle.qo_sound.specs.PlugOutcomes.{IsAttempted}
@@ -77,7 +77,7 @@ pub record PlugComes (P : Board → Type 0) (b : Board) (a : Wanted) : Type 0 wh
   pub given_up : (row : TypeInfo) (bus : ℕ) (refusal : ℕ × Code) → IsAttempted b a row bus → barred_late b row.id bus a.props ≡ Some refusal
       → P (plug_attempt b row.id bus refusal.0)
   pub added : (row : TypeInfo) (bus : ℕ) → IsAttempted b a row bus → barred_late b row.id bus a.props ≡ None
-      → length b.records + objects_in row.id ≤ LIVE_OBJECTS_MAX → HasNoticeRoom b → P (with_plugged b row.id a (spot_of b row.id bus a.props))
+      → length b.records + objects_in row.id ≤ LIVE_OBJECTS_MAX → HasNoticeRoom b → P (with_plugged b row.id a (resources_of b row.id bus a.props))
 
 module _ (P : Board → Type 0) (b : Board) (a : Wanted) (k : PlugComes P b a) where
   by-late : (row : TypeInfo) (bus : ℕ) → IsAttempted b a row bus → (o : Option (ℕ × Code)) → barred_late b row.id bus a.props ≡ o

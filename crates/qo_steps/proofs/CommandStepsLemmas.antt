@@ -3,7 +3,7 @@ use Rattle.std.proofs.Common.{◌≡◌, refl, ap, ◌∙◌, ℕ, true, false, 
 use Rattle.qo_model.proofs.Common.{option_map, admits, TypeId, PropType, Val, Board, Slot, plain, strong, kind_of, is_live, slot_at, slots_at, point, set, after_write, sever, severed_from, attached, link_target, may_set, pointed_at, property_named, relinked, write, drop_slot, emptied, pin}
 use Rattle.qo_model.specs.declared.properties.First.{First}
 use Rattle.qo_model.specs.declared.properties.Property.{Property}
-use Rattle.qo_model.specs.Board.{held}
+use Rattle.qo_model.specs.Board.{referent}
 use Rattle.qo_model.specs.declared.properties.PropertyRole.TheVariants as row
 use Rattle.qo_model.proofs.ComesToLemmas.{sever-comes, severed-comes}
 use Rattle.qo_model.proofs.WrittenLemmas.{IsLink, write-comes}
@@ -15,7 +15,7 @@ pub record IsWritten (b : Board) (n : ℕ) (name : List ℕ) (p : Property) : Ty
   pub type : TypeId
   pub kind : kind_of b n ≡ Some type
   pub row : property_named type name ≡ Some p
-  pub may : may_set p.mark ≡ true
+  pub may : may_set p.access ≡ true
 
 -- `qom-set`: a value; or a link lets its target go, and points at the one that the text names, if it names one; and what follows
 pub record WriteSteps (P : Board → Type 0) (b : Board) (n : ℕ) (name : List ℕ) (v : Val) : Type 0 where
@@ -42,7 +42,7 @@ write-by P b n name v k h =
             | None ↦ λ e. dropped
             | Some m ↦ λ e. k.points i p is u s left link leaves at path m (told ∙ ap Ok e) dropped
           ] in
-          rw (relinked, there) (k.ends (held s) (pointed_at target n i (drop_slot b n i)) (points target refl));
+          rw (relinked, there) (k.ends (referent s) (pointed_at target n i (drop_slot b n i)) (points target refl));
     })
 
 -- `x-sever` of an object that is there and not attached: it is held meanwhile, and lets its strong links go

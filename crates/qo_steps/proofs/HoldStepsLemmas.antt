@@ -1,8 +1,8 @@
 -- Holds, removals that are asked for and refused, and the reset of the whole board: what their steps keep, they keep.
 use Rattle.std.proofs.Common.{◌≡◌, refl, subst, ◌∙◌, ℕ, zero, suc, Bool, true, false, List, [], ◌∷◌, ◌++◌, filter, length, Option, Some, None, is_some}
-use Rattle.qo_model.proofs.Common.{AllByRecursion, MACHINE_BIRTH, Code, Act, Enter, Hold, Exit, Board, DeviceEvent, record_of, acted, among, all_completed, asked, asked_of, device_at, refused, refused_event, reset_whole, with_asked, attached, notice_barred, is_out, phased, post, pulse, released, detach}
+use Rattle.qo_model.proofs.Common.{AllByRecursion, MACHINE_BIRTH, Code, Act, Enter, Hold, Exit, Board, DeviceEvent, record_of, acted, among, all_completed, asked, asked_of, device_at, refused, refused_event, reset_whole, with_asked, attached, notice_barred, is_not_in_reset, phased, post, pulse, released, detach}
 use Rattle.std.specs.Prelude.{option_and_then, option_to_list}
-use Rattle.qo_model.specs.Reset.{held}
+use Rattle.qo_model.specs.Reset.{after_hold}
 use Rattle.qo_model.specs.Unplug.{first_of}
 use Rattle.qo_sound.proofs.RecordLemmas.{all-filter}
 use Rattle.qo_steps.specs.Steps.{HasNoticeRoom, MayAsk, declined, with_hold, with_release}
@@ -10,10 +10,10 @@ use Rattle.qo_steps.proofs.ActingLemmas.{IsSteady, KeepsCalm, SameThere, phased-
 use Rattle.qo_steps.proofs.AdditionLemmas.{notice-room}
 
 -- a hold leaves who is there
-pub held-there : (b : Board) (n : ℕ) → SameThere b (held b n)
-unfolding held
+pub held-there : (b : Board) (n : ℕ) → SameThere b (after_hold b n)
+unfolding after_hold
 held-there b n x =
-    let out : List ℕ = filter (is_out b) (post b n) in
+    let out : List ℕ = filter (is_not_in_reset b) (post b n) in
     phased-there Hold out (phased Enter out b) x ∙ phased-there Enter out b x
 
 -- a hold, and a hold less: whoever is below may act
@@ -28,11 +28,11 @@ phased-holds act [] c = refl
 phased-holds act (n ∷ ns) c = phased-holds act ns (acted act n 0 c)
 
 module _ (On : Board → ℕ → Type 0) (steady : IsSteady On) (P : Board → Type 0) (k : HoldSteps On P) where
-  pub held-by : (b : Board) (n : ℕ) → On b n → AllByRecursion (On b) (post b n) → P b → P (held b n)
-  unfolding held
+  pub held-by : (b : Board) (n : ℕ) → On b n → AllByRecursion (On b) (post b n) → P b → P (after_hold b n)
+  unfolding after_hold
   held-by b n own on h =
-      let out : List ℕ = filter (is_out b) (post b n) in
-      let may : AllByRecursion (On b) out = all-filter (On b) (is_out b) (post b n) on in
+      let out : List ℕ = filter (is_not_in_reset b) (post b n) in
+      let may : AllByRecursion (On b) out = all-filter (On b) (is_not_in_reset b) (post b n) on in
       let entered : Board = phased Enter out b in
       let c : Board = phased Hold out entered in
       let one : SameThere b entered = phased-there Enter out b in
@@ -46,14 +46,15 @@ module _ (On : Board → ℕ → Type 0) (steady : IsSteady On) (P : Board → T
   unfolding released post
   released-by b n own on h =
       let c : Board = with_release n b in
-      let may : AllByRecursion (On c) (filter (is_out c) (post c n)) =
-      steady-all On steady b c (λ x. refl) (filter (is_out c) (post c n)) (all-filter (On b) (is_out c) (post c n) on) in
-      phased-by On steady P k.acts Exit refl (filter (is_out c) (post c n)) c may (k.releases n b own h)
+      let may : AllByRecursion (On c) (filter (is_not_in_reset c) (post c n)) =
+      steady-all On steady b c (λ x. refl) (filter (is_not_in_reset c) (post c n)) (all-filter (On b) (is_not_in_reset c) (post c n) on) in
+      phased-by On steady P k.acts Exit refl (filter (is_not_in_reset c) (post c n)) c may (k.releases n b own h)
 
-  pub pulse-by : (b : Board) (n : ℕ) → On b n → AllByRecursion (On b) (post b n) → AllByRecursion (On (held b n)) (post (held b n) n) → P b → P (pulse b n)
+  pub pulse-by : (b : Board) (n : ℕ) → On b n → AllByRecursion (On b) (post b n) → AllByRecursion (On (after_hold b n)) (post (after_hold b n) n) → P b
+      → P (pulse b n)
   unfolding pulse
   pulse-by b n own on still h =
-      released-by (held b n) n (steady b (held b n) (held-there b n) n own) still (held-by b n own on h)
+      released-by (after_hold b n) n (steady b (after_hold b n) (held-there b n) n own) still (held-by b n own on h)
 
 -- a removal that is asked for
 pub asked-by : (P : Board → Type 0) → ((d : ℕ) (c : Board) → MayAsk c d → P c → P (with_asked c d)) → (b : Board) (id : List ℕ) → P b → P (asked b id).board

@@ -1,12 +1,12 @@
 -- What each step outside a release keeps, and a release as a whole, each change keeps.
 use Rattle.std.proofs.Common.{◌≡◌, ◌⊎◌, inl, inr, refl, ap, sym, subst, ◌∙◌, ℕ, ◌+◌, true, false, List, [], ◌∷◌, filter_map, length, map, codes, Option, Some, None, Ok, arith}
-use Rattle.qo_model.proofs.Common.{Contains, option_map, AllByRecursion, option_map_or, type_name, MACHINE_BIRTH, OBJECTS_BIRTH, Code, Pre, Unrealize, Update, TypeId, Val, Board, slot_at, weak, Slot, child, strong, add, set, with_changed, clock_scaled, clock_set, acted, clock_written, Change, added, deleted, wrote, severed, after_write, changed, asked, refused, reset_whole, Given, added_as, given_slots, object_add, sever, fresh_slots, is_of, Spot, Wanted, further_in, plug, spot_of, types_in, link_target, write, drop_slot, emptied, let_go, pin, unpin, with_dropped, pulse, released, is_a, slots_of, detach, unseen}
+use Rattle.qo_model.proofs.Common.{Contains, option_map, AllByRecursion, option_map_or, type_name, MACHINE_BIRTH, OBJECTS_BIRTH, Code, Pre, Unrealize, Update, TypeId, Val, Board, slot_at, weak, Slot, child, strong, add, set, with_changed, clock_scaled, clock_set, acted, clock_written, Change, added, deleted, wrote, severed, after_write, changed, asked, refused, reset_whole, Given, added_as, given_slots, object_add, sever, fresh_slots, is_of, Resources, Wanted, further_in, plug, resources_of, types_in, link_target, write, drop_slot, emptied, let_go, pin, unpin, with_dropped, pulse, released, is_a, slots_of, detach, unseen}
 use Rattle.qo_model.specs.declared.properties.Property.{Property}
 use Rattle.qo_model.specs.declared.properties.PropertyRole.{PropertyRole}
 use Rattle.std.proofs.lemmas.List.{length-map}
 use Rattle.std.proofs.lemmas.List.Elements.{All-contains, All-from_recursion}
 use Rattle.qo_values.specs.declared.properties.Val.TheVariants as val
-use Rattle.qo_model.specs.Reset.{held}
+use Rattle.qo_model.specs.Reset.{after_hold}
 use Rattle.qo_model.specs.declared.properties.PropertyRole.TheVariants as row
 use Rattle.qo_model.proofs.ComesToLemmas.{deletion-comes}
 use Rattle.qo_model.proofs.FinalNotesLemmas.{edit-kind}
@@ -87,7 +87,7 @@ module _ (Good : Board → Type 0) (On : Board → ℕ → Type 0) (reach : Reac
   kept-hold : HoldSteps On P
   kept-hold = record { acts = k.objects.acts; holds = k.beside.holds; releases = k.beside.releases }
 
-  pub kept-held : (b : Board) (n : ℕ) → Good b → On b n → P b → P (held b n)
+  pub kept-held : (b : Board) (n : ℕ) → Good b → On b n → P b → P (after_hold b n)
   kept-held b n good on h = held-by On reach.steady P kept-hold b n on (reach.post b n good on) h
 
   pub kept-released : (b : Board) (n : ℕ) → Good b → On b n → P b → P (released b n)
@@ -95,8 +95,8 @@ module _ (Good : Board → Type 0) (On : Board → ℕ → Type 0) (reach : Reac
 
   pub kept-pulse : (b : Board) (n : ℕ) → Good b → On b n → P b → P (pulse b n)
   kept-pulse b n good on h =
-      let still : On (held b n) n = reach.steady b (held b n) (held-there b n) n on in
-      pulse-by On reach.steady P kept-hold b n on (reach.post b n good on) (reach.post (held b n) n (reach.held_so b n good on) still) h
+      let still : On (after_hold b n) n = reach.steady b (after_hold b n) (held-there b n) n on in
+      pulse-by On reach.steady P kept-hold b n on (reach.post b n good on) (reach.post (after_hold b n) n (reach.held_so b n good on) still) h
 
   -- writes of clocks
   kept-number : (name : List ℕ) → IsNumber name → (n i v : ℕ) (c : Board) → Named c n i name → P c → P (set n i (val.Uint v) c)
@@ -179,8 +179,8 @@ module _ (Good : Board → Type 0) (On : Board → ℕ → Type 0) (reach : Reac
       may : (p : Property) → Contains (slots_of t) p → KidPasses Made p
       may p own = All-contains (KidPasses Made) (slots_of t) p (All-from_recursion (KidPasses Made) (slots_of t) (kids-pass Made (slots_of t) passes.1)) own
 
-  kept-place : (b : Board) (n : ℕ) (a : Wanted) (spot : Spot) → PlaceSteps P b n a spot
-  kept-place b n a spot =
+  kept-place : (b : Board) (n : ℕ) (a : Wanted) (resources : Resources) → PlaceSteps P b n a resources
+  kept-place b n a resources =
       record {
         contained = λ c h. k.slots.adds _ _ _ c h;
         hung = λ c h. k.slots.adds _ _ _ c h;
@@ -189,7 +189,7 @@ module _ (Good : Board → Type 0) (On : Board → ℕ → Type 0) (reach : Reac
         homed = λ i c at h. k.slots.links n i _ c (named-has c n i _ at) h;
         lit = λ i c at h. k.slots.sets n i _ c (named-has c n i _ at) h;
         addressed = λ r i c e at h. k.slots.sets n i _ c (named-has c n i _ at) h;
-        bodied = λ c h. k.objects.bodies n a.id spot.range c h;
+        bodied = λ c h. k.objects.bodies n a.id resources.range c h;
         sourced = λ m i c e at h. k.slots.links m i _ c (named-has c m i _ at) h;
         counted = λ c e h. k.beside.counts c h;
       }
@@ -206,12 +206,12 @@ module _ (Good : Board → Type 0) (On : Board → ℕ → Type 0) (reach : Reac
         given_up = λ row bus refusal tried late. given_up-by P k.objects.attempted b row.id bus refusal.0 h;
         added = λ row bus tried late room free.
             let own : AllByRecursion Made (types_in row.id) = rw (types_of, tried.named) at passes in
-            let spot : Spot = spot_of b row.id bus a.props in
-            plug-by P On reach.steady b row.id a spot
+            let resources : Resources = resources_of b row.id bus a.props in
+            plug-by P On reach.steady b row.id a resources
             (record {
               begins = λ few. k.objects.made row.id [] b own.0 few h;
               draft = kept-draft (b.born + 1) row.id own;
-              place = kept-place b (b.born + 1) a spot;
+              place = kept-place b (b.born + 1) a resources;
             }) (kept-start (b.born + 1)) room free (reach.starts b a row bus good tried late);
       })
 

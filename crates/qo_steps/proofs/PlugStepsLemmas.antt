@@ -1,6 +1,6 @@
 -- The steps by which a device is added, each with what is known where it is taken: what these keep, adding it keeps.
 use Rattle.std.proofs.Common.{◌≡◌, refl, ap, ◌∙◌, ℕ, suc, ◌+◌, ◌≤◌, true, false, List, [], ◌∷◌, ◌++◌, filter_map, length, codes, Option, Some, None, length-append, arith}
-use Rattle.qo_model.proofs.Common.{Contains, AllByRecursion, Realize, TypeId, Device, LIVE_OBJECTS_MAX, PropType, Range, Board, Notice, Slot, plain, child, strong, weak, alias, add, fresh, set, with_changed, clock_of, kid_name, first_value, fresh_record, canonical, Spot, Wanted, acted_all, addressed_at, aliased, bus_births, clocked, counted, drafted, fitted, further_in, joined, name_for, objects_in, owned, parent_for, property_made, properties_made, source_for, started, stood, valued, with_body_of, with_device, with_given, with_kid, with_new, with_path, with_plugged, with_source, edit, plugged, post, property_name, slots_of}
+use Rattle.qo_model.proofs.Common.{Contains, AllByRecursion, Realize, TypeId, Device, LIVE_OBJECTS_MAX, PropType, Range, Board, Notice, Slot, plain, child, strong, weak, alias, add, fresh, set, with_changed, clock_of, kid_name, first_value, fresh_record, canonical, Resources, Wanted, acted_all, addressed_at, aliased, bus_births, clocked, counted, drafted, fitted, further_in, joined, name_for, objects_in, owned, parent_for, property_made, properties_made, source_for, started, stood, valued, with_body_of, with_device, with_given, with_kid, with_new, with_path, with_plugged, with_source, edit, plugged, post, property_name, slots_of}
 use Rattle.qo_model.specs.declared.properties.First.{First}
 use Rattle.qo_model.specs.declared.properties.Property.{Property}
 use Rattle.qo_model.specs.declared.properties.PropertyRole.{PropertyRole}
@@ -25,21 +25,21 @@ pub record DraftSteps (P : Board → Type 0) (n : ℕ) (t : TypeId) : Type 0 whe
       → P (with_kid n (property_name p.name) k c)
   pub passes : (p : Property) → Contains (slots_of t) p → (m : ℕ) (property : List ℕ) (c : Board) → P c → P (add n (property_name p.name) (alias m property) c)
 
--- a device n that was made takes its place in its container and at a spot on its bus
-pub record PlaceSteps (P : Board → Type 0) (b : Board) (n : ℕ) (a : Wanted) (spot : Spot) : Type 0 where
+-- a device n that was made takes its place in its container and on its bus
+pub record PlaceSteps (P : Board → Type 0) (b : Board) (n : ℕ) (a : Wanted) (resources : Resources) : Type 0 where
   -- its container and its bus have it
   pub contained : (c : Board) → P c → P (add (parent_for a.id) (name_for b a.id) (child n) c)
-  pub hung : (c : Board) → P c → P (add spot.bus (kid_name spot.slot) (strong Device (Some n)) c)
+  pub hung : (c : Board) → P c → P (add resources.bus (kid_name resources.slot) (strong Device (Some n)) c)
   -- it has the values that were given, its slot and its bus, it is realized, and a DIMM has its address
   pub given : (c : Board) → P c → P (edit n (with_given b a.props) c)
-  pub slotted : (i : ℕ) (c : Board) → Named c n i (codes "slot") → P c → P (set n i (val.Uint spot.slot) c)
-  pub homed : (i : ℕ) (c : Board) → Named c n i (codes "parent_bus") → P c → P (edit n (with_changed (fitted c spot.bus) i) c)
+  pub slotted : (i : ℕ) (c : Board) → Named c n i (codes "slot") → P c → P (set n i (val.Uint resources.slot) c)
+  pub homed : (i : ℕ) (c : Board) → Named c n i (codes "parent_bus") → P c → P (edit n (with_changed (fitted c resources.bus) i) c)
   pub lit : (i : ℕ) (c : Board) → Named c n i (codes "realized") → P c → P (set n i (val.Bool true) c)
-  pub addressed : (r : Range) (i : ℕ) (c : Board) → spot.range ≡ Some r → Named c n i (codes "addr") → P c → P (set n i (val.Uint r.at) c)
-  pub bodied : (c : Board) → P c → P (edit n (with_body_of a.id spot.range) c)
+  pub addressed : (r : Range) (i : ℕ) (c : Board) → resources.range ≡ Some r → Named c n i (codes "addr") → P c → P (set n i (val.Uint r.at) c)
+  pub bodied : (c : Board) → P c → P (edit n (with_body_of a.id resources.range) c)
   -- its clock goes by a source, and without an id it is counted
   pub sourced : (m i : ℕ) (c : Board) → clock_of c n ≡ Some m → Named c m i (codes "source") → P c
-      → P (edit m (with_changed (fitted c (source_for b spot.bus)) i) c)
+      → P (edit m (with_changed (fitted c (source_for b resources.bus)) i) c)
   pub counted : (c : Board) → a.id ≡ None → P c → P (record c { anonymous = suc c.anonymous })
 
 -- it starts: it acts, with what is below it, its path is kept, and the guest is told
@@ -95,32 +95,32 @@ module _ (P : Board → Type 0) (n : ℕ) (t : TypeId) (k : DraftSteps P n t) wh
   pub draft-by : (c : Board) → Fits c (slots_of t) → P c → P (properties_made n t (slots_of t) c)
   draft-by c fits h = rows-by (slots_of t) (recursion_from_All (Contains (slots_of t)) (slots_of t) (All-contains_itself (slots_of t))) c fits h
 
-module _ (P : Board → Type 0) (b : Board) (n : ℕ) (a : Wanted) (spot : Spot) (k : PlaceSteps P b n a spot) where
-  by-address : (range : Option Range) → spot.range ≡ range → (c : Board) → P c → P (addressed_at n range c)
+module _ (P : Board → Type 0) (b : Board) (n : ℕ) (a : Wanted) (resources : Resources) (k : PlaceSteps P b n a resources) where
+  by-address : (range : Option Range) → resources.range ≡ range → (c : Board) → P c → P (addressed_at n range c)
   by-address None e c h = h
   by-address (Some r) e c h = set-by P n (codes "addr") c h (val.Uint r.at) (λ i at. k.addressed r i c e at h)
 
-  by-values : (c : Board) → P c → P (valued b n a.props spot c)
+  by-values : (c : Board) → P c → P (valued b n a.props resources c)
   by-values c h =
       let one : Board = edit n (with_given b a.props) c in
       let first : P one = k.given c h in
-      let second = set-by P n (codes "slot") one first (val.Uint spot.slot) (λ i at. k.slotted i one at first) in
-      let third = link-by P n (codes "parent_bus") _ second spot.bus (λ i at. k.homed i _ at second) in
+      let second = set-by P n (codes "slot") one first (val.Uint resources.slot) (λ i at. k.slotted i one at first) in
+      let third = link-by P n (codes "parent_bus") _ second resources.bus (λ i at. k.homed i _ at second) in
       set-by P n (codes "realized") _ third (val.Bool true) (λ i at. k.lit i _ at third)
 
-  by-source : (o : Option ℕ) (c : Board) → clock_of c n ≡ o → P c → P (with_source (source_for b spot.bus) o c)
+  by-source : (o : Option ℕ) (c : Board) → clock_of c n ≡ o → P c → P (with_source (source_for b resources.bus) o c)
   by-source None c e h = h
-  by-source (Some m) c e h = link-by P m (codes "source") c h (source_for b spot.bus) (λ i at. k.sourced m i c e at h)
+  by-source (Some m) c e h = link-by P m (codes "source") c h (source_for b resources.bus) (λ i at. k.sourced m i c e at h)
 
   by-count : (id : Option (List ℕ)) → a.id ≡ id → (c : Board) → P c → P (counted id c)
   by-count None e c h = k.counted c e h
   by-count (Some id) e c h = h
 
-  pub place-by : (c : Board) → P c → P (counted a.id (clocked (source_for b spot.bus) n (stood b n a spot c)))
+  pub place-by : (c : Board) → P c → P (counted a.id (clocked (source_for b resources.bus) n (stood b n a resources c)))
   place-by c h =
-      let full : Board = addressed_at n spot.range (valued b n a.props spot (joined b n a spot c)) in
-      let last : P full = by-address spot.range refl _ (by-values _ (k.hung _ (k.contained c h))) in
-      by-count a.id refl _ (by-source (clock_of (stood b n a spot c) n) (stood b n a spot c) refl (k.bodied full last))
+      let full : Board = addressed_at n resources.range (valued b n a.props resources (joined b n a resources c)) in
+      let last : P full = by-address resources.range refl _ (by-values _ (k.hung _ (k.contained c h))) in
+      by-count a.id refl _ (by-source (clock_of (stood b n a resources c) n) (stood b n a resources c) refl (k.bodied full last))
 
 -- who is realized and goes through the phases may act
 pub record StartsOn (On : Board → ℕ → Type 0) (n : ℕ) (t : TypeId) (c : Board) : Type 0 where
@@ -140,35 +140,36 @@ module _ (P : Board → Type 0) (On : Board → ℕ → Type 0) (n : ℕ) (k : S
       k.announces last (steady c last same n on.own.0) room (k.keeps_path all passed)
 
 -- the objects are made and take their places
-pub record DeviceSteps (P : Board → Type 0) (b : Board) (t : TypeId) (a : Wanted) (spot : Spot) : Type 0 where
+pub record DeviceSteps (P : Board → Type 0) (b : Board) (t : TypeId) (a : Wanted) (resources : Resources) : Type 0 where
   pub begins : HasRoom b → P (with_new (fresh (b.born + 1) t) b)
   pub draft : DraftSteps P (b.born + 1) t
-  pub place : PlaceSteps P b (b.born + 1) a spot
+  pub place : PlaceSteps P b (b.born + 1) a resources
 
-pub device-by : (P : Board → Type 0) (b : Board) (t : TypeId) (a : Wanted) (spot : Spot) → DeviceSteps P b t a spot
-    → length b.records + objects_in t ≤ LIVE_OBJECTS_MAX → P (with_device b t a spot)
-device-by P b t a spot k room =
+pub device-by : (P : Board → Type 0) (b : Board) (t : TypeId) (a : Wanted) (resources : Resources) → DeviceSteps P b t a resources
+    → length b.records + objects_in t ≤ LIVE_OBJECTS_MAX → P (with_device b t a resources)
+device-by P b t a resources k room =
     let n : ℕ = b.born + 1 in
     let made : length (with_new (fresh n t) b).records ≡ length b.records + 1 = length-append b.records (fresh n t ∷ []) in
-    place-by P b n a spot k.place (drafted b t)
+    place-by P b n a resources k.place (drafted b t)
     (draft-by P n t k.draft (with_new (fresh n t) b) (omega (arith, made, room)) (k.begins (omega (arith, room))))
 
 -- a device that is made, takes its place and starts
-pub plug-by : (P : Board → Type 0) (On : Board → ℕ → Type 0) → IsSteady On → (b : Board) (t : TypeId) (a : Wanted) (spot : Spot) → DeviceSteps P b t a spot
+pub plug-by : (P : Board → Type 0) (On : Board → ℕ → Type 0) → IsSteady On → (b : Board) (t : TypeId) (a : Wanted) (resources : Resources)
+    → DeviceSteps P b t a resources
     → StartSteps P On (b.born + 1) → length b.records + objects_in t ≤ LIVE_OBJECTS_MAX → HasNoticeRoom b
-    → StartsOn On (b.born + 1) t (with_device b t a spot) → P (with_plugged b t a spot)
-plug-by P On steady b t a spot device start room free on =
-    start-by P On (b.born + 1) start steady t (with_device b t a spot) on few (device-by P b t a spot device room)
+    → StartsOn On (b.born + 1) t (with_device b t a resources) → P (with_plugged b t a resources)
+plug-by P On steady b t a resources device start room free on =
+    start-by P On (b.born + 1) start steady t (with_device b t a resources) on few (device-by P b t a resources device room)
   where
     last : Board
-    last = plugged (acted_all Realize ((b.born + 1) ∷ bus_births (b.born + 1) t) (with_device b t a spot)) (b.born + 1)
+    last = plugged (acted_all Realize ((b.born + 1) ∷ bus_births (b.born + 1) t) (with_device b t a resources)) (b.born + 1)
 
     notice : Notice
     notice = record { plug = true; birth = b.born + 1 }
 
     few : HasNoticeRoom last
     few =
-        let same : length (last.notices ++ notice ∷ []) ≡ length (b.notices ++ notice ∷ []) = ap length (devices_stay_lem.told b t a spot) in
+        let same : length (last.notices ++ notice ∷ []) ≡ length (b.notices ++ notice ∷ []) = ap length (devices_stay_lem.told b t a resources) in
         let one = length-append last.notices (notice ∷ []) in
         let two = length-append b.notices (notice ∷ []) in
         omega (arith, same, one, two, free)

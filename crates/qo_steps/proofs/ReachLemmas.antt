@@ -1,8 +1,8 @@
 -- Who may act in a change, of a board that is good: whoever a reset goes over, and the others that the changes go to. On any board anyone may.
 use Rattle.std.proofs.Common.{◌≡◌, ℕ, ◌+◌, ◌∷◌, Some, None}
-use Rattle.qo_model.proofs.Common.{⊤, AllByRecursion, MACHINE_BIRTH, Board, Wanted, barred_late, bus_births, spot_of, with_device, post, TypeInfo, detach}
+use Rattle.qo_model.proofs.Common.{⊤, AllByRecursion, MACHINE_BIRTH, Board, Wanted, barred_late, bus_births, resources_of, with_device, post, TypeInfo, detach}
 use Rattle.qo_model.specs.Paths.{parent_of}
-use Rattle.qo_model.specs.Reset.{held}
+use Rattle.qo_model.specs.Reset.{after_hold}
 use Rattle.qo_model.specs.Unplug.{first_of}
 use Rattle.qo_sound.specs.PlugOutcomes.{IsAttempted}
 use Rattle.qo_sound.proofs.AdditionStepsLemmas.{all-any}
@@ -18,14 +18,14 @@ pub record Reaches (Good : Board → Type 0) (On : Board → ℕ → Type 0) : T
   pub post : (b : Board) (n : ℕ) → Good b → On b n → AllByRecursion (On b) (post b n)
   pub below : (b : Board) → Good b → ActsBelow (On b) b
   -- a hold keeps the board good
-  pub held_so : (b : Board) (n : ℕ) → Good b → On b n → Good (held b n)
+  pub held_so : (b : Board) (n : ℕ) → Good b → On b n → Good (after_hold b n)
   -- the reset of the whole board: the machine, and the first device whose removal is pending, with which the board stays good
   pub machine : (b : Board) → Good b → On b MACHINE_BIRTH
   pub pending : (b : Board) (d : ℕ) → Good b → first_of b.pending ≡ Some d → On b d
   pub completed : (b : Board) (d : ℕ) → Good b → first_of b.pending ≡ Some d → Good (detach b d)
   -- a device that is added, with what is below it
   pub starts : (b : Board) (a : Wanted) (row : TypeInfo) (bus : ℕ) → Good b → IsAttempted b a row bus → barred_late b row.id bus a.props ≡ None
-      → StartsOn On (b.born + 1) row.id (with_device b row.id a (spot_of b row.id bus a.props))
+      → StartsOn On (b.born + 1) row.id (with_device b row.id a (resources_of b row.id bus a.props))
 
 pub reach-any : Reaches (λ b. ⊤) (λ b n. ⊤)
 reach-any =

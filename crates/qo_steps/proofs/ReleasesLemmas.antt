@@ -3,7 +3,7 @@ use Rattle.std.proofs.Common.{nat_eq, ◌≡◌, refl, ℕ, ◌≤◌, Bool, tru
 use Rattle.qo_model.proofs.Common.{AllByRecursion, list_any, Board, Slot, slot_at, refs, after, drop_slot, finalize, finish, let_go, pin, unpin, without_pin, KeepsRelease}
 use Rattle.std.proofs.lemmas.Bool.{eqb-true}
 use Rattle.qo_values.proofs.ListLemmas.{all-imply}
-use Rattle.qo_model.specs.Board.{held}
+use Rattle.qo_model.specs.Board.{referent}
 use Rattle.qo_model.proofs.ReleaseInductionLemmas.{release_keeps}
 use Rattle.qo_model.proofs.StepLemmas.{drop-refs, finish-refs}
 use Rattle.qo_sound.proofs.DetachmentStepsLemmas.{KeepsEnds}
@@ -79,4 +79,4 @@ let_go-by P ends n i c drops h = go (slot_at c n i) refl
   where
     go : (o : Option Slot) → slot_at c n i ≡ o → P (let_go c n i)
     go None e = rw (let_go, e) h
-    go (Some s) e = rw (let_go, e) (ends (held s) _ (drops s e))
+    go (Some s) e = rw (let_go, e) (ends (referent s) _ (drops s e))

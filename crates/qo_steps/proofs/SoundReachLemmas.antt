@@ -1,6 +1,6 @@
 -- On a board that is sound as far as devices go whoever acts in a change is there.
 use Rattle.std.proofs.Common.{◌≡◌, refl, ap, sym, subst, ◌∙◌, ℕ, suc, ◌+◌, ◌<◌, ◌≤◌, Bool, true, false, ◌==◌, List, [], ◌∷◌, filter_map, find, length, Option, Some, None, is_some, arith}
-use Rattle.qo_model.proofs.Common.{AllByRecursion, option_or, MACHINE_BIRTH, ROOT_BIRTH, Realize, TypeId, Board, Record, Slot, alias, child, plain, strong, weak, kind_of, add, fresh, with_added, first_value, fresh_record, is_child, place_of, Wanted, acted_all, aliased, barred_late, bus_births, drafted, further_in, further_of, owned, properties_made, property_made, spot_of, type_barred, types_in, with_device, with_kid, with_new, property_name, TypeInfo, slots_of}
+use Rattle.qo_model.proofs.Common.{AllByRecursion, option_or, MACHINE_BIRTH, ROOT_BIRTH, Realize, TypeId, Board, Record, Slot, alias, child, plain, strong, weak, kind_of, add, fresh, with_added, first_value, fresh_record, is_child, place_of, Wanted, acted_all, aliased, barred_late, bus_births, drafted, further_in, further_of, owned, properties_made, property_made, resources_of, type_barred, types_in, with_device, with_kid, with_new, property_name, TypeInfo, slots_of}
 use Rattle.qo_model.specs.declared.properties.Property.{Property}
 use Rattle.qo_model.specs.declared.properties.PropertyRole.{PropertyRole}
 use Rattle.std.proofs.lemmas.Bool.{eq-eqb}
@@ -19,8 +19,8 @@ use Rattle.qo_sound.proofs.FirmBoardLemmas.{AllLinked}
 use Rattle.qo_sound.proofs.KindsLemmas.{device-kinds}
 use Rattle.qo_sound.proofs.PlugLemmas.{IsPlace, device-of, held-all, place-of, shut-above, sits-device}
 use Rattle.qo_sound.proofs.PresenceLemmas.{buses-there, kids-there, post-there}
-use Rattle.qo_sound.proofs.UnplugLemmas.{Sits}
-use Rattle.qo_sound.proofs.ViewLemmas.{AtRest, rest-from_sound}
+use Rattle.qo_sound.proofs.UnplugLemmas.{HasPins}
+use Rattle.qo_sound.proofs.ViewLemmas.{PinsRootAlone, rest-from_sound}
 use Rattle.qo_sound_devices.specs.SoundDevices.{SoundDevices}
 use Rattle.qo_sound_devices.specs.SoundLists.{IsOn}
 use Rattle.qo_sound_devices.proofs.DevicesLawLemmas.{devices_kept_lem}
@@ -141,14 +141,14 @@ rows-born n t (p ∷ ps) c = go p.role refl (rows-born n t ps)
     go (row.Alias owner of) e rest = rw (further_in, e) (passed (property_name of) (owned c n (property_name owner)) rest)
 
 -- a device that is added, with its buses
-module _ (b : Board) (a : Wanted) (t : TypeId) (bus : ℕ) (good : SoundDevices b) (place : IsPlace b t a (spot_of b t bus a.props)) where
+module _ (b : Board) (a : Wanted) (t : TypeId) (bus : ℕ) (good : SoundDevices b) (place : IsPlace b t a (resources_of b t bus a.props)) where
   abbrev n : ℕ
   n = b.born + 1
 
   abbrev made : Board
-  made = with_device b t a (spot_of b t bus a.props)
+  made = with_device b t a (resources_of b t bus a.props)
 
-  rest : AtRest b
+  rest : PinsRootAlone b
   rest = rest-from_sound b good.tree
 
   drafted-there : AllThere n (drafted b t)
@@ -165,7 +165,7 @@ module _ (b : Board) (a : Wanted) (t : TypeId) (bus : ℕ) (good : SoundDevices 
   made-there : (x : ℕ) → b.born < x → x ≤ b.born + length (types_in t) → IsThere made x
   made-there x low high =
       sym (kind-live made x)
-      ∙ ap (λ (kinds : ℕ → Option TypeId). is_some (kinds x)) (device-kinds b t a (spot_of b t bus a.props))
+      ∙ ap (λ (kinds : ℕ → Option TypeId). is_some (kinds x)) (device-kinds b t a (resources_of b t bus a.props))
       ∙ kind-live (drafted b t) x
       ∙ drafted-there x (omega (arith, low)) (omega (arith, high, drafted-born))
 
@@ -179,16 +179,16 @@ module _ (b : Board) (a : Wanted) (t : TypeId) (bus : ℕ) (good : SoundDevices 
   device-starts : StartsOn IsThere n t made
   device-starts =
       let run : Board = acted_all Realize (n ∷ bus_births n t) made in
-      let sits : Sits (1 ∷ []) run =
+      let sits : HasPins (1 ∷ []) run =
       held-all (1 ∷ []) Realize (n ∷ bus_births n t) made
-      (sits-device b t a (spot_of b t bus a.props) rest (shut-above b.born rest.used.firm.begun) place) in
+      (sits-device b t a (resources_of b t bus a.props) rest (shut-above b.born rest.used.firm.begun) place) in
       record {
         own = own-there;
         below = post-there run sits.near.firm.linked n (acted_all-there Realize (n ∷ bus_births n t) made n ∙ own-there.0);
       }
 
 starts-there : (b : Board) (a : Wanted) (row : TypeInfo) (bus : ℕ) → SoundDevices b → IsAttempted b a row bus → barred_late b row.id bus a.props ≡ None
-    → StartsOn IsThere (b.born + 1) row.id (with_device b row.id a (spot_of b row.id bus a.props))
+    → StartsOn IsThere (b.born + 1) row.id (with_device b row.id a (resources_of b row.id bus a.props))
 starts-there b a row bus good tried late =
     device-starts b a row.id bus good (place-of b row.id bus a (device-of row (rw (type_barred, tried.named) at tried.fits)) tried.chosen tried.early late)
 

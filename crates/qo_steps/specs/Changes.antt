@@ -11,7 +11,7 @@ use Rattle.qo_model.specs.Objects.{with_attempt}
 use Rattle.qo_model.specs.Plug.{Wanted, cut_attempt, plug, plug_attempt, types_in}
 use Rattle.qo_model.specs.References.{refs}
 use Rattle.qo_model.specs.Release.{finalize, let_go, unpin}
-use Rattle.qo_model.specs.Reset.{held, pulse, released}
+use Rattle.qo_model.specs.Reset.{after_hold, pulse, released}
 use Rattle.qo_model.specs.Types.{TypeInfo, type_named}
 use Rattle.qo_model.specs.Unplug.{detach}
 use Rattle.qo_sound_devices.specs.SoundDevices.{SoundDevices}
@@ -39,7 +39,7 @@ pub record ChangesOf (Good : Board → Type 0) (On : Board → ℕ → Type 0) (
   pub asked_for : (b : Board) (id : List ℕ) → R [] b (asked b id).board
   pub refused_by : (b : Board) (d : ℕ) → R [] b (refused b d)
   -- a hold, a hold less, and both
-  pub held_so : (b : Board) (n : ℕ) → Good b → On b n → R [] b (held b n)
+  pub held_so : (b : Board) (n : ℕ) → Good b → On b n → R [] b (after_hold b n)
   pub released_so : (b : Board) (n : ℕ) → Good b → On b n → R [] b (released b n)
   pub pulsed : (b : Board) (n : ℕ) → Good b → On b n → R [] b (pulse b n)
   -- a write of a clock's period, and of its mul and div, that is not refused

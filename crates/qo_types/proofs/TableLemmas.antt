@@ -1,11 +1,11 @@
 -- The code's tables say what the definitions say.
-use Rattle.std.proofs.Common.{rules, ◌≡◌, ℕ, Bool, true, false, List, [], ◌∷◌, map, find, refl, ◌∙◌, Option, option_map}
+use Rattle.std.proofs.Common.{rules, ◌≡◌, ℕ, Bool, true, false, List, [], ◌∷◌, map, find, refl, ◌∙◌, Option, option_map, codes}
 use Rattle.std.specs.List.{slice_get}
 use Rattle.std.specs.Str.{bytes_eq}
 use Rattle.qo_values.specs.Kinds.{type_name}
 use Rattle.qo_values.specs.declared.kinds.TypeId.{TypeId}
 use Rattle.qo_values.proofs.EachLemmas.{each}
-use Rattle.qo_model.specs.Types.{TypeInfo, types, chain, parent_of, type_named}
+use Rattle.qo_model.specs.Types.{TypeInfo, types, chain, is_a, parent_of, type_named}
 use Rattle.qo_types.specs.Rows.{type_ids}
 
 -- the first type of a name, by the types or by their rows
@@ -30,3 +30,8 @@ named_in name = named_among types name
 pub parent_in : (t : TypeId) → slice_get (chain t) 1 ≡ parent_of t
 unfolding types
 parent_in = each (λ (t : TypeId). slice_get (chain t) 1 ≡ parent_of t) (search rules)
+
+-- every type is one of objects
+pub each_object : (t : TypeId) → is_a t (codes "object") ≡ true
+unfolding types
+each_object = each (λ (t : TypeId). is_a t (codes "object") ≡ true) (search rules)

@@ -4,19 +4,19 @@ ghost use Rattle.std.specs.Prelude.{◌≡◌, find};
 ghost use Rattle.std.specs.Str.{bytes_eq};
 ghost use Rattle.qo_model.specs.RowNames.{property_name};
 
-use qo_model::{First, Mark, Property, PropertyName, PropertyRole};
+use qo_model::{Access, First, Property, PropertyName, PropertyRole};
 use qo_values::{BACKEND_SIZE_AT_FIRST, BACKEND_SIZE_MAX, DIMM_ALIGN, PropType, TypeId};
 
 const TYPE: Property = Property {
     name: PropertyName::Type,
     role: PropertyRole::Plain(PropType::Text, First::TypeName),
-    mark: Mark::Never,
+    access: Access::Never,
 };
 
 const REALIZED: Property = Property {
     name: PropertyName::Realized,
     role: PropertyRole::Plain(PropType::Bool, First::Bool(false)),
-    mark: Mark::Never,
+    access: Access::Never,
 };
 
 const PARENT_BUS: Property = Property {
@@ -25,7 +25,7 @@ const PARENT_BUS: Property = Property {
         ty: TypeId::Bus,
         strong: true,
     },
-    mark: Mark::Never,
+    access: Access::Never,
 };
 
 const SLOT: Property = Property {
@@ -38,7 +38,7 @@ const SLOT: Property = Property {
         },
         First::Nothing,
     ),
-    mark: Mark::Add,
+    access: Access::Add,
 };
 
 const PEER: Property = Property {
@@ -47,7 +47,7 @@ const PEER: Property = Property {
         ty: TypeId::Device,
         strong: true,
     },
-    mark: Mark::Both,
+    access: Access::Both,
 };
 
 const WATCH: Property = Property {
@@ -56,13 +56,13 @@ const WATCH: Property = Property {
         ty: TypeId::Device,
         strong: false,
     },
-    mark: Mark::Both,
+    access: Access::Both,
 };
 
 const CLK: Property = Property {
     name: PropertyName::Clk,
     role: PropertyRole::Child(TypeId::Clock),
-    mark: Mark::Never,
+    access: Access::Never,
 };
 
 const CLOCK_PERIOD: Property = Property {
@@ -71,19 +71,19 @@ const CLOCK_PERIOD: Property = Property {
         child: PropertyName::Clk,
         of: PropertyName::Period,
     },
-    mark: Mark::Set,
+    access: Access::Set,
 };
 
 const CHARDEV: Property = Property {
     name: PropertyName::Chardev,
     role: PropertyRole::Plain(PropType::Text, First::NoText),
-    mark: Mark::Add,
+    access: Access::Add,
 };
 
 const BUS: Property = Property {
     name: PropertyName::Bus0,
     role: PropertyRole::Child(TypeId::SlotBus),
-    mark: Mark::Never,
+    access: Access::Never,
 };
 
 const MEMDEV: Property = Property {
@@ -92,7 +92,7 @@ const MEMDEV: Property = Property {
         ty: TypeId::MemoryBackend,
         strong: true,
     },
-    mark: Mark::Add,
+    access: Access::Add,
 };
 
 const ADDR: Property = Property {
@@ -105,7 +105,7 @@ const ADDR: Property = Property {
         },
         First::Nothing,
     ),
-    mark: Mark::Add,
+    access: Access::Add,
 };
 
 const PERIOD: Property = Property {
@@ -118,7 +118,7 @@ const PERIOD: Property = Property {
         },
         First::Uint(0),
     ),
-    mark: Mark::Set,
+    access: Access::Set,
 };
 
 const MUL: Property = Property {
@@ -131,7 +131,7 @@ const MUL: Property = Property {
         },
         First::Uint(1),
     ),
-    mark: Mark::Set,
+    access: Access::Set,
 };
 
 const DIV: Property = Property {
@@ -144,7 +144,7 @@ const DIV: Property = Property {
         },
         First::Uint(1),
     ),
-    mark: Mark::Set,
+    access: Access::Set,
 };
 
 const SOURCE: Property = Property {
@@ -153,7 +153,7 @@ const SOURCE: Property = Property {
         ty: TypeId::Clock,
         strong: false,
     },
-    mark: Mark::Never,
+    access: Access::Never,
 };
 
 const SIZE: Property = Property {
@@ -166,13 +166,13 @@ const SIZE: Property = Property {
         },
         First::Uint(BACKEND_SIZE_AT_FIRST),
     ),
-    mark: Mark::Add,
+    access: Access::Add,
 };
 
 const TEXT: Property = Property {
     name: PropertyName::Text,
     role: PropertyRole::Plain(PropType::Text, First::NoText),
-    mark: Mark::Both,
+    access: Access::Both,
 };
 
 const NUMBER: Property = Property {
@@ -184,13 +184,13 @@ const NUMBER: Property = Property {
         },
         First::Uint(0),
     ),
-    mark: Mark::Both,
+    access: Access::Both,
 };
 
 const FLAG: Property = Property {
     name: PropertyName::Flag,
     role: PropertyRole::Plain(PropType::Bool, First::Bool(false)),
-    mark: Mark::Both,
+    access: Access::Both,
 };
 
 const NEXT: Property = Property {
@@ -199,7 +199,7 @@ const NEXT: Property = Property {
         ty: TypeId::Object,
         strong: true,
     },
-    mark: Mark::Both,
+    access: Access::Both,
 };
 
 const SEEN: Property = Property {
@@ -208,7 +208,7 @@ const SEEN: Property = Property {
         ty: TypeId::Object,
         strong: false,
     },
-    mark: Mark::Both,
+    access: Access::Both,
 };
 
 pub(crate) static OBJECT: [Property; 1] = [TYPE];

@@ -31,10 +31,12 @@ impl TypeTable {
 
     /// Whether a type is of a name: its own, an ancestor's, or an interface of itself or of an
     /// ancestor. The names that are asked most are known without a look at the ancestors.
+    #[tactic(auto, using(crate::proofs::TableLemmas::each_object))]
     pub fn is_a(&self, t: TypeId, name: &str) -> bool
         ensures { result ≡ is_a t name.now }
     {
         match name {
+            "object" => true,
             "bus" => info(t).is_bus,
             "device" => info(t).is_device,
             "slot-device" => info(t).is_slot_device,

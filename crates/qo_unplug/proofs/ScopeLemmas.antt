@@ -6,7 +6,7 @@ use Rattle.std.proofs.lemmas.Bool.{eqb-true, eq-eqb}
 use Rattle.std.proofs.lemmas.List.Sums.{sum_by-cons}
 use Rattle.qo_values.specs.declared.births.TheConstants.{ANONYMOUS_BIRTH, PERIPHERAL_BIRTH}
 use Rattle.qo_values.specs.declared.kinds.TypeId.{TypeId}
-use Rattle.qo_model.specs.Board.{Board, Record, Slot, plain, child, strong, weak, alias, held, is_live, record_of, slot_at, slots_at}
+use Rattle.qo_model.specs.Board.{Board, Record, Slot, plain, child, strong, weak, alias, referent, is_live, record_of, slot_at, slots_at}
 use Rattle.qo_model.specs.Changes.{cut, with_cut}
 use Rattle.qo_model.specs.Devices.{bus_of, buses_of, kids_of, plain_in}
 use Rattle.qo_model.specs.Objects.{index_from}
@@ -171,9 +171,9 @@ takes-let_go : (b : Board) (n i : ℕ) → Takes b (let_go b n i)
 unfolding let_go
 takes-let_go b n i = go (slot_at b n i)
   where
-    go : (o : Option Slot) → Takes b (elim o as (λ _. Board) [ None ↦ b | Some s ↦ after finalize (drop_slot b n i) (held s) ])
+    go : (o : Option Slot) → Takes b (elim o as (λ _. Board) [ None ↦ b | Some s ↦ after finalize (drop_slot b n i) (referent s) ])
     go None = takes-none b
-    go (Some s) = takes-then b (drop_slot b n i) (after finalize (drop_slot b n i) (held s)) (takes-drop b n i) (takes-after (drop_slot b n i) (held s))
+    go (Some s) = takes-then b (drop_slot b n i) (after finalize (drop_slot b n i) (referent s)) (takes-drop b n i) (takes-after (drop_slot b n i) (referent s))
 
 takes-taken_link : (b : Board) (n i : ℕ) (own : List ℕ) (t : TypeId) (target : Option ℕ) → slice_get (slots_at b n) i ≡ Some (own, strong t target)
     → Takes b (take_slot b n i)

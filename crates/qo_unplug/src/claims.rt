@@ -19,7 +19,7 @@ fn take_claims<L: Ledger>(heap: &mut Heap, o: Oid, steps: &mut Steps<L>) -> Kept
     ensures taken { option_map (λ c. kept_of c.body) (content_of heap.old o.birth) ≡ Some result }
     ensures left { heap.new ≡ with_edit o.birth (λ (c : Content). record c { body = with_kept none_kept c.body }) heap.old }
 {
-    heap.facts();
+    heap.reveal_invariant();
     heap.body_mut(o, steps).take_claims()
 }
 
@@ -30,7 +30,7 @@ pub fn free_claims<L: Ledger>(heap: &mut Heap, o: Oid, steps: &mut Steps<L>)
     ensures others { (n : ℕ) (k : KeptSet) → (n == o.birth) ≡ false → kept_by heap.new n ≡ Some k → kept_by heap.old n ≡ Some k }
     ensures undoes { HeapUndoes (λ _ c. c) heap.old heap.new }
 {
-    heap.facts();
+    heap.reveal_invariant();
     let kept = take_claims(heap, o, steps);
     free_kept(heap.claims(), kept);
 }

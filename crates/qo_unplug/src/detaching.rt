@@ -48,11 +48,11 @@ pub fn detach<L: Ledger>(
     ensures pins { pins_in heap.new.rows ≡ pins_in heap.old.rows }
     ensures timely { Timely heap.new }
 {
-    heap.facts();
+    heap.reveal_invariant();
     let levels = heap.live();
     heap.pin(dev, steps);
     unrealize(heap, resets, hotplug, dev, steps);
     take_out(heap, dev, levels, steps);
-    heap.facts();
+    heap.reveal_invariant();
     drop_pin(heap, dev, steps);
 }

@@ -34,7 +34,7 @@ fn take_first_kid<L: Ledger>(heap: &mut Heap, bus: u64, levels: usize, steps: &m
     ensures goes { Goes (first_apart levels bus) heap.old heap.new }
     ensures none { result ≡ false → (b : Board) (log : Log) → Shows b (with_log log heap.new) → first_of (kids_of b bus) ≡ None }
 {
-    heap.shown();
+    heap.reveal_board();
     let Some(kid) = first_kid_of(heap, bus, steps) else {
         return false;
     };
@@ -79,7 +79,7 @@ fn lose_first_bus<L: Ledger>(heap: &mut Heap, dev: Oid, levels: usize, steps: &m
     ensures goes { Goes (first_lost levels dev.birth) heap.old heap.new }
     ensures none { result ≡ false → (b : Board) (log : Log) → Shows b (with_log log heap.new) → first_of (buses_of b dev.birth) ≡ None }
 {
-    heap.shown();
+    heap.reveal_board();
     let Some(bus) = first_bus(heap, dev, steps) else {
         return false;
     };
@@ -126,9 +126,9 @@ fn take_apart<L: Ledger>(heap: &mut Heap, dev: Oid, levels: usize, steps: &mut S
     if levels == 0 {
         return;
     }
-    heap.facts();
+    heap.reveal_invariant();
     heap.pin(dev, steps);
     take_out(heap, dev, levels - 1, steps);
-    heap.facts();
+    heap.reveal_invariant();
     drop_pin(heap, dev, steps);
 }

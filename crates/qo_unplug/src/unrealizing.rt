@@ -115,7 +115,7 @@ pub fn unrealize<L: Ledger>(
     ensures { Ends (λ b. device_within b (length heap.old.rows + 1) dev.birth)
         (parts heap.old resets.old.births hotplug.old) (parts heap.new resets.new.births hotplug.new) }
 {
-    heap.facts();
+    heap.reveal_invariant();
     let levels = heap.live() + 1;
     unrealize_device(heap, resets, hotplug, dev, levels, steps);
 }

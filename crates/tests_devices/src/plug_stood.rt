@@ -4,7 +4,7 @@ ghost use Rattle.std.specs.Prelude.{◌≡◌, ◌<◌};
 use qo_buses::{anonymous_name, is_realized};
 use qo_heap::{Heap, Steps};
 use qo_hotplug::Hotplug;
-use qo_plug::{DevicePath, Seat, Spot, make_device, stand, start};
+use qo_plug::{Attachment, DevicePath, Resources, make_device, stand, start};
 use qo_properties::{make_all, plan};
 use qo_reset::Resets;
 use qo_values::{ANONYMOUS_BIRTH, PropList, ROOT_BUS_BIRTH, TypeId};
@@ -42,19 +42,19 @@ fn started<L: Ledger>(alloc: Global, blank: Blank) -> Result<bool, AllocError>
     if heap.book().is_slot_taken(bus.birth, 0) {
         return Ok(false);
     }
-    let spot = Spot {
+    let resources = Resources {
         slot: 0,
         ring: None,
         memory: None,
     };
-    let seat = Seat {
+    let attachment = Attachment {
         container,
         name,
         bus,
-        spot,
+        resources,
     };
     let DevicePath { kept, told: same } = stand(
-        &mut heap, device, seat, None, plan, alloc, &mut steps,
+        &mut heap, device, attachment, None, plan, alloc, &mut steps,
     )?;
     let path = "/machine/peripheral-anon/device[0]";
     let stands = kept.as_str() == path && same.as_str() == path;

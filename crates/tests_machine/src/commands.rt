@@ -2,7 +2,7 @@
 //! compared with texts written by hand.
 ghost use Rattle.std.specs.Prelude.{◌≡◌, ◌<◌};
 
-use qo_commands::{Body, Done, ask, change, listing_text};
+use qo_commands::{Done, ReplyBody, ask, change, interrupt_lines, listing_text};
 use qo_heap::Steps;
 use qo_realize::Board;
 use qo_requests::{Addition, Alteration, Change, Query};
@@ -31,7 +31,7 @@ fn tells<L: Ledger>(
         ends: _,
     } = ask(alloc, board, query, steps)?;
     match result {
-        Ok(Body::Value(whole)) => Ok(whole.value().to_string(alloc)?.as_str() == want),
+        Ok(ReplyBody::Value(whole)) => Ok(whole.value().to_string(alloc)?.as_str() == want),
         _ => Ok(false),
     }
 }
@@ -48,7 +48,7 @@ fn lists_type<L: Ledger>(
         event: _,
         ends: _,
     } = ask(alloc, board, query, steps)?;
-    let Ok(Body::Listing(birth)) = result else {
+    let Ok(ReplyBody::Listing(birth)) = result else {
         return Ok(false);
     };
     let listed = listing_text(alloc, board, birth, steps)?;
@@ -103,11 +103,12 @@ fn answer<L: Ledger>(
     wanted: &Change,
     steps: &mut Steps<L>,
 ) -> Result<Option<Code>, AllocError> {
+    let lines = interrupt_lines(alloc, board, steps)?;
     let Done {
         result,
         event: _,
         ends: _,
-    } = change(alloc, board, wanted, steps)?;
+    } = change(alloc, board, &lines, wanted, steps)?;
     Ok(result.err())
 }
 

@@ -3,7 +3,7 @@
 ghost use Rattle.std.specs.Prelude.{◌≡◌, ◌<◌};
 
 use qo_heap::{Heap, Steps};
-use qo_properties::{attempt, furnish_new};
+use qo_properties::{failed_add, set_default_slots};
 use qo_values::TypeId;
 use std::alloc::{AllocError, Global};
 use std::marker::Brand;
@@ -18,10 +18,10 @@ fn attempted<L: Ledger>(alloc: Global, blank: Blank) -> Result<bool, AllocError>
 {
     let mut steps = Steps::<L>::from_blank(blank);
     let mut heap = Heap::new(alloc)?;
-    heap.facts();
+    heap.reveal_invariant();
     let tag = heap.make(alloc, TypeId::Tag, &mut steps)?;
-    furnish_new(&mut heap, tag, TypeId::Tag, alloc, &mut steps)?;
-    attempt(&mut heap, TypeId::Tag, alloc, &mut steps)?;
+    set_default_slots(&mut heap, tag, TypeId::Tag, alloc, &mut steps)?;
+    failed_add(&mut heap, TypeId::Tag, alloc, &mut steps)?;
     let next = heap.make(alloc, TypeId::Tag, &mut steps)?;
     Ok(next.birth == 3 && heap.live() == 2 && heap.notes_total() == 2)
 }

@@ -3,6 +3,8 @@
 #![tactic(auto)]
 
 #[cfg(test)]
+mod guests;
+#[cfg(test)]
 mod objects;
 #[cfg(test)]
 mod replaying;

@@ -100,27 +100,27 @@ fn add_reply(alloc: Global, want: &mut String, reply: &str) -> Result<(), Fail> 
 }
 
 /// A record in which session 0 opens and negotiates.
-fn opening(alloc: Global) -> Result<Vec<u8>, Fail> {
+pub(crate) fn opening(alloc: Global) -> Result<Vec<u8>, Fail> {
     let mut record = Vec::from_slice(alloc, b"qrec 1\nopen 1.000000 0\n")?;
     add_command(alloc, &mut record, "qmp_capabilities")?;
     Ok(record)
 }
 
 /// What is told of opening and negotiating.
-fn greeted(alloc: Global) -> Result<String, Fail> {
+pub(crate) fn greeted(alloc: Global) -> Result<String, Fail> {
     let mut want = String::from_str(alloc, GREETING)?;
     want.push_str(EMPTY)?;
     Ok(want)
 }
 
 /// Whether a record comes to its end, with this transcript.
-fn gives(alloc: Global, record: &[u8], want: &[u8]) -> Result<bool, Fail> {
+pub(crate) fn gives(alloc: Global, record: &[u8], want: &[u8]) -> Result<bool, Fail> {
     let left = replay(alloc, record)?;
     Ok(left.status == Status::Done && left.held.as_slice() == want)
 }
 
 /// Adds a command and its reply.
-fn add_row(
+pub(crate) fn add_row(
     alloc: Global,
     record: &mut Vec<u8>,
     want: &mut String,

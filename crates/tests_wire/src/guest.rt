@@ -1,13 +1,14 @@
 //! What no clause says: lines written by hand, and that an answer is spelled where there is memory.
-use qo_guest::{Addr, GuestAct, GuestAnswer, GuestBad, Steps9, answer_text, read_line};
+use qo_guest::{Addr, GuestAct, GuestAnswer, GuestBad, SlotPath, answer_text, read_line};
 use std::test::Fail;
 
 #[test]
 fn reads_lines(rt: HostRuntime) {
-    let mut deep = Steps9::one(3);
+    let mut deep = SlotPath::one(3);
     deep.push(1);
     for (line, act) in [
         (b"poll".as_slice(), Ok(GuestAct::Poll)),
+        (b"irq", Ok(GuestAct::Irq)),
         (b"ack 3.1", Ok(GuestAct::Ack(Addr::Slots(deep)))),
         (b"nack m255", Ok(GuestAct::Nack(Addr::Mem(255)))),
         (b"read m0 1", Ok(GuestAct::Read(Addr::Mem(0), 1))),
@@ -26,7 +27,7 @@ fn reads_lines(rt: HostRuntime) {
 
 #[test]
 fn spells_answers(rt: HostRuntime) -> Result<(), Fail> {
-    let mut deep = Steps9::one(3);
+    let mut deep = SlotPath::one(3);
     deep.push(10);
     for (answer, text) in [
         (

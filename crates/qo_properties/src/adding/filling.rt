@@ -12,9 +12,9 @@ use std::mem::replace;
 
 /// What a slot of a new object is filled with.
 #[derive(Drop)]
-pub enum Fill {
-    /// Nothing: it stays as it begins.
-    Nothing,
+pub enum InitialValue {
+    /// It stays as it begins.
+    Default,
     /// A value.
     Value(Val),
     /// A target.
@@ -22,7 +22,7 @@ pub enum Fill {
 }
 
 /// Whether a new object has a slot for a property with this row.
-pub fn begins(role: PropertyRole) -> bool
+pub fn is_stored(role: PropertyRole) -> bool
     ensures { (t : TypeId) → result ≡ is_some (begun t role) }
 {
     match role {
@@ -34,24 +34,24 @@ pub fn begins(role: PropertyRole) -> bool
 }
 
 /// Takes the value out of what a slot is filled with, where it is one. A target stays.
-fn spend(fill: &mut Fill) -> Fill
+fn take_one_value(fill: &mut InitialValue) -> InitialValue
     ensures taken { result ≡ value_alone fill.old }
     ensures left { fill.new ≡ spent fill.old }
 {
     match fill {
-        Fill::Value(_) => replace(fill, Fill::Nothing),
-        _ => Fill::Nothing,
+        InitialValue::Value(_) => replace(fill, InitialValue::Default),
+        _ => InitialValue::Default,
     }
 }
 
 /// Takes the value that is planned for the slot at a place out of a plan, where one is; nothing is
 /// planned for that slot then. A target stays.
-pub fn take_value(plan: &mut [Fill], at: usize) -> Fill
+pub fn take_value(plan: &mut [InitialValue], at: usize) -> InitialValue
     ensures taken { result ≡ value_at at plan.old }
     ensures left { plan.new ≡ spent_at at plan.old }
 {
     if at >= plan.len() {
-        return Fill::Nothing;
+        return InitialValue::Default;
     }
-    spend(&mut plan[at])
+    take_one_value(&mut plan[at])
 }

@@ -1,19 +1,19 @@
 //! The slots that a new object of a type has.
 
-ghost use Rattle.std.specs.Prelude.{◌≡◌, ◌++◌, List, None, option_to_list, OnOk, OnErr, IfOk};
+ghost use Rattle.std.specs.Prelude.{◌≡◌, ◌++◌, [], List, None, option_to_list, OnOk, OnErr, IfOk};
 ghost use Rattle.std.specs.Vec.Iter.{into_iter_items};
 ghost use Rattle.qo_values.specs.Names.{IsName};
 ghost use Rattle.qo_model.specs.Opening.{first_value};
 ghost use Rattle.qo_model.specs.RowNames.{property_name};
 ghost use Rattle.qo_heap.specs.Rows.{IsLive};
 ghost use Rattle.qo_object.specs.declared.slots.Slot.TheVariants.{Plain, Link};
-ghost use Rattle.qo_object.specs.Content.{furnished, with_slot};
+ghost use Rattle.qo_object.specs.Content.{with_all_slots, with_slot};
 ghost use Rattle.qo_object.specs.Slots.{Named};
-ghost use Rattle.qo_heap.specs.Objects.{with_edit};
+ghost use Rattle.qo_heap.specs.Objects.{slots_of, with_edit};
 ghost use Rattle.qo_properties.specs.Filling.{filled, filled_with};
 ghost use Rattle.qo_properties.specs.NewSlots.{new_slots, slot_begun};
 
-use crate::adding::filling::Fill;
+use crate::adding::filling::InitialValue;
 use qo_heap::{Heap, Oid, Slot, SlotName, Steps};
 use qo_model::{First, Property, PropertyName, PropertyRole};
 use qo_types::TypeTable;
@@ -46,13 +46,18 @@ fn first_val(kind: TypeId, first: First, alloc: Global) -> Result<Val, AllocErro
 
 /// What a plain property of a new object of a type holds: the value planned, or its first where none
 /// is.
-fn plain_val(kind: TypeId, first: First, fill: Fill, alloc: Global) -> Result<Val, AllocError>
+fn plain_val(
+    kind: TypeId,
+    first: First,
+    fill: InitialValue,
+    alloc: Global,
+) -> Result<Val, AllocError>
     ensures { IfOk result (λ val. Plain val ≡ filled_with fill (Plain (first_value kind first))) }
 {
     match fill {
-        Fill::Value(val) => Ok(val),
-        Fill::Nothing => first_val(kind, first, alloc),
-        Fill::Target(_) => first_val(kind, first, alloc),
+        InitialValue::Value(val) => Ok(val),
+        InitialValue::Default => first_val(kind, first, alloc),
+        InitialValue::Target(_) => first_val(kind, first, alloc),
     }
 }
 
@@ -64,7 +69,7 @@ pub fn add_value<L: Ledger>(
     kind: TypeId,
     name: PropertyName,
     first: First,
-    fill: Fill,
+    fill: InitialValue,
     alloc: Global,
     steps: &mut Steps<L>,
 ) -> Result<(), AllocError>
@@ -78,13 +83,13 @@ pub fn add_value<L: Ledger>(
 }
 
 /// The slot that a link of a new object begins as: with the target planned, or with none.
-fn link_slot(ty: TypeId, strong: bool, fill: Fill) -> Slot
+fn link_slot(ty: TypeId, strong: bool, fill: InitialValue) -> Slot
     ensures { result ≡ filled_with fill (Link ty strong None) }
 {
     let target = match fill {
-        Fill::Target(target) => Some(target),
-        Fill::Nothing => None,
-        Fill::Value(_) => None,
+        InitialValue::Target(target) => Some(target),
+        InitialValue::Default => None,
+        InitialValue::Value(_) => None,
     };
     Slot::Link { ty, strong, target }
 }
@@ -93,7 +98,7 @@ fn link_slot(ty: TypeId, strong: bool, fill: Fill) -> Slot
 /// what is planned next.
 fn put_row(
     slots: &mut Vec<(SlotName, Slot)>,
-    fills: &mut IntoIter<Fill>,
+    fills: &mut IntoIter<InitialValue>,
     kind: TypeId,
     row: Property,
     alloc: Global,
@@ -102,13 +107,13 @@ fn put_row(
 {
     match row.role {
         PropertyRole::Plain(_, first) => {
-            let fill = fills.next().unwrap_or(Fill::Nothing);
+            let fill = fills.next().unwrap_or(InitialValue::Default);
             let val = plain_val(kind, first, fill, alloc)?;
             slots.push((SlotName::row(row.name), Slot::Plain(val)))?;
             Ok(())
         }
         PropertyRole::Link { ty, strong } => {
-            let fill = fills.next().unwrap_or(Fill::Nothing);
+            let fill = fills.next().unwrap_or(InitialValue::Default);
             slots.push((SlotName::row(row.name), link_slot(ty, strong, fill)))?;
             Ok(())
         }
@@ -122,7 +127,7 @@ fn put_row(
 /// target. Children and aliases stay away. The error is want of memory.
 pub(crate) fn planned_slots(
     kind: TypeId,
-    plan: Vec<Fill>,
+    plan: Vec<InitialValue>,
     alloc: Global,
 ) -> Result<Vec<(SlotName, Slot)>, AllocError>
     ensures { IfOk result (λ slots. slots.items ≡ filled plan.items (new_slots kind)) }
@@ -136,21 +141,22 @@ pub(crate) fn planned_slots(
     Ok(slots)
 }
 
-/// Gives a new object of a type its slots, in the place of those that it has: its plain properties with
-/// their first values and its links without targets, in order. Children and aliases stay away. The
+/// Gives a new object of a type, which has no slots, its slots: its plain properties with their first
+/// values and its links without targets, in order. Children and aliases stay away. The
 /// error is want of memory, and leaves the heap as it was.
-pub fn furnish_new<L: Ledger>(
+pub fn set_default_slots<L: Ledger>(
     heap: &mut Heap,
     o: Oid,
     kind: TypeId,
     alloc: Global,
     steps: &mut Steps<L>,
 ) -> Result<(), AllocError>
-    requires { IsLive heap.old.rows o }
-    ensures ok { OnOk result (heap.new ≡ with_edit o.birth (furnished (new_slots kind)) heap.old) }
+    requires live { IsLive heap.old.rows o }
+    requires bare { slots_of heap.old o.birth ≡ [] }
+    ensures ok { OnOk result (heap.new ≡ with_edit o.birth (with_all_slots (new_slots kind)) heap.old) }
     ensures err { OnErr result (heap.new ≡ heap.old) }
 {
     let slots = planned_slots(kind, Vec::new(alloc), alloc)?;
-    heap.furnish(o, slots, steps);
+    heap.set_slots(o, slots, steps);
     Ok(())
 }

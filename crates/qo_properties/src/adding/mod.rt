@@ -1,7 +1,7 @@
 //! What makes objects.
 
-pub mod attempts;
-pub mod barring;
+pub mod checks;
+pub mod failed_add;
 pub mod filling;
 pub mod fresh;
 pub mod objects;

@@ -1,6 +1,6 @@
 //! Making users' objects.
 
-ghost use Rattle.std.specs.Prelude.{◌≡◌, ◌≤◌, ◌^◌, Some, filter_map, length, option_map, IfOk, IfSome, OnOk, OnErr, List};
+ghost use Rattle.std.specs.Prelude.{◌≡◌, ◌≤◌, ◌^◌, None, Some, filter_map, length, option_map, IfOk, IfSome, OnOk, OnErr, List};
 ghost use Rattle.std.specs.List.{AllByRecursion, AllZip, IsDistinct};
 ghost use Rattle.std.specs.Str.{bytes_eq};
 ghost use Rattle.qo_values.specs.declared.births.TheConstants.{OBJECTS_BIRTH};
@@ -8,7 +8,7 @@ ghost use Rattle.qo_heap.specs.Rows.{IsLive};
 ghost use Rattle.qo_model.specs.Board.{Board};
 ghost use Rattle.qo_model.specs.Objects.{Given, with_object};
 ghost use Rattle.qo_object.specs.Content.{reference_count, without_pin};
-ghost use Rattle.qo_object.specs.Slots.{names_of, target_of};
+ghost use Rattle.qo_object.specs.Slots.{child_of, names_of, target_of};
 ghost use Rattle.qo_heap.specs.Board.{Shows, pins_in};
 ghost use Rattle.qo_heap.specs.Objects.{content_of, ended, pins_of, refs_of, with_edit};
 ghost use Rattle.qo_properties.specs.Additions.{Adds, IsChild, IsTried};
@@ -17,9 +17,9 @@ ghost use Rattle.qo_properties.specs.KeptClaims.{KeptOrNew};
 ghost use Rattle.qo_properties.specs.Filling.{Fits, IsGiven, target_in};
 ghost use Rattle.qo_properties.specs.NewSlots.{new_slots};
 
-use crate::adding::attempts::attempt;
-use crate::adding::barring::{Admitted, admit};
-use crate::adding::filling::Fill;
+use crate::adding::checks::{Admitted, check_object};
+use crate::adding::failed_add::failed_add;
+use crate::adding::filling::InitialValue;
 use crate::adding::fresh::planned_slots;
 use crate::adding::planning::plan;
 use crate::refusals::Refusal;
@@ -41,7 +41,8 @@ pub(crate) fn give_up<L: Ledger>(heap: &mut Heap, o: Oid, steps: &mut Steps<L>)
     heap.finish(o, steps);
 }
 
-/// Makes an object of a type with these slots, whose names differ, as a child of another. It gets them
+/// Makes an object of a type with these slots, whose names differ and of which none is a child slot,
+/// as a child of another. It gets them
 /// once it is a child, which takes no memory, so that where memory wants, it holds nothing: the heap is
 /// as it was, or the object was made and ended.
 fn make_with<L: Ledger>(
@@ -57,14 +58,15 @@ fn make_with<L: Ledger>(
     requires targets { AllByRecursion (IsLive heap.old.rows) (filter_map (λ s. target_of s.1) slots.items) }
     requires differ { IsDistinct bytes_eq (names_of slots.items) }
     requires few { length slots.items ≤ 2 ^ 32 }
+    requires childless { AllByRecursion (λ s. child_of s.1 ≡ None) slots.items }
     ensures made { IfOk result (λ o. IsChild heap.old heap.new o parent name kind slots.items) }
     ensures err { OnErr result (IsTried kind heap.old heap.new) }
 {
-    heap.facts();
+    heap.reveal_invariant();
     let o = create(heap, alloc, kind, steps)?;
     match heap.add_child(parent, name, o, steps) {
         Ok(()) => {
-            heap.furnish(o, slots, steps);
+            heap.set_slots(o, slots, steps);
             Ok(o)
         }
         Err(_) => {
@@ -97,7 +99,7 @@ pub fn make_child<L: Ledger>(
 fn add_planned<L: Ledger>(
     heap: &mut Heap,
     admitted: Admitted,
-    plan: Vec<Fill>,
+    plan: Vec<InitialValue>,
     alloc: Global,
     steps: &mut Steps<L>,
 ) -> Result<(), AllocError>
@@ -116,7 +118,7 @@ fn add_planned<L: Ledger>(
         name,
         kind,
     } = admitted;
-    heap.facts();
+    heap.reveal_invariant();
     let slots = planned_slots(kind, plan, alloc)?;
     let name = SlotName::own(name);
     let made = make_with(heap, objects, name, kind, slots, alloc, steps)?;
@@ -145,11 +147,11 @@ pub fn add_object<L: Ledger>(
     ensures book { KeepsBook heap.old heap.new }
     ensures kept { KeptOrNew heap.old heap.new }
 {
-    let admitted = admit(heap, driver, id, alloc, steps)?;
+    let admitted = check_object(heap, driver, id, alloc, steps)?;
     match plan(heap, admitted.kind, props, alloc, steps) {
         Ok(plan) => add_planned(heap, admitted, plan, alloc, steps)?,
         Err(Refusal::Refused(code)) => {
-            attempt(heap, admitted.kind, alloc, steps)?;
+            failed_add(heap, admitted.kind, alloc, steps)?;
             return Err(Refusal::Refused(code));
         }
         Err(Refusal::Memory) => return Err(Refusal::Memory),

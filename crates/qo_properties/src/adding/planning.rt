@@ -11,18 +11,18 @@ ghost use Rattle.qo_model.specs.Properties.{property_named};
 ghost use Rattle.qo_object.specs.declared.slots.Slot.TheVariants.{Link};
 ghost use Rattle.qo_heap.specs.Rows.{IsLive};
 ghost use Rattle.qo_heap.specs.Board.{Shows};
-ghost use Rattle.qo_properties.specs.declared.adding.filling.Fill.TheVariants.{Nothing, Value};
+ghost use Rattle.qo_properties.specs.declared.adding.filling.InitialValue.TheVariants.{Default, Value};
 ghost use Rattle.qo_properties.specs.NewSlots.{begun, new_slots};
 ghost use Rattle.qo_properties.specs.Filling.{Fits, HasValue, IsGiven, fits, target_in};
 ghost use Rattle.qo_properties.specs.GivenProperties.{link_misfit, plain_misfit};
 ghost use Rattle.qo_properties.specs.Planning.{StandsAt, TellsRefusal};
 
-use crate::adding::filling::{Fill, begins};
+use crate::adding::filling::{InitialValue, is_stored};
 use crate::reading::values::copy_of;
 use crate::refusals::Refusal;
 use crate::writing::writes::link_target;
 use qo_heap::{Heap, Steps};
-use qo_model::{Mark, Property, PropertyRole};
+use qo_model::{Access, Property, PropertyRole};
 use qo_types::TypeTable;
 use qo_values::{Code, Misfit, PropList, PropType, TypeId, Val};
 use std::alloc::{AllocError, Global};
@@ -48,7 +48,7 @@ pub fn placed_row(kind: TypeId, name: &str) -> Option<PlacedRow>
         if row.name.as_str() == name {
             return Some(PlacedRow { row: *row, place });
         }
-        if begins(row.role) {
+        if is_stored(row.role) {
             place += 1;
         }
     }
@@ -56,14 +56,14 @@ pub fn placed_row(kind: TypeId, name: &str) -> Option<PlacedRow>
 }
 
 /// What a value fills the slot of a plain property of a type with. `E19` comes where it does not fit.
-fn plain_fill(ty: PropType, val: &Val, alloc: Global) -> Result<Fill, Refusal>
+fn plain_fill(ty: PropType, val: &Val, alloc: Global) -> Result<InitialValue, Refusal>
     ensures refused { TellsRefusal result (plain_misfit ty val.now) }
     ensures value { IfOk result (λ f. f ≡ Value val.now) }
 {
     if let Err(Misfit) = ty.admit(val) {
         return Err(Refusal::Refused(Code::E19));
     }
-    Ok(Fill::Value(copy_of(val, alloc)?))
+    Ok(InitialValue::Value(copy_of(val, alloc)?))
 }
 
 /// What a value fills a link to objects of a type with. `E19` comes where it is no text, and where
@@ -73,7 +73,7 @@ fn link_fill<L: Ledger>(
     ty: TypeId,
     val: &Val,
     steps: &mut Steps<L>,
-) -> Result<Fill, Refusal>
+) -> Result<InitialValue, Refusal>
     ensures refused { (b : Board) → Shows b heap.now → TellsRefusal result (link_misfit b ty val.now) }
     ensures told { (b : Board) → Shows b heap.now → (strong : Bool) → IfOk result (λ f. HasValue b val.now f (Link ty strong None)) }
     ensures fits { (strong : Bool) → IfOk result (λ f. fits f (Link ty strong None) ≡ true) }
@@ -83,8 +83,8 @@ fn link_fill<L: Ledger>(
         return Err(Refusal::Refused(Code::E19));
     };
     match link_target(heap, ty, path.as_str(), steps) {
-        Ok(Some(target)) => Ok(Fill::Target(target)),
-        Ok(None) => Ok(Fill::Nothing),
+        Ok(Some(target)) => Ok(InitialValue::Target(target)),
+        Ok(None) => Ok(InitialValue::Default),
         Err(code) => Err(Refusal::Refused(code)),
     }
 }
@@ -96,7 +96,7 @@ fn role_fill<L: Ledger>(
     val: &Val,
     alloc: Global,
     steps: &mut Steps<L>,
-) -> Result<Fill, Refusal>
+) -> Result<InitialValue, Refusal>
     ensures refused { (b : Board) → Shows b heap.now → TellsRefusal result (misfit b role val.now) }
     ensures own { OnOk result ((t : TypeId) → is_some (begun t role) ≡ true) }
     ensures told { (b : Board) → Shows b heap.now → (t : TypeId) → IfOk result (λ f. IfSome (begun t role) (HasValue b val.now f)) }
@@ -119,25 +119,25 @@ fn row_fill<L: Ledger>(
     val: &Val,
     alloc: Global,
     steps: &mut Steps<L>,
-) -> Result<Fill, Refusal>
+) -> Result<InitialValue, Refusal>
     ensures refused { (b : Board) → Shows b heap.now → TellsRefusal result (refusal_by b (Some row) val.now) }
     ensures own { OnOk result ((t : TypeId) → is_some (begun t row.role) ≡ true) }
     ensures told { (b : Board) → Shows b heap.now → (t : TypeId) → IfOk result (λ f. IfSome (begun t row.role) (HasValue b val.now f)) }
     ensures fits { (t : TypeId) → IfOk result (λ f. IfSome (begun t row.role) (λ s. fits f s ≡ true)) }
     ensures live { IfOk result (λ f. IfSome (target_in f) (IsLive heap.now.rows)) }
 {
-    match row.mark {
-        Mark::Add => role_fill(heap, row.role, val, alloc, steps),
-        Mark::Both => role_fill(heap, row.role, val, alloc, steps),
-        Mark::Never => Err(Refusal::Refused(Code::E18)),
-        Mark::Set => Err(Refusal::Refused(Code::E18)),
+    match row.access {
+        Access::Add => role_fill(heap, row.role, val, alloc, steps),
+        Access::Both => role_fill(heap, row.role, val, alloc, steps),
+        Access::Never => Err(Refusal::Refused(Code::E18)),
+        Access::Set => Err(Refusal::Refused(Code::E18)),
     }
 }
 
 /// Puts what a value given to the property of a name fills its slot with into the plan of a new
 /// object of a type, for which none was given before.
 fn plan_one<L: Ledger>(
-    fills: &mut Vec<Fill>,
+    fills: &mut Vec<InitialValue>,
     heap: &Heap,
     kind: TypeId,
     name: &str,
@@ -160,14 +160,14 @@ fn plan_one<L: Ledger>(
 }
 
 /// The plan of a new object of a type for which nothing is given.
-fn blank(kind: TypeId, alloc: Global) -> Result<Vec<Fill>, AllocError>
-    ensures { IfOk result (λ fills. fills.items ≡ map (λ _. Nothing) (new_slots kind)) }
+fn blank(kind: TypeId, alloc: Global) -> Result<Vec<InitialValue>, AllocError>
+    ensures { IfOk result (λ fills. fills.items ≡ map (λ _. Default) (new_slots kind)) }
 {
     let rows = TypeTable::board().props(kind);
     let mut fills = Vec::with_capacity(alloc, rows.len())?;
     for row in rows {
-        if begins(row.role) {
-            fills.push(Fill::Nothing)?;
+        if is_stored(row.role) {
+            fills.push(InitialValue::Default)?;
         }
     }
     Ok(fills)
@@ -184,7 +184,7 @@ pub fn plan<L: Ledger>(
     props: &PropList,
     alloc: Global,
     steps: &mut Steps<L>,
-) -> Result<Vec<Fill>, Refusal>
+) -> Result<Vec<InitialValue>, Refusal>
     ensures refused { (b : Board) → Shows b heap.now → TellsRefusal result (refusal_of b kind props.now) }
     ensures told { (b : Board) → Shows b heap.now → IfOk result (λ plan. AllZip (IsGiven b props.now) plan.items (new_slots kind)) }
     ensures fits { IfOk result (λ plan. AllZip Fits plan.items (new_slots kind)) }

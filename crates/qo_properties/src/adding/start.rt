@@ -15,7 +15,7 @@ ghost use Rattle.qo_properties.specs.KeptClaims.{NoneKept};
 ghost use Rattle.qo_properties.specs.NewSlots.{new_slots};
 ghost use Rattle.qo_properties.specs.OpeningSteps.{IsMade, KeepsNames, with_new, with_new_child, with_clock, with_containers, with_buses, with_machine, with_all};
 
-use crate::adding::fresh::{furnish_new, name_of};
+use crate::adding::fresh::{name_of, set_default_slots};
 use crate::reading::lookup::place_named;
 use qo_heap::{Heap, Oid, SlotName, Steps};
 use qo_values::{SYSTEM_PERIOD, TypeId, Val};
@@ -32,9 +32,9 @@ fn make_new<L: Ledger>(
     ensures made { IfOk result (λ o. IsMade heap.old heap.new kind 1 o) }
     ensures shown { OnOk result ((b : Board) → Shows b heap.old → Shows (with_new kind b) heap.new) }
 {
-    heap.facts();
+    heap.reveal_invariant();
     let o = heap.make(alloc, kind, steps)?;
-    furnish_new(heap, o, kind, alloc, steps)?;
+    set_default_slots(heap, o, kind, alloc, steps)?;
     Ok(o)
 }
 
@@ -52,11 +52,11 @@ fn make_child<L: Ledger>(
     ensures made { IfOk result (λ o. IsMade heap.old heap.new kind 0 o) }
     ensures shown { OnOk result ((b : Board) → Shows b heap.old → Shows (with_new_child parent.birth name.now kind b) heap.new) }
 {
-    heap.facts();
+    heap.reveal_invariant();
     let child = make_new(heap, kind, alloc, steps)?;
     let name = name_of(name, alloc)?;
     heap.add_child(parent, SlotName::own(name), child, steps)?;
-    heap.facts();
+    heap.reveal_invariant();
     heap.unpin(child, steps);
     Ok(child)
 }

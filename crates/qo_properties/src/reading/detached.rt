@@ -17,7 +17,7 @@ use std::sync::ledger::Ledger;
 fn detached_at<L: Ledger>(heap: &Heap, place: usize, steps: &mut Steps<L>) -> Option<Detached>
     ensures { (b : Tree) → Shows b heap.now → result ≡ option_and_then (λ row. detached_in b (record_of row)) (slice_get heap.now.rows place) }
 {
-    heap.facts();
+    heap.reveal_invariant();
     let o = heap.oid_at(place)?;
     if o.birth == ROOT_BIRTH {
         return None;

@@ -63,7 +63,7 @@ fn own_text<L: Ledger>(
 fn passed_text<L: Ledger>(heap: &Heap, birth: u64, of: &str, steps: &mut Steps<L>) -> TypeText
     ensures { (b : Tree) → Shows b heap.now → text_of result ≡ option_map_or (own_text b birth of.now) (slot_named b birth of.now) [] }
 {
-    heap.facts();
+    heap.reveal_invariant();
     let Some(o) = object_of(heap, birth) else {
         return TypeText::Nothing;
     };
@@ -104,7 +104,7 @@ pub fn property_at<'h, L: Ledger>(
     ensures within { IfSome result (λ p. at < length (slots_of heap.now o.birth)) }
     ensures few { IfSome result (λ p. at < 2 ^ 32) }
 {
-    heap.facts();
+    heap.reveal_invariant();
     let Some(slot) = heap.slot_at(o, at, steps) else {
         return None;
     };

@@ -17,7 +17,7 @@ use crate::reading::lookup::object_of;
 use crate::refusals::Refusal;
 use qo_clocks::{ClockError, div, mul, set, set_mul_div};
 use qo_heap::{Heap, Oid, Slot, Steps};
-use qo_model::{Mark, Property, PropertyName, PropertyRole};
+use qo_model::{Access, Property, PropertyName, PropertyRole};
 use qo_types::TypeTable;
 use qo_values::{Code, Misfit, Val};
 use std::sync::ledger::Ledger;
@@ -30,14 +30,14 @@ pub fn set_row<L: Ledger>(heap: &Heap, o: Oid, name: &str, steps: &mut Steps<L>)
 {
     let kind = heap.kind(o, steps);
     let row = TypeTable::board().property(kind, name)?;
-    match row.mark {
-        Mark::Set => Some(row),
+    match row.access {
+        Access::Set => Some(row),
         _ => None,
     }
 }
 
 /// A property of an object, with its row, where `qom-set` alone writes it. Refused with E17 where the
-/// object has no such slot, else with E18 where that holds no value or its row has not that mark.
+/// object has no such slot, else with E18 where that holds no value or its row has not that access.
 fn own_property<L: Ledger>(
     heap: &Heap,
     o: Oid,

@@ -47,13 +47,13 @@ fn sever_links<L: Ledger>(heap: &mut Heap, o: Oid, steps: &mut Steps<L>)
     requires room { pins_of heap.old o.birth < 2 ^ 32 }
     ensures { Goes (λ b. severed b o.birth) heap.old heap.new }
 {
-    heap.facts();
+    heap.reveal_invariant();
     heap.pin(o, steps);
     let count = heap.slot_count(o, steps);
     for at in 0..count {
         sever_at(heap, o, at, steps);
     }
-    heap.facts();
+    heap.reveal_invariant();
     drop_pin(heap, o, steps);
 }
 

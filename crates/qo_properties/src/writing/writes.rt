@@ -10,7 +10,7 @@ ghost use Rattle.qo_model.specs.ClockProperties.{set_property};
 ghost use Rattle.qo_model.specs.Clocks.{ClocksFit};
 ghost use Rattle.qo_object.specs.Content.{empty_link_at};
 ghost use Rattle.qo_object.specs.BoardObject.{birth_of};
-ghost use Rattle.qo_object.specs.Slots.{held, slot_in};
+ghost use Rattle.qo_object.specs.Slots.{referent, slot_in};
 ghost use Rattle.qo_heap.specs.Rows.{IsLive};
 ghost use Rattle.qo_heap.specs.Board.{Shows, pins_in};
 ghost use Rattle.qo_heap.specs.Objects.{content_of, slots_of};
@@ -26,7 +26,7 @@ use crate::refusals::Refusal;
 use crate::writing::clocks::{led_to, set_row, write_property};
 use qo_heap::{Heap, Oid, Slot, Steps};
 use qo_life::drop_hold;
-use qo_model::{Mark, Property, PropertyRole};
+use qo_model::{Access, Property, PropertyRole};
 use qo_paths::{PathError, resolve};
 use qo_types::TypeTable;
 use qo_values::{Code, Misfit, PropType, TypeId, Val};
@@ -66,10 +66,10 @@ pub fn link_target<L: Ledger>(
 /// The object that the slot of an object at a place holds.
 fn held_at<L: Ledger>(heap: &Heap, o: Oid, at: usize, steps: &mut Steps<L>) -> Option<Oid>
     requires { IsLive heap.now.rows o }
-    ensures { result ≡ option_and_then held (slot_in (slots_of heap.now o.birth) at) }
+    ensures { result ≡ option_and_then referent (slot_in (slots_of heap.now o.birth) at) }
 {
     let slot = heap.slot_at(o, at, steps)?;
-    slot.what.held()
+    slot.what.referent()
 }
 
 /// The type to whose objects the slot of an object at a place is a link; `None` where it is no link.
@@ -117,7 +117,7 @@ fn relink<L: Ledger>(heap: &mut Heap, o: Oid, at: usize, target: Option<Oid>, st
     ensures book { KeepsBook heap.old heap.new }
     ensures kept { KeptBefore heap.old heap.new }
 {
-    heap.facts();
+    heap.reveal_invariant();
     let held = held_at(heap, o, at, steps);
     heap.empty(o, at, steps);
     point_at(heap, o, at, target, steps);
@@ -234,8 +234,8 @@ fn write_row<L: Ledger>(
     ensures book { KeepsBook heap.old heap.new }
     ensures kept { KeptBefore heap.old heap.new }
 {
-    match row.mark {
-        Mark::Both => write_role(heap, o, at, row.role, val, alloc, steps),
+    match row.access {
+        Access::Both => write_role(heap, o, at, row.role, val, alloc, steps),
         _ => Err(Refusal::Refused(Code::E18)),
     }
 }

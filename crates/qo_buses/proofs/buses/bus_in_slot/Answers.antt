@@ -12,7 +12,8 @@ returns-in_err-view-clause-bus g c = λ b s.
 
 pub bus_in-requires : goal.bus_in-requires
 bus_in-requires g c =
-    slot-live c.args.heap.now c.facts.ensures c.args.o.birth c.args.at (c.in_ok-view.view.name.now, c.in_ok-view.view.what.now) c.in_ok-view.ensures.slot
+    slot-live c.args.heap.now c.reveal_invariant.ensures c.args.o.birth c.args.at (c.in_ok-view.view.name.now, c.in_ok-view.view.what.now)
+    c.in_ok-view.ensures.slot
 
 pub returns-clause-bus : goal.returns-clause-bus
 returns-clause-bus g c = λ b s.

@@ -21,4 +21,5 @@ returns-clause-kid g c = λ b s.
 pub returns-clause-live : goal.returns-clause-live
 returns-clause-live g c =
     same-named (IsLive c.args.heap.now.rows) c.in_ok-view.view.what.now c.strong_in.result c.strong_in.ensures.named
-    (slot-live c.args.heap.now c.facts.ensures c.args.bus.birth c.args.at (c.in_ok-view.view.name.now, c.in_ok-view.view.what.now) c.in_ok-view.ensures.slot)
+    (slot-live c.args.heap.now c.reveal_invariant.ensures c.args.bus.birth c.args.at (c.in_ok-view.view.name.now, c.in_ok-view.view.what.now)
+    c.in_ok-view.ensures.slot)

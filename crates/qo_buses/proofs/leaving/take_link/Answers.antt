@@ -16,7 +16,7 @@ cut-requires-clause-link g c = rw c.empty-held.ensures.now (link-emptied c.args.
 pub drop_hold-requires : goal.drop_hold-requires
 drop_hold-requires g c =
     IfSome_then c.empty-held.result {P = IsLive c.args.heap.now.rows} {Q = IsLive c.cut.new.self.rows}
-    (link-live c.args.heap.now c.facts.ensures c.args.o c.requires.live c.args.at c.empty-held.result c.empty-held.ensures.answer)
+    (link-live c.args.heap.now c.reveal_invariant.ensures c.args.o c.requires.live c.args.at c.empty-held.result c.empty-held.ensures.answer)
     (λ key live. rw (c.cut.ensures.now, c.empty-held.ensures.now)
     (live-edit c.args.o.birth (cut_at c.args.at) (with_edit c.args.o.birth (dropped_at c.args.at) c.args.heap.now).rows key
     (live-edit c.args.o.birth (dropped_at c.args.at) c.args.heap.now.rows key live)))

@@ -22,5 +22,5 @@ returns-clause-child g c = λ b s.
 pub returns-clause-live : goal.returns-clause-live
 returns-clause-live g c =
     same-named (IsLive c.args.heap.now.rows) c.in_ok-slot.slot.what.now c.child_in.result c.child_in.ensures.named
-    (target-live c.args.heap.now c.facts.ensures c.args.o.birth (λ (t : Named). bytes_eq c.args.name.now t.0)
+    (target-live c.args.heap.now c.reveal_invariant.ensures c.args.o.birth (λ (t : Named). bytes_eq c.args.name.now t.0)
     (c.in_ok-slot.slot.name.now, c.in_ok-slot.slot.what.now) c.in_ok-slot.ensures.slot)

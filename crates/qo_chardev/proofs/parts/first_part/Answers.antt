@@ -5,7 +5,7 @@ use Rattle.std.proofs.lemmas.Bool.{eqb-true}
 use Rattle.base64.proofs.EngineFacts.{front_bytes}
 use Rattle.base64.specs.Engines.{standard}
 use Rattle.base64.specs.GeneralPurpose.{IsBytes}
-use Rattle.qo_chardev.specs.Texts.{untold}
+use Rattle.qo_chardev.specs.Texts.{bytes_of}
 use Rattle.qo_chardev.proofs.PartLemmas.{decoded_are_bytes, part_bars, part_reads}
 use Rattle.qo_chardev.proofs.parts.first_part.Goals.{else-bytes-lt-PART_BYTES-via-then-bytes-lt-PART_BYTES+else-not-is_empty, else-bytes-lt-PART_BYTES-via-else-bytes-lt-PART_BYTES}
 use Rattle.qo_chardev.proofs.parts.first_part.Goals as goal
@@ -23,7 +23,7 @@ returns-in_default-clause-none c = λ is.
     let bytes = subst IsBytes split.by_index.0 (λ i. let fits = c.type_inv.text i in omega arith) in
     let most = c.min.ensures in
     let error = c.in_default.ensures.err in
-    ap untold split.by_index.0
+    ap bytes_of split.by_index.0
     ∙ part_bars c.split_at.result.0.now c.split_at.result.1.now bytes (λ more. omega (arith, split.front_len, split.back_len)) (λ x reads. cc (error, reads))
 
 pub returns-then-not-is_empty-clause-none : goal.returns-then-not-is_empty-clause-none
@@ -35,7 +35,7 @@ returns-then-not-is_empty-clause-none c = λ is.
     let decoded = c.in-Ok.ensures.ok.0 in
     let more : 0 < length rest = some rest c.if-not-is_empty.ensures in
     let short = c.if-bytes-lt-PART_BYTES.true in
-    ap untold split.by_index.0
+    ap bytes_of split.by_index.0
     ∙ part_bars c.split_at.result.0.now rest bytes (λ more. omega (arith, split.front_len, split.back_len))
     (λ x reads. let same : x ≡ take c.in-Ok.count c.decode_slice_unchecked.new.output = cc (decoded, reads) in (more, rw same short))
 
@@ -55,5 +55,5 @@ returns-clause-part c =
     record {
       all = decoded_are_bytes standard part _ bytes decoded.0;
       shorter = omega (arith, c.requires, split.back_len);
-      read = ap untold split.by_index.0 ∙ part_reads part rest _ bytes decoded.0 whole;
+      read = ap bytes_of split.by_index.0 ∙ part_reads part rest _ bytes decoded.0 whole;
     }

@@ -4,8 +4,8 @@ use Rattle.qo_clocks.proofs.feeding.fed_at.Goals as goal
 
 pub source_of-requires : goal.source_of-requires
 source_of-requires g c =
-    key-live c.args.heap.now.born c.args.heap.now.rows c.args.place c.in_ok-n.n c.facts.ensures.rising (sym c.in_ok-n.ensures)
+    key-live c.args.heap.now.born c.args.heap.now.rows c.args.place c.in_ok-n.n c.reveal_invariant.ensures.rising (sym c.in_ok-n.ensures)
 
 pub returns-then-source-c-clause-live : goal.returns-then-source-c-clause-live
 returns-then-source-c-clause-live g c =
-    key-live c.args.heap.now.born c.args.heap.now.rows c.args.place c.in_ok-n.n c.facts.ensures.rising (sym c.in_ok-n.ensures)
+    key-live c.args.heap.now.born c.args.heap.now.rows c.args.place c.in_ok-n.n c.reveal_invariant.ensures.rising (sym c.in_ok-n.ensures)

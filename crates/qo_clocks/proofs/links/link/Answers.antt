@@ -22,7 +22,8 @@ returns-then-accepts g c =
     position-find (λ (s : Named). bytes_eq c.args.name.now s.0) (slots_of c.args.heap.now c.args.c.birth) c.in-Some.link.at at ∙ sym c.in-Some.ensures.slot in
     let fits : accepts c.args.heap.now c.args.target c.in-Some.link.what.now ≡ true = sym c.accepts.ensures ∙ c.if-accepts.true in
     c.point.ensures.now
-    ∙ connects c.args.heap.now c.facts.ensures c.args.c.birth c.args.name.now c.args.target c.in-Some.link.at (c.in-Some.link.name.now, c.in-Some.link.what.now)
+    ∙ connects c.args.heap.now c.reveal_invariant.ensures c.args.c.birth c.args.name.now c.args.target c.in-Some.link.at
+    (c.in-Some.link.name.now, c.in-Some.link.what.now)
     at there fits
 
 pub returns-else-accepts : goal.returns-else-accepts
@@ -31,5 +32,5 @@ returns-else-accepts g c =
     let there : slice_get (slots_of c.args.heap.now c.args.c.birth) c.in-Some.link.at ≡ Some (c.in-Some.link.name.now, c.in-Some.link.what.now) =
     position-find (λ (s : Named). bytes_eq c.args.name.now s.0) (slots_of c.args.heap.now c.args.c.birth) c.in-Some.link.at at ∙ sym c.in-Some.ensures.slot in
     let fits : accepts c.args.heap.now c.args.target c.in-Some.link.what.now ≡ false = sym c.accepts.ensures ∙ c.if-accepts.false in
-    connects-not c.args.heap.now c.facts.ensures c.args.c.birth c.args.name.now c.args.target c.in-Some.link.at
+    connects-not c.args.heap.now c.reveal_invariant.ensures c.args.c.birth c.args.name.now c.args.target c.in-Some.link.at
     (c.in-Some.link.name.now, c.in-Some.link.what.now) at there fits

@@ -14,7 +14,8 @@ returns-then-is_weak g c =
     position-find (λ (s : Named). bytes_eq c.args.name.now s.0) (slots_of c.args.heap.now c.args.c.birth) c.in-Some.link.at at ∙ sym c.in-Some.ensures.slot in
     let weak : is_weak c.in-Some.link.what.now ≡ true = sym c.is_weak.ensures ∙ c.if-is_weak.true in
     c.empty-source.ensures.now
-    ∙ unlinks c.args.heap.now c.facts.ensures c.args.c.birth c.args.name.now c.in-Some.link.at (c.in-Some.link.name.now, c.in-Some.link.what.now) at there weak
+    ∙ unlinks c.args.heap.now c.reveal_invariant.ensures c.args.c.birth c.args.name.now c.in-Some.link.at (c.in-Some.link.name.now, c.in-Some.link.what.now)
+    at there weak
 
 pub returns-else-is_weak : goal.returns-else-is_weak
 returns-else-is_weak g c =
@@ -22,5 +23,6 @@ returns-else-is_weak g c =
     let there : slice_get (slots_of c.args.heap.now c.args.c.birth) c.in-Some.link.at ≡ Some (c.in-Some.link.name.now, c.in-Some.link.what.now) =
     position-find (λ (s : Named). bytes_eq c.args.name.now s.0) (slots_of c.args.heap.now c.args.c.birth) c.in-Some.link.at at ∙ sym c.in-Some.ensures.slot in
     let weak : is_weak c.in-Some.link.what.now ≡ false = sym c.is_weak.ensures ∙ c.if-is_weak.false in
-    unlinks-not c.args.heap.now c.facts.ensures c.args.c.birth c.args.name.now c.in-Some.link.at (c.in-Some.link.name.now, c.in-Some.link.what.now) at there
+    unlinks-not c.args.heap.now c.reveal_invariant.ensures c.args.c.birth c.args.name.now c.in-Some.link.at (c.in-Some.link.name.now, c.in-Some.link.what.now)
+    at there
     weak

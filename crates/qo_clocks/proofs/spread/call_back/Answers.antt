@@ -8,7 +8,7 @@ use Rattle.qo_clocks.proofs.SpreadLemmas.{acted-acts, acted-timely, may-act}
 use Rattle.qo_clocks.proofs.spread.call_back.Goals as goal
 
 pub act-requires-clause-live : goal.act-requires-clause-live
-act-requires-clause-live g c = parent-live c.args.heap.now c.facts.ensures c.args.c.birth c.in-Some.device (sym c.in-Some.ensures)
+act-requires-clause-live g c = parent-live c.args.heap.now c.reveal_invariant.ensures c.args.c.birth c.in-Some.device (sym c.in-Some.ensures.parent)
 
 pub act-requires-clause-timely : goal.act-requires-clause-timely
 act-requires-clause-timely g c = may-act Pre c.args.heap.now c.in-Some.device.birth c.requires
@@ -17,7 +17,7 @@ pub act-requires-2-clause-live : goal.act-requires-2-clause-live
 act-requires-2-clause-live g c =
     let acts : Acts c.args.heap.now c.act.new.self = rw c.act.ensures (acted-acts Pre c.in-Some.device.birth c.args.before c.args.heap.now) in
     rw (acts-live c.args.heap.now c.act.new.self acts c.in-Some.device)
-    (parent-live c.args.heap.now c.facts.ensures c.args.c.birth c.in-Some.device (sym c.in-Some.ensures))
+    (parent-live c.args.heap.now c.reveal_invariant.ensures c.args.c.birth c.in-Some.device (sym c.in-Some.ensures.parent))
 
 pub act-requires-2-clause-timely : goal.act-requires-2-clause-timely
 act-requires-2-clause-timely g c =

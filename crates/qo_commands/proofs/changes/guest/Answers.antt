@@ -9,4 +9,4 @@ pub returns : goal.returns
 unfolding altered
 returns g c = λ b s.
     let came = subst (λ (line : List ℕ). Came (heard b line) c.in_ok-heard.heard c.hear.new.board) c.as_bytes.ensures.value (c.in_ok-heard.ensures.came b s) in
-    told-came (heard b c.args.line.now) c.in_ok-heard.heard c.told.result c.hear.new.board came c.told.ensures
+    told-came (heard b c.args.line.now) c.in_ok-heard.heard c.guest_reply.result c.hear.new.board came c.guest_reply.ensures

@@ -1,6 +1,6 @@
 -- The whole board is reset.
 use Rattle.std.proofs.Common.{false, refl, Ok, Some}
-use Rattle.qo_commands.specs.declared.commands.Body.TheVariants.{Empty}
+use Rattle.qo_commands.specs.declared.commands.ReplyBody.TheVariants.{Empty}
 use Rattle.qo_replies.specs.declared.events.Event.TheVariants.{Reset}
 use Rattle.qo_commands.specs.Commands.{altered}
 use Rattle.qo_commands.proofs.ChangeLemmas.{reset-came}

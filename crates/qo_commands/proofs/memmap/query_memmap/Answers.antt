@@ -10,7 +10,7 @@ use Rattle.qo_commands.proofs.memmap.query_memmap.Goals as goal
 
 pub returned_value-requires : goal.returned_value-requires
 returned_value-requires g c =
-    let good = c.shown.ensures.stands in
+    let good = c.reveal_board.ensures.stands in
     ap has_float (c.in_ok-value.ensures good.0 good.1) ∙ shown_no_float good.0 c.deref.result.now
 
 pub returns : goal.returns

@@ -6,6 +6,6 @@ use Rattle.qo_commands.proofs.memory.shown_at.Goals as goal
 
 pub returns-in-Ok : goal.returns-in-Ok
 returns-in-Ok g c = λ b stands.
-    let good = c.shown.ensures.stands in
+    let good = c.reveal_board.ensures.stands in
     let shown : c.in-Ok.place ≡ register_at good.0 c.args.at = c.in-Ok.ensures.place good.0 (rw c.heap.ensures good.1.shows) good.2.shape in
     shown ∙ register-same good.0 b c.args.at (good.1.shows.records ∙ sym stands.shows.records)

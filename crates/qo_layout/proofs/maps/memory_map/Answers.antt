@@ -39,13 +39,13 @@ pub returns-then-len-ge-MAX_REGIONS-clause-err : goal.returns-then-len-ge-MAX_RE
 returns-then-len-ge-MAX_REGIONS-clause-err g c = λ b s h shape claims.
     let full : 1048576 ≤ length c.in_ok-objects.objects.items = omega (arith, c.len.ensures, c.if-len-ge-MAX_REGIONS.true) in
     absurd
-    (not-full b c.args.heap.now s c.facts.ensures.few h shape c.in_ok-objects.objects.items
+    (not-full b c.args.heap.now s c.reveal_invariant.ensures.few h shape c.in_ok-objects.objects.items
     (c.in_ok-objects.ensures.listed b s (root-is b shape) (memory-is b shape)) full)
 
 pub returns-in_err-add_object-clause-err : goal.returns-in_err-add_object-clause-err
 returns-in_err-add_object-clause-err g c = λ b s h shape claims.
     let is : c.from_residual-in_err-add_object.result ≡ Err c.in_err-add_object.field-0.0 = search rules in
-    let may = shows-map b c.args.heap.now s c.facts.ensures.few h shape claims in
+    let may = shows-map b c.args.heap.now s c.reveal_invariant.ensures.few h shape claims in
     let whole = c.in_ok-objects.ensures.listed b s (root-is b shape) (memory-is b shape) in
     let listed : births_of c.deref.result.now ≡ mapped b = ap (λ (os : List Key). births_of os) c.deref.ensures.value ∙ whole in
     let items : births_of c.deref-o-items.result.now ≡ mapped b = ap (λ (os : List Key). births_of os) c.deref-o-items.ensures.value ∙ whole in
@@ -57,7 +57,7 @@ returns-in_err-add_object-clause-err g c = λ b s h shape claims.
 pub returns-in_err-boot-clause-err : goal.returns-in_err-boot-clause-err
 returns-in_err-boot-clause-err g c = λ b s h shape claims.
     let is : c.from_residual-in_err-boot.result ≡ Err c.in_err-boot.field-0.0 = search rules in
-    let may = shows-map b c.args.heap.now s c.facts.ensures.few h shape claims in
+    let may = shows-map b c.args.heap.now s c.reveal_invariant.ensures.few h shape claims in
     let whole = c.in_ok-objects.ensures.listed b s (root-is b shape) (memory-is b shape) in
     let items : births_of c.deref-o-items.result.now ≡ mapped b = ap (λ (os : List Key). births_of os) c.deref-o-items.ensures.value ∙ whole in
     let all : length c.deref-o-items.result.now ≤ c.loop-o.o-index = omega arith in
@@ -68,7 +68,7 @@ returns-in_err-boot-clause-err g c = λ b s h shape claims.
 pub returns-in_err-low-clause-err : goal.returns-in_err-low-clause-err
 returns-in_err-low-clause-err g c = λ b s h shape claims.
     let is : c.from_residual-in_err-low.result ≡ Err c.in_err-low.field-0.0 = search rules in
-    let may = shows-map b c.args.heap.now s c.facts.ensures.few h shape claims in
+    let may = shows-map b c.args.heap.now s c.reveal_invariant.ensures.few h shape claims in
     let whole = c.in_ok-objects.ensures.listed b s (root-is b shape) (memory-is b shape) in
     let items : births_of c.deref-o-items.result.now ≡ mapped b = ap (λ (os : List Key). births_of os) c.deref-o-items.ensures.value ∙ whole in
     let second : births_of c.deref-2.result.now ≡ mapped b = ap (λ (os : List Key). births_of os) c.deref-2.ensures.value ∙ whole in
@@ -81,7 +81,7 @@ returns-in_err-low-clause-err g c = λ b s h shape claims.
 pub returns-in_err-root-clause-err : goal.returns-in_err-root-clause-err
 returns-in_err-root-clause-err g c = λ b s h shape claims.
     let is : c.from_residual-in_err-root.result ≡ Err c.in_err-root.field-0.0 = search rules in
-    let may = shows-map b c.args.heap.now s c.facts.ensures.few h shape claims in
+    let may = shows-map b c.args.heap.now s c.reveal_invariant.ensures.few h shape claims in
     let whole = c.in_ok-objects.ensures.listed b s (root-is b shape) (memory-is b shape) in
     let items : births_of c.deref-o-items.result.now ≡ mapped b = ap (λ (os : List Key). births_of os) c.deref-o-items.ensures.value ∙ whole in
     let second : births_of c.deref-2.result.now ≡ mapped b = ap (λ (os : List Key). births_of os) c.deref-2.ensures.value ∙ whole in

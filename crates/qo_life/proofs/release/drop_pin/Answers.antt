@@ -16,15 +16,15 @@ pub returns-clause-release : goal.returns-clause-release
 returns-clause-release g c =
     let later = subst (λ (x : Objects). Goes (λ b. after finalize b (Some c.args.o.birth)) x c.end_unheld.new.heap) c.unpin.ensures.now c.end_unheld.ensures in
     goes-shows (λ b. unpin b c.args.o.birth) c.args.heap.now c.end_unheld.new.heap
-    (goes-drop_pin c.args.heap.now c.end_unheld.new.heap c.facts.ensures c.args.o.birth c.requires.pinned later)
+    (goes-drop_pin c.args.heap.now c.end_unheld.new.heap c.reveal_invariant.ensures c.args.o.birth c.requires.pinned later)
 
 pub returns-clause-names : goal.returns-clause-names
 returns-clause-names g c =
     let later = subst (λ (x : Objects). Goes (λ b. after finalize b (Some c.args.o.birth)) x c.end_unheld.new.heap) c.unpin.ensures.now c.end_unheld.ensures in
     goes-names (λ b. unpin b c.args.o.birth) c.args.heap.now c.end_unheld.new.heap
-    (goes-drop_pin c.args.heap.now c.end_unheld.new.heap c.facts.ensures c.args.o.birth c.requires.pinned later)
+    (goes-drop_pin c.args.heap.now c.end_unheld.new.heap c.reveal_invariant.ensures c.args.o.birth c.requires.pinned later)
 
 pub returns-clause-goes : goal.returns-clause-goes
 returns-clause-goes g c =
     let later = subst (λ (x : Objects). Goes (λ b. after finalize b (Some c.args.o.birth)) x c.end_unheld.new.heap) c.unpin.ensures.now c.end_unheld.ensures in
-    goes-drop_pin c.args.heap.now c.end_unheld.new.heap c.facts.ensures c.args.o.birth c.requires.pinned later
+    goes-drop_pin c.args.heap.now c.end_unheld.new.heap c.reveal_invariant.ensures c.args.o.birth c.requires.pinned later

@@ -1,10 +1,10 @@
-use Rattle.qo_object.specs.Slots.{held}
+use Rattle.qo_object.specs.Slots.{referent}
 use Rattle.qo_life.proofs.ReleaseLemmas.{none-given, turn-live}
 use Rattle.qo_life.proofs.WorkLemmas.{at-bare, at-end, at-first, at-free, at-on, front-live, next-live, running-at, running-done, smaller-as, smaller-end, smaller-on}
 use Rattle.qo_life.proofs.release.finalize.Goals as goal
 
 pub loop-front-init : goal.loop-front-init
-loop-front-init g c = at-first c.args.heap.now c.facts.ensures c.args.o c.requires.live c.requires.free
+loop-front-init g c = at-first c.args.heap.now c.reveal_invariant.ensures c.args.o c.requires.live c.requires.free
 
 pub turn_at-requires : goal.turn_at-requires
 turn_at-requires g c =
@@ -22,7 +22,7 @@ go_on-requires-clause-live g c =
 
 pub go_on-requires-clause-held : goal.go_on-requires-clause-held
 go_on-requires-clause-held g c =
-    turn-live c.loop-front.heap c.empty.new.self c.facts-in-Some.ensures c.in-Some.now.o.birth c.in-Some.now.at c.in-Some-turn_at.turn.held
+    turn-live c.loop-front.heap c.empty.new.self c.reveal_invariant-in-Some.ensures c.in-Some.now.o.birth c.in-Some.now.at c.in-Some-turn_at.turn.held
     c.in-Some-turn_at.ensures.held c.empty.ensures.now
 
 pub loop-front-smaller-in-Some-turn_at : goal.loop-front-smaller-in-Some-turn_at
@@ -34,9 +34,9 @@ loop-front-smaller-in-Some-turn_at g c =
 pub loop-front-preserved-in-Some-turn_at : goal.loop-front-preserved-in-Some-turn_at
 loop-front-preserved-in-Some-turn_at g c =
     at-on c.args.heap.now c.loop-front.heap c.empty.new.self c.go_on.new.heap c.args.o.birth c.in-Some.now c.in-Some-turn_at.turn.held
-    c.in-Some-turn_at.turn.next c.go_on.result c.facts-in-Some.ensures
+    c.in-Some-turn_at.turn.next c.go_on.result c.reveal_invariant-in-Some.ensures
     (running-at c.args.heap.now c.loop-front.heap c.args.o.birth c.loop-front.front c.in-Some.now c.in-Some.is c.loop-front.invariant)
-    c.in-Some-turn_at.ensures.held c.in-Some-turn_at.ensures.next c.empty.ensures.now c.facts-in-Some-turn_at.ensures c.go_on.ensures
+    c.in-Some-turn_at.ensures.held c.in-Some-turn_at.ensures.next c.empty.ensures.now c.reveal_invariant-in-Some-turn_at.ensures c.go_on.ensures
 
 pub finish-requires-clause-live : goal.finish-requires-clause-live
 finish-requires-clause-live g c =
@@ -44,32 +44,32 @@ finish-requires-clause-live g c =
 
 pub finish-requires-clause-free : goal.finish-requires-clause-free
 finish-requires-clause-free g c =
-    at-free c.args.heap.now c.loop-front.heap c.args.o.birth c.in-Some.now c.facts-in-Some.ensures
+    at-free c.args.heap.now c.loop-front.heap c.args.o.birth c.in-Some.now c.reveal_invariant-in-Some.ensures
     (running-at c.args.heap.now c.loop-front.heap c.args.o.birth c.loop-front.front c.in-Some.now c.in-Some.is c.loop-front.invariant)
 
 pub finish-requires-clause-bare : goal.finish-requires-clause-bare
 finish-requires-clause-bare g c =
     at-bare c.args.heap.now c.loop-front.heap c.args.o.birth c.in-Some.now
     (running-at c.args.heap.now c.loop-front.heap c.args.o.birth c.loop-front.front c.in-Some.now c.in-Some.is c.loop-front.invariant)
-    (none-given held _ c.in-None.ensures.held)
+    (none-given referent _ c.in-None.ensures.held)
 
 pub front_of-front-requires : goal.front_of-front-requires
 front_of-front-requires g c =
-    next-live c.args.heap.now c.loop-front.heap c.finish.new.self c.args.o.birth c.in-Some.now c.facts-in-Some.ensures
+    next-live c.args.heap.now c.loop-front.heap c.finish.new.self c.args.o.birth c.in-Some.now c.reveal_invariant-in-Some.ensures
     (running-at c.args.heap.now c.loop-front.heap c.args.o.birth c.loop-front.front c.in-Some.now c.in-Some.is c.loop-front.invariant)
-    (none-given held _ c.in-None.ensures.held) c.finish.ensures
+    (none-given referent _ c.in-None.ensures.held) c.finish.ensures
 
 pub loop-front-smaller : goal.loop-front-smaller
 loop-front-smaller g c =
     smaller-as c.loop-front.heap c.loop-front.front c.in-Some.now _ c.in-Some.is
-    (smaller-end c.args.heap.now c.loop-front.heap c.finish.new.self c.args.o.birth c.in-Some.now c.front_of-front.result c.facts-in-Some.ensures
+    (smaller-end c.args.heap.now c.loop-front.heap c.finish.new.self c.args.o.birth c.in-Some.now c.front_of-front.result c.reveal_invariant-in-Some.ensures
     (running-at c.args.heap.now c.loop-front.heap c.args.o.birth c.loop-front.front c.in-Some.now c.in-Some.is c.loop-front.invariant) c.finish.ensures)
 
 pub loop-front-preserved : goal.loop-front-preserved
 loop-front-preserved g c =
-    at-end c.args.heap.now c.loop-front.heap c.finish.new.self c.args.o.birth c.in-Some.now c.front_of-front.result c.facts-in-Some.ensures
+    at-end c.args.heap.now c.loop-front.heap c.finish.new.self c.args.o.birth c.in-Some.now c.front_of-front.result c.reveal_invariant-in-Some.ensures
     (running-at c.args.heap.now c.loop-front.heap c.args.o.birth c.loop-front.front c.in-Some.now c.in-Some.is c.loop-front.invariant)
-    (none-given held _ c.in-None.ensures.held) c.finish.ensures c.front_of-front.ensures
+    (none-given referent _ c.in-None.ensures.held) c.finish.ensures c.front_of-front.ensures
 
 pub returns : goal.returns
 returns g c = running-done c.args.heap.now c.loop-front.heap c.args.o.birth c.loop-front.front c.in_default.is c.loop-front.invariant

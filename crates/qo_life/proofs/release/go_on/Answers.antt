@@ -4,4 +4,4 @@ use Rattle.qo_life.proofs.ReleaseLemmas.{unheld-none}
 use Rattle.qo_life.proofs.release.go_on.Goals as goal
 
 pub returns : goal.returns
-returns g c = freed c.in-Some.o c.in-Some.is (unheld-none _ c.is_held.result c.is_held.ensures c.if-is_held.false) c.set_work.ensures.now refl
+returns g c = freed c.in-Some.o c.in-Some.is (unheld-none _ c.is_held.result c.is_held.ensures.held c.if-is_held.false) c.set_work.ensures.now refl

@@ -7,7 +7,8 @@ returns-in_default g c = goes-past c.args.heap.now c.args.o.birth c.args.at (non
 
 pub end_unheld-requires : goal.end_unheld-requires
 end_unheld-requires g c =
-    turn-live c.args.heap.now c.empty.new.self c.facts.ensures c.args.o.birth c.args.at c.in-Some.turn.held c.in-Some.ensures.held c.empty.ensures.now
+    turn-live c.args.heap.now c.empty.new.self c.reveal_invariant.ensures c.args.o.birth c.args.at c.in-Some.turn.held c.in-Some.ensures.held
+    c.empty.ensures.now
 
 pub returns : goal.returns
 returns g c =

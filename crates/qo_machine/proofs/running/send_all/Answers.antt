@@ -1,7 +1,7 @@
 -- One message after another.
 use Rattle.std.proofs.Common.{refl, sym, subst, ◌∙◌, arith}
 use Rattle.qo_machine.proofs.SendingLemmas.{front_at, lane_of_item, one_further, sent_none}
-use Rattle.qo_machine.specs.Runs.{told}
+use Rattle.qo_machine.specs.Runs.{known}
 use Rattle.qo_machine.specs.Sending.{Sent}
 use Rattle.qo_machine.proofs.running.send_all.Goals as goal
 
@@ -29,8 +29,8 @@ loop-out-preserved g c =
     record {
       sent =
           subst
-          (λ (outs : _). Sent (told (hub.inputs c.args.hub.now) (hub.sent c.args.hub.now) (hub.got c.args.hub.now) (hub.losses c.args.hub.now))
-          (told (hub.inputs c.send_one.new.hub) (hub.sent c.send_one.new.hub) (hub.got c.send_one.new.hub) (hub.losses c.send_one.new.hub)) outs
+          (λ (outs : _). Sent (known (hub.inputs c.args.hub.now) (hub.sent c.args.hub.now) (hub.got c.args.hub.now) (hub.losses c.args.hub.now))
+          (known (hub.inputs c.send_one.new.hub) (hub.sent c.send_one.new.hub) (hub.got c.send_one.new.hub) (hub.losses c.send_one.new.hub)) outs
           c.send_one.new.lost)
           (sym (one_further c.args.outs.now c.loop-out.out-index c.out-item.result (omega arith) c.out-item.is))
           (c.in_default.ensures.ok _ _ c.loop-out.invariant.sent);

@@ -9,9 +9,11 @@ pub returns-clause-sent : goal.returns-clause-sent
 returns-clause-sent c =
     on_ok_weaker c.push.result
     (λ more.
-    reply_sent c.args.sending.now.at c.args.lane c.args.machine.now c.forget_waiting.new.self c.args.reply c.args.sending.now.outs c.tell_all-told.new.self.outs
-    c.tell_own.new.self.outs c.push.new.self.outs
+    reply_sent c.args.outbox.now.at c.args.lane c.args.machine.now c.forget_waiting.new.self c.args.reply c.args.outbox.now.outs
+    c.send_device_events-told.new.self.outs
+    c.send_command_event.new.self.outs c.push.new.self.outs
     (map event_of c.waiting.result.now) (option_to_list (option_map (λ e. e.now) c.as_ref.result)) c.in_ok-reply.field-0 c.requires
     c.forget_waiting.ensures.rest (λ b stands. ap (map event_of) (c.waiting.ensures b stands))
-    c.in_ok-told.ensures.told (rw c.tell_all-told.ensures.moment at c.in_ok-tell_own.ensures.told) (ap option_to_list (search rules)) c.in_ok-reply.was more)
+    c.in_ok-told.ensures.told (rw c.send_device_events-told.ensures.moment at c.in_ok-send_command_event.ensures.told) (ap option_to_list (search rules))
+    c.in_ok-reply.was more)
     c.push.ensures.sent

@@ -1,46 +1,26 @@
--- A command is done as it is defined, or refused for want of memory.
-use Rattle.std.proofs.Common.{refl}
-use Rattle.qo_machine.proofs.MemoryLemmas.{left_served}
-use Rattle.qo_machine.proofs.MachineLemmas.{left_done, served_command, served_want}
-use Rattle.qo_heap.proofs.HeapLemmas.{on-err}
+-- What the command came to stays where the lines are made anew.
 use Rattle.std.proofs.lemmas.Result.{on_ok_weaker}
+use Rattle.qo_heap.proofs.HeapLemmas.{on-err}
+use Rattle.qo_machine.proofs.MemoryLemmas.{left_served}
+use Rattle.qo_machine.proofs.WiredLemmas.{settled_command}
 use Rattle.qo_machine.proofs.serving.serve_command.Goals as goal
 
-pub returns-in-Ok-clause-served : goal.returns-in-Ok-clause-served
-returns-in-Ok-clause-served g c =
-    on_ok_weaker c.send_reply-sent.result
-    (λ p. (
-      p.0,
-      p.1,
-      p.2,
-      served_command c.args.sending.now.at c.args.session c.args.machine.now c.perform.new.self c.send_reply-sent.new.machine c.conclude.new.self
-          c.args.command.now _
-          c.in-Ok.reply p.0 c.in-Ok.ensures.came c.in-Ok.ensures.rest p.3 c.send_reply-sent.ensures.board c.send_reply-sent.ensures.rest
-          c.conclude.ensures.state c.conclude.ensures.board,
-    )) c.send_reply-sent.ensures.sent
+pub returns-clause-served : goal.returns-clause-served
+returns-clause-served g c =
+    let served = c.in_ok-reply_to_command.ensures.served in
+    on_ok_weaker c.settle_command.result
+    (λ wired. (
+      served.0,
+      served.1,
+      served.2,
+      λ s here. settled_command c.args.outbox.now.at c.args.session s c.args.command.now _ served.0 c.reply_to_command.new.machine c.settle_command.new.self
+          c.settle_command.ensures.board c.settle_command.ensures.rest (served.3 s here),
+    )) c.settle_command.ensures.wired
 
-pub returns-in-Ok-clause-left : goal.returns-in-Ok-clause-left
-returns-in-Ok-clause-left g c =
-    on-err c.send_reply-sent.result
-    (left_done c.args.sending.now.at c.args.session c.args.machine.now c.perform.new.self c.send_reply-sent.new.machine c.conclude.new.self c.args.command.now _
-    c.in-Ok.reply c.in-Ok.ensures.came c.in-Ok.ensures.rest c.send_reply-sent.ensures.board c.send_reply-sent.ensures.rest
-    c.conclude.ensures.state c.conclude.ensures.board)
-
-pub returns-in-Err-clause-served : goal.returns-in-Err-clause-served
-returns-in-Err-clause-served g c =
-    on_ok_weaker c.tell_want.result
-    (λ more. (
-      _,
-      more,
-      (c.requires, tt),
-      served_want c.args.sending.now.at c.args.session c.args.machine.now c.perform.new.self c.args.command.now _ _ refl c.in-Err.ensures.kept
-          c.in-Err.ensures.rest,
-    )) c.tell_want.ensures.told
-
-pub returns-in-Err-clause-left : goal.returns-in-Err-clause-left
-returns-in-Err-clause-left g c =
-    on-err c.tell_want.result
-    (λ s here.
-    left_served c.args.sending.now.at c.args.session s c.args.command.now _ _ c.perform.new.self
-    (served_want c.args.sending.now.at c.args.session c.args.machine.now c.perform.new.self c.args.command.now _ _ refl c.in-Err.ensures.kept
-    c.in-Err.ensures.rest s here))
+pub returns-clause-left : goal.returns-clause-left
+returns-clause-left g c =
+    let served = c.in_ok-reply_to_command.ensures.served in
+    on-err c.settle_command.result
+    (λ s here. left_served c.args.outbox.now.at c.args.session s c.args.command.now _ served.0 c.settle_command.new.self
+    (settled_command c.args.outbox.now.at c.args.session s c.args.command.now _ served.0 c.reply_to_command.new.machine c.settle_command.new.self
+    c.settle_command.ensures.board c.settle_command.ensures.rest (served.3 s here)))

@@ -14,7 +14,7 @@ returns-then-ended-clause-served g c = (
   [],
   sym (append-nil _),
   tt,
-  serves_over_by (by_item c.args.sending.now.at c.args.session) c.args.machine.now c.args.machine.now c.args.item.now
+  serves_over_by (by_item c.args.outbox.now.at c.args.session) c.args.machine.now c.args.machine.now c.args.item.now
       (sym c.if-ended.ensures) refl,
 )
 
@@ -22,10 +22,10 @@ pub returns-in_ok-push-in-Answer-clause-served : goal.returns-in_ok-push-in-Answ
 returns-in_ok-push-in-Answer-clause-served g c = (
   _,
   c.in_ok-push-in-Answer.ensures.sent,
-  (c.requires, tt),
-  serves_answer c.args.sending.now.at c.args.session c.args.machine.now c.heed.new.self c.args.item.now c.in-Answer.code c.in-Answer.id _
+  (c.requires.session, tt),
+  serves_answer c.args.outbox.now.at c.args.session c.args.machine.now c.interpret.new.self c.args.item.now c.in-Answer.code c.in-Answer.id _
       (sym c.if-ended.ensures) (λ b. sym c.in-Answer.is ∙ c.in_ok-code.ensures.act b)
-      (λ b. c.in_ok-code.ensures.state b ∙ ap (moved (state_with b c.args.machine.now) c.args.session) c.in-Answer.is) c.heed.ensures.board
+      (λ b. c.in_ok-code.ensures.state b ∙ ap (moved (state_with b c.args.machine.now) c.args.session) c.in-Answer.is) c.interpret.ensures.board
       (rw c.as_ref.ensures.value at c.in_ok-text-in-Answer.ensures),
 )
 
@@ -33,10 +33,10 @@ pub returns-in_ok-push-in-Negotiated-clause-served : goal.returns-in_ok-push-in-
 returns-in_ok-push-in-Negotiated-clause-served g c = (
   _,
   c.in_ok-push-in-Negotiated.ensures.sent,
-  (c.requires, tt),
-  serves_negotiation c.args.sending.now.at c.args.session c.args.machine.now c.heed.new.self c.args.item.now c.in-Negotiated.id _ (sym c.if-ended.ensures)
+  (c.requires.session, tt),
+  serves_negotiation c.args.outbox.now.at c.args.session c.args.machine.now c.interpret.new.self c.args.item.now c.in-Negotiated.id _ (sym c.if-ended.ensures)
       (λ b. sym c.in-Negotiated.is ∙ c.in_ok-code.ensures.act b)
-      (λ b. c.in_ok-code.ensures.state b ∙ ap (moved (state_with b c.args.machine.now) c.args.session) c.in-Negotiated.is) c.heed.ensures.board
+      (λ b. c.in_ok-code.ensures.state b ∙ ap (moved (state_with b c.args.machine.now) c.args.session) c.in-Negotiated.is) c.interpret.ensures.board
       (rw c.as_ref-in-Negotiated.ensures.value at (c.in_ok-text-in-Negotiated.ensures empty empty_written)),
 )
 
@@ -46,10 +46,10 @@ returns-in_ok-serve_command-in-Do-clause-served g c =
       served.0,
       served.1,
       served.2,
-      serves_command c.args.sending.now.at c.args.session c.args.machine.now c.heed.new.self c.serve_command.new.machine c.args.item.now c.in-Do.command
+      serves_command c.args.outbox.now.at c.args.session c.args.machine.now c.interpret.new.self c.serve_command.new.machine c.args.item.now c.in-Do.command
           c.in-Do.id served.0 (sym c.if-ended.ensures) (λ b. sym c.in-Do.is ∙ c.in_ok-code.ensures.act b)
-          (λ b. c.in_ok-code.ensures.state b ∙ ap (moved (state_with b c.args.machine.now) c.args.session) c.in-Do.is) c.heed.ensures.board
-          (λ s here. subst (λ (id : Option (List ℕ)). CommandServed c.args.sending.now.at c.args.session s c.in-Do.command id served.0
+          (λ b. c.in_ok-code.ensures.state b ∙ ap (moved (state_with b c.args.machine.now) c.args.session) c.in-Do.is) c.interpret.ensures.board
+          (λ s here. subst (λ (id : Option (List ℕ)). CommandServed c.args.outbox.now.at c.args.session s c.in-Do.command id served.0
           c.serve_command.new.machine) c.as_ref-in-Do.ensures.value (served.3 s here)),
     )
 
@@ -57,40 +57,40 @@ returns-in_ok-serve_command-in-Do-clause-served g c =
 
 pub returns-in_err-code-clause-left : goal.returns-in_err-code-clause-left
 returns-in_err-code-clause-left g c =
-    on-err c.from_residual.result (front_unheeded c.args.sending.now.at c.args.session c.args.machine.now c.heed.new.self (c.args.item.now ∷ [])
-    c.in_err-code.ensures.kept c.heed.ensures.board)
+    on-err c.from_residual.result (front_unheeded c.args.outbox.now.at c.args.session c.args.machine.now c.interpret.new.self (c.args.item.now ∷ [])
+    c.in_err-code.ensures.kept c.interpret.ensures.board)
 
 pub returns-in_err-text-in-Answer-clause-left : goal.returns-in_err-text-in-Answer-clause-left
 returns-in_err-text-in-Answer-clause-left g c =
     on-err c.from_residual-in_err-text-in-Answer.result
-    (front_answer c.args.sending.now.at c.args.session c.args.machine.now c.heed.new.self (c.args.item.now ∷ []) c.in-Answer.code c.in-Answer.id
-    (λ b. c.in_ok-code.ensures.state b ∙ ap (moved (state_with b c.args.machine.now) c.args.session) c.in-Answer.is) c.heed.ensures.board)
+    (front_answer c.args.outbox.now.at c.args.session c.args.machine.now c.interpret.new.self (c.args.item.now ∷ []) c.in-Answer.code c.in-Answer.id
+    (λ b. c.in_ok-code.ensures.state b ∙ ap (moved (state_with b c.args.machine.now) c.args.session) c.in-Answer.is) c.interpret.ensures.board)
 
 pub returns-in_err-push-in-Answer-clause-left : goal.returns-in_err-push-in-Answer-clause-left
 returns-in_err-push-in-Answer-clause-left g c =
     on-err c.from_residual-in_err-push-in-Answer.result
-    (front_answer c.args.sending.now.at c.args.session c.args.machine.now c.heed.new.self (c.args.item.now ∷ []) c.in-Answer.code c.in-Answer.id
-    (λ b. c.in_ok-code.ensures.state b ∙ ap (moved (state_with b c.args.machine.now) c.args.session) c.in-Answer.is) c.heed.ensures.board)
+    (front_answer c.args.outbox.now.at c.args.session c.args.machine.now c.interpret.new.self (c.args.item.now ∷ []) c.in-Answer.code c.in-Answer.id
+    (λ b. c.in_ok-code.ensures.state b ∙ ap (moved (state_with b c.args.machine.now) c.args.session) c.in-Answer.is) c.interpret.ensures.board)
 
 pub returns-in_err-text-in-Negotiated-clause-left : goal.returns-in_err-text-in-Negotiated-clause-left
 returns-in_err-text-in-Negotiated-clause-left g c =
     on-err c.from_residual-in_err-text-in-Negotiated.result
-    (front_negotiation c.args.sending.now.at c.args.session c.args.machine.now c.heed.new.self c.args.item.now c.in-Negotiated.id (sym c.if-ended.ensures)
+    (front_negotiation c.args.outbox.now.at c.args.session c.args.machine.now c.interpret.new.self c.args.item.now c.in-Negotiated.id (sym c.if-ended.ensures)
     (λ b. sym c.in-Negotiated.is ∙ c.in_ok-code.ensures.act b)
-    (λ b. c.in_ok-code.ensures.state b ∙ ap (moved (state_with b c.args.machine.now) c.args.session) c.in-Negotiated.is) c.heed.ensures.board)
+    (λ b. c.in_ok-code.ensures.state b ∙ ap (moved (state_with b c.args.machine.now) c.args.session) c.in-Negotiated.is) c.interpret.ensures.board)
 
 pub returns-in_err-push-in-Negotiated-clause-left : goal.returns-in_err-push-in-Negotiated-clause-left
 returns-in_err-push-in-Negotiated-clause-left g c =
     on-err c.from_residual-in_err-push-in-Negotiated.result
-    (front_negotiation c.args.sending.now.at c.args.session c.args.machine.now c.heed.new.self c.args.item.now c.in-Negotiated.id (sym c.if-ended.ensures)
+    (front_negotiation c.args.outbox.now.at c.args.session c.args.machine.now c.interpret.new.self c.args.item.now c.in-Negotiated.id (sym c.if-ended.ensures)
     (λ b. sym c.in-Negotiated.is ∙ c.in_ok-code.ensures.act b)
-    (λ b. c.in_ok-code.ensures.state b ∙ ap (moved (state_with b c.args.machine.now) c.args.session) c.in-Negotiated.is) c.heed.ensures.board)
+    (λ b. c.in_ok-code.ensures.state b ∙ ap (moved (state_with b c.args.machine.now) c.args.session) c.in-Negotiated.is) c.interpret.ensures.board)
 
 pub returns-in_err-serve_command-in-Do-clause-left : goal.returns-in_err-serve_command-in-Do-clause-left
 returns-in_err-serve_command-in-Do-clause-left g c =
     on-err c.from_residual-in_err-serve_command-in-Do.result
-    (front_command c.args.sending.now.at c.args.session c.args.machine.now c.heed.new.self c.serve_command.new.machine c.args.item.now c.in-Do.command
+    (front_command c.args.outbox.now.at c.args.session c.args.machine.now c.interpret.new.self c.serve_command.new.machine c.args.item.now c.in-Do.command
     c.in-Do.id (sym c.if-ended.ensures) (λ b. sym c.in-Do.is ∙ c.in_ok-code.ensures.act b)
-    (λ b. c.in_ok-code.ensures.state b ∙ ap (moved (state_with b c.args.machine.now) c.args.session) c.in-Do.is) c.heed.ensures.board
-    (λ s here. subst (λ (id : Option (List ℕ)). CommandLeft c.args.sending.now.at c.args.session s c.in-Do.command id c.serve_command.new.machine)
+    (λ b. c.in_ok-code.ensures.state b ∙ ap (moved (state_with b c.args.machine.now) c.args.session) c.in-Do.is) c.interpret.ensures.board
+    (λ s here. subst (λ (id : Option (List ℕ)). CommandLeft c.args.outbox.now.at c.args.session s c.in-Do.command id c.serve_command.new.machine)
     c.as_ref-in-Do.ensures.value (c.in_err-serve_command-in-Do.ensures.left s here)))

@@ -20,14 +20,15 @@ loop-item-preserved g c =
           subst
           (λ (outs : List Message). ServesTo c.args.at c.args.session s (take (c.loop-item.item-index + 1) c.args.items.now) outs c.serve_item.new.machine)
           (sym one.1)
-          (subst (λ (items : List Item). ServesTo c.args.at c.args.session s items (c.loop-item.sending.outs ++ one.0) c.serve_item.new.machine)
+          (subst (λ (items : List Item). ServesTo c.args.at c.args.session s items (c.loop-item.outbox.outs ++ one.0) c.serve_item.new.machine)
           (sym (take_one c.args.items.now c.loop-item.item-index c.item-item.result (omega arith) c.item-item.is))
           (serves_on_by (by_item c.args.at c.args.session) s c.loop-item.machine c.serve_item.new.machine (take c.loop-item.item-index c.args.items.now)
-          (c.item-item.result ∷ []) c.loop-item.sending.outs one.0 (c.loop-item.invariant.served s here)
+          (c.item-item.result ∷ []) c.loop-item.outbox.outs one.0 (c.loop-item.invariant.served s here)
           (subst (λ (at : Moment). (t : State) → IsIn t c.loop-item.machine
           → ServesTo at c.args.session t (c.item-item.result ∷ []) one.0 c.serve_item.new.machine) c.loop-item.invariant.moment one.3)));
-      lanes = more_lanes c.loop-item.sending.outs one.0 _ one.1 c.loop-item.invariant.lanes one.2;
+      lanes = more_lanes c.loop-item.outbox.outs one.0 _ one.1 c.loop-item.invariant.lanes one.2;
       lasts = c.in_ok-serve_item.ensures.lasts ∙ c.loop-item.invariant.lasts;
+      wired = c.in_ok-serve_item.ensures.wired;
     }
 
 pub returns-clause-lanes : goal.returns-clause-lanes
@@ -41,12 +42,12 @@ returns-in_err-serve_item-clause-left g c =
     (subst (λ (items : List Item). ServesFront c.args.at c.args.session s items c.serve_item.new.machine)
     (sym (take_one c.args.items.now c.loop-item.item-index c.item-item.result (omega arith) c.item-item.is))
     (front_on_by (by_item c.args.at c.args.session) s c.loop-item.machine c.serve_item.new.machine (take c.loop-item.item-index c.args.items.now)
-    (c.item-item.result ∷ []) c.loop-item.sending.outs (c.loop-item.invariant.served s here)
+    (c.item-item.result ∷ []) c.loop-item.outbox.outs (c.loop-item.invariant.served s here)
     (subst (λ (at : Moment). (t : State) → IsIn t c.loop-item.machine → ServesFront at c.args.session t (c.item-item.result ∷ []) c.serve_item.new.machine)
     c.loop-item.invariant.moment c.in_err-serve_item.ensures.left))))
 
 -- where there is no room for the messages nothing is served
 
-pub returns-in_err-sending-clause-left : goal.returns-in_err-sending-clause-left
-returns-in_err-sending-clause-left g c =
+pub returns-in_err-outbox-clause-left : goal.returns-in_err-outbox-clause-left
+returns-in_err-outbox-clause-left g c =
     on-err c.from_residual.result (λ s here. ([], c.args.items.now, [], refl, rw c.with_room.ensures.same here))

@@ -1,5 +1,6 @@
 -- The items passed over are served.
 use Rattle.std.proofs.Common.{◌≡◌, take}
+use Rattle.qo_machine.specs.Between.{IsWired}
 use Rattle.qo_machine.specs.Machine.{IsIn, State}
 use Rattle.qo_machine.specs.Sending.{AreToLanes}
 use Rattle.qo_machine.specs.Serving.{ServesTo}
@@ -8,8 +9,9 @@ use Rattle.qo_machine.proofs.serving.serve_items.Given as goal
 abbrev pub invariant-loop-item : goal.invariant-loop-item
 invariant-loop-item g l =
     record {
-      moment : l.sending.at ≡ l.fn.at;
-      served : (s : State) → IsIn s l.fn.machine → ServesTo l.fn.at l.session s (take l.item-index l.items) l.sending.outs l.machine;
-      lanes : AreToLanes l.sending.outs;
-      lasts : l.machine.spent ≡ l.fn.machine.spent;
+      moment : l.outbox.at ≡ l.fn.at;
+      served : (s : State) → IsIn s l.fn.machine → ServesTo l.fn.at l.session s (take l.item-index l.items) l.outbox.outs l.machine;
+      lanes : AreToLanes l.outbox.outs;
+      lasts : l.machine.out_of_memory ≡ l.fn.machine.out_of_memory;
+      wired : IsWired l.machine;
     }

@@ -17,14 +17,15 @@ loop-line-preserved g c =
       moment = c.serve_line.ensures.moment ∙ c.loop-line.invariant.moment;
       served = λ s here.
           subst (λ (outs : List Message). LinesTo c.args.at s (take (c.loop-line.line-index + 1) c.args.lines.now) outs c.serve_line.new.machine) (sym one.1)
-          (subst (λ (lines : List (List ℕ)). LinesTo c.args.at s lines (c.loop-line.sending.outs ++ one.0) c.serve_line.new.machine)
+          (subst (λ (lines : List (List ℕ)). LinesTo c.args.at s lines (c.loop-line.outbox.outs ++ one.0) c.serve_line.new.machine)
           (sym (take_one c.args.lines.now c.loop-line.line-index c.line-item.result (omega arith) c.line-item.is))
           (serves_on_by (by_line c.args.at) s c.loop-line.machine c.serve_line.new.machine (take c.loop-line.line-index c.args.lines.now)
-          (c.line-item.result ∷ []) c.loop-line.sending.outs one.0 (c.loop-line.invariant.served s here)
+          (c.line-item.result ∷ []) c.loop-line.outbox.outs one.0 (c.loop-line.invariant.served s here)
           (subst (λ (at : Moment). (t : State) → IsIn t c.loop-line.machine → LinesTo at t (c.line-item.result ∷ []) one.0 c.serve_line.new.machine)
           c.loop-line.invariant.moment one.3)));
-      lanes = more_lanes c.loop-line.sending.outs one.0 _ one.1 c.loop-line.invariant.lanes one.2;
+      lanes = more_lanes c.loop-line.outbox.outs one.0 _ one.1 c.loop-line.invariant.lanes one.2;
       lasts = c.in_ok-serve_line.ensures.lasts ∙ c.loop-line.invariant.lasts;
+      wired = c.in_ok-serve_line.ensures.wired;
     }
 
 pub returns-clause-lanes : goal.returns-clause-lanes
@@ -38,6 +39,6 @@ returns-in_err-serve_line-clause-left g c =
     (subst (λ (lines : List (List ℕ)). LinesFront c.args.at s lines c.serve_line.new.machine)
     (sym (take_one c.args.lines.now c.loop-line.line-index c.line-item.result (omega arith) c.line-item.is))
     (front_on_by (by_line c.args.at) s c.loop-line.machine c.serve_line.new.machine (take c.loop-line.line-index c.args.lines.now) (c.line-item.result ∷ [])
-    c.loop-line.sending.outs (c.loop-line.invariant.served s here)
+    c.loop-line.outbox.outs (c.loop-line.invariant.served s here)
     (subst (λ (at : Moment). (t : State) → IsIn t c.loop-line.machine → LinesFront at t (c.line-item.result ∷ []) c.serve_line.new.machine)
     c.loop-line.invariant.moment c.in_err-serve_line.ensures.left))))

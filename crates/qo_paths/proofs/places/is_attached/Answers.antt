@@ -18,12 +18,12 @@ pub returns-in-None : goal.returns-in-None
 returns-in-None g c = λ b s.
     let below = within c.loop-turn._turn c.live-turn-end.result (length c.args.heap.now.rows) c.loop-turn-test.true c.live-turn-end.ensures in
     sym (attached-none b (length c.args.heap.now.rows) c.loop-turn._turn c.loop-turn.at.birth below (not-one c.loop-turn.at.birth c.if-at-eq1.false)
-    (place-none b c.args.heap.now s c.loop-turn.at.birth (sym c.in-None.ensures)))
+    (place-none b c.args.heap.now s c.loop-turn.at.birth (sym c.in-None.ensures.parent)))
     ∙ c.loop-turn.invariant b s
 
 pub loop-turn-preserved : goal.loop-turn-preserved
 loop-turn-preserved g c = λ b s.
     let below = within c.loop-turn._turn c.live-turn-end.result (length c.args.heap.now.rows) c.loop-turn-test.true c.live-turn-end.ensures in
     sym (attached-up b (length c.args.heap.now.rows) c.loop-turn._turn c.loop-turn.at.birth c.in-Some.parent.birth below
-    (not-one c.loop-turn.at.birth c.if-at-eq1.false) (shows-parent b c.args.heap.now s c.loop-turn.at.birth ∙ ap birth_of (sym c.in-Some.ensures)))
+    (not-one c.loop-turn.at.birth c.if-at-eq1.false) (shows-parent b c.args.heap.now s c.loop-turn.at.birth ∙ ap birth_of (sym c.in-Some.ensures.parent)))
     ∙ c.loop-turn.invariant b s

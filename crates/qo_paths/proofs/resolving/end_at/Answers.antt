@@ -5,4 +5,7 @@ use Rattle.qo_paths.proofs.resolving.end_at.Goals as goal
 
 pub end_of-requires : goal.end_of-requires
 end_of-requires g c =
-    record { live = key-live c.args.heap.now.born c.args.heap.now.rows c.args.place c.in_ok-from.from c.facts.ensures.rising (sym c.in_ok-from.ensures) }
+    record {
+      live = key-live c.args.heap.now.born c.args.heap.now.rows c.args.place c.in_ok-from.from c.reveal_invariant.ensures.rising
+          (sym c.in_ok-from.ensures);
+    }

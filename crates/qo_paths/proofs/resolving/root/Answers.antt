@@ -12,9 +12,9 @@ returns-in_err-first-clause-none c =
 
 pub returns-then-first-eq1-clause-live : goal.returns-then-first-eq1-clause-live
 returns-then-first-eq1-clause-live c =
-    key-live c.args.heap.now.born c.args.heap.now.rows 0 c.in_ok-first.first c.facts.ensures.rising (sym c.in_ok-first.ensures)
+    key-live c.args.heap.now.born c.args.heap.now.rows 0 c.in_ok-first.first c.reveal_invariant.ensures.rising (sym c.in_ok-first.ensures)
 
 pub returns-clause-none : goal.returns-clause-none
 returns-clause-none c =
-    root-later c.args.heap.now.born c.args.heap.now.rows c.in_ok-first.first c.facts.ensures.rising (sym c.in_ok-first.ensures)
+    root-later c.args.heap.now.born c.args.heap.now.rows c.in_ok-first.first c.reveal_invariant.ensures.rising (sym c.in_ok-first.ensures)
     (not-one c.in_ok-first.first.birth c.if-first-eq1.false)

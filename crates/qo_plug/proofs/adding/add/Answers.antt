@@ -5,9 +5,9 @@ use Rattle.qo_model.specs.Plug.{Wanted}
 use Rattle.qo_heap.specs.Board.{Shows}
 use Rattle.qo_plug.specs.Admission.{as_wanted}
 use Rattle.qo_plug.specs.KeptClaims.{KeptOrNewBut}
-use Rattle.qo_plug.specs.Stages.{spot_barred}
+use Rattle.qo_plug.specs.Stages.{resources_barred}
 use Rattle.qo_plug.proofs.JudgementLemmas.{refused-told}
-use Rattle.qo_plug.proofs.AddLemmas.{cut-late, planned-judged, refused-last, refused-only, refused-within, shown-same, spot-refused}
+use Rattle.qo_plug.proofs.AddLemmas.{cut-late, planned-judged, refused-last, refused-only, refused-within, resources-refused, shown-same}
 use Rattle.qo_plug.proofs.KeptLemmas.{far-but, far-new, new-from, new-then, so-far}
 use Rattle.qo_plug.proofs.adding.add.Goals as goal
 
@@ -31,28 +31,29 @@ returns-in-Err-Refused-clause-refused g c = λ b is.
     refused-told ℕ (λ at told. (5 ≤ at) × (at ≤ 6)) c.in-Err-Refused.field-0 stage code is_refused c.in-Err-Refused.ensures.stages in
     let early : (stage == 8) ≡ false = grind (arith, nat_tests, stages.1) in
     let down =
-    rw (c.in-Err-Refused.stage-is, c.in-Err-Refused.code-is) at (c.turn_down.ensures.down b c.in-Ok.planned.site.bus.birth seen.shown is.sound
+    rw (c.in-Err-Refused.stage-is, c.in-Err-Refused.code-is) at (c.note_failed_add.ensures.down b c.in-Ok.planned.target.bus.birth seen.shown is.sound
     (subst (λ (k : ℕ). (k == 8) ≡ false) (sym c.in-Err-Refused.stage-is) early)) in
-    spot-refused b a c.in-Ok.planned.site planned.admitted c.turn_down.new.heap (record { stage = stage; code = code }) (sym planned.given)
-    (sym (refused-told ℕ (λ at told. spot_barred b c.in-Ok.planned.site.kind c.in-Ok.planned.site.bus.birth c.args.options.now.props.now ≡ Some (at, told))
+    resources-refused b a c.in-Ok.planned.target planned.admitted c.note_failed_add.new.heap (record { stage = stage; code = code }) (sym planned.given)
+    (sym (refused-told ℕ
+    (λ at told. resources_barred b c.in-Ok.planned.target.kind c.in-Ok.planned.target.bus.birth c.args.options.now.props.now ≡ Some (at, told))
     c.in-Err-Refused.field-0
-    stage code is_refused (c.in-Err-Refused.ensures.refused b c.args.options.now.props.now (planned-judged seen planned)))) ℕ c.turn_down.result down
+    stage code is_refused (c.in-Err-Refused.ensures.refused b c.args.options.now.props.now (planned-judged seen planned)))) ℕ c.note_failed_add.result down
 
 pub returns-in-Err-Refused-clause-memory : goal.returns-in-Err-Refused-clause-memory
 returns-in-Err-Refused-clause-memory g c = λ b is e.
     let a : Wanted = as_wanted c.args.options.now in
     let planned = c.in-Ok.ensures.planned b c.args.resets.now.births c.args.rings.now is in
-    cut-late b a c.in-Ok.planned.site planned.admitted c.turn_down.new.heap
-    (c.turn_down.ensures.memory b (subst (Shows b) (sym c.in-Ok.ensures.same) is.shown) is.sound (cc e))
+    cut-late b a c.in-Ok.planned.target planned.admitted c.note_failed_add.new.heap
+    (c.note_failed_add.ensures.memory b (subst (Shows b) (sym c.in-Ok.ensures.same) is.shown) is.sound (cc e))
 
 pub returns-in-Err-Refused-clause-book : goal.returns-in-Err-Refused-clause-book
-returns-in-Err-Refused-clause-book g c = λ out h. c.turn_down.ensures.book out (c.choose.ensures.book out h)
+returns-in-Err-Refused-clause-book g c = λ out h. c.note_failed_add.ensures.book out (c.choose.ensures.book out h)
 
 pub returns-in-Err-make-clause-memory : goal.returns-in-Err-make-clause-memory
 returns-in-Err-make-clause-memory g c = λ b is e.
     let a : Wanted = as_wanted c.args.options.now in
     let planned = c.in-Ok.ensures.planned b c.args.resets.now.births c.args.rings.now is in
-    cut-late b a c.in-Ok.planned.site planned.admitted c.make.new.heap
+    cut-late b a c.in-Ok.planned.target planned.admitted c.make.new.heap
     (c.in-Err-make.ensures.err b (subst (Shows b) (sym c.in-Ok.ensures.same) is.shown) is.sound)
 
 pub returns-in-Err-make-clause-book : goal.returns-in-Err-make-clause-book
@@ -98,7 +99,8 @@ pub returns-in-Err-finish-clause-book : goal.returns-in-Err-finish-clause-book
 returns-in-Err-finish-clause-book g c = λ out h. c.finish.ensures.book out (c.place.ensures.book out (c.make.ensures.book out (c.choose.ensures.book out h)))
 
 pub returns-in-Err-Refused-clause-unkept : goal.returns-in-Err-Refused-clause-unkept
-returns-in-Err-Refused-clause-unkept g c = new-from c.args.heap.now c.choose.new.heap c.turn_down.new.heap c.in-Ok.ensures.same c.turn_down.ensures.kept
+returns-in-Err-Refused-clause-unkept g c =
+    new-from c.args.heap.now c.choose.new.heap c.note_failed_add.new.heap c.in-Ok.ensures.same c.note_failed_add.ensures.kept
 
 pub returns-in-Err-make-clause-unkept : goal.returns-in-Err-make-clause-unkept
 returns-in-Err-make-clause-unkept g c = new-from c.args.heap.now c.choose.new.heap c.make.new.heap c.in-Ok.ensures.same c.make.ensures.kept
@@ -113,13 +115,13 @@ returns-in-Ok-finish-clause-kept g c =
     let placed = c.in-Ok-place.placed in
     let before = new-from c.args.heap.now c.choose.new.heap c.make.new.heap c.in-Ok.ensures.same c.make.ensures.kept in
     subst (λ (n : ℕ). KeptOrNewBut n c.args.heap.now c.finish.new.heap) (sym c.in-Ok-finish.ensures.device)
-    (far-but c.args.heap.now c.place.new.heap c.finish.new.heap placed.device.birth placed.way
-    (so-far c.args.heap.now c.make.new.heap c.place.new.heap placed.device.birth placed.way before c.in-Ok-place.ensures.kept) c.finish.ensures.kept)
+    (far-but c.args.heap.now c.place.new.heap c.finish.new.heap placed.device.birth placed.plugging
+    (so-far c.args.heap.now c.make.new.heap c.place.new.heap placed.device.birth placed.plugging before c.in-Ok-place.ensures.kept) c.finish.ensures.kept)
 
 pub returns-in-Err-finish-clause-unkept : goal.returns-in-Err-finish-clause-unkept
 returns-in-Err-finish-clause-unkept g c =
     let placed = c.in-Ok-place.placed in
     let before = new-from c.args.heap.now c.choose.new.heap c.make.new.heap c.in-Ok.ensures.same c.make.ensures.kept in
-    far-new c.args.heap.now c.place.new.heap c.finish.new.heap placed.device.birth placed.way
-    (so-far c.args.heap.now c.make.new.heap c.place.new.heap placed.device.birth placed.way before c.in-Ok-place.ensures.kept) c.in-Err-finish.ensures.full
+    far-new c.args.heap.now c.place.new.heap c.finish.new.heap placed.device.birth placed.plugging
+    (so-far c.args.heap.now c.make.new.heap c.place.new.heap placed.device.birth placed.plugging before c.in-Ok-place.ensures.kept) c.in-Err-finish.ensures.full
     c.finish.ensures.kept

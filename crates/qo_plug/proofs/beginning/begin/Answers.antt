@@ -9,8 +9,8 @@ use Rattle.qo_plug.proofs.JudgementLemmas.{refused-map}
 use Rattle.qo_plug.proofs.KeptLemmas.{new-from}
 use Rattle.qo_plug.proofs.beginning.begin.Goals as goal
 
-pub make-requires-clause-spot : goal.make-requires-clause-spot
-make-requires-clause-spot g c = c.in_ok-spot.ensures
+pub make-requires-clause-resources : goal.make-requires-clause-resources
+make-requires-clause-resources g c = c.in_ok-resources.ensures
 
 pub returns-in-Err-clause-refused : goal.returns-in-Err-clause-refused
 returns-in-Err-clause-refused g c = λ b is.
@@ -35,7 +35,7 @@ pub returns-in-Err-make-clause-memory : goal.returns-in-Err-make-clause-memory
 returns-in-Err-make-clause-memory g c = λ b is e.
     let a : Wanted = as_wanted c.args.options.now in
     let planned = c.in-Ok.ensures.planned b c.args.resets.now.births c.args.rings.now is in
-    cut-late b a c.in-Ok.planned.site planned.admitted c.make.new.heap
+    cut-late b a c.in-Ok.planned.target planned.admitted c.make.new.heap
     (c.in-Err-make.ensures.err b (subst (Shows b) (sym c.in-Ok.ensures.same) is.shown) is.sound)
 
 pub returns-in-Err-make-clause-book : goal.returns-in-Err-make-clause-book

@@ -35,17 +35,17 @@ returns-in-Ok-plan-clause-planned g c = λ b holds rings is.
 pub returns-in-Err-Refused-clause-refused : goal.returns-in-Err-Refused-clause-refused
 returns-in-Err-Refused-clause-refused g c = λ b holds rings is.
     let a : Wanted = as_wanted c.args.options.now in
-    let admitted : IsAdmitted b a c.in-Ok.site =
+    let admitted : IsAdmitted b a c.in-Ok.target =
     c.in-Ok.ensures.admitted b c.args.options.now.props.now is.shown is.recounted (is.pending ∙ sym c.pending.ensures) is.anonymous_is in
     let refused =
-    plan-refused ℕ (refusal_of b c.in-Ok.site.kind c.args.options.now.props.now) c.in-Err-Refused.field-0 c.in-Err-Refused.code c.in-Err-Refused.field-0-is
+    plan-refused ℕ (refusal_of b c.in-Ok.target.kind c.args.options.now.props.now) c.in-Err-Refused.field-0 c.in-Err-Refused.code c.in-Err-Refused.field-0-is
     (c.in-Err-Refused.ensures.refused b is.shown) in
-    turned-refused b a c.in-Ok.site admitted c.turn_down.new.heap c.in-Err-Refused.code refused ℕ c.turn_down.result
-    (c.turn_down.ensures.down b c.in-Ok.site.bus.birth is.shown is.sound refl)
+    turned-refused b a c.in-Ok.target admitted c.note_failed_add.new.heap c.in-Err-Refused.code refused ℕ c.note_failed_add.result
+    (c.note_failed_add.ensures.down b c.in-Ok.target.bus.birth is.shown is.sound refl)
 
 pub returns-in-Err-Refused-clause-memory : goal.returns-in-Err-Refused-clause-memory
 returns-in-Err-Refused-clause-memory g c = λ b holds rings is e.
     let a : Wanted = as_wanted c.args.options.now in
-    let admitted : IsAdmitted b a c.in-Ok.site =
+    let admitted : IsAdmitted b a c.in-Ok.target =
     c.in-Ok.ensures.admitted b c.args.options.now.props.now is.shown is.recounted (is.pending ∙ sym c.pending.ensures) is.anonymous_is in
-    cut-late b a c.in-Ok.site admitted c.turn_down.new.heap (c.turn_down.ensures.memory b is.shown is.sound (cc e))
+    cut-late b a c.in-Ok.target admitted c.note_failed_add.new.heap (c.note_failed_add.ensures.memory b is.shown is.sound (cc e))

@@ -3,7 +3,7 @@ use Rattle.std.proofs.Common.{◌≡◌, ◌≤◌, ◌+◌, ap, sym, subst, ◌
 use Rattle.qo_claims.specs.Book.{ClaimsTaken}
 use Rattle.qo_model.specs.Reset.{count}
 use Rattle.qo_heap.proofs.HeapLemmas.{on-err}
-use Rattle.qo_plug.specs.FreeSpots.{IsFreeId, IsFreeSpot}
+use Rattle.qo_plug.specs.FreeResources.{AreFreeResources, IsFreeId}
 use Rattle.qo_plug.specs.Drafts.{own_slots_of}
 use Rattle.qo_plug.proofs.AddLemmas.{planned-judged}
 use Rattle.qo_plug.proofs.GivenDraftLemmas.{left-fits, left-given, left-targets}
@@ -16,29 +16,31 @@ returns-clause-held g c =
     let made = c.in_ok-device.ensures.made in
     let grows = c.in_ok-device.ensures.grows in
     let born : c.in_ok-device.device.birth ≡ c.args.heap.now.born + 1 = made.birth in
-    let low : c.args.planned.site.bus.birth ≤ c.args.heap.now.born = live-low c.args.heap.now c.facts.ensures c.args.planned.site.bus c.requires.fit.bus in
+    let low : c.args.planned.target.bus.birth ≤ c.args.heap.now.born =
+    live-low c.args.heap.now c.reveal_invariant.ensures c.args.planned.target.bus c.requires.fit.bus in
     let plan = c.args.planned.plan in
     let value = c.as_mut_slice.ensures.value in
     let left = c.in_ok-device.ensures.left in
     record {
       device_is = c.requires.fit.device;
       live = made.live;
-      container = grows.names c.args.planned.site.place.container c.requires.fit.container;
-      bus = grows.names c.args.planned.site.bus c.requires.fit.bus;
+      container = grows.names c.args.planned.target.place.container c.requires.fit.container;
+      bus = grows.names c.args.planned.target.bus c.requires.fit.bus;
       older = omega (arith, born, low);
-      within = c.requires.spot.within;
-      dimm = c.requires.spot.dimm;
-      stages = c.requires.spot.stages;
-      free_id = subst (IsFreeId c.args.planned.site.place.id) (sym grows.claims) c.requires.fit.free_id;
-      free = subst (λ (h : ClaimsTaken). IfOk c.args.spot (λ at. IsFreeSpot c.args.planned.site.bus.birth at h)) (sym grows.claims) c.requires.spot.free;
+      within = c.requires.resources.within;
+      dimm = c.requires.resources.dimm;
+      stages = c.requires.resources.stages;
+      free_id = subst (IsFreeId c.args.planned.target.place.id) (sym grows.claims) c.requires.fit.free_id;
+      free = subst (λ (h : ClaimsTaken). IfOk c.args.resources (λ at. AreFreeResources c.args.planned.target.bus.birth at h)) (sym grows.claims)
+          c.requires.resources.free;
       pinned = c.in_ok-device.ensures.pinned;
       rest = made.rest;
-      quiet = λ n le. grows.quiet n (unborn-quiet c.args.heap.now c.facts.ensures n (omega (arith, born, le)));
+      quiet = λ n le. grows.quiet n (unborn-quiet c.args.heap.now c.reveal_invariant.ensures n (omega (arith, born, le)));
       targets =
           left-targets plan c.as_mut_slice.result.now c.make_device.new.plan value left c.args.heap.now c.make_device.new.heap grows.names
           c.requires.fit.targets;
       fits =
-          left-fits plan c.as_mut_slice.result.now c.make_device.new.plan value left c.args.planned.site.kind
+          left-fits plan c.as_mut_slice.result.now c.make_device.new.plan value left c.args.planned.target.kind
           (own_slots_of c.make_device.new.heap c.in_ok-device.device.birth) made.own c.requires.fit.fits;
     }
 
@@ -53,11 +55,11 @@ returns-clause-begun g c = λ b a anonymous asked is planned.
       admitted = planned.admitted;
       given = planned.given;
       birth = made.birth ∙ sym (ap (λ (k : ℕ). k + 1) is.shown.born);
-      barred = c.requires.spot.refused b a.props judged;
-      spot = c.requires.spot.spot b a.props judged;
-      out = cut-none c.count-out.result (count b c.args.planned.site.bus.birth) (c.count-out.ensures b (is.shown, is.holds_are));
+      barred = c.requires.resources.refused b a.props judged;
+      resources = c.requires.resources.resources b a.props judged;
+      out = cut-none c.count-out.result (count b c.args.planned.target.bus.birth) (c.count-out.ensures b (is.shown, is.holds_are));
       plan =
-          left-given c.args.planned.plan c.as_mut_slice.result.now c.make_device.new.plan value c.in_ok-device.ensures.left c.args.planned.site.kind
+          left-given c.args.planned.plan c.as_mut_slice.result.now c.make_device.new.plan value c.in_ok-device.ensures.left c.args.planned.target.kind
           (own_slots_of c.make_device.new.heap c.in_ok-device.device.birth) made.own b a.props planned.has;
     }
 

@@ -13,7 +13,7 @@ use Rattle.qo_claims.specs.declared.errors.ClaimError.{ClaimError}
 use Rattle.qo_claims.specs.declared.errors.ClaimError.TheVariants as refusal
 use Rattle.qo_heap.specs.Book.{IsBook}
 use Rattle.qo_heap.proofs.BookLemmas.{book-taken}
-use Rattle.qo_plug.specs.declared.spots.Memory.{Memory}
+use Rattle.qo_plug.specs.declared.resources.Memory.{Memory}
 use Rattle.qo_plug.proofs.claiming.take_range.Goals as goal
 
 memory-alone : (r : Range) (ranges : List Range) (grown : Claimed → ClaimsTaken) (old new : ClaimsTaken) (error : ClaimError) → is_in_window r ≡ true

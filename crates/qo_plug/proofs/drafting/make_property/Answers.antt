@@ -80,7 +80,7 @@ pub returns-in-Child-clause-ok : goal.returns-in-Child-clause-ok
 returns-in-Child-clause-ok g c =
     on_ok_weaker c.make_kid.result
     (λ makes b props told. kid-given b props c.args.heap.now c.make_kid.new.heap c.args.device c.args.kind c.in-Child.further c.args.row c.in-Child.is
-    c.facts.ensures c.requires.live makes)
+    c.reveal_invariant.ensures c.requires.live makes)
     c.make_kid.ensures.ok
 
 pub returns-in-Alias-clause-ok : goal.returns-in-Alias-clause-ok

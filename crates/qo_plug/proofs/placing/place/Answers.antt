@@ -7,16 +7,16 @@ use Rattle.qo_model.specs.Plug.{source_for}
 use Rattle.qo_slots.specs.declared.keys.Key.{Key}
 use Rattle.qo_kinds.specs.declared.kept_set.KeptSet.{KeptSet}
 use Rattle.qo_heap.specs.Objects.{with_edit}
-use Rattle.qo_plug.specs.Spots.{claims_given}
+use Rattle.qo_plug.specs.Resources.{claims_given}
 use Rattle.qo_plug.specs.Drafts.{given_draft}
 use Rattle.qo_plug.specs.DeviceClaims.{kept_on}
-use Rattle.qo_plug.specs.FreeSpots.{IsFreeId}
-use Rattle.qo_plug.specs.Placement.{IsSeat, kept_in, spot_in}
+use Rattle.qo_plug.specs.FreeResources.{IsFreeId}
+use Rattle.qo_plug.specs.Placement.{IsAttachment, kept_in, resources_in}
 use Rattle.qo_properties.specs.KeptClaims.{SameKept}
 use Rattle.qo_plug.proofs.ClaimLemmas.{chosen-claims, draft-keeps}
 use Rattle.qo_plug.proofs.GivenDraftLemmas.{stood-planned}
 use Rattle.qo_plug.proofs.SourceLemmas.{source-same}
-use Rattle.qo_plug.proofs.StageLemmas.{bus-low, full-barred, given_up-cut, opened, seat-of, spot-refused}
+use Rattle.qo_plug.proofs.StageLemmas.{attachment-of, bus-low, full-barred, given_up-cut, opened, resources-refused}
 use Rattle.qo_properties.proofs.KeptLemmas.{before-same, before-then}
 use Rattle.qo_plug.proofs.KeptLemmas.{given-but}
 use Rattle.qo_plug.proofs.placing.place.Goals as goal
@@ -28,8 +28,8 @@ returns-in-Err-clause-refused g c = λ b a is.
     let early : (bar.stage == 8) ≡ false = grind (arith, nat_tests, stages.1) in (
       stages.0,
       stages.1,
-      spot-refused b a c.args.begun c.args.heap.now is bar c.in-Err.is c.give_up.new.heap
-          (c.give_up.ensures.shown b c.args.begun.site.kind a.props c.args.begun.site.bus.birth bar.stage is.sound is.birth early is.shown),
+      resources-refused b a c.args.begun c.args.heap.now is bar c.in-Err.is c.give_up.new.heap
+          (c.give_up.ensures.shown b c.args.begun.target.kind a.props c.args.begun.target.bus.birth bar.stage is.sound is.birth early is.shown),
     )
 
 pub returns-then-are_full-clause-settled : goal.returns-then-are_full-clause-settled
@@ -39,46 +39,48 @@ returns-then-are_full-clause-settled g c = λ b a is notices.
     record {
       sound = is.sound;
       birth = is.birth;
-      site = (d.site, c.requires.device_is, (is.admitted, full-barred b a d c.args.heap.now is c.in-Ok.spot c.in-Ok.is full, is.out, is.shown));
+      target = (d.target, c.requires.device_is, (is.admitted, full-barred b a d c.args.heap.now is c.in-Ok.resources c.in-Ok.is full, is.out, is.shown));
     }
 
 pub stand-requires-clause-free_id : goal.stand-requires-clause-free_id
 stand-requires-clause-free_id g c =
-    subst (λ (id : Option (List ℕ)). IsFreeId id c.args.heap.now.claims) (sym c.seat_at-seat.ensures.id) c.requires.free_id
+    subst (λ (id : Option (List ℕ)). IsFreeId id c.args.heap.now.claims) (sym c.attachment_at-attachment.ensures.id) c.requires.free_id
 
 pub stand-requires-clause-free : goal.stand-requires-clause-free
-stand-requires-clause-free g c = rw (c.seat_at-seat.ensures.bus, c.seat_at-seat.ensures.spot) (rw c.in-Ok.is at c.requires.free)
+stand-requires-clause-free g c = rw (c.attachment_at-attachment.ensures.bus, c.attachment_at-attachment.ensures.resources) (rw c.in-Ok.is at c.requires.free)
 
 pub returns-in-Ok-stand-clause-settled : goal.returns-in-Ok-stand-clause-settled
 returns-in-Ok-stand-clause-settled g c = λ b a is notices.
     let d = c.args.begun in
-    let ens = c.seat_at-seat.ensures in
-    let of = seat-of b a d c.args.heap.now is in
+    let ens = c.attachment_at-attachment.ensures in
+    let of = attachment-of b a d c.args.heap.now is in
     let room = ap (λ (l : List Notice). nat_le NOTICES_MAX (length l)) notices ∙ sym c.are_full.ensures ∙ c.if-are_full.false in
-    let seat : IsSeat b a c.seat_at-seat.result.0.container.birth c.seat_at-seat.result.0.name c.seat_at-seat.result.1 =
+    let attachment :
+    IsAttachment b a c.attachment_at-attachment.result.0.container.birth c.attachment_at-attachment.result.0.name c.attachment_at-attachment.result.1 =
     record { id_is = of.id_is ∙ sym ens.id; name_is = of.name_is ∙ sym ens.name; parent_is = of.parent_is ∙ ap (λ (k : Key). k.birth) (sym ens.container) } in
-    let source : source_for b c.seat_at-seat.result.0.bus.birth ≡ source_for (given_draft b d.site.kind a.props) c.seat_at-seat.result.0.bus.birth =
-    rw ens.bus (source-same b d.site.kind is.sound a.props d.site.bus.birth (bus-low b a d c.args.heap.now is c.requires)) in
-    let opening = opened b a d c.args.heap.now is c.in-Ok.spot c.in-Ok.is room in
-    let chosen = chosen-claims b d.site.kind d.site.bus.birth a.props c.in-Ok.spot (rw c.in-Ok.is at is.spot) in
-    let keeps = rw (ens.bus, ens.spot) at c.in-Ok-stand.ensures.kept in
+    let source : source_for b c.attachment_at-attachment.result.0.bus.birth
+    ≡ source_for (given_draft b d.target.kind a.props) c.attachment_at-attachment.result.0.bus.birth =
+    rw ens.bus (source-same b d.target.kind is.sound a.props d.target.bus.birth (bus-low b a d c.args.heap.now is c.requires)) in
+    let opening = opened b a d c.args.heap.now is c.in-Ok.resources c.in-Ok.is room in
+    let chosen = chosen-claims b d.target.kind d.target.bus.birth a.props c.in-Ok.resources (rw c.in-Ok.is at is.resources) in
+    let keeps = rw (ens.bus, ens.resources) at c.in-Ok-stand.ensures.kept in
     let kept =
-    draft-keeps c.args.heap.now c.stand.new.heap d.device.birth d.site.kind (claims_given b d.site.kind d.site.bus.birth a.props) c.requires.rest
+    draft-keeps c.args.heap.now c.stand.new.heap d.device.birth d.target.kind (claims_given b d.target.kind d.target.bus.birth a.props) c.requires.rest
     (subst (λ (k : KeptSet). SameKept (with_edit d.device.birth (kept_in k) c.args.heap.now) c.stand.new.heap) chosen keeps) in
-    let stood = c.in-Ok-stand.ensures.stood b (given_draft b d.site.kind a.props) a is.shown seat source is.plan in
+    let stood = c.in-Ok-stand.ensures.stood b (given_draft b d.target.kind a.props) a is.shown attachment source is.plan in
     record {
       sound = is.sound;
       birth = is.birth;
-      site = (
-        d.site,
+      target = (
+        d.target,
         c.requires.device_is,
         (
           c.in-Ok-stand.ensures.told,
-          c.in-Ok.spot,
+          c.in-Ok.resources,
           refl,
           opening,
-          stood-planned b d.site.kind d.device.birth a (spot_in d.site.bus.birth c.in-Ok.spot) is.birth c.in-Ok-stand.path.kept c.stand.new.heap
-              (rw (ens.bus, ens.spot) at stood),
+          stood-planned b d.target.kind d.device.birth a (resources_in d.target.bus.birth c.in-Ok.resources) is.birth c.in-Ok-stand.path.kept c.stand.new.heap
+              (rw (ens.bus, ens.resources) at stood),
           kept,
         ),
       );
@@ -87,16 +89,17 @@ returns-in-Ok-stand-clause-settled g c = λ b a is notices.
 pub returns-in-Err-stand-clause-memory : goal.returns-in-Err-stand-clause-memory
 returns-in-Err-stand-clause-memory g c = λ b a is e.
     let d = c.args.begun in
-    let left = c.in-Err-stand.ensures.err (given_draft b d.site.kind a.props) is.shown in
+    let left = c.in-Err-stand.ensures.err (given_draft b d.target.kind a.props) is.shown in
     given_up-cut b a d c.args.heap.now is c.give_up-in-Err-stand.new.heap
-    (c.give_up-in-Err-stand.ensures.shown b d.site.kind a.props d.site.bus.birth 0 is.sound is.birth refl left)
+    (c.give_up-in-Err-stand.ensures.shown b d.target.kind a.props d.target.bus.birth 0 is.sound is.birth refl left)
 
 pub returns-in-Err-stand-clause-book : goal.returns-in-Err-stand-clause-book
 returns-in-Err-stand-clause-book g c = λ out h. c.give_up-in-Err-stand.ensures.book out (c.stand.ensures.book out h)
 
 pub returns-in-Ok-stand-clause-kept : goal.returns-in-Ok-stand-clause-kept
 returns-in-Ok-stand-clause-kept g c =
-    given-but c.args.heap.now c.stand.new.heap c.args.begun.device.birth (kept_in (kept_on c.seat_at-seat.result.0.bus.birth c.seat_at-seat.result.0.spot))
+    given-but c.args.heap.now c.stand.new.heap c.args.begun.device.birth
+    (kept_in (kept_on c.attachment_at-attachment.result.0.bus.birth c.attachment_at-attachment.result.0.resources))
     c.in-Ok-stand.ensures.kept
 
 pub returns-in-Err-stand-clause-unkept : goal.returns-in-Err-stand-clause-unkept

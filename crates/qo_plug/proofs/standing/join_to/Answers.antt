@@ -21,12 +21,14 @@ cut-requires-clause-live g c =
 
 pub cut-requires-clause-link : goal.cut-requires-clause-link
 cut-requires-clause-link g c =
-    empty-link c.args.heap.now c.facts.ensures c.args.bus c.requires.bus c.args.link c.slot_count-at.result c.slot_count-at.ensures.count c.args.device
+    empty-link c.args.heap.now c.reveal_invariant.ensures c.args.bus c.requires.bus c.args.link c.slot_count-at.result c.slot_count-at.ensures.count
+    c.args.device
     c.join_bus.new.heap c.empty-device.new.self
     c.in_ok-join_bus.ensures.ok c.empty-device.ensures.now
 
 pub returns-in-Err-clause-err : goal.returns-in-Err-clause-err
 returns-in-Err-clause-err g c =
-    link-undone c.args.heap.now c.facts.ensures c.args.bus c.requires.bus c.args.link c.slot_count-at.result c.slot_count-at.ensures.count c.args.device
+    link-undone c.args.heap.now c.reveal_invariant.ensures c.args.bus c.requires.bus c.args.link c.slot_count-at.result c.slot_count-at.ensures.count
+    c.args.device
     c.join_bus.new.heap c.empty-device.new.self
     c.in_ok-join_bus.ensures.ok c.empty-device.ensures.now c.cut.new.self c.cut.ensures.now

@@ -3,5 +3,5 @@ use Rattle.qo_plug.proofs.standing.put_value.Goals as goal
 
 pub returns-clause-stays : goal.returns-clause-stays
 returns-clause-stays g c =
-    stays-set c.shown.ensures.0 c.args.heap.now c.set_named.new.heap c.args.device.birth c.args.name.now c.args.val c.shown.ensures.1
-    (c.set_named.ensures.shown c.shown.ensures.0 c.shown.ensures.1) c.set_named.ensures.goes c.set_named.ensures.names c.set_named.ensures.pins
+    stays-set c.reveal_board.ensures.0 c.args.heap.now c.set_named.new.heap c.args.device.birth c.args.name.now c.args.val c.reveal_board.ensures.1
+    (c.set_named.ensures.shown c.reveal_board.ensures.0 c.reveal_board.ensures.1) c.set_named.ensures.goes c.set_named.ensures.names c.set_named.ensures.pins

@@ -43,7 +43,7 @@ put_address-requires g c =
 
 pub returns-clause-shown : goal.returns-clause-shown
 returns-clause-shown g c = λ b d props s told.
-    let given = shows-given b d c.args.heap.now c.settle_own.new.heap c.args.device props c.args.plan.items s c.facts.ensures c.requires.live told
+    let given = shows-given b d c.args.heap.now c.settle_own.new.heap c.args.device props c.args.plan.items s c.reveal_invariant.ensures c.requires.live told
     c.settle_own.ensures in
     let linked : Board = link_named c.args.device.birth (codes "parent_bus") c.args.bus.birth (set_named c.args.device.birth (codes "slot")
     (val.Uint c.from.result) (edit c.args.device.birth (with_given b props) d)) in

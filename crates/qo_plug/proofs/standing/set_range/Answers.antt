@@ -8,5 +8,5 @@ use Rattle.qo_plug.proofs.standing.set_range.Goals as goal
 
 pub returns : goal.returns
 returns g c =
-    body-put c.args.heap.now c.facts.ensures c.args.device c.requires c.body_mut.result.now c.put_range.new.body
+    body-put c.args.heap.now c.reveal_invariant.ensures c.args.device c.requires c.body_mut.result.now c.put_range.new.body
     (λ (b : Body). with_registers (registers_on (range_in c.args.memory) (registers_of b)) b) c.body_mut.ensures.body c.put_range.ensures

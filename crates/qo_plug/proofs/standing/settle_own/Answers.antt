@@ -13,7 +13,8 @@ is_own_at-requires g c =
 pub loop-at-preserved-then-not-is_own_at : goal.loop-at-preserved-then-not-is_own_at
 loop-at-preserved-then-not-is_own_at g c =
     let less : c.loop-at.at ≡ suc (c.loop-at.at - 1) = omega arith in
-    settled-skip c.args.plan.items c.args.o c.loop-at.at c.loop-at.plan.items c.args.heap.now c.loop-at.heap c.loop-at.invariant c.facts.ensures c.requires.live
+    settled-skip c.args.plan.items c.args.o c.loop-at.at c.loop-at.plan.items c.args.heap.now c.loop-at.heap c.loop-at.invariant c.reveal_invariant.ensures
+    c.requires.live
     (c.loop-at.at - 1) less
     c.is_own_at.result c.is_own_at.ensures c.if-not-is_own_at.true
 
@@ -24,21 +25,23 @@ fill_at-requires-clause-live g c =
 pub fill_at-requires-clause-target : goal.fill_at-requires-clause-target
 fill_at-requires-clause-target g c =
     let less : c.loop-at.at ≡ suc (c.loop-at.at - 1) = omega arith in
-    settled-target c.args.plan.items c.args.o c.loop-at.at c.loop-at.plan.items c.args.heap.now c.loop-at.heap c.loop-at.invariant c.facts.ensures
+    settled-target c.args.plan.items c.args.o c.loop-at.at c.loop-at.plan.items c.args.heap.now c.loop-at.heap c.loop-at.invariant c.reveal_invariant.ensures
     c.requires.live (c.loop-at.at - 1) less
     c.is_own_at.result c.is_own_at.ensures c.if-not-is_own_at.false c.pop.new.self.items c.in-Some.fill c.in-Some.ensures.items c.requires.targets
 
 pub fill_at-requires-clause-fits : goal.fill_at-requires-clause-fits
 fill_at-requires-clause-fits g c =
     let less : c.loop-at.at ≡ suc (c.loop-at.at - 1) = omega arith in
-    settled-fits c.args.plan.items c.args.o c.loop-at.at c.loop-at.plan.items c.args.heap.now c.loop-at.heap c.loop-at.invariant c.facts.ensures c.requires.live
+    settled-fits c.args.plan.items c.args.o c.loop-at.at c.loop-at.plan.items c.args.heap.now c.loop-at.heap c.loop-at.invariant c.reveal_invariant.ensures
+    c.requires.live
     (c.loop-at.at - 1) less
     c.is_own_at.result c.is_own_at.ensures c.if-not-is_own_at.false c.pop.new.self.items c.in-Some.fill c.in-Some.ensures.items
 
 pub loop-at-preserved-in-Some : goal.loop-at-preserved-in-Some
 loop-at-preserved-in-Some g c =
     let less : c.loop-at.at ≡ suc (c.loop-at.at - 1) = omega arith in
-    settled-fill c.args.plan.items c.args.o c.loop-at.at c.loop-at.plan.items c.args.heap.now c.loop-at.heap c.loop-at.invariant c.facts.ensures c.requires.live
+    settled-fill c.args.plan.items c.args.o c.loop-at.at c.loop-at.plan.items c.args.heap.now c.loop-at.heap c.loop-at.invariant c.reveal_invariant.ensures
+    c.requires.live
     (c.loop-at.at - 1) less
     c.is_own_at.result c.is_own_at.ensures c.if-not-is_own_at.false c.pop.new.self.items c.in-Some.fill c.in-Some.ensures.items c.fill_at.new.heap
     c.fill_at.ensures
@@ -46,7 +49,8 @@ loop-at-preserved-in-Some g c =
 pub loop-at-preserved : goal.loop-at-preserved
 loop-at-preserved g c =
     let less : c.loop-at.at ≡ suc (c.loop-at.at - 1) = omega arith in
-    absurd (settled-some c.args.plan.items c.args.o c.loop-at.at c.loop-at.plan.items c.args.heap.now c.loop-at.heap c.loop-at.invariant c.facts.ensures
+    absurd
+    (settled-some c.args.plan.items c.args.o c.loop-at.at c.loop-at.plan.items c.args.heap.now c.loop-at.heap c.loop-at.invariant c.reveal_invariant.ensures
     c.requires.live (c.loop-at.at - 1) less
     c.is_own_at.result c.is_own_at.ensures c.if-not-is_own_at.false
     (none-left c.loop-at.plan.items (sym c.in_default.ensures.cases.0 ∙ c.loop-at.plan.ok.0)))

@@ -7,7 +7,7 @@ use Rattle.qo_kinds.specs.declared.kept_set.KeptSet.{KeptSet}
 use Rattle.qo_heap.specs.Rows.{IsLive}
 use Rattle.qo_model.specs.Board.{Board}
 use Rattle.qo_values.specs.declared.ranges.Range.{Range}
-use Rattle.qo_model.specs.Plug.{Spot, addressed_at, joined, stood, valued, with_body_of}
+use Rattle.qo_model.specs.Plug.{Resources, addressed_at, joined, stood, valued, with_body_of}
 use Rattle.qo_model.specs.Release.{edit}
 use Rattle.qo_object.specs.Slots.{Named}
 use Rattle.qo_heap.specs.Board.{Shows}
@@ -17,9 +17,9 @@ use Rattle.qo_heap.proofs.HeapLemmas.{on-err}
 use Rattle.qo_properties.specs.Filling.{Fits, IsGiven}
 use Rattle.qo_properties.proofs.FillingLemmas.{all-live}
 use Rattle.qo_plug.specs.OwnSlots.{own_slots_of}
-use Rattle.qo_plug.specs.Placement.{kept_in, range_in, spot_in, with_book}
+use Rattle.qo_plug.specs.Placement.{kept_in, range_in, resources_in, with_book}
 use Rattle.qo_properties.specs.KeptClaims.{SameKept, kept_by}
-use Rattle.qo_plug.specs.DeviceClaims.{kept_out, labels_out, taken_out}
+use Rattle.qo_plug.specs.DeviceClaims.{id_claims_out, kept_out, taken_out}
 use Rattle.qo_plug.proofs.BodyLemmas.{kept-bodies, of-bodies}
 use Rattle.qo_plug.proofs.RangeLemmas.{still-dimm}
 use Rattle.qo_plug.proofs.PlacementSteps.{alike-then, pinned-same}
@@ -33,74 +33,84 @@ returns-in_err-taken-clause-book g c = λ out h.
 
 pub keep_claims-requires-clause-live : goal.keep_claims-requires-clause-live
 keep_claims-requires-clause-live g c =
-    (joined-alike c.args.heap.now c.join.new.heap c.args.seat.container c.args.seat.bus c.args.device c.args.seat.name c.args.seat.spot.slot (rows-joined
-    c.args.heap.now c.reserve_event.new.self c.take_claims.new.heap c.join.new.heap c.reserve_event.new.self.events.spare c.args.seat.container
-    c.args.seat.bus c.args.device c.args.seat.name c.args.seat.spot.slot c.reserve_event.ensures.kept c.in_ok-taken.ensures.rest
+    (joined-alike c.args.heap.now c.join.new.heap c.args.attachment.container c.args.attachment.bus c.args.device c.args.attachment.name
+    c.args.attachment.resources.slot (rows-joined
+    c.args.heap.now c.reserve_event.new.self c.take_claims.new.heap c.join.new.heap c.reserve_event.new.self.events.spare c.args.attachment.container
+    c.args.attachment.bus c.args.device c.args.attachment.name c.args.attachment.resources.slot c.reserve_event.ensures.kept c.in_ok-taken.ensures.rest
     c.in-Ok.ensures.now)).names c.args.device c.requires.live
 
 pub keep_claims-requires-clause-bare : goal.keep_claims-requires-clause-bare
 keep_claims-requires-clause-bare g c =
-    joined-bare c.args.heap.now c.join.new.heap c.args.seat.container c.args.seat.bus c.args.device c.args.seat.name c.args.seat.spot.slot (rows-joined
-    c.args.heap.now c.reserve_event.new.self c.take_claims.new.heap c.join.new.heap c.reserve_event.new.self.events.spare c.args.seat.container
-    c.args.seat.bus c.args.device c.args.seat.name c.args.seat.spot.slot c.reserve_event.ensures.kept c.in_ok-taken.ensures.rest c.in-Ok.ensures.now)
+    joined-bare c.args.heap.now c.join.new.heap c.args.attachment.container c.args.attachment.bus c.args.device c.args.attachment.name
+    c.args.attachment.resources.slot (rows-joined
+    c.args.heap.now c.reserve_event.new.self c.take_claims.new.heap c.join.new.heap c.reserve_event.new.self.events.spare c.args.attachment.container
+    c.args.attachment.bus c.args.device c.args.attachment.name c.args.attachment.resources.slot c.reserve_event.ensures.kept c.in_ok-taken.ensures.rest
+    c.in-Ok.ensures.now)
     c.args.device.birth c.requires.new
 
 pub put_values-requires-clause-live : goal.put_values-requires-clause-live
 put_values-requires-clause-live g c =
     (placed-alike c.args.heap.now c.reserve_event.new.self c.take_claims.new.heap c.join.new.heap c.keep_claims.new.heap
-    c.reserve_event.new.self.events.spare c.args.device c.args.seat.container c.args.seat.bus c.args.seat.name c.args.seat.spot.slot
+    c.reserve_event.new.self.events.spare c.args.device c.args.attachment.container c.args.attachment.bus c.args.attachment.name
+    c.args.attachment.resources.slot
     c.in_ok-taken.taken.kept c.reserve_event.ensures.kept c.in_ok-taken.ensures.rest c.in-Ok.ensures.now c.keep_claims.ensures.now).names
     c.args.device c.requires.live
 
 pub put_values-requires-clause-bus : goal.put_values-requires-clause-bus
 put_values-requires-clause-bus g c =
     (placed-alike c.args.heap.now c.reserve_event.new.self c.take_claims.new.heap c.join.new.heap c.keep_claims.new.heap
-    c.reserve_event.new.self.events.spare c.args.device c.args.seat.container c.args.seat.bus c.args.seat.name c.args.seat.spot.slot
+    c.reserve_event.new.self.events.spare c.args.device c.args.attachment.container c.args.attachment.bus c.args.attachment.name
+    c.args.attachment.resources.slot
     c.in_ok-taken.taken.kept c.reserve_event.ensures.kept c.in_ok-taken.ensures.rest c.in-Ok.ensures.now c.keep_claims.ensures.now).names
-    c.args.seat.bus c.requires.bus
+    c.args.attachment.bus c.requires.bus
 
 pub put_values-requires-clause-targets : goal.put_values-requires-clause-targets
 put_values-requires-clause-targets g c =
     all-live (IsLive c.args.heap.now.rows) (IsLive c.keep_claims.new.heap.rows) (placed-alike c.args.heap.now c.reserve_event.new.self
-    c.take_claims.new.heap c.join.new.heap c.keep_claims.new.heap c.reserve_event.new.self.events.spare c.args.device c.args.seat.container
-    c.args.seat.bus c.args.seat.name c.args.seat.spot.slot c.in_ok-taken.taken.kept c.reserve_event.ensures.kept c.in_ok-taken.ensures.rest
+    c.take_claims.new.heap c.join.new.heap c.keep_claims.new.heap c.reserve_event.new.self.events.spare c.args.device c.args.attachment.container
+    c.args.attachment.bus c.args.attachment.name c.args.attachment.resources.slot c.in_ok-taken.taken.kept c.reserve_event.ensures.kept
+    c.in_ok-taken.ensures.rest
     c.in-Ok.ensures.now c.keep_claims.ensures.now).names c.args.plan.items c.requires.targets
 
 pub put_values-requires-clause-fits : goal.put_values-requires-clause-fits
 put_values-requires-clause-fits g c =
     subst (λ (l : List Named). AllZip Fits c.args.plan.items l) (sym (placed-own c.args.heap.now c.reserve_event.new.self c.take_claims.new.heap
-    c.join.new.heap c.keep_claims.new.heap c.reserve_event.new.self.events.spare c.args.device c.args.seat.container c.args.seat.bus c.args.seat.name
-    c.args.seat.spot.slot c.in_ok-taken.taken.kept c.reserve_event.ensures.kept c.in_ok-taken.ensures.rest c.in-Ok.ensures.now
+    c.join.new.heap c.keep_claims.new.heap c.reserve_event.new.self.events.spare c.args.device c.args.attachment.container c.args.attachment.bus
+    c.args.attachment.name
+    c.args.attachment.resources.slot c.in_ok-taken.taken.kept c.reserve_event.ensures.kept c.in_ok-taken.ensures.rest c.in-Ok.ensures.now
     c.keep_claims.ensures.now c.requires.apart)) c.requires.fits
 
 pub put_body-requires-clause-live : goal.put_body-requires-clause-live
 put_body-requires-clause-live g c =
     (alike-then c.args.heap.now c.keep_claims.new.heap c.put_values.new.heap (placed-alike c.args.heap.now c.reserve_event.new.self
-    c.take_claims.new.heap c.join.new.heap c.keep_claims.new.heap c.reserve_event.new.self.events.spare c.args.device c.args.seat.container
-    c.args.seat.bus c.args.seat.name c.args.seat.spot.slot c.in_ok-taken.taken.kept c.reserve_event.ensures.kept c.in_ok-taken.ensures.rest
+    c.take_claims.new.heap c.join.new.heap c.keep_claims.new.heap c.reserve_event.new.self.events.spare c.args.device c.args.attachment.container
+    c.args.attachment.bus c.args.attachment.name c.args.attachment.resources.slot c.in_ok-taken.taken.kept c.reserve_event.ensures.kept
+    c.in_ok-taken.ensures.rest
     c.in-Ok.ensures.now c.keep_claims.ensures.now) c.put_values.ensures.stays.alike).names c.args.device c.requires.live
 
 pub put_body-requires-clause-dimm : goal.put_body-requires-clause-dimm
 put_body-requires-clause-dimm g c =
-    still-dimm c.args.seat.spot.memory _ _ (of-bodies registers_of _ _ (c.put_values.ensures.stays.bodies c.args.device.birth)
+    still-dimm c.args.attachment.resources.memory _ _ (of-bodies registers_of _ _ (c.put_values.ensures.stays.bodies c.args.device.birth)
     ∙ placed-registers c.args.heap.now c.reserve_event.new.self c.take_claims.new.heap
-    c.join.new.heap c.keep_claims.new.heap c.reserve_event.new.self.events.spare c.args.device c.args.seat.container
-    c.args.seat.bus c.args.seat.name c.args.seat.spot.slot c.in_ok-taken.taken.kept c.reserve_event.ensures.kept
+    c.join.new.heap c.keep_claims.new.heap c.reserve_event.new.self.events.spare c.args.device c.args.attachment.container
+    c.args.attachment.bus c.args.attachment.name c.args.attachment.resources.slot c.in_ok-taken.taken.kept c.reserve_event.ensures.kept
     c.in_ok-taken.ensures.rest c.in-Ok.ensures.now c.keep_claims.ensures.now
     c.args.device.birth) c.requires.dimm
 
 pub put_body-requires-clause-unnamed : goal.put_body-requires-clause-unnamed
 put_body-requires-clause-unnamed g c =
     still-unnamed _ _ (c.put_values.ensures.stays.ids c.args.device.birth ∙ placed-ids c.args.heap.now c.reserve_event.new.self
-    c.take_claims.new.heap c.join.new.heap c.keep_claims.new.heap c.reserve_event.new.self.events.spare c.args.device c.args.seat.container
-    c.args.seat.bus c.args.seat.name c.args.seat.spot.slot c.in_ok-taken.taken.kept c.reserve_event.ensures.kept c.in_ok-taken.ensures.rest
+    c.take_claims.new.heap c.join.new.heap c.keep_claims.new.heap c.reserve_event.new.self.events.spare c.args.device c.args.attachment.container
+    c.args.attachment.bus c.args.attachment.name c.args.attachment.resources.slot c.in_ok-taken.taken.kept c.reserve_event.ensures.kept
+    c.in_ok-taken.ensures.rest
     c.in-Ok.ensures.now c.keep_claims.ensures.now c.args.device.birth) c.requires.new
 
 pub connect_clock-requires-clause-live : goal.connect_clock-requires-clause-live
 connect_clock-requires-clause-live g c =
     (alike-then c.args.heap.now c.put_values.new.heap c.put_body.new.heap (alike-then c.args.heap.now c.keep_claims.new.heap c.put_values.new.heap
     (placed-alike c.args.heap.now c.reserve_event.new.self c.take_claims.new.heap c.join.new.heap c.keep_claims.new.heap
-    c.reserve_event.new.self.events.spare c.args.device c.args.seat.container c.args.seat.bus c.args.seat.name c.args.seat.spot.slot
+    c.reserve_event.new.self.events.spare c.args.device c.args.attachment.container c.args.attachment.bus c.args.attachment.name
+    c.args.attachment.resources.slot
     c.in_ok-taken.taken.kept c.reserve_event.ensures.kept c.in_ok-taken.ensures.rest c.in-Ok.ensures.now c.keep_claims.ensures.now)
     c.put_values.ensures.stays.alike) c.put_body.ensures.alike).names c.args.device c.requires.live
 
@@ -110,39 +120,41 @@ connect_clock-requires-clause-source g c =
     (λ key live. (alike-then c.args.heap.now
     c.put_values.new.heap c.put_body.new.heap (alike-then c.args.heap.now c.keep_claims.new.heap c.put_values.new.heap (placed-alike c.args.heap.now
     c.reserve_event.new.self c.take_claims.new.heap c.join.new.heap c.keep_claims.new.heap c.reserve_event.new.self.events.spare c.args.device
-    c.args.seat.container c.args.seat.bus c.args.seat.name c.args.seat.spot.slot c.in_ok-taken.taken.kept c.reserve_event.ensures.kept
+    c.args.attachment.container c.args.attachment.bus c.args.attachment.name c.args.attachment.resources.slot c.in_ok-taken.taken.kept
+    c.reserve_event.ensures.kept
     c.in_ok-taken.ensures.rest c.in-Ok.ensures.now c.keep_claims.ensures.now) c.put_values.ensures.stays.alike) c.put_body.ensures.alike).names key
     (reserved-live c.args.heap.now c.reserve_event.new.self c.take_claims.new.heap c.join.new.heap c.keep_claims.new.heap
-    c.reserve_event.new.self.events.spare c.args.device c.args.seat.container c.args.seat.bus c.args.seat.name c.args.seat.spot.slot
+    c.reserve_event.new.self.events.spare c.args.device c.args.attachment.container c.args.attachment.bus c.args.attachment.name
+    c.args.attachment.resources.slot
     c.in_ok-taken.taken.kept c.reserve_event.ensures.kept c.in_ok-taken.ensures.rest c.in-Ok.ensures.now c.keep_claims.ensures.now key live))
 
 pub returns-in-Ok-clause-stood : goal.returns-in-Ok-clause-stood
-returns-in-Ok-clause-stood g c = λ b d a s seat same told.
-    let range : Option Range = range_in c.args.seat.spot.memory in
-    let spot : Spot = spot_in c.args.seat.bus.birth c.args.seat.spot in
-    let here : Board = joined b c.args.device.birth a spot d in
-    let there : Board = addressed_at c.args.device.birth range (valued b c.args.device.birth a.props spot here) in
+returns-in-Ok-clause-stood g c = λ b d a s attachment same told.
+    let range : Option Range = range_in c.args.attachment.resources.memory in
+    let resources : Resources = resources_in c.args.attachment.bus.birth c.args.attachment.resources in
+    let here : Board = joined b c.args.device.birth a resources d in
+    let there : Board = addressed_at c.args.device.birth range (valued b c.args.device.birth a.props resources here) in
     let first : Shows d c.reserve_event.new.self =
     reserved-shows d c.args.heap.now c.reserve_event.new.self c.reserve_event.new.self.events.spare c.reserve_event.ensures.kept s in
     let given : AllZip (IsGiven b a.props) c.args.plan.items (own_slots_of c.keep_claims.new.heap c.args.device.birth) =
     subst (λ (l : List Named). AllZip (IsGiven b a.props) c.args.plan.items l) (sym (placed-own c.args.heap.now c.reserve_event.new.self
     c.take_claims.new.heap
-    c.join.new.heap c.keep_claims.new.heap c.reserve_event.new.self.events.spare c.args.device c.args.seat.container
-    c.args.seat.bus c.args.seat.name c.args.seat.spot.slot c.in_ok-taken.taken.kept c.reserve_event.ensures.kept
+    c.join.new.heap c.keep_claims.new.heap c.reserve_event.new.self.events.spare c.args.device c.args.attachment.container
+    c.args.attachment.bus c.args.attachment.name c.args.attachment.resources.slot c.in_ok-taken.taken.kept c.reserve_event.ensures.kept
     c.in_ok-taken.ensures.rest c.in-Ok.ensures.now c.keep_claims.ensures.now c.requires.apart)) told in
     let valued_is : Shows there c.put_values.new.heap =
     c.put_values.ensures.shown b here a.props (placed-kept c.args.heap.now c.reserve_event.new.self c.take_claims.new.heap
-    c.join.new.heap c.keep_claims.new.heap c.reserve_event.new.self.events.spare c.args.device c.args.seat.container
-    c.args.seat.bus c.args.seat.name c.args.seat.spot.slot c.in_ok-taken.taken.kept c.reserve_event.ensures.kept
-    c.in_ok-taken.ensures.rest c.in-Ok.ensures.now c.keep_claims.ensures.now b d a c.args.id range s seat) given in
-    let body_is : Shows (stood b c.args.device.birth a spot d) c.put_body.new.heap =
+    c.join.new.heap c.keep_claims.new.heap c.reserve_event.new.self.events.spare c.args.device c.args.attachment.container
+    c.args.attachment.bus c.args.attachment.name c.args.attachment.resources.slot c.in_ok-taken.taken.kept c.reserve_event.ensures.kept
+    c.in_ok-taken.ensures.rest c.in-Ok.ensures.now c.keep_claims.ensures.now b d a c.args.id range s attachment) given in
+    let body_is : Shows (stood b c.args.device.birth a resources d) c.put_body.new.heap =
     subst (λ (id : Option (List ℕ)). Shows (edit c.args.device.birth (with_body_of id range) there) c.put_body.new.heap)
-    (sym (seat.id_is ∙ sym c.in_ok-taken.ensures.id)) (c.put_body.ensures.shown there valued_is) in
-    stands b d a c.args.device spot c.in-Ok.path.kept c.put_body.new.heap c.connect_clock.new.heap c.source_of-source.result
+    (sym (attachment.id_is ∙ sym c.in_ok-taken.ensures.id)) (c.put_body.ensures.shown there valued_is) in
+    stands b d a c.args.device resources c.in-Ok.path.kept c.put_body.new.heap c.connect_clock.new.heap c.source_of-source.result
     (c.in-Ok.ensures.path here (placed-shown c.args.heap.now c.reserve_event.new.self c.take_claims.new.heap
-    c.join.new.heap c.keep_claims.new.heap c.reserve_event.new.self.events.spare c.args.device c.args.seat.container
-    c.args.seat.bus c.args.seat.name c.args.seat.spot.slot c.in_ok-taken.taken.kept c.reserve_event.ensures.kept
-    c.in_ok-taken.ensures.rest c.in-Ok.ensures.now c.keep_claims.ensures.now b d a c.args.id range s seat)) body_is
+    c.join.new.heap c.keep_claims.new.heap c.reserve_event.new.self.events.spare c.args.device c.args.attachment.container
+    c.args.attachment.bus c.args.attachment.name c.args.attachment.resources.slot c.in_ok-taken.taken.kept c.reserve_event.ensures.kept
+    c.in_ok-taken.ensures.rest c.in-Ok.ensures.now c.keep_claims.ensures.now b d a c.args.id range s attachment)) body_is
     (c.source_of-source.ensures.source d first) (c.source_of-source.ensures.none d first)
     c.connect_clock.ensures.shown c.connect_clock.ensures.none same
 
@@ -151,7 +163,8 @@ returns-in-Ok-clause-names g c =
     (alike-then c.args.heap.now c.put_body.new.heap c.connect_clock.new.heap (alike-then c.args.heap.now c.put_values.new.heap
     c.put_body.new.heap (alike-then c.args.heap.now c.keep_claims.new.heap c.put_values.new.heap (placed-alike c.args.heap.now
     c.reserve_event.new.self c.take_claims.new.heap c.join.new.heap c.keep_claims.new.heap c.reserve_event.new.self.events.spare c.args.device
-    c.args.seat.container c.args.seat.bus c.args.seat.name c.args.seat.spot.slot c.in_ok-taken.taken.kept c.reserve_event.ensures.kept
+    c.args.attachment.container c.args.attachment.bus c.args.attachment.name c.args.attachment.resources.slot c.in_ok-taken.taken.kept
+    c.reserve_event.ensures.kept
     c.in_ok-taken.ensures.rest c.in-Ok.ensures.now c.keep_claims.ensures.now) c.put_values.ensures.stays.alike) c.put_body.ensures.alike)
     c.connect_clock.ensures.stays.alike).names
 
@@ -160,23 +173,27 @@ returns-in-Ok-clause-paths g c =
     (alike-then c.args.heap.now c.put_body.new.heap c.connect_clock.new.heap (alike-then c.args.heap.now c.put_values.new.heap
     c.put_body.new.heap (alike-then c.args.heap.now c.keep_claims.new.heap c.put_values.new.heap (placed-alike c.args.heap.now
     c.reserve_event.new.self c.take_claims.new.heap c.join.new.heap c.keep_claims.new.heap c.reserve_event.new.self.events.spare c.args.device
-    c.args.seat.container c.args.seat.bus c.args.seat.name c.args.seat.spot.slot c.in_ok-taken.taken.kept c.reserve_event.ensures.kept
+    c.args.attachment.container c.args.attachment.bus c.args.attachment.name c.args.attachment.resources.slot c.in_ok-taken.taken.kept
+    c.reserve_event.ensures.kept
     c.in_ok-taken.ensures.rest c.in-Ok.ensures.now c.keep_claims.ensures.now) c.put_values.ensures.stays.alike) c.put_body.ensures.alike)
     c.connect_clock.ensures.stays.alike).paths c.args.device.birth
 
 pub returns-in-Ok-clause-pinned : goal.returns-in-Ok-clause-pinned
 returns-in-Ok-clause-pinned g c =
-    pinned-same c.args.heap.now c.connect_clock.new.heap c.facts.ensures c.facts-in-Ok.ensures (alike-then c.args.heap.now c.put_body.new.heap
+    pinned-same c.args.heap.now c.connect_clock.new.heap c.reveal_invariant.ensures c.reveal_invariant-in-Ok.ensures
+    (alike-then c.args.heap.now c.put_body.new.heap
     c.connect_clock.new.heap (alike-then c.args.heap.now c.put_values.new.heap c.put_body.new.heap (alike-then c.args.heap.now c.keep_claims.new.heap
     c.put_values.new.heap (placed-alike c.args.heap.now c.reserve_event.new.self c.take_claims.new.heap c.join.new.heap c.keep_claims.new.heap
-    c.reserve_event.new.self.events.spare c.args.device c.args.seat.container c.args.seat.bus c.args.seat.name c.args.seat.spot.slot
+    c.reserve_event.new.self.events.spare c.args.device c.args.attachment.container c.args.attachment.bus c.args.attachment.name
+    c.args.attachment.resources.slot
     c.in_ok-taken.taken.kept c.reserve_event.ensures.kept c.in_ok-taken.ensures.rest c.in-Ok.ensures.now c.keep_claims.ensures.now)
     c.put_values.ensures.stays.alike) c.put_body.ensures.alike) c.connect_clock.ensures.stays.alike).pins c.args.device.birth
 
 pub returns-in-Ok-clause-kept : goal.returns-in-Ok-clause-kept
 returns-in-Ok-clause-kept g c =
     let given = placed-claims c.args.heap.now c.reserve_event.new.self c.take_claims.new.heap c.join.new.heap c.keep_claims.new.heap
-    c.reserve_event.new.self.events.spare c.args.device c.args.seat.container c.args.seat.bus c.args.seat.name c.args.seat.spot.slot
+    c.reserve_event.new.self.events.spare c.args.device c.args.attachment.container c.args.attachment.bus c.args.attachment.name
+    c.args.attachment.resources.slot
     c.in_ok-taken.taken.kept c.reserve_event.ensures.kept c.in_ok-taken.ensures.rest c.in-Ok.ensures.now c.keep_claims.ensures.now in
     subst (λ (k : KeptSet). SameKept (with_edit c.args.device.birth (kept_in k) c.args.heap.now) c.connect_clock.new.heap) c.in_ok-taken.ensures.kept
     (λ n.
@@ -187,11 +204,12 @@ returns-in-Ok-clause-kept g c =
 
 pub returns-in-Ok-clause-book : goal.returns-in-Ok-clause-book
 returns-in-Ok-clause-book g c = λ out h.
-    c.connect_clock.ensures.stays.book out (c.put_body.ensures.book out (c.put_values.ensures.stays.book (labels_out c.in_ok-taken.taken.label ++
+    c.connect_clock.ensures.stays.book out (c.put_body.ensures.book out (c.put_values.ensures.stays.book (id_claims_out c.in_ok-taken.taken.id_claim ++
     out) (placed-book c.args.heap.now c.reserve_event.new.self c.take_claims.new.heap
-    c.join.new.heap c.keep_claims.new.heap c.reserve_event.new.self.events.spare c.args.device c.args.seat.container
-    c.args.seat.bus c.args.seat.name c.args.seat.spot.slot c.in_ok-taken.taken.kept c.reserve_event.ensures.kept
-    c.in_ok-taken.ensures.rest c.in-Ok.ensures.now c.keep_claims.ensures.now (kept_out c.in_ok-taken.taken.kept) (labels_out c.in_ok-taken.taken.label) out
+    c.join.new.heap c.keep_claims.new.heap c.reserve_event.new.self.events.spare c.args.device c.args.attachment.container
+    c.args.attachment.bus c.args.attachment.name c.args.attachment.resources.slot c.in_ok-taken.taken.kept c.reserve_event.ensures.kept
+    c.in_ok-taken.ensures.rest c.in-Ok.ensures.now c.keep_claims.ensures.now (kept_out c.in_ok-taken.taken.kept) (id_claims_out c.in_ok-taken.taken.id_claim)
+    out
     c.keep_claims.ensures.book (c.in_ok-taken.ensures.book out (reserved-book out
     c.args.heap.now c.reserve_event.new.self c.reserve_event.new.self.events.spare c.reserve_event.ensures.kept h)))))
 

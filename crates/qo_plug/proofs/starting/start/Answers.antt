@@ -2,7 +2,7 @@
 use Rattle.std.proofs.Common.{◌≡◌, ap, ◌∙◌, true}
 use Rattle.qo_heap.proofs.ActsLemmas.{acts-book, acts-then}
 use Rattle.qo_heap.proofs.ActsReads.{acts-pins, acts-pins_of}
-use Rattle.qo_hotplug.specs.Hotplug.{Asked, told}
+use Rattle.qo_hotplug.specs.Hotplug.{Asked, notified}
 use Rattle.qo_properties.proofs.ActsKept.{acts-kept}
 use Rattle.qo_plug.proofs.StartLemmas.{ok-gives, path-all_pins, path-book, path-claims, path-kept, path-live, path-pins, started-told, starts, still-live, still-pathless}
 use Rattle.qo_plug.proofs.starting.start.Goals as goal
@@ -27,14 +27,14 @@ returns-clause-shown g c = λ b t held buses path.
 
 pub returns-clause-told : goal.returns-clause-told
 returns-clause-told g c = λ b t same.
-    let is : c.plug.new.self ≡ told true c.args.device.birth c.args.hotplug.now =
-    ok-gives (c.plug.new.self ≡ told true c.args.device.birth c.args.hotplug.now) c.plug.result c.unwrap.result c.unwrap.ensures c.plug.ensures.ok in
+    let is : c.plug.new.self ≡ notified true c.args.device.birth c.args.hotplug.now =
+    ok-gives (c.plug.new.self ≡ notified true c.args.device.birth c.args.hotplug.now) c.plug.result c.unwrap.result c.unwrap.ensures c.plug.ensures.ok in
     started-told c.args.device.birth t b c.args.hotplug.now c.plug.new.self is same
 
 pub returns-clause-pending : goal.returns-clause-pending
 returns-clause-pending g c =
-    let is : c.plug.new.self ≡ told true c.args.device.birth c.args.hotplug.now =
-    ok-gives (c.plug.new.self ≡ told true c.args.device.birth c.args.hotplug.now) c.plug.result c.unwrap.result c.unwrap.ensures c.plug.ensures.ok in
+    let is : c.plug.new.self ≡ notified true c.args.device.birth c.args.hotplug.now =
+    ok-gives (c.plug.new.self ≡ notified true c.args.device.birth c.args.hotplug.now) c.plug.result c.unwrap.result c.unwrap.ensures c.plug.ensures.ok in
     ap (λ (x : Asked). x.pending) is
 
 pub returns-clause-book : goal.returns-clause-book

@@ -10,14 +10,15 @@ returns-clause-written g c = λ b s fit.
 
 pub returns-clause-book : goal.returns-clause-book
 returns-clause-book g c =
-    put-book c.args.heap.now c.facts.ensures c.args.dev c.body_mut.result.now c.write.new.self c.requires.live c.body_mut.ensures.body c.write.ensures.kept
+    put-book c.args.heap.now c.reveal_invariant.ensures c.args.dev c.body_mut.result.now c.write.new.self c.requires.live c.body_mut.ensures.body
+    c.write.ensures.kept
 
 pub returns-clause-live : goal.returns-clause-live
 returns-clause-live g c = put-live c.args.heap.now c.args.dev c.write.new.self c.requires.live
 
 pub returns-clause-absent : goal.returns-clause-absent
 returns-clause-absent g c =
-    put-none c.args.heap.now c.facts.ensures c.args.dev c.body_mut.result.now c.write.new.self c.requires.live c.body_mut.ensures.body c.write.result
+    put-none c.args.heap.now c.reveal_invariant.ensures c.args.dev c.body_mut.result.now c.write.new.self c.requires.live c.body_mut.ensures.body c.write.result
     c.write.ensures.absent
 
 pub returns-clause-kept : goal.returns-clause-kept

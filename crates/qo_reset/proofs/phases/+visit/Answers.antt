@@ -48,14 +48,14 @@ loop-child-preserved g t c =
           c.loop-child.heap c.is_bus-bus.result c.loop-child.invariant c.is_bus-bus.ensures read
     ]
 
-pub turn-requires-clause-live : goal.turn-requires-clause-live
-turn-requires-clause-live g t c =
+pub visit_one-requires-clause-live : goal.visit_one-requires-clause-live
+visit_one-requires-clause-live g t c =
     live-to c.args.act c.args.only_out (births_of c.args.holds.now) (c.args.levels - 1) c.args.o.birth c.loop-child.at c.args.heap.now c.loop-child.heap
     c.args.o c.loop-child.invariant c.requires.live
 
 pub returns : goal.returns
 returns g t c =
-    c.turn.ensures
+    c.visit_one.ensures
     ∙ to-all c.args.act c.args.only_out (births_of c.args.holds.now) c.args.levels (c.args.levels - 1) c.args.o.birth c.loop-child.at c.args.heap.now
     c.loop-child.heap c.is_bus-bus.result (one-less c.args.levels c.if-levels-eq0.false) c.loop-child.invariant c.is_bus-bus.ensures
     (sym c.in_default.is ∙ c.below_at.ensures.below)

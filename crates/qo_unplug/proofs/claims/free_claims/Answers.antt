@@ -16,7 +16,7 @@ returns-clause-undoes g c = λ held asked.
     let kept = c.take_claims-kept.result in
     let u = c.take_claims-kept.new.heap in
     let own = same_Some (kept_of content.body) kept (sym (ap (option_map (λ (d : Content). kept_of d.body)) there) ∙ c.take_claims-kept.ensures.taken) in
-    undoes-freed c.args.heap.now u (record u { claims = c.free_kept.new.claims }) c.facts.ensures c.args.o.birth content there kept own
+    undoes-freed c.args.heap.now u (record u { claims = c.free_kept.new.claims }) c.reveal_invariant.ensures c.args.o.birth content there kept own
     c.take_claims-kept.ensures.left
     (ap (λ (h : ClaimsTaken). record u { claims = h }) (c.free_kept.ensures ∙ ap (without_kept kept) c.claims.ensures.claims)) held asked
 

@@ -12,5 +12,5 @@ pub returns-clause-left : goal.returns-clause-left
 returns-clause-left g c =
     let (content, there) = live-content c.args.heap.now c.args.o c.requires in
     let body = same_Some content.body c.body_mut.result.now (sym (ap (option_map (λ (d : Content). d.body)) there) ∙ c.body_mut.ensures.body) in
-    bare-left c.args.heap.now c.facts.ensures c.args.o.birth content there _
+    bare-left c.args.heap.now c.reveal_invariant.ensures c.args.o.birth content there _
     (c.take_claims.ensures.left ∙ ap (λ (b : Body). with_kept none_kept b) (sym body))

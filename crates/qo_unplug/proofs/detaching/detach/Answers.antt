@@ -21,19 +21,19 @@ take_out-requires-clause-live g c =
 
 pub take_out-requires-clause-pinned : goal.take_out-requires-clause-pinned
 take_out-requires-clause-pinned g c =
-    let pinned = goes-pin c.args.heap.now c.pin.new.self c.facts.ensures c.args.dev c.requires.live c.pin.ensures.now in
+    let pinned = goes-pin c.args.heap.now c.pin.new.self c.reveal_invariant.ensures c.args.dev c.requires.live c.pin.ensures.now in
     unrealized-pinned c.args.heap.now c.pin.new.self c.unrealize.new.heap c.args.dev.birth pinned c.unrealize.ensures.undoes.pins
 
 pub take_out-requires-clause-room : goal.take_out-requires-clause-room
 take_out-requires-clause-room g c =
-    let pinned = goes-pin c.args.heap.now c.pin.new.self c.facts.ensures c.args.dev c.requires.live c.pin.ensures.now in
-    detach-room c.args.heap.now c.pin.new.self c.unrealize.new.heap c.facts.ensures c.args.dev.birth c.live-levels.result c.requires.pins
+    let pinned = goes-pin c.args.heap.now c.pin.new.self c.reveal_invariant.ensures c.args.dev c.requires.live c.pin.ensures.now in
+    detach-room c.args.heap.now c.pin.new.self c.unrealize.new.heap c.reveal_invariant.ensures c.args.dev.birth c.live-levels.result c.requires.pins
     c.live-levels.ensures pinned
     c.unrealize.ensures.undoes.pins
 
 pub drop_pin-requires-clause-live : goal.drop_pin-requires-clause-live
 drop_pin-requires-clause-live g c =
-    let pinned = goes-pin c.args.heap.now c.pin.new.self c.facts.ensures c.args.dev c.requires.live c.pin.ensures.now in
+    let pinned = goes-pin c.args.heap.now c.pin.new.self c.reveal_invariant.ensures c.args.dev c.requires.live c.pin.ensures.now in
     taken-live (taken_within c.live-levels.result c.args.dev.birth) c.unrealize.new.heap c.take_out.new.heap c.take_out.ensures
     (takes-taken_within c.live-levels.result c.args.dev.birth) c.args.dev
     (c.unrealize.ensures.undoes.live c.args.dev (pin-live c.args.heap.now c.pin.new.self c.args.dev.birth c.pin.ensures.now c.args.dev c.requires.live))
@@ -41,22 +41,22 @@ drop_pin-requires-clause-live g c =
 
 pub drop_pin-requires-clause-pinned : goal.drop_pin-requires-clause-pinned
 drop_pin-requires-clause-pinned g c =
-    let pinned = goes-pin c.args.heap.now c.pin.new.self c.facts.ensures c.args.dev c.requires.live c.pin.ensures.now in
-    pinned-of c.take_out.new.heap c.facts-2.ensures c.args.dev.birth
+    let pinned = goes-pin c.args.heap.now c.pin.new.self c.reveal_invariant.ensures c.args.dev c.requires.live c.pin.ensures.now in
+    pinned-of c.take_out.new.heap c.reveal_invariant-2.ensures c.args.dev.birth
     (taken-pinned (taken_within c.live-levels.result c.args.dev.birth) c.unrealize.new.heap c.take_out.new.heap c.take_out.ensures
     (takes-taken_within c.live-levels.result c.args.dev.birth) c.args.dev.birth
     (unrealized-pinned c.args.heap.now c.pin.new.self c.unrealize.new.heap c.args.dev.birth pinned c.unrealize.ensures.undoes.pins))
 
 pub returns-clause-shown : goal.returns-clause-shown
 returns-clause-shown g c = λ b tree clocks beside.
-    let pinned = goes-pin c.args.heap.now c.pin.new.self c.facts.ensures c.args.dev c.requires.live c.pin.ensures.now in
+    let pinned = goes-pin c.args.heap.now c.pin.new.self c.reveal_invariant.ensures c.args.dev c.requires.live c.pin.ensures.now in
     beside-detached c.args.heap.now c.pin.new.self c.unrealize.new.heap c.take_out.new.heap c.drop_pin.new.heap c.args.resets.now.births
     c.unrealize.new.resets.births c.args.hotplug.now c.unrealize.new.hotplug c.args.dev.birth c.live-levels.result c.live-levels.ensures c.pin.ensures.now
     pinned c.unrealize.ensures.undoes c.take_out.ensures c.drop_pin.ensures.goes b tree clocks beside
 
 pub returns-clause-book : goal.returns-clause-book
 returns-clause-book g c =
-    let pinned = goes-pin c.args.heap.now c.pin.new.self c.facts.ensures c.args.dev c.requires.live c.pin.ensures.now in
+    let pinned = goes-pin c.args.heap.now c.pin.new.self c.reveal_invariant.ensures c.args.dev c.requires.live c.pin.ensures.now in
     book-detached (λ b. device_within b (length c.pin.new.self.rows + 1) c.args.dev.birth) (taken_within c.live-levels.result c.args.dev.birth)
     c.args.heap.now c.pin.new.self c.unrealize.new.heap c.take_out.new.heap c.drop_pin.new.heap c.args.resets.now.births c.unrealize.new.resets.births
     c.args.hotplug.now c.unrealize.new.hotplug c.args.dev.birth pinned c.unrealize.ensures.undoes c.take_out.ensures c.drop_pin.ensures.goes
@@ -69,8 +69,8 @@ returns-clause-names g c =
 
 pub returns-clause-pins : goal.returns-clause-pins
 returns-clause-pins g c =
-    let pinned = goes-pin c.args.heap.now c.pin.new.self c.facts.ensures c.args.dev c.requires.live c.pin.ensures.now in
-    pins-detached c.args.heap.now c.pin.new.self c.unrealize.new.heap c.take_out.new.heap c.drop_pin.new.heap c.facts.ensures c.args.dev.birth
+    let pinned = goes-pin c.args.heap.now c.pin.new.self c.reveal_invariant.ensures c.args.dev c.requires.live c.pin.ensures.now in
+    pins-detached c.args.heap.now c.pin.new.self c.unrealize.new.heap c.take_out.new.heap c.drop_pin.new.heap c.reveal_invariant.ensures c.args.dev.birth
     c.live-levels.result pinned
     c.unrealize.ensures.undoes.pins
     c.take_out.ensures c.drop_pin.ensures.goes
@@ -83,7 +83,7 @@ returns-clause-timely g c =
 
 pub returns-clause-claims : goal.returns-clause-claims
 returns-clause-claims g c = λ b tree clocks beside due h.
-    let pinned = goes-pin c.args.heap.now c.pin.new.self c.facts.ensures c.args.dev c.requires.live c.pin.ensures.now in
+    let pinned = goes-pin c.args.heap.now c.pin.new.self c.reveal_invariant.ensures c.args.dev c.requires.live c.pin.ensures.now in
     claims-detached c.args.heap.now c.pin.new.self c.unrealize.new.heap c.take_out.new.heap c.drop_pin.new.heap c.args.resets.now.births
     c.unrealize.new.resets.births c.args.hotplug.now c.unrealize.new.hotplug c.args.dev.birth c.live-levels.result c.live-levels.ensures c.pin.ensures.now
     pinned c.unrealize.ensures c.take_out.ensures c.drop_pin.ensures.goes b tree clocks beside due h

@@ -13,12 +13,13 @@ use Rattle.qo_unplug.proofs.unparenting.+apart.Goals as goal
 pub take_first_kid-returns-in_default-clause-goes : goal.take_first_kid-returns-in_default-clause-goes
 take_first_kid-returns-in_default-clause-goes g t c =
     goes-no_kid c.args.heap.now c.args.levels c.args.bus
-    (kid-any c.args.heap.now c.shown.ensures.0 c.shown.ensures.1 c.args.bus None (λ b s. c.in_default.ensures.kid b s))
+    (kid-any c.args.heap.now c.reveal_board.ensures.0 c.reveal_board.ensures.1 c.args.bus None (λ b s. c.in_default.ensures.kid b s))
 
 pub take_first_kid-returns-clause-goes : goal.take_first_kid-returns-clause-goes
 take_first_kid-returns-clause-goes g t c =
     goes-first_kid c.args.heap.now c.take_apart.new.heap c.args.levels c.args.bus c.in-Some.kid.birth
-    (kid-any c.args.heap.now c.shown.ensures.0 c.shown.ensures.1 c.args.bus (Some c.in-Some.kid.birth) (λ b s. c.in-Some.ensures.kid b s)) c.take_apart.ensures
+    (kid-any c.args.heap.now c.reveal_board.ensures.0 c.reveal_board.ensures.1 c.args.bus (Some c.in-Some.kid.birth) (λ b s. c.in-Some.ensures.kid b s))
+    c.take_apart.ensures
 
 -- the kids of a bus
 
@@ -63,12 +64,12 @@ lose_bus-returns g t c =
 pub lose_first_bus-returns-in_default-clause-goes : goal.lose_first_bus-returns-in_default-clause-goes
 lose_first_bus-returns-in_default-clause-goes g t c =
     goes-no_bus c.args.heap.now c.args.levels c.args.dev.birth
-    (bus-any c.args.heap.now c.shown.ensures.0 c.shown.ensures.1 c.args.dev.birth None (λ b s. c.in_default.ensures.bus b s))
+    (bus-any c.args.heap.now c.reveal_board.ensures.0 c.reveal_board.ensures.1 c.args.dev.birth None (λ b s. c.in_default.ensures.bus b s))
 
 pub lose_first_bus-returns-clause-goes : goal.lose_first_bus-returns-clause-goes
 lose_first_bus-returns-clause-goes g t c =
     goes-first_bus c.args.heap.now c.lose_bus.new.heap c.args.levels c.args.dev.birth c.in-Some.bus.birth
-    (bus-any c.args.heap.now c.shown.ensures.0 c.shown.ensures.1 c.args.dev.birth (Some c.in-Some.bus.birth) (λ b s. c.in-Some.ensures.bus b s))
+    (bus-any c.args.heap.now c.reveal_board.ensures.0 c.reveal_board.ensures.1 c.args.dev.birth (Some c.in-Some.bus.birth) (λ b s. c.in-Some.ensures.bus b s))
     c.lose_bus.ensures
 
 -- the buses of a device
@@ -132,7 +133,7 @@ take_apart-pin-requires-clause-room g t c = pin-room c.args.heap.now c.args.dev.
 
 pub take_apart-take_out-requires : goal.take_apart-take_out-requires
 take_apart-take_out-requires g t c κs within =
-    let pinned = goes-pin c.args.heap.now c.pin.new.self c.facts.ensures c.args.dev c.requires.live c.pin.ensures.now in (
+    let pinned = goes-pin c.args.heap.now c.pin.new.self c.reveal_invariant.ensures c.args.dev c.requires.live c.pin.ensures.now in (
       omega arith,
       (
         within,
@@ -148,7 +149,7 @@ take_apart-take_out-requires g t c κs within =
 
 pub take_apart-drop_pin-requires-clause-live : goal.take_apart-drop_pin-requires-clause-live
 take_apart-drop_pin-requires-clause-live g t c =
-    let pinned = goes-pin c.args.heap.now c.pin.new.self c.facts.ensures c.args.dev c.requires.live c.pin.ensures.now in
+    let pinned = goes-pin c.args.heap.now c.pin.new.self c.reveal_invariant.ensures c.args.dev c.requires.live c.pin.ensures.now in
     taken-live (taken_within (c.args.levels - 1) c.args.dev.birth) c.pin.new.self c.take_out.new.heap c.take_out.ensures
     (takes-taken_within (c.args.levels - 1) c.args.dev.birth) c.args.dev
     (pin-live c.args.heap.now c.pin.new.self c.args.dev.birth c.pin.ensures.now c.args.dev c.requires.live)
@@ -156,13 +157,13 @@ take_apart-drop_pin-requires-clause-live g t c =
 
 pub take_apart-drop_pin-requires-clause-pinned : goal.take_apart-drop_pin-requires-clause-pinned
 take_apart-drop_pin-requires-clause-pinned g t c =
-    let pinned = goes-pin c.args.heap.now c.pin.new.self c.facts.ensures c.args.dev c.requires.live c.pin.ensures.now in
-    pinned-of c.take_out.new.heap c.facts-2.ensures c.args.dev.birth
+    let pinned = goes-pin c.args.heap.now c.pin.new.self c.reveal_invariant.ensures c.args.dev c.requires.live c.pin.ensures.now in
+    pinned-of c.take_out.new.heap c.reveal_invariant-2.ensures c.args.dev.birth
     (taken-pinned (taken_within (c.args.levels - 1) c.args.dev.birth) c.pin.new.self c.take_out.new.heap c.take_out.ensures
     (takes-taken_within (c.args.levels - 1) c.args.dev.birth) c.args.dev.birth (pin-own c.args.heap.now c.pin.new.self c.args.dev.birth pinned))
 
 pub take_apart-returns : goal.take_apart-returns
 take_apart-returns g t c =
-    let pinned = goes-pin c.args.heap.now c.pin.new.self c.facts.ensures c.args.dev c.requires.live c.pin.ensures.now in
+    let pinned = goes-pin c.args.heap.now c.pin.new.self c.reveal_invariant.ensures c.args.dev c.requires.live c.pin.ensures.now in
     goes-apart c.args.heap.now c.pin.new.self c.take_out.new.heap c.drop_pin.new.heap c.args.levels c.args.dev.birth c.if-levels-eq0.false pinned
     c.take_out.ensures c.drop_pin.ensures.goes

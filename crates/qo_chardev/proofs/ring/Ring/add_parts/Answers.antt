@@ -4,7 +4,7 @@ use Rattle.qo_chardev.proofs.RingLemmas.{all_added, none_added, part_added}
 use Rattle.qo_chardev.proofs.ring.Ring.add_parts.Goals as goal
 
 pub loop-rest-init : goal.loop-rest-init
-loop-rest-init c = none_added c.args.text.now c.args.self.now c.requires c.facts.ensures
+loop-rest-init c = none_added c.args.text.now c.args.self.now c.requires c.reveal_invariant.ensures
 
 pub loop-rest-preserved : goal.loop-rest-preserved
 loop-rest-preserved c =

@@ -1,7 +1,7 @@
 use Rattle.std.proofs.Common.{◌≡◌, ◌∙◌, None, Some, position, sym, ap}
 use Rattle.std.proofs.lemmas.Option.{none-some, same_Some}
 use Rattle.qo_values.specs.Rings.{ring_drop, ring_oldest}
-use Rattle.qo_chardev.specs.Texts.{told}
+use Rattle.qo_chardev.specs.Texts.{encoded}
 use Rattle.qo_chardev.specs.Rings.{bytes_in, is_ring, ring_text}
 use Rattle.qo_chardev.proofs.RingsLemmas.{changed-to, differ-answered, text-at, text-none}
 use Rattle.std.proofs.lemmas.Result.{IfOk-weaker, on_ok_weaker}
@@ -18,7 +18,7 @@ module _ (c : goal.After-self-1) where
   found : position (is_ring c.args.id.now) c.self.inside.list.items ≡ Some c.in-Some.at
   found = rw c.self.view_is (sym c.place.ensures ∙ c.in-Some.is)
 
-  its : ring_text c.args.id.now c.args.most c.args.form c.args.self.now ≡ Some (told c.args.form (ring_oldest (bytes_in c.index_mut.result.now) c.args.most))
+  its : ring_text c.args.id.now c.args.most c.args.form c.args.self.now ≡ Some (encoded c.args.form (ring_oldest (bytes_in c.index_mut.result.now) c.args.most))
   its =
       let text = text-at c.args.id.now c.args.most c.args.form c.self.inside.list.items c.in-Some.at c.index_mut.result.now found c.index_mut.ensures.value in
       rw (← c.self.view_is) text

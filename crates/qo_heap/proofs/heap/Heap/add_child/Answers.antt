@@ -13,5 +13,5 @@ pub returns-clause-parent : goal.returns-clause-parent
 returns-clause-parent g c _ =
     let named = found-named _ c.slot.result (slots_of c.args.self.now c.args.o.birth) c.args.name false (rw c.as_str.ensures.value at c.slot.ensures.slot)
     (sym c.is_some.ensures ∙ c.if-is_some.false) in
-    let there : is_some c.parent.result ≡ true = search rules in
-    (named, ap (λ (o : Option Key). is_some o) (sym c.parent.ensures) ∙ there)
+    let there : is_some c.entry.result.now.parent ≡ true = search rules in
+    (named, ap (λ (o : Option Key). is_some o) (sym c.entry.ensures.parent) ∙ there)

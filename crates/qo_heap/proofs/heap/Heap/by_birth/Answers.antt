@@ -17,5 +17,5 @@ returns-then-o-birth-clause-live c =
 
 pub returns-clause-none : goal.returns-clause-none
 returns-clause-none c =
-    found-later c.args.birth 0 c.args.self.now.born c.args.self.now.rows c.in_ok-o.o c.facts.ensures.rising (sym c.in_ok-o.ensures)
+    found-later c.args.birth 0 c.args.self.now.born c.args.self.now.rows c.in_ok-o.o c.reveal_invariant.ensures.rising (sym c.in_ok-o.ensures)
     (other c.in_ok-o.o.birth c.args.birth c.if-o-birth.false)

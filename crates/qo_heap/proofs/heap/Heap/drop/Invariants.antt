@@ -1,5 +1,5 @@
 use Rattle.std.proofs.Common.{length}
 use Rattle.qo_heap.proofs.heap.Heap.drop.Given as goal
 
-abbrev pub decreases-loop-object : goal.decreases-loop-object
-decreases-loop-object l = length l.rest
+abbrev pub decreases-loop-entry : goal.decreases-loop-entry
+decreases-loop-entry l = length l.rest

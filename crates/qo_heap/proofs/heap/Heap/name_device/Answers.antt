@@ -1,13 +1,13 @@
 use Rattle.std.proofs.Common.{refl, ap, List, ℕ, ◌∙◌}
 use Rattle.qo_object.specs.Content.{with_id}
-use Rattle.qo_heap.proofs.InsideObjects.{EditedInside, edited-inside}
+use Rattle.qo_heap.proofs.InsideObjects.{EditedInside, quiet-inside, with_content, with_written}
 use Rattle.qo_heap.proofs.heap.Heap.name_device.Goals as goal
 
-edited : (g : _) (c : goal.After-self-1 g) → EditedInside c.self.inside c.args.o (with_id c.args.id) c.name_device.new.self
+edited : (g : _) (c : goal.After-self-1 g)
+    → EditedInside c.self.inside c.args.o (with_id c.args.id) (with_written c.self.inside c.args.o (with_content c.entry_mut.result.now c.name_device.new.self))
 edited g c =
-    edited-inside c.self.inside c.self.invariant c.args.o (rw (← c.self.view_is) at c.requires.live)
-    (with_id c.args.id) c.change.result.now c.name_device.new.self c.change.ensures.object
-    (c.name_device.ensures ∙ ap (λ (id : List ℕ). with_id id c.change.result.now) c.new.ensures) (λ x all. all) (λ x. refl)
+    quiet-inside c.self.inside c.self.invariant c.args.o (rw (← c.self.view_is) at c.requires.live)
+    (with_id c.args.id) c.entry_mut.result.now c.name_device.new.self c.entry_mut.ensures.kept (c.name_device.ensures ∙ ap (λ (id : List ℕ). with_id id c.entry_mut.result.now.object) c.new.ensures) (λ x. refl) (λ x. refl)
 
 pub invariant_of-self : goal.invariant_of-self
 invariant_of-self g c = (edited g c).good

@@ -1,13 +1,13 @@
 use Rattle.std.proofs.Common.{refl}
 use Rattle.qo_object.specs.Content.{with_work}
-use Rattle.qo_heap.proofs.InsideObjects.{EditedInside, edited-inside}
+use Rattle.qo_heap.proofs.InsideObjects.{EditedInside, quiet-inside, with_content, with_written}
 use Rattle.qo_heap.proofs.heap.Heap.set_work.Goals as goal
 
-edited : (g : _) (c : goal.After-self-1 g) → EditedInside c.self.inside c.args.o (with_work c.args.work) c.set_work.new.self
+edited : (g : _) (c : goal.After-self-1 g)
+    → EditedInside c.self.inside c.args.o (with_work c.args.work) (with_written c.self.inside c.args.o (with_content c.entry_mut.result.now c.set_work.new.self))
 edited g c =
-    edited-inside c.self.inside c.self.invariant c.args.o (rw (← c.self.view_is) at c.requires.live)
-    (with_work c.args.work) c.change.result.now c.set_work.new.self c.change.ensures.object c.set_work.ensures (λ x there. there)
-    (λ x. refl)
+    quiet-inside c.self.inside c.self.invariant c.args.o (rw (← c.self.view_is) at c.requires.live)
+    (with_work c.args.work) c.entry_mut.result.now c.set_work.new.self c.entry_mut.ensures.kept c.set_work.ensures (λ x. refl) (λ x. refl)
 
 pub invariant_of-self : goal.invariant_of-self
 invariant_of-self g c = (edited g c).good

@@ -1,13 +1,13 @@
 use Rattle.std.proofs.Common.{refl}
 use Rattle.qo_object.specs.Content.{without_pin}
-use Rattle.qo_heap.proofs.InsideObjects.{EditedInside, edited-inside}
+use Rattle.qo_heap.proofs.InsideObjects.{EditedInside, quiet-inside, with_content, with_written}
 use Rattle.qo_heap.proofs.heap.Heap.unpin.Goals as goal
 
-edited : (g : _) (c : goal.After-self-1 g) → EditedInside c.self.inside c.args.o without_pin c.unpin.new.self
+edited : (g : _) (c : goal.After-self-1 g)
+    → EditedInside c.self.inside c.args.o without_pin (with_written c.self.inside c.args.o (with_content c.entry_mut.result.now c.unpin.new.self))
 edited g c =
-    edited-inside c.self.inside c.self.invariant c.args.o (rw (← c.self.view_is) at c.requires.live)
-    without_pin c.change.result.now c.unpin.new.self c.change.ensures.object c.unpin.ensures (λ x all. all)
-    (λ x. refl)
+    quiet-inside c.self.inside c.self.invariant c.args.o (rw (← c.self.view_is) at c.requires.live)
+    without_pin c.entry_mut.result.now c.unpin.new.self c.entry_mut.ensures.kept c.unpin.ensures (λ x. refl) (λ x. refl)
 
 pub invariant_of-self : goal.invariant_of-self
 invariant_of-self g c = (edited g c).good

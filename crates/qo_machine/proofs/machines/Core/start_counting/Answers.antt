@@ -1,7 +1,8 @@
--- The board at first is the opening one.
-use Rattle.std.proofs.Common.{refl}
-use Rattle.qo_machine.proofs.MachineLemmas.{starts}
+-- The board at first is the opening one, and the lines are its own.
 use Rattle.qo_machine.proofs.machines.Core.start_counting.Goals as goal
 
-pub returns : goal.returns
-returns g c = record { state = (starts _ c.in_ok-start.ensures c.in_ok-closed_sessions.ensures c.new.ensures.items refl, refl) }
+pub returns-clause-state : goal.returns-clause-state
+returns-clause-state g c = c.begun.ensures.state c.in_ok-board.ensures
+
+pub returns-clause-wired : goal.returns-clause-wired
+returns-clause-wired g c = c.begun.ensures.wired c.in_ok-lines.ensures

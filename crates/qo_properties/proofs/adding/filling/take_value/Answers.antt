@@ -11,9 +11,9 @@ returns-then-at-plan-clause-left c = spent-past c.args.at c.args.plan.now c.if-a
 
 pub returns-clause-taken : goal.returns-clause-taken
 returns-clause-taken c =
-    c.spend.ensures.taken ∙ value-here c.args.at c.args.plan.now c.index-plan-at.result c.if-at-plan.false
+    c.take_one_value.ensures.taken ∙ value-here c.args.at c.args.plan.now c.index-plan-at.result c.if-at-plan.false
 
 pub returns-clause-left : goal.returns-clause-left
 returns-clause-left c =
-    ap (set c.args.plan.now c.args.at) c.spend.ensures.left
+    ap (set c.args.plan.now c.args.at) c.take_one_value.ensures.left
     ∙ spent-here c.args.at c.args.plan.now c.index-plan-at.result c.if-at-plan.false

@@ -23,20 +23,20 @@ returns-in_err-admitted-clause-change g c = λ b s.
     (adds-not b c.args.driver.now c.args.id.now c.args.props.now c.args.heap.now s c.in_err-admitted.field-0.0
     (λ code e. c.in_err-admitted.ensures.refused b code s (ap (λ (r : Refusal). Err r) e)))
 
-pub returns-in_err-attempt-in-Err-Refused-clause-change : goal.returns-in_err-attempt-in-Err-Refused-clause-change
-returns-in_err-attempt-in-Err-Refused-clause-change g c = λ b s.
-    let is : c.from_residual-in_err-attempt-in-Err-Refused.result ≡ Err Memory = search rules in
-    subst (λ (r : Result (Unit {0}) Refusal). Adds b c.args.driver.now c.args.id.now c.args.props.now r c.attempt.new.heap) (sym is)
-    (adds-tried b c.args.driver.now c.args.id.now c.args.props.now c.args.heap.now c.attempt.new.heap s c.in_ok-admitted.admitted.kind
-    (c.in_ok-admitted.ensures.open b s) c.in_ok-admitted.ensures.kind (inl c.in_err-attempt-in-Err-Refused.ensures.err))
+pub returns-in_err-failed_add-in-Err-Refused-clause-change : goal.returns-in_err-failed_add-in-Err-Refused-clause-change
+returns-in_err-failed_add-in-Err-Refused-clause-change g c = λ b s.
+    let is : c.from_residual-in_err-failed_add-in-Err-Refused.result ≡ Err Memory = search rules in
+    subst (λ (r : Result (Unit {0}) Refusal). Adds b c.args.driver.now c.args.id.now c.args.props.now r c.failed_add.new.heap) (sym is)
+    (adds-tried b c.args.driver.now c.args.id.now c.args.props.now c.args.heap.now c.failed_add.new.heap s c.in_ok-admitted.admitted.kind
+    (c.in_ok-admitted.ensures.open b s) c.in_ok-admitted.ensures.kind (inl c.in_err-failed_add-in-Err-Refused.ensures.err))
 
 pub returns-in-Err-Refused-clause-change : goal.returns-in-Err-Refused-clause-change
 returns-in-Err-Refused-clause-change g c = λ b s.
     let is : c.plan.result ≡ Err (Refused c.in-Err-Refused.code) = cc in
-    subst (λ (code : Code). Adds b c.args.driver.now c.args.id.now c.args.props.now (Err (Refused code)) c.attempt.new.heap) (sym c.in-Err-Refused.code-is)
-    (adds-refused b c.args.driver.now c.args.id.now c.args.props.now c.attempt.new.heap c.in_ok-admitted.admitted.kind c.in-Err-Refused.code
+    subst (λ (code : Code). Adds b c.args.driver.now c.args.id.now c.args.props.now (Err (Refused code)) c.failed_add.new.heap) (sym c.in-Err-Refused.code-is)
+    (adds-refused b c.args.driver.now c.args.id.now c.args.props.now c.failed_add.new.heap c.in_ok-admitted.admitted.kind c.in-Err-Refused.code
     (c.in_ok-admitted.ensures.open b s) c.in_ok-admitted.ensures.kind (told-refused c.plan.result c.in-Err-Refused.code _ is (c.plan.ensures.refused b s))
-    (subst (λ (x : Objects). Shows (with_attempt b c.in_ok-admitted.admitted.kind) x) (sym c.in_ok-attempt-in-Err-Refused.ensures.ok)
+    (subst (λ (x : Objects). Shows (with_attempt b c.in_ok-admitted.admitted.kind) x) (sym c.in_ok-failed_add-in-Err-Refused.ensures.ok)
     (shows-tried b c.args.heap.now s c.in_ok-admitted.admitted.kind)))
 
 pub returns-in-Err-Memory-clause-change : goal.returns-in-Err-Memory-clause-change
@@ -61,22 +61,22 @@ pub returns-clause-pins : goal.returns-clause-pins
 returns-clause-pins g c = c.in_ok-add_planned-in-Ok.ensures.pins
 
 pub returns-in-Err-Refused-clause-book : goal.returns-in-Err-Refused-clause-book
-returns-in-Err-Refused-clause-book g c = tried-keeps c.args.heap.now c.attempt.new.heap c.in_ok-admitted.admitted.kind
-    (inr c.in_ok-attempt-in-Err-Refused.ensures.ok)
+returns-in-Err-Refused-clause-book g c = tried-keeps c.args.heap.now c.failed_add.new.heap c.in_ok-admitted.admitted.kind
+    (inr c.in_ok-failed_add-in-Err-Refused.ensures.ok)
 
-pub returns-in_err-attempt-in-Err-Refused-clause-book : goal.returns-in_err-attempt-in-Err-Refused-clause-book
-returns-in_err-attempt-in-Err-Refused-clause-book g c = keeps-none c.args.heap.now c.attempt.new.heap c.in_err-attempt-in-Err-Refused.ensures.err
+pub returns-in_err-failed_add-in-Err-Refused-clause-book : goal.returns-in_err-failed_add-in-Err-Refused-clause-book
+returns-in_err-failed_add-in-Err-Refused-clause-book g c = keeps-none c.args.heap.now c.failed_add.new.heap c.in_err-failed_add-in-Err-Refused.ensures.err
 
 pub returns-clause-book : goal.returns-clause-book
 returns-clause-book g c = c.in_ok-add_planned-in-Ok.ensures.book
 
 pub returns-in-Err-Refused-clause-kept : goal.returns-in-Err-Refused-clause-kept
 returns-in-Err-Refused-clause-kept g c =
-    tried-kept c.args.heap.now c.attempt.new.heap c.in_ok-admitted.admitted.kind (inr c.in_ok-attempt-in-Err-Refused.ensures.ok)
+    tried-kept c.args.heap.now c.failed_add.new.heap c.in_ok-admitted.admitted.kind (inr c.in_ok-failed_add-in-Err-Refused.ensures.ok)
 
-pub returns-in_err-attempt-in-Err-Refused-clause-kept : goal.returns-in_err-attempt-in-Err-Refused-clause-kept
-returns-in_err-attempt-in-Err-Refused-clause-kept g c =
-    same-kept c.args.heap.now c.attempt.new.heap c.in_err-attempt-in-Err-Refused.ensures.err
+pub returns-in_err-failed_add-in-Err-Refused-clause-kept : goal.returns-in_err-failed_add-in-Err-Refused-clause-kept
+returns-in_err-failed_add-in-Err-Refused-clause-kept g c =
+    same-kept c.args.heap.now c.failed_add.new.heap c.in_err-failed_add-in-Err-Refused.ensures.err
 
 pub returns-clause-kept : goal.returns-clause-kept
 returns-clause-kept g c = c.in_ok-add_planned-in-Ok.ensures.kept

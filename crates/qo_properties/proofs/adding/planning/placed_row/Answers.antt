@@ -4,7 +4,7 @@ use Rattle.std.specs.Str.{bytes_eq}
 use Rattle.qo_model.specs.RowNames.{property_name}
 use Rattle.qo_model.specs.declared.properties.Property.{Property}
 use Rattle.qo_properties.proofs.PlanningLemmas.{count-few, count-other, count-own, found-here, found-later, found-none, stands-here}
-use Rattle.qo_properties.proofs.adding.planning.placed_row.Goals.{else-begins, then-begins}
+use Rattle.qo_properties.proofs.adding.planning.placed_row.Goals.{else-is_stored, then-is_stored}
 use Rattle.qo_properties.proofs.adding.planning.placed_row.Goals as goal
 
 abbrev named : List ℕ → Property → Bool
@@ -35,13 +35,14 @@ loop-row-preserved c =
       found =
           found-later (named c.args.name.now) c.props-row-items.result.now c.loop-row.row-index _ c.loop-row-test.true c.loop-row.invariant.found
           (ap (λ (t : List ℕ). bytes_eq t c.args.name.now) (sym c.as_str.ensures) ∙ sym c.eq.ensures ∙ c.if-eq.false);
-      place = elim c.if-begins.branch [
-        | then-begins w ↦
-            w.place-is ∙ count-own c.args.kind c.props-row-items.result.now c.loop-row.row-index _ c.loop-row-test.true (sym w.if-begins.true ∙ c.begins.ensures
+      place = elim c.if-is_stored.branch [
+        | then-is_stored w ↦
+            w.place-is
+            ∙ count-own c.args.kind c.props-row-items.result.now c.loop-row.row-index _ c.loop-row-test.true (sym w.if-is_stored.true ∙ c.is_stored.ensures
             c.args.kind) c.loop-row.place c.loop-row.invariant.place
-        | else-begins w ↦
-            w.place-is ∙ count-other c.args.kind c.props-row-items.result.now c.loop-row.row-index _ c.loop-row-test.true (sym w.if-begins.false
-            ∙ c.begins.ensures
+        | else-is_stored w ↦
+            w.place-is ∙ count-other c.args.kind c.props-row-items.result.now c.loop-row.row-index _ c.loop-row-test.true (sym w.if-is_stored.false
+            ∙ c.is_stored.ensures
             c.args.kind) c.loop-row.place c.loop-row.invariant.place
       ];
     }

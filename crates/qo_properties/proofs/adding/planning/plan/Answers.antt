@@ -7,8 +7,8 @@ use Rattle.qo_values.specs.PropertyLists.{NamesRise, names_of}
 use Rattle.qo_heap.specs.Rows.{IsLive}
 use Rattle.qo_model.specs.Objects.{Given, refusal_by, refusal_of}
 use Rattle.qo_model.specs.Properties.{property_named}
-use Rattle.qo_properties.specs.declared.adding.filling.Fill.{Fill}
-use Rattle.qo_properties.specs.declared.adding.filling.Fill.TheVariants as fill
+use Rattle.qo_properties.specs.declared.adding.filling.InitialValue.{InitialValue}
+use Rattle.qo_properties.specs.declared.adding.filling.InitialValue.TheVariants as fill
 use Rattle.qo_properties.specs.NewSlots.{new_slots}
 use Rattle.qo_properties.specs.Filling.{Fits, IsGiven, target_in}
 use Rattle.qo_properties.proofs.GivenPropertyLemmas.{drop-at, passed-first}
@@ -20,9 +20,9 @@ loop-pair-init g c =
     rw c.in_ok-fills.ensures (
     record {
       refused = λ b s. refl;
-      told = λ b s. zip-same (IsGiven b []) fill.Nothing (λ slot. refl) (new_slots c.args.kind);
-      fits = zip-same Fits fill.Nothing (λ slot. refl) (new_slots c.args.kind);
-      live = all-same (λ (f : Fill). IfSome (target_in f) (IsLive c.args.heap.now.rows)) fill.Nothing tt (new_slots c.args.kind);
+      told = λ b s. zip-same (IsGiven b []) fill.Default (λ slot. refl) (new_slots c.args.kind);
+      fits = zip-same Fits fill.Default (λ slot. refl) (new_slots c.args.kind);
+      live = all-same (λ (f : InitialValue). IfSome (target_in f) (IsLive c.args.heap.now.rows)) fill.Default tt (new_slots c.args.kind);
     }
     )
 

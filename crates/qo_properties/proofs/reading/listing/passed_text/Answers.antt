@@ -24,7 +24,7 @@ returns-in_default-slot g c = λ b s.
 
 pub own_text-requires-clause-target : goal.own_text-requires-clause-target
 own_text-requires-clause-target g c =
-    target-live c.args.heap.now c.facts.ensures c.in-Some.o.birth (λ (t : Named). bytes_eq c.args.of.now t.0)
+    target-live c.args.heap.now c.reveal_invariant.ensures c.in-Some.o.birth (λ (t : Named). bytes_eq c.args.of.now t.0)
     (c.in-Some-slot.slot.name.now, c.in-Some-slot.slot.what.now) c.in-Some-slot.ensures.slot
 
 pub returns : goal.returns

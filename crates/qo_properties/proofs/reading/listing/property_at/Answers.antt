@@ -11,7 +11,7 @@ returns-in_default-clause-listed g c = λ b s. line-at b c.args.heap.now s c.arg
 
 pub type_text-ty-requires-clause-target : goal.type_text-ty-requires-clause-target
 type_text-ty-requires-clause-target g c =
-    slot-live c.args.heap.now c.facts.ensures c.args.o.birth c.args.at (c.in-Some.slot.name.now, c.in-Some.slot.what.now) c.in-Some.ensures.slot
+    slot-live c.args.heap.now c.reveal_invariant.ensures c.args.o.birth c.args.at (c.in-Some.slot.name.now, c.in-Some.slot.what.now) c.in-Some.ensures.slot
 
 pub returns-clause-listed : goal.returns-clause-listed
 returns-clause-listed g c = λ b s.

@@ -1,4 +1,4 @@
--- The mark tells whether the row is one of those.
+-- The access tells whether the row is one of those.
 use Rattle.std.proofs.Common.{◌≡◌, sym, ◌∙◌, None, Some, rules}
 use Rattle.qo_properties.proofs.ClockLemmas.{only-none, only-set, row-is}
 use Rattle.qo_properties.proofs.writing.clocks.set_row.Goals as goal

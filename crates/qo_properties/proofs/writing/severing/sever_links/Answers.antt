@@ -9,7 +9,7 @@ pub slot_count-count-requires : goal.slot_count-count-requires
 slot_count-count-requires g c = rw c.pin.ensures.now (live-edit c.args.o.birth with_pin c.args.heap.now.rows c.args.o c.requires.live)
 
 pub loop-at-init : goal.loop-at-init
-loop-at-init g c = severing-first c.args.heap.now c.pin.new.self c.facts.ensures c.args.o c.slot_count-count.result c.requires.live c.pin.ensures.now
+loop-at-init g c = severing-first c.args.heap.now c.pin.new.self c.reveal_invariant.ensures c.args.o c.slot_count-count.result c.requires.live c.pin.ensures.now
 
 pub loop-at-preserved : goal.loop-at-preserved
 loop-at-preserved g c = severing-next c.args.heap.now c.loop-at.heap c.sever_at.new.heap c.args.o c.slot_count-count.result c.loop-at.at c.loop-at.invariant
@@ -17,7 +17,7 @@ loop-at-preserved g c = severing-next c.args.heap.now c.loop-at.heap c.sever_at.
 
 pub drop_pin-requires-clause-pinned : goal.drop_pin-requires-clause-pinned
 drop_pin-requires-clause-pinned g c =
-    severing-pinned c.args.heap.now c.loop-at.heap c.args.o c.slot_count-count.result c.loop-at.at c.facts-2.ensures c.loop-at.invariant
+    severing-pinned c.args.heap.now c.loop-at.heap c.args.o c.slot_count-count.result c.loop-at.at c.reveal_invariant-2.ensures c.loop-at.invariant
 
 pub returns : goal.returns
 returns g c = severing-last c.args.heap.now c.loop-at.heap c.drop_pin.new.heap c.args.o c.slot_count-count.result c.loop-at.at c.loop-at.invariant

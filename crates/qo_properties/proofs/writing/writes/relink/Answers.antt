@@ -29,7 +29,8 @@ point_at-requires-clause-link g c = rw c.empty.ensures.now (emptied-link c.args.
 pub drop_hold-requires : goal.drop_hold-requires
 drop_hold-requires g c =
     IfSome_then c.held_at-held.result {P = IsLive c.empty.new.self.rows} {Q = IsLive c.point_at.new.heap.rows}
-    (rw c.empty.ensures.now (held-live_dropped c.args.heap.now c.facts.ensures c.args.o.birth c.args.at c.held_at-held.result c.held_at-held.ensures))
+    (rw c.empty.ensures.now
+    (held-live_dropped c.args.heap.now c.reveal_invariant.ensures c.args.o.birth c.args.at c.held_at-held.result c.held_at-held.ensures))
     c.point_at.ensures.names
 
 pub returns-clause-shown : goal.returns-clause-shown

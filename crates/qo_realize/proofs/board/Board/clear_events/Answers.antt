@@ -6,7 +6,7 @@ use Rattle.qo_realize.specs.Parts.{parts_of}
 use Rattle.qo_realize.specs.Representation.{StandsForGood}
 use Rattle.qo_realize.proofs.GoodBoardLemmas.{cleared-good}
 use Rattle.qo_realize.proofs.RepresentationLemmas.{cleared-stands}
-use Rattle.qo_events.specs.Queue.{told}
+use Rattle.qo_events.specs.Queue.{cleared}
 use Rattle.qo_realize.specs.BoardClaims.{KeepsClaims}
 use Rattle.qo_realize.proofs.ClaimsLemmas.{rows-claims}
 use Rattle.qo_realize.proofs.board.Board.clear_events.Goals as goal
@@ -24,5 +24,5 @@ invariant_of-self c =
         cleared-stands b inside.rings inside.anonymous inside.running inside.resets inside.hotplug v s,
         cleared-good b sound,
       ),
-      rows-claims b v (record v { events = told v.events }) s.shows refl c.self.invariant.2,
+      rows-claims b v (record v { events = cleared v.events }) s.shows refl c.self.invariant.2,
     )

@@ -1,6 +1,6 @@
 -- What was begun is placed, or what refuses it is told.
 use Rattle.std.proofs.Common.{ℕ, sym, subst, Err}
-use Rattle.qo_realize.specs.Stages.{Drafting, IsDrafted}
+use Rattle.qo_realize.specs.Stages.{DraftParts, IsDrafted}
 use Rattle.qo_realize.proofs.PlugLemmas.{plugs-good}
 use Rattle.qo_realize.proofs.StageLemmas.{place-barred, plugged-is}
 use Rattle.qo_plug.proofs.KeptLemmas.{new-then}
@@ -36,7 +36,7 @@ board_of-requires g c =
 
 pub returns-in-Ok : goal.returns-in-Ok
 returns-in-Ok g c = λ b a given.
-    let is = subst (λ (d : Drafting). IsDrafted b a d) (sym c.self.view_is) given in
+    let is = subst (λ (d : DraftParts). IsDrafted b a d) (sym c.self.view_is) given in
     let i = c.self.inside in
     let x = i.beside in
     plugged-is b a x.rings x.anonymous i.next x.running x.resets x.hotplug i.heap c.place.new.heap c.in-Ok.placed is.since is.kept c.in-Ok.ensures.book
@@ -44,7 +44,7 @@ returns-in-Ok g c = λ b a given.
 
 pub returns-in-Err : goal.returns-in-Err
 returns-in-Err g c = λ b a given.
-    let is = subst (λ (d : Drafting). IsDrafted b a d) (sym c.self.view_is) given in
+    let is = subst (λ (d : DraftParts). IsDrafted b a d) (sym c.self.view_is) given in
     let i = c.self.inside in
     let x = i.beside in
     rw c.board_of.ensures

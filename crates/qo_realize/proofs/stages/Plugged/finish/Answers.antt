@@ -1,7 +1,7 @@
 -- The device is added, or refused by the notices.
 use Rattle.std.proofs.Common.{ℕ, sym, subst, Ok, Err}
 use Rattle.qo_plug.specs.declared.refusals.AddRefusal.TheVariants.{Refused}
-use Rattle.qo_realize.specs.Stages.{IsPlugged, Plugging}
+use Rattle.qo_realize.specs.Stages.{IsPlugged, PluggedParts}
 use Rattle.qo_realize.proofs.PlugLemmas.{plugs-good}
 use Rattle.qo_realize.proofs.StageLemmas.{finish-barred, since-added, since-beside}
 use Rattle.qo_values.specs.declared.codes.Code.TheVariants.{E44}
@@ -22,7 +22,7 @@ board_of-requires g c =
           c.finish.new.heap c.in-Ok.ensures.book c.finish.new.hotplug c.in-Ok.added added),
       plug-claims b a c.in-Ok.added c.finish.new.hotplug is.since.before c.finish.new.heap is.since.good.run.devices is.since.good.backends is.since.stood.shows added
           (subst (λ (n : ℕ). KeptOrNewBut n is.since.before c.finish.new.heap) (sym c.in-Ok.ensures.device)
-          (far-but is.since.before i.heap c.finish.new.heap i.placed.device.birth i.placed.way is.kept c.in-Ok.ensures.kept)) is.since.claims,
+          (far-but is.since.before i.heap c.finish.new.heap i.placed.device.birth i.placed.plugging is.kept c.in-Ok.ensures.kept)) is.since.claims,
     )
 
 pub board_of-requires-in-Err : goal.board_of-requires-in-Err
@@ -37,13 +37,13 @@ board_of-requires-in-Err g c =
     bar.stage bar.code c.in-Err.ensures.code (c.in-Err.ensures.refused b a is.settled) in (
       plugs-good b a (Err (Refused bar.stage bar.code)) _ is.since.good barred.1,
       late-claims b a 8 E44 is.since.before c.finish.new.heap is.since.stood.shows (c.in-Err.ensures.refused b a is.settled)
-          (far-new is.since.before i.heap c.finish.new.heap i.placed.device.birth i.placed.way is.kept c.in-Err.ensures.full c.in-Err.ensures.kept)
+          (far-new is.since.before i.heap c.finish.new.heap i.placed.device.birth i.placed.plugging is.kept c.in-Err.ensures.full c.in-Err.ensures.kept)
           is.since.claims,
     )
 
 pub returns-in-Ok : goal.returns-in-Ok
 returns-in-Ok g c = λ b a given.
-    let is = subst (λ (p : Plugging). IsPlugged b a p) (sym c.self.view_is) given in
+    let is = subst (λ (p : PluggedParts). IsPlugged b a p) (sym c.self.view_is) given in
     let i = c.self.inside in
     let x = i.beside in
     let beside = since-beside b a x.rings x.anonymous i.next x.running x.resets x.hotplug i.heap is.since in
@@ -54,7 +54,7 @@ returns-in-Ok g c = λ b a given.
 
 pub returns-in-Err : goal.returns-in-Err
 returns-in-Err g c = λ b a given.
-    let is = subst (λ (p : Plugging). IsPlugged b a p) (sym c.self.view_is) given in
+    let is = subst (λ (p : PluggedParts). IsPlugged b a p) (sym c.self.view_is) given in
     let i = c.self.inside in
     let x = i.beside in
     let bar = c.in-Err.field-0 in

@@ -9,18 +9,18 @@ returns-then-self-clause-went g c = went_nowhere c.args.self.now (g.S.Source.lef
 pub returns-in_err-find_header-clause-went : goal.returns-in_err-find_header-clause-went
 returns-in_err-find_header-clause-went g c =
     let s = c.self.inside in
-    let q : Progress = record { held = s.window; headed = s.headed; place = s.place; opened = s.opened } in
+    let q : Progress = record { buffered = s.window; headed = s.headed; place = s.place; opened = s.opened } in
     filled_at q c.args.self.now _ _ _ c.self.view_is c.find_header.ensures.ahead
 
 pub returns-then-not-branch-clause-went : goal.returns-then-not-branch-clause-went
 returns-then-not-branch-clause-went g c =
     let s = c.self.inside in
-    let q : Progress = record { held = s.window; headed = s.headed; place = s.place; opened = s.opened } in
+    let q : Progress = record { buffered = s.window; headed = s.headed; place = s.place; opened = s.opened } in
     filled_at q c.args.self.now _ _ _ c.self.view_is c.find_header.ensures.ahead
 
 pub returns-clause-went : goal.returns-clause-went
 returns-clause-went g c =
     let s = c.self.inside in
-    let q : Progress = record { held = s.window; headed = s.headed; place = s.place; opened = s.opened } in
+    let q : Progress = record { buffered = s.window; headed = s.headed; place = s.place; opened = s.opened } in
     filled_then q c.args.self.now _ c.find_header.new.window _ _ c.self.view_is c.find_header.ensures.ahead (c.pass_header.ensures.went
     (g.S.Source.left c.find_header.new.source))

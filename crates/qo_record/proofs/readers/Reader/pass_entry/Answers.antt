@@ -7,13 +7,13 @@ use Rattle.qo_record.proofs.readers.Reader.pass_entry.Goals as goal
 
 -- the reader that is left has passed it
 has_passed : (c : goal.After-opened-2-1)
-    → record { held = c.let_go.new.self; headed = c.self.inside.headed; place = c.saturating_add-self-inside.result; opened = c.args.first.opened }
+    → record { buffered = c.let_go.new.self; headed = c.self.inside.headed; place = c.saturating_add-self-inside.result; opened = c.args.first.opened }
     ≡ passed c.args.self.now c.args.first
 has_passed c =
     let p = c.args.self.now in
     let f = c.args.first in
     let on = ap (λ (q : Progress). q.headed) c.self.view_is ∙ c.requires.headed in
-    let kept = c.let_go.ensures ∙ ap (λ (q : Progress). drop f.size q.held) c.self.view_is in
+    let kept = c.let_go.ensures ∙ ap (λ (q : Progress). drop f.size q.buffered) c.self.view_is in
     let moved = c.saturating_add-self-inside.ensures ∙ ap (λ (q : Progress). capped_offset (q.place + f.size)) c.self.view_is in
     passed_is p f _ _ _ on c.requires.first kept moved
 

@@ -6,10 +6,10 @@ use Rattle.qo_record.proofs.readers.Reader.pass_header.Goals as goal
 
 pub returns-clause-bad : goal.returns-clause-bad
 returns-clause-bad c =
-    let is = c.let_go.ensures ∙ ap (λ (p : Progress). drop 7 p.held) c.self.view_is in
+    let is = c.let_go.ensures ∙ ap (λ (p : Progress). drop 7 p.buffered) c.self.view_is in
     λ left. header_bad c.args.self.now _ left c.requires.fresh c.requires.there is
 
 pub returns-clause-went : goal.returns-clause-went
 returns-clause-went c =
-    let is = c.let_go.ensures ∙ ap (λ (p : Progress). drop 7 p.held) c.self.view_is in
+    let is = c.let_go.ensures ∙ ap (λ (p : Progress). drop 7 p.buffered) c.self.view_is in
     λ left. header_went c.args.self.now _ left c.requires.fresh c.requires.there is

@@ -1,0 +1,11 @@
+pub mod BelowLemmas
+pub mod LineLemmas
+pub mod LineRows
+pub mod OrderLemmas
+pub mod RegisterLemmas
+pub mod RowLemmas
+pub mod SameLemmas
+pub mod SlotLemmas
+pub mod TimeLemmas
+pub mod WiringLemmas
+pub mod RecordsLemmas

@@ -1,0 +1,5 @@
+pub mod Growth
+pub mod Laws
+pub mod Lines
+pub mod Registers
+pub mod Rows

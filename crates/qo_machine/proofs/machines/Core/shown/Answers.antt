@@ -1,7 +1,0 @@
-use Rattle.std.proofs.Common.{subst}
-use Rattle.qo_realize.specs.Representation.{StandsForGood}
-use Rattle.qo_machine.proofs.MachineLemmas.{seen_board}
-use Rattle.qo_machine.proofs.machines.Core.shown.Goals as goal
-
-pub returns : goal.returns
-returns c = subst StandsForGood (seen_board c.self.view_is) c.shown.ensures.stands

@@ -1,0 +1,60 @@
+-- A line is heard, its events are told, and it is answered.
+use Rattle.std.proofs.Common.{ℕ, List, [], refl, sym, ap, subst, ◌∙◌, append-nil}
+use Rattle.qo_commands.specs.Hearing.{heard}
+use Rattle.qo_commands.specs.Lines.{without_return}
+use Rattle.qo_machine.proofs.GuestLemmas.{line_left, line_refused, line_refused_left, line_served}
+use Rattle.qo_machine.proofs.MachineLemmas.{serves_over_by}
+use Rattle.qo_heap.proofs.HeapLemmas.{on-err}
+use Rattle.std.proofs.lemmas.Result.{on_ok_weaker}
+use Rattle.qo_machine.specs.Machine.{by_line}
+use Rattle.qo_machine.specs.Serving.{CameTo}
+use Rattle.qo_machine.proofs.serving.reply_to_line.Goals as goal
+
+pub returns-then-ended-clause-served : goal.returns-then-ended-clause-served
+returns-then-ended-clause-served g c = (
+  [],
+  sym (append-nil _),
+  tt,
+  serves_over_by (by_line c.args.outbox.now.at) c.args.machine.now c.args.machine.now c.args.line.now (sym c.if-ended.ensures)
+      refl,
+)
+
+pub returns-in-Ok-clause-served : goal.returns-in-Ok-clause-served
+returns-in-Ok-clause-served g c =
+    on_ok_weaker c.send_reply-sent.result
+    (λ p. (
+      p.0,
+      p.1,
+      p.2,
+      line_served c.args.outbox.now.at c.args.machine.now c.hear.new.self c.send_reply-sent.new.machine c.conclude.new.self c.args.line.now
+          c.in-Ok.reply p.0 (sym c.if-ended.ensures)
+          (λ b s. subst (λ (line : List ℕ). CameTo (heard b line) c.in-Ok.reply c.hear.new.self.board)
+          (c.without_return.ensures ∙ ap without_return c.as_slice.ensures) (c.in-Ok.ensures.came b s))
+          c.in-Ok.ensures.rest p.3 c.send_reply-sent.ensures.board c.send_reply-sent.ensures.rest c.conclude.ensures.state c.conclude.ensures.board,
+    )) c.send_reply-sent.ensures.sent
+
+pub returns-in-Ok-clause-left : goal.returns-in-Ok-clause-left
+returns-in-Ok-clause-left g c =
+    on-err c.send_reply-sent.result
+    (line_left c.args.outbox.now.at c.args.machine.now c.hear.new.self c.send_reply-sent.new.machine c.conclude.new.self c.args.line.now c.in-Ok.reply
+    (sym c.if-ended.ensures)
+    (λ b s. subst (λ (line : List ℕ). CameTo (heard b line) c.in-Ok.reply c.hear.new.self.board)
+    (c.without_return.ensures ∙ ap without_return c.as_slice.ensures) (c.in-Ok.ensures.came b s))
+    c.in-Ok.ensures.rest c.send_reply-sent.ensures.board c.send_reply-sent.ensures.rest c.conclude.ensures.state c.conclude.ensures.board)
+
+pub returns-in-Err-clause-served : goal.returns-in-Err-clause-served
+returns-in-Err-clause-served g c =
+    on_ok_weaker c.send_guest_memory_error.result
+    (λ more. (
+      _,
+      more,
+      (tt, tt),
+      line_refused c.args.outbox.now.at c.args.machine.now c.hear.new.self c.args.line.now _ (sym c.if-ended.ensures) refl c.in-Err.ensures.kept
+          c.in-Err.ensures.rest,
+    )) c.send_guest_memory_error.ensures.told
+
+pub returns-in-Err-clause-left : goal.returns-in-Err-clause-left
+returns-in-Err-clause-left g c =
+    on-err c.send_guest_memory_error.result
+    (line_refused_left c.args.outbox.now.at c.args.machine.now c.hear.new.self c.args.line.now (sym c.if-ended.ensures) c.in-Err.ensures.kept
+    c.in-Err.ensures.rest)

@@ -1,5 +1,0 @@
-use Rattle.qo_plug.proofs.AttemptLemmas.{Reached}
-use Rattle.qo_plug.proofs.attempting.act_buses.Given as goal
-
-abbrev pub invariant-loop-place : goal.invariant-loop-place
-invariant-loop-place g l = Reached l.act l.device.birth l.place l.fn.heap l.heap

@@ -1,8 +1,0 @@
-use Rattle.std.proofs.Common.{◌++◌, Option, subst}
-use Rattle.qo_heap.specs.Book.{IsBook}
-use Rattle.qo_plug.specs.declared.claiming.Label.{Label}
-use Rattle.qo_plug.specs.DeviceClaims.{labels_out}
-use Rattle.qo_plug.proofs.claiming.give_label.Goals as goal
-
-pub returns-in-Some-clause-book : goal.returns-in-Some-clause-book
-returns-in-Some-clause-book c = λ out h. c.give_one.ensures.book out (subst (λ (l : Option Label). IsBook (labels_out l ++ out) c.args.heap.now) c.in-Some.is h)

@@ -1,8 +1,0 @@
--- What stands inside is what is seen.
-use Rattle.std.proofs.Common.{subst}
-use Rattle.qo_realize.specs.BoardClaims.{KeepsClaims}
-use Rattle.qo_realize.specs.Parts.{Parts}
-use Rattle.qo_realize.proofs.board.Board.shown.Goals as goal
-
-pub returns-clause-claims : goal.returns-clause-claims
-returns-clause-claims c = subst (λ (p : Parts). KeepsClaims p.objects) c.self.view_is c.self.invariant.2

@@ -1,0 +1,131 @@
+//! Worked sessions in which the guest reads and writes registers at hardware addresses, and reads interrupt lines,
+//! byte for byte through the top call. Expected texts are written out by hand.
+
+use crate::objects::{add_row, gives, greeted, opening};
+use std::alloc::Global;
+use std::test::Fail;
+
+/// Adds an entry of a line of the guest, and its answer.
+fn add_line(
+    alloc: Global,
+    record: &mut Vec<u8>,
+    want: &mut String,
+    line: &str,
+    answer: &str,
+) -> Result<(), Fail> {
+    let text = format!(in alloc; "{}\n", line)?;
+    let head = format!(in alloc; "guest 1.000000 {}\n", text.len())?;
+    record.extend_from_slice(head.as_bytes())?;
+    record.extend_from_slice(text.as_bytes())?;
+    record.push(b'\n')?;
+    let answered = format!(in alloc; "g {}\n", answer)?;
+    want.push_str(&answered)?;
+    Ok(())
+}
+
+/// Adds an entry of a step of time, in ns, for which nothing is sent.
+fn add_step(alloc: Global, record: &mut Vec<u8>, span: &str) -> Result<(), Fail> {
+    let entry = format!(in alloc; "step 1.000000 {}\n", span)?;
+    record.extend_from_slice(entry.as_bytes())?;
+    Ok(())
+}
+
+/// Adds an input and what is sent for it: `guest` and a line, `step` and a span, or a command.
+fn add_input(
+    alloc: Global,
+    record: &mut Vec<u8>,
+    want: &mut String,
+    input: &str,
+    sent: &str,
+) -> Result<(), Fail> {
+    let Some((word, rest)) = input.split_once(" ") else {
+        return add_row(alloc, record, want, input, sent);
+    };
+    match word {
+        "guest" => add_line(alloc, record, want, rest, sent),
+        "step" => add_step(alloc, record, rest),
+        _ => add_row(alloc, record, want, input, sent),
+    }
+}
+
+/// Whether inputs on a fresh board are answered so, in order.
+fn holds(alloc: Global, rows: &[(&str, &str)]) -> Result<bool, Fail> {
+    let mut record = opening(alloc)?;
+    let mut want = greeted(alloc)?;
+    for (input, sent) in rows {
+        add_input(alloc, &mut record, &mut want, input, sent)?;
+    }
+    gives(alloc, record.as_slice(), want.as_bytes())
+}
+
+/// A UART and a DIMM, what shows at all addresses, and registers at theirs.
+const SHOWN: [(&str, &str); 12] = [
+    ("device_add {\"driver\":\"slot-uart\",\"id\":\"u0\"}", "R"),
+    (
+        "object-add {\"qom-type\":\"memory-backend-ram\",\"id\":\"mem0\",\"size\":1048576}",
+        "R",
+    ),
+    (
+        "device_add {\"driver\":\"mem-dimm\",\"id\":\"d0\",\"memdev\":\"/objects/mem0\"}",
+        "R",
+    ),
+    (
+        "x-memmap",
+        "[{\"at\":0,\"name\":\"boot\",\"offset\":0,\"size\":65536},{\"at\":65536,\"name\":\"/machine/peripheral/d0\",\"offset\":65536,\"size\":983040},{\"at\":4294967296,\"name\":\"/machine/peripheral/d0\",\"offset\":0,\"size\":1048576},{\"at\":17592186044416,\"name\":\"/machine/peripheral/u0\",\"offset\":0,\"size\":4096}]",
+    ),
+    ("guest peek 0x100000000004", "ok 0x00000001"),
+    ("guest peek 0x2", "no address"),
+    ("guest peek 0x200000", "no address"),
+    ("guest peek 0x0", "no register"),
+    ("guest peek 0x100000000400", "no register"),
+    ("guest poke 0x10000000000c 0x5", "ok"),
+    ("guest read 0 3", "ok 0x00000005"),
+    (
+        "x-guest {\"line\":\"peek 0x10000000000C\"}",
+        "{\"answer\":\"ok 0x00000005\"}",
+    ),
+];
+
+#[test]
+fn registers_show_at_their_addresses(rt: HostRuntime) -> Result<(), Fail> {
+    assert!(rt; holds(rt.alloc(), &SHOWN)?);
+    Ok(())
+}
+
+/// The lines of a UART, and of a bridge with a timer on its bus, which runs out every second tick.
+const RAISED: [(&str, &str); 19] = [
+    ("device_add {\"driver\":\"slot-uart\",\"id\":\"u0\"}", "R"),
+    ("guest irq", "ok 0x00000000"),
+    ("guest write 0 3 0x1", "ok"),
+    ("guest irq", "ok 0x00000001"),
+    (
+        "device_add {\"driver\":\"slot-bridge\",\"id\":\"br\",\"slot\":1}",
+        "R",
+    ),
+    (
+        "device_add {\"driver\":\"slot-timer\",\"id\":\"t\",\"bus\":\"br/bus.0\"}",
+        "R",
+    ),
+    ("guest write 1.0 1 0x1", "ok"),
+    ("guest write 1.0 0 0x1", "ok"),
+    ("guest irq", "ok 0x00000001"),
+    ("step 10", ""),
+    ("guest irq", "ok 0x00000003"),
+    ("step 10", ""),
+    ("guest irq", "ok 0x00000001"),
+    ("step 10", ""),
+    ("guest write 1 0 0x1", "ok"),
+    ("guest irq", "ok 0x00000001"),
+    (
+        "x-guest {\"line\":\"irq\"}",
+        "{\"answer\":\"ok 0x00000001\"}",
+    ),
+    ("guest irq 0", "no line"),
+    ("guest peek 0x10000000000c", "ok 0x00000001"),
+];
+
+#[test]
+fn interrupt_lines_rise_and_fall(rt: HostRuntime) -> Result<(), Fail> {
+    assert!(rt; holds(rt.alloc(), &RAISED)?);
+    Ok(())
+}
