@@ -2,8 +2,8 @@
 use Rattle.std.proofs.Common.{◌≡◌, ap, sym, ◌∙◌, ℕ}
 use Rattle.qo_guest.specs.declared.answers.GuestAnswer.TheVariants.{Value}
 use Rattle.qo_heap.specs.Board.{Shows}
-use Rattle.qo_lines.specs.Rows.{LinesAre, Wired}
-use Rattle.qo_lines.proofs.RecordsLemmas.{irq-same, lines-same}
+use Rattle.qo_layout.specs.Rows.{LinesAre, Wired}
+use Rattle.qo_layout.proofs.LineRecordsLemmas.{irq-same, lines-same}
 use Rattle.qo_model.specs.Board.{Board}
 use Rattle.qo_model.specs.Clocks.{ClocksFit}
 use Rattle.qo_realize.specs.Parts.{Parts}

@@ -10,7 +10,7 @@ use Rattle.qo_model.specs.Depth.{among}
 use Rattle.qo_model.specs.Hotplug.{completed, refused, reset_whole}
 use Rattle.qo_model.specs.Paths.{is_of}
 use Rattle.qo_layout.specs.Layout.{register_at}
-use Rattle.qo_lines.specs.Lines.{irq_of}
+use Rattle.qo_layout.specs.Lines.{irq_of}
 use Rattle.qo_layout.specs.declared.addresses.TheConstants.{BOOT_LEAF}
 use Rattle.qo_layout.specs.declared.views.RegisterPlace.{RegisterPlace}
 use Rattle.qo_buses.specs.Addresses.{addressed}

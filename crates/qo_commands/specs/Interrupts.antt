@@ -1,5 +1,5 @@
 -- The interrupt lines that stand beside a board are its own (hw/core/irq.c).
-use Rattle.qo_lines.specs.Rows.{LinesAre, Wired}
+use Rattle.qo_layout.specs.Rows.{LinesAre, Wired}
 use Rattle.qo_model.specs.Board.{Board}
 use Rattle.qo_realize.specs.Parts.{Parts}
 use Rattle.qo_realize.specs.Representation.{Stands}

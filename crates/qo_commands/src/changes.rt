@@ -17,7 +17,7 @@ use crate::hearing::{Heard, hear};
 use crate::rings::{add_ring, read_ring, remove_ring, write_ring};
 use qo_guest::GuestAnswer;
 use qo_heap::Steps;
-use qo_lines::Lines;
+use qo_layout::Lines;
 use qo_plug::{AddRefusal, DeviceOptions};
 use qo_realize::Board;
 use qo_replies::Event;

@@ -7,14 +7,14 @@ ghost use Rattle.qo_realize.specs.Representation.{Stands};
 ghost use Rattle.qo_buses.specs.Addresses.{addressed};
 ghost use Rattle.qo_commands.specs.Hearing.{Came, acked, acted, heard, nacked, irq_by, outcome_of, polled_by, read_by, reset_by, shut_down, notice_answer, value_answer, written_by};
 ghost use Rattle.qo_commands.specs.Interrupts.{HasLines};
-ghost use Rattle.qo_lines.specs.Rows.{LinesAre};
+ghost use Rattle.qo_layout.specs.Rows.{LinesAre};
 ghost use Rattle.qo_sound_devices.specs.SoundDevices.{SoundDevices};
 
 use crate::memory::{peek, poke};
 use qo_guest::{Addr, GuestAct, GuestAnswer, read_line};
 use qo_heap::{Oid, Steps};
 use qo_hotplug::Notice;
-use qo_lines::Lines;
+use qo_layout::Lines;
 use qo_realize::Board;
 use qo_replies::Event;
 use std::alloc::{AllocError, Global};

@@ -4,7 +4,7 @@ ghost use Rattle.std.specs.Prelude.{IfOk};
 ghost use Rattle.qo_commands.specs.Interrupts.{HasLines};
 
 use qo_heap::Steps;
-use qo_lines::Lines;
+use qo_layout::Lines;
 use qo_realize::Board;
 use std::alloc::{AllocError, Global};
 use std::sync::ledger::Ledger;

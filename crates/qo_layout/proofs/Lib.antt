@@ -14,3 +14,14 @@ pub mod RegionLemmas
 pub mod ShowLemmas
 pub mod ShownLemmas
 pub mod WindowLemmas
+pub mod BelowLemmas
+pub mod LineLemmas
+pub mod LineOrderLemmas
+pub mod LineRecordsLemmas
+pub mod LineRows
+pub mod RegisterLemmas
+pub mod RowLemmas
+pub mod SameLemmas
+pub mod SlotLemmas
+pub mod TimeLemmas
+pub mod WiringLemmas

@@ -6,8 +6,8 @@ use Rattle.qo_commands.specs.Commands.{without_events}
 use Rattle.qo_commands.specs.Interrupts.{HasLines}
 use Rattle.qo_commands.proofs.InterruptLemmas.{by-lines, has-lines}
 use Rattle.qo_heap.specs.Board.{Shows}
-use Rattle.qo_lines.specs.Rows.{AreShaped, LinesAre, Wired}
-use Rattle.qo_lines.proofs.RecordsLemmas.{lines-same, shaped-same}
+use Rattle.qo_layout.specs.Rows.{AreShaped, LinesAre, Wired}
+use Rattle.qo_layout.proofs.LineRecordsLemmas.{lines-same, shaped-same}
 use Rattle.qo_model.specs.Board.{Board}
 use Rattle.qo_model.specs.Clocks.{ClocksFit}
 use Rattle.qo_model.specs.Objects.{Changed}

@@ -17,7 +17,7 @@ use Rattle.qo_guest.specs.declared.answers.GuestAnswer.{GuestAnswer}
 use Rattle.qo_guest.specs.declared.answers.GuestAnswer.TheVariants.{NoMemory}
 use Rattle.qo_commands.specs.Hearing.{Outcome, heard}
 use Rattle.qo_commands.specs.Lines.{lines_of, without_return}
-use Rattle.qo_lines.specs.Rows.{Wired}
+use Rattle.qo_layout.specs.Rows.{Wired}
 use Rattle.qo_model.specs.Board.{Board}
 use Rattle.qo_model.specs.Opening.{opening_board}
 use Rattle.qo_replies.specs.Events.{event_line}

@@ -17,7 +17,7 @@ use qo_commands::{ask, cut_lines, hear, interrupt_lines};
 use qo_events::DeviceEvent;
 use qo_framing::Item;
 use qo_heap::Steps;
-use qo_lines::Lines;
+use qo_layout::Lines;
 use qo_realize::Board;
 use qo_replies::{Event, return_written};
 use qo_requests::{Call, Change, Query};

@@ -3,7 +3,7 @@
 ghost use Rattle.std.specs.Prelude.{◌≡◌, ◌<◌};
 
 use qo_heap::Steps;
-use qo_lines::Lines;
+use qo_layout::Lines;
 use qo_plug::{AddRefusal, Added, DeviceOptions};
 use qo_realize::Board;
 use qo_values::PropList;

@@ -1,8 +1,8 @@
 -- The board of a machine is sound.
 use Rattle.std.proofs.Common.{sym, subst}
 use Rattle.qo_heap.specs.Objects.{Objects}
-use Rattle.qo_lines.proofs.TimeLemmas.{timely_lem}
-use Rattle.qo_lines.specs.Registers.{AreTimely}
+use Rattle.qo_layout.proofs.TimeLemmas.{timely_lem}
+use Rattle.qo_layout.specs.Registers.{AreTimely}
 use Rattle.tests_board.proofs.lines.lines.Goals as goal
 
 pub make-requires : goal.make-requires

@@ -1,7 +1,7 @@
 -- The time goes on, and the registers that lines hang on are read again.
 use Rattle.std.proofs.Common.{◌≡◌, ap, sym, subst}
 use Rattle.qo_heap.specs.Board.{Shows}
-use Rattle.qo_lines.specs.Rows.{AreShaped, Wired}
+use Rattle.qo_layout.specs.Rows.{AreShaped, Wired}
 use Rattle.qo_realize.specs.Time.{advanced}
 use Rattle.qo_realize.proofs.RegisterLemmas.{timely-there}
 use Rattle.qo_machine.specs.Machine.{Seen}
