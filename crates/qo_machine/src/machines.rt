@@ -410,14 +410,11 @@ impl Core {
         outs
     }
 
-    /// A list without items, in the room of the one before. It takes no memory.
+    /// The room of the items before. It takes no memory.
     fn item_room(&mut self, alloc: Global) -> Vec<Item>
-        ensures none { result.items ≡ [] }
-        ensures same { self.new ≡ self.old }
+        ensures { self.new ≡ self.old }
     {
-        let mut room = replace(&mut self.items, Vec::new(alloc));
-        room.clear();
-        room
+        replace(&mut self.items, Vec::new(alloc))
     }
 
     /// Keeps the room of items that were served, and lets them go. It takes no memory.
@@ -452,8 +449,7 @@ impl Core {
         bytes: &[u8],
         room: Vec<Item>,
     ) -> Result<Vec<Item>, AllocError>
-        requires session { session < SESSIONS }
-        requires room { room.items ≡ [] }
+        requires { session < SESSIONS }
         ensures items { (b : Tree) → IfOk result (λ items. items.items ≡ (fed (session_of (state_with b self.old) session) bytes.now).items) }
         ensures state { (b : Tree) → IfOk result (λ items. state_with b self.new ≡ with_session (state_with b self.old) session (fed (session_of (state_with b self.old) session) bytes.now).session) }
         ensures board { self.new.board ≡ self.old.board }
