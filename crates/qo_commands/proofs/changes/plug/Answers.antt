@@ -8,23 +8,23 @@ use Rattle.qo_commands.proofs.ChangeLemmas.{plug-err, plug-ok, plugs-as, refused
 use Rattle.qo_commands.proofs.changes.plug.Goals as goal
 use Rattle.qo_commands.proofs.changes.plug.Goals.{in-Ok, in-Err-Refused, in-Err-Memory}
 
-pub returns : goal.returns
-returns g c = λ b s.
+pub returns-clause-came : goal.returns-clause-came
+returns-clause-came g c = λ b s.
     let id = option_map (λ t. t.now) c.args.id in
     let bus = option_map (λ t. t.now) c.args.bus in
     elim c.match-add.branch [
       | in-Ok w ↦
           rw w.result-is
-          (plug-ok b c.add.new.self c.args.driver.now id bus c.args.props.now w.in-Ok.field-0 w.returned.result
+          (plug-ok b c.add.new.self c.args.driver.now id bus c.args.props.now w.in-Ok.field-0 w.having_touched.result
           (plugs-as b c.args.driver.now id bus _ _ c.args.props.now (Ok w.in-Ok.field-0) c.add.new.self c.words_of.ensures c.words_of-2.ensures
-          (w.in-Ok.ensures.change b s)) w.returned.ensures)
+          (w.in-Ok.ensures.change b s)) w.having_touched.ensures.done)
       | in-Err-Refused w ↦
           rw w.result-is
           (plug-err b c.add.new.self c.args.driver.now id bus c.args.props.now w.in-Err-Refused.field-0-0 w.in-Err-Refused.code w.refused.result
           (refused-as b (wanted c.args.driver.now id bus c.args.props.now) w.in-Err-Refused.field-0 w.in-Err-Refused.field-0-0 w.in-Err-Refused.code
           c.add.new.self w.in-Err-Refused.field-0-is
           (plugs-as b c.args.driver.now id bus _ _ c.args.props.now (Err w.in-Err-Refused.field-0) c.add.new.self c.words_of.ensures
-          c.words_of-2.ensures (w.in-Err-Refused.ensures.change b s))) w.refused.ensures)
+          c.words_of-2.ensures (w.in-Err-Refused.ensures.change b s))) w.refused.ensures.done)
       | in-Err-Memory w ↦
           rw w.result-is
           (subst (λ (e : AddRefusal). Plugs b (wanted c.args.driver.now id bus c.args.props.now) (Err e) c.add.new.self) w.in-Err-Memory.field-0-is

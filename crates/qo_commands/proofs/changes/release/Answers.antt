@@ -4,7 +4,7 @@ use Rattle.qo_commands.specs.Commands.{altered}
 use Rattle.qo_commands.proofs.ChangeLemmas.{answered-came}
 use Rattle.qo_commands.proofs.changes.release.Goals as goal
 
-pub returns : goal.returns
+pub returns-clause-came : goal.returns-clause-came
 unfolding altered
-returns g c = λ b s.
-    answered-came (released_at b c.args.path.now) c.release.result c.done_by.result c.release.new.self (c.release.ensures.released b s) c.done_by.ensures
+returns-clause-came g c = λ b s.
+    answered-came (released_at b c.args.path.now) c.release.result c.done_by.result c.release.new.self (c.release.ensures.released b s) c.done_by.ensures.done

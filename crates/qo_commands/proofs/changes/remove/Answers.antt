@@ -4,8 +4,8 @@ use Rattle.qo_commands.specs.Commands.{altered}
 use Rattle.qo_commands.proofs.ChangeLemmas.{answered-came}
 use Rattle.qo_commands.proofs.changes.remove.Goals as goal
 
-pub returns : goal.returns
+pub returns-clause-came : goal.returns-clause-came
 unfolding altered
-returns g c = λ b s.
+returns-clause-came g c = λ b s.
     answered-came (object_removed b c.args.id.now) c.object_del.result c.done_by.result c.object_del.new.self (c.object_del.ensures.change b s)
-    c.done_by.ensures
+    c.done_by.ensures.done

@@ -6,7 +6,7 @@ use Rattle.qo_commands.specs.Commands.{altered}
 use Rattle.qo_commands.proofs.ChangeLemmas.{reset-came}
 use Rattle.qo_commands.proofs.changes.reset.Goals as goal
 
-pub returns : goal.returns
+pub returns-clause-came : goal.returns-clause-came
 unfolding altered
-returns g c = λ b s.
-    reset-came b (record { result = Ok Empty; event = Some (Reset false); ends = false }) c.system_reset.new.self (c.system_reset.ensures b s) (λ x. refl)
+returns-clause-came g c = λ b s.
+    reset-came b (record { result = Ok Empty; event = Some (Reset false); ends = false; touched = c.touched_by_reset-touched.result }) c.system_reset.new.self (c.system_reset.ensures b s) (λ x. refl)

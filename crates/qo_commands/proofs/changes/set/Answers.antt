@@ -4,8 +4,8 @@ use Rattle.qo_commands.specs.Commands.{altered}
 use Rattle.qo_commands.proofs.ChangeLemmas.{set-alters}
 use Rattle.qo_commands.proofs.changes.set.Goals as goal
 
-pub returns : goal.returns
+pub returns-clause-came : goal.returns-clause-came
 unfolding altered
-returns g c = λ b s.
+returns-clause-came g c = λ b s.
     set-alters b c.args.board.now c.qom_set.new.self (write_at b c.args.path.now c.args.name.now c.args.val.now) c.qom_set.result c.outcome_of.result s
-    (c.qom_set.ensures.written b s) c.qom_set.ensures.err c.outcome_of.ensures
+    (c.qom_set.ensures.written b s) c.qom_set.ensures.err c.outcome_of.ensures.comes

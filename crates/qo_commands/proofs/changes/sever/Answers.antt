@@ -4,7 +4,7 @@ use Rattle.qo_commands.specs.Commands.{altered}
 use Rattle.qo_commands.proofs.ChangeLemmas.{answered-came}
 use Rattle.qo_commands.proofs.changes.sever.Goals as goal
 
-pub returns : goal.returns
+pub returns-clause-came : goal.returns-clause-came
 unfolding altered
-returns g c = λ b s.
-    answered-came (sever b c.args.birth) c.sever.result c.done_by.result c.sever.new.self (c.sever.ensures.change b s) c.done_by.ensures
+returns-clause-came g c = λ b s.
+    answered-came (sever b c.args.birth) c.sever.result c.done_by.result c.sever.new.self (c.sever.ensures.change b s) c.done_by.ensures.done

@@ -4,12 +4,12 @@ use Rattle.qo_commands.specs.Commands.{altered}
 use Rattle.qo_commands.proofs.ChangeLemmas.{step-err, step-ok}
 use Rattle.qo_commands.proofs.changes.step.Goals as goal
 
-pub returns-in-Ok : goal.returns-in-Ok
+pub returns-in-Ok-clause-came : goal.returns-in-Ok-clause-came
 unfolding altered
-returns-in-Ok c = λ b s.
-    step-ok (advanced b c.args.ns) c.advance.new.self c.in-Ok.now c.returned.result (c.in-Ok.ensures.advanced b s) c.returned.ensures
+returns-in-Ok-clause-came c = λ b s.
+    step-ok (advanced b c.args.ns) c.advance.new.self c.in-Ok.now c.having_touched.result (c.in-Ok.ensures.advanced b s) c.having_touched.ensures.done
 
-pub returns-in-Err : goal.returns-in-Err
+pub returns-in-Err-clause-came : goal.returns-in-Err-clause-came
 unfolding altered
-returns-in-Err c = λ b s.
-    step-err (advanced b c.args.ns) c.advance.new.self c.in-Err.code c.refused.result (c.in-Err.ensures.advanced b s) c.refused.ensures
+returns-in-Err-clause-came c = λ b s.
+    step-err (advanced b c.args.ns) c.advance.new.self c.in-Err.code c.refused.result (c.in-Err.ensures.advanced b s) c.refused.ensures.done

@@ -5,8 +5,8 @@ use Rattle.qo_commands.specs.Commands.{altered}
 use Rattle.qo_commands.proofs.ChangeLemmas.{switched-came}
 use Rattle.qo_commands.proofs.changes.stop.Goals as goal
 
-pub returns : goal.returns
+pub returns-clause-came : goal.returns-clause-came
 unfolding altered
-returns c = λ b s.
+returns-clause-came c = λ b s.
     switched-came b false Stop c.set_running.result c.switched.result c.set_running.new.self (c.set_running.ensures.stands b s)
-    (c.set_running.ensures.changes b s) c.switched.ensures
+    (c.set_running.ensures.changes b s) c.switched.ensures.done

@@ -4,7 +4,7 @@ use Rattle.qo_commands.specs.Commands.{altered}
 use Rattle.qo_commands.proofs.ChangeLemmas.{answered-came}
 use Rattle.qo_commands.proofs.changes.unplug.Goals as goal
 
-pub returns : goal.returns
+pub returns-clause-came : goal.returns-clause-came
 unfolding altered
-returns g c = λ b s.
-    answered-came (asked b c.args.id.now) c.ask_removal.result c.done_by.result c.ask_removal.new.self (c.ask_removal.ensures.asked b s) c.done_by.ensures
+returns-clause-came g c = λ b s.
+    answered-came (asked b c.args.id.now) c.ask_removal.result c.done_by.result c.ask_removal.new.self (c.ask_removal.ensures.asked b s) c.done_by.ensures.done

@@ -7,9 +7,9 @@ use Rattle.qo_commands.proofs.hearing.act.Goals as goal
 
 pub returns-in-Shutdown-clause-came : goal.returns-in-Shutdown-clause-came
 returns-in-Shutdown-clause-came g c = λ b s.
-    came-as (acted b c.args.act.now) (shut_down b) c.shut_down.result c.args.board.now (ap (acted b) c.in-Shutdown.is) (s, c.shut_down.ensures b)
+    came-as (acted b c.args.act.now) (shut_down b) c.shut_down.result c.args.board.now (ap (acted b) c.in-Shutdown.is) (s, c.shut_down.ensures.came b)
 
 pub returns-in-Irq-clause-came : goal.returns-in-Irq-clause-came
 returns-in-Irq-clause-came g c = λ b s.
     came-as (acted b c.args.act.now) (irq_by b) c.irq.result c.args.board.now (ap (acted b) c.in-Irq.is)
-    (s, irq-heard c.args.board.now c.args.lines.now c.requires c.irq.result c.irq.ensures b s)
+    (s, irq-heard c.args.board.now c.args.lines.now c.requires c.irq.result c.irq.ensures.came b s)

@@ -4,8 +4,8 @@ use Rattle.qo_commands.specs.Commands.{altered}
 use Rattle.qo_commands.proofs.ChangeLemmas.{made-alters}
 use Rattle.qo_commands.proofs.rings.add_ring.Goals as goal
 
-pub returns : goal.returns
+pub returns-clause-came : goal.returns-clause-came
 unfolding altered
-returns c = λ b s.
+returns-clause-came c = λ b s.
     made-alters b c.chardev_add.new.self (chardev_added b c.args.id.now c.args.kind.now c.args.size) c.chardev_add.result c.outcome_of.result
-    (c.chardev_add.ensures.change b s) c.outcome_of.ensures
+    (c.chardev_add.ensures.change b s) c.outcome_of.ensures.comes

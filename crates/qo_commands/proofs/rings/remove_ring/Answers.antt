@@ -4,8 +4,8 @@ use Rattle.qo_commands.specs.Commands.{altered}
 use Rattle.qo_commands.proofs.ChangeLemmas.{answered-came}
 use Rattle.qo_commands.proofs.rings.remove_ring.Goals as goal
 
-pub returns : goal.returns
+pub returns-clause-came : goal.returns-clause-came
 unfolding altered
-returns c = λ b s.
+returns-clause-came c = λ b s.
     answered-came (chardev_removed b c.args.id.now) c.chardev_remove.result c.done_by.result c.chardev_remove.new.self (c.chardev_remove.ensures.change b s)
-    c.done_by.ensures
+    c.done_by.ensures.done
