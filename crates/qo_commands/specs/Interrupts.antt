@@ -1,10 +1,6 @@
 -- The interrupt lines that stand beside a board are its own (hw/core/irq.c).
-<<<<<<< HEAD
-use Rattle.qo_layout.specs.Rows.{LinesAre, Wired}
-=======
 use Rattle.std.specs.Prelude.{⊤}
 use Rattle.qo_layout.specs.Rows.{AreShaped, LinesAre, Wired}
->>>>>>> 86bab116 (WIP: what a change touched of the interrupt lines (unchecked))
 use Rattle.qo_model.specs.Board.{Board}
 use Rattle.qo_realize.specs.Parts.{Parts}
 use Rattle.qo_realize.specs.Representation.{Stands}

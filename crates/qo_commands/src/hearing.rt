@@ -7,14 +7,10 @@ ghost use Rattle.qo_realize.specs.Representation.{Stands};
 ghost use Rattle.qo_buses.specs.Addresses.{addressed};
 ghost use Rattle.qo_commands.specs.Hearing.{Came, acked, acted, heard, nacked, irq_by, outcome_of, polled_by, read_by, reset_by, shut_down, notice_answer, value_answer, written_by};
 ghost use Rattle.qo_commands.specs.Interrupts.{HasLines};
-<<<<<<< HEAD
-ghost use Rattle.qo_layout.specs.Rows.{LinesAre};
-=======
 ghost use Rattle.qo_commands.specs.Touched.{Touches};
 ghost use Rattle.qo_commands.specs.declared.touched.Touched.TheVariants.{Nothing};
 ghost use Rattle.qo_guest.specs.declared.answers.GuestAnswer.TheVariants.{Fine};
 ghost use Rattle.qo_layout.specs.Rows.{LinesAre};
->>>>>>> 86bab116 (WIP: what a change touched of the interrupt lines (unchecked))
 ghost use Rattle.qo_sound_devices.specs.SoundDevices.{SoundDevices};
 
 use crate::memory::{peek, poke};
