@@ -1,5 +1,5 @@
 -- The interrupt lines that stand beside a board, and what the guest reads of them.
-use Rattle.std.proofs.Common.{◌≡◌, ap, sym, ◌∙◌, ℕ}
+use Rattle.std.proofs.Common.{◌≡◌, refl, ap, sym, subst, ◌∙◌, ℕ, Result, Ok, Err, IfOk, OnErr, inl, inr}
 use Rattle.qo_guest.specs.declared.answers.GuestAnswer.TheVariants.{Value}
 use Rattle.qo_heap.specs.Board.{Shows}
 use Rattle.qo_layout.specs.Rows.{AreShaped, LinesAre, Wired}
@@ -13,7 +13,15 @@ use Rattle.qo_realize.specs.SoundBoard.{SoundBoard}
 use Rattle.qo_realize.proofs.GoodBoardLemmas.{good-of}
 use Rattle.qo_sound_devices.specs.SoundDevices.{SoundDevices}
 use Rattle.qo_sound_shapes.specs.SoundShape.{SoundShape}
+use Rattle.qo_requests.specs.declared.calls.Call.{Call}
+use Rattle.qo_requests.specs.declared.calls.Call.TheVariants as call
+use Rattle.qo_requests.specs.declared.calls.Change.{Change}
+use Rattle.qo_commands.specs.Changes.{Changes, Left, attempted}
+use Rattle.qo_commands.specs.Commands.{made}
 use Rattle.qo_commands.specs.Hearing.{Outcome, answered, irq_by, outcome_of}
+use Rattle.qo_commands.specs.declared.commands.Done.{Done}
+use Rattle.qo_commands.proofs.RefusedCommandLemmas.{refused_commands_lem}
+use Rattle.qo_commands.proofs.TouchedLemmas.{as-it-was}
 use Rattle.qo_commands.specs.Interrupts.{HasLines, HasShape, IsLeft}
 use Rattle.qo_commands.specs.Touched.{Touches}
 use Rattle.qo_commands.specs.declared.hearing.Heard.{Heard}
@@ -85,6 +93,37 @@ left-after t p q l h good came =
     (λ b stands sound are.
     let c = came b sound stands in
     left-of t b c.board q l sound are c.touches c.stands (good-of q good c.board c.stands))
+
+-- a change was made, or memory ran out for it
+
+pub left-changed : {E : Type 0} (r : Result Done E) (change : Change) (p q : Parts) (l : Wired) → HasLines p l → StandsForGood q
+    → ((b : Board) → Stands b p → Changes b change r q) → ((b : Board) → Stands b p → IfOk r (λ d. Touches d.touched b (made b change).board))
+    → IfOk r (λ d. IsLeft d.touched q l)
+left-changed (Ok d) change p q l h good came touches =
+    left-after d.touched p q l h good
+    (λ b sound stands. record { board = (made b change).board; touches = touches b stands; stands = (came b stands).0 })
+left-changed (Err e) change p q l h good came touches = tt
+
+came-left : (b : Board) (command : Call) (q : Parts) → Left b command q → CameOf Nothing b q
+came-left b command q (inl stands) = record { board = b; touches = (refl, refl); stands = stands }
+came-left b command q (inr (i, joined, stands)) =
+    record {
+      board = attempted b command i joined;
+      touches = as-it-was b (attempted b command i joined) (refused_commands_lem.cut b command i joined);
+      stands = stands;
+    }
+
+pub same-changed : {E : Type 0} (r : Result Done E) (change : Change) (p q : Parts) (l : Wired) → HasLines p l → StandsForGood q
+    → ((b : Board) → Stands b p → Changes b change r q) → OnErr r (HasLines q l)
+same-changed (Ok d) change p q l h good came = tt
+same-changed (Err e) change p q l h good came =
+    left-after Nothing p q l h good (λ b sound stands. came-left b (call.Change change) q (came b stands))
+
+pub left-lines : (t : Touched) (p : Parts) (l : Wired) → t ≡ Nothing → IsLeft t p l → HasLines p l
+left-lines t p l is h = subst (λ (x : Touched). IsLeft x p l) is h
+
+pub left-shape : (t : Touched) (p : Parts) (l : Wired) → t ≡ Registers → IsLeft t p l → HasShape p l
+left-shape t p l is h = subst (λ (x : Touched). IsLeft x p l) is h
 
 -- registers are read again
 pub lines-read : (p : Parts) (l k : Wired) → HasShape p l → ((b : Board) → Shows b p.objects → ClocksFit b → AreShaped b l → LinesAre b k) → HasLines p k

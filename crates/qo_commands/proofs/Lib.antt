@@ -1,6 +1,6 @@
 mod ChangeLemmas
 mod DeviceFrameLemmas
-mod FrameLemmas
+pub mod FrameLemmas
 mod ListingLemmas
 mod NoteLemmas
 mod TouchedLemmas

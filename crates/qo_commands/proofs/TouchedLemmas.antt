@@ -10,6 +10,7 @@ use Rattle.qo_chardev.specs.Rings.{bytes_in, given_bytes, new_ring, ring_named, 
 use Rattle.qo_chardev.specs.Texts.{encoded as text_told}
 use Rattle.qo_chardev.specs.declared.rings.TheConstants.{RING_SIZE_DEFAULT}
 use Rattle.qo_guest.specs.declared.answers.GuestAnswer.{GuestAnswer}
+use Rattle.qo_guest.specs.declared.answers.GuestAnswer.TheVariants.{Fine}
 use Rattle.qo_layout.specs.declared.views.RegisterPlace.{RegisterPlace}
 use Rattle.qo_model.specs.Board.{Board, Ring}
 use Rattle.qo_model.specs.Depth.{among}
@@ -63,6 +64,11 @@ if_none (Err x) b d e is none touches = tt
 pub touches-answered : (b : Board) (d : Outcome) (answer : GuestAnswer) (h : Heard) → d ≡ answered b answer
     → h ≡ record { answer = answer; event = None; ends = false; touched = Nothing } → Touches h.touched b d.board
 touches-answered b d answer h is told = touches-none b h.touched d (answered b answer) (ap (λ (x : Heard). x.touched) told) is (refl, refl)
+
+-- it is done
+pub touches-fine : (b c : Board) (t : Touched) (h : Heard) → h ≡ record { answer = Fine; event = None; ends = false; touched = t } → Touches t b c
+    → Touches h.touched b c
+touches-fine b c t h told touches = subst (λ (x : Touched). Touches x b c) (sym (ap (λ (y : Heard). y.touched) told)) touches
 
 pub nacked-touches : (b : Board) (o : Option ℕ) → Touches Nothing b (nacked b o).board
 nacked-touches b None = (refl, refl)
@@ -231,51 +237,41 @@ reset-touched b pending same = reset-touches b pending same
 
 -- what refused a command touched nothing
 
-as-it-was : (b c : Board) → AsItWas b c → Touches Nothing b c
+pub as-it-was : (b c : Board) → AsItWas b c → Touches Nothing b c
 as-it-was b c was = (sym (ap (λ (x : Board). x.records) was.same), sym (ap (λ (x : Board). x.now) was.same))
 
 refused-touches : (b : Board) (change : Change) (code : Code) → (made b change).result ≡ Err code → Touches Nothing b (made b change).board
 refused-touches b change code e = as-it-was b (made b change).board (refused_commands_lem.refused b (call.Change change) code e).board
 
 -- a change touched this unless it was refused
-pub done-touches : (b : Board) (change other : Change) (d : outcome.Done) (p : Parts) (t : Touched) → change ≡ other → Came (made b other) d p
-    → d.touched ≡ unless_refused t d.result → Touches t b (made b other).board → Touches d.touched b (made b change).board
-done-touches b change other d p t is came said touches = subst (λ (x : Change). Touches d.touched b (made b x).board) (sym is) (go d.result refl)
+pub done-touches : (b : Board) (change : Change) (d : outcome.Done) (p : Parts) (t : Touched) → Came (made b change) d p
+    → d.touched ≡ unless_refused t d.result → Touches t b (made b change).board → Touches d.touched b (made b change).board
+done-touches b change d p t came said touches = go d.result refl
   where
-    go : (r : Result ReplyBody Code) → d.result ≡ r → Touches d.touched b (made b other).board
-    go (Ok body) e = subst (λ (x : Touched). Touches x b (made b other).board) (sym (said ∙ ap (unless_refused t) e)) touches
+    go : (r : Result ReplyBody Code) → d.result ≡ r → Touches d.touched b (made b change).board
+    go (Ok body) e = subst (λ (x : Touched). Touches x b (made b change).board) (sym (said ∙ ap (unless_refused t) e)) touches
     go (Err code) e =
-        subst (λ (x : Touched). Touches x b (made b other).board) (sym (said ∙ ap (unless_refused t) e))
-        (refused-touches b other code (sym (ap (λ (x : Done). x.result) came.1) ∙ ap (data_of (made b other).board) e))
+        subst (λ (x : Touched). Touches x b (made b change).board) (sym (said ∙ ap (unless_refused t) e))
+        (refused-touches b change code (sym (ap (λ (x : Done). x.result) came.1) ∙ ap (data_of (made b change).board) e))
 
 -- and the same of one that may want memory
-pub if_done-touches : {E : Type 0} (b : Board) (change other : Change) (r : Result outcome.Done E) (p : Parts) (t : Touched) → change ≡ other
-    → Changes b other r p → IfOk r (λ d. d.touched ≡ unless_refused t d.result) → Touches t b (made b other).board
-    → IfOk r (λ d. Touches d.touched b (made b change).board)
-if_done-touches b change other (Ok d) p t is came said touches = done-touches b change other d p t is came said touches
-if_done-touches b change other (Err e) p t is came said touches = tt
+pub if_made-touches : {E : Type 0} (b : Board) (change : Change) (r : Result outcome.Done E) (p : Parts) (t : Touched) → Changes b change r p
+    → IfOk r (λ d. d.touched ≡ unless_refused t d.result) → Touches t b (made b change).board → IfOk r (λ d. Touches d.touched b (made b change).board)
+if_made-touches b change (Ok d) p t came said touches = done-touches b change d p t came said touches
+if_made-touches b change (Err e) p t came said touches = tt
 
-pub if_altered-touches : {E : Type 0} (b : Board) (change other : Alteration) (r : Result outcome.Done E) (p : Parts) (t : Touched) → change ≡ other
-    → Alters b (altered b other) r p → IfOk r (λ d. d.touched ≡ unless_refused t d.result) → Touches t b (altered b other).board
-    → IfOk r (λ d. Touches d.touched b (altered b change).board)
-if_altered-touches b change other (Ok d) p t is came said touches = done-touches b (Alter change) (Alter other) d p t (ap Alter is) came said touches
-if_altered-touches b change other (Err e) p t is came said touches = tt
+pub if_altered-touches : {E : Type 0} (b : Board) (a : Alteration) (r : Result outcome.Done E) (p : Parts) (t : Touched) → Alters b (altered b a) r p
+    → IfOk r (λ d. d.touched ≡ unless_refused t d.result) → Touches t b (altered b a).board → IfOk r (λ d. Touches d.touched b (altered b a).board)
+if_altered-touches b a (Ok d) p t came said touches = done-touches b (Alter a) d p t came said touches
+if_altered-touches b a (Err e) p t came said touches = tt
 
-pub altered-touches : (b : Board) (change other : Alteration) (d : outcome.Done) (p : Parts) (t : Touched) → change ≡ other → Came (altered b other) d p
-    → d.touched ≡ unless_refused t d.result → Touches t b (altered b other).board → Touches d.touched b (altered b change).board
-altered-touches b change other d p t is came said touches = done-touches b (Alter change) (Alter other) d p t (ap Alter is) came said touches
+-- what is refused says that it touched nothing
+pub refused-said : (t : Touched) (d : outcome.Done) (code : Code) → d.result ≡ Err code → d.touched ≡ Nothing → d.touched ≡ unless_refused t d.result
+refused-said t d code refused none = none ∙ sym (ap (unless_refused t) refused)
 
--- one that touches nothing, refused or not
-pub none-touches : (b : Board) (change other : Alteration) (t : Touched) → change ≡ other → t ≡ Nothing → Touches Nothing b (altered b other).board
-    → Touches t b (altered b change).board
-none-touches b change other t is none touches =
-    subst (λ (x : Touched). Touches x b (altered b change).board) (sym none)
-    (subst (λ (x : Alteration). Touches Nothing b (altered b x).board) (sym is) touches)
-
-pub if_none-touches : {E : Type 0} (b : Board) (change other : Alteration) (r : Result outcome.Done E) → change ≡ other → IfOk r (λ d. d.touched ≡ Nothing)
-    → Touches Nothing b (altered b other).board → IfOk r (λ d. Touches d.touched b (altered b change).board)
-if_none-touches b change other (Ok d) is none touches = none-touches b change other d.touched is none touches
-if_none-touches b change other (Err e) is none touches = tt
+-- one that says what it touched, refused or not
+pub said-touches : (b : Board) (a : Alteration) (t said : Touched) → said ≡ t → Touches t b (altered b a).board → Touches said b (altered b a).board
+said-touches b a t said same touches = subst (λ (x : Touched). Touches x b (altered b a).board) (sym same) touches
 
 -- a line of the guest by command
 pub guest-touches : (b : Board) (line : List ℕ) (h : Heard) (d : outcome.Done) → d.touched ≡ h.touched → Touches h.touched b (heard b line).board

@@ -7,8 +7,8 @@ ghost use Rattle.qo_requests.specs.declared.calls.Alteration.TheVariants as alte
 ghost use Rattle.qo_requests.specs.declared.calls.Change.TheVariants as change;
 ghost use Rattle.qo_commands.specs.Changes.{Alters, Came, Changes};
 ghost use Rattle.qo_commands.specs.Commands.{altered, empty, guest_reply, made};
-ghost use Rattle.qo_commands.specs.Touched.{Touches, touched_by_reset, unless_refused};
-ghost use Rattle.qo_commands.specs.declared.touched.Touched.TheVariants.{Nothing, Registers, Devices};
+ghost use Rattle.qo_commands.specs.Touched.{Touches};
+ghost use Rattle.qo_commands.specs.declared.touched.Touched.TheVariants.{Nothing};
 ghost use Rattle.qo_commands.specs.Views.{done_of};
 ghost use Rattle.qo_commands.specs.Hearing.{outcome_of};
 ghost use Rattle.qo_commands.specs.Interrupts.{HasLines};
@@ -39,7 +39,7 @@ fn set<L: Ledger>(
     steps: &mut Steps<L>,
 ) -> Result<Done, AllocError>
     ensures came { (b : Tree) → Stands b board.old → Alters b (altered b (alteration.QomSet path.now name.now val.now)) result board.new }
-    ensures touched { IfOk result (λ d. d.touched ≡ unless_refused Devices d.result) }
+    ensures touched { (b : Tree) → Stands b board.old → IfOk result (λ d. Touches d.touched b (altered b (alteration.QomSet path.now name.now val.now)).board) }
 {
     let answer = board.qom_set(path, name, val, alloc, steps);
     outcome_of(answer, Touched::Devices)
@@ -48,7 +48,7 @@ fn set<L: Ledger>(
 /// Removes the object of an id.
 fn remove<L: Ledger>(board: &mut Board, id: &str, steps: &mut Steps<L>) -> Done
     ensures came { (b : Tree) → Stands b board.old → Came (altered b (alteration.ObjectDel id.now)) result board.new }
-    ensures touched { result.touched ≡ unless_refused Devices result.result }
+    ensures touched { (b : Tree) → Stands b board.old → Touches result.touched b (altered b (alteration.ObjectDel id.now)).board }
 {
     done_by(board.object_del(id, steps), Touched::Devices)
 }
@@ -63,7 +63,7 @@ fn add<L: Ledger>(
     steps: &mut Steps<L>,
 ) -> Result<Done, AllocError>
     ensures came { (b : Tree) → Stands b board.old → Changes b (change.Add (addition.ObjectAdd driver.now id.now props.now)) result board.new }
-    ensures touched { IfOk result (λ d. d.touched ≡ unless_refused Devices d.result) }
+    ensures touched { (b : Tree) → Stands b board.old → IfOk result (λ d. Touches d.touched b (made b (change.Add (addition.ObjectAdd driver.now id.now props.now))).board) }
 {
     let answer = board.object_add(driver, id, props, alloc, steps);
     outcome_of(answer, Touched::Devices)
@@ -72,7 +72,7 @@ fn add<L: Ledger>(
 /// Cuts the strong links of the detached object of a birth.
 fn sever<L: Ledger>(board: &mut Board, birth: u64, steps: &mut Steps<L>) -> Done
     ensures came { (b : Tree) → Stands b board.old → Came (altered b (alteration.XSever birth)) result board.new }
-    ensures touched { result.touched ≡ unless_refused Devices result.result }
+    ensures touched { (b : Tree) → Stands b board.old → Touches result.touched b (altered b (alteration.XSever birth)).board }
 {
     done_by(board.sever(birth, steps), Touched::Devices)
 }
@@ -99,7 +99,7 @@ fn plug<L: Ledger>(
     steps: &mut Steps<L>,
 ) -> Result<Done, AllocError>
     ensures came { (b : Tree) → Stands b board.old → Changes b (change.Add (addition.DeviceAdd driver.now (option_map (λ t. t.now) id.entry) (option_map (λ t. t.now) bus.entry) props.now)) result board.new }
-    ensures touched { IfOk result (λ d. d.touched ≡ unless_refused Devices d.result) }
+    ensures touched { (b : Tree) → Stands b board.old → IfOk result (λ d. Touches d.touched b (made b (change.Add (addition.DeviceAdd driver.now (option_map (λ t. t.now) id.entry) (option_map (λ t. t.now) bus.entry) props.now))).board) }
 {
     let options = DeviceOptions {
         driver,
@@ -117,7 +117,7 @@ fn plug<L: Ledger>(
 /// Asks for the removal of the device that a text is of.
 fn unplug<L: Ledger>(board: &mut Board, id: &str, steps: &mut Steps<L>) -> Done
     ensures came { (b : Tree) → Stands b board.old → Came (altered b (alteration.DeviceDel id.now)) result board.new }
-    ensures touched { result.touched ≡ unless_refused Nothing result.result }
+    ensures touched { (b : Tree) → Stands b board.old → Touches result.touched b (altered b (alteration.DeviceDel id.now)).board }
 {
     done_by(board.ask_removal(id, steps), Touched::Nothing)
 }
@@ -171,7 +171,7 @@ fn switched(changes: bool, event: Event) -> Done
 /// The machine stops.
 fn stop(board: &mut Board) -> Done
     ensures came { (b : Tree) → Stands b board.old → Came (altered b alteration.Stop) result board.new }
-    ensures touched { result.touched ≡ Nothing }
+    ensures touched { (b : Tree) → Stands b board.old → Touches result.touched b (altered b alteration.Stop).board }
 {
     switched(board.set_running(false), Event::Stop)
 }
@@ -179,7 +179,7 @@ fn stop(board: &mut Board) -> Done
 /// The machine runs again.
 fn cont(board: &mut Board) -> Done
     ensures came { (b : Tree) → Stands b board.old → Came (altered b alteration.Cont) result board.new }
-    ensures touched { result.touched ≡ Nothing }
+    ensures touched { (b : Tree) → Stands b board.old → Touches result.touched b (altered b alteration.Cont).board }
 {
     switched(board.set_running(true), Event::Resume)
 }
@@ -187,7 +187,7 @@ fn cont(board: &mut Board) -> Done
 /// The virtual time goes on by so many ns, where the machine runs.
 fn step(board: &mut Board, ns: u64) -> Done
     ensures came { (b : Tree) → Stands b board.old → Came (altered b (alteration.XStep ns)) result board.new }
-    ensures touched { result.touched ≡ unless_refused Registers result.result }
+    ensures touched { (b : Tree) → Stands b board.old → Touches result.touched b (altered b (alteration.XStep ns)).board }
 {
     match board.advance(ns) {
         Ok(now) => having_touched(Touched::Registers, ReplyBody::Time(now)),
@@ -198,7 +198,7 @@ fn step(board: &mut Board, ns: u64) -> Done
 /// The whole board is reset, and sessions are told so.
 fn reset<L: Ledger>(board: &mut Board, steps: &mut Steps<L>) -> Done
     ensures came { (b : Tree) → Stands b board.old → Came (altered b alteration.SystemReset) result board.new }
-    ensures touched { result.touched ≡ touched_by_reset board.old.pending }
+    ensures touched { (b : Tree) → Stands b board.old → Touches result.touched b (altered b alteration.SystemReset).board }
 {
     let touched = touched_by_reset(board);
     board.system_reset(steps);
@@ -213,7 +213,7 @@ fn reset<L: Ledger>(board: &mut Board, steps: &mut Steps<L>) -> Done
 /// Holds the object at a path in reset.
 fn hold<L: Ledger>(board: &mut Board, path: &str, steps: &mut Steps<L>) -> Result<Done, AllocError>
     ensures came { (b : Tree) → Stands b board.old → Alters b (altered b (alteration.XResetHold path.now)) result board.new }
-    ensures touched { IfOk result (λ d. d.touched ≡ unless_refused Registers d.result) }
+    ensures touched { (b : Tree) → Stands b board.old → IfOk result (λ d. Touches d.touched b (altered b (alteration.XResetHold path.now)).board) }
 {
     outcome_of(board.hold(path, steps), Touched::Registers)
 }
@@ -221,7 +221,7 @@ fn hold<L: Ledger>(board: &mut Board, path: &str, steps: &mut Steps<L>) -> Resul
 /// Releases a hold on the object at a path.
 fn release<L: Ledger>(board: &mut Board, path: &str, steps: &mut Steps<L>) -> Done
     ensures came { (b : Tree) → Stands b board.old → Came (altered b (alteration.XResetRelease path.now)) result board.new }
-    ensures touched { result.touched ≡ unless_refused Registers result.result }
+    ensures touched { (b : Tree) → Stands b board.old → Touches result.touched b (altered b (alteration.XResetRelease path.now)).board }
 {
     done_by(board.release(path, steps), Touched::Registers)
 }

@@ -48,9 +48,14 @@ pub fn settle_lines<L: Ledger>(
     ensures { OnOk result (HasLines board.now lines.new) }
 {
     match touched {
-        Touched::Nothing => {}
-        Touched::Registers => refresh_lines(lines, board, steps),
-        Touched::Devices => *lines = interrupt_lines(alloc, board, steps)?,
+        Touched::Nothing => Ok(()),
+        Touched::Registers => {
+            refresh_lines(lines, board, steps);
+            Ok(())
+        }
+        Touched::Devices => {
+            *lines = interrupt_lines(alloc, board, steps)?;
+            Ok(())
+        }
     }
-    Ok(())
 }

@@ -1,5 +1,5 @@
 -- For proofs alone. Items and lines served one after another, whatever choices and whatever items or lines come after.
-use Rattle.std.specs.Prelude.{◌≡◌, ℕ, List, [], ◌∷◌, ◌++◌, map, Option, option_to_list, Result, Ok, Err, IfOk, ◌⊎◌}
+use Rattle.std.specs.Prelude.{◌≡◌, ℕ, List, [], ◌∷◌, ◌++◌, map, Option, option_to_list, Ok, IfOk, ◌⊎◌}
 use Rattle.qo_causes.specs.declared.hubs.Lane.{Lane}
 use Rattle.qo_causes.specs.declared.inputs.Moment.{Moment}
 use Rattle.qo_framing.specs.declared.items.Item.{Item}
@@ -11,8 +11,6 @@ use Rattle.qo_sessions.specs.declared.modes.Mode.TheVariants.{Commanding}
 use Rattle.qo_commands.specs.Hearing.{Outcome}
 use Rattle.qo_model.specs.Board.{Board}
 use Rattle.qo_commands.specs.Commands.{event_of, performed}
-use Rattle.qo_commands.specs.declared.touched.Touched.{Touched}
-use Rattle.qo_commands.specs.declared.touched.Touched.TheVariants.{Nothing}
 use Rattle.qo_realize.specs.Parts.{Parts}
 use Rattle.qo_realize.specs.Representation.{Stands}
 use Rattle.qo_machine.specs.Machine.{Choice, IsIn, Made, Message, Seen, State, answer_line, preceded, by_item, by_line, event_outs, made_by, reply, serve_by, session_of, state_with, with_session}
@@ -23,11 +21,6 @@ abbrev pub moved : State → ℕ → SessionAct → State
 moved s n (Answer code id) = s
 moved s n (Negotiated id) = with_session s n (in_mode Commanding (session_of s n))
 moved s n (Do command id) = s
-
--- what a reply says that was touched; nothing, where memory ran out
-abbrev pub touched_by : {E : Type 0} → Result Reply E → Touched
-touched_by (Ok r) = r.touched
-touched_by (Err e) = Nothing
 
 -- by some choice this command sends this, and a machine is then in the state that it leads to
 abbrev pub CommandServed : Moment → ℕ → State → Call → Option (List ℕ) → List Message → Seen → Type 0

@@ -13,7 +13,9 @@ use crate::replying::{EMPTY, changed_text, guest_text, reply_text};
 use crate::serving::{serve_items, serve_lines};
 use json::Scratch;
 use qo_causes::{Input, Lane, Moment, What};
-use qo_commands::{Touched, ask, cut_lines, hear, interrupt_lines, refresh_lines, settle_lines};
+use qo_commands::{
+    Done, Touched, ask, cut_lines, hear, interrupt_lines, refresh_lines, settle_lines,
+};
 use qo_events::DeviceEvent;
 use qo_framing::Item;
 use qo_heap::Steps;
@@ -192,7 +194,7 @@ impl Core {
     ghost use Rattle.qo_model.specs.Board.{Board as Tree};
     ghost use Rattle.qo_sessions.specs.Acts.{act};
     ghost use Rattle.qo_sessions.specs.Sessions.{fed};
-    ghost use Rattle.qo_commands.specs.Changes.{Left};
+    ghost use Rattle.qo_commands.specs.Changes.{Changes, Left};
     ghost use Rattle.qo_requests.specs.declared.calls.Call.TheVariants as call;
     ghost use Rattle.qo_commands.specs.Commands.{without_events};
     ghost use Rattle.qo_realize.specs.Representation.{Stands, StandsForGood};
@@ -206,7 +208,7 @@ impl Core {
     ghost use Rattle.qo_commands.specs.declared.touched.Touched.TheVariants.{Nothing};
     ghost use Rattle.qo_model.specs.Opening.{opening_board};
     ghost use Rattle.qo_machine.specs.Between.{IsWired};
-    ghost use Rattle.qo_machine.specs.Serving.{Came, CameTo, moved, touched_by};
+    ghost use Rattle.qo_machine.specs.Serving.{Came, CameTo, moved};
 
     /// The machine at first: the opening board, and all sessions closed.
     fn start(alloc: Global) -> Result<Core, AllocError>
@@ -506,7 +508,7 @@ impl Core {
     ) -> Result<Reply, AllocError>
         requires wired { IsWired self.old }
         ensures came { (b : Tree) → Stands b self.old.board → IfOk result (λ r. CameTo (heard b line.now) r self.new.board) }
-        ensures left { IsLeft (touched_by result) self.new.board self.new.lines }
+        ensures left { IfOk result (λ r. IsLeft r.touched self.new.board self.new.lines) }
         ensures kept { OnErr result (self.new.board ≡ self.old.board) }
         ensures rest { (b : Tree) → state_with b self.new ≡ state_with b self.old }
         ensures lasts { self.new.out_of_memory ≡ self.old.out_of_memory }
@@ -600,6 +602,27 @@ impl Core {
         })
     }
 
+    /// Does a command that changes the board. Where memory runs out the board is as it was, or an attempt was
+    /// cut; the interrupt lines are the board's then.
+    fn apply<L: Ledger>(
+        &mut self,
+        alloc: Global,
+        change: &Change,
+        steps: &mut Steps<L>,
+    ) -> Result<Done, AllocError>
+        requires wired { IsWired self.old }
+        ensures came { (b : Tree) → Stands b self.old.board → Changes b change.now result self.new.board }
+        ensures left { IfOk result (λ d. IsLeft d.touched self.new.board self.new.lines) }
+        ensures same { OnErr result (IsWired self.new) }
+        ensures rest { (b : Tree) → state_with b self.new ≡ state_with b self.old }
+        ensures lasts { self.new.out_of_memory ≡ self.old.out_of_memory }
+        ensures wires { self.new.lines ≡ self.old.lines }
+    {
+        let done = qo_commands::change(alloc, &mut self.board, &self.lines, change, steps);
+        self.board.reveal_board();
+        done
+    }
+
     /// Does a command that changes the board, and gives the text of its reply. The text that says that
     /// it was done is made first, so that nothing is done that could not be answered. Where memory
     /// runs out the board is as it was, or an attempt was cut.
@@ -612,16 +635,15 @@ impl Core {
     ) -> Result<Reply, AllocError>
         requires wired { IsWired self.old }
         ensures came { (b : Tree) → Stands b self.old.board → IfOk result (λ r. Came b (call.Change change.now) (option_map (λ id. id.now) id.entry) r self.new.board) }
-        ensures left { IsLeft (touched_by result) self.new.board self.new.lines }
+        ensures left { IfOk result (λ r. IsLeft r.touched self.new.board self.new.lines) }
+        ensures same { OnErr result (IsWired self.new) }
         ensures kept { (b : Tree) → Stands b self.old.board → OnErr result (Left b (call.Change change.now) self.new.board) }
         ensures rest { (b : Tree) → state_with b self.new ≡ state_with b self.old }
         ensures lasts { self.new.out_of_memory ≡ self.old.out_of_memory }
         ensures wires { self.new.lines ≡ self.old.lines }
     {
         let empty = return_written(alloc, id, EMPTY)?;
-        let done = qo_commands::change(alloc, &mut self.board, &self.lines, change, steps);
-        self.board.reveal_board();
-        let done = done?;
+        let done = self.apply(alloc, change, steps)?;
         let text = changed_text(alloc, &self.board, id, empty, &done.result, steps);
         Ok(Reply {
             text,
@@ -647,7 +669,8 @@ impl Core {
         ensures rest { (b : Tree) → state_with b self.new ≡ state_with b self.old }
         ensures lasts { self.new.out_of_memory ≡ self.old.out_of_memory }
         ensures wires { self.new.lines ≡ self.old.lines }
-        ensures left { IsLeft (touched_by result) self.new.board self.new.lines }
+        ensures left { IfOk result (λ r. IsLeft r.touched self.new.board self.new.lines) }
+        ensures same { OnErr result (IsWired self.new) }
     {
         match command {
             Call::Query(query) => self.answer(alloc, query, id, steps),

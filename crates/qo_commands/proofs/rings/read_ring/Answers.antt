@@ -6,6 +6,9 @@ use Rattle.qo_realize.specs.Parts.{Parts}
 use Rattle.qo_realize.specs.Representation.{Stands}
 use Rattle.qo_commands.specs.Commands.{altered}
 use Rattle.qo_commands.proofs.ChangeLemmas.{read-err, read-ok}
+use Rattle.qo_requests.specs.declared.calls.Alteration.TheVariants.{RingbufRead}
+use Rattle.qo_commands.specs.declared.touched.Touched.TheVariants.{Nothing}
+use Rattle.qo_commands.proofs.TouchedLemmas.{ring-read-touches, said-touches}
 use Rattle.qo_commands.proofs.rings.read_ring.Goals as goal
 
 pub returns-in-Ok-clause-came : goal.returns-in-Ok-clause-came
@@ -23,3 +26,15 @@ returns-in-Err-Refused-clause-came c = λ b s.
 
 pub returns-in-Err-Memory-clause-came : goal.returns-in-Err-Memory-clause-came
 returns-in-Err-Memory-clause-came c = λ b s. subst (λ (p : Parts). Stands b p) (sym c.in-Err-Memory.ensures.err) s
+
+-- nothing of the objects is touched
+
+pub returns-in-Ok-clause-touched : goal.returns-in-Ok-clause-touched
+returns-in-Ok-clause-touched c = λ b s.
+    said-touches b (RingbufRead c.args.id.now c.args.most c.args.form) Nothing c.returned.result.touched c.returned.ensures.touched
+    (ring-read-touches b c.args.id.now c.args.most c.args.form)
+
+pub returns-in-Err-Refused-clause-touched : goal.returns-in-Err-Refused-clause-touched
+returns-in-Err-Refused-clause-touched c = λ b s.
+    said-touches b (RingbufRead c.args.id.now c.args.most c.args.form) Nothing c.refused.result.touched c.refused.ensures.touched
+    (ring-read-touches b c.args.id.now c.args.most c.args.form)
