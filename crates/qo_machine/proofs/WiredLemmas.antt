@@ -1,5 +1,5 @@
 -- The interrupt lines of a machine are those of its board.
-use Rattle.std.proofs.Common.{◌≡◌, refl, sym, subst, ◌∙◌, ℕ, true, false, List, [], ◌∷◌, Option, Result, Ok, Err, OnOk, OnErr}
+use Rattle.std.proofs.Common.{◌≡◌, refl, sym, subst, ◌∙◌, ℕ, true, false, List, [], ◌∷◌, Option, Result, Ok, Err, IfOk, OnOk, OnErr}
 use Rattle.qo_causes.specs.declared.inputs.Moment.{Moment}
 use Rattle.qo_values.specs.declared.codes.Code.{Code}
 use Rattle.qo_commands.specs.Commands.{without_events}
@@ -18,6 +18,7 @@ use Rattle.qo_requests.specs.declared.calls.Call.{Call}
 use Rattle.qo_machine.specs.Between.{IsWired}
 use Rattle.qo_machine.specs.Machine.{Choice, IsIn, Made, Message, Seen, State, state_with}
 use Rattle.qo_machine.specs.Serving.{CommandServed, ServesFrontBy, ServesToBy}
+use Rattle.qo_machine.specs.declared.machines.Reply.{Reply}
 use Rattle.qo_machine.proofs.BoardLemmas.{board_free}
 use Rattle.qo_machine.proofs.MemoryLemmas.{front_none_by, front_on_by}
 
@@ -38,9 +39,11 @@ pub left_told : (t : Touched) (m n : Seen) → ((b : Board) → Stands b m.board
 left_told t m n told lines h =
     subst (IsLeft t n.board) (sym lines) (left-beside t m.board n.board m.lines without_events (λ b. (refl, refl)) board_free told h)
 
--- nothing was touched where the lines are the board's
-pub left_none : (t : Touched) (p : Parts) (l : Wired) → t ≡ Nothing → HasLines p l → IsLeft t p l
-left_none t p l none h = subst (λ (x : Touched). IsLeft x p l) (sym none) h
+-- what is only asked touches nothing
+pub left_answered : {E : Type 0} (r : Result Reply E) (p : Parts) (l : Wired) → IfOk r (λ x. x.touched ≡ Nothing) → HasLines p l
+    → IfOk r (λ x. IsLeft x.touched p l)
+left_answered (Ok x) p l none h = subst (λ (t : Touched). IsLeft t p l) (sym none) h
+left_answered (Err e) p l none h = tt
 
 -- so they are after a step that did not run out of memory, which is told by what it answers
 pub wired_unless : {T E : Type 0} (r : Result T E) (m : Seen) → OnOk r (IsWired m) → OnErr r (m.out_of_memory ≡ true) → m.out_of_memory ≡ false → IsWired m
