@@ -1,32 +1,27 @@
 -- What leaves the objects of a board but for their plain values and registers.
-use Rattle.std.proofs.Common.{◌≡◌, refl, ap, ap₂, sym, ◌∙◌, ℕ, zero, suc, ◌+◌, ◌==◌, nat_lt, Bool, true, false, not, if◌then◌else◌, List, [], ◌∷◌, ◌++◌, map, codes, Option, None, Some, Result, Ok, Err}
+use Rattle.std.proofs.Common.{◌≡◌, refl, ap, ap₂, sym, ◌∙◌, ℕ, ◌+◌, ◌==◌, nat_lt, Bool, true, false, not, if◌then◌else◌, List, [], ◌∷◌, map, Option, None, Some, option_map, Result, Ok, Err}
 use Rattle.std.specs.Option.{option_map_or}
-use Rattle.std.specs.Str.{bytes_eq}
 use Rattle.qo_values.specs.Registers.{Effect, Registers, byte, nothing, pulse as pulses}
 use Rattle.qo_values.specs.declared.births.TheConstants.{MACHINE_BIRTH}
 use Rattle.qo_values.specs.declared.codes.Code.{Code}
 use Rattle.qo_values.specs.declared.kinds.Act.{Act}
 use Rattle.qo_values.specs.declared.limits.TheConstants.{TIME_MAX}
-use Rattle.qo_values.specs.declared.properties.Val.{Val}
-use Rattle.qo_values.specs.declared.properties.Val.TheVariants as val
 use Rattle.qo_buses.specs.Rings.{claimed_ring}
-use Rattle.qo_model.specs.Board.{Board, Record, Slot, alias, child, plain, strong, weak}
-use Rattle.qo_model.specs.Changes.{changed_at, with_changed, with_val}
+use Rattle.qo_model.specs.Board.{Board, Record}
 use Rattle.qo_model.specs.Clocks.{acted, with_act_on}
 use Rattle.qo_model.specs.Devices.{first_bus}
 use Rattle.qo_model.specs.Hotplug.{reset_whole}
 use Rattle.qo_model.specs.Objects.{Changed}
 use Rattle.qo_model.specs.Release.{edit, edited}
 use Rattle.qo_model.specs.Reset.{after_hold, pulse, released}
-use Rattle.qo_model.specs.SoundGraph.{without_value, without_values}
+use Rattle.qo_model.specs.SoundGraph.{without_values}
 use Rattle.qo_realize.specs.Registers.{after_effect, guest_written, pushed, registers_written}
 use Rattle.qo_realize.specs.Resets.{at_path, held_at, held_of, released_at, released_of, resettable_at}
-use Rattle.qo_realize.specs.Time.{advanced, at_time}
+use Rattle.qo_realize.specs.Time.{advanced}
 use Rattle.qo_sound.proofs.QuietStepsLemmas.{quiet-held, quiet-pulse, quiet-released}
 use Rattle.qo_sound_clocks.specs.RegisterWrites.{registers_set, with_registers}
-use Rattle.qo_commands.specs.Hearing.{Outcome, if_written, written_by}
+use Rattle.qo_commands.specs.Hearing.{if_written, written_by}
 use Rattle.qo_commands.specs.Touched.{Touches, frame_of, touched_by_reset}
-use Rattle.qo_commands.specs.declared.touched.Touched.TheVariants.{Devices, Nothing, Registers as Values}
 
 -- an object that is changed in these alone
 framed-edited : (n : ℕ) (change : Record → Record) → ((r : Record) → without_values (change r) ≡ without_values r) → (rs : List Record)
@@ -36,8 +31,8 @@ framed-edited n change same (r ∷ rs) = go (r.birth == n) refl (framed-edited n
   where
     go : (t : Bool) → (r.birth == n) ≡ t → map without_values rs ≡ map without_values (map (edited n change) rs)
         → map without_values (r ∷ rs) ≡ map without_values (map (edited n change) (r ∷ rs))
-    go true p rest = rw (edited, p) (ap₂ (λ (x : Record) (xs : List Record). x ∷ xs) (sym (same r)) rest)
-    go false p rest = rw (edited, p) (ap (λ (xs : List Record). without_values r ∷ xs) rest)
+    go true p rest = rw p (ap₂ (λ (x : Record) (xs : List Record). x ∷ xs) (sym (same r)) rest)
+    go false p rest = rw p (ap (λ (xs : List Record). without_values r ∷ xs) rest)
 
 pub frame-edit : (n : ℕ) (change : Record → Record) → ((r : Record) → without_values (change r) ≡ without_values r) → (b : Board)
     → frame_of b ≡ frame_of (edit n change b)
@@ -84,8 +79,7 @@ frame-written : (b : Board) (d reg value : ℕ) → frame_of b ≡ frame_of (if_
 frame-written b d reg value = go (registers_written b d reg value)
   where
     go : (o : Option (Registers × Effect))
-        → frame_of b
-        ≡ frame_of (if_written b (elim o as (λ _. Option Board) [ None ↦ None | Some w ↦ Some (after_effect d w.1 (registers_set b d w.0)) ])).board
+        → frame_of b ≡ frame_of (if_written b (option_map (λ (w : Registers × Effect). after_effect d w.1 (registers_set b d w.0)) o)).board
     go None = refl
     go (Some w) = framed-effect b d w.1 (registers_set b d w.0) (frame-edit d (with_registers w.0) (λ r. refl) b)
 

@@ -22,8 +22,8 @@ use Rattle.qo_commands.specs.Hearing.{Outcome, answered, irq_by, outcome_of}
 use Rattle.qo_commands.specs.declared.commands.Done.{Done}
 use Rattle.qo_commands.proofs.RefusedCommandLemmas.{refused_commands_lem}
 use Rattle.qo_commands.proofs.TouchedLemmas.{as-it-was}
-use Rattle.qo_commands.specs.Interrupts.{HasLines, HasShape, IsLeft}
-use Rattle.qo_commands.specs.Touched.{Touches}
+use Rattle.qo_commands.specs.Interrupts.{HasLines}
+use Rattle.qo_commands.specs.Touched.{HasShape, IsLeft, Touches}
 use Rattle.qo_commands.specs.declared.hearing.Heard.{Heard}
 use Rattle.qo_commands.specs.declared.touched.Touched.{Touched}
 use Rattle.qo_commands.specs.declared.touched.Touched.TheVariants.{Nothing, Registers, Devices}

@@ -2,6 +2,7 @@
 use Rattle.std.proofs.Common.{◌≡◌, refl, ap, sym, subst, ◌∙◌, ℕ, Bool, true, false, not, if◌then◌else◌, List, [], ◌∷◌, Option, None, Some, is_some, Result, Ok, Err, IfOk}
 use Rattle.std.specs.Prelude.{unwrap_or}
 use Rattle.qo_values.specs.declared.codes.Code.{Code}
+use Rattle.qo_values.specs.declared.codes.Code.TheVariants.{E33, E36}
 use Rattle.qo_values.specs.declared.forms.Form.{Form}
 use Rattle.qo_values.specs.declared.forms.Form.TheVariants.{Utf8}
 use Rattle.qo_values.specs.Rings.{ring_oldest}
@@ -70,23 +71,19 @@ pub touches-fine : (b c : Board) (t : Touched) (h : Heard) → h ≡ record { an
     → Touches h.touched b c
 touches-fine b c t h told touches = subst (λ (x : Touched). Touches x b c) (sym (ap (λ (y : Heard). y.touched) told)) touches
 
-pub nacked-touches : (b : Board) (o : Option ℕ) → Touches Nothing b (nacked b o).board
-nacked-touches b None = (refl, refl)
-nacked-touches b (Some d) = go (among b.pending d)
-  where
-    go : (t : Bool) → Touches Nothing b (if t then answered (refused b d) (nacked b None).answer else answered b (nacked b None).answer).board
-    go true = (refl, refl)
-    go false = (refl, refl)
-
-pub read-touches : (b : Board) (reg : ℕ) (o : Option ℕ) → Touches Nothing b (read_by b reg o).board
-read-touches b reg None = (refl, refl)
-read-touches b reg (Some d) = (refl, refl)
-
 -- either of two outcomes
 either-touches : (b : Board) (t : Touched) (has : Bool) (d e : Outcome) → Touches t b d.board → Touches t b e.board
     → Touches t b (if has then d else e).board
 either-touches b t true d e p q = p
 either-touches b t false d e p q = q
+
+pub nacked-touches : (b : Board) (o : Option ℕ) → Touches Nothing b (nacked b o).board
+nacked-touches b None = (refl, refl)
+nacked-touches b (Some d) = either-touches b Nothing (among b.pending d) _ _ (refl, refl) (refl, refl)
+
+pub read-touches : (b : Board) (reg : ℕ) (o : Option ℕ) → Touches Nothing b (read_by b reg o).board
+read-touches b reg None = (refl, refl)
+read-touches b reg (Some d) = (refl, refl)
 
 pub peeked-touches : (b : Board) (o : Option RegisterPlace) → Touches Nothing b (peeked b o).board
 peeked-touches b None = (refl, refl)
@@ -108,7 +105,7 @@ or-touches b t false c d p q = q
 asked-touches : (b : Board) (id : List ℕ) → Touches Nothing b (asked b id).board
 asked-touches b id = go (device_at b id)
   where
-    go : (o : Option ℕ) → Touches Nothing b (elim o as (λ o. Changed) [ None ↦ record { refusal = (asked b id).refusal; board = b } | Some d ↦ asked_of b d ]).board
+    go : (o : Option ℕ) → Touches Nothing b (elim o as (λ o. Changed) [ None ↦ record { refusal = Some E33; board = b } | Some d ↦ asked_of b d ]).board
     go None = (refl, refl)
     go (Some d) =
         or-touches b Nothing (not (attached b d)) _ _ (refl, refl)
@@ -129,7 +126,7 @@ read-ring-touches b id most form = go (ring_named id b.rings)
 
     go : (o : Option Ring)
         → Touches Nothing b (elim o as (λ o. Reading) [
-          | None ↦ record { text = (ring_read b id most form).text; board = b }
+          | None ↦ record { text = Err E36; board = b }
           | Some r ↦ taken_as b id most (text_told form (ring_oldest (bytes_in r) most))
         ]).board
     go None = (refl, refl)
@@ -144,7 +141,7 @@ write-ring-touches b id text form = go (ring_named id b.rings)
 
     go : (o : Option Ring)
         → Touches Nothing b (elim o as (λ o. Changed) [
-          | None ↦ record { refusal = (ring_written b id text form).refusal; board = b }
+          | None ↦ record { refusal = Some E36; board = b }
           | Some r ↦ written_as b id (given_bytes form text)
         ]).board
     go None = (refl, refl)

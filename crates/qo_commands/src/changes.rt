@@ -17,7 +17,7 @@ ghost use Rattle.qo_realize.specs.Representation.{Stands};
 use crate::commands::{Done, ReplyBody, done_by, having_touched, outcome_of, refused};
 use crate::hearing::{Heard, hear};
 use crate::rings::{add_ring, read_ring, remove_ring, write_ring};
-use crate::touched::{Touched, touched_by_reset};
+use crate::touched::Touched;
 use qo_guest::GuestAnswer;
 use qo_heap::Steps;
 use qo_layout::Lines;
@@ -200,13 +200,12 @@ fn reset<L: Ledger>(board: &mut Board, steps: &mut Steps<L>) -> Done
     ensures came { (b : Tree) → Stands b board.old → Came (altered b alteration.SystemReset) result board.new }
     ensures touched { (b : Tree) → Stands b board.old → Touches result.touched b (altered b alteration.SystemReset).board }
 {
-    let touched = touched_by_reset(board);
     board.system_reset(steps);
     Done {
         result: Ok(ReplyBody::Empty),
         event: Some(Event::Reset { guest: false }),
         ends: false,
-        touched,
+        touched: Touched::Devices,
     }
 }
 

@@ -14,7 +14,7 @@ ghost use Rattle.qo_layout.specs.Rows.{LinesAre};
 ghost use Rattle.qo_sound_devices.specs.SoundDevices.{SoundDevices};
 
 use crate::memory::{peek, poke};
-use crate::touched::{Touched, touched_by_reset};
+use crate::touched::Touched;
 use qo_guest::{Addr, GuestAct, GuestAnswer, read_line};
 use qo_heap::{Oid, Steps};
 use qo_hotplug::Notice;
@@ -210,13 +210,12 @@ fn reset<L: Ledger>(board: &mut Board, steps: &mut Steps<L>) -> Heard
     ensures came { (b : Tree) → Stands b board.old → Came (reset_by b) result board.new }
     ensures touched { (b : Tree) → Stands b board.old → Touches result.touched b (reset_by b).board }
 {
-    let touched = touched_by_reset(board);
     board.system_reset(steps);
     Heard {
         answer: GuestAnswer::Fine,
         event: Some(Event::Reset { guest: true }),
         ends: false,
-        touched,
+        touched: Touched::Devices,
     }
 }
 

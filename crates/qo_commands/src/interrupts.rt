@@ -1,7 +1,8 @@
 //! The interrupt lines of a board (hw/core/irq.c).
 
 ghost use Rattle.std.specs.Prelude.{IfOk, OnOk};
-ghost use Rattle.qo_commands.specs.Interrupts.{HasLines, HasShape, IsLeft};
+ghost use Rattle.qo_commands.specs.Interrupts.{HasLines};
+ghost use Rattle.qo_commands.specs.Touched.{HasShape, IsLeft};
 
 use crate::touched::Touched;
 use qo_heap::Steps;

@@ -3,7 +3,8 @@ use Rattle.std.proofs.Common.{◌≡◌, refl, sym, subst, ◌∙◌, ℕ, true,
 use Rattle.qo_causes.specs.declared.inputs.Moment.{Moment}
 use Rattle.qo_values.specs.declared.codes.Code.{Code}
 use Rattle.qo_commands.specs.Commands.{without_events}
-use Rattle.qo_commands.specs.Interrupts.{HasLines, HasShape, IsLeft}
+use Rattle.qo_commands.specs.Interrupts.{HasLines}
+use Rattle.qo_commands.specs.Touched.{HasShape, IsLeft}
 use Rattle.qo_commands.specs.declared.touched.Touched.{Touched}
 use Rattle.qo_commands.specs.declared.touched.Touched.TheVariants.{Nothing, Registers}
 use Rattle.qo_commands.proofs.FrameLemmas.{advanced-frame}

@@ -204,7 +204,8 @@ impl Core {
     ghost use Rattle.qo_machine.specs.Sending.{AreToLanes};
     ghost use Rattle.qo_commands.specs.Hearing.{heard};
     ghost use Rattle.qo_commands.specs.Lines.{lines_of};
-    ghost use Rattle.qo_commands.specs.Interrupts.{HasLines, IsLeft};
+    ghost use Rattle.qo_commands.specs.Interrupts.{HasLines};
+    ghost use Rattle.qo_commands.specs.Touched.{IsLeft};
     ghost use Rattle.qo_commands.specs.declared.touched.Touched.TheVariants.{Nothing};
     ghost use Rattle.qo_model.specs.Opening.{opening_board};
     ghost use Rattle.qo_machine.specs.Between.{IsWired};

@@ -13,7 +13,7 @@ ghost use Rattle.qo_values.specs.declared.limits.TheConstants.{SESSIONS};
 ghost use Rattle.qo_machine.specs.Sending.{AreToLanes, IsLane};
 ghost use Rattle.qo_machine.specs.Between.{IsWired};
 ghost use Rattle.qo_machine.specs.Serving.{CommandLeft, CommandServed, LinesFront, LinesTo, ServesFront, ServesTo, Tells};
-ghost use Rattle.qo_commands.specs.Interrupts.{IsLeft};
+ghost use Rattle.qo_commands.specs.Touched.{IsLeft};
 
 use crate::machines::{Core, Reply};
 use crate::outs::Outs;

@@ -107,8 +107,8 @@ impl Board {
         release(&mut self.heap, &mut self.resets, path, steps)
     }
 
-    /// How many removals are pending. It takes no memory.
-    pub fn pending_count(&self) -> usize
+    /// How many removals are pending.
+    fn pending_count(&self) -> usize
         ensures { result ≡ length self.now.pending }
     {
         self.hotplug.pending().len()

@@ -1,7 +1,8 @@
 -- What a command leaves, and what is left of the lines.
 use Rattle.std.proofs.Common.{◌≡◌, ap, sym, subst}
 use Rattle.std.specs.Prelude.{IfOk, OnErr}
-use Rattle.qo_commands.specs.Interrupts.{HasLines, IsLeft}
+use Rattle.qo_commands.specs.Interrupts.{HasLines}
+use Rattle.qo_commands.specs.Touched.{IsLeft}
 use Rattle.qo_commands.proofs.InterruptLemmas.{left-changed, same-changed}
 use Rattle.qo_layout.specs.Rows.{Wired}
 use Rattle.qo_machine.specs.Machine.{Seen}

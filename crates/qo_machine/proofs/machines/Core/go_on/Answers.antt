@@ -1,6 +1,6 @@
 -- The time goes on, and the registers that lines hang on are read again.
 use Rattle.std.proofs.Common.{◌≡◌, ap, sym, subst}
-use Rattle.qo_commands.specs.Interrupts.{HasShape}
+use Rattle.qo_commands.specs.Touched.{HasShape}
 use Rattle.qo_layout.specs.Rows.{Wired}
 use Rattle.qo_realize.specs.Time.{advanced}
 use Rattle.qo_machine.specs.Machine.{Seen}

@@ -1,7 +1,7 @@
 -- What is left of the lines after a line of the guest.
 use Rattle.std.proofs.Common.{◌≡◌, ap, sym, subst}
 use Rattle.qo_commands.specs.Hearing.{heard}
-use Rattle.qo_commands.specs.Interrupts.{IsLeft}
+use Rattle.qo_commands.specs.Touched.{IsLeft}
 use Rattle.qo_commands.proofs.InterruptLemmas.{left-after}
 use Rattle.qo_layout.specs.Rows.{Wired}
 use Rattle.qo_machine.specs.Machine.{Seen}

@@ -1,6 +1,6 @@
 -- What is left of the lines is left as the fields are.
 use Rattle.std.proofs.Common.{◌≡◌, ap, sym, subst}
-use Rattle.qo_commands.specs.Interrupts.{IsLeft}
+use Rattle.qo_commands.specs.Touched.{IsLeft}
 use Rattle.qo_realize.specs.Parts.{Parts}
 use Rattle.qo_layout.specs.Rows.{Wired}
 use Rattle.qo_machine.specs.Machine.{Seen}
