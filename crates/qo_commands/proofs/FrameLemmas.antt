@@ -1,5 +1,5 @@
 -- What leaves the objects of a board but for their plain values and registers.
-use Rattle.std.proofs.Common.{◌≡◌, refl, ap, ap₂, sym, ◌∙◌, ℕ, ◌+◌, ◌==◌, nat_lt, Bool, true, false, not, if◌then◌else◌, List, [], ◌∷◌, map, Option, None, Some, option_map, Result, Ok, Err}
+use Rattle.std.proofs.Common.{◌≡◌, refl, ap, ap₂, sym, subst, ◌∙◌, ℕ, ◌+◌, ◌==◌, nat_lt, Bool, true, false, not, if◌then◌else◌, List, [], ◌∷◌, map, length, Option, None, Some, option_map, Result, Ok, Err}
 use Rattle.std.specs.Option.{option_map_or}
 use Rattle.qo_values.specs.Registers.{Effect, Registers, byte, nothing, pulse as pulses}
 use Rattle.qo_values.specs.declared.births.TheConstants.{MACHINE_BIRTH}
@@ -10,10 +10,11 @@ use Rattle.qo_buses.specs.Rings.{claimed_ring}
 use Rattle.qo_model.specs.Board.{Board, Record}
 use Rattle.qo_model.specs.Clocks.{acted, with_act_on}
 use Rattle.qo_model.specs.Devices.{first_bus}
-use Rattle.qo_model.specs.Hotplug.{reset_whole}
+use Rattle.qo_model.specs.Hotplug.{all_completed, reset_whole}
 use Rattle.qo_model.specs.Objects.{Changed}
+use Rattle.qo_model.specs.Paths.{attached}
 use Rattle.qo_model.specs.Release.{edit, edited}
-use Rattle.qo_model.specs.Reset.{after_hold, pulse, released}
+use Rattle.qo_model.specs.Reset.{after_hold, exceeds_depth, pulse, released}
 use Rattle.qo_model.specs.SoundGraph.{without_values}
 use Rattle.qo_realize.specs.Registers.{after_effect, guest_written, pushed, registers_written}
 use Rattle.qo_realize.specs.Resets.{at_path, held_at, held_of, released_at, released_of, resettable_at}
@@ -90,7 +91,9 @@ written-frame b reg value (Some d) = frame-written b d reg value
 -- a reset of the whole board
 pub reset-touches : (b : Board) (pending : List ℕ) → b.pending ≡ pending → Touches (touched_by_reset pending) b (reset_whole b)
 unfolding reset_whole
-reset-touches b [] none = rw none (framed-pulse b b MACHINE_BIRTH refl)
+reset-touches b [] none =
+    subst (λ (c : Board). frame_of b ≡ frame_of (pulse c MACHINE_BIRTH)) (sym (ap (λ (ds : List ℕ). all_completed (length ds) b) none))
+    (framed-pulse b b MACHINE_BIRTH refl)
 reset-touches b (d ∷ ds) some = tt
 
 -- either of two changes
@@ -105,12 +108,15 @@ advanced-frame b ns = or-frame b (not b.running) _ _ refl (or-frame b (nat_lt TI
 
 -- holds
 
+held_of-frame : (b : Board) (n : ℕ) → frame_of b ≡ frame_of (held_of b n).board
+held_of-frame b n = or-frame b (not (attached b n)) _ _ refl (or-frame b (exceeds_depth b n) _ _ refl (framed-held b n))
+
 pub held-frame : (b : Board) (path : List ℕ) → frame_of b ≡ frame_of (held_at b path).board
 held-frame b path = go (resettable_at b path)
   where
     go : (r : Result ℕ Code) → frame_of b ≡ frame_of (at_path b (held_of b) r).board
     go (Err code) = refl
-    go (Ok n) = or-frame b _ _ _ refl (or-frame b _ _ _ refl (framed-held b n))
+    go (Ok n) = held_of-frame b n
 
 pub released-frame : (b : Board) (path : List ℕ) → frame_of b ≡ frame_of (released_at b path).board
 released-frame b path = go (resettable_at b path)
