@@ -169,10 +169,10 @@ module _ (b c : Board) (same : frame_of b ≡ frame_of c) where
       ap₂ (λ (next : ℕ → List ℕ) (all : List ℕ). by_objects (turn next) (λ _. []) all n) (fun_ext below-same) births-same
 
   pub frame-devices : SoundShape b → SoundShape c → SameDevices b c
-  frame-devices shape then = record {
+  frame-devices shape shape_after = record {
     objects = ap₂ (λ (xs ys : List ℕ). xs ++ ys) (post-same ROOT_BUS_BIRTH) (post-same MEMORY_BUS_BIRTH);
     below_it = below-same;
     slots = kid-same ROOT_BUS_BIRTH;
     bodies = λ n.
-        driven-by b shape n ∙ ap (λ (o : Option TypeId). option_map_or (λ (t : TypeId). wiring (fresh_registers t)) o Joined) (kind-same n) ∙ sym (driven-by c then n);
+        driven-by b shape n ∙ ap (λ (o : Option TypeId). option_map_or (λ (t : TypeId). wiring (fresh_registers t)) o Joined) (kind-same n) ∙ sym (driven-by c shape_after n);
   }

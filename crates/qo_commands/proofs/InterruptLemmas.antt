@@ -75,10 +75,10 @@ unfolding HasShape
 by-shape P p l h f = f h.board h.stands h.sound h.shaped
 
 left-of : (t : Touched) (b c : Board) (q : Parts) (l : Wired) → SoundBoard b → LinesAre b l → Touches t b c → Stands c q → SoundBoard c → IsLeft t q l
-left-of Nothing b c q l sound are touches stands then = has-lines q l c stands then (lines-same b c l touches.0 touches.1 are)
-left-of Registers b c q l sound are touches stands then =
-    has-shape q l c stands then (same_lem.made b c (frame-devices b c touches sound.shape then.shape) l are.shaped)
-left-of Devices b c q l sound are touches stands then = tt
+left-of Nothing b c q l sound are touches stands after = has-lines q l c stands after (lines-same b c l touches.0 touches.1 are)
+left-of Registers b c q l sound are touches stands after =
+    has-shape q l c stands after (same_lem.made b c (frame-devices b c touches sound.shape after.shape) l are.shaped)
+left-of Devices b c q l sound are touches stands after = tt
 
 -- a board that came of one whose lines they are, where this was touched
 pub record CameOf (t : Touched) (b : Board) (q : Parts) : Type 0 where

@@ -1,5 +1,6 @@
 -- The lines are read, and the run ends.
 use Rattle.std.proofs.Common.{ap, refl}
+use Rattle.qo_layout.specs.Layout.{register_at}
 use Rattle.qo_commands.specs.Hearing.{acted, irq_by, nacked, peeked, polled_by, read_by, shut_down}
 use Rattle.qo_commands.proofs.HearingLemmas.{came-as}
 use Rattle.qo_commands.proofs.InterruptLemmas.{irq-heard}
@@ -31,7 +32,8 @@ returns-in-Read-clause-touched g c = λ b s.
 
 pub returns-in-Peek-clause-touched : goal.returns-in-Peek-clause-touched
 returns-in-Peek-clause-touched g c = λ b s.
-    if_none c.peek.result b (acted b c.args.act.now) (peeked b _) (ap (acted b) c.in-Peek.is) c.peek.ensures.touched (peeked-touches b _)
+    if_none c.peek.result b (acted b c.args.act.now) (peeked b (register_at b c.in-Peek.at)) (ap (acted b) c.in-Peek.is)
+    c.peek.ensures.touched (peeked-touches b (register_at b c.in-Peek.at))
 
 pub returns-in-Irq-clause-touched : goal.returns-in-Irq-clause-touched
 returns-in-Irq-clause-touched g c = λ b s.
