@@ -1,6 +1,9 @@
 mod ChangeLemmas
+mod DeviceFrameLemmas
+pub mod FrameLemmas
 mod ListingLemmas
 mod NoteLemmas
+mod TouchedLemmas
 pub mod AttemptLemmas
 pub mod CommandLemmas
 pub mod HearingLemmas

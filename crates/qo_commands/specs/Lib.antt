@@ -6,4 +6,5 @@ pub mod LineRefusals
 pub mod Lines
 pub mod Memory
 pub mod Refusals
+pub mod Touched
 pub mod Views

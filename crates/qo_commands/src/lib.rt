@@ -18,6 +18,7 @@ mod memory;
 mod notes;
 mod query_commands;
 mod rings;
+mod touched;
 mod types;
 mod values;
 
@@ -26,6 +27,7 @@ pub use changes::change;
 pub use commands::{Done, ReplyBody, ask};
 pub use hearing::{Heard, hear};
 pub use integer_json::IntegerJson;
-pub use interrupts::interrupt_lines;
+pub use interrupts::{interrupt_lines, refresh_lines, settle_lines};
 pub use lines::{cut_lines, without_return};
 pub use listings::listing_text;
+pub use touched::Touched;

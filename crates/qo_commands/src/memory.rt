@@ -8,6 +8,8 @@ ghost use Rattle.qo_realize.specs.Representation.{Stands};
 ghost use Rattle.qo_layout.specs.Layout.{register_at};
 ghost use Rattle.qo_commands.specs.Hearing.{Came, answered, has_registers, outcome_of, peeked, poked};
 ghost use Rattle.qo_commands.specs.Memory.{HasNoRegister};
+ghost use Rattle.qo_commands.specs.Touched.{Touches};
+ghost use Rattle.qo_commands.specs.declared.touched.Touched.TheVariants.{Nothing};
 
 use crate::hearing::{Heard, answered, read_register, write_register};
 use qo_buses::is_of;
@@ -72,7 +74,8 @@ pub(crate) fn peek<L: Ledger>(
     alloc: Global,
     steps: &mut Steps<L>,
 ) -> Result<Heard, AllocError>
-    ensures { (b : Tree) → Stands b board.now → IfOk result (λ h. outcome_of b h ≡ peeked b (register_at b at)) }
+    ensures came { (b : Tree) → Stands b board.now → IfOk result (λ h. outcome_of b h ≡ peeked b (register_at b at)) }
+    ensures touched { IfOk result (λ h. h.touched ≡ Nothing) }
 {
     let Some(place) = shown_at(board, at, alloc, steps)? else {
         return Ok(answered(GuestAnswer::NoAddress));
@@ -93,6 +96,7 @@ pub(crate) fn poke<L: Ledger>(
     steps: &mut Steps<L>,
 ) -> Result<Heard, AllocError>
     ensures came { (b : Tree) → Stands b board.old → IfOk result (λ h. Came (poked b value (register_at b at)) h board.new) }
+    ensures touched { (b : Tree) → Stands b board.old → IfOk result (λ h. Touches h.touched b (poked b value (register_at b at)).board) }
     ensures err { OnErr result (board.new ≡ board.old) }
 {
     let Some(place) = shown_at(board, at, alloc, steps)? else {

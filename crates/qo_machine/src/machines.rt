@@ -13,7 +13,9 @@ use crate::replying::{EMPTY, changed_text, guest_text, reply_text};
 use crate::serving::{serve_items, serve_lines};
 use json::Scratch;
 use qo_causes::{Input, Lane, Moment, What};
-use qo_commands::{ask, cut_lines, hear, interrupt_lines};
+use qo_commands::{
+    Done, Touched, ask, cut_lines, hear, interrupt_lines, refresh_lines, settle_lines,
+};
 use qo_events::DeviceEvent;
 use qo_framing::Item;
 use qo_heap::Steps;
@@ -64,6 +66,8 @@ pub(crate) struct Reply {
     pub(crate) event: Option<Event>,
     /// Whether it ends the run.
     pub(crate) ends: bool,
+    /// What it touched of what interrupt lines hang on.
+    pub(crate) touched: Touched,
 }
 
 /// What a machine is made of, also while a command is served and events on devices wait on the board.
@@ -190,7 +194,7 @@ impl Core {
     ghost use Rattle.qo_model.specs.Board.{Board as Tree};
     ghost use Rattle.qo_sessions.specs.Acts.{act};
     ghost use Rattle.qo_sessions.specs.Sessions.{fed};
-    ghost use Rattle.qo_commands.specs.Changes.{Left};
+    ghost use Rattle.qo_commands.specs.Changes.{Changes, Left};
     ghost use Rattle.qo_requests.specs.declared.calls.Call.TheVariants as call;
     ghost use Rattle.qo_commands.specs.Commands.{without_events};
     ghost use Rattle.qo_realize.specs.Representation.{Stands, StandsForGood};
@@ -201,9 +205,11 @@ impl Core {
     ghost use Rattle.qo_commands.specs.Hearing.{heard};
     ghost use Rattle.qo_commands.specs.Lines.{lines_of};
     ghost use Rattle.qo_commands.specs.Interrupts.{HasLines};
+    ghost use Rattle.qo_commands.specs.Touched.{IsLeft};
+    ghost use Rattle.qo_commands.specs.declared.touched.Touched.TheVariants.{Nothing};
     ghost use Rattle.qo_model.specs.Opening.{opening_board};
     ghost use Rattle.qo_machine.specs.Between.{IsWired};
-    ghost use Rattle.qo_machine.specs.Serving.{Came, CameTo, is_query, moved};
+    ghost use Rattle.qo_machine.specs.Serving.{Came, CameTo, moved};
 
     /// The machine at first: the opening board, and all sessions closed.
     fn start(alloc: Global) -> Result<Core, AllocError>
@@ -499,16 +505,19 @@ impl Core {
     ) -> Result<Reply, AllocError>
         requires wired { IsWired self.old }
         ensures came { (b : Tree) → Stands b self.old.board → IfOk result (λ r. CameTo (heard b line.now) r self.new.board) }
+        ensures left { IfOk result (λ r. IsLeft r.touched self.new.board self.new.lines) }
         ensures kept { OnErr result (self.new.board ≡ self.old.board) }
         ensures rest { (b : Tree) → state_with b self.new ≡ state_with b self.old }
         ensures lasts { self.new.out_of_memory ≡ self.old.out_of_memory }
         ensures wires { self.new.lines ≡ self.old.lines }
     {
         let heard = hear(&mut self.board, &self.lines, line, alloc, steps)?;
+        self.board.reveal_board();
         Ok(Reply {
             text: guest_text(alloc, &heard.answer),
             event: heard.event,
             ends: heard.ends,
+            touched: heard.touched,
         })
     }
 
@@ -523,42 +532,24 @@ impl Core {
     {
         let _time = self.board.advance(ns);
         self.board.reveal_board();
-        self.lines.refresh(self.board.heap(), steps);
+        refresh_lines(&mut self.lines, &self.board, steps);
     }
 
-    /// The interrupt lines are the board's again, after a command; one that leaves the board leaves them. The
-    /// error is want of memory.
-    pub(crate) fn settle_command<L: Ledger>(
-        &mut self,
-        alloc: Global,
-        command: &Call,
-        steps: &mut Steps<L>,
-    ) -> Result<(), AllocError>
-        requires wired { is_query command.now ≡ true → IsWired self.old }
-        ensures wired { OnOk result (IsWired self.new) }
-        ensures board { self.new.board ≡ self.old.board }
-        ensures rest { (b : Tree) → state_with b self.new ≡ state_with b self.old }
-        ensures lasts { self.new.out_of_memory ≡ self.old.out_of_memory }
-    {
-        match command {
-            Call::Query(_) => Ok(()),
-            Call::Change(_) => self.settle(alloc, steps),
-        }
-    }
-
-    /// The interrupt lines are the board's again. The error is want of memory.
+    /// The interrupt lines are the board's again, where this was touched since they were. The error is want
+    /// of memory.
     pub(crate) fn settle<L: Ledger>(
         &mut self,
         alloc: Global,
+        touched: Touched,
         steps: &mut Steps<L>,
     ) -> Result<(), AllocError>
+        requires { IsLeft touched self.old.board self.old.lines }
         ensures wired { OnOk result (IsWired self.new) }
         ensures board { self.new.board ≡ self.old.board }
         ensures rest { (b : Tree) → state_with b self.new ≡ state_with b self.old }
         ensures lasts { self.new.out_of_memory ≡ self.old.out_of_memory }
     {
-        self.lines = interrupt_lines(alloc, &self.board, steps)?;
-        Ok(())
+        settle_lines(alloc, &mut self.lines, &self.board, touched, steps)
     }
 
     /// The mode of a session.
@@ -596,6 +587,7 @@ impl Core {
         steps: &mut Steps<L>,
     ) -> Result<Reply, AllocError>
         ensures came { (b : Tree) → Stands b self.now.board → IfOk result (λ r. Came b (call.Query query.now) (option_map (λ id. id.now) id.entry) r self.now.board) }
+        ensures touched { IfOk result (λ r. r.touched ≡ Nothing) }
     {
         let done = ask(alloc, &self.board, query, steps)?;
         let text = reply_text(alloc, &self.board, id, &done.result, steps)?;
@@ -603,7 +595,29 @@ impl Core {
             text: Ok(text),
             event: done.event,
             ends: done.ends,
+            touched: Touched::Nothing,
         })
+    }
+
+    /// Does a command that changes the board. Where memory runs out the board is as it was, or an attempt was
+    /// cut; the interrupt lines are the board's then.
+    fn apply<L: Ledger>(
+        &mut self,
+        alloc: Global,
+        change: &Change,
+        steps: &mut Steps<L>,
+    ) -> Result<Done, AllocError>
+        requires wired { IsWired self.old }
+        ensures came { (b : Tree) → Stands b self.old.board → Changes b change.now result self.new.board }
+        ensures left { IfOk result (λ d. IsLeft d.touched self.new.board self.new.lines) }
+        ensures same { OnErr result (IsWired self.new) }
+        ensures rest { (b : Tree) → state_with b self.new ≡ state_with b self.old }
+        ensures lasts { self.new.out_of_memory ≡ self.old.out_of_memory }
+        ensures wires { self.new.lines ≡ self.old.lines }
+    {
+        let done = qo_commands::change(alloc, &mut self.board, &self.lines, change, steps);
+        self.board.reveal_board();
+        done
     }
 
     /// Does a command that changes the board, and gives the text of its reply. The text that says that
@@ -618,18 +632,21 @@ impl Core {
     ) -> Result<Reply, AllocError>
         requires wired { IsWired self.old }
         ensures came { (b : Tree) → Stands b self.old.board → IfOk result (λ r. Came b (call.Change change.now) (option_map (λ id. id.now) id.entry) r self.new.board) }
+        ensures left { IfOk result (λ r. IsLeft r.touched self.new.board self.new.lines) }
+        ensures same { OnErr result (IsWired self.new) }
         ensures kept { (b : Tree) → Stands b self.old.board → OnErr result (Left b (call.Change change.now) self.new.board) }
         ensures rest { (b : Tree) → state_with b self.new ≡ state_with b self.old }
         ensures lasts { self.new.out_of_memory ≡ self.old.out_of_memory }
         ensures wires { self.new.lines ≡ self.old.lines }
     {
         let empty = return_written(alloc, id, EMPTY)?;
-        let done = qo_commands::change(alloc, &mut self.board, &self.lines, change, steps)?;
+        let done = self.apply(alloc, change, steps)?;
         let text = changed_text(alloc, &self.board, id, empty, &done.result, steps);
         Ok(Reply {
             text,
             event: done.event,
             ends: done.ends,
+            touched: done.touched,
         })
     }
 
@@ -649,7 +666,8 @@ impl Core {
         ensures rest { (b : Tree) → state_with b self.new ≡ state_with b self.old }
         ensures lasts { self.new.out_of_memory ≡ self.old.out_of_memory }
         ensures wires { self.new.lines ≡ self.old.lines }
-        ensures leaves { is_query command.now ≡ true → self.new ≡ self.old }
+        ensures left { IfOk result (λ r. IsLeft r.touched self.new.board self.new.lines) }
+        ensures same { OnErr result (IsWired self.new) }
     {
         match command {
             Call::Query(query) => self.answer(alloc, query, id, steps),
