@@ -4,6 +4,7 @@ mod NoteLemmas
 pub mod AttemptLemmas
 pub mod CommandLemmas
 pub mod HearingLemmas
+pub mod KeptViewLemmas
 pub mod LineLemmas
 pub mod MemoryLemmas
 pub mod RefusedCommandLemmas

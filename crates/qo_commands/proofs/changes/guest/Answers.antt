@@ -5,8 +5,8 @@ use Rattle.qo_commands.specs.Commands.{altered}
 use Rattle.qo_commands.proofs.ChangeLemmas.{told-came}
 use Rattle.qo_commands.proofs.changes.guest.Goals as goal
 
-pub returns : goal.returns
+pub returns-clause-came : goal.returns-clause-came
 unfolding altered
-returns g c = λ b s.
+returns-clause-came g c = λ b s.
     let came = subst (λ (line : List ℕ). Came (heard b line) c.in_ok-heard.heard c.hear.new.board) c.as_bytes.ensures.value (c.in_ok-heard.ensures.came b s) in
     told-came (heard b c.args.line.now) c.in_ok-heard.heard c.guest_reply.result c.hear.new.board came c.guest_reply.ensures

@@ -1,9 +1,12 @@
 -- What the line is, is what it comes to.
-use Rattle.std.proofs.Common.{◌≡◌, ap, sym, ◌∙◌, true, false}
+use Rattle.std.proofs.Common.{◌≡◌, ap, sym, subst, ◌∙◌, true, false, cond, Bool, List, Option, None}
 use Rattle.std.specs.Result.{result_ok}
 use Rattle.qo_guest.specs.declared.answers.GuestAnswer.TheVariants.{NoLine, NoStopped}
+use Rattle.qo_memmap.specs.declared.span.Span.{Span}
 use Rattle.qo_commands.specs.Hearing.{acted, heard}
 use Rattle.qo_commands.proofs.HearingLemmas.{came-answered, heard-acted, heard-none, heard-stopped, if_came, none-of}
+use Rattle.qo_commands.specs.KeptViews.{HasView}
+use Rattle.qo_commands.proofs.KeptViewLemmas.{view-acted}
 use Rattle.qo_commands.proofs.hearing.hear.Goals as goal
 
 pub returns-in_default-clause-came : goal.returns-in_default-clause-came
@@ -22,3 +25,10 @@ returns-clause-came g c = λ b s.
     let runs : b.running ≡ true = sym (c.running.ensures b s) ∙ c.if-not-running.false in
     if_came c.act.result (heard b c.args.line.now) (acted b c.in-Ok.read) c.act.new.board
     (heard-acted b c.args.line.now c.in-Ok.read (sym c.read_line.ensures ∙ ap result_ok c.in-Ok.is) runs) (c.act.ensures.came b s)
+
+pub returns-clause-view : goal.returns-clause-view
+returns-clause-view g c =
+    subst (λ (kept : Option (List Span)). HasView c.act.new.board kept)
+    (sym (c.keep_if.ensures ∙ ap (λ (leaves : Bool). cond leaves c.act.new.view None) c.leaves_objects.ensures))
+    (view-acted c.args.board.now c.act.new.board c.args.lines.now c.in-Ok.read c.act.result c.act.new.view c.requires.lines c.act.ensures.came c.act.ensures.err
+    c.act.ensures.view)

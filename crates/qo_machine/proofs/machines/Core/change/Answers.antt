@@ -12,7 +12,7 @@ changed_text-text-requires g c = c.in_ok-empty.ensures empty empty_written
 
 pub returns-clause-came : goal.returns-clause-came
 returns-clause-came g c = λ b stands.
-    let did = c.in_ok-done.ensures b (stands_in b c.self.inside.board c.args.self.now (seen_board c.self.view_is) stands) in
+    let did = c.in_ok-done.ensures.came b (stands_in b c.self.inside.board c.args.self.now (seen_board c.self.view_is) stands) in
     record {
       stands = did.0;
       events = ap (λ (d : Done). d.events) did.1;
