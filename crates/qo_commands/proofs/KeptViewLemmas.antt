@@ -9,7 +9,7 @@ use Rattle.qo_values.specs.Uart.{uart_write}
 use Rattle.qo_guest.specs.declared.answers.GuestAnswer.TheVariants.{NoPending, NoRegister}
 use Rattle.qo_guest.specs.declared.lines.GuestAct.{GuestAct}
 use Rattle.qo_guest.specs.declared.lines.GuestAct.TheVariants.{Ack, Nack, Poll, Read, Write, Peek, Poke, Irq, Reset, Shutdown}
-use Rattle.qo_lines.specs.Rows.{Wired}
+use Rattle.qo_layout.specs.Rows.{Wired}
 use Rattle.qo_layout.specs.Kept.{IsViewOf}
 use Rattle.qo_layout.specs.Layout.{dimm_in}
 use Rattle.qo_layout.specs.SameViews.{SameObjects}

@@ -1,4 +1,4 @@
--- The flat view that is kept beside a board is its own (docs/devel/memory.rst, "Visibility").
+-- For proofs alone. The flat view that is kept beside a board is its own (docs/devel/memory.rst, "Visibility").
 use Rattle.std.specs.Prelude.{Bool, true, false, List, Option}
 use Rattle.qo_guest.specs.declared.lines.GuestAct.{GuestAct}
 use Rattle.qo_guest.specs.declared.lines.GuestAct.TheVariants.{Ack, Reset}

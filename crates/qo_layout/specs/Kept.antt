@@ -1,4 +1,4 @@
--- A flat view of a board that is kept from one use to the next.
+-- For proofs alone. A flat view of a board that is kept from one use to the next.
 use Rattle.std.specs.Prelude.{List, Option, IfSome}
 use Rattle.qo_memmap.specs.Regions.{shows_at}
 use Rattle.qo_memmap.specs.Spans.{IsFlat, OffsetsFit, RiseFrom}
