@@ -10,12 +10,11 @@ use Rattle.qo_guest.specs.declared.answers.GuestAnswer.TheVariants.{NoPending, N
 use Rattle.qo_guest.specs.declared.lines.GuestAct.{GuestAct}
 use Rattle.qo_guest.specs.declared.lines.GuestAct.TheVariants.{Ack, Nack, Poll, Read, Write, Peek, Poke, Irq, Reset, Shutdown}
 use Rattle.qo_layout.specs.Rows.{Wired}
-use Rattle.qo_layout.specs.Kept.{IsViewOf}
+use Rattle.qo_layout.specs.Kept.{IsViewOf, Kept}
 use Rattle.qo_layout.specs.Layout.{dimm_in}
 use Rattle.qo_layout.specs.SameViews.{SameObjects}
 use Rattle.qo_layout.proofs.SameObjectLemmas.{same-edited, same-pulsed, same-then}
 use Rattle.qo_layout.proofs.SameViewLemmas.{same_view_lem}
-use Rattle.qo_memmap.specs.declared.span.Span.{Span}
 use Rattle.qo_model.specs.Board.{Board, Record, record_of}
 use Rattle.qo_model.specs.Clocks.{device_period}
 use Rattle.qo_model.specs.Depth.{among}
@@ -38,12 +37,12 @@ use Rattle.qo_commands.specs.declared.hearing.Heard.{Heard}
 use Rattle.qo_commands.proofs.InterruptLemmas.{by-lines}
 
 -- nothing is right beside any board
-pub view_none : (p : Parts) (kept : Option (List Span)) → kept ≡ None → HasView p kept
+pub view_none : (p : Parts) (kept : Kept) → kept ≡ None → HasView p kept
 unfolding HasView
 view_none p kept none = λ b stands. subst (IsViewOf b) (sym none) tt
 
 -- a board with the same objects stands at two parts
-pub view-same : (p q : Parts) (kept : Option (List Span)) (b c : Board) → Stands b p → Stands c q → SameObjects b c → HasView p kept → HasView q kept
+pub view-same : (p q : Parts) (kept : Kept) (b c : Board) → Stands b p → Stands c q → SameObjects b c → HasView p kept → HasView q kept
 unfolding HasView
 view-same p q kept b c first next same h =
     λ d stands.
@@ -51,11 +50,11 @@ view-same p q kept b c first next same h =
     (same_view_lem.kept b c same kept (h b first))
 
 -- the view of a board that stands at some parts
-pub view-of : (p : Parts) (kept : Option (List Span)) → HasView p kept → (b : Board) → Stands b p → IsViewOf b kept
+pub view-of : (p : Parts) (kept : Kept) → HasView p kept → (b : Board) → Stands b p → IsViewOf b kept
 unfolding HasView
 view-of p kept h = h
 
-pub view-made : (p : Parts) (kept : Option (List Span)) (b : Board) → Stands b p → IsViewOf b kept → HasView p kept
+pub view-made : (p : Parts) (kept : Kept) (b : Board) → Stands b p → IsViewOf b kept → HasView p kept
 unfolding HasView
 view-made p kept b first is =
     λ c stands. same_view_lem.kept b c (same_view_lem.beside b c (first.shows.records ∙ sym stands.shows.records)) kept is
@@ -163,7 +162,7 @@ same-acted b Reset leaves = cc
 same-acted b Shutdown leaves = same_view_lem.beside b b refl
 
 -- what is kept after an act is of the board after it
-pub view-acted : {E : Type 0} (p q : Parts) (l : Wired) (act : GuestAct) (r : Result Heard E) (kept : Option (List Span)) → HasLines p l
+pub view-acted : {E : Type 0} (p q : Parts) (l : Wired) (act : GuestAct) (r : Result Heard E) (kept : Kept) → HasLines p l
     → ((b : Board) → Stands b p → IfOk r (λ h. Came (acted b act) h q)) → OnErr r (q ≡ p) → HasView p kept
     → HasView q (cond (leaves_objects act) kept None)
 view-acted p q l act r kept lines came err has = go (leaves_objects act) refl r came err

@@ -1,9 +1,8 @@
 -- For proofs alone. The flat view that is kept beside a board is its own (docs/devel/memory.rst, "Visibility").
-use Rattle.std.specs.Prelude.{Bool, true, false, List, Option}
+use Rattle.std.specs.Prelude.{Bool, true, false}
 use Rattle.qo_guest.specs.declared.lines.GuestAct.{GuestAct}
 use Rattle.qo_guest.specs.declared.lines.GuestAct.TheVariants.{Ack, Reset}
-use Rattle.qo_layout.specs.Kept.{IsViewOf}
-use Rattle.qo_memmap.specs.declared.span.Span.{Span}
+use Rattle.qo_layout.specs.Kept.{IsViewOf, Kept}
 use Rattle.qo_model.specs.Board.{Board}
 use Rattle.qo_realize.specs.Parts.{Parts}
 use Rattle.qo_realize.specs.Representation.{Stands}
@@ -11,7 +10,7 @@ use Rattle.qo_requests.specs.declared.calls.Alteration.{Alteration}
 use Rattle.qo_requests.specs.declared.calls.Alteration.TheVariants.{XGuest}
 
 -- what is kept is of the view of each board that stands at these parts
-unfoldable pub HasView : Parts → Option (List Span) → Type 0
+unfoldable pub HasView : Parts → Kept → Type 0
 HasView p kept = (b : Board) → Stands b p → IsViewOf b kept
 
 -- whether an act of the guest leaves all objects where they are: it lets no device go

@@ -21,8 +21,7 @@ use Rattle.qo_memmap.specs.Regions.{Area, Target, shows_at}
 use Rattle.qo_memmap.specs.Spans.{IsFlat}
 use Rattle.qo_memmap.specs.declared.region.Kind.TheVariants.{Container, Leaf, Alias}
 use Rattle.qo_memmap.specs.declared.region.Place.{Place}
-use Rattle.qo_memmap.specs.declared.span.Span.{Span}
-use Rattle.qo_layout.specs.Kept.{IsViewOf}
+use Rattle.qo_layout.specs.Kept.{IsViewOf, Kept}
 use Rattle.qo_layout.specs.Layout.{board_map, boot_leaf, bus_of_slots, device_leaf, device_places, device_size, flat_view, is_memory, mapped, memory_places, memory_window, placed, range_of, region_of, root_number, slot_places, slot_size, slots_of_bus}
 use Rattle.qo_layout.specs.SameViews.{SameObjects, SameViewLaw, object_of}
 use Rattle.qo_layout.specs.declared.addresses.TheConstants.{DEVICE_SIZE, LOW_SIZE, ROOT_SIZE, SLOTS_AT}
@@ -226,7 +225,7 @@ module _ (b c : Board) (same : SameObjects b c) where
   same-view : flat_view b ≡ flat_view c
   same-view = ap (λ (shows : ℕ → Option Target). flat_from shows 0 ROOT_SIZE) shows-same
 
-  same-kept : (kept : Option (List Span)) → IsViewOf b kept → IsViewOf c kept
+  same-kept : (kept : Kept) → IsViewOf b kept → IsViewOf c kept
   same-kept kept is = subst (λ (shows : ℕ → Option Target). IfSome kept (IsFlat shows)) shows-same is
 
 same-beside : (b c : Board) → b.records ≡ c.records → SameObjects b c

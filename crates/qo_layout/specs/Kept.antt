@@ -10,10 +10,14 @@ use Rattle.qo_layout.specs.Layout.{board_map, root_number}
 abbrev pub IsView : Board → List Span → Type 0
 IsView b spans = IsFlat (shows_at (board_map b) (root_number b)) spans
 
+-- spans, or nothing
+abbrev pub Kept : Type 0
+Kept = Option (List Span)
+
 -- what is kept, if anything is, is the view of a board
-abbrev pub IsViewOf : Board → Option (List Span) → Type 0
+abbrev pub IsViewOf : Board → Kept → Type 0
 IsViewOf b kept = IfSome kept (IsView b)
 
 -- whatever board it is of, it rises, and offsets are in range
-abbrev pub AreInOrder : Option (List Span) → Type 0
+abbrev pub AreInOrder : Kept → Type 0
 AreInOrder kept = IfSome kept (λ spans. RiseFrom 0 spans × OffsetsFit spans)

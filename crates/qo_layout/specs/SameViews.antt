@@ -1,9 +1,8 @@
 -- For a law alone. What the memory map is made of.
-use Rattle.std.specs.Prelude.{◌≡◌, ℕ, List, Option, map}
-use Rattle.qo_memmap.specs.declared.span.Span.{Span}
+use Rattle.std.specs.Prelude.{◌≡◌, ℕ, List, map}
 use Rattle.qo_model.specs.Board.{Board, Record, Slot}
 use Rattle.qo_values.specs.declared.kinds.TypeId.{TypeId}
-use Rattle.qo_layout.specs.Kept.{IsViewOf}
+use Rattle.qo_layout.specs.Kept.{IsViewOf, Kept}
 use Rattle.qo_layout.specs.Layout.{flat_view, range_of}
 
 -- what an object is, whatever its registers read
@@ -18,6 +17,6 @@ pub record SameObjects (b c : Board) : Type 0 where
 -- such boards have the same view, and what is kept of the one's is of the other's
 pub record SameViewLaw : Type 0 where
   pub view : (b c : Board) → SameObjects b c → flat_view b ≡ flat_view c
-  pub kept : (b c : Board) → SameObjects b c → (kept : Option (List Span)) → IsViewOf b kept → IsViewOf c kept
+  pub kept : (b c : Board) → SameObjects b c → (kept : Kept) → IsViewOf b kept → IsViewOf c kept
   -- so have boards with the same records, as where time goes on
   pub beside : (b c : Board) → b.records ≡ c.records → SameObjects b c

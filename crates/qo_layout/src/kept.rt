@@ -25,11 +25,10 @@ pub struct KeptView {
 }
 
 impl Model for KeptView {
-    ghost use Rattle.std.specs.Prelude.{List, Option, option_map};
-    ghost use Rattle.qo_layout.specs.Kept.{AreInOrder};
-    ghost use Rattle.qo_memmap.specs.declared.span.Span.{Span as one};
+    ghost use Rattle.std.specs.Prelude.{option_map};
+    ghost use Rattle.qo_layout.specs.Kept.{AreInOrder, Kept};
 
-    ghost Value = { Option (List one) };
+    ghost Value = { Kept };
 
     ghost view = { λ v. option_map (λ spans. spans.items) v.spans };
 

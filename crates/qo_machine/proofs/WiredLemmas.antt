@@ -11,7 +11,7 @@ use Rattle.qo_heap.specs.Board.{Shows}
 use Rattle.qo_layout.proofs.SameViewLemmas.{same_view_lem}
 use Rattle.qo_layout.specs.Rows.{AreShaped, LinesAre, Wired}
 use Rattle.qo_layout.proofs.LineRecordsLemmas.{lines-same, shaped-same}
-use Rattle.qo_memmap.specs.declared.span.Span.{Span}
+use Rattle.qo_layout.specs.Kept.{Kept}
 use Rattle.qo_model.specs.Board.{Board}
 use Rattle.qo_model.specs.Clocks.{ClocksFit}
 use Rattle.qo_model.specs.Objects.{Changed}
@@ -67,7 +67,7 @@ wired_later p q l k ns goes good h read =
 -- The view.
 
 -- what is kept of the view stays right where the time goes on, and where the events that wait are told
-pub view_later : (p q : Parts) (l : Wired) (kept : Option (List Span)) (ns : ℕ) → HasLines p l → ((b : Board) → Stands b p → Stands (advanced b ns).board q)
+pub view_later : (p q : Parts) (l : Wired) (kept : Kept) (ns : ℕ) → HasLines p l → ((b : Board) → Stands b p → Stands (advanced b ns).board q)
     → HasView p kept → HasView q kept
 view_later p q l kept ns lines goes has =
     by-lines (λ w. HasView q kept) p l lines
@@ -75,7 +75,7 @@ view_later p q l kept ns lines goes has =
     view-same p q kept b (advanced b ns).board stands (goes b stands)
     (same_view_lem.beside b (advanced b ns).board (advanced-all (λ (x : Board). b.records ≡ x.records) b ns refl (λ low. refl))) has)
 
-pub view_told : (p q : Parts) (kept : Option (List Span)) → StandsForGood p → ((b : Board) → Stands b p → Stands (without_events b) q) → HasView p kept
+pub view_told : (p q : Parts) (kept : Kept) → StandsForGood p → ((b : Board) → Stands b p → Stands (without_events b) q) → HasView p kept
     → HasView q kept
 view_told p q kept (b, stands, good) told has =
     view-same p q kept b (without_events b) stands (told b stands) (same_view_lem.beside b (without_events b) refl) has

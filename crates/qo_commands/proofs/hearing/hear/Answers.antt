@@ -1,8 +1,8 @@
 -- What the line is, is what it comes to.
-use Rattle.std.proofs.Common.{◌≡◌, ap, sym, subst, ◌∙◌, true, false, cond, Bool, List, Option, None}
+use Rattle.std.proofs.Common.{◌≡◌, ap, sym, subst, ◌∙◌, true, false, cond, Bool, None}
 use Rattle.std.specs.Result.{result_ok}
 use Rattle.qo_guest.specs.declared.answers.GuestAnswer.TheVariants.{NoLine, NoStopped}
-use Rattle.qo_memmap.specs.declared.span.Span.{Span}
+use Rattle.qo_layout.specs.Kept.{Kept}
 use Rattle.qo_commands.specs.Hearing.{acted, heard}
 use Rattle.qo_commands.proofs.HearingLemmas.{came-answered, heard-acted, heard-none, heard-stopped, if_came, none-of}
 use Rattle.qo_commands.specs.KeptViews.{HasView}
@@ -28,7 +28,7 @@ returns-clause-came g c = λ b s.
 
 pub returns-clause-view : goal.returns-clause-view
 returns-clause-view g c =
-    subst (λ (kept : Option (List Span)). HasView c.act.new.board kept)
+    subst (λ (kept : Kept). HasView c.act.new.board kept)
     (sym (c.keep_if.ensures ∙ ap (λ (leaves : Bool). cond leaves c.act.new.view None) c.leaves_objects.ensures))
     (view-acted c.args.board.now c.act.new.board c.args.lines.now c.in-Ok.read c.act.result c.act.new.view c.requires.lines c.act.ensures.came c.act.ensures.err
     c.act.ensures.view)
