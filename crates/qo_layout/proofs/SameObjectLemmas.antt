@@ -5,30 +5,27 @@ use Rattle.std.specs.Option.{option_map_or}
 use Rattle.qo_values.specs.Registers.{DimmRegisters, Registers, bare, body_act, bridge, dimm, timer, uart}
 use Rattle.qo_values.specs.declared.kinds.Act.{Act}
 use Rattle.qo_values.specs.declared.kinds.Act.TheVariants.{Enter, Exit, Hold, Init, Pre, Realize, Unrealize, Update}
-use Rattle.qo_values.specs.declared.kinds.TypeId.{TypeId}
-use Rattle.qo_model.specs.Board.{Board, Record, Slot, record_of}
+use Rattle.qo_model.specs.Board.{Board, Record, record_of}
 use Rattle.qo_model.specs.Clocks.{acted, with_act_on}
 use Rattle.qo_model.specs.Release.{edit, edited, without_first}
 use Rattle.qo_model.specs.Reset.{after_hold, is_not_in_reset, phased, post, pulse, released}
+use Rattle.qo_model.specs.SoundGraph.{without_values}
 use Rattle.qo_model.proofs.StepLemmas.{found-birth, found-edited, found_at}
 use Rattle.qo_layout.specs.Layout.{dimm_in, range_of}
-use Rattle.qo_layout.specs.SameViews.{SameObjects, object_of}
+use Rattle.qo_layout.specs.SameViews.{SameObjects}
 use Rattle.qo_layout.proofs.SameViewLemmas.{same-beside}
 
 pub same-then : (b c d : Board) → SameObjects b c → SameObjects c d → SameObjects b d
 same-then b c d first next =
     record { objects = first.objects ∙ next.objects; ranges = λ o. first.ranges o ∙ next.ranges o }
 
-abbrev Object : Type 0
-Object = ℕ × (TypeId × List (List ℕ × Slot))
-
--- an object is changed, and no slot of it
-module _ (n : ℕ) (change : Record → Record) (keeps : (r : Record) → object_of (change r) ≡ object_of r) where
-  objects-edited : (rs : List Record) → map object_of rs ≡ map object_of (map (edited n change) rs)
+-- an object is changed in its plain values and registers
+module _ (n : ℕ) (change : Record → Record) (keeps : (r : Record) → without_values (change r) ≡ without_values r) where
+  objects-edited : (rs : List Record) → map without_values rs ≡ map without_values (map (edited n change) rs)
   objects-edited [] = refl
-  objects-edited (r ∷ rs) = ap₂ (λ (t : Object) (ts : List Object). t ∷ ts) (go (r.birth == n)) (objects-edited rs)
+  objects-edited (r ∷ rs) = ap₂ (λ (x : Record) (xs : List Record). x ∷ xs) (go (r.birth == n)) (objects-edited rs)
     where
-      go : (here : Bool) → object_of r ≡ object_of (cond here (change r) r)
+      go : (here : Bool) → without_values r ≡ without_values (cond here (change r) r)
       go true = sym (keeps r)
       go false = refl
 
@@ -53,7 +50,7 @@ module _ (n : ℕ) (change : Record → Record) (keeps : (r : Record) → object
         λ o.
         range-edited b o same (record_of b o) refl
         ∙ ap (λ (found : Option Record). option_map_or (λ (r : Record). dimm_in r.registers) found (record { address = 0; size = 0 }))
-        (sym (found-edited n change (λ r. ap (λ (t : Object). t.0) (keeps r)) o b.records));
+        (sym (found-edited n change (λ r. ap (λ (x : Record). x.birth) (keeps r)) o b.records));
   }
 
 -- no act changes where a DIMM stands

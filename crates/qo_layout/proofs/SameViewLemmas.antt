@@ -1,7 +1,7 @@
 -- The view of a board is of its objects alone, and of the ranges of DIMMs.
 use Rattle.std.proofs.Common.{◌≡◌, refl, ap, ap₂, subst, sym, ◌∙◌, ℕ, suc, ◌+◌, ◌-◌, ◌*◌, ◌/◌, Bool, true, false, cond, eqb, ◌&&◌, if◌then◌else◌, List, [], ◌∷◌, ◌++◌, map, filter_map, length, find, Option, Some, None, option_map, option_and_then, codes, pos, negsuc, IfSome}
 use Rattle.std.specs.Prelude.{◌==◌, is_some, nat_eq, not}
-use Rattle.std.specs.List.{flat_map, position_or_len}
+use Rattle.std.specs.List.{cons_option, flat_map, position_or_len}
 use Rattle.std.specs.Option.{option_map_or}
 use Rattle.std.specs.Str.{bytes_eq}
 use Rattle.std.proofs.Math.Path.{fun_ext}
@@ -10,12 +10,15 @@ use Rattle.qo_values.specs.Registers.{DimmRegisters}
 use Rattle.qo_values.specs.declared.births.TheConstants.{MEMORY_BUS_BIRTH, ROOT_BUS_BIRTH}
 use Rattle.qo_values.specs.declared.kinds.TypeId.{TypeId}
 use Rattle.qo_values.specs.declared.limits.TheConstants.{BUS_SLOTS}
-use Rattle.qo_model.specs.Board.{Board, Record, Slot, alias, child, plain, strong, weak, kind_of, slots_at, slot_named}
+use Rattle.qo_model.specs.Board.{Board, Record, Slot, alias, child, plain, strong, weak, kind_of, record_of, slots_at}
 use Rattle.qo_model.specs.Depth.{by_depth}
 use Rattle.qo_model.specs.Devices.{bridge_of, bus_above, bus_in, bus_of, buses_of, clock_name, depth_of, first_bus, kid_at, kid_name, kids_of, strong_at, strong_in}
-use Rattle.qo_model.specs.Paths.{births, is_child, is_of, parent_of, place_in, place_of}
+use Rattle.qo_model.specs.Paths.{births, is_child, is_of, parent_of, place_in}
 use Rattle.qo_model.specs.Reset.{below, post}
+use Rattle.qo_model.specs.SoundGraph.{without_value, without_values}
 use Rattle.qo_model.specs.Types.{is_a}
+use Rattle.qo_model.proofs.StepLemmas.{found_at}
+use Rattle.qo_sound_shapes.specs.SoundShape.{unvalued}
 use Rattle.qo_memmap.specs.FlatViews.{flat_from}
 use Rattle.qo_memmap.specs.Regions.{Area, Target, shows_at}
 use Rattle.qo_memmap.specs.Spans.{IsFlat}
@@ -23,109 +26,163 @@ use Rattle.qo_memmap.specs.declared.region.Kind.TheVariants.{Container, Leaf, Al
 use Rattle.qo_memmap.specs.declared.region.Place.{Place}
 use Rattle.qo_layout.specs.Kept.{IsViewOf, Kept}
 use Rattle.qo_layout.specs.Layout.{board_map, boot_leaf, bus_of_slots, device_leaf, device_places, device_size, flat_view, is_memory, mapped, memory_places, memory_window, placed, range_of, region_of, root_number, slot_places, slot_size, slots_of_bus}
-use Rattle.qo_layout.specs.SameViews.{SameObjects, SameViewLaw, object_of}
+use Rattle.qo_layout.specs.SameViews.{SameObjects, SameViewLaw}
 use Rattle.qo_layout.specs.declared.addresses.TheConstants.{DEVICE_SIZE, LOW_SIZE, ROOT_SIZE, SLOTS_AT}
 
--- Objects are found by what they are.
+-- a board without plain values and registers
+abbrev framed : Board → Board
+framed b = record b { records = map without_values b.records }
 
-abbrev Object : Type 0
-Object = ℕ × (TypeId × List (List ℕ × Slot))
-
-found-object : (rs : List Record) (n : ℕ) → option_map object_of (find (λ (r : Record). r.birth == n) rs) ≡ find (λ (t : Object). t.0 == n) (map object_of rs)
-found-object [] n = refl
-found-object (r ∷ rs) n = go (r.birth == n) (found-object rs n)
+found-framed : (n : ℕ) (rs : List Record) → found_at n (map without_values rs) ≡ option_map without_values (found_at n rs)
+found-framed n [] = refl
+found-framed n (r ∷ rs) = go (r.birth == n) refl (found-framed n rs)
   where
-    go : (here : Bool)
-        → option_map object_of (find (λ (r : Record). r.birth == n) rs) ≡ find (λ (t : Object). t.0 == n) (map object_of rs)
-        → option_map object_of (cond here (Some r) (find (λ (r : Record). r.birth == n) rs))
-        ≡ cond here (Some (object_of r)) (find (λ (t : Object). t.0 == n) (map object_of rs))
-    go true rest = refl
-    go false rest = rest
+    go : (t : Bool) → (r.birth == n) ≡ t → found_at n (map without_values rs) ≡ option_map without_values (found_at n rs)
+        → found_at n (map without_values (r ∷ rs)) ≡ option_map without_values (found_at n (r ∷ rs))
+    go true p rest = rw p refl
+    go false p rest = rw p rest
 
-kind-found : (o : Option Record) → option_map (λ (r : Record). r.kind) o ≡ option_map (λ (t : Object). t.1.0) (option_map object_of o)
-kind-found None = refl
-kind-found (Some r) = refl
+births-framed : (rs : List Record) → map (λ (r : Record). r.birth) (map without_values rs) ≡ map (λ (r : Record). r.birth) rs
+births-framed [] = refl
+births-framed (r ∷ rs) = ap (λ (ns : List ℕ). r.birth ∷ ns) (births-framed rs)
 
-slots-found : (o : Option Record) → option_map_or (λ (r : Record). r.slots) o [] ≡ option_map_or (λ (t : Object). t.1.1) (option_map object_of o) []
-slots-found None = refl
-slots-found (Some r) = refl
-
-abbrev place_by : ℕ → Object → Option (ℕ × List ℕ)
-place_by n t = option_map (λ (s : List ℕ × Slot). (t.0, s.0)) (find (λ (s : List ℕ × Slot). is_child n s.1) t.1.1)
-
-abbrev place_among : ℕ → List Object → Option (ℕ × List ℕ)
-place_among n ts = option_and_then (place_by n) (find (λ (t : Object). is_some (place_by n t)) ts)
-
-place-found : (n : ℕ) (rs : List Record) → option_and_then (place_in n) (find (λ (r : Record). is_some (place_in n r)) rs) ≡ place_among n (map object_of rs)
-place-found n [] = refl
-place-found n (r ∷ rs) = go (is_some (place_in n r)) (place-found n rs)
+kind-framed : (b : Board) (n : ℕ) → kind_of (framed b) n ≡ kind_of b n
+kind-framed b n = ap (option_map (λ (r : Record). r.kind)) (found-framed n b.records) ∙ go (record_of b n)
   where
-    go : (here : Bool) → option_and_then (place_in n) (find (λ (r : Record). is_some (place_in n r)) rs) ≡ place_among n (map object_of rs)
-        → option_and_then (place_in n) (cond here (Some r) (find (λ (r : Record). is_some (place_in n r)) rs))
-        ≡ option_and_then (place_by n) (cond here (Some (object_of r)) (find (λ (t : Object). is_some (place_by n t)) (map object_of rs)))
-    go true rest = refl
-    go false rest = rest
+    go : (o : Option Record) → option_map (λ (r : Record). r.kind) (option_map without_values o) ≡ option_map (λ (r : Record). r.kind) o
+    go None = refl
+    go (Some r) = refl
 
-births-in : (rs : List Record) → map (λ (r : Record). r.birth) rs ≡ map (λ (t : Object). t.0) (map object_of rs)
-births-in [] = refl
-births-in (r ∷ rs) = ap (λ (ns : List ℕ). r.birth ∷ ns) (births-in rs)
+slots-framed : (b : Board) (n : ℕ) → slots_at (framed b) n ≡ unvalued (slots_at b n)
+slots-framed b n = ap (λ (o : Option Record). option_map_or (λ (r : Record). r.slots) o []) (found-framed n b.records) ∙ go (record_of b n)
+  where
+    go : (o : Option Record)
+        → option_map_or (λ (r : Record). r.slots) (option_map without_values o) [] ≡ unvalued (option_map_or (λ (r : Record). r.slots) o [])
+    go None = refl
+    go (Some r) = refl
+
+of-framed : (b : Board) (wanted : List ℕ) (n : ℕ) → is_of (framed b) wanted n ≡ is_of b wanted n
+of-framed b wanted n = ap (λ (o : Option TypeId). option_map_or (λ (t : TypeId). is_a t wanted) o false) (kind-framed b n)
+
+strong-framed : (s : Slot) → strong_in (without_value s) ≡ strong_in s
+strong-framed (plain v) = refl
+strong-framed (child m) = refl
+strong-framed (strong t target) = refl
+strong-framed (weak t target) = refl
+strong-framed (alias m name) = refl
+
+-- the kids of a bus, and the target of a link by its name
+
+kids-in : (xs : List (List ℕ × Slot)) → filter_map (λ (s : List ℕ × Slot). strong_in s.1) (unvalued xs) ≡ filter_map (λ (s : List ℕ × Slot). strong_in s.1) xs
+kids-in [] = refl
+kids-in (s ∷ xs) = ap₂ cons_option (strong-framed s.1) (kids-in xs)
+
+kids-framed : (b : Board) (n : ℕ) → kids_of (framed b) n ≡ kids_of b n
+kids-framed b n = ap (λ (xs : List (List ℕ × Slot)). filter_map (λ (s : List ℕ × Slot). strong_in s.1) xs) (slots-framed b n) ∙ kids-in (slots_at b n)
+
+abbrev strong_named : List ℕ → List (List ℕ × Slot) → Option ℕ
+strong_named name xs = option_and_then strong_in (option_map (λ (s : List ℕ × Slot). s.1) (find (λ (s : List ℕ × Slot). bytes_eq s.0 name) xs))
+
+named-framed : (name : List ℕ) (xs : List (List ℕ × Slot)) → strong_named name (unvalued xs) ≡ strong_named name xs
+named-framed name [] = refl
+named-framed name (s ∷ xs) = go (bytes_eq s.0 name) refl (named-framed name xs)
+  where
+    go : (t : Bool) → bytes_eq s.0 name ≡ t → strong_named name (unvalued xs) ≡ strong_named name xs
+        → strong_named name (unvalued (s ∷ xs)) ≡ strong_named name (s ∷ xs)
+    go true p rest = rw p (strong-framed s.1)
+    go false p rest = rw p rest
+
+strong_at-framed : (b : Board) (n : ℕ) (name : List ℕ) → strong_at (framed b) n name ≡ strong_at b n name
+strong_at-framed b n name = ap (strong_named name) (slots-framed b n) ∙ named-framed name (slots_at b n)
+
+-- the buses of a device
+
+bus-framed : (b : Board) (name : List ℕ) (s : Slot) → bus_in (framed b) (name, without_value s) ≡ bus_in b (name, s)
+bus-framed b name (plain v) = refl
+bus-framed b name (child m) = ap (λ (t : Bool). if t && not (bytes_eq name clock_name) then Some m else None) (of-framed b (codes "bus") m)
+bus-framed b name (strong t target) = refl
+bus-framed b name (weak t target) = refl
+bus-framed b name (alias m property) = refl
+
+buses-in : (b : Board) (xs : List (List ℕ × Slot)) → filter_map (bus_in (framed b)) (unvalued xs) ≡ filter_map (bus_in b) xs
+buses-in b [] = refl
+buses-in b (s ∷ xs) = ap₂ cons_option (bus-framed b s.0 s.1) (buses-in b xs)
+
+buses-framed : (b : Board) (n : ℕ) → buses_of (framed b) n ≡ buses_of b n
+buses-framed b n = ap (filter_map (bus_in (framed b))) (slots-framed b n) ∙ buses-in b (slots_at b n)
+
+-- the parent of an object
+
+child-framed : (n : ℕ) (s : Slot) → is_child n (without_value s) ≡ is_child n s
+child-framed n (plain v) = refl
+child-framed n (child m) = refl
+child-framed n (strong t target) = refl
+child-framed n (weak t target) = refl
+child-framed n (alias m name) = refl
+
+abbrev child_named : ℕ → ℕ → List (List ℕ × Slot) → Option (ℕ × List ℕ)
+child_named n owner xs = option_map (λ (s : List ℕ × Slot). (owner, s.0)) (find (λ (s : List ℕ × Slot). is_child n s.1) xs)
+
+place-in : (n owner : ℕ) (xs : List (List ℕ × Slot)) → child_named n owner (unvalued xs) ≡ child_named n owner xs
+place-in n owner [] = refl
+place-in n owner (s ∷ xs) = go (is_child n s.1) refl (place-in n owner xs)
+  where
+    go : (t : Bool) → is_child n s.1 ≡ t → child_named n owner (unvalued xs) ≡ child_named n owner xs
+        → child_named n owner (unvalued (s ∷ xs)) ≡ child_named n owner (s ∷ xs)
+    go true p rest = let q : is_child n (without_value s.1) ≡ true = child-framed n s.1 ∙ p in rw (p, q) refl
+    go false p rest = let q : is_child n (without_value s.1) ≡ false = child-framed n s.1 ∙ p in rw (p, q) rest
+
+abbrev place_among : ℕ → List Record → Option (ℕ × List ℕ)
+place_among n rs = option_and_then (place_in n) (find (λ (r : Record). is_some (place_in n r)) rs)
+
+place-framed : (n : ℕ) (rs : List Record) → place_among n (map without_values rs) ≡ place_among n rs
+place-framed n [] = refl
+place-framed n (r ∷ rs) = go (place_in n r) refl (place-framed n rs)
+  where
+    same : place_in n (without_values r) ≡ place_in n r
+    same = place-in n r.birth r.slots
+
+    go : (o : Option (ℕ × List ℕ)) → place_in n r ≡ o → place_among n (map without_values rs) ≡ place_among n rs
+        → place_among n (map without_values (r ∷ rs)) ≡ place_among n (r ∷ rs)
+    go None p rest = let q : place_in n (without_values r) ≡ None = same ∙ p in rw (p, q) rest
+    go (Some place) p rest = let q : place_in n (without_values r) ≡ Some place = same ∙ p in rw (p, q) refl
+
+parent-framed : (b : Board) (n : ℕ) → parent_of (framed b) n ≡ parent_of b n
+parent-framed b n = ap (option_map (λ (p : ℕ × List ℕ). p.0)) (place-framed n b.records)
 
 -- What is read of boards with the same objects.
 
 module _ (b c : Board) (same : SameObjects b c) where
   births-same : births b ≡ births c
-  births-same = births-in b.records ∙ ap (map (λ (t : Object). t.0)) same.objects ∙ sym (births-in c.records)
+  births-same = sym (births-framed b.records) ∙ ap (map (λ (r : Record). r.birth)) same.objects ∙ births-framed c.records
 
-  object-same : (n : ℕ) → option_map object_of (find (λ (r : Record). r.birth == n) b.records) ≡ option_map object_of (find (λ (r : Record). r.birth == n) c.records)
-  object-same n =
-      found-object b.records n ∙ ap (find (λ (t : Object). t.0 == n)) same.objects ∙ sym (found-object c.records n)
-
-  kind-same : (n : ℕ) → kind_of b n ≡ kind_of c n
-  kind-same n =
-      kind-found (find (λ (r : Record). r.birth == n) b.records) ∙ ap (option_map (λ (t : Object). t.1.0)) (object-same n)
-      ∙ sym (kind-found (find (λ (r : Record). r.birth == n) c.records))
-
-  pub slots-same : (n : ℕ) → slots_at b n ≡ slots_at c n
-  slots-same n =
-      slots-found (find (λ (r : Record). r.birth == n) b.records) ∙ ap (λ (o : Option Object). option_map_or (λ (t : Object). t.1.1) o []) (object-same n)
-      ∙ sym (slots-found (find (λ (r : Record). r.birth == n) c.records))
+  is-same : (wanted : List ℕ) (n : ℕ) → is_of b wanted n ≡ is_of c wanted n
+  is-same wanted n =
+      sym (of-framed b wanted n) ∙ ap (λ (rs : List Record). is_of (record b { records = rs }) wanted n) same.objects ∙ of-framed c wanted n
 
   parent-same : (n : ℕ) → parent_of b n ≡ parent_of c n
-  parent-same n =
-      ap (option_map (λ (p : ℕ × List ℕ). p.0)) (place-found n b.records ∙ ap (place_among n) same.objects ∙ sym (place-found n c.records))
-
-  pub is-same : (wanted : List ℕ) (n : ℕ) → is_of b wanted n ≡ is_of c wanted n
-  is-same wanted n = ap (λ (o : Option TypeId). option_map_or (λ (t : TypeId). is_a t wanted) o false) (kind-same n)
+  parent-same n = sym (parent-framed b n) ∙ ap (λ (rs : List Record). parent_of (record b { records = rs }) n) same.objects ∙ parent-framed c n
 
   strong-same : (n : ℕ) (name : List ℕ) → strong_at b n name ≡ strong_at c n name
   strong-same n name =
-      ap (λ (slots : List (List ℕ × Slot)). option_and_then strong_in (option_map (λ (s : List ℕ × Slot). s.1) (find (λ (s : List ℕ × Slot). bytes_eq s.0 name) slots)))
-      (slots-same n)
+      sym (strong_at-framed b n name) ∙ ap (λ (rs : List Record). strong_at (record b { records = rs }) n name) same.objects ∙ strong_at-framed c n name
 
-  pub kid-same : (bus slot : ℕ) → kid_at b bus slot ≡ kid_at c bus slot
+  kid-same : (bus slot : ℕ) → kid_at b bus slot ≡ kid_at c bus slot
   kid-same bus slot = strong-same bus (kid_name slot)
 
   bus_of-same : (n : ℕ) → bus_of b n ≡ bus_of c n
   bus_of-same n = strong-same n (codes "parent_bus")
 
-  bus_in-same : (s : List ℕ × Slot) → bus_in b s ≡ bus_in c s
-  bus_in-same (name, plain v) = refl
-  bus_in-same (name, child m) = ap (λ (is : Bool). if is && not (bytes_eq name clock_name) then Some m else None) (is-same (codes "bus") m)
-  bus_in-same (name, strong t target) = refl
-  bus_in-same (name, weak t target) = refl
-  bus_in-same (name, alias m of) = refl
-
   buses-same : (n : ℕ) → buses_of b n ≡ buses_of c n
-  buses-same n =
-      ap₂ (λ (f : List ℕ × Slot → Option ℕ) (slots : List (List ℕ × Slot)). filter_map f slots) (fun_ext bus_in-same) (slots-same n)
+  buses-same n = sym (buses-framed b n) ∙ ap (λ (rs : List Record). buses_of (record b { records = rs }) n) same.objects ∙ buses-framed c n
 
   first-same : (n : ℕ) → first_bus b n ≡ first_bus c n
   first-same n = ap (λ (ms : List ℕ). elim ms [ [] ↦ None | m ∷ _ ↦ Some m ]) (buses-same n)
 
   kids-same : (n : ℕ) → kids_of b n ≡ kids_of c n
-  kids-same n = ap (λ (slots : List (List ℕ × Slot)). filter_map (λ (s : List ℕ × Slot). strong_in s.1) slots) (slots-same n)
+  kids-same n = sym (kids-framed b n) ∙ ap (λ (rs : List Record). kids_of (record b { records = rs }) n) same.objects ∙ kids-framed c n
 
-  pub below-same : (o : ℕ) → below b o ≡ below c o
+  below-same : (o : ℕ) → below b o ≡ below c o
   below-same o =
       ap (λ (is : Bool). if is then kids_of b o else buses_of b o) (is-same (codes "bus") o)
       ∙ ap₂ (λ (kids buses : List ℕ). if is_of c (codes "bus") o then kids else buses) (kids-same o) (buses-same o)
@@ -136,9 +193,9 @@ module _ (b c : Board) (same : SameObjects b c) where
   post-same : (o : ℕ) → post b o ≡ post c o
   unfolding post
   post-same o =
-      ap₂ (λ (next : ℕ → List ℕ) (d : ℕ). by_depth (λ (f : ℕ → List ℕ) (o : ℕ). flat_map f (next o) ++ o ∷ []) (λ _. []) (suc d) o) (fun_ext below-same) size-same
+      ap₂ (λ (next : ℕ → List ℕ) (d : ℕ). by_depth (λ (f : ℕ → List ℕ) (n : ℕ). flat_map f (next n) ++ n ∷ []) (λ _. []) (suc d) o) (fun_ext below-same) size-same
 
-  pub mapped-same : mapped b ≡ mapped c
+  mapped-same : mapped b ≡ mapped c
   mapped-same = ap₂ (λ (roots memory : List ℕ). roots ++ memory) (post-same ROOT_BUS_BIRTH) (post-same MEMORY_BUS_BIRTH)
 
   bridge-same : (bus : ℕ) → bridge_of b bus ≡ bridge_of c bus
@@ -230,7 +287,7 @@ module _ (b c : Board) (same : SameObjects b c) where
 
 same-beside : (b c : Board) → b.records ≡ c.records → SameObjects b c
 same-beside b c same = record {
-  objects = ap (map object_of) same;
+  objects = ap (map without_values) same;
   ranges = λ o. ap (λ (records : List Record). range_of (record b { records = records }) o) same;
 }
 
