@@ -145,7 +145,7 @@ place-framed n (r ∷ rs) = go (place_in n r) refl (place-framed n rs)
     go : (o : Option (ℕ × List ℕ)) → place_in n r ≡ o → place_among n (map without_values rs) ≡ place_among n rs
         → place_among n (map without_values (r ∷ rs)) ≡ place_among n (r ∷ rs)
     go None p rest = let q : place_in n (without_values r) ≡ None = same ∙ p in rw (p, q) rest
-    go (Some place) p rest = let q : place_in n (without_values r) ≡ Some place = same ∙ p in rw (p, q) refl
+    go (Some place) p rest = let q : place_in n (without_values r) ≡ Some place = same ∙ p in rw (p, q) same
 
 parent-framed : (b : Board) (n : ℕ) → parent_of (framed b) n ≡ parent_of b n
 parent-framed b n = ap (option_map (λ (p : ℕ × List ℕ). p.0)) (place-framed n b.records)
