@@ -76,7 +76,7 @@ range-written (dimm d) reg value ring now period =
 range-written (bridge b) reg value ring now period = go (reg == 0) (reg == 1)
   where
     go : (zero one : Bool)
-        → IfSome (cond zero (Some (bridge (record b { raised = value % 2 == 1 }), cond ((value % 2 == 1) && not b.raised) effect.pulse effect.nothing))
+        → IfSome {T = Registers × Effect} (cond zero (Some (bridge (record b { raised = value % 2 == 1 }), cond ((value % 2 == 1) && not b.raised) effect.pulse effect.nothing))
         (cond one (Some (bridge b, effect.nothing)) None)) (λ w. dimm_in w.0 ≡ dimm_in (bridge b))
     go true one = refl
     go false true = refl

@@ -285,7 +285,7 @@ module _ (b c : Board) (same : SameObjects b c) where
   same-kept : (kept : Kept) → IsViewOf b kept → IsViewOf c kept
   same-kept kept is = subst (λ (shows : ℕ → Option Target). IfSome kept (IsFlat shows)) shows-same is
 
-same-beside : (b c : Board) → b.records ≡ c.records → SameObjects b c
+pub same-beside : (b c : Board) → b.records ≡ c.records → SameObjects b c
 same-beside b c same = record {
   objects = ap (map without_values) same;
   ranges = λ o. ap (λ (records : List Record). range_of (record b { records = records }) o) same;

@@ -23,12 +23,12 @@ returns-then-not-running-clause-came g c = λ b s.
 pub returns-clause-came : goal.returns-clause-came
 returns-clause-came g c = λ b s.
     let runs : b.running ≡ true = sym (c.running.ensures b s) ∙ c.if-not-running.false in
-    if_came c.act.result (heard b c.args.line.now) (acted b c.in-Ok.read) c.act.new.board
-    (heard-acted b c.args.line.now c.in-Ok.read (sym c.read_line.ensures ∙ ap result_ok c.in-Ok.is) runs) (c.act.ensures.came b s)
+    if_came c.act-heard.result (heard b c.args.line.now) (acted b c.in-Ok.read) c.act-heard.new.board
+    (heard-acted b c.args.line.now c.in-Ok.read (sym c.read_line.ensures ∙ ap result_ok c.in-Ok.is) runs) (c.act-heard.ensures.came b s)
 
 pub returns-clause-view : goal.returns-clause-view
 returns-clause-view g c =
-    subst (λ (kept : Kept). HasView c.act.new.board kept)
-    (sym (c.keep_if.ensures ∙ ap (λ (leaves : Bool). cond leaves c.act.new.view None) c.leaves_objects.ensures))
-    (view-acted c.args.board.now c.act.new.board c.args.lines.now c.in-Ok.read c.act.result c.act.new.view c.requires.lines c.act.ensures.came c.act.ensures.err
-    c.act.ensures.view)
+    subst (λ (kept : Kept). HasView c.act-heard.new.board kept)
+    (sym (c.keep_if.ensures ∙ ap (λ (leaves : Bool). cond leaves c.act-heard.new.view None) c.leaves_objects.ensures))
+    (view-acted c.args.board.now c.act-heard.new.board c.args.lines.now c.in-Ok.read c.act-heard.result c.act-heard.new.view c.requires.lines c.act-heard.ensures.came c.act-heard.ensures.err
+    c.act-heard.ensures.view)
