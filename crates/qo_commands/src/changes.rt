@@ -247,6 +247,7 @@ fn is_guest_line(alteration: &Alteration) -> bool
 
 /// A command that changes the board and makes no object. Where it is refused the board is as it was.
 /// The error is want of memory; the board is then as it was too.
+#[tactic(auto, using(crate::proofs::KeptViewLemmas::view_none))]
 fn alter<L: Ledger>(
     alloc: Global,
     board: &mut Board,
@@ -298,6 +299,7 @@ fn alter<L: Ledger>(
 /// Where it is refused the board is as it was, but for an attempt of one that makes objects, which was
 /// given up. `lines` are the interrupt lines of the board, and `view` is what is kept of its view, also after the
 /// command. The error is want of memory; the board is then as it was, or after an attempt that was cut.
+#[tactic(auto, using(crate::proofs::KeptViewLemmas::view_none))]
 pub fn change<L: Ledger>(
     alloc: Global,
     board: &mut Board,
