@@ -7,6 +7,7 @@ mod TouchedLemmas
 pub mod AttemptLemmas
 pub mod CommandLemmas
 pub mod HearingLemmas
+pub mod KeptViewLemmas
 pub mod LineLemmas
 pub mod MemoryLemmas
 pub mod RefusedCommandLemmas

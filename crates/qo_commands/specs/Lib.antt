@@ -2,6 +2,7 @@ pub mod Changes
 pub mod Commands
 pub mod Hearing
 pub mod Interrupts
+pub mod KeptViews
 pub mod LineRefusals
 pub mod Lines
 pub mod Memory

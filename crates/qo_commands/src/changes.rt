@@ -12,6 +12,7 @@ ghost use Rattle.qo_commands.specs.declared.touched.Touched.TheVariants.{Nothing
 ghost use Rattle.qo_commands.specs.Views.{done_of};
 ghost use Rattle.qo_commands.specs.Hearing.{outcome_of};
 ghost use Rattle.qo_commands.specs.Interrupts.{HasLines};
+ghost use Rattle.qo_commands.specs.KeptViews.{HasView, is_guest_line};
 ghost use Rattle.qo_realize.specs.Representation.{Stands};
 
 use crate::commands::{Done, ReplyBody, done_by, having_touched, outcome_of, refused};
@@ -20,7 +21,7 @@ use crate::rings::{add_ring, read_ring, remove_ring, write_ring};
 use crate::touched::Touched;
 use qo_guest::GuestAnswer;
 use qo_heap::Steps;
-use qo_layout::Lines;
+use qo_layout::{KeptView, Lines};
 use qo_plug::{AddRefusal, DeviceOptions};
 use qo_realize::Board;
 use qo_replies::Event;
@@ -144,14 +145,17 @@ fn guest<L: Ledger>(
     alloc: Global,
     board: &mut Board,
     lines: &Lines,
+    view: &mut KeptView,
     line: &str,
     steps: &mut Steps<L>,
 ) -> Result<Done, AllocError>
-    requires { HasLines board.old lines.now }
+    requires lines { HasLines board.old lines.now }
+    requires view { HasView board.old view.old }
     ensures came { (b : Tree) → Stands b board.old → Alters b (altered b (alteration.XGuest line.now)) result board.new }
     ensures touched { (b : Tree) → Stands b board.old → IfOk result (λ d. Touches d.touched b (altered b (alteration.XGuest line.now)).board) }
+    ensures view { HasView board.new view.new }
 {
-    let heard = hear(board, lines, line.as_bytes(), alloc, steps)?;
+    let heard = hear(board, lines, view, line.as_bytes(), alloc, steps)?;
     Ok(guest_reply(heard))
 }
 
@@ -258,19 +262,31 @@ fn extend<L: Ledger>(
     }
 }
 
+/// Whether a command is a line of the guest, which itself keeps what it can of the view.
+fn is_guest_line(alteration: &Alteration) -> bool
+    ensures { result ≡ is_guest_line alteration.now }
+{
+    matches!(alteration, Alteration::XGuest { .. })
+}
+
 /// A command that changes the board and makes no object. Where it is refused the board is as it was.
 /// The error is want of memory; the board is then as it was too.
+#[tactic(auto, using(crate::proofs::KeptViewLemmas::view_none))]
 fn alter<L: Ledger>(
     alloc: Global,
     board: &mut Board,
     lines: &Lines,
+    view: &mut KeptView,
     alteration: &Alteration,
     steps: &mut Steps<L>,
 ) -> Result<Done, AllocError>
-    requires { HasLines board.old lines.now }
+    requires lines { HasLines board.old lines.now }
+    requires view { HasView board.old view.old }
     ensures came { (b : Tree) → Stands b board.old → Alters b (altered b alteration.now) result board.new }
     ensures touched { (b : Tree) → Stands b board.old → IfOk result (λ d. Touches d.touched b (altered b alteration.now).board) }
+    ensures view { HasView board.new view.new }
 {
+    view.keep_if(is_guest_line(alteration));
     match alteration {
         Alteration::QomSet {
             path,
@@ -294,7 +310,7 @@ fn alter<L: Ledger>(
             payload,
             format,
         } => Ok(write_ring(board, device.as_str(), payload.as_str(), *format)),
-        Alteration::XGuest { line } => guest(alloc, board, lines, line.as_str(), steps),
+        Alteration::XGuest { line } => guest(alloc, board, lines, view, line.as_str(), steps),
         Alteration::Stop => Ok(stop(board)),
         Alteration::Cont => Ok(cont(board)),
         Alteration::XStep { ns } => Ok(step(board, *ns)),
@@ -306,21 +322,28 @@ fn alter<L: Ledger>(
 
 /// A command that changes the board, or is refused. Events on devices wait on the board after it.
 /// Where it is refused the board is as it was, but for an attempt of one that makes objects, which was
-/// given up. `lines` are the interrupt lines of the board. The error is want of memory; the board is then as
-/// it was, or after an attempt that was cut.
+/// given up. `lines` are the interrupt lines of the board, and `view` is what is kept of its view, also after the
+/// command. The error is want of memory; the board is then as it was, or after an attempt that was cut.
+#[tactic(auto, using(crate::proofs::KeptViewLemmas::view_none))]
 pub fn change<L: Ledger>(
     alloc: Global,
     board: &mut Board,
     lines: &Lines,
+    view: &mut KeptView,
     change: &Change,
     steps: &mut Steps<L>,
 ) -> Result<Done, AllocError>
-    requires { HasLines board.old lines.now }
+    requires lines { HasLines board.old lines.now }
+    requires view { HasView board.old view.old }
     ensures came { (b : Tree) → Stands b board.old → Changes b change.now result board.new }
     ensures touched { (b : Tree) → Stands b board.old → IfOk result (λ d. Touches d.touched b (made b change.now).board) }
+    ensures view { HasView board.new view.new }
 {
     match change {
-        Change::Add(addition) => extend(alloc, board, addition, steps),
-        Change::Alter(alteration) => alter(alloc, board, lines, alteration, steps),
+        Change::Add(addition) => {
+            view.forget();
+            extend(alloc, board, addition, steps)
+        }
+        Change::Alter(alteration) => alter(alloc, board, lines, view, alteration, steps),
     }
 }

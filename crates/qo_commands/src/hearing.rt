@@ -10,6 +10,7 @@ ghost use Rattle.qo_commands.specs.Interrupts.{HasLines};
 ghost use Rattle.qo_commands.specs.Touched.{Touches};
 ghost use Rattle.qo_commands.specs.declared.touched.Touched.TheVariants.{Nothing};
 ghost use Rattle.qo_guest.specs.declared.answers.GuestAnswer.TheVariants.{Fine};
+ghost use Rattle.qo_commands.specs.KeptViews.{HasView, leaves_objects};
 ghost use Rattle.qo_layout.specs.Rows.{LinesAre};
 ghost use Rattle.qo_sound_devices.specs.SoundDevices.{SoundDevices};
 
@@ -18,7 +19,7 @@ use crate::touched::Touched;
 use qo_guest::{Addr, GuestAct, GuestAnswer, read_line};
 use qo_heap::{Oid, Steps};
 use qo_hotplug::Notice;
-use qo_layout::Lines;
+use qo_layout::{KeptView, Lines};
 use qo_realize::Board;
 use qo_replies::Event;
 use std::alloc::{AllocError, Global};
@@ -232,18 +233,28 @@ fn shut_down() -> Heard
     }
 }
 
-/// What an act of the guest comes to where the machine runs. The error is want of memory, and leaves
-/// the board as it was.
+/// Whether an act of the guest leaves all objects of a board where they are.
+fn leaves_objects(act: &GuestAct) -> bool
+    ensures { result ≡ leaves_objects act.now }
+{
+    !matches!(act, GuestAct::Ack(_) | GuestAct::Reset)
+}
+
+/// What an act of the guest comes to where the machine runs. The view that is kept stays that of the board
+/// before. The error is want of memory, and leaves the board as it was.
 fn act<L: Ledger>(
     board: &mut Board,
     lines: &Lines,
+    view: &mut KeptView,
     act: &GuestAct,
     alloc: Global,
     steps: &mut Steps<L>,
 ) -> Result<Heard, AllocError>
-    requires { HasLines board.old lines.now }
+    requires lines { HasLines board.old lines.now }
+    requires view { HasView board.old view.old }
     ensures came { (b : Tree) → Stands b board.old → IfOk result (λ h. Came (acted b act.now) h board.new) }
     ensures touched { (b : Tree) → Stands b board.old → IfOk result (λ h. Touches h.touched b (acted b act.now).board) }
+    ensures view { HasView board.old view.new }
     ensures err { OnErr result (board.new ≡ board.old) }
 {
     match act {
@@ -252,8 +263,8 @@ fn act<L: Ledger>(
         GuestAct::Poll => Ok(poll(board, steps)),
         GuestAct::Read(at, reg) => Ok(read(board, at, *reg, steps)),
         GuestAct::Write(at, reg, value) => Ok(write(board, at, *reg, *value, steps)),
-        GuestAct::Peek(at) => peek(board, *at, alloc, steps),
-        GuestAct::Poke(at, value) => poke(board, *at, *value, alloc, steps),
+        GuestAct::Peek(at) => peek(board, view, *at, alloc, steps),
+        GuestAct::Poke(at, value) => poke(board, view, *at, *value, alloc, steps),
         GuestAct::Irq => Ok(irq(lines)),
         GuestAct::Reset => Ok(reset(board, steps)),
         GuestAct::Shutdown => Ok(shut_down()),
@@ -264,18 +275,21 @@ fn act<L: Ledger>(
 /// is none, `no stopped` where the machine does not run, `no device` where none is at its address, `no
 /// pending` where no removal of that one is pending, `no address` where no register shows at its hardware
 /// address, and `no register` where the device has none of its number. `lines` are the interrupt lines of the
-/// board. Events on devices wait on the board after it. The error is want of memory, and leaves the board as
-/// it was.
+/// board, and `view` is what is kept of its view, also after the line. Events on devices wait on the board after
+/// it. The error is want of memory, and leaves the board as it was.
 pub fn hear<L: Ledger>(
     board: &mut Board,
     lines: &Lines,
+    view: &mut KeptView,
     line: &[u8],
     alloc: Global,
     steps: &mut Steps<L>,
 ) -> Result<Heard, AllocError>
-    requires { HasLines board.old lines.now }
+    requires lines { HasLines board.old lines.now }
+    requires view { HasView board.old view.old }
     ensures came { (b : Tree) → Stands b board.old → IfOk result (λ h. Came (heard b line.now) h board.new) }
     ensures touched { (b : Tree) → Stands b board.old → IfOk result (λ h. Touches h.touched b (heard b line.now).board) }
+    ensures view { HasView board.new view.new }
     ensures err { OnErr result (board.new ≡ board.old) }
 {
     let Ok(read) = read_line(line) else {
@@ -284,5 +298,7 @@ pub fn hear<L: Ledger>(
     if !board.running() {
         return Ok(answered(GuestAnswer::NoStopped));
     }
-    act(board, lines, &read, alloc, steps)
+    let heard = act(board, lines, view, &read, alloc, steps);
+    view.keep_if(leaves_objects(&read));
+    heard
 }

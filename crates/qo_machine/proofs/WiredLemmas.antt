@@ -8,8 +8,12 @@ use Rattle.qo_commands.specs.Touched.{HasShape, IsLeft}
 use Rattle.qo_commands.specs.declared.touched.Touched.{Touched}
 use Rattle.qo_commands.specs.declared.touched.Touched.TheVariants.{Nothing, Registers}
 use Rattle.qo_commands.proofs.FrameLemmas.{advanced-frame}
-use Rattle.qo_commands.proofs.InterruptLemmas.{left-after, left-beside}
+use Rattle.qo_commands.proofs.InterruptLemmas.{by-lines, left-after, left-beside}
 use Rattle.qo_layout.specs.Rows.{Wired}
+use Rattle.qo_commands.specs.KeptViews.{HasView}
+use Rattle.qo_commands.proofs.KeptViewLemmas.{view-same}
+use Rattle.qo_layout.proofs.SameViewLemmas.{same_view_lem}
+use Rattle.qo_layout.specs.Kept.{Kept}
 use Rattle.qo_model.specs.Board.{Board}
 use Rattle.qo_model.specs.Objects.{Changed}
 use Rattle.qo_realize.specs.Parts.{Parts}
@@ -62,6 +66,22 @@ pub shaped_later : (p q : Parts) (l : Wired) (ns : ℕ) → ((b : Board) → Sta
 shaped_later p q l ns goes good h =
     left-after Registers p q l h good
     (λ b sound stands. record { board = (advanced b ns).board; touches = advanced-frame b ns; stands = goes b stands })
+
+-- The view.
+
+-- what is kept of the view stays right where the time goes on, and where the events that wait are told
+pub view_later : (p q : Parts) (l : Wired) (kept : Kept) (ns : ℕ) → HasLines p l → ((b : Board) → Stands b p → Stands (advanced b ns).board q)
+    → HasView p kept → HasView q kept
+view_later p q l kept ns lines goes has =
+    by-lines (λ w. HasView q kept) p l lines
+    (λ b stands sound are.
+    view-same p q kept b (advanced b ns).board stands (goes b stands)
+    (same_view_lem.beside b (advanced b ns).board (advanced-all (λ (x : Board). b.records ≡ x.records) b ns refl (λ low. refl))) has)
+
+pub view_told : (p q : Parts) (kept : Kept) → StandsForGood p → ((b : Board) → Stands b p → Stands (without_events b) q) → HasView p kept
+    → HasView q kept
+view_told p q kept (b, stands, good) told has =
+    view-same p q kept b (without_events b) stands (told b stands) (same_view_lem.beside b (without_events b) refl) has
 
 -- Served, and settled then.
 

@@ -14,12 +14,12 @@ use crate::serving::{serve_items, serve_lines};
 use json::Scratch;
 use qo_causes::{Input, Lane, Moment, What};
 use qo_commands::{
-    Done, Touched, ask, cut_lines, hear, interrupt_lines, refresh_lines, settle_lines,
+    Done, Touched, ask, cut_lines, hear, interrupt_lines, no_view, refresh_lines, settle_lines,
 };
 use qo_events::DeviceEvent;
 use qo_framing::Item;
 use qo_heap::Steps;
-use qo_layout::Lines;
+use qo_layout::{KeptView, Lines};
 use qo_realize::Board;
 use qo_replies::{Event, return_written};
 use qo_requests::{Call, Change, Query};
@@ -76,6 +76,8 @@ pub(crate) struct Core {
     board: Board,
     /// The interrupt lines, which are the board's before and after each item and line.
     lines: Lines,
+    /// What is kept of the view of its memory map, which is the board's at all times.
+    view: KeptView,
     sessions: Vec<Session>,
     guest_line: Vec<u8>,
     ended: bool,
@@ -90,13 +92,14 @@ pub(crate) struct Core {
 impl Model for Core {
     ghost use Rattle.std.specs.Prelude.{◌≡◌, length};
     ghost use Rattle.qo_values.specs.declared.limits.TheConstants.{SESSIONS};
+    ghost use Rattle.qo_commands.specs.KeptViews.{HasView};
     ghost use Rattle.qo_machine.specs.Machine.{Seen};
 
     ghost Value = { Seen };
 
     ghost view = { λ m. record { board = m.board; lines = m.lines; sessions = m.sessions.items; guest_line = m.guest_line.items; ended = m.ended; out_of_memory = m.out_of_memory } };
 
-    ghost invariant = { λ m. length m.sessions.items ≡ SESSIONS };
+    ghost invariant = { λ m. (length m.sessions.items ≡ SESSIONS) × HasView m.board m.view };
 }
 
 /// The machine.
@@ -241,6 +244,7 @@ impl Core {
         Ok(Core {
             board,
             lines,
+            view: no_view(),
             sessions: closed_sessions(alloc)?,
             guest_line: Vec::new(alloc),
             ended: false,
@@ -511,7 +515,14 @@ impl Core {
         ensures lasts { self.new.out_of_memory ≡ self.old.out_of_memory }
         ensures wires { self.new.lines ≡ self.old.lines }
     {
-        let heard = hear(&mut self.board, &self.lines, line, alloc, steps)?;
+        let heard = hear(
+            &mut self.board,
+            &self.lines,
+            &mut self.view,
+            line,
+            alloc,
+            steps,
+        )?;
         self.board.reveal_board();
         Ok(Reply {
             text: guest_text(alloc, &heard.answer),
@@ -615,7 +626,14 @@ impl Core {
         ensures lasts { self.new.out_of_memory ≡ self.old.out_of_memory }
         ensures wires { self.new.lines ≡ self.old.lines }
     {
-        let done = qo_commands::change(alloc, &mut self.board, &self.lines, change, steps);
+        let done = qo_commands::change(
+            alloc,
+            &mut self.board,
+            &self.lines,
+            &mut self.view,
+            change,
+            steps,
+        );
         self.board.reveal_board();
         done
     }
@@ -689,6 +707,7 @@ impl Core {
         ensures lasts { self.new.out_of_memory ≡ self.old.out_of_memory }
         ensures wires { self.new.lines ≡ self.old.lines }
     {
+        self.board.reveal_board();
         self.board.clear_events();
     }
 

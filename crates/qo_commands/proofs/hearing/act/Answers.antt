@@ -14,7 +14,7 @@ returns-in-Shutdown-clause-came g c = λ b s.
 pub returns-in-Irq-clause-came : goal.returns-in-Irq-clause-came
 returns-in-Irq-clause-came g c = λ b s.
     came-as (acted b c.args.act.now) (irq_by b) c.irq.result c.args.board.now (ap (acted b) c.in-Irq.is)
-    (s, irq-heard c.args.board.now c.args.lines.now c.requires c.irq.result c.irq.ensures.came b s)
+    (s, irq-heard c.args.board.now c.args.lines.now c.requires.lines c.irq.result c.irq.ensures.came b s)
 
 -- these touch nothing
 
