@@ -512,7 +512,14 @@ impl Core {
         ensures lasts { self.new.out_of_memory ≡ self.old.out_of_memory }
         ensures wires { self.new.lines ≡ self.old.lines }
     {
-        let heard = hear(&mut self.board, &self.lines, &mut self.view, line, alloc, steps)?;
+        let heard = hear(
+            &mut self.board,
+            &self.lines,
+            &mut self.view,
+            line,
+            alloc,
+            steps,
+        )?;
         Ok(Reply {
             text: guest_text(alloc, &heard.answer),
             event: heard.event,

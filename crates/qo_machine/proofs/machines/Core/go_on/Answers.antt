@@ -16,8 +16,7 @@ refresh-requires g c = rw c.heap.ensures (timely-there c.advance-time.new.self c
 
 pub invariant_of-self : goal.invariant_of-self
 invariant_of-self g c =
-    let same : c.self.inside.board ≡ c.args.self.now.board = seen_board c.self.view_is in
-    (
+    let same : c.self.inside.board ≡ c.args.self.now.board = seen_board c.self.view_is in (
       c.self.invariant.0,
       view_later c.args.self.now.board c.advance-time.new.self c.args.self.now.lines c.self.inside.view c.args.ns c.requires.wired
           (λ b stands. advances_stands (advanced b c.args.ns) c.advance-time.result c.advance-time.new.self
