@@ -15,7 +15,7 @@ use Rattle.qo_layout.specs.Layout.{dimm_in}
 use Rattle.qo_layout.specs.SameViews.{SameObjects}
 use Rattle.qo_layout.proofs.SameObjectLemmas.{same-edited, same-pulsed, same-then}
 use Rattle.qo_layout.proofs.SameViewLemmas.{same_view_lem}
-use Rattle.qo_model.specs.Board.{Board, Record, record_of}
+use Rattle.qo_model.specs.Board.{Board, Record}
 use Rattle.qo_model.specs.Clocks.{device_period}
 use Rattle.qo_model.specs.Depth.{among}
 use Rattle.qo_model.specs.Devices.{first_bus}

@@ -2,7 +2,7 @@
 use Rattle.std.proofs.Common.{◌≡◌, refl, ap, ap₂, sym, subst, ◌∙◌, ℕ, Bool, true, false, cond, ◌==◌, List, [], ◌∷◌, map, filter, Option, Some, None, option_map}
 use Rattle.std.proofs.lemmas.Bool.{eqb-true}
 use Rattle.std.specs.Option.{option_map_or}
-use Rattle.qo_values.specs.Registers.{DimmRegisters, Registers, bare, body_act, bridge, dimm, timer, uart}
+use Rattle.qo_values.specs.Registers.{Registers, bare, body_act, bridge, dimm, timer, uart}
 use Rattle.qo_values.specs.declared.kinds.Act.{Act}
 use Rattle.qo_values.specs.declared.kinds.Act.TheVariants.{Enter, Exit, Hold, Init, Pre, Realize, Unrealize, Update}
 use Rattle.qo_model.specs.Board.{Board, Record, record_of}
@@ -10,8 +10,8 @@ use Rattle.qo_model.specs.Clocks.{acted, with_act_on}
 use Rattle.qo_model.specs.Release.{edit, edited, without_first}
 use Rattle.qo_model.specs.Reset.{after_hold, is_not_in_reset, phased, post, pulse, released}
 use Rattle.qo_model.specs.SoundGraph.{without_values}
-use Rattle.qo_model.proofs.StepLemmas.{found-birth, found-edited, found_at}
-use Rattle.qo_layout.specs.Layout.{dimm_in, range_of}
+use Rattle.qo_model.proofs.StepLemmas.{found-birth, found-edited}
+use Rattle.qo_layout.specs.Layout.{dimm_in}
 use Rattle.qo_layout.specs.SameViews.{SameObjects}
 use Rattle.qo_layout.proofs.SameViewLemmas.{same-beside}
 

@@ -1,5 +1,5 @@
 -- The view of a board is of its objects alone, and of the ranges of DIMMs.
-use Rattle.std.proofs.Common.{◌≡◌, refl, ap, ap₂, subst, sym, ◌∙◌, ℕ, suc, ◌+◌, ◌-◌, ◌*◌, ◌/◌, Bool, true, false, cond, eqb, ◌&&◌, if◌then◌else◌, List, [], ◌∷◌, ◌++◌, map, filter_map, length, find, Option, Some, None, option_map, option_and_then, codes, pos, negsuc, IfSome}
+use Rattle.std.proofs.Common.{◌≡◌, refl, ap, ap₂, subst, sym, ◌∙◌, ℕ, suc, ◌+◌, ◌-◌, ◌*◌, ◌/◌, Bool, true, false, ◌&&◌, if◌then◌else◌, List, [], ◌∷◌, ◌++◌, map, filter_map, length, find, Option, Some, None, option_map, option_and_then, codes, pos, negsuc, IfSome}
 use Rattle.std.specs.Prelude.{◌==◌, is_some, nat_eq, not}
 use Rattle.std.specs.List.{cons_option, flat_map, position_or_len}
 use Rattle.std.specs.Option.{option_map_or}
@@ -25,7 +25,7 @@ use Rattle.qo_memmap.specs.Spans.{IsFlat}
 use Rattle.qo_memmap.specs.declared.region.Kind.TheVariants.{Container, Leaf, Alias}
 use Rattle.qo_memmap.specs.declared.region.Place.{Place}
 use Rattle.qo_layout.specs.Kept.{IsViewOf, Kept}
-use Rattle.qo_layout.specs.Layout.{board_map, boot_leaf, bus_of_slots, device_leaf, device_places, device_size, flat_view, is_memory, mapped, memory_places, memory_window, placed, range_of, region_of, root_number, slot_places, slot_size, slots_of_bus}
+use Rattle.qo_layout.specs.Layout.{board_map, boot_leaf, bus_of_slots, device_leaf, device_places, flat_view, is_memory, mapped, memory_places, memory_window, placed, range_of, region_of, root_number, slot_places, slot_size, slots_of_bus}
 use Rattle.qo_layout.specs.SameViews.{SameObjects, SameViewLaw}
 use Rattle.qo_layout.specs.declared.addresses.TheConstants.{DEVICE_SIZE, LOW_SIZE, ROOT_SIZE, SLOTS_AT}
 
