@@ -17,7 +17,7 @@ refresh_lines-requires g c =
     (shaped_later c.args.self.now.board c.advance-time.new.self c.args.self.now.lines c.args.ns
     (λ b stands. advances_stands (advanced b c.args.ns) c.advance-time.result c.advance-time.new.self
     (c.advance-time.ensures.advanced b (stands_in b c.self.inside.board c.args.self.now (seen_board c.self.view_is) stands)))
-    c.reveal_board.ensures.stands c.requires)
+    c.reveal_board.ensures.stands c.requires.wired)
 
 pub invariant_of-self : goal.invariant_of-self
 invariant_of-self g c =
