@@ -17,6 +17,7 @@ use Rattle.qo_layout.specs.Kept.{Kept}
 use Rattle.qo_model.specs.Board.{Board}
 use Rattle.qo_model.specs.Objects.{Changed}
 use Rattle.qo_realize.specs.Parts.{Parts}
+use Rattle.qo_machine.proofs.PreservationLemmas.{advanced-all}
 use Rattle.qo_realize.specs.Representation.{Stands, StandsForGood}
 use Rattle.qo_realize.specs.Time.{Advances, advanced}
 use Rattle.qo_requests.specs.declared.calls.Call.{Call}
