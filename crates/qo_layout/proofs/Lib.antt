@@ -11,6 +11,8 @@ pub mod PlaceLemmas
 pub mod RankLemmas
 pub mod RecordsLemmas
 pub mod RegionLemmas
+pub mod SameObjectLemmas
+pub mod SameViewLemmas
 pub mod ShowLemmas
 pub mod ShownLemmas
 pub mod WindowLemmas

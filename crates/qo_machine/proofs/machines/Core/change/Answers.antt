@@ -2,7 +2,6 @@
 use Rattle.std.proofs.Common.{ap, ◌∙◌, option_map}
 use Rattle.qo_commands.proofs.CommandLemmas.{empty_written, no_float}
 use Rattle.qo_commands.specs.Commands.{Done, empty, made}
-use Rattle.qo_machine.proofs.MachineLemmas.{seen_board, stands_in}
 use Rattle.std.proofs.lemmas.Result.{IfOk-weaker}
 use Rattle.qo_machine.specs.Machine.{reply}
 use Rattle.qo_machine.proofs.machines.Core.change.Goals as goal
@@ -12,7 +11,7 @@ changed_text-text-requires g c = c.in_ok-empty.ensures empty empty_written
 
 pub returns-clause-came : goal.returns-clause-came
 returns-clause-came g c = λ b stands.
-    let did = c.in_ok-done.ensures b (stands_in b c.self.inside.board c.args.self.now (seen_board c.self.view_is) stands) in
+    let did = c.in_ok-done.ensures.came b stands in
     record {
       stands = did.0;
       events = ap (λ (d : Done). d.events) did.1;
