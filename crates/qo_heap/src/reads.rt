@@ -4,6 +4,7 @@ ghost use Rattle.std.specs.Prelude.{◌≡◌, ◌≤◌, ◌^◌, length, find,
 
 use crate::heap::Heap;
 use crate::table::{key_in, place_of};
+use qo_model::PropertyName;
 use qo_object::{Oid, SlotView};
 use qo_slots::Steps;
 use qo_values::TypeId;
@@ -12,6 +13,7 @@ use std::sync::ledger::Ledger;
 impl Heap {
     ghost use Rattle.std.specs.Prelude.{◌<◌, ◌+◌, nat_lt, Some, option_map, length, find, leb, slice_get, position, IfSome, IfNone, None, IfOk};
     ghost use Rattle.std.specs.Str.{bytes_eq};
+    ghost use Rattle.qo_model.specs.RowNames.{property_name};
     ghost use Rattle.qo_heap.specs.Rows.{IsLive};
     ghost use Rattle.qo_heap.specs.Objects.{content_of, parent_of, refs_of, slots_of};
 
@@ -43,6 +45,21 @@ impl Heap {
             Some(at) => object.slot_at(at),
             None => None,
         }
+    }
+
+    /// The slot of a property of an object, by one look-up; `None` exactly where it has none.
+    pub fn property<L: Ledger>(
+        &self,
+        o: Oid,
+        name: PropertyName,
+        steps: &mut Steps<L>,
+    ) -> Option<SlotView<'_>>
+        requires { IsLive self.now.rows o }
+        ensures slot { option_map (λ v. (v.name.now, v.what.now)) result ≡ find (λ s. bytes_eq (property_name name) s.0) (slots_of self.now o.birth) }
+        ensures at { option_map (λ v. v.at) result ≡ position (λ s. bytes_eq (property_name name) s.0) (slots_of self.now o.birth) }
+        ensures cost { steps.new ≡ steps.old + 1 }
+    {
+        self.slot(o, name.as_str(), steps)
     }
 
     /// The slot of an object at a place, from 0; `None` exactly past the last. There are at most 2^32.
