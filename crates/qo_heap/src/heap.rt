@@ -75,7 +75,7 @@ impl Drop for Heap {
 }
 
 impl Heap {
-    ghost use Rattle.std.specs.Prelude.{◌≡◌, ◌+◌, ◌<◌, ◌≤◌, ◌^◌, [], ◌∷◌, ◌++◌, length, IfOk, OnErr, Err, Some, option_map};
+    ghost use Rattle.std.specs.Prelude.{◌≡◌, ◌+◌, ◌<◌, ◌≤◌, ◌^◌, [], ◌∷◌, ◌++◌, length, IfOk, OnOk, OnErr, Err, Some, option_map};
     ghost use Rattle.qo_heap.specs.Board.{Shows};
     ghost use Rattle.qo_model.specs.Board.{Board};
     ghost use Rattle.qo_object.specs.Content.{fresh, reference_count};
@@ -151,6 +151,7 @@ impl Heap {
         ensures limit { result ≡ Err Limit → length self.old.rows ≡ LIVE_OBJECTS_MAX }
         ensures memory { result ≡ Err NoMemory → length self.old.rows < LIVE_OBJECTS_MAX }
         ensures err { OnErr result (self.new ≡ self.old) }
+        ensures cost { OnOk result (steps.new ≡ steps.old + 1) }
     {
         if self.live() as u64 >= LIVE_OBJECTS_MAX {
             return Err(MakeError::Limit);

@@ -62,6 +62,7 @@ impl Heap {
         ensures memory { result ≡ Err Memory → has_name name (slots_of self.old o.birth) ≡ false }
         ensures parent { result ≢ Err HasParent }
         ensures err { OnErr result (self.new ≡ self.old) }
+        ensures cost { steps.new ≤ steps.old + 4 }
     {
         self.add(o, name, Slot::Plain(val), steps)
     }
@@ -136,6 +137,7 @@ impl Heap {
         ensures memory { result ≡ Err Memory → has_name name (slots_of self.old o.birth) ≡ false }
         ensures parent { result ≢ Err HasParent }
         ensures err { OnErr result (self.new ≡ self.old) }
+        ensures cost { steps.new ≤ steps.old + 4 }
     {
         self.add(o, name, Slot::Alias(target, of), steps)
     }

@@ -19,7 +19,7 @@ loop-place-preserved g c =
       | in-Some w ↦
           reached-bus c.args.act c.args.device.birth c.loop-place.place c.args.heap.now c.loop-place.heap c.match-new_bus_at.heap w.in-Some.bus
           c.loop-place.invariant
-          w.in-Some.ensures.bus (w.heap-is ∙ w.act.ensures)
+          w.in-Some.ensures.bus (w.heap-is ∙ w.act.ensures.now)
       | in_default w ↦
           subst (Reached c.args.act c.args.device.birth (c.loop-place.place + 1) c.args.heap.now) (sym w.heap-is)
           (reached-other c.args.act c.args.device.birth c.loop-place.place c.args.heap.now c.loop-place.heap c.loop-place.invariant

@@ -7,14 +7,14 @@ use Rattle.qo_plug.proofs.starting.realize.Goals as goal
 
 pub realize_buses-requires : goal.realize_buses-requires
 realize_buses-requires g c =
-    still-live c.args.heap.now c.act.new.self (act-acts c.args.heap.now c.act.new.self c.args.device c.act.ensures) c.args.device c.requires
+    still-live c.args.heap.now c.act.new.self (act-acts c.args.heap.now c.act.new.self c.args.device c.act.ensures.now) c.args.device c.requires
 
 pub returns-clause-shown : goal.returns-clause-shown
 returns-clause-shown g c = λ b s.
     realized-first c.args.device.birth b c.realize_buses.new.heap
-    (c.realize_buses.ensures.shown (acted Realize c.args.device.birth 0 b) (act-shown c.args.heap.now c.act.new.self c.args.device c.act.ensures b s))
+    (c.realize_buses.ensures.shown (acted Realize c.args.device.birth 0 b) (act-shown c.args.heap.now c.act.new.self c.args.device c.act.ensures.now b s))
 
 pub returns-clause-acts : goal.returns-clause-acts
 returns-clause-acts g c =
-    acts-then c.args.heap.now c.act.new.self c.realize_buses.new.heap (act-acts c.args.heap.now c.act.new.self c.args.device c.act.ensures)
+    acts-then c.args.heap.now c.act.new.self c.realize_buses.new.heap (act-acts c.args.heap.now c.act.new.self c.args.device c.act.ensures.now)
     c.realize_buses.ensures.acts

@@ -7,10 +7,10 @@ use Rattle.qo_reset.proofs.phases.visit_one.Goals as goal
 pub returns-then-not-only_out : goal.returns-then-not-only_out
 returns-then-not-only_out g c =
     elim c.then-not-only_out.branch [
-      | then-not-only_out-via-then-not-only_out w ↦ c.act.ensures
+      | then-not-only_out-via-then-not-only_out w ↦ c.act.ensures.now
           ∙ turned-chosen c.args.act c.args.only_out (births_of c.args.holds.now) c.args.o.birth c.args.heap.now
           (chosen-all c.args.only_out (births_of c.args.holds.now) c.args.o.birth c.args.heap.now w.if-not-only_out.true)
-      | then-not-only_out-via-else-not-only_out+then-is_not_in_reset w ↦ c.act.ensures
+      | then-not-only_out-via-else-not-only_out+then-is_not_in_reset w ↦ c.act.ensures.now
           ∙ turned-chosen c.args.act c.args.only_out (births_of c.args.holds.now) c.args.o.birth c.args.heap.now
           (chosen-out c.args.only_out (births_of c.args.holds.now) c.args.o.birth c.args.heap.now true w.if-not-only_out.false w.if-is_not_in_reset.ensures)
     ]
