@@ -11,6 +11,12 @@ mod KeepingLemmas
 mod KeptEnds
 mod ParentLemmas
 mod ReferenceLemmas
+mod WeakChains
+mod WeakChanges
+mod WeakMoves
+mod WeakNodes
+mod WeakRows
+mod WeakSlots
 pub mod PlacesLemmas
 pub mod SlotPlaces
 pub mod BoardActs

@@ -11,3 +11,5 @@ pub mod Objects
 pub mod Order
 pub mod Places
 pub mod Rows
+pub mod WeakLinks
+pub mod WeakLists

@@ -159,6 +159,7 @@ impl Heap {
         match add_object(
             &mut self.table,
             &mut self.order,
+            alloc,
             Object::new(alloc, kind),
             steps,
         ) {

@@ -19,6 +19,9 @@ mod table;
 #[cfg(test)]
 mod tests;
 mod tree;
+mod weak_links;
+mod weak_lists;
+mod weak_slots;
 
 pub use ends::free_kept;
 pub use errors::{MakeError, SlotError};

@@ -3,6 +3,8 @@
 use crate::entries::{add_hold, add_holds, entry_mut, hold_of};
 use crate::errors::SlotError;
 use crate::heap::Heap;
+use crate::weak_lists::join;
+use crate::weak_slots::weak_target;
 use qo_object::{Oid, Slot, SlotName};
 use qo_slots::Steps;
 use qo_values::{TypeId, Val};
@@ -13,7 +15,7 @@ impl Heap {
     ghost use Rattle.std.specs.List.{AllByRecursion, IsDistinct};
     ghost use Rattle.std.specs.Str.{bytes_eq};
     ghost use Rattle.qo_object.specs.Content.{with_all_slots, with_slot};
-    ghost use Rattle.qo_object.specs.Slots.{child_of, has_name, names_of, target_of};
+    ghost use Rattle.qo_object.specs.Slots.{child_of, has_name, names_of, target_of, weak_target};
     ghost use Rattle.qo_object.specs.declared.slots.Slot.TheVariants.{Plain, Child, Link, Alias};
     ghost use Rattle.qo_heap.specs.Rows.{IsLive};
     ghost use Rattle.qo_heap.specs.Objects.{parent_of, slots_of, with_edit};
@@ -36,13 +38,14 @@ impl Heap {
         ensures memory { result ≡ Err Memory → has_name name (slots_of self.old o.birth) ≡ false }
         ensures parent { result ≢ Err HasParent }
         ensures err { OnErr result (self.new ≡ self.old) }
-        ensures cost { steps.new ≤ steps.old + 2 }
+        ensures cost { steps.new ≤ steps.old + 4 }
+        ensures cost_held { weak_target slot ≡ None → steps.new ≤ steps.old + 2 }
     {
         let hold = hold_of(&slot);
-        entry_mut(&mut self.table, &self.order, o, steps)
-            .object
-            .add(name, slot)?;
+        let target = weak_target(&slot);
+        let id = entry_mut(&mut self.table, &self.order, o, steps).add_slot(name, slot)?;
         add_hold(&mut self.table, &self.order, hold, o, steps);
+        join(&mut self.table, &self.order, o, id, target, steps);
         Ok(())
     }
 
