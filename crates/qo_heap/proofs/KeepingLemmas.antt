@@ -66,7 +66,7 @@ plain-edited n f (row ∷ rows) = go (eqb row.0.birth n) refl (plain-edited n f 
     go true is rest = rw is (ap (λ (l : List (Key × Content)). (row.0, f row.1.object) ∷ l) rest)
     go false is rest = rw is (ap (λ (l : List (Key × Content)). plain_row row ∷ l) rest)
 
-plain-same : (n : ℕ) (g : Entry → Entry) → ((e : Entry) → (g e).object ≡ e.object) → (rows : List (Key × Entry)) → plain (edit n g rows) ≡ plain rows
+pub plain-same : (n : ℕ) (g : Entry → Entry) → ((e : Entry) → (g e).object ≡ e.object) → (rows : List (Key × Entry)) → plain (edit n g rows) ≡ plain rows
 plain-same n g same [] = refl
 plain-same n g same (row ∷ rows) = go (eqb row.0.birth n) refl (plain-same n g same rows)
   where

@@ -11,12 +11,14 @@ mod KeepingLemmas
 mod KeptEnds
 mod ParentLemmas
 mod ReferenceLemmas
+mod WeakCalls
 mod WeakChains
 mod WeakChanges
 mod WeakMoves
 mod WeakNodes
 mod WeakRows
 mod WeakSlots
+mod WeakTables
 pub mod PlacesLemmas
 pub mod SlotPlaces
 pub mod BoardActs

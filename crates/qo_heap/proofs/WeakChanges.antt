@@ -225,8 +225,8 @@ module _ (last : ℕ) (rows : List (Key × Entry)) (rises : Rises 0 (births rows
       let i : eqb e.owner.index e.owner.index ≡ true = eq-eqb e.owner.index e.owner.index refl in
       rw (i, same-self e) refl
 
-  known : (m : ℕ) → is_some (object_at rows m) ≡ true → is_some (object_at now m) ≡ true
-  known m some = go (eqb m o.birth) refl
+  pub known-now : (m : ℕ) → is_some (object_at rows m) ≡ true → is_some (object_at now m) ≡ true
+  known-now m some = go (eqb m o.birth) refl
     where
       go : (b : Bool) → eqb m o.birth ≡ b → is_some (object_at now m) ≡ true
       go true is =
@@ -253,7 +253,7 @@ module _ (last : ℕ) (rows : List (Key × Entry)) (rises : Rises 0 (births rows
     left-lists some =
         record {
           lists = out-listed now (bag_in rows) (apart-in last rows rises (rising-numbers rows good.numbered)) (lists-before links) (own l.id) l t.birth
-              (own-cell k l links at) counted (known t.birth some) less others-same;
+              (own-cell k l links at) counted (known-now t.birth some) less others-same;
           numbered = unlinked-numbered t.birth l now (put-numbered links k l (Some t) None at had put);
         }
 
@@ -281,7 +281,7 @@ module _ (last : ℕ) (rows : List (Key × Entry)) (rises : Rises 0 (births rows
         record {
           lists = into-listed now (bag_in rows) (apart-in last rows rises (rising-numbers rows good.numbered))
               (apart-in last now rises-now (rising-numbers now numbered)) (lists-before links) (own l.id) l t.birth
-              (own-cell k l links at) (known t.birth some) more rest-same;
+              (own-cell k l links at) (known-now t.birth some) more rest-same;
           numbered = linked-numbered t.birth (own l.id) (head_in now t.birth) now numbered;
         }
 

@@ -40,12 +40,13 @@ impl Model for Heap {
     ghost use Rattle.qo_heap.specs.Objects.{Objects, IsHeap, HasPlaces, objects_in};
     ghost use Rattle.qo_heap.specs.Keeping.{IsKept};
     ghost use Rattle.qo_heap.specs.Order.{IsOrdered, rows_in};
+    ghost use Rattle.qo_heap.specs.WeakLists.{HasWeakLists};
 
     ghost Value = { Objects };
 
     ghost view = { λ h. objects_in h.table h.order.items h.claims h.notes.items h.total h.time h.events };
 
-    ghost invariant = { λ h. (IsHeap (objects_in h.table h.order.items h.claims h.notes.items h.total h.time h.events) × HasPlaces (objects_in h.table h.order.items h.claims h.notes.items h.total h.time h.events)) × (IsOrdered h.table h.order.items × (IsKept (rows_in h.table h.order.items) × ((h.notes.capacity ≡ NOTES_KEPT) × (length h.notes.items ≡ min h.total NOTES_KEPT)))) };
+    ghost invariant = { λ h. (IsHeap (objects_in h.table h.order.items h.claims h.notes.items h.total h.time h.events) × HasPlaces (objects_in h.table h.order.items h.claims h.notes.items h.total h.time h.events)) × (IsOrdered h.table h.order.items × (IsKept (rows_in h.table h.order.items) × (HasWeakLists (rows_in h.table h.order.items) × ((h.notes.capacity ≡ NOTES_KEPT) × (length h.notes.items ≡ min h.total NOTES_KEPT))))) };
 }
 
 impl Drop for Heap {

@@ -115,9 +115,10 @@ pub fn leave<L: Ledger>(
     ensures born { table.new.born ≡ table.old.born }
     ensures cost { steps.new ≤ steps.old + 2 }
 {
-    if let Some(Loose { target, node }) = loose {
+    if let Some(loose) = loose {
+        let node = loose.node;
         set_prev(table, order, node.next, node.prev, steps);
-        set_next(table, order, target, node.prev, node.next, steps);
+        set_next(table, order, loose.target, node.prev, node.next, steps);
     }
 }
 

@@ -25,6 +25,7 @@ fn is_weak_at(object: &Object, at: usize) -> bool
     }
 }
 
+#[tactic(auto, using(crate::proofs::WeakSlots::before_none, crate::proofs::WeakSlots::before_next, crate::proofs::WeakSlots::before_within))]
 /// How many weak links of an object stand before a place.
 fn weak_before(object: &Object, at: usize) -> usize
     ensures { result ≡ weak_before at object.now.slots }
@@ -38,6 +39,7 @@ fn weak_before(object: &Object, at: usize) -> usize
     before
 }
 
+#[tactic(auto, using(crate::proofs::WeakSlots::place_before))]
 /// Which of the weak links of an object the slot at a place is, from 0, if it is one.
 pub fn weak_place(object: &Object, at: usize) -> Option<usize>
     ensures { result ≡ weak_place object.now.slots at }
@@ -49,6 +51,7 @@ pub fn weak_place(object: &Object, at: usize) -> Option<usize>
     }
 }
 
+#[tactic(auto, using(crate::proofs::WeakSlots::before_none, crate::proofs::WeakSlots::before_next, crate::proofs::WeakSlots::before_all, crate::proofs::WeakSlots::place_before))]
 /// The place of the slot of a weak link of an object, where `nth` says which, from 0.
 pub fn weak_slot(object: &Object, nth: usize) -> Option<usize>
     ensures place { IfSome result (λ at. weak_place object.now.slots at ≡ Some nth) }

@@ -2,8 +2,6 @@ use Rattle.std.proofs.Common.{refl, ap, sym, ◌∙◌, eqb, List, position}
 use Rattle.qo_heap.specs.WeakLinks.{Links, with_prev}
 use Rattle.qo_heap.specs.declared.weak_links.Node.{Node}
 use Rattle.qo_heap.proofs.WeakNodes.{changed-found, changed-none}
-use Rattle.qo_heap.proofs.WeakChanges.{added-lists}
-use Rattle.qo_heap.proofs.WeakSlots.{before-all}
 use Rattle.qo_heap.proofs.weak_links.WeakLinks.set_prev.Goals as goal
 
 pub returns-in-Some : goal.returns-in-Some
