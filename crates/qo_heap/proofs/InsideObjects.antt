@@ -28,6 +28,7 @@ use Rattle.qo_heap.proofs.KeepingLemmas.{all-object, counted-lost, counted-won, 
 use Rattle.qo_heap.proofs.KeptEnds.{kept-ended, kept-made, unborn}
 use Rattle.qo_heap.proofs.RowsLemmas.{edit-as, rows-rise}
 use Rattle.qo_heap.proofs.ValueLemmas.{Written, written}
+use Rattle.qo_heap.proofs.WeakCalls.{made-lists}
 use Rattle.qo_heap.proofs.WeakChanges.{same-lists}
 
 -- the objects that the fields of a heap stand for, and these with what is kept of them
@@ -244,7 +245,7 @@ path-inside h good o live path e d there is none w place =
 abbrev pub IsTable : Table Entry → List Key → Objects → Type 0
 IsTable t order v =
     (IsHeap (record v { rows = plain (rows_in t order); born = t.born }) × HasPlaces (record v { rows = plain (rows_in t order); born = t.born }))
-    × IsKept (rows_in t order)
+    × (IsKept (rows_in t order) × HasWeakLists (rows_in t order))
 
 -- an object was made, or none was
 pub made-inside : (h : Inside) → IsInside h → (kind : TypeId) → length (objects_inside h).rows < LIVE_OBJECTS_MAX → (r : Result Key Content) (t : Table Entry)
@@ -258,12 +259,15 @@ made-inside h good kind below (Ok key) t order made kept back =
     λ j. record v { rows = made.1.0 j; born = made.1.1 j } in
     let new : object_at v.rows key.birth ≡ None = unborn key.birth 0 v.born v.rows (let next : key.birth ≡ v.born + 1 = made.0 in omega arith) good.0.0.rising in (
       subst (λ (w : Objects). IsHeap w × HasPlaces w) (sym now) (heap-more v good.0.0 key kind made.0 below, good.0.1 ∙ sym (paths-more v.rows key kind)),
-      subst IsKept (sym kept) (kept-made (entries h) good.1.1.0 good.0.0.linked key kind new),
+      (
+        subst IsKept (sym kept) (kept-made (entries h) good.1.1.0 good.0.0.linked key kind new),
+        subst HasWeakLists (sym kept) (made-lists (entries h) good.1.1.1.0 key kind),
+      ),
     )
 made-inside h good kind below (Err c) t order made kept back =
     let v : Objects = objects_inside h in
     let now : record v { rows = plain (rows_in t order); born = t.born } ≡ v = λ j. record v { rows = plain (back.1.0 j); born = back.1.1 j } in
-    (subst (λ (w : Objects). IsHeap w × HasPlaces w) (sym now) good.0, subst IsKept (sym back.1.0) good.1.1.0)
+    (subst (λ (w : Objects). IsHeap w × HasPlaces w) (sym now) good.0, (subst IsKept (sym back.1.0) good.1.1.0, subst HasWeakLists (sym back.1.0) good.1.1.1.0))
 
 -- an object ended
 pub ended-inside : (h : Inside) → IsInside h → (o : Key) → refs_of (objects_inside h) o.birth ≡ 0 → (c : Content)

@@ -14,6 +14,7 @@ mod ReferenceLemmas
 mod WeakCalls
 mod WeakChains
 mod WeakChanges
+mod WeakInside
 mod WeakMoves
 mod WeakNodes
 mod WeakRows

@@ -2,14 +2,15 @@
 use Rattle.std.proofs.Common.{◌≡◌, refl, ap, ap₂, sym, subst, ◌∙◌, ℕ, zero, suc, ◌+◌, ◌<◌, ◌≤◌, Bool, true, false, cond, eqb, List, [], ◌∷◌, ◌++◌, length, slice_get, slice_set, remove, option_to_list, Option, Some, None, option_map, is_some, IfSome, arith}
 use Rattle.std.specs.List.{AllByRecursion}
 use Rattle.std.specs.Option.{option_and_then, option_map_or}
+use Rattle.std.proofs.lemmas.List.Sums.{sum_by-append, sum_by-cons}
 use Rattle.qo_values.specs.declared.kinds.TypeId.{TypeId}
 use Rattle.qo_slots.specs.declared.keys.Key.{Key}
 use Rattle.qo_object.specs.declared.slots.Slot.{Slot}
 use Rattle.qo_object.specs.declared.slots.Slot.TheVariants.{Plain, Child, Link, Alias}
 use Rattle.qo_object.specs.Slots.{Named, changed_at, is_empty_link, named_in, slot_in, target_of, weak_target}
 use Rattle.qo_object.specs.Slots.{pointed as pointed_slot}
-use Rattle.qo_object.specs.Content.{Content, cut_at, dropped_at, empty_link_at, named_at, pointed_at, with_slot}
-use Rattle.qo_heap.specs.Keeping.{IsCounted, IsKept, IsShort, all_less, all_more, hold_at, hold_of, holds_in, less_held, more_held, owners, plain, with_object}
+use Rattle.qo_object.specs.Content.{Content, cut_at, dropped_at, empty_link_at, fresh, named_at, pointed_at, with_slot}
+use Rattle.qo_heap.specs.Keeping.{IsCounted, IsKept, IsShort, all_less, all_more, hold_at, hold_of, holds_in, less_held, more_held, owners, plain, unheld, with_object}
 use Rattle.qo_heap.specs.Rows.{IsLive, Rises, births, edit, edited, object_at}
 use Rattle.qo_heap.specs.WeakLinks.{Links, NumbersRise, new_node, node_of, weak_name, weak_names, weak_place, with_both, with_next, with_prev}
 use Rattle.qo_heap.specs.WeakLists.{HasWeakLists, IsListed, IsNumbered, added_links, bag_in, cell_in, cut_links, head_in, joined_in, led_in, linked_in, loose_at, loose_of, loosed_in, named_weight, names, node_at, row_weight, turned_in, unlinked_in, with_first, with_links, with_node}
@@ -34,7 +35,7 @@ module _ (n : ℕ) (g : Entry → Entry) (links : (x : Entry) → (g x).links �
   edit-cell : (e : End) → cell_in after e ≡ cell_in rows e
   edit-cell e = read-same n g (λ (x : Entry). node_of x.links.nodes e.id) (λ x. ap (λ (l : Links). node_of l.nodes e.id) (links x)) rows e.owner.birth
 
-  edit-head : (m : ℕ) → head_in after m ≡ head_in rows m
+  pub edit-head : (m : ℕ) → head_in after m ≡ head_in rows m
   edit-head m = read-same n g (λ (x : Entry). x.links.first) (λ x. ap (λ (l : Links). l.first) (links x)) rows m
 
   edit-bag : (m : ℕ) (w : End → ℕ) → bag_in after m w ≡ bag_in rows m w
@@ -68,6 +69,12 @@ more-lists owner [] rows good = good
 more-lists owner (h ∷ hs) rows good =
     more-lists owner hs (edit h.key.birth (more_held h.child owner) rows)
     (edit-lists h.key.birth (more_held h.child owner) (λ x. refl) (λ x. refl) rows good)
+
+pub head-more : (owner : Key) (hs : List Hold) (rows : List (Key × Entry)) (n : ℕ) → head_in (all_more owner hs rows) n ≡ head_in rows n
+head-more owner [] rows n = refl
+head-more owner (h ∷ hs) rows n =
+    head-more owner hs (edit h.key.birth (more_held h.child owner) rows) n
+    ∙ edit-head h.key.birth (more_held h.child owner) (λ x. refl) (λ x. refl) rows n
 
 pub less-lists : (hs : List Hold) (rows : List (Key × Entry)) → HasWeakLists rows → HasWeakLists (all_less hs rows)
 less-lists [] rows good = good
@@ -313,3 +320,37 @@ module _ (last : ℕ) (rows : List (Key × Entry)) (rises : Rises 0 (births rows
     slot-added-lists (Link ty true target) (Some k) weak above known = cc
     slot-added-lists (Link ty false None) (Some k) weak above known = empty-added ty k above
     slot-added-lists (Link ty false (Some t)) (Some k) weak above known = full-added ty k t above known
+
+-- an object is made
+read-more : {A : Type 0} (g : Entry → Option A) (row : Key × Entry) → g row.1 ≡ None → (rows : List (Key × Entry)) (m : ℕ)
+    → option_and_then g (object_at (rows ++ row ∷ []) m) ≡ option_and_then g (object_at rows m)
+read-more g row none [] m = go (eqb row.0.birth m) refl
+  where
+    go : (b : Bool) → eqb row.0.birth m ≡ b → option_and_then g (object_at (row ∷ []) m) ≡ None
+    go true is = rw is none
+    go false is = rw is refl
+read-more g row none (r ∷ rows) m = go (eqb r.0.birth m) refl (read-more g row none rows m)
+  where
+    go : (b : Bool) → eqb r.0.birth m ≡ b → option_and_then g (object_at (rows ++ row ∷ []) m) ≡ option_and_then g (object_at rows m)
+        → option_and_then g (object_at (r ∷ rows ++ row ∷ []) m) ≡ option_and_then g (object_at (r ∷ rows) m)
+    go true is rest = rw is refl
+    go false is rest = rw is rest
+
+pub made-lists : (rows : List (Key × Entry)) → HasWeakLists rows → (key : Key) (kind : TypeId) → HasWeakLists (rows ++ (key, unheld (fresh kind)) ∷ [])
+made-lists rows good key kind =
+    record {
+      lists = λ n.
+          listed-as (cell_in rows) (cell_in (rows ++ (key, unheld (fresh kind)) ∷ [])) (head_in rows n) (head_in (rows ++ (key, unheld (fresh kind)) ∷ []) n) (bag_in rows n) (bag_in (rows ++ (key, unheld (fresh kind)) ∷ []) n)
+          (read-more (λ (x : Entry). x.links.first) (key, unheld (fresh kind)) refl rows n)
+          (λ w. omega (arith, sum_by-append (row_weight n w) rows ((key, unheld (fresh kind)) ∷ []), sum_by-cons (row_weight n w) (key, unheld (fresh kind)) []))
+          (λ es is. all-same es) (good.lists n);
+      numbered = last rows good.numbered;
+    }
+  where
+    all-same : (es : List End) → AllByRecursion (λ (e : End). cell_in (rows ++ (key, unheld (fresh kind)) ∷ []) e ≡ cell_in rows e) es
+    all-same [] = tt
+    all-same (e ∷ es) = (read-more (λ (x : Entry). node_of x.links.nodes e.id) (key, unheld (fresh kind)) refl rows e.owner.birth, all-same es)
+
+    last : (rs : List (Key × Entry)) → AllByRecursion IsNumbered rs → AllByRecursion IsNumbered (rs ++ (key, unheld (fresh kind)) ∷ [])
+    last [] all = ((refl, tt), tt)
+    last (r ∷ rs) all = (all.0, last rs all.1)

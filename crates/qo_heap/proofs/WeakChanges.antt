@@ -133,7 +133,7 @@ module _ (last : ℕ) (rows : List (Key × Entry)) (rises : Rises 0 (births rows
       → bag_in now n w + named_weight n w o x.links.nodes (names x) ≡ bag_in rows n w + named_weight n w o y.links.nodes (names y)
   weights n w = sum-named (row_weight n w) o (λ _. y) 0 last rows rises live x there
 
-  heads : y.links.first ≡ x.links.first → (n : ℕ) → head_in now n ≡ head_in rows n
+  pub heads : y.links.first ≡ x.links.first → (n : ℕ) → head_in now n ≡ head_in rows n
   heads same n = go (eqb n o.birth) refl
     where
       go : (b : Bool) → eqb n o.birth ≡ b → head_in now n ≡ head_in rows n

@@ -1,4 +1,3 @@
-use Rattle.qo_heap.proofs.WeakCalls.{cut-lists}
 use Rattle.std.proofs.Common.{◌≡◌, refl, ap, sym, ◌∙◌}
 use Rattle.qo_heap.specs.Keeping.{plain}
 use Rattle.qo_heap.specs.Order.{rows_in}
