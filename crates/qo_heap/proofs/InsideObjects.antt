@@ -67,6 +67,11 @@ entries-few h good =
     all-imply (IsCounted (objects_inside h).rows) (λ (row : Key × Entry). row.1.held ≤ 281474976710656)
     (λ row counted. omega (arith, counted.held, held-few h good row.0.birth)) (entries h) good.1.1.0.counts
 
+-- it has not too many slots
+pub short-own : (h : Inside) → IsInside h → (o : Key) (e : Entry) → object_at (entries h) o.birth ≡ Some e → length e.object.slots ≤ 2 ^ 32
+short-own h good o e there =
+    all-object (λ (n : ℕ) (c : Content). length c.slots ≤ 2 ^ 32) (objects_inside h).rows good.1.1.0.short o.birth e.object (plain-there (entries h) o.birth e there)
+
 -- a table in which one object was changed, and what is kept of each is right
 pub record Changes (h : Inside) (o : Key) (f : Content → Content) (t : Table Entry) : Type 0 where
   pub ordered : IsOrdered t h.order.items
@@ -272,15 +277,15 @@ made-inside h good kind below (Err c) t order made kept back =
 -- an object ended
 pub ended-inside : (h : Inside) → IsInside h → (o : Key) → refs_of (objects_inside h) o.birth ≡ 0 → (c : Content)
     → content_of (objects_inside h) o.birth ≡ Some c → reference_count c ≡ 0 → (t : Table Entry) (order : List Key)
-    → rows_in t order ≡ map (entry_forgets o.birth) (without o.birth (entries h)) → t.born ≡ h.table.born → (claims : ClaimsTaken) (events : Waiting)
+    → rows_in t order ≡ map (entry_forgets o.birth) (without o.birth (entries h)) → t.born ≡ h.table.born → HasWeakLists (rows_in t order) → (claims : ClaimsTaken) (events : Waiting)
     → events.promised ≡ count_by has_path (map (forgets o.birth) (without o.birth (objects_inside h).rows))
     → IsTable t order (record (objects_inside h) { claims = claims; events = events })
-ended-inside h good o free c there bare t order rows born claims events places =
+ended-inside h good o free c there bare t order rows born lists claims events places =
     let v : Objects = objects_inside h in
     let plain-rows : plain (rows_in t order) ≡ map (forgets o.birth) (without o.birth v.rows) = ap plain rows ∙ plain-left o.birth (entries h) in
     let now : record v { rows = plain (rows_in t order); born = t.born; claims = claims; events = events }
     ≡ record v { rows = map (forgets o.birth) (without o.birth v.rows); claims = claims; events = events } =
     λ j. record v { rows = plain-rows j; born = born j; claims = claims; events = events } in (
       subst (λ (w : Objects). IsHeap w × HasPlaces w) (sym now) (heap-ended v good.0.0 o.birth free v.log claims events, places),
-      subst IsKept (sym rows) (kept-ended (entries h) h.table.born o.birth good.1.1.0 good.0.0.rising c there bare),
+      (subst IsKept (sym rows) (kept-ended (entries h) h.table.born o.birth good.1.1.0 good.0.0.rising c there bare), lists),
     )

@@ -222,3 +222,54 @@ module _ (h : Inside) (good : IsInside h) (o : Key) (live : IsLive (objects_insi
       owner same (Some x) lives =
           subst (λ (l : List (Key × Content)). IsLive l x.owner) (sym same)
           (live-edit o.birth f (objects_inside h).rows x.owner (live-plain (entries h) x.owner lives))
+
+-- a link was pointed
+module _ (h : Inside) (good : IsInside h) (o : Key) (live : IsLive (objects_inside h).rows o) (i : ℕ) (target : Key) (lives : IsLive (objects_inside h).rows target)
+    (e w : Entry) (there : object_at (entries h) o.birth ≡ Some e) (empty : empty_link_at e.object i ≡ true) (is : w ≡ with_object (pointed_at target i) e) where
+  pub pointed-inside : (hold : Option Hold) → hold ≡ hold_at (pointed_at target i e.object).slots i → (id : Option ℕ)
+      → id ≡ option_map (λ (l : Node). l.id) (node_at e i) → (t : Table Entry)
+      → rows_in t h.order.items ≡ all_more o (option_to_list hold) (rows_in (with_written h o w) h.order.items) → (u : Table Entry)
+      → rows_in u h.order.items ≡ joined_in o id (Some target) (rows_in t h.order.items) → HasWeakLists (rows_in u h.order.items)
+  pointed-inside hold held id number t rows u joined =
+      let order = h.order.items in
+      let all : rows_in u order
+      ≡ joined_in o (option_map (λ (l : Node). l.id) (node_at e i)) (Some target)
+      (all_more o (option_to_list (hold_at (pointed_at target i e.object).slots i)) (edit o.birth (λ _. with_object (pointed_at target i) e) (entries h))) =
+      joined ∙ ap₂ (λ (k : Option ℕ) (r : List (Key × Entry)). joined_in o k (Some target) r) number (rows
+      ∙ ap₂ (λ (k : Option Hold) (r : List (Key × Entry)). all_more o (option_to_list k) r) held
+      ((written h.table order good.1.0 o (live-entry (entries h) o live) w).rows
+      ∙ ap (λ (x : Entry). edit o.birth (λ _. x) (entries h)) is)) in
+      subst HasWeakLists (sym all)
+      (pointed-lists h.table.born (entries h) (rows-rise h.table order good.1.0) good.1.1.1.0 o (live-entry (entries h) o live) e there i target empty
+      (live-there (entries h) target (live-entry (entries h) target lives)))
+
+-- a link was cut
+pub cut-inside : (h : Inside) → IsInside h → (o : Key) → IsLive (objects_inside h).rows o → (i : ℕ) (e w : Entry) → object_at (entries h) o.birth ≡ Some e
+    → empty_link_at e.object i ≡ true → w ≡ with_links (cut_links i e) (with_object (cut_at i) e) → HasWeakLists (rows_in (with_written h o w) h.order.items)
+cut-inside h good o live i e w there empty is =
+    subst HasWeakLists
+    (sym ((written h.table h.order.items good.1.0 o (live-entry (entries h) o live) w).rows ∙ ap (λ (x : Entry). edit o.birth (λ _. x) (entries h)) is))
+    (cut-lists h.table.born (entries h) (rows-rise h.table h.order.items good.1.0) good.1.1.1.0 o (live-entry (entries h) o live) e there i empty)
+
+-- a slot was added
+pub added-inside : (h : Inside) → IsInside h → (o : Key) → IsLive (objects_inside h).rows o → (name : List ℕ) (slot : Slot) (id : Option ℕ) (e w : Entry)
+    → object_at (entries h) o.birth ≡ Some e → w ≡ with_links (added_links id e.links) (with_object (with_slot name slot) e)
+    → is_some id ≡ is_some (weak_name slot) → IfSome id (λ k. AllByRecursion (λ (z : Node). z.id < k) e.links.nodes)
+    → IfSome (weak_target slot) (IsLive (objects_inside h).rows) → (hold : Option Hold) → hold ≡ hold_of slot → (t : Table Entry)
+    → rows_in t h.order.items ≡ all_more o (option_to_list hold) (rows_in (with_written h o w) h.order.items) → (target : Option Key) → target ≡ weak_target slot
+    → (u : Table Entry) → rows_in u h.order.items ≡ joined_in o id target (rows_in t h.order.items) → HasWeakLists (rows_in u h.order.items)
+added-inside h good o live name slot id e w there is weak above lives hold held t rows target names_it u joined =
+    let order = h.order.items in
+    let y : Entry = with_links (added_links id e.links) (with_object (with_slot name slot) e) in
+    let all : rows_in u order ≡ joined_in o id (weak_target slot) (all_more o (option_to_list (hold_of slot)) (edit o.birth (λ _. y) (entries h))) =
+    joined ∙ ap₂ (λ (k : Option Key) (r : List (Key × Entry)). joined_in o id k r) names_it (rows
+    ∙ ap₂ (λ (k : Option Hold) (r : List (Key × Entry)). all_more o (option_to_list k) r) held
+    ((written h.table order good.1.0 o (live-entry (entries h) o live) w).rows
+    ∙ ap (λ (x : Entry). edit o.birth (λ _. x) (entries h)) is)) in
+    subst HasWeakLists (sym all)
+    (slot-added-lists h.table.born (entries h) (rows-rise h.table order good.1.0) good.1.1.1.0 o (live-entry (entries h) o live) e there name slot id weak above
+    (known (weak_target slot) lives))
+  where
+    known : (k : Option Key) → IfSome k (IsLive (objects_inside h).rows) → IfSome k (λ t. is_some (object_at (entries h) t.birth) ≡ true)
+    known None lives = tt
+    known (Some t) lives = live-there (entries h) t (live-entry (entries h) t lives)
