@@ -2,6 +2,8 @@ pub mod ActsLemmas
 pub mod ActsReads
 pub mod BookLemmas
 pub mod EndLemmas
+mod EndedLinks
+mod EndsInside
 pub mod SearchLemmas
 pub mod HeapLemmas
 mod HeldInside
@@ -14,6 +16,7 @@ mod ReferenceLemmas
 mod WeakCalls
 mod WeakChains
 mod WeakChanges
+mod WeakEnds
 mod WeakInside
 mod WeakMoves
 mod WeakNodes

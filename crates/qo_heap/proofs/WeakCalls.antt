@@ -8,7 +8,6 @@ use Rattle.qo_slots.specs.declared.keys.Key.{Key}
 use Rattle.qo_object.specs.declared.slots.Slot.{Slot}
 use Rattle.qo_object.specs.declared.slots.Slot.TheVariants.{Plain, Child, Link, Alias}
 use Rattle.qo_object.specs.Slots.{Named, changed_at, is_empty_link, named_in, slot_in, target_of, weak_target}
-use Rattle.qo_object.specs.Slots.{pointed as pointed_slot}
 use Rattle.qo_object.specs.Content.{Content, cut_at, dropped_at, empty_link_at, fresh, named_at, pointed_at, with_slot}
 use Rattle.qo_heap.specs.Keeping.{IsCounted, IsKept, IsShort, all_less, all_more, hold_at, hold_of, holds_in, less_held, more_held, owners, plain, unheld, with_object}
 use Rattle.qo_heap.specs.Rows.{IsLive, Rises, births, edit, edited, object_at}
@@ -24,7 +23,7 @@ use Rattle.qo_heap.proofs.KeepingLemmas.{all-edit, plain-same}
 use Rattle.qo_heap.proofs.WeakChains.{Neighbours, listed-as}
 use Rattle.qo_heap.proofs.WeakChanges.{added-lists, joined-lists, left-lists, left-live, numbered-there, removed-lists, known-now, rises-now, same-lists, there-now}
 use Rattle.qo_heap.proofs.WeakRows.{read-same, sum-same}
-use Rattle.qo_heap.proofs.WeakSlots.{added-names, dropped-names, get-last, named-place, paired, pointed-names, put-last, put-same, put_at, removed-names, removed_at, weak-holds-none}
+use Rattle.qo_heap.proofs.WeakSlots.{added-names, dropped-names, get-last, named-place, paired, pointed-names, put-last, put-same, put_at, removed-names, removed_at, weak-holds-none, weak-stays}
 use Rattle.qo_heap.proofs.WeakTables.{plain-joined, plain-led, plain-loosed, plain-turned}
 
 -- an edit that leaves all of weak links leaves their lists
@@ -217,23 +216,6 @@ module _ (last : ℕ) (rows : List (Key × Entry)) (rises : Rises 0 (births rows
     abbrev pub pointed : Entry
     pointed = with_object (pointed_at t i) x
 
-    weak-stays : (k : ℕ) → weak_place x.object.slots i ≡ Some k → hold_at (pointed_at t i x.object).slots i ≡ None
-    weak-stays k at = still i x.object.slots k at
-      where
-        still : (j : ℕ) (ss : List Named) (k : ℕ) → weak_place ss j ≡ Some k → hold_at (changed_at (pointed_slot t) j ss) j ≡ None
-        still j [] k at = cc
-        still zero ((name, Plain val) ∷ ss) k at = cc
-        still zero ((name, Child key) ∷ ss) k at = cc
-        still zero ((name, Link ty true target) ∷ ss) k at = cc
-        still zero ((name, Link ty false target) ∷ ss) k at = refl
-        still zero ((name, Alias key of) ∷ ss) k at = cc
-        still (suc j) (s ∷ ss) k at = go (weak_place ss j) refl at (still j ss)
-          where
-            go : (p : Option ℕ) → weak_place ss j ≡ p → option_map (λ (m : ℕ). cond {A = ℕ} (is_some (weak_name s.1)) (suc m) m) p ≡ Some k
-                → ((m : ℕ) → weak_place ss j ≡ Some m → hold_at (changed_at (pointed_slot t) j ss) j ≡ None) → hold_at (changed_at (pointed_slot t) j ss) j ≡ None
-            go None is next rest = cc
-            go (Some m) is next rest = rest m is
-
     pub pointed-lists : HasWeakLists (joined_in o (option_map (λ (l : Node). l.id) (node_at x i)) (Some t)
         (all_more o (option_to_list (hold_at (pointed_at t i x.object).slots i)) (edit o.birth (λ _. pointed) rows)))
     pointed-lists = go (weak_place x.object.slots i) refl (node_at x i) refl
@@ -250,7 +232,7 @@ module _ (last : ℕ) (rows : List (Key × Entry)) (rises : Rises 0 (births rows
             let (l, found) = paired x.links.nodes (names x) k (named_in x.object.slots i) size (named-place i x.object.slots k at) in
             absurd (cc (found, node))
         go (Some k) at (Some l) node =
-            rw (weak-stays k at)
+            rw (weak-stays t i x.object.slots k at)
             (joined-lists last rows rises good o live x pointed there refl k l t node (named-place i x.object.slots k at ∙ ap Some (nothing-named x.object i empty))
             (pointed-names t i x.object.slots ∙ ap (λ (p : Option ℕ). put_at p (Some t) (names x)) at) known)
 

@@ -1,5 +1,5 @@
 -- What a call that changes weak links finds of the entries of a heap, and leaves.
-use Rattle.std.proofs.Common.{◌≡◌, refl, ap, ap₂, sym, subst, ◌∙◌, ℕ, ◌+◌, ◌^◌, ◌<◌, ◌≤◌, Bool, true, false, eqb, List, [], ◌∷◌, ◌++◌, length, sum_by, option_to_list, Option, Some, None, is_some, option_map, IfSome, IsSomeAnd, arith}
+use Rattle.std.proofs.Common.{◌≡◌, refl, ap, ap₂, sym, subst, ◌∙◌, ℕ, ◌+◌, ◌*◌, ◌^◌, ◌<◌, ◌≤◌, Bool, true, false, eqb, List, [], ◌∷◌, ◌++◌, length, slice_get, sum_by, option_to_list, Option, Some, None, is_some, option_map, IfSome, IsSomeAnd, arith}
 use Rattle.std.specs.List.{AllByRecursion}
 use Rattle.std.specs.Option.{option_and_then}
 use Rattle.std.proofs.lemmas.Bool.{eqb-true}
@@ -10,13 +10,14 @@ use Rattle.qo_values.specs.declared.kinds.TypeId.{TypeId}
 use Rattle.qo_slots.specs.declared.keys.Key.{Key}
 use Rattle.qo_slots.specs.Table.{Table, with_value}
 use Rattle.qo_object.specs.declared.slots.Slot.{Slot}
-use Rattle.qo_object.specs.Slots.{weak_target}
+use Rattle.qo_object.specs.declared.slots.Slot.TheVariants.{Plain, Child, Link, Alias}
+use Rattle.qo_object.specs.Slots.{target_of, weak_target}
 use Rattle.qo_object.specs.Content.{Content, cut_at, dropped_at, empty_link_at, fresh, named_at, pointed_at, with_slot}
 use Rattle.qo_heap.specs.Keeping.{IsCounted, IsKept, all_less, all_more, hold_at, hold_of, holders, owners, parent_in, plain, unheld, with_object}
 use Rattle.qo_heap.specs.Order.{IsOrdered, rows_in}
 use Rattle.qo_heap.specs.Rows.{IsLive, edit, edited, object_at, row_at}
 use Rattle.qo_heap.specs.Objects.{Objects, content_of}
-use Rattle.qo_heap.specs.WeakLinks.{node_of, weak_name}
+use Rattle.qo_heap.specs.WeakLinks.{Links, node_of, weak_name, weak_place}
 use Rattle.qo_heap.specs.WeakLists.{CanJoin, CanLeave, HasWeakLists, IsNumbered, added_links, bag_in, cell_in, cut_links, head_in, joined_in, loose_at, loose_of, loosed_in, names, node_at, row_weight, with_links}
 use Rattle.qo_heap.specs.declared.entries.Entry.{Entry}
 use Rattle.qo_heap.specs.declared.entries.Hold.{Hold}
@@ -33,7 +34,8 @@ use Rattle.qo_heap.proofs.RowsLemmas.{edit-as, rows-rise}
 use Rattle.qo_heap.proofs.ValueLemmas.{Written, written}
 use Rattle.qo_heap.proofs.WeakCalls.{cut-lists, dropped-lists, head-more, kept-joined, kept-loosed, loose-live, pointed-lists, slot-added-lists}
 use Rattle.qo_heap.proofs.WeakChains.{Neighbours, listed-as}
-use Rattle.qo_heap.proofs.WeakChanges.{head-live, heads}
+use Rattle.qo_heap.proofs.WeakChanges.{head-live, heads, numbered-there}
+use Rattle.qo_heap.proofs.WeakSlots.{weak-stays}
 use Rattle.qo_heap.proofs.WeakTables.{plain-joined, plain-loosed}
 
 -- what is made of lists leaves what is kept of holders
@@ -273,3 +275,46 @@ added-inside h good o live name slot id e w there is weak above lives hold held 
     known : (k : Option Key) → IfSome k (IsLive (objects_inside h).rows) → IfSome k (λ t. is_some (object_at (entries h) t.birth) ≡ true)
     known None lives = tt
     known (Some t) lives = live-there (entries h) t (live-entry (entries h) t lives)
+
+-- what is kept of its own weak links is as many as they are
+pub own-numbered : (h : Inside) → IsInside h → (o : Key) → IsLive (objects_inside h).rows o → (e : Entry) → object_at (entries h) o.birth ≡ Some e
+    → IsNumbered (o, e)
+own-numbered h good o live e there =
+    numbered-there h.table.born (entries h) (rows-rise h.table h.order.items good.1.0) good.1.1.1.0 o (live-entry (entries h) o live) e e there
+
+-- a link that holds is no weak one
+pub pointed-few : (e : Entry) (i : ℕ) (target : Key) (hold : Option Hold) → hold ≡ hold_at (pointed_at target i e.object).slots i → (id : Option ℕ)
+    → id ≡ option_map (λ (l : Node). l.id) (node_at e i) → length (option_to_list hold) + 3 * length (option_to_list id) ≤ 3
+pointed-few e i target None held None number = omega arith
+pointed-few e i target None held (Some k) number = omega arith
+pointed-few e i target (Some x) held None number = omega arith
+pointed-few e i target (Some x) held (Some k) number = go (weak_place e.object.slots i) refl number
+  where
+    go : (p : Option ℕ) → weak_place e.object.slots i ≡ p
+        → Some k ≡ option_map (λ (l : Node). l.id) (option_and_then (λ (j : ℕ). slice_get e.links.nodes j) p)
+        → length (option_to_list (Some x)) + 3 * length (option_to_list (Some k)) ≤ 3
+    go None at is = absurd (cc is)
+    go (Some j) at is = absurd (cc (held, weak-stays target i e.object.slots j at))
+
+pub added-few : (slot : Slot) (hold : Option Hold) → hold ≡ hold_of slot → (id : Option ℕ) → is_some id ≡ is_some (weak_name slot)
+    → length (option_to_list hold) + 3 * length (option_to_list id) ≤ 3
+added-few slot None held None weak = omega arith
+added-few slot None held (Some k) weak = omega arith
+added-few slot (Some x) held None weak = omega arith
+added-few (Plain val) (Some x) held (Some k) weak = cc
+added-few (Child key) (Some x) held (Some k) weak = cc
+added-few (Link ty true target) (Some x) held (Some k) weak = cc
+added-few (Link ty false target) (Some x) held (Some k) weak = cc
+added-few (Alias key of) (Some x) held (Some k) weak = cc
+
+-- the first that names the owner stays where a slot is added, and what a weak link names is there
+pub first-added : (id : Option ℕ) (links : Links) → (added_links id links).first ≡ links.first
+first-added None links = refl
+first-added (Some k) links = refl
+
+pub weak-live : (P : Key → Type 0) (slot : Slot) → IfSome (target_of slot) P → IfSome (weak_target slot) P
+weak-live P (Plain val) live = tt
+weak-live P (Child key) live = tt
+weak-live P (Link ty true target) live = tt
+weak-live P (Link ty false target) live = live
+weak-live P (Alias key of) live = tt

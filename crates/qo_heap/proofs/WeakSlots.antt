@@ -203,6 +203,21 @@ weak-holds-none (suc i) (s ∷ slots) k at = go (weak_place slots i) refl at (we
     go None is next rest = cc
     go (Some j) is next rest = rest j is
 
+-- nor does it once it is pointed
+pub weak-stays : (key : Key) (i : ℕ) (slots : List Named) (k : ℕ) → weak_place slots i ≡ Some k → hold_at (changed_at (pointed key) i slots) i ≡ None
+weak-stays key i [] k at = cc
+weak-stays key zero ((name, Plain val) ∷ slots) k at = cc
+weak-stays key zero ((name, Child c) ∷ slots) k at = cc
+weak-stays key zero ((name, Link ty true target) ∷ slots) k at = cc
+weak-stays key zero ((name, Link ty false target) ∷ slots) k at = refl
+weak-stays key zero ((name, Alias c of) ∷ slots) k at = cc
+weak-stays key (suc i) (s ∷ slots) k at = go (weak_place slots i) refl at (weak-stays key i slots)
+  where
+    go : (o : Option ℕ) → weak_place slots i ≡ o → option_map (λ (j : ℕ). cond {A = ℕ} (is_some (weak_name s.1)) (suc j) j) o ≡ Some k
+        → ((j : ℕ) → weak_place slots i ≡ Some j → hold_at (changed_at (pointed key) i slots) i ≡ None) → hold_at (changed_at (pointed key) i slots) i ≡ None
+    go None is next rest = cc
+    go (Some j) is next rest = rest j is
+
 -- what stands at a place of one list stands at that of another that is as long
 pub paired : {X Y : Type 0} (xs : List X) (ys : List Y) (k : ℕ) (y : Y) → length xs ≡ length ys → slice_get ys k ≡ Some y → (x : X) × (slice_get xs k ≡ Some x)
 paired [] [] k y size at = cc

@@ -11,5 +11,6 @@ pub mod Objects
 pub mod Order
 pub mod Places
 pub mod Rows
+pub mod WeakEnds
 pub mod WeakLinks
 pub mod WeakLists

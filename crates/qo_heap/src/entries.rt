@@ -147,7 +147,7 @@ impl Entry {
     }
 
     /// Where its weak link at a place stands, if there is one.
-    fn node_at(&self, at: usize) -> Option<Node>
+    pub fn node_at(&self, at: usize) -> Option<Node>
         ensures { result ≡ node_at self.now at }
     {
         let place = weak_place(&self.object, at)?;

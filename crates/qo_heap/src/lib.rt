@@ -19,6 +19,7 @@ mod table;
 #[cfg(test)]
 mod tests;
 mod tree;
+mod weak_ends;
 mod weak_links;
 mod weak_lists;
 mod weak_slots;

@@ -139,6 +139,7 @@ pub fn join<L: Ledger>(
     ensures rows { rows_in table.new order.now.items ≡ joined_in owner id target (rows_in table.old order.now.items) }
     ensures born { table.new.born ≡ table.old.born }
     ensures cost { steps.new ≤ steps.old + 3 * length (option_to_list id) }
+    ensures cost_none { target ≡ None → steps.new ≡ steps.old }
 {
     if let (Some(id), Some(target)) = (id, target) {
         let link = End { owner, id };

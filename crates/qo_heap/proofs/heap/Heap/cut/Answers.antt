@@ -8,7 +8,7 @@ use Rattle.qo_heap.proofs.InsideObjects.{EditedInside, changed-inside, objects_i
 use Rattle.qo_heap.proofs.WeakInside.{cut-inside, put-ordered, put-won}
 use Rattle.qo_heap.proofs.heap.Heap.cut.Goals as goal
 
-edited : (g : _) (c : goal.After-cut_at g) → EditedInside c.self.inside c.args.o (cut_at c.args.at) (with_written c.self.inside c.args.o c.cut_at.new.self)
+edited : (g : _) (c : goal.After-self-1 g) → EditedInside c.self.inside c.args.o (cut_at c.args.at) (with_written c.self.inside c.args.o c.cut_at.new.self)
 edited g c =
     let h = c.self.inside in
     let o = c.args.o in

@@ -1,4 +1,4 @@
-use Rattle.std.proofs.Common.{◌≡◌, refl, true, ap, ◌∙◌, option_to_list, Option, Some, IfSome, sym, subst, le_of_eq}
+use Rattle.std.proofs.Common.{◌≡◌, refl, true, ap, ◌∙◌, option_to_list, Option, Some, IfSome, sym, subst, le_of_eq, arith}
 use Rattle.qo_object.specs.Content.{Content, empty_link_at, pointed_at}
 use Rattle.qo_object.specs.Slots.{pointed}
 use Rattle.qo_heap.specs.Keeping.{hold_at, plain}
@@ -11,7 +11,7 @@ use Rattle.qo_heap.proofs.HeapLemmas.{pointed-there}
 use Rattle.qo_heap.proofs.HeldInside.{live-written, point-free, room-written}
 use Rattle.qo_heap.proofs.HoldLemmas.{changed-length, pointed-hold, pointed-moves}
 use Rattle.qo_heap.proofs.InsideObjects.{EditedInside, changed-inside, changes-won, few-there, objects_inside, ordered-written, read-there, with_written}
-use Rattle.qo_heap.proofs.WeakInside.{can-join, changes-joined, pointed-inside}
+use Rattle.qo_heap.proofs.WeakInside.{can-join, changes-joined, pointed-few, pointed-inside}
 use Rattle.qo_heap.proofs.heap.Heap.point.Goals as goal
 
 pub add_hold-requires-clause-ordered : goal.add_hold-requires-clause-ordered
@@ -88,3 +88,15 @@ invariant_of-self g c = (edited g c).good
 
 pub returns-clause-now : goal.returns-clause-now
 returns-clause-now g c = rw (← c.self.view_is) (edited g c).now
+
+pub returns-clause-cost : goal.returns-clause-cost
+returns-clause-cost g c =
+    omega (
+      arith,
+      c.entry_mut.ensures.cost,
+      c.add_hold.ensures.cost,
+      c.join.ensures.cost,
+      pointed-few c.entry_mut.result.now c.args.at c.args.target c.point_at-pointed.result.hold
+          (c.point_at-pointed.ensures.hold ∙ ap (λ (x : Entry). hold_at x.object.slots c.args.at) c.point_at-pointed.ensures.now)
+          c.point_at-pointed.result.id c.point_at-pointed.ensures.id,
+    )
