@@ -4,7 +4,7 @@ use Rattle.std.specs.List.{AllByRecursion}
 use Rattle.std.specs.Option.{option_and_then}
 use Rattle.std.proofs.lemmas.Bool.{eqb-true}
 use Rattle.qo_slots.specs.declared.keys.Key.{Key}
-use Rattle.qo_slots.specs.Table.{Table}
+use Rattle.qo_slots.specs.Table.{Table, find}
 use Rattle.qo_object.specs.Slots.{is_born, named_in}
 use Rattle.qo_object.specs.Content.{Content, dropped_at}
 use Rattle.qo_heap.specs.Keeping.{hold_at, plain}
@@ -23,10 +23,15 @@ use Rattle.qo_heap.proofs.HeapLemmas.{dropped-there}
 use Rattle.qo_heap.proofs.HoldLemmas.{Moves, dropped-length, dropped-moves}
 use Rattle.qo_heap.proofs.InsideObjects.{EditedInside, IsInside, changed-inside, changes-kept, entries, few-there, objects_inside, ordered-written, with_written}
 use Rattle.qo_heap.proofs.KeepingLemmas.{live-entry, live-plain, plain-there}
-use Rattle.qo_heap.proofs.RowsLemmas.{rows-rise}
+use Rattle.qo_heap.proofs.RowsLemmas.{object-found, rows-rise}
 use Rattle.qo_heap.proofs.WeakEnds.{Ends, Node_at, ends-named, no-ends, node-there, weak-ends, weak-named}
 use Rattle.qo_heap.proofs.WeakInside.{can-leave, changes-loosed, left-inside, own-numbered}
 use Rattle.qo_heap.proofs.WeakSlots.{named-place, weak-holds-none}
+
+-- an object that was looked at
+pub look-there : (h : Inside) → IsInside h → (o : Key) → IsLive (objects_inside h).rows o → (e : Entry) → find h.table o.index ≡ Some (o.birth, e)
+    → object_at (entries h) o.birth ≡ Some e
+look-there h good o live e found = object-found h.table h.order.items good.1.0.stored o (live-entry (entries h) o live) e found
 
 -- no weak link is left
 pub none-inside : (h : Inside) → IsInside h → (o : Key) (e : Entry) → object_at (entries h) o.birth ≡ Some e → e.links.first ≡ None

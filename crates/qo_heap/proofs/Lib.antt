@@ -4,6 +4,8 @@ pub mod BookLemmas
 pub mod EndLemmas
 mod EndedLinks
 mod EndsInside
+mod FurnishInside
+mod FurnishLemmas
 pub mod SearchLemmas
 pub mod HeapLemmas
 mod HeldInside

@@ -81,7 +81,7 @@ less-lists (h ∷ hs) rows good =
     less-lists hs (edit h.key.birth (less_held h.child) rows) (edit-lists h.key.birth (less_held h.child) (λ x. refl) (λ x. refl) rows good)
 
 -- an edit that leaves the objects and what is kept of holders
-kept-edit : (n : ℕ) (g : Entry → Entry) → ((x : Entry) → (g x).object ≡ x.object) → ((x : Entry) → (g x).held ≡ x.held) → ((x : Entry) → (g x).parent ≡ x.parent)
+pub kept-edit : (n : ℕ) (g : Entry → Entry) → ((x : Entry) → (g x).object ≡ x.object) → ((x : Entry) → (g x).held ≡ x.held) → ((x : Entry) → (g x).parent ≡ x.parent)
     → (rows : List (Key × Entry)) → IsKept rows → IsKept (edit n g rows)
 kept-edit n g object held parent rows kept =
     let same : plain (edit n g rows) ≡ plain rows = plain-same n g object rows in

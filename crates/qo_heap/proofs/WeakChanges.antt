@@ -16,7 +16,7 @@ use Rattle.qo_heap.specs.declared.weak_links.End.{End}
 use Rattle.qo_heap.specs.declared.weak_links.Node.{Node}
 use Rattle.qo_heap.proofs.HeapLemmas.{births-edit}
 use Rattle.qo_heap.proofs.KeepingLemmas.{all-edit, all-object}
-use Rattle.qo_heap.proofs.WeakChains.{Apart, IsApart, Neighbours, all-of, apart-none, head-has, listed-as, neighbours, same-self}
+use Rattle.qo_heap.proofs.WeakChains.{Apart, IsApart, Neighbours, all-of, apart-none, chain-same, head-has, listed-as, neighbours, same-self}
 use Rattle.qo_heap.proofs.WeakMoves.{into-bag, into-listed, linked-numbered, out-bag, out-listed, unlinked-numbered}
 use Rattle.qo_heap.proofs.WeakNodes.{added-weighs, node-added, node-at, node-removed, none-weighs, put-weighs, removed-weighs, rise-added, rise-removed, weighs}
 use Rattle.qo_heap.proofs.WeakRows.{apart-in, bag-one, free-named, object-here, object-other, spans, spans-new, spans-once, sum-named}
@@ -361,3 +361,38 @@ module _ (last : ℕ) (rows : List (Key × Entry)) (rises : Rises 0 (births rows
       one-less i (z ∷ zs) [] size = absurd (omega (arith, size))
       one-less zero (z ∷ zs) (t ∷ ts) size = omega (arith, size)
       one-less (suc i) (z ∷ zs) (t ∷ ts) size = ap suc (one-less i zs ts (omega (arith, size)))
+
+  -- weak links that name nothing, where there were none
+  pub fresh-lists : x.links.nodes ≡ [] → y.links.first ≡ x.links.first → AllByRecursion (λ (t : Option Key). t ≡ None) (names y) → IsNumbered (o, y)
+      → HasWeakLists now
+  fresh-lists bare firsts none numbered =
+      record {
+        lists = λ n.
+            let list = good.lists n in (
+              list.0,
+              (
+                subst (λ (h : Option End). IsChain (cell_in now) None h list.0) (sym (heads firsts n))
+                    (chain-same (cell_in rows) (cell_in now) None (head_in rows n) list.0 (apart-cells None (head_in rows n) list.0 list.1.0) list.1.0),
+                λ w. list.1.1 w ∙ omega (arith, weights n w, none-weighs n w o y.links.nodes (names y) none, nothing n w),
+              ),
+            );
+        numbered = numbered-now numbered;
+      }
+    where
+      nothing : (n : ℕ) (w : End → ℕ) → named_weight n w o x.links.nodes (names x) ≡ 0
+      nothing n w = ap (λ (ns : List Node). named_weight n w o ns (names x)) bare
+
+      no-cell : (e : End) → eqb o.birth e.owner.birth ≡ true → cell_in rows e ≡ None
+      no-cell e is =
+          let here : o.birth ≡ e.owner.birth = eqb-true o.birth e.owner.birth is in
+          ap (λ (k : ℕ). option_and_then (λ (z : Entry). node_of z.links.nodes e.id) (object_at rows k)) (sym here)
+          ∙ ap (option_and_then (λ (z : Entry). node_of z.links.nodes e.id)) there ∙ ap (λ (ns : List Node). node_of ns e.id) bare
+
+      apart-cells : (prev cur : Option End) (es : List End) → IsChain (cell_in rows) prev cur es
+          → AllByRecursion (λ (e : End). cell_in now e ≡ cell_in rows e) es
+      apart-cells prev cur [] chain = tt
+      apart-cells prev cur (e ∷ es) chain =
+          let l : Node = chain.1.0 in (
+            cells e (λ is. absurd (cc (no-cell e is, chain.1.1.0))),
+            apart-cells (Some e) l.next es chain.1.1.1.1,
+          )

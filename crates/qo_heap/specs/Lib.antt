@@ -2,6 +2,7 @@ pub mod Acts
 pub mod Board
 pub mod Book
 pub mod Errors
+pub mod Furnishing
 pub mod Keeping
 pub mod Laws
 pub mod Loans

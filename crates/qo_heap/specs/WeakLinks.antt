@@ -17,6 +17,10 @@ pub record Links : Type 0 where
 abbrev pub no_links : Links
 no_links = record { first = None; nodes = [] }
 
+-- with other nodes
+abbrev pub with_nodes : List Node → Links → Links
+with_nodes nodes links = record links { nodes = nodes }
+
 -- the node of a number, and the nodes with that one changed
 abbrev pub node_of : List Node → ℕ → Option Node
 node_of nodes id = find (λ (x : Node). x.id == id) nodes

@@ -2,16 +2,17 @@
 //! calls `add_object` alone takes memory.
 
 ghost use Rattle.std.specs.Prelude.{◌≡◌, ◌+◌, ◌<◌, ◌≤◌, ◌^◌, if◌then◌else◌, true, false, [], ◌∷◌, ◌++◌, length, Some, Err, IfOk, IfErr, IfSome, OnOk, OnErr, is_some, option_map, option_to_list};
-ghost use Rattle.std.specs.List.{AllByRecursion};
+ghost use Rattle.std.specs.List.{AllByRecursion, IsDistinct};
+ghost use Rattle.std.specs.Str.{bytes_eq};
 ghost use Rattle.std.specs.Borrow.{sem};
-ghost use Rattle.qo_object.specs.Content.{cut_at, dropped_at, empty_link_at, named_at, pointed_at, with_slot};
-ghost use Rattle.qo_object.specs.Slots.{has_name, target_of};
+ghost use Rattle.qo_object.specs.Content.{cut_at, dropped_at, empty_link_at, named_at, pointed_at, with_all_slots, with_slot};
+ghost use Rattle.qo_object.specs.Slots.{has_name, names_of, target_of};
 ghost use Rattle.qo_heap.specs.Keeping.{all_less, all_more, hold_at, hold_of, holds_in, less_held, more_held, plain, unheld, with_object};
 ghost use Rattle.qo_heap.specs.Loans.{lends_entry};
 ghost use Rattle.qo_heap.specs.Order.{rows_in, IsOrdered};
 ghost use Rattle.qo_heap.specs.Rows.{IsLive, object_at, without};
 ghost use Rattle.qo_heap.specs.WeakLists.{added_links, cut_links, loose_at, loose_of, node_at, with_links};
-ghost use Rattle.qo_heap.specs.WeakLinks.{NumbersRise, weak_name};
+ghost use Rattle.qo_heap.specs.WeakLinks.{NumbersRise, weak_name, with_nodes};
 ghost use Rattle.qo_object.specs.declared.errors.AddError.TheVariants.{Duplicate, Memory};
 
 use crate::table::{add, change, take};
@@ -228,6 +229,16 @@ impl Entry {
                 Err(error)
             }
         }
+    }
+
+    /// Gives it these slots, whose names differ, and nodes for the weak links among them.
+    pub fn furnish(&mut self, slots: Vec<(SlotName, Slot)>, links: WeakLinks)
+        requires differ { IsDistinct bytes_eq (names_of slots.items) }
+        requires few { length slots.items ≤ 2 ^ 32 }
+        ensures { self.new ≡ with_links (with_nodes links.nodes self.old.links) (with_object (with_all_slots slots.items) self.old) }
+    {
+        self.object.set_slots(slots);
+        self.links.set_nodes(links);
     }
 
     /// Why a slot of a name is not added, where there is no memory.

@@ -3,6 +3,8 @@
 use crate::entries::{add_hold, add_holds, entry_mut, hold_of};
 use crate::errors::SlotError;
 use crate::heap::Heap;
+use crate::new_slots::NewSlots;
+use crate::weak_links::WeakLinks;
 use crate::weak_lists::join;
 use crate::weak_slots::weak_target;
 use qo_object::{Oid, Slot, SlotName};
@@ -19,6 +21,7 @@ impl Heap {
     ghost use Rattle.qo_object.specs.declared.slots.Slot.TheVariants.{Plain, Child, Link, Alias};
     ghost use Rattle.qo_heap.specs.Rows.{IsLive};
     ghost use Rattle.qo_heap.specs.Objects.{parent_of, slots_of, with_edit};
+    ghost use Rattle.qo_heap.specs.WeakLinks.{NumbersRise, weak_names};
     ghost use Rattle.qo_heap.specs.declared.errors.SlotError.TheVariants.{Duplicate, HasParent, Memory};
 
     /// Adds a slot to an object, after the others. What it names must be there, and a child have no parent.
@@ -145,12 +148,12 @@ impl Heap {
         self.add(o, name, Slot::Alias(target, of), steps)
     }
 
-    /// Gives an object these slots, whose names differ; it must have none, and none of these be a
-    /// child slot. What they name must be there. It takes no memory.
-    pub fn set_slots<L: Ledger>(
+    /// Gives an object these slots, of which no weak link has a target, and nodes for the weak links.
+    fn furnish<L: Ledger>(
         &mut self,
         o: Oid,
         slots: Vec<(SlotName, Slot)>,
+        links: WeakLinks,
         steps: &mut Steps<L>,
     )
         requires live { IsLive self.old.rows o }
@@ -159,11 +162,36 @@ impl Heap {
         requires few { length slots.items ≤ 2 ^ 32 }
         requires bare { slots_of self.old o.birth ≡ [] }
         requires childless { AllByRecursion (λ s. child_of s.1 ≡ None) slots.items }
+        requires empty { AllByRecursion (λ s. weak_target s.1 ≡ None) slots.items }
+        requires numbered { length links.nodes ≡ length (weak_names slots.items) }
+        requires rising { NumbersRise links.nodes }
         ensures { self.new ≡ with_edit o.birth (with_all_slots slots.items) self.old }
     {
         add_holds(&mut self.table, &self.order, slots.as_slice(), o, steps);
-        entry_mut(&mut self.table, &self.order, o, steps)
-            .object
-            .set_slots(slots);
+        entry_mut(&mut self.table, &self.order, o, steps).furnish(slots, links);
+    }
+
+    /// Gives an object these slots, whose names differ; it must have none, and none of these be a
+    /// child slot. What they name must be there. It takes no memory.
+    pub fn set_slots<L: Ledger>(&mut self, o: Oid, slots: NewSlots, steps: &mut Steps<L>)
+        requires live { IsLive self.old.rows o }
+        requires targets { AllByRecursion (IsLive self.old.rows) (filter_map (λ s. target_of s.1) slots) }
+        requires differ { IsDistinct bytes_eq (names_of slots) }
+        requires few { length slots ≤ 2 ^ 32 }
+        requires bare { slots_of self.old o.birth ≡ [] }
+        requires childless { AllByRecursion (λ s. child_of s.1 ≡ None) slots }
+        ensures { self.new ≡ with_edit o.birth (with_all_slots slots) self.old }
+    {
+        let NewSlots {
+            slots,
+            targets,
+            links,
+        } = slots;
+        self.furnish(o, slots, links, steps);
+        for at in 0..targets.len() {
+            if let Some(target) = targets[at] {
+                self.point(o, at, target, steps);
+            }
+        }
     }
 }

@@ -160,6 +160,14 @@ impl WeakLinks {
         Some(id)
     }
 
+    /// Has the nodes of another in the place of its own.
+    pub fn set_nodes(&mut self, from: WeakLinks)
+        ensures { self.new ≡ record self.old { nodes = from.nodes } }
+    {
+        let WeakLinks { first: _, nodes } = from;
+        self.nodes = nodes;
+    }
+
     /// Takes the last node away again.
     pub fn remove_last(&mut self)
         ensures { self.new ≡ record self.old { nodes = without_last self.old.nodes } }

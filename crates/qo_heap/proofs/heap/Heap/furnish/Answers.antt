@@ -1,16 +1,17 @@
 use Rattle.std.proofs.Common.{refl, ap, ◌≤◌, ◌<◌, ◌+◌, ◌∙◌, length, List, arith}
 use Rattle.qo_values.proofs.ListLemmas.{all-imply}
 use Rattle.qo_slots.specs.declared.keys.Key.{Key}
+use Rattle.qo_slots.specs.Table.{with_value}
 use Rattle.qo_object.specs.Content.{with_all_slots}
 use Rattle.qo_object.specs.Slots.{Named}
 use Rattle.qo_heap.specs.Keeping.{all_more, holds_in}
 use Rattle.qo_heap.specs.Rows.{IsLive}
 use Rattle.qo_heap.specs.declared.entries.Entry.{Entry}
+use Rattle.qo_heap.proofs.FurnishInside.{furnished, furnished-lists}
 use Rattle.qo_heap.proofs.HeapLemmas.{each-names}
-use Rattle.qo_heap.proofs.HeldInside.{furnished-changes, live-held}
-use Rattle.qo_heap.proofs.InsideObjects.{EditedInside, changed-inside, content-written, entries, entries-few, objects_inside, with_content}
-use Rattle.qo_slots.specs.Table.{with_value}
-use Rattle.qo_heap.proofs.heap.Heap.set_slots.Goals as goal
+use Rattle.qo_heap.proofs.HeldInside.{live-held}
+use Rattle.qo_heap.proofs.InsideObjects.{EditedInside, changed-inside, entries, entries-few, objects_inside}
+use Rattle.qo_heap.proofs.heap.Heap.furnish.Goals as goal
 
 pub add_holds-requires-clause-live : goal.add_holds-requires-clause-live
 add_holds-requires-clause-live g c =
@@ -30,19 +31,19 @@ entry_mut-requires-clause-live g c =
     c.add_holds.ensures.born
 
 edited : (g : _) (c : goal.After-self-1 g)
-    → EditedInside c.self.inside c.args.o (with_all_slots c.args.slots.items)
-    (with_value c.add_holds.new.table c.args.o (with_content c.entry_mut.result.now c.set_slots.new.self))
+    → EditedInside c.self.inside c.args.o (with_all_slots c.args.slots.items) (with_value c.add_holds.new.table c.args.o c.furnish.new.self)
 edited g c =
     let h = c.self.inside in
-    let f = with_all_slots c.args.slots.items in
-    let e = c.entry_mut.result.now in
-    let w = with_content e c.set_slots.new.self in
     let live = rw (← c.self.view_is) at c.requires.live in
-    changed-inside h c.self.invariant c.args.o live f (with_value c.add_holds.new.table c.args.o w)
-    (furnished-changes h c.self.invariant c.args.o live c.args.slots.items (rw (← c.self.view_is) at c.requires.bare) c.requires.childless c.requires.few
-    c.add_holds.new.table c.add_holds.ensures.ordered
-    (c.add_holds.ensures.rows ∙ ap (λ (l : List Named). all_more c.args.o (holds_in l) (entries h)) c.as_slice.ensures.value) c.add_holds.ensures.born
-    e c.entry_mut.ensures.kept w (content-written f e c.set_slots.new.self c.set_slots.ensures))
+    let bare = rw (← c.self.view_is) at c.requires.bare in
+    let held = c.add_holds.ensures.rows ∙ ap (λ (l : List Named). all_more c.args.o (holds_in l) (entries h)) c.as_slice.ensures.value in
+    changed-inside h c.self.invariant c.args.o live (with_all_slots c.args.slots.items) (with_value c.add_holds.new.table c.args.o c.furnish.new.self)
+    (furnished h c.self.invariant c.args.o live c.args.slots.items bare c.requires.childless c.requires.few
+    c.add_holds.new.table c.add_holds.ensures.ordered held c.add_holds.ensures.born c.entry_mut.result.now c.entry_mut.ensures.kept
+    c.args.links.nodes c.furnish.new.self c.furnish.ensures)
+    (furnished-lists h c.self.invariant c.args.o live c.args.slots.items bare c.requires.childless c.requires.few
+    c.add_holds.new.table c.add_holds.ensures.ordered held c.add_holds.ensures.born c.entry_mut.result.now c.entry_mut.ensures.kept
+    c.args.links.nodes c.furnish.new.self c.furnish.ensures c.requires.empty c.requires.numbered c.requires.rising)
     (λ x all. rw (← c.self.view_is) at c.requires.targets) (λ x. refl)
 
 pub invariant_of-self : goal.invariant_of-self

@@ -1,0 +1,178 @@
+-- Slots for an object that has none yet: what they are without the targets of their weak links, and with each target that is given back.
+use Rattle.std.proofs.Common.{◌≡◌, refl, ap, ap₂, sym, subst, ◌∙◌, ℕ, zero, suc, ◌+◌, ◌<◌, ◌≤◌, Bool, true, false, List, [], ◌∷◌, ◌++◌, length, filter_map, map, slice_get, take, Option, Some, None, is_some, IfSome, arith}
+use Rattle.std.specs.Prelude.{⊤, ⊥}
+use Rattle.std.specs.List.{AllByRecursion}
+use Rattle.std.specs.Option.{option_map_or}
+use Rattle.qo_slots.specs.declared.keys.Key.{Key}
+use Rattle.qo_object.specs.declared.slots.Slot.{Slot}
+use Rattle.qo_object.specs.declared.slots.Slot.TheVariants.{Plain, Child, Link, Alias}
+use Rattle.qo_object.specs.Slots.{Named, changed_at, child_of, is_empty_link, names_of, pointed, slot_in, target_of, weak_target}
+use Rattle.qo_heap.specs.Furnishing.{IsSplit, pointed_if, refilled, unnamed}
+use Rattle.qo_heap.specs.WeakLinks.{weak_name, weak_names}
+use Rattle.qo_heap.proofs.HeapLemmas.{holds-cons, holds-first}
+
+-- one slot more
+
+split-one : (s : Slot) → (weak_target (unnamed s) ≡ None) × (is_some (weak_target s) ≡ true → is_empty_link (unnamed s) ≡ true)
+split-one (Plain val) = (refl, λ is. cc)
+split-one (Child key) = (refl, λ is. cc)
+split-one (Link ty true target) = (refl, λ is. cc)
+split-one (Link ty false target) = (refl, λ is. refl)
+split-one (Alias key of) = (refl, λ is. cc)
+
+filled-one : (s : Slot) → pointed_if (weak_target s) (unnamed s) ≡ s
+filled-one (Plain val) = refl
+filled-one (Child key) = refl
+filled-one (Link ty true target) = refl
+filled-one (Link ty false None) = refl
+filled-one (Link ty false (Some key)) = refl
+filled-one (Alias key of) = refl
+
+pub split-more : (ts : List (Option Key)) (slots : List Named) (name : List ℕ) (s : Slot) → IsSplit ts slots
+    → IsSplit (ts ++ weak_target s ∷ []) (slots ++ (name, unnamed s) ∷ [])
+split-more [] [] name s is = (split-one s, tt)
+split-more [] (x ∷ slots) name s is = absurd is
+split-more (t ∷ ts) [] name s is = absurd is
+split-more (t ∷ ts) (x ∷ slots) name s is = (is.0, split-more ts slots name s is.1)
+
+pub filled-more : (ts : List (Option Key)) (slots : List Named) (name : List ℕ) (s : Slot) → IsSplit ts slots
+    → refilled (ts ++ weak_target s ∷ []) (slots ++ (name, unnamed s) ∷ []) ≡ refilled ts slots ++ (name, s) ∷ []
+filled-more [] [] name s is = ap (λ (x : Slot). (name, x) ∷ []) (filled-one s)
+filled-more [] (x ∷ slots) name s is = absurd is
+filled-more (t ∷ ts) [] name s is = absurd is
+filled-more (t ∷ ts) (x ∷ slots) name s is = ap (λ (l : List Named). (x.0, pointed_if t x.1) ∷ l) (filled-more ts slots name s is.1)
+
+pub weak-unnamed : (s : Slot) → is_some (weak_name (unnamed s)) ≡ is_some (weak_name s)
+weak-unnamed (Plain val) = refl
+weak-unnamed (Child key) = refl
+weak-unnamed (Link ty true target) = refl
+weak-unnamed (Link ty false target) = refl
+weak-unnamed (Alias key of) = refl
+
+-- all of them, without the targets
+
+pub split-empty : (ts : List (Option Key)) (slots : List Named) → IsSplit ts slots → AllByRecursion (λ (s : Named). weak_target s.1 ≡ None) slots
+split-empty [] [] is = tt
+split-empty [] (s ∷ slots) is = absurd is
+split-empty (t ∷ ts) [] is = absurd is
+split-empty (t ∷ ts) (s ∷ slots) is = (is.0.0, split-empty ts slots is.1)
+
+pub split-length : (ts : List (Option Key)) (slots : List Named) → IsSplit ts slots → length ts ≡ length slots
+split-length [] [] is = refl
+split-length [] (s ∷ slots) is = absurd is
+split-length (t ∷ ts) [] is = absurd is
+split-length (t ∷ ts) (s ∷ slots) is = ap suc (split-length ts slots is.1)
+
+pub split-names : (ts : List (Option Key)) (slots : List Named) → IsSplit ts slots → names_of (refilled ts slots) ≡ names_of slots
+split-names [] slots is = refl
+split-names (t ∷ ts) [] is = absurd is
+split-names (t ∷ ts) (s ∷ slots) is = ap (λ (l : List (List ℕ)). s.0 ∷ l) (split-names ts slots is.1)
+
+pub split-few : (ts : List (Option Key)) (slots : List Named) → IsSplit ts slots → length (refilled ts slots) ≡ length slots
+split-few [] slots is = refl
+split-few (t ∷ ts) [] is = absurd is
+split-few (t ∷ ts) (s ∷ slots) is = ap suc (split-few ts slots is.1)
+
+emptied : (P : Key → Type 0) (t : Option Key) (s : Slot) → (is_some t ≡ true → is_empty_link s ≡ true) → IfSome (target_of (pointed_if t s)) P
+    → IfSome (target_of s) P × IfSome t P
+emptied P None s empty live = (live, tt)
+emptied P (Some key) (Plain val) empty live = cc
+emptied P (Some key) (Child k) empty live = cc
+emptied P (Some key) (Link ty strong None) empty live = (tt, live)
+emptied P (Some key) (Link ty strong (Some k)) empty live = cc
+emptied P (Some key) (Alias k of) empty live = cc
+
+pub split-targets : (P : Key → Type 0) (ts : List (Option Key)) (slots : List Named) → IsSplit ts slots
+    → AllByRecursion P (filter_map (λ (s : Named). target_of s.1) (refilled ts slots)) → AllByRecursion P (filter_map (λ (s : Named). target_of s.1) slots)
+split-targets P [] slots is all = all
+split-targets P (t ∷ ts) [] is all = absurd is
+split-targets P (t ∷ ts) (s ∷ slots) is all =
+    let parts = holds-first P (target_of (pointed_if t s.1)) (filter_map (λ (x : Named). target_of x.1) (refilled ts slots)) all in
+    holds-cons P (target_of s.1) (filter_map (λ (x : Named). target_of x.1) slots) (emptied P t s.1 is.0.1 parts.0).0 (split-targets P ts slots is.1 parts.1)
+
+pub split-live : (P : Key → Type 0) (ts : List (Option Key)) (slots : List Named) → IsSplit ts slots
+    → AllByRecursion P (filter_map (λ (s : Named). target_of s.1) (refilled ts slots)) → (k : ℕ) (t : Key) → slice_get ts k ≡ Some (Some t) → P t
+split-live P [] slots is all k t at = cc
+split-live P (u ∷ ts) [] is all k t at = absurd is
+split-live P (u ∷ ts) (s ∷ slots) is all k t at = go k at
+  where
+    parts : IfSome (target_of (pointed_if u s.1)) P × AllByRecursion P (filter_map (λ (x : Named). target_of x.1) (refilled ts slots))
+    parts = holds-first P (target_of (pointed_if u s.1)) (filter_map (λ (x : Named). target_of x.1) (refilled ts slots)) all
+
+    go : (j : ℕ) → slice_get (u ∷ ts) j ≡ Some (Some t) → P t
+    go zero here = let same : u ≡ Some t = cc here in subst (λ (o : Option Key). IfSome o P) same (emptied P u s.1 is.0.1 parts.0).1
+    go (suc j) there = split-live P ts slots is.1 parts.1 j t there
+
+no-child-emptied : (t : Option Key) (s : Slot) → (is_some t ≡ true → is_empty_link s ≡ true) → child_of (pointed_if t s) ≡ None → child_of s ≡ None
+no-child-emptied None s empty none = none
+no-child-emptied (Some key) (Plain val) empty none = refl
+no-child-emptied (Some key) (Child k) empty none = cc
+no-child-emptied (Some key) (Link ty strong target) empty none = refl
+no-child-emptied (Some key) (Alias k of) empty none = refl
+
+pub split-childless : (ts : List (Option Key)) (slots : List Named) → IsSplit ts slots → AllByRecursion (λ (s : Named). child_of s.1 ≡ None) (refilled ts slots)
+    → AllByRecursion (λ (s : Named). child_of s.1 ≡ None) slots
+split-childless [] slots is all = all
+split-childless (t ∷ ts) [] is all = absurd is
+split-childless (t ∷ ts) (s ∷ slots) is all = (no-child-emptied t s.1 is.0.1 all.0, split-childless ts slots is.1 all.1)
+
+-- nothing is named by weak links that are empty
+pub empty-names : (slots : List Named) → AllByRecursion (λ (s : Named). weak_target s.1 ≡ None) slots
+    → AllByRecursion (λ (t : Option Key). t ≡ None) (weak_names slots)
+empty-names [] all = tt
+empty-names ((name, Plain val) ∷ slots) all = empty-names slots all.1
+empty-names ((name, Child key) ∷ slots) all = empty-names slots all.1
+empty-names ((name, Link ty true target) ∷ slots) all = empty-names slots all.1
+empty-names ((name, Link ty false target) ∷ slots) all = (all.0, empty-names slots all.1)
+empty-names ((name, Alias key of) ∷ slots) all = empty-names slots all.1
+
+-- the targets are given back one after another
+
+-- the slot of the next target is empty still
+pub next-empty : (ts : List (Option Key)) (slots : List Named) → IsSplit ts slots → (k : ℕ) (t : Key) → slice_get ts k ≡ Some (Some t)
+    → option_map_or is_empty_link (slot_in (refilled (take k ts) slots) k) false ≡ true
+next-empty [] slots is k t at = cc
+next-empty (u ∷ ts) [] is k t at = absurd is
+next-empty (u ∷ ts) (s ∷ slots) is zero t at = is.0.1 (let same : u ≡ Some t = cc at in ap is_some same)
+next-empty (u ∷ ts) (s ∷ slots) is (suc k) t at = next-empty ts slots is.1 k t at
+
+pub next-some : (ts : List (Option Key)) (slots : List Named) → IsSplit ts slots → (k : ℕ) (t : Key) → slice_get ts k ≡ Some (Some t)
+    → changed_at (pointed t) k (refilled (take k ts) slots) ≡ refilled (take (k + 1) ts) slots
+next-some ts slots is k t at = by (k + 1) (omega arith)
+  where
+    step : (us : List (Option Key)) (ss : List Named) → IsSplit us ss → (j : ℕ) → slice_get us j ≡ Some (Some t)
+        → changed_at (pointed t) j (refilled (take j us) ss) ≡ refilled (take (suc j) us) ss
+    step [] ss good j there = cc
+    step (u ∷ us) [] good j there = absurd good
+    step (u ∷ us) (s ∷ ss) good zero there =
+        let same : u ≡ Some t = cc there in
+        ap (λ (o : Option Key). (s.0, pointed_if o s.1) ∷ ss) (sym same)
+    step (u ∷ us) (s ∷ ss) good (suc j) there = ap (λ (l : List Named). (s.0, pointed_if u s.1) ∷ l) (step us ss good.1 j there)
+
+    by : (j : ℕ) → j ≡ suc k → changed_at (pointed t) k (refilled (take k ts) slots) ≡ refilled (take j ts) slots
+    by j next = rw next (step ts slots is k at)
+
+pub next-none : (ts : List (Option Key)) (slots : List Named) → IsSplit ts slots → (k : ℕ) → slice_get ts k ≡ Some None
+    → refilled (take k ts) slots ≡ refilled (take (k + 1) ts) slots
+next-none ts slots is k at = by (k + 1) (omega arith)
+  where
+    step : (us : List (Option Key)) (ss : List Named) → IsSplit us ss → (j : ℕ) → slice_get us j ≡ Some None
+        → refilled (take j us) ss ≡ refilled (take (suc j) us) ss
+    step [] ss good j there = cc
+    step (u ∷ us) [] good j there = absurd good
+    step (u ∷ us) (s ∷ ss) good zero there =
+        let same : u ≡ None = cc there in
+        ap (λ (o : Option Key). (s.0, pointed_if o s.1) ∷ ss) (sym same)
+    step (u ∷ us) (s ∷ ss) good (suc j) there = ap (λ (l : List Named). (s.0, pointed_if u s.1) ∷ l) (step us ss good.1 j there)
+
+    by : (j : ℕ) → j ≡ suc k → refilled (take k ts) slots ≡ refilled (take j ts) slots
+    by j next = rw next (step ts slots is k at)
+
+pub all-filled : (ts : List (Option Key)) (slots : List Named) (k : ℕ) → length ts ≤ k → refilled (take k ts) slots ≡ refilled ts slots
+all-filled ts slots k past = ap (λ (us : List (Option Key)). refilled us slots) (whole ts k past)
+  where
+    whole : (us : List (Option Key)) (j : ℕ) → length us ≤ j → take j us ≡ us
+    whole [] zero high = refl
+    whole [] (suc j) high = refl
+    whole (u ∷ us) zero high = absurd (omega (arith, high))
+    whole (u ∷ us) (suc j) high = ap (λ (l : List (Option Key)). u ∷ l) (whole us j (omega (arith, high)))
