@@ -5,7 +5,6 @@ ghost use Rattle.qo_object.specs.Slots.{weak_target};
 ghost use Rattle.qo_heap.specs.Furnishing.{unnamed};
 
 use crate::weak_links::WeakLinks;
-use crate::weak_slots::is_weak;
 use qo_object::{Oid, Slot, SlotName};
 use std::alloc::{AllocError, Global};
 use std::marker::Model;
@@ -76,9 +75,7 @@ impl NewSlots {
     {
         self.slots.reserve(1)?;
         self.targets.reserve(1)?;
-        if is_weak(&slot) && self.links.add().is_none() {
-            return Err(AllocError);
-        }
+        self.links.add_for(&slot)?;
         let (slot, target) = without_target(slot);
         self.targets.push_reserved(target);
         self.slots.push_reserved((name, slot));

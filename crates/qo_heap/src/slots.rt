@@ -1,5 +1,8 @@
 //! Adding slots to an object of the heap.
 
+ghost use Rattle.std.specs.Prelude.{◌≡◌, slice_get};
+ghost use Rattle.std.specs.Option.{option_and_then};
+
 use crate::entries::{add_hold, add_holds, entry_mut, hold_of};
 use crate::errors::SlotError;
 use crate::heap::Heap;
@@ -11,6 +14,14 @@ use qo_object::{Oid, Slot, SlotName};
 use qo_slots::Steps;
 use qo_values::{TypeId, Val};
 use std::sync::ledger::Ledger;
+
+/// What the weak link at a place of a list is to name.
+fn target_in(targets: &[Option<Oid>], at: usize) -> Option<Oid>
+    ensures { result ≡ option_and_then (λ t. t) (slice_get targets.now at) }
+{
+    let target = targets.get(at)?;
+    *target
+}
 
 impl Heap {
     ghost use Rattle.std.specs.Prelude.{◌≡◌, ◌≢◌, ◌+◌, ◌≤◌, ◌^◌, true, false, [], Err, None, IfSome, OnOk, OnErr, filter_map, is_some, length};
@@ -189,7 +200,7 @@ impl Heap {
         } = slots;
         self.furnish(o, slots, links, steps);
         for at in 0..targets.len() {
-            if let Some(target) = targets[at] {
+            if let Some(target) = target_in(targets.as_slice(), at) {
                 self.point(o, at, target, steps);
             }
         }

@@ -1,8 +1,9 @@
 //! What an object keeps of weak links: the first of those that name it, and a node for each of its
 //! own. The links that name an object are a list through the nodes of their owners.
 
-use qo_object::Oid;
-use std::alloc::Global;
+use crate::weak_slots::is_weak;
+use qo_object::{Oid, Slot};
+use std::alloc::{AllocError, Global};
 use std::marker::Model;
 
 /// A weak link: the object that has it, and its number there.
@@ -60,9 +61,9 @@ impl Node {
 }
 
 impl WeakLinks {
-    ghost use Rattle.std.specs.Prelude.{◌≡◌, ◌<◌, ◌==◌, [], ◌∷◌, ◌++◌, IfSome, IfNone, position, remove, slice_get};
+    ghost use Rattle.std.specs.Prelude.{◌≡◌, ◌<◌, ◌==◌, [], ◌∷◌, ◌++◌, ◌+◌, IfSome, IfNone, OnOk, OnErr, length, option_to_list, position, remove, slice_get};
     ghost use Rattle.std.specs.List.{AllByRecursion};
-    ghost use Rattle.qo_heap.specs.WeakLinks.{NumbersRise, changed_node, new_node, no_links, with_both, with_next, with_prev, without_last};
+    ghost use Rattle.qo_heap.specs.WeakLinks.{NumbersRise, changed_node, new_node, no_links, weak_name, with_both, with_next, with_prev, without_last};
 
     /// Nothing names the object, and it has no weak links. It takes no memory.
     pub fn new(alloc: Global) -> WeakLinks
@@ -158,6 +159,23 @@ impl WeakLinks {
         let id = self.next_number()?;
         self.nodes.push(Node::new(id)).ok()?;
         Some(id)
+    }
+
+    /// Adds a node for a slot that is a weak link; any other needs none. The error is want of memory or
+    /// of numbers.
+    pub fn add_for(&mut self, slot: &Slot) -> Result<(), AllocError>
+        requires { NumbersRise self.old.nodes }
+        ensures more { OnOk result (length self.new.nodes ≡ length self.old.nodes + length (option_to_list (weak_name slot.now))) }
+        ensures rise { NumbersRise self.new.nodes }
+        ensures err { OnErr result (self.new ≡ self.old) }
+    {
+        if !is_weak(slot) {
+            return Ok(());
+        }
+        match self.add() {
+            Some(_id) => Ok(()),
+            None => Err(AllocError),
+        }
     }
 
     /// Has the nodes of another in the place of its own.

@@ -1,0 +1,71 @@
+use Rattle.std.proofs.Common.{◌≡◌, ◌≤◌, ap, sym, subst, ◌∙◌, List, ℕ, length, refl, arith}
+use Rattle.std.specs.List.{AllByRecursion, IsDistinct}
+use Rattle.std.specs.Str.{bytes_eq}
+use Rattle.qo_object.specs.Content.{Content, with_all_slots}
+use Rattle.qo_object.specs.Slots.{Named}
+use Rattle.qo_heap.specs.Furnishing.{refilled}
+use Rattle.qo_heap.specs.Objects.{Objects, with_edit}
+use Rattle.qo_heap.specs.Rows.{IsLive}
+use Rattle.qo_heap.proofs.FurnishLemmas.{filled-end, filled-none, filled-some, filling-empty, filling-live, filling-target, split-childless, split-empty, split-few, split-names, split-targets}
+use Rattle.qo_heap.proofs.heap.Heap.set_slots.Goals as goal
+
+pub furnish-requires-clause-targets : goal.furnish-requires-clause-targets
+furnish-requires-clause-targets g c =
+    split-targets (IsLive c.args.self.now.rows) c.slots.inside.targets.items c.slots.inside.slots.items c.slots.invariant.0
+    (rw (← c.slots.view_is) at c.requires.targets)
+
+pub furnish-requires-clause-differ : goal.furnish-requires-clause-differ
+furnish-requires-clause-differ g c =
+    subst (λ (l : List (List ℕ)). IsDistinct bytes_eq l) (split-names c.slots.inside.targets.items c.slots.inside.slots.items c.slots.invariant.0)
+    (rw (← c.slots.view_is) at c.requires.differ)
+
+pub furnish-requires-clause-few : goal.furnish-requires-clause-few
+furnish-requires-clause-few g c =
+    let few : length (refilled c.slots.inside.targets.items c.slots.inside.slots.items) ≤ 4294967296 = rw (← c.slots.view_is) at c.requires.few in
+    let less : length c.slots.inside.slots.items ≤ 4294967296 =
+    omega (arith, few, split-few c.slots.inside.targets.items c.slots.inside.slots.items c.slots.invariant.0) in
+    less
+
+pub furnish-requires-clause-childless : goal.furnish-requires-clause-childless
+furnish-requires-clause-childless g c =
+    split-childless c.slots.inside.targets.items c.slots.inside.slots.items c.slots.invariant.0 (rw (← c.slots.view_is) at c.requires.childless)
+
+pub furnish-requires-clause-empty : goal.furnish-requires-clause-empty
+furnish-requires-clause-empty g c = split-empty c.slots.inside.targets.items c.slots.inside.slots.items c.slots.invariant.0
+
+pub furnish-requires-clause-numbered : goal.furnish-requires-clause-numbered
+furnish-requires-clause-numbered g c = c.slots.invariant.1.0
+
+pub furnish-requires-clause-rising : goal.furnish-requires-clause-rising
+furnish-requires-clause-rising g c = c.slots.invariant.1.1
+
+pub loop-at-init : goal.loop-at-init
+loop-at-init g c = (c.slots.inside.slots.items, (c.slots.invariant.0, (c.slots.view_is, c.furnish.ensures)))
+
+pub point-requires-clause-live : goal.point-requires-clause-live
+point-requires-clause-live g c =
+    filling-live c.args.o c.args.self.now c.loop-at.self c.loop-at.targets.items c.loop-at.at c.args.slots c.loop-at.invariant c.args.o c.requires.live
+
+pub point-requires-clause-target : goal.point-requires-clause-target
+point-requires-clause-target g c =
+    filling-live c.args.o c.args.self.now c.loop-at.self c.loop-at.targets.items c.loop-at.at c.args.slots c.loop-at.invariant c.in-Some.target
+    (filling-target c.args.o c.args.self.now c.loop-at.self c.loop-at.targets.items c.loop-at.at c.args.slots c.loop-at.invariant c.in-Some.target
+    (c.in-Some.ensures) c.requires.targets)
+
+pub point-requires-clause-link : goal.point-requires-clause-link
+point-requires-clause-link g c =
+    filling-empty c.args.o c.args.self.now c.loop-at.self c.loop-at.targets.items c.loop-at.at c.args.slots c.loop-at.invariant c.requires.live c.in-Some.target
+    (c.in-Some.ensures)
+
+pub loop-at-preserved-in-Some : goal.loop-at-preserved-in-Some
+loop-at-preserved-in-Some g c =
+    filled-some c.args.o c.args.self.now c.loop-at.self c.loop-at.targets.items c.loop-at.at c.args.slots c.loop-at.invariant c.in-Some.target
+    (c.in-Some.ensures) c.point.new.self c.point.ensures.now
+
+pub loop-at-preserved-in_default : goal.loop-at-preserved-in_default
+loop-at-preserved-in_default g c =
+    filled-none c.args.o c.args.self.now c.loop-at.self c.loop-at.targets.items c.loop-at.at c.args.slots c.loop-at.invariant (sym c.in_default.ensures)
+
+pub returns : goal.returns
+returns g c =
+    filled-end c.args.o c.args.self.now c.loop-at.self c.loop-at.targets.items c.loop-at.at c.args.slots c.loop-at.invariant c.loop-at-test.false
