@@ -55,7 +55,7 @@ weak-one name (Link ty false target) = refl
 weak-one name (Alias key of) = refl
 
 length-both : {X : Type 0} (xs ys : List X) → length (xs ++ ys) ≡ length xs + length ys
-length-both [] ys = refl
+length-both [] ys = omega arith
 length-both (x ∷ xs) ys = omega (arith, length-both xs ys)
 
 -- as many nodes as weak links
@@ -276,3 +276,19 @@ module _ (o : Key) (v w : Objects) (ts : List (Option Key)) (k : ℕ) (all : Lis
   filled-end past =
       filling.1.1.1
       ∙ ap (λ (l : List Named). with_edit o.birth (with_all_slots l) v) (all-filled ts filling.0 k past ∙ filling.1.1.0)
+
+  -- the next target, if there is one
+  pub given-live : (target : Option Key) → target ≡ option_and_then (λ (u : Option Key). u) (slice_get ts k)
+      → AllByRecursion (IsLive v.rows) (filter_map (λ (s : Named). target_of s.1) all) → IfSome target (IsLive w.rows)
+  given-live None is lives = tt
+  given-live (Some t) is lives = filling-live t (filling-target t is lives)
+
+  pub given-empty : IsLive v.rows o → (target : Option Key) → target ≡ option_and_then (λ (u : Option Key). u) (slice_get ts k)
+      → IfSome target (λ t. option_map (λ (c : Content). empty_link_at c k) (content_of w o.birth) ≡ Some true)
+  given-empty live None is = tt
+  given-empty live (Some t) is = filling-empty live t is
+
+  pub filled-next : (target : Option Key) → target ≡ option_and_then (λ (u : Option Key). u) (slice_get ts k) → (x : Objects)
+      → IfSome target (λ t. x ≡ with_edit o.birth (pointed_at t k) w) → (target ≡ None → x ≡ w) → Filling o v x ts (k + 1) all
+  filled-next None is x some none = subst (λ (y : Objects). Filling o v y ts (k + 1) all) (sym (none refl)) (filled-none (sym is))
+  filled-next (Some t) is x some none = filled-some t is x some

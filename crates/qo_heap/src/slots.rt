@@ -24,14 +24,14 @@ fn target_in(targets: &[Option<Oid>], at: usize) -> Option<Oid>
 }
 
 impl Heap {
-    ghost use Rattle.std.specs.Prelude.{◌≡◌, ◌≢◌, ◌+◌, ◌≤◌, ◌^◌, true, false, [], Err, None, IfSome, OnOk, OnErr, filter_map, is_some, length};
+    ghost use Rattle.std.specs.Prelude.{◌≡◌, ◌≢◌, ◌+◌, ◌≤◌, ◌^◌, true, false, [], Err, None, Some, IfSome, OnOk, OnErr, filter_map, is_some, length, option_map};
     ghost use Rattle.std.specs.List.{AllByRecursion, IsDistinct};
     ghost use Rattle.std.specs.Str.{bytes_eq};
-    ghost use Rattle.qo_object.specs.Content.{with_all_slots, with_slot};
+    ghost use Rattle.qo_object.specs.Content.{empty_link_at, pointed_at, with_all_slots, with_slot};
     ghost use Rattle.qo_object.specs.Slots.{child_of, has_name, names_of, target_of, weak_target};
     ghost use Rattle.qo_object.specs.declared.slots.Slot.TheVariants.{Plain, Child, Link, Alias};
     ghost use Rattle.qo_heap.specs.Rows.{IsLive};
-    ghost use Rattle.qo_heap.specs.Objects.{parent_of, slots_of, with_edit};
+    ghost use Rattle.qo_heap.specs.Objects.{content_of, parent_of, slots_of, with_edit};
     ghost use Rattle.qo_heap.specs.WeakLinks.{NumbersRise, weak_names};
     ghost use Rattle.qo_heap.specs.declared.errors.SlotError.TheVariants.{Duplicate, HasParent, Memory};
 
@@ -182,6 +182,25 @@ impl Heap {
         entry_mut(&mut self.table, &self.order, o, steps).furnish(slots, links);
     }
 
+    /// Points the link at a place, which has no target, at an object, if there is one.
+    fn point_if<L: Ledger>(
+        &mut self,
+        o: Oid,
+        at: usize,
+        target: Option<Oid>,
+        steps: &mut Steps<L>,
+    )
+        requires live { IsLive self.old.rows o }
+        requires target { IfSome target (IsLive self.old.rows) }
+        requires link { IfSome target (λ t. option_map (λ c. empty_link_at c at) (content_of self.old o.birth) ≡ Some true) }
+        ensures some { IfSome target (λ t. self.new ≡ with_edit o.birth (pointed_at t at) self.old) }
+        ensures none { target ≡ None → self.new ≡ self.old }
+    {
+        if let Some(target) = target {
+            self.point(o, at, target, steps);
+        }
+    }
+
     /// Gives an object these slots, whose names differ; it must have none, and none of these be a
     /// child slot. What they name must be there. It takes no memory.
     pub fn set_slots<L: Ledger>(&mut self, o: Oid, slots: NewSlots, steps: &mut Steps<L>)
@@ -200,9 +219,7 @@ impl Heap {
         } = slots;
         self.furnish(o, slots, links, steps);
         for at in 0..targets.len() {
-            if let Some(target) = target_in(targets.as_slice(), at) {
-                self.point(o, at, target, steps);
-            }
+            self.point_if(o, at, target_in(targets.as_slice(), at), steps);
         }
     }
 }

@@ -1,13 +1,19 @@
-use Rattle.std.proofs.Common.{◌≡◌, ◌≤◌, ap, sym, subst, ◌∙◌, List, ℕ, length, refl, arith}
+use Rattle.std.proofs.Common.{◌≡◌, ◌≤◌, ap, sym, subst, ◌∙◌, List, ℕ, length, slice_get, Option, arith}
 use Rattle.std.specs.List.{AllByRecursion, IsDistinct}
+use Rattle.std.specs.Option.{option_and_then}
 use Rattle.std.specs.Str.{bytes_eq}
+use Rattle.qo_slots.specs.declared.keys.Key.{Key}
 use Rattle.qo_object.specs.Content.{Content, with_all_slots}
 use Rattle.qo_object.specs.Slots.{Named}
 use Rattle.qo_heap.specs.Furnishing.{refilled}
 use Rattle.qo_heap.specs.Objects.{Objects, with_edit}
 use Rattle.qo_heap.specs.Rows.{IsLive}
-use Rattle.qo_heap.proofs.FurnishLemmas.{filled-end, filled-none, filled-some, filling-empty, filling-live, filling-target, split-childless, split-empty, split-few, split-names, split-targets}
+use Rattle.qo_heap.proofs.FurnishLemmas.{filled-end, filled-next, filling-live, given-empty, given-live, split-childless, split-empty, split-few, split-names, split-targets}
 use Rattle.qo_heap.proofs.heap.Heap.set_slots.Goals as goal
+
+target-is : (ts seen : List (Option Key)) (k : ℕ) (target : Option Key) → seen ≡ ts → target ≡ option_and_then (λ (t : Option Key). t) (slice_get seen k)
+    → target ≡ option_and_then (λ (t : Option Key). t) (slice_get ts k)
+target-is ts seen k target same is = is ∙ ap (λ (l : List (Option Key)). option_and_then (λ (t : Option Key). t) (slice_get l k)) same
 
 pub furnish-requires-clause-targets : goal.furnish-requires-clause-targets
 furnish-requires-clause-targets g c =
@@ -42,30 +48,27 @@ furnish-requires-clause-rising g c = c.slots.invariant.1.1
 pub loop-at-init : goal.loop-at-init
 loop-at-init g c = (c.slots.inside.slots.items, (c.slots.invariant.0, (c.slots.view_is, c.furnish.ensures)))
 
-pub point-requires-clause-live : goal.point-requires-clause-live
-point-requires-clause-live g c =
-    filling-live c.args.o c.args.self.now c.loop-at.self c.loop-at.targets.items c.loop-at.at c.args.slots c.loop-at.invariant c.args.o c.requires.live
+pub point_if-requires-clause-live : goal.point_if-requires-clause-live
+point_if-requires-clause-live g c =
+    filling-live c.args.o c.args.self.now c.loop-at.self c.slots.inside.targets.items c.loop-at.at c.args.slots c.loop-at.invariant c.args.o c.requires.live
 
-pub point-requires-clause-target : goal.point-requires-clause-target
-point-requires-clause-target g c =
-    filling-live c.args.o c.args.self.now c.loop-at.self c.loop-at.targets.items c.loop-at.at c.args.slots c.loop-at.invariant c.in-Some.target
-    (filling-target c.args.o c.args.self.now c.loop-at.self c.loop-at.targets.items c.loop-at.at c.args.slots c.loop-at.invariant c.in-Some.target
-    (c.in-Some.ensures) c.requires.targets)
+pub point_if-requires-clause-target : goal.point_if-requires-clause-target
+point_if-requires-clause-target g c =
+    given-live c.args.o c.args.self.now c.loop-at.self c.slots.inside.targets.items c.loop-at.at c.args.slots c.loop-at.invariant c.target_in.result
+    (target-is c.slots.inside.targets.items c.as_slice.result.now c.loop-at.at c.target_in.result c.as_slice.ensures.value c.target_in.ensures) c.requires.targets
 
-pub point-requires-clause-link : goal.point-requires-clause-link
-point-requires-clause-link g c =
-    filling-empty c.args.o c.args.self.now c.loop-at.self c.loop-at.targets.items c.loop-at.at c.args.slots c.loop-at.invariant c.requires.live c.in-Some.target
-    (c.in-Some.ensures)
+pub point_if-requires-clause-link : goal.point_if-requires-clause-link
+point_if-requires-clause-link g c =
+    given-empty c.args.o c.args.self.now c.loop-at.self c.slots.inside.targets.items c.loop-at.at c.args.slots c.loop-at.invariant c.requires.live
+    c.target_in.result
+    (target-is c.slots.inside.targets.items c.as_slice.result.now c.loop-at.at c.target_in.result c.as_slice.ensures.value c.target_in.ensures)
 
-pub loop-at-preserved-in-Some : goal.loop-at-preserved-in-Some
-loop-at-preserved-in-Some g c =
-    filled-some c.args.o c.args.self.now c.loop-at.self c.loop-at.targets.items c.loop-at.at c.args.slots c.loop-at.invariant c.in-Some.target
-    (c.in-Some.ensures) c.point.new.self c.point.ensures.now
-
-pub loop-at-preserved-in_default : goal.loop-at-preserved-in_default
-loop-at-preserved-in_default g c =
-    filled-none c.args.o c.args.self.now c.loop-at.self c.loop-at.targets.items c.loop-at.at c.args.slots c.loop-at.invariant (sym c.in_default.ensures)
+pub loop-at-preserved : goal.loop-at-preserved
+loop-at-preserved g c =
+    filled-next c.args.o c.args.self.now c.loop-at.self c.slots.inside.targets.items c.loop-at.at c.args.slots c.loop-at.invariant c.target_in.result
+    (target-is c.slots.inside.targets.items c.as_slice.result.now c.loop-at.at c.target_in.result c.as_slice.ensures.value c.target_in.ensures)
+    c.point_if.new.self c.point_if.ensures.some c.point_if.ensures.none
 
 pub returns : goal.returns
 returns g c =
-    filled-end c.args.o c.args.self.now c.loop-at.self c.loop-at.targets.items c.loop-at.at c.args.slots c.loop-at.invariant c.loop-at-test.false
+    filled-end c.args.o c.args.self.now c.loop-at.self c.slots.inside.targets.items c.loop-at.at c.args.slots c.loop-at.invariant c.loop-at-test.false

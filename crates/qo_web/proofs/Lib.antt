@@ -1,0 +1,4 @@
+pub mod Base
+pub mod WeakLists
+pub mod WeakMoves
+pub mod WeakRows

@@ -1,0 +1,3 @@
+pub mod Born
+pub mod Rows
+pub mod Weak

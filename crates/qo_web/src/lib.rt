@@ -1,0 +1,6 @@
+//! A scratch crate.
+#![tactic(auto)]
+
+mod entries;
+
+pub use entries::{End, Node};
