@@ -13,6 +13,8 @@ use std::sync::ledger::Ledger;
 impl Heap {
     ghost use Rattle.std.specs.Prelude.{◌<◌, ◌+◌, nat_lt, Some, option_map, length, find, leb, slice_get, position, IfSome, IfNone, None, IfOk};
     ghost use Rattle.std.specs.Str.{bytes_eq};
+    ghost use Rattle.std.specs.List.{IsDistinct};
+    ghost use Rattle.qo_object.specs.Slots.{names_of};
     ghost use Rattle.qo_model.specs.RowNames.{property_name};
     ghost use Rattle.qo_heap.specs.Rows.{IsLive};
     ghost use Rattle.qo_heap.specs.Objects.{content_of, parent_of, refs_of, slots_of};
@@ -33,14 +35,17 @@ impl Heap {
         self.look(o, steps).kind()
     }
 
-    /// The slot of a name of an object, by one look-up; `None` exactly where it has none.
+    /// The slot of a name of an object, by one look-up; `None` exactly where it has none. No two slots of an
+    /// object have one name.
     pub fn slot<L: Ledger>(&self, o: Oid, name: &str, steps: &mut Steps<L>) -> Option<SlotView<'_>>
         requires { IsLive self.now.rows o }
         ensures slot { option_map (λ v. (v.name.now, v.what.now)) result ≡ find (λ s. bytes_eq name.now s.0) (slots_of self.now o.birth) }
         ensures at { option_map (λ v. v.at) result ≡ position (λ s. bytes_eq name.now s.0) (slots_of self.now o.birth) }
+        ensures names { IsDistinct bytes_eq (names_of (slots_of self.now o.birth)) }
         ensures cost { steps.new ≡ steps.old + 1 }
     {
         let object = self.look(o, steps);
+        object.reveal_invariant();
         match object.find(name) {
             Some(at) => object.slot_at(at),
             None => None,

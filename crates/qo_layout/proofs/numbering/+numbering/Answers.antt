@@ -27,5 +27,5 @@ list_below-returns-clause-listed g t c = λ b s.
     ap (λ (n : ℕ). births_of c.args.objects.now.items ++ post_within b n c.args.o.birth) (sym all) in
     pushed
     ∙ listed-all b c.args.heap.now s (c.args.levels - 1) c.loop-at.at c.args.o c.is_of-bus.result (births_of c.args.objects.now.items) c.loop-at.objects.items
-    (c.is_of-bus.ensures b s) last (c.loop-at.invariant.1 b s)
+    (c.is_of-bus.ensures.kind b s) last (c.loop-at.invariant.1 b s)
     ∙ whole

@@ -7,7 +7,7 @@ pub returns-in_err-push_line-clause-err : goal.returns-in_err-push_line-clause-e
 returns-in_err-push_line-clause-err g c = λ b s all.
     let is : c.from_residual.result ≡ Err c.in_err-push_line.field-0.0 = search rules in
     err-memory c.from_residual.result c.in_err-push_line.field-0.0 is
-    (c.in_err-push_line.ensures.err b s (all-slot b c.args.rows.now c.args.o.birth c.loop-at.at c.is_of-bus.result (c.is_of-bus.ensures b s) all))
+    (c.in_err-push_line.ensures.err b s (all-slot b c.args.rows.now c.args.o.birth c.loop-at.at c.is_of-bus.result (c.is_of-bus.ensures.kind b s) all))
 
 pub loop-at-preserved : goal.loop-at-preserved
 loop-at-preserved g c = λ b s.
@@ -18,4 +18,4 @@ pub returns-clause-lines : goal.returns-clause-lines
 returns-clause-lines g c = λ b s.
     let last : c.slot_count-count.result ≤ c.loop-at.at = omega arith in
     lines-all b c.args.heap.now s c.args.rows.now c.args.o.birth c.loop-at.at c.slot_count-count.result c.is_of-bus.result c.loop-at.lines.items
-    c.slot_count-count.ensures.count last (c.is_of-bus.ensures b s) (c.loop-at.invariant b s)
+    c.slot_count-count.ensures.count last (c.is_of-bus.ensures.kind b s) (c.loop-at.invariant b s)
