@@ -6,8 +6,8 @@ use Rattle.qo_heap.proofs.HeapLemmas.{on-err}
 use Rattle.qo_machine.proofs.WiredLemmas.{left_kept, left_told}
 use Rattle.qo_machine.proofs.serving.reply_to_command.Goals as goal
 
-pub returns-in-Ok-clause-served : goal.returns-in-Ok-clause-served
-returns-in-Ok-clause-served g c =
+pub returns-in_ok-sent-in-Ok-clause-served : goal.returns-in_ok-sent-in-Ok-clause-served
+returns-in_ok-sent-in-Ok-clause-served g c =
     let p = c.in_ok-sent-in-Ok.ensures.sent in (
       p.0,
       p.1,
@@ -44,8 +44,8 @@ returns-in_err-send_memory_error-in-Err-clause-left g c =
 
 -- the events that wait are told, and what is left of the lines stays
 
-pub returns-in-Ok-clause-touched : goal.returns-in-Ok-clause-touched
-returns-in-Ok-clause-touched g c =
+pub returns-in_ok-sent-in-Ok-clause-touched : goal.returns-in_ok-sent-in-Ok-clause-touched
+returns-in_ok-sent-in-Ok-clause-touched g c =
     left_kept c.in-Ok.reply.touched c.send_reply-sent.new.machine c.conclude.new.self c.conclude.ensures.board c.conclude.ensures.wires
     (left_told c.in-Ok.reply.touched c.perform.new.self c.send_reply-sent.new.machine c.send_reply-sent.ensures.board c.send_reply-sent.ensures.wires
     c.in-Ok.ensures.left)
