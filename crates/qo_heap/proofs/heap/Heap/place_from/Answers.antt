@@ -1,4 +1,4 @@
-use Rattle.std.proofs.Common.{◌∙◌, ap, sym, List, leb, nat_lt}
+use Rattle.std.proofs.Common.{◌∙◌, ap, sym, leb, nat_lt}
 use Rattle.qo_slots.specs.declared.keys.Key.{Key}
 use Rattle.qo_object.specs.Content.{Content}
 use Rattle.qo_heap.specs.Order.{front}
