@@ -36,7 +36,7 @@ returns-in_ok-send_memory_error-in-Err-clause-served g c = (
 
 pub returns-in_err-send_memory_error-in-Err-clause-left : goal.returns-in_err-send_memory_error-in-Err-clause-left
 returns-in_err-send_memory_error-in-Err-clause-left g c =
-    on-err c.from_residual.result
+    on-err c.from_residual-in_err-send_memory_error-in-Err.result
     (λ s here.
     left_served c.args.outbox.now.at c.args.session s c.args.command.now _ _ c.perform.new.self
     (served_want c.args.outbox.now.at c.args.session c.args.machine.now c.perform.new.self c.args.command.now _ _ refl c.in-Err.ensures.kept
