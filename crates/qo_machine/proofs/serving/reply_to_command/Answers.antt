@@ -25,8 +25,8 @@ returns-in_err-sent-in-Ok-clause-left g c =
     c.in-Ok.reply c.in-Ok.ensures.came c.in-Ok.ensures.rest c.send_reply-sent.ensures.board c.send_reply-sent.ensures.rest
     c.conclude.ensures.state c.conclude.ensures.board)
 
-pub returns-in-Err-clause-served : goal.returns-in-Err-clause-served
-returns-in-Err-clause-served g c = (
+pub returns-in_ok-send_memory_error-in-Err-clause-served : goal.returns-in_ok-send_memory_error-in-Err-clause-served
+returns-in_ok-send_memory_error-in-Err-clause-served g c = (
   _,
   c.in_ok-send_memory_error-in-Err.ensures.told,
   (c.requires.session, tt),
@@ -36,7 +36,7 @@ returns-in-Err-clause-served g c = (
 
 pub returns-in_err-send_memory_error-in-Err-clause-left : goal.returns-in_err-send_memory_error-in-Err-clause-left
 returns-in_err-send_memory_error-in-Err-clause-left g c =
-    on-err _
+    on-err c.from_residual-in_err-send_memory_error-in-Err.result
     (λ s here.
     left_served c.args.outbox.now.at c.args.session s c.args.command.now _ _ c.perform.new.self
     (served_want c.args.outbox.now.at c.args.session c.args.machine.now c.perform.new.self c.args.command.now _ _ refl c.in-Err.ensures.kept
@@ -50,5 +50,5 @@ returns-in_ok-sent-in-Ok-clause-touched g c =
     (left_told c.in-Ok.reply.touched c.perform.new.self c.send_reply-sent.new.machine c.send_reply-sent.ensures.board c.send_reply-sent.ensures.wires
     c.in-Ok.ensures.left)
 
-pub returns-in-Err-clause-touched : goal.returns-in-Err-clause-touched
-returns-in-Err-clause-touched g c = c.in-Err.ensures.same
+pub returns-in_ok-send_memory_error-in-Err-clause-touched : goal.returns-in_ok-send_memory_error-in-Err-clause-touched
+returns-in_ok-send_memory_error-in-Err-clause-touched g c = c.in-Err.ensures.same

@@ -13,9 +13,9 @@ changed_text-text-requires g c = c.in_ok-empty.ensures empty empty_written
 pub returns-clause-came : goal.returns-clause-came
 returns-clause-came g c = λ b stands.
     let did = c.in_ok-done.ensures.came b stands in
-    let here = stands_in _ c.self.inside.board _ (seen_board c.self.view_is) did.0 in
+    let here = stands_in _ c.self.inside.board c.apply.new.self (seen_board c.self.view_is) did.0 in
     record {
-      stands = here;
+      stands = did.0;
       events = ap (λ (d : Done). d.events) did.1;
       ends = ap (λ (d : Done). d.ends) did.1;
       replied =
