@@ -18,7 +18,7 @@ use Rattle.qo_model.specs.declared.properties.PropertyRole.{PropertyRole}
 use Rattle.qo_model.specs.declared.properties.PropertyRole.TheVariants as row
 use Rattle.qo_heap.specs.Board.{Shows}
 use Rattle.qo_heap.specs.Objects.{Objects, slots_of as held_slots}
-use Rattle.qo_sound_shapes.specs.SoundShape.{HasRole, HasSlots, IsFurther, IsOfProperty, IsShaped, SoundShape, further, is_child_role, may_miss, missing, next}
+use Rattle.qo_sound_shapes.specs.SoundShape.{HasRole, HasSlots, IsFurther, IsShaped, SoundShape, further, is_child_role, may_miss, missing, next}
 use Rattle.qo_sound_shapes.proofs.RowLemmas.{has-all}
 use Rattle.qo_layout.specs.Numbering.{NoneBefore, below_in, first_below}
 use Rattle.qo_layout.specs.Registers.{registers_at}
