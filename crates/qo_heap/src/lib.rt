@@ -25,3 +25,4 @@ pub use errors::{MakeError, SlotError};
 pub use heap::Heap;
 pub use qo_object::{Oid, Side, Slot, SlotName, SlotView, Work};
 pub use qo_slots::{Key, Steps};
+pub use reads::Summary;
