@@ -18,7 +18,8 @@ use std::sync::ledger::Ledger;
 /// Whether an object is of a type or an interface of a name.
 pub fn is_of<L: Ledger>(heap: &Heap, o: Oid, wanted: &str, steps: &mut Steps<L>) -> bool
     requires { IsLive heap.now.rows o }
-    ensures { (b : Board) → Shows b heap.now → result ≡ is_of b wanted.now o.birth }
+    ensures kind { (b : Board) → Shows b heap.now → result ≡ is_of b wanted.now o.birth }
+    ensures cost { steps.new ≡ steps.old + 1 }
 {
     TypeTable::board().is_a(heap.kind(o, steps), wanted)
 }

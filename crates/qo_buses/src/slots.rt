@@ -135,6 +135,7 @@ pub fn child_at<L: Ledger>(heap: &Heap, o: Oid, name: &str, steps: &mut Steps<L>
     requires { IsLive heap.now.rows o }
     ensures child { (b : Board) → Shows b heap.now → birth_of result ≡ option_and_then child_named (slot_named b o.birth name.now) }
     ensures live { IfSome result (IsLive heap.now.rows) }
+    ensures cost { steps.new ≡ steps.old + 1 }
 {
     heap.reveal_invariant();
     let slot = heap.slot(o, name, steps)?;

@@ -9,10 +9,13 @@ use qo_heap::Steps;
 use qo_layout::Lines;
 use qo_realize::Board;
 use std::alloc::{AllocError, Global};
+use std::mem::replace;
 use std::sync::ledger::Ledger;
 
-/// The interrupt lines of a board, made anew. The board is sound, so that the one error is want of memory.
-pub fn interrupt_lines<L: Ledger>(
+/// The interrupt lines of a board, made anew in the memory of those before. The board is sound, so that the one
+/// error is want of memory.
+fn lines_anew<L: Ledger>(
+    before: Lines,
     alloc: Global,
     board: &Board,
     steps: &mut Steps<L>,
@@ -20,10 +23,21 @@ pub fn interrupt_lines<L: Ledger>(
     ensures { IfOk result (HasLines board.now) }
 {
     board.reveal_board();
-    match Lines::make(alloc, board.heap(), steps) {
+    match before.remade(alloc, board.heap(), steps) {
         Ok(lines) => Ok(lines),
         Err(_) => Err(AllocError),
     }
+}
+
+/// The interrupt lines of a board. The board is sound, so that the one error is want of memory.
+pub fn interrupt_lines<L: Ledger>(
+    alloc: Global,
+    board: &Board,
+    steps: &mut Steps<L>,
+) -> Result<Lines, AllocError>
+    ensures { IfOk result (HasLines board.now) }
+{
+    lines_anew(Lines::none(alloc), alloc, board, steps)
 }
 
 /// Reads all registers that interrupt lines hang on again, where the lines are made for the objects of a
@@ -55,7 +69,8 @@ pub fn settle_lines<L: Ledger>(
             Ok(())
         }
         Touched::Devices => {
-            *lines = interrupt_lines(alloc, board, steps)?;
+            let before = replace(lines, Lines::none(alloc));
+            *lines = lines_anew(before, alloc, board, steps)?;
             Ok(())
         }
     }

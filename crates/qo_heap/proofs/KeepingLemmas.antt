@@ -128,6 +128,10 @@ find-plain p (row ∷ rows) = by (p row.0) (find-plain p rows)
     by true rest = refl
     by false rest = rest
 
+pub keys-plain : (rows : List (Key × Entry)) → map (λ (row : Key × Content). row.0) (plain rows) ≡ map (λ (row : Key × Entry). row.0) rows
+keys-plain [] = refl
+keys-plain (row ∷ rows) = ap (λ (l : List Key). row.0 ∷ l) (keys-plain rows)
+
 -- what all rows have, where one is edited, and where one goes
 module _ {T : Type 0} (P Q : Key × T → Type 0) (n : ℕ) where
   pub all-edit : (g : T → T) → ((row : Key × T) → P row → Q (edited n g row)) → (rows : List (Key × T)) → AllByRecursion P rows

@@ -31,3 +31,4 @@ pub use heap::Heap;
 pub use new_slots::NewSlots;
 pub use qo_object::{Oid, Side, Slot, SlotName, SlotView, Work};
 pub use qo_slots::{Key, Steps};
+pub use reads::Summary;

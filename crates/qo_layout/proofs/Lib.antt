@@ -17,6 +17,7 @@ pub mod ShowLemmas
 pub mod ShownLemmas
 pub mod WindowLemmas
 pub mod BelowLemmas
+pub mod LeafLemmas
 pub mod LineLemmas
 pub mod LineOrderLemmas
 pub mod LineRecordsLemmas

@@ -30,6 +30,5 @@ pub use addresses::{
 pub use kept::KeptView;
 pub use lines::Lines;
 pub use maps::{BoardMap, memory_map};
-pub use numbering::{below_in_slot, mapped};
 pub use views::{REGISTER_SIZE, RegisterPlace, flat_view};
 pub use wiring::{Row, Wiring};

@@ -89,6 +89,7 @@ impl Board {
     ghost use Rattle.qo_model.specs.NoteReplies.{first_from, given_from};
     ghost use Rattle.qo_model.specs.Notes.{total_of};
     ghost use Rattle.qo_model.specs.Objects as objects;
+    ghost use Rattle.qo_model.specs.ReleaseBound.{release_bound};
     ghost use Rattle.qo_model.specs.Opening.{opening_board};
     ghost use Rattle.qo_heap.specs.Log as log;
     ghost use Rattle.qo_properties.specs.Reads.{Answers};
@@ -329,10 +330,12 @@ impl Board {
     /// Removes the user's object of an id: its slot at `/objects` is let go, and it is finalized
     /// where nothing else refers to it (QEMU's QAPI, `object-del`). `E15` comes exactly where there
     /// is no such slot, and `E32` exactly where it is a memory backend on which a DIMM stands. An error
-    /// leaves the board as it was.
+    /// leaves the board as it was. It takes at most eight steps for each object and slot that ends and for
+    /// each weak link to one or of one, and sixteen more.
     pub fn object_del<L: Ledger>(&mut self, id: &str, steps: &mut Steps<L>) -> Result<(), Code>
         ensures change { (b : model.Board) → Stands b self.old → IsAnswered (object_removed b id.now) result self.new }
         ensures err { OnErr result (self.new ≡ self.old) }
+        ensures work { (b c : model.Board) → Stands b self.old → Stands c self.new → steps.new ≤ steps.old + release_bound b c + 8 }
     {
         if is_used(&self.heap, id, steps) {
             return Err(Code::E32);

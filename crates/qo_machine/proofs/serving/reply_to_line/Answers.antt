@@ -19,8 +19,8 @@ returns-then-ended-clause-served g c = (
       refl,
 )
 
-pub returns-in-Ok-clause-served : goal.returns-in-Ok-clause-served
-returns-in-Ok-clause-served g c =
+pub returns-in_ok-sent-in-Ok-clause-served : goal.returns-in_ok-sent-in-Ok-clause-served
+returns-in_ok-sent-in-Ok-clause-served g c =
     let p = c.in_ok-sent-in-Ok.ensures.sent in (
       p.0,
       p.1,
@@ -41,8 +41,8 @@ returns-in_err-sent-in-Ok-clause-left g c =
     (c.without_return.ensures ∙ ap without_return c.as_slice.ensures) (c.in-Ok.ensures.came b s))
     c.in-Ok.ensures.rest c.send_reply-sent.ensures.board c.send_reply-sent.ensures.rest c.conclude.ensures.state c.conclude.ensures.board)
 
-pub returns-in-Err-clause-served : goal.returns-in-Err-clause-served
-returns-in-Err-clause-served g c = (
+pub returns-in_ok-send_guest_memory_error-in-Err-clause-served : goal.returns-in_ok-send_guest_memory_error-in-Err-clause-served
+returns-in_ok-send_guest_memory_error-in-Err-clause-served g c = (
   _,
   c.in_ok-send_guest_memory_error-in-Err.ensures.told,
   (tt, tt),
@@ -61,11 +61,11 @@ returns-in_err-send_guest_memory_error-in-Err-clause-left g c =
 pub returns-then-ended-clause-touched : goal.returns-then-ended-clause-touched
 returns-then-ended-clause-touched g c = c.requires
 
-pub returns-in-Ok-clause-touched : goal.returns-in-Ok-clause-touched
-returns-in-Ok-clause-touched g c =
+pub returns-in_ok-sent-in-Ok-clause-touched : goal.returns-in_ok-sent-in-Ok-clause-touched
+returns-in_ok-sent-in-Ok-clause-touched g c =
     left_kept c.in-Ok.reply.touched c.send_reply-sent.new.machine c.conclude.new.self c.conclude.ensures.board c.conclude.ensures.wires
     (left_told c.in-Ok.reply.touched c.hear.new.self c.send_reply-sent.new.machine c.send_reply-sent.ensures.board c.send_reply-sent.ensures.wires
     c.in-Ok.ensures.left)
 
-pub returns-in-Err-clause-touched : goal.returns-in-Err-clause-touched
-returns-in-Err-clause-touched g c = wired_kept c.args.machine.now c.hear.new.self c.in-Err.ensures.kept c.in-Err.ensures.wires c.requires
+pub returns-in_ok-send_guest_memory_error-in-Err-clause-touched : goal.returns-in_ok-send_guest_memory_error-in-Err-clause-touched
+returns-in_ok-send_guest_memory_error-in-Err-clause-touched g c = wired_kept c.args.machine.now c.hear.new.self c.in-Err.ensures.kept c.in-Err.ensures.wires c.requires

@@ -4,7 +4,7 @@ use Rattle.std.specs.Prelude.{IfSome}
 use Rattle.qo_heap.specs.Board.{Shows}
 use Rattle.qo_layout.specs.Rows.{AreSlots, HasRow, kept_line}
 use Rattle.qo_model.specs.Board.{Board}
-use Rattle.qo_layout.proofs.slots.slot_lines.Given as goal
+use Rattle.qo_layout.proofs.slots.list_slots.Given as goal
 
 abbrev pub invariant-loop-slot : goal.invariant-loop-slot
 invariant-loop-slot g l =

@@ -3,11 +3,11 @@ use Rattle.std.proofs.Common.{rules, ◌≡◌, ◌++◌, ◌∷◌, [], sym, su
 use Rattle.std.proofs.Math.ListN.{length-append}
 use Rattle.qo_layout.specs.Rows.{AreSlots, HasRow}
 use Rattle.qo_layout.proofs.SlotLemmas.{slots-next, slots-none, there-next}
-use Rattle.qo_layout.proofs.slots.slot_lines.Goals as goal
+use Rattle.qo_layout.proofs.slots.list_slots.Goals as goal
 
 pub returns-in_default-clause-slots : goal.returns-in_default-clause-slots
 returns-in_default-clause-slots g c = λ b s.
-    subst (λ (slots : List (Option ℕ)). AreSlots b c.args.rows.now 8 slots) (sym c.new-slots.ensures.items)
+    subst (λ (slots : List (Option ℕ)). AreSlots b c.args.rows.now 8 slots) (sym c.clear.ensures.items)
     (slots-none b c.args.heap.now s c.args.rows.now c.in_default.ensures.none)
 
 pub loop-slot-preserved : goal.loop-slot-preserved
