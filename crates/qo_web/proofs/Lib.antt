@@ -1,4 +1,0 @@
-pub mod Base
-pub mod WeakLists
-pub mod WeakMoves
-pub mod WeakRows

@@ -1,3 +1,0 @@
-pub mod Born
-pub mod Rows
-pub mod Weak

@@ -1,6 +1,0 @@
-//! A scratch crate.
-#![tactic(auto)]
-
-mod entries;
-
-pub use entries::{End, Node};
