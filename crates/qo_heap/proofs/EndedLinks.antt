@@ -1,8 +1,8 @@
 -- What a heap has once a weak link was let go that names an object or is its own, and once none is left.
-use Rattle.std.proofs.Common.{◌≡◌, refl, ap, sym, subst, ◌∙◌, ℕ, zero, suc, ◌+◌, ◌*◌, ◌≤◌, Bool, true, false, ◌||◌, ◌==◌, cond, eqb, List, [], ◌∷◌, map, sum_by, count_by, Option, Some, None, option_map, is_some, arith}
+use Rattle.std.proofs.Common.{◌≡◌, refl, ap, sym, subst, ◌∙◌, ℕ, zero, suc, ◌+◌, ◌*◌, ◌≤◌, Bool, true, false, ◌||◌, cond, eqb, List, [], ◌∷◌, map, sum_by, count_by, Option, Some, None, option_map, is_some, arith}
 use Rattle.std.specs.List.{AllByRecursion}
 use Rattle.std.specs.Option.{option_and_then, option_map_or}
-use Rattle.std.proofs.lemmas.Bool.{eqb-true, eq-eqb}
+use Rattle.std.proofs.lemmas.Bool.{eqb-true}
 use Rattle.std.proofs.lemmas.List.Sums.{sum_by-cons}
 use Rattle.qo_values.proofs.ListLemmas.{all-imply}
 use Rattle.qo_values.specs.declared.kinds.TypeId.{TypeId}
@@ -12,8 +12,8 @@ use Rattle.qo_object.specs.declared.slots.Slot.TheVariants.{Plain, Child, Link, 
 use Rattle.qo_object.specs.Slots.{Named, each_changed, forgotten_in, holds, let_go_at, names_weakly, referent, slot_in, weak_target}
 use Rattle.qo_object.specs.Content.{Content, dropped_at, forgotten, holding, reference_count}
 use Rattle.qo_heap.specs.Keeping.{holders}
-use Rattle.qo_heap.specs.Rows.{IsLive, edit, edited, object_at, without}
-use Rattle.qo_heap.specs.Objects.{IsHeap, Objects, content_of, ended, forgets, pins_of, refs_of, with_edit}
+use Rattle.qo_heap.specs.Rows.{IsLive, edit, without}
+use Rattle.qo_heap.specs.Objects.{Objects, content_of, ended, forgets, pins_of, refs_of, with_edit}
 use Rattle.qo_heap.specs.WeakEnds.{LetGo, weak_ends, weak_ends_in}
 use Rattle.qo_heap.proofs.BoardObjects.{content-edited, content-other}
 use Rattle.qo_heap.proofs.HeapLemmas.{live-edit}

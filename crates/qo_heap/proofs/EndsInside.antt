@@ -1,12 +1,12 @@
 -- What a call that lets a weak link go finds of the entries of a heap, and leaves.
-use Rattle.std.proofs.Common.{◌≡◌, refl, ap, sym, subst, ◌∙◌, ℕ, Bool, true, false, ◌||◌, ◌==◌, eqb, List, [], length, slice_get, option_to_list, Option, Some, None, is_some, IfSome}
+use Rattle.std.proofs.Common.{◌≡◌, refl, ap, sym, subst, ◌∙◌, ℕ, true, ◌||◌, ◌==◌, [], length, slice_get, option_to_list, Option, Some, None, is_some, IfSome}
 use Rattle.std.specs.List.{AllByRecursion}
 use Rattle.std.specs.Option.{option_and_then}
 use Rattle.std.proofs.lemmas.Bool.{eqb-true}
 use Rattle.qo_slots.specs.declared.keys.Key.{Key}
 use Rattle.qo_slots.specs.Table.{Table, find}
 use Rattle.qo_object.specs.Slots.{is_born, named_in}
-use Rattle.qo_object.specs.Content.{Content, dropped_at}
+use Rattle.qo_object.specs.Content.{dropped_at}
 use Rattle.qo_heap.specs.Keeping.{hold_at, plain}
 use Rattle.qo_heap.specs.Order.{IsOrdered, rows_in}
 use Rattle.qo_heap.specs.Rows.{IsLive, object_at}
@@ -18,7 +18,6 @@ use Rattle.qo_heap.specs.declared.entries.Hold.{Hold}
 use Rattle.qo_heap.specs.declared.entries.Loose.{Loose}
 use Rattle.qo_heap.specs.declared.heap.Heap.TheInside.{Inside}
 use Rattle.qo_heap.specs.declared.weak_links.End.{End}
-use Rattle.qo_heap.specs.declared.weak_links.Node.{Node}
 use Rattle.qo_heap.proofs.HeapLemmas.{dropped-there}
 use Rattle.qo_heap.proofs.HoldLemmas.{Moves, dropped-length, dropped-moves}
 use Rattle.qo_heap.proofs.InsideObjects.{EditedInside, IsInside, changed-inside, changes-kept, entries, few-there, objects_inside, ordered-written, with_written}

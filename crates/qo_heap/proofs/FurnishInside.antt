@@ -1,5 +1,5 @@
 -- What a call that gives an object its first slots finds of the entries of a heap, and leaves.
-use Rattle.std.proofs.Common.{◌≡◌, refl, ap, sym, subst, ◌∙◌, ℕ, ◌+◌, ◌^◌, ◌≤◌, Bool, true, false, eqb, List, [], ◌∷◌, length, Option, Some, None, arith}
+use Rattle.std.proofs.Common.{◌≡◌, refl, ap, sym, subst, ◌∙◌, ℕ, ◌^◌, ◌≤◌, Bool, true, false, eqb, List, [], ◌∷◌, length, Some, None, arith}
 use Rattle.std.specs.List.{AllByRecursion}
 use Rattle.qo_slots.specs.declared.keys.Key.{Key}
 use Rattle.qo_slots.specs.Table.{Table, with_value}
@@ -10,7 +10,7 @@ use Rattle.qo_heap.specs.Order.{IsOrdered, rows_in}
 use Rattle.qo_heap.specs.Rows.{IsLive, edit, object_at}
 use Rattle.qo_heap.specs.Objects.{slots_of}
 use Rattle.qo_heap.specs.WeakLinks.{NumbersRise, weak_names, with_nodes}
-use Rattle.qo_heap.specs.WeakLists.{HasWeakLists, IsNumbered, names, with_links}
+use Rattle.qo_heap.specs.WeakLists.{HasWeakLists, with_links}
 use Rattle.qo_heap.specs.declared.entries.Entry.{Entry}
 use Rattle.qo_heap.specs.declared.heap.Heap.TheInside.{Inside}
 use Rattle.qo_heap.specs.declared.weak_links.Node.{Node}

@@ -237,10 +237,13 @@ path-inside h good o live path e d there is none w place =
             (sym rows) kept.good,
         (
           changes.ordered,
-          (changes.kept, (
-            weak-written h good o live (with_path path) e (with_content e d) there (content-written (with_path path) e d is) refl,
-            good.1.1.1.1,
-          )),
+          (
+            changes.kept,
+            (
+              weak-written h good o live (with_path path) e (with_content e d) there (content-written (with_path path) e d is) refl,
+              good.1.1.1.1,
+            ),
+          ),
         ),
       );
       now = ap (λ (rows : List (Key × Content)). record v { rows = rows; events = w }) rows ∙ kept.now;

@@ -1,5 +1,5 @@
 -- The lists of weak links are right again once a slot was let go, pointed, added or cut.
-use Rattle.std.proofs.Common.{◌≡◌, refl, ap, ap₂, sym, subst, ◌∙◌, ℕ, zero, suc, ◌+◌, ◌<◌, ◌≤◌, Bool, true, false, cond, eqb, List, [], ◌∷◌, ◌++◌, length, slice_get, slice_set, remove, option_to_list, Option, Some, None, option_map, is_some, IfSome, arith}
+use Rattle.std.proofs.Common.{◌≡◌, refl, ap, ap₂, sym, subst, ◌∙◌, ℕ, ◌+◌, ◌<◌, ◌≤◌, Bool, true, false, eqb, List, [], ◌∷◌, ◌++◌, length, slice_get, slice_set, remove, option_to_list, Option, Some, None, option_map, is_some, IfSome, arith}
 use Rattle.std.specs.List.{AllByRecursion}
 use Rattle.std.specs.Option.{option_and_then, option_map_or}
 use Rattle.std.proofs.lemmas.List.Sums.{sum_by-append, sum_by-cons}
@@ -7,12 +7,12 @@ use Rattle.qo_values.specs.declared.kinds.TypeId.{TypeId}
 use Rattle.qo_slots.specs.declared.keys.Key.{Key}
 use Rattle.qo_object.specs.declared.slots.Slot.{Slot}
 use Rattle.qo_object.specs.declared.slots.Slot.TheVariants.{Plain, Child, Link, Alias}
-use Rattle.qo_object.specs.Slots.{Named, changed_at, is_empty_link, named_in, slot_in, target_of, weak_target}
+use Rattle.qo_object.specs.Slots.{is_empty_link, named_in, slot_in, target_of, weak_target}
 use Rattle.qo_object.specs.Content.{Content, cut_at, dropped_at, empty_link_at, fresh, named_at, pointed_at, with_slot}
-use Rattle.qo_heap.specs.Keeping.{IsCounted, IsKept, IsShort, all_less, all_more, hold_at, hold_of, holds_in, less_held, more_held, owners, plain, unheld, with_object}
+use Rattle.qo_heap.specs.Keeping.{IsCounted, IsKept, IsShort, all_less, all_more, hold_at, hold_of, less_held, more_held, owners, plain, unheld, with_object}
 use Rattle.qo_heap.specs.Rows.{IsLive, Rises, births, edit, edited, object_at}
 use Rattle.qo_heap.specs.WeakLinks.{Links, NumbersRise, new_node, node_of, weak_name, weak_names, weak_place, with_both, with_next, with_prev}
-use Rattle.qo_heap.specs.WeakLists.{HasWeakLists, IsListed, IsNumbered, added_links, bag_in, cell_in, cut_links, head_in, joined_in, led_in, linked_in, loose_at, loose_of, loosed_in, named_weight, names, node_at, row_weight, turned_in, unlinked_in, with_first, with_links, with_node}
+use Rattle.qo_heap.specs.WeakLists.{HasWeakLists, IsNumbered, added_links, bag_in, cell_in, cut_links, head_in, joined_in, led_in, loose_at, loose_of, loosed_in, named_weight, names, node_at, row_weight, turned_in, with_first, with_links, with_node}
 use Rattle.qo_heap.specs.declared.entries.Entry.{Entry}
 use Rattle.qo_heap.specs.declared.entries.Hold.{Hold}
 use Rattle.qo_heap.specs.declared.entries.Loose.{Loose}
@@ -24,7 +24,6 @@ use Rattle.qo_heap.proofs.WeakChains.{Neighbours, listed-as}
 use Rattle.qo_heap.proofs.WeakChanges.{added-lists, joined-lists, left-lists, left-live, numbered-there, removed-lists, known-now, rises-now, same-lists, there-now}
 use Rattle.qo_heap.proofs.WeakRows.{read-same, sum-same}
 use Rattle.qo_heap.proofs.WeakSlots.{added-names, dropped-names, get-last, named-place, paired, pointed-names, put-last, put-same, put_at, removed-names, removed_at, weak-holds-none, weak-stays}
-use Rattle.qo_heap.proofs.WeakTables.{plain-joined, plain-led, plain-loosed, plain-turned}
 
 -- an edit that leaves all of weak links leaves their lists
 module _ (n : ℕ) (g : Entry → Entry) (links : (x : Entry) → (g x).links ≡ x.links) (named : (x : Entry) → names (g x) ≡ names x) (rows : List (Key × Entry)) where
@@ -302,6 +301,10 @@ module _ (last : ℕ) (rows : List (Key × Entry)) (rises : Rises 0 (births rows
     slot-added-lists (Link ty true target) (Some k) weak above known = cc
     slot-added-lists (Link ty false None) (Some k) weak above known = empty-added ty k above
     slot-added-lists (Link ty false (Some t)) (Some k) weak above known = full-added ty k t above known
+
+-- no object is there
+pub no-lists : HasWeakLists []
+no-lists = record { lists = λ n. ([], (refl, λ w. refl)); numbered = tt }
 
 -- an object is made
 read-more : {A : Type 0} (g : Entry → Option A) (row : Key × Entry) → g row.1 ≡ None → (rows : List (Key × Entry)) (m : ℕ)

@@ -3,7 +3,6 @@ use Rattle.std.proofs.Common.{◌≡◌, refl, ap, ap₂, sym, subst, ◌∙◌,
 use Rattle.std.specs.List.{AllByRecursion}
 use Rattle.std.specs.Option.{option_and_then, option_map_or}
 use Rattle.std.proofs.lemmas.Bool.{eqb-true, eq-eqb}
-use Rattle.std.proofs.lemmas.Option.{same_Some}
 use Rattle.std.proofs.lemmas.List.Sums.{sum_by-cons}
 use Rattle.qo_values.proofs.ListLemmas.{all-imply}
 use Rattle.qo_slots.specs.declared.keys.Key.{Key}
@@ -16,8 +15,8 @@ use Rattle.qo_heap.specs.declared.weak_links.End.{End}
 use Rattle.qo_heap.specs.declared.weak_links.Node.{Node}
 use Rattle.qo_heap.proofs.HeapLemmas.{births-edit}
 use Rattle.qo_heap.proofs.KeepingLemmas.{all-edit, all-object}
-use Rattle.qo_heap.proofs.WeakChains.{Apart, IsApart, Neighbours, all-of, apart-none, chain-same, head-has, listed-as, neighbours, same-self}
-use Rattle.qo_heap.proofs.WeakMoves.{into-bag, into-listed, linked-numbered, out-bag, out-listed, unlinked-numbered}
+use Rattle.qo_heap.proofs.WeakChains.{IsApart, Neighbours, all-of, apart-none, chain-same, head-has, listed-as, neighbours, same-self}
+use Rattle.qo_heap.proofs.WeakMoves.{into-listed, linked-numbered, out-listed, unlinked-numbered}
 use Rattle.qo_heap.proofs.WeakNodes.{added-weighs, node-added, node-at, node-removed, none-weighs, put-weighs, removed-weighs, rise-added, rise-removed, weighs}
 use Rattle.qo_heap.proofs.WeakRows.{apart-in, bag-one, free-named, object-here, object-other, spans, spans-new, spans-once, sum-named}
 
@@ -185,8 +184,10 @@ module _ (last : ℕ) (rows : List (Key × Entry)) (rises : Rises 0 (births rows
           lists = λ n.
               let list = lists-before n in
               (list.0, (list.1.0, λ w. list.1.1 w ∙ omega (arith, weights n w, named n w)));
-          numbered = numbered-now (ap (λ (l : _). length l.nodes) links ∙ numbered-there.0 ∙ sym (ap (λ (l : List (Option Key)). length l) same),
-              subst (λ (l : _). NumbersRise l.nodes) (sym links) numbered-there.1);
+          numbered = numbered-now (
+            ap (λ (l : _). length l.nodes) links ∙ numbered-there.0 ∙ sym (ap (λ (l : List (Option Key)). length l) same),
+            subst (λ (l : _). NumbersRise l.nodes) (sym links) numbered-there.1,
+          );
         }
       where
         named : (n : ℕ) (w : End → ℕ) → named_weight n w o y.links.nodes (names y) ≡ named_weight n w o x.links.nodes (names x)
@@ -206,8 +207,10 @@ module _ (last : ℕ) (rows : List (Key × Entry)) (rises : Rises 0 (births rows
 
       put-numbered : AllByRecursion IsNumbered now
       put-numbered =
-          numbered-now (ap (λ (ks : _). length ks.nodes) links ∙ numbered-there.0 ∙ sym (length-set (names x) k to) ∙ sym (ap (λ (ts : List (Option Key)). length ts) put),
-          subst (λ (ks : _). NumbersRise ks.nodes) (sym links) numbered-there.1)
+          numbered-now (
+            ap (λ (ks : _). length ks.nodes) links ∙ numbered-there.0 ∙ sym (length-set (names x) k to) ∙ sym (ap (λ (ts : List (Option Key)). length ts) put),
+            subst (λ (ks : _). NumbersRise ks.nodes) (sym links) numbered-there.1,
+          )
         where
           length-set : (ts : List (Option Key)) (i : ℕ) (t : Option Key) → length (slice_set ts i t) ≡ length ts
           length-set [] i t = refl
@@ -323,10 +326,9 @@ module _ (last : ℕ) (rows : List (Key × Entry)) (rises : Rises 0 (births rows
       (λ n. let none : spans (own id) rows ≡ 0 = spans-new (own id) 0 last rows rises x there below in omega (arith, none, bag-one (own id) n rows))
       (λ j differ. ap (λ (ns : List Node). node_of ns j) nodes ∙ node-added id j differ x.links.nodes)
       (λ n w. ap₂ (λ (ns : List Node) (ts : List (Option Key)). named_weight n w o ns ts) nodes named
-      ∙ added-weighs n w o x.links.nodes (names x) (new_node id) numbered-there.0)
-      (
+      ∙ added-weighs n w o x.links.nodes (names x) (new_node id) numbered-there.0) (
         ap (λ (ns : List Node). length ns) nodes ∙ omega (arith, numbered-there.0, one-more x.links.nodes (new_node id), one-more (names x) None)
-        ∙ sym (ap (λ (ts : List (Option Key)). length ts) named),
+            ∙ sym (ap (λ (ts : List (Option Key)). length ts) named),
         subst NumbersRise (sym nodes) (rise-added x.links.nodes id numbered-there.1 below),
       )
     where
@@ -345,8 +347,7 @@ module _ (last : ℕ) (rows : List (Key × Entry)) (rises : Rises 0 (births rows
         spans-once (own l.id) 0 last rows rises (rising-numbers rows good.numbered),
       ))
       (λ j differ. ap (λ (ns : List Node). node_of ns j) nodes ∙ node-removed k j x.links.nodes l at differ)
-      (λ n w. ap₂ (λ (ns : List Node) (ts : List (Option Key)). named_weight n w o ns ts) nodes named ∙ removed-weighs n w o k x.links.nodes (names x) had)
-      (
+      (λ n w. ap₂ (λ (ns : List Node) (ts : List (Option Key)). named_weight n w o ns ts) nodes named ∙ removed-weighs n w o k x.links.nodes (names x) had) (
         ap (λ (ns : List Node). length ns) nodes ∙ one-less k x.links.nodes (names x) numbered-there.0 ∙ sym (ap (λ (ts : List (Option Key)). length ts) named),
         subst NumbersRise (sym nodes) (rise-removed k x.links.nodes numbered-there.1),
       )

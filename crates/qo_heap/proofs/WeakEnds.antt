@@ -1,5 +1,5 @@
 -- The weak links that end with an object: what each of them is, and what is so where none is left.
-use Rattle.std.proofs.Common.{◌≡◌, refl, ap, ap₂, sym, subst, ◌∙◌, ℕ, zero, suc, ◌+◌, ◌<◌, ◌≤◌, Bool, true, false, not, ◌||◌, ◌==◌, cond, eqb, List, [], ◌∷◌, map, length, position, slice_get, sum_by, count_by, Option, Some, None, option_map, is_some, IfSome, IfNone, arith}
+use Rattle.std.proofs.Common.{◌≡◌, refl, ap, ap₂, sym, subst, ◌∙◌, ℕ, zero, suc, ◌+◌, ◌<◌, ◌≤◌, Bool, true, false, not, ◌||◌, ◌==◌, cond, eqb, List, [], ◌∷◌, map, length, position, slice_get, sum_by, count_by, Option, Some, None, is_some, IfSome, IfNone, arith}
 use Rattle.std.specs.List.{AllByRecursion}
 use Rattle.std.specs.Option.{option_and_then, option_map_or}
 use Rattle.std.proofs.lemmas.Bool.{eqb-true, eq-eqb}
@@ -10,12 +10,12 @@ use Rattle.qo_slots.specs.declared.keys.Key.{Key}
 use Rattle.qo_object.specs.declared.slots.Slot.{Slot}
 use Rattle.qo_object.specs.declared.slots.Slot.TheVariants.{Plain, Child, Link, Alias}
 use Rattle.qo_object.specs.Slots.{Named, each_changed, forgotten_in, is_born, named_in, names_weakly, slot_in, target_of, weak_target}
-use Rattle.qo_object.specs.Content.{Content, dropped_at, forgotten}
+use Rattle.qo_object.specs.Content.{Content, dropped_at}
 use Rattle.qo_heap.specs.Keeping.{entry_forgets, plain, with_object}
 use Rattle.qo_heap.specs.Rows.{IsLive, Rises, births, object_at, without}
 use Rattle.qo_heap.specs.Objects.{forgets}
 use Rattle.qo_heap.specs.WeakEnds.{DropsLink, IsLinked, IsWeakEnd, naming, own, weak_ends, weak_ends_in}
-use Rattle.qo_heap.specs.WeakLinks.{NumbersRise, is_weak_at, node_of, one_end, weak_before, weak_name, weak_names, weak_place}
+use Rattle.qo_heap.specs.WeakLinks.{is_weak_at, node_of, one_end, weak_before, weak_name, weak_names, weak_place}
 use Rattle.qo_heap.specs.WeakLists.{HasWeakLists, IsChain, IsListed, IsNumbered, bag_in, cell_in, head_in, loose_at, named_weight, names, node_at, row_weight}
 use Rattle.qo_heap.specs.declared.entries.Entry.{Entry}
 use Rattle.qo_heap.specs.declared.entries.Loose.{Loose}
@@ -23,10 +23,10 @@ use Rattle.qo_heap.specs.declared.weak_links.End.{End}
 use Rattle.qo_heap.specs.declared.weak_links.Node.{Node}
 use Rattle.qo_heap.proofs.KeptEnds.{only-one}
 use Rattle.qo_heap.proofs.RowsLemmas.{same_key}
-use Rattle.qo_heap.proofs.WeakChains.{all-of, first, chain-first, listed-as, same-self}
+use Rattle.qo_heap.proofs.WeakChains.{all-of, listed-as, same-self}
 use Rattle.qo_heap.proofs.WeakChanges.{head-live, rising-numbers}
-use Rattle.qo_heap.proofs.WeakNodes.{node-at, none-weighs, span}
-use Rattle.qo_heap.proofs.WeakRows.{free-named, object-other, spans, spans-once}
+use Rattle.qo_heap.proofs.WeakNodes.{node-at, none-weighs}
+use Rattle.qo_heap.proofs.WeakRows.{free-named, spans-once}
 use Rattle.qo_heap.proofs.WeakSlots.{named-place, paired, place_before}
 
 -- a slot that is a weak link and names an object
@@ -280,9 +280,10 @@ none-forgotten n (s ∷ slots) none =
 -- what a row of another birth, and one of the birth itself, then name
 ends-cons : (n : ℕ) (row : Key × Entry) (rows : List (Key × Entry)) → weak_ends n (plain (row ∷ rows)) ≡ 0
     → (weak_ends_in n (row.0, row.1.object) ≡ 0) × (weak_ends n (plain rows) ≡ 0)
-ends-cons n row rows none =
-    (omega (arith, none, sum_by-cons (weak_ends_in n) (row.0, row.1.object) (plain rows)),
-    omega (arith, none, sum_by-cons (weak_ends_in n) (row.0, row.1.object) (plain rows)))
+ends-cons n row rows none = (
+  omega (arith, none, sum_by-cons (weak_ends_in n) (row.0, row.1.object) (plain rows)),
+  omega (arith, none, sum_by-cons (weak_ends_in n) (row.0, row.1.object) (plain rows)),
+)
 
 other-ends : (n : ℕ) (row : Key × Entry) → eqb row.0.birth n ≡ false → weak_ends_in n (row.0, row.1.object) ≡ 0
     → count_by (λ (s : Named). names_weakly n s.1) row.1.object.slots ≡ 0

@@ -1,24 +1,22 @@
 -- What a call that changes weak links finds of the entries of a heap, and leaves.
-use Rattle.std.proofs.Common.{◌≡◌, refl, ap, ap₂, sym, subst, ◌∙◌, ℕ, ◌+◌, ◌*◌, ◌^◌, ◌<◌, ◌≤◌, Bool, true, false, eqb, List, [], ◌∷◌, ◌++◌, length, slice_get, sum_by, option_to_list, Option, Some, None, is_some, option_map, IfSome, IsSomeAnd, arith}
+use Rattle.std.proofs.Common.{◌≡◌, refl, ap, ap₂, sym, subst, ◌∙◌, ℕ, ◌+◌, ◌*◌, ◌^◌, ◌<◌, ◌≤◌, Bool, true, false, eqb, List, [], ◌∷◌, length, slice_get, sum_by, option_to_list, Option, Some, None, is_some, option_map, IfSome, IsSomeAnd, arith}
 use Rattle.std.specs.List.{AllByRecursion}
 use Rattle.std.specs.Option.{option_and_then}
 use Rattle.std.proofs.lemmas.Bool.{eqb-true}
 use Rattle.std.proofs.lemmas.Option.{same_Some}
-use Rattle.std.proofs.lemmas.List.Sums.{sum_by-append, sum_by-cons}
 use Rattle.qo_values.proofs.ListLemmas.{all-imply}
-use Rattle.qo_values.specs.declared.kinds.TypeId.{TypeId}
 use Rattle.qo_slots.specs.declared.keys.Key.{Key}
-use Rattle.qo_slots.specs.Table.{Table, with_value}
+use Rattle.qo_slots.specs.Table.{Table}
 use Rattle.qo_object.specs.declared.slots.Slot.{Slot}
 use Rattle.qo_object.specs.declared.slots.Slot.TheVariants.{Plain, Child, Link, Alias}
 use Rattle.qo_object.specs.Slots.{target_of, weak_target}
-use Rattle.qo_object.specs.Content.{Content, cut_at, dropped_at, empty_link_at, fresh, named_at, pointed_at, with_slot}
-use Rattle.qo_heap.specs.Keeping.{IsCounted, IsKept, all_less, all_more, hold_at, hold_of, holders, owners, parent_in, plain, unheld, with_object}
+use Rattle.qo_object.specs.Content.{Content, cut_at, dropped_at, empty_link_at, named_at, pointed_at, with_slot}
+use Rattle.qo_heap.specs.Keeping.{IsCounted, IsKept, all_less, all_more, hold_at, hold_of, holders, owners, parent_in, plain, with_object}
 use Rattle.qo_heap.specs.Order.{IsOrdered, rows_in}
 use Rattle.qo_heap.specs.Rows.{IsLive, edit, edited, object_at, row_at}
-use Rattle.qo_heap.specs.Objects.{Objects, content_of}
-use Rattle.qo_heap.specs.WeakLinks.{Links, node_of, weak_name, weak_place}
-use Rattle.qo_heap.specs.WeakLists.{CanJoin, CanLeave, HasWeakLists, IsNumbered, added_links, bag_in, cell_in, cut_links, head_in, joined_in, loose_at, loose_of, loosed_in, names, node_at, row_weight, with_links}
+use Rattle.qo_heap.specs.Objects.{content_of}
+use Rattle.qo_heap.specs.WeakLinks.{Links, weak_name, weak_place}
+use Rattle.qo_heap.specs.WeakLists.{CanJoin, CanLeave, HasWeakLists, IsNumbered, added_links, cut_links, head_in, joined_in, loose_at, loose_of, loosed_in, names, node_at, with_links}
 use Rattle.qo_heap.specs.declared.entries.Entry.{Entry}
 use Rattle.qo_heap.specs.declared.entries.Hold.{Hold}
 use Rattle.qo_heap.specs.declared.entries.Loose.{Loose}
@@ -28,12 +26,12 @@ use Rattle.qo_heap.specs.declared.weak_links.Node.{Node}
 use Rattle.qo_heap.proofs.BoardObjects.{named-live}
 use Rattle.qo_heap.proofs.HeapLemmas.{live-edit}
 use Rattle.qo_heap.proofs.HoldLemmas.{Moves, child_of_birth}
-use Rattle.qo_heap.proofs.InsideObjects.{Changes, IsInside, counted-there, entries, held-few, objects_inside, plain-written, rows-written, there-plain, with_written}
+use Rattle.qo_heap.proofs.InsideObjects.{Changes, IsInside, counted-there, entries, held-few, objects_inside, plain-written, there-plain, with_written}
 use Rattle.qo_heap.proofs.KeepingLemmas.{all-edit, counted-won, kept-as, live-entry, live-plain, once-won, plain-less, plain-more, plain-there, short-after}
 use Rattle.qo_heap.proofs.RowsLemmas.{edit-as, rows-rise}
 use Rattle.qo_heap.proofs.ValueLemmas.{Written, written}
 use Rattle.qo_heap.proofs.WeakCalls.{cut-lists, dropped-lists, head-more, kept-joined, kept-loosed, loose-live, pointed-lists, slot-added-lists}
-use Rattle.qo_heap.proofs.WeakChains.{Neighbours, listed-as}
+use Rattle.qo_heap.proofs.WeakChains.{Neighbours}
 use Rattle.qo_heap.proofs.WeakChanges.{head-live, heads, numbered-there}
 use Rattle.qo_heap.proofs.WeakSlots.{weak-stays}
 use Rattle.qo_heap.proofs.WeakTables.{plain-joined, plain-loosed}
@@ -210,7 +208,7 @@ module _ (h : Inside) (good : IsInside h) (o : Key) (live : IsLive (objects_insi
       ∙ heads h.table.born (entries h) rises good.1.1.1.0 o (live-entry (entries h) o live) e w there first target.birth in (
         now same target lives,
         subst (λ (k : Option End). IfSome k (λ x. IsLive (plain (rows_in t order)) x.owner)) (sym head)
-        (owner same (head_in (entries h) target.birth) (head-live h.table.born (entries h) rises good.1.1.1.0 target.birth)),
+            (owner same (head_in (entries h) target.birth) (head-live h.table.born (entries h) rises good.1.1.1.0 target.birth)),
       )
     where
       now : plain (rows_in t h.order.items) ≡ edit o.birth f (objects_inside h).rows → (key : Key) → IsLive (objects_inside h).rows key

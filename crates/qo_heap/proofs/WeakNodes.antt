@@ -222,7 +222,6 @@ module _ (e : End) (owner : Key) where
           let none : one_end e (record { owner = owner; id = x.id }) ≡ 0 = ap (λ (b : Bool). cond {A = ℕ} b 1 0) is in
           omega (arith, none, split, rest)
 
-
 -- one that does not name the object weighs beside those that do
 pub named-less : (n : ℕ) (w : End → ℕ) (owner : Key) (k : ℕ) (xs : List Node) (ts : List (Option Key)) (x : Node) (t : Option Key) → slice_get xs k ≡ Some x
     → slice_get ts k ≡ Some t → is_born n t ≡ false

@@ -127,7 +127,6 @@ added-names name slot ((n, Link ty true target) ∷ slots) = added-names name sl
 added-names name slot ((n, Link ty false target) ∷ slots) = ap (λ (l : List (Option Key)). target ∷ l) (added-names name slot slots)
 added-names name slot ((n, Alias key of) ∷ slots) = added-names name slot slots
 
-
 -- which of the weak links a slot is, by what stands before it
 pub place_before : (i : ℕ) (slots : List Named) → weak_place slots i ≡ cond (is_weak_at slots i) (Some (weak_before i slots)) None
 place_before i [] = refl

@@ -1,9 +1,9 @@
 -- For proofs alone. The weak links that end with an object: those that name it, and its own.
-use Rattle.std.specs.Prelude.{◌≡◌, ℕ, Bool, true, ◌||◌, ◌==◌, if◌then◌else◌, List, sum_by, count_by, Option, Some, is_some}
+use Rattle.std.specs.Prelude.{◌≡◌, ℕ, true, ◌||◌, ◌==◌, if◌then◌else◌, List, sum_by, count_by, Option, Some, is_some}
 use Rattle.std.specs.Option.{option_and_then}
 use Rattle.qo_slots.specs.declared.keys.Key.{Key}
 use Rattle.qo_object.specs.Slots.{Named, names_weakly, slot_in, weak_target}
-use Rattle.qo_object.specs.Content.{Content, dropped_at, named_at}
+use Rattle.qo_object.specs.Content.{Content, dropped_at}
 use Rattle.qo_heap.specs.Keeping.{with_object}
 use Rattle.qo_heap.specs.Objects.{IsHeap, Objects, content_of, with_edit}
 use Rattle.qo_heap.specs.Rows.{IsLive}

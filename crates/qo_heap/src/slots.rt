@@ -183,13 +183,7 @@ impl Heap {
     }
 
     /// Points the link at a place, which has no target, at an object, if there is one.
-    fn point_if<L: Ledger>(
-        &mut self,
-        o: Oid,
-        at: usize,
-        target: Option<Oid>,
-        steps: &mut Steps<L>,
-    )
+    fn point_if<L: Ledger>(&mut self, o: Oid, at: usize, target: Option<Oid>, steps: &mut Steps<L>)
         requires live { IsLive self.old.rows o }
         requires target { IfSome target (IsLive self.old.rows) }
         requires link { IfSome target (λ t. option_map (λ c. empty_link_at c at) (content_of self.old o.birth) ≡ Some true) }

@@ -29,7 +29,9 @@ fn set_first<L: Ledger>(
     ensures born { table.new.born ≡ table.old.born }
     ensures cost { steps.new ≡ steps.old + 1 }
 {
-    entry_mut(table, order, target, steps).links.set_first(first)
+    entry_mut(table, order, target, steps)
+        .links
+        .set_first(first)
 }
 
 /// Has a link be the first of a list, with another behind it.

@@ -1,6 +1,6 @@
 //! Which of the weak links of an object a slot is.
 
-ghost use Rattle.std.specs.Prelude.{◌≡◌, ◌≤◌, true, None, Some, IfSome, IfNone, is_some, length, option_map};
+ghost use Rattle.std.specs.Prelude.{◌≡◌, ◌≤◌, true, None, Some, IfSome, IfNone, is_some, length};
 ghost use Rattle.std.specs.List.{AllByRecursion};
 ghost use Rattle.std.specs.Option.{option_and_then};
 ghost use Rattle.qo_object.specs.Slots.{slot_in, weak_target};

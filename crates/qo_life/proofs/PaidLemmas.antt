@@ -23,7 +23,8 @@ use Rattle.qo_object.specs.Slots.{Named, target_of, weak_target}
 use Rattle.qo_object.specs.Slots as object
 use Rattle.qo_object.specs.BoardObject.{shown_slot, shown_slots}
 use Rattle.qo_life.specs.Life.{Goes}
-use Rattle.qo_life.specs.Work.{weak_ends, weak_ends_on, worth}
+use Rattle.qo_heap.specs.WeakEnds.{weak_ends as weak_ends_on, weak_ends_in}
+use Rattle.qo_life.specs.Work.{weak_ends, worth}
 use Rattle.qo_life.proofs.TreeLemmas.{goes-shows}
 
 -- An end takes the weak links that name the object, and its own.
@@ -148,11 +149,7 @@ weak-shown n (row ∷ rows) =
       weak-shown n rows,
       row-shown n row,
       sum_by-cons (ends_in n) (record_of row) (map record_of rows),
-      sum_by-cons
-          (λ (r : Key × Content).
-          if r.0.birth == n then count_by (λ (s : Named). is_some (weak_target s.1)) r.1.slots
-          else count_by (λ (s : Named). object.names_weakly n s.1) r.1.slots)
-          row rows,
+      sum_by-cons (weak_ends_in n) row rows,
     )
 
 -- What is paid on a board of a heap.

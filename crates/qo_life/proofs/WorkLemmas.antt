@@ -35,7 +35,8 @@ use Rattle.qo_heap.proofs.EndLemmas.{length-without, live-without}
 use Rattle.qo_heap.proofs.HeapLemmas.{live-edit, length-edit}
 use Rattle.qo_life.specs.declared.release.Front.{Front}
 use Rattle.qo_life.specs.Life.{Goes, next_at, with_log}
-use Rattle.qo_life.specs.Work.{GoesOn, kept, freed, front_at, weak_ends, weak_ends_on, work_of, worth}
+use Rattle.qo_heap.specs.WeakEnds.{weak_ends as weak_ends_on}
+use Rattle.qo_life.specs.Work.{GoesOn, kept, freed, front_at, weak_ends, work_of, worth}
 use Rattle.qo_life.proofs.BoardLemmas.{Stays, none-held, stays-finish, stays-other, stays-own}
 use Rattle.qo_life.proofs.ReleaseLemmas.{given, next-shown, slot-shown, turn-live}
 use Rattle.qo_life.proofs.PaidLemmas.{finish-weak, weak-shown, worth-same}

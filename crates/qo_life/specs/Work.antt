@@ -1,14 +1,12 @@
 -- For proofs alone. The work of a release as it stands in the objects of a heap: each object that waits has the place from which its slots are still to be let
 -- go, and the one whose release goes on after its end.
-use Rattle.std.specs.Prelude.{◌≡◌, ℕ, ◌+◌, ◌*◌, ◌<◌, ◌==◌, if◌then◌else◌, List, Option, Some, None, is_some, option_map, sum_by, count_by}
+use Rattle.std.specs.Prelude.{◌≡◌, ℕ, ◌+◌, ◌*◌, ◌<◌, ◌==◌, if◌then◌else◌, List, Option, Some, option_map, sum_by, count_by}
 use Rattle.std.specs.Option.{option_and_then}
 use Rattle.qo_model.specs.Board.{Board, Record, Slot}
 use Rattle.qo_model.specs.ReleaseBound.{names_weakly, objects_and_slots, weak_in, weak_links}
 use Rattle.qo_slots.specs.declared.keys.Key.{Key}
 use Rattle.qo_object.specs.declared.room.Work.{Work}
 use Rattle.qo_object.specs.Content.{Content, with_work}
-use Rattle.qo_object.specs.Slots.{Named, weak_target}
-use Rattle.qo_object.specs.Slots as object
 use Rattle.qo_heap.specs.Objects.{Objects, content_of, refs_of, with_edit}
 use Rattle.qo_life.specs.declared.release.Front.{Front}
 
@@ -31,14 +29,6 @@ pub data GoesOn (was : Option Key) (front : Front) (next : ℕ) (v w : Objects) 
 abbrev pub worth : Board → ℕ
 worth b = 8 * objects_and_slots b + 4 * weak_links b
 
--- the weak links of a heap that are not empty and that name n or are its own
-abbrev pub weak_ends_on : ℕ → List (Key × Content) → ℕ
-weak_ends_on n rows =
-    sum_by
-    (λ (row : Key × Content).
-    if row.0.birth == n then count_by (λ (s : Named). is_some (weak_target s.1)) row.1.slots
-    else count_by (λ (s : Named). object.names_weakly n s.1) row.1.slots) rows
-
--- the same on a board
+-- the weak links of a board that are not empty and that name n or are its own
 abbrev pub weak_ends : Board → ℕ → ℕ
 weak_ends b n = sum_by (λ (r : Record). if r.birth == n then weak_in r else count_by (λ (s : List ℕ × Slot). names_weakly n s.1) r.slots) b.records

@@ -8,10 +8,9 @@ ghost use Rattle.qo_object.specs.BoardObject.{birth_of};
 ghost use Rattle.qo_object.specs.Slots.{referent, slot_in};
 ghost use Rattle.qo_heap.specs.Rows.{IsLive};
 ghost use Rattle.qo_heap.specs.Board.{Shows};
-ghost use Rattle.qo_heap.specs.Objects.{content_of, ended, pins_of, refs_of, slots_of};
-ghost use Rattle.qo_object.specs.Content.{reference_count};
+ghost use Rattle.qo_heap.specs.Objects.{pins_of, refs_of, slots_of};
 ghost use Rattle.qo_life.specs.Life.{Goes, KeepsNames, next_at};
-ghost use Rattle.qo_life.specs.Work.{GoesOn, front_at, weak_ends_on, worth};
+ghost use Rattle.qo_life.specs.Work.{GoesOn, front_at, worth};
 
 use qo_heap::{Heap, Oid, Slot, Steps, Work};
 use std::sync::ledger::Ledger;
@@ -102,16 +101,6 @@ fn front_of<L: Ledger>(heap: &Heap, next: Option<Oid>, steps: &mut Steps<L>) -> 
     })
 }
 
-fn finish_object<L: Ledger>(heap: &mut Heap, o: Oid, steps: &mut Steps<L>)
-    requires live { IsLive heap.old.rows o }
-    requires free { refs_of heap.old o.birth ≡ 0 }
-    requires bare { option_map reference_count (content_of heap.old o.birth) ≡ Some 0 }
-    ensures now { option_map (λ c. ended o.birth c heap.old) (content_of heap.old o.birth) ≡ Some heap.new }
-    ensures cost { steps.new ≤ steps.old + 2 + 4 * weak_ends_on o.birth heap.old.rows }
-{
-    heap.finish(o, steps);
-}
-
 /// Ends an object to which nothing refers: lets its slots go, in order, each with what is free then,
 /// and removes it. What waits for the end of another waits in the objects themselves.
 fn finalize<L: Ledger>(heap: &mut Heap, o: Oid, steps: &mut Steps<L>)
@@ -135,7 +124,7 @@ fn finalize<L: Ledger>(heap: &mut Heap, o: Oid, steps: &mut Steps<L>)
                 front = Some(go_on(heap, now, turn, steps));
             }
             None => {
-                finish_object(heap, now.o, steps);
+                heap.finish(now.o, steps);
                 front = front_of(heap, now.next, steps);
             }
         }

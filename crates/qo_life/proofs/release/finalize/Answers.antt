@@ -40,42 +40,42 @@ loop-front-preserved-in-Some-turn_at g c =
     (running-at c.args.heap.now c.loop-front.heap c.args.o.birth _ c.loop-front.steps c.loop-front.front c.in-Some.now c.in-Some.is c.loop-front.invariant)
     c.in-Some-turn_at.ensures.held c.in-Some-turn_at.ensures.next c.empty.ensures.now c.reveal_invariant-in-Some-turn_at.ensures c.go_on.ensures.goes
 
-pub finish_object-requires-clause-live : goal.finish_object-requires-clause-live
-finish_object-requires-clause-live g c =
+pub finish-requires-clause-live : goal.finish-requires-clause-live
+finish-requires-clause-live g c =
     (running-at c.args.heap.now c.loop-front.heap c.args.o.birth _ c.loop-front.steps c.loop-front.front c.in-Some.now c.in-Some.is c.loop-front.invariant).here.live
 
-pub finish_object-requires-clause-free : goal.finish_object-requires-clause-free
-finish_object-requires-clause-free g c =
+pub finish-requires-clause-free : goal.finish-requires-clause-free
+finish-requires-clause-free g c =
     at-free c.args.heap.now c.loop-front.heap c.args.o.birth _ c.loop-front.steps c.in-Some.now c.reveal_invariant-in-Some.ensures
     (running-at c.args.heap.now c.loop-front.heap c.args.o.birth _ c.loop-front.steps c.loop-front.front c.in-Some.now c.in-Some.is c.loop-front.invariant)
 
-pub finish_object-requires-clause-bare : goal.finish_object-requires-clause-bare
-finish_object-requires-clause-bare g c =
+pub finish-requires-clause-bare : goal.finish-requires-clause-bare
+finish-requires-clause-bare g c =
     at-bare c.args.heap.now c.loop-front.heap c.args.o.birth _ c.loop-front.steps c.in-Some.now
     (running-at c.args.heap.now c.loop-front.heap c.args.o.birth _ c.loop-front.steps c.loop-front.front c.in-Some.now c.in-Some.is c.loop-front.invariant)
     (none-given referent _ c.in-None.ensures.held)
 
 pub front_of-front-requires : goal.front_of-front-requires
 front_of-front-requires g c =
-    next-live c.args.heap.now c.loop-front.heap c.finish_object.new.heap c.args.o.birth _ c.loop-front.steps c.in-Some.now c.reveal_invariant-in-Some.ensures
+    next-live c.args.heap.now c.loop-front.heap c.finish.new.self c.args.o.birth _ c.loop-front.steps c.in-Some.now c.reveal_invariant-in-Some.ensures
     (running-at c.args.heap.now c.loop-front.heap c.args.o.birth _ c.loop-front.steps c.loop-front.front c.in-Some.now c.in-Some.is c.loop-front.invariant)
-    (none-given referent _ c.in-None.ensures.held) c.finish_object.ensures.now
+    (none-given referent _ c.in-None.ensures.held) c.finish.ensures.now
 
 pub loop-front-smaller : goal.loop-front-smaller
 loop-front-smaller g c =
     smaller-as c.loop-front.heap c.loop-front.front c.in-Some.now _ c.in-Some.is
-    (smaller-end c.args.heap.now c.loop-front.heap c.finish_object.new.heap c.args.o.birth _ c.loop-front.steps c.in-Some.now c.front_of-front.result c.reveal_invariant-in-Some.ensures
-    (running-at c.args.heap.now c.loop-front.heap c.args.o.birth _ c.loop-front.steps c.loop-front.front c.in-Some.now c.in-Some.is c.loop-front.invariant) c.finish_object.ensures.now)
+    (smaller-end c.args.heap.now c.loop-front.heap c.finish.new.self c.args.o.birth _ c.loop-front.steps c.in-Some.now c.front_of-front.result c.reveal_invariant-in-Some.ensures
+    (running-at c.args.heap.now c.loop-front.heap c.args.o.birth _ c.loop-front.steps c.loop-front.front c.in-Some.now c.in-Some.is c.loop-front.invariant) c.finish.ensures.now)
 
 pub loop-front-preserved : goal.loop-front-preserved
 loop-front-preserved g c =
-    at-end c.args.heap.now c.loop-front.heap c.finish_object.new.heap c.args.o.birth _ c.loop-front.steps c.front_of-front.new.steps c.in-Some.now
+    at-end c.args.heap.now c.loop-front.heap c.finish.new.self c.args.o.birth _ c.loop-front.steps c.front_of-front.new.steps c.in-Some.now
     c.front_of-front.result
-    (end-cost c.loop-front.steps c.turn_at.new.steps c.finish_object.new.steps c.front_of-front.new.steps c.in-Some.now.o.birth c.loop-front.heap
-    c.in-None.ensures.cost c.finish_object.ensures.cost c.front_of-front.ensures.cost)
+    (end-cost c.loop-front.steps c.turn_at.new.steps c.finish.new.steps c.front_of-front.new.steps c.in-Some.now.o.birth c.loop-front.heap
+    c.in-None.ensures.cost c.finish.ensures.cost c.front_of-front.ensures.cost)
     c.reveal_invariant-in-Some.ensures
     (running-at c.args.heap.now c.loop-front.heap c.args.o.birth _ c.loop-front.steps c.loop-front.front c.in-Some.now c.in-Some.is c.loop-front.invariant)
-    (none-given referent _ c.in-None.ensures.held) c.finish_object.ensures.now c.front_of-front.ensures.front
+    (none-given referent _ c.in-None.ensures.held) c.finish.ensures.now c.front_of-front.ensures.front
 
 pub returns-clause-goes : goal.returns-clause-goes
 returns-clause-goes g c =

@@ -1,4 +1,4 @@
-use Rattle.std.proofs.Common.{sym, ◌∙◌}
+use Rattle.std.proofs.Common.{sym}
 use Rattle.qo_heap.proofs.WeakEnds.{link-found, link-missed, link-past}
 use Rattle.qo_heap.proofs.entries.Entry.drop_link.Goals as goal
 

@@ -1,4 +1,4 @@
-use Rattle.std.proofs.Common.{◌∙◌, refl, ap, sym, Option, IfSome, ◌≡◌, ◌<◌, ◌≤◌, ◌+◌, length, None, option_to_list, arith}
+use Rattle.std.proofs.Common.{◌∙◌, refl, ap, IfSome, ◌≡◌, ◌<◌, ◌≤◌, length, None, option_to_list, arith}
 use Rattle.qo_slots.specs.declared.keys.Key.{Key}
 use Rattle.qo_object.specs.Slots.{child_of, target_of, weak_target}
 use Rattle.qo_heap.specs.Keeping.{parent_in, plain}

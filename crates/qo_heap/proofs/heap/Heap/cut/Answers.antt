@@ -1,4 +1,4 @@
-use Rattle.std.proofs.Common.{◌≡◌, ◌≤◌, ◌^◌, refl, true, ap, arith, length, []}
+use Rattle.std.proofs.Common.{◌≤◌, refl, true, ap, arith, length, []}
 use Rattle.qo_object.specs.Content.{Content, cut_at, empty_link_at}
 use Rattle.qo_heap.specs.Objects.{content_of}
 use Rattle.qo_heap.specs.declared.entries.Entry.{Entry}

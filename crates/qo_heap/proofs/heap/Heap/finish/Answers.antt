@@ -1,8 +1,6 @@
 use Rattle.std.proofs.Common.{sym, ap, ◌∙◌, option_map, arith}
-use Rattle.qo_object.specs.Content.{Content, reference_count}
-use Rattle.qo_heap.specs.Objects.{Objects, content_of, ended, refs_of}
-use Rattle.qo_heap.specs.Rows.{IsLive}
-use Rattle.qo_heap.specs.WeakEnds.{weak_ends}
+use Rattle.qo_object.specs.Content.{Content}
+use Rattle.qo_heap.specs.Objects.{Objects, content_of, ended}
 use Rattle.qo_heap.proofs.EndedLinks.{lets-next, lets-none, one-less}
 use Rattle.qo_heap.proofs.heap.Heap.finish.Goals as goal
 

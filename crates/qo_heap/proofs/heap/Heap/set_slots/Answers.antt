@@ -1,12 +1,9 @@
-use Rattle.std.proofs.Common.{◌≡◌, ◌≤◌, ap, sym, subst, ◌∙◌, List, ℕ, length, slice_get, Option, arith}
-use Rattle.std.specs.List.{AllByRecursion, IsDistinct}
+use Rattle.std.proofs.Common.{◌≡◌, ◌≤◌, ap, subst, ◌∙◌, List, ℕ, length, slice_get, Option, arith}
+use Rattle.std.specs.List.{IsDistinct}
 use Rattle.std.specs.Option.{option_and_then}
 use Rattle.std.specs.Str.{bytes_eq}
 use Rattle.qo_slots.specs.declared.keys.Key.{Key}
-use Rattle.qo_object.specs.Content.{Content, with_all_slots}
-use Rattle.qo_object.specs.Slots.{Named}
 use Rattle.qo_heap.specs.Furnishing.{refilled}
-use Rattle.qo_heap.specs.Objects.{Objects, with_edit}
 use Rattle.qo_heap.specs.Rows.{IsLive}
 use Rattle.qo_heap.proofs.FurnishLemmas.{filled-end, filled-next, filling-live, given-empty, given-live, split-childless, split-empty, split-few, split-names, split-targets}
 use Rattle.qo_heap.proofs.heap.Heap.set_slots.Goals as goal
@@ -71,4 +68,5 @@ loop-at-preserved g c =
 
 pub returns : goal.returns
 returns g c =
-    filled-end c.args.o c.args.self.now c.loop-at.self c.slots.inside.targets.items c.loop-at.at c.args.slots c.loop-at.invariant c.loop-at-test.false
+    let past : length c.slots.inside.targets.items ≤ c.loop-at.at = omega (arith, c.len-at-end.ensures, c.loop-at-test.false) in
+    filled-end c.args.o c.args.self.now c.loop-at.self c.slots.inside.targets.items c.loop-at.at c.args.slots c.loop-at.invariant past

@@ -1,9 +1,9 @@
-use Rattle.std.proofs.Common.{◌≡◌, ℕ, List, [], ◌∷◌, ◌++◌, ap, ap₂, sym, subst, ◌∙◌, length, Option}
+use Rattle.std.proofs.Common.{◌≡◌, List, [], ◌∷◌, ◌++◌, ap, ap₂, sym, subst, ◌∙◌, length, Option}
 use Rattle.qo_slots.specs.declared.keys.Key.{Key}
 use Rattle.qo_object.specs.declared.slots.Slot.{Slot}
 use Rattle.qo_object.specs.Slots.{Named, weak_target}
 use Rattle.qo_heap.specs.Furnishing.{IsSplit, refilled, unnamed}
-use Rattle.qo_heap.specs.WeakLinks.{NumbersRise, weak_names}
+use Rattle.qo_heap.specs.WeakLinks.{weak_names}
 use Rattle.qo_heap.proofs.FurnishLemmas.{filled-more, split-counted, split-more}
 use Rattle.qo_heap.proofs.new_slots.NewSlots.push.Goals as goal
 

@@ -1,4 +1,4 @@
-use Rattle.std.proofs.Common.{◌≡◌, ℕ, ◌+◌, List, [], ◌∷◌, ◌++◌, ap, sym, subst, ◌∙◌, true, false, not, Bool, length, option_to_list, is_some, Option, None, Some, rules, arith}
+use Rattle.std.proofs.Common.{◌≡◌, ◌+◌, List, [], ◌∷◌, ◌++◌, ap, sym, subst, true, length, option_to_list, is_some, Option, None, Some, rules, arith}
 use Rattle.qo_slots.specs.declared.keys.Key.{Key}
 use Rattle.qo_heap.specs.WeakLinks.{Links, NumbersRise, new_node, weak_name}
 use Rattle.qo_heap.specs.declared.weak_links.Node.{Node}

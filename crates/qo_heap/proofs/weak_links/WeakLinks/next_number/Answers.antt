@@ -1,7 +1,7 @@
 use Rattle.std.proofs.Common.{◌≡◌, ap, sym, ◌∙◌, ◌<◌, ◌+◌, ◌-◌, ◌^◌, length, slice_get, IfSome, SomeIff, Option, Some, None, List, ℕ, arith}
 use Rattle.std.specs.List.{AllByRecursion}
 use Rattle.std.specs.Option.{option_copied}
-use Rattle.qo_heap.specs.WeakLinks.{Links, NumbersRise}
+use Rattle.qo_heap.specs.WeakLinks.{Links}
 use Rattle.qo_heap.specs.declared.weak_links.Node.{Node}
 use Rattle.qo_heap.proofs.WeakNodes.{last-above}
 use Rattle.qo_heap.proofs.weak_links.WeakLinks.next_number.Goals as goal

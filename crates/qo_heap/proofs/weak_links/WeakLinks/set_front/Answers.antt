@@ -1,4 +1,4 @@
-use Rattle.std.proofs.Common.{◌≡◌, refl, ap, sym, ◌∙◌, eqb, List, None, position}
+use Rattle.std.proofs.Common.{refl, ap, sym, ◌∙◌, eqb, List, None, position}
 use Rattle.qo_heap.specs.WeakLinks.{Links, with_both}
 use Rattle.qo_heap.specs.declared.weak_links.Node.{Node}
 use Rattle.qo_heap.proofs.WeakNodes.{changed-found, changed-none}
