@@ -106,10 +106,6 @@ plain-without n (row ∷ rows) = go (eqb row.0.birth n) refl (plain-without n ro
     go true is rest = rw is rest
     go false is rest = rw is (ap (λ (l : List (Key × Content)). plain_row row ∷ l) rest)
 
-pub plain-forgets : (n : ℕ) (rows : List (Key × Entry)) → plain (map (entry_forgets n) rows) ≡ map (forgets n) (plain rows)
-plain-forgets n [] = refl
-plain-forgets n (row ∷ rows) = ap (λ (l : List (Key × Content)). forgets n (plain_row row) ∷ l) (plain-forgets n rows)
-
 -- the name of the row at a place, and of the first row whose name passes a test
 pub key-plain : (rows : List (Key × Entry)) (place : ℕ)
     → option_map (λ (row : Key × Content). row.0) (slice_get (plain rows) place) ≡ option_map (λ (row : Key × Entry). row.0) (slice_get rows place)

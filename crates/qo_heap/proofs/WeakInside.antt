@@ -16,7 +16,7 @@ use Rattle.qo_heap.specs.Order.{IsOrdered, rows_in}
 use Rattle.qo_heap.specs.Rows.{IsLive, edit, edited, object_at, row_at}
 use Rattle.qo_heap.specs.Objects.{content_of}
 use Rattle.qo_heap.specs.WeakLinks.{Links, weak_name, weak_place}
-use Rattle.qo_heap.specs.WeakLists.{CanJoin, CanLeave, HasWeakLists, IsNumbered, added_links, cut_links, head_in, joined_in, loose_at, loose_of, loosed_in, names, node_at, with_links}
+use Rattle.qo_heap.specs.WeakLists.{CanJoin, CanLeave, HasWeakLists, IsNumbered, added_links, cut_links, head_in, joined_in, loose_at, loose_of, loosed_in, node_at, with_links}
 use Rattle.qo_heap.specs.declared.entries.Entry.{Entry}
 use Rattle.qo_heap.specs.declared.entries.Hold.{Hold}
 use Rattle.qo_heap.specs.declared.entries.Loose.{Loose}

@@ -1,16 +1,15 @@
 -- Rows in which a weak link was taken out of its list, and in which one was put into a list.
-use Rattle.std.proofs.Common.{◌≡◌, refl, ap, sym, subst, ◌∙◌, ℕ, ◌+◌, ◌<◌, ◌≤◌, Bool, true, false, cond, eqb, List, [], ◌∷◌, length, sum_by, Option, Some, None, option_map, is_some, IfSome, arith}
+use Rattle.std.proofs.Common.{◌≡◌, refl, ap, sym, subst, ◌∙◌, ℕ, ◌+◌, ◌<◌, Bool, true, false, cond, eqb, List, [], ◌∷◌, Option, Some, None, option_map, is_some, IfSome, arith}
 use Rattle.std.specs.List.{AllByRecursion}
-use Rattle.std.specs.Option.{option_and_then, option_map_or}
+use Rattle.std.specs.Option.{option_map_or}
 use Rattle.std.proofs.lemmas.Bool.{eqb-true}
 use Rattle.qo_slots.specs.declared.keys.Key.{Key}
-use Rattle.qo_heap.specs.Rows.{Rises, births, edit, edited, object_at}
-use Rattle.qo_heap.specs.WeakLinks.{changed_node, one_end, one_exact, same_end, with_both, with_next, with_prev}
-use Rattle.qo_heap.specs.WeakLists.{IsListed, IsNumbered, bag_in, cell_in, head_in, led_in, linked_in, names, turned_in, unlinked_in, with_first, with_node}
+use Rattle.qo_heap.specs.Rows.{edit, edited, object_at}
+use Rattle.qo_heap.specs.WeakLinks.{one_end, one_exact, same_end, with_both, with_next, with_prev}
+use Rattle.qo_heap.specs.WeakLists.{IsListed, IsNumbered, bag_in, cell_in, head_in, led_in, linked_in, turned_in, unlinked_in, with_first, with_node}
 use Rattle.qo_heap.specs.declared.entries.Entry.{Entry}
 use Rattle.qo_heap.specs.declared.weak_links.End.{End}
 use Rattle.qo_heap.specs.declared.weak_links.Node.{Node}
-use Rattle.qo_heap.proofs.HeapLemmas.{births-edit}
 use Rattle.qo_heap.proofs.KeepingLemmas.{all-edit}
 use Rattle.qo_heap.proofs.WeakChains.{Apart, IsApart, Not, all-listed, all-unlisted, apart-none, chain-first, first, flip_same, same-self}
 use Rattle.qo_heap.proofs.WeakNodes.{length-changed, rise-changed}

@@ -1,6 +1,5 @@
 -- Where weak links stand in rows, and what those that name an object weigh, once a row was changed.
-use Rattle.std.proofs.Common.{◌≡◌, refl, ap, ap₂, sym, subst, ◌∙◌, ℕ, zero, suc, ◌+◌, ◌<◌, ◌≤◌, Bool, true, false, ◌&&◌, ◌==◌, cond, eqb, List, [], ◌∷◌, ◌++◌, map, length, sum_by, slice_get, Option, Some, None, option_map, IfSome, IsSomeAnd, arith}
-use Rattle.std.specs.Prelude.{⊤}
+use Rattle.std.proofs.Common.{◌≡◌, refl, ap, ap₂, sym, subst, ◌∙◌, ℕ, ◌+◌, ◌<◌, ◌≤◌, Bool, true, false, ◌&&◌, ◌==◌, cond, eqb, List, [], ◌∷◌, sum_by, slice_get, Option, Some, None, option_map, arith}
 use Rattle.std.specs.List.{AllByRecursion}
 use Rattle.std.specs.Option.{option_and_then}
 use Rattle.std.proofs.lemmas.Bool.{eqb-true, eq-eqb}
@@ -8,7 +7,7 @@ use Rattle.std.proofs.lemmas.List.Sums.{sum_by-cons}
 use Rattle.qo_slots.specs.declared.keys.Key.{Key}
 use Rattle.qo_object.specs.Slots.{is_born}
 use Rattle.qo_heap.specs.Rows.{IsLive, Rises, births, edit, edited, object_at}
-use Rattle.qo_heap.specs.WeakLinks.{NumbersRise, changed_node, node_of, one_end, same_end}
+use Rattle.qo_heap.specs.WeakLinks.{NumbersRise, node_of, one_end, same_end}
 use Rattle.qo_heap.specs.WeakLists.{bag_in, cell_in, head_in, named_weight, names, row_weight, with_first, with_node}
 use Rattle.qo_heap.specs.declared.entries.Entry.{Entry}
 use Rattle.qo_heap.specs.declared.weak_links.End.{End}

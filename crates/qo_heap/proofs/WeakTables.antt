@@ -1,5 +1,5 @@
 -- A table in which what an object keeps of weak links was changed.
-use Rattle.std.proofs.Common.{◌≡◌, refl, ap, sym, subst, ◌∙◌, ℕ, List, Option, Some, None, IfSome}
+use Rattle.std.proofs.Common.{◌≡◌, refl, sym, subst, ◌∙◌, ℕ, List, Option, Some, None, IfSome}
 use Rattle.qo_slots.specs.declared.keys.Key.{Key}
 use Rattle.qo_slots.specs.Table.{Table, with_value}
 use Rattle.qo_object.specs.Content.{Content}
@@ -7,7 +7,7 @@ use Rattle.qo_heap.specs.Keeping.{plain}
 use Rattle.qo_heap.specs.Order.{IsOrdered, rows_in}
 use Rattle.qo_heap.specs.Rows.{IsLive, edit, object_at}
 use Rattle.qo_heap.specs.WeakLinks.{with_both, with_next, with_prev}
-use Rattle.qo_heap.specs.WeakLists.{led_in, linked_in, loosed_in, joined_in, turned_in, head_in, unlinked_in, with_first, with_node}
+use Rattle.qo_heap.specs.WeakLists.{led_in, linked_in, loosed_in, joined_in, turned_in, head_in, with_first, with_node}
 use Rattle.qo_heap.specs.declared.entries.Entry.{Entry}
 use Rattle.qo_heap.specs.declared.entries.Loose.{Loose}
 use Rattle.qo_heap.specs.declared.weak_links.End.{End}

@@ -10,7 +10,6 @@ pub mod Log
 pub mod Moments
 pub mod Objects
 pub mod Order
-pub mod Places
 pub mod Rows
 pub mod WeakEnds
 pub mod WeakLinks

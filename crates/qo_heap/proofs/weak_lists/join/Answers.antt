@@ -1,11 +1,9 @@
-use Rattle.std.proofs.Common.{◌≡◌, refl, ap, sym, ◌∙◌, Some, None, subst, IfSome, Option, List}
-use Rattle.qo_slots.specs.declared.keys.Key.{Key}
+use Rattle.std.proofs.Common.{ap, sym, ◌∙◌, Some, None, subst, IfSome, Option}
 use Rattle.qo_heap.specs.Keeping.{plain}
 use Rattle.qo_heap.specs.Order.{rows_in}
 use Rattle.qo_heap.specs.Rows.{IsLive, edit}
 use Rattle.qo_heap.specs.WeakLinks.{with_both}
-use Rattle.qo_heap.specs.WeakLists.{head_in, linked_in, turned_in, with_node}
-use Rattle.qo_heap.specs.declared.entries.Entry.{Entry}
+use Rattle.qo_heap.specs.WeakLists.{linked_in, turned_in, with_node}
 use Rattle.qo_heap.specs.declared.weak_links.End.{End}
 use Rattle.qo_heap.proofs.WeakTables.{live-same, owner-same, plain-first, plain-node}
 use Rattle.qo_heap.proofs.weak_lists.join.Goals as goal

@@ -1,7 +1,6 @@
-use Rattle.std.proofs.Common.{◌≡◌, refl, ap, sym, ◌∙◌}
+use Rattle.std.proofs.Common.{ap, ◌∙◌}
 use Rattle.qo_heap.specs.Keeping.{plain}
 use Rattle.qo_heap.specs.Order.{rows_in}
-use Rattle.qo_heap.specs.WeakLists.{led_in, turned_in}
 use Rattle.qo_heap.proofs.WeakTables.{live-same, owner-same, plain-turned}
 use Rattle.qo_heap.proofs.weak_lists.leave.Goals as goal
 

@@ -1,8 +1,6 @@
-use Rattle.std.proofs.Common.{◌≡◌, refl, ap, sym, ◌∙◌, None}
-use Rattle.qo_heap.specs.Order.{rows_in}
-use Rattle.qo_heap.specs.WeakLinks.{Links, with_both, with_next, with_prev}
-use Rattle.qo_heap.specs.WeakLists.{with_first, with_links, with_node}
-use Rattle.qo_heap.specs.declared.entries.Entry.{Entry}
+use Rattle.std.proofs.Common.{ap}
+use Rattle.qo_heap.specs.WeakLinks.{Links, with_prev}
+use Rattle.qo_heap.specs.WeakLists.{with_links, with_node}
 use Rattle.qo_heap.proofs.WeakTables.{entry-ordered, entry-rows}
 use Rattle.qo_heap.proofs.weak_lists.set_prev.Goals as goal
 
