@@ -1,6 +1,6 @@
 //! What stands in the slots of an object, by their names.
 
-ghost use Rattle.std.specs.Prelude.{◌≡◌, Some, IfSome, option_map};
+ghost use Rattle.std.specs.Prelude.{◌≡◌, ◌+◌, Some, IfSome, option_map};
 ghost use Rattle.std.specs.Option.{option_and_then};
 ghost use Rattle.qo_model.specs.Board.{Board, slot_named};
 ghost use Rattle.qo_model.specs.RowNames.{property_name};

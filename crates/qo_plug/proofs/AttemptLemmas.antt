@@ -1,7 +1,7 @@
 -- A new device acts with its buses, though it stands nowhere, and is given up.
-use Rattle.std.proofs.Common.{◌≡◌, refl, ap, ap₂, sym, subst, ◌∙◌, ℕ, zero, suc, ◌+◌, ◌<◌, ◌≤◌, Bool, true, false, ◌&&◌, eqb, nat_le, List, [], ◌∷◌, ◌++◌, append-nil, codes, filter, filter_map, length, map, min, option_to_list, slice_get, take, Option, Some, None, option_map, IfSome, arith}
+use Rattle.std.proofs.Common.{◌≡◌, refl, ap, ap₂, sym, subst, ◌∙◌, ℕ, zero, suc, ◌+◌, ◌<◌, ◌≤◌, Bool, true, false, ◌&&◌, eqb, leb, nat_le, List, [], ◌∷◌, ◌++◌, append-nil, codes, filter, filter_map, length, map, min, option_to_list, slice_get, take, Option, Some, None, option_map, IfSome, arith}
 use Rattle.std.specs.Prelude.{◌==◌, if◌then◌else◌, option_and_then}
-use Rattle.std.specs.List.{AllByRecursion, cons_option}
+use Rattle.std.specs.List.{AllByRecursion, cons_option, position_or_len}
 use Rattle.std.proofs.lemmas.Bool.{eqb-true}
 use Rattle.std.proofs.lemmas.Bool.Decides.{nat_tests}
 use Rattle.std.proofs.lemmas.List.{take_all}
@@ -130,9 +130,32 @@ pub record Reached (act : Act) (n i : ℕ) (v w : Objects) : Type 0 where
   pub is : w ≡ walked act (new_buses n (take i v.rows)) v
   pub acts : Acts v w
 
-pub reached-none : (act : Act) (n : ℕ) (v : Objects) → Reached act n 0 v v
+-- no object before the place of a birth is a bus from that birth on
+abbrev place_from : ℕ → List (Key × Content) → ℕ
+place_from n rows = position_or_len (λ (row : Key × Content). leb n row.0.birth) rows
+
+none-before : (n : ℕ) (rows : List (Key × Content)) → new_buses n (take (place_from n rows) rows) ≡ []
+none-before n [] = refl
+none-before n (row ∷ rows) = go (leb n row.0.birth) refl (none-before n rows)
+  where
+    go : (t : Bool) → leb n row.0.birth ≡ t → new_buses n (take (place_from n rows) rows) ≡ []
+        → new_buses n (take (place_from n (row ∷ rows)) (row ∷ rows)) ≡ []
+    go true late none =
+        let here : place_from n (row ∷ rows) ≡ 0 = rw late refl in
+        ap (λ (k : ℕ). new_buses n (take k (row ∷ rows))) here
+    go false early none =
+        let one : place_from n (row ∷ rows) ≡ 1 + place_from n rows = rw early refl in
+        let next : place_from n (row ∷ rows) ≡ suc (place_from n rows) = omega (arith, one) in
+        let early-none : new_bus n row ≡ None = ap (λ (t : Bool). if t && is_a row.1.kind (codes "bus") then Some row.0 else None) early in
+        ap (λ (k : ℕ). new_buses n (take k (row ∷ rows))) next
+        ∙ ap (λ (o : Option Key). cons_option (birth_of o) (new_buses n (take (place_from n rows) rows))) early-none
+        ∙ none
+
+pub reached-first : (act : Act) (n i : ℕ) (v : Objects) → i ≡ place_from n v.rows → Reached act n i v v
 unfolding walked
-reached-none act n v = record { is = refl; acts = acts-none v }
+reached-first act n i v first =
+    let none : new_buses n (take i v.rows) ≡ [] = ap (λ (k : ℕ). new_buses n (take k v.rows)) first ∙ none-before n v.rows in
+    record { is = ap (λ (l : List ℕ). walked act l v) (sym none); acts = acts-none v }
 
 pub reached-bus : (act : Act) (n i : ℕ) (v w x : Objects) (key : Key) → Reached act n i v w → Some key ≡ option_and_then (new_bus n) (slice_get w.rows i)
     → x ≡ acted_on act key.birth w → Reached act n (i + 1) v x

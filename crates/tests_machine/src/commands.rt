@@ -29,6 +29,7 @@ fn tells<L: Ledger>(
         result,
         event: _,
         ends: _,
+        touched: _,
     } = ask(alloc, board, query, steps)?;
     match result {
         Ok(ReplyBody::Value(whole)) => Ok(whole.value().to_string(alloc)?.as_str() == want),
@@ -47,6 +48,7 @@ fn lists_type<L: Ledger>(
         result,
         event: _,
         ends: _,
+        touched: _,
     } = ask(alloc, board, query, steps)?;
     let Ok(ReplyBody::Listing(birth)) = result else {
         return Ok(false);
@@ -109,6 +111,7 @@ fn answer<L: Ledger>(
         result,
         event: _,
         ends: _,
+        touched: _,
     } = change(alloc, board, &lines, &mut view, wanted, steps)?;
     Ok(result.err())
 }

@@ -1,11 +1,11 @@
 -- A bus more acts where there is one at the place.
 use Rattle.std.proofs.Common.{subst, sym, ◌∙◌, ◌+◌}
-use Rattle.qo_plug.proofs.AttemptLemmas.{Reached, quiet-may, reached-bus, reached-none, reached-other, reached-quiet}
+use Rattle.qo_plug.proofs.AttemptLemmas.{Reached, quiet-may, reached-bus, reached-first, reached-other, reached-quiet}
 use Rattle.qo_plug.proofs.failed_plug.act_buses.Goals.{in-Some, in_default}
 use Rattle.qo_plug.proofs.failed_plug.act_buses.Goals as goal
 
 pub loop-place-init : goal.loop-place-init
-loop-place-init g c = reached-none c.args.act c.args.device.birth c.args.heap.now
+loop-place-init g c = reached-first c.args.act c.args.device.birth c.place_from-place.result c.args.heap.now c.place_from-place.ensures
 
 pub act-requires-clause-timely : goal.act-requires-clause-timely
 act-requires-clause-timely g c =
