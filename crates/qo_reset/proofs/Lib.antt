@@ -1,3 +1,5 @@
 pub mod BoardLemmas
+pub mod CountLemmas
 pub mod HoldLemmas
+pub mod LiveLemmas
 pub mod WalkLemmas

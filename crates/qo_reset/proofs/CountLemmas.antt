@@ -1,0 +1,378 @@
+-- Counts that are kept: what walks leave of them, and what a hold that comes or goes makes of them.
+use Rattle.std.proofs.Common.{◌≡◌, refl, ap, ap₂, sym, subst, ◌∙◌, ℕ, zero, suc, ◌+◌, ◌-◌, ◌≤◌, ◌<◌, min, Bool, true, false, not, ◌||◌, cond, eqb, nat_lt, nat_eq, List, [], ◌∷◌, ◌++◌, length, filter, filter_map, count_by, Option, Some, None, option_map, is_some, IfSome, arith}
+use Rattle.std.specs.List.{AllByRecursion, cons_option, flat_map, list_any}
+use Rattle.std.specs.Option.{option_map_or}
+use Rattle.std.proofs.lemmas.Bool.{eq-eqb, eqb-true}
+use Rattle.std.proofs.lemmas.Bool.Decides.{nat_tests}
+use Rattle.std.proofs.lemmas.List.Sums.{count_by-le-length}
+use Rattle.std.proofs.lemmas.Option.{same_Some}
+use Rattle.qo_values.specs.declared.kinds.Act.{Act}
+use Rattle.qo_values.specs.declared.limits.TheConstants.{HOLD_COUNT_MAX}
+use Rattle.qo_slots.specs.declared.keys.Key.{Key}
+use Rattle.qo_model.specs.Depth.{among}
+use Rattle.qo_model.specs.Release.{without_first}
+use Rattle.qo_model.proofs.AmongLemmas.{among-all}
+use Rattle.qo_object.specs.declared.room.Side.{Side}
+use Rattle.qo_object.specs.Content.{Content, acted_at}
+use Rattle.qo_heap.specs.Acts.{Acts, KeepsCounts, counted_in}
+use Rattle.qo_heap.specs.Objects.{Objects, content_of, with_edit}
+use Rattle.qo_heap.proofs.ActsLemmas.{acts-none, acts-then}
+use Rattle.qo_heap.proofs.ActsReads.{acts-length}
+use Rattle.qo_reset.specs.declared.turns.Tally.{Tally}
+use Rattle.qo_reset.specs.declared.turns.Tally.TheVariants.{Raise, Lower, Unmark}
+use Rattle.qo_reset.specs.declared.turns.TheConstants.{HOLDS_MAX}
+use Rattle.qo_reset.specs.declared.turns.Turn.{Turn}
+use Rattle.qo_reset.specs.declared.turns.Turn.TheVariants.{Run, RunOut, Count, Recount}
+use Rattle.qo_reset.specs.Counts.{CountsKept, CountsKeptBut, HasRoom, IsCounted, kept_count}
+use Rattle.qo_reset.specs.Phases.{acted_on, all_acted, below_on, count_on, is_under, out_on, post_by}
+use Rattle.qo_reset.specs.Turns.{counted, done, sided, tallied, tallied_on, visited, walk_on, walked}
+use Rattle.qo_reset.proofs.WalkLemmas.{acts-below, acts-count, content-after, done-acts, read-after, walked-acts}
+
+-- how many pass a test, with a hold more and a hold less
+
+abbrev one_if : Bool → ℕ
+one_if t = cond {A = ℕ} t 1 0
+
+count-cons : (p : ℕ → Bool) (x : ℕ) (xs : List ℕ) → count_by p (x ∷ xs) ≡ one_if (p x) + count_by p xs
+count-cons p x xs = go (p x)
+  where
+    go : (t : Bool) → cond t (1 + count_by p xs) (count_by p xs) ≡ one_if t + count_by p xs
+    go true = refl
+    go false = refl
+
+pub count-more : (p : ℕ → Bool) (n : ℕ) (holds : List ℕ) → count_by p (holds ++ n ∷ []) ≡ count_by p holds + one_if (p n)
+count-more p n [] = let one : count_by p (n ∷ []) ≡ one_if (p n) + 0 = count-cons p n [] in omega (arith, one)
+count-more p n (h ∷ holds) =
+    let more : count_by p (h ∷ (holds ++ n ∷ [])) ≡ one_if (p h) + count_by p (holds ++ n ∷ []) = count-cons p h (holds ++ n ∷ []) in
+    let less : count_by p (h ∷ holds) ≡ one_if (p h) + count_by p holds = count-cons p h holds in
+    let rest : count_by p (holds ++ n ∷ []) ≡ count_by p holds + one_if (p n) = count-more p n holds in
+    omega (arith, more, less, rest)
+
+pub count-less : (p : ℕ → Bool) (n : ℕ) (holds : List ℕ) → among holds n ≡ true → count_by p (without_first n holds) + one_if (p n) ≡ count_by p holds
+count-less p n [] e = cc
+count-less p n (h ∷ holds) e = go (eqb h n) refl (count-less p n holds)
+  where
+    turned : eqb n h ≡ eqb h n
+    turned = grind (arith, nat_tests)
+
+    go : (t : Bool) → eqb h n ≡ t → (among holds n ≡ true → count_by p (without_first n holds) + one_if (p n) ≡ count_by p holds)
+        → count_by p (cond t holds (h ∷ without_first n holds)) + one_if (p n) ≡ count_by p (h ∷ holds)
+    go true is rest =
+        let same : one_if (p n) ≡ one_if (p h) = ap (λ (k : ℕ). one_if (p k)) (sym (eqb-true h n is)) in
+        omega (arith, same, count-cons p h holds)
+    go false is rest =
+        let there : among holds n ≡ true = sym (ap (λ (t : Bool). t || among holds n) (turned ∙ is)) ∙ e in
+        omega (arith, rest there, count-cons p h holds, count-cons p h (without_first n holds))
+
+among-last : (n : ℕ) (holds : List ℕ) → among (holds ++ n ∷ []) n ≡ true
+among-last n [] = rw (eq-eqb n n refl) refl
+among-last n (h ∷ holds) = go (eqb n h) (among-last n holds)
+  where
+    go : (t : Bool) → among (holds ++ n ∷ []) n ≡ true → (t || among (holds ++ n ∷ []) n) ≡ true
+    go true e = refl
+    go false e = e
+
+-- a hold that is taken and released at once leaves all counts
+pub count-same : (v : Objects) (n : ℕ) (holds : List ℕ) (m : ℕ) → count_on v (without_first n (holds ++ n ∷ [])) m ≡ count_on v holds m
+unfolding count_on
+count-same v n holds m =
+    let less : count_by (is_under v m) (without_first n (holds ++ n ∷ [])) + one_if (is_under v m n) ≡ count_by (is_under v m) (holds ++ n ∷ []) =
+    count-less (is_under v m) n (holds ++ n ∷ []) (among-last n holds) in
+    let more : count_by (is_under v m) (holds ++ n ∷ []) ≡ count_by (is_under v m) holds + one_if (is_under v m n) =
+    count-more (is_under v m) n holds in
+    omega (arith, less, more)
+
+pub kept-same : (v : Objects) (n : ℕ) (holds : List ℕ) → CountsKept holds v → CountsKept (without_first n (holds ++ n ∷ [])) v
+kept-same v n holds kept m c there =
+    let k : IsCounted v holds m c = kept m c there in
+    record { count = k.count ∙ sym (count-same v n holds m); unmarked = k.unmarked }
+
+-- who is there with what is kept
+
+there-of : (o : Option Content) (f : Content → Content) (d : Content) → option_map f o ≡ Some d → (c : Content) × (o ≡ Some c) × (f c ≡ d)
+there-of None f d e = cc
+there-of (Some c) f d e = (c, refl, same_Some (f c) d e)
+
+pub kept-is : (v : Objects) (holds : List ℕ) → CountsKept holds v → (n : ℕ) → is_some (content_of v n) ≡ true → kept_count v n ≡ count_on v holds n
+kept-is v holds kept n there = go (content_of v n) refl there
+  where
+    go : (o : Option Content) → content_of v n ≡ o → is_some o ≡ true → option_map_or (λ (c : Content). c.side.count) o 0 ≡ count_on v holds n
+    go None is some = cc
+    go (Some c) is some = (kept n c is).count
+
+-- acts that leave the counts keep them right
+
+pub acts-kept : (v w : Objects) (holds : List ℕ) → Acts v w → KeepsCounts v w → CountsKept holds v → CountsKept holds w
+acts-kept v w holds acts same kept m d there =
+    go (content_of v m) refl (sym (same m) ∙ ap (option_map (λ (c : Content). (c.side.count, c.side.marks))) there)
+  where
+    go : (o : Option Content) → content_of v m ≡ o → option_map (λ (c : Content). (c.side.count, c.side.marks)) o ≡ Some (d.side.count, d.side.marks)
+        → IsCounted w holds m d
+    go None is e = cc
+    go (Some c) is e =
+        let both : (c.side.count, c.side.marks) ≡ (d.side.count, d.side.marks) = same_Some _ _ e in
+        let k : IsCounted v holds m c = kept m c is in
+        record {
+          count = sym (ap (λ (p : ℕ × ℕ). p.0) both) ∙ k.count ∙ sym (ap (λ (f : ℕ → ℕ). f m) (acts-count holds v w acts));
+          unmarked = sym (ap (λ (p : ℕ × ℕ). p.1) both) ∙ k.unmarked;
+        }
+
+-- acts of those below
+
+acted-counts : (act : Act) (n : ℕ) (v : Objects) → KeepsCounts v (acted_on act n v)
+acted-counts act n v m = read-after (λ (c : Content). (c.side.count, c.side.marks)) n (acted_at act v.time 0) (λ c. refl) v m
+
+pub all-counts : (act : Act) (ns : List ℕ) (v : Objects) → KeepsCounts v (all_acted act ns v)
+unfolding all_acted
+all-counts act [] v m = refl
+all-counts act (n ∷ ns) v m = all-counts act ns (acted_on act n v) m ∙ acted-counts act n v m
+
+same-count : (v w : Objects) → KeepsCounts v w → (m : ℕ) → kept_count w m ≡ kept_count v m
+same-count v w same m = sym (first (content_of w m)) ∙ ap (λ (o : Option (ℕ × ℕ)). option_map_or (λ (p : ℕ × ℕ). p.0) o 0) (same m) ∙ first (content_of v m)
+  where
+    first : (o : Option Content)
+        → option_map_or (λ (p : ℕ × ℕ). p.0) (option_map (λ (c : Content). (c.side.count, c.side.marks)) o) 0
+        ≡ option_map_or (λ (c : Content). c.side.count) o 0
+    first None = refl
+    first (Some c) = refl
+
+pub run-all : (act : Act) (holds ns : List ℕ) (v : Objects) → walked (Run act) holds ns v ≡ all_acted act ns v
+unfolding walked all_acted
+run-all act holds [] v = refl
+run-all act holds (n ∷ ns) v = run-all act holds ns (acted_on act n v)
+
+abbrev is_out : Objects → ℕ → Bool
+is_out v n = eqb (kept_count v n) 0
+
+run-out : (act : Act) (holds ns : List ℕ) (u v : Objects) → KeepsCounts u v → walked (RunOut act) holds ns v ≡ all_acted act (filter (is_out u) ns) v
+unfolding walked all_acted
+run-out act holds [] u v same = refl
+run-out act holds (n ∷ ns) u v same =
+    ap (λ (t : Bool). walked (RunOut act) holds ns (cond t (acted_on act n v) v)) (ap (λ (k : ℕ). eqb k 0) (same-count u v same n)) ∙ go (is_out u n)
+  where
+    go : (t : Bool)
+        → walked (RunOut act) holds ns (cond t (acted_on act n v) v) ≡ all_acted act (cond t (n ∷ filter (is_out u) ns) (filter (is_out u) ns)) v
+    go true = run-out act holds ns u (acted_on act n v) (λ m. acted-counts act n v m ∙ same m)
+    go false = run-out act holds ns u v same
+
+filter-agree : (p q : ℕ → Bool) (ns : List ℕ) → AllByRecursion (λ n. p n ≡ q n) ns → filter p ns ≡ filter q ns
+filter-agree p q [] all = refl
+filter-agree p q (n ∷ ns) all = ap₂ (λ (t : Bool) (rest : List ℕ). cond t (n ∷ rest) rest) all.0 (filter-agree p q ns all.1)
+
+abbrev pub AreThere : Objects → List ℕ → Type 0
+AreThere v ns = AllByRecursion (λ n. is_some (content_of v n) ≡ true) ns
+
+out-agree : (v : Objects) (holds ns : List ℕ) → CountsKept holds v → AreThere v ns → AllByRecursion (λ n. is_out v n ≡ out_on v holds n) ns
+out-agree v holds [] kept all = tt
+out-agree v holds (n ∷ ns) kept all = (ap (λ (k : ℕ). eqb k 0) (kept-is v holds kept n all.0), out-agree v holds ns kept all.1)
+
+pub run-picked : (act : Act) (any holds ns : List ℕ) (v : Objects) → CountsKept holds v → AreThere v ns
+    → walked (RunOut act) any ns v ≡ all_acted act (filter (out_on v holds) ns) v
+run-picked act any holds ns v kept there =
+    run-out act any ns v v (λ m. refl)
+    ∙ ap (λ (l : List ℕ). all_acted act l v) (filter-agree (is_out v) (out_on v holds) ns (out-agree v holds ns kept there))
+
+-- what is kept of an object after a walk over others, each as often as it is listed
+
+edits : (ℕ → Content → Content) → List ℕ → Objects → Objects
+edits f [] v = v
+edits f (n ∷ ns) v = edits f ns (with_edit n (f n) v)
+
+abbrev after : (ℕ → Content → Content) → List ℕ → ℕ → Content → Content
+after f ns m c = cond (among ns m) (f m c) c
+
+module _ (f : ℕ → Content → Content) (once : (m : ℕ) (c : Content) → f m (f m c) ≡ f m c) where
+  after-more : (n : ℕ) (ns : List ℕ) (m : ℕ) (c : Content) → after f ns m (cond (eqb m n) (f n c) c) ≡ cond (eqb m n || among ns m) (f m c) c
+  after-more n ns m c = go (eqb m n) refl
+    where
+      twice : (t : Bool) → cond t (f m (f m c)) (f m c) ≡ f m c
+      twice true = once m c
+      twice false = refl
+
+      go : (t : Bool) → eqb m n ≡ t → after f ns m (cond t (f n c) c) ≡ cond (t || among ns m) (f m c) c
+      go true e = ap (λ (k : ℕ). after f ns m (f k c)) (sym (eqb-true m n e)) ∙ twice (among ns m)
+      go false e = refl
+
+  content-edits : (ns : List ℕ) (v : Objects) (m : ℕ) → content_of (edits f ns v) m ≡ option_map (after f ns m) (content_of v m)
+  content-edits [] v m = same (content_of v m)
+    where
+      same : (o : Option Content) → o ≡ option_map (λ (c : Content). c) o
+      same None = refl
+      same (Some c) = refl
+  content-edits (n ∷ ns) v m =
+      content-edits ns (with_edit n (f n) v) m
+      ∙ ap (option_map (after f ns m)) (content-after n m (f n) v)
+      ∙ go (content_of v m)
+    where
+      go : (o : Option Content)
+          → option_map (after f ns m) (option_map (λ (c : Content). cond (eqb m n) (f n c) c) o) ≡ option_map (λ (c : Content). cond (eqb m n || among ns m) (f m c) c) o
+      go None = refl
+      go (Some c) = ap Some (after-more n ns m c)
+
+-- counts that change once
+
+tallied-once : (tally : Tally) (s : Side) → tallied tally (tallied tally s) ≡ tallied tally s
+tallied-once Raise s = go (eqb s.marks 0) refl
+  where
+    one : Side
+    one = record s { count = min (s.count + 1) HOLDS_MAX; marks = 1 }
+
+    go : (t : Bool) → eqb s.marks 0 ≡ t → tallied Raise (cond t one s) ≡ cond t one s
+    go true e = refl
+    go false e = rw e refl
+tallied-once Lower s = go (eqb s.marks 0) refl
+  where
+    one : Side
+    one = record s { count = s.count - 1; marks = 1 }
+
+    go : (t : Bool) → eqb s.marks 0 ≡ t → tallied Lower (cond t one s) ≡ cond t one s
+    go true e = refl
+    go false e = rw e refl
+tallied-once Unmark s = refl
+
+walked-tallies : (tally : Tally) (holds ns : List ℕ) (v : Objects) → walked (Count tally) holds ns v ≡ edits (λ _. sided (tallied tally)) ns v
+unfolding walked
+walked-tallies tally holds [] v = refl
+walked-tallies tally holds (n ∷ ns) v = walked-tallies tally holds ns (with_edit n (sided (tallied tally)) v)
+
+content-tallies : (tally : Tally) (holds ns : List ℕ) (v : Objects) (m : ℕ)
+    → content_of (walked (Count tally) holds ns v) m ≡ option_map (after (λ _. sided (tallied tally)) ns m) (content_of v m)
+content-tallies tally holds ns v m =
+    ap (λ (x : Objects). content_of x m) (walked-tallies tally holds ns v)
+    ∙ content-edits (λ _. sided (tallied tally)) (λ k c. ap (λ (s : Side). record c { side = s }) (tallied-once tally c.side)) ns v m
+
+abbrev pub all_below : Objects → ℕ → List ℕ
+all_below v n = post_by (below_on v) (suc (length v.rows)) n
+
+acts-all : (v w : Objects) → Acts v w → (n : ℕ) → all_below w n ≡ all_below v n
+acts-all v w acts n = ap₂ (λ (next : ℕ → List ℕ) (d : ℕ). post_by next (suc d) n) (acts-below v w acts) (acts-length v w acts)
+
+abbrev unmarked : Tally → Content → Content
+unmarked tally c = sided (tallied Unmark) (sided (tallied tally) c)
+
+content-tallied : (tally : Tally) (n : ℕ) (v : Objects) (m : ℕ)
+    → content_of (tallied_on tally n v) m ≡ option_map (λ (c : Content). cond (is_under v m n) (unmarked tally c) c) (content_of v m)
+unfolding visited
+content-tallied tally n v m =
+    let w : Objects = walked (Count tally) [] (all_below v n) v in
+    content-tallies Unmark [] (all_below w n) w m
+    ∙ ap (λ (l : List ℕ). option_map (after (λ _. sided (tallied Unmark)) l m) (content_of w m)) (acts-all v w (walked-acts (Count tally) [] (all_below v n) v) n)
+    ∙ ap (option_map (after (λ _. sided (tallied Unmark)) (all_below v n) m)) (content-tallies tally [] (all_below v n) v m)
+    ∙ go (content_of v m)
+  where
+    both : (t : Bool) (c : Content)
+        → cond t (sided (tallied Unmark) (cond t (sided (tallied tally) c) c)) (cond t (sided (tallied tally) c) c) ≡ cond t (unmarked tally c) c
+    both true c = refl
+    both false c = refl
+
+    go : (o : Option Content)
+        → option_map (after (λ _. sided (tallied Unmark)) (all_below v n) m) (option_map (after (λ _. sided (tallied tally)) (all_below v n) m) o)
+        ≡ option_map (λ (c : Content). cond (is_under v m n) (unmarked tally c) c) o
+    go None = refl
+    go (Some c) = ap Some (both (is_under v m n) c)
+
+tallied_on-acts : (tally : Tally) (n : ℕ) (v : Objects) → Acts v (tallied_on tally n v)
+unfolding visited
+tallied_on-acts tally n v =
+    let w : Objects = walked (Count tally) [] (all_below v n) v in
+    acts-then v w (walked (Count Unmark) [] (all_below w n) w) (walked-acts (Count tally) [] (all_below v n) v) (walked-acts (Count Unmark) [] (all_below w n) w)
+
+-- a hold comes
+
+raised-count : (c : Content) → c.side.marks ≡ 0 → c.side.count ≤ HOLD_COUNT_MAX
+    → ((unmarked Raise c).side.count ≡ c.side.count + 1) × ((unmarked Raise c).side.marks ≡ 0)
+raised-count c bare low =
+    (ap (λ (k : ℕ). (cond (eqb k 0) (min (c.side.count + 1) HOLDS_MAX) c.side.count)) bare ∙ (grind (arith, low)), refl)
+
+pub kept-raised : (v : Objects) (holds : List ℕ) (n : ℕ) → CountsKept holds v → HasRoom n holds v → CountsKept (holds ++ n ∷ []) (tallied_on Raise n v)
+unfolding count_on
+kept-raised v holds n kept room m d there =
+    let found = there-of (content_of v m) (λ c. cond (is_under v m n) (unmarked Raise c) c) d (sym (content-tallied Raise n v m) ∙ there) in
+    go (is_under v m n) refl found.0 (kept m found.0 found.1.0) d found.1.1
+  where
+    w : Objects
+    w = tallied_on Raise n v
+
+    same : (m : ℕ) → count_on w (holds ++ n ∷ []) m ≡ count_on v (holds ++ n ∷ []) m
+    same m = ap (λ (f : ℕ → ℕ). f m) (acts-count (holds ++ n ∷ []) v w (tallied_on-acts Raise n v))
+
+    go : (t : Bool) → is_under v m n ≡ t → (c : Content) → IsCounted v holds m c → (d : Content) → cond t (unmarked Raise c) c ≡ d → IsCounted w (holds ++ n ∷ []) m d
+    go true e c k d is =
+        let low : c.side.count ≤ HOLD_COUNT_MAX = rw k.count (room m e) in
+        let more : count_on v (holds ++ n ∷ []) m ≡ count_on v holds m + 1 =
+        count-more (is_under v m) n holds ∙ ap (λ (t : Bool). count_by (is_under v m) holds + one_if t) e in
+        let raised = raised-count c k.unmarked low in
+        subst (IsCounted w (holds ++ n ∷ []) m) is
+        (record { count = raised.0 ∙ ap (λ (x : ℕ). x + 1) k.count ∙ sym more ∙ sym (same m); unmarked = raised.1 })
+    go false e c k d is =
+        let more : count_on v (holds ++ n ∷ []) m ≡ count_on v holds m =
+        count-more (is_under v m) n holds ∙ ap (λ (t : Bool). count_by (is_under v m) holds + one_if t) e ∙ (omega arith) in
+        subst (IsCounted w (holds ++ n ∷ []) m) is (record { count = k.count ∙ sym more ∙ sym (same m); unmarked = k.unmarked })
+
+-- a hold goes
+
+pub kept-lowered : (v : Objects) (holds : List ℕ) (n : ℕ) → CountsKept holds v → among holds n ≡ true
+    → CountsKept (without_first n holds) (tallied_on Lower n v)
+unfolding count_on
+kept-lowered v holds n kept some m d there =
+    let found = there-of (content_of v m) (λ c. cond (is_under v m n) (unmarked Lower c) c) d (sym (content-tallied Lower n v m) ∙ there) in
+    go (is_under v m n) refl found.0 (kept m found.0 found.1.0) d found.1.1
+  where
+    w : Objects
+    w = tallied_on Lower n v
+
+    same : (m : ℕ) → count_on w (without_first n holds) m ≡ count_on v (without_first n holds) m
+    same m = ap (λ (f : ℕ → ℕ). f m) (acts-count (without_first n holds) v w (tallied_on-acts Lower n v))
+
+    less : count_by (is_under v m) (without_first n holds) + one_if (is_under v m n) ≡ count_by (is_under v m) holds
+    less = count-less (is_under v m) n holds some
+
+    go : (t : Bool) → is_under v m n ≡ t → (c : Content) → IsCounted v holds m c → (d : Content) → cond t (unmarked Lower c) c ≡ d
+        → IsCounted w (without_first n holds) m d
+    go true e c k d is =
+        let one : one_if (is_under v m n) ≡ 1 = ap one_if e in
+        let low : (unmarked Lower c).side.count ≡ c.side.count - 1 = ap (λ (x : ℕ). cond (eqb x 0) (c.side.count - 1) c.side.count) k.unmarked in
+        let count : c.side.count - 1 ≡ count_by (is_under v m) (without_first n holds) = let kept_is = k.count in omega (arith, one, less, kept_is) in
+        subst (IsCounted w (without_first n holds) m) is (record { count = low ∙ count ∙ sym (same m); unmarked = refl })
+    go false e c k d is =
+        let none : one_if (is_under v m n) ≡ 0 = ap one_if e in
+        let count : c.side.count ≡ count_by (is_under v m) (without_first n holds) = let kept_is = k.count in omega (arith, none, less, kept_is) in
+        subst (IsCounted w (without_first n holds) m) is (record { count = count ∙ sym (same m); unmarked = k.unmarked })
+
+-- counted afresh
+
+abbrev recounted : Objects → List ℕ → ℕ → Content → Content
+recounted v holds n = sided (counted (min (count_on v holds n) HOLDS_MAX))
+
+walked-recount : (holds ns : List ℕ) (u v : Objects) → Acts u v → walked Recount holds ns v ≡ edits (recounted u holds) ns v
+unfolding walked
+walked-recount holds [] u v acts = refl
+walked-recount holds (n ∷ ns) u v acts =
+    let next : Objects = done Recount holds n v in
+    walked-recount holds ns u next (acts-then u v next acts (done-acts Recount holds n v))
+    ∙ ap (λ (k : ℕ). edits (recounted u holds) ns (with_edit n (sided (counted (min k HOLDS_MAX))) v)) (ap (λ (f : ℕ → ℕ). f n) (acts-count holds u v acts))
+
+pub kept-recounted : (v : Objects) (holds : List ℕ) (n : ℕ) → length holds ≤ HOLDS_MAX → CountsKeptBut n holds v → CountsKept holds (walk_on Recount holds n v)
+unfolding visited count_on
+kept-recounted v holds n few kept m d there =
+    let found = there-of (content_of v m) (after (recounted v holds) (all_below v n) m) d (sym content ∙ there) in
+    go (is_under v m n) refl found.0 (kept m found.0 found.1.0) d found.1.1
+  where
+    w : Objects
+    w = walked Recount holds (all_below v n) v
+
+    content : content_of w m ≡ option_map (after (recounted v holds) (all_below v n) m) (content_of v m)
+    content =
+        ap (λ (x : Objects). content_of x m) (walked-recount holds (all_below v n) v v (acts-none v))
+        ∙ content-edits (recounted v holds) (λ k c. refl) (all_below v n) v m
+
+    same : count_on w holds m ≡ count_on v holds m
+    same = ap (λ (f : ℕ → ℕ). f m) (acts-count holds v w (walked-acts Recount holds (all_below v n) v))
+
+    low : min (count_on v holds m) HOLDS_MAX ≡ count_on v holds m
+    low = let fits : count_by (is_under v m) holds ≤ length holds = count_by-le-length (is_under v m) holds in grind (arith, fits, few)
+
+    go : (t : Bool) → is_under v m n ≡ t → (c : Content) → (is_under v m n ≡ false → IsCounted v holds m c) → (d : Content)
+        → cond t (recounted v holds m c) c ≡ d → IsCounted w holds m d
+    go true e c k d is = subst (IsCounted w holds m) is (record { count = low ∙ sym same; unmarked = refl })
+    go false e c k d is = subst (IsCounted w holds m) is (record { count = (k e).count ∙ sym same; unmarked = (k e).unmarked })
