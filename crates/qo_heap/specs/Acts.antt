@@ -20,13 +20,19 @@ pub record Acts (v w : Objects) : Type 0 where
   pub events : w.events ≡ v.events
   pub time : w.time ≡ v.time
 
--- what is kept of an object for those who reset it, if it is there: how many holds are on it or above it, and its marks
-abbrev pub counted_in : Objects → ℕ → Option (ℕ × ℕ)
-counted_in v n = option_map (λ (c : Content). (c.side.count, c.side.marks)) (content_of v n)
+-- what is kept of an object for those who reset it: how many holds are on it or above it, and its marks; if it is there
+abbrev pub counts_of : Content → ℕ × ℕ
+counts_of c = (c.side.count, c.side.marks)
 
--- and for those who clock it: its period, and the period of those that go by it
+abbrev pub counted_in : Objects → ℕ → Option (ℕ × ℕ)
+counted_in v n = option_map counts_of (content_of v n)
+
+-- and for those who clock it: its period, and the period of those that go by it; if it is there
+abbrev pub periods_of : Content → ℕ × ℕ
+periods_of c = (c.side.period, c.side.child)
+
 abbrev pub clocked_in : Objects → ℕ → Option (ℕ × ℕ)
-clocked_in v n = option_map (λ (c : Content). (c.side.period, c.side.child)) (content_of v n)
+clocked_in v n = option_map periods_of (content_of v n)
 
 -- of each object the one stays, or the other
 abbrev pub KeepsCounts : Objects → Objects → Type 0

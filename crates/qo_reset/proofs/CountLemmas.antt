@@ -4,7 +4,7 @@ use Rattle.std.specs.List.{AllByRecursion, cons_option, flat_map, list_any}
 use Rattle.std.specs.Option.{option_map_or}
 use Rattle.std.proofs.lemmas.Bool.{eq-eqb, eqb-true}
 use Rattle.std.proofs.lemmas.Bool.Decides.{nat_tests}
-use Rattle.std.proofs.lemmas.List.Sums.{count_by-le-length}
+use Rattle.std.proofs.lemmas.List.Sums.{count_by-le-length, sum_by-append, sum_by-cons}
 use Rattle.std.proofs.lemmas.Option.{same_Some}
 use Rattle.qo_values.specs.declared.kinds.Act.{Act}
 use Rattle.qo_values.specs.declared.limits.TheConstants.{HOLD_COUNT_MAX}
@@ -13,17 +13,18 @@ use Rattle.qo_model.specs.Depth.{among}
 use Rattle.qo_model.specs.Release.{without_first}
 use Rattle.qo_model.proofs.AmongLemmas.{among-all}
 use Rattle.qo_object.specs.declared.room.Side.{Side}
-use Rattle.qo_object.specs.Content.{Content, acted_at}
-use Rattle.qo_heap.specs.Acts.{Acts, KeepsCounts, counted_in}
-use Rattle.qo_heap.specs.Objects.{Objects, content_of, with_edit}
+use Rattle.qo_object.specs.Content.{Content, acted_at, with_side}
+use Rattle.qo_heap.specs.Acts.{Acts, KeepsCounts, counted_in, counts_of}
+use Rattle.qo_heap.specs.Objects.{IsHeap, Objects, content_of, with_edit}
 use Rattle.qo_heap.proofs.ActsLemmas.{acts-none, acts-then}
 use Rattle.qo_heap.proofs.ActsReads.{acts-length}
+use Rattle.qo_heap.proofs.HeapLemmas.{edit-is}
 use Rattle.qo_reset.specs.declared.turns.Tally.{Tally}
 use Rattle.qo_reset.specs.declared.turns.Tally.TheVariants.{Raise, Lower, Unmark}
 use Rattle.qo_reset.specs.declared.turns.TheConstants.{HOLDS_MAX}
 use Rattle.qo_reset.specs.declared.turns.Turn.{Turn}
 use Rattle.qo_reset.specs.declared.turns.Turn.TheVariants.{Run, RunOut, Count, Recount}
-use Rattle.qo_reset.specs.Counts.{CountsKept, CountsKeptBut, HasRoom, IsCounted, kept_count}
+use Rattle.qo_reset.specs.Counts.{CountedBelow, CountsKept, CountsKeptBut, HasRoom, IsCounted, KeepsOthers, kept_count}
 use Rattle.qo_reset.specs.Phases.{acted_on, all_acted, below_on, count_on, is_under, out_on, post_by}
 use Rattle.qo_reset.specs.Turns.{counted, done, sided, tallied, tallied_on, visited, walk_on, walked}
 use Rattle.qo_reset.proofs.WalkLemmas.{acts-below, acts-count, content-after, done-acts, read-after, walked-acts}
@@ -34,19 +35,10 @@ abbrev one_if : Bool → ℕ
 one_if t = cond {A = ℕ} t 1 0
 
 count-cons : (p : ℕ → Bool) (x : ℕ) (xs : List ℕ) → count_by p (x ∷ xs) ≡ one_if (p x) + count_by p xs
-count-cons p x xs = go (p x)
-  where
-    go : (t : Bool) → cond t (1 + count_by p xs) (count_by p xs) ≡ one_if t + count_by p xs
-    go true = refl
-    go false = refl
+count-cons p x xs = sum_by-cons (λ (y : ℕ). one_if (p y)) x xs
 
 pub count-more : (p : ℕ → Bool) (n : ℕ) (holds : List ℕ) → count_by p (holds ++ n ∷ []) ≡ count_by p holds + one_if (p n)
-count-more p n [] = let one : count_by p (n ∷ []) ≡ one_if (p n) + 0 = count-cons p n [] in omega (arith, one)
-count-more p n (h ∷ holds) =
-    let more : count_by p (h ∷ (holds ++ n ∷ [])) ≡ one_if (p h) + count_by p (holds ++ n ∷ []) = count-cons p h (holds ++ n ∷ []) in
-    let less : count_by p (h ∷ holds) ≡ one_if (p h) + count_by p holds = count-cons p h holds in
-    let rest : count_by p (holds ++ n ∷ []) ≡ count_by p holds + one_if (p n) = count-more p n holds in
-    omega (arith, more, less, rest)
+count-more p n holds = omega (arith, sum_by-append (λ (x : ℕ). one_if (p x)) holds (n ∷ []), sum_by-cons (λ (x : ℕ). one_if (p x)) n [])
 
 pub count-less : (p : ℕ → Bool) (n : ℕ) (holds : List ℕ) → among holds n ≡ true → count_by p (without_first n holds) + one_if (p n) ≡ count_by p holds
 count-less p n [] e = cc
@@ -89,28 +81,40 @@ kept-same v n holds kept m c there =
 
 -- who is there with what is kept
 
-there-of : (o : Option Content) (f : Content → Content) (d : Content) → option_map f o ≡ Some d → (c : Content) × (o ≡ Some c) × (f c ≡ d)
+there-of : {A : Type 0} (o : Option Content) (f : Content → A) (d : A) → option_map f o ≡ Some d → (c : Content) × (o ≡ Some c) × (f c ≡ d)
 there-of None f d e = cc
 there-of (Some c) f d e = (c, refl, same_Some (f c) d e)
 
-pub kept-is : (v : Objects) (holds : List ℕ) → CountsKept holds v → (n : ℕ) → is_some (content_of v n) ≡ true → kept_count v n ≡ count_on v holds n
-kept-is v holds kept n there = go (content_of v n) refl there
+kept-at : (v : Objects) (holds : List ℕ) (n : ℕ) → ((c : Content) → content_of v n ≡ Some c → IsCounted v holds n c) → is_some (content_of v n) ≡ true
+    → kept_count v n ≡ count_on v holds n
+kept-at v holds n kept there = go (content_of v n) refl there
   where
     go : (o : Option Content) → content_of v n ≡ o → is_some o ≡ true → option_map_or (λ (c : Content). c.side.count) o 0 ≡ count_on v holds n
     go None is some = cc
-    go (Some c) is some = (kept n c is).count
+    go (Some c) is some = (kept c is).count
+
+pub kept-is : (v : Objects) (holds : List ℕ) → CountsKept holds v → (n : ℕ) → is_some (content_of v n) ≡ true → kept_count v n ≡ count_on v holds n
+kept-is v holds kept n there = kept-at v holds n (kept n) there
+
+-- what is kept of an object is written, as it was read
+pub sided-as : (v : Objects) → IsHeap v → (n : ℕ) (f : Side → Side) (s : Side) → option_map (λ (c : Content). c.side) (content_of v n) ≡ Some s
+    → with_edit n (with_side (f s)) v ≡ with_edit n (sided f) v
+sided-as v good n f s e =
+    let found = there-of (content_of v n) (λ c. c.side) s e in
+    sym (edit-is v good n (with_side (f s)) found.0 (with_side (f s) found.0) found.1 refl)
+    ∙ edit-is v good n (sided f) found.0 (with_side (f s) found.0) found.1 (ap (λ (x : Side). with_side (f x) found.0) (sym found.2))
 
 -- acts that leave the counts keep them right
 
 pub acts-kept : (v w : Objects) (holds : List ℕ) → Acts v w → KeepsCounts v w → CountsKept holds v → CountsKept holds w
 acts-kept v w holds acts same kept m d there =
-    go (content_of v m) refl (sym (same m) ∙ ap (option_map (λ (c : Content). (c.side.count, c.side.marks))) there)
+    go (content_of v m) refl (sym (same m) ∙ ap (option_map counts_of) there)
   where
-    go : (o : Option Content) → content_of v m ≡ o → option_map (λ (c : Content). (c.side.count, c.side.marks)) o ≡ Some (d.side.count, d.side.marks)
+    go : (o : Option Content) → content_of v m ≡ o → option_map counts_of o ≡ Some (counts_of d)
         → IsCounted w holds m d
     go None is e = cc
     go (Some c) is e =
-        let both : (c.side.count, c.side.marks) ≡ (d.side.count, d.side.marks) = same_Some _ _ e in
+        let both : counts_of c ≡ counts_of d = same_Some _ _ e in
         let k : IsCounted v holds m c = kept m c is in
         record {
           count = sym (ap (λ (p : ℕ × ℕ). p.0) both) ∙ k.count ∙ sym (ap (λ (f : ℕ → ℕ). f m) (acts-count holds v w acts));
@@ -120,7 +124,7 @@ acts-kept v w holds acts same kept m d there =
 -- acts of those below
 
 acted-counts : (act : Act) (n : ℕ) (v : Objects) → KeepsCounts v (acted_on act n v)
-acted-counts act n v m = read-after (λ (c : Content). (c.side.count, c.side.marks)) n (acted_at act v.time 0) (λ c. refl) v m
+acted-counts act n v m = read-after counts_of n (acted_at act v.time 0) (λ c. refl) v m
 
 pub all-counts : (act : Act) (ns : List ℕ) (v : Objects) → KeepsCounts v (all_acted act ns v)
 unfolding all_acted
@@ -131,7 +135,7 @@ same-count : (v w : Objects) → KeepsCounts v w → (m : ℕ) → kept_count w 
 same-count v w same m = sym (first (content_of w m)) ∙ ap (λ (o : Option (ℕ × ℕ)). option_map_or (λ (p : ℕ × ℕ). p.0) o 0) (same m) ∙ first (content_of v m)
   where
     first : (o : Option Content)
-        → option_map_or (λ (p : ℕ × ℕ). p.0) (option_map (λ (c : Content). (c.side.count, c.side.marks)) o) 0
+        → option_map_or (λ (p : ℕ × ℕ). p.0) (option_map counts_of o) 0
         ≡ option_map_or (λ (c : Content). c.side.count) o 0
     first None = refl
     first (Some c) = refl
@@ -148,12 +152,14 @@ run-out : (act : Act) (holds ns : List ℕ) (u v : Objects) → KeepsCounts u v 
 unfolding walked all_acted
 run-out act holds [] u v same = refl
 run-out act holds (n ∷ ns) u v same =
-    ap (λ (t : Bool). walked (RunOut act) holds ns (cond t (acted_on act n v) v)) (ap (λ (k : ℕ). eqb k 0) (same-count u v same n)) ∙ go (is_out u n)
+    ap (λ (t : Bool). walked (RunOut act) holds ns (cond t (acted_on act n v) v)) (ap (λ (k : ℕ). eqb k 0) (same-count u v same n))
+    ∙ go (is_out u n) (run-out act holds ns u (acted_on act n v) (λ m. acted-counts act n v m ∙ same m)) (run-out act holds ns u v same)
   where
-    go : (t : Bool)
+    go : (t : Bool) → walked (RunOut act) holds ns (acted_on act n v) ≡ all_acted act (filter (is_out u) ns) (acted_on act n v)
+        → walked (RunOut act) holds ns v ≡ all_acted act (filter (is_out u) ns) v
         → walked (RunOut act) holds ns (cond t (acted_on act n v) v) ≡ all_acted act (cond t (n ∷ filter (is_out u) ns) (filter (is_out u) ns)) v
-    go true = run-out act holds ns u (acted_on act n v) (λ m. acted-counts act n v m ∙ same m)
-    go false = run-out act holds ns u v same
+    go true some none = some
+    go false some none = none
 
 filter-agree : (p q : ℕ → Bool) (ns : List ℕ) → AllByRecursion (λ n. p n ≡ q n) ns → filter p ns ≡ filter q ns
 filter-agree p q [] all = refl
@@ -162,15 +168,30 @@ filter-agree p q (n ∷ ns) all = ap₂ (λ (t : Bool) (rest : List ℕ). cond t
 abbrev pub AreThere : Objects → List ℕ → Type 0
 AreThere v ns = AllByRecursion (λ n. is_some (content_of v n) ≡ true) ns
 
-out-agree : (v : Objects) (holds ns : List ℕ) → CountsKept holds v → AreThere v ns → AllByRecursion (λ n. is_out v n ≡ out_on v holds n) ns
-out-agree v holds [] kept all = tt
-out-agree v holds (n ∷ ns) kept all = (ap (λ (k : ℕ). eqb k 0) (kept-is v holds kept n all.0), out-agree v holds ns kept all.1)
+-- what is so of each number among some is so of all of them
+all-among : (P : ℕ → Type 0) (ns : List ℕ) → ((n : ℕ) → among ns n ≡ true → P n) → AllByRecursion P ns
+all-among P [] each = tt
+all-among P (n ∷ ns) each = (each n (rw (eq-eqb n n refl) refl), all-among P ns (λ m some. each m (go m (eqb m n) some)))
+  where
+    go : (m : ℕ) (t : Bool) → among ns m ≡ true → (t || among ns m) ≡ true
+    go m true e = refl
+    go m false e = e
 
-pub run-picked : (act : Act) (any holds ns : List ℕ) (v : Objects) → CountsKept holds v → AreThere v ns
-    → walked (RunOut act) any ns v ≡ all_acted act (filter (out_on v holds) ns) v
-run-picked act any holds ns v kept there =
-    run-out act any ns v v (λ m. refl)
-    ∙ ap (λ (l : List ℕ). all_acted act l v) (filter-agree (is_out v) (out_on v holds) ns (out-agree v holds ns kept there))
+abbrev pub all_below : Objects → ℕ → List ℕ
+all_below v n = post_by (below_on v) (suc (length v.rows)) n
+
+out-agree : (v : Objects) (holds : List ℕ) (root : ℕ) → CountedBelow root holds v → AreThere v (all_below v root)
+    → AllByRecursion (λ n. is_out v n ≡ out_on v holds n) (all_below v root)
+out-agree v holds root kept there =
+    all-among (λ n. is_out v n ≡ out_on v holds n) (all_below v root)
+    (λ n some. ap (λ (k : ℕ). eqb k 0)
+    (kept-at v holds n (λ c is. kept n c is some) (among-all (λ m. is_some (content_of v m) ≡ true) (all_below v root) there n some)))
+
+pub run-picked : (act : Act) (any holds : List ℕ) (root : ℕ) (v : Objects) → CountedBelow root holds v → AreThere v (all_below v root)
+    → walked (RunOut act) any (all_below v root) v ≡ all_acted act (filter (out_on v holds) (all_below v root)) v
+run-picked act any holds root v kept there =
+    run-out act any (all_below v root) v v (λ m. refl)
+    ∙ ap (λ (l : List ℕ). all_acted act l v) (filter-agree (is_out v) (out_on v holds) (all_below v root) (out-agree v holds root kept there))
 
 -- what is kept of an object after a walk over others, each as often as it is listed
 
@@ -194,6 +215,7 @@ module _ (f : ℕ → Content → Content) (once : (m : ℕ) (c : Content) → f
       go false e = refl
 
   content-edits : (ns : List ℕ) (v : Objects) (m : ℕ) → content_of (edits f ns v) m ≡ option_map (after f ns m) (content_of v m)
+  unfolding edits
   content-edits [] v m = same (content_of v m)
     where
       same : (o : Option Content) → o ≡ option_map (λ (c : Content). c) o
@@ -231,7 +253,7 @@ tallied-once Lower s = go (eqb s.marks 0) refl
 tallied-once Unmark s = refl
 
 walked-tallies : (tally : Tally) (holds ns : List ℕ) (v : Objects) → walked (Count tally) holds ns v ≡ edits (λ _. sided (tallied tally)) ns v
-unfolding walked
+unfolding walked edits
 walked-tallies tally holds [] v = refl
 walked-tallies tally holds (n ∷ ns) v = walked-tallies tally holds ns (with_edit n (sided (tallied tally)) v)
 
@@ -240,9 +262,6 @@ content-tallies : (tally : Tally) (holds ns : List ℕ) (v : Objects) (m : ℕ)
 content-tallies tally holds ns v m =
     ap (λ (x : Objects). content_of x m) (walked-tallies tally holds ns v)
     ∙ content-edits (λ _. sided (tallied tally)) (λ k c. ap (λ (s : Side). record c { side = s }) (tallied-once tally c.side)) ns v m
-
-abbrev pub all_below : Objects → ℕ → List ℕ
-all_below v n = post_by (below_on v) (suc (length v.rows)) n
 
 acts-all : (v w : Objects) → Acts v w → (n : ℕ) → all_below w n ≡ all_below v n
 acts-all v w acts n = ap₂ (λ (next : ℕ → List ℕ) (d : ℕ). post_by next (suc d) n) (acts-below v w acts) (acts-length v w acts)
@@ -282,13 +301,15 @@ tallied_on-acts tally n v =
 raised-count : (c : Content) → c.side.marks ≡ 0 → c.side.count ≤ HOLD_COUNT_MAX
     → ((unmarked Raise c).side.count ≡ c.side.count + 1) × ((unmarked Raise c).side.marks ≡ 0)
 raised-count c bare low =
-    (ap (λ (k : ℕ). (cond (eqb k 0) (min (c.side.count + 1) HOLDS_MAX) c.side.count)) bare ∙ (grind (arith, low)), refl)
+    let one : Side = record c.side { count = min (c.side.count + 1) HOLDS_MAX; marks = 1 } in
+    let few : min (c.side.count + 1) HOLDS_MAX ≡ c.side.count + 1 = grind (arith, low) in
+    (ap (λ (k : ℕ). (cond (eqb k 0) one c.side).count) bare ∙ few, refl)
 
 pub kept-raised : (v : Objects) (holds : List ℕ) (n : ℕ) → CountsKept holds v → HasRoom n holds v → CountsKept (holds ++ n ∷ []) (tallied_on Raise n v)
 unfolding count_on
 kept-raised v holds n kept room m d there =
     let found = there-of (content_of v m) (λ c. cond (is_under v m n) (unmarked Raise c) c) d (sym (content-tallied Raise n v m) ∙ there) in
-    go (is_under v m n) refl found.0 (kept m found.0 found.1.0) d found.1.1
+    go (is_under v m n) refl found.0 (kept m found.0 found.1) d found.2
   where
     w : Objects
     w = tallied_on Raise n v
@@ -316,7 +337,7 @@ pub kept-lowered : (v : Objects) (holds : List ℕ) (n : ℕ) → CountsKept hol
 unfolding count_on
 kept-lowered v holds n kept some m d there =
     let found = there-of (content_of v m) (λ c. cond (is_under v m n) (unmarked Lower c) c) d (sym (content-tallied Lower n v m) ∙ there) in
-    go (is_under v m n) refl found.0 (kept m found.0 found.1.0) d found.1.1
+    go (is_under v m n) refl found.0 (kept m found.0 found.1) d found.2
   where
     w : Objects
     w = tallied_on Lower n v
@@ -331,7 +352,7 @@ kept-lowered v holds n kept some m d there =
         → IsCounted w (without_first n holds) m d
     go true e c k d is =
         let one : one_if (is_under v m n) ≡ 1 = ap one_if e in
-        let low : (unmarked Lower c).side.count ≡ c.side.count - 1 = ap (λ (x : ℕ). cond (eqb x 0) (c.side.count - 1) c.side.count) k.unmarked in
+        let low : (unmarked Lower c).side.count ≡ c.side.count - 1 = ap (λ (x : ℕ). (cond (eqb x 0) (record c.side { count = c.side.count - 1; marks = 1 }) c.side).count) k.unmarked in
         let count : c.side.count - 1 ≡ count_by (is_under v m) (without_first n holds) = let kept_is = k.count in omega (arith, one, less, kept_is) in
         subst (IsCounted w (without_first n holds) m) is (record { count = low ∙ count ∙ sym (same m); unmarked = refl })
     go false e c k d is =
@@ -345,34 +366,73 @@ abbrev recounted : Objects → List ℕ → ℕ → Content → Content
 recounted v holds n = sided (counted (min (count_on v holds n) HOLDS_MAX))
 
 walked-recount : (holds ns : List ℕ) (u v : Objects) → Acts u v → walked Recount holds ns v ≡ edits (recounted u holds) ns v
-unfolding walked
+unfolding walked edits
 walked-recount holds [] u v acts = refl
 walked-recount holds (n ∷ ns) u v acts =
     let next : Objects = done Recount holds n v in
     walked-recount holds ns u next (acts-then u v next acts (done-acts Recount holds n v))
     ∙ ap (λ (k : ℕ). edits (recounted u holds) ns (with_edit n (sided (counted (min k HOLDS_MAX))) v)) (ap (λ (f : ℕ → ℕ). f n) (acts-count holds u v acts))
 
-pub kept-recounted : (v : Objects) (holds : List ℕ) (n : ℕ) → length holds ≤ HOLDS_MAX → CountsKeptBut n holds v → CountsKept holds (walk_on Recount holds n v)
-unfolding visited count_on
-kept-recounted v holds n few kept m d there =
-    let found = there-of (content_of v m) (after (recounted v holds) (all_below v n) m) d (sym content ∙ there) in
-    go (is_under v m n) refl found.0 (kept m found.0 found.1.0) d found.1.1
+module _ (v : Objects) (holds : List ℕ) (n : ℕ) where
+  abbrev recounted_heap : Objects
+  recounted_heap = walked Recount holds (all_below v n) v
+
+  content-recounted : (m : ℕ) → content_of recounted_heap m ≡ option_map (after (recounted v holds) (all_below v n) m) (content_of v m)
+  content-recounted m =
+      ap (λ (x : Objects). content_of x m) (walked-recount holds (all_below v n) v v (acts-none v))
+      ∙ content-edits (recounted v holds) (λ k c. refl) (all_below v n) v m
+
+  pub counted-below : length holds ≤ HOLDS_MAX → CountedBelow n holds (walk_on Recount holds n v)
+  unfolding visited count_on
+  counted-below few m d there under =
+      let found = there-of (content_of v m) (after (recounted v holds) (all_below v n) m) d (sym (content-recounted m) ∙ there) in
+      subst (IsCounted w holds m) (sym (ap (λ (t : Bool). cond t (recounted v holds m found.0) found.0) here) ∙ found.2)
+      (record { count = low ∙ sym same; unmarked = refl })
+    where
+      w : Objects
+      w = walked Recount holds (all_below v n) v
+
+      acts : Acts v w
+      acts = walked-acts Recount holds (all_below v n) v
+
+      here : is_under v m n ≡ true
+      here = ap (λ (l : List ℕ). among l m) (sym (acts-all v w acts n)) ∙ under
+
+      same : count_on w holds m ≡ count_on v holds m
+      same = ap (λ (f : ℕ → ℕ). f m) (acts-count holds v w acts)
+
+      low : min (count_on v holds m) HOLDS_MAX ≡ count_on v holds m
+      low = let fits : count_by (is_under v m) holds ≤ length holds = count_by-le-length (is_under v m) holds in grind (arith, fits, few)
+
+  pub others-kept : KeepsOthers n v (walk_on Recount holds n v)
+  unfolding visited
+  others-kept m other =
+      ap (option_map counts_of) (content-recounted m) ∙ go (content_of v m)
+    where
+      go : (o : Option Content)
+          → option_map counts_of (option_map (after (recounted v holds) (all_below v n) m) o)
+          ≡ option_map counts_of o
+      go None = refl
+      go (Some c) = ap (λ (t : Bool). Some (counts_of (cond t (recounted v holds m c) c))) other
+
+-- a device is plugged: what was right of all others is right of all
+pub plugged-kept : (v w : Objects) (holds : List ℕ) (n : ℕ) → Acts v w → CountedBelow n holds w → KeepsOthers n v w → CountsKeptBut n holds v → CountsKept holds w
+plugged-kept v w holds n acts below others kept m d there = by (is_under v m n) refl
   where
-    w : Objects
-    w = walked Recount holds (all_below v n) v
+    same : is_under w m n ≡ is_under v m n
+    same = ap (λ (l : List ℕ). among l m) (acts-all v w acts n)
 
-    content : content_of w m ≡ option_map (after (recounted v holds) (all_below v n) m) (content_of v m)
-    content =
-        ap (λ (x : Objects). content_of x m) (walked-recount holds (all_below v n) v v (acts-none v))
-        ∙ content-edits (recounted v holds) (λ k c. refl) (all_below v n) v m
-
-    same : count_on w holds m ≡ count_on v holds m
-    same = ap (λ (f : ℕ → ℕ). f m) (acts-count holds v w (walked-acts Recount holds (all_below v n) v))
-
-    low : min (count_on v holds m) HOLDS_MAX ≡ count_on v holds m
-    low = let fits : count_by (is_under v m) holds ≤ length holds = count_by-le-length (is_under v m) holds in grind (arith, fits, few)
-
-    go : (t : Bool) → is_under v m n ≡ t → (c : Content) → (is_under v m n ≡ false → IsCounted v holds m c) → (d : Content)
-        → cond t (recounted v holds m c) c ≡ d → IsCounted w holds m d
-    go true e c k d is = subst (IsCounted w holds m) is (record { count = low ∙ sym same; unmarked = refl })
-    go false e c k d is = subst (IsCounted w holds m) is (record { count = (k e).count ∙ sym same; unmarked = (k e).unmarked })
+    by : (t : Bool) → is_under v m n ≡ t → IsCounted w holds m d
+    by true e = below m d there (same ∙ e)
+    by false e = go (content_of v m) refl (sym (others m e) ∙ ap (option_map counts_of) there)
+      where
+        go : (o : Option Content) → content_of v m ≡ o → option_map counts_of o ≡ Some (counts_of d)
+            → IsCounted w holds m d
+        go None is q = cc
+        go (Some c) is q =
+            let both : counts_of c ≡ counts_of d = same_Some _ _ q in
+            let k : IsCounted v holds m c = kept m c is e in
+            record {
+              count = sym (ap (λ (p : ℕ × ℕ). p.0) both) ∙ k.count ∙ sym (ap (λ (f : ℕ → ℕ). f m) (acts-count holds v w acts));
+              unmarked = sym (ap (λ (p : ℕ × ℕ). p.1) both) ∙ k.unmarked;
+            }

@@ -17,6 +17,7 @@ use Rattle.qo_object.specs.declared.slots.Slot.TheVariants.{Plain, Child, Link, 
 use Rattle.qo_object.specs.Content.{Content}
 use Rattle.qo_object.specs.BoardObject.{birth_of}
 use Rattle.qo_object.specs.Slots.{Named, target_of}
+use Rattle.qo_heap.specs.Acts.{KeepsCounts}
 use Rattle.qo_heap.specs.Board.{Shows}
 use Rattle.qo_heap.specs.Objects.{IsHeap, Objects, content_of, slots_of, with_edit}
 use Rattle.qo_heap.proofs.BoardEdits.{edit-unseen, pins-edited}
@@ -26,11 +27,11 @@ use Rattle.qo_reset.specs.declared.turns.Tally.{Tally}
 use Rattle.qo_reset.specs.declared.turns.Tally.TheVariants.{Unmark}
 use Rattle.qo_reset.specs.declared.turns.TheConstants.{HOLDS_MAX}
 use Rattle.qo_reset.specs.declared.turns.Turn.TheVariants.{Run, RunOut, Count, Recount}
-use Rattle.qo_reset.specs.Counts.{CountsKept, HasRoom, is_full, kept_count}
+use Rattle.qo_reset.specs.Counts.{CountedBelow, CountsKept, HasRoom, is_full, kept_count}
 use Rattle.qo_reset.specs.Phases.{below_on, count_on, exceeds_depth_at, is_bus, is_under, kids_in, all_acted, phase_on, picks, post_by, turned_to}
 use Rattle.qo_reset.specs.Turns.{counted, sided, tallied, tallied_on, visited, walk_on, walked}
-use Rattle.qo_reset.proofs.CountLemmas.{AreThere, acts-kept, all-counts, all_below, kept-is, run-all, run-picked}
-use Rattle.qo_reset.proofs.BoardLemmas.{filter-all, phase-acts}
+use Rattle.qo_reset.proofs.CountLemmas.{AreThere, all-counts, all_below, kept-is, run-all, run-picked}
+use Rattle.qo_reset.proofs.BoardLemmas.{filter-all}
 
 -- what is below an object is there
 
@@ -93,15 +94,15 @@ post-there v good (suc levels) n there =
 
 -- a walk of acts is a phase
 
-pub walk-phase : (act : Act) (only : Bool) (holds : List ℕ) (n : ℕ) (v : Objects) → IsHeap v → is_some (content_of v n) ≡ true → CountsKept holds v
+pub walk-phase : (act : Act) (only : Bool) (holds : List ℕ) (n : ℕ) (v : Objects) → IsHeap v → is_some (content_of v n) ≡ true → CountedBelow n holds v
     → walk_on (cond only (RunOut act) (Run act)) holds n v ≡ phase_on act only holds n v
 unfolding visited picks
-walk-phase act true holds n v good there kept = run-picked act holds holds (all_below v n) v kept (post-there v good (suc (length v.rows)) n there)
-walk-phase act false holds n v good there kept = run-all act holds (all_below v n) v ∙ ap (λ (l : List ℕ). all_acted act l v) (sym (filter-all (all_below v n)))
+walk-phase act true holds n v good there kept = run-picked act holds holds n v kept (post-there v good (suc (length v.rows)) n there)
+walk-phase act false holds n v good there kept =
+    run-all act holds (all_below v n) v ∙ ap (λ (l : List ℕ). all_acted act l v) (sym (filter-all (all_below v n)))
 
-pub phase-kept : (act : Act) (only : Bool) (holds : List ℕ) (n : ℕ) (v : Objects) → CountsKept holds v → CountsKept holds (phase_on act only holds n v)
-phase-kept act only holds n v kept =
-    acts-kept v (phase_on act only holds n v) holds (phase-acts act only holds n v) (all-counts act (picks only holds n v) v) kept
+pub phase-still : (act : Act) (only : Bool) (holds : List ℕ) (n : ℕ) (v : Objects) → KeepsCounts v (phase_on act only holds n v)
+phase-still act only holds n v = all-counts act (picks only holds n v) v
 
 -- the limit, by what is kept
 
@@ -112,12 +113,13 @@ full-agree v holds (n ∷ ns) kept all =
 
 none-among : (p : ℕ → Bool) (ns : List ℕ) → list_any p ns ≡ false → (m : ℕ) → among ns m ≡ true → p m ≡ false
 none-among p [] none m some = cc
-none-among p (n ∷ ns) none m some = go (p n) refl (eqb m n) refl none some
+none-among p (n ∷ ns) none m some = go (p n) refl (eqb m n) refl none some (λ no yes. none-among p ns no m yes)
   where
-    go : (t : Bool) → p n ≡ t → (u : Bool) → eqb m n ≡ u → (t || list_any p ns) ≡ false → (u || among ns m) ≡ true → p m ≡ false
-    go true is u e no yes = cc
-    go false is true e no yes = ap p (eqb-true m n e) ∙ is
-    go false is false e no yes = none-among p ns no m yes
+    go : (t : Bool) → p n ≡ t → (u : Bool) → eqb m n ≡ u → (t || list_any p ns) ≡ false → (u || among ns m) ≡ true
+        → (list_any p ns ≡ false → among ns m ≡ true → p m ≡ false) → p m ≡ false
+    go true is u e no yes rest = cc
+    go false is true e no yes rest = ap p (eqb-true m n e) ∙ is
+    go false is false e no yes rest = rest no yes
 
 pub full-below : (v : Objects) → IsHeap v → (holds : List ℕ) (n levels : ℕ) → is_some (content_of v n) ≡ true → CountsKept holds v
     → list_any (is_full v) (post_by (below_on v) levels n) ≡ list_any (exceeds_depth_at v holds) (post_by (below_on v) levels n)
@@ -131,7 +133,7 @@ has-room v holds n none m under =
 
 -- what is kept of objects does not show
 
-shows-sided : (b : Board) (v : Objects) (n : ℕ) (f : Side → Side) → Shows b v → Shows b (with_edit n (sided f) v)
+pub shows-sided : (b : Board) (v : Objects) (n : ℕ) (f : Side → Side) → Shows b v → Shows b (with_edit n (sided f) v)
 shows-sided b v n f s =
     record {
       records = s.records ∙ sym (edit-unseen n (sided f) (λ m c. refl) v.rows);

@@ -22,7 +22,7 @@ use Rattle.qo_object.specs.declared.slots.Slot.TheVariants.{Plain, Child, Link, 
 use Rattle.qo_object.specs.Content.{Content, acted_at}
 use Rattle.qo_object.specs.BoardObject.{birth_of}
 use Rattle.qo_object.specs.Slots.{Named, child_of}
-use Rattle.qo_heap.specs.Acts.{Acts, KeepsPeriods}
+use Rattle.qo_heap.specs.Acts.{Acts, KeepsPeriods, periods_of}
 use Rattle.qo_heap.specs.Moments.{AllTimely, Timely}
 use Rattle.qo_heap.specs.Objects.{IsHeap, Objects, content_of, slots_of, with_edit}
 use Rattle.qo_heap.proofs.ActsLemmas.{acts-act, acts-edit, acts-none, acts-then, acts-live}
@@ -100,7 +100,7 @@ done-acts (RunOut act) holds n v = go (eqb (kept_count v n) 0)
 done-acts (Count tally) holds n v = acts-edit v n (sided (tallied tally)) (λ c. refl)
 done-acts Recount holds n v = acts-edit v n (sided (counted (min (count_on v holds n) HOLDS_MAX))) (λ c. refl)
 
-sided-timely : (n : ℕ) (f : Side → Side) (now : ℕ) (rows : List (Key × Content)) → AllTimely now rows → AllTimely now (edit n (sided f) rows)
+pub sided-timely : (n : ℕ) (f : Side → Side) (now : ℕ) (rows : List (Key × Content)) → AllTimely now rows → AllTimely now (edit n (sided f) rows)
 sided-timely n f now [] all = tt
 sided-timely n f now (row ∷ rows) all = (go (eqb row.0.birth n), sided-timely n f now rows all.1)
   where
@@ -164,7 +164,7 @@ tallied-periods Lower s = go (eqb s.marks 0)
 tallied-periods Unmark s = (refl, refl)
 
 acted-periods : (act : Act) (n : ℕ) (v : Objects) → KeepsPeriods v (acted_on act n v)
-acted-periods act n v m = read-after (λ (c : Content). (c.side.period, c.side.child)) n (acted_at act v.time 0) (λ c. refl) v m
+acted-periods act n v m = read-after periods_of n (acted_at act v.time 0) (λ c. refl) v m
 
 done-periods : (turn : Turn) (holds : List ℕ) (n : ℕ) (v : Objects) → KeepsPeriods v (done turn holds n v)
 done-periods (Run act) holds n v = acted-periods act n v
@@ -173,11 +173,9 @@ done-periods (RunOut act) holds n v = go (eqb (kept_count v n) 0)
     go : (t : Bool) → KeepsPeriods v (cond t (acted_on act n v) v)
     go true = acted-periods act n v
     go false = λ m. refl
-done-periods (Count tally) holds n v m =
-    read-after (λ (c : Content). (c.side.period, c.side.child)) n (sided (tallied tally))
-    (λ c. ap₂ (λ (p q : ℕ). (p, q)) (tallied-periods tally c.side).0 (tallied-periods tally c.side).1) v m
-done-periods Recount holds n v m =
-    read-after (λ (c : Content). (c.side.period, c.side.child)) n (sided (counted (min (count_on v holds n) HOLDS_MAX))) (λ c. refl) v m
+done-periods (Count tally) holds n v = λ m.
+    read-after periods_of n (sided (tallied tally)) (λ c. λ i. ((tallied-periods tally c.side).0 i, (tallied-periods tally c.side).1 i)) v m
+done-periods Recount holds n v = λ m. read-after periods_of n (sided (counted (min (count_on v holds n) HOLDS_MAX))) (λ c. refl) v m
 
 -- walks in pieces
 

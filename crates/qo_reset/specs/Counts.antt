@@ -3,6 +3,7 @@ use Rattle.std.specs.Prelude.{◌≡◌, ◌≤◌, ℕ, Bool, false, true, List
 use Rattle.std.specs.Option.{option_map_or}
 use Rattle.qo_values.specs.declared.limits.TheConstants.{HOLD_COUNT_MAX}
 use Rattle.qo_object.specs.Content.{Content}
+use Rattle.qo_heap.specs.Acts.{counted_in}
 use Rattle.qo_heap.specs.Objects.{Objects, content_of}
 use Rattle.qo_reset.specs.Phases.{count_on, is_under}
 
@@ -15,9 +16,16 @@ pub record IsCounted (v : Objects) (holds : List ℕ) (n : ℕ) (c : Content) : 
 abbrev pub CountsKept : List ℕ → Objects → Type 0
 CountsKept holds v = (n : ℕ) (c : Content) → content_of v n ≡ Some c → IsCounted v holds n c
 
--- of each that is there and is neither a device that is being plugged nor below it
+-- of each that is one or below it; and of each other one, where a device is being plugged
+abbrev pub CountedBelow : ℕ → List ℕ → Objects → Type 0
+CountedBelow root holds v = (n : ℕ) (c : Content) → content_of v n ≡ Some c → is_under v n root ≡ true → IsCounted v holds n c
+
 abbrev pub CountsKeptBut : ℕ → List ℕ → Objects → Type 0
 CountsKeptBut device holds v = (n : ℕ) (c : Content) → content_of v n ≡ Some c → is_under v n device ≡ false → IsCounted v holds n c
+
+-- what is kept stays of each object that is neither one nor below it
+abbrev pub KeepsOthers : ℕ → Objects → Objects → Type 0
+KeepsOthers root v w = (n : ℕ) → is_under v n root ≡ false → counted_in w n ≡ counted_in v n
 
 -- a hold on an object may come: on it and each below it there may be one more
 abbrev pub HasRoom : ℕ → List ℕ → Objects → Type 0

@@ -3,14 +3,14 @@
 
 ghost use Rattle.std.specs.Prelude.{◌≡◌, false};
 ghost use Rattle.qo_kinds.specs.Bodies.{reads_moment};
-ghost use Rattle.qo_heap.specs.Acts.{Acts, KeepsPeriods};
+ghost use Rattle.qo_heap.specs.Acts.{Acts, KeepsCounts, KeepsPeriods};
 ghost use Rattle.qo_heap.specs.Board.{Shows};
 ghost use Rattle.qo_heap.specs.Moments.{Timely};
 ghost use Rattle.qo_heap.specs.Rows.{IsLive};
 ghost use Rattle.qo_model.specs.Board.{Board};
 ghost use Rattle.qo_model.specs.Release.{without_first};
 ghost use Rattle.qo_model.specs.Reset.{after_hold, plugged, released};
-ghost use Rattle.qo_reset.specs.Counts.{CountsKept};
+ghost use Rattle.qo_reset.specs.Counts.{CountedBelow, CountsKept};
 ghost use Rattle.qo_reset.specs.Phases.{Holds, births_of, phase_on};
 
 use crate::turns::{Turn, walk};
@@ -30,11 +30,11 @@ fn phase<L: Ledger>(
 )
     requires live { IsLive heap.old.rows root }
     requires phase { reads_moment act ≡ false }
-    requires counts { CountsKept (births_of holds.now) heap.old }
+    requires counts { CountedBelow root.birth (births_of holds.now) heap.old }
     ensures phase { heap.new ≡ phase_on act only_out (births_of holds.now) root.birth heap.old }
     ensures acts { Acts heap.old heap.new }
     ensures timely { Timely heap.old → Timely heap.new }
-    ensures counts { CountsKept (births_of holds.now) heap.new }
+    ensures still { KeepsCounts heap.old heap.new }
     ensures periods { KeepsPeriods heap.old heap.new }
     ensures live { IsLive heap.new.rows root }
 {
@@ -54,6 +54,7 @@ pub fn held_phases<L: Ledger>(heap: &mut Heap, holds: &[Oid], root: Oid, steps: 
     ensures shown { (b : Board) → Holds b (births_of holds.now) heap.old → Shows (after_hold b root.birth) heap.new }
     ensures acts { Acts heap.old heap.new }
     ensures timely { Timely heap.old → Timely heap.new }
+    ensures still { KeepsCounts heap.old heap.new }
     ensures counts { CountsKept (births_of holds.now) heap.new }
     ensures periods { KeepsPeriods heap.old heap.new }
     ensures live { IsLive heap.new.rows root }
@@ -69,6 +70,7 @@ pub fn released_phases<L: Ledger>(heap: &mut Heap, holds: &[Oid], root: Oid, ste
     ensures shown { (b : Board) → Shows b heap.old → without_first root.birth b.holds ≡ births_of holds.now → Shows (released b root.birth) heap.new }
     ensures acts { Acts heap.old heap.new }
     ensures timely { Timely heap.old → Timely heap.new }
+    ensures still { KeepsCounts heap.old heap.new }
     ensures counts { CountsKept (births_of holds.now) heap.new }
     ensures periods { KeepsPeriods heap.old heap.new }
 {
@@ -78,11 +80,11 @@ pub fn released_phases<L: Ledger>(heap: &mut Heap, holds: &[Oid], root: Oid, ste
 /// All phases of what is plugged; those below a hold do not exit.
 pub fn plugged_phases<L: Ledger>(heap: &mut Heap, holds: &[Oid], dev: Oid, steps: &mut Steps<L>)
     requires live { IsLive heap.old.rows dev }
-    requires counts { CountsKept (births_of holds.now) heap.old }
+    requires counts { CountedBelow dev.birth (births_of holds.now) heap.old }
     ensures shown { (b : Board) → Holds b (births_of holds.now) heap.old → Shows (plugged b dev.birth) heap.new }
     ensures acts { Acts heap.old heap.new }
     ensures timely { Timely heap.old → Timely heap.new }
-    ensures counts { CountsKept (births_of holds.now) heap.new }
+    ensures still { KeepsCounts heap.old heap.new }
     ensures periods { KeepsPeriods heap.old heap.new }
 {
     phase(heap, holds, dev, Act::Enter, false, steps);

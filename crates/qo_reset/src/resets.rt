@@ -50,10 +50,10 @@ impl Resets {
     ghost use Rattle.qo_model.specs.Release.{without_first};
     ghost use Rattle.qo_model.specs.Reset.{after_hold, count, exceeds_depth, plugged, pulse, released};
     ghost use Rattle.qo_model.specs.Unplug.{without_all};
-    ghost use Rattle.qo_heap.specs.Acts.{Acts, KeepsPeriods};
+    ghost use Rattle.qo_heap.specs.Acts.{Acts, KeepsCounts, KeepsPeriods};
     ghost use Rattle.qo_heap.specs.Moments.{Timely};
     ghost use Rattle.qo_heap.specs.Objects.{with_edit};
-    ghost use Rattle.qo_reset.specs.Counts.{CountsKept, CountsKeptBut, HasRoom};
+    ghost use Rattle.qo_reset.specs.Counts.{CountedBelow, CountsKept, CountsKeptBut, HasRoom, KeepsOthers};
     ghost use Rattle.qo_reset.specs.HoldList.{HoldList, no_holds, with_hold};
     ghost use Rattle.qo_reset.specs.Phases.{Holds};
     ghost use Rattle.qo_reset.specs.Turns.{counted, sided};
@@ -189,6 +189,7 @@ impl Resets {
         ensures room { self.new.spare ≡ self.old.spare }
         ensures acts { Acts heap.old heap.new }
         ensures timely { Timely heap.old → Timely heap.new }
+        ensures still { KeepsCounts heap.old heap.new }
         ensures counts { CountsKept self.new.births heap.new }
         ensures periods { KeepsPeriods heap.old heap.new }
     {
@@ -202,12 +203,13 @@ impl Resets {
     /// which phases it goes through is this machine's own). Its holds, and those of all below it,
     /// are counted afresh, and need not be right before. It takes no memory.
     pub fn plugged<L: Ledger>(&self, heap: &mut Heap, dev: Oid, steps: &mut Steps<L>)
-        requires live { IsLive heap.old.rows dev }
-        requires counts { CountsKeptBut dev.birth self.now.births heap.old }
+        requires { IsLive heap.old.rows dev }
         ensures shown { (b : Board) → Holds b self.now.births heap.old → Holds (plugged b dev.birth) self.now.births heap.new }
         ensures acts { Acts heap.old heap.new }
         ensures timely { Timely heap.old → Timely heap.new }
-        ensures counts { CountsKept self.now.births heap.new }
+        ensures counted { CountedBelow dev.birth self.now.births heap.new }
+        ensures others { KeepsOthers dev.birth heap.old heap.new }
+        ensures counts { CountsKeptBut dev.birth self.now.births heap.old → CountsKept self.now.births heap.new }
         ensures periods { KeepsPeriods heap.old heap.new }
     {
         recount_below(heap, &self.holds, dev, steps);

@@ -9,7 +9,7 @@ ghost use Rattle.qo_heap.specs.Rows.{IsLive};
 ghost use Rattle.qo_model.specs.Board.{Board};
 ghost use Rattle.qo_model.specs.Depth.{among};
 ghost use Rattle.qo_model.specs.Release.{without_first};
-ghost use Rattle.qo_reset.specs.Counts.{CountsKept, CountsKeptBut, HasRoom};
+ghost use Rattle.qo_reset.specs.Counts.{CountedBelow, CountsKept, HasRoom, KeepsOthers};
 ghost use Rattle.qo_reset.specs.Phases.{births_of};
 ghost use Rattle.qo_reset.specs.Turns.{tallied_on, walk_on};
 ghost use Rattle.qo_reset.specs.declared.turns.Tally.TheVariants.{Raise, Lower};
@@ -62,7 +62,8 @@ pub fn lower<L: Ledger>(heap: &mut Heap, root: Oid, steps: &mut Steps<L>)
 pub fn recount_below<L: Ledger>(heap: &mut Heap, holds: &[Oid], dev: Oid, steps: &mut Steps<L>)
     requires live { IsLive heap.old.rows dev }
     requires few { length holds.now ≤ HOLDS_MAX }
-    ensures counts { CountsKeptBut dev.birth (births_of holds.now) heap.old → CountsKept (births_of holds.now) heap.new }
+    ensures counted { CountedBelow dev.birth (births_of holds.now) heap.new }
+    ensures others { KeepsOthers dev.birth heap.old heap.new }
     ensures shown { (b : Board) → Shows b heap.old → Shows b heap.new }
     ensures acts { Acts heap.old heap.new }
     ensures timely { Timely heap.old → Timely heap.new }

@@ -65,10 +65,11 @@ fn tallied(tally: Tally, side: Side) -> Side
 }
 
 /// The count that is kept of an object changes.
-fn tally<L: Ledger>(heap: &mut Heap, o: Oid, tally: Tally, steps: &mut Steps<L>)
+fn tally_one<L: Ledger>(heap: &mut Heap, o: Oid, tally: Tally, steps: &mut Steps<L>)
     requires { IsLive heap.old.rows o }
     ensures { heap.new ≡ with_edit o.birth (sided (tallied tally)) heap.old }
 {
+    heap.reveal_invariant();
     let side = heap.side(o, steps);
     heap.set_side(o, tallied(tally, side), steps);
 }
@@ -79,6 +80,7 @@ pub fn set_count<L: Ledger>(heap: &mut Heap, o: Oid, count: u32, steps: &mut Ste
     ensures now { heap.new ≡ with_edit o.birth (sided (counted count)) heap.old }
     ensures cost { steps.new ≡ steps.old + 2 }
 {
+    heap.reveal_invariant();
     let side = heap.side(o, steps);
     heap.set_side(
         o,
@@ -104,7 +106,7 @@ fn turn_one<L: Ledger>(heap: &mut Heap, holds: &[Oid], o: Oid, turn: Turn, steps
                 heap.act(o, act, 0, steps);
             }
         }
-        Turn::Count(change) => tally(heap, o, change, steps),
+        Turn::Count(tally) => tally_one(heap, o, tally, steps),
         Turn::Recount => {
             let count = recount(heap, holds, o, steps).min(HOLDS_MAX as usize) as u32;
             set_count(heap, o, count, steps);
