@@ -30,7 +30,7 @@ counts-part None = refl
 counts-part (Some c) = refl
 
 -- the claims of an object that is there stand among what is kept of it
-kept-there : (o : Option Content) (k : KeptSet) → option_map (λ (c : Content). kept_of c.body) o ≡ Some k
+pub kept-there : (o : Option Content) (k : KeptSet) → option_map (λ (c : Content). kept_of c.body) o ≡ Some k
     → (x : Kept) × (option_map kept_with o ≡ Some x) × (x.0 ≡ k)
 kept-there None k e = absurd (let clash : None ≡ Some k = e in cc)
 kept-there (Some c) k e = (kept_with c, refl, same_Some (kept_of c.body) k e)
@@ -52,23 +52,27 @@ claims-before v w before n k e =
     let x = kept-there (content_of w n) k e in
     claims-of v n x.0 (before n x.0 x.1) ∙ ap Some x.2
 
+pub counts-there : (o : Option Content) (k : ℕ × ℕ) → option_map counts_of o ≡ Some k → (x : Kept) × (option_map kept_with o ≡ Some x) × (x.1 ≡ k)
+counts-there None k q = absurd (let clash : None ≡ Some k = q in cc)
+counts-there (Some c) k q = (kept_with c, refl, same_Some (counts_of c) k q)
+
 pub counts-before : (v w : Objects) → KeptBefore v w → (n : ℕ) (k : ℕ × ℕ) → counted_in w n ≡ Some k → counted_in v n ≡ Some k
-counts-before v w before n k e = let x = there (content_of w n) e in counts-of v n x.0 (before n x.0 x.1) ∙ ap Some x.2
-  where
-    there : (o : Option Content) → option_map counts_of o ≡ Some k → (x : Kept) × (option_map kept_with o ≡ Some x) × (x.1 ≡ k)
-    there None q = absurd (let clash : None ≡ Some k = q in cc)
-    there (Some c) q = (kept_with c, refl, same_Some (counts_of c) k q)
+counts-before v w before n k e = let x = counts-there (content_of w n) k e in counts-of v n x.0 (before n x.0 x.1) ∙ ap Some x.2
+
+pub claims-either : (v : Objects) (n : ℕ) (k : KeptSet) (x : Kept) → x.0 ≡ k → (all_kept v n ≡ Some x) ⊎ ((all_kept v n ≡ None) × (x ≡ new_kept))
+    → (kept_by v n ≡ Some k) ⊎ ((kept_by v n ≡ None) × (k ≡ none_kept))
+claims-either v n k x is (inl same) = inl (claims-of v n x same ∙ ap Some is)
+claims-either v n k x is (inr new) =
+    inr (sym (claims-part (content_of v n)) ∙ ap (option_map (λ (y : Kept). y.0)) new.0, sym is ∙ ap (λ (y : Kept). y.0) new.1)
+
+pub counts-either : (v : Objects) (n : ℕ) (k : ℕ × ℕ) (x : Kept) → x.1 ≡ k → (all_kept v n ≡ Some x) ⊎ ((all_kept v n ≡ None) × (x ≡ new_kept))
+    → (counted_in v n ≡ Some k) ⊎ ((counted_in v n ≡ None) × (k ≡ (0, 0)))
+counts-either v n k x is (inl same) = inl (counts-of v n x same ∙ ap Some is)
+counts-either v n k x is (inr new) =
+    inr (sym (counts-part (content_of v n)) ∙ ap (option_map (λ (y : Kept). y.1)) new.0, sym is ∙ ap (λ (y : Kept). y.1) new.1)
 
 pub claims-new : (v w : Objects) → KeptOrNew v w → ClaimsOrNew v w
-claims-new v w before n k e = let x = kept-there (content_of w n) k e in by x.0 x.2 (before n x.0 x.1)
-  where
-    none : (o : Option Content) → option_map kept_with o ≡ None → option_map (λ (c : Content). kept_of c.body) o ≡ None
-    none None p = refl
-    none (Some c) p = absurd (let clash : Some (kept_with c) ≡ None = p in cc)
-
-    by : (x : Kept) → x.0 ≡ k → (all_kept v n ≡ Some x) ⊎ ((all_kept v n ≡ None) × (x ≡ new_kept)) → (kept_by v n ≡ Some k) ⊎ ((kept_by v n ≡ None) × (k ≡ none_kept))
-    by x is (inl same) = inl (claims-of v n x same ∙ ap Some is)
-    by x is (inr new) = inr (none (content_of v n) new.0, sym is ∙ ap (λ (y : Kept). y.0) new.1)
+claims-new v w before n k e = let x = kept-there (content_of w n) k e in claims-either v n k x.0 x.2 (before n x.0 x.1)
 
 -- an edit
 

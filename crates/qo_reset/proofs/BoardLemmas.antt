@@ -6,7 +6,6 @@ use Rattle.std.proofs.Math.Path.{fun_ext}
 use Rattle.qo_values.specs.declared.kinds.Act.{Act}
 use Rattle.qo_values.specs.declared.kinds.Act.TheVariants.{Enter, Hold, Exit}
 use Rattle.qo_values.specs.declared.limits.TheConstants.{HOLD_COUNT_MAX}
-use Rattle.qo_model.specs.declared.notes.Deed.TheVariants.{Did}
 use Rattle.qo_model.specs.Board.{Board}
 use Rattle.qo_model.specs.Board as board
 use Rattle.qo_model.specs.Clocks.{acted}
@@ -22,17 +21,17 @@ use Rattle.qo_object.specs.Slots.{Named}
 use Rattle.qo_heap.specs.Acts.{Acts}
 use Rattle.qo_heap.specs.Board.{Shows}
 use Rattle.qo_heap.specs.Objects.{Objects, slots_of}
-use Rattle.qo_heap.proofs.ActsLemmas.{acts-act, acts-none, acts-then}
+use Rattle.qo_heap.proofs.ActsLemmas.{acts-then}
 use Rattle.qo_heap.proofs.ActsReads.{acts-length}
 use Rattle.qo_heap.proofs.BoardActs.{shows-acted}
 use Rattle.qo_heap.proofs.BoardReads.{shows-of, shows-size, shows-slots}
-use Rattle.qo_reset.specs.Phases.{acted_on, all_acted, below_on, chosen, count_on, exceeds_depth_at, is_bus, kids_in, phase_on, picked, picks, post_by, turned_to}
-use Rattle.qo_reset.proofs.WalkLemmas.{acts-below, acts-chosen}
+use Rattle.qo_reset.specs.Phases.{acted_on, walked, below_on, chosen, count_on, exceeds_depth_at, is_bus, kids_in, phase_on, picked, picks, post_by, turned_to}
+use Rattle.qo_reset.proofs.WalkLemmas.{acts-below, acts-chosen, walked-acts}
 
 -- acts on objects in order
 
-pub shows-walked : (act : Act) (ns : List ℕ) (b : Board) (v : Objects) → Shows b v → Shows (phased act ns b) (all_acted act ns v)
-unfolding all_acted
+pub shows-walked : (act : Act) (ns : List ℕ) (b : Board) (v : Objects) → Shows b v → Shows (phased act ns b) (walked act ns v)
+unfolding walked
 shows-walked act [] b v s = s
 shows-walked act (n ∷ ns) b v s = shows-walked act ns (acted act n 0 b) (acted_on act n v) (shows-acted b v s act n 0)
 
@@ -99,15 +98,8 @@ acts-picks : (only : Bool) (holds : List ℕ) (n : ℕ) (v w : Objects) → Acts
 unfolding picks
 acts-picks only holds n v w acts = rw (acts-chosen only holds v w acts, acts-below v w acts, acts-length v w acts) refl
 
-all-acts : (act : Act) (ns : List ℕ) (v : Objects) → Acts v (all_acted act ns v)
-unfolding all_acted
-all-acts act [] v = acts-none v
-all-acts act (n ∷ ns) v =
-    acts-then v (acted_on act n v) (all_acted act ns (acted_on act n v)) (acts-act v (record { birth = n; deed = Did act }) n act v.time 0)
-    (all-acts act ns (acted_on act n v))
-
 pub phase-acts : (act : Act) (only : Bool) (holds : List ℕ) (n : ℕ) (v : Objects) → Acts v (phase_on act only holds n v)
-phase-acts act only holds n v = all-acts act (picks only holds n v) v
+phase-acts act only holds n v = walked-acts act (picks only holds n v) v
 
 -- a phase, and a phase after acts
 

@@ -25,9 +25,9 @@ use Rattle.qo_reset.specs.declared.turns.TheConstants.{HOLDS_MAX}
 use Rattle.qo_reset.specs.declared.turns.Turn.{Turn}
 use Rattle.qo_reset.specs.declared.turns.Turn.TheVariants.{Run, RunOut, Count, Recount}
 use Rattle.qo_reset.specs.Counts.{CountedBelow, CountsKept, CountsKeptBut, HasRoom, IsCounted, KeepsOthers, kept_count}
-use Rattle.qo_reset.specs.Phases.{acted_on, all_acted, below_on, count_on, is_under, out_on, post_by}
-use Rattle.qo_reset.specs.Turns.{counted, done, sided, tallied, tallied_on, visited, walk_on, walked}
-use Rattle.qo_reset.proofs.WalkLemmas.{acts-below, acts-count, content-after, done-acts, read-after, walked-acts}
+use Rattle.qo_reset.specs.Phases.{acted_on, walked, below_on, count_on, is_under, out_on, post_by}
+use Rattle.qo_reset.specs.Turns.{counted, done, sided, tallied, tallied_on, visited, walk_on, turned}
+use Rattle.qo_reset.proofs.WalkLemmas.{acts-below, acts-count, content-after, done-acts, read-after, turned-acts}
 
 -- how many pass a test, with a hold more and a hold less
 
@@ -44,8 +44,8 @@ pub count-less : (p : ℕ → Bool) (n : ℕ) (holds : List ℕ) → among holds
 count-less p n [] e = cc
 count-less p n (h ∷ holds) e = go (eqb h n) refl (count-less p n holds)
   where
-    turned : eqb n h ≡ eqb h n
-    turned = grind (arith, nat_tests)
+    back : eqb n h ≡ eqb h n
+    back = grind (arith, nat_tests)
 
     go : (t : Bool) → eqb h n ≡ t → (among holds n ≡ true → count_by p (without_first n holds) + one_if (p n) ≡ count_by p holds)
         → count_by p (cond t holds (h ∷ without_first n holds)) + one_if (p n) ≡ count_by p (h ∷ holds)
@@ -53,7 +53,7 @@ count-less p n (h ∷ holds) e = go (eqb h n) refl (count-less p n holds)
         let same : one_if (p n) ≡ one_if (p h) = ap (λ (k : ℕ). one_if (p k)) (sym (eqb-true h n is)) in
         omega (arith, same, count-cons p h holds)
     go false is rest =
-        let there : among holds n ≡ true = sym (ap (λ (t : Bool). t || among holds n) (turned ∙ is)) ∙ e in
+        let there : among holds n ≡ true = sym (ap (λ (t : Bool). t || among holds n) (back ∙ is)) ∙ e in
         omega (arith, rest there, count-cons p h holds, count-cons p h (without_first n holds))
 
 among-last : (n : ℕ) (holds : List ℕ) → among (holds ++ n ∷ []) n ≡ true
@@ -106,28 +106,46 @@ sided-as v good n f s e =
 
 -- acts that leave the counts keep them right
 
-pub acts-kept : (v w : Objects) (holds : List ℕ) → Acts v w → KeepsCounts v w → CountsKept holds v → CountsKept holds w
-acts-kept v w holds acts same kept m d there =
-    go (content_of v m) refl (sym (same m) ∙ ap (option_map counts_of) there)
+acts-at : (v w : Objects) (holds : List ℕ) → Acts v w → KeepsCounts v w → (m : ℕ) → ((c : Content) → content_of v m ≡ Some c → IsCounted v holds m c)
+    → (d : Content) → content_of w m ≡ Some d → IsCounted w holds m d
+acts-at v w holds acts same m kept d there = go (content_of v m) refl (sym (same m) ∙ ap (option_map counts_of) there)
   where
-    go : (o : Option Content) → content_of v m ≡ o → option_map counts_of o ≡ Some (counts_of d)
-        → IsCounted w holds m d
+    go : (o : Option Content) → content_of v m ≡ o → option_map counts_of o ≡ Some (counts_of d) → IsCounted w holds m d
     go None is e = cc
     go (Some c) is e =
         let both : counts_of c ≡ counts_of d = same_Some _ _ e in
-        let k : IsCounted v holds m c = kept m c is in
+        let k : IsCounted v holds m c = kept c is in
         record {
           count = sym (ap (λ (p : ℕ × ℕ). p.0) both) ∙ k.count ∙ sym (ap (λ (f : ℕ → ℕ). f m) (acts-count holds v w acts));
           unmarked = sym (ap (λ (p : ℕ × ℕ). p.1) both) ∙ k.unmarked;
         }
+
+pub acts-kept : (v w : Objects) (holds : List ℕ) → Acts v w → KeepsCounts v w → CountsKept holds v → CountsKept holds w
+acts-kept v w holds acts same kept m d there = acts-at v w holds acts same m (kept m) d there
+
+pub all_below-acts : (v w : Objects) → Acts v w → (n m : ℕ) → is_under w m n ≡ is_under v m n
+all_below-acts v w acts n m =
+    ap₂ (λ (next : ℕ → List ℕ) (d : ℕ). among (post_by next (suc d) n) m) (acts-below v w acts) (acts-length v w acts)
+
+pub below-kept : (v w : Objects) (holds : List ℕ) (root : ℕ) → Acts v w → KeepsCounts v w → CountedBelow root holds v → CountedBelow root holds w
+below-kept v w holds root acts same kept m d there under =
+    acts-at v w holds acts same m (λ c is. kept m c is (sym (all_below-acts v w acts root m) ∙ under)) d there
+
+pub kept-below : (v : Objects) (holds : List ℕ) (root : ℕ) → CountsKept holds v → CountedBelow root holds v
+kept-below v holds root kept m c there under = kept m c there
+
+-- and leave room
+pub room-acts : (v w : Objects) (holds : List ℕ) (root : ℕ) → Acts v w → HasRoom root holds v → HasRoom root holds w
+room-acts v w holds root acts room m under =
+    subst (λ (k : ℕ). k ≤ HOLD_COUNT_MAX) (sym (ap (λ (f : ℕ → ℕ). f m) (acts-count holds v w acts))) (room m (sym (all_below-acts v w acts root m) ∙ under))
 
 -- acts of those below
 
 acted-counts : (act : Act) (n : ℕ) (v : Objects) → KeepsCounts v (acted_on act n v)
 acted-counts act n v m = read-after counts_of n (acted_at act v.time 0) (λ c. refl) v m
 
-pub all-counts : (act : Act) (ns : List ℕ) (v : Objects) → KeepsCounts v (all_acted act ns v)
-unfolding all_acted
+pub all-counts : (act : Act) (ns : List ℕ) (v : Objects) → KeepsCounts v (walked act ns v)
+unfolding walked
 all-counts act [] v m = refl
 all-counts act (n ∷ ns) v m = all-counts act ns (acted_on act n v) m ∙ acted-counts act n v m
 
@@ -140,24 +158,24 @@ same-count v w same m = sym (first (content_of w m)) ∙ ap (λ (o : Option (ℕ
     first None = refl
     first (Some c) = refl
 
-pub run-all : (act : Act) (holds ns : List ℕ) (v : Objects) → walked (Run act) holds ns v ≡ all_acted act ns v
-unfolding walked all_acted
+pub run-all : (act : Act) (holds ns : List ℕ) (v : Objects) → turned (Run act) holds ns v ≡ walked act ns v
+unfolding turned walked
 run-all act holds [] v = refl
 run-all act holds (n ∷ ns) v = run-all act holds ns (acted_on act n v)
 
 abbrev is_out : Objects → ℕ → Bool
 is_out v n = eqb (kept_count v n) 0
 
-run-out : (act : Act) (holds ns : List ℕ) (u v : Objects) → KeepsCounts u v → walked (RunOut act) holds ns v ≡ all_acted act (filter (is_out u) ns) v
-unfolding walked all_acted
+run-out : (act : Act) (holds ns : List ℕ) (u v : Objects) → KeepsCounts u v → turned (RunOut act) holds ns v ≡ walked act (filter (is_out u) ns) v
+unfolding turned walked
 run-out act holds [] u v same = refl
 run-out act holds (n ∷ ns) u v same =
-    ap (λ (t : Bool). walked (RunOut act) holds ns (cond t (acted_on act n v) v)) (ap (λ (k : ℕ). eqb k 0) (same-count u v same n))
+    ap (λ (t : Bool). turned (RunOut act) holds ns (cond t (acted_on act n v) v)) (ap (λ (k : ℕ). eqb k 0) (same-count u v same n))
     ∙ go (is_out u n) (run-out act holds ns u (acted_on act n v) (λ m. acted-counts act n v m ∙ same m)) (run-out act holds ns u v same)
   where
-    go : (t : Bool) → walked (RunOut act) holds ns (acted_on act n v) ≡ all_acted act (filter (is_out u) ns) (acted_on act n v)
-        → walked (RunOut act) holds ns v ≡ all_acted act (filter (is_out u) ns) v
-        → walked (RunOut act) holds ns (cond t (acted_on act n v) v) ≡ all_acted act (cond t (n ∷ filter (is_out u) ns) (filter (is_out u) ns)) v
+    go : (t : Bool) → turned (RunOut act) holds ns (acted_on act n v) ≡ walked act (filter (is_out u) ns) (acted_on act n v)
+        → turned (RunOut act) holds ns v ≡ walked act (filter (is_out u) ns) v
+        → turned (RunOut act) holds ns (cond t (acted_on act n v) v) ≡ walked act (cond t (n ∷ filter (is_out u) ns) (filter (is_out u) ns)) v
     go true some none = some
     go false some none = none
 
@@ -188,10 +206,10 @@ out-agree v holds root kept there =
     (kept-at v holds n (λ c is. kept n c is some) (among-all (λ m. is_some (content_of v m) ≡ true) (all_below v root) there n some)))
 
 pub run-picked : (act : Act) (any holds : List ℕ) (root : ℕ) (v : Objects) → CountedBelow root holds v → AreThere v (all_below v root)
-    → walked (RunOut act) any (all_below v root) v ≡ all_acted act (filter (out_on v holds) (all_below v root)) v
+    → turned (RunOut act) any (all_below v root) v ≡ walked act (filter (out_on v holds) (all_below v root)) v
 run-picked act any holds root v kept there =
     run-out act any (all_below v root) v v (λ m. refl)
-    ∙ ap (λ (l : List ℕ). all_acted act l v) (filter-agree (is_out v) (out_on v holds) (all_below v root) (out-agree v holds root kept there))
+    ∙ ap (λ (l : List ℕ). walked act l v) (filter-agree (is_out v) (out_on v holds) (all_below v root) (out-agree v holds root kept there))
 
 -- what is kept of an object after a walk over others, each as often as it is listed
 
@@ -252,15 +270,15 @@ tallied-once Lower s = go (eqb s.marks 0) refl
     go false e = rw e refl
 tallied-once Unmark s = refl
 
-walked-tallies : (tally : Tally) (holds ns : List ℕ) (v : Objects) → walked (Count tally) holds ns v ≡ edits (λ _. sided (tallied tally)) ns v
-unfolding walked edits
-walked-tallies tally holds [] v = refl
-walked-tallies tally holds (n ∷ ns) v = walked-tallies tally holds ns (with_edit n (sided (tallied tally)) v)
+turned-tallies : (tally : Tally) (holds ns : List ℕ) (v : Objects) → turned (Count tally) holds ns v ≡ edits (λ _. sided (tallied tally)) ns v
+unfolding turned edits
+turned-tallies tally holds [] v = refl
+turned-tallies tally holds (n ∷ ns) v = turned-tallies tally holds ns (with_edit n (sided (tallied tally)) v)
 
 content-tallies : (tally : Tally) (holds ns : List ℕ) (v : Objects) (m : ℕ)
-    → content_of (walked (Count tally) holds ns v) m ≡ option_map (after (λ _. sided (tallied tally)) ns m) (content_of v m)
+    → content_of (turned (Count tally) holds ns v) m ≡ option_map (after (λ _. sided (tallied tally)) ns m) (content_of v m)
 content-tallies tally holds ns v m =
-    ap (λ (x : Objects). content_of x m) (walked-tallies tally holds ns v)
+    ap (λ (x : Objects). content_of x m) (turned-tallies tally holds ns v)
     ∙ content-edits (λ _. sided (tallied tally)) (λ k c. ap (λ (s : Side). record c { side = s }) (tallied-once tally c.side)) ns v m
 
 acts-all : (v w : Objects) → Acts v w → (n : ℕ) → all_below w n ≡ all_below v n
@@ -273,9 +291,9 @@ content-tallied : (tally : Tally) (n : ℕ) (v : Objects) (m : ℕ)
     → content_of (tallied_on tally n v) m ≡ option_map (λ (c : Content). cond (is_under v m n) (unmarked tally c) c) (content_of v m)
 unfolding visited
 content-tallied tally n v m =
-    let w : Objects = walked (Count tally) [] (all_below v n) v in
+    let w : Objects = turned (Count tally) [] (all_below v n) v in
     content-tallies Unmark [] (all_below w n) w m
-    ∙ ap (λ (l : List ℕ). option_map (after (λ _. sided (tallied Unmark)) l m) (content_of w m)) (acts-all v w (walked-acts (Count tally) [] (all_below v n) v) n)
+    ∙ ap (λ (l : List ℕ). option_map (after (λ _. sided (tallied Unmark)) l m) (content_of w m)) (acts-all v w (turned-acts (Count tally) [] (all_below v n) v) n)
     ∙ ap (option_map (after (λ _. sided (tallied Unmark)) (all_below v n) m)) (content-tallies tally [] (all_below v n) v m)
     ∙ go (content_of v m)
   where
@@ -293,8 +311,8 @@ content-tallied tally n v m =
 tallied_on-acts : (tally : Tally) (n : ℕ) (v : Objects) → Acts v (tallied_on tally n v)
 unfolding visited
 tallied_on-acts tally n v =
-    let w : Objects = walked (Count tally) [] (all_below v n) v in
-    acts-then v w (walked (Count Unmark) [] (all_below w n) w) (walked-acts (Count tally) [] (all_below v n) v) (walked-acts (Count Unmark) [] (all_below w n) w)
+    let w : Objects = turned (Count tally) [] (all_below v n) v in
+    acts-then v w (turned (Count Unmark) [] (all_below w n) w) (turned-acts (Count tally) [] (all_below v n) v) (turned-acts (Count Unmark) [] (all_below w n) w)
 
 -- a hold comes
 
@@ -365,21 +383,21 @@ kept-lowered v holds n kept some m d there =
 abbrev recounted : Objects → List ℕ → ℕ → Content → Content
 recounted v holds n = sided (counted (min (count_on v holds n) HOLDS_MAX))
 
-walked-recount : (holds ns : List ℕ) (u v : Objects) → Acts u v → walked Recount holds ns v ≡ edits (recounted u holds) ns v
-unfolding walked edits
-walked-recount holds [] u v acts = refl
-walked-recount holds (n ∷ ns) u v acts =
+turned-recount : (holds ns : List ℕ) (u v : Objects) → Acts u v → turned Recount holds ns v ≡ edits (recounted u holds) ns v
+unfolding turned edits
+turned-recount holds [] u v acts = refl
+turned-recount holds (n ∷ ns) u v acts =
     let next : Objects = done Recount holds n v in
-    walked-recount holds ns u next (acts-then u v next acts (done-acts Recount holds n v))
+    turned-recount holds ns u next (acts-then u v next acts (done-acts Recount holds n v))
     ∙ ap (λ (k : ℕ). edits (recounted u holds) ns (with_edit n (sided (counted (min k HOLDS_MAX))) v)) (ap (λ (f : ℕ → ℕ). f n) (acts-count holds u v acts))
 
 module _ (v : Objects) (holds : List ℕ) (n : ℕ) where
   abbrev recounted_heap : Objects
-  recounted_heap = walked Recount holds (all_below v n) v
+  recounted_heap = turned Recount holds (all_below v n) v
 
   content-recounted : (m : ℕ) → content_of recounted_heap m ≡ option_map (after (recounted v holds) (all_below v n) m) (content_of v m)
   content-recounted m =
-      ap (λ (x : Objects). content_of x m) (walked-recount holds (all_below v n) v v (acts-none v))
+      ap (λ (x : Objects). content_of x m) (turned-recount holds (all_below v n) v v (acts-none v))
       ∙ content-edits (recounted v holds) (λ k c. refl) (all_below v n) v m
 
   pub counted-below : length holds ≤ HOLDS_MAX → CountedBelow n holds (walk_on Recount holds n v)
@@ -390,13 +408,13 @@ module _ (v : Objects) (holds : List ℕ) (n : ℕ) where
       (record { count = low ∙ sym same; unmarked = refl })
     where
       w : Objects
-      w = walked Recount holds (all_below v n) v
+      w = turned Recount holds (all_below v n) v
 
       acts : Acts v w
-      acts = walked-acts Recount holds (all_below v n) v
+      acts = turned-acts Recount holds (all_below v n) v
 
       here : is_under v m n ≡ true
-      here = ap (λ (l : List ℕ). among l m) (sym (acts-all v w acts n)) ∙ under
+      here = sym (all_below-acts v w acts n m) ∙ under
 
       same : count_on w holds m ≡ count_on v holds m
       same = ap (λ (f : ℕ → ℕ). f m) (acts-count holds v w acts)
@@ -420,7 +438,7 @@ pub plugged-kept : (v w : Objects) (holds : List ℕ) (n : ℕ) → Acts v w →
 plugged-kept v w holds n acts below others kept m d there = by (is_under v m n) refl
   where
     same : is_under w m n ≡ is_under v m n
-    same = ap (λ (l : List ℕ). among l m) (acts-all v w acts n)
+    same = all_below-acts v w acts n m
 
     by : (t : Bool) → is_under v m n ≡ t → IsCounted w holds m d
     by true e = below m d there (same ∙ e)

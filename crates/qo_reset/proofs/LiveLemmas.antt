@@ -6,6 +6,7 @@ use Rattle.std.specs.Str.{bytes_eq}
 use Rattle.std.proofs.lemmas.Bool.{eqb-true}
 use Rattle.std.proofs.lemmas.Bool.Decides.{nat_tests}
 use Rattle.qo_values.specs.declared.kinds.Act.{Act}
+use Rattle.qo_kinds.specs.Bodies.{reads_moment}
 use Rattle.qo_values.specs.declared.limits.TheConstants.{HOLD_COUNT_MAX}
 use Rattle.qo_slots.specs.declared.keys.Key.{Key}
 use Rattle.qo_heap.specs.Rows.{IsLive}
@@ -28,8 +29,8 @@ use Rattle.qo_reset.specs.declared.turns.Tally.TheVariants.{Unmark}
 use Rattle.qo_reset.specs.declared.turns.TheConstants.{HOLDS_MAX}
 use Rattle.qo_reset.specs.declared.turns.Turn.TheVariants.{Run, RunOut, Count, Recount}
 use Rattle.qo_reset.specs.Counts.{CountedBelow, CountsKept, HasRoom, is_full, kept_count}
-use Rattle.qo_reset.specs.Phases.{below_on, count_on, exceeds_depth_at, is_bus, is_under, kids_in, all_acted, phase_on, picks, post_by, turned_to}
-use Rattle.qo_reset.specs.Turns.{counted, sided, tallied, tallied_on, visited, walk_on, walked}
+use Rattle.qo_reset.specs.Phases.{below_on, count_on, exceeds_depth_at, is_bus, is_under, kids_in, walked, phase_on, picks, post_by, turned_to}
+use Rattle.qo_reset.specs.Turns.{IsTimeless, counted, sided, tallied, tallied_on, visited, walk_on, turned}
 use Rattle.qo_reset.proofs.CountLemmas.{AreThere, all-counts, all_below, kept-is, run-all, run-picked}
 use Rattle.qo_reset.proofs.BoardLemmas.{filter-all}
 
@@ -94,12 +95,16 @@ post-there v good (suc levels) n there =
 
 -- a walk of acts is a phase
 
+pub phase-timeless : (act : Act) (only : Bool) → reads_moment act ≡ false → IsTimeless (cond only (RunOut act) (Run act))
+phase-timeless act true e = e
+phase-timeless act false e = e
+
 pub walk-phase : (act : Act) (only : Bool) (holds : List ℕ) (n : ℕ) (v : Objects) → IsHeap v → is_some (content_of v n) ≡ true → CountedBelow n holds v
     → walk_on (cond only (RunOut act) (Run act)) holds n v ≡ phase_on act only holds n v
 unfolding visited picks
 walk-phase act true holds n v good there kept = run-picked act holds holds n v kept (post-there v good (suc (length v.rows)) n there)
 walk-phase act false holds n v good there kept =
-    run-all act holds (all_below v n) v ∙ ap (λ (l : List ℕ). all_acted act l v) (sym (filter-all (all_below v n)))
+    run-all act holds (all_below v n) v ∙ ap (λ (l : List ℕ). walked act l v) (sym (filter-all (all_below v n)))
 
 pub phase-still : (act : Act) (only : Bool) (holds : List ℕ) (n : ℕ) (v : Objects) → KeepsCounts v (phase_on act only holds n v)
 phase-still act only holds n v = all-counts act (picks only holds n v) v
@@ -113,13 +118,13 @@ full-agree v holds (n ∷ ns) kept all =
 
 none-among : (p : ℕ → Bool) (ns : List ℕ) → list_any p ns ≡ false → (m : ℕ) → among ns m ≡ true → p m ≡ false
 none-among p [] none m some = cc
-none-among p (n ∷ ns) none m some = go (p n) refl (eqb m n) refl none some (λ no yes. none-among p ns no m yes)
+none-among p (n ∷ ns) none m some = go (p n) refl (eqb m n) refl none some (λ off on. none-among p ns off m on)
   where
     go : (t : Bool) → p n ≡ t → (u : Bool) → eqb m n ≡ u → (t || list_any p ns) ≡ false → (u || among ns m) ≡ true
         → (list_any p ns ≡ false → among ns m ≡ true → p m ≡ false) → p m ≡ false
-    go true is u e no yes rest = cc
-    go false is true e no yes rest = ap p (eqb-true m n e) ∙ is
-    go false is false e no yes rest = rest no yes
+    go true is u e off on rest = cc
+    go false is true e off on rest = ap p (eqb-true m n e) ∙ is
+    go false is false e off on rest = rest off on
 
 pub full-below : (v : Objects) → IsHeap v → (holds : List ℕ) (n levels : ℕ) → is_some (content_of v n) ≡ true → CountsKept holds v
     → list_any (is_full v) (post_by (below_on v) levels n) ≡ list_any (exceeds_depth_at v holds) (post_by (below_on v) levels n)
@@ -144,19 +149,19 @@ shows-sided b v n f s =
       now = s.now;
     }
 
-shows-tallies : (tally : Tally) (holds ns : List ℕ) (b : Board) (v : Objects) → Shows b v → Shows b (walked (Count tally) holds ns v)
-unfolding walked
+shows-tallies : (tally : Tally) (holds ns : List ℕ) (b : Board) (v : Objects) → Shows b v → Shows b (turned (Count tally) holds ns v)
+unfolding turned
 shows-tallies tally holds [] b v s = s
 shows-tallies tally holds (n ∷ ns) b v s = shows-tallies tally holds ns b (with_edit n (sided (tallied tally)) v) (shows-sided b v n (tallied tally) s)
 
 pub shows-tallied : (tally : Tally) (n : ℕ) (b : Board) (v : Objects) → Shows b v → Shows b (tallied_on tally n v)
 unfolding visited
 shows-tallied tally n b v s =
-    let w : Objects = walked (Count tally) [] (all_below v n) v in
+    let w : Objects = turned (Count tally) [] (all_below v n) v in
     shows-tallies Unmark [] (all_below w n) b w (shows-tallies tally [] (all_below v n) b v s)
 
-shows-counted : (holds ns : List ℕ) (b : Board) (v : Objects) → Shows b v → Shows b (walked Recount holds ns v)
-unfolding walked
+shows-counted : (holds ns : List ℕ) (b : Board) (v : Objects) → Shows b v → Shows b (turned Recount holds ns v)
+unfolding turned
 shows-counted holds [] b v s = s
 shows-counted holds (n ∷ ns) b v s =
     let change : Side → Side = counted (min (count_on v holds n) HOLDS_MAX) in

@@ -36,8 +36,8 @@ use Rattle.qo_reset.specs.declared.turns.TheConstants.{HOLDS_MAX}
 use Rattle.qo_reset.specs.declared.turns.Turn.{Turn}
 use Rattle.qo_reset.specs.declared.turns.Turn.TheVariants.{Run, RunOut, Count, Recount}
 use Rattle.qo_reset.specs.Counts.{kept_count}
-use Rattle.qo_reset.specs.Phases.{acted_on, below_on, births_of, bus_child, chosen, count_on, is_bus, is_under, kids_in, out_on, post_by, strong_target, turned_to}
-use Rattle.qo_reset.specs.Turns.{counted, done, sided, tallied, visited, visited_to, walked}
+use Rattle.qo_reset.specs.Phases.{acted_on, walked, below_on, births_of, bus_child, chosen, count_on, is_bus, is_under, kids_in, out_on, post_by, strong_target, turned_to}
+use Rattle.qo_reset.specs.Turns.{counted, done, sided, tallied, visited, visited_to, turned}
 
 -- what slots name is there
 
@@ -177,44 +177,58 @@ done-periods (Count tally) holds n v = λ m.
     read-after periods_of n (sided (tallied tally)) (λ c. λ i. ((tallied-periods tally c.side).0 i, (tallied-periods tally c.side).1 i)) v m
 done-periods Recount holds n v = λ m. read-after periods_of n (sided (counted (min (count_on v holds n) HOLDS_MAX))) (λ c. refl) v m
 
+-- acts on objects in order
+
+pub walked-acts : (act : Act) (ns : List ℕ) (v : Objects) → Acts v (walked act ns v)
+unfolding walked
+walked-acts act [] v = acts-none v
+walked-acts act (n ∷ ns) v =
+    acts-then v (acted_on act n v) (walked act ns (acted_on act n v)) (acts-act v (record { birth = n; deed = Did act }) n act v.time 0)
+    (walked-acts act ns (acted_on act n v))
+
+pub walked-append : (act : Act) (xs ys : List ℕ) (v : Objects) → walked act (xs ++ ys) v ≡ walked act ys (walked act xs v)
+unfolding walked
+walked-append act [] ys v = refl
+walked-append act (x ∷ xs) ys v = walked-append act xs ys (acted_on act x v)
+
 -- walks in pieces
 
-pub walked-append : (turn : Turn) (holds xs ys : List ℕ) (v : Objects) → walked turn holds (xs ++ ys) v ≡ walked turn holds ys (walked turn holds xs v)
-unfolding walked
-walked-append turn holds [] ys v = refl
-walked-append turn holds (x ∷ xs) ys v = walked-append turn holds xs ys (done turn holds x v)
+pub turned-append : (turn : Turn) (holds xs ys : List ℕ) (v : Objects) → turned turn holds (xs ++ ys) v ≡ turned turn holds ys (turned turn holds xs v)
+unfolding turned
+turned-append turn holds [] ys v = refl
+turned-append turn holds (x ∷ xs) ys v = turned-append turn holds xs ys (done turn holds x v)
 
-pub walked-acts : (turn : Turn) (holds ns : List ℕ) (v : Objects) → Acts v (walked turn holds ns v)
-unfolding walked
-walked-acts turn holds [] v = acts-none v
-walked-acts turn holds (n ∷ ns) v =
-    acts-then v (done turn holds n v) (walked turn holds ns (done turn holds n v)) (done-acts turn holds n v) (walked-acts turn holds ns (done turn holds n v))
+pub turned-acts : (turn : Turn) (holds ns : List ℕ) (v : Objects) → Acts v (turned turn holds ns v)
+unfolding turned
+turned-acts turn holds [] v = acts-none v
+turned-acts turn holds (n ∷ ns) v =
+    acts-then v (done turn holds n v) (turned turn holds ns (done turn holds n v)) (done-acts turn holds n v) (turned-acts turn holds ns (done turn holds n v))
 
-walked-timely : (turn : Turn) (holds ns : List ℕ) (v : Objects) → Timely v → Timely (walked turn holds ns v)
-unfolding walked
-walked-timely turn holds [] v all = all
-walked-timely turn holds (n ∷ ns) v all = walked-timely turn holds ns (done turn holds n v) (done-timely turn holds n v all)
+turned-timely : (turn : Turn) (holds ns : List ℕ) (v : Objects) → Timely v → Timely (turned turn holds ns v)
+unfolding turned
+turned-timely turn holds [] v all = all
+turned-timely turn holds (n ∷ ns) v all = turned-timely turn holds ns (done turn holds n v) (done-timely turn holds n v all)
 
-walked-periods : (turn : Turn) (holds ns : List ℕ) (v : Objects) → KeepsPeriods v (walked turn holds ns v)
-unfolding walked
-walked-periods turn holds [] v m = refl
-walked-periods turn holds (n ∷ ns) v m = walked-periods turn holds ns (done turn holds n v) m ∙ done-periods turn holds n v m
+turned-periods : (turn : Turn) (holds ns : List ℕ) (v : Objects) → KeepsPeriods v (turned turn holds ns v)
+unfolding turned
+turned-periods turn holds [] v m = refl
+turned-periods turn holds (n ∷ ns) v m = turned-periods turn holds ns (done turn holds n v) m ∙ done-periods turn holds n v m
 
 pub visited-timely : (turn : Turn) (holds : List ℕ) (levels n : ℕ) (v : Objects) → Timely v → Timely (visited turn holds levels n v)
 unfolding visited
-visited-timely turn holds levels n v all = walked-timely turn holds _ v all
+visited-timely turn holds levels n v all = turned-timely turn holds _ v all
 
 pub visited-periods : (turn : Turn) (holds : List ℕ) (levels n : ℕ) (v : Objects) → KeepsPeriods v (visited turn holds levels n v)
 unfolding visited
-visited-periods turn holds levels n v = walked-periods turn holds _ v
+visited-periods turn holds levels n v = turned-periods turn holds _ v
 
 pub visited-acts : (turn : Turn) (holds : List ℕ) (levels n : ℕ) (v : Objects) → Acts v (visited turn holds levels n v)
 unfolding visited
-visited-acts turn holds levels n v = walked-acts turn holds _ v
+visited-acts turn holds levels n v = turned-acts turn holds _ v
 
 pub visited_to-acts : (turn : Turn) (holds : List ℕ) (levels n i : ℕ) (v : Objects) → Acts v (visited_to turn holds levels n i v)
 unfolding visited_to
-visited_to-acts turn holds levels n i v = walked-acts turn holds _ v
+visited_to-acts turn holds levels n i v = turned-acts turn holds _ v
 
 -- what is below in the slots before a place, and in one more
 
@@ -259,7 +273,7 @@ kids-more v n i x e =
 -- the loop over the slots of an object
 
 pub to-none : (turn : Turn) (holds : List ℕ) (levels n : ℕ) (v : Objects) → v ≡ visited_to turn holds levels n 0 v
-unfolding visited_to walked
+unfolding visited_to turned
 to-none turn holds levels n v = refl
 
 pub to-kid : (turn : Turn) (holds : List ℕ) (levels n i : ℕ) (v w : Objects) (bus : Bool) (k : Key) → w ≡ visited_to turn holds levels n i v → bus ≡ is_bus v n
@@ -274,10 +288,10 @@ to-kid turn holds levels n i v w bus k now at e =
     (reads-acts v w acts (is_bus v n) n i (Some (Some k)) (e ∙ ap (λ (b : Bool). option_map (turned_to (is_bus w) b) (slice_get (slots_of w n) i)) at)) in
     let sum : flat_map post (kids_in (is_bus v) (is_bus v n) (take (i + 1) (slots_of v n))) ≡ flat_map post before ++ post k.birth =
     ap (flat_map post) kids ∙ flat_map-append post before (k.birth ∷ []) ∙ ap (λ (l : List ℕ). flat_map post before ++ l) (append-nil (post k.birth)) in
-    ap (λ (next : ℕ → List ℕ). walked turn holds (post_by next levels k.birth) w) (acts-below v w acts)
-    ∙ ap (walked turn holds (post k.birth)) now
-    ∙ sym (walked-append turn holds (flat_map post before) (post k.birth) v)
-    ∙ ap (λ (l : List ℕ). walked turn holds l v) (sym sum)
+    ap (λ (next : ℕ → List ℕ). turned turn holds (post_by next levels k.birth) w) (acts-below v w acts)
+    ∙ ap (turned turn holds (post k.birth)) now
+    ∙ sym (turned-append turn holds (flat_map post before) (post k.birth) v)
+    ∙ ap (λ (l : List ℕ). turned turn holds l v) (sym sum)
 
 pub to-no_kid : (turn : Turn) (holds : List ℕ) (levels n i : ℕ) (v w : Objects) (bus : Bool) → w ≡ visited_to turn holds levels n i v → bus ≡ is_bus v n
     → Reads w bus n i (Some None) → w ≡ visited_to turn holds levels n (i + 1) v
@@ -288,19 +302,19 @@ to-no_kid turn holds levels n i v w bus now at e =
     kids-more v n i None
     (reads-acts v w acts (is_bus v n) n i (Some None) (e ∙ ap (λ (b : Bool). option_map (turned_to (is_bus w) b) (slice_get (slots_of w n) i)) at))
     ∙ append-nil _ in
-    now ∙ ap (λ (l : List ℕ). walked turn holds (flat_map (post_by (below_on v) levels) l) v) (sym kids)
+    now ∙ ap (λ (l : List ℕ). turned turn holds (flat_map (post_by (below_on v) levels) l) v) (sym kids)
 
 pub to-all : (turn : Turn) (holds : List ℕ) (all levels n i : ℕ) (v w : Objects) (bus : Bool) → all ≡ suc levels → w ≡ visited_to turn holds levels n i v
     → bus ≡ is_bus v n → Reads w bus n i None → done turn holds n w ≡ visited turn holds all n v
-unfolding visited_to walked visited post_by
+unfolding visited_to turned visited post_by
 to-all turn holds all levels n i v w bus more now at e =
     let acts : Acts v w = rw now (visited_to-acts turn holds levels n i v) in
     let post : ℕ → List ℕ = post_by (below_on v) levels in
     let kids : take i (slots_of v n) ≡ slots_of v n = past (turned_to (is_bus v) bus) i (slots_of v n) (reads-acts v w acts bus n i None e) in
     ap (done turn holds n) now
-    ∙ sym (walked-append turn holds (flat_map post (kids_in (is_bus v) (is_bus v n) (take i (slots_of v n)))) (n ∷ []) v)
-    ∙ ap (λ (l : List Named). walked turn holds (flat_map post (kids_in (is_bus v) (is_bus v n) l) ++ n ∷ []) v) kids
-    ∙ ap (λ (d : ℕ). walked turn holds (post_by (below_on v) d n) v) (sym more)
+    ∙ sym (turned-append turn holds (flat_map post (kids_in (is_bus v) (is_bus v n) (take i (slots_of v n)))) (n ∷ []) v)
+    ∙ ap (λ (l : List Named). turned turn holds (flat_map post (kids_in (is_bus v) (is_bus v n) l) ++ n ∷ []) v) kids
+    ∙ ap (λ (d : ℕ). turned turn holds (post_by (below_on v) d n) v) (sym more)
 
 -- and of the search for an object that passes a test
 
@@ -383,7 +397,7 @@ unfolding post_by
 none-found v n m = refl
 
 pub none-visited : (turn : Turn) (holds : List ℕ) (n : ℕ) (v : Objects) → v ≡ visited turn holds 0 n v
-unfolding visited walked post_by
+unfolding visited turned post_by
 none-visited turn holds n v = refl
 
 -- who is there stays

@@ -73,9 +73,9 @@ chosen only holds v n = if only then out_on v holds n else true
 abbrev pub acted_on : Act → ℕ → Objects → Objects
 acted_on act n v = with_note (record { birth = n; deed = Did act }) (with_edit n (acted_at act v.time 0) v)
 
-unfoldable pub all_acted : Act → List ℕ → Objects → Objects
-all_acted act [] v = v
-all_acted act (n ∷ ns) v = all_acted act ns (acted_on act n v)
+unfoldable pub walked : Act → List ℕ → Objects → Objects
+walked act [] v = v
+walked act (n ∷ ns) v = walked act ns (acted_on act n v)
 
 -- the objects of a phase, children first: all below an object and it, or only those that are out; on the heap and on a board
 unfoldable pub picks : Bool → List ℕ → ℕ → Objects → List ℕ
@@ -86,7 +86,7 @@ picked only b os = filter (λ n. if only then is_not_in_reset b n else true) os
 
 -- a phase
 abbrev pub phase_on : Act → Bool → List ℕ → ℕ → Objects → Objects
-phase_on act only holds n v = all_acted act (picks only holds n v) v
+phase_on act only holds n v = walked act (picks only holds n v) v
 
 -- a heap and holds are a board's
 abbrev pub Holds : Board → List ℕ → Objects → Type 0

@@ -35,17 +35,17 @@ done (Count tally) holds n v = with_edit n (sided (tallied tally)) v
 done Recount holds n v = with_edit n (sided (counted (min (count_on v holds n) HOLDS_MAX))) v
 
 -- after the turns of objects in order
-unfoldable pub walked : Turn → List ℕ → List ℕ → Objects → Objects
-walked turn holds [] v = v
-walked turn holds (n ∷ ns) v = walked turn holds ns (done turn holds n v)
+unfoldable pub turned : Turn → List ℕ → List ℕ → Objects → Objects
+turned turn holds [] v = v
+turned turn holds (n ∷ ns) v = turned turn holds ns (done turn holds n v)
 
 -- of an object and all below it, to a depth; of those below it in its first slots; and of all
 unfoldable pub visited : Turn → List ℕ → ℕ → ℕ → Objects → Objects
-visited turn holds levels n v = walked turn holds (post_by (below_on v) levels n) v
+visited turn holds levels n v = turned turn holds (post_by (below_on v) levels n) v
 
 unfoldable pub visited_to : Turn → List ℕ → ℕ → ℕ → ℕ → Objects → Objects
 visited_to turn holds levels n i v =
-    walked turn holds (flat_map (post_by (below_on v) levels) (kids_in (is_bus v) (is_bus v n) (take i (slots_of v n)))) v
+    turned turn holds (flat_map (post_by (below_on v) levels) (kids_in (is_bus v) (is_bus v n) (take i (slots_of v n)))) v
 
 abbrev pub walk_on : Turn → List ℕ → ℕ → Objects → Objects
 walk_on turn holds n v = visited turn holds (suc (length v.rows)) n v

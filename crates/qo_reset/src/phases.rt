@@ -1,7 +1,7 @@
 //! The phases: enter, hold and exit, each of all below an object before the object itself
 //! (docs/devel/reset.rst, "Multi-phase mechanism"). No call here takes memory.
 
-ghost use Rattle.std.specs.Prelude.{◌≡◌, false};
+ghost use Rattle.std.specs.Prelude.{◌≡◌, false, if◌then◌else◌};
 ghost use Rattle.qo_kinds.specs.Bodies.{reads_moment};
 ghost use Rattle.qo_heap.specs.Acts.{Acts, KeepsCounts, KeepsPeriods};
 ghost use Rattle.qo_heap.specs.Board.{Shows};
@@ -12,11 +12,23 @@ ghost use Rattle.qo_model.specs.Release.{without_first};
 ghost use Rattle.qo_model.specs.Reset.{after_hold, plugged, released};
 ghost use Rattle.qo_reset.specs.Counts.{CountedBelow, CountsKept};
 ghost use Rattle.qo_reset.specs.Phases.{Holds, births_of, phase_on};
+ghost use Rattle.qo_reset.specs.declared.turns.Turn.TheVariants.{Run, RunOut};
 
 use crate::turns::{Turn, walk};
 use qo_heap::{Heap, Oid, Steps};
 use qo_values::Act;
 use std::sync::ledger::Ledger;
+
+/// What is done to each object in a phase: it acts, or only where it is in no reset.
+fn phase_turn(act: Act, only_out: bool) -> Turn
+    ensures { result ≡ (if only_out then RunOut act else Run act) }
+{
+    if only_out {
+        Turn::RunOut(act)
+    } else {
+        Turn::Run(act)
+    }
+}
 
 /// A phase of all below an object, and then of the object itself; only of those in no reset, where
 /// it is told so.
@@ -39,12 +51,7 @@ fn phase<L: Ledger>(
     ensures live { IsLive heap.new.rows root }
 {
     heap.reveal_invariant();
-    let turn = if only_out {
-        Turn::RunOut(act)
-    } else {
-        Turn::Run(act)
-    };
-    walk(heap, holds, root, turn, steps);
+    walk(heap, holds, root, phase_turn(act, only_out), steps);
 }
 
 /// The phases of a hold, on those in no reset: all enter before one holds.
