@@ -88,6 +88,9 @@ none-edited v n f same none m k e = none m k (edit-kept v (with_edit n f v) n f 
 pub none-empty : NoneKept no_objects_made
 none-empty n k e = absurd (let clash : None ≡ Some k = e in cc)
 
+pub none-claims : (v : Objects) → NoneKept v → (n : ℕ) (k : KeptSet) → kept_by v n ≡ Some k → k ≡ none_kept
+none-claims v none n k e = let x = kept-there (content_of v n) k e in sym x.2 ∙ ap (λ (y : Kept). y.0) (none n x.0 x.1)
+
 pub goes-kept : {step : Board → Board} (v w : Objects) → Goes step v w → KeptBefore v w
 goes-kept v w goes n k e = now (content_of w n) refl
   where
