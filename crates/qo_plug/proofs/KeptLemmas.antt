@@ -12,8 +12,10 @@ use Rattle.qo_object.specs.Content.{Content}
 use Rattle.qo_heap.specs.Acts.{counted_in}
 use Rattle.qo_heap.specs.Objects.{Objects, content_of, with_edit}
 use Rattle.qo_heap.proofs.BoardObjects.{content-other}
-use Rattle.qo_properties.specs.KeptClaims.{ClaimsBefore, KeptBefore, KeptOrNew, Kept, SameKept, all_kept, kept_by, kept_with}
+use Rattle.qo_properties.specs.KeptClaims.{ClaimsBefore, KeptBefore, KeptOrNew, Kept, NoneKept, SameKept, all_kept, kept_by, kept_with, new_kept}
 use Rattle.qo_properties.proofs.KeptLemmas.{claims-either, claims-new, counts-either, counts-there, kept-there}
+use Rattle.qo_reset.specs.Counts.{CountsKept}
+use Rattle.qo_reset.specs.Phases.{count_on}
 use Rattle.qo_plug.specs.declared.placing.Plugging.{Plugging}
 use Rattle.qo_plug.specs.declared.placing.Plugging.TheVariants.{Attached, NoticesFull}
 use Rattle.qo_plug.specs.KeptClaims.{ClaimsOrNewBut, CountedOn, KeptAs, KeptBut, KeptSoFar, OthersBefore, OthersOrNew}
@@ -72,3 +74,10 @@ far-others c u v w one plugging h g n k e apart = by plugging h (counts-there (c
         → (counted_in u n ≡ Some k) ⊎ ((counted_in u n ≡ None) × (k ≡ (0, 0)))
     by (Attached path) f x = counts-either u n k x.0 x.2 (f n x.0 (other (n == one) refl) x.1)
     by (NoticesFull out) f x = counts-either u n k x.0 x.2 (f n x.0 x.1)
+
+-- where nothing is kept, no holds are counted
+pub opening-counts : (w : Objects) → NoneKept w → CountsKept [] w
+unfolding count_on
+opening-counts w none n c there =
+    let new : kept_with c ≡ new_kept = none n (kept_with c) (ap (option_map kept_with) there) in
+    record { count = ap (λ (k : Kept). k.1.0) new; unmarked = ap (λ (k : Kept). k.1.1) new }

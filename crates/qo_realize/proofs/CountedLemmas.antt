@@ -43,7 +43,7 @@ use Rattle.qo_plug.specs.declared.refusals.AddRefusal.{AddRefusal}
 use Rattle.qo_plug.specs.declared.refusals.AddRefusal.TheVariants.{Refused, Memory}
 use Rattle.qo_hotplug.specs.Hotplug.{Asked}
 use Rattle.qo_properties.specs.Additions as properties
-use Rattle.qo_properties.specs.KeptClaims.{Kept, KeptBefore, KeptOrNew, NoneKept, all_kept, kept_with, new_kept}
+use Rattle.qo_properties.specs.KeptClaims.{KeptBefore, KeptOrNew}
 use Rattle.qo_properties.specs.Writes as writes
 use Rattle.qo_properties.specs.declared.refusals.Refusal.{Refusal}
 use Rattle.qo_properties.specs.declared.refusals.Refusal.TheVariants as object
@@ -296,13 +296,6 @@ rows-counts holds v w same kept = subst (λ (rows : List (Key × Content)). Coun
 
 pub same-counts : (old new : List ℕ) (v w : Objects) → w ≡ v → new ≡ old → CountsKept old v → CountsKept new w
 same-counts old new v w same holds kept = subst (λ (x : Objects). CountsKept new x) (sym same) (subst (λ (l : List ℕ). CountsKept l v) (sym holds) kept)
-
--- the beginning: there are no holds
-pub opening-counts : (w : Objects) → NoneKept w → CountsKept [] w
-unfolding count_on
-opening-counts w none n c there =
-    let new : kept_with c ≡ new_kept = none n (kept_with c) (ap (option_map kept_with) there) in
-    record { count = ap (λ (k : Kept). k.1.0) new; unmarked = ap (λ (k : Kept). k.1.1) new }
 
 -- the calls
 

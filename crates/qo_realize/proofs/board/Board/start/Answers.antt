@@ -6,7 +6,8 @@ use Rattle.qo_properties.specs.KeptClaims.{NoneKept}
 use Rattle.qo_properties.proofs.KeptLemmas.{none-empty}
 use Rattle.qo_realize.proofs.ClaimsLemmas.{opening-claims}
 use Rattle.qo_reset.specs.HoldList.{HoldList}
-use Rattle.qo_realize.proofs.CountedLemmas.{opening-counts, same-counts}
+use Rattle.qo_plug.proofs.KeptLemmas.{opening-counts}
+use Rattle.qo_realize.proofs.CountedLemmas.{same-counts}
 use Rattle.qo_realize.proofs.board.Board.start.Goals as goal
 
 pub returns : goal.returns
