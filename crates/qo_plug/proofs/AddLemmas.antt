@@ -307,9 +307,10 @@ module _ (b : Board) (t : TypeId) (sound : SoundTree b) (device : is_a t (codes 
     pub counts-in : CountedBelow m holds x → ((i : ℕ) → is_under x i m ≡ false → counted_in x i ≡ counted_in w i)
         → ((i : ℕ) (k : ℕ × ℕ) → counted_in y i ≡ Some k → counted_in x i ≡ Some k)
         → CountedOn (with_plugged b t a resources) m y × OthersBefore (with_plugged b t a resources) m w y
-    counts-in counted others before =
-        (λ i e under_at under. pair i e (before i e under_at) (sym (under-is i) ∙ under),
-        λ i e at apart. sym (others i (sym (under-is i) ∙ apart)) ∙ before i e at)
+    counts-in counted others before = (
+      λ i e under_at under. pair i e (before i e under_at) (sym (under-is i) ∙ under),
+      λ i e at apart. sym (others i (sym (under-is i) ∙ apart)) ∙ before i e at,
+    )
       where
         c : Board
         c = started n t here
