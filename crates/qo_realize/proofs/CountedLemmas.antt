@@ -52,7 +52,7 @@ use Rattle.qo_reset.specs.Counts.{CountsKept, IsCounted}
 use Rattle.qo_reset.specs.Phases.{below_on, count_on, post_by}
 use Rattle.qo_reset.proofs.BoardLemmas.{shows-count}
 use Rattle.qo_reset.proofs.EditLemmas.{counted-pair, edit-count, pair-counted}
-use Rattle.qo_reset.proofs.WalkLemmas.{content-after}
+use Rattle.qo_reset.proofs.WalkLemmas.{read-after}
 use Rattle.qo_sound.specs.TreeKept.{SoundTree}
 use Rattle.qo_sound.proofs.DeviceScopeLemmas.{devices_stay_lem}
 use Rattle.qo_sound.proofs.ViewLemmas.{rest-from_sound}
@@ -361,26 +361,13 @@ pub given_up-counts : (b : Board) (t : TypeId) (bus : ℕ) (holds : List ℕ) (v
 given_up-counts b t bus holds v w d h s held t_shows before kept =
     new-counts b (plug_attempt b t bus 4) v w holds holds s held t_shows held d h kept (records-counts b (plug_attempt b t bus 4) refl refl) before
 
--- what is counted of each object is not in what is changed
-stays-counted : (n : ℕ) (f : Content → Content) → ((c : Content) → counts_of (f c) ≡ counts_of c) → (v : Objects) (m : ℕ)
-    → counted_in (with_edit n f v) m ≡ counted_in v m
-stays-counted n f same v m = ap (option_map counts_of) (content-after n m f v) ∙ go (content_of v m)
-  where
-    one : (c : Content) (t : Bool) → counts_of (cond t (f c) c) ≡ counts_of c
-    one c true = same c
-    one c false = refl
-
-    go : (o : Option Content) → option_map counts_of (option_map (λ (c : Content). cond (eqb m n) (f c) c) o) ≡ option_map counts_of o
-    go None = refl
-    go (Some c) = ap Some (one c (eqb m n))
-
 -- a body was written
 pub body-counts : (n : ℕ) (body : Body) (holds : List ℕ) (v : Objects) → CountsKept holds v
     → CountsKept holds (with_edit n (λ (c : Content). record c { body = body }) v)
 body-counts n body holds v kept m d there =
     pair-counted (with_edit n put v) holds m
     (λ k e.
-    counted-pair v holds m k (kept m) (sym (stays-counted n put (λ c. refl) v m) ∙ e)
+    counted-pair v holds m k (kept m) (sym (read-after counts_of n put (λ c. refl) v m) ∙ e)
     ∙ ap (λ (j : ℕ). (j, 0)) (sym (edit-count n put (λ c. refl) (λ c. refl) v holds m)))
     d there
   where
