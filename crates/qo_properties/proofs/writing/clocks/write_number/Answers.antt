@@ -13,7 +13,7 @@ use Rattle.qo_properties.proofs.writing.clocks.write_number.Goals as goal
 pub returns-in-Period-clause-pins : goal.returns-in-Period-clause-pins
 returns-in-Period-clause-pins g c =
     clock-pins c.args.heap.now c.set.new.heap (with_period c.args.c.birth c.args.number c.args.heap.now) c.set.result
-    (period-pins c.args.heap.now c.args.c.birth c.args.number) c.set.ensures.acts c.set.ensures.counts c.set.ensures.err
+    (period-pins c.args.heap.now c.args.c.birth c.args.number) c.set.ensures.acts c.set.ensures.err
 
 pub returns-in-Mul-clause-written : goal.returns-in-Mul-clause-written
 returns-in-Mul-clause-written g c = λ b s fit.
@@ -27,7 +27,7 @@ returns-in-Mul-clause-written g c = λ b s fit.
 pub returns-in-Mul-clause-pins : goal.returns-in-Mul-clause-pins
 returns-in-Mul-clause-pins g c =
     clock-pins c.args.heap.now c.set_mul_div.new.heap (with_scale c.args.c.birth c.args.number c.div-div.result c.args.heap.now) c.set_mul_div.result
-    (scale-pins c.args.heap.now c.args.c.birth c.args.number c.div-div.result) c.set_mul_div.ensures.acts c.set_mul_div.ensures.counts c.set_mul_div.ensures.err
+    (scale-pins c.args.heap.now c.args.c.birth c.args.number c.div-div.result) c.set_mul_div.ensures.acts c.set_mul_div.ensures.err
 
 pub returns-in-Div-clause-written : goal.returns-in-Div-clause-written
 returns-in-Div-clause-written g c = λ b s fit.
