@@ -1,8 +1,9 @@
 -- The act, and then the holds.
-use Rattle.std.proofs.Common.{◌≡◌, ◌∙◌, sym, subst, Some}
+use Rattle.std.proofs.Common.{◌≡◌, ◌∙◌, sym, subst, [], Some}
 use Rattle.qo_values.specs.declared.kinds.Act.TheVariants.{Unrealize}
 use Rattle.qo_model.specs.Clocks.{acted}
 use Rattle.qo_model.specs.Unplug.{unheld, unrealized_bus}
+use Rattle.qo_hotplug.specs.Hotplug.{nothing_asked}
 use Rattle.qo_heap.specs.Objects.{Objects}
 use Rattle.qo_reset.specs.Turns.{counted, sided}
 use Rattle.qo_properties.specs.KeptClaims.{kept_by}
@@ -12,6 +13,9 @@ use Rattle.qo_unplug.proofs.StepLemmas.{clears-heap, clears-then, clears-unheld,
 use Rattle.qo_unplug.proofs.KeptLemmas.{due-stays, kept-edited}
 use Rattle.qo_unplug.proofs.RealizedLemmas.{same_lit-acted}
 use Rattle.qo_unplug.proofs.ending.end_bus.Goals as goal
+
+pub gone-requires : goal.gone-requires
+gone-requires g c = (c.act.ensures.undoes [] nothing_asked).live c.args.bus c.requires.live
 
 pub returns : goal.returns
 returns g c = λ asked.

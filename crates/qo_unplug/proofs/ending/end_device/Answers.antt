@@ -1,7 +1,8 @@
 -- The act and the clock, the value, the claims, and what stands beside the tree.
-use Rattle.std.proofs.Common.{◌≡◌, ◌∙◌, ap, sym, subst, Some, [], codes, false}
+use Rattle.std.proofs.Common.{◌≡◌, ◌∙◌, ap, sym, subst, ℕ, Some, [], codes, false}
 use Rattle.qo_values.specs.declared.kinds.Act.TheVariants.{Unrealize}
 use Rattle.qo_values.specs.declared.properties.Val.TheVariants as val
+use Rattle.qo_kinds.specs.declared.kept_set.KeptSet.{KeptSet}
 use Rattle.qo_model.specs.Board.{Board}
 use Rattle.qo_model.specs.Clocks.{acted, device_period}
 use Rattle.qo_model.specs.Devices.{clock_of}
@@ -22,6 +23,11 @@ unset-requires g c = (c.stop.ensures.undoes [] nothing_asked).live c.args.dev c.
 pub free_claims-requires : goal.free_claims-requires
 free_claims-requires g c =
     (c.unset.ensures.undoes [] nothing_asked).live c.args.dev ((c.stop.ensures.undoes [] nothing_asked).live c.args.dev c.requires.live)
+
+pub gone-requires : goal.gone-requires
+gone-requires g c =
+    (c.free_claims.ensures.undoes [] nothing_asked).live c.args.dev
+    ((c.unset.ensures.undoes [] nothing_asked).live c.args.dev ((c.stop.ensures.undoes [] nothing_asked).live c.args.dev c.requires.live))
 
 pub returns : goal.returns
 returns g c =
@@ -46,7 +52,8 @@ returns g c =
     (undoes-unheld n c.free_claims.new.heap cleared held after asked c.gone.ensures.holds c.gone.ensures.now))
     (undoes-unnoticed n cleared after asked c.gone-2.new.self c.gone-2.ensures) in
     let unkept = kept-edited c.free_claims.new.heap n (sided (counted 0)) (λ d. refl) in
-    let before = λ m k at. sym (unkept m) ∙ subst (λ (x : Objects). kept_by x m ≡ Some k) c.gone.ensures.now at in
+    let before : (m : ℕ) (k : KeptSet) → kept_by cleared m ≡ Some k → kept_by c.free_claims.new.heap m ≡ Some k =
+    λ m k at. sym (unkept m) ∙ subst (λ (x : Objects). kept_by x m ≡ Some k) c.gone.ensures.now at in
     record {
       undoes = undoes;
       clears =
