@@ -256,12 +256,6 @@ not-there (Some c) e = absurd (let clash : Some (counts_of c) ≡ None = e in cc
 
 module _ (b c : Board) (v w : Objects) (old new : List ℕ) (s : Shows b v) (held : b.holds ≡ old) (t : Shows c w) (holds : c.holds ≡ new)
     (d : SoundDevices b) (on : SoundHolds b) (kept : CountsKept old v) where
-  abbrev count_was : (n : ℕ) → count b n ≡ count_on v old n
-  count_was n = shows-count b v s old held n
-
-  abbrev count_is : (n : ℕ) → count c n ≡ count_on w new n
-  count_is n = shows-count c w t new holds n
-
   -- of who was there as much is kept as before, of who is new nothing
   before-pair : (n : ℕ) (k : ℕ × ℕ) → count c n ≡ count b n → (counted_in v n ≡ Some k) ⊎ ((counted_in v n ≡ None) × (k ≡ (0, 0)))
       → k ≡ (count_on w new n, 0)

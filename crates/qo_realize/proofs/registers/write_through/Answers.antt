@@ -18,3 +18,6 @@ returns-clause-kept g c =
 
 pub do_beside-requires-clause-counts : goal.do_beside-requires-clause-counts
 do_beside-requires-clause-counts g c = c.write_register.ensures.counts c.args.resets.now.births c.requires.counts
+
+pub returns-in_err-effect-clause-counts : goal.returns-in_err-effect-clause-counts
+returns-in_err-effect-clause-counts g c = c.write_register.ensures.counts c.args.resets.now.births c.requires.counts
