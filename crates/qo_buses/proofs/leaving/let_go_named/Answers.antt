@@ -19,17 +19,17 @@ returns-in_default g c =
     (ap (λ (x : Option Content). index_from (is_named (property_name c.args.name)) 0 (shown_slots (option_map_or (λ (d : Content). d.slots) x [])))
     c.in_default.ensures.none)
 
-pub returns-in_default-slot : goal.returns-in_default-slot
-returns-in_default-slot g c =
+pub returns-in_default-property : goal.returns-in_default-property
+returns-in_default-property g c =
     goes-go_none (is_named (property_name c.args.name)) c.args.heap.now c.args.birth
     (ap (λ (n : ℕ). index_from (is_named (property_name c.args.name)) 0 (shown_slots (slots_of c.args.heap.now n))) (sym c.in-Some.ensures.born)
     ∙ named-place (property_name c.args.name) (slots_of c.args.heap.now c.in-Some.o.birth)
-    ∙ sym c.in_default-slot.ensures.at)
+    ∙ sym c.in_default-property.ensures.at)
 
 pub returns : goal.returns
 returns g c =
-    goes-go_where (is_named (property_name c.args.name)) c.args.heap.now c.let_go.new.heap c.args.birth c.in-Some-slot.view.at
+    goes-go_where (is_named (property_name c.args.name)) c.args.heap.now c.let_go.new.heap c.args.birth c.in-Some-property.view.at
     (ap (λ (n : ℕ). index_from (is_named (property_name c.args.name)) 0 (shown_slots (slots_of c.args.heap.now n))) (sym c.in-Some.ensures.born)
     ∙ named-place (property_name c.args.name) (slots_of c.args.heap.now c.in-Some.o.birth)
-    ∙ sym c.in-Some-slot.ensures.at)
-    (subst (λ (n : ℕ). Goes (λ b. let_go b n c.in-Some-slot.view.at) c.args.heap.now c.let_go.new.heap) c.in-Some.ensures.born c.let_go.ensures.goes)
+    ∙ sym c.in-Some-property.ensures.at)
+    (subst (λ (n : ℕ). Goes (λ b. let_go b n c.in-Some-property.view.at) c.args.heap.now c.let_go.new.heap) c.in-Some.ensures.born c.let_go.ensures.goes)
