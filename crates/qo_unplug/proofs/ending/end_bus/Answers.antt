@@ -1,5 +1,5 @@
 -- The act, and then the holds.
-use Rattle.std.proofs.Common.{◌≡◌, ◌∙◌, sym, subst, [], Some}
+use Rattle.std.proofs.Common.{◌≡◌, refl, ◌∙◌, sym, subst, [], Some}
 use Rattle.qo_values.specs.declared.kinds.Act.TheVariants.{Unrealize}
 use Rattle.qo_model.specs.Clocks.{acted}
 use Rattle.qo_model.specs.Unplug.{unheld, unrealized_bus}

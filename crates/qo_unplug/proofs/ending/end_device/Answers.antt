@@ -1,5 +1,5 @@
 -- The act and the clock, the value, the claims, and what stands beside the tree.
-use Rattle.std.proofs.Common.{◌≡◌, ◌∙◌, ap, sym, subst, ℕ, Some, [], codes, false}
+use Rattle.std.proofs.Common.{◌≡◌, refl, ◌∙◌, ap, sym, subst, ℕ, Some, [], codes, false}
 use Rattle.qo_values.specs.declared.kinds.Act.TheVariants.{Unrealize}
 use Rattle.qo_values.specs.declared.properties.Val.TheVariants as val
 use Rattle.qo_kinds.specs.declared.kept_set.KeptSet.{KeptSet}
