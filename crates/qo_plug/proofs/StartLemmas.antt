@@ -34,7 +34,7 @@ use Rattle.qo_heap.proofs.BoardEdits.{shows-edit}
 use Rattle.qo_heap.proofs.BoardObjects.{content-edited}
 use Rattle.qo_hotplug.specs.Hotplug.{Asked, notified}
 use Rattle.qo_life.proofs.TreeLemmas.{read-content}
-use Rattle.qo_reset.specs.Counts.{CountedBelow, KeepsOthers}
+use Rattle.qo_reset.specs.Counts.{CountedBelow, IsCounted, KeepsOthers}
 use Rattle.qo_reset.specs.Phases.{Holds, count_on, is_under}
 use Rattle.qo_reset.proofs.CountLemmas.{all_below-acts}
 use Rattle.qo_reset.proofs.EditLemmas.{counted-pair, edit-count, edit-under, pair-counted}
@@ -281,15 +281,26 @@ path-claims v w n path now m = ap (λ (x : Objects). all_kept x m) now ∙ read-
 pub path-counted : (v w : Objects) (n : ℕ) (path : List ℕ) → w ≡ record (with_edit n (with_path path) v) { events = promised v.events } → (holds : List ℕ)
     → CountedBelow n holds v → CountedBelow n holds w
 unfolding count_on
-path-counted v w n path now holds below =
-    subst (CountedBelow n holds) (sym now)
-    (λ m c there under.
-    pair-counted (with_edit n (with_path path) v) holds m
-    (λ k e.
-    counted-pair v holds m k (λ d is. below m d is (sym (edit-under n (with_path path) (λ x. refl) (λ x. refl) v m n) ∙ under))
-    (sym (read-content counts_of n (with_path path) (λ x. refl) v m) ∙ e)
-    ∙ ap (λ (x : ℕ). (x, 0)) (sym (edit-count n (with_path path) (λ x. refl) (λ x. refl) v holds m)))
-    c there)
+path-counted v w n path now holds below = subst (CountedBelow n holds) (sym now) told
+  where
+    edited : Objects
+    edited = with_edit n (with_path path) v
+
+    one : (m : ℕ) (c : Content) → content_of (with_edit n (with_path path) v) m ≡ Some c → is_under (with_edit n (with_path path) v) m n ≡ true
+        → IsCounted (with_edit n (with_path path) v) holds m c
+    one m c there under =
+        pair-counted edited holds m
+        (λ k e.
+        counted-pair v holds m k (λ d is. below m d is (sym (edit-under n (with_path path) (λ x. refl) (λ x. refl) v m n) ∙ under))
+        (sym (read-content counts_of n (with_path path) (λ x. refl) v m) ∙ e)
+        ∙ ap (λ (x : ℕ). (x, 0)) (sym (edit-count n (with_path path) (λ x. refl) (λ x. refl) v holds m)))
+        c there
+
+    -- events are not counted
+    told : CountedBelow n holds (record (with_edit n (with_path path) v) { events = promised v.events })
+    told m c there under =
+        let its : IsCounted (with_edit n (with_path path) v) holds m c = one m c there under in
+        record { count = its.count; unmarked = its.unmarked }
 
 pub path-others : (v u w : Objects) (n : ℕ) (path : List ℕ) → w ≡ record (with_edit n (with_path path) u) { events = promised u.events } → Acts v u
     → KeepsOthers n v u → (m : ℕ) → is_under w m n ≡ false → counted_in w m ≡ counted_in v m

@@ -286,7 +286,10 @@ module _ (b c : Board) (v w : Objects) (old new : List ℕ) (s : Shows b v) (hel
 -- rows alone are read
 pub rows-counts : (holds : List ℕ) (v w : Objects) → w.rows ≡ v.rows → CountsKept holds v → CountsKept holds w
 unfolding count_on post_by
-rows-counts holds v w same kept = subst (λ (rows : List (Key × Content)). CountsKept holds (record v { rows = rows })) (sym same) kept
+rows-counts holds v w same kept n c there =
+    let its : IsCounted (record v { rows = w.rows }) holds n c =
+    subst (λ (rows : List (Key × Content)). CountsKept holds (record v { rows = rows })) (sym same) kept n c there in
+    record { count = its.count; unmarked = its.unmarked }
 
 pub same-counts : (old new : List ℕ) (v w : Objects) → w ≡ v → new ≡ old → CountsKept old v → CountsKept new w
 same-counts old new v w same holds kept = subst (λ (x : Objects). CountsKept new x) (sym same) (subst (λ (l : List ℕ). CountsKept l v) (sym holds) kept)
