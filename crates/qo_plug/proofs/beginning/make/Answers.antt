@@ -64,5 +64,5 @@ returns-clause-begun g c = λ b a anonymous asked is planned.
 pub returns-in_err-device-clause-err : goal.returns-in_err-device-clause-err
 returns-in_err-device-clause-err g c = on-err c.from_residual.result c.in_err-device.ensures.err
 
-pub count-requires-clause-live : goal.count-requires-clause-live
-count-requires-clause-live g c = c.requires.fit.bus
+pub count-out-requires-clause-live : goal.count-out-requires-clause-live
+count-out-requires-clause-live g c = c.requires.fit.bus
