@@ -10,7 +10,7 @@ ghost use Rattle.qo_model.specs.ClockChanges.{clock_scaled, clock_set};
 ghost use Rattle.qo_model.specs.Clocks.{ClocksFit};
 ghost use Rattle.qo_model.specs.RowNames.{property_name};
 ghost use Rattle.qo_heap.specs.Rows.{IsLive};
-ghost use Rattle.qo_heap.specs.Acts.{Acts};
+ghost use Rattle.qo_heap.specs.Acts.{Acts, KeepsCounts};
 ghost use Rattle.qo_heap.specs.Board.{Shows};
 ghost use Rattle.qo_heap.specs.Book.{IsBook};
 ghost use Rattle.qo_heap.specs.Moments.{Timely};
@@ -85,6 +85,7 @@ pub fn set<L: Ledger>(
     requires timely { Timely heap.old }
     ensures answer { (b : Board) → Shows b heap.old → ClocksFit b → Answers heap.new result (clock_set b c.birth period) }
     ensures acts { OnOk result (Acts (with_period c.birth period heap.old) heap.new) }
+    ensures counts { OnOk result (KeepsCounts (with_period c.birth period heap.old) heap.new) }
     ensures err { OnErr result (heap.new ≡ heap.old) }
     ensures names { (key : Key) → IsLive heap.old.rows key → IsLive heap.new.rows key }
     ensures book { (out : List Claimed) → IsBook out heap.old → IsBook out heap.new }
@@ -127,6 +128,7 @@ pub fn set_mul_div<L: Ledger>(
     requires timely { Timely heap.old }
     ensures answer { (b : Board) → Shows b heap.old → ClocksFit b → Answers heap.new result (clock_scaled b c.birth mul div) }
     ensures acts { OnOk result (Acts (with_scale c.birth mul div heap.old) heap.new) }
+    ensures counts { OnOk result (KeepsCounts (with_scale c.birth mul div heap.old) heap.new) }
     ensures err { OnErr result (heap.new ≡ heap.old) }
     ensures names { (key : Key) → IsLive heap.old.rows key → IsLive heap.new.rows key }
     ensures book { (out : List Claimed) → IsBook out heap.old → IsBook out heap.new }

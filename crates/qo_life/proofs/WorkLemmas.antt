@@ -40,7 +40,7 @@ use Rattle.qo_life.specs.Work.{GoesOn, kept, freed, front_at, weak_ends, work_of
 use Rattle.qo_life.proofs.BoardLemmas.{Stays, none-held, stays-finish, stays-other, stays-own}
 use Rattle.qo_life.proofs.ReleaseLemmas.{given, next-shown, slot-shown, turn-live}
 use Rattle.qo_life.proofs.PaidLemmas.{finish-weak, weak-shown, worth-same}
-use Rattle.qo_life.proofs.TreeLemmas.{tree, tree_with, tree-shows, heap-with_log, tree-after, edit-bodies, goes-drop, goes-end, goes-none, goes-same, goes-then, live-before_edit, read-content}
+use Rattle.qo_life.proofs.TreeLemmas.{tree, tree_with, tree-shows, heap-with_log, tree-after, edit-bodies, edit-sides, goes-drop, goes-end, goes-none, goes-same, goes-then, live-before_edit, read-content}
 
 -- a place in the work changes nothing on the board
 pub goes-work : (v : Objects) (n : ℕ) (x : Work) → Goes (λ b. b) v (with_edit n (with_work x) v)
@@ -60,6 +60,7 @@ goes-work v n x =
           };
       names = live-before_edit n (with_work x) v.rows;
       bodies = edit-bodies v n (with_work x) (λ c. refl);
+      sides = edit-sides v n (with_work x) (λ c. refl);
       book = λ out h. book-edit out v n (with_work x) (λ c. refl) h;
       time = refl;
       spare = refl;

@@ -28,7 +28,7 @@ use Rattle.qo_sound.proofs.DraftLemmas.{with_pins}
 use Rattle.qo_sound.proofs.StepsLemmas.{passed-steps}
 use Rattle.qo_object.specs.Content.{Content, acted_at}
 use Rattle.qo_object.specs.BoardObject.{birth_of}
-use Rattle.qo_heap.specs.Acts.{Acts, stilled}
+use Rattle.qo_heap.specs.Acts.{Acts, KeepsCounts, stilled}
 use Rattle.qo_heap.specs.Board.{Shows, record_of}
 use Rattle.qo_heap.specs.Objects.{IsHeap, Objects, content_of}
 use Rattle.qo_heap.proofs.ActsLemmas.{acts-act, acts-live, acts-none, acts-then}
@@ -37,6 +37,7 @@ use Rattle.qo_heap.proofs.BoardObjects.{content-edited, content-other}
 use Rattle.qo_properties.proofs.NewSlotLemmas.{next-slot, past}
 use Rattle.qo_reset.specs.Phases.{acted_on, walked}
 use Rattle.qo_reset.proofs.BoardLemmas.{shows-walked}
+use Rattle.qo_reset.proofs.CountLemmas.{all-counts}
 use Rattle.qo_reset.proofs.WalkLemmas.{walked-acts, walked-append}
 use Rattle.qo_plug.specs.Attempts.{first_acted, last_acted, let_out, new_bus, new_buses, passed_on}
 use Rattle.qo_plug.specs.Drafts.{IsQuiet, given_draft, with_values}
@@ -197,13 +198,14 @@ last-is act n v u w is next = next ∙ ap (acted_on act n) is ∙ sym (walked-ap
 -- what a device's acts leave
 pub record Leaves (v w : Objects) : Type 0 where
   pub acts : Acts v w
+  pub counts : KeepsCounts v w
   pub quiet : (m : ℕ) → IsQuiet v m → IsQuiet w m
 
 pub leaves-then : (v u w : Objects) → Leaves v u → Leaves u w → Leaves v w
-leaves-then v u w l k = record { acts = acts-then v u w l.acts k.acts; quiet = λ m q. k.quiet m (l.quiet m q) }
+leaves-then v u w l k = record { acts = acts-then v u w l.acts k.acts; counts = λ m. k.counts m ∙ l.counts m; quiet = λ m q. k.quiet m (l.quiet m q) }
 
 walked-leaves : (act : Act) (ns : List ℕ) (v : Objects) → Leaves v (walked act ns v)
-walked-leaves act ns v = record { acts = walked-acts act ns v; quiet = quiet-walked act ns v }
+walked-leaves act ns v = record { acts = walked-acts act ns v; counts = all-counts act ns v; quiet = quiet-walked act ns v }
 
 pub buses-leaves : (act : Act) (ns : List ℕ) (v w : Objects) → w ≡ walked act ns v → Leaves v w
 buses-leaves act ns v w is = subst (Leaves v) (sym is) (walked-leaves act ns v)
@@ -222,7 +224,7 @@ last-leaves act n v w is = subst (Leaves v) (sym is) (walked-leaves act (new_bus
 
 pub out-leaves : (out : Bool) (n : ℕ) (v w : Objects) → w ≡ let_out out n v → Leaves v w
 out-leaves true n v w is = last-leaves Exit n v w is
-out-leaves false n v w is = subst (Leaves v) (sym is) (record { acts = acts-none v; quiet = λ m q. q })
+out-leaves false n v w is = subst (Leaves v) (sym is) (record { acts = acts-none v; counts = λ m. refl; quiet = λ m q. q })
 
 pub leaves-live : (v w : Objects) → Leaves v w → (key : Key) → IsLive v.rows key → IsLive w.rows key
 leaves-live v w l key live = rw (acts-live v w l.acts key) live
@@ -369,8 +371,3 @@ module _ (b : Board) (t : TypeId) (sound : SoundTree b) (props : List Given) whe
       ∙ passed-steps b t bus (edit n (with_values b props) (drafted b t)) (held b t sound) (held-is b t sound) (rest b t sound)
       (draft-made b t sound props (slots_of t)) in
       subst (λ (d : Board). Shows d x) ends (drops c shown)
-
--- a count that is cut is none exactly where it is none
-pub cut-none : (r k : ℕ) → r ≡ min k 4294967295 → (r == 0) ≡ (k == 0)
-cut-none r zero e = ap (λ (n : ℕ). n == 0) e
-cut-none r (suc k) e = ap (λ (n : ℕ). n == 0) e ∙ grind (arith, nat_tests)

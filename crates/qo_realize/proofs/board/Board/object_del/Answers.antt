@@ -7,6 +7,7 @@ use Rattle.qo_realize.specs.Representation.{Stands}
 use Rattle.qo_realize.proofs.RecountLemmas.{stands-recounted}
 use Rattle.qo_realize.proofs.RepresentationLemmas.{answered-sound, err-stays, del-stands}
 use Rattle.qo_realize.proofs.ClaimsLemmas.{change-claims}
+use Rattle.qo_realize.proofs.CountedLemmas.{changed-counts}
 use Rattle.qo_realize.proofs.board.Board.object_del.Goals as goal
 
 pub returns-then-is_used-clause-change : goal.returns-then-is_used-clause-change
@@ -36,6 +37,8 @@ invariant_of-self g c =
           (del-stands b _ c.remove.new.heap c.args.id.now c.remove.result s (c.remove.ensures.change b s.shows) c.remove.ensures.book),
       change-claims b (deleted c.args.id.now) c.self.inside.heap c.remove.new.heap sound.run.devices s.shows (c.remove.ensures.change b s.shows).board
           c.remove.ensures.kept c.self.invariant.2,
+      changed-counts b (deleted c.args.id.now) c.self.inside.resets.births c.self.inside.heap c.remove.new.heap sound.run.devices sound.holds s.shows s.holds
+          (c.remove.ensures.change b s.shows).board c.remove.ensures.kept c.self.invariant.3,
     )
 
 -- two looks, and what is removed

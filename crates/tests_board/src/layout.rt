@@ -1,14 +1,12 @@
 //! What no clause says: that the memory map of a board is made where there is enough memory.
 ghost use Rattle.std.specs.Prelude.{◌≡◌, ◌<◌};
 
-use qo_chardev::Rings;
-use qo_heap::{Heap, Steps};
-use qo_hotplug::Hotplug;
+use qo_heap::Steps;
 use qo_layout::{BOOT_LEAF, BOOT_SIZE, DEVICE_SIZE, MEMORY_AT, SLOTS_AT, memory_map};
 use qo_memmap::{MapError, Span};
-use qo_plug::{AddRefusal, Added, DeviceOptions, add};
-use qo_properties::{Refusal, add_object, make_all};
-use qo_reset::Resets;
+use qo_plug::{AddRefusal, Added, DeviceOptions};
+use qo_properties::Refusal;
+use qo_realize::Board;
 use qo_values::{PropList, Text, Val};
 use std::alloc::{AllocError, Global};
 use std::marker::Brand;
@@ -27,35 +25,21 @@ fn property(name: &str, val: Val, alloc: Global) -> Result<PropList, AllocError>
     }
 }
 
-/// A device of a type is added with these properties, where so many without an id were added before; its
-/// birth, or nothing where it is refused.
-fn device<'x, L: Ledger>(
-    heap: &mut Heap,
-    anonymous: u64,
-    driver: &'x str,
-    props: &'x PropList,
+/// A device of a type is added with these properties; its birth, or nothing where it is refused.
+fn device<L: Ledger>(
+    board: &mut Board,
+    driver: &str,
+    props: &PropList,
     alloc: Global,
     steps: &mut Steps<L>,
 ) -> Result<Option<u64>, AllocError> {
-    let resets = Resets::new(alloc);
-    let mut hotplug = Hotplug::new(alloc)?;
-    let rings = Rings::new(alloc);
     let options = DeviceOptions {
         driver,
         id: None,
         bus: None,
         props,
     };
-    match add(
-        heap,
-        &resets,
-        &mut hotplug,
-        &rings,
-        anonymous,
-        &options,
-        alloc,
-        steps,
-    ) {
+    match board.add(&options, alloc, steps) {
         Ok(Added { birth, .. }) => Ok(Some(birth)),
         Err(AddRefusal::Refused { .. }) => Ok(None),
         Err(AddRefusal::Memory) => Err(AllocError),
@@ -64,12 +48,12 @@ fn device<'x, L: Ledger>(
 
 /// A memory backend is made; whether it was.
 fn backend<L: Ledger>(
-    heap: &mut Heap,
+    board: &mut Board,
     alloc: Global,
     steps: &mut Steps<L>,
 ) -> Result<bool, AllocError> {
     let size = property("size", Val::Uint(SIZE), alloc)?;
-    match add_object(heap, "memory-backend-ram", "m0", &size, alloc, steps) {
+    match board.object_add("memory-backend-ram", "m0", &size, alloc, steps) {
         Ok(()) => Ok(true),
         Err(Refusal::Refused(_)) => Ok(false),
         Err(Refusal::Memory) => Err(AllocError),
@@ -94,19 +78,18 @@ fn mapped<L: Ledger>(alloc: Global, blank: Blank) -> Result<bool, MapError>
     requires some { 0 < blank.parts }
 {
     let mut steps = Steps::<L>::from_blank(blank);
-    let mut heap = Heap::new(alloc)?;
-    make_all(&mut heap, alloc, &mut steps)?;
-    let made = backend(&mut heap, alloc, &mut steps)?;
+    let mut board = Board::start(alloc, &mut steps)?;
+    let made = backend(&mut board, alloc, &mut steps)?;
     let text = Val::Text(Text::from_string(String::from_str(alloc, "m0")?));
     let memdev = property("memdev", text, alloc)?;
     let slot = property("slot", Val::Uint(0), alloc)?;
-    let dimm = device(&mut heap, 0, "mem-dimm", &memdev, alloc, &mut steps)?;
-    let uart = device(&mut heap, 1, "slot-uart", &slot, alloc, &mut steps)?;
+    let dimm = device(&mut board, "mem-dimm", &memdev, alloc, &mut steps)?;
+    let uart = device(&mut board, "slot-uart", &slot, alloc, &mut steps)?;
     let (Some(dimm), Some(uart)) = (dimm, uart) else {
         return Ok(false);
     };
-    let board = memory_map(alloc, &heap, &mut steps)?;
-    let spans = board.map.flat(alloc, board.root)?;
+    let mapped = memory_map(alloc, board.heap(), &mut steps)?;
+    let spans = mapped.map.flat(alloc, mapped.root)?;
     let wanted = [
         span(0, BOOT_SIZE, BOOT_LEAF, 0),
         span(BOOT_SIZE, SIZE - BOOT_SIZE, dimm, BOOT_SIZE),
