@@ -27,7 +27,7 @@ use Rattle.qo_heap.proofs.BoardObjects.{content-edited, live-content, named-live
 use Rattle.qo_heap.proofs.BoardReads.{shows-slot_at, shows-slots}
 use Rattle.qo_heap.proofs.SlotPlaces.{found-place}
 use Rattle.qo_life.specs.Life.{Goes, with_log}
-use Rattle.qo_life.proofs.TreeLemmas.{edit-bodies, goes-drop, goes-none, goes-same, goes-then, live-before_edit, shows-notes}
+use Rattle.qo_life.proofs.TreeLemmas.{edit-bodies, edit-sides, goes-drop, goes-none, goes-same, goes-then, live-before_edit, shows-notes}
 
 -- a slot cut
 pub goes-cut : (v : Objects) (n i : ℕ) → Goes (λ b. cut n i b) v (with_edit n (cut_at i) v)
@@ -39,6 +39,7 @@ goes-cut v n i =
       shown = λ b log s. shows-cut b (with_log log v) s n i;
       names = live-before_edit n (cut_at i) v.rows;
       bodies = edit-bodies v n (cut_at i) (λ c. refl);
+      sides = edit-sides v n (cut_at i) (λ c. refl);
       book = λ out h. book-edit out v n (cut_at i) (λ c. refl) h;
       time = refl;
       spare = refl;

@@ -34,7 +34,7 @@ use Rattle.qo_heap.proofs.BoardEdits.{pins-edited, shows-at}
 use Rattle.qo_heap.proofs.BoardObjects.{live-content}
 use Rattle.qo_heap.proofs.SlotPlaces.{named-place}
 use Rattle.qo_life.specs.Life.{Goes, with_log}
-use Rattle.qo_life.proofs.TreeLemmas.{edit-bodies, goes-none, goes-same, heap-with_log, live-before_edit}
+use Rattle.qo_life.proofs.TreeLemmas.{edit-bodies, edit-sides, goes-none, goes-same, heap-with_log, live-before_edit}
 use Rattle.qo_buses.proofs.LeavingLemmas.{shows-index_from}
 use Rattle.qo_buses.proofs.WayLemmas.{of-is}
 
@@ -134,6 +134,7 @@ module _ (v : Objects) (good : IsHeap v) (o : Key) (live : IsLive v.rows o) (nam
               (its-slot c there) (same b log s);
           names = λ key here. here;
           bodies = λ n d is_there. ap (option_map (λ (x : Content). x.body)) is_there;
+          sides = λ n d is_there. ap (option_map (λ (x : Content). x.side)) is_there;
           book = λ out h. h;
           time = refl;
           spare = refl;
@@ -162,6 +163,7 @@ module _ (v : Objects) (good : IsHeap v) (o : Key) (live : IsLive v.rows o) (nam
                 ∙ ap (λ (x : Slot). fitted b key.birth (shown_slot x)) (sym is));
             names = live-before_edit o.birth (pointed_at key i) v.rows;
             bodies = edit-bodies v o.birth (pointed_at key i) (λ d. refl);
+            sides = edit-sides v o.birth (pointed_at key i) (λ d. refl);
             book = λ out h. book-edit out v o.birth (pointed_at key i) (λ d. refl) h;
             time = refl;
             spare = refl;
@@ -191,6 +193,7 @@ module _ (v : Objects) (good : IsHeap v) (o : Key) (live : IsLive v.rows o) (nam
             rw (set_named, at) (shows-set b (with_log log v) s o.birth i val);
         names = live-before_edit o.birth (set_at val i) v.rows;
         bodies = edit-bodies v o.birth (set_at val i) (λ d. refl);
+        sides = edit-sides v o.birth (set_at val i) (λ d. refl);
         book = λ out h. book-edit out v o.birth (set_at val i) (λ d. refl) h;
         time = refl;
         spare = refl;

@@ -1,6 +1,6 @@
 //! What is read of a device (include/hw/qdev-core.h: realization; the clock of a device).
 
-ghost use Rattle.std.specs.Prelude.{◌≡◌, IfSome};
+ghost use Rattle.std.specs.Prelude.{◌≡◌, ◌+◌, IfSome};
 ghost use Rattle.qo_model.specs.Board.{Board};
 ghost use Rattle.qo_model.specs.Devices.{bus_of, clock_of, is_realized, is_true, bus_slot_of};
 ghost use Rattle.qo_model.specs.Paths.{is_of};
@@ -10,6 +10,7 @@ ghost use Rattle.qo_heap.specs.Board.{Shows};
 
 use crate::slots::{child_at, number_at, plain_at, strong_at};
 use qo_heap::{Heap, Oid, Steps};
+use qo_model::PropertyName;
 use qo_types::TypeTable;
 use qo_values::Val;
 use std::sync::ledger::Ledger;
@@ -17,7 +18,8 @@ use std::sync::ledger::Ledger;
 /// Whether an object is of a type or an interface of a name.
 pub fn is_of<L: Ledger>(heap: &Heap, o: Oid, wanted: &str, steps: &mut Steps<L>) -> bool
     requires { IsLive heap.now.rows o }
-    ensures { (b : Board) → Shows b heap.now → result ≡ is_of b wanted.now o.birth }
+    ensures kind { (b : Board) → Shows b heap.now → result ≡ is_of b wanted.now o.birth }
+    ensures cost { steps.new ≡ steps.old + 1 }
 {
     TypeTable::board().is_a(heap.kind(o, steps), wanted)
 }
@@ -37,7 +39,7 @@ pub fn is_realized<L: Ledger>(heap: &Heap, o: Oid, steps: &mut Steps<L>) -> bool
     requires { IsLive heap.now.rows o }
     ensures { (b : Board) → Shows b heap.now → result ≡ is_realized b o.birth }
 {
-    match plain_at(heap, o, "realized", steps) {
+    match plain_at(heap, o, PropertyName::Realized, steps) {
         Some(val) => is_true(val),
         None => false,
     }
@@ -49,7 +51,7 @@ pub fn bus_of<L: Ledger>(heap: &Heap, dev: Oid, steps: &mut Steps<L>) -> Option<
     ensures bus { (b : Board) → Shows b heap.now → birth_of result ≡ bus_of b dev.birth }
     ensures live { IfSome result (IsLive heap.now.rows) }
 {
-    strong_at(heap, dev, "parent_bus", steps)
+    strong_at(heap, dev, PropertyName::ParentBus, steps)
 }
 
 /// The slot of its bus that a device is in.
@@ -57,7 +59,7 @@ pub fn bus_slot_of<L: Ledger>(heap: &Heap, dev: Oid, steps: &mut Steps<L>) -> Op
     requires { IsLive heap.now.rows dev }
     ensures { (b : Board) → Shows b heap.now → result ≡ bus_slot_of b dev.birth }
 {
-    number_at(heap, dev, "slot", steps)
+    number_at(heap, dev, PropertyName::Slot, steps)
 }
 
 /// The clock of a device; `None` exactly where it has none.
@@ -66,5 +68,5 @@ pub fn clock_of<L: Ledger>(heap: &Heap, dev: Oid, steps: &mut Steps<L>) -> Optio
     ensures clock { (b : Board) → Shows b heap.now → birth_of result ≡ clock_of b dev.birth }
     ensures live { IfSome result (IsLive heap.now.rows) }
 {
-    child_at(heap, dev, "clk", steps)
+    child_at(heap, dev, PropertyName::Clk.as_str(), steps)
 }

@@ -14,6 +14,7 @@ ghost use Rattle.qo_buses.specs.Recount.{IsRecounted};
 use crate::placing::{is_in_window, overlaps_any, place};
 use crate::slots::number_at;
 use qo_heap::{Heap, Oid, Steps};
+use qo_model::PropertyName;
 use qo_values::{Code, Range};
 use std::sync::ledger::Ledger;
 
@@ -22,7 +23,7 @@ pub fn size_of<L: Ledger>(heap: &Heap, backend: Oid, steps: &mut Steps<L>) -> u6
     requires { IsLive heap.now.rows backend }
     ensures { (b : Board) → Shows b heap.now → result ≡ size_of b backend.birth }
 {
-    number_at(heap, backend, "size", steps).unwrap_or(0)
+    number_at(heap, backend, PropertyName::Size, steps).unwrap_or(0)
 }
 
 /// The range of so many bytes beside some: that which is asked for, or one at the least place.

@@ -3,6 +3,7 @@
 ghost use Rattle.std.specs.Prelude.{◌≡◌, true, Some, IfSome, option_map};
 ghost use Rattle.qo_model.specs.Board.{Board};
 ghost use Rattle.qo_model.specs.Objects.{index_from};
+ghost use Rattle.qo_model.specs.RowNames.{property_name};
 ghost use Rattle.qo_model.specs.Unplug.{is_bus_child, is_child_slot, is_named, left_bus, left_parent, let_go_where, names_kid, take_slot, take_where};
 ghost use Rattle.qo_object.specs.BoardObject.{shown_slot, shown_slots};
 ghost use Rattle.qo_object.specs.Slots.{is_strong, slot_in};
@@ -15,6 +16,7 @@ use crate::devices::bus_of;
 use crate::slots::strong_in;
 use qo_heap::{Heap, Oid, Slot, Steps};
 use qo_life::{drop_hold, let_go};
+use qo_model::PropertyName;
 use qo_values::{ANONYMOUS_BIRTH, PERIPHERAL_BIRTH};
 use std::sync::ledger::Ledger;
 
@@ -67,14 +69,14 @@ fn take_kid<L: Ledger>(heap: &mut Heap, bus: Oid, birth: u64, steps: &mut Steps<
     }
 }
 
-/// Lets the slot of a name of the object of a birth go, where it is there and has one.
-fn let_go_named<L: Ledger>(heap: &mut Heap, birth: u64, name: &str, steps: &mut Steps<L>)
-    ensures { Goes (let_go_where (is_named name.now) birth) heap.old heap.new }
+/// Lets the slot of a property of the object of a birth go, where it is there and has one.
+fn let_go_named<L: Ledger>(heap: &mut Heap, birth: u64, name: PropertyName, steps: &mut Steps<L>)
+    ensures { Goes (let_go_where (is_named (property_name name)) birth) heap.old heap.new }
 {
     let Some(o) = heap.by_birth(birth) else {
         return;
     };
-    let Some(view) = heap.slot(o, name, steps) else {
+    let Some(view) = heap.property(o, name, steps) else {
         return;
     };
     let at = view.at;
@@ -92,7 +94,7 @@ pub fn leave<L: Ledger>(heap: &mut Heap, dev: Oid, steps: &mut Steps<L>)
     heap.reveal_board();
     if let Some(bus) = bus_of(heap, dev, steps) {
         take_kid(heap, bus, dev.birth, steps);
-        let_go_named(heap, dev.birth, "parent_bus", steps);
+        let_go_named(heap, dev.birth, PropertyName::ParentBus, steps);
     }
 }
 

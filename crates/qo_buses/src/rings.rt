@@ -9,6 +9,7 @@ ghost use Rattle.qo_buses.specs.Rings.{claimed_ring};
 use crate::devices::is_realized;
 use crate::slots::text_at;
 use qo_heap::{Heap, Oid, Steps};
+use qo_model::PropertyName;
 use qo_values::Text;
 use std::sync::ledger::Ledger;
 
@@ -25,7 +26,7 @@ pub fn claimed_ring<'h, L: Ledger>(
     if !is_realized(heap, dev, steps) {
         return None;
     }
-    let id = text_at(heap, dev, "chardev", steps)?;
+    let id = text_at(heap, dev, PropertyName::Chardev, steps)?;
     if id.as_str().is_empty() {
         return None;
     }

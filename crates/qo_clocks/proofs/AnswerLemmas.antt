@@ -14,7 +14,7 @@ use Rattle.qo_model.specs.Unplug.{set_named}
 use Rattle.qo_model.proofs.ClockFitLemmas.{fits-new}
 use Rattle.qo_object.specs.BoardObject.{birth_of}
 use Rattle.qo_object.specs.Slots.{with_val}
-use Rattle.qo_heap.specs.Acts.{Acts}
+use Rattle.qo_heap.specs.Acts.{Acts, KeepsCounts}
 use Rattle.qo_heap.specs.Board.{Shows}
 use Rattle.qo_heap.specs.Objects.{Objects}
 use Rattle.qo_clocks.specs.declared.errors.ClockError.{ClockError}
@@ -33,6 +33,9 @@ use Rattle.qo_clocks.proofs.WriteLemmas.{answer-done, answer-over, none-over}
 
 pub acts-after : (v w x : Objects) → w ≡ v → Acts w x → Acts v x
 acts-after v w x e acts = subst (λ (y : Objects). Acts y x) e acts
+
+pub counts-after : (v w x : Objects) → w ≡ v → KeepsCounts w x → KeepsCounts v x
+counts-after v w x e counts = subst (λ (y : Objects). KeepsCounts y x) e counts
 
 pub spread-alike : (v w : Objects) (levels c p q a : ℕ) → v ≡ w → p ≡ q → spread_on v levels c p a ≡ spread_on w levels c q a
 spread-alike v w levels c p q a e f = ap₂ (λ (y : Objects) (k : ℕ). spread_on y levels c k a) e f

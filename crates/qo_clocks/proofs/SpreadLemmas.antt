@@ -1,9 +1,10 @@
 -- Calls of devices leave who goes by whom, and a change spreads place by place.
-use Rattle.std.proofs.Common.{◌≡◌, refl, ap, ap₂, sym, ◌∙◌, ℕ, zero, suc, ◌+◌, ◌≤◌, Bool, true, false, eqb, List, [], ◌∷◌, ◌++◌, map, take, length, filter, find, cond, slice_get, append-nil, Option, Some, None, option_map, option_and_then, IfSome, arith}
+use Rattle.std.proofs.Common.{◌≡◌, refl, ap, ap₂, sym, subst, ◌∙◌, ℕ, zero, suc, ◌+◌, ◌≤◌, Bool, true, false, eqb, List, [], ◌∷◌, ◌++◌, map, take, length, filter, find, cond, slice_get, append-nil, Option, Some, None, option_map, option_and_then, IfSome, arith}
 use Rattle.std.proofs.lemmas.List.{take_all}
 use Rattle.std.specs.List.{cons_option, flat_map}
 use Rattle.std.specs.Option.{option_map_or}
 use Rattle.std.proofs.Math.Path.{fun_ext}
+use Rattle.std.proofs.lemmas.Bool.{eqb-true}
 use Rattle.std.proofs.lemmas.List.Concat.{flat_map-append}
 use Rattle.qo_values.specs.declared.kinds.Act.{Act}
 use Rattle.qo_values.specs.declared.kinds.Act.TheVariants.{Pre, Update}
@@ -12,13 +13,15 @@ use Rattle.qo_slots.specs.declared.keys.Key.{Key}
 use Rattle.qo_heap.specs.Rows.{IsLive, births, object_at}
 use Rattle.qo_model.specs.declared.notes.Deed.TheVariants.{Did}
 use Rattle.qo_model.specs.Depth.{by_depth}
-use Rattle.qo_object.specs.Content.{Content, is_parent}
+use Rattle.qo_object.specs.declared.room.Side.{Side}
+use Rattle.qo_object.specs.Content.{Content, acted_at, is_parent}
 use Rattle.qo_object.specs.BoardObject.{birth_of}
-use Rattle.qo_heap.specs.Acts.{Acts, stilled}
-use Rattle.qo_heap.specs.Objects.{Objects, content_of, parent_of}
+use Rattle.qo_heap.specs.Acts.{Acts, KeepsCounts, counted_in, counts_of, stilled}
+use Rattle.qo_heap.specs.Objects.{Objects, content_of, parent_of, with_edit}
 use Rattle.qo_heap.specs.Moments.{AllTimely, Timely}
 use Rattle.qo_heap.proofs.ActsLemmas.{acts-act, acts-live, acts-none, acts-then}
 use Rattle.qo_heap.proofs.ActsReads.{acts-slots}
+use Rattle.qo_heap.proofs.BoardObjects.{content-edited, content-other}
 use Rattle.qo_heap.proofs.MomentLemmas.{acts-timely}
 use Rattle.qo_clocks.specs.Subtree.{fed_in, goes_by}
 use Rattle.qo_clocks.specs.Periods.{scaled_on}
@@ -112,6 +115,22 @@ module _ (v w : Objects) (acts : Acts v w) where
 pub acted-acts : (act : Act) (n p : ℕ) (v : Objects) → Acts v (acted_on act n p v)
 acted-acts act n p v = acts-act v (record { birth = n; deed = Did act }) n act v.time p
 
+count-kept : (n : ℕ) (f : Content → Content) → ((c : Content) → (f c).side ≡ c.side) → (v : Objects) → KeepsCounts v (with_edit n f v)
+count-kept n f same v m = go (eqb m n) refl
+  where
+    two : (o : Option Content) → option_map counts_of (option_map f o) ≡ option_map counts_of o
+    two None = refl
+    two (Some c) = ap (λ (s : Side). Some (s.count, s.marks)) (same c)
+
+    go : (t : Bool) → eqb m n ≡ t → counted_in (with_edit n f v) m ≡ counted_in v m
+    go true p =
+        subst (λ (k : ℕ). counted_in (with_edit n f v) k ≡ counted_in v k) (sym (eqb-true m n p))
+        (ap (option_map counts_of) (content-edited v n f) ∙ two (content_of v n))
+    go false p = ap (option_map counts_of) (content-other v n m f p)
+
+acted-counts : (act : Act) (n p : ℕ) (v : Objects) → KeepsCounts v (acted_on act n p v)
+acted-counts act n p v = count-kept n (acted_at act v.time p) (λ c. refl) v
+
 pub acted-timely : (act : Act) (n p : ℕ) (v : Objects) → Timely v → Timely (acted_on act n p v)
 acted-timely act n p v all = acts-timely v (record { birth = n; deed = Did act }) n act p all
 
@@ -134,6 +153,17 @@ called-acts x v = go (eqb x.before x.after)
     go true = acts-none v
     go false = by (parent_of v x.clock)
 
+called-counts : (x : Change) (v : Objects) → KeepsCounts v (called_on x v)
+called-counts x v = go (eqb x.before x.after)
+  where
+    by : (o : Option Key) → KeepsCounts v (parent_called x v o)
+    by None = λ m. refl
+    by (Some d) = λ m. acted-counts Update d.birth x.after (acted_on Pre d.birth x.before v) m ∙ acted-counts Pre d.birth x.before v m
+
+    go : (t : Bool) → KeepsCounts v (called_if x v t)
+    go true = λ m. refl
+    go false = by (parent_of v x.clock)
+
 pub called-timely : (x : Change) (v : Objects) → Timely v → Timely (called_on x v)
 called-timely x v all = go (eqb x.before x.after)
   where
@@ -150,6 +180,11 @@ unfolding all_called_on
 all-called-acts [] v = acts-none v
 all-called-acts (x ∷ xs) v = acts-then v (called_on x v) (all_called_on xs (called_on x v)) (called-acts x v) (all-called-acts xs (called_on x v))
 
+all-called-counts : (xs : List Change) (v : Objects) → KeepsCounts v (all_called_on xs v)
+unfolding all_called_on
+all-called-counts [] v m = refl
+all-called-counts (x ∷ xs) v m = all-called-counts xs (called_on x v) m ∙ called-counts x v m
+
 all-called-timely : (xs : List Change) (v : Objects) → Timely v → Timely (all_called_on xs v)
 unfolding all_called_on
 all-called-timely [] v all = all
@@ -158,6 +193,10 @@ all-called-timely (x ∷ xs) v all = all-called-timely xs (called_on x v) (calle
 pub spread-acts : (v : Objects) (levels c before after : ℕ) → Acts v (spread_on v levels c before after)
 unfolding spread_on
 spread-acts v levels c before after = all-called-acts (changes_on v levels c before after) v
+
+pub spread-counts : (v : Objects) (levels c before after : ℕ) → KeepsCounts v (spread_on v levels c before after)
+unfolding spread_on
+spread-counts v levels c before after = all-called-counts (changes_on v levels c before after) v
 
 pub spread-timely : (v : Objects) (levels c before after : ℕ) → Timely v → Timely (spread_on v levels c before after)
 unfolding spread_on

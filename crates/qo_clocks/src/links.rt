@@ -5,12 +5,14 @@ ghost use Rattle.qo_values.specs.declared.properties.Val.TheVariants as val;
 ghost use Rattle.qo_heap.specs.Rows.{IsLive};
 ghost use Rattle.qo_model.specs.Board.{Board};
 ghost use Rattle.qo_model.specs.Plug.{with_source};
+ghost use Rattle.qo_model.specs.RowNames.{property_name};
 ghost use Rattle.qo_model.specs.Unplug.{disconnected};
 ghost use Rattle.qo_object.specs.Slots.{with_val};
 ghost use Rattle.qo_heap.specs.Board.{Shows};
 ghost use Rattle.qo_clocks.specs.Links.{accepts, changed_named, fitted_on, is_weak, unseen_on};
 
 use qo_heap::{Heap, Oid, Slot, Steps};
+use qo_model::PropertyName;
 use qo_types::TypeTable;
 use qo_values::Val;
 use std::sync::ledger::Ledger;
@@ -30,14 +32,14 @@ fn accepts<L: Ledger>(heap: &Heap, slot: &Slot, target: Oid, steps: &mut Steps<L
     }
 }
 
-/// A link of a name of an object is pointed at a target, where it accepts it.
-fn link<L: Ledger>(heap: &mut Heap, c: Oid, name: &str, target: Oid, steps: &mut Steps<L>)
+/// A link of an object is pointed at a target, where it accepts it.
+fn link<L: Ledger>(heap: &mut Heap, c: Oid, name: PropertyName, target: Oid, steps: &mut Steps<L>)
     requires live { IsLive heap.old.rows c }
     requires target { IsLive heap.old.rows target }
-    ensures { heap.new ≡ changed_named c.birth name.now (fitted_on heap.old target) heap.old }
+    ensures { heap.new ≡ changed_named c.birth (property_name name) (fitted_on heap.old target) heap.old }
 {
     heap.reveal_invariant();
-    let Some(link) = heap.slot(c, name, steps) else {
+    let Some(link) = heap.property(c, name, steps) else {
         return;
     };
     let at = link.at;
@@ -54,7 +56,7 @@ pub fn connect<L: Ledger>(heap: &mut Heap, c: Oid, source: Oid, steps: &mut Step
     ensures shown { (b : Board) → Shows b heap.old → Shows (with_source source.birth (Some c.birth) b) heap.new }
     ensures now { heap.new ≡ changed_named c.birth (codes "source") (fitted_on heap.old source) heap.old }
 {
-    link(heap, c, "source", source, steps);
+    link(heap, c, PropertyName::Source, source, steps);
 }
 
 /// Whether a slot is a weak link.
@@ -64,13 +66,13 @@ fn is_weak(slot: &Slot) -> bool
     matches!(slot, Slot::Link { strong: false, .. })
 }
 
-/// A weak link of a name of an object is emptied.
-fn unlink<L: Ledger>(heap: &mut Heap, c: Oid, name: &str, steps: &mut Steps<L>)
+/// A weak link of an object is emptied.
+fn unlink<L: Ledger>(heap: &mut Heap, c: Oid, name: PropertyName, steps: &mut Steps<L>)
     requires { IsLive heap.old.rows c }
-    ensures { heap.new ≡ changed_named c.birth name.now unseen_on heap.old }
+    ensures { heap.new ≡ changed_named c.birth (property_name name) unseen_on heap.old }
 {
     heap.reveal_invariant();
-    let Some(link) = heap.slot(c, name, steps) else {
+    let Some(link) = heap.property(c, name, steps) else {
         return;
     };
     let at = link.at;
@@ -79,12 +81,18 @@ fn unlink<L: Ledger>(heap: &mut Heap, c: Oid, name: &str, steps: &mut Steps<L>)
     }
 }
 
-/// A plain slot of a name of an object is given a number.
-pub fn set_number<L: Ledger>(heap: &mut Heap, c: Oid, name: &str, number: u64, steps: &mut Steps<L>)
+/// A plain property of an object is given a number.
+pub fn set_number<L: Ledger>(
+    heap: &mut Heap,
+    c: Oid,
+    name: PropertyName,
+    number: u64,
+    steps: &mut Steps<L>,
+)
     requires { IsLive heap.old.rows c }
-    ensures { heap.new ≡ changed_named c.birth name.now (with_val (val.Uint number)) heap.old }
+    ensures { heap.new ≡ changed_named c.birth (property_name name) (with_val (val.Uint number)) heap.old }
 {
-    let Some(slot) = heap.slot(c, name, steps) else {
+    let Some(slot) = heap.property(c, name, steps) else {
         return;
     };
     let at = slot.at;
@@ -98,6 +106,6 @@ pub fn disconnect<L: Ledger>(heap: &mut Heap, c: Oid, steps: &mut Steps<L>)
     ensures shown { (b : Board) → Shows b heap.old → Shows (disconnected (Some c.birth) b) heap.new }
     ensures now { heap.new ≡ changed_named c.birth (codes "period") (with_val (val.Uint 0)) (changed_named c.birth (codes "source") unseen_on heap.old) }
 {
-    unlink(heap, c, "source", steps);
-    set_number(heap, c, "period", 0, steps);
+    unlink(heap, c, PropertyName::Source, steps);
+    set_number(heap, c, PropertyName::Period, 0, steps);
 }

@@ -1,24 +1,26 @@
 //! What is read of a clock: its numbers and its source.
 
 ghost use Rattle.std.specs.Prelude.{◌≡◌, IfSome, option_map, unwrap_or};
+ghost use Rattle.qo_model.specs.RowNames.{property_name};
 ghost use Rattle.qo_heap.specs.Rows.{IsLive};
 ghost use Rattle.qo_clocks.specs.Reads.{child_in, clock_on, div_on, mul_on, number_in_slot, number_on, own_on, slot_on, source_on, weak_target};
 
 use qo_heap::{Heap, Oid, Slot, Steps};
+use qo_model::PropertyName;
 use qo_values::Val;
 use std::sync::ledger::Ledger;
 
-/// What stands in the slot of a name of an object; `None` exactly where it has none.
+/// What stands in the slot of a property of an object; `None` exactly where it has none.
 pub fn slot_of<'a, L: Ledger>(
     heap: &'a Heap,
     o: Oid,
-    name: &str,
+    name: PropertyName,
     steps: &mut Steps<L>,
 ) -> Option<&'a Slot>
     requires { IsLive heap.now.rows o }
-    ensures { option_map (λ s. s.now) result ≡ slot_on heap.now o.birth name.now }
+    ensures { option_map (λ s. s.now) result ≡ slot_on heap.now o.birth (property_name name) }
 {
-    let view = heap.slot(o, name, steps)?;
+    let view = heap.property(o, name, steps)?;
     Some(view.what)
 }
 
@@ -32,10 +34,15 @@ fn number_in(slot: &Slot) -> Option<u64>
     }
 }
 
-/// The number in the slot of a name of an object; `None` where there is none.
-fn number_of<L: Ledger>(heap: &Heap, o: Oid, name: &str, steps: &mut Steps<L>) -> Option<u64>
+/// The number in the slot of a property of an object; `None` where there is none.
+fn number_of<L: Ledger>(
+    heap: &Heap,
+    o: Oid,
+    name: PropertyName,
+    steps: &mut Steps<L>,
+) -> Option<u64>
     requires { IsLive heap.now.rows o }
-    ensures { result ≡ number_on heap.now o.birth name.now }
+    ensures { result ≡ number_on heap.now o.birth (property_name name) }
 {
     number_in(slot_of(heap, o, name, steps)?)
 }
@@ -45,7 +52,7 @@ pub fn own_period<L: Ledger>(heap: &Heap, c: Oid, steps: &mut Steps<L>) -> u64
     requires { IsLive heap.now.rows c }
     ensures { result ≡ own_on heap.now c.birth }
 {
-    number_of(heap, c, "period", steps).unwrap_or(0)
+    number_of(heap, c, PropertyName::Period, steps).unwrap_or(0)
 }
 
 /// By what a clock multiplies its period for the clocks that go by it.
@@ -53,7 +60,7 @@ pub fn mul<L: Ledger>(heap: &Heap, c: Oid, steps: &mut Steps<L>) -> u64
     requires { IsLive heap.now.rows c }
     ensures { result ≡ mul_on heap.now c.birth }
 {
-    number_of(heap, c, "mul", steps).unwrap_or(1)
+    number_of(heap, c, PropertyName::Mul, steps).unwrap_or(1)
 }
 
 /// By what it then divides.
@@ -61,7 +68,7 @@ pub fn div<L: Ledger>(heap: &Heap, c: Oid, steps: &mut Steps<L>) -> u64
     requires { IsLive heap.now.rows c }
     ensures { result ≡ div_on heap.now c.birth }
 {
-    number_of(heap, c, "div", steps).unwrap_or(1)
+    number_of(heap, c, PropertyName::Div, steps).unwrap_or(1)
 }
 
 /// The target of a weak link.
@@ -85,7 +92,7 @@ pub fn source_of<L: Ledger>(heap: &Heap, c: Oid, steps: &mut Steps<L>) -> Option
     ensures live { IfSome result (IsLive heap.now.rows) }
 {
     heap.reveal_invariant();
-    weak_target(slot_of(heap, c, "source", steps)?)
+    weak_target(slot_of(heap, c, PropertyName::Source, steps)?)
 }
 
 /// The child in a slot.
@@ -105,5 +112,5 @@ pub fn clock_of<L: Ledger>(heap: &Heap, dev: Oid, steps: &mut Steps<L>) -> Optio
     ensures live { IfSome result (IsLive heap.now.rows) }
 {
     heap.reveal_invariant();
-    child_in(slot_of(heap, dev, "clk", steps)?)
+    child_in(slot_of(heap, dev, PropertyName::Clk, steps)?)
 }

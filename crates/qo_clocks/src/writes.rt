@@ -8,8 +8,9 @@ ghost use Rattle.qo_slots.specs.declared.keys.Key.{Key};
 ghost use Rattle.qo_model.specs.Board.{Board};
 ghost use Rattle.qo_model.specs.ClockChanges.{clock_scaled, clock_set};
 ghost use Rattle.qo_model.specs.Clocks.{ClocksFit};
+ghost use Rattle.qo_model.specs.RowNames.{property_name};
 ghost use Rattle.qo_heap.specs.Rows.{IsLive};
-ghost use Rattle.qo_heap.specs.Acts.{Acts};
+ghost use Rattle.qo_heap.specs.Acts.{Acts, KeepsCounts};
 ghost use Rattle.qo_heap.specs.Board.{Shows};
 ghost use Rattle.qo_heap.specs.Book.{IsBook};
 ghost use Rattle.qo_heap.specs.Moments.{Timely};
@@ -22,20 +23,21 @@ use crate::periods::{child_period, fitting, period, scaled};
 use crate::reads::{own_period, slot_of, source_of};
 use crate::spread::spread;
 use qo_heap::{Heap, Oid, Slot, Steps};
+use qo_model::PropertyName;
 use std::sync::ledger::Ledger;
 
-/// What the slot of a name of a clock will read once a number is written there: the number where the
+/// What the slot of a property of a clock will read once a number is written there: the number where the
 /// slot is plain, else what is read where there is none.
 fn written<L: Ledger>(
     heap: &Heap,
     c: Oid,
-    name: &str,
+    name: PropertyName,
     number: u64,
     none: u64,
     steps: &mut Steps<L>,
 ) -> u64
     requires { IsLive heap.now.rows c }
-    ensures { result ≡ written_on heap.now c.birth name.now number none }
+    ensures { result ≡ written_on heap.now c.birth (property_name name) number none }
 {
     match slot_of(heap, c, name, steps) {
         Some(Slot::Plain(_)) => number,
@@ -83,6 +85,7 @@ pub fn set<L: Ledger>(
     requires timely { Timely heap.old }
     ensures answer { (b : Board) → Shows b heap.old → ClocksFit b → Answers heap.new result (clock_set b c.birth period) }
     ensures acts { OnOk result (Acts (with_period c.birth period heap.old) heap.new) }
+    ensures counts { OnOk result (KeepsCounts (with_period c.birth period heap.old) heap.new) }
     ensures err { OnErr result (heap.new ≡ heap.old) }
     ensures names { (key : Key) → IsLive heap.old.rows key → IsLive heap.new.rows key }
     ensures book { (out : List Claimed) → IsBook out heap.old → IsBook out heap.new }
@@ -95,12 +98,12 @@ pub fn set<L: Ledger>(
     heap.reveal_invariant();
     let levels = heap.live() + 1;
     let before = scaled(heap, c, own_period(heap, c, steps), steps);
-    let own = written(heap, c, "period", period, 0, steps);
+    let own = written(heap, c, PropertyName::Period, period, 0, steps);
     let child = child_period(heap, c, own, steps);
     let Some(after) = all_fit(heap, c, child, levels, steps) else {
         return Err(ClockError::Overflow);
     };
-    set_number(heap, c, "period", period, steps);
+    set_number(heap, c, PropertyName::Period, period, steps);
     spread(heap, c, before, after, levels, steps);
     Ok(())
 }
@@ -125,6 +128,7 @@ pub fn set_mul_div<L: Ledger>(
     requires timely { Timely heap.old }
     ensures answer { (b : Board) → Shows b heap.old → ClocksFit b → Answers heap.new result (clock_scaled b c.birth mul div) }
     ensures acts { OnOk result (Acts (with_scale c.birth mul div heap.old) heap.new) }
+    ensures counts { OnOk result (KeepsCounts (with_scale c.birth mul div heap.old) heap.new) }
     ensures err { OnErr result (heap.new ≡ heap.old) }
     ensures names { (key : Key) → IsLive heap.old.rows key → IsLive heap.new.rows key }
     ensures book { (out : List Claimed) → IsBook out heap.old → IsBook out heap.new }
@@ -138,13 +142,17 @@ pub fn set_mul_div<L: Ledger>(
     let levels = heap.live() + 1;
     let own = period(heap, c, steps);
     let before = scaled(heap, c, own, steps);
-    let mul_after = written(heap, c, "mul", mul, 1, steps);
-    let child = fitting(mul_after, written(heap, c, "div", div, 1, steps), own);
+    let mul_after = written(heap, c, PropertyName::Mul, mul, 1, steps);
+    let child = fitting(
+        mul_after,
+        written(heap, c, PropertyName::Div, div, 1, steps),
+        own,
+    );
     let Some(after) = all_fit(heap, c, child, levels, steps) else {
         return Err(ClockError::Overflow);
     };
-    set_number(heap, c, "mul", mul, steps);
-    set_number(heap, c, "div", div, steps);
+    set_number(heap, c, PropertyName::Mul, mul, steps);
+    set_number(heap, c, PropertyName::Div, div, steps);
     spread(heap, c, before, after, levels, steps);
     Ok(())
 }

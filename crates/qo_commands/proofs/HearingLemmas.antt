@@ -11,6 +11,7 @@ use Rattle.qo_realize.specs.Parts.{Parts}
 use Rattle.qo_realize.specs.Representation.{Stands}
 use Rattle.qo_commands.specs.Hearing.{Came, Outcome, acted, answered, heard, heard_act, outcome_of, notice_answer}
 use Rattle.qo_commands.specs.declared.hearing.Heard.{Heard}
+use Rattle.qo_commands.specs.declared.touched.Touched.TheVariants.{Nothing}
 
 pub heard-none : (b : Board) (line : List ℕ) → guest_line line ≡ None → heard b line ≡ answered b NoLine
 unfolding heard
@@ -31,7 +32,7 @@ none-of (Err e) not = refl
 
 -- an answer that leaves the board
 pub came-answered : (b : Board) (d : Outcome) (answer : GuestAnswer) (h : Heard) (p : Parts) → d ≡ answered b answer
-    → h ≡ record { answer = answer; event = None; ends = false } → Stands b p → Came d h p
+    → h ≡ record { answer = answer; event = None; ends = false; touched = Nothing } → Stands b p → Came d h p
 came-answered b d answer h p is told stands = subst (λ (x : Outcome). Came x h p) (sym is) (stands, ap (outcome_of b) told)
 
 pub came-as : (d e : Outcome) (h : Heard) (p : Parts) → d ≡ e → Came e h p → Came d h p

@@ -2,8 +2,10 @@ pub mod Changes
 pub mod Commands
 pub mod Hearing
 pub mod Interrupts
+pub mod KeptViews
 pub mod LineRefusals
 pub mod Lines
 pub mod Memory
 pub mod Refusals
+pub mod Touched
 pub mod Views

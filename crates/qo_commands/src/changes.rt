@@ -1,23 +1,27 @@
 //! Commands that change the board, or are refused.
 
-ghost use Rattle.std.specs.Prelude.{◌≡◌, [], ◌∷◌, false, true, if◌then◌else◌, Ok, option_map};
+ghost use Rattle.std.specs.Prelude.{◌≡◌, [], ◌∷◌, false, true, if◌then◌else◌, IfOk, Ok, option_map};
 ghost use Rattle.qo_model.specs.Board.{Board as Tree};
 ghost use Rattle.qo_requests.specs.declared.calls.Addition.TheVariants as addition;
 ghost use Rattle.qo_requests.specs.declared.calls.Alteration.TheVariants as alteration;
 ghost use Rattle.qo_requests.specs.declared.calls.Change.TheVariants as change;
 ghost use Rattle.qo_commands.specs.Changes.{Alters, Came, Changes};
-ghost use Rattle.qo_commands.specs.Commands.{altered, empty, guest_reply};
+ghost use Rattle.qo_commands.specs.Commands.{altered, empty, guest_reply, made};
+ghost use Rattle.qo_commands.specs.Touched.{Touches};
+ghost use Rattle.qo_commands.specs.declared.touched.Touched.TheVariants.{Nothing};
 ghost use Rattle.qo_commands.specs.Views.{done_of};
 ghost use Rattle.qo_commands.specs.Hearing.{outcome_of};
 ghost use Rattle.qo_commands.specs.Interrupts.{HasLines};
+ghost use Rattle.qo_commands.specs.KeptViews.{HasView, is_guest_line};
 ghost use Rattle.qo_realize.specs.Representation.{Stands};
 
-use crate::commands::{Done, ReplyBody, done_by, outcome_of, refused, returned};
+use crate::commands::{Done, ReplyBody, done_by, having_touched, outcome_of, refused};
 use crate::hearing::{Heard, hear};
 use crate::rings::{add_ring, read_ring, remove_ring, write_ring};
+use crate::touched::Touched;
 use qo_guest::GuestAnswer;
 use qo_heap::Steps;
-use qo_layout::Lines;
+use qo_layout::{KeptView, Lines};
 use qo_plug::{AddRefusal, DeviceOptions};
 use qo_realize::Board;
 use qo_replies::Event;
@@ -35,16 +39,19 @@ fn set<L: Ledger>(
     val: &Val,
     steps: &mut Steps<L>,
 ) -> Result<Done, AllocError>
-    ensures { (b : Tree) → Stands b board.old → Alters b (altered b (alteration.QomSet path.now name.now val.now)) result board.new }
+    ensures came { (b : Tree) → Stands b board.old → Alters b (altered b (alteration.QomSet path.now name.now val.now)) result board.new }
+    ensures touched { (b : Tree) → Stands b board.old → IfOk result (λ d. Touches d.touched b (altered b (alteration.QomSet path.now name.now val.now)).board) }
 {
-    outcome_of(board.qom_set(path, name, val, alloc, steps))
+    let answer = board.qom_set(path, name, val, alloc, steps);
+    outcome_of(answer, Touched::Devices)
 }
 
 /// Removes the object of an id.
 fn remove<L: Ledger>(board: &mut Board, id: &str, steps: &mut Steps<L>) -> Done
-    ensures { (b : Tree) → Stands b board.old → Came (altered b (alteration.ObjectDel id.now)) result board.new }
+    ensures came { (b : Tree) → Stands b board.old → Came (altered b (alteration.ObjectDel id.now)) result board.new }
+    ensures touched { (b : Tree) → Stands b board.old → Touches result.touched b (altered b (alteration.ObjectDel id.now)).board }
 {
-    done_by(board.object_del(id, steps))
+    done_by(board.object_del(id, steps), Touched::Devices)
 }
 
 /// Adds an object of a type's name under an id, with properties.
@@ -56,16 +63,19 @@ fn add<L: Ledger>(
     props: &PropList,
     steps: &mut Steps<L>,
 ) -> Result<Done, AllocError>
-    ensures { (b : Tree) → Stands b board.old → Changes b (change.Add (addition.ObjectAdd driver.now id.now props.now)) result board.new }
+    ensures came { (b : Tree) → Stands b board.old → Changes b (change.Add (addition.ObjectAdd driver.now id.now props.now)) result board.new }
+    ensures touched { (b : Tree) → Stands b board.old → IfOk result (λ d. Touches d.touched b (made b (change.Add (addition.ObjectAdd driver.now id.now props.now))).board) }
 {
-    outcome_of(board.object_add(driver, id, props, alloc, steps))
+    let answer = board.object_add(driver, id, props, alloc, steps);
+    outcome_of(answer, Touched::Devices)
 }
 
 /// Cuts the strong links of the detached object of a birth.
 fn sever<L: Ledger>(board: &mut Board, birth: u64, steps: &mut Steps<L>) -> Done
-    ensures { (b : Tree) → Stands b board.old → Came (altered b (alteration.XSever birth)) result board.new }
+    ensures came { (b : Tree) → Stands b board.old → Came (altered b (alteration.XSever birth)) result board.new }
+    ensures touched { (b : Tree) → Stands b board.old → Touches result.touched b (altered b (alteration.XSever birth)).board }
 {
-    done_by(board.sever(birth, steps))
+    done_by(board.sever(birth, steps), Touched::Devices)
 }
 
 /// The words of a text, if there is one.
@@ -89,7 +99,8 @@ fn plug<L: Ledger>(
     props: &PropList,
     steps: &mut Steps<L>,
 ) -> Result<Done, AllocError>
-    ensures { (b : Tree) → Stands b board.old → Changes b (change.Add (addition.DeviceAdd driver.now (option_map (λ t. t.now) id.entry) (option_map (λ t. t.now) bus.entry) props.now)) result board.new }
+    ensures came { (b : Tree) → Stands b board.old → Changes b (change.Add (addition.DeviceAdd driver.now (option_map (λ t. t.now) id.entry) (option_map (λ t. t.now) bus.entry) props.now)) result board.new }
+    ensures touched { (b : Tree) → Stands b board.old → IfOk result (λ d. Touches d.touched b (made b (change.Add (addition.DeviceAdd driver.now (option_map (λ t. t.now) id.entry) (option_map (λ t. t.now) bus.entry) props.now))).board) }
 {
     let options = DeviceOptions {
         driver,
@@ -98,7 +109,7 @@ fn plug<L: Ledger>(
         props,
     };
     match board.add(&options, alloc, steps) {
-        Ok(_) => Ok(returned(ReplyBody::Empty)),
+        Ok(_) => Ok(having_touched(Touched::Devices, ReplyBody::Empty)),
         Err(AddRefusal::Refused { code, .. }) => Ok(refused(code)),
         Err(AddRefusal::Memory) => Err(AllocError),
     }
@@ -106,14 +117,16 @@ fn plug<L: Ledger>(
 
 /// Asks for the removal of the device that a text is of.
 fn unplug<L: Ledger>(board: &mut Board, id: &str, steps: &mut Steps<L>) -> Done
-    ensures { (b : Tree) → Stands b board.old → Came (altered b (alteration.DeviceDel id.now)) result board.new }
+    ensures came { (b : Tree) → Stands b board.old → Came (altered b (alteration.DeviceDel id.now)) result board.new }
+    ensures touched { (b : Tree) → Stands b board.old → Touches result.touched b (altered b (alteration.DeviceDel id.now)).board }
 {
-    done_by(board.ask_removal(id, steps))
+    done_by(board.ask_removal(id, steps), Touched::Nothing)
 }
 
 /// What a line of the guest comes to as a command: one that is none is refused.
 fn guest_reply(heard: Heard) -> Done
-    ensures { (b : Tree) → done_of b result ≡ guest_reply (outcome_of b heard) }
+    ensures done { (b : Tree) → done_of b result ≡ guest_reply (outcome_of b heard) }
+    ensures touched { result.touched ≡ heard.touched }
 {
     let result = match heard.answer {
         GuestAnswer::NoLine => Err(Code::E54),
@@ -123,6 +136,7 @@ fn guest_reply(heard: Heard) -> Done
         result,
         event: heard.event,
         ends: heard.ends,
+        touched: heard.touched,
     }
 }
 
@@ -131,75 +145,88 @@ fn guest<L: Ledger>(
     alloc: Global,
     board: &mut Board,
     lines: &Lines,
+    view: &mut KeptView,
     line: &str,
     steps: &mut Steps<L>,
 ) -> Result<Done, AllocError>
-    requires { HasLines board.old lines.now }
-    ensures { (b : Tree) → Stands b board.old → Alters b (altered b (alteration.XGuest line.now)) result board.new }
+    requires lines { HasLines board.old lines.now }
+    requires view { HasView board.old view.old }
+    ensures came { (b : Tree) → Stands b board.old → Alters b (altered b (alteration.XGuest line.now)) result board.new }
+    ensures touched { (b : Tree) → Stands b board.old → IfOk result (λ d. Touches d.touched b (altered b (alteration.XGuest line.now)).board) }
+    ensures view { HasView board.new view.new }
 {
-    let heard = hear(board, lines, line.as_bytes(), alloc, steps)?;
+    let heard = hear(board, lines, view, line.as_bytes(), alloc, steps)?;
     Ok(guest_reply(heard))
 }
 
 /// The machine runs, or stands still: it is told of where that is a change.
 fn switched(changes: bool, event: Event) -> Done
-    ensures { (b : Tree) → done_of b result ≡ record { result = Ok empty; board = b; events = if changes then event ∷ [] else []; ends = false } }
+    ensures done { (b : Tree) → done_of b result ≡ record { result = Ok empty; board = b; events = if changes then event ∷ [] else []; ends = false } }
+    ensures touched { result.touched ≡ Nothing }
 {
     Done {
         result: Ok(ReplyBody::Empty),
         event: if changes { Some(event) } else { None },
         ends: false,
+        touched: Touched::Nothing,
     }
 }
 
 /// The machine stops.
 fn stop(board: &mut Board) -> Done
-    ensures { (b : Tree) → Stands b board.old → Came (altered b alteration.Stop) result board.new }
+    ensures came { (b : Tree) → Stands b board.old → Came (altered b alteration.Stop) result board.new }
+    ensures touched { (b : Tree) → Stands b board.old → Touches result.touched b (altered b alteration.Stop).board }
 {
     switched(board.set_running(false), Event::Stop)
 }
 
 /// The machine runs again.
 fn cont(board: &mut Board) -> Done
-    ensures { (b : Tree) → Stands b board.old → Came (altered b alteration.Cont) result board.new }
+    ensures came { (b : Tree) → Stands b board.old → Came (altered b alteration.Cont) result board.new }
+    ensures touched { (b : Tree) → Stands b board.old → Touches result.touched b (altered b alteration.Cont).board }
 {
     switched(board.set_running(true), Event::Resume)
 }
 
 /// The virtual time goes on by so many ns, where the machine runs.
 fn step(board: &mut Board, ns: u64) -> Done
-    ensures { (b : Tree) → Stands b board.old → Came (altered b (alteration.XStep ns)) result board.new }
+    ensures came { (b : Tree) → Stands b board.old → Came (altered b (alteration.XStep ns)) result board.new }
+    ensures touched { (b : Tree) → Stands b board.old → Touches result.touched b (altered b (alteration.XStep ns)).board }
 {
     match board.advance(ns) {
-        Ok(now) => returned(ReplyBody::Time(now)),
+        Ok(now) => having_touched(Touched::Registers, ReplyBody::Time(now)),
         Err(code) => refused(code),
     }
 }
 
 /// The whole board is reset, and sessions are told so.
 fn reset<L: Ledger>(board: &mut Board, steps: &mut Steps<L>) -> Done
-    ensures { (b : Tree) → Stands b board.old → Came (altered b alteration.SystemReset) result board.new }
+    ensures came { (b : Tree) → Stands b board.old → Came (altered b alteration.SystemReset) result board.new }
+    ensures touched { (b : Tree) → Stands b board.old → Touches result.touched b (altered b alteration.SystemReset).board }
 {
     board.system_reset(steps);
     Done {
         result: Ok(ReplyBody::Empty),
         event: Some(Event::Reset { guest: false }),
         ends: false,
+        touched: Touched::Devices,
     }
 }
 
 /// Holds the object at a path in reset.
 fn hold<L: Ledger>(board: &mut Board, path: &str, steps: &mut Steps<L>) -> Result<Done, AllocError>
-    ensures { (b : Tree) → Stands b board.old → Alters b (altered b (alteration.XResetHold path.now)) result board.new }
+    ensures came { (b : Tree) → Stands b board.old → Alters b (altered b (alteration.XResetHold path.now)) result board.new }
+    ensures touched { (b : Tree) → Stands b board.old → IfOk result (λ d. Touches d.touched b (altered b (alteration.XResetHold path.now)).board) }
 {
-    outcome_of(board.hold(path, steps))
+    outcome_of(board.hold(path, steps), Touched::Registers)
 }
 
 /// Releases a hold on the object at a path.
 fn release<L: Ledger>(board: &mut Board, path: &str, steps: &mut Steps<L>) -> Done
-    ensures { (b : Tree) → Stands b board.old → Came (altered b (alteration.XResetRelease path.now)) result board.new }
+    ensures came { (b : Tree) → Stands b board.old → Came (altered b (alteration.XResetRelease path.now)) result board.new }
+    ensures touched { (b : Tree) → Stands b board.old → Touches result.touched b (altered b (alteration.XResetRelease path.now)).board }
 {
-    done_by(board.release(path, steps))
+    done_by(board.release(path, steps), Touched::Registers)
 }
 
 /// A command that makes objects. Where it is refused the board is as it was, but for an attempt that
@@ -211,7 +238,8 @@ fn extend<L: Ledger>(
     addition: &Addition,
     steps: &mut Steps<L>,
 ) -> Result<Done, AllocError>
-    ensures { (b : Tree) → Stands b board.old → Changes b (change.Add addition.now) result board.new }
+    ensures came { (b : Tree) → Stands b board.old → Changes b (change.Add addition.now) result board.new }
+    ensures touched { (b : Tree) → Stands b board.old → IfOk result (λ d. Touches d.touched b (made b (change.Add addition.now)).board) }
 {
     match addition {
         Addition::ObjectAdd { driver, id, props } => {
@@ -234,18 +262,31 @@ fn extend<L: Ledger>(
     }
 }
 
+/// Whether a command is a line of the guest, which itself keeps what it can of the view.
+fn is_guest_line(alteration: &Alteration) -> bool
+    ensures { result ≡ is_guest_line alteration.now }
+{
+    matches!(alteration, Alteration::XGuest { .. })
+}
+
 /// A command that changes the board and makes no object. Where it is refused the board is as it was.
 /// The error is want of memory; the board is then as it was too.
+#[tactic(auto, using(crate::proofs::KeptViewLemmas::view_none))]
 fn alter<L: Ledger>(
     alloc: Global,
     board: &mut Board,
     lines: &Lines,
+    view: &mut KeptView,
     alteration: &Alteration,
     steps: &mut Steps<L>,
 ) -> Result<Done, AllocError>
-    requires { HasLines board.old lines.now }
-    ensures { (b : Tree) → Stands b board.old → Alters b (altered b alteration.now) result board.new }
+    requires lines { HasLines board.old lines.now }
+    requires view { HasView board.old view.old }
+    ensures came { (b : Tree) → Stands b board.old → Alters b (altered b alteration.now) result board.new }
+    ensures touched { (b : Tree) → Stands b board.old → IfOk result (λ d. Touches d.touched b (altered b alteration.now).board) }
+    ensures view { HasView board.new view.new }
 {
+    view.keep_if(is_guest_line(alteration));
     match alteration {
         Alteration::QomSet {
             path,
@@ -269,7 +310,7 @@ fn alter<L: Ledger>(
             payload,
             format,
         } => Ok(write_ring(board, device.as_str(), payload.as_str(), *format)),
-        Alteration::XGuest { line } => guest(alloc, board, lines, line.as_str(), steps),
+        Alteration::XGuest { line } => guest(alloc, board, lines, view, line.as_str(), steps),
         Alteration::Stop => Ok(stop(board)),
         Alteration::Cont => Ok(cont(board)),
         Alteration::XStep { ns } => Ok(step(board, *ns)),
@@ -281,20 +322,28 @@ fn alter<L: Ledger>(
 
 /// A command that changes the board, or is refused. Events on devices wait on the board after it.
 /// Where it is refused the board is as it was, but for an attempt of one that makes objects, which was
-/// given up. `lines` are the interrupt lines of the board. The error is want of memory; the board is then as
-/// it was, or after an attempt that was cut.
+/// given up. `lines` are the interrupt lines of the board, and `view` is what is kept of its view, also after the
+/// command. The error is want of memory; the board is then as it was, or after an attempt that was cut.
+#[tactic(auto, using(crate::proofs::KeptViewLemmas::view_none))]
 pub fn change<L: Ledger>(
     alloc: Global,
     board: &mut Board,
     lines: &Lines,
+    view: &mut KeptView,
     change: &Change,
     steps: &mut Steps<L>,
 ) -> Result<Done, AllocError>
-    requires { HasLines board.old lines.now }
-    ensures { (b : Tree) → Stands b board.old → Changes b change.now result board.new }
+    requires lines { HasLines board.old lines.now }
+    requires view { HasView board.old view.old }
+    ensures came { (b : Tree) → Stands b board.old → Changes b change.now result board.new }
+    ensures touched { (b : Tree) → Stands b board.old → IfOk result (λ d. Touches d.touched b (made b change.now).board) }
+    ensures view { HasView board.new view.new }
 {
     match change {
-        Change::Add(addition) => extend(alloc, board, addition, steps),
-        Change::Alter(alteration) => alter(alloc, board, lines, alteration, steps),
+        Change::Add(addition) => {
+            view.forget();
+            extend(alloc, board, addition, steps)
+        }
+        Change::Alter(alteration) => alter(alloc, board, lines, view, alteration, steps),
     }
 }

@@ -1,6 +1,6 @@
 //! Commands that leave the board: what each returns, or the code that refuses it.
 
-ghost use Rattle.std.specs.Prelude.{◌≡◌, [], ◌∷◌, false, true, Ok, IfOk};
+ghost use Rattle.std.specs.Prelude.{◌≡◌, [], ◌∷◌, false, true, Err, Ok, IfOk};
 ghost use Rattle.qo_model.specs.Board.{Board as Tree};
 ghost use Rattle.serde_json.specs.View.{view};
 ghost use Rattle.serde_json.specs.Written.{has_float};
@@ -9,6 +9,8 @@ ghost use Rattle.qo_values.specs.declared.codes.Code.{Code};
 ghost use Rattle.qo_commands.specs.Changes.{ComesTo, by_answer};
 ghost use Rattle.qo_commands.specs.Commands.{empty, queried, refused_with, returned};
 ghost use Rattle.qo_realize.specs.Representation.{Stands};
+ghost use Rattle.qo_commands.specs.Touched.{unless_refused};
+ghost use Rattle.qo_commands.specs.declared.touched.Touched.TheVariants.{Nothing};
 ghost use Rattle.qo_commands.specs.Views.{body_data, done_of};
 
 use crate::detached::query_detached;
@@ -17,6 +19,7 @@ use crate::listings::list;
 use crate::memmap::query_memmap;
 use crate::notes::query_notes;
 use crate::query_commands::commands;
+use crate::touched::Touched;
 use crate::types::{list_properties, list_types};
 use crate::values::get;
 use qo_guest::GuestAnswer;
@@ -58,16 +61,33 @@ pub struct Done {
     pub event: Option<Event>,
     /// Whether it ends the run.
     pub ends: bool,
+    /// What it touched of what interrupt lines hang on.
+    pub touched: Touched,
 }
 
-/// A command that returns something.
-pub(crate) fn returned(body: ReplyBody) -> Done
-    ensures { (b : Tree) → done_of b result ≡ returned b (body_data b body) }
+/// A command that returns something, and touched this.
+pub(crate) fn having_touched(touched: Touched, body: ReplyBody) -> Done
+    ensures done { (b : Tree) → done_of b result ≡ returned b (body_data b body) }
+    ensures touched { result.touched ≡ unless_refused touched result.result }
 {
     Done {
         result: Ok(body),
         event: None,
         ends: false,
+        touched,
+    }
+}
+
+/// A command that returns something, and touched nothing.
+pub(crate) fn returned(body: ReplyBody) -> Done
+    ensures done { (b : Tree) → done_of b result ≡ returned b (body_data b body) }
+    ensures touched { result.touched ≡ Nothing }
+{
+    Done {
+        result: Ok(body),
+        event: None,
+        ends: false,
+        touched: Touched::Nothing,
     }
 }
 
@@ -81,32 +101,38 @@ pub(crate) fn returned_value(value: Value) -> Done
 
 /// A command that is refused.
 pub(crate) fn refused(code: Code) -> Done
-    ensures { (b : Tree) → done_of b result ≡ refused_with b code }
+    ensures done { (b : Tree) → done_of b result ≡ refused_with b code }
+    ensures refused { result.result ≡ Err code }
+    ensures touched { result.touched ≡ Nothing }
 {
     Done {
         result: Err(code),
         event: None,
         ends: false,
+        touched: Touched::Nothing,
     }
 }
 
-/// What a change comes to that returns nothing.
-pub(crate) fn outcome_of(answer: Result<(), Refusal>) -> Result<Done, AllocError>
-    ensures { ComesTo answer result }
+/// What a change comes to that returns nothing, and touched this where it was not refused.
+pub(crate) fn outcome_of(answer: Result<(), Refusal>, touched: Touched) -> Result<Done, AllocError>
+    ensures comes { ComesTo answer result }
+    ensures touched { IfOk result (λ d. d.touched ≡ unless_refused touched d.result) }
 {
     match answer {
-        Ok(()) => Ok(returned(ReplyBody::Empty)),
+        Ok(()) => Ok(having_touched(touched, ReplyBody::Empty)),
         Err(Refusal::Refused(code)) => Ok(refused(code)),
         Err(Refusal::Memory) => Err(AllocError),
     }
 }
 
-/// What a change comes to that returns nothing and takes no memory.
-pub(crate) fn done_by(answer: Result<(), Code>) -> Done
-    ensures { (b : Tree) → done_of b result ≡ by_answer b answer }
+/// What a change comes to that returns nothing and takes no memory, and touched this where it was not
+/// refused.
+pub(crate) fn done_by(answer: Result<(), Code>, touched: Touched) -> Done
+    ensures done { (b : Tree) → done_of b result ≡ by_answer b answer }
+    ensures touched { result.touched ≡ unless_refused touched result.result }
 {
     match answer {
-        Ok(()) => returned(ReplyBody::Empty),
+        Ok(()) => having_touched(touched, ReplyBody::Empty),
         Err(code) => refused(code),
     }
 }
@@ -119,6 +145,7 @@ fn quit() -> Done
         result: Ok(ReplyBody::Empty),
         event: Some(Event::Shutdown { guest: false }),
         ends: true,
+        touched: Touched::Nothing,
     }
 }
 

@@ -6,30 +6,36 @@ ghost use Rattle.qo_model.specs.Board.{Board as Tree};
 ghost use Rattle.qo_guest.specs.declared.answers.GuestAnswer.TheVariants.{NoRegister};
 ghost use Rattle.qo_realize.specs.Representation.{Stands};
 ghost use Rattle.qo_layout.specs.Layout.{register_at};
+ghost use Rattle.qo_commands.specs.KeptViews.{HasView};
 ghost use Rattle.qo_commands.specs.Hearing.{Came, answered, has_registers, outcome_of, peeked, poked};
 ghost use Rattle.qo_commands.specs.Memory.{HasNoRegister};
+ghost use Rattle.qo_commands.specs.Touched.{Touches};
+ghost use Rattle.qo_commands.specs.declared.touched.Touched.TheVariants.{Nothing};
 
 use crate::hearing::{Heard, answered, read_register, write_register};
 use qo_buses::is_of;
 use qo_guest::GuestAnswer;
 use qo_heap::{Oid, Steps};
-use qo_layout::{BOOT_LEAF, RegisterPlace, register_at};
+use qo_layout::{BOOT_LEAF, KeptView, RegisterPlace};
 use qo_realize::Board;
 use std::alloc::{AllocError, Global};
 use std::sync::ledger::Ledger;
 
-/// The register that shows at a hardware address of the board. The board is sound, so that the one error is
-/// want of memory.
+/// The register that shows at a hardware address of the board, of which a view is kept. The board is sound, so
+/// that the one error is want of memory.
 fn shown_at<L: Ledger>(
     board: &Board,
+    view: &mut KeptView,
     at: u64,
     alloc: Global,
     steps: &mut Steps<L>,
 ) -> Result<Option<RegisterPlace>, AllocError>
-    ensures { (b : Tree) → Stands b board.now → IfOk result (λ place. place ≡ register_at b at) }
+    requires { HasView board.now view.old }
+    ensures place { (b : Tree) → Stands b board.now → IfOk result (λ place. place ≡ register_at b at) }
+    ensures view { HasView board.now view.new }
 {
     board.reveal_board();
-    match register_at(alloc, board.heap(), at, steps) {
+    match view.register_at(alloc, board.heap(), at, steps) {
         Ok(place) => Ok(place),
         Err(_) => Err(AllocError),
     }
@@ -68,13 +74,17 @@ fn register_of<L: Ledger>(
 /// The guest reads the register that shows at a hardware address. The error is want of memory.
 pub(crate) fn peek<L: Ledger>(
     board: &Board,
+    view: &mut KeptView,
     at: u64,
     alloc: Global,
     steps: &mut Steps<L>,
 ) -> Result<Heard, AllocError>
-    ensures { (b : Tree) → Stands b board.now → IfOk result (λ h. outcome_of b h ≡ peeked b (register_at b at)) }
+    requires { HasView board.now view.old }
+    ensures came { (b : Tree) → Stands b board.now → IfOk result (λ h. outcome_of b h ≡ peeked b (register_at b at)) }
+    ensures touched { IfOk result (λ h. h.touched ≡ Nothing) }
+    ensures view { HasView board.now view.new }
 {
-    let Some(place) = shown_at(board, at, alloc, steps)? else {
+    let Some(place) = shown_at(board, view, at, alloc, steps)? else {
         return Ok(answered(GuestAnswer::NoAddress));
     };
     match register_of(board, place, steps) {
@@ -83,19 +93,23 @@ pub(crate) fn peek<L: Ledger>(
     }
 }
 
-/// The guest writes to the register that shows at a hardware address. The error is want of memory, and
-/// leaves the board as it was.
+/// The guest writes to the register that shows at a hardware address. The view that is kept stays that of the
+/// board before. The error is want of memory, and leaves the board as it was.
 pub(crate) fn poke<L: Ledger>(
     board: &mut Board,
+    view: &mut KeptView,
     at: u64,
     value: u32,
     alloc: Global,
     steps: &mut Steps<L>,
 ) -> Result<Heard, AllocError>
+    requires { HasView board.old view.old }
     ensures came { (b : Tree) → Stands b board.old → IfOk result (λ h. Came (poked b value (register_at b at)) h board.new) }
+    ensures touched { (b : Tree) → Stands b board.old → IfOk result (λ h. Touches h.touched b (poked b value (register_at b at)).board) }
+    ensures view { HasView board.old view.new }
     ensures err { OnErr result (board.new ≡ board.old) }
 {
-    let Some(place) = shown_at(board, at, alloc, steps)? else {
+    let Some(place) = shown_at(board, view, at, alloc, steps)? else {
         return Ok(answered(GuestAnswer::NoAddress));
     };
     match register_of(board, place, steps) {

@@ -48,7 +48,7 @@ fn is_plain(byte: u8) -> bool
 }
 
 /// The place of the first byte from `at` on that means something, or the end.
-pub(crate) fn after_plain(bytes: &[u8], at: usize) -> usize
+fn after_each(bytes: &[u8], at: usize) -> usize
     requires { at ≤ length bytes.now }
     ensures least { at ≤ result }
     ensures most { result ≤ length bytes.now }
@@ -59,6 +59,33 @@ pub(crate) fn after_plain(bytes: &[u8], at: usize) -> usize
         place += 1;
     }
     place
+}
+
+/// The place of the first byte from `at` on that means something, or the end. Most bytes mean nothing, so
+/// four are looked at in one go.
+pub(crate) fn after_plain(bytes: &[u8], at: usize) -> usize
+    requires { at ≤ length bytes.now }
+    ensures least { at ≤ result }
+    ensures most { result ≤ length bytes.now }
+    ensures plain { (k : ℕ) → at ≤ k → k < result → is_plain (slice_index bytes.now k) ≡ true }
+{
+    let mut place = at;
+    while bytes.len() - place >= 4 {
+        if !is_plain(bytes[place]) {
+            return place;
+        }
+        if !is_plain(bytes[place + 1]) {
+            return place + 1;
+        }
+        if !is_plain(bytes[place + 2]) {
+            return place + 2;
+        }
+        if !is_plain(bytes[place + 3]) {
+            return place + 3;
+        }
+        place += 4;
+    }
+    after_each(bytes, place)
 }
 
 /// Bytes without those in front that are passed over between objects.

@@ -38,7 +38,7 @@ impl Model for Framer {
 }
 
 impl Framer {
-    ghost use Rattle.std.specs.Prelude.{◌≡◌, [], IfOk, IsOkAnd, OnErr};
+    ghost use Rattle.std.specs.Prelude.{◌≡◌, IfOk, IsOkAnd, OnErr};
     ghost use Rattle.qo_framing.specs.Cut.{between, cut, followed};
     ghost use Rattle.qo_framing.specs.Parts.{state_of};
 
@@ -60,20 +60,20 @@ impl Framer {
         self.partial.clear();
     }
 
-    /// The items that more bytes complete, in order. They are put into `room`, a list without items, so that
-    /// none is asked for where it has room. An error leaves the framer as it was.
+    /// The items that more bytes complete, in order. They are put into `room`, whose own items go first, so
+    /// that no memory is asked for where it has room. An error leaves the framer as it was.
     pub fn feed(
         &mut self,
         alloc: Global,
         bytes: &[u8],
         room: Vec<Item>,
     ) -> Result<Vec<Item>, AllocError>
-        requires { room.items ≡ [] }
         ensures items { IfOk result (λ items. cut self.old bytes.now
             ≡ record { items = items.items; state = self.new }) }
         ensures kept { OnErr result (self.new ≡ self.old) }
     {
         let mut items = room;
+        items.clear();
         match self.mode {
             Mode::Between => self.go_on(alloc, Gap::Between, bytes, items),
             Mode::Skipping => self.go_on(alloc, Gap::Skipping, bytes, items),

@@ -7,22 +7,28 @@ use Rattle.qo_slots.specs.declared.keys.Key.{Key}
 use Rattle.qo_object.specs.Content.{Content, acted_at}
 use Rattle.qo_heap.specs.Rows.{IsLive, edit}
 use Rattle.qo_model.specs.declared.notes.Note.{Note}
-use Rattle.qo_heap.specs.Acts.{Acts, stilled}
+use Rattle.qo_heap.specs.Acts.{Acts, still, stilled}
 use Rattle.qo_heap.specs.Book.{IsBook, owned}
 use Rattle.qo_heap.specs.Objects.{Objects, with_edit, with_note}
 
--- one act
-still-edited : (n : ℕ) (act : Act) (time period : ℕ) (rows : List (Key × Content)) → map stilled (edit n (acted_at act time period) rows) ≡ map stilled rows
-still-edited n act time period [] = refl
-still-edited n act time period (row ∷ rows) =
-    ap₂ (λ (x : Key × Content) (xs : List (Key × Content)). x ∷ xs) (go (eqb row.0.birth n)) (still-edited n act time period rows)
+-- one object of which no more changes
+still-edited : (n : ℕ) (f : Content → Content) → ((c : Content) → still (f c) ≡ still c) → (rows : List (Key × Content))
+    → map stilled (edit n f rows) ≡ map stilled rows
+still-edited n f same [] = refl
+still-edited n f same (row ∷ rows) =
+    ap₂ (λ (x : Key × Content) (xs : List (Key × Content)). x ∷ xs) (go (eqb row.0.birth n)) (still-edited n f same rows)
   where
-    go : (t : Bool) → stilled (cond t (row.0, acted_at act time period row.1) row) ≡ stilled row
-    go true = refl
+    go : (t : Bool) → stilled (cond t (row.0, f row.1) row) ≡ stilled row
+    go true = ap (λ (c : Content). (row.0, c)) (same row.1)
     go false = refl
 
+pub acts-edit : (v : Objects) (n : ℕ) (f : Content → Content) → ((c : Content) → still (f c) ≡ still c) → Acts v (with_edit n f v)
+acts-edit v n f same = record { rows = still-edited n f same v.rows; born = refl; claims = refl; events = refl; time = refl }
+
+-- one act
 pub acts-act : (v : Objects) (note : Note) (n : ℕ) (act : Act) (time period : ℕ) → Acts v (with_note note (with_edit n (acted_at act time period) v))
-acts-act v note n act time period = record { rows = still-edited n act time period v.rows; born = refl; claims = refl; events = refl; time = refl }
+acts-act v note n act time period =
+    record { rows = still-edited n (acted_at act time period) (λ c. refl) v.rows; born = refl; claims = refl; events = refl; time = refl }
 
 pub acts-none : (v : Objects) → Acts v v
 acts-none v = record { rows = refl; born = refl; claims = refl; events = refl; time = refl }

@@ -15,6 +15,8 @@ use Rattle.qo_heap.specs.Keeping.{IsCounted, IsKept, IsShort, all_less, all_more
 use Rattle.qo_heap.specs.Order.{IsOrdered, rows_in}
 use Rattle.qo_heap.specs.Rows.{IsLive, edit, object_at, without}
 use Rattle.qo_heap.specs.Objects.{HasPlaces, IsHeap, Objects, content_of, forgets, has_path, objects_in, refs_of, with_edit}
+use Rattle.qo_heap.specs.WeakLinks.{weak_names}
+use Rattle.qo_heap.specs.WeakLists.{HasWeakLists}
 use Rattle.qo_heap.specs.declared.entries.Entry.{Entry}
 use Rattle.qo_heap.specs.declared.entries.Hold.{Hold}
 use Rattle.qo_heap.specs.declared.heap.Heap.TheInside.{Inside}
@@ -26,6 +28,8 @@ use Rattle.qo_heap.proofs.KeepingLemmas.{all-object, counted-lost, counted-won, 
 use Rattle.qo_heap.proofs.KeptEnds.{kept-ended, kept-made, unborn}
 use Rattle.qo_heap.proofs.RowsLemmas.{edit-as, rows-rise}
 use Rattle.qo_heap.proofs.ValueLemmas.{Written, written}
+use Rattle.qo_heap.proofs.WeakCalls.{made-lists}
+use Rattle.qo_heap.proofs.WeakChanges.{same-lists}
 
 -- the objects that the fields of a heap stand for, and these with what is kept of them
 abbrev pub objects_inside : Inside → Objects
@@ -39,7 +43,7 @@ abbrev pub IsInside : Inside → Type 0
 IsInside h =
     (IsHeap (objects_inside h) × HasPlaces (objects_inside h))
     × (IsOrdered h.table h.order.items
-    × (IsKept (entries h) × ((h.notes.capacity ≡ NOTES_KEPT) × (length h.notes.items ≡ min h.total NOTES_KEPT))))
+    × (IsKept (entries h) × (HasWeakLists (entries h) × ((h.notes.capacity ≡ NOTES_KEPT) × (length h.notes.items ≡ min h.total NOTES_KEPT)))))
 
 -- what is kept of an object that is there
 pub counted-there : (h : Inside) → IsInside h → (o : Key) (e : Entry) → object_at (entries h) o.birth ≡ Some e
@@ -63,6 +67,11 @@ entries-few h good =
     all-imply (IsCounted (objects_inside h).rows) (λ (row : Key × Entry). row.1.held ≤ 281474976710656)
     (λ row counted. omega (arith, counted.held, held-few h good row.0.birth)) (entries h) good.1.1.0.counts
 
+-- it has not too many slots
+pub short-own : (h : Inside) → IsInside h → (o : Key) (e : Entry) → object_at (entries h) o.birth ≡ Some e → length e.object.slots ≤ 2 ^ 32
+short-own h good o e there =
+    all-object (λ (n : ℕ) (c : Content). length c.slots ≤ 2 ^ 32) (objects_inside h).rows good.1.1.0.short o.birth e.object (plain-there (entries h) o.birth e there)
+
 -- a table in which one object was changed, and what is kept of each is right
 pub record Changes (h : Inside) (o : Key) (f : Content → Content) (t : Table Entry) : Type 0 where
   pub ordered : IsOrdered t h.order.items
@@ -76,15 +85,15 @@ pub record EditedInside (h : Inside) (o : Key) (f : Content → Content) (t : Ta
   pub now : objects_inside (record h { table = t }) ≡ with_edit o.birth f (objects_inside h)
 
 pub changed-inside : (h : Inside) → IsInside h → (o : Key) → IsLive (objects_inside h).rows o → (f : Content → Content) (t : Table Entry) → Changes h o f t
-    → ((x : Content) → AreThere (objects_inside h) x → AreThere (objects_inside h) (f x))
+    → HasWeakLists (rows_in t h.order.items) → ((x : Content) → AreThere (objects_inside h) x → AreThere (objects_inside h) (f x))
     → ((x : Content) → is_some (f x).kept_path ≡ is_some x.kept_path) → EditedInside h o f t
-changed-inside h good o live f t changes keeps paths =
+changed-inside h good o live f t changes lists keeps paths =
     let v : Objects = objects_inside h in
     let (c, there) = live-content v o live in
     let edited : Edited v o.birth f (f c) = edited-heap v good.0 o.birth f c (f c) there refl keeps paths in
     let now : objects_inside (record h { table = t }) ≡ with_edit o.birth f v = λ j. record v { rows = changes.rows j; born = changes.born j } in
     record {
-      good = (subst (λ (w : Objects). IsHeap w × HasPlaces w) (edited.now ∙ sym now) edited.good, (changes.ordered, (changes.kept, good.1.1.1)));
+      good = (subst (λ (w : Objects). IsHeap w × HasPlaces w) (edited.now ∙ sym now) edited.good, (changes.ordered, (changes.kept, (lists, good.1.1.1.1))));
       now = now;
     }
 
@@ -180,6 +189,13 @@ module _ (h : Inside) (good : IsInside h) (o : Key) (live : IsLive (objects_insi
       let all : length (f e.object).slots ≤ 4294967296 = omega (arith, few, less) in
       all
 
+  -- what its weak links name stays
+  pub weak-written : weak_names (f e.object).slots ≡ weak_names e.object.slots → HasWeakLists (rows_in (with_written h o w) h.order.items)
+  weak-written same =
+      subst HasWeakLists (sym write.rows)
+      (same-lists h.table.born (entries h) (rows-rise h.table h.order.items good.1.0) good.1.1.1.0 o (live-entry (entries h) o live) e w there
+      (ap (λ (x : Entry). x.links) is) (ap (λ (x : Entry). weak_names x.object.slots) is ∙ same))
+
   -- an edit that leaves the slots
   pub quiet-changes : ((x : Content) → (f x).slots ≡ x.slots) → Changes h o f (with_written h o w)
   quiet-changes slots =
@@ -189,7 +205,7 @@ module _ (h : Inside) (good : IsInside h) (o : Key) (live : IsLive (objects_insi
   pub quiet-written : ((x : Content) → (f x).slots ≡ x.slots) → ((x : Content) → is_some (f x).kept_path ≡ is_some x.kept_path)
       → EditedInside h o f (with_written h o w)
   quiet-written slots paths =
-      changed-inside h good o live f (with_written h o w) (quiet-changes slots)
+      changed-inside h good o live f (with_written h o w) (quiet-changes slots) (weak-written (ap weak_names (slots e.object)))
       (λ x all. subst (λ (l : List Named). AllByRecursion (IsLive (objects_inside h).rows) (targets_in l)) (sym (slots x)) all) paths
 
 -- an edit that leaves the slots, of an object that is read and written
@@ -219,7 +235,16 @@ path-inside h good o live path e d there is none w place =
       good = (
         subst (λ (rows : List (Key × Content)). IsHeap (record v { rows = rows; events = w }) × HasPlaces (record v { rows = rows; events = w }))
             (sym rows) kept.good,
-        (changes.ordered, (changes.kept, good.1.1.1)),
+        (
+          changes.ordered,
+          (
+            changes.kept,
+            (
+              weak-written h good o live (with_path path) e (with_content e d) there (content-written (with_path path) e d is) refl,
+              good.1.1.1.1,
+            ),
+          ),
+        ),
       );
       now = ap (λ (rows : List (Key × Content)). record v { rows = rows; events = w }) rows ∙ kept.now;
     }
@@ -228,7 +253,7 @@ path-inside h good o live path e d there is none w place =
 abbrev pub IsTable : Table Entry → List Key → Objects → Type 0
 IsTable t order v =
     (IsHeap (record v { rows = plain (rows_in t order); born = t.born }) × HasPlaces (record v { rows = plain (rows_in t order); born = t.born }))
-    × IsKept (rows_in t order)
+    × (IsKept (rows_in t order) × HasWeakLists (rows_in t order))
 
 -- an object was made, or none was
 pub made-inside : (h : Inside) → IsInside h → (kind : TypeId) → length (objects_inside h).rows < LIVE_OBJECTS_MAX → (r : Result Key Content) (t : Table Entry)
@@ -242,25 +267,28 @@ made-inside h good kind below (Ok key) t order made kept back =
     λ j. record v { rows = made.1.0 j; born = made.1.1 j } in
     let new : object_at v.rows key.birth ≡ None = unborn key.birth 0 v.born v.rows (let next : key.birth ≡ v.born + 1 = made.0 in omega arith) good.0.0.rising in (
       subst (λ (w : Objects). IsHeap w × HasPlaces w) (sym now) (heap-more v good.0.0 key kind made.0 below, good.0.1 ∙ sym (paths-more v.rows key kind)),
-      subst IsKept (sym kept) (kept-made (entries h) good.1.1.0 good.0.0.linked key kind new),
+      (
+        subst IsKept (sym kept) (kept-made (entries h) good.1.1.0 good.0.0.linked key kind new),
+        subst HasWeakLists (sym kept) (made-lists (entries h) good.1.1.1.0 key kind),
+      ),
     )
 made-inside h good kind below (Err c) t order made kept back =
     let v : Objects = objects_inside h in
     let now : record v { rows = plain (rows_in t order); born = t.born } ≡ v = λ j. record v { rows = plain (back.1.0 j); born = back.1.1 j } in
-    (subst (λ (w : Objects). IsHeap w × HasPlaces w) (sym now) good.0, subst IsKept (sym back.1.0) good.1.1.0)
+    (subst (λ (w : Objects). IsHeap w × HasPlaces w) (sym now) good.0, (subst IsKept (sym back.1.0) good.1.1.0, subst HasWeakLists (sym back.1.0) good.1.1.1.0))
 
 -- an object ended
 pub ended-inside : (h : Inside) → IsInside h → (o : Key) → refs_of (objects_inside h) o.birth ≡ 0 → (c : Content)
     → content_of (objects_inside h) o.birth ≡ Some c → reference_count c ≡ 0 → (t : Table Entry) (order : List Key)
-    → rows_in t order ≡ map (entry_forgets o.birth) (without o.birth (entries h)) → t.born ≡ h.table.born → (claims : ClaimsTaken) (events : Waiting)
+    → rows_in t order ≡ map (entry_forgets o.birth) (without o.birth (entries h)) → t.born ≡ h.table.born → HasWeakLists (rows_in t order) → (claims : ClaimsTaken) (events : Waiting)
     → events.promised ≡ count_by has_path (map (forgets o.birth) (without o.birth (objects_inside h).rows))
     → IsTable t order (record (objects_inside h) { claims = claims; events = events })
-ended-inside h good o free c there bare t order rows born claims events places =
+ended-inside h good o free c there bare t order rows born lists claims events places =
     let v : Objects = objects_inside h in
     let plain-rows : plain (rows_in t order) ≡ map (forgets o.birth) (without o.birth v.rows) = ap plain rows ∙ plain-left o.birth (entries h) in
     let now : record v { rows = plain (rows_in t order); born = t.born; claims = claims; events = events }
     ≡ record v { rows = map (forgets o.birth) (without o.birth v.rows); claims = claims; events = events } =
     λ j. record v { rows = plain-rows j; born = born j; claims = claims; events = events } in (
       subst (λ (w : Objects). IsHeap w × HasPlaces w) (sym now) (heap-ended v good.0.0 o.birth free v.log claims events, places),
-      subst IsKept (sym rows) (kept-ended (entries h) h.table.born o.birth good.1.1.0 good.0.0.rising c there bare),
+      (subst IsKept (sym rows) (kept-ended (entries h) h.table.born o.birth good.1.1.0 good.0.0.rising c there bare), lists),
     )

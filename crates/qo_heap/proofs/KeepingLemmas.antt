@@ -66,7 +66,7 @@ plain-edited n f (row ∷ rows) = go (eqb row.0.birth n) refl (plain-edited n f 
     go true is rest = rw is (ap (λ (l : List (Key × Content)). (row.0, f row.1.object) ∷ l) rest)
     go false is rest = rw is (ap (λ (l : List (Key × Content)). plain_row row ∷ l) rest)
 
-plain-same : (n : ℕ) (g : Entry → Entry) → ((e : Entry) → (g e).object ≡ e.object) → (rows : List (Key × Entry)) → plain (edit n g rows) ≡ plain rows
+pub plain-same : (n : ℕ) (g : Entry → Entry) → ((e : Entry) → (g e).object ≡ e.object) → (rows : List (Key × Entry)) → plain (edit n g rows) ≡ plain rows
 plain-same n g same [] = refl
 plain-same n g same (row ∷ rows) = go (eqb row.0.birth n) refl (plain-same n g same rows)
   where
@@ -106,10 +106,6 @@ plain-without n (row ∷ rows) = go (eqb row.0.birth n) refl (plain-without n ro
     go true is rest = rw is rest
     go false is rest = rw is (ap (λ (l : List (Key × Content)). plain_row row ∷ l) rest)
 
-pub plain-forgets : (n : ℕ) (rows : List (Key × Entry)) → plain (map (entry_forgets n) rows) ≡ map (forgets n) (plain rows)
-plain-forgets n [] = refl
-plain-forgets n (row ∷ rows) = ap (λ (l : List (Key × Content)). forgets n (plain_row row) ∷ l) (plain-forgets n rows)
-
 -- the name of the row at a place, and of the first row whose name passes a test
 pub key-plain : (rows : List (Key × Entry)) (place : ℕ)
     → option_map (λ (row : Key × Content). row.0) (slice_get (plain rows) place) ≡ option_map (λ (row : Key × Entry). row.0) (slice_get rows place)
@@ -127,6 +123,10 @@ find-plain p (row ∷ rows) = by (p row.0) (find-plain p rows)
         ≡ option_map (λ (r : Key × Entry). r.0) (cond b (Some row) (find (λ r. p r.0) rows))
     by true rest = refl
     by false rest = rest
+
+pub keys-plain : (rows : List (Key × Entry)) → map (λ (row : Key × Content). row.0) (plain rows) ≡ map (λ (row : Key × Entry). row.0) rows
+keys-plain [] = refl
+keys-plain (row ∷ rows) = ap (λ (l : List Key). row.0 ∷ l) (keys-plain rows)
 
 -- what all rows have, where one is edited, and where one goes
 module _ {T : Type 0} (P Q : Key × T → Type 0) (n : ℕ) where

@@ -2,6 +2,10 @@ pub mod ActsLemmas
 pub mod ActsReads
 pub mod BookLemmas
 pub mod EndLemmas
+mod EndedLinks
+mod EndsInside
+mod FurnishInside
+mod FurnishLemmas
 pub mod SearchLemmas
 pub mod HeapLemmas
 mod HeldInside
@@ -11,6 +15,16 @@ mod KeepingLemmas
 mod KeptEnds
 mod ParentLemmas
 mod ReferenceLemmas
+mod WeakCalls
+mod WeakChains
+mod WeakChanges
+mod WeakEnds
+mod WeakInside
+mod WeakMoves
+mod WeakNodes
+mod WeakRows
+mod WeakSlots
+mod WeakTables
 pub mod PlacesLemmas
 pub mod SlotPlaces
 pub mod BoardActs

@@ -1,55 +1,13 @@
 -- Lists by place, and rows by place and by birth.
-use Rattle.std.proofs.Common.{◌≡◌, refl, ap, sym, subst, ◌∙◌, ℕ, zero, suc, ◌+◌, ◌<◌, ◌≤◌, Bool, true, false, cond, ◌||◌, List, [], ◌∷◌, map, length, drop, eqb, Option, Some, None, find, sum_by, option_map, slice_get, position, nat_lt, IfSome, arith}
+use Rattle.std.proofs.Common.{◌≡◌, refl, ap, sym, subst, ◌∙◌, ℕ, zero, suc, ◌+◌, ◌<◌, ◌≤◌, Bool, true, false, cond, ◌||◌, List, [], ◌∷◌, length, drop, eqb, Option, Some, None, find, option_map, slice_get, position, nat_lt, IfSome, arith}
 use Rattle.std.specs.Option.{option_map_or}
 use Rattle.std.proofs.lemmas.Bool.Decides.{nat_tests}
 use Rattle.std.specs.List.{list_any, position_or_len}
 use Rattle.std.proofs.Math.ListN.{drop_of_length-le}
-use Rattle.std.proofs.lemmas.List.Sums.{sum_by-cons}
 use Rattle.qo_slots.specs.declared.keys.Key.{Key}
-use Rattle.qo_heap.specs.Rows.{IsLive, Rises, births, edit, row_at, object_at}
-use Rattle.qo_heap.proofs.RowsLemmas.{edit-above}
-use Rattle.qo_heap.specs.Places.{changed_at, first_changed, sum_first}
+use Rattle.qo_heap.specs.Rows.{IsLive, Rises, births, row_at, object_at}
 
 module _ {X : Type 0} where
-  -- a loop over places that has come to the last is after all
-  pub all-walked : (place size : ℕ) (xs : List X) → place ≤ size → size ≤ place → size ≡ length xs → place ≡ length xs
-  all-walked place size xs low high same = omega arith
-
-  pub changed_at-past : (f : X → X) (i : ℕ) (xs : List X) → slice_get xs i ≡ None → changed_at f i xs ≡ xs
-  changed_at-past f i [] none = refl
-  changed_at-past f zero (x ∷ xs) none = cc
-  changed_at-past f (suc i) (x ∷ xs) none = ap (λ (l : List X). x ∷ l) (changed_at-past f i xs none)
-
-  -- one more is changed
-  pub first_changed-step : (f : X → X) (i : ℕ) (xs : List X) → changed_at f i (first_changed f i xs) ≡ first_changed f (suc i) xs
-  first_changed-step f i [] = refl
-  first_changed-step f zero (x ∷ []) = refl
-  first_changed-step f zero (x ∷ y ∷ xs) = refl
-  first_changed-step f (suc i) (x ∷ xs) = ap (λ (l : List X). f x ∷ l) (first_changed-step f i xs)
-
-  pub first_changed-none : (f : X → X) (xs : List X) → first_changed f 0 xs ≡ xs
-  first_changed-none f [] = refl
-  first_changed-none f (x ∷ xs) = refl
-
-  pub first_changed-all : (f : X → X) (xs : List X) → first_changed f (length xs) xs ≡ map f xs
-  first_changed-all f [] = refl
-  first_changed-all f (x ∷ xs) = ap (λ (l : List X). f x ∷ l) (first_changed-all f xs)
-
-  -- one more is counted
-  pub sum_first-step : (h : X → ℕ) (i : ℕ) (xs : List X) → sum_first h i xs + option_map_or h (slice_get xs i) 0 ≡ sum_first h (suc i) xs
-  sum_first-step h i [] = refl
-  sum_first-step h zero (x ∷ []) = omega arith
-  sum_first-step h zero (x ∷ y ∷ xs) = omega arith
-  sum_first-step h (suc i) (x ∷ xs) = let rest = sum_first-step h i xs in omega arith
-
-  pub sum_first-none : (h : X → ℕ) (xs : List X) → sum_first h 0 xs ≡ 0
-  sum_first-none h [] = refl
-  sum_first-none h (x ∷ xs) = refl
-
-  pub sum_first-all : (h : X → ℕ) (xs : List X) → sum_first h (length xs) xs ≡ sum_by h xs
-  sum_first-all h [] = refl
-  sum_first-all h (x ∷ xs) = omega (arith, sum_by-cons h x xs, sum_first-all h xs)
-
   -- a search goes on after a member that does not pass
   pub find-drop : (p : X → Bool) (i : ℕ) (xs : List X) → option_map_or p (slice_get xs i) false ≡ false → find p (drop i xs) ≡ find p (drop (suc i) xs)
   find-drop p i [] none = drop-nil i
@@ -70,12 +28,6 @@ module _ {X : Type 0} where
   find-past p (x ∷ xs) = find-past p xs
 
   -- the same, counted by one more
-  pub first_changed-from : (f : X → X) (i : ℕ) (xs : List X) → changed_at f i (first_changed f i xs) ≡ first_changed f (i + 1) xs
-  first_changed-from f i xs = let next : suc i ≡ i + 1 = omega arith in first_changed-step f i xs ∙ ap (λ (n : ℕ). first_changed f n xs) next
-
-  pub sum_first-from : (h : X → ℕ) (i : ℕ) (xs : List X) → sum_first h i xs + option_map_or h (slice_get xs i) 0 ≡ sum_first h (i + 1) xs
-  sum_first-from h i xs = let next : suc i ≡ i + 1 = omega arith in sum_first-step h i xs ∙ ap (λ (n : ℕ). sum_first h n xs) next
-
   pub find-from : (p : X → Bool) (i : ℕ) (xs : List X) → option_map_or p (slice_get xs i) false ≡ false → find p (drop i xs) ≡ find p (drop (i + 1) xs)
   find-from p i xs none = let next : suc i ≡ i + 1 = omega arith in find-drop p i xs none ∙ ap (λ (n : ℕ). find p (drop n xs)) next
 
@@ -150,19 +102,6 @@ module _ {T : Type 0} where
       → IsLive rows row.0
   live-at-place above last rows i row rises there = rw (row-at-place above last rows i row rises there) refl
 
-  -- an edit by the birth of the row at a place is an edit at the place
-  pub edit-at-place : (f : T → T) (w : T) (above last : ℕ) (rows : List (Key × T)) (i : ℕ) (row : Key × T) → Rises above (births rows) last
-      → slice_get rows i ≡ Some row → w ≡ f row.1 → edit row.0.birth (λ _. w) rows ≡ changed_at (λ (r : Key × T). (r.0, f r.1)) i rows
-  edit-at-place f w above last [] i row rises there is = cc
-  edit-at-place f w above last (r ∷ rows) zero row rises there is =
-      let same : r ≡ row = cc there in
-      let here : eqb r.0.birth row.0.birth ≡ true = rw same (grind arith) in
-      rw (here, edit-above row.0.birth (λ _. w) r.0.birth last rows (rw same (omega arith)) rises.1, is, same) refl
-  edit-at-place f w above last (r ∷ rows) (suc i) row rises there is =
-      let more : r.0.birth < row.0.birth = later-above r.0.birth last rows i row rises.1 there in
-      let other : eqb r.0.birth row.0.birth ≡ false = grind arith in
-      rw other (ap (λ (l : List (Key × T)). r ∷ l) (edit-at-place f w r.0.birth last rows i row rises.1 there is))
-
   -- the row whose name stands at a place
   pub at-key : (rows : List (Key × T)) (i : ℕ) (key : Key) → option_map (λ (row : Key × T). row.0) (slice_get rows i) ≡ Some key
       → (v : T) × (slice_get rows i ≡ Some (key, v))
@@ -183,14 +122,6 @@ module _ {T : Type 0} where
   pub object-at-place : (last : ℕ) (rows : List (Key × T)) (i : ℕ) (key : Key) (v : T) → Rises 0 (births rows) last → slice_get rows i ≡ Some (key, v)
       → object_at rows key.birth ≡ Some v
   object-at-place last rows i key v rises there = rw (row-at-place 0 last rows i (key, v) rises there) refl
-
-  -- the object read by the name at a place is the one at the place
-  pub read-at-place : (last : ℕ) (rows : List (Key × T)) (i : ℕ) (key : Key) (w : T) → Rises 0 (births rows) last
-      → option_map (λ (row : Key × T). row.0) (slice_get rows i) ≡ Some key → object_at rows key.birth ≡ Some w → slice_get rows i ≡ Some (key, w)
-  read-at-place last rows i key w rises named read =
-      let (v, there) = at-key rows i key named in
-      let same : v ≡ w = cc (object-at-place last rows i key v rises there, read) in
-      rw (← same) there
 
   pub key-live : (last : ℕ) (rows : List (Key × T)) (i : ℕ) (key : Key) → Rises 0 (births rows) last
       → option_map (λ (row : Key × T). row.0) (slice_get rows i) ≡ Some key → IsLive rows key

@@ -1,6 +1,6 @@
 -- What a list of names says of the rows, and how the rows follow the table of slots.
 use Rattle.std.proofs.Common.{◌≡◌, ◌≢◌, refl, ap, ap₂, sym, subst, ◌∙◌, ℕ, suc, ◌+◌, ◌<◌, ◌≤◌, Bool, true, false, not, cond, leb, nat_lt, List, [], ◌∷◌, ◌++◌, map, length, get_or, eqb, Option, Some, None, find, option_map, slice_get, zero, remove, arith}
-use Rattle.std.specs.List.{AllByRecursion}
+use Rattle.std.specs.List.{AllByRecursion, position_or_len}
 use Rattle.std.proofs.lemmas.Bool.{eqb-true, eq-eqb}
 use Rattle.std.proofs.lemmas.Bool.Decides.{nat_tests}
 use Rattle.std.proofs.lemmas.Option.{slice_get-map}
@@ -261,6 +261,20 @@ at-end-of-front p q other (x ∷ xs) = by (p x) refl (at-end-of-front p q other 
     by : (b : Bool) → p x ≡ b → slice_get xs (front p xs) ≡ find q xs → slice_get (x ∷ xs) (front p (x ∷ xs)) ≡ find q (x ∷ xs)
     by true e rest = rw (e, other x, e) rest
     by false e rest = rw (e, other x, e) refl
+
+-- and where the front of the names ends, the first row stands whose name does not pass
+pub front-rows : (V : Type 0) (p q : Key → Bool) → ((k : Key) → q k ≡ not (p k)) → (rows : List (Key × V))
+    → front p (map (λ (row : Key × V). row.0) rows) ≡ position_or_len (λ (row : Key × V). q row.0) rows
+front-rows V p q other [] = refl
+front-rows V p q other (row ∷ rows) = by (p row.0) refl (front-rows V p q other rows)
+  where
+    by : (b : Bool) → p row.0 ≡ b → front p (map (λ (r : Key × V). r.0) rows) ≡ position_or_len (λ (r : Key × V). q r.0) rows
+        → front p (map (λ (r : Key × V). r.0) (row ∷ rows)) ≡ position_or_len (λ (r : Key × V). q r.0) (row ∷ rows)
+    by true e rest = rw (e, other row.0, e) (ap suc rest ∙ next)
+      where
+        next : suc (position_or_len (λ (r : Key × V). q r.0) rows) ≡ 1 + position_or_len (λ (r : Key × V). q r.0) rows
+        next = omega arith
+    by false e rest = rw (e, other row.0, e) refl
 
 -- numbers that rise from above one rise from above a lower one
 -- rising numbers end at or above where they begin

@@ -32,7 +32,7 @@ holds_in slots = filter_map (λ (s : Named). hold_of s.1) slots
 
 -- an object that no slot holds
 abbrev pub unheld : Content → Entry
-unheld c = record { object = c; held = 0; parent = None }
+unheld c = record { object = c; held = 0; parent = None; links = record { first = None; nodes = [] } }
 
 -- the object is changed, and what is kept of it stays
 abbrev pub with_object : (Content → Content) → Entry → Entry

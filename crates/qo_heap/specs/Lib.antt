@@ -2,6 +2,7 @@ pub mod Acts
 pub mod Board
 pub mod Book
 pub mod Errors
+pub mod Furnishing
 pub mod Keeping
 pub mod Laws
 pub mod Loans
@@ -9,5 +10,7 @@ pub mod Log
 pub mod Moments
 pub mod Objects
 pub mod Order
-pub mod Places
 pub mod Rows
+pub mod WeakEnds
+pub mod WeakLinks
+pub mod WeakLists

@@ -11,7 +11,7 @@ use qo_values::Act;
 use std::sync::ledger::Ledger;
 
 impl Heap {
-    ghost use Rattle.std.specs.Prelude.{◌≡◌, IfSome, Some, option_map};
+    ghost use Rattle.std.specs.Prelude.{◌≡◌, ◌+◌, IfSome, Some, option_map};
     ghost use Rattle.std.specs.Borrow.{sem};
     ghost use Rattle.qo_kinds.specs.Bodies.{MayAct};
     ghost use Rattle.qo_model.specs.declared.notes.Deed.TheVariants.{Did};
@@ -45,7 +45,8 @@ impl Heap {
     /// The body of an object. It takes no memory.
     pub fn body<L: Ledger>(&self, o: Oid, steps: &mut Steps<L>) -> &Body
         requires { IsLive self.now.rows o }
-        ensures { option_map (λ c. c.body) (content_of self.now o.birth) ≡ Some result.now }
+        ensures body { option_map (λ c. c.body) (content_of self.now o.birth) ≡ Some result.now }
+        ensures cost { steps.new ≡ steps.old + 1 }
     {
         self.look(o, steps).body()
     }
@@ -55,6 +56,7 @@ impl Heap {
         requires live { IsLive self.old.rows o }
         ensures* writes_back { sem 𝓛 (lends_body self.entry o result) }
         ensures body { option_map (λ c. c.body) (content_of self.old o.birth) ≡ Some result.now }
+        ensures cost { steps.new ≡ steps.old + 1 }
     {
         entry_mut(&mut self.table, &self.order, o, steps)
             .object
@@ -65,7 +67,8 @@ impl Heap {
     fn run<L: Ledger>(&mut self, o: Oid, act: Act, period: u64, steps: &mut Steps<L>)
         requires live { IsLive self.old.rows o }
         requires timely { IfSome (content_of self.old o.birth) (λ c. MayAct act self.old.time c.body) }
-        ensures { self.new ≡ with_edit o.birth (acted_at act self.old.time period) self.old }
+        ensures now { self.new ≡ with_edit o.birth (acted_at act self.old.time period) self.old }
+        ensures cost { steps.new ≡ steps.old + 1 }
     {
         let time = self.time;
         entry_mut(&mut self.table, &self.order, o, steps)
@@ -78,7 +81,8 @@ impl Heap {
     pub fn act<L: Ledger>(&mut self, o: Oid, act: Act, period: u64, steps: &mut Steps<L>)
         requires live { IsLive self.old.rows o }
         requires timely { IfSome (content_of self.old o.birth) (λ c. MayAct act self.old.time c.body) }
-        ensures { self.new ≡ with_note (record { birth = o.birth; deed = Did act }) (with_edit o.birth (acted_at act self.old.time period) self.old) }
+        ensures now { self.new ≡ with_note (record { birth = o.birth; deed = Did act }) (with_edit o.birth (acted_at act self.old.time period) self.old) }
+        ensures cost { steps.new ≡ steps.old + 1 }
     {
         self.run(o, act, period, steps);
         self.note(Note {

@@ -111,6 +111,15 @@ impl Heap {
             .keep_path(path);
     }
 
+    /// The path that is kept for the end of a device; `None` exactly where none is. It takes no memory.
+    pub fn kept_path<L: Ledger>(&self, o: Oid, steps: &mut Steps<L>) -> Option<&Text>
+        requires { IsLive self.now.rows o }
+        ensures path { option_map (λ p. p.now) result ≡ option_and_then (λ c. c.kept_path) (content_of self.now o.birth) }
+        ensures cost { steps.new ≡ steps.old + 1 }
+    {
+        self.look(o, steps).path()
+    }
+
     /// Adds the event that the guest refused the removal of a device, where its path is kept; where
     /// none is, nothing is added. The error is want of memory, and leaves the heap as it was.
     pub fn refused<L: Ledger>(

@@ -1,64 +1,19 @@
-//! What ends with an object: the weak links that name it, its final notes, its claims, and what is
-//! told of it.
+//! What ends with an object: its final notes, its claims, and what is told of it.
 
-ghost use Rattle.std.specs.Prelude.{◌≡◌, ◌≤◌, if◌then◌else◌, true, [], ◌∷◌, IfSome, map, option_map};
+ghost use Rattle.std.specs.Prelude.{◌≡◌, ◌≤◌, if◌then◌else◌, true, [], ◌∷◌, IfSome, option_map};
 ghost use Rattle.qo_model.specs.Types.{has_finalizer};
 ghost use Rattle.qo_model.specs.declared.notes.Deed.TheVariants.{Final};
-ghost use Rattle.qo_heap.specs.Keeping.{entry_forgets, plain};
 ghost use Rattle.qo_heap.specs.Log.{noted_all};
-ghost use Rattle.qo_heap.specs.Objects.{final_notes, forgets, with_kept_event, without_device, without_kept, without_one};
-ghost use Rattle.qo_heap.specs.Order.{rows_in, IsOrdered};
-ghost use Rattle.qo_heap.specs.Places.{changed_at};
+ghost use Rattle.qo_heap.specs.Objects.{final_notes, with_kept_event, without_device, without_kept, without_one};
 
-use crate::entries::{Entry, entry_mut};
 use crate::heap::Heap;
-use crate::table::key_in;
 use qo_claims::{Claims, Kept};
 use qo_events::{DeviceEvent, Events};
 use qo_kinds::KeptSet;
 use qo_model::{Deed, Note};
-use qo_object::{DeviceId, Oid};
-use qo_slots::{Arena, Steps};
+use qo_object::DeviceId;
 use qo_types::TypeTable;
 use qo_values::{Id, Text, TypeId};
-use std::sync::ledger::Ledger;
-
-/// Empties the weak links of the object at a place that name the object of a birth.
-fn forget_at<L: Ledger>(
-    table: &mut Arena<Entry>,
-    order: &Vec<Oid>,
-    place: usize,
-    birth: u64,
-    steps: &mut Steps<L>,
-)
-    requires { IsOrdered table.old order.now.items }
-    ensures ordered { IsOrdered table.new order.now.items }
-    ensures rows { rows_in table.new order.now.items ≡ changed_at (entry_forgets birth) place (rows_in table.old order.now.items) }
-    ensures born { table.new.born ≡ table.old.born }
-{
-    if let Some(key) = key_in(order.as_slice(), place) {
-        entry_mut(table, order, key, steps).object.forget(birth);
-    }
-}
-
-/// Empties the weak links of all objects that name the object of a birth.
-pub fn forget_all<L: Ledger>(
-    table: &mut Arena<Entry>,
-    order: &Vec<Oid>,
-    birth: u64,
-    steps: &mut Steps<L>,
-)
-    requires { IsOrdered table.old order.now.items }
-    ensures ordered { IsOrdered table.new order.now.items }
-    ensures rows { plain (rows_in table.new order.now.items) ≡ map (forgets birth) (plain (rows_in table.old order.now.items)) }
-    ensures kept { rows_in table.new order.now.items ≡ map (entry_forgets birth) (rows_in table.old order.now.items) }
-    ensures born { table.new.born ≡ table.old.born }
-{
-    let names = order.as_slice();
-    for place in 0..names.len() {
-        forget_at(table, order, place, birth, steps);
-    }
-}
 
 /// Ends a claim, if there is one.
 fn free_one(claims: &mut Claims, kept: Option<Kept>)

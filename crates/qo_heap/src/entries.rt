@@ -1,19 +1,26 @@
 //! An object in the table, with what is kept of it: how many slots hold it, and its parent. Of these
 //! calls `add_object` alone takes memory.
 
-ghost use Rattle.std.specs.Prelude.{◌≡◌, ◌+◌, ◌<◌, ◌≤◌, ◌^◌, true, [], ◌∷◌, ◌++◌, length, Some, IfOk, IfErr, IfSome, OnOk, option_to_list};
-ghost use Rattle.std.specs.List.{AllByRecursion};
+ghost use Rattle.std.specs.Prelude.{◌≡◌, ◌+◌, ◌<◌, ◌≤◌, ◌^◌, if◌then◌else◌, true, false, [], ◌∷◌, ◌++◌, length, Some, Err, IfOk, IfErr, IfSome, OnOk, OnErr, is_some, option_map, option_to_list};
+ghost use Rattle.std.specs.List.{AllByRecursion, IsDistinct};
+ghost use Rattle.std.specs.Str.{bytes_eq};
 ghost use Rattle.std.specs.Borrow.{sem};
-ghost use Rattle.qo_object.specs.Content.{dropped_at, empty_link_at, named_at, pointed_at};
-ghost use Rattle.qo_object.specs.Slots.{target_of};
+ghost use Rattle.qo_object.specs.Content.{cut_at, dropped_at, empty_link_at, named_at, pointed_at, with_all_slots, with_slot};
+ghost use Rattle.qo_object.specs.Slots.{has_name, names_of, target_of};
 ghost use Rattle.qo_heap.specs.Keeping.{all_less, all_more, hold_at, hold_of, holds_in, less_held, more_held, plain, unheld, with_object};
 ghost use Rattle.qo_heap.specs.Loans.{lends_entry};
 ghost use Rattle.qo_heap.specs.Order.{rows_in, IsOrdered};
 ghost use Rattle.qo_heap.specs.Rows.{IsLive, object_at, without};
+ghost use Rattle.qo_heap.specs.WeakLists.{added_links, cut_links, loose_at, loose_of, node_at, with_links};
+ghost use Rattle.qo_heap.specs.WeakLinks.{NumbersRise, weak_name, with_nodes};
+ghost use Rattle.qo_object.specs.declared.errors.AddError.TheVariants.{Duplicate, Memory};
 
 use crate::table::{add, change, take};
-use qo_object::{Object, Oid, Slot, SlotName};
+use crate::weak_links::{Node, WeakLinks};
+use crate::weak_slots::{is_weak, weak_place};
+use qo_object::{AddError, Object, Oid, Slot, SlotName};
 use qo_slots::{Arena, Steps};
+use std::alloc::Global;
 use std::sync::ledger::Ledger;
 
 /// An object in the table, with what is kept of it.
@@ -24,6 +31,8 @@ pub struct Entry {
     pub held: u64,
     /// The object whose child slot names it.
     pub parent: Option<Oid>,
+    /// What is kept of weak links: of those that name it, and of its own.
+    pub links: WeakLinks,
 }
 
 /// An object that a slot holds.
@@ -42,6 +51,27 @@ pub struct Dropped {
     pub named: Option<Oid>,
     /// What it held.
     pub hold: Option<Hold>,
+    /// What it is of a list of weak links.
+    pub loose: Option<Loose>,
+}
+
+/// A weak link that was let go: the object that it named, and where it stood in the list of those that
+/// name it.
+#[derive(Clone, Copy)]
+pub struct Loose {
+    /// The object that it named.
+    pub target: Oid,
+    /// Where it stood.
+    pub node: Node,
+}
+
+/// What a link holds that was pointed, and its number where it is a weak one.
+#[derive(Clone, Copy)]
+pub struct Pointed {
+    /// What it holds.
+    pub hold: Option<Hold>,
+    /// Its number among the weak links of its owner.
+    pub id: Option<u64>,
 }
 
 /// What a slot holds.
@@ -73,15 +103,26 @@ fn hold_in(slots: &[(SlotName, Slot)], at: usize) -> Option<Hold>
     hold_of(&slot.1)
 }
 
+/// A weak link that named an object, if it did, and stood there.
+fn loose_of(named: Option<Oid>, node: Option<Node>) -> Option<Loose>
+    ensures { result ≡ loose_of named node }
+{
+    Some(Loose {
+        target: named?,
+        node: node?,
+    })
+}
+
 impl Entry {
     /// An object that no slot holds yet.
-    pub fn new(object: Object) -> Entry
+    pub fn new(alloc: Global, object: Object) -> Entry
         ensures { result ≡ unheld object }
     {
         Entry {
             object,
             held: 0,
             parent: None,
+            links: WeakLinks::new(alloc),
         }
     }
 
@@ -93,6 +134,7 @@ impl Entry {
             object,
             held: _,
             parent: _,
+            links: _,
         } = self;
         object
     }
@@ -105,25 +147,109 @@ impl Entry {
         hold_of(slot.what)
     }
 
+    /// Where its weak link at a place stands, if there is one.
+    pub fn node_at(&self, at: usize) -> Option<Node>
+        ensures { result ≡ node_at self.now at }
+    {
+        let place = weak_place(&self.object, at)?;
+        self.links.node_at(place)
+    }
+
     /// Lets its slot at a place go.
     pub fn drop_at(&mut self, at: usize) -> Dropped
         ensures now { self.new ≡ with_object (dropped_at at) self.old }
         ensures named { result.named ≡ named_at self.old.object at }
         ensures hold { result.hold ≡ hold_at self.old.object.slots at }
+        ensures loose { result.loose ≡ loose_at self.old at }
     {
         let hold = self.hold_at(at);
+        let node = self.node_at(at);
         let named = self.object.empty(at);
-        Dropped { named, hold }
+        Dropped {
+            named,
+            hold,
+            loose: loose_of(named, node),
+        }
     }
 
     /// Points its link at a place, which has no target, at an object, and answers what it holds then.
-    pub fn point_at(&mut self, at: usize, target: Oid) -> Option<Hold>
+    pub fn point_at(&mut self, at: usize, target: Oid) -> Pointed
         requires { empty_link_at self.old.object at ≡ true }
         ensures now { self.new ≡ with_object (pointed_at target at) self.old }
-        ensures hold { result ≡ hold_at self.new.object.slots at }
+        ensures hold { result.hold ≡ hold_at self.new.object.slots at }
+        ensures id { result.id ≡ option_map (λ x. x.id) (node_at self.old at) }
     {
+        let id = match self.node_at(at) {
+            Some(node) => Some(node.id),
+            None => None,
+        };
         self.object.point(at, target);
-        self.hold_at(at)
+        Pointed {
+            hold: self.hold_at(at),
+            id,
+        }
+    }
+
+    /// Removes its link at a place, which has no target.
+    pub fn cut_at(&mut self, at: usize)
+        requires { empty_link_at self.old.object at ≡ true }
+        ensures { self.new ≡ with_links (cut_links at self.old) (with_object (cut_at at) self.old) }
+    {
+        let place = weak_place(&self.object, at);
+        self.object.cut(at);
+        if let Some(place) = place {
+            self.links.remove(place);
+        }
+    }
+
+    /// Adds a slot after the others. The answer is the number of a weak link. `Duplicate` comes exactly
+    /// where there is a slot of that name; `Memory` where memory runs out. An error leaves all as it was.
+    pub fn add_slot(&mut self, name: SlotName, slot: Slot) -> Result<Option<u64>, AddError>
+        requires { NumbersRise self.old.links.nodes }
+        ensures added { IfOk result (λ id. self.new ≡ with_links (added_links id self.old.links) (with_object (with_slot name slot) self.old)) }
+        ensures id { IfOk result (λ id. is_some id ≡ is_some (weak_name slot)) }
+        ensures above { IfOk result (λ id. IfSome id (λ k. AllByRecursion (λ x. x.id < k) self.old.links.nodes)) }
+        ensures absent { OnOk result (has_name name self.old.object.slots ≡ false) }
+        ensures room { OnOk result (length self.old.object.slots < 2 ^ 32) }
+        ensures duplicate { result ≡ Err Duplicate → has_name name self.old.object.slots ≡ true }
+        ensures memory { result ≡ Err Memory → has_name name self.old.object.slots ≡ false }
+        ensures err { OnErr result (self.new ≡ self.old) }
+    {
+        if !is_weak(&slot) {
+            self.object.add(name, slot)?;
+            return Ok(None);
+        }
+        let Some(id) = self.links.add() else {
+            return Err(self.refused(&name));
+        };
+        match self.object.add(name, slot) {
+            Ok(()) => Ok(Some(id)),
+            Err(error) => {
+                self.links.remove_last();
+                Err(error)
+            }
+        }
+    }
+
+    /// Gives it these slots, whose names differ, and nodes for the weak links among them.
+    pub fn furnish(&mut self, slots: Vec<(SlotName, Slot)>, links: WeakLinks)
+        requires differ { IsDistinct bytes_eq (names_of slots.items) }
+        requires few { length slots.items ≤ 2 ^ 32 }
+        ensures { self.new ≡ with_links (with_nodes links.nodes self.old.links) (with_object (with_all_slots slots.items) self.old) }
+    {
+        self.object.set_slots(slots);
+        self.links.set_nodes(links);
+    }
+
+    /// Why a slot of a name is not added, where there is no memory.
+    fn refused(&self, name: &SlotName) -> AddError
+        ensures { result ≡ (if has_name name.now self.now.object.slots then Duplicate else Memory) }
+    {
+        if self.object.find(name.as_str()).is_some() {
+            AddError::Duplicate
+        } else {
+            AddError::Memory
+        }
     }
 
     /// A slot of an owner more holds it, where `child` says whether as its child.
@@ -171,6 +297,7 @@ pub fn entry_mut<'a, L: Ledger>(
 pub fn add_object<L: Ledger>(
     table: &mut Arena<Entry>,
     order: &mut Vec<Oid>,
+    alloc: Global,
     object: Object,
     steps: &mut Steps<L>,
 ) -> Result<Oid, Object>
@@ -181,7 +308,7 @@ pub fn add_object<L: Ledger>(
     ensures refused { IfErr result (λ back. (back ≡ object) × ((rows_in table.new order.new.items ≡ rows_in table.old order.old.items) × (table.new.born ≡ table.old.born))) }
     ensures cost { OnOk result (steps.new ≡ steps.old + 1) }
 {
-    match add(table, order, Entry::new(object), steps) {
+    match add(table, order, Entry::new(alloc, object), steps) {
         Ok(key) => Ok(key),
         Err(entry) => Err(entry.into_object()),
     }
@@ -220,7 +347,7 @@ pub fn add_hold<L: Ledger>(
     ensures ordered { IsOrdered table.new order.now.items }
     ensures rows { rows_in table.new order.now.items ≡ all_more owner (option_to_list hold) (rows_in table.old order.now.items) }
     ensures born { table.new.born ≡ table.old.born }
-    ensures cost { steps.new ≤ steps.old + 1 }
+    ensures cost { steps.new ≡ steps.old + length (option_to_list hold) }
 {
     if let Some(hold) = hold {
         entry_mut(table, order, hold.key, steps).gain(hold.child, owner);

@@ -1,6 +1,6 @@
 //! The heap, and the calls that make and end objects.
 
-use crate::ends::{forget_all, free_all, tell_deleted};
+use crate::ends::{free_all, tell_deleted};
 use crate::entries::{Entry, add_object, take_object};
 use crate::errors::MakeError;
 use crate::table::into_rest;
@@ -40,12 +40,13 @@ impl Model for Heap {
     ghost use Rattle.qo_heap.specs.Objects.{Objects, IsHeap, HasPlaces, objects_in};
     ghost use Rattle.qo_heap.specs.Keeping.{IsKept};
     ghost use Rattle.qo_heap.specs.Order.{IsOrdered, rows_in};
+    ghost use Rattle.qo_heap.specs.WeakLists.{HasWeakLists};
 
     ghost Value = { Objects };
 
     ghost view = { λ h. objects_in h.table h.order.items h.claims h.notes.items h.total h.time h.events };
 
-    ghost invariant = { λ h. (IsHeap (objects_in h.table h.order.items h.claims h.notes.items h.total h.time h.events) × HasPlaces (objects_in h.table h.order.items h.claims h.notes.items h.total h.time h.events)) × (IsOrdered h.table h.order.items × (IsKept (rows_in h.table h.order.items) × ((h.notes.capacity ≡ NOTES_KEPT) × (length h.notes.items ≡ min h.total NOTES_KEPT)))) };
+    ghost invariant = { λ h. (IsHeap (objects_in h.table h.order.items h.claims h.notes.items h.total h.time h.events) × HasPlaces (objects_in h.table h.order.items h.claims h.notes.items h.total h.time h.events)) × (IsOrdered h.table h.order.items × (IsKept (rows_in h.table h.order.items) × (HasWeakLists (rows_in h.table h.order.items) × ((h.notes.capacity ≡ NOTES_KEPT) × (length h.notes.items ≡ min h.total NOTES_KEPT))))) };
 }
 
 impl Drop for Heap {
@@ -75,13 +76,14 @@ impl Drop for Heap {
 }
 
 impl Heap {
-    ghost use Rattle.std.specs.Prelude.{◌≡◌, ◌+◌, ◌<◌, ◌≤◌, ◌^◌, [], ◌∷◌, ◌++◌, length, IfOk, OnErr, Err, Some, option_map};
+    ghost use Rattle.std.specs.Prelude.{◌≡◌, ◌+◌, ◌*◌, ◌<◌, ◌≤◌, ◌^◌, [], ◌∷◌, ◌++◌, length, IfOk, OnOk, OnErr, Err, Some, option_map};
     ghost use Rattle.qo_heap.specs.Board.{Shows};
     ghost use Rattle.qo_model.specs.Board.{Board};
     ghost use Rattle.qo_object.specs.Content.{fresh, reference_count};
     ghost use Rattle.qo_heap.specs.Keeping.{holders};
     ghost use Rattle.qo_heap.specs.Rows.{IsLive};
     ghost use Rattle.qo_heap.specs.Objects.{IsHeap, content_of, ended, no_objects_made, parent_of, refs_of};
+    ghost use Rattle.qo_heap.specs.WeakEnds.{weak_ends};
     ghost use Rattle.qo_heap.specs.declared.errors.MakeError.TheVariants.{Limit, Memory as NoMemory};
 
     /// A heap without objects. It takes the memory for all the notes that it will keep at once:
@@ -151,6 +153,7 @@ impl Heap {
         ensures limit { result ≡ Err Limit → length self.old.rows ≡ LIVE_OBJECTS_MAX }
         ensures memory { result ≡ Err NoMemory → length self.old.rows < LIVE_OBJECTS_MAX }
         ensures err { OnErr result (self.new ≡ self.old) }
+        ensures cost { OnOk result (steps.new ≡ steps.old + 1) }
     {
         if self.live() as u64 >= LIVE_OBJECTS_MAX {
             return Err(MakeError::Limit);
@@ -158,6 +161,7 @@ impl Heap {
         match add_object(
             &mut self.table,
             &mut self.order,
+            alloc,
             Object::new(alloc, kind),
             steps,
         ) {
@@ -166,14 +170,29 @@ impl Heap {
         }
     }
 
-    /// Ends an object to which nothing refers and that holds nothing: adds its final notes, derived
-    /// first, frees its claims, adds the event of a device whose path is kept, empties the weak links
-    /// that name it, and removes it. It takes no memory.
+    /// Ends an object to which nothing refers and that holds nothing: empties the weak links that name
+    /// it, adds its final notes, derived first, frees its claims, adds the event of a device whose path
+    /// is kept, and removes it. It takes no memory.
     pub fn finish<L: Ledger>(&mut self, o: Oid, steps: &mut Steps<L>)
         requires live { IsLive self.old.rows o }
         requires free { refs_of self.old o.birth ≡ 0 }
         requires bare { option_map reference_count (content_of self.old o.birth) ≡ Some 0 }
-        ensures { option_map (λ c. ended o.birth c self.old) (content_of self.old o.birth) ≡ Some self.new }
+        ensures now { option_map (λ c. ended o.birth c self.old) (content_of self.old o.birth) ≡ Some self.new }
+        ensures cost { steps.new ≤ steps.old + 2 + 4 * weak_ends o.birth self.old.rows }
+    {
+        while self.drop_weak_end(o, steps) {}
+        self.remove(o, steps);
+    }
+
+    /// Removes an object to which nothing refers, that holds nothing, that no weak link names and whose
+    /// own weak links are empty, with its final notes, its claims and its event.
+    fn remove<L: Ledger>(&mut self, o: Oid, steps: &mut Steps<L>)
+        requires live { IsLive self.old.rows o }
+        requires free { refs_of self.old o.birth ≡ 0 }
+        requires bare { option_map reference_count (content_of self.old o.birth) ≡ Some 0 }
+        requires alone { weak_ends o.birth self.old.rows ≡ 0 }
+        ensures now { option_map (λ c. ended o.birth c self.old) (content_of self.old o.birth) ≡ Some self.new }
+        ensures cost { steps.new ≡ steps.old + 1 }
     {
         let FinalizedParts {
             kind,
@@ -183,7 +202,6 @@ impl Heap {
         } = take_object(&mut self.table, &mut self.order, o, steps).into_finalized_parts();
         let id = free_all(&mut self.claims, kept, id);
         tell_deleted(&mut self.events, id, path);
-        forget_all(&mut self.table, &self.order, o.birth, steps);
         self.note_end(o.birth, kind);
     }
 }

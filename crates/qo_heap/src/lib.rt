@@ -11,6 +11,7 @@ mod errors;
 mod heap;
 pub mod laws;
 mod links;
+mod new_slots;
 mod notes;
 mod reads;
 mod room;
@@ -19,9 +20,15 @@ mod table;
 #[cfg(test)]
 mod tests;
 mod tree;
+mod weak_ends;
+mod weak_links;
+mod weak_lists;
+mod weak_slots;
 
 pub use ends::free_kept;
 pub use errors::{MakeError, SlotError};
 pub use heap::Heap;
+pub use new_slots::NewSlots;
 pub use qo_object::{Oid, Side, Slot, SlotName, SlotView, Work};
 pub use qo_slots::{Key, Steps};
+pub use reads::Summary;

@@ -3,6 +3,7 @@
 
 use crate::entries::{add_hold, end_hold, entry_mut};
 use crate::heap::Heap;
+use crate::weak_lists::{join, leave};
 use qo_object::Oid;
 use qo_slots::Steps;
 use qo_values::Val;
@@ -24,6 +25,7 @@ impl Heap {
     {
         let dropped = entry_mut(&mut self.table, &self.order, o, steps).drop_at(at);
         end_hold(&mut self.table, &self.order, dropped.hold, steps);
+        leave(&mut self.table, &self.order, dropped.loose, steps);
         dropped.named
     }
 
@@ -35,8 +37,16 @@ impl Heap {
         ensures now { self.new ≡ with_edit o.birth (pointed_at target at) self.old }
         ensures cost { steps.new ≤ steps.old + 4 }
     {
-        let hold = entry_mut(&mut self.table, &self.order, o, steps).point_at(at, target);
-        add_hold(&mut self.table, &self.order, hold, o, steps);
+        let pointed = entry_mut(&mut self.table, &self.order, o, steps).point_at(at, target);
+        add_hold(&mut self.table, &self.order, pointed.hold, o, steps);
+        join(
+            &mut self.table,
+            &self.order,
+            o,
+            pointed.id,
+            Some(target),
+            steps,
+        );
     }
 
     /// Gives the plain slot at a place a value; any other slot stays.
@@ -57,9 +67,7 @@ impl Heap {
         ensures now { self.new ≡ with_edit o.birth (cut_at at) self.old }
         ensures cost { steps.new ≡ steps.old + 1 }
     {
-        entry_mut(&mut self.table, &self.order, o, steps)
-            .object
-            .cut(at);
+        entry_mut(&mut self.table, &self.order, o, steps).cut_at(at);
     }
 
     /// Holds an object from outside the tree once more; it may be so held 2^32 times.

@@ -2,13 +2,14 @@
 //! these calls takes memory.
 
 use crate::heap::Heap;
-use crate::table::key_in;
+use crate::table::{key_in, place_of};
 use qo_object::{Oid, SlotView};
 use qo_slots::Steps;
 use std::sync::ledger::Ledger;
 
 impl Heap {
-    ghost use Rattle.std.specs.Prelude.{◌≡◌, ◌+◌, find, option_map, position, slice_get};
+    ghost use Rattle.std.specs.Prelude.{◌≡◌, ◌+◌, find, leb, option_map, position, slice_get};
+    ghost use Rattle.std.specs.List.{position_or_len};
     ghost use Rattle.qo_object.specs.Slots.{names_child};
     ghost use Rattle.qo_heap.specs.Rows.{IsLive};
     ghost use Rattle.qo_heap.specs.Objects.{slots_of};
@@ -18,6 +19,14 @@ impl Heap {
         ensures { result ≡ option_map (λ row. row.0) (slice_get self.now.rows place) }
     {
         key_in(self.order.as_slice(), place)
+    }
+
+    /// The place of the first object of a birth or a later one, in the order of births; where none is
+    /// as high, the place past the last.
+    pub fn place_from(&self, birth: u64) -> usize
+        ensures { result ≡ position_or_len (λ row. leb birth row.0.birth) self.now.rows }
+    {
+        place_of(self.order.as_slice(), birth)
     }
 
     /// The first slot of an object that has the object of a birth as a child; `None` exactly where

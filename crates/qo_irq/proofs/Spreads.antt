@@ -6,7 +6,7 @@ use Rattle.std.proofs.lemmas.List.{get_or_past}
 use Rattle.qo_irq.specs.declared.gate.Gate.{Gate}
 use Rattle.qo_irq.specs.declared.gate.Gate.TheVariants.{Input, Or, Copy, Off}
 use Rattle.qo_irq.specs.Wires.{wire_of, is_input, gate_level, level_at}
-use Rattle.qo_irq.specs.Kept.{gate_at, names, depends, dependants_at, IsSettled, AreWired, InputsStay, IsSpreading}
+use Rattle.qo_irq.specs.Kept.{gate_at, names, depends, dependants_at, IsSettled, AreMarked, AreWired, InputsStay, IsSpreading}
 use Rattle.qo_irq.proofs.Levels.{gate_level-other}
 
 -- a line waits no longer
@@ -45,15 +45,6 @@ rests gates levels pending line last spreading within settled = record {
   pending_all = length-set pending line false ∙ spreading.pending_all;
   within = spreading.within;
 }
-
--- what was marked
-pub record AreMarked (dependants : List ℕ) (old new : List Bool) (last highest : ℕ) : Type 0 where
-  pub marked : (i : ℕ) → i < length old → depends i dependants ≡ true → level_at new i ≡ true
-  pub others : (i : ℕ) → depends i dependants ≡ false → level_at new i ≡ level_at old i
-  pub above : (i : ℕ) → i < length old → depends i dependants ≡ true → i ≤ highest
-  pub least : last ≤ highest
-  pub within : highest < length old
-  pub same : length new ≡ length old
 
 -- a line that is marked is there
 marked-there : (pending : List Bool) (i : ℕ) → level_at pending i ≡ true → i < length pending

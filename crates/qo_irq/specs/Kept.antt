@@ -70,3 +70,12 @@ pub record IsSpreading (gates : List Gate) (levels pending : List Bool) (line la
   pub levels_all : length levels ≡ length gates
   pub pending_all : length pending ≡ length gates
   pub within : last < length gates
+
+-- what was marked: of some lines those that are there, with the highest of them or the last before
+pub record AreMarked (dependants : List ℕ) (old new : List Bool) (last highest : ℕ) : Type 0 where
+  pub marked : (i : ℕ) → i < length old → depends i dependants ≡ true → level_at new i ≡ true
+  pub others : (i : ℕ) → depends i dependants ≡ false → level_at new i ≡ level_at old i
+  pub above : (i : ℕ) → i < length old → depends i dependants ≡ true → i ≤ highest
+  pub least : last ≤ highest
+  pub within : highest < length old
+  pub same : length new ≡ length old

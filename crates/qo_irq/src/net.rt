@@ -72,6 +72,17 @@ impl Net {
         }
     }
 
+    /// Lets all lines go, and keeps its memory for those that are added next. It takes no memory.
+    pub fn clear(&mut self)
+        ensures { self.new ≡ [] }
+    {
+        self.gates.clear();
+        self.dependants.clear();
+        self.levels.clear();
+        self.pending.clear();
+        self.inputs = 0;
+    }
+
     /// Adds a line, and answers its number: that of the lines before it. An input begins low. An error
     /// adds nothing: `BadRef` where the gate names a line that is not there, else `Full` at `MAX_LINES`
     /// lines, or `Memory`.

@@ -16,7 +16,7 @@ use Rattle.qo_object.specs.Slots.{Named}
 use Rattle.qo_heap.specs.Board.{Shows}
 use Rattle.qo_heap.specs.Objects.{Objects, slots_of}
 use Rattle.qo_heap.proofs.BoardReads.{shows-slots}
-use Rattle.qo_layout.specs.Numbering.{below_at, below_in}
+use Rattle.qo_layout.specs.Numbering.{NoneBefore, below_at, below_in}
 use Rattle.qo_layout.specs.Growth.{HasAll, HasMore}
 use Rattle.qo_layout.specs.Rows.{AreLines, AreRows, HasRow}
 use Rattle.qo_layout.specs.declared.wiring.Row.{Row}
@@ -50,6 +50,10 @@ filter-next g (x ∷ xs) (suc i) low =
 slots-shown : (b : Board) (v : Objects) → Shows b v → (n : ℕ) → length (slots_at b n) ≡ length (slots_of v n)
 slots-shown b v s n =
     ap (λ (xs : List (List ℕ × Slot)). length xs) (shows-slots b v s n) ∙ length-map (slots_of v n) (λ (t : Named). (t.0, shown_slot t.1))
+
+pub lines-first : (b : Board) (rows : List Row) (n at : ℕ) (bus : Bool) (lines : List ℕ) → bus ≡ is_of b (codes "bus") n → NoneBefore b n at → lines ≡ []
+    → AreLines rows (filter_map (below_in b bus) (take at (slots_at b n))) lines
+lines-first b rows n at bus lines is none e = rw (is, none, e) tt
 
 pub lines-next : (b : Board) (v : Objects) → Shows b v → (rows : List Row) (n at count : ℕ) (bus : Bool) (old new : List ℕ) → count ≡ length (slots_of v n)
     → at < count

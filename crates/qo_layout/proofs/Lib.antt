@@ -11,10 +11,13 @@ pub mod PlaceLemmas
 pub mod RankLemmas
 pub mod RecordsLemmas
 pub mod RegionLemmas
+pub mod SameObjectLemmas
+pub mod SameViewLemmas
 pub mod ShowLemmas
 pub mod ShownLemmas
 pub mod WindowLemmas
 pub mod BelowLemmas
+pub mod LeafLemmas
 pub mod LineLemmas
 pub mod LineOrderLemmas
 pub mod LineRecordsLemmas

@@ -16,7 +16,7 @@ use Rattle.qo_model.specs.Types.{is_a}
 use Rattle.qo_heap.specs.Board.{Shows}
 use Rattle.qo_heap.specs.Objects.{Objects, content_of, slots_of}
 use Rattle.qo_heap.proofs.BoardReads.{shows-of, shows-size, shows-slots}
-use Rattle.qo_layout.specs.Numbering.{below_in, births_of, post_at, post_within}
+use Rattle.qo_layout.specs.Numbering.{NoneBefore, below_in, births_of, post_at, post_within}
 
 -- one slot more
 module _ {X : Type 0} (f : ℕ → List ℕ) (g : X → Option ℕ) where
@@ -40,9 +40,13 @@ module _ {X : Type 0} (f : ℕ → List ℕ) (g : X → Option ℕ) where
       ∙ ap (λ (ms : List ℕ). ms ++ option_map_or f (option_and_then g (slice_get xs i)) []) (sym (more-mapped (g x) (filter_map g (take i xs))))
 
 -- an object has as many slots on the board as in the heap
-slots-shown : (b : Board) (v : Objects) → Shows b v → (n : ℕ) → length (slots_at b n) ≡ length (slots_of v n)
+pub slots-shown : (b : Board) (v : Objects) → Shows b v → (n : ℕ) → length (slots_at b n) ≡ length (slots_of v n)
 slots-shown b v s n =
     ap (λ (xs : List (List ℕ × Slot)). length xs) (shows-slots b v s n) ∙ length-map (slots_of v n) (λ (t : Named). (t.0, shown_slot t.1))
+
+pub listed-first : (b : Board) (levels n at : ℕ) (bus : Bool) (old : List ℕ) → bus ≡ is_of b (codes "bus") n → NoneBefore b n at
+    → old ≡ old ++ flat_map (post_within b levels) (filter_map (below_in b bus) (take at (slots_at b n)))
+listed-first b levels n at bus old is none = rw (is, none) (sym (append-nil old))
 
 pub listed-next : (b : Board) (v : Objects) → Shows b v → (levels n at count : ℕ) (bus : Bool) (first old new : List ℕ) → count ≡ length (slots_of v n) → at < count
     → old ≡ first ++ flat_map (post_within b levels) (filter_map (below_in b bus) (take at (slots_at b n)))

@@ -322,12 +322,13 @@ set-earlier b rows wires i k high r before within (Some x) e is =
 
 -- and of the row itself
 set-own : (b : Board) (wires : List Wire) (o : Option ℕ) (object : ℕ) (high : Bool) → IfSome o (λ x. (x < length wires) × (is_input (wire_at wires x) ≡ true))
-    → high ≡ input_of b object → IfSome o (λ x. wire_at (with_input o high wires) x ≡ input (input_of b object))
+    → IfSome o (λ _. high ≡ input_of b object) → IfSome o (λ x. wire_at (with_input o high wires) x ≡ input (input_of b object))
 set-own b wires None object high h is = tt
 set-own b wires (Some x) object high h is = get_or-set_same wires x (input high) (input false) h.0 ∙ ap input is
 
 pub set-next : (b : Board) (rows : List Row) (wires more : List Wire) (i : ℕ) (high : Bool) → AreRows rows wires → i < length rows
-    → more ≡ with_input (row_at rows i).input high wires → high ≡ input_of b (row_at rows i).object → SetTo b rows wires i → SetTo b rows more (i + 1)
+    → more ≡ with_input (row_at rows i).input high wires → IfSome (row_at rows i).input (λ _. high ≡ input_of b (row_at rows i).object) → SetTo b rows wires i
+    → SetTo b rows more (i + 1)
 set-next b rows wires more i high r within e is before k below = rw e (⊎_elim
     (λ (early : k < i). set-earlier b rows wires i k high r early within (row_at rows i).input refl (before k early))
     (λ past. let same : k ≡ i = omega (arith, past, below) in

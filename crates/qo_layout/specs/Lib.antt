@@ -1,3 +1,4 @@
+pub mod Kept
 pub mod Layout
 pub mod Numbering
 pub mod Growth
@@ -5,3 +6,4 @@ pub mod LineLaws
 pub mod Lines
 pub mod Registers
 pub mod Rows
+pub mod SameViews

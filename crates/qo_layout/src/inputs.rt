@@ -30,12 +30,13 @@ fn input_at<L: Ledger>(heap: &Heap, object: u64, steps: &mut Steps<L>) -> bool
 fn set_input<L: Ledger>(net: &mut Net, row: Row, heap: &Heap, steps: &mut Steps<L>)
     requires timely { AreTimely heap.now }
     requires settable { IfSome row.input (λ x. (x < length net.old) × (is_input (wire_at net.old x) ≡ true)) }
-    ensures { (high : Bool) × ((net.new ≡ with_input row.input high net.old) × ((b : Board) → Shows b heap.now → ClocksFit b → high ≡ input_of b row.object)) }
+    ensures { (high : Bool) × ((net.new ≡ with_input row.input high net.old) × ((b : Board) → Shows b heap.now → ClocksFit b → IfSome row.input (λ _. high ≡ input_of b row.object))) }
 {
+    let Some(input) = row.input else {
+        return;
+    };
     let high = input_at(heap, row.object, steps);
-    if let Some(input) = row.input {
-        net.set(input, high);
-    }
+    net.set(input, high);
 }
 
 /// Sets the inputs of all rows. It takes no memory.

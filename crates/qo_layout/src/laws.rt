@@ -2,6 +2,7 @@
 
 ghost use Rattle.qo_layout.specs.Layout.{MapLaw, WindowLaw};
 ghost use Rattle.qo_layout.specs.LineLaws.{LinesLaw, SameLinesLaw, TimelyLaw, TurnsLaw};
+ghost use Rattle.qo_layout.specs.SameViews.{SameViewLaw};
 
 /// On a sound board a device that is found at slots from the root bus on shows at the address of these
 /// slots: there the map has the device, and at four bytes for each register the register's place in it.
@@ -41,4 +42,11 @@ pub fn law_same()
 #[tactic(auto, using(crate::proofs::TimeLemmas::timely_lem))]
 pub fn law_timely()
     ensures { TimelyLaw }
+{}
+
+/// Boards with the same objects have the same flat view, whatever the registers of these read, where each
+/// DIMM has the same range.
+#[tactic(auto, using(crate::proofs::SameViewLemmas::same_view_lem))]
+pub fn law_same_view()
+    ensures { SameViewLaw }
 {}

@@ -10,6 +10,7 @@
 
 mod addresses;
 mod inputs;
+mod kept;
 pub mod laws;
 mod lines;
 mod maps;
@@ -26,8 +27,8 @@ pub use addresses::{
     BOOT_LEAF, BOOT_SIZE, DEVICE_REGISTERS, DEVICE_SIZE, LOW_SIZE, MEMORY_AT, MEMORY_SIZE,
     ROOT_SIZE, SLOTS_AT,
 };
+pub use kept::KeptView;
 pub use lines::Lines;
 pub use maps::{BoardMap, memory_map};
-pub use numbering::{below_in_slot, mapped};
-pub use views::{REGISTER_SIZE, RegisterPlace, flat_view, register_at};
+pub use views::{REGISTER_SIZE, RegisterPlace, flat_view};
 pub use wiring::{Row, Wiring};

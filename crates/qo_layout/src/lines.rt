@@ -1,6 +1,6 @@
 //! The interrupt lines of a board.
 
-ghost use Rattle.std.specs.Prelude.{◌≡◌, IfErr, IfOk};
+ghost use Rattle.std.specs.Prelude.{◌≡◌, [], IfErr, IfOk};
 ghost use Rattle.qo_heap.specs.Board.{Shows};
 ghost use Rattle.qo_irq.specs.declared.errors.NetError.TheVariants.{Memory};
 ghost use Rattle.qo_layout.specs.Lines.{irq_of};
@@ -12,11 +12,11 @@ ghost use Rattle.qo_sound_devices.specs.SoundDevices.{SoundDevices};
 ghost use Rattle.qo_sound_shapes.specs.SoundShape.{SoundShape};
 
 use crate::inputs::set_inputs;
-use crate::numbering::mapped;
+use crate::numbering::list_mapped;
 use crate::rows::add_objects;
-use crate::slots::{slot_bits, slot_lines};
+use crate::slots::{list_slots, slot_bits};
 use crate::wiring::Row;
-use qo_heap::{Heap, Steps};
+use qo_heap::{Heap, Oid, Steps};
 use qo_irq::{Net, NetError};
 use std::alloc::Global;
 use std::marker::Model;
@@ -30,6 +30,8 @@ pub struct Lines {
     rows: Vec<Row>,
     /// The line of the device in each slot of the root bus.
     slots: Vec<Option<u32>>,
+    /// The objects of the rows, which are looked at only while the lines are made.
+    objects: Vec<Oid>,
 }
 
 impl Model for Lines {
@@ -43,6 +45,18 @@ impl Model for Lines {
 }
 
 impl Lines {
+    /// No lines. It takes no memory.
+    pub fn none(alloc: Global) -> Lines
+        ensures { result ≡ record { wires = []; rows = []; slots = [] } }
+    {
+        Lines {
+            net: Net::new(alloc),
+            rows: Vec::new(alloc),
+            slots: Vec::new(alloc),
+            objects: Vec::new(alloc),
+        }
+    }
+
     /// The lines of the board of a heap. On a sound board the one error is want of memory, `Memory`; on
     /// another one `BadRef` comes where what is below an object has no line, and `Full` at `MAX_LINES` lines.
     pub fn make<L: Ledger>(
@@ -54,12 +68,37 @@ impl Lines {
         ensures lines { (b : Board) → Shows b heap.now → SoundShape b → ClocksFit b → IfOk result (λ lines. LinesAre b lines) }
         ensures err { (b : Board) → Shows b heap.now → SoundDevices b → SoundShape b → IfErr result (λ e. e ≡ Memory) }
     {
+        Lines::none(alloc).remade(alloc, heap, steps)
+    }
+
+    /// The same, in the memory of these lines, which are let go.
+    pub fn remade<L: Ledger>(
+        self,
+        alloc: Global,
+        heap: &Heap,
+        steps: &mut Steps<L>,
+    ) -> Result<Lines, NetError>
+        requires { AreTimely heap.now }
+        ensures lines { (b : Board) → Shows b heap.now → SoundShape b → ClocksFit b → IfOk result (λ lines. LinesAre b lines) }
+        ensures err { (b : Board) → Shows b heap.now → SoundDevices b → SoundShape b → IfErr result (λ e. e ≡ Memory) }
+    {
         heap.reveal_invariant();
-        let objects = mapped(alloc, heap, steps)?;
-        let (mut net, rows) = add_objects(alloc, heap, &objects, steps)?;
-        let slots = slot_lines(alloc, heap, &rows, steps)?;
+        let Lines {
+            mut net,
+            mut rows,
+            mut slots,
+            mut objects,
+        } = self;
+        list_mapped(heap, &mut objects, steps)?;
+        add_objects(alloc, heap, &objects, &mut net, &mut rows, steps)?;
+        list_slots(heap, &rows, &mut slots, steps)?;
         set_inputs(&mut net, &rows, heap, steps);
-        Ok(Lines { net, rows, slots })
+        Ok(Lines {
+            net,
+            rows,
+            slots,
+            objects,
+        })
     }
 
     /// Reads all registers that lines hang on again, where no object has come below a bus of the machine,

@@ -10,8 +10,11 @@ ghost use Rattle.qo_model.specs.Reset.{post};
 ghost use Rattle.qo_object.specs.BoardObject.{birth_of};
 ghost use Rattle.qo_heap.specs.Board.{Shows};
 ghost use Rattle.qo_layout.specs.Layout.{mapped};
-ghost use Rattle.qo_layout.specs.Numbering.{below_at, births_of, post_at, post_within};
+ghost use Rattle.qo_layout.specs.Numbering.{below_at, births_of, first_below, post_at, post_within};
+ghost use Rattle.qo_sound_shapes.specs.SoundShape.{SoundShape};
 
+use crate::registers::wiring;
+use crate::wiring::Wiring;
 use qo_buses::{bus_in_slot, is_of, kid_in_slot};
 use qo_heap::{Heap, Oid, Steps};
 use qo_values::{MEMORY_BUS_BIRTH, ROOT_BUS_BIRTH};
@@ -19,7 +22,7 @@ use std::alloc::{AllocError, Global};
 use std::sync::ledger::Ledger;
 
 /// What is below an object in the slot at a place: of a bus a device, of any other object a bus.
-pub fn below_in_slot<L: Ledger>(
+pub(crate) fn below_in_slot<L: Ledger>(
     heap: &Heap,
     o: Oid,
     bus: bool,
@@ -37,6 +40,19 @@ pub fn below_in_slot<L: Ledger>(
     }
 }
 
+/// The first place of a slot with something below an object, of so many slots: of a bus any may be, of a
+/// bridge the last one, and of another device none is.
+pub(crate) fn first_below(driven: Wiring, count: usize) -> usize
+    ensures first { result ≡ first_below driven count }
+    ensures within { result ≤ count }
+{
+    match driven {
+        Wiring::Own => count,
+        Wiring::Masked => count.saturating_sub(1),
+        Wiring::Joined => 0,
+    }
+}
+
 /// Adds what is in a slot of an object, after all that is below it, to a depth.
 #[cycle(numbering)]
 fn list_in_slot<L: Ledger>(
@@ -50,7 +66,7 @@ fn list_in_slot<L: Ledger>(
 ) -> Result<(), AllocError>
     requires live { IsLive heap.now.rows o }
     requires all_live { All (IsLive heap.now.rows) objects.old.items }
-    ensures listed { (b : Board) → Shows b heap.now → OnOk result (births_of objects.new.items ≡ births_of objects.old.items ++ post_at b levels bus o.birth at) }
+    ensures listed { (b : Board) → Shows b heap.now → SoundShape b → OnOk result (births_of objects.new.items ≡ births_of objects.old.items ++ post_at b levels bus o.birth at) }
     ensures all_live { All (IsLive heap.now.rows) objects.new.items }
 {
     if let Some(child) = below_in_slot(heap, o, bus, at, steps) {
@@ -70,7 +86,7 @@ fn list_below<L: Ledger>(
 ) -> Result<(), AllocError>
     requires live { IsLive heap.now.rows o }
     requires all_live { All (IsLive heap.now.rows) objects.old.items }
-    ensures listed { (b : Board) → Shows b heap.now → OnOk result (births_of objects.new.items ≡ births_of objects.old.items ++ post_within b levels o.birth) }
+    ensures listed { (b : Board) → Shows b heap.now → SoundShape b → OnOk result (births_of objects.new.items ≡ births_of objects.old.items ++ post_within b levels o.birth) }
     ensures all_live { All (IsLive heap.now.rows) objects.new.items }
 {
     if levels == 0 {
@@ -78,7 +94,8 @@ fn list_below<L: Ledger>(
     }
     let bus = is_of(heap, o, "bus", steps);
     let count = heap.slot_count(o, steps);
-    for at in 0..count {
+    let first = first_below(wiring(heap, o, steps), count);
+    for at in first..count {
         list_in_slot(heap, o, bus, at, levels - 1, objects, steps)?;
     }
     objects.push(o)?;
@@ -93,7 +110,7 @@ fn list_bus<L: Ledger>(
     steps: &mut Steps<L>,
 ) -> Result<(), AllocError>
     requires { All (IsLive heap.now.rows) objects.old.items }
-    ensures listed { (b : Board) → Shows b heap.now → is_of b (codes "bus") birth ≡ true → OnOk result (births_of objects.new.items ≡ births_of objects.old.items ++ post b birth) }
+    ensures listed { (b : Board) → Shows b heap.now → SoundShape b → is_of b (codes "bus") birth ≡ true → OnOk result (births_of objects.new.items ≡ births_of objects.old.items ++ post b birth) }
     ensures all_live { All (IsLive heap.now.rows) objects.new.items }
 {
     heap.reveal_invariant();
@@ -103,18 +120,31 @@ fn list_bus<L: Ledger>(
     list_below(heap, bus, heap.live() + 1, objects, steps)
 }
 
+/// Lists the objects that have a region, in the order of their numbers, in place of what was listed.
+pub(crate) fn list_mapped<L: Ledger>(
+    heap: &Heap,
+    objects: &mut Vec<Oid>,
+    steps: &mut Steps<L>,
+) -> Result<(), AllocError>
+    ensures listed { (b : Board) → Shows b heap.now → SoundShape b → is_of b (codes "bus") ROOT_BUS_BIRTH ≡ true → is_of b (codes "bus") MEMORY_BUS_BIRTH ≡ true → OnOk result (births_of objects.new.items ≡ mapped b) }
+    ensures live { All (IsLive heap.now.rows) objects.new.items }
+{
+    objects.clear();
+    list_bus(heap, ROOT_BUS_BIRTH, objects, steps)?;
+    list_bus(heap, MEMORY_BUS_BIRTH, objects, steps)
+}
+
 /// The objects that have a region, in the order of their numbers.
-pub fn mapped<L: Ledger>(
+pub(crate) fn mapped<L: Ledger>(
     alloc: Global,
     heap: &Heap,
     steps: &mut Steps<L>,
 ) -> Result<Vec<Oid>, AllocError>
-    ensures listed { (b : Board) → Shows b heap.now → is_of b (codes "bus") ROOT_BUS_BIRTH ≡ true → is_of b (codes "bus") MEMORY_BUS_BIRTH ≡ true → IfOk result (λ objects. births_of objects.items ≡ mapped b) }
+    ensures listed { (b : Board) → Shows b heap.now → SoundShape b → is_of b (codes "bus") ROOT_BUS_BIRTH ≡ true → is_of b (codes "bus") MEMORY_BUS_BIRTH ≡ true → IfOk result (λ objects. births_of objects.items ≡ mapped b) }
     ensures live { IfOk result (λ objects. All (IsLive heap.now.rows) objects.items) }
 {
     let mut objects = Vec::new(alloc);
-    list_bus(heap, ROOT_BUS_BIRTH, &mut objects, steps)?;
-    list_bus(heap, MEMORY_BUS_BIRTH, &mut objects, steps)?;
+    list_mapped(heap, &mut objects, steps)?;
     Ok(objects)
 }
 

@@ -1,20 +1,22 @@
 //! What the registers of objects say of their lines.
 
-ghost use Rattle.std.specs.Prelude.{◌≡◌, is_some};
-ghost use Rattle.qo_buses.specs.Rings.{claimed_ring};
+ghost use Rattle.std.specs.Prelude.{◌≡◌, ◌≤◌, ◌&&◌, ◌/◌, ◌%◌, ◌==◌, false, if◌then◌else◌, not};
+ghost use Rattle.qo_values.specs.Timer.{timer_count};
+ghost use Rattle.qo_values.specs.Uart.{uart_status};
 ghost use Rattle.qo_heap.specs.Board.{Shows};
 ghost use Rattle.qo_heap.specs.Rows.{IsLive};
 ghost use Rattle.qo_kinds.specs.Bodies.{registers_in};
-ghost use Rattle.qo_layout.specs.Registers.{AreTimely, is_hidden, register, registers_at, timer_asks, uart_asks};
+ghost use Rattle.qo_layout.specs.Registers.{AreTimely, registers_at};
 ghost use Rattle.qo_layout.specs.Rows.{input_of, wiring};
 ghost use Rattle.qo_model.specs.Board.{Board};
-ghost use Rattle.qo_model.specs.Clocks.{ClocksFit};
+ghost use Rattle.qo_model.specs.Clocks.{ClocksFit, device_period};
 
 use crate::wiring::Wiring;
-use qo_buses::claimed_ring;
 use qo_clocks::device_period;
 use qo_heap::{Heap, Oid, Steps};
-use qo_kinds::Device;
+use qo_kinds::{Bridge, Device};
+use qo_timer::Timer;
+use qo_uart::Uart;
 use std::sync::ledger::Ledger;
 
 /// The control register of a timer and of a bridge.
@@ -30,57 +32,53 @@ const UART_SCRATCH: u8 = 3;
 /// COUNT of a timer.
 const TIMER_COUNT: u8 = 2;
 
-/// Whether a device has claimed a ring.
-fn has_ring<L: Ledger>(heap: &Heap, dev: Oid, steps: &mut Steps<L>) -> bool
-    requires { IsLive heap.now.rows dev }
-    ensures { (b : Board) → Shows b heap.now → result ≡ is_some (claimed_ring b dev.birth) }
+/// Whether a UART asks for attention. That it is ready hangs neither on its ring nor on its clock.
+fn uart_asks(uart: &Uart) -> bool
+    ensures { result ≡ ((uart_status uart.now false 0 / 4 % 2 == 1) && not (uart.now.scratch == 0)) }
 {
-    claimed_ring(heap, dev, steps).is_some()
-}
-
-/// What a register reads; 0 where it is absent.
-fn register<L: Ledger>(heap: &Heap, o: Oid, reg: u8, steps: &mut Steps<L>) -> u32
-    requires live { IsLive heap.now.rows o }
-    requires timely { AreTimely heap.now }
-    ensures { (b : Board) → Shows b heap.now → ClocksFit b → result ≡ register b o.birth reg }
-{
-    let ring = has_ring(heap, o, steps);
-    let period = device_period(heap, o, steps);
-    let time = heap.time();
-    heap.body(o, steps)
-        .read(reg, ring, time, period)
-        .unwrap_or(0)
-}
-
-/// Whether a UART asks for attention.
-fn uart_asks<L: Ledger>(heap: &Heap, dev: Oid, steps: &mut Steps<L>) -> bool
-    requires live { IsLive heap.now.rows dev }
-    requires timely { AreTimely heap.now }
-    ensures { (b : Board) → Shows b heap.now → ClocksFit b → result ≡ uart_asks b dev.birth }
-{
-    let status = register(heap, dev, UART_STATUS, steps);
-    let scratch = register(heap, dev, UART_SCRATCH, steps);
+    let status = uart.read(UART_STATUS, false, 0).unwrap_or(0);
+    let scratch = uart.read(UART_SCRATCH, false, 0).unwrap_or(0);
     status / UART_READY % 2 == 1 && scratch != 0
 }
 
-/// Whether a timer asks for attention.
-fn timer_asks<L: Ledger>(heap: &Heap, dev: Oid, steps: &mut Steps<L>) -> bool
+/// Whether the count of a timer has come down to 0. What it counts hangs on its clock.
+fn is_down<L: Ledger>(heap: &Heap, dev: Oid, timer: &Timer, steps: &mut Steps<L>) -> bool
     requires live { IsLive heap.now.rows dev }
-    requires timely { AreTimely heap.now }
-    ensures { (b : Board) → Shows b heap.now → ClocksFit b → result ≡ timer_asks b dev.birth }
+    requires timely { timer.now.last ≤ heap.now.time }
+    ensures { (b : Board) → Shows b heap.now → ClocksFit b → result ≡ (timer_count timer.now heap.now.time (device_period b dev.birth) == 0) }
 {
-    let control = register(heap, dev, CTRL, steps);
-    let count = register(heap, dev, TIMER_COUNT, steps);
-    control == 1 && count == 0
+    let period = device_period(heap, dev, steps);
+    let count = timer.read(TIMER_COUNT, heap.time(), period).unwrap_or(0);
+    count == 0
+}
+
+/// Whether a timer counts.
+fn is_counting(timer: &Timer, time: u64) -> bool
+    requires { timer.now.last ≤ time }
+    ensures { result ≡ ((if timer.now.enabled then 1 else 0) == 1) }
+{
+    let control = timer.read(CTRL, time, 0).unwrap_or(0);
+    control == 1
+}
+
+/// Whether a timer asks for attention. Where it does not count, its clock is not looked at.
+fn timer_asks<L: Ledger>(heap: &Heap, dev: Oid, timer: &Timer, steps: &mut Steps<L>) -> bool
+    requires live { IsLive heap.now.rows dev }
+    requires timely { timer.now.last ≤ heap.now.time }
+    ensures { (b : Board) → Shows b heap.now → ClocksFit b → result ≡ (((if timer.now.enabled then 1 else 0) == 1) && (timer_count timer.now heap.now.time (device_period b dev.birth) == 0)) }
+{
+    if !is_counting(timer, heap.time()) {
+        return false;
+    }
+    is_down(heap, dev, timer, steps)
 }
 
 /// Whether a bridge hides the lines behind it.
-fn is_hidden<L: Ledger>(heap: &Heap, dev: Oid, steps: &mut Steps<L>) -> bool
-    requires live { IsLive heap.now.rows dev }
-    requires timely { AreTimely heap.now }
-    ensures { (b : Board) → Shows b heap.now → ClocksFit b → result ≡ is_hidden b dev.birth }
+fn is_hidden(bridge: &Bridge) -> bool
+    ensures { result ≡ not ((if bridge.now.raised then 1 else 0) == 0) }
 {
-    register(heap, dev, CTRL, steps) != 0
+    let control = bridge.read(CTRL).unwrap_or(0);
+    control != 0
 }
 
 /// What the input of an object is set to.
@@ -90,9 +88,9 @@ pub(crate) fn input_of<L: Ledger>(heap: &Heap, o: Oid, steps: &mut Steps<L>) -> 
     ensures { (b : Board) → Shows b heap.now → ClocksFit b → result ≡ input_of b o.birth }
 {
     match &heap.body(o, steps).device {
-        Device::Uart(_) => uart_asks(heap, o, steps),
-        Device::Timer(_) => timer_asks(heap, o, steps),
-        Device::Bridge(_) => is_hidden(heap, o, steps),
+        Device::Uart(uart) => uart_asks(uart),
+        Device::Timer(timer) => timer_asks(heap, o, timer, steps),
+        Device::Bridge(bridge) => is_hidden(bridge),
         Device::Dimm(_) => false,
         Device::Bare => false,
     }

@@ -6,13 +6,15 @@ ghost use Rattle.qo_heap.specs.Rows.{IsLive};
 ghost use Rattle.qo_irq.specs.declared.errors.NetError.TheVariants.{Memory};
 ghost use Rattle.qo_layout.specs.Numbering.{below_at, births_of};
 ghost use Rattle.qo_layout.specs.Growth.{ComeAfter, HasAll, HasMore, HasRoom};
-ghost use Rattle.qo_layout.specs.Rows.{AreLines, AreRows, AreWired, HasRow, objects_of, row_at};
+ghost use Rattle.qo_layout.specs.Registers.{registers_at};
+ghost use Rattle.qo_layout.specs.Rows.{AreLines, AreRows, AreWired, HasRow, objects_of, row_at, wiring as wiring_by};
 ghost use Rattle.qo_model.specs.Board.{Board};
 ghost use Rattle.qo_model.specs.Reset.{below};
+ghost use Rattle.qo_sound_shapes.specs.SoundShape.{SoundShape};
 
-use crate::numbering::below_in_slot;
+use crate::numbering::{below_in_slot, first_below};
 use crate::registers::wiring;
-use crate::wiring::{Row, add_line};
+use crate::wiring::{Row, Wiring, add_line};
 use qo_buses::is_of;
 use qo_heap::{Heap, Oid, Steps};
 use qo_irq::{Net, NetError};
@@ -61,22 +63,23 @@ fn push_line<L: Ledger>(
     }
 }
 
-/// The lines of all that is below an object. `BadRef` where one has none.
+/// The lines of all that is below an object whose line is driven so. `BadRef` where one has none.
 fn lines_below<L: Ledger>(
     alloc: Global,
     heap: &Heap,
     o: Oid,
+    driven: Wiring,
     rows: &[Row],
     steps: &mut Steps<L>,
 ) -> Result<Vec<u32>, NetError>
     requires live { IsLive heap.now.rows o }
-    ensures lines { (b : Board) → Shows b heap.now → IfOk result (λ lines. AreLines rows.now (below b o.birth) lines.items) }
+    ensures lines { (b : Board) → Shows b heap.now → SoundShape b → driven ≡ wiring_by (registers_at b o.birth) → IfOk result (λ lines. AreLines rows.now (below b o.birth) lines.items) }
     ensures err { (b : Board) → Shows b heap.now → HasAll rows.now (below b o.birth) → IfErr result (λ e. e ≡ Memory) }
 {
     let bus = is_of(heap, o, "bus", steps);
     let count = heap.slot_count(o, steps);
     let mut lines = Vec::new(alloc);
-    for at in 0..count {
+    for at in first_below(driven, count)..count {
         push_line(heap, o, bus, at, rows, &mut lines, steps)?;
     }
     Ok(lines)
@@ -95,36 +98,39 @@ pub(crate) fn add_object<L: Ledger>(
     requires rows { AreRows rows.old.items net.old }
     ensures rows { OnOk result (AreRows rows.new.items net.new) }
     ensures objects { OnOk result (objects_of rows.new.items ≡ objects_of rows.old.items ++ o.birth ∷ []) }
-    ensures wired { (b : Board) → Shows b heap.now → AreWired b rows.old.items net.old → OnOk result (AreWired b rows.new.items net.new) }
+    ensures wired { (b : Board) → Shows b heap.now → SoundShape b → AreWired b rows.old.items net.old → OnOk result (AreWired b rows.new.items net.new) }
     ensures few { OnOk result (length net.new ≤ length net.old + 3) }
-    ensures err { (b : Board) → Shows b heap.now → HasAll rows.old.items (below b o.birth) → HasRoom net.old → IfErr result (λ e. e ≡ Memory) }
+    ensures err { (b : Board) → Shows b heap.now → SoundShape b → HasAll rows.old.items (below b o.birth) → HasRoom net.old → IfErr result (λ e. e ≡ Memory) }
 {
-    let below = lines_below(alloc, heap, o, rows, steps)?;
-    let row = add_line(net, wiring(heap, o, steps), o.birth, below)?;
+    let driven = wiring(heap, o, steps);
+    let below = lines_below(alloc, heap, o, driven, rows, steps)?;
+    let row = add_line(net, driven, o.birth, below)?;
     match rows.push(row) {
         Ok(()) => Ok(()),
         Err(_) => Err(NetError::Memory),
     }
 }
 
-/// The net of objects, with a row for each. Each object must come after all that is below it, and there
-/// must be at most 8192 of them, so that the one error is want of memory.
+/// Adds the lines of objects to a net, with a row for each, in place of what was there. Each object must come
+/// after all that is below it, and there must be at most 8192 of them, so that the one error is want of memory.
 pub(crate) fn add_objects<L: Ledger>(
     alloc: Global,
     heap: &Heap,
     objects: &[Oid],
+    net: &mut Net,
+    rows: &mut Vec<Row>,
     steps: &mut Steps<L>,
-) -> Result<(Net, Vec<Row>), NetError>
+) -> Result<(), NetError>
     requires live { All (IsLive heap.now.rows) objects.now }
-    ensures rows { IfOk result (λ made. AreRows made.1.items made.0) }
-    ensures objects { IfOk result (λ made. objects_of made.1.items ≡ births_of objects.now) }
-    ensures wired { (b : Board) → Shows b heap.now → IfOk result (λ made. AreWired b made.1.items made.0) }
-    ensures err { (b : Board) → Shows b heap.now → ComeAfter b (births_of objects.now) → length objects.now ≤ 8192 → IfErr result (λ e. e ≡ Memory) }
+    ensures rows { OnOk result (AreRows rows.new.items net.new) }
+    ensures objects { OnOk result (objects_of rows.new.items ≡ births_of objects.now) }
+    ensures wired { (b : Board) → Shows b heap.now → SoundShape b → OnOk result (AreWired b rows.new.items net.new) }
+    ensures err { (b : Board) → Shows b heap.now → SoundShape b → ComeAfter b (births_of objects.now) → length objects.now ≤ 8192 → IfErr result (λ e. e ≡ Memory) }
 {
-    let mut net = Net::new(alloc);
-    let mut rows = Vec::new(alloc);
+    net.clear();
+    rows.clear();
     for o in objects {
-        add_object(alloc, heap, *o, &mut net, &mut rows, steps)?;
+        add_object(alloc, heap, *o, net, rows, steps)?;
     }
-    Ok((net, rows))
+    Ok(())
 }

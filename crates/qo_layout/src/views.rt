@@ -10,6 +10,7 @@ ghost use Rattle.qo_memmap.specs.declared.region.TheConstants.{ADDRESS_LIMIT};
 ghost use Rattle.qo_sound_devices.specs.SoundDevices.{SoundDevices};
 ghost use Rattle.qo_sound_claims.specs.SoundClaims.{SoundClaims};
 ghost use Rattle.qo_sound_shapes.specs.SoundShape.{SoundShape};
+ghost use Rattle.qo_layout.specs.Kept.{IsView};
 ghost use Rattle.qo_layout.specs.Layout.{board_map, flat_view, register_at, register_in, root_number};
 
 use crate::maps::memory_map;
@@ -61,24 +62,17 @@ fn register_in(span: Span, at: u64) -> RegisterPlace
     }
 }
 
-/// The register that shows at an address of the board of a heap. `None` where the address is no multiple of
-/// `REGISTER_SIZE`, or nothing shows there. On a sound board the one error is want of memory.
+/// The register that shows at an address of a flat view. `None` where the address is no multiple of
+/// `REGISTER_SIZE`, or nothing shows there.
 #[tactic(auto, using(crate::proofs::ViewLemmas::holding_held, crate::proofs::ViewLemmas::holding_fits))]
-pub fn register_at<L: Ledger>(
-    alloc: Global,
-    heap: &Heap,
-    at: u64,
-    steps: &mut Steps<L>,
-) -> Result<Option<RegisterPlace>, MapError>
-    ensures place { (b : Board) → Shows b heap.now → SoundShape b → IfOk result (λ place. place ≡ register_at b at) }
-    ensures err { (b : Board) → Shows b heap.now → SoundDevices b → SoundShape b → SoundClaims b → IfErr result (λ e. e ≡ Memory) }
+pub(crate) fn place_in(spans: &[Span], at: u64) -> Option<RegisterPlace>
+    requires apart { RiseFrom 0 spans.now }
+    requires fit { OffsetsFit spans.now }
+    ensures { (b : Board) → IsView b spans.now → result ≡ register_at b at }
 {
     if at % REGISTER_SIZE != 0 {
-        return Ok(None);
+        return None;
     }
-    let spans = flat_view(alloc, heap, steps)?;
-    match find(&spans, at) {
-        Some(span) => Ok(Some(register_in(span, at))),
-        None => Ok(None),
-    }
+    let span = find(spans, at)?;
+    Some(register_in(span, at))
 }

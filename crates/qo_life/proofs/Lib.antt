@@ -4,4 +4,5 @@ pub mod ReleaseLemmas
 pub mod HeldLemmas
 pub mod NewObjectLemmas
 pub mod TreeLemmas
+mod PaidLemmas
 mod WorkLemmas

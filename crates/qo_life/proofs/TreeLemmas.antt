@@ -69,6 +69,7 @@ goes-none v = record {
   shown = λ b log s. s;
   names = λ key live. live;
   bodies = λ n c there. ap (option_map (λ (d : Content). d.body)) there;
+  sides = λ n c there. ap (option_map (λ (d : Content). d.side)) there;
   book = λ out h. h;
   time = refl;
   spare = refl;
@@ -82,6 +83,7 @@ goes-same f g v w go is =
       shown = λ b log s. subst (λ (c : Board). Shows c (with_log (noted_all go.more log) w)) (sym (is b log s)) (go.shown b log s);
       names = go.names;
       bodies = go.bodies;
+      sides = go.sides;
       book = go.book;
       time = go.time;
       spare = go.spare;
@@ -95,16 +97,17 @@ goes-then f g v u w first then =
       shown = λ b log s. subst (λ (l : Log). Shows (g (f b)) (with_log l w)) (sym (parts_lem first.more then.more log))
           (then.shown (f b) (noted_all first.more log) (first.shown b log s));
       names = λ key live. first.names key (then.names key live);
-      bodies = λ n c there. both n c (content_of u n) refl (then.bodies n c there);
+      bodies = λ n c there. both (λ d. d.body) first.bodies n c (content_of u n) refl (then.bodies n c there);
+      sides = λ n c there. both (λ d. d.side) first.sides n c (content_of u n) refl (then.sides n c there);
       book = λ out h. then.book out (first.book out h);
       time = then.time ∙ first.time;
       spare = then.spare ∙ first.spare;
     }
   where
-    both : (n : ℕ) (c : Content) (o : Option Content) → content_of u n ≡ o → option_map (λ (d : Content). d.body) o ≡ Some c.body
-        → option_map (λ (d : Content). d.body) (content_of v n) ≡ Some c.body
-    both n c None p e = cc
-    both n c (Some d) p e = first.bodies n d p ∙ e
+    both : {A : Type 0} (g : Content → A) → ((n : ℕ) (d : Content) → content_of u n ≡ Some d → option_map g (content_of v n) ≡ Some (g d)) → (n : ℕ) (c : Content)
+        (o : Option Content) → content_of u n ≡ o → option_map g o ≡ Some (g c) → option_map g (content_of v n) ≡ Some (g c)
+    both g before n c None p e = cc
+    both g before n c (Some d) p e = before n d p ∙ e
 
 -- what is read of an object, over an edit of one
 module _ {A : Type 0} (g : Content → A) (n : ℕ) (f : Content → Content) (same : (c : Content) → g (f c) ≡ g c) where
@@ -121,24 +124,33 @@ module _ {A : Type 0} (g : Content → A) (n : ℕ) (f : Content → Content) (s
           (ap (option_map g) (content-edited v n f) ∙ two (content_of v n))
       go false p = ap (option_map g) (content-other v n m f p)
 
--- who is there has the body that it had, after an edit of slots or pins, and after an end
-pub edit-bodies : (v : Objects) (n : ℕ) (f : Content → Content) → ((c : Content) → (f c).body ≡ c.body) → (m : ℕ) (d : Content)
-    → content_of (with_edit n f v) m ≡ Some d → option_map (λ (c : Content). c.body) (content_of v m) ≡ Some d.body
-edit-bodies v n f same m d there = sym (read-content (λ (c : Content). c.body) n f same v m) ∙ ap (option_map (λ (c : Content). c.body)) there
+-- who is there has what it had, where an edit leaves that, and where an end does
+edit-leaves : {A : Type 0} (g : Content → A) (v : Objects) (n : ℕ) (f : Content → Content) → ((c : Content) → g (f c) ≡ g c) → (m : ℕ) (d : Content)
+    → content_of (with_edit n f v) m ≡ Some d → option_map g (content_of v m) ≡ Some (g d)
+edit-leaves g v n f same m d there = sym (read-content g n f same v m) ∙ ap (option_map g) there
 
-end-bodies : (v : Objects) (n : ℕ) (x : Content) (m : ℕ) (d : Content) → content_of (ended n x v) m ≡ Some d
-    → option_map (λ (c : Content). c.body) (content_of v m) ≡ Some d.body
-end-bodies v n x m d there = go (eqb m n) refl
+end-leaves : {A : Type 0} (g : Content → A) (v : Objects) (n : ℕ) (x : Content) → ((c : Content) → g (forgotten n c) ≡ g c) → (m : ℕ) (d : Content)
+    → content_of (ended n x v) m ≡ Some d → option_map g (content_of v m) ≡ Some (g d)
+end-leaves {A} g v n x same m d there = go (eqb m n) refl
   where
-    left : (o : Option Content) → option_map (forgotten n) o ≡ Some d → option_map (λ (c : Content). c.body) o ≡ Some d.body
+    left : (o : Option Content) → option_map (forgotten n) o ≡ Some d → option_map g o ≡ Some (g d)
     left None e = cc
-    left (Some c) e = ap (λ (y : Content). Some y.body) (same_Some (forgotten n c) d e)
+    left (Some c) e = ap Some (sym (same c) ∙ ap g (same_Some (forgotten n c) d e))
 
-    go : (t : Bool) → eqb m n ≡ t → option_map (λ (c : Content). c.body) (content_of v m) ≡ Some d.body
+    go : (t : Bool) → eqb m n ≡ t → option_map g (content_of v m) ≡ Some (g d)
     go true p =
         absurd
         (let clash : None ≡ Some d = sym (ap (λ (k : ℕ). content_of (ended n x v) k) (eqb-true m n p) ∙ content-gone v n x) ∙ there in cc)
     go false p = left (content_of v m) (sym (content-left v n m x p) ∙ there)
+
+-- the body, and what is kept beside the tree
+pub edit-bodies : (v : Objects) (n : ℕ) (f : Content → Content) → ((c : Content) → (f c).body ≡ c.body) → (m : ℕ) (d : Content)
+    → content_of (with_edit n f v) m ≡ Some d → option_map (λ (c : Content). c.body) (content_of v m) ≡ Some d.body
+edit-bodies v n f same m d there = edit-leaves (λ (c : Content). c.body) v n f same m d there
+
+pub edit-sides : (v : Objects) (n : ℕ) (f : Content → Content) → ((c : Content) → (f c).side ≡ c.side) → (m : ℕ) (d : Content)
+    → content_of (with_edit n f v) m ≡ Some d → option_map (λ (c : Content). c.side) (content_of v m) ≡ Some d.side
+edit-sides v n f same m d there = edit-leaves (λ (c : Content). c.side) v n f same m d there
 
 -- who is there after an edit was there before it
 pub live-before_edit : (n : ℕ) (f : Content → Content) (rows : List (Key × Content)) (key : Key) → IsLive (edit n f rows) key → IsLive rows key
@@ -188,6 +200,7 @@ goes-drop v n i =
       shown = λ b log s. shows-drop_slot b (with_log log v) s n i;
       names = live-before_edit n (dropped_at i) v.rows;
       bodies = edit-bodies v n (dropped_at i) (λ c. refl);
+      sides = edit-sides v n (dropped_at i) (λ c. refl);
       book = λ out h. book-edit out v n (dropped_at i) (λ c. refl) h;
       time = refl;
       spare = refl;
@@ -202,6 +215,7 @@ goes-unpin v good n some =
       shown = λ b log s. shows-without_pin b (with_log log v) s (heap-with_log v log good) n some;
       names = live-before_edit n content.without_pin v.rows;
       bodies = edit-bodies v n content.without_pin (λ c. refl);
+      sides = edit-sides v n content.without_pin (λ c. refl);
       book = λ out h. book-edit out v n content.without_pin (λ c. refl) h;
       time = refl;
       spare = refl;
@@ -214,7 +228,8 @@ goes-end v good n c there free =
       log = refl;
       shown = λ b log s. shows-ended b (with_log log v) s (heap-with_log v log good) n c there free;
       names = live-before_end n v.rows;
-      bodies = end-bodies v n c;
+      bodies = end-leaves (λ (x : Content). x.body) v n c (λ x. refl);
+      sides = end-leaves (λ (x : Content). x.side) v n c (λ x. refl);
       book = λ out h. book-ended out v good n c there h;
       time = refl;
       spare = kept-spare v.events (release.deleted_event (shown n c));

@@ -7,11 +7,13 @@ use Rattle.std.proofs.lemmas.Option.{same_Some}
 use Rattle.std.proofs.Math.Nat.{mul-le-mul, suc-mul}
 use Rattle.qo_slots.specs.declared.keys.Key.{Key}
 use Rattle.qo_heap.specs.Rows.{IsLive, edit, without}
-use Rattle.qo_model.specs.Board.{Board}
+use Rattle.qo_model.specs.Board.{Board, is_live}
 use Rattle.qo_model.specs.Board as board
 use Rattle.qo_model.specs.References.{refs}
 use Rattle.qo_model.specs.Release.{drop_slot, next_index, finish, holding, width, finalize}
+use Rattle.qo_model.specs.ReleaseBound.{left_of_all, objects_and_slots, place_in, weak_links}
 use Rattle.qo_model.specs.ReleaseWork.{rest}
+use Rattle.qo_model.proofs.BoundLemmas.{bound_lem}
 use Rattle.qo_model.proofs.ReleaseLemmas.{drop-falls, drop-holding, drop-width, end_of-first, finish-holding, finish-width, place-lt-width}
 use Rattle.qo_model.proofs.ReleaseWorkLemmas.{rest-ended, rest-freed, rest-kept}
 use Rattle.qo_model.proofs.StepLemmas.{unheld-apart}
@@ -33,10 +35,12 @@ use Rattle.qo_heap.proofs.EndLemmas.{length-without, live-without}
 use Rattle.qo_heap.proofs.HeapLemmas.{live-edit, length-edit}
 use Rattle.qo_life.specs.declared.release.Front.{Front}
 use Rattle.qo_life.specs.Life.{Goes, next_at, with_log}
-use Rattle.qo_life.specs.Work.{GoesOn, kept, freed, front_at, work_of}
+use Rattle.qo_heap.specs.WeakEnds.{weak_ends as weak_ends_on}
+use Rattle.qo_life.specs.Work.{GoesOn, kept, freed, front_at, weak_ends, work_of, worth}
 use Rattle.qo_life.proofs.BoardLemmas.{Stays, none-held, stays-finish, stays-other, stays-own}
 use Rattle.qo_life.proofs.ReleaseLemmas.{given, next-shown, slot-shown, turn-live}
-use Rattle.qo_life.proofs.TreeLemmas.{tree, tree-shows, heap-with_log, tree-after, edit-bodies, goes-drop, goes-end, goes-none, goes-same, goes-then, live-before_edit, read-content}
+use Rattle.qo_life.proofs.PaidLemmas.{finish-weak, weak-shown, worth-same}
+use Rattle.qo_life.proofs.TreeLemmas.{tree, tree_with, tree-shows, heap-with_log, tree-after, edit-bodies, edit-sides, goes-drop, goes-end, goes-none, goes-same, goes-then, live-before_edit, read-content}
 
 -- a place in the work changes nothing on the board
 pub goes-work : (v : Objects) (n : ℕ) (x : Work) → Goes (λ b. b) v (with_edit n (with_work x) v)
@@ -56,6 +60,7 @@ goes-work v n x =
           };
       names = live-before_edit n (with_work x) v.rows;
       bodies = edit-bodies v n (with_work x) (λ c. refl);
+      sides = edit-sides v n (with_work x) (λ c. refl);
       book = λ out h. book-edit out v n (with_work x) (λ c. refl) h;
       time = refl;
       spare = refl;
@@ -93,8 +98,12 @@ pub record IsDoing (v : Objects) (p : Key × ℕ) : Type 0 where
   pub live : IsLive v.rows p.0
   pub stays : Stays p.0.birth p.1 (tree v)
 
--- where the finalization of n in v is in w, the front of the work being this
-pub record At (v w : Objects) (n : ℕ) (front : Front) : Type 0 where
+-- what is still owed of a release in a heap: eight for each object, and for each slot that is left to let go, and four for each weak link
+abbrev pub owed : Objects → List (ℕ × ℕ) → ℕ
+owed v work = 8 * left_of_all (tree v) work + 4 * weak_links (tree v)
+
+-- where the finalization of n in v is in w, the front of the work being this, after so many steps, where in all it takes at most `total`
+pub record At (v w : Objects) (n total spent : ℕ) (front : Front) : Type 0 where
   pub others : List (Key × ℕ)
   pub chained : IsChained w front.next others
   pub apart : AllByRecursion (λ x. nat_eq front.o.birth x ≡ false) (objects_of others)
@@ -104,21 +113,29 @@ pub record At (v w : Objects) (n : ℕ) (front : Front) : Type 0 where
   pub step : Board → Board
   pub goes : Goes step v w
   pub same : (b : Board) (log : Log) → Shows b (with_log log v) → rest (step b) ((front.o.birth, front.at) ∷ births_of others) ≡ finalize b n
+  pub paid : spent + owed w ((front.o.birth, front.at) ∷ births_of others) ≤ total
 
-abbrev pub Running : Objects → Objects → ℕ → Option Front → Type 0
-Running v w n None = Goes (λ b. finalize b n) v w
-Running v w n (Some front) = At v w n front
+-- where it is done
+pub record IsDone (v w : Objects) (n total spent : ℕ) : Type 0 where
+  pub goes : Goes (λ b. finalize b n) v w
+  pub paid : spent + owed w [] ≤ total
+
+abbrev pub Running : Objects → Objects → ℕ → ℕ → ℕ → Option Front → Type 0
+Running v w n total spent None = IsDone v w n total spent
+Running v w n total spent (Some front) = At v w n total spent front
 
 -- as the code has the front
-pub running-at : (v w : Objects) (n : ℕ) (front : Option Front) (now : Front) → front ≡ Some now → Running v w n front → At v w n now
-running-at v w n front now is running = subst (λ (q : Option Front). Running v w n q) is running
+pub running-at : (v w : Objects) (n total spent : ℕ) (front : Option Front) (now : Front) → front ≡ Some now → Running v w n total spent front
+    → At v w n total spent now
+running-at v w n total spent front now is running = subst (λ (q : Option Front). Running v w n total spent q) is running
 
-pub running-done : (v w : Objects) (n : ℕ) (front : Option Front) → front ≡ None → Running v w n front → Goes (λ b. finalize b n) v w
-running-done v w n front is running = subst (λ (q : Option Front). Running v w n q) is running
+pub running-done : (v w : Objects) (n total spent : ℕ) (front : Option Front) → front ≡ None → Running v w n total spent front → IsDone v w n total spent
+running-done v w n total spent front is running = subst (λ (q : Option Front). Running v w n total spent q) is running
 
-pub at-first : (v : Objects) → IsHeap v → (o : Key) → IsLive v.rows o → refs_of v o.birth ≡ 0 → At v v o.birth (record { o = o; at = 0; next = None })
+pub at-first : (v : Objects) → IsHeap v → (o : Key) → IsLive v.rows o → refs_of v o.birth ≡ 0 → (spent : ℕ)
+    → At v v o.birth (spent + owed v ((o.birth, 0) ∷ [])) spent (record { o = o; at = 0; next = None })
 unfolding IsDistinct
-at-first v good o live free =
+at-first v good o live free spent =
     record {
       others = [];
       chained = refl;
@@ -129,6 +146,7 @@ at-first v good o live free =
       step = λ b. b;
       goes = goes-none v;
       same = λ b log s. sym (end_of-first b o.birth);
+      paid = omega arith;
     }
 
 -- the work of the others, where each has the place that it had
@@ -208,8 +226,8 @@ module _ (n : ℕ) where
   )
 
 -- one slot of the front, let go
-module _ (v w : Objects) (n : ℕ) (f : Front) (good : IsHeap w) (now : At v w n f) (s : Slot) (there : slot_in (slots_of w f.o.birth) f.at ≡ Some s)
-    (good' : IsHeap (with_edit f.o.birth (dropped_at f.at) w)) where
+module _ (v w : Objects) (n total spent : ℕ) (f : Front) (good : IsHeap w) (now : At v w n total spent f) (s : Slot)
+    (there : slot_in (slots_of w f.o.birth) f.at ≡ Some s) (good' : IsHeap (with_edit f.o.birth (dropped_at f.at) w)) where
   abbrev k : ℕ
   k = f.o.birth
 
@@ -243,9 +261,24 @@ module _ (v w : Objects) (n : ℕ) (f : Front) (good : IsHeap w) (now : At v w n
   some-held None some m e = cc
   some-held (Some key) some m e = subst (λ (x : ℕ). 0 < refs_of u x) (same_Some key.birth m e) (some key refl)
 
+  -- what a turn pays
+  left-now : (work : List (ℕ × ℕ)) → owed (with_edit f.o.birth (dropped_at f.at) w) ((f.o.birth, next_at f.at s) ∷ work) + 8
+      ≤ owed w ((f.o.birth, f.at) ∷ work)
+  left-now work =
+      let same : tree_with (drop_slot (tree w) k f.at).records (drop_slot (tree w) k f.at).born (drop_slot (tree w) k f.at).pins
+      (drop_slot (tree w) k f.at).events (drop_slot (tree w) k f.at).now ≡ tree u =
+      tree-after (λ b. drop_slot b k f.at) w u (goes-drop w k f.at) in
+      let at : board.slot_at (tree w) k f.at ≡ Some (shown_slot s) = slot-shown (tree w) (with_log empty_log w) (tree-shows w) k f.at (Some s) there in
+      let one : left_of_all (drop_slot (tree w) k f.at) ((k, next_index (shown_slot s) f.at) ∷ work) ≡ left_of_all (tree u) ((k, next_at f.at s) ∷ work) =
+      ap (λ (j : ℕ). left_of_all (drop_slot (tree w) k f.at) ((k, j) ∷ work)) (next-shown f.at s)
+      ∙ ap (λ (b : Board). left_of_all b ((k, next_at f.at s) ∷ work)) same in
+      let two : weak_links (drop_slot (tree w) k f.at) ≡ weak_links (tree u) = ap weak_links same in
+      omega (arith, one, two, bound_lem.after_slot (tree w) k f.at work (shown_slot s) at, bound_lem.weak_slot (tree w) k f.at)
+
   -- nothing is free
-  pub at-kept : ((m : Key) → referent s ≡ Some m → 0 < refs_of u m.birth) → At v u n (record { o = f.o; at = next_at f.at s; next = f.next })
-  at-kept some =
+  pub at-kept : (later : ℕ) → later ≤ spent + 8 → ((m : Key) → referent s ≡ Some m → 0 < refs_of u m.birth)
+      → At v u n total later (record { o = f.o; at = next_at f.at s; next = f.next })
+  at-kept later few some =
       record {
         others = now.others;
         chained = chained-same w u now.others (work-dropped k f.at w now.others) f.next now.chained;
@@ -260,6 +293,7 @@ module _ (v w : Objects) (n : ℕ) (f : Front) (good : IsHeap w) (now : At v w n
             ∙ sym (rest-kept (now.step b) k f.at (births_of now.others) (shown_slot s) (board-slot b log t)
             (λ m e. subst (λ (x : ℕ). 0 < x) (sym (board-refs b log t m)) (some-held (referent s) some m (sym (shown-held s) ∙ e))))
             ∙ now.same b log t;
+        paid = omega (arith, few, now.paid, left-now (births_of now.others));
       }
 
   -- what the slot held is free
@@ -293,9 +327,26 @@ module _ (v w : Objects) (n : ℕ) (f : Front) (good : IsHeap w) (now : At v w n
         let (c, is) = live-content u f.o own.live in
         ap (option_map (λ (y : Content). y.work)) (content-edited u k (with_work place) ∙ ap (option_map (with_work place)) is)
 
-    pub at-freed : At v x n (record { o = m; at = 0; next = Some f.o })
+    apart-place : (ps : List (Key × ℕ)) → AllByRecursion (λ y. nat_eq m.birth y ≡ false) (map (λ (p : Key × ℕ). p.0.birth) ps)
+        → place_in (births_of ps) m.birth ≡ 0
+    apart-place [] apart = refl
+    apart-place (p ∷ ps) apart =
+        let other : (p.0.birth == m.birth) ≡ false = apart-flip m.birth p.0.birth apart.0 in rw other (apart-place ps apart.1)
+
+    left-freed : owed (with_edit f.o.birth (with_work (record { next = f.next; at = next_at f.at s })) (with_edit f.o.birth (dropped_at f.at) w))
+        ((m.birth, 0) ∷ (f.o.birth, next_at f.at s) ∷ births_of now.others)
+        ≡ owed (with_edit f.o.birth (dropped_at f.at) w) ((f.o.birth, next_at f.at s) ∷ births_of now.others)
+    left-freed =
+        let same : tree u ≡ tree x = tree-after (λ b. b) u x (goes-work u k place) in
+        let none : place_in ((k, next_at f.at s) ∷ births_of now.others) m.birth ≡ 0 =
+        apart-place ((f.o, next_at f.at s) ∷ now.others) (another k now.here.stays.free, others-apart now.others now.each) in
+        ap (λ (b : Board). 8 * left_of_all b ((m.birth, 0) ∷ (k, next_at f.at s) ∷ births_of now.others) + 4 * weak_links b) (sym same)
+        ∙ ap (λ (j : ℕ). 8 * j + 4 * weak_links (tree u))
+        (bound_lem.after_freed (tree u) k 0 m.birth ((k, next_at f.at s) ∷ births_of now.others) none)
+
+    pub at-freed : (later : ℕ) → later ≤ spent + 8 → At v x n total later (record { o = m; at = 0; next = Some f.o })
     unfolding IsDistinct
-    at-freed =
+    at-freed later few =
         record {
           others = (f.o, next_at f.at s) ∷ now.others;
           chained = (
@@ -327,45 +378,48 @@ module _ (v w : Objects) (n : ℕ) (f : Front) (good : IsHeap w) (now : At v w n
               ∙ sym (rest-freed (now.step b) k f.at (births_of now.others) (shown_slot s) m.birth (board-slot b log t) shown-holds
               (board-refs b log t m.birth ∙ free))
               ∙ now.same b log t;
+          paid = omega (arith, few, now.paid, left-freed, left-now (births_of now.others));
         }
 
 -- as the code has it
-pub at-on : (v w u x : Objects) (n : ℕ) (f : Front) (was : Option Key) (next : ℕ) (r : Front) → IsHeap w → At v w n f
+pub at-on : (v w u x : Objects) (n total spent later : ℕ) (f : Front) (was : Option Key) (next : ℕ) (r : Front) → later ≤ spent + 8 → IsHeap w
+    → At v w n total spent f
     → Some was ≡ option_map referent (slot_in (slots_of w f.o.birth) f.at) → Some next ≡ option_map (next_at f.at) (slot_in (slots_of w f.o.birth) f.at)
-    → u ≡ with_edit f.o.birth (dropped_at f.at) w → IsHeap u → GoesOn was f next u x r → At v x n r
-at-on v w u x n f was next r good now e e' is good' on =
+    → u ≡ with_edit f.o.birth (dropped_at f.at) w → IsHeap u → GoesOn was f next u x r → At v x n total later r
+at-on v w u x n total spent later f was next r few good now e e' is good' on =
     let (s, (there, same)) = given referent (slot_in (slots_of w f.o.birth) f.at) was e in
     let place : next ≡ next_at f.at s = same_Some next (next_at f.at s) (e' ∙ ap (option_map (next_at f.at)) there) in
     let heap : IsHeap (with_edit f.o.birth (dropped_at f.at) w) = subst IsHeap is good' in
     go s there same place heap on
   where
     go : (s : Slot) → slot_in (slots_of w f.o.birth) f.at ≡ Some s → referent s ≡ was → next ≡ next_at f.at s → IsHeap (with_edit f.o.birth (dropped_at f.at) w)
-        → GoesOn was f next u x r → At v x n r
+        → GoesOn was f next u x r → At v x n total later r
     go s there same place heap (kept some xs rs) =
-        let one : At v (with_edit f.o.birth (dropped_at f.at) w) n (record { o = f.o; at = next_at f.at s; next = f.next }) =
-        at-kept v w n f good now s there heap (λ m h. subst (λ (y : Objects). 0 < refs_of y m.birth) is (some m (sym same ∙ h))) in
-        subst (λ (y : Objects). At v y n r) (sym (xs ∙ is))
-        (subst (λ (q : Front). At v (with_edit f.o.birth (dropped_at f.at) w) n q) (sym (rs ∙ ap (λ (j : ℕ). record { o = f.o; at = j; next = f.next }) place))
+        let one : At v (with_edit f.o.birth (dropped_at f.at) w) n total later (record { o = f.o; at = next_at f.at s; next = f.next }) =
+        at-kept v w n total spent f good now s there heap later few (λ m h. subst (λ (y : Objects). 0 < refs_of y m.birth) is (some m (sym same ∙ h))) in
+        subst (λ (y : Objects). At v y n total later r) (sym (xs ∙ is))
+        (subst (λ (q : Front). At v (with_edit f.o.birth (dropped_at f.at) w) n total later q) (sym (rs ∙ ap (λ (j : ℕ). record { o = f.o; at = j; next = f.next }) place))
         one)
     go s there same place heap (freed m h none xs rs) =
-        let one : At v (with_edit f.o.birth (with_work (record { next = f.next; at = next_at f.at s })) (with_edit f.o.birth (dropped_at f.at) w)) n
+        let one : At v (with_edit f.o.birth (with_work (record { next = f.next; at = next_at f.at s })) (with_edit f.o.birth (dropped_at f.at) w)) n total later
         (record { o = m; at = 0; next = Some f.o }) =
-        at-freed v w n f good now s there heap m (same ∙ h) (subst (λ (y : Objects). refs_of y m.birth ≡ 0) is none) in
+        at-freed v w n total spent f good now s there heap m (same ∙ h) (subst (λ (y : Objects). refs_of y m.birth ≡ 0) is none) later few in
         let same_heap : x ≡ with_edit f.o.birth (with_work (record { next = f.next; at = next_at f.at s })) (with_edit f.o.birth (dropped_at f.at) w) =
         xs ∙ (λ j. with_edit f.o.birth (with_work (record { next = f.next; at = place j })) (is j)) in
-        subst (λ (y : Objects). At v y n r) (sym same_heap)
+        subst (λ (y : Objects). At v y n total later r) (sym same_heap)
         (subst
-        (λ (q : Front). At v (with_edit f.o.birth (with_work (record { next = f.next; at = next_at f.at s })) (with_edit f.o.birth (dropped_at f.at) w)) n q)
+        (λ (q : Front).
+        At v (with_edit f.o.birth (with_work (record { next = f.next; at = next_at f.at s })) (with_edit f.o.birth (dropped_at f.at) w)) n total later q)
         (sym rs) one)
 
 -- the front has no slot at its place
-pub at-free : (v w : Objects) (n : ℕ) (f : Front) → IsHeap w → At v w n f → refs_of w f.o.birth ≡ 0
-at-free v w n f good now =
+pub at-free : (v w : Objects) (n total spent : ℕ) (f : Front) → IsHeap w → At v w n total spent f → refs_of w f.o.birth ≡ 0
+at-free v w n total spent f good now =
     sym (shows-refs (tree w) (with_log empty_log w) (tree-shows w) (heap-with_log w empty_log good) f.o.birth) ∙ now.here.stays.free
 
-pub at-bare : (v w : Objects) (n : ℕ) (f : Front) → At v w n f → slot_in (slots_of w f.o.birth) f.at ≡ None
+pub at-bare : (v w : Objects) (n total spent : ℕ) (f : Front) → At v w n total spent f → slot_in (slots_of w f.o.birth) f.at ≡ None
     → option_map reference_count (content_of w f.o.birth) ≡ Some 0
-at-bare v w n f now past =
+at-bare v w n total spent f now past =
     let (c, there) = live-content w f.o now.here.live in
     let slots : board.slots_at (tree w) f.o.birth ≡ (shown f.o.birth c).slots =
     shows-slots (tree w) (with_log empty_log w) (tree-shows w) f.o.birth
@@ -375,7 +429,7 @@ at-bare v w n f now past =
     ap (option_map reference_count) there
     ∙ ap Some (sym (reference_count-shown f.o.birth c) ∙ ap (count_by (λ (s : List ℕ × board.Slot). is_some (board.referent s.1))) (sym slots) ∙ none)
 
-module _ (v w : Objects) (n : ℕ) (f : Front) (good : IsHeap w) (step : Board → Board) (goes : Goes step v w) (c : Content)
+module _ (v w : Objects) (n total spent : ℕ) (f : Front) (good : IsHeap w) (step : Board → Board) (goes : Goes step v w) (c : Content)
     (there : content_of w f.o.birth ≡ Some c) (free : refs_of w f.o.birth ≡ 0) (past : slot_in (slots_of w f.o.birth) f.at ≡ None) where
   abbrev left : Objects
   left = ended f.o.birth c w
@@ -388,20 +442,36 @@ module _ (v w : Objects) (n : ℕ) (f : Front) (good : IsHeap w) (step : Board �
   end-same ps b log t =
       rest-ended (step b) f.o.birth f.at ps (slot-shown (step b) (with_log (noted_all goes.more log) w) (goes.shown b log t) f.o.birth f.at None past)
 
-  last : (ps : List (Key × ℕ)) → IsChained w f.next ps → Apart f.o.birth ps → IsDistinct nat_eq (objects_of ps) → AllByRecursion (IsDoing w) ps
+  -- what an end pays
+  left-ended : (work : List (ℕ × ℕ)) → IsLive w.rows f.o → owed (ended f.o.birth c w) work + 8 + 4 * weak_ends (tree w) f.o.birth
+      ≤ owed w ((f.o.birth, f.at) ∷ work)
+  left-ended work live =
+      let same : tree_with (finish (tree w) f.o.birth).records (finish (tree w) f.o.birth).born (finish (tree w) f.o.birth).pins
+      (finish (tree w) f.o.birth).events (finish (tree w) f.o.birth).now ≡ tree left =
+      tree-after (λ b. finish b f.o.birth) w left (goes-end w good f.o.birth c there free) in
+      let one : left_of_all (finish (tree w) f.o.birth) work ≡ left_of_all (tree left) work = ap (λ (b : Board). left_of_all b work) same in
+      let two : weak_links (finish (tree w) f.o.birth) ≡ weak_links (tree left) = ap weak_links same in
+      let on : is_live (tree w) f.o.birth ≡ true = shows-live_key (tree w) (with_log empty_log w) (tree-shows w) f.o live in
+      omega (arith, one, two, bound_lem.after_end (tree w) f.o.birth f.at work on, finish-weak (tree w) f.o.birth)
+
+  last : (later : ℕ) → later ≤ spent + 8 + 4 * weak_ends (tree w) f.o.birth → IsLive w.rows f.o → (ps : List (Key × ℕ))
+      → spent + owed w ((f.o.birth, f.at) ∷ births_of ps) ≤ total → IsChained w f.next ps → Apart f.o.birth ps → IsDistinct nat_eq (objects_of ps) → AllByRecursion (IsDoing w) ps
       → ((b : Board) (log : Log) → Shows b (with_log log v) → rest (step b) ((f.o.birth, f.at) ∷ births_of ps) ≡ finalize b n) → (r : Option Front)
-      → r ≡ front_at left f.next → Running v left n r
+      → r ≡ front_at left f.next → Running v left n total later r
   unfolding IsDistinct
-  last [] chained apart differ each same r e =
-      subst (λ (q : Option Front). Running v left n q) (sym (e ∙ ap (front_at left) chained))
-      (goes-same (λ b. finish (step b) f.o.birth) (λ b. finalize b n) v left goes-left (λ b log t. sym (same b log t) ∙ end-same [] b log t))
-  last (p ∷ ps) chained apart differ each same r e =
+  last later few live [] paid chained apart differ each same r e =
+      subst (λ (q : Option Front). Running v left n total later q) (sym (e ∙ ap (front_at left) chained))
+      (record {
+        goes = goes-same (λ b. finish (step b) f.o.birth) (λ b. finalize b n) v left goes-left (λ b log t. sym (same b log t) ∙ end-same [] b log t);
+        paid = omega (arith, few, paid, left-ended [] live);
+      })
+  last later few live (p ∷ ps) paid chained apart differ each same r e =
       let works = work-left f.o.birth c w (p ∷ ps) apart in
       let all = each-end f.o.birth w good c there free (p ∷ ps) apart each in
       let front : r ≡ Some (record { o = p.0; at = p.1; next = chained.1.0 }) =
       e ∙ ap (front_at left) chained.0
       ∙ ap (option_map (λ (x : Work). record { o = p.0; at = x.at; next = x.next })) (works.0 ∙ chained.1.1.0) in
-      subst (λ (q : Option Front). Running v left n q) (sym front)
+      subst (λ (q : Option Front). Running v left n total later q) (sym front)
       (record {
         others = ps;
         chained = chained-same w left ps works.1 chained.1.0 chained.1.1.1;
@@ -412,6 +482,7 @@ module _ (v w : Objects) (n : ℕ) (f : Front) (good : IsHeap w) (step : Board �
         step = λ b. finish (step b) f.o.birth;
         goes = goes-left;
         same = λ b log t. sym (end-same (births_of (p ∷ ps)) b log t) ∙ same b log t;
+        paid = omega (arith, few, paid, left-ended (births_of (p ∷ ps)) live);
       })
 
   next-there : (ps : List (Key × ℕ)) → IsChained w f.next ps → Apart f.o.birth ps → AllByRecursion (IsDoing w) ps → IfSome f.next (IsLive left.rows)
@@ -420,27 +491,28 @@ module _ (v w : Objects) (n : ℕ) (f : Front) (good : IsHeap w) (step : Board �
       subst (λ (o : Option Key). IfSome o (IsLive left.rows)) (sym chained.0) (each-end f.o.birth w good c there free (p ∷ ps) apart each).0.live
 
 -- as the code has it
-pub at-end : (v w x : Objects) (n : ℕ) (f : Front) (r : Option Front) → IsHeap w → At v w n f → slot_in (slots_of w f.o.birth) f.at ≡ None
-    → option_map (λ (c : Content). ended f.o.birth c w) (content_of w f.o.birth) ≡ Some x → r ≡ front_at x f.next → Running v x n r
-at-end v w x n f r good now past is e = go (content_of w f.o.birth) refl is
+pub at-end : (v w x : Objects) (n total spent later : ℕ) (f : Front) (r : Option Front) → later ≤ spent + 8 + 4 * weak_ends (tree w) f.o.birth → IsHeap w
+    → At v w n total spent f → slot_in (slots_of w f.o.birth) f.at ≡ None
+    → option_map (λ (c : Content). ended f.o.birth c w) (content_of w f.o.birth) ≡ Some x → r ≡ front_at x f.next → Running v x n total later r
+at-end v w x n total spent later f r few good now past is e = go (content_of w f.o.birth) refl is
   where
-    go : (o : Option Content) → content_of w f.o.birth ≡ o → option_map (λ (c : Content). ended f.o.birth c w) o ≡ Some x → Running v x n r
+    go : (o : Option Content) → content_of w f.o.birth ≡ o → option_map (λ (c : Content). ended f.o.birth c w) o ≡ Some x → Running v x n total later r
     go None p q = cc
     go (Some c) p q =
         let same : ended f.o.birth c w ≡ x = same_Some (ended f.o.birth c w) x q in
-        subst (λ (y : Objects). Running v y n r) same
-        (last v w n f good now.step now.goes c p (at-free v w n f good now) past now.others now.chained now.apart now.differ now.each now.same r
+        subst (λ (y : Objects). Running v y n total later r) same
+        (last v w n total spent f good now.step now.goes c p (at-free v w n total spent f good now) past later few now.here.live now.others now.paid now.chained now.apart now.differ now.each now.same r
         (e ∙ ap (λ (y : Objects). front_at y f.next) (sym same)))
 
-pub next-live : (v w x : Objects) (n : ℕ) (f : Front) → IsHeap w → At v w n f → slot_in (slots_of w f.o.birth) f.at ≡ None
+pub next-live : (v w x : Objects) (n total spent : ℕ) (f : Front) → IsHeap w → At v w n total spent f → slot_in (slots_of w f.o.birth) f.at ≡ None
     → option_map (λ (c : Content). ended f.o.birth c w) (content_of w f.o.birth) ≡ Some x → IfSome f.next (IsLive x.rows)
-next-live v w x n f good now past is = go (content_of w f.o.birth) refl is
+next-live v w x n total spent f good now past is = go (content_of w f.o.birth) refl is
   where
     go : (o : Option Content) → content_of w f.o.birth ≡ o → option_map (λ (c : Content). ended f.o.birth c w) o ≡ Some x → IfSome f.next (IsLive x.rows)
     go None p q = cc
     go (Some c) p q =
         subst (λ (y : Objects). IfSome f.next (IsLive y.rows)) (same_Some (ended f.o.birth c w) x q)
-        (next-there v w n f good now.step now.goes c p (at-free v w n f good now) past now.others now.chained now.apart now.each)
+        (next-there v w n total spent f good now.step now.goes c p (at-free v w n total spent f good now) past now.others now.chained now.apart now.each)
 
 -- what is left to do becomes less: fewer objects or holds, or the same and fewer slots
 abbrev pub left_after : Objects → Option Front → ℕ
@@ -573,9 +645,9 @@ one-less n (row ∷ rows) key is live = go (eqb row.0.birth n) refl (one-less n 
         let other : eqb row.0.birth key.birth ≡ false = rw is e in
         rw e (omega (arith, rest (rw other at live)))
 
-pub smaller-end : (v w x : Objects) (n : ℕ) (f : Front) (r : Option Front) → IsHeap w → At v w n f
+pub smaller-end : (v w x : Objects) (n total spent : ℕ) (f : Front) (r : Option Front) → IsHeap w → At v w n total spent f
     → option_map (λ (c : Content). ended f.o.birth c w) (content_of w f.o.birth) ≡ Some x → left_after x r < left_after w (Some f)
-smaller-end v w x n f r good now is = go (content_of w f.o.birth) refl is
+smaller-end v w x n total spent f r good now is = go (content_of w f.o.birth) refl is
   where
     k : ℕ
     k = f.o.birth
@@ -583,7 +655,7 @@ smaller-end v w x n f r good now is = go (content_of w f.o.birth) refl is
     end : (c : Content) → content_of w k ≡ Some c → (q : Option Front) → left_after (ended k c w) q < left_after w (Some f)
     end c p None = omega arith
     end c p (Some g) =
-        let goes : Goes (λ b. finish b k) w (ended k c w) = goes-end w good k c p (at-free v w n f good now) in
+        let goes : Goes (λ b. finish b k) w (ended k c w) = goes-end w good k c p (at-free v w n total spent f good now) in
         let holds : holding (finish (tree w) k) ≡ holding (tree (ended k c w)) = ap holding (tree-after (λ b. finish b k) w (ended k c w) goes) in
         let wide : width (finish (tree w) k) ≡ width (tree (ended k c w)) = ap width (tree-after (λ b. finish b k) w (ended k c w) goes) in
         let one = less-first (holding (tree (ended k c w)) + length (ended k c w).rows) (holding (tree w) + length w.rows) (width (tree (ended k c w)))
@@ -602,3 +674,19 @@ smaller-as w front now less is h = subst (λ (q : Option Front). less < left_aft
 
 pub front-live : (w u : Objects) (f : Front) → u ≡ with_edit f.o.birth (dropped_at f.at) w → IsLive w.rows f.o → IsLive u.rows f.o
 front-live w u f is live = subst (λ (x : Objects). IsLive x.rows f.o) (sym is) (live-edit f.o.birth (dropped_at f.at) w.rows f.o live)
+
+-- the steps of a turn, and of an end
+pub turn-cost : (was a b now : ℕ) → a ≡ was + 1 → b ≤ a + 4 → now ≤ b + 2 → now ≤ was + 8
+turn-cost was a b now e h k = omega (arith, e, h, k)
+
+pub end-cost : (was a b now n : ℕ) (v : Objects) → a ≡ was + 1 → b ≤ a + 2 + 4 * weak_ends_on n v.rows → now ≤ b + 1
+    → now ≤ was + 8 + 4 * weak_ends (tree v) n
+end-cost was a b now n v e h k = omega (arith, e, h, k, weak-shown n v.rows)
+
+-- what a finalization paid, on the boards of the heap
+pub paid-shown : (v w : Objects) (n was spent : ℕ) → IsDone v w n (was + owed v ((n, 0) ∷ [])) spent → (b c : Board) → Shows b v → Shows c w
+    → spent + worth c ≤ was + worth b
+paid-shown v w n was spent done b c s t =
+    let first : left_of_all (tree v) ((n, 0) ∷ []) ≡ objects_and_slots (tree v) = bound_lem.first (tree v) n in
+    let last : left_of_all (tree w) [] ≡ objects_and_slots (tree w) = bound_lem.last (tree w) in
+    omega (arith, done.paid, first, last, worth-same b (tree v) s.records, worth-same c (tree w) t.records)

@@ -41,14 +41,15 @@ abbrev pub KeepsNames : Objects → Objects → Type 0
 KeepsNames v w = (key : Key) → IsLive v.rows key → is_some (content_of w key.birth) ≡ true → IsLive w.rows key
 
 -- a heap becomes another as a board does by a step, with some notes more whatever the log was, nobody is there who was
--- not, who is there has the body that it had, the book of claims stays right, and the time and the room for further
--- events stay
+-- not, who is there has the body that it had and what was kept of it beside the tree, the book of claims stays right, and
+-- the time and the room for further events stay
 pub record Goes (step : Board → Board) (v w : Objects) : Type 0 where
   pub more : List Note
   pub log : w.log ≡ noted_all more v.log
   pub shown : (b : Board) (log : Log) → Shows b (with_log log v) → Shows (step b) (with_log (noted_all more log) w)
   pub names : (key : Key) → IsLive w.rows key → IsLive v.rows key
   pub bodies : (n : ℕ) (c : Content) → content_of w n ≡ Some c → option_map (λ (d : Content). d.body) (content_of v n) ≡ Some c.body
+  pub sides : (n : ℕ) (c : Content) → content_of w n ≡ Some c → option_map (λ (d : Content). d.side) (content_of v n) ≡ Some c.side
   pub book : (out : List Claimed) → IsBook out v → IsBook out w
   pub time : w.time ≡ v.time
   pub spare : w.events.spare ≡ v.events.spare

@@ -1,15 +1,16 @@
 //! Releasing objects. None of these calls takes memory, and none fails.
 
-ghost use Rattle.std.specs.Prelude.{◌≡◌, ◌<◌, IfSome, None, option_map};
+ghost use Rattle.std.specs.Prelude.{◌≡◌, ◌+◌, ◌*◌, ◌<◌, ◌≤◌, IfSome, None, Some, option_map};
 ghost use Rattle.qo_model.specs.Board.{Board};
 ghost use Rattle.qo_model.specs.Release.{after, finalize, let_go, unpin};
+ghost use Rattle.qo_model.specs.ReleaseBound.{release_bound};
 ghost use Rattle.qo_object.specs.BoardObject.{birth_of};
 ghost use Rattle.qo_object.specs.Slots.{referent, slot_in};
 ghost use Rattle.qo_heap.specs.Rows.{IsLive};
 ghost use Rattle.qo_heap.specs.Board.{Shows};
 ghost use Rattle.qo_heap.specs.Objects.{pins_of, refs_of, slots_of};
 ghost use Rattle.qo_life.specs.Life.{Goes, KeepsNames, next_at};
-ghost use Rattle.qo_life.specs.Work.{GoesOn, front_at};
+ghost use Rattle.qo_life.specs.Work.{GoesOn, front_at, worth};
 
 use qo_heap::{Heap, Oid, Slot, Steps, Work};
 use std::sync::ledger::Ledger;
@@ -39,6 +40,7 @@ fn turn_at<L: Ledger>(heap: &Heap, o: Oid, at: usize, steps: &mut Steps<L>) -> O
     requires { IsLive heap.now.rows o }
     ensures held { option_map (λ t. t.held) result ≡ option_map referent (slot_in (slots_of heap.now o.birth) at) }
     ensures next { option_map (λ t. t.next) result ≡ option_map (next_at at) (slot_in (slots_of heap.now o.birth) at) }
+    ensures cost { steps.new ≡ steps.old + 1 }
 {
     let slot = heap.slot_at(o, at, steps)?;
     let (held, next) = match slot.what {
@@ -58,7 +60,8 @@ fn turn_at<L: Ledger>(heap: &Heap, o: Oid, at: usize, steps: &mut Steps<L>) -> O
 fn go_on<L: Ledger>(heap: &mut Heap, front: Front, turn: Turn, steps: &mut Steps<L>) -> Front
     requires live { IsLive heap.old.rows front.o }
     requires held { IfSome turn.held (IsLive heap.old.rows) }
-    ensures { GoesOn turn.held front turn.next heap.old heap.new result }
+    ensures goes { GoesOn turn.held front turn.next heap.old heap.new result }
+    ensures cost { steps.new ≤ steps.old + 2 }
 {
     let next = Front {
         o: front.o,
@@ -86,7 +89,8 @@ fn go_on<L: Ledger>(heap: &mut Heap, front: Front, turn: Turn, steps: &mut Steps
 /// The front of the work, where it goes on with an object.
 fn front_of<L: Ledger>(heap: &Heap, next: Option<Oid>, steps: &mut Steps<L>) -> Option<Front>
     requires { IfSome next (IsLive heap.now.rows) }
-    ensures { result ≡ front_at heap.now next }
+    ensures front { result ≡ front_at heap.now next }
+    ensures cost { steps.new ≤ steps.old + 1 }
 {
     let o = next?;
     let work = heap.work(o, steps);
@@ -102,7 +106,8 @@ fn front_of<L: Ledger>(heap: &Heap, next: Option<Oid>, steps: &mut Steps<L>) -> 
 fn finalize<L: Ledger>(heap: &mut Heap, o: Oid, steps: &mut Steps<L>)
     requires live { IsLive heap.old.rows o }
     requires free { refs_of heap.old o.birth ≡ 0 }
-    ensures { Goes (λ b. finalize b o.birth) heap.old heap.new }
+    ensures goes { Goes (λ b. finalize b o.birth) heap.old heap.new }
+    ensures paid { (b c : Board) → Shows b heap.old → Shows c heap.new → steps.new + worth c ≤ steps.old + worth b }
 {
     heap.reveal_invariant();
     let mut front = Some(Front {
@@ -129,7 +134,8 @@ fn finalize<L: Ledger>(heap: &mut Heap, o: Oid, steps: &mut Steps<L>)
 /// Ends an object that was held, where nothing refers to it any more.
 fn end_unheld<L: Ledger>(heap: &mut Heap, held: Option<Oid>, steps: &mut Steps<L>)
     requires { IfSome held (IsLive heap.old.rows) }
-    ensures { Goes (λ b. after finalize b (birth_of held)) heap.old heap.new }
+    ensures goes { Goes (λ b. after finalize b (birth_of held)) heap.old heap.new }
+    ensures work { (b c : Board) → Shows b heap.old → Shows c heap.new → steps.new + 7 ≤ steps.old + release_bound b c }
 {
     heap.reveal_invariant();
     if let Some(o) = held {
@@ -142,7 +148,8 @@ fn end_unheld<L: Ledger>(heap: &mut Heap, held: Option<Oid>, steps: &mut Steps<L
 /// Lets the slot of an object at a place go, with what it held; a place past the last stays.
 fn let_go_at<L: Ledger>(heap: &mut Heap, o: Oid, at: usize, steps: &mut Steps<L>)
     requires { IsLive heap.old.rows o }
-    ensures { Goes (λ b. let_go b o.birth at) heap.old heap.new }
+    ensures goes { Goes (λ b. let_go b o.birth at) heap.old heap.new }
+    ensures work { (b c : Board) → Shows b heap.old → Shows c heap.new → steps.new ≤ steps.old + release_bound b c }
 {
     heap.reveal_invariant();
     let Some(turn) = turn_at(heap, o, at, steps) else {
@@ -161,6 +168,7 @@ pub fn let_go<L: Ledger>(heap: &mut Heap, owner: Oid, at: usize, steps: &mut Ste
     ensures release { (b : Board) → Shows b heap.old → Shows (let_go b owner.birth at) heap.new }
     ensures goes { Goes (λ b. let_go b owner.birth at) heap.old heap.new }
     ensures names { KeepsNames heap.old heap.new }
+    ensures work { (b c : Board) → Shows b heap.old → Shows c heap.new → steps.new ≤ steps.old + release_bound b c }
 {
     let_go_at(heap, owner, at, steps);
 }
@@ -173,6 +181,7 @@ pub fn drop_pin<L: Ledger>(heap: &mut Heap, o: Oid, steps: &mut Steps<L>)
     ensures release { (b : Board) → Shows b heap.old → Shows (unpin b o.birth) heap.new }
     ensures goes { Goes (λ b. unpin b o.birth) heap.old heap.new }
     ensures names { KeepsNames heap.old heap.new }
+    ensures work { (b c : Board) → Shows b heap.old → Shows c heap.new → steps.new ≤ steps.old + release_bound b c }
 {
     heap.reveal_invariant();
     heap.unpin(o, steps);
@@ -186,6 +195,7 @@ pub fn drop_hold<L: Ledger>(heap: &mut Heap, held: Option<Oid>, steps: &mut Step
     ensures release { (b : Board) → Shows b heap.old → Shows (after finalize b (birth_of held)) heap.new }
     ensures goes { Goes (λ b. after finalize b (birth_of held)) heap.old heap.new }
     ensures names { KeepsNames heap.old heap.new }
+    ensures work { (b c : Board) → Shows b heap.old → Shows c heap.new → steps.new ≤ steps.old + release_bound b c }
 {
     end_unheld(heap, held, steps);
 }

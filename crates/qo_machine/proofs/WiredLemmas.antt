@@ -1,27 +1,32 @@
 -- The interrupt lines of a machine are those of its board.
-use Rattle.std.proofs.Common.{◌≡◌, refl, sym, subst, ◌∙◌, ℕ, true, false, List, [], ◌∷◌, Option, Result, Ok, Err, OnOk, OnErr}
+use Rattle.std.proofs.Common.{◌≡◌, refl, sym, subst, ◌∙◌, ℕ, true, false, List, [], ◌∷◌, Option, Result, Ok, Err, IfOk, OnOk, OnErr}
 use Rattle.qo_causes.specs.declared.inputs.Moment.{Moment}
 use Rattle.qo_values.specs.declared.codes.Code.{Code}
 use Rattle.qo_commands.specs.Commands.{without_events}
 use Rattle.qo_commands.specs.Interrupts.{HasLines}
-use Rattle.qo_commands.proofs.InterruptLemmas.{by-lines, has-lines}
-use Rattle.qo_heap.specs.Board.{Shows}
-use Rattle.qo_layout.specs.Rows.{AreShaped, LinesAre, Wired}
-use Rattle.qo_layout.proofs.LineRecordsLemmas.{lines-same, shaped-same}
+use Rattle.qo_commands.specs.Touched.{HasShape, IsLeft}
+use Rattle.qo_commands.specs.declared.touched.Touched.{Touched}
+use Rattle.qo_commands.specs.declared.touched.Touched.TheVariants.{Nothing, Registers}
+use Rattle.qo_commands.proofs.FrameLemmas.{advanced-frame}
+use Rattle.qo_commands.proofs.InterruptLemmas.{by-lines, left-after, left-beside}
+use Rattle.qo_layout.specs.Rows.{Wired}
+use Rattle.qo_commands.specs.KeptViews.{HasView}
+use Rattle.qo_commands.proofs.KeptViewLemmas.{view-same}
+use Rattle.qo_layout.proofs.SameViewLemmas.{same_view_lem}
+use Rattle.qo_layout.specs.Kept.{Kept}
 use Rattle.qo_model.specs.Board.{Board}
-use Rattle.qo_model.specs.Clocks.{ClocksFit}
 use Rattle.qo_model.specs.Objects.{Changed}
 use Rattle.qo_realize.specs.Parts.{Parts}
+use Rattle.qo_machine.proofs.PreservationLemmas.{advanced-all}
 use Rattle.qo_realize.specs.Representation.{Stands, StandsForGood}
 use Rattle.qo_realize.specs.Time.{Advances, advanced}
-use Rattle.qo_realize.proofs.GoodBoardLemmas.{good-of}
 use Rattle.qo_requests.specs.declared.calls.Call.{Call}
 use Rattle.qo_machine.specs.Between.{IsWired}
 use Rattle.qo_machine.specs.Machine.{Choice, IsIn, Made, Message, Seen, State, state_with}
 use Rattle.qo_machine.specs.Serving.{CommandServed, ServesFrontBy, ServesToBy}
+use Rattle.qo_machine.specs.declared.machines.Reply.{Reply}
 use Rattle.qo_machine.proofs.BoardLemmas.{board_free}
 use Rattle.qo_machine.proofs.MemoryLemmas.{front_none_by, front_on_by}
-use Rattle.qo_machine.proofs.PreservationLemmas.{advanced-all}
 
 -- where the board stays, and the lines
 pub wired_kept : (m n : Seen) → n.board ≡ m.board → n.lines ≡ m.lines → IsWired m → IsWired n
@@ -31,12 +36,20 @@ pub wired_ok : {T E : Type 0} (r : Result T E) (m n : Seen) → n.board ≡ m.bo
 wired_ok (Ok x) m n board lines w = wired_kept m n board lines w
 wired_ok (Err e) m n board lines w = tt
 
--- and where the events that wait are told
-pub wired_told : (m n : Seen) → ((b : Board) → Stands b m.board → Stands (without_events b) n.board) → n.lines ≡ m.lines → IsWired m → IsWired n
-wired_told m n told lines w =
-    subst (HasLines n.board) (sym lines)
-    (by-lines (HasLines n.board) m.board m.lines w
-    (λ b stands sound are. has-lines n.board m.lines (without_events b) (told b stands) (board_free b sound) (lines-same b (without_events b) m.lines refl refl are)))
+-- and so is what is left of them, also where the events that wait are told
+pub left_kept : (t : Touched) (m n : Seen) → n.board ≡ m.board → n.lines ≡ m.lines → IsLeft t m.board m.lines → IsLeft t n.board n.lines
+left_kept t m n board lines h = subst (λ (p : Parts). IsLeft t p n.lines) (sym board) (subst (IsLeft t m.board) (sym lines) h)
+
+pub left_told : (t : Touched) (m n : Seen) → ((b : Board) → Stands b m.board → Stands (without_events b) n.board) → n.lines ≡ m.lines
+    → IsLeft t m.board m.lines → IsLeft t n.board n.lines
+left_told t m n told lines h =
+    subst (IsLeft t n.board) (sym lines) (left-beside t m.board n.board m.lines without_events (λ b. (refl, refl)) board_free told h)
+
+-- what is only asked touches nothing
+pub left_answered : {E : Type 0} (r : Result Reply E) (p : Parts) (l : Wired) → IfOk r (λ x. x.touched ≡ Nothing) → HasLines p l
+    → IfOk r (λ x. IsLeft x.touched p l)
+left_answered (Ok x) p l none h = subst (λ (t : Touched). IsLeft t p l) (sym none) h
+left_answered (Err e) p l none h = tt
 
 -- so they are after a step that did not run out of memory, which is told by what it answers
 pub wired_unless : {T E : Type 0} (r : Result T E) (m : Seen) → OnOk r (IsWired m) → OnErr r (m.out_of_memory ≡ true) → m.out_of_memory ≡ false → IsWired m
@@ -48,17 +61,28 @@ pub advances_stands : (d : Changed) (r : Result ℕ Code) (p : Parts) → Advanc
 advances_stands d (Ok time) p a = a.1
 advances_stands d (Err code) p a = a.1
 
--- the time goes on, and the inputs are read again
-pub wired_later : (p q : Parts) (l k : Wired) (ns : ℕ) → ((b : Board) → Stands b p → Stands (advanced b ns).board q) → StandsForGood q → HasLines p l
-    → ((b : Board) → Shows b q.objects → ClocksFit b → AreShaped b l → LinesAre b k) → HasLines q k
-wired_later p q l k ns goes good h read =
-    by-lines (λ w. HasLines q k) p l h
+-- the time goes on, and the lines are made for the same objects
+pub shaped_later : (p q : Parts) (l : Wired) (ns : ℕ) → ((b : Board) → Stands b p → Stands (advanced b ns).board q) → StandsForGood q → HasLines p l
+    → HasShape q l
+shaped_later p q l ns goes good h =
+    left-after Registers p q l h good
+    (λ b sound stands. record { board = (advanced b ns).board; touches = advanced-frame b ns; stands = goes b stands })
+
+-- The view.
+
+-- what is kept of the view stays right where the time goes on, and where the events that wait are told
+pub view_later : (p q : Parts) (l : Wired) (kept : Kept) (ns : ℕ) → HasLines p l → ((b : Board) → Stands b p → Stands (advanced b ns).board q)
+    → HasView p kept → HasView q kept
+view_later p q l kept ns lines goes has =
+    by-lines (λ w. HasView q kept) p l lines
     (λ b stands sound are.
-    let c : Board = (advanced b ns).board in
-    let there : Stands c q = goes b stands in
-    let sound_then = good-of q good c there in
-    let same : b.records ≡ c.records = advanced-all (λ (x : Board). b.records ≡ x.records) b ns refl (λ low. refl) in
-    has-lines q k c there sound_then (read c there.shows sound_then.run.clocks.fit (shaped-same b c l same are.shaped)))
+    view-same p q kept b (advanced b ns).board stands (goes b stands)
+    (same_view_lem.beside b (advanced b ns).board (advanced-all (λ (x : Board). b.records ≡ x.records) b ns refl (λ low. refl))) has)
+
+pub view_told : (p q : Parts) (kept : Kept) → StandsForGood p → ((b : Board) → Stands b p → Stands (without_events b) q) → HasView p kept
+    → HasView q kept
+view_told p q kept (b, stands, good) told has =
+    view-same p q kept b (without_events b) stands (told b stands) (same_view_lem.beside b (without_events b) refl) has
 
 -- Served, and settled then.
 

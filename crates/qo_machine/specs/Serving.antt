@@ -1,10 +1,9 @@
 -- For proofs alone. Items and lines served one after another, whatever choices and whatever items or lines come after.
-use Rattle.std.specs.Prelude.{◌≡◌, ℕ, Bool, true, false, List, [], ◌∷◌, ◌++◌, map, Option, option_to_list, Ok, IfOk, ◌⊎◌}
+use Rattle.std.specs.Prelude.{◌≡◌, ℕ, List, [], ◌∷◌, ◌++◌, map, Option, option_to_list, Ok, IfOk, ◌⊎◌}
 use Rattle.qo_causes.specs.declared.hubs.Lane.{Lane}
 use Rattle.qo_causes.specs.declared.inputs.Moment.{Moment}
 use Rattle.qo_framing.specs.declared.items.Item.{Item}
 use Rattle.qo_requests.specs.declared.calls.Call.{Call}
-use Rattle.qo_requests.specs.declared.calls.Call.TheVariants.{Query, Change}
 use Rattle.qo_sessions.specs.Sessions.{in_mode}
 use Rattle.qo_sessions.specs.declared.acts.SessionAct.{SessionAct}
 use Rattle.qo_sessions.specs.declared.acts.SessionAct.TheVariants.{Answer, Negotiated, Do}
@@ -22,11 +21,6 @@ abbrev pub moved : State → ℕ → SessionAct → State
 moved s n (Answer code id) = s
 moved s n (Negotiated id) = with_session s n (in_mode Commanding (session_of s n))
 moved s n (Do command id) = s
-
--- whether a command is a query, which leaves the board
-abbrev pub is_query : Call → Bool
-is_query (Query query) = true
-is_query (Change change) = false
 
 -- by some choice this command sends this, and a machine is then in the state that it leads to
 abbrev pub CommandServed : Moment → ℕ → State → Call → Option (List ℕ) → List Message → Seen → Type 0

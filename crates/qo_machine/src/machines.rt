@@ -13,11 +13,13 @@ use crate::replying::{EMPTY, changed_text, guest_text, reply_text};
 use crate::serving::{serve_items, serve_lines};
 use json::Scratch;
 use qo_causes::{Input, Lane, Moment, What};
-use qo_commands::{ask, cut_lines, hear, interrupt_lines};
+use qo_commands::{
+    Done, Touched, ask, cut_lines, hear, interrupt_lines, no_view, refresh_lines, settle_lines,
+};
 use qo_events::DeviceEvent;
 use qo_framing::Item;
 use qo_heap::Steps;
-use qo_layout::Lines;
+use qo_layout::{KeptView, Lines};
 use qo_realize::Board;
 use qo_replies::{Event, return_written};
 use qo_requests::{Call, Change, Query};
@@ -64,6 +66,8 @@ pub(crate) struct Reply {
     pub(crate) event: Option<Event>,
     /// Whether it ends the run.
     pub(crate) ends: bool,
+    /// What it touched of what interrupt lines hang on.
+    pub(crate) touched: Touched,
 }
 
 /// What a machine is made of, also while a command is served and events on devices wait on the board.
@@ -72,6 +76,8 @@ pub(crate) struct Core {
     board: Board,
     /// The interrupt lines, which are the board's before and after each item and line.
     lines: Lines,
+    /// What is kept of the view of its memory map, which is the board's at all times.
+    view: KeptView,
     sessions: Vec<Session>,
     guest_line: Vec<u8>,
     ended: bool,
@@ -86,13 +92,14 @@ pub(crate) struct Core {
 impl Model for Core {
     ghost use Rattle.std.specs.Prelude.{◌≡◌, length};
     ghost use Rattle.qo_values.specs.declared.limits.TheConstants.{SESSIONS};
+    ghost use Rattle.qo_commands.specs.KeptViews.{HasView};
     ghost use Rattle.qo_machine.specs.Machine.{Seen};
 
     ghost Value = { Seen };
 
     ghost view = { λ m. record { board = m.board; lines = m.lines; sessions = m.sessions.items; guest_line = m.guest_line.items; ended = m.ended; out_of_memory = m.out_of_memory } };
 
-    ghost invariant = { λ m. length m.sessions.items ≡ SESSIONS };
+    ghost invariant = { λ m. (length m.sessions.items ≡ SESSIONS) × HasView m.board m.view };
 }
 
 /// The machine.
@@ -190,7 +197,7 @@ impl Core {
     ghost use Rattle.qo_model.specs.Board.{Board as Tree};
     ghost use Rattle.qo_sessions.specs.Acts.{act};
     ghost use Rattle.qo_sessions.specs.Sessions.{fed};
-    ghost use Rattle.qo_commands.specs.Changes.{Left};
+    ghost use Rattle.qo_commands.specs.Changes.{Changes, Left};
     ghost use Rattle.qo_requests.specs.declared.calls.Call.TheVariants as call;
     ghost use Rattle.qo_commands.specs.Commands.{without_events};
     ghost use Rattle.qo_realize.specs.Representation.{Stands, StandsForGood};
@@ -201,9 +208,11 @@ impl Core {
     ghost use Rattle.qo_commands.specs.Hearing.{heard};
     ghost use Rattle.qo_commands.specs.Lines.{lines_of};
     ghost use Rattle.qo_commands.specs.Interrupts.{HasLines};
+    ghost use Rattle.qo_commands.specs.Touched.{IsLeft};
+    ghost use Rattle.qo_commands.specs.declared.touched.Touched.TheVariants.{Nothing};
     ghost use Rattle.qo_model.specs.Opening.{opening_board};
     ghost use Rattle.qo_machine.specs.Between.{IsWired};
-    ghost use Rattle.qo_machine.specs.Serving.{Came, CameTo, is_query, moved};
+    ghost use Rattle.qo_machine.specs.Serving.{Came, CameTo, moved};
 
     /// The machine at first: the opening board, and all sessions closed.
     fn start(alloc: Global) -> Result<Core, AllocError>
@@ -235,6 +244,7 @@ impl Core {
         Ok(Core {
             board,
             lines,
+            view: no_view(),
             sessions: closed_sessions(alloc)?,
             guest_line: Vec::new(alloc),
             ended: false,
@@ -410,14 +420,11 @@ impl Core {
         outs
     }
 
-    /// A list without items, in the room of the one before. It takes no memory.
+    /// The room of the items before. It takes no memory.
     fn item_room(&mut self, alloc: Global) -> Vec<Item>
-        ensures none { result.items ≡ [] }
-        ensures same { self.new ≡ self.old }
+        ensures { self.new ≡ self.old }
     {
-        let mut room = replace(&mut self.items, Vec::new(alloc));
-        room.clear();
-        room
+        replace(&mut self.items, Vec::new(alloc))
     }
 
     /// Keeps the room of items that were served, and lets them go. It takes no memory.
@@ -452,8 +459,7 @@ impl Core {
         bytes: &[u8],
         room: Vec<Item>,
     ) -> Result<Vec<Item>, AllocError>
-        requires session { session < SESSIONS }
-        requires room { room.items ≡ [] }
+        requires { session < SESSIONS }
         ensures items { (b : Tree) → IfOk result (λ items. items.items ≡ (fed (session_of (state_with b self.old) session) bytes.now).items) }
         ensures state { (b : Tree) → IfOk result (λ items. state_with b self.new ≡ with_session (state_with b self.old) session (fed (session_of (state_with b self.old) session) bytes.now).session) }
         ensures board { self.new.board ≡ self.old.board }
@@ -503,16 +509,26 @@ impl Core {
     ) -> Result<Reply, AllocError>
         requires wired { IsWired self.old }
         ensures came { (b : Tree) → Stands b self.old.board → IfOk result (λ r. CameTo (heard b line.now) r self.new.board) }
+        ensures left { IfOk result (λ r. IsLeft r.touched self.new.board self.new.lines) }
         ensures kept { OnErr result (self.new.board ≡ self.old.board) }
         ensures rest { (b : Tree) → state_with b self.new ≡ state_with b self.old }
         ensures lasts { self.new.out_of_memory ≡ self.old.out_of_memory }
         ensures wires { self.new.lines ≡ self.old.lines }
     {
-        let heard = hear(&mut self.board, &self.lines, line, alloc, steps)?;
+        let heard = hear(
+            &mut self.board,
+            &self.lines,
+            &mut self.view,
+            line,
+            alloc,
+            steps,
+        )?;
+        self.board.reveal_board();
         Ok(Reply {
             text: guest_text(alloc, &heard.answer),
             event: heard.event,
             ends: heard.ends,
+            touched: heard.touched,
         })
     }
 
@@ -527,42 +543,24 @@ impl Core {
     {
         let _time = self.board.advance(ns);
         self.board.reveal_board();
-        self.lines.refresh(self.board.heap(), steps);
+        refresh_lines(&mut self.lines, &self.board, steps);
     }
 
-    /// The interrupt lines are the board's again, after a command; one that leaves the board leaves them. The
-    /// error is want of memory.
-    pub(crate) fn settle_command<L: Ledger>(
-        &mut self,
-        alloc: Global,
-        command: &Call,
-        steps: &mut Steps<L>,
-    ) -> Result<(), AllocError>
-        requires wired { is_query command.now ≡ true → IsWired self.old }
-        ensures wired { OnOk result (IsWired self.new) }
-        ensures board { self.new.board ≡ self.old.board }
-        ensures rest { (b : Tree) → state_with b self.new ≡ state_with b self.old }
-        ensures lasts { self.new.out_of_memory ≡ self.old.out_of_memory }
-    {
-        match command {
-            Call::Query(_) => Ok(()),
-            Call::Change(_) => self.settle(alloc, steps),
-        }
-    }
-
-    /// The interrupt lines are the board's again. The error is want of memory.
+    /// The interrupt lines are the board's again, where this was touched since they were. The error is want
+    /// of memory.
     pub(crate) fn settle<L: Ledger>(
         &mut self,
         alloc: Global,
+        touched: Touched,
         steps: &mut Steps<L>,
     ) -> Result<(), AllocError>
+        requires { IsLeft touched self.old.board self.old.lines }
         ensures wired { OnOk result (IsWired self.new) }
         ensures board { self.new.board ≡ self.old.board }
         ensures rest { (b : Tree) → state_with b self.new ≡ state_with b self.old }
         ensures lasts { self.new.out_of_memory ≡ self.old.out_of_memory }
     {
-        self.lines = interrupt_lines(alloc, &self.board, steps)?;
-        Ok(())
+        settle_lines(alloc, &mut self.lines, &self.board, touched, steps)
     }
 
     /// The mode of a session.
@@ -600,6 +598,7 @@ impl Core {
         steps: &mut Steps<L>,
     ) -> Result<Reply, AllocError>
         ensures came { (b : Tree) → Stands b self.now.board → IfOk result (λ r. Came b (call.Query query.now) (option_map (λ id. id.now) id.entry) r self.now.board) }
+        ensures touched { IfOk result (λ r. r.touched ≡ Nothing) }
     {
         let done = ask(alloc, &self.board, query, steps)?;
         let text = reply_text(alloc, &self.board, id, &done.result, steps)?;
@@ -607,7 +606,36 @@ impl Core {
             text: Ok(text),
             event: done.event,
             ends: done.ends,
+            touched: Touched::Nothing,
         })
+    }
+
+    /// Does a command that changes the board. Where memory runs out the board is as it was, or an attempt was
+    /// cut; the interrupt lines are the board's then.
+    fn apply<L: Ledger>(
+        &mut self,
+        alloc: Global,
+        change: &Change,
+        steps: &mut Steps<L>,
+    ) -> Result<Done, AllocError>
+        requires wired { IsWired self.old }
+        ensures came { (b : Tree) → Stands b self.old.board → Changes b change.now result self.new.board }
+        ensures left { IfOk result (λ d. IsLeft d.touched self.new.board self.new.lines) }
+        ensures same { OnErr result (IsWired self.new) }
+        ensures rest { (b : Tree) → state_with b self.new ≡ state_with b self.old }
+        ensures lasts { self.new.out_of_memory ≡ self.old.out_of_memory }
+        ensures wires { self.new.lines ≡ self.old.lines }
+    {
+        let done = qo_commands::change(
+            alloc,
+            &mut self.board,
+            &self.lines,
+            &mut self.view,
+            change,
+            steps,
+        );
+        self.board.reveal_board();
+        done
     }
 
     /// Does a command that changes the board, and gives the text of its reply. The text that says that
@@ -622,18 +650,21 @@ impl Core {
     ) -> Result<Reply, AllocError>
         requires wired { IsWired self.old }
         ensures came { (b : Tree) → Stands b self.old.board → IfOk result (λ r. Came b (call.Change change.now) (option_map (λ id. id.now) id.entry) r self.new.board) }
+        ensures left { IfOk result (λ r. IsLeft r.touched self.new.board self.new.lines) }
+        ensures same { OnErr result (IsWired self.new) }
         ensures kept { (b : Tree) → Stands b self.old.board → OnErr result (Left b (call.Change change.now) self.new.board) }
         ensures rest { (b : Tree) → state_with b self.new ≡ state_with b self.old }
         ensures lasts { self.new.out_of_memory ≡ self.old.out_of_memory }
         ensures wires { self.new.lines ≡ self.old.lines }
     {
         let empty = return_written(alloc, id, EMPTY)?;
-        let done = qo_commands::change(alloc, &mut self.board, &self.lines, change, steps)?;
+        let done = self.apply(alloc, change, steps)?;
         let text = changed_text(alloc, &self.board, id, empty, &done.result, steps);
         Ok(Reply {
             text,
             event: done.event,
             ends: done.ends,
+            touched: done.touched,
         })
     }
 
@@ -653,7 +684,8 @@ impl Core {
         ensures rest { (b : Tree) → state_with b self.new ≡ state_with b self.old }
         ensures lasts { self.new.out_of_memory ≡ self.old.out_of_memory }
         ensures wires { self.new.lines ≡ self.old.lines }
-        ensures leaves { is_query command.now ≡ true → self.new ≡ self.old }
+        ensures left { IfOk result (λ r. IsLeft r.touched self.new.board self.new.lines) }
+        ensures same { OnErr result (IsWired self.new) }
     {
         match command {
             Call::Query(query) => self.answer(alloc, query, id, steps),
@@ -675,6 +707,7 @@ impl Core {
         ensures lasts { self.new.out_of_memory ≡ self.old.out_of_memory }
         ensures wires { self.new.lines ≡ self.old.lines }
     {
+        self.board.reveal_board();
         self.board.clear_events();
     }
 

@@ -12,14 +12,15 @@ ghost use Rattle.qo_machine.specs.Machine.{IsIn, Message, State, answer_line, be
 ghost use Rattle.qo_values.specs.declared.limits.TheConstants.{SESSIONS};
 ghost use Rattle.qo_machine.specs.Sending.{AreToLanes, IsLane};
 ghost use Rattle.qo_machine.specs.Between.{IsWired};
-ghost use Rattle.qo_machine.specs.Serving.{CommandLeft, CommandServed, LinesFront, LinesTo, ServesFront, ServesTo, Tells, is_query};
+ghost use Rattle.qo_machine.specs.Serving.{CommandLeft, CommandServed, LinesFront, LinesTo, ServesFront, ServesTo, Tells};
+ghost use Rattle.qo_commands.specs.Touched.{IsLeft};
 
 use crate::machines::{Core, Reply};
 use crate::outs::Outs;
 use crate::replying::{EMPTY, guest_text};
 use crate::telling::Emitted;
 use qo_causes::{Lane, Moment};
-use qo_commands::without_return;
+use qo_commands::{Touched, without_return};
 use qo_events::DeviceEvent;
 use qo_framing::Item;
 use qo_guest::GuestAnswer;
@@ -187,7 +188,8 @@ fn send_reply(
     outbox.push(lane, reply.text?)
 }
 
-/// A command is done, or refused for want of memory. The interrupt lines are then as they were.
+/// A command is done, or refused for want of memory. The interrupt lines are then as they were, and it tells
+/// what was touched since.
 fn reply_to_command<L: Ledger>(
     machine: &mut Core,
     session: u8,
@@ -195,23 +197,28 @@ fn reply_to_command<L: Ledger>(
     id: Option<&Text>,
     outbox: &mut Outbox,
     steps: &mut Steps<L>,
-) -> Result<(), AllocError>
+) -> Result<Touched, AllocError>
     requires session { session < SESSIONS }
     requires wired { IsWired machine.old }
     ensures served { OnOk result ((front : List Message) × (outbox.new.outs ≡ outbox.old.outs ++ front) × AreToLanes front × ((s : State) → IsIn s machine.old → CommandServed outbox.old.at session s command.now (option_map (λ id. id.now) id.entry) front machine.new)) }
     ensures left { OnErr result ((s : State) → IsIn s machine.old → CommandLeft outbox.old.at session s command.now (option_map (λ id. id.now) id.entry) machine.new) }
-    ensures wired { is_query command.now ≡ true → IsWired machine.new }
+    ensures touched { IfOk result (λ touched. IsLeft touched machine.new.board machine.new.lines) }
     ensures lasts { machine.new.out_of_memory ≡ machine.old.out_of_memory }
     ensures moment { outbox.new.at ≡ outbox.old.at }
 {
     match machine.perform(outbox.alloc, command, id, steps) {
         Ok(reply) => {
             let ends = reply.ends;
+            let touched = reply.touched;
             let sent = send_reply(machine, Lane::Session(session), reply, outbox);
             machine.conclude(ends);
-            sent
+            sent?;
+            Ok(touched)
         }
-        Err(AllocError) => outbox.send_memory_error(session, id),
+        Err(AllocError) => {
+            outbox.send_memory_error(session, id)?;
+            Ok(Touched::Nothing)
+        }
     }
 }
 
@@ -233,8 +240,8 @@ fn serve_command<L: Ledger>(
     ensures lasts { machine.new.out_of_memory ≡ machine.old.out_of_memory }
     ensures moment { outbox.new.at ≡ outbox.old.at }
 {
-    reply_to_command(machine, session, command, id, outbox, steps)?;
-    machine.settle_command(outbox.alloc, command, steps)
+    let touched = reply_to_command(machine, session, command, id, outbox, steps)?;
+    machine.settle(outbox.alloc, touched, steps)
 }
 
 /// An item of a session is served, unless the run has ended.
@@ -296,30 +303,37 @@ pub(crate) fn serve_items<L: Ledger>(
     Ok(outbox.into_outs())
 }
 
-/// A line of the guest is answered, unless the run has ended. The interrupt lines are then as they were.
+/// A line of the guest is answered, unless the run has ended. The interrupt lines are then as they were, and
+/// it tells what was touched since.
 fn reply_to_line<L: Ledger>(
     machine: &mut Core,
     line: &Chars,
     outbox: &mut Outbox,
     steps: &mut Steps<L>,
-) -> Result<(), AllocError>
+) -> Result<Touched, AllocError>
     requires { IsWired machine.old }
     ensures served { OnOk result ((front : List Message) × (outbox.new.outs ≡ outbox.old.outs ++ front) × AreToLanes front × ((s : State) → IsIn s machine.old → LinesTo outbox.old.at s (line.now ∷ []) front machine.new)) }
     ensures left { OnErr result ((s : State) → IsIn s machine.old → LinesFront outbox.old.at s (line.now ∷ []) machine.new) }
+    ensures touched { IfOk result (λ touched. IsLeft touched machine.new.board machine.new.lines) }
     ensures lasts { machine.new.out_of_memory ≡ machine.old.out_of_memory }
     ensures moment { outbox.new.at ≡ outbox.old.at }
 {
     if machine.ended() {
-        return Ok(());
+        return Ok(Touched::Nothing);
     }
     match machine.hear(outbox.alloc, without_return(line.as_slice()), steps) {
         Ok(reply) => {
             let ends = reply.ends;
+            let touched = reply.touched;
             let sent = send_reply(machine, Lane::Guest, reply, outbox);
             machine.conclude(ends);
-            sent
+            sent?;
+            Ok(touched)
         }
-        Err(AllocError) => outbox.send_guest_memory_error(),
+        Err(AllocError) => {
+            outbox.send_guest_memory_error()?;
+            Ok(Touched::Nothing)
+        }
     }
 }
 
@@ -337,8 +351,8 @@ fn serve_line<L: Ledger>(
     ensures lasts { machine.new.out_of_memory ≡ machine.old.out_of_memory }
     ensures moment { outbox.new.at ≡ outbox.old.at }
 {
-    reply_to_line(machine, line, outbox, steps)?;
-    machine.settle(outbox.alloc, steps)
+    let touched = reply_to_line(machine, line, outbox, steps)?;
+    machine.settle(outbox.alloc, touched, steps)
 }
 
 /// Lines of the guest are served in turn.

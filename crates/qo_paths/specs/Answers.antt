@@ -13,6 +13,9 @@ shown_resolution (Ok key) = found key.birth
 shown_resolution (Err NotFound) = missing
 shown_resolution (Err Ambiguous) = several
 
--- the object of the wanted type that a path leads to from n, if that is attached
+-- the object of the wanted type that components, and those of a path, lead to from n, if that is attached
+abbrev pub end_along : Board → List (List ℕ) → List ℕ → ℕ → Option ℕ
+end_along b parts wanted n = if attached b n then option_and_then (only_of b wanted) (walk b n parts) else None
+
 abbrev pub end_from : Board → List ℕ → List ℕ → ℕ → Option ℕ
-end_from b path wanted n = if attached b n then option_and_then (only_of b wanted) (walk b n (components path)) else None
+end_from b path wanted n = end_along b (components path) wanted n

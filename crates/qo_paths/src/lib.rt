@@ -2,7 +2,8 @@
 //! object, whether parents lead from it to `/`, and the object that an absolute or a partial path
 //! leads to. No call changes the heap.
 //!
-//! A parent is looked for among all objects. Parents that the heap keeps would change no clause here.
+//! The heap keeps the parent of each object, so a step of the way up is one look, and so is a step of
+//! the way down.
 #![tactic(auto)]
 
 mod errors;

@@ -14,10 +14,13 @@ use Rattle.qo_model.specs.Objects.{refusal_of}
 use Rattle.qo_model.specs.Devices.{buses_of}
 use Rattle.qo_model.specs.Paths.{canonical}
 use Rattle.qo_model.specs.Plug.{Plugged, Resources, Wanted, barred_late, bus_births, bus_for, clocked, counted, objects_in, parent_for, plug, plug_attempt, plug_late, resources_of, source_for, started, stood, with_plugged}
+use Rattle.qo_model.specs.Depth.{among}
 use Rattle.qo_model.specs.Release.{unpin}
+use Rattle.qo_model.specs.Reset.{count, post}
 use Rattle.qo_model.specs.Types.{TypeInfo, is_a, type_named}
 use Rattle.qo_sound.proofs.PlugLemmas.{IsPlace, place-of}
 use Rattle.qo_sound.proofs.ViewLemmas.{PinsRootAlone, rest-from_sound}
+use Rattle.qo_heap.specs.Acts.{counted_in}
 use Rattle.qo_heap.specs.Board.{Shows}
 use Rattle.qo_heap.specs.Objects.{Objects, content_of}
 use Rattle.qo_heap.proofs.BoardReads.{shows-kind, shows-record}
@@ -26,7 +29,10 @@ use Rattle.qo_object.specs.Content.{Content}
 use Rattle.qo_properties.specs.Filling.{target_in}
 use Rattle.qo_properties.specs.OpeningSteps.{KeepsNames}
 use Rattle.qo_properties.specs.declared.adding.filling.InitialValue.{InitialValue}
-use Rattle.qo_reset.specs.Phases.{Holds}
+use Rattle.qo_reset.specs.Counts.{CountedBelow}
+use Rattle.qo_reset.specs.Phases.{Holds, count_on, is_under}
+use Rattle.qo_reset.proofs.BoardLemmas.{shows-count, shows-post}
+use Rattle.qo_reset.proofs.EditLemmas.{counted-pair}
 use Rattle.qo_sound.specs.TreeKept.{SoundTree}
 use Rattle.qo_hotplug.specs.Hotplug.{Asked}
 use Rattle.qo_plug.specs.declared.adding.Added.{Added}
@@ -44,9 +50,10 @@ use Rattle.qo_plug.specs.Drafts.{CutShort, pinned_draft}
 use Rattle.qo_plug.specs.Stages.{resources_barred}
 use Rattle.qo_plug.specs.Placement.{Stood, resources_in}
 use Rattle.qo_properties.specs.KeptClaims.{kept_by}
+use Rattle.qo_plug.specs.KeptClaims.{CountedOn, OthersBefore}
 use Rattle.qo_plug.proofs.AdmissionLemmas.{added-late, admitted-bus}
 use Rattle.qo_plug.proofs.JudgementLemmas.{late-given, late-resources}
-use Rattle.qo_plug.proofs.PlugSteps.{counted-path, cut-whole, let-go, plugged-kinds, plugged-notices, plugged-pending, plugged-records, seat-holds, seat-notices, seated}
+use Rattle.qo_plug.proofs.PlugSteps.{counted-path, cut-whole, let-go, plugged-count, plugged-holds, plugged-kinds, plugged-notices, plugged-pending, plugged-post, plugged-records, seat-holds, seat-notices, seated}
 use Rattle.qo_plug.proofs.StartBuses.{plugged-buses}
 
 -- all of it was made, and ended
@@ -95,6 +102,13 @@ module _ (b : Board) (a : Wanted) where
       where
         late_as : Resources → Plugged
         late_as resources = record { refusal = None; board = with_plugged b target.kind a resources }
+
+    -- so is what is kept of holds
+    pub added-counts : (one : ℕ) (v w : Objects)
+        → CountedOn (with_plugged b target.kind a (resources_in target.bus.birth at)) one w
+        × OthersBefore (with_plugged b target.kind a (resources_in target.bus.birth at)) one v w
+        → CountedOn (plug b a).board one w × OthersBefore (plug b a).board one v w
+    added-counts one v w h = subst (λ (q : Plugged). CountedOn q.board one w × OthersBefore q.board one v w) (sym added-plugged) h
 
     pub is-added : (x : Added) (h : Asked) (w : Objects) → IsPlugged b target.kind a (resources_in target.bus.birth at) h w → x.birth ≡ b.born + 1
         → x.slot ≡ at.slot
@@ -288,3 +302,29 @@ module _ (b : Board) (t : TypeId) (sound : SoundTree b) (device : is_a t (codes 
     kinds-in i =
         sym (shows-kind (with_plugged b t a resources) y plugged-in.shown i) ∙ plugged-kinds b t sound a resources i
         ∙ shows-kind (started n t here) x started_is i
+
+    -- what is kept of holds is right of it and of all below it, and stays of the others
+    pub counts-in : CountedBelow m holds x → ((i : ℕ) → is_under x i m ≡ false → counted_in x i ≡ counted_in w i)
+        → ((i : ℕ) (k : ℕ × ℕ) → counted_in y i ≡ Some k → counted_in x i ≡ Some k)
+        → CountedOn (with_plugged b t a resources) m y × OthersBefore (with_plugged b t a resources) m w y
+    counts-in counted others before = (
+      λ i e under_at under. pair i e (before i e under_at) (sym (under-is i) ∙ under),
+      λ i e at apart. sym (others i (sym (under-is i) ∙ apart)) ∙ before i e at,
+    )
+      where
+        c : Board
+        c = started n t here
+
+        held_is : c.holds ≡ holds
+        held_is = plugged-holds b t sound a resources ∙ held
+
+        under-is : (i : ℕ) → among (post (with_plugged b t a resources) m) i ≡ is_under x i m
+        under-is i =
+            ap (λ (l : List ℕ). among l i) (plugged-post b t sound a resources m)
+            ∙ ap (λ (f : ℕ → List ℕ). among (f m) i) (shows-post c x started_is)
+
+        count-is : (i : ℕ) → count (with_plugged b t a resources) i ≡ count_on x holds i
+        count-is i = plugged-count b t sound a resources i ∙ shows-count c x started_is holds held_is i
+
+        pair : (i : ℕ) (k : ℕ × ℕ) → counted_in x i ≡ Some k → is_under x i m ≡ true → k ≡ (count (with_plugged b t a resources) i, 0)
+        pair i k at under = counted-pair x holds i k (λ d there. counted i d there under) at ∙ ap (λ (j : ℕ). (j, 0)) (sym (count-is i))

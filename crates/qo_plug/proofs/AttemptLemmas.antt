@@ -1,7 +1,7 @@
 -- A new device acts with its buses, though it stands nowhere, and is given up.
-use Rattle.std.proofs.Common.{◌≡◌, refl, ap, ap₂, sym, subst, ◌∙◌, ℕ, zero, suc, ◌+◌, ◌<◌, ◌≤◌, Bool, true, false, ◌&&◌, eqb, nat_le, List, [], ◌∷◌, ◌++◌, append-nil, codes, filter, filter_map, length, map, min, option_to_list, slice_get, take, Option, Some, None, option_map, IfSome, arith}
+use Rattle.std.proofs.Common.{◌≡◌, refl, ap, ap₂, sym, subst, ◌∙◌, ℕ, zero, suc, ◌+◌, ◌<◌, ◌≤◌, Bool, true, false, ◌&&◌, eqb, leb, nat_le, List, [], ◌∷◌, ◌++◌, append-nil, codes, filter, filter_map, length, map, min, option_to_list, slice_get, take, Option, Some, None, option_map, IfSome, arith}
 use Rattle.std.specs.Prelude.{◌==◌, if◌then◌else◌, option_and_then}
-use Rattle.std.specs.List.{AllByRecursion, cons_option}
+use Rattle.std.specs.List.{AllByRecursion, cons_option, position_or_len}
 use Rattle.std.proofs.lemmas.Bool.{eqb-true}
 use Rattle.std.proofs.lemmas.Bool.Decides.{nat_tests}
 use Rattle.std.proofs.lemmas.List.{take_all}
@@ -28,7 +28,7 @@ use Rattle.qo_sound.proofs.DraftLemmas.{with_pins}
 use Rattle.qo_sound.proofs.StepsLemmas.{passed-steps}
 use Rattle.qo_object.specs.Content.{Content, acted_at}
 use Rattle.qo_object.specs.BoardObject.{birth_of}
-use Rattle.qo_heap.specs.Acts.{Acts, stilled}
+use Rattle.qo_heap.specs.Acts.{Acts, KeepsCounts, stilled}
 use Rattle.qo_heap.specs.Board.{Shows, record_of}
 use Rattle.qo_heap.specs.Objects.{IsHeap, Objects, content_of}
 use Rattle.qo_heap.proofs.ActsLemmas.{acts-act, acts-live, acts-none, acts-then}
@@ -37,6 +37,7 @@ use Rattle.qo_heap.proofs.BoardObjects.{content-edited, content-other}
 use Rattle.qo_properties.proofs.NewSlotLemmas.{next-slot, past}
 use Rattle.qo_reset.specs.Phases.{acted_on, walked}
 use Rattle.qo_reset.proofs.BoardLemmas.{shows-walked}
+use Rattle.qo_reset.proofs.CountLemmas.{all-counts}
 use Rattle.qo_reset.proofs.WalkLemmas.{walked-acts, walked-append}
 use Rattle.qo_plug.specs.Attempts.{first_acted, last_acted, let_out, new_bus, new_buses, passed_on}
 use Rattle.qo_plug.specs.Drafts.{IsQuiet, given_draft, with_values}
@@ -130,9 +131,32 @@ pub record Reached (act : Act) (n i : ℕ) (v w : Objects) : Type 0 where
   pub is : w ≡ walked act (new_buses n (take i v.rows)) v
   pub acts : Acts v w
 
-pub reached-none : (act : Act) (n : ℕ) (v : Objects) → Reached act n 0 v v
+-- no object before the place of a birth is a bus from that birth on
+abbrev place_from : ℕ → List (Key × Content) → ℕ
+place_from n rows = position_or_len (λ (row : Key × Content). leb n row.0.birth) rows
+
+none-before : (n : ℕ) (rows : List (Key × Content)) → new_buses n (take (place_from n rows) rows) ≡ []
+none-before n [] = refl
+none-before n (row ∷ rows) = go (leb n row.0.birth) refl (none-before n rows)
+  where
+    go : (t : Bool) → leb n row.0.birth ≡ t → new_buses n (take (place_from n rows) rows) ≡ []
+        → new_buses n (take (place_from n (row ∷ rows)) (row ∷ rows)) ≡ []
+    go true late none =
+        let here : place_from n (row ∷ rows) ≡ 0 = rw late refl in
+        ap (λ (k : ℕ). new_buses n (take k (row ∷ rows))) here
+    go false early none =
+        let one : place_from n (row ∷ rows) ≡ 1 + place_from n rows = rw early refl in
+        let next : place_from n (row ∷ rows) ≡ suc (place_from n rows) = omega (arith, one) in
+        let early-none : new_bus n row ≡ None = ap (λ (t : Bool). if t && is_a row.1.kind (codes "bus") then Some row.0 else None) early in
+        ap (λ (k : ℕ). new_buses n (take k (row ∷ rows))) next
+        ∙ ap (λ (o : Option Key). cons_option (birth_of o) (new_buses n (take (place_from n rows) rows))) early-none
+        ∙ none
+
+pub reached-first : (act : Act) (n i : ℕ) (v : Objects) → i ≡ place_from n v.rows → Reached act n i v v
 unfolding walked
-reached-none act n v = record { is = refl; acts = acts-none v }
+reached-first act n i v first =
+    let none : new_buses n (take i v.rows) ≡ [] = ap (λ (k : ℕ). new_buses n (take k v.rows)) first ∙ none-before n v.rows in
+    record { is = ap (λ (l : List ℕ). walked act l v) (sym none); acts = acts-none v }
 
 pub reached-bus : (act : Act) (n i : ℕ) (v w x : Objects) (key : Key) → Reached act n i v w → Some key ≡ option_and_then (new_bus n) (slice_get w.rows i)
     → x ≡ acted_on act key.birth w → Reached act n (i + 1) v x
@@ -174,13 +198,14 @@ last-is act n v u w is next = next ∙ ap (acted_on act n) is ∙ sym (walked-ap
 -- what a device's acts leave
 pub record Leaves (v w : Objects) : Type 0 where
   pub acts : Acts v w
+  pub counts : KeepsCounts v w
   pub quiet : (m : ℕ) → IsQuiet v m → IsQuiet w m
 
 pub leaves-then : (v u w : Objects) → Leaves v u → Leaves u w → Leaves v w
-leaves-then v u w l k = record { acts = acts-then v u w l.acts k.acts; quiet = λ m q. k.quiet m (l.quiet m q) }
+leaves-then v u w l k = record { acts = acts-then v u w l.acts k.acts; counts = λ m. k.counts m ∙ l.counts m; quiet = λ m q. k.quiet m (l.quiet m q) }
 
 walked-leaves : (act : Act) (ns : List ℕ) (v : Objects) → Leaves v (walked act ns v)
-walked-leaves act ns v = record { acts = walked-acts act ns v; quiet = quiet-walked act ns v }
+walked-leaves act ns v = record { acts = walked-acts act ns v; counts = all-counts act ns v; quiet = quiet-walked act ns v }
 
 pub buses-leaves : (act : Act) (ns : List ℕ) (v w : Objects) → w ≡ walked act ns v → Leaves v w
 buses-leaves act ns v w is = subst (Leaves v) (sym is) (walked-leaves act ns v)
@@ -199,7 +224,7 @@ last-leaves act n v w is = subst (Leaves v) (sym is) (walked-leaves act (new_bus
 
 pub out-leaves : (out : Bool) (n : ℕ) (v w : Objects) → w ≡ let_out out n v → Leaves v w
 out-leaves true n v w is = last-leaves Exit n v w is
-out-leaves false n v w is = subst (Leaves v) (sym is) (record { acts = acts-none v; quiet = λ m q. q })
+out-leaves false n v w is = subst (Leaves v) (sym is) (record { acts = acts-none v; counts = λ m. refl; quiet = λ m q. q })
 
 pub leaves-live : (v w : Objects) → Leaves v w → (key : Key) → IsLive v.rows key → IsLive w.rows key
 leaves-live v w l key live = rw (acts-live v w l.acts key) live
@@ -346,8 +371,3 @@ module _ (b : Board) (t : TypeId) (sound : SoundTree b) (props : List Given) whe
       ∙ passed-steps b t bus (edit n (with_values b props) (drafted b t)) (held b t sound) (held-is b t sound) (rest b t sound)
       (draft-made b t sound props (slots_of t)) in
       subst (λ (d : Board). Shows d x) ends (drops c shown)
-
--- a count that is cut is none exactly where it is none
-pub cut-none : (r k : ℕ) → r ≡ min k 4294967295 → (r == 0) ≡ (k == 0)
-cut-none r zero e = ap (λ (n : ℕ). n == 0) e
-cut-none r (suc k) e = ap (λ (n : ℕ). n == 0) e ∙ grind (arith, nat_tests)

@@ -39,6 +39,7 @@ use Rattle.qo_properties.specs.declared.adding.filling.InitialValue.{InitialValu
 use Rattle.qo_properties.specs.declared.adding.filling.InitialValue.TheVariants as fill
 use Rattle.qo_properties.specs.Filling.{Fits, filled, filled_with, spent, spent_at, value_alone, value_at}
 use Rattle.qo_properties.specs.NewSlots.{begun, first_slots, new_slots, slot_begun}
+use Rattle.qo_properties.proofs.AddKept.{fresh-kept}
 use Rattle.qo_properties.proofs.AddLemmas.{child-unpinned, newest-beside, newest-content, newest-live, shows-tried}
 use Rattle.qo_properties.proofs.NewSlotLemmas.{RowAt, new-shown, past, row-at}
 use Rattle.qo_properties.proofs.PlannedLemmas.{zip-at}
@@ -194,7 +195,7 @@ module _ {v w : Objects} {o parent : Key} {name : List ℕ} {t : TypeId} (good :
       let beside : Objects = with_edit parent.birth (with_slot name (Child o)) v in
       subst (Grows v) (sym kid-is)
       (grows-then v beside (with_newest o (as_made t (new_slots t) 0) beside) (grows-edit v beside parent.birth (with_slot name (Child o)) (λ c. refl) refl)
-      (grows-newest beside o (as_made t (new_slots t) 0) made.birth (fresh-bare t) refl (fresh-timely t v.time)))
+      (grows-newest beside o (as_made t (new_slots t) 0) made.birth (fresh-kept t) refl (fresh-timely t v.time)))
 
 -- a device as it is created
 pub shows-created : (b : Board) (v : Objects) → Shows b v → IsHeap v → (t : TypeId) (o : Key) → o.birth ≡ v.born + 1
@@ -434,7 +435,7 @@ module _ (o : Key) (t : TypeId) (plan : List InitialValue) (fitting : AllZip Fit
 -- a device that was created, and then made
 module _ (v u w : Objects) (o : Key) (t : TypeId) (good : IsHeap v) (birth : o.birth ≡ v.born + 1) (is : u ≡ with_newest o (fresh t) v) (more : Grows u w) where
   created-grows : Grows v u
-  created-grows = subst (Grows v) (sym is) (grows-newest v o (fresh t) birth (fresh-bare t) refl (fresh-timely t v.time))
+  created-grows = subst (Grows v) (sym is) (grows-newest v o (fresh t) birth (fresh-kept t) refl (fresh-timely t v.time))
 
   pub drafting-grows : Grows v w
   drafting-grows = grows-then v u w created-grows more

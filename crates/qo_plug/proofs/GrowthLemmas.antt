@@ -2,8 +2,7 @@
 use Rattle.std.proofs.Common.{◌≡◌, ◌⊎◌, inl, inr, refl, ap, sym, subst, ◌∙◌, ℕ, ◌+◌, ◌<◌, ◌≤◌, Bool, true, false, eqb, List, [], ◌∷◌, ◌++◌, Option, Some, None, option_map, IsSome, IsSomeAnd, IfSome, arith}
 use Rattle.std.specs.Prelude.{Result, Ok, Err, OnOk, OnErr}
 use Rattle.std.proofs.lemmas.Bool.{eqb-true}
-use Rattle.qo_kinds.specs.Bodies.{IsTimely, kept_of, none_kept}
-use Rattle.qo_kinds.specs.declared.kept_set.KeptSet.{KeptSet}
+use Rattle.qo_kinds.specs.Bodies.{IsTimely}
 use Rattle.qo_slots.specs.declared.keys.Key.{Key}
 use Rattle.qo_heap.specs.Log.{noted_all}
 use Rattle.qo_heap.specs.Rows.{IsLive, Rises, births, row_at}
@@ -16,7 +15,7 @@ use Rattle.qo_heap.proofs.HeapLemmas.{live-edit}
 use Rattle.qo_heap.proofs.BoardObjects.{content-edited, content-other}
 use Rattle.qo_properties.specs.Additions.{with_newest}
 use Rattle.qo_properties.proofs.AddLemmas.{newest-keeps}
-use Rattle.qo_properties.specs.KeptClaims.{KeptOrNew, kept_by}
+use Rattle.qo_properties.specs.KeptClaims.{Kept, KeptOrNew, all_kept, kept_with, new_kept}
 use Rattle.qo_properties.proofs.AddKept.{more-kept}
 use Rattle.qo_properties.proofs.ClaimLemmas.{edit-keeps, more-keeps}
 use Rattle.qo_properties.proofs.KeptLemmas.{edit-kept}
@@ -30,7 +29,7 @@ grows-none v w same =
       born = let its : w.born ≡ v.born = ap (λ (x : Objects). x.born) same in omega (arith, its);
       book = λ out h. subst (λ (x : Objects). IsBook out x) (sym same) h;
       claims = ap (λ (x : Objects). x.claims) same;
-      kept = λ n k e. inl (subst (λ (x : Objects). kept_by x n ≡ Some k) same e);
+      kept = λ n k e. inl (subst (λ (x : Objects). all_kept x n ≡ Some k) same e);
       quiet = λ n q. subst (λ (x : Objects). IsQuiet x n) (sym same) q;
       events = ap (λ (x : Objects). x.events) same;
       time = ap (λ (x : Objects). x.time) same;
@@ -50,7 +49,7 @@ grows-then v u w g h =
       time = h.time ∙ g.time;
     }
   where
-    by : (n : ℕ) (k : KeptSet) → (kept_by u n ≡ Some k) ⊎ ((u.born < n) × (k ≡ none_kept)) → (kept_by v n ≡ Some k) ⊎ ((v.born < n) × (k ≡ none_kept))
+    by : (n : ℕ) (k : Kept) → (all_kept u n ≡ Some k) ⊎ ((u.born < n) × (k ≡ new_kept)) → (all_kept v n ≡ Some k) ⊎ ((v.born < n) × (k ≡ new_kept))
     by n k (inl same) = g.kept n k same
     by n k (inr new) = let more : v.born ≤ u.born = g.born in inr (omega (arith, more, new.0), new.1)
 
@@ -71,7 +70,7 @@ grows-edit v w n f same is =
       born = let its : w.born ≡ v.born = ap (λ (x : Objects). x.born) is in omega (arith, its);
       book = edit-keeps v w n f (λ c. ap (λ (d : Content). (d.body, d.device_id)) (same c)) is;
       claims = ap (λ (x : Objects). x.claims) is;
-      kept = λ m k e. inl (edit-kept v w n f (λ c. ap (λ (d : Content). kept_of d.body) (same c)) is m k e);
+      kept = λ m k e. inl (edit-kept v w n f (λ c. ap kept_with (same c)) is m k e);
       quiet = λ m q. subst (λ (x : Objects). IsQuiet x m) (sym is) (stays m (eqb m n) refl q);
       events = ap (λ (x : Objects). x.events) is;
       time = ap (λ (x : Objects). x.time) is;
@@ -122,7 +121,7 @@ more-quiet P o c n here (row ∷ rows) q = go (eqb row.0.birth n) refl (more-qui
     go true p rest = rw p (rw p at q)
     go false p rest = rw p (rest (rw p at q))
 
-pub grows-newest : (v : Objects) (o : Key) (c : Content) → o.birth ≡ v.born + 1 → kept_of c.body ≡ none_kept → c.device_id ≡ None → IsTimely v.time c.body
+pub grows-newest : (v : Objects) (o : Key) (c : Content) → o.birth ≡ v.born + 1 → kept_with c ≡ new_kept → c.device_id ≡ None → IsTimely v.time c.body
     → Grows v (with_newest o c v)
 grows-newest v o c birth none unnamed timely =
     record {
@@ -130,7 +129,7 @@ grows-newest v o c birth none unnamed timely =
       rest = λ n low. let other : eqb o.birth n ≡ false = grind (arith, birth, low) in
           ap (λ (r : Option (Key × Content)). option_map bare (option_map (λ (row : Key × Content). row.1) r)) (row-before v.rows o c n other);
       born = omega arith;
-      book = more-keeps v o c (v.born + 1) (noted_all (init_notes o.birth c.kind) v.log) none unnamed;
+      book = more-keeps v o c (v.born + 1) (noted_all (init_notes o.birth c.kind) v.log) (ap (λ (k : Kept). k.0) none) unnamed;
       claims = refl;
       kept = λ n k e. by n k (eqb o.birth n) refl (more-kept v (with_newest o c v) o c none refl n k e) e;
       quiet = λ n q. more-quiet (λ (d : Content). IsTimely v.time d.body) o c n timely v.rows q;
@@ -139,12 +138,12 @@ grows-newest v o c birth none unnamed timely =
     }
   where
     -- what stands in the last row is new
-    by : (n : ℕ) (k : KeptSet) (t : Bool) → eqb o.birth n ≡ t → (kept_by v n ≡ Some k) ⊎ ((kept_by v n ≡ None) × (k ≡ none_kept))
-        → kept_by (with_newest o c v) n ≡ Some k → (kept_by v n ≡ Some k) ⊎ ((v.born < n) × (k ≡ none_kept))
+    by : (n : ℕ) (k : Kept) (t : Bool) → eqb o.birth n ≡ t → (all_kept v n ≡ Some k) ⊎ ((all_kept v n ≡ None) × (k ≡ new_kept))
+        → all_kept (with_newest o c v) n ≡ Some k → (all_kept v n ≡ Some k) ⊎ ((v.born < n) × (k ≡ new_kept))
     by n k t p (inl same) e = inl same
     by n k true p (inr new) e = let its : o.birth ≡ n = eqb-true o.birth n p in inr (omega (arith, birth, its), new.1)
     by n k false p (inr new) e =
-        inl (sym (ap (λ (r : Option (Key × Content)). option_map (λ (d : Content). kept_of d.body) (option_map (λ (row : Key × Content). row.1) r))
+        inl (sym (ap (λ (r : Option (Key × Content)). option_map kept_with (option_map (λ (row : Key × Content). row.1) r))
         (row-before v.rows o c n p)) ∙ e)
 
 -- who is there was born
@@ -167,14 +166,14 @@ live-low v good o live = row-low 0 v.born v.rows o.birth good.rising (go (row_at
 pub grows-kept : (v w : Objects) → IsHeap v → Grows v w → KeptOrNew v w
 grows-kept v w good grows n k e = by (grows.kept n k e)
   where
-    none : v.born < n → kept_by v n ≡ None
+    none : v.born < n → all_kept v n ≡ None
     none late = go (row_at v.rows n) refl
       where
-        go : (r : Option (Key × Content)) → row_at v.rows n ≡ r → kept_by v n ≡ None
-        go None p = ap (λ (r : Option (Key × Content)). option_map (λ (d : Content). kept_of d.body) (option_map (λ (row : Key × Content). row.1) r)) p
+        go : (r : Option (Key × Content)) → row_at v.rows n ≡ r → all_kept v n ≡ None
+        go None p = ap (λ (r : Option (Key × Content)). option_map kept_with (option_map (λ (row : Key × Content). row.1) r)) p
         go (Some row) p = absurd (let low : n ≤ v.born = row-low 0 v.born v.rows n good.rising (subst IsSome (sym p) refl) in omega (arith, low, late))
 
-    by : (kept_by v n ≡ Some k) ⊎ ((v.born < n) × (k ≡ none_kept)) → (kept_by v n ≡ Some k) ⊎ ((kept_by v n ≡ None) × (k ≡ none_kept))
+    by : (all_kept v n ≡ Some k) ⊎ ((v.born < n) × (k ≡ new_kept)) → (all_kept v n ≡ Some k) ⊎ ((all_kept v n ≡ None) × (k ≡ new_kept))
     by (inl same) = inl same
     by (inr new) = inr (none new.0, new.1)
 

@@ -32,9 +32,9 @@ use Rattle.qo_heap.proofs.BoardObjects.{content-edited, content-other, live-cont
 use Rattle.qo_life.proofs.TreeLemmas.{read-content}
 use Rattle.qo_properties.proofs.FillingLemmas.{edit-twice}
 use Rattle.qo_plug.specs.OwnSlots.{is_own, own_slots, own_slots_of}
-use Rattle.qo_plug.specs.Placement.{Alike, IsAttachment, Stood, joined_on, kept_in, named, with_book}
-use Rattle.qo_properties.specs.KeptClaims.{SameKept, kept_by}
-use Rattle.qo_plug.proofs.BodyLemmas.{SameBodies, kept-given}
+use Rattle.qo_plug.specs.Placement.{Alike, IsAttachment, Stood, joined_on, kept_in, named, with_book, own_of}
+use Rattle.qo_properties.specs.KeptClaims.{SameKept, all_kept}
+use Rattle.qo_plug.proofs.BodyLemmas.{SameOwn, kept-given, of-bodies}
 use Rattle.qo_plug.proofs.PlacementBoards.{kinds-stood, seated-path, source-missing}
 use Rattle.qo_plug.proofs.PlacementFills.{edit-on}
 use Rattle.qo_plug.proofs.PlacementSteps.{alike-edit, alike-kept, alike-then, shows-book, shows-kept}
@@ -129,8 +129,8 @@ reserved-book out v w e is h = subst (IsBook out) (sym is) (λ x. h x)
 -- what bodies keep, where the claims that were taken are given back
 pub returned-kept : (v u w x : Objects) (e : ℕ) → u ≡ record v { events = record v.events { spare = e } } → w ≡ with_book w.claims u → x ≡ with_book x.claims w
     → SameKept v x
-returned-kept v u w x e first second third n = ap (λ (y : Objects). kept_by y n) third ∙ ap (λ (y : Objects). kept_by y n) second
-    ∙ ap (λ (y : Objects). kept_by y n) first
+returned-kept v u w x e first second third n = ap (λ (y : Objects). all_kept y n) third ∙ ap (λ (y : Objects). all_kept y n) second
+    ∙ ap (λ (y : Objects). all_kept y n) first
 
 -- the objects once the device has joined
 pub rows-joined : (h0 h1 h2 h3 : Objects) (e : ℕ) (container bus o : Key) (name : List ℕ) (slot : ℕ)
@@ -184,11 +184,11 @@ module _ (v w : Objects) (container bus o : Key) (name : List ℕ) (slot : ℕ) 
       → option_map (λ (c : Content). registers_of c.body) (content_of w n) ≡ option_map (λ (c : Content). registers_of c.body) (content_of v n)
   joined-registers = read-joined (λ (c : Content). registers_of c.body) (λ x s c. refl)
 
-  pub joined-bodies : SameBodies v w
-  joined-bodies = read-joined (λ (c : Content). c.body) (λ x s c. refl)
+  pub joined-own_parts : SameOwn v w
+  joined-own_parts = read-joined own_of (λ x s c. refl)
 
   pub joined-bare : (n : ℕ) → IfSome (content_of v n) HasNoClaim → IfSome (content_of w n) (λ c. IsBare c.body)
-  joined-bare n new = go (content_of v n) (content_of w n) (joined-bodies n) new
+  joined-bare n new = go (content_of v n) (content_of w n) (of-bodies (λ (b : Body). b) (content_of v n) (content_of w n) (joined-own_parts n)) new
     where
       go : (x y : Option Content) → option_map (λ (c : Content). c.body) y ≡ option_map (λ (c : Content). c.body) x → IfSome x HasNoClaim
           → IfSome y (λ c. IsBare c.body)
@@ -299,7 +299,7 @@ module _ (h0 h1 h2 h3 h4 : Objects) (e : ℕ) (o container bus : Key) (name : Li
       ∙ joined-registers h0 h3 container bus o name slot joined-rows n
 
   pub placed-claims : SameKept (with_edit o.birth (kept_in k) h0) h4
-  placed-claims n = ap (λ (x : Objects). kept_by x n) fourth ∙ kept-given h0 h3 o.birth k (joined-bodies h0 h3 container bus o name slot joined-rows) n
+  placed-claims n = ap (λ (x : Objects). all_kept x n) fourth ∙ kept-given h0 h3 o.birth k (joined-own_parts h0 h3 container bus o name slot joined-rows) n
 
   pub placed-book : (kept labels out : List Claimed) → ((out : List Claimed) → IsBook (kept ++ out) h3 → IsBook out h4)
       → IsBook ((kept ++ labels) ++ out) h2 → IsBook (labels ++ out) h4

@@ -37,8 +37,8 @@ use Rattle.qo_properties.specs.OpeningSteps.{KeepsNames}
 use Rattle.qo_properties.specs.declared.adding.filling.InitialValue.{InitialValue}
 use Rattle.qo_clocks.specs.Links.{changed_named, index_on, with_slot_changed}
 use Rattle.qo_plug.specs.OwnSlots.{own_slots, own_slots_of}
-use Rattle.qo_plug.specs.Placement.{Alike, Stays, kept_in, with_book, with_own}
-use Rattle.qo_plug.proofs.BodyLemmas.{there-bodies}
+use Rattle.qo_plug.specs.Placement.{Alike, Stays, kept_in, with_book, with_own, own_of}
+use Rattle.qo_plug.proofs.BodyLemmas.{there-own}
 use Rattle.qo_plug.proofs.PlacementBoards.{read-link, read-set}
 use Rattle.qo_plug.proofs.PlacementFills.{own-given}
 
@@ -65,7 +65,7 @@ stays-same v w same =
     record {
       alike = alike-same v w same;
       ids = λ n. ap (λ (x : Objects). option_map (λ (c : Content). c.device_id) (content_of x n)) same;
-      bodies = λ n. ap (λ (x : Objects). option_map (λ (c : Content). c.body) (content_of x n)) same;
+      own = λ n. ap (λ (x : Objects). option_map own_of (content_of x n)) same;
       spare = ap (λ (x : Objects). x.events.spare) same;
       book = λ out h. subst (λ (x : Objects). IsBook out x) (sym same) h;
     }
@@ -75,7 +75,7 @@ stays-then v u w a b =
     record {
       alike = alike-then v u w a.alike b.alike;
       ids = λ n. b.ids n ∙ a.ids n;
-      bodies = λ n. b.bodies n ∙ a.bodies n;
+      own = λ n. b.own n ∙ a.own n;
       spare = b.spare ∙ a.spare;
       book = λ out h. b.book out (a.book out h);
     }
@@ -100,9 +100,8 @@ stays-edit v w n f slots is =
       spare = ap (λ (x : Objects). x.events.spare) is;
       ids = λ m. ap (λ (x : Objects). option_map (λ (c : Content). c.device_id) (content_of x m)) is
           ∙ read-content (λ (c : Content). c.device_id) n f (λ c. ap (λ (d : Content). d.device_id) (slots c)) v m;
-      bodies = λ m.
-          ap (λ (x : Objects). option_map (λ (c : Content). c.body) (content_of x m)) is
-          ∙ read-content (λ (c : Content). c.body) n f (λ c. ap (λ (d : Content). d.body) (slots c)) v m;
+      own = λ m.
+          ap (λ (x : Objects). option_map own_of (content_of x m)) is ∙ read-content own_of n f (λ c. ap own_of (slots c)) v m;
       book = λ out h. subst (λ (x : Objects). IsBook out x) (sym is) (book-edit out v n f (λ c. ap (λ (d : Content). (d.body, d.device_id)) (slots c)) h);
     }
 
@@ -175,7 +174,7 @@ stays-set b v w n name val s t goes names pins =
       };
       spare = goes.spare;
       ids = set-reads (λ c. c.device_id) (λ r. r.device_id) (λ m c. refl) (λ f i r. refl) b v w n name val s t;
-      bodies = there-bodies v w goes.bodies (set-reads (λ c. c.kind) (λ r. r.kind) (λ m c. refl) (λ f i r. refl) b v w n name val s t);
+      own = there-own v w goes.bodies goes.sides (set-reads (λ c. c.kind) (λ r. r.kind) (λ m c. refl) (λ f i r. refl) b v w n name val s t);
       book = goes.book;
     }
 
@@ -191,7 +190,7 @@ stays-linked b v w n name to s t goes names pins =
       };
       spare = goes.spare;
       ids = link-reads (λ c. c.device_id) (λ r. r.device_id) (λ m c. refl) (λ f i r. refl) b v w n name to s t;
-      bodies = there-bodies v w goes.bodies (link-reads (λ c. c.kind) (λ r. r.kind) (λ m c. refl) (λ f i r. refl) b v w n name to s t);
+      own = there-own v w goes.bodies goes.sides (link-reads (λ c. c.kind) (λ r. r.kind) (λ m c. refl) (λ f i r. refl) b v w n name to s t);
       book = goes.book;
     }
 

@@ -1,11 +1,13 @@
 -- A bridge is made, takes its place, starts and is let go: this comes to the board with it.
-use Rattle.std.proofs.Common.{◌≡◌, refl, ap, sym, ◌∙◌, ℕ, suc, ◌+◌, ◌≤◌, true, List, [], length, Option, Some, None, arith}
+use Rattle.std.proofs.Common.{◌≡◌, refl, ap, sym, ◌∙◌, ℕ, suc, ◌+◌, ◌≤◌, true, List, [], ◌∷◌, length, Option, Some, None, arith}
 use Rattle.std.proofs.lemmas.List.{length-map, take_all}
+use Rattle.qo_values.specs.declared.kinds.Act.TheVariants.{Realize}
 use Rattle.qo_values.specs.declared.kinds.TypeId.{TypeId}
 use Rattle.qo_model.specs.Board.{Board, kind_of, record_of}
 use Rattle.qo_model.specs.Paths.{canonical, path_down_to}
-use Rattle.qo_model.specs.Plug.{Resources, Wanted, born_from, clocked, counted, cut_attempt, device_last, further_of, objects_in, plug_attempt, properties_made, source_for, started, stood, types_in, with_ended, with_plugged}
+use Rattle.qo_model.specs.Plug.{Resources, Wanted, acted_all, born_from, bus_births, clocked, counted, cut_attempt, device_last, further_of, objects_in, plug_attempt, properties_made, source_for, started, stood, types_in, with_ended, with_plugged}
 use Rattle.qo_model.specs.Release.{unpin}
+use Rattle.qo_model.specs.Reset.{count, post}
 use Rattle.qo_model.specs.Types.{slots_of}
 use Rattle.qo_model.proofs.DraftEndsLemmas.{born-length}
 use Rattle.qo_sound.specs.TreeKept.{SoundTree}
@@ -16,6 +18,7 @@ use Rattle.qo_sound.proofs.StepsLemmas.{plug-steps}
 use Rattle.qo_sound.proofs.ViewLemmas.{rest-from_sound}
 use Rattle.qo_plug.specs.Drafts.{pinned_draft}
 use Rattle.qo_plug.proofs.ScopeLemmas.{Aside, aside, draft-aside, seated-aside, started-pending}
+use Rattle.qo_plug.proofs.StartLemmas.{all-still, plugged-still}
 use Rattle.qo_plug.proofs.CutLemmas.{begun, held, held-is}
 
 -- all of a device was made, and it was given up: so it is where the attempt was cut after the last object
@@ -72,3 +75,17 @@ module _ (b : Board) (t : TypeId) (sound : SoundTree b) (a : Wanted) (resources 
 
   pub plugged-pending : (with_plugged b t a resources).pending ≡ b.pending
   plugged-pending = sym (ap (λ (c : Board). c.pending) started-is) ∙ started-pending n t seated ∙ ap (λ (x : Aside). x.pending) seat-aside
+
+  -- who is below whom, and how many holds are on whom
+  pub plugged-post : (m : ℕ) → post (with_plugged b t a resources) m ≡ post (started n t seated) m
+  unfolding post
+  plugged-post m = sym (ap (λ (c : Board). post c m) started-is)
+
+  pub plugged-count : (m : ℕ) → count (with_plugged b t a resources) m ≡ count (started n t seated) m
+  unfolding post
+  plugged-count m = sym (ap (λ (c : Board). count c m) started-is)
+
+  pub plugged-holds : (started n t seated).holds ≡ b.holds
+  plugged-holds =
+      let c : Board = acted_all Realize (n ∷ bus_births n t) seated in
+      (plugged-still n c).holds ∙ (all-still Realize (n ∷ bus_births n t) seated).holds ∙ seat-holds

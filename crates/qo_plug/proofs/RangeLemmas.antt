@@ -25,7 +25,7 @@ use Rattle.qo_life.proofs.TreeLemmas.{read-content}
 use Rattle.qo_properties.proofs.FillingLemmas.{edit-twice}
 use Rattle.qo_plug.specs.declared.resources.Memory.{Memory}
 use Rattle.qo_plug.specs.Placement.{Alike, HasDimm, IsDimm, named, range_in, ranged}
-use Rattle.qo_properties.specs.KeptClaims.{SameKept, kept_by}
+use Rattle.qo_properties.specs.KeptClaims.{SameKept, all_kept, kept_with}
 use Rattle.qo_plug.proofs.PlacementSteps.{alike-edit}
 
 -- a DIMM stands on its range
@@ -62,10 +62,10 @@ ranged-book out v w n range is h = subst (IsBook out) (sym is) (λ x. let sums =
 pub body-kept : (v u w : Objects) (n : ℕ) (id : Option (List ℕ)) (range : Option Range) → u ≡ with_edit n (ranged range) v → w ≡ with_edit n (named id) u
     → SameKept v w
 body-kept v u w n id range first second m =
-    ap (λ (x : Objects). kept_by x m) second
-    ∙ read-content (λ (c : Content). kept_of c.body) n (named id) (λ c. refl) u m
-    ∙ ap (λ (x : Objects). kept_by x m) first
-    ∙ read-content (λ (c : Content). kept_of c.body) n (ranged range) (λ c. refl) v m
+    ap (λ (x : Objects). all_kept x m) second
+    ∙ read-content kept_with n (named id) (λ c. refl) u m
+    ∙ ap (λ (x : Objects). all_kept x m) first
+    ∙ read-content kept_with n (ranged range) (λ c. refl) v m
 
 -- the board shows both
 pub body-shown : (b : board.Board) (v u w : Objects) (o : Key) (id : Option (List ℕ)) (memory : Option Memory) → IsHeap v → IsLive v.rows o

@@ -7,7 +7,6 @@ use Rattle.qo_values.specs.declared.kinds.Act.{Act}
 use Rattle.qo_values.specs.declared.kinds.Act.TheVariants.{Realize, Enter, Hold, Exit}
 use Rattle.qo_values.specs.declared.kinds.TypeId.{TypeId}
 use Rattle.qo_slots.specs.declared.keys.Key.{Key}
-use Rattle.qo_kinds.specs.Bodies.{kept_of}
 use Rattle.qo_claims.specs.declared.claims.Claimed.{Claimed}
 use Rattle.qo_heap.specs.Rows.{IsLive, row_at}
 use Rattle.qo_model.specs.Board.{Board, Notice, Record, Slot, child, plain, strong, weak, alias, slots_at}
@@ -22,7 +21,7 @@ use Rattle.qo_model.specs.Types.{is_a}
 use Rattle.qo_model.specs.declared.notes.Deed.TheVariants.{Did}
 use Rattle.qo_object.specs.Content.{Content, acted_at, with_path}
 use Rattle.qo_events.specs.Queue.{promised}
-use Rattle.qo_heap.specs.Acts.{Acts}
+use Rattle.qo_heap.specs.Acts.{Acts, KeepsCounts, counted_in, counts_of}
 use Rattle.qo_heap.specs.Board.{Shows, pins_in}
 use Rattle.qo_heap.specs.Book.{IsBook}
 use Rattle.qo_heap.specs.Objects.{Objects, content_of, pins_of, with_edit, with_note}
@@ -35,8 +34,11 @@ use Rattle.qo_heap.proofs.BoardEdits.{shows-edit}
 use Rattle.qo_heap.proofs.BoardObjects.{content-edited}
 use Rattle.qo_hotplug.specs.Hotplug.{Asked, notified}
 use Rattle.qo_life.proofs.TreeLemmas.{read-content}
-use Rattle.qo_reset.specs.Phases.{Holds}
-use Rattle.qo_properties.specs.KeptClaims.{SameKept, kept_by}
+use Rattle.qo_reset.specs.Counts.{CountedBelow, IsCounted, KeepsOthers}
+use Rattle.qo_reset.specs.Phases.{Holds, count_on, is_under}
+use Rattle.qo_reset.proofs.CountLemmas.{all_below-acts}
+use Rattle.qo_reset.proofs.EditLemmas.{counted-pair, edit-count, edit-under, pair-counted}
+use Rattle.qo_properties.specs.KeptClaims.{SameKept, all_kept, kept_with}
 use Rattle.qo_plug.proofs.PlacementSteps.{pins-edited}
 use Rattle.qo_plug.proofs.TreeLemmas.{SamePlaces, canonical-same, read-edit, tree-edit, tree-same, tree-then}
 
@@ -156,9 +158,10 @@ BusActs n at v w = (b : Board) → Shows b v → Shows (acted_all Realize (optio
 pub record Realized (n at : ℕ) (v w : Objects) : Type 0 where
   pub shown : (b : Board) → Shows b v → Shows (acted_all Realize (filter_map (bus_in b) (take at (slots_at b n))) b) w
   pub acts : Acts v w
+  pub counts : KeepsCounts v w
 
-pub realized-more : (n at : ℕ) (v u w : Objects) → Realized n at v u → BusActs n at u w → Acts u w → Realized n (at + 1) v w
-realized-more n at v u w r step acts =
+pub realized-more : (n at : ℕ) (v u w : Objects) → Realized n at v u → BusActs n at u w → Acts u w → KeepsCounts u w → Realized n (at + 1) v w
+realized-more n at v u w r step acts counts =
     record {
       shown = λ b s.
           let c : Board = acted_all Realize (filter_map (bus_in b) (take at (slots_at b n))) b in
@@ -175,6 +178,7 @@ realized-more n at v u w r step acts =
           ∙ ap (λ (k : ℕ). acted_all Realize (filter_map (bus_in b) (take k (slots_at b n))) b) (sym more) in
           subst (λ (d : Board). Shows d w) same (step c (r.shown b s));
       acts = acts-then v u w r.acts acts;
+      counts = λ m. counts m ∙ r.counts m;
     }
 
 pub realized-all : (n at : ℕ) (v w : Objects) → Realized n at v w → (b : Board) → Shows b v → slice_get (slots_at b n) at ≡ None
@@ -249,6 +253,10 @@ pub act-acts : (v w : Objects) (o : Key) → w ≡ with_note (record { birth = o
     → Acts v w
 act-acts v w o is = subst (Acts v) (sym is) (acts-act v (record { birth = o.birth; deed = Did Realize }) o.birth Realize v.time 0)
 
+pub act-counts : (v w : Objects) (o : Key) → w ≡ with_note (record { birth = o.birth; deed = Did Realize }) (with_edit o.birth (acted_at Realize v.time 0) v)
+    → KeepsCounts v w
+act-counts v w o is m = ap (λ (x : Objects). counted_in x m) is ∙ read-content counts_of o.birth (acted_at Realize v.time 0) (λ c. refl) v m
+
 pub found-shown : (v w : Objects) (o : Key) → w ≡ with_note (record { birth = o.birth; deed = Did Realize }) (with_edit o.birth (acted_at Realize v.time 0) v)
     → (b : Board) → Shows b v → (found : Option ℕ) → Some o.birth ≡ found → Shows (acted_all Realize (option_to_list found) b) w
 found-shown v w o is b s found at = subst (λ (x : Option ℕ). Shows (acted_all Realize (option_to_list x) b) w) at (act-shown v w o is b s)
@@ -267,7 +275,43 @@ pub path-all_pins : (v w : Objects) (n : ℕ) (path : List ℕ) → w ≡ record
 path-all_pins v w n path now = ap (λ (x : Objects). pins_in x.rows) now ∙ pins-edited n (with_path path) (λ c. refl) v.rows
 
 pub path-claims : (v w : Objects) (n : ℕ) (path : List ℕ) → w ≡ record (with_edit n (with_path path) v) { events = promised v.events } → SameKept v w
-path-claims v w n path now m = ap (λ (x : Objects). kept_by x m) now ∙ read-content (λ (c : Content). kept_of c.body) n (with_path path) (λ c. refl) v m
+path-claims v w n path now m = ap (λ (x : Objects). all_kept x m) now ∙ read-content kept_with n (with_path path) (λ c. refl) v m
+
+-- the counts stay
+pub path-counted : (v w : Objects) (n : ℕ) (path : List ℕ) → w ≡ record (with_edit n (with_path path) v) { events = promised v.events } → (holds : List ℕ)
+    → CountedBelow n holds v → CountedBelow n holds w
+unfolding count_on
+path-counted v w n path now holds below = subst (CountedBelow n holds) (sym now) told
+  where
+    edited : Objects
+    edited = with_edit n (with_path path) v
+
+    one : (m : ℕ) (c : Content) → content_of (with_edit n (with_path path) v) m ≡ Some c → is_under (with_edit n (with_path path) v) m n ≡ true
+        → IsCounted (with_edit n (with_path path) v) holds m c
+    one m c there under =
+        pair-counted edited holds m
+        (λ k e.
+        counted-pair v holds m k (λ d is. below m d is (sym (edit-under n (with_path path) (λ x. refl) (λ x. refl) v m n) ∙ under))
+        (sym (read-content counts_of n (with_path path) (λ x. refl) v m) ∙ e)
+        ∙ ap (λ (x : ℕ). (x, 0)) (sym (edit-count n (with_path path) (λ x. refl) (λ x. refl) v holds m)))
+        c there
+
+    -- events are not counted
+    told : CountedBelow n holds (record (with_edit n (with_path path) v) { events = promised v.events })
+    told m c there under =
+        let its : IsCounted (with_edit n (with_path path) v) holds m c = one m c there under in
+        record { count = its.count; unmarked = its.unmarked }
+
+pub path-others : (v u w : Objects) (n : ℕ) (path : List ℕ) → w ≡ record (with_edit n (with_path path) u) { events = promised u.events } → Acts v u
+    → KeepsOthers n v u → (m : ℕ) → is_under w m n ≡ false → counted_in w m ≡ counted_in v m
+path-others v u w n path now acts others m apart =
+    ap (λ (x : Objects). counted_in x m) now
+    ∙ read-content counts_of n (with_path path) (λ c. refl) u m
+    ∙ others m
+    (sym (all_below-acts v u acts n m)
+    ∙ sym (edit-under n (with_path path) (λ x. refl) (λ x. refl) u m n)
+    ∙ ap (λ (x : Objects). is_under x m n) (sym now)
+    ∙ apart)
 
 -- it is kept, where the object is there
 pub path-kept : (v w : Objects) (o : Key) (path : List ℕ) → w ≡ record (with_edit o.birth (with_path path) v) { events = promised v.events } → IsLive v.rows o

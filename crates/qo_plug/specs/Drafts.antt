@@ -19,7 +19,7 @@ use Rattle.qo_object.specs.Slots.{Named}
 use Rattle.qo_heap.specs.Board.{Shows}
 use Rattle.qo_heap.specs.Objects.{Objects, content_of}
 use Rattle.qo_properties.specs.Claims.{KeepsBook}
-use Rattle.qo_properties.specs.KeptClaims.{kept_by}
+use Rattle.qo_properties.specs.KeptClaims.{Kept, all_kept, new_kept}
 use Rattle.qo_properties.specs.Filling.{filled, filled_with, value_alone}
 use Rattle.qo_properties.specs.declared.adding.filling.InitialValue.{InitialValue}
 use Rattle.qo_properties.specs.NewSlots.{new_slots}
@@ -71,14 +71,14 @@ abbrev pub IsQuiet : Objects → ℕ → Type 0
 IsQuiet v n = IfSome (content_of v n) (λ (c : Content). IsTimely v.time c.body)
 
 -- a heap has grown, or its objects have other slots: who was there is there under the same name, and has all else as before; what is held stays, and the book
--- of claims stays right; events and the time stay; who is new keeps no claim, and has begun no segment
+-- of claims stays right; events and the time stay; of who is new nothing is kept, and it has begun no segment
 pub record Grows (v w : Objects) : Type 0 where
   pub names : KeepsNames v w
   pub rest : (n : ℕ) → n ≤ v.born → option_map bare (content_of w n) ≡ option_map bare (content_of v n)
   pub born : v.born ≤ w.born
   pub book : KeepsBook v w
   pub claims : w.claims ≡ v.claims
-  pub kept : (n : ℕ) (k : KeptSet) → kept_by w n ≡ Some k → (kept_by v n ≡ Some k) ⊎ ((v.born < n) × (k ≡ none_kept))
+  pub kept : (n : ℕ) (k : Kept) → all_kept w n ≡ Some k → (all_kept v n ≡ Some k) ⊎ ((v.born < n) × (k ≡ new_kept))
   pub quiet : (n : ℕ) → IsQuiet v n → IsQuiet w n
   pub events : w.events ≡ v.events
   pub time : w.time ≡ v.time

@@ -15,6 +15,7 @@ use Rattle.qo_model.specs.Paths.{canonical}
 use Rattle.qo_model.specs.Plug.{Resources, Wanted, clocked, name_for, parent_for, registers_on, source_for, stood}
 use Rattle.qo_object.specs.declared.slots.Slot.TheVariants.{Child, Link}
 use Rattle.qo_object.specs.Slots.{Named}
+use Rattle.qo_object.specs.declared.room.Side.{Side}
 use Rattle.qo_object.specs.Content.{Content, with_slot}
 use Rattle.qo_heap.specs.Board.{Shows, pins_in}
 use Rattle.qo_heap.specs.Objects.{Objects, content_of, with_edit}
@@ -68,11 +69,15 @@ pub record Alike (v w : Objects) : Type 0 where
   pub paths : (n : ℕ) → option_map (λ (c : Content). c.kept_path) (content_of w n) ≡ option_map (λ (c : Content). c.kept_path) (content_of v n)
   pub pins : pins_in w.rows ≡ pins_in v.rows
 
--- and the ids of devices, bodies, the room for events and the book of claims stay too
+-- the body of an object, and what is kept of it beside the tree
+abbrev pub own_of : Content → Body × Side
+own_of c = (c.body, c.side)
+
+-- and the ids of devices, these, the room for events and the book of claims stay too
 pub record Stays (v w : Objects) : Type 0 where
   pub alike : Alike v w
   pub ids : (n : ℕ) → option_map (λ (c : Content). c.device_id) (content_of w n) ≡ option_map (λ (c : Content). c.device_id) (content_of v n)
-  pub bodies : (n : ℕ) → option_map (λ (c : Content). c.body) (content_of w n) ≡ option_map (λ (c : Content). c.body) (content_of v n)
+  pub own : (n : ℕ) → option_map own_of (content_of w n) ≡ option_map own_of (content_of v n)
   pub spare : w.events.spare ≡ v.events.spare
   pub book : KeepsBook v w
 

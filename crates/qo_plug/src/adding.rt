@@ -2,12 +2,14 @@
 
 ghost use Rattle.std.specs.Prelude.{◌≡◌, Err, IfOk, OnErr};
 ghost use Rattle.qo_model.specs.Board.{Board};
+ghost use Rattle.qo_model.specs.Plug.{plug};
 ghost use Rattle.qo_properties.specs.Claims.{KeepsBook};
 ghost use Rattle.qo_properties.specs.KeptClaims.{KeptOrNew};
 ghost use Rattle.qo_plug.specs.declared.refusals.AddRefusal.TheVariants.{Memory};
 ghost use Rattle.qo_plug.specs.Admission.{IfRefused, as_wanted};
 ghost use Rattle.qo_plug.specs.Answers.{IsAdded, IsCut, IsRefused, IsShown};
-ghost use Rattle.qo_plug.specs.KeptClaims.{KeptOrNewBut};
+ghost use Rattle.qo_plug.specs.KeptClaims.{ClaimsOrNewBut, CountedOn, OthersOrNew};
+ghost use Rattle.qo_reset.specs.Counts.{CountsKept};
 
 use crate::beginning::{choose, make, note_failed_add};
 use crate::finishing::finish;
@@ -49,12 +51,15 @@ pub fn add<L: Ledger>(
     alloc: Global,
     steps: &mut Steps<L>,
 ) -> Result<Added, AddRefusal>
+    requires { CountsKept resets.now.births heap.old }
     ensures ok { (b : Board) → IsShown b anonymous resets.now.births rings.now hotplug.old heap.old → IfOk result (λ x. IsAdded b (as_wanted options.now) x hotplug.new heap.new) }
     ensures refused { (b : Board) → IsShown b anonymous resets.now.births rings.now hotplug.old heap.old → IfRefused result (λ stage code. IsRefused b (as_wanted options.now) stage code heap.new) }
     ensures memory { (b : Board) → IsShown b anonymous resets.now.births rings.now hotplug.old heap.old → result ≡ Err Memory → IsCut b (as_wanted options.now) heap.new }
     ensures asked { OnErr result (hotplug.new ≡ hotplug.old) }
     ensures book { KeepsBook heap.old heap.new }
-    ensures kept { IfOk result (λ x. KeptOrNewBut x.birth heap.old heap.new) }
+    ensures claims { IfOk result (λ x. ClaimsOrNewBut x.birth heap.old heap.new) }
+    ensures counts { (b : Board) → IsShown b anonymous resets.now.births rings.now hotplug.old heap.old →
+        IfOk result (λ x. CountedOn (plug b (as_wanted options.now)).board x.birth heap.new × OthersOrNew (plug b (as_wanted options.now)).board x.birth heap.old heap.new) }
     ensures unkept { OnErr result (KeptOrNew heap.old heap.new) }
 {
     let planned = match choose(heap, hotplug, anonymous, options, alloc, steps) {

@@ -9,6 +9,7 @@ ghost use Rattle.qo_heap.specs.Board.{Shows};
 ghost use Rattle.qo_hotplug.specs.Hotplug.{Asked};
 ghost use Rattle.qo_properties.specs.Claims.{KeepsBook};
 ghost use Rattle.qo_properties.specs.KeptClaims.{KeptBefore, KeptOrNew};
+ghost use Rattle.qo_reset.specs.Counts.{CountsKept};
 ghost use Rattle.qo_plug.specs.declared.refusals.AddRefusal.TheVariants.{Memory};
 ghost use Rattle.qo_plug.specs.Admission.{IfRefused, as_wanted};
 ghost use Rattle.qo_plug.specs.Answers.{IsCut, IsRefused, IsShown, turned_down};
@@ -83,6 +84,7 @@ pub(crate) fn make<L: Ledger>(
 ) -> Result<NewDevice, AllocError>
     requires fit { IsFit planned heap.old }
     requires resources { IsJudged planned rings.now resources heap.old }
+    requires counts { CountsKept resets.now.births heap.old }
     ensures begun { (b : Board) (a : Wanted) (anonymous : ℕ) (h : Asked) → IsShown b anonymous resets.now.births rings.now h heap.old → IsPlanned b a planned → IfOk result (λ d. IsBegun b a d heap.new) }
     ensures held { IfOk result (λ d. IsHeld d heap.new) }
     ensures err { OnErr result ((b : Board) → Shows b heap.old → SoundTree b → CutShort b planned.target.kind heap.new) }
@@ -182,6 +184,7 @@ pub fn begin<L: Ledger>(
     alloc: Global,
     steps: &mut Steps<L>,
 ) -> Result<NewDevice, AddRefusal>
+    requires { CountsKept resets.now.births heap.old }
     ensures begun { (b : Board) → IsShown b anonymous resets.now.births rings.now hotplug.now heap.old → IfOk result (λ d. IsBegun b (as_wanted options.now) d heap.new) }
     ensures held { IfOk result (λ d. IsHeld d heap.new) }
     ensures refused { (b : Board) → IsShown b anonymous resets.now.births rings.now hotplug.now heap.old → IfRefused result (λ stage code. (1 ≤ stage) × (stage ≤ 4) × IsRefused b (as_wanted options.now) stage code heap.new) }

@@ -48,12 +48,13 @@ fn new_bus_at<L: Ledger>(
     None
 }
 
-/// An act of the buses of a new device, in the order of their births.
+/// An act of the buses of a new device, in the order of their births. Only objects from the device's
+/// birth on are looked at.
 fn act_buses<L: Ledger>(heap: &mut Heap, device: Oid, act: Act, steps: &mut Steps<L>)
     requires quiet { (n : ℕ) → device.birth ≤ n → IsQuiet heap.old n }
     ensures { heap.new ≡ walked act (new_buses device.birth heap.old.rows) heap.old }
 {
-    for place in 0..heap.live() {
+    for place in heap.place_from(device.birth)..heap.live() {
         if let Some(bus) = new_bus_at(heap, place, device, steps) {
             heap.act(bus, act, 0, steps);
         }

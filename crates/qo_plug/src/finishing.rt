@@ -4,12 +4,13 @@
 ghost use Rattle.std.specs.Prelude.{◌≡◌, Bool, IfOk, OnErr, Some};
 ghost use Rattle.qo_values.specs.declared.codes.Code.TheVariants.{E44};
 ghost use Rattle.qo_model.specs.Board.{Board};
-ghost use Rattle.qo_model.specs.Plug.{Wanted};
+ghost use Rattle.qo_model.specs.Plug.{Wanted, plug};
 ghost use Rattle.qo_properties.specs.Claims.{KeepsBook};
-ghost use Rattle.qo_properties.specs.KeptClaims.{KeptBefore};
+ghost use Rattle.qo_properties.specs.KeptClaims.{ClaimsBefore, KeptBefore};
 ghost use Rattle.qo_plug.specs.declared.placing.Plugging.TheVariants.{NoticesFull};
 ghost use Rattle.qo_plug.specs.Admission.{barred_in};
 ghost use Rattle.qo_plug.specs.Answers.{IsAdded, IsRefused};
+ghost use Rattle.qo_plug.specs.KeptClaims.{CountedOn, OthersBefore};
 ghost use Rattle.qo_plug.specs.Stages.{IsBeside, IsReady, IsSettled};
 
 use crate::adding::Added;
@@ -43,7 +44,10 @@ pub fn finish<L: Ledger>(
     ensures full { OnErr result ((out : Bool) × (placed.plugging ≡ NoticesFull out)) }
     ensures asked { OnErr result (hotplug.new ≡ hotplug.old) }
     ensures book { KeepsBook heap.old heap.new }
-    ensures kept { KeptBefore heap.old heap.new }
+    ensures claims { ClaimsBefore heap.old heap.new }
+    ensures unkept { OnErr result (KeptBefore heap.old heap.new) }
+    ensures counts { (b : Board) (a : Wanted) → IsSettled b a placed heap.old → IsBeside b resets.now.births hotplug.old →
+        IfOk result (λ x. CountedOn (plug b a).board x.birth heap.new × OthersBefore (plug b a).board x.birth heap.old heap.new) }
 {
     let AttachedDevice {
         device,

@@ -2,7 +2,7 @@
 //! of a reset, and the guest is told of it (include/hw/qdev-core.h, "Realization";
 //! include/hw/hotplug.h). No call here takes memory.
 
-ghost use Rattle.std.specs.Prelude.{◌≡◌, ◌≤◌, ◌<◌, ◌∷◌, Some, None, length, option_and_then, option_to_list, slice_get};
+ghost use Rattle.std.specs.Prelude.{◌≡◌, ◌≤◌, ◌<◌, ◌∷◌, ℕ, false, Some, None, length, option_and_then, option_to_list, slice_get};
 ghost use Rattle.qo_values.specs.declared.kinds.Act.TheVariants.{Realize};
 ghost use Rattle.qo_values.specs.declared.kinds.TypeId.{TypeId};
 ghost use Rattle.qo_values.specs.declared.limits.TheConstants.{NOTICES_MAX};
@@ -11,13 +11,14 @@ ghost use Rattle.qo_model.specs.Devices.{bus_in, buses_of};
 ghost use Rattle.qo_model.specs.Paths.{canonical};
 ghost use Rattle.qo_model.specs.Plug.{acted_all, bus_births, started};
 ghost use Rattle.qo_heap.specs.Rows.{IsLive};
-ghost use Rattle.qo_heap.specs.Acts.{Acts};
+ghost use Rattle.qo_heap.specs.Acts.{Acts, KeepsCounts, counted_in};
 ghost use Rattle.qo_heap.specs.Board.{Shows, pins_in};
 ghost use Rattle.qo_heap.specs.Objects.{content_of, pins_of};
 ghost use Rattle.qo_properties.specs.Claims.{KeepsBook};
 ghost use Rattle.qo_properties.specs.OpeningSteps.{KeepsNames};
-ghost use Rattle.qo_reset.specs.Phases.{Holds};
-ghost use Rattle.qo_properties.specs.KeptClaims.{SameKept};
+ghost use Rattle.qo_reset.specs.Counts.{CountedBelow};
+ghost use Rattle.qo_reset.specs.Phases.{Holds, is_under};
+ghost use Rattle.qo_properties.specs.KeptClaims.{kept_by};
 
 use qo_buses::bus_in_slot;
 use qo_heap::{Heap, Oid, Steps};
@@ -31,6 +32,7 @@ fn realize_at<L: Ledger>(heap: &mut Heap, device: Oid, at: usize, steps: &mut St
     requires { IsLive heap.old.rows device }
     ensures shown { (b : Board) → Shows b heap.old → Shows (acted_all Realize (option_to_list (option_and_then (bus_in b) (slice_get (slots_at b device.birth) at))) b) heap.new }
     ensures acts { Acts heap.old heap.new }
+    ensures counts { KeepsCounts heap.old heap.new }
 {
     if let Some(bus) = bus_in_slot(heap, device, at, steps) {
         heap.act(bus, Act::Realize, 0, steps);
@@ -42,6 +44,7 @@ fn realize_buses<L: Ledger>(heap: &mut Heap, device: Oid, steps: &mut Steps<L>)
     requires { IsLive heap.old.rows device }
     ensures shown { (b : Board) → Shows b heap.old → Shows (acted_all Realize (buses_of b device.birth) b) heap.new }
     ensures acts { Acts heap.old heap.new }
+    ensures counts { KeepsCounts heap.old heap.new }
 {
     let mut at = 0;
     while heap.slot_at(device, at, steps).is_some() {
@@ -55,6 +58,7 @@ fn realize<L: Ledger>(heap: &mut Heap, device: Oid, steps: &mut Steps<L>)
     requires { IsLive heap.old.rows device }
     ensures shown { (b : Board) → Shows b heap.old → Shows (acted_all Realize (device.birth ∷ buses_of b device.birth) b) heap.new }
     ensures acts { Acts heap.old heap.new }
+    ensures counts { KeepsCounts heap.old heap.new }
 {
     heap.act(device, Act::Realize, 0, steps);
     realize_buses(heap, device, steps);
@@ -84,7 +88,9 @@ pub fn start<L: Ledger>(
     ensures pins { pins_in heap.new.rows ≡ pins_in heap.old.rows }
     ensures pinned { pins_of heap.new device.birth ≡ pins_of heap.old device.birth }
     ensures path { option_and_then (λ c. c.kept_path) (content_of heap.new device.birth) ≡ Some path }
-    ensures kept { SameKept heap.old heap.new }
+    ensures claims { (n : ℕ) → kept_by heap.new n ≡ kept_by heap.old n }
+    ensures counted { CountedBelow device.birth resets.now.births heap.new }
+    ensures others { (n : ℕ) → is_under heap.new n device.birth ≡ false → counted_in heap.new n ≡ counted_in heap.old n }
 {
     realize(heap, device, steps);
     resets.plugged(heap, device, steps);

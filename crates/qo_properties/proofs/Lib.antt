@@ -10,6 +10,7 @@ pub mod FillingLemmas
 pub mod NewSlotLemmas
 pub mod GivenPropertyLemmas
 pub mod ListLemmas
+pub mod LookupLemmas
 pub mod PinLemmas
 pub mod PlannedLemmas
 pub mod PlanningLemmas

@@ -29,7 +29,7 @@ use Rattle.qo_heap.proofs.BoardChanges.{shows-made, shows-added}
 use Rattle.qo_heap.proofs.BoardEdits.{shows-without_pin}
 use Rattle.qo_heap.proofs.BoardObjects.{content-edited, content-other}
 use Rattle.qo_properties.specs.NewSlots.{new_slots, with_slots}
-use Rattle.qo_properties.proofs.AddKept.{more-kept, none-new}
+use Rattle.qo_properties.proofs.AddKept.{fresh-kept, more-kept, none-new}
 use Rattle.qo_properties.proofs.AddLemmas.{apart-from, edit-newest, others}
 use Rattle.qo_properties.proofs.ClaimLemmas.{more-keeps}
 use Rattle.qo_properties.proofs.KeptLemmas.{none-edited}
@@ -85,7 +85,7 @@ module _ (v : Objects) (good : IsHeap v) (key : Key) (kind : TypeId) (birth : ke
         book = λ out h. book-edit out (made_in v key kind) key.birth (with_slots (new_slots kind)) (λ c. refl)
             (more-keeps v key (fresh kind) (v.born + 1) v.log (fresh-bare kind) refl out h);
         bare = λ none. none-edited (made_in v key kind) key.birth (with_slots (new_slots kind)) (λ c. refl)
-            (none-new v (made_in v key kind) (more-kept v (made_in v key kind) key (fresh kind) (fresh-bare kind) refl) none);
+            (none-new v (made_in v key kind) (more-kept v (made_in v key kind) key (fresh kind) (fresh-kept kind) refl) none);
       }
 
   -- it is given its slots

@@ -22,7 +22,7 @@ use Rattle.qo_heap.proofs.BoardEdits.{shows-pin}
 use Rattle.qo_heap.proofs.BoardObjects.{content-edited, live-content}
 use Rattle.qo_life.specs.Life.{Goes, with_log}
 use Rattle.qo_life.proofs.HeldLemmas.{IsHeld, held-after, held-drop}
-use Rattle.qo_life.proofs.TreeLemmas.{edit-bodies, tree, tree-shows, tree-after, heap-with_log, goes-none, goes-same, goes-then, goes-names, live-before_edit}
+use Rattle.qo_life.proofs.TreeLemmas.{edit-bodies, edit-sides, tree, tree-shows, tree-after, heap-with_log, goes-none, goes-same, goes-then, goes-names, live-before_edit}
 use Rattle.qo_properties.specs.Changes.{is_strong_in, severed, severed_at}
 
 -- one slot
@@ -106,6 +106,7 @@ goes-pin v good n c there =
       shown = λ b log s. shows-pin b (with_log log v) s (heap-with_log v log good) n c there;
       names = live-before_edit n with_pin v.rows;
       bodies = edit-bodies v n with_pin (λ d. refl);
+      sides = edit-sides v n with_pin (λ d. refl);
       book = λ out h. book-edit out v n with_pin (λ c. refl) h;
       time = refl;
       spare = refl;

@@ -24,12 +24,13 @@ use Rattle.qo_hotplug.specs.Hotplug.{Asked}
 use Rattle.qo_plug.specs.Answers.{IsAdded, IsCut, IsRefused}
 use Rattle.qo_plug.specs.Admission.{IfRefused}
 use Rattle.qo_plug.specs.Drafts.{CutShort}
-use Rattle.qo_plug.specs.KeptClaims.{KeptOrNewBut}
+use Rattle.qo_plug.specs.KeptClaims.{ClaimsOrNewBut}
 use Rattle.qo_plug.specs.declared.adding.Added.{Added}
 use Rattle.qo_plug.specs.declared.refusals.AddRefusal.{AddRefusal}
 use Rattle.qo_plug.specs.declared.refusals.AddRefusal.TheVariants.{Refused, Memory}
 use Rattle.qo_properties.specs.Additions as properties
-use Rattle.qo_properties.specs.KeptClaims.{KeptBefore, KeptOrNew, NoneKept, kept_by}
+use Rattle.qo_properties.specs.KeptClaims.{ClaimsBefore, KeptBefore, KeptOrNew, NoneKept, kept_by}
+use Rattle.qo_properties.proofs.KeptLemmas.{claims-before, claims-new}
 use Rattle.qo_properties.specs.Writes as writes
 use Rattle.qo_properties.specs.declared.refusals.Refusal.{Refusal}
 use Rattle.qo_properties.specs.declared.refusals.Refusal.TheVariants as object
@@ -86,9 +87,9 @@ pub same-claims : (v w : Objects) → w ≡ v → KeepsClaims v → KeepsClaims 
 same-claims v w same h = subst KeepsClaims (sym same) h
 
 pub new-claims : (b c : Board) (v w : Objects) → Shows b v → Shows c w → ClaimsKeep b c → KeptOrNew v w → KeepsClaims v → KeepsClaims w
-new-claims b c v w s t keep kept h = all-claims c w t (new-due b c v s (h b s) w keep kept)
+new-claims b c v w s t keep kept h = all-claims c w t (new-due b c v s (h b s) w keep (claims-new v w kept))
 
-pub step-claims : (b c : Board) (v w : Objects) → Shows b v → Shows c w → ClaimsKeep b c → KeptBefore v w → KeepsClaims v → KeepsClaims w
+pub step-claims : (b c : Board) (v w : Objects) → Shows b v → Shows c w → ClaimsKeep b c → ClaimsBefore v w → KeepsClaims v → KeepsClaims w
 step-claims b c v w s t keep kept h = all-claims c w t (before-due b c v s (h b s) w keep kept)
 
 -- the beginning
@@ -99,7 +100,7 @@ opening-claims w s none = all-claims opening_board w s (opening-due w none)
 
 pub change-claims : (b : Board) (change : Change) (v w : Objects) → SoundDevices b → Shows b v → Shows (changed b change) w → KeptBefore v w
     → KeepsClaims v → KeepsClaims w
-change-claims b change v w devices s t = step-claims b (changed b change) v w s t (claims_stay_lem.change b change devices)
+change-claims b change v w devices s t kept = step-claims b (changed b change) v w s t (claims_stay_lem.change b change devices) (claims-before v w kept)
 
 attempted-keep : (b : Board) (driver id : List ℕ) → ClaimsKeep b (attempted_as b driver id)
 attempted-keep b driver id = by (barred_by b driver id) (type_named driver)
@@ -131,13 +132,13 @@ write-keep b d path name val is devices =
 
 pub write-claims : (b : Board) (path name : List ℕ) (val : Val) (result : Result (Unit {0}) Refusal) (v w : Objects) → SoundDevices b → Shows b v
     → writes.Writes w result (write_at b path name val) → OnErr result (w ≡ v) → KeptBefore v w → KeepsClaims v → KeepsClaims w
-write-claims b path name val (Ok u) v w devices s (c, is, t) same kept h = step-claims b c v w s t (write-keep b c path name val is devices) kept h
+write-claims b path name val (Ok u) v w devices s (c, is, t) same kept h = step-claims b c v w s t (write-keep b c path name val is devices) (claims-before v w kept) h
 write-claims b path name val (Err e) v w devices s told same kept h = same-claims v w same h
 
 -- a device is added, or not
 
 pub plug-claims : (b : Board) (a : Wanted) (x : Added) (asked : Asked) (v w : Objects) → SoundDevices b → SoundBackends b → Shows b v → IsAdded b a x asked w
-    → KeptOrNewBut x.birth v w → KeepsClaims v → KeepsClaims w
+    → ClaimsOrNewBut x.birth v w → KeepsClaims v → KeepsClaims w
 plug-claims b a x asked v w devices backends s came kept h =
     all-claims (plug b a).board w came.shown
     (added-due b (plug b a).board v s (h b s) a x w (claims_stay_lem.added b a devices backends came.refusal) came.birth (is-taken b a came.refusal) came.kept kept)
@@ -171,7 +172,7 @@ given_up-claims b t bus v w s shows = new-claims b (plug_attempt b t bus 4) v w 
 -- holds, and a reset
 
 pub pulse-claims : (b : Board) (n : ℕ) (v w : Objects) → SoundDevices b → Shows b v → Shows (pulse b n) w → KeptBefore v w → KeepsClaims v → KeepsClaims w
-pulse-claims b n v w devices s t = step-claims b (pulse b n) v w s t (claims_stay_lem.pulsed b n devices)
+pulse-claims b n v w devices s t kept = step-claims b (pulse b n) v w s t (claims_stay_lem.pulsed b n devices) (claims-before v w kept)
 
 -- the guest writes to a register
 

@@ -5,10 +5,12 @@ use Rattle.qo_model.specs.Board.{Board, Ring}
 use Rattle.qo_model.specs.Depth.{among}
 use Rattle.qo_model.specs.Hotplug.{completed}
 use Rattle.qo_model.specs.Unplug.{detach}
+use Rattle.qo_heap.specs.Board.{Shows}
 use Rattle.qo_heap.specs.Objects.{Objects}
 use Rattle.qo_heap.specs.Moments.{Timely}
 use Rattle.qo_properties.specs.Claims.{KeepsBook}
 use Rattle.qo_properties.specs.Pins.{OnlyRootPinned}
+use Rattle.qo_reset.specs.Counts.{CountsKept}
 use Rattle.qo_reset.specs.HoldList.{HoldList}
 use Rattle.qo_sound.specs.DeviceScope.{DetachLeaves}
 use Rattle.qo_sound.specs.TreeKept.{SoundTree}
@@ -23,8 +25,10 @@ use Rattle.qo_sound_claims.proofs.StayLawLemmas.{claims_stay_lem}
 use Rattle.qo_sound_devices.specs.SoundLists.{IsOn}
 use Rattle.qo_sound_devices.specs.SoundPlaces.{stands}
 use Rattle.qo_unplug.specs.RealizedClaims.{KeepsDue}
+use Rattle.qo_unplug.specs.Unrealizing.{KeepsHeld}
 use Rattle.qo_realize.specs.BoardClaims.{KeepsClaims, claims_due}
 use Rattle.qo_realize.proofs.ClaimsLemmas.{all-claims}
+use Rattle.qo_realize.proofs.CountedLemmas.{detached-counts}
 use Rattle.qo_realize.proofs.DueLemmas.{stay-due}
 use Rattle.qo_realize.specs.Parts.{Parts, parts_of}
 use Rattle.qo_realize.specs.Representation.{Stands, StandsForGood}
@@ -65,6 +69,20 @@ completed-sound n rings anonymous running held holds old new v w pending (b, s, 
     let stands : Stands (completed b n) (parts_of rings anonymous running holds new w) = completed-stands b n rings anonymous running held holds old new v w s
     (detaches b good.run.devices.tree good.run.clocks (is_beside b rings anonymous running held old v s)) keeps in
     good-pinned (completed b n) (parts_of rings anonymous running holds new w) stands after
+
+-- and what is kept of holds is right
+pub completed-counts : (n : ℕ) (rings : List Ring) (anonymous : ℕ) (running : Bool) (held holds : HoldList) (old new : Asked) (v w : Objects)
+    → among old.pending n ≡ true → StandsForGood (parts_of rings anonymous running held old v)
+    → ((b : Board) → SoundTree b → SoundClocks b → Beside b v held.births old → Beside (detach b n) w holds.births new)
+    → ((b : Board) → SoundTree b → SoundClocks b → Shows b v → Shows (detach b n) w)
+    → ((b : Board) → SoundTree b → SoundClocks b → Shows b v → (m : ℕ) (was : ℕ × ℕ) → KeepsHeld m was b v → KeepsHeld m was (detach b n) w)
+    → CountsKept held.births v → CountsKept holds.births w
+completed-counts n rings anonymous running held holds old new v w pending (b, s, good) detaches seen keeps kept =
+    let beside : Beside b v held.births old = is_beside b rings anonymous running held old v s in
+    let on : stands b n ≡ true =
+    (among-all (IsOn b) b.pending good.run.devices.lists.pending n (ap (λ (ns : List ℕ). among ns n) s.pending ∙ pending)).0 in
+    let after : Beside (detach b n) w holds.births new = detaches b good.run.devices.tree good.run.clocks beside in
+    detached-counts b n held.births holds.births v w good.run good.holds on s.shows s.holds after.shown after.holds seen keeps kept
 
 -- it keeps no claim any more, and the others theirs
 pub completed-claims : (n : ℕ) (rings : List Ring) (anonymous : ℕ) (running : Bool) (held holds : HoldList) (old new : Asked) (v w : Objects)

@@ -32,9 +32,10 @@ use Rattle.qo_heap.specs.Board.{Shows}
 use Rattle.qo_heap.specs.Objects.{Objects, content_of}
 use Rattle.qo_heap.proofs.BoardReads.{shows-record}
 use Rattle.qo_buses.specs.Rings.{named_ring}
-use Rattle.qo_properties.specs.KeptClaims.{KeptBefore, KeptOrNew, NoneKept, kept_by}
+use Rattle.qo_properties.proofs.KeptLemmas.{none-claims}
+use Rattle.qo_properties.specs.KeptClaims.{ClaimsBefore, ClaimsOrNew, NoneKept, kept_by}
 use Rattle.qo_plug.specs.Answers.{KeepsGiven}
-use Rattle.qo_plug.specs.KeptClaims.{KeptOrNewBut}
+use Rattle.qo_plug.specs.KeptClaims.{ClaimsOrNewBut}
 use Rattle.qo_plug.specs.declared.adding.Added.{Added}
 use Rattle.qo_plug.specs.Resources.{backend_given, claims_given, ring_given}
 use Rattle.qo_sound_claims.specs.ClaimsStay.{ClaimsAdded, ClaimsAlike, ClaimsGiven, ClaimsKeep, ClaimsStay, ranges_at}
@@ -209,15 +210,15 @@ module _ (b c : Board) (v : Objects) (s : Shows b v) (h : KeepsDue (claims_due b
           before ∙ ap (λ (u : Bool). due_if (claims_due b) u n) p ∙ sym (alike-due b c n (stay p)) ∙ sym (ap (λ (u : Bool). due_if (claims_due c) u n) p)
       go false p = before ∙ ap (λ (u : Bool). due_if (claims_due b) u n) p ∙ sym (ap (λ (u : Bool). due_if (claims_due c) u n) p)
 
-  pub new-due : (w : Objects) → ClaimsKeep b c → KeptOrNew v w → KeepsDue (claims_due c) c w
+  pub new-due : (w : Objects) → ClaimsKeep b c → ClaimsOrNew v w → KeepsDue (claims_due c) c w
   new-due w keep kept n k now = one-due n k (keep.same n) (keep.stay n) (kept n k now)
 
-  pub before-due : (w : Objects) → ClaimsKeep b c → KeptBefore v w → KeepsDue (claims_due c) c w
+  pub before-due : (w : Objects) → ClaimsKeep b c → ClaimsBefore v w → KeepsDue (claims_due c) c w
   before-due w keep kept n k now = one-due n k (keep.same n) (keep.stay n) (inl (kept n k now))
 
   -- a device was added, whose body keeps what it was given
   pub added-due : (a : Wanted) (x : Added) (w : Objects) → ClaimsAdded b a c → x.birth ≡ b.born + 1 → IsTaken b a → KeepsGiven b a x w
-      → KeptOrNewBut x.birth v w → KeepsDue (claims_due c) c w
+      → ClaimsOrNewBut x.birth v w → KeepsDue (claims_due c) c w
   added-due a x w added birth taken given kept n k now = go (n == x.birth) refl
     where
       go : (u : Bool) → (n == x.birth) ≡ u → k ≡ due_if (claims_due c) (is_realized c n) n
@@ -239,7 +240,7 @@ unfolding opening_board types
 opening-dark = (refl, (refl, (refl, (refl, (refl, (refl, (refl, (refl, tt))))))))
 
 pub opening-due : (w : Objects) → NoneKept w → KeepsDue (claims_due opening_board) opening_board w
-opening-due w none n k now = none n k now ∙ sym (ap (λ (t : Bool). due_if (claims_due opening_board) t n) (go (record_of opening_board n) refl))
+opening-due w none n k now = none-claims w none n k now ∙ sym (ap (λ (t : Bool). due_if (claims_due opening_board) t n) (go (record_of opening_board n) refl))
   where
     go : (o : Option Record) → record_of opening_board n ≡ o → is_realized opening_board n ≡ false
     go None p = ap lit p

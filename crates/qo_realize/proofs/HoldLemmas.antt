@@ -24,8 +24,7 @@ use Rattle.qo_realize.specs.Answers.{Changes, IsAnswered}
 use Rattle.qo_realize.specs.SoundBoard.{SoundBoard}
 use Rattle.qo_sound_claims.specs.ClaimsStay.{ClaimsKeep}
 use Rattle.qo_sound_claims.proofs.StayLawLemmas.{claims_stay_lem}
-use Rattle.qo_properties.proofs.ActsKept.{acts-kept}
-use Rattle.qo_properties.proofs.KeptLemmas.{before-same}
+use Rattle.qo_properties.proofs.ActsKept.{acts-claims}
 use Rattle.qo_realize.specs.BoardClaims.{KeepsClaims}
 use Rattle.qo_realize.proofs.ClaimsLemmas.{same-claims, step-claims}
 use Rattle.qo_realize.specs.Parts.{Parts, parts_of}
@@ -162,7 +161,7 @@ module _ (rings : List Ring) (anonymous : ℕ) (running : Bool) (old new : HoldL
   hold-claims path (Ok u) (b, s, good) acts h same =
       step-claims b (held_at b path).board v w s.shows (h b (s.shows, s.holds)).1.0
       (held_at-all (ClaimsKeep b) b path (claims_stay_lem.beside b b refl) (λ n is home deep. claims_stay_lem.held_so b n good.run.devices))
-      (before-same v w (acts-kept v w acts))
+      (λ n k e. sym (acts-claims v w acts n) ∙ e)
   hold-claims path (Err (Refused code)) (b, s, good) acts h same = same-claims v w same.0
   hold-claims path (Err Memory) (b, s, good) acts h same = same-claims v w same.0
 
@@ -172,7 +171,7 @@ module _ (rings : List Ring) (anonymous : ℕ) (running : Bool) (old new : HoldL
   release-claims path (Ok u) (b, s, good) acts h same =
       step-claims b (released_at b path).board v w s.shows (h b (s.shows, s.holds)).1.0
       (released_at-all (ClaimsKeep b) b path (claims_stay_lem.beside b b refl) (λ n. claims_stay_lem.released_so b n good.run.devices))
-      (before-same v w (acts-kept v w acts))
+      (λ n k e. sym (acts-claims v w acts n) ∙ e)
   release-claims path (Err code) (b, s, good) acts h same = same-claims v w same.0
 
   pub release-keeps : (path : List ℕ) (result : Result Unit Code) → StandsForGood before → ((b : Board) → Holds b old.births v

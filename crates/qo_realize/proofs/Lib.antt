@@ -3,6 +3,7 @@ pub mod RemovalLemmas
 pub mod ChardevLemmas
 pub mod ClaimsLemmas
 pub mod CompletionLemmas
+pub mod CountedLemmas
 pub mod DueLemmas
 pub mod DeviceLemmas
 pub mod GuestLemmas

@@ -19,6 +19,7 @@ use Rattle.qo_model.specs.Board.{Board, Record, record_of, Ring}
 use Rattle.qo_model.specs.Clocks.{ClocksFit, device_period}
 use Rattle.qo_model.specs.Devices.{first_bus}
 use Rattle.qo_model.specs.Reset.{pulse}
+use Rattle.qo_heap.specs.Acts.{counts_of}
 use Rattle.qo_heap.specs.Board.{Shows}
 use Rattle.qo_heap.specs.Book.{claim_eq, kept_times}
 use Rattle.qo_heap.specs.Objects.{IsHeap, Objects, content_of, with_edit}
@@ -29,7 +30,8 @@ use Rattle.qo_heap.proofs.BoardObjects.{content-edited, content-other, live-cont
 use Rattle.qo_heap.proofs.BoardReads.{shows-record}
 use Rattle.qo_hotplug.specs.Hotplug.{Asked}
 use Rattle.qo_properties.specs.Claims.{KeepsBook}
-use Rattle.qo_properties.specs.KeptClaims.{KeptBefore, kept_by}
+use Rattle.qo_properties.proofs.KeptLemmas.{claims-before}
+use Rattle.qo_properties.specs.KeptClaims.{Kept, KeptBefore, all_kept, kept_with}
 use Rattle.qo_properties.specs.Pins.{OnlyRootPinned}
 use Rattle.qo_reset.specs.HoldList.{HoldList}
 use Rattle.qo_reset.specs.Phases.{Holds}
@@ -130,18 +132,18 @@ pub put-kept : (v : Objects) (o : Key) (old new : Body) → IsLive v.rows o → 
     → kept_of new ≡ kept_of old → KeptBefore v (with_edit o.birth (put new) v)
 put-kept v o old new live is kept n k e = go (eqb n o.birth) refl
   where
-    held : Option Content → Option KeptSet
-    held x = option_map (λ (c : Content). kept_of c.body) x
+    held : Option Content → Option Kept
+    held x = option_map kept_with x
 
-    go : (t : Bool) → eqb n o.birth ≡ t → kept_by v n ≡ Some k
+    go : (t : Bool) → eqb n o.birth ≡ t → all_kept v n ≡ Some k
     go false p = ap held (sym (content-other v o.birth n (put new) p)) ∙ e
     go true p =
         let (c, there, same) = body-there v o old live is in
         let own : n ≡ o.birth = eqb-true n o.birth p in
-        let now : held (content_of (with_edit o.birth (put new) v) o.birth) ≡ Some (kept_of new) =
+        let now : held (content_of (with_edit o.birth (put new) v) o.birth) ≡ Some (kept_of new, counts_of c) =
         ap held (content-edited v o.birth (put new) ∙ ap (option_map (put new)) there) in
-        let is_now : Some (kept_of new) ≡ Some k = sym now ∙ sym (ap (kept_by (with_edit o.birth (put new) v)) own) ∙ e in
-        ap (kept_by v) own ∙ ap held there ∙ ap (λ (b : Body). Some (kept_of b)) same ∙ sym (ap Some kept) ∙ is_now
+        let is_now : Some (kept_of new, counts_of c) ≡ Some k = sym now ∙ sym (ap (all_kept (with_edit o.birth (put new) v)) own) ∙ e in
+        ap (all_kept v) own ∙ ap held there ∙ ap (λ (x : KeptSet). Some (x, counts_of c)) (ap kept_of same ∙ sym kept) ∙ is_now
 
 -- a write of what is there leaves all
 pub put-none : (v : Objects) → IsHeap v → (o : Key) (old new : Body) → IsLive v.rows o → option_map (λ (c : Content). c.body) (content_of v o.birth) ≡ Some old
@@ -215,7 +217,7 @@ module _ (rings others : List Ring) (anonymous : ℕ) (running : Bool) (old new 
   write-claims None (b, s, good) h same kept claims = same-claims v w same.0 claims
   write-claims (Some u) (b, s, good) h same kept claims =
       let (c, is, held) = h b (record { held = (s.shows, s.holds); rings_are = s.rings }) good.run.clocks.fit in
-      step-claims b c v w s.shows held.held.0 (guest-keep b d reg value c is good.run.devices) kept claims
+      step-claims b c v w s.shows held.held.0 (guest-keep b d reg value c is good.run.devices) (claims-before v w kept) claims
 
   pub write-keeps : (result : Option (Unit {0})) → StandsForGood before
       → ((b : Board) → IsHeld b old.births rings v → ClocksFit b → Written (guest_written b d reg value) result new.births others w)

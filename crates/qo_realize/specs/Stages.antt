@@ -13,6 +13,7 @@ use Rattle.qo_plug.specs.declared.beginning.NewDevice.{NewDevice}
 use Rattle.qo_plug.specs.declared.placing.AttachedDevice.{AttachedDevice}
 use Rattle.qo_plug.specs.declared.refusals.AddRefusal.{AddRefusal}
 use Rattle.qo_plug.specs.declared.refusals.AddRefusal.TheVariants.{Refused, Memory}
+use Rattle.qo_reset.specs.Counts.{CountsKept}
 use Rattle.qo_realize.specs.Answers.{Plugs}
 use Rattle.qo_realize.specs.BoardClaims.{KeepsClaims}
 use Rattle.qo_realize.specs.SoundBoard.{SoundBoard}
@@ -39,6 +40,7 @@ pub record Since (b : Board) (a : Wanted) (p : Parts) (next : ℕ) : Type 0 wher
   pub good : SoundBoard b
   pub counted : next ≡ counts b.anonymous a.id
   pub claims : KeepsClaims before
+  pub counts_kept : CountsKept p.holds before
 
 -- on a board a device was begun as it was asked for, or placed: nothing of the stages so far refuses it
 pub record IsDrafted (b : Board) (a : Wanted) (d : DraftParts) : Type 0 where

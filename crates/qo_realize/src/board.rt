@@ -30,7 +30,8 @@ use std::sync::ledger::Ledger;
 /// holds the objects from outside the tree but the one pin of the root, and the board is sound as a
 /// whole: its tree, the places of devices and the lists that name them, clocks and timers, shapes,
 /// owners, rings, claims, holds and limits. The body of each object keeps the claims that its slots say
-/// while it is realized, and none otherwise.
+/// while it is realized, and none otherwise. What is kept of each object for resets is how many holds
+/// are on it and above it.
 #[derive(Drop)]
 pub struct Board {
     pub(crate) heap: Heap,
@@ -43,6 +44,7 @@ pub struct Board {
 
 impl Model for Board {
     ghost use Rattle.qo_properties.specs.Pins.{OnlyRootPinned};
+    ghost use Rattle.qo_reset.specs.Counts.{CountsKept};
     ghost use Rattle.qo_realize.specs.BoardClaims.{KeepsClaims};
     ghost use Rattle.qo_realize.specs.Parts.{Parts, parts_of};
     ghost use Rattle.qo_realize.specs.Representation.{StandsForGood};
@@ -51,7 +53,7 @@ impl Model for Board {
 
     ghost view = { λ b. parts_of b.rings b.anonymous b.running b.resets b.hotplug b.heap };
 
-    ghost invariant = { λ b. OnlyRootPinned b.heap × StandsForGood (parts_of b.rings b.anonymous b.running b.resets b.hotplug b.heap) × KeepsClaims b.heap };
+    ghost invariant = { λ b. OnlyRootPinned b.heap × StandsForGood (parts_of b.rings b.anonymous b.running b.resets b.hotplug b.heap) × KeepsClaims b.heap × CountsKept b.resets.births b.heap };
 }
 
 /// How many devices without an id there are after the add of one, with an id or without; `None` where
@@ -89,6 +91,7 @@ impl Board {
     ghost use Rattle.qo_model.specs.NoteReplies.{first_from, given_from};
     ghost use Rattle.qo_model.specs.Notes.{total_of};
     ghost use Rattle.qo_model.specs.Objects as objects;
+    ghost use Rattle.qo_model.specs.ReleaseBound.{release_bound};
     ghost use Rattle.qo_model.specs.Opening.{opening_board};
     ghost use Rattle.qo_heap.specs.Log as log;
     ghost use Rattle.qo_properties.specs.Reads.{Answers};
@@ -97,6 +100,7 @@ impl Board {
     ghost use Rattle.qo_model.specs.Hotplug.{asked, completed, refused};
     ghost use Rattle.qo_object.specs.BoardObject.{birth_of};
     ghost use Rattle.qo_plug.specs.Admission.{as_wanted};
+    ghost use Rattle.qo_reset.specs.Counts.{CountsKept};
     ghost use Rattle.qo_realize.specs.Answers.{Adds, IsAnswered, Plugs, Writes};
     ghost use Rattle.qo_realize.specs.BoardClaims.{KeepsClaims};
     ghost use Rattle.qo_realize.specs.Guest.{address_of, first_notice, polled};
@@ -123,10 +127,12 @@ impl Board {
     }
 
     /// What it stands for: there is a board that stands at it, and it is sound; and each body keeps the claims
-    /// of its object while that is realized, and none otherwise.
+    /// of its object while that is realized, and none otherwise; and what is kept of each object for
+    /// resets is how many holds are on it and above it.
     pub fn reveal_board(&self)
         ensures stands { StandsForGood self.now }
         ensures claims { KeepsClaims self.now.objects }
+        ensures counts { CountsKept self.now.holds self.now.objects }
     {
         let _heap = &self.heap;
     }
@@ -329,10 +335,12 @@ impl Board {
     /// Removes the user's object of an id: its slot at `/objects` is let go, and it is finalized
     /// where nothing else refers to it (QEMU's QAPI, `object-del`). `E15` comes exactly where there
     /// is no such slot, and `E32` exactly where it is a memory backend on which a DIMM stands. An error
-    /// leaves the board as it was.
+    /// leaves the board as it was. It takes at most eight steps for each object and slot that ends and for
+    /// each weak link to one or of one, and sixteen more.
     pub fn object_del<L: Ledger>(&mut self, id: &str, steps: &mut Steps<L>) -> Result<(), Code>
         ensures change { (b : model.Board) → Stands b self.old → IsAnswered (object_removed b id.now) result self.new }
         ensures err { OnErr result (self.new ≡ self.old) }
+        ensures work { (b c : model.Board) → Stands b self.old → Stands c self.new → steps.new ≤ steps.old + release_bound b c + 8 }
     {
         if is_used(&self.heap, id, steps) {
             return Err(Code::E32);

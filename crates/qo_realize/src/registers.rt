@@ -12,6 +12,7 @@ ghost use Rattle.qo_heap.specs.Objects.{content_of};
 ghost use Rattle.qo_properties.specs.Claims.{KeepsBook};
 ghost use Rattle.qo_properties.specs.KeptClaims.{KeptBefore};
 ghost use Rattle.qo_buses.specs.Rings.{claimed_ring};
+ghost use Rattle.qo_reset.specs.Counts.{CountsKept};
 ghost use Rattle.qo_realize.specs.Registers.{GuestWrites, HasWritten, IsHeld, Written, after_effect, guest_read, guest_written, registers_written};
 ghost use Rattle.qo_realize.specs.Representation.{Stands};
 
@@ -47,6 +48,7 @@ fn write_register<L: Ledger>(
     ensures book { KeepsBook heap.old heap.new }
     ensures kept { KeptBefore heap.old heap.new }
     ensures live { IsLive heap.new.rows dev }
+    ensures counts { (holds : List ℕ) → CountsKept holds heap.old → CountsKept holds heap.new }
     ensures absent { IfNone result (heap.new ≡ heap.old) }
 {
     heap.reveal_invariant();
@@ -69,10 +71,12 @@ fn send<L: Ledger>(heap: &Heap, rings: &mut Rings, dev: Oid, byte: u8, steps: &m
 
 /// The first bus of a device goes through the phases of a reset.
 fn pulse_bus<L: Ledger>(heap: &mut Heap, resets: &mut Resets, dev: Oid, steps: &mut Steps<L>)
-    requires { IsLive heap.old.rows dev }
+    requires live { IsLive heap.old.rows dev }
+    requires counts { CountsKept resets.old.births heap.old }
     ensures shown { (b : Tree) → (rings : List Ring) → IsHeld b resets.old.births rings heap.old → IsHeld (after_effect dev.birth bodies.pulse b) resets.new.births rings heap.new }
     ensures book { KeepsBook heap.old heap.new }
     ensures kept { KeptBefore heap.old heap.new }
+    ensures counts { CountsKept resets.new.births heap.new }
 {
     if let Some(bus) = first_bus(heap, dev, steps) {
         resets.pulse(heap, bus, steps);
@@ -89,10 +93,12 @@ fn do_beside<L: Ledger>(
     effect: Effect,
     steps: &mut Steps<L>,
 )
-    requires { IsLive heap.old.rows dev }
+    requires live { IsLive heap.old.rows dev }
+    requires counts { CountsKept resets.old.births heap.old }
     ensures shown { (b : Tree) → IsHeld b resets.old.births rings.old heap.old → IsHeld (after_effect dev.birth (shown_effect effect) b) resets.new.births rings.new heap.new }
     ensures book { KeepsBook heap.old heap.new }
     ensures kept { KeptBefore heap.old heap.new }
+    ensures counts { CountsKept resets.new.births heap.new }
 {
     match effect {
         Effect::Nothing => {}
@@ -113,10 +119,12 @@ fn write_through<L: Ledger>(
     steps: &mut Steps<L>,
 ) -> Option<()>
     requires live { IsLive heap.old.rows dev }
+    requires counts { CountsKept resets.old.births heap.old }
     requires timely { IfSome (content_of heap.old dev.birth) (λ c. IsTimely heap.old.time c.body) }
     ensures written { (b : Tree) → IsHeld b resets.old.births rings.old heap.old → ClocksFit b → Written (guest_written b dev.birth reg value) result resets.new.births rings.new heap.new }
     ensures book { KeepsBook heap.old heap.new }
     ensures kept { KeptBefore heap.old heap.new }
+    ensures counts { CountsKept resets.new.births heap.new }
     ensures absent { IfNone result ((heap.new ≡ heap.old) × (resets.new.births ≡ resets.old.births) × (rings.new ≡ rings.old)) }
 {
     let effect = write_register(heap, dev, reg, value, steps)?;

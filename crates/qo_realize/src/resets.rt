@@ -12,6 +12,7 @@ ghost use Rattle.qo_heap.specs.Rows.{IsLive};
 ghost use Rattle.qo_heap.specs.Acts.{Acts};
 ghost use Rattle.qo_heap.specs.Board.{Shows};
 ghost use Rattle.qo_properties.specs.Reads.{birth_told};
+ghost use Rattle.qo_reset.specs.Counts.{CountsKept};
 ghost use Rattle.qo_reset.specs.Phases.{Holds};
 ghost use Rattle.qo_realize.specs.Answers.{Changes, IsAnswered};
 ghost use Rattle.qo_realize.specs.Resets.{Releases, Resets as Holding, held_at, released_at, resettable_at};
@@ -47,8 +48,10 @@ fn hold<L: Ledger>(
     path: &str,
     steps: &mut Steps<L>,
 ) -> Result<(), Refusal>
+    requires { CountsKept resets.old.births heap.old }
     ensures held { (b : Tree) → Holds b resets.old.births heap.old → Holding b (held_at b path.now) result resets.new.births heap.new }
     ensures acts { Acts heap.old heap.new }
+    ensures counts { CountsKept resets.new.births heap.new }
     ensures err { OnErr result ((heap.new ≡ heap.old) × (resets.new.births ≡ resets.old.births)) }
 {
     let o = resettable_at(heap, path, steps)?;
@@ -70,8 +73,10 @@ fn release<L: Ledger>(
     path: &str,
     steps: &mut Steps<L>,
 ) -> Result<(), Code>
+    requires { CountsKept resets.old.births heap.old }
     ensures released { (b : Tree) → Holds b resets.old.births heap.old → Releases b (released_at b path.now) result resets.new.births heap.new }
     ensures acts { Acts heap.old heap.new }
+    ensures counts { CountsKept resets.new.births heap.new }
     ensures err { OnErr result ((heap.new ≡ heap.old) × (resets.new.births ≡ resets.old.births)) }
 {
     let o = resettable_at(heap, path, steps)?;

@@ -25,7 +25,7 @@ use Rattle.qo_heap.proofs.ActsLemmas.{acts-then}
 use Rattle.qo_heap.proofs.ActsReads.{acts-length}
 use Rattle.qo_heap.proofs.BoardActs.{shows-acted}
 use Rattle.qo_heap.proofs.BoardReads.{shows-of, shows-size, shows-slots}
-use Rattle.qo_reset.specs.Phases.{acted_on, below_on, chosen, count_on, exceeds_depth_at, is_bus, kids_in, phase_on, picked, picks, post_by, turned_to, visited, walked}
+use Rattle.qo_reset.specs.Phases.{acted_on, walked, below_on, chosen, count_on, exceeds_depth_at, is_bus, kids_in, phase_on, picked, picks, post_by, turned_to}
 use Rattle.qo_reset.proofs.WalkLemmas.{acts-below, acts-chosen, walked-acts}
 
 -- acts on objects in order
@@ -98,13 +98,6 @@ acts-picks : (only : Bool) (holds : List ℕ) (n : ℕ) (v w : Objects) → Acts
 unfolding picks
 acts-picks only holds n v w acts = rw (acts-chosen only holds v w acts, acts-below v w acts, acts-length v w acts) refl
 
-pub visited-phase : (act : Act) (only : Bool) (holds : List ℕ) (levels n : ℕ) (v : Objects) → levels ≡ length v.rows + 1
-    → visited act only holds levels n v ≡ phase_on act only holds n v
-unfolding visited picks
-visited-phase act only holds levels n v e =
-    let same : levels ≡ suc (length v.rows) = omega (arith, e) in
-    ap (λ (d : ℕ). walked act (filter (chosen only holds v) (post_by (below_on v) d n)) v) same
-
 pub phase-acts : (act : Act) (only : Bool) (holds : List ℕ) (n : ℕ) (v : Objects) → Acts v (phase_on act only holds n v)
 phase-acts act only holds n v = walked-acts act (picks only holds n v) v
 
@@ -148,7 +141,7 @@ pub shows-released : (n : ℕ) (b : Board) (v : Objects) → Shows b v → Shows
 unfolding released
 shows-released n b v s = shows-phase Exit true n (record b { holds = without_first n b.holds }) v (shows-holds b v (without_first n b.holds) s)
 
-filter-all : (l : List ℕ) → filter (λ _. true) l ≡ l
+pub filter-all : (l : List ℕ) → filter (λ _. true) l ≡ l
 filter-all [] = refl
 filter-all (n ∷ l) = ap (λ (r : List ℕ). n ∷ r) (filter-all l)
 

@@ -1,33 +1,43 @@
--- Phases on a heap: acts leave who is below whom, and phases go piece by piece.
-use Rattle.std.proofs.Common.{◌≡◌, refl, ap, ap₂, sym, ◌∙◌, ℕ, zero, suc, ◌+◌, ◌-◌, ◌<◌, ◌≤◌, Bool, true, false, not, ◌&&◌, cond, eqb, List, [], ◌∷◌, ◌++◌, take, length, filter, filter_map, slice_get, append-nil, count_by, subst, ◌||◌, nat_eq, Option, Some, None, option_map, IfSome, codes, arith}
+-- Walks on a heap: turns leave who is below whom, and walks go piece by piece.
+use Rattle.std.proofs.Common.{◌≡◌, refl, ap, ap₂, sym, ◌∙◌, ℕ, zero, suc, ◌+◌, ◌-◌, ◌<◌, ◌≤◌, min, Bool, true, false, not, ◌&&◌, cond, eqb, List, [], ◌∷◌, ◌++◌, take, length, filter_map, slice_get, append-nil, count_by, subst, ◌||◌, nat_eq, Option, Some, None, option_map, IfSome, codes, arith}
 use Rattle.std.specs.List.{cons_option, flat_map, list_any}
 use Rattle.std.specs.Option.{option_map_or}
 use Rattle.std.specs.Str.{bytes_eq}
 use Rattle.std.proofs.Math.Bool.{or-false}
 use Rattle.std.proofs.Math.Path.{fun_ext}
+use Rattle.std.proofs.lemmas.Bool.{eqb-true}
 use Rattle.std.proofs.lemmas.List.Concat.{flat_map-append}
-use Rattle.std.proofs.lemmas.List.Elements.{filter-append}
 use Rattle.std.proofs.lemmas.List.Folds.{list_any-append}
 use Rattle.std.proofs.lemmas.Option.{same_Some}
 use Rattle.qo_values.specs.declared.kinds.Act.{Act}
+use Rattle.qo_kinds.specs.Bodies.{IsTimely}
 use Rattle.qo_slots.specs.declared.keys.Key.{Key}
-use Rattle.qo_heap.specs.Rows.{IsLive}
+use Rattle.qo_heap.specs.Rows.{IsLive, edit}
 use Rattle.qo_model.specs.declared.notes.Deed.TheVariants.{Did}
 use Rattle.qo_model.specs.Depth.{among}
 use Rattle.qo_model.specs.Devices.{clock_name}
 use Rattle.qo_model.specs.Types.{is_a}
+use Rattle.qo_object.specs.declared.room.Side.{Side}
 use Rattle.qo_object.specs.declared.slots.Slot.TheVariants.{Plain, Child, Link, Alias}
-use Rattle.qo_object.specs.Content.{Content}
+use Rattle.qo_object.specs.Content.{Content, acted_at}
 use Rattle.qo_object.specs.BoardObject.{birth_of}
 use Rattle.qo_object.specs.Slots.{Named, child_of}
-use Rattle.qo_heap.specs.Acts.{Acts}
-use Rattle.qo_heap.specs.Objects.{IsHeap, Objects, content_of, slots_of}
-use Rattle.qo_heap.proofs.ActsLemmas.{acts-act, acts-none, acts-then, acts-live}
+use Rattle.qo_heap.specs.Acts.{Acts, KeepsPeriods, periods_of}
+use Rattle.qo_heap.specs.Moments.{AllTimely, Timely}
+use Rattle.qo_heap.specs.Objects.{IsHeap, Objects, content_of, slots_of, with_edit}
+use Rattle.qo_heap.proofs.ActsLemmas.{acts-act, acts-edit, acts-none, acts-then, acts-live}
 use Rattle.qo_heap.proofs.ActsReads.{acts-length, acts-read, acts-slots}
+use Rattle.qo_heap.proofs.BoardObjects.{content-edited, content-other}
 use Rattle.qo_heap.proofs.HeapLemmas.{slot-live}
 use Rattle.qo_heap.proofs.MomentLemmas.{acts-timely}
-use Rattle.qo_heap.specs.Moments.{Timely}
-use Rattle.qo_reset.specs.Phases.{acted_on, below_on, births_of, bus_child, chosen, count_on, is_bus, is_under, kids_in, out_on, post_by, strong_target, turned, turned_to, visited, visited_to, walked}
+use Rattle.qo_reset.specs.declared.turns.Tally.{Tally}
+use Rattle.qo_reset.specs.declared.turns.Tally.TheVariants.{Raise, Lower, Unmark}
+use Rattle.qo_reset.specs.declared.turns.TheConstants.{HOLDS_MAX}
+use Rattle.qo_reset.specs.declared.turns.Turn.{Turn}
+use Rattle.qo_reset.specs.declared.turns.Turn.TheVariants.{Run, RunOut, Count, Recount}
+use Rattle.qo_reset.specs.Counts.{kept_count}
+use Rattle.qo_reset.specs.Phases.{acted_on, walked, below_on, births_of, bus_child, chosen, count_on, is_bus, is_under, kids_in, out_on, post_by, strong_target, turned_to}
+use Rattle.qo_reset.specs.Turns.{counted, done, sided, tallied, visited, visited_to, turned}
 
 -- what slots name is there
 
@@ -78,12 +88,96 @@ pub acts-chosen : (only : Bool) (holds : List ℕ) (v w : Objects) → Acts v w 
 acts-chosen true holds v w acts = acts-out holds v w acts
 acts-chosen false holds v w acts = refl
 
--- phases in pieces
+-- one turn
 
-pub walked-append : (act : Act) (xs ys : List ℕ) (v : Objects) → walked act (xs ++ ys) v ≡ walked act ys (walked act xs v)
-unfolding walked
-walked-append act [] ys v = refl
-walked-append act (x ∷ xs) ys v = walked-append act xs ys (acted_on act x v)
+pub done-acts : (turn : Turn) (holds : List ℕ) (n : ℕ) (v : Objects) → Acts v (done turn holds n v)
+done-acts (Run act) holds n v = acts-act v (record { birth = n; deed = Did act }) n act v.time 0
+done-acts (RunOut act) holds n v = go (eqb (kept_count v n) 0)
+  where
+    go : (t : Bool) → Acts v (cond t (acted_on act n v) v)
+    go true = acts-act v (record { birth = n; deed = Did act }) n act v.time 0
+    go false = acts-none v
+done-acts (Count tally) holds n v = acts-edit v n (sided (tallied tally)) (λ c. refl)
+done-acts Recount holds n v = acts-edit v n (sided (counted (min (count_on v holds n) HOLDS_MAX))) (λ c. refl)
+
+pub sided-timely : (n : ℕ) (f : Side → Side) (now : ℕ) (rows : List (Key × Content)) → AllTimely now rows → AllTimely now (edit n (sided f) rows)
+sided-timely n f now [] all = tt
+sided-timely n f now (row ∷ rows) all = (go (eqb row.0.birth n), sided-timely n f now rows all.1)
+  where
+    go : (t : Bool) → IsTimely now (cond t (row.0, sided f row.1) row).1.body
+    go true = all.0
+    go false = all.0
+
+done-timely : (turn : Turn) (holds : List ℕ) (n : ℕ) (v : Objects) → Timely v → Timely (done turn holds n v)
+done-timely (Run act) holds n v all = acts-timely v (record { birth = n; deed = Did act }) n act 0 all
+done-timely (RunOut act) holds n v all = go (eqb (kept_count v n) 0)
+  where
+    go : (t : Bool) → Timely (cond t (acted_on act n v) v)
+    go true = acts-timely v (record { birth = n; deed = Did act }) n act 0 all
+    go false = all
+done-timely (Count tally) holds n v all = sided-timely n (tallied tally) v.time v.rows all
+done-timely Recount holds n v all = sided-timely n (counted (min (count_on v holds n) HOLDS_MAX)) v.time v.rows all
+
+-- what is read of an object, over an edit of one
+pub content-after : (n m : ℕ) (f : Content → Content) (v : Objects)
+    → content_of (with_edit n f v) m ≡ option_map (λ (c : Content). cond (eqb m n) (f c) c) (content_of v m)
+content-after n m f v = go (eqb m n) refl
+  where
+    same : (o : Option Content) → o ≡ option_map (λ (c : Content). c) o
+    same None = refl
+    same (Some c) = refl
+
+    go : (t : Bool) → eqb m n ≡ t → content_of (with_edit n f v) m ≡ option_map (λ (c : Content). cond t (f c) c) (content_of v m)
+    go true e =
+        subst (λ (k : ℕ). content_of (with_edit n f v) k ≡ option_map f (content_of v k)) (sym (eqb-true m n e)) (content-edited v n f)
+    go false e = content-other v n m f e ∙ same (content_of v m)
+
+pub read-after : {A : Type 0} (g : Content → A) (n : ℕ) (f : Content → Content) → ((c : Content) → g (f c) ≡ g c) → (v : Objects) (m : ℕ)
+    → option_map g (content_of (with_edit n f v) m) ≡ option_map g (content_of v m)
+read-after {A} g n f same v m = ap (option_map g) (content-after n m f v) ∙ go (content_of v m)
+  where
+    one : (c : Content) (t : Bool) → g (cond t (f c) c) ≡ g c
+    one c true = same c
+    one c false = refl
+
+    go : (o : Option Content) → option_map g (option_map (λ (c : Content). cond (eqb m n) (f c) c) o) ≡ option_map g o
+    go None = refl
+    go (Some c) = ap Some (one c (eqb m n))
+
+tallied-periods : (tally : Tally) (s : Side) → ((tallied tally s).period ≡ s.period) × ((tallied tally s).child ≡ s.child)
+tallied-periods Raise s = go (eqb s.marks 0)
+  where
+    one : Side
+    one = record s { count = min (s.count + 1) HOLDS_MAX; marks = 1 }
+
+    go : (t : Bool) → ((cond t one s).period ≡ s.period) × ((cond t one s).child ≡ s.child)
+    go true = (refl, refl)
+    go false = (refl, refl)
+tallied-periods Lower s = go (eqb s.marks 0)
+  where
+    one : Side
+    one = record s { count = s.count - 1; marks = 1 }
+
+    go : (t : Bool) → ((cond t one s).period ≡ s.period) × ((cond t one s).child ≡ s.child)
+    go true = (refl, refl)
+    go false = (refl, refl)
+tallied-periods Unmark s = (refl, refl)
+
+acted-periods : (act : Act) (n : ℕ) (v : Objects) → KeepsPeriods v (acted_on act n v)
+acted-periods act n v m = read-after periods_of n (acted_at act v.time 0) (λ c. refl) v m
+
+done-periods : (turn : Turn) (holds : List ℕ) (n : ℕ) (v : Objects) → KeepsPeriods v (done turn holds n v)
+done-periods (Run act) holds n v = acted-periods act n v
+done-periods (RunOut act) holds n v = go (eqb (kept_count v n) 0)
+  where
+    go : (t : Bool) → KeepsPeriods v (cond t (acted_on act n v) v)
+    go true = acted-periods act n v
+    go false = λ m. refl
+done-periods (Count tally) holds n v = λ m.
+    read-after periods_of n (sided (tallied tally)) (λ c. λ i. ((tallied-periods tally c.side).0 i, (tallied-periods tally c.side).1 i)) v m
+done-periods Recount holds n v = λ m. read-after periods_of n (sided (counted (min (count_on v holds n) HOLDS_MAX))) (λ c. refl) v m
+
+-- acts on objects in order
 
 pub walked-acts : (act : Act) (ns : List ℕ) (v : Objects) → Acts v (walked act ns v)
 unfolding walked
@@ -92,22 +186,49 @@ walked-acts act (n ∷ ns) v =
     acts-then v (acted_on act n v) (walked act ns (acted_on act n v)) (acts-act v (record { birth = n; deed = Did act }) n act v.time 0)
     (walked-acts act ns (acted_on act n v))
 
-walked-timely : (act : Act) (ns : List ℕ) (v : Objects) → Timely v → Timely (walked act ns v)
+pub walked-append : (act : Act) (xs ys : List ℕ) (v : Objects) → walked act (xs ++ ys) v ≡ walked act ys (walked act xs v)
 unfolding walked
-walked-timely act [] v all = all
-walked-timely act (n ∷ ns) v all = walked-timely act ns (acted_on act n v) (acts-timely v (record { birth = n; deed = Did act }) n act 0 all)
+walked-append act [] ys v = refl
+walked-append act (x ∷ xs) ys v = walked-append act xs ys (acted_on act x v)
 
-pub visited-timely : (act : Act) (only : Bool) (holds : List ℕ) (levels n : ℕ) (v : Objects) → Timely v → Timely (visited act only holds levels n v)
+-- walks in pieces
+
+pub turned-append : (turn : Turn) (holds xs ys : List ℕ) (v : Objects) → turned turn holds (xs ++ ys) v ≡ turned turn holds ys (turned turn holds xs v)
+unfolding turned
+turned-append turn holds [] ys v = refl
+turned-append turn holds (x ∷ xs) ys v = turned-append turn holds xs ys (done turn holds x v)
+
+pub turned-acts : (turn : Turn) (holds ns : List ℕ) (v : Objects) → Acts v (turned turn holds ns v)
+unfolding turned
+turned-acts turn holds [] v = acts-none v
+turned-acts turn holds (n ∷ ns) v =
+    acts-then v (done turn holds n v) (turned turn holds ns (done turn holds n v)) (done-acts turn holds n v) (turned-acts turn holds ns (done turn holds n v))
+
+turned-timely : (turn : Turn) (holds ns : List ℕ) (v : Objects) → Timely v → Timely (turned turn holds ns v)
+unfolding turned
+turned-timely turn holds [] v all = all
+turned-timely turn holds (n ∷ ns) v all = turned-timely turn holds ns (done turn holds n v) (done-timely turn holds n v all)
+
+turned-periods : (turn : Turn) (holds ns : List ℕ) (v : Objects) → KeepsPeriods v (turned turn holds ns v)
+unfolding turned
+turned-periods turn holds [] v m = refl
+turned-periods turn holds (n ∷ ns) v m = turned-periods turn holds ns (done turn holds n v) m ∙ done-periods turn holds n v m
+
+pub visited-timely : (turn : Turn) (holds : List ℕ) (levels n : ℕ) (v : Objects) → Timely v → Timely (visited turn holds levels n v)
 unfolding visited
-visited-timely act only holds levels n v all = walked-timely act _ v all
+visited-timely turn holds levels n v all = turned-timely turn holds _ v all
 
-pub visited-acts : (act : Act) (only : Bool) (holds : List ℕ) (levels n : ℕ) (v : Objects) → Acts v (visited act only holds levels n v)
+pub visited-periods : (turn : Turn) (holds : List ℕ) (levels n : ℕ) (v : Objects) → KeepsPeriods v (visited turn holds levels n v)
 unfolding visited
-visited-acts act only holds levels n v = walked-acts act _ v
+visited-periods turn holds levels n v = turned-periods turn holds _ v
 
-pub visited_to-acts : (act : Act) (only : Bool) (holds : List ℕ) (levels n i : ℕ) (v : Objects) → Acts v (visited_to act only holds levels n i v)
+pub visited-acts : (turn : Turn) (holds : List ℕ) (levels n : ℕ) (v : Objects) → Acts v (visited turn holds levels n v)
+unfolding visited
+visited-acts turn holds levels n v = turned-acts turn holds _ v
+
+pub visited_to-acts : (turn : Turn) (holds : List ℕ) (levels n i : ℕ) (v : Objects) → Acts v (visited_to turn holds levels n i v)
 unfolding visited_to
-visited_to-acts act only holds levels n i v = walked-acts act _ v
+visited_to-acts turn holds levels n i v = turned-acts turn holds _ v
 
 -- what is below in the slots before a place, and in one more
 
@@ -151,65 +272,49 @@ kids-more v n i x e =
 
 -- the loop over the slots of an object
 
-pub to-none : (act : Act) (only : Bool) (holds : List ℕ) (levels n : ℕ) (v : Objects) → v ≡ visited_to act only holds levels n 0 v
-unfolding visited_to walked
-to-none act only holds levels n v = refl
+pub to-none : (turn : Turn) (holds : List ℕ) (levels n : ℕ) (v : Objects) → v ≡ visited_to turn holds levels n 0 v
+unfolding visited_to turned
+to-none turn holds levels n v = refl
 
-pub to-kid : (act : Act) (only : Bool) (holds : List ℕ) (levels n i : ℕ) (v w : Objects) (bus : Bool) (k : Key) → w ≡ visited_to act only holds levels n i v
-    → bus ≡ is_bus v n → Reads w bus n i (Some (Some k)) → visited act only holds levels k.birth w ≡ visited_to act only holds levels n (i + 1) v
+pub to-kid : (turn : Turn) (holds : List ℕ) (levels n i : ℕ) (v w : Objects) (bus : Bool) (k : Key) → w ≡ visited_to turn holds levels n i v → bus ≡ is_bus v n
+    → Reads w bus n i (Some (Some k)) → visited turn holds levels k.birth w ≡ visited_to turn holds levels n (i + 1) v
 unfolding visited_to visited
-to-kid act only holds levels n i v w bus k now at e =
-    let acts : Acts v w = rw now (visited_to-acts act only holds levels n i v) in
-    let kids : kids_in (is_bus v) (is_bus v n) (take (i + 1) (slots_of v n)) ≡ kids_in (is_bus v) (is_bus v n) (take i (slots_of v n)) ++ k.birth ∷ [] =
+to-kid turn holds levels n i v w bus k now at e =
+    let acts : Acts v w = rw now (visited_to-acts turn holds levels n i v) in
+    let post : ℕ → List ℕ = post_by (below_on v) levels in
+    let before : List ℕ = kids_in (is_bus v) (is_bus v n) (take i (slots_of v n)) in
+    let kids : kids_in (is_bus v) (is_bus v n) (take (i + 1) (slots_of v n)) ≡ before ++ k.birth ∷ [] =
     kids-more v n i (Some k)
     (reads-acts v w acts (is_bus v n) n i (Some (Some k)) (e ∙ ap (λ (b : Bool). option_map (turned_to (is_bus w) b) (slice_get (slots_of w n) i)) at)) in
-    let one : flat_map (post_by (below_on v) levels) (k.birth ∷ []) ≡ post_by (below_on v) levels k.birth = append-nil _ in
-    let sum : filter (chosen only holds v) (flat_map (post_by (below_on v) levels) (kids_in (is_bus v) (is_bus v n) (take (i + 1) (slots_of v n)))) ≡ filter
-    (chosen only holds v) (flat_map (post_by (below_on v) levels) (kids_in (is_bus v) (is_bus v n) (take i (slots_of v n)))) ++ filter (chosen only holds v)
-    (post_by (below_on v) levels k.birth) =
-    ap (λ (l : List ℕ). filter (chosen only holds v) (flat_map (post_by (below_on v) levels) l)) kids
-    ∙ ap (filter (chosen only holds v)) (flat_map-append (post_by (below_on v) levels) (kids_in (is_bus v) (is_bus v n) (take i (slots_of v n))) (k.birth ∷ []))
-    ∙ filter-append (chosen only holds v) (flat_map (post_by (below_on v) levels) (kids_in (is_bus v) (is_bus v n) (take i (slots_of v n))))
-    (flat_map (post_by (below_on v) levels) (k.birth ∷ []))
-    ∙ ap
-    (λ (l : List ℕ). filter (chosen only holds v) (flat_map (post_by (below_on v) levels) (kids_in (is_bus v) (is_bus v n) (take i (slots_of v n)))) ++ filter
-    (chosen only holds v) l)
-    one in
-    ap₂ (λ (p : ℕ → Bool) (next : ℕ → List ℕ). walked act (filter p (post_by next levels k.birth)) w) (acts-chosen only holds v w acts) (acts-below v w acts)
-    ∙ ap (walked act (filter (chosen only holds v) (post_by (below_on v) levels k.birth))) now
-    ∙ sym
-    (walked-append act (filter (chosen only holds v) (flat_map (post_by (below_on v) levels) (kids_in (is_bus v) (is_bus v n) (take i (slots_of v n)))))
-    (filter (chosen only holds v) (post_by (below_on v) levels k.birth)) v)
-    ∙ ap (λ (l : List ℕ). walked act l v) (sym sum)
+    let sum : flat_map post (kids_in (is_bus v) (is_bus v n) (take (i + 1) (slots_of v n))) ≡ flat_map post before ++ post k.birth =
+    ap (flat_map post) kids ∙ flat_map-append post before (k.birth ∷ []) ∙ ap (λ (l : List ℕ). flat_map post before ++ l) (append-nil (post k.birth)) in
+    ap (λ (next : ℕ → List ℕ). turned turn holds (post_by next levels k.birth) w) (acts-below v w acts)
+    ∙ ap (turned turn holds (post k.birth)) now
+    ∙ sym (turned-append turn holds (flat_map post before) (post k.birth) v)
+    ∙ ap (λ (l : List ℕ). turned turn holds l v) (sym sum)
 
-pub to-no_kid : (act : Act) (only : Bool) (holds : List ℕ) (levels n i : ℕ) (v w : Objects) (bus : Bool) → w ≡ visited_to act only holds levels n i v
-    → bus ≡ is_bus v n → Reads w bus n i (Some None) → w ≡ visited_to act only holds levels n (i + 1) v
+pub to-no_kid : (turn : Turn) (holds : List ℕ) (levels n i : ℕ) (v w : Objects) (bus : Bool) → w ≡ visited_to turn holds levels n i v → bus ≡ is_bus v n
+    → Reads w bus n i (Some None) → w ≡ visited_to turn holds levels n (i + 1) v
 unfolding visited_to
-to-no_kid act only holds levels n i v w bus now at e =
-    let acts : Acts v w = rw now (visited_to-acts act only holds levels n i v) in
+to-no_kid turn holds levels n i v w bus now at e =
+    let acts : Acts v w = rw now (visited_to-acts turn holds levels n i v) in
     let kids : kids_in (is_bus v) (is_bus v n) (take (i + 1) (slots_of v n)) ≡ kids_in (is_bus v) (is_bus v n) (take i (slots_of v n)) =
     kids-more v n i None
     (reads-acts v w acts (is_bus v n) n i (Some None) (e ∙ ap (λ (b : Bool). option_map (turned_to (is_bus w) b) (slice_get (slots_of w n) i)) at))
     ∙ append-nil _ in
-    now ∙ ap (λ (l : List ℕ). walked act (filter (chosen only holds v) (flat_map (post_by (below_on v) levels) l)) v) (sym kids)
+    now ∙ ap (λ (l : List ℕ). turned turn holds (flat_map (post_by (below_on v) levels) l) v) (sym kids)
 
-pub to-all : (act : Act) (only : Bool) (holds : List ℕ) (all levels n i : ℕ) (v w : Objects) (bus : Bool) → all ≡ suc levels
-    → w ≡ visited_to act only holds levels n i v → bus ≡ is_bus v n → Reads w bus n i None → turned act only holds n w ≡ visited act only holds all n v
-unfolding visited_to visited turned post_by
-to-all act only holds all levels n i v w bus more now at e =
-    let acts : Acts v w = rw now (visited_to-acts act only holds levels n i v) in
+pub to-all : (turn : Turn) (holds : List ℕ) (all levels n i : ℕ) (v w : Objects) (bus : Bool) → all ≡ suc levels → w ≡ visited_to turn holds levels n i v
+    → bus ≡ is_bus v n → Reads w bus n i None → done turn holds n w ≡ visited turn holds all n v
+unfolding visited_to turned visited post_by
+to-all turn holds all levels n i v w bus more now at e =
+    let acts : Acts v w = rw now (visited_to-acts turn holds levels n i v) in
+    let post : ℕ → List ℕ = post_by (below_on v) levels in
     let kids : take i (slots_of v n) ≡ slots_of v n = past (turned_to (is_bus v) bus) i (slots_of v n) (reads-acts v w acts bus n i None e) in
-    ap (λ (p : ℕ → Bool). walked act (filter p (n ∷ [])) w) (acts-chosen only holds v w acts)
-    ∙ ap (walked act (filter (chosen only holds v) (n ∷ []))) now
-    ∙ sym
-    (walked-append act (filter (chosen only holds v) (flat_map (post_by (below_on v) levels) (kids_in (is_bus v) (is_bus v n) (take i (slots_of v n)))))
-    (filter (chosen only holds v) (n ∷ [])) v)
-    ∙ ap (λ (l : List ℕ). walked act l v)
-    (sym (filter-append (chosen only holds v) (flat_map (post_by (below_on v) levels) (kids_in (is_bus v) (is_bus v n) (take i (slots_of v n)))) (n ∷ [])))
-    ∙ ap
-    (λ (l : List Named). walked act (filter (chosen only holds v) (flat_map (post_by (below_on v) levels) (kids_in (is_bus v) (is_bus v n) l) ++ n ∷ [])) v)
-    kids
-    ∙ ap (λ (d : ℕ). walked act (filter (chosen only holds v) (post_by (below_on v) d n)) v) (sym more)
+    ap (done turn holds n) now
+    ∙ sym (turned-append turn holds (flat_map post (kids_in (is_bus v) (is_bus v n) (take i (slots_of v n)))) (n ∷ []) v)
+    ∙ ap (λ (l : List Named). turned turn holds (flat_map post (kids_in (is_bus v) (is_bus v n) l) ++ n ∷ []) v) kids
+    ∙ ap (λ (d : ℕ). turned turn holds (post_by (below_on v) d n) v) (sym more)
 
 -- and of the search for an object that passes a test
 
@@ -291,16 +396,16 @@ pub none-found : (v : Objects) (n : ℕ) (m : ℕ → Bool) → list_any m (post
 unfolding post_by
 none-found v n m = refl
 
-pub none-visited : (act : Act) (only : Bool) (holds : List ℕ) (n : ℕ) (v : Objects) → v ≡ visited act only holds 0 n v
-unfolding visited walked post_by
-none-visited act only holds n v = refl
+pub none-visited : (turn : Turn) (holds : List ℕ) (n : ℕ) (v : Objects) → v ≡ visited turn holds 0 n v
+unfolding visited turned post_by
+none-visited turn holds n v = refl
 
 -- who is there stays
 
-pub live-to : (act : Act) (only : Bool) (holds : List ℕ) (levels n i : ℕ) (v w : Objects) (key : Key) → w ≡ visited_to act only holds levels n i v
-    → IsLive v.rows key → IsLive w.rows key
-live-to act only holds levels n i v w key now live =
-    let acts : Acts v w = rw now (visited_to-acts act only holds levels n i v) in
+pub live-to : (turn : Turn) (holds : List ℕ) (levels n i : ℕ) (v w : Objects) (key : Key) → w ≡ visited_to turn holds levels n i v → IsLive v.rows key
+    → IsLive w.rows key
+live-to turn holds levels n i v w key now live =
+    let acts : Acts v w = rw now (visited_to-acts turn holds levels n i v) in
     rw (acts-live v w acts key) live
 
 pub less : (v w : Objects) → Acts v w → (bus : Bool) (n i : ℕ) (x : Option Key) → Reads v bus n i (Some x)
@@ -330,20 +435,3 @@ count-all v holds n i le = ap (λ (l : List Key). count_by (is_under v n) (birth
     all (suc j) [] le = refl
     all zero (x ∷ xs) le = absurd (let no : ⊥ = omega (arith, le) in no)
     all (suc j) (x ∷ xs) le = let rest : length xs ≤ j = omega (arith, le) in ap (λ (l : List Key). x ∷ l) (all j xs rest)
-
--- one object
-
-pub turned-chosen : (act : Act) (only : Bool) (holds : List ℕ) (n : ℕ) (v : Objects) → chosen only holds v n ≡ true
-    → acted_on act n v ≡ turned act only holds n v
-unfolding turned walked
-turned-chosen act only holds n v e = rw e refl
-
-pub turned-not : (act : Act) (only : Bool) (holds : List ℕ) (n : ℕ) (v : Objects) → chosen only holds v n ≡ false → v ≡ turned act only holds n v
-unfolding turned walked
-turned-not act only holds n v e = rw e refl
-
-pub chosen-all : (only : Bool) (holds : List ℕ) (n : ℕ) (v : Objects) → only ≡ false → chosen only holds v n ≡ true
-chosen-all only holds n v e = rw e refl
-
-pub chosen-out : (only : Bool) (holds : List ℕ) (n : ℕ) (v : Objects) (t : Bool) → only ≡ true → t ≡ out_on v holds n → chosen only holds v n ≡ t
-chosen-out only holds n v t e out = rw e (sym out)

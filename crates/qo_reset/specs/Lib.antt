@@ -1,2 +1,4 @@
+pub mod Counts
 pub mod HoldList
 pub mod Phases
+pub mod Turns

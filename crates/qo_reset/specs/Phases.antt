@@ -1,5 +1,5 @@
 -- For proofs alone. Phases of a reset over the objects of a heap.
-use Rattle.std.specs.Prelude.{◌≡◌, nat_lt, not, ◌&&◌, ◌==◌, ℕ, suc, Bool, true, false, if◌then◌else◌, List, [], ◌∷◌, ◌++◌, map, take, length, filter, filter_map, count_by, codes, Option, Some, None}
+use Rattle.std.specs.Prelude.{◌≡◌, nat_lt, not, ◌&&◌, ◌==◌, ℕ, suc, Bool, true, false, if◌then◌else◌, List, [], ◌∷◌, ◌++◌, map, length, filter, filter_map, count_by, codes, Option, Some, None}
 use Rattle.std.specs.List.{flat_map}
 use Rattle.std.specs.Option.{option_map_or}
 use Rattle.std.specs.Str.{bytes_eq}
@@ -76,17 +76,6 @@ acted_on act n v = with_note (record { birth = n; deed = Did act }) (with_edit n
 unfoldable pub walked : Act → List ℕ → Objects → Objects
 walked act [] v = v
 walked act (n ∷ ns) v = walked act ns (acted_on act n v)
-
--- a phase of an object; of it and all below it, to a depth; of those below it in its first slots
-unfoldable pub turned : Act → Bool → List ℕ → ℕ → Objects → Objects
-turned act only holds n v = walked act (filter (chosen only holds v) (n ∷ [])) v
-
-unfoldable pub visited : Act → Bool → List ℕ → ℕ → ℕ → Objects → Objects
-visited act only holds levels n v = walked act (filter (chosen only holds v) (post_by (below_on v) levels n)) v
-
-unfoldable pub visited_to : Act → Bool → List ℕ → ℕ → ℕ → ℕ → Objects → Objects
-visited_to act only holds levels n i v =
-    walked act (filter (chosen only holds v) (flat_map (post_by (below_on v) levels) (kids_in (is_bus v) (is_bus v n) (take i (slots_of v n))))) v
 
 -- the objects of a phase, children first: all below an object and it, or only those that are out; on the heap and on a board
 unfoldable pub picks : Bool → List ℕ → ℕ → Objects → List ℕ

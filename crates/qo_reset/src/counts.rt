@@ -1,11 +1,13 @@
 //! How many holds there are on an object and above it (docs/devel/reset.rst, "Triggering reset": an
-//! object is in reset while a hold on it or above it stands).
+//! object is in reset while a hold on it or above it stands): as it is kept of each object, and
+//! counted afresh.
 
-ghost use Rattle.std.specs.Prelude.{◌≡◌, ◌==◌};
+ghost use Rattle.std.specs.Prelude.{◌≡◌, ◌+◌};
 ghost use Rattle.std.specs.List.{list_any};
 ghost use Rattle.qo_model.specs.Depth.{among};
 ghost use Rattle.qo_heap.specs.Rows.{IsLive};
-ghost use Rattle.qo_reset.specs.Phases.{below_on, births_of, count_on, exceeds_depth_at, is_under, out_on, post_by};
+ghost use Rattle.qo_reset.specs.Counts.{is_full, kept_count};
+ghost use Rattle.qo_reset.specs.Phases.{below_on, births_of, count_on, is_under, post_by};
 
 use crate::reach::{below_at, is_bus};
 use qo_heap::{Heap, Oid, Steps};
@@ -51,8 +53,9 @@ fn is_under<L: Ledger>(heap: &Heap, hold: Oid, birth: u64, steps: &mut Steps<L>)
     }
 }
 
-/// How many holds there are on an object and above it.
-pub fn count<L: Ledger>(heap: &Heap, holds: &[Oid], o: Oid, steps: &mut Steps<L>) -> usize
+/// How many holds there are on an object and above it, counted afresh: it goes over all that is below
+/// each.
+pub fn recount<L: Ledger>(heap: &Heap, holds: &[Oid], o: Oid, steps: &mut Steps<L>) -> usize
     ensures { result ≡ count_on heap.now (births_of holds.now) o.birth }
 {
     let mut count = 0usize;
@@ -64,30 +67,32 @@ pub fn count<L: Ledger>(heap: &Heap, holds: &[Oid], o: Oid, steps: &mut Steps<L>
     count
 }
 
-/// Whether no hold is on an object or above it.
-pub fn is_not_in_reset<L: Ledger>(heap: &Heap, holds: &[Oid], o: Oid, steps: &mut Steps<L>) -> bool
-    ensures { result ≡ out_on heap.now (births_of holds.now) o.birth }
+/// How many holds there are on an object and above it, as it is kept.
+pub fn kept_count<L: Ledger>(heap: &Heap, o: Oid, steps: &mut Steps<L>) -> u32
+    requires { IsLive heap.now.rows o }
+    ensures count { result ≡ kept_count heap.now o.birth }
+    ensures cost { steps.new ≡ steps.old + 1 }
 {
-    count(heap, holds, o, steps) == 0
+    heap.side(o, steps).count
 }
 
 /// Whether there are more holds on an object and above it than there may be before one more.
-fn is_full<L: Ledger>(heap: &Heap, holds: &[Oid], o: Oid, steps: &mut Steps<L>) -> bool
-    ensures { result ≡ exceeds_depth_at heap.now (births_of holds.now) o.birth }
+fn is_full<L: Ledger>(heap: &Heap, o: Oid, steps: &mut Steps<L>) -> bool
+    requires { IsLive heap.now.rows o }
+    ensures { result ≡ is_full heap.now o.birth }
 {
-    HOLD_COUNT_MAX < count(heap, holds, o, steps) as u64
+    HOLD_COUNT_MAX < kept_count(heap, o, steps) as u64
 }
 
 /// Whether there are so on an object, or on one below it to a depth.
 pub fn exceeds_depth_below<L: Ledger>(
     heap: &Heap,
-    holds: &[Oid],
     from: Oid,
     levels: usize,
     steps: &mut Steps<L>,
 ) -> bool
     requires { IsLive heap.now.rows from }
-    ensures { result ≡ list_any (exceeds_depth_at heap.now (births_of holds.now)) (post_by (below_on heap.now) levels from.birth) }
+    ensures { result ≡ list_any (is_full heap.now) (post_by (below_on heap.now) levels from.birth) }
 {
     if levels == 0 {
         return false;
@@ -96,11 +101,11 @@ pub fn exceeds_depth_below<L: Ledger>(
     let mut at = 0;
     while let Some(child) = below_at(heap, from, bus, at, steps) {
         if let Some(child) = child {
-            if exceeds_depth_below(heap, holds, child, levels - 1, steps) {
+            if exceeds_depth_below(heap, child, levels - 1, steps) {
                 return true;
             }
         }
         at += 1;
     }
-    is_full(heap, holds, from, steps)
+    is_full(heap, from, steps)
 }

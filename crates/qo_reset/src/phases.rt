@@ -1,68 +1,33 @@
 //! The phases: enter, hold and exit, each of all below an object before the object itself
 //! (docs/devel/reset.rst, "Multi-phase mechanism"). No call here takes memory.
 
-ghost use Rattle.std.specs.Prelude.{◌≡◌, false};
+ghost use Rattle.std.specs.Prelude.{◌≡◌, false, if◌then◌else◌};
 ghost use Rattle.qo_kinds.specs.Bodies.{reads_moment};
+ghost use Rattle.qo_heap.specs.Acts.{Acts, KeepsCounts, KeepsPeriods};
+ghost use Rattle.qo_heap.specs.Board.{Shows};
+ghost use Rattle.qo_heap.specs.Moments.{Timely};
 ghost use Rattle.qo_heap.specs.Rows.{IsLive};
 ghost use Rattle.qo_model.specs.Board.{Board};
 ghost use Rattle.qo_model.specs.Release.{without_first};
 ghost use Rattle.qo_model.specs.Reset.{after_hold, plugged, released};
-ghost use Rattle.qo_heap.specs.Acts.{Acts};
-ghost use Rattle.qo_heap.specs.Board.{Shows};
-ghost use Rattle.qo_heap.specs.Moments.{Timely};
-ghost use Rattle.qo_reset.specs.Phases.{Holds, births_of, phase_on, turned, visited};
+ghost use Rattle.qo_reset.specs.Counts.{CountedBelow, CountsKept};
+ghost use Rattle.qo_reset.specs.Phases.{Holds, births_of, phase_on};
+ghost use Rattle.qo_reset.specs.declared.turns.Turn.TheVariants.{Run, RunOut};
 
-use crate::counts::is_not_in_reset;
-use crate::reach::{below_at, is_bus};
+use crate::turns::{Turn, walk};
 use qo_heap::{Heap, Oid, Steps};
 use qo_values::Act;
 use std::sync::ledger::Ledger;
 
-/// A phase of an object, or only where it is in no reset.
-fn visit_one<L: Ledger>(
-    heap: &mut Heap,
-    holds: &[Oid],
-    o: Oid,
-    act: Act,
-    only_out: bool,
-    steps: &mut Steps<L>,
-)
-    requires live { IsLive heap.old.rows o }
-    requires phase { reads_moment act ≡ false }
-    ensures { heap.new ≡ turned act only_out (births_of holds.now) o.birth heap.old }
+/// What is done to each object in a phase: it acts, or only where it is in no reset.
+fn phase_turn(act: Act, only_out: bool) -> Turn
+    ensures { result ≡ (if only_out then RunOut act else Run act) }
 {
-    if !only_out || is_not_in_reset(heap, holds, o, steps) {
-        heap.act(o, act, 0, steps);
+    if only_out {
+        Turn::RunOut(act)
+    } else {
+        Turn::Run(act)
     }
-}
-
-/// A phase of all below an object, and then of the object itself, to a depth; only of those that
-/// are in no reset, where it is told so.
-fn visit<L: Ledger>(
-    heap: &mut Heap,
-    holds: &[Oid],
-    o: Oid,
-    act: Act,
-    only_out: bool,
-    levels: usize,
-    steps: &mut Steps<L>,
-)
-    requires live { IsLive heap.old.rows o }
-    requires phase { reads_moment act ≡ false }
-    ensures { heap.new ≡ visited act only_out (births_of holds.now) levels o.birth heap.old }
-{
-    if levels == 0 {
-        return;
-    }
-    let bus = is_bus(heap, o, steps);
-    let mut at = 0;
-    while let Some(child) = below_at(heap, o, bus, at, steps) {
-        if let Some(child) = child {
-            visit(heap, holds, child, act, only_out, levels - 1, steps);
-        }
-        at += 1;
-    }
-    visit_one(heap, holds, o, act, only_out, steps);
 }
 
 /// A phase of all below an object, and then of the object itself; only of those in no reset, where
@@ -77,22 +42,28 @@ fn phase<L: Ledger>(
 )
     requires live { IsLive heap.old.rows root }
     requires phase { reads_moment act ≡ false }
+    requires counts { CountedBelow root.birth (births_of holds.now) heap.old }
     ensures phase { heap.new ≡ phase_on act only_out (births_of holds.now) root.birth heap.old }
     ensures acts { Acts heap.old heap.new }
     ensures timely { Timely heap.old → Timely heap.new }
+    ensures still { KeepsCounts heap.old heap.new }
+    ensures periods { KeepsPeriods heap.old heap.new }
     ensures live { IsLive heap.new.rows root }
 {
     heap.reveal_invariant();
-    let levels = heap.live() + 1;
-    visit(heap, holds, root, act, only_out, levels, steps);
+    walk(heap, holds, root, phase_turn(act, only_out), steps);
 }
 
 /// The phases of a hold, on those in no reset: all enter before one holds.
 pub fn held_phases<L: Ledger>(heap: &mut Heap, holds: &[Oid], root: Oid, steps: &mut Steps<L>)
     requires live { IsLive heap.old.rows root }
+    requires counts { CountsKept (births_of holds.now) heap.old }
     ensures shown { (b : Board) → Holds b (births_of holds.now) heap.old → Shows (after_hold b root.birth) heap.new }
     ensures acts { Acts heap.old heap.new }
     ensures timely { Timely heap.old → Timely heap.new }
+    ensures still { KeepsCounts heap.old heap.new }
+    ensures counts { CountsKept (births_of holds.now) heap.new }
+    ensures periods { KeepsPeriods heap.old heap.new }
     ensures live { IsLive heap.new.rows root }
 {
     phase(heap, holds, root, Act::Enter, true, steps);
@@ -102,10 +73,13 @@ pub fn held_phases<L: Ledger>(heap: &mut Heap, holds: &[Oid], root: Oid, steps: 
 /// The phase of those that exit once a hold is released; the holds are those that are left.
 pub fn released_phases<L: Ledger>(heap: &mut Heap, holds: &[Oid], root: Oid, steps: &mut Steps<L>)
     requires live { IsLive heap.old.rows root }
+    requires counts { CountsKept (births_of holds.now) heap.old }
     ensures shown { (b : Board) → Shows b heap.old → without_first root.birth b.holds ≡ births_of holds.now → Shows (released b root.birth) heap.new }
     ensures acts { Acts heap.old heap.new }
     ensures timely { Timely heap.old → Timely heap.new }
-    ensures live { IsLive heap.new.rows root }
+    ensures still { KeepsCounts heap.old heap.new }
+    ensures counts { CountsKept (births_of holds.now) heap.new }
+    ensures periods { KeepsPeriods heap.old heap.new }
 {
     phase(heap, holds, root, Act::Exit, true, steps);
 }
@@ -113,9 +87,12 @@ pub fn released_phases<L: Ledger>(heap: &mut Heap, holds: &[Oid], root: Oid, ste
 /// All phases of what is plugged; those below a hold do not exit.
 pub fn plugged_phases<L: Ledger>(heap: &mut Heap, holds: &[Oid], dev: Oid, steps: &mut Steps<L>)
     requires live { IsLive heap.old.rows dev }
+    requires counts { CountedBelow dev.birth (births_of holds.now) heap.old }
     ensures shown { (b : Board) → Holds b (births_of holds.now) heap.old → Shows (plugged b dev.birth) heap.new }
     ensures acts { Acts heap.old heap.new }
     ensures timely { Timely heap.old → Timely heap.new }
+    ensures still { KeepsCounts heap.old heap.new }
+    ensures periods { KeepsPeriods heap.old heap.new }
 {
     phase(heap, holds, dev, Act::Enter, false, steps);
     phase(heap, holds, dev, Act::Hold, false, steps);

@@ -30,7 +30,7 @@ impl Model for Session {
 }
 
 impl Session {
-    ghost use Rattle.std.specs.Prelude.{◌≡◌, [], IfOk, OnErr};
+    ghost use Rattle.std.specs.Prelude.{◌≡◌, IfOk, OnErr};
     ghost use Rattle.qo_replies.specs.Replies.{greeting};
     ghost use Rattle.qo_sessions.specs.Acts.{act, mode_after};
     ghost use Rattle.qo_sessions.specs.Sessions.{begun, closed, fed, in_mode};
@@ -73,19 +73,20 @@ impl Session {
     }
 
     /// The items of further bytes, after those that came before. A closed session takes none. They are put
-    /// into `room`, a list without items. After an error the session is as before.
+    /// into `room`, whose own items go first. After an error the session is as before.
     pub fn feed(
         &mut self,
         alloc: Global,
         bytes: &[u8],
         room: Vec<Item>,
     ) -> Result<Vec<Item>, AllocError>
-        requires { room.items ≡ [] }
         ensures items { IfOk result (λ items. fed self.old bytes.now ≡ record { items = items.items; session = self.new }) }
         ensures kept { OnErr result (self.new ≡ self.old) }
     {
         if self.mode == Mode::Closed {
-            return Ok(room);
+            let mut items = room;
+            items.clear();
+            return Ok(items);
         }
         self.framer.feed(alloc, bytes, room)
     }

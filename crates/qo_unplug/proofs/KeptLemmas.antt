@@ -31,7 +31,7 @@ use Rattle.qo_sound.proofs.SearchLemmas.{all-found}
 use Rattle.qo_sound.proofs.SlotLemmas.{names_in}
 use Rattle.qo_sound_clocks.proofs.ReadLemmas.{plain-read}
 use Rattle.qo_sound_claims.proofs.SlotLemmas.{lit_in}
-use Rattle.qo_properties.specs.KeptClaims.{KeptBefore, kept_by}
+use Rattle.qo_properties.specs.KeptClaims.{ClaimsBefore, KeptBefore, all_kept, kept_by, kept_with}
 use Rattle.qo_unplug.specs.RealizedClaims.{KeepsDue, due_if}
 use Rattle.qo_unplug.proofs.RealizedLemmas.{LitAt, SameLit, dark-set, other-set, same_lit-acted, same_lit-disconnected, same_lit-then}
 
@@ -40,11 +40,15 @@ pub kept-edited : (v : Objects) (n : ℕ) (f : Content → Content) → ((c : Co
     → kept_by (with_edit n f v) m ≡ kept_by v m
 kept-edited v n f same m = read-content (λ (c : Content). kept_of c.body) n f same v m
 
+all_kept-edited : (v : Objects) (n : ℕ) (f : Content → Content) → ((c : Content) → kept_with (f c) ≡ kept_with c) → (m : ℕ)
+    → all_kept (with_edit n f v) m ≡ all_kept v m
+all_kept-edited v n f same m = read-content kept_with n f same v m
+
 pub kept-act : (v w : Objects) (n period : ℕ)
     → w ≡ with_note (record { birth = n; deed = Did Unrealize }) (with_edit n (acted_at Unrealize v.time period) v) → KeptBefore v w
 kept-act v w n period is m k e =
-    sym (kept-edited v n (acted_at Unrealize v.time period) (λ c. refl) m)
-    ∙ (subst (λ (x : Objects). kept_by x m ≡ Some k) is e)
+    sym (all_kept-edited v n (acted_at Unrealize v.time period) (λ c. refl) m)
+    ∙ (subst (λ (x : Objects). all_kept x m ≡ Some k) is e)
 
 -- a clock that stands still
 pub kept-disconnected : (v w : Objects) (n : ℕ) → w ≡ changed_named n (codes "period") (with_val (val.Uint 0)) (changed_named n (codes "source") unseen_on v)
@@ -52,7 +56,7 @@ pub kept-disconnected : (v w : Objects) (n : ℕ) → w ≡ changed_named n (cod
 kept-disconnected v w n is m k e =
     let u : Objects = changed_named n (codes "source") unseen_on v in
     sym (changed-kept n (codes "period") (with_val (val.Uint 0)) u m ∙ changed-kept n (codes "source") unseen_on v m)
-    ∙ subst (λ (x : Objects). kept_by x m ≡ Some k) is e
+    ∙ subst (λ (x : Objects). all_kept x m ≡ Some k) is e
 
 -- claims of one object are free
 abbrev bared : Content → Content
@@ -99,7 +103,7 @@ module _ (due : ℕ → KeptSet) (b c : Board) (v w : Objects) (before : Named b
           real-lit b before n x q ∙ sym same ∙ sym (real-lit c after n r there)
 
   -- bodies keep what they kept, and each object is as much realized as before
-  pub due-stays : SameLit b c → KeptBefore v w → KeepsDue due c w
+  pub due-stays : SameLit b c → ClaimsBefore v w → KeepsDue due c w
   due-stays lit kept n k now = due-at n k (lit n) now (kept n k now)
 
 -- a device, that stood still and keeps no claim
@@ -113,7 +117,7 @@ module _ (d : ℕ) (c : Board) where
       (same_lit-disconnected (clock_of c d) (acted Unrealize d (device_period c d) c))
 
   pub due-device : (due : ℕ → KeptSet) (v u w : Objects) → Named c → Named stood_still → Named (unrealized_device d c) → Shows (unrealized_device d c) w
-      → KeptBefore v u → kept_by w d ≡ Some none_kept
+      → ClaimsBefore v u → kept_by w d ≡ Some none_kept
       → ((n : ℕ) (k : KeptSet) → (n == d) ≡ false → kept_by w n ≡ Some k → kept_by u n ≡ Some k) → KeepsDue due c v → KeepsDue due (unrealized_device d c) w
   due-device due v u w before mid after s kept bare others h n k now = go (n == d) refl
     where

@@ -25,7 +25,7 @@ use Rattle.qo_heap.proofs.BoardEdits.{all-replicate, pins-above, shows-pin}
 use Rattle.qo_heap.proofs.BoardObjects.{live-content}
 use Rattle.qo_heap.proofs.BoardReads.{shows-live, shows-live_key, shows-slots, times, times-pins, times-replicate}
 use Rattle.qo_life.specs.Life.{Goes, with_log}
-use Rattle.qo_life.proofs.TreeLemmas.{edit-bodies, goes-names, goes-none, goes-same, goes-then, heap-with_log, live-before_edit, tree, tree-shows, shows-notes}
+use Rattle.qo_life.proofs.TreeLemmas.{edit-bodies, edit-sides, goes-names, goes-none, goes-same, goes-then, heap-with_log, live-before_edit, tree, tree-shows, shows-notes}
 use Rattle.qo_unplug.specs.Unparenting.{HasRoom, bus_lost, buses_lost, drained_within, first_apart, first_lost, pin_count, taken_within}
 use Rattle.qo_unplug.specs.Unrealizing.{on_one}
 use Rattle.qo_unplug.proofs.MomentLemmas.{goes-timely}
@@ -86,6 +86,7 @@ goes-pin v u good o live is =
       shown = λ b log s. shows-pin b (with_log log v) s (heap-with_log v log good) o.birth c there;
       names = live-before_edit o.birth with_pin v.rows;
       bodies = edit-bodies v o.birth with_pin (λ d. refl);
+      sides = edit-sides v o.birth with_pin (λ d. refl);
       book = λ out h. book-edit out v o.birth with_pin (λ d. refl) h;
       time = refl;
       spare = refl;

@@ -48,7 +48,7 @@ pub kid-read : (s t : Parts) (m i levels : ℕ) (o : Option Key) → ((b : Board
     → Ends (λ b. on_one (device_within b levels) (birth_of o)) s t → Ends (λ b. on_one (device_within b levels) (kid_in_place b m i)) s t
 kid-read s t m i levels o reads ends =
     ends-same (λ b. on_one (device_within b levels) (birth_of o)) (λ b. on_one (device_within b levels) (kid_in_place b m i)) s t ends
-    (λ b c same beside. ap (λ (k : Option ℕ). on_one (device_within b levels) k c) (sym (same-kid b c same m i) ∙ sym (reads c beside.shown)))
+    (λ b c same shown. ap (λ (k : Option ℕ). on_one (device_within b levels) k c) (sym (same-kid b c same m i) ∙ sym (reads c shown)))
 
 pub kids-first : (s : Parts) (m levels : ℕ) → Ends (λ b. kids_within b levels m 0) s s
 unfolding kids_within
@@ -67,7 +67,7 @@ pub kids-next : (s t u : Parts) (m levels i : ℕ) → Ends (λ b. kids_within b
 kids-next s t u m levels i before next =
     ends-same (λ b c. on_one (device_within b levels) (kid_in_place b m i) (kids_within b levels m i c)) (λ b. kids_within b levels m (i + 1)) s u
     (ends-then (λ b. kids_within b levels m i) (λ b. on_one (device_within b levels) (kid_in_place b m i)) s t u before next)
-    (λ b c same beside. kids-more b levels m i c)
+    (λ b c same shown. kids-more b levels m i c)
 
 kids-all : (b : Board) (levels m i : ℕ) (c : Board) → length (slots_at b m) ≤ i → bus_within b levels m c ≡ unrealized_bus m (kids_within b levels m i c)
 unfolding bus_within kids_within
@@ -79,8 +79,8 @@ pub kids-last : (s t u : Parts) (m levels i count : ℕ) → count ≤ i → cou
 kids-last s t u m levels i count le is before own =
     ends-same (λ b c. unrealized_bus m (kids_within b levels m i c)) (λ b. bus_within b levels m) s u
     (ends-then (λ b. kids_within b levels m i) (λ _. unrealized_bus m) s t u before own)
-    (λ b c same beside.
-    let many : length (slots_at b m) ≡ count = all-slots b c same s.heap beside.shown m count is in
+    (λ b c same shown.
+    let many : length (slots_at b m) ≡ count = all-slots b c same s.heap shown m count is in
     kids-all b levels m i c (omega (arith, many, le)))
 
 -- the buses of a device
@@ -89,7 +89,7 @@ pub bus-read : (s t : Parts) (d i levels : ℕ) (o : Option Key) → ((b : Board
     → Ends (λ b. on_one (bus_within b levels) (birth_of o)) s t → Ends (λ b. on_one (bus_within b levels) (bus_at b d i)) s t
 bus-read s t d i levels o reads ends =
     ends-same (λ b. on_one (bus_within b levels) (birth_of o)) (λ b. on_one (bus_within b levels) (bus_at b d i)) s t ends
-    (λ b c same beside. ap (λ (k : Option ℕ). on_one (bus_within b levels) k c) (sym (same-bus b c same d i) ∙ sym (reads c beside.shown)))
+    (λ b c same shown. ap (λ (k : Option ℕ). on_one (bus_within b levels) k c) (sym (same-bus b c same d i) ∙ sym (reads c shown)))
 
 pub buses-first : (s : Parts) (d levels : ℕ) → Ends (λ b. buses_within b levels d 0) s s
 unfolding buses_within
@@ -108,7 +108,7 @@ pub buses-next : (s t u : Parts) (d levels i : ℕ) → Ends (λ b. buses_within
 buses-next s t u d levels i before next =
     ends-same (λ b c. on_one (bus_within b levels) (bus_at b d i) (buses_within b levels d i c)) (λ b. buses_within b levels d (i + 1)) s u
     (ends-then (λ b. buses_within b levels d i) (λ b. on_one (bus_within b levels) (bus_at b d i)) s t u before next)
-    (λ b c same beside. buses-more b levels d i c)
+    (λ b c same shown. buses-more b levels d i c)
 
 -- a level less is left below a device
 buses-all : (b : Board) (all levels d i : ℕ) (c : Board) → all ≡ suc levels → length (slots_at b d) ≤ i
@@ -123,11 +123,11 @@ pub buses-last : (s t u : Parts) (d levels i count : ℕ) → (levels ≡ 0 → 
 buses-last s t u d levels i count some le is before own =
     ends-same (λ b c. unrealized_device d (buses_within b (levels - 1) d i c)) (λ b. device_within b levels d) s u
     (ends-then (λ b. buses_within b (levels - 1) d i) (λ _. unrealized_device d) s t u before own)
-    (λ b c same beside.
-    let many : length (slots_at b d) ≡ count = all-slots b c same s.heap beside.shown d count is in
+    (λ b c same shown.
+    let many : length (slots_at b d) ≡ count = all-slots b c same s.heap shown d count is in
     buses-all b levels (levels - 1) d i c (one-less levels some) (omega (arith, many, le)))
 
 pub none-within : (s : Parts) (d levels : ℕ) → levels ≡ 0 → Ends (λ b. device_within b levels d) s s
 unfolding device_within
 none-within s d levels is =
-    ends-same (λ _ c. c) (λ b. device_within b levels d) s s (ends-none s) (λ b c same beside. ap (λ (k : ℕ). device_within b k d c) is)
+    ends-same (λ _ c. c) (λ b. device_within b levels d) s s (ends-none s) (λ b c same shown. ap (λ (k : ℕ). device_within b k d c) is)

@@ -1,5 +1,5 @@
 -- For proofs alone. How the parts of a board are unrealized: what stays of a board meanwhile, and each step to a depth.
-use Rattle.std.specs.Prelude.{◌≡◌, ℕ, List, map, take, filter_map, slice_get, Option, None, Some}
+use Rattle.std.specs.Prelude.{◌≡◌, ℕ, if◌then◌else◌, List, map, take, filter_map, slice_get, Option, None, Some}
 use Rattle.std.specs.List.{AllByRecursion, IsDistinct}
 use Rattle.std.specs.Option.{option_and_then}
 use Rattle.std.specs.Str.{bytes_eq}
@@ -11,11 +11,12 @@ use Rattle.qo_slots.specs.declared.keys.Key.{Key}
 use Rattle.qo_heap.specs.Rows.{IsLive}
 use Rattle.qo_model.specs.Board.{Board, Record, Slot, plain, weak, slots_at}
 use Rattle.qo_model.specs.Clocks.{acted, device_period}
-use Rattle.qo_model.specs.Depth.{by_depth}
+use Rattle.qo_model.specs.Depth.{among, by_depth}
 use Rattle.qo_model.specs.Devices.{bus_in, clock_of, kids_of, strong_in}
 use Rattle.qo_model.specs.Unplug.{disconnected, each, unrealize_turn, unrealized_bus}
 use Rattle.qo_hotplug.specs.Hotplug.{Asked}
-use Rattle.qo_heap.specs.Board.{pins_in}
+use Rattle.qo_heap.specs.Acts.{counted_in}
+use Rattle.qo_heap.specs.Board.{Shows, pins_in}
 use Rattle.qo_heap.specs.Objects.{Objects}
 use Rattle.qo_heap.specs.Moments.{Timely}
 use Rattle.qo_properties.specs.Claims.{KeepsBook}
@@ -66,9 +67,20 @@ pub record Undoes (step : Board → Board → Board) (s t : Parts) : Type 0 wher
   pub pins : pins_in t.heap.rows ≡ pins_in s.heap.rows
   pub timely : Timely s.heap → Timely t.heap
 
--- the same, and where bodies kept what is due to what is realized, they do so after it
+-- what is kept of holds of an object is this while a hold on it stands on a board, and nothing otherwise
+abbrev pub KeepsHeld : ℕ → ℕ × ℕ → Board → Objects → Type 0
+KeepsHeld n was c v = (k : ℕ × ℕ) → counted_in v n ≡ Some k → k ≡ (if among c.holds n then was else (0, 0))
+
+-- heaps become others as boards do by such a step, whatever stands beside them; and what is kept of holds goes with them
+pub record Clears (step : Board → Board → Board) (v w : Objects) : Type 0 where
+  pub shown : (b c : Board) → Ticks b → SameTree b c → Shows c v → Shows (step b c) w
+  pub tree : (b c : Board) → Ticks b → SameTree b c → Shows c v → SameTree b (step b c)
+  pub counts : (n : ℕ) (was : ℕ × ℕ) (b c : Board) → Ticks b → SameTree b c → Shows c v → KeepsHeld n was c v → KeepsHeld n was (step b c) w
+
+-- all this, and where bodies kept what was due to what is realized, they do so after it
 pub record Ends (step : Board → Board → Board) (s t : Parts) : Type 0 where
   pub undoes : Undoes step s t
+  pub clears : Clears step s.heap t.heap
   pub claims : (b c : Board) → Ticks b → SameTree b c → Beside c s.heap s.held s.asked → (due : ℕ → KeptSet) → KeepsDue due c s.heap
       → KeepsDue due (step b c) t.heap
 

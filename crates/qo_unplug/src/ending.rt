@@ -39,7 +39,7 @@ pub fn end_bus<L: Ledger>(heap: &mut Heap, resets: &mut Resets, bus: Oid, steps:
         (parts heap.old resets.old.births asked) (parts heap.new resets.new.births asked) }
 {
     act(heap, bus, 0, steps);
-    resets.gone(bus);
+    resets.gone(heap, bus, steps);
 }
 
 /// A device acts with the period of its clock, which then loses its source and stands still.
@@ -83,6 +83,6 @@ pub fn end_device<L: Ledger>(
     stop(heap, dev, steps);
     unset(heap, dev, steps);
     free_claims(heap, dev, steps);
-    resets.gone(dev);
+    resets.gone(heap, dev, steps);
     hotplug.gone(dev);
 }

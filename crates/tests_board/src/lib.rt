@@ -1,8 +1,11 @@
-//! Tests of the calls of the board: on objects, on devices that are added in stages, and of its interrupt lines. They say what no clause says:
+//! Tests of the calls of the board: on objects, on devices that are added in stages, and of its memory map and
+//! its interrupt lines. They say what no clause says:
 //! that each of these succeeds with ample memory. They stand in a crate of their own since a crate with tests is proved
 //! twice, with them and without.
 #![tactic(auto)]
 
+#[cfg(test)]
+mod layout;
 #[cfg(test)]
 mod lines;
 #[cfg(test)]

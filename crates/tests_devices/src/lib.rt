@@ -1,5 +1,5 @@
-//! Tests of devices: on their buses, added, started and detached, and in the memory map. They say what no
-//! clause says: that each of these succeeds with ample memory. They stand in a crate of their own since a
+//! Tests of devices: on their buses, added, started and detached. They say what no clause says: that each
+//! of these succeeds with ample memory. They stand in a crate of their own since a
 //! crate with tests is proved twice, with them and without.
 #![tactic(auto)]
 
@@ -7,8 +7,6 @@
 mod backends;
 #[cfg(test)]
 mod buses;
-#[cfg(test)]
-mod layout;
 #[cfg(test)]
 mod plug;
 #[cfg(test)]

@@ -1,5 +1,6 @@
 //! What no clause says: that a device is made where there is enough memory.
-ghost use Rattle.std.specs.Prelude.{◌≡◌, ◌<◌};
+ghost use Rattle.std.specs.Prelude.{◌≡◌, ◌<◌, [], OnErr};
+ghost use Rattle.qo_properties.specs.KeptClaims.{NoneKept};
 
 use qo_chardev::Rings;
 use qo_heap::{Heap, Steps};
@@ -40,15 +41,15 @@ fn a_bridge_is_made_and_given_up(rt: HostRuntime) -> Result<(), Fail> {
     Ok(())
 }
 
-/// Whether an add was refused at a stage by a code.
-fn refuses(added: Result<Added, AddRefusal>, at: u8, by: Code) -> bool {
-    match added {
-        Ok(_) | Err(AddRefusal::Memory) => false,
-        Err(AddRefusal::Refused { stage, code }) => stage == at && code == by,
+/// Whether it is a refusal at a stage by a code.
+fn is_refusal(refusal: AddRefusal, at: u8, by: Code) -> bool {
+    match refusal {
+        AddRefusal::Memory => false,
+        AddRefusal::Refused { stage, code } => stage == at && code == by,
     }
 }
 
-/// A bridge is added to the root bus, with these properties.
+/// A bridge is added to the root bus, with these properties, where nothing is held.
 fn bridge<L: Ledger>(
     heap: &mut Heap,
     resets: &Resets,
@@ -56,7 +57,11 @@ fn bridge<L: Ledger>(
     props: &PropList,
     alloc: Global,
     steps: &mut Steps<L>,
-) -> Result<Added, AddRefusal> {
+) -> Result<Added, AddRefusal>
+    requires held { resets.now.births ≡ [] }
+    requires bare { NoneKept heap.old }
+    ensures { OnErr result (NoneKept heap.new) }
+{
     let options = DeviceOptions {
         driver: "slot-bridge",
         id: None,
@@ -96,12 +101,16 @@ fn refused_and_added<L: Ledger>(alloc: Global, blank: Blank) -> Result<bool, Add
         let _told = full.plug(bus);
     }
     let (props, after) = (PropList::new(alloc), slot_after(alloc)?);
-    let early = bridge(&mut heap, &resets, &mut hotplug, &after, alloc, &mut steps);
+    let Err(early) = bridge(&mut heap, &resets, &mut hotplug, &after, alloc, &mut steps) else {
+        return Ok(false);
+    };
     let noted = heap.live() == 8 && heap.notes_total() == 12;
-    let late = bridge(&mut heap, &resets, &mut full, &props, alloc, &mut steps);
+    let Err(late) = bridge(&mut heap, &resets, &mut full, &props, alloc, &mut steps) else {
+        return Ok(false);
+    };
     let told = heap.live() == 8 && heap.notes_total() == 34;
     let added = bridge(&mut heap, &resets, &mut hotplug, &props, alloc, &mut steps)?;
-    let refused = refuses(early, 5, Code::E28) && refuses(late, 8, Code::E44);
+    let refused = is_refusal(early, 5, Code::E28) && is_refusal(late, 8, Code::E44);
     Ok(refused && noted && told && added.birth == 15 && heap.live() == 11)
 }
 

@@ -2,7 +2,7 @@
 //! compared with texts written by hand.
 ghost use Rattle.std.specs.Prelude.{◌≡◌, ◌<◌};
 
-use qo_commands::{Done, ReplyBody, ask, change, interrupt_lines, listing_text};
+use qo_commands::{Done, ReplyBody, ask, change, interrupt_lines, listing_text, no_view};
 use qo_heap::Steps;
 use qo_realize::Board;
 use qo_requests::{Addition, Alteration, Change, Query};
@@ -29,6 +29,7 @@ fn tells<L: Ledger>(
         result,
         event: _,
         ends: _,
+        touched: _,
     } = ask(alloc, board, query, steps)?;
     match result {
         Ok(ReplyBody::Value(whole)) => Ok(whole.value().to_string(alloc)?.as_str() == want),
@@ -47,6 +48,7 @@ fn lists_type<L: Ledger>(
         result,
         event: _,
         ends: _,
+        touched: _,
     } = ask(alloc, board, query, steps)?;
     let Ok(ReplyBody::Listing(birth)) = result else {
         return Ok(false);
@@ -104,11 +106,13 @@ fn answer<L: Ledger>(
     steps: &mut Steps<L>,
 ) -> Result<Option<Code>, AllocError> {
     let lines = interrupt_lines(alloc, board, steps)?;
+    let mut view = no_view();
     let Done {
         result,
         event: _,
         ends: _,
-    } = change(alloc, board, &lines, wanted, steps)?;
+        touched: _,
+    } = change(alloc, board, &lines, &mut view, wanted, steps)?;
     Ok(result.err())
 }
 

@@ -14,7 +14,7 @@ ghost use Rattle.qo_properties.specs.Filling.{filled, filled_with};
 ghost use Rattle.qo_properties.specs.NewSlots.{new_slots, slot_begun};
 
 use crate::adding::filling::InitialValue;
-use qo_heap::{Heap, Oid, Slot, SlotName, Steps};
+use qo_heap::{Heap, NewSlots, Oid, Slot, SlotName, Steps};
 use qo_model::{First, Property, PropertyName, PropertyRole};
 use qo_types::TypeTable;
 use qo_values::{Name, Text, TypeId, Val};
@@ -97,24 +97,24 @@ fn link_slot(ty: TypeId, strong: bool, fill: InitialValue) -> Slot
 /// Puts the slot that a new object of a type has for a row, if it has one, after others, filled with
 /// what is planned next.
 fn put_row(
-    slots: &mut Vec<(SlotName, Slot)>,
+    slots: &mut NewSlots,
     fills: &mut IntoIter<InitialValue>,
     kind: TypeId,
     row: Property,
     alloc: Global,
 ) -> Result<(), AllocError>
-    ensures { OnOk result ((rest : List Named) → slots.new.items ++ filled (into_iter_items fills.new) rest ≡ slots.old.items ++ filled (into_iter_items fills.old) (option_to_list (slot_begun kind row) ++ rest)) }
+    ensures { OnOk result ((rest : List Named) → slots.new ++ filled (into_iter_items fills.new) rest ≡ slots.old ++ filled (into_iter_items fills.old) (option_to_list (slot_begun kind row) ++ rest)) }
 {
     match row.role {
         PropertyRole::Plain(_, first) => {
             let fill = fills.next().unwrap_or(InitialValue::Default);
             let val = plain_val(kind, first, fill, alloc)?;
-            slots.push((SlotName::row(row.name), Slot::Plain(val)))?;
+            slots.push(SlotName::row(row.name), Slot::Plain(val))?;
             Ok(())
         }
         PropertyRole::Link { ty, strong } => {
             let fill = fills.next().unwrap_or(InitialValue::Default);
-            slots.push((SlotName::row(row.name), link_slot(ty, strong, fill)))?;
+            slots.push(SlotName::row(row.name), link_slot(ty, strong, fill))?;
             Ok(())
         }
         PropertyRole::Child(_) => Ok(()),
@@ -129,11 +129,11 @@ pub(crate) fn planned_slots(
     kind: TypeId,
     plan: Vec<InitialValue>,
     alloc: Global,
-) -> Result<Vec<(SlotName, Slot)>, AllocError>
-    ensures { IfOk result (λ slots. slots.items ≡ filled plan.items (new_slots kind)) }
+) -> Result<NewSlots, AllocError>
+    ensures { IfOk result (λ slots. slots ≡ filled plan.items (new_slots kind)) }
 {
     let rows = TypeTable::board().props(kind);
-    let mut slots = Vec::with_capacity(alloc, rows.len())?;
+    let mut slots = NewSlots::new(alloc);
     let mut fills = plan.into_iter();
     for row in rows {
         put_row(&mut slots, &mut fills, kind, *row, alloc)?;

@@ -23,7 +23,7 @@ use crate::adding::filling::InitialValue;
 use crate::adding::fresh::planned_slots;
 use crate::adding::planning::plan;
 use crate::refusals::Refusal;
-use qo_heap::{Heap, Oid, Slot, SlotName, Steps};
+use qo_heap::{Heap, NewSlots, Oid, SlotName, Steps};
 use qo_life::create;
 use qo_values::{PropList, TypeId};
 use std::alloc::{AllocError, Global};
@@ -50,16 +50,16 @@ fn make_with<L: Ledger>(
     parent: Oid,
     name: SlotName,
     kind: TypeId,
-    slots: Vec<(SlotName, Slot)>,
+    slots: NewSlots,
     alloc: Global,
     steps: &mut Steps<L>,
 ) -> Result<Oid, AllocError>
     requires parent { IsLive heap.old.rows parent }
-    requires targets { AllByRecursion (IsLive heap.old.rows) (filter_map (λ s. target_of s.1) slots.items) }
-    requires differ { IsDistinct bytes_eq (names_of slots.items) }
-    requires few { length slots.items ≤ 2 ^ 32 }
-    requires childless { AllByRecursion (λ s. child_of s.1 ≡ None) slots.items }
-    ensures made { IfOk result (λ o. IsChild heap.old heap.new o parent name kind slots.items) }
+    requires targets { AllByRecursion (IsLive heap.old.rows) (filter_map (λ s. target_of s.1) slots) }
+    requires differ { IsDistinct bytes_eq (names_of slots) }
+    requires few { length slots ≤ 2 ^ 32 }
+    requires childless { AllByRecursion (λ s. child_of s.1 ≡ None) slots }
+    ensures made { IfOk result (λ o. IsChild heap.old heap.new o parent name kind slots) }
     ensures err { OnErr result (IsTried kind heap.old heap.new) }
 {
     heap.reveal_invariant();

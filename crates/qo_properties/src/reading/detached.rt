@@ -13,7 +13,7 @@ use qo_values::ROOT_BIRTH;
 use std::alloc::{AllocError, Global};
 use std::sync::ledger::Ledger;
 
-/// The object at a place in the order of births, if it is detached; `None` past the last.
+/// The object at a place in the order of births, if it is detached, by one look; `None` past the last.
 fn detached_at<L: Ledger>(heap: &Heap, place: usize, steps: &mut Steps<L>) -> Option<Detached>
     ensures { (b : Tree) → Shows b heap.now → result ≡ option_and_then (λ row. detached_in b (record_of row)) (slice_get heap.now.rows place) }
 {
@@ -22,13 +22,14 @@ fn detached_at<L: Ledger>(heap: &Heap, place: usize, steps: &mut Steps<L>) -> Op
     if o.birth == ROOT_BIRTH {
         return None;
     }
-    if heap.parent(o, steps).is_some() {
+    let summary = heap.summary(o, steps);
+    if summary.parent.is_some() {
         return None;
     }
     Some(Detached {
         birth: o.birth,
-        refs: heap.refs(o, steps),
-        kind: heap.kind(o, steps),
+        refs: summary.refs,
+        kind: summary.kind,
     })
 }
 

@@ -1,9 +1,10 @@
 //! Finding objects of the heap, and the slots of users' objects.
 
-ghost use Rattle.std.specs.Prelude.{◌≡◌, IfSome, IfNone, None, position};
+ghost use Rattle.std.specs.Prelude.{◌≡◌, ◌+◌, IfSome, IfNone, None, is_some, position};
 ghost use Rattle.std.specs.Str.{bytes_eq};
 ghost use Rattle.qo_model.specs.Objects.{is_object_named, index_from};
-ghost use Rattle.qo_object.specs.BoardObject.{shown_slot, shown_slots};
+ghost use Rattle.qo_object.specs.BoardObject.{shown_slots};
+ghost use Rattle.qo_object.specs.Slots.{child_of};
 ghost use Rattle.qo_heap.specs.Rows.{IsLive};
 ghost use Rattle.qo_heap.specs.Objects.{content_of, slots_of};
 
@@ -33,27 +34,22 @@ pub fn place_named<L: Ledger>(
     Some(slot.at)
 }
 
-/// Whether a slot has a child under a name.
-fn is_child_named(name: &str, what: &Slot, id: &str) -> bool
-    ensures { result ≡ is_object_named id.now (name.now, shown_slot what.now) }
+/// Whether a child stands in a slot.
+fn is_child(what: &Slot) -> bool
+    ensures { result ≡ is_some (child_of what.now) }
 {
-    match what {
-        Slot::Child(_) => name == id,
-        _ => false,
-    }
+    matches!(what, Slot::Child(_))
 }
 
-/// The first place at which an object has a child under a name; `None` where it has none.
+/// The place at which an object has a child under a name, by one look-up; `None` where it has none.
 pub fn child_place<L: Ledger>(heap: &Heap, o: Oid, id: &str, steps: &mut Steps<L>) -> Option<usize>
     requires { IsLive heap.now.rows o }
-    ensures { result ≡ index_from (is_object_named id.now) 0 (shown_slots (slots_of heap.now o.birth)) }
+    ensures place { result ≡ index_from (is_object_named id.now) 0 (shown_slots (slots_of heap.now o.birth)) }
+    ensures cost { steps.new ≡ steps.old + 1 }
 {
-    let mut at = 0;
-    while let Some(view) = heap.slot_at(o, at, steps) {
-        if is_child_named(view.name, view.what, id) {
-            return Some(at);
-        }
-        at += 1;
+    let slot = heap.slot(o, id, steps)?;
+    if is_child(slot.what) {
+        return Some(slot.at);
     }
     None
 }

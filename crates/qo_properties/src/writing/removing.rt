@@ -1,8 +1,9 @@
 //! Removing users' objects.
 
-ghost use Rattle.std.specs.Prelude.{◌≡◌, OnErr};
+ghost use Rattle.std.specs.Prelude.{◌≡◌, ◌+◌, ◌≤◌, OnErr};
 ghost use Rattle.qo_model.specs.Board.{Board};
 ghost use Rattle.qo_model.specs.Objects.{object_del};
+ghost use Rattle.qo_model.specs.ReleaseBound.{release_bound};
 ghost use Rattle.qo_heap.specs.Board.{Shows, pins_in};
 ghost use Rattle.qo_properties.specs.Changes.{IsAnswered};
 ghost use Rattle.qo_properties.specs.Claims.{KeepsBook};
@@ -23,6 +24,7 @@ pub fn remove<L: Ledger>(heap: &mut Heap, id: &str, steps: &mut Steps<L>) -> Res
     ensures pins { pins_in heap.new.rows ≡ pins_in heap.old.rows }
     ensures book { KeepsBook heap.old heap.new }
     ensures kept { KeptBefore heap.old heap.new }
+    ensures work { (b c : Board) → Shows b heap.old → Shows c heap.new → steps.new ≤ steps.old + release_bound b c + 1 }
 {
     let Some(objects) = object_of(heap, OBJECTS_BIRTH) else {
         return Err(Code::E15);

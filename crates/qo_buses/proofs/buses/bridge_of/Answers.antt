@@ -15,7 +15,7 @@ is_of-requires g c = parent-live c.args.heap.now c.reveal_invariant.ensures c.ar
 pub returns-then-is_of-clause-bridge : goal.returns-then-is_of-clause-bridge
 returns-then-is_of-clause-bridge g c = λ b s.
     sym (bridge-is b c.args.heap.now s c.args.bus.birth (Some c.in_ok-parent.parent) (sym c.in_ok-parent.ensures.parent)
-    ∙ ap (λ (t : Bool). cond t (Some c.in_ok-parent.parent.birth) None) (sym (c.is_of.ensures b s) ∙ c.if-is_of.true))
+    ∙ ap (λ (t : Bool). cond t (Some c.in_ok-parent.parent.birth) None) (sym (c.is_of.ensures.kind b s) ∙ c.if-is_of.true))
 
 pub returns-then-is_of-clause-live : goal.returns-then-is_of-clause-live
 returns-then-is_of-clause-live g c = parent-live c.args.heap.now c.reveal_invariant.ensures c.args.bus.birth c.in_ok-parent.parent (sym c.in_ok-parent.ensures.parent)
@@ -23,4 +23,4 @@ returns-then-is_of-clause-live g c = parent-live c.args.heap.now c.reveal_invari
 pub returns-clause-bridge : goal.returns-clause-bridge
 returns-clause-bridge g c = λ b s.
     sym (bridge-is b c.args.heap.now s c.args.bus.birth (Some c.in_ok-parent.parent) (sym c.in_ok-parent.ensures.parent)
-    ∙ ap (λ (t : Bool). cond t (Some c.in_ok-parent.parent.birth) None) (sym (c.is_of.ensures b s) ∙ c.if-is_of.false))
+    ∙ ap (λ (t : Bool). cond t (Some c.in_ok-parent.parent.birth) None) (sym (c.is_of.ensures.kind b s) ∙ c.if-is_of.false))

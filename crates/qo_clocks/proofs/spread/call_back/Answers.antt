@@ -15,11 +15,11 @@ act-requires-clause-timely g c = may-act Pre c.args.heap.now c.in-Some.device.bi
 
 pub act-requires-2-clause-live : goal.act-requires-2-clause-live
 act-requires-2-clause-live g c =
-    let acts : Acts c.args.heap.now c.act.new.self = rw c.act.ensures (acted-acts Pre c.in-Some.device.birth c.args.before c.args.heap.now) in
+    let acts : Acts c.args.heap.now c.act.new.self = rw c.act.ensures.now (acted-acts Pre c.in-Some.device.birth c.args.before c.args.heap.now) in
     rw (acts-live c.args.heap.now c.act.new.self acts c.in-Some.device)
     (parent-live c.args.heap.now c.reveal_invariant.ensures c.args.c.birth c.in-Some.device (sym c.in-Some.ensures.parent))
 
 pub act-requires-2-clause-timely : goal.act-requires-2-clause-timely
 act-requires-2-clause-timely g c =
-    let all : Timely c.act.new.self = rw c.act.ensures (acted-timely Pre c.in-Some.device.birth c.args.before c.args.heap.now c.requires) in
+    let all : Timely c.act.new.self = rw c.act.ensures.now (acted-timely Pre c.in-Some.device.birth c.args.before c.args.heap.now c.requires) in
     may-act Update c.act.new.self c.in-Some.device.birth all

@@ -5,10 +5,10 @@ use Rattle.qo_heap.proofs.ActsLemmas.{acts-none}
 use Rattle.qo_clocks.specs.Periods.{fitting, scaled_on, wide_on}
 use Rattle.qo_clocks.specs.Reads.{own_on}
 use Rattle.qo_clocks.specs.Writes.{all_fit, with_period}
-use Rattle.qo_clocks.proofs.AnswerLemmas.{acts-after, set-done, set-fits, set-over, set-sourced, spread-alike}
+use Rattle.qo_clocks.proofs.AnswerLemmas.{acts-after, counts-after, set-done, set-fits, set-over, set-sourced, spread-alike}
 use Rattle.qo_clocks.proofs.FitLemmas.{fits-acts}
 use Rattle.qo_clocks.proofs.ScopeLemmas.{period-book, period-names, period-timely}
-use Rattle.qo_clocks.proofs.SpreadLemmas.{spread-acts, spread-timely}
+use Rattle.qo_clocks.proofs.SpreadLemmas.{spread-acts, spread-counts, spread-timely}
 use Rattle.qo_clocks.proofs.writes.set.Goals as goal
 
 pub returns-then-is_some-clause-answer : goal.returns-then-is_some-clause-answer
@@ -53,6 +53,11 @@ later g c =
 
 pub returns-clause-acts : goal.returns-clause-acts
 returns-clause-acts g c = later g c
+
+pub returns-clause-counts : goal.returns-clause-counts
+returns-clause-counts g c =
+    counts-after (with_period c.args.c.birth c.args.period c.args.heap.now) c.set_number.new.heap c.spread.new.heap c.set_number.ensures
+    (rw c.spread.ensures (spread-counts c.set_number.new.heap (c.live-levels.result + 1) c.args.c.birth c.scaled-before.result c.in-Some.after))
 
 pub returns-clause-names : goal.returns-clause-names
 returns-clause-names g c = period-names c.args.heap.now c.spread.new.heap c.args.c.birth c.args.period (later g c)

@@ -6,11 +6,11 @@ use Rattle.qo_heap.specs.Moments.{Timely}
 use Rattle.qo_heap.proofs.ActsLemmas.{acts-none}
 use Rattle.qo_clocks.specs.Periods.{scaled_on}
 use Rattle.qo_clocks.specs.Writes.{with_scale}
-use Rattle.qo_clocks.proofs.AnswerLemmas.{acts-after, fits-scaled, scale-done, scale-fits, scale-over, scaled-heap, spread-alike}
+use Rattle.qo_clocks.proofs.AnswerLemmas.{acts-after, counts-after, fits-scaled, scale-done, scale-fits, scale-over, scaled-heap, spread-alike}
 use Rattle.qo_clocks.proofs.FitLemmas.{fits-acts}
 use Rattle.qo_clocks.proofs.ScopeLemmas.{scale-book, scale-names, scale-timely}
 use Rattle.qo_clocks.proofs.LinkLemmas.{live-changed}
-use Rattle.qo_clocks.proofs.SpreadLemmas.{spread-acts, spread-timely}
+use Rattle.qo_clocks.proofs.SpreadLemmas.{spread-acts, spread-counts, spread-timely}
 use Rattle.qo_clocks.proofs.writes.set_mul_div.Goals as goal
 
 pub returns-in_default-clause-answer : goal.returns-in_default-clause-answer
@@ -62,6 +62,13 @@ later g c =
 
 pub returns-clause-acts : goal.returns-clause-acts
 returns-clause-acts g c = later g c
+
+pub returns-clause-counts : goal.returns-clause-counts
+returns-clause-counts g c =
+    counts-after (with_scale c.args.c.birth c.args.mul c.args.div c.args.heap.now) c.set_number-2.new.heap c.spread.new.heap
+    (scaled-heap c.args.heap.now c.set_number.new.heap c.set_number-2.new.heap c.args.c.birth c.args.mul c.args.div c.args.mul c.args.div
+    c.set_number.ensures c.set_number-2.ensures refl refl)
+    (rw c.spread.ensures (spread-counts c.set_number-2.new.heap (c.live-levels.result + 1) c.args.c.birth c.scaled-before.result c.in-Some.after))
 
 pub returns-clause-names : goal.returns-clause-names
 returns-clause-names g c = scale-names c.args.heap.now c.spread.new.heap c.args.c.birth c.args.mul c.args.div (later g c)

@@ -2,9 +2,17 @@
 use Rattle.qo_realize.specs.Resets.{held_at}
 use Rattle.qo_commands.specs.Commands.{altered}
 use Rattle.qo_commands.proofs.ChangeLemmas.{made-alters}
+use Rattle.qo_requests.specs.declared.calls.Alteration.TheVariants.{XResetHold}
+use Rattle.qo_commands.specs.declared.touched.Touched.TheVariants.{Registers}
+use Rattle.qo_commands.proofs.TouchedLemmas.{held-touches, if_altered-touches}
 use Rattle.qo_commands.proofs.changes.hold.Goals as goal
 
-pub returns : goal.returns
+pub returns-clause-came : goal.returns-clause-came
 unfolding altered
-returns g c = λ b s.
-    made-alters b c.hold.new.self (held_at b c.args.path.now) c.hold.result c.outcome_of.result (c.hold.ensures.held b s) c.outcome_of.ensures
+returns-clause-came g c = λ b s.
+    made-alters b c.hold.new.self (held_at b c.args.path.now) c.hold.result c.outcome_of.result (c.hold.ensures.held b s) c.outcome_of.ensures.comes
+
+pub returns-clause-touched : goal.returns-clause-touched
+returns-clause-touched g c = λ b s.
+    if_altered-touches b (XResetHold c.args.path.now) c.outcome_of.result c.hold.new.self Registers (returns-clause-came g c b s) c.outcome_of.ensures.touched
+    (held-touches b c.args.path.now)

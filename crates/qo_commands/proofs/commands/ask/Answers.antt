@@ -33,4 +33,4 @@ returns-in_ok-commands-in-QueryCommands g c = λ b s.
 pub returns-in-QueryStatus : goal.returns-in-QueryStatus
 unfolding queried
 returns-in-QueryStatus g c = λ b s.
-    c.returned.ensures b ∙ ap (λ (running : Bool). returned b (status_data running)) (c.running.ensures b s) ∙ ap (queried b) (sym c.in-QueryStatus.is)
+    c.returned.ensures.done b ∙ ap (λ (running : Bool). returned b (status_data running)) (c.running.ensures b s) ∙ ap (queried b) (sym c.in-QueryStatus.is)

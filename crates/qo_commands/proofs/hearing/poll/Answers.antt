@@ -6,8 +6,8 @@ use Rattle.qo_commands.specs.Hearing.{answered, outcome_of, notice_answer}
 use Rattle.qo_commands.proofs.HearingLemmas.{told-polled}
 use Rattle.qo_commands.proofs.hearing.poll.Goals as goal
 
-pub returns : goal.returns
-returns g c = λ b s.
+pub returns-clause-came : goal.returns-clause-came
+returns-clause-came g c = λ b s.
     let stands = c.poll-notice.ensures.polled b s in
     let same : option_map (λ n. n.now) c.as_ref.result ≡ c.poll-notice.result = search rules in (
       stands,

@@ -13,11 +13,11 @@ pub returned_value-requires : goal.returned_value-requires
 returned_value-requires c = ap has_float c.in_ok-listing.ensures ∙ rows_no_float (adding_properties c.in-Some.t)
 
 pub returns-in_default : goal.returns-in_default
-returns-in_default c = λ b. c.refused.ensures b ∙ device-none b (type_named c.args.typename.now) (sym c.in_default.is ∙ c.find.ensures)
+returns-in_default c = λ b. c.refused.ensures.done b ∙ device-none b (type_named c.args.typename.now) (sym c.in_default.is ∙ c.find.ensures)
 
 pub returns-then-not-is_a : goal.returns-then-not-is_a
 returns-then-not-is_a c = λ b.
-    c.refused-then-not-is_a.ensures b
+    c.refused-then-not-is_a.ensures.done b
     ∙ device-other b (type_named c.args.typename.now) c.in-Some.t (sym c.in-Some.is ∙ c.find.ensures) (sym c.is_a.ensures ∙ c.if-not-is_a.true)
 
 pub returns : goal.returns

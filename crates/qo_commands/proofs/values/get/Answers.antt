@@ -13,4 +13,4 @@ returns-in_ok-value-in-Ok g c = λ b s.
 pub returns-in-Err-Refused : goal.returns-in-Err-Refused
 returns-in-Err-Refused g c = λ b s.
     let refused : read b c.args.path.now c.args.name.now ≡ Err c.in-Err-Refused.code = rw c.in-Err-Refused.field-0-is at (c.in-Err-Refused.ensures b s) in
-    (rw c.in-Err-Refused.field-0-is at (c.refused.ensures b)) ∙ sym (ap (answered b data_of) refused)
+    (rw c.in-Err-Refused.field-0-is at (c.refused.ensures.done b)) ∙ sym (ap (answered b data_of) refused)

@@ -15,11 +15,4 @@ returns-clause-spreading c =
     c.index-dependants-line.is ∙ get_or_default c.args.dependants.now c.args.line c.index-dependants-line.result [] there in
     changes c.args.gates.now c.args.dependants.now c.args.levels.now c.args.pending.now c.mark.new.pending c.args.line c.args.last c.mark.result c.level-level.result
     c.requires.wired c.requires.spreading within (rw gate at c.level-level.ensures)
-    (rw (← lines) (record {
-      marked = c.mark.ensures.marked;
-      others = c.mark.ensures.others;
-      above = c.mark.ensures.above;
-      least = c.mark.ensures.least;
-      within = c.mark.ensures.within;
-      same = c.mark.auto.pending;
-    }))
+    (rw (← lines) c.mark.ensures)

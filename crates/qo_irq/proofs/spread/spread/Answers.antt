@@ -12,13 +12,6 @@ loop-line-init c =
     record {
       spreading = begins c.args.gates.now c.args.dependants.now c.args.levels.now c.args.pending.now c.mark-last.new.pending c.args.changed c.mark-last.result
           c.requires.wired c.requires.levels_all c.requires.pending_all c.requires.calm c.requires.settled
-          (rw (← lines) (record {
-            marked = c.mark-last.ensures.marked;
-            others = c.mark-last.ensures.others;
-            above = c.mark-last.ensures.above;
-            least = c.mark-last.ensures.least;
-            within = c.mark-last.ensures.within;
-            same = c.mark-last.auto.pending;
-          }));
+          (rw (← lines) c.mark-last.ensures);
       inputs = λ i set_outside. refl;
     }

@@ -10,13 +10,13 @@ use Rattle.qo_layout.proofs.maps.memory_map.Goals as goal
 pub loop-o-preserved : goal.loop-o-preserved
 loop-o-preserved g c = λ b s shape.
     let listed : births_of c.deref.result.now ≡ mapped b =
-    ap (λ (os : List Key). births_of os) c.deref.ensures.value ∙ c.in_ok-objects.ensures.listed b s (root-is b shape) (memory-is b shape) in
+    ap (λ (os : List Key). births_of os) c.deref.ensures.value ∙ c.in_ok-objects.ensures.listed b s shape (root-is b shape) (memory-is b shape) in
     added-next (region_of b) c.deref-o-items.result.now c.loop-o.o-index _ c.loop-o.map c.add_object.new.map (omega arith)
     (c.loop-o.invariant b s shape) (c.in_ok-add_object.ensures.added b s listed)
 
 pub returns-clause-map : goal.returns-clause-map
 returns-clause-map g c = λ b s shape.
-    let listed = c.in_ok-objects.ensures.listed b s (root-is b shape) (memory-is b shape) in
+    let listed = c.in_ok-objects.ensures.listed b s shape (root-is b shape) (memory-is b shape) in
     let items : births_of c.deref-o-items.result.now ≡ mapped b = ap (λ (os : List Key). births_of os) c.deref-o-items.ensures.value ∙ listed in
     let second : births_of c.deref-2.result.now ≡ mapped b = ap (λ (os : List Key). births_of os) c.deref-2.ensures.value ∙ listed in
     let third : births_of c.deref-3.result.now ≡ mapped b = ap (λ (os : List Key). births_of os) c.deref-3.ensures.value ∙ listed in
@@ -40,13 +40,13 @@ returns-then-len-ge-MAX_REGIONS-clause-err g c = λ b s h shape claims.
     let full : 1048576 ≤ length c.in_ok-objects.objects.items = omega (arith, c.len.ensures, c.if-len-ge-MAX_REGIONS.true) in
     absurd
     (not-full b c.args.heap.now s c.reveal_invariant.ensures.few h shape c.in_ok-objects.objects.items
-    (c.in_ok-objects.ensures.listed b s (root-is b shape) (memory-is b shape)) full)
+    (c.in_ok-objects.ensures.listed b s shape (root-is b shape) (memory-is b shape)) full)
 
 pub returns-in_err-add_object-clause-err : goal.returns-in_err-add_object-clause-err
 returns-in_err-add_object-clause-err g c = λ b s h shape claims.
     let is : c.from_residual-in_err-add_object.result ≡ Err c.in_err-add_object.field-0.0 = search rules in
     let may = shows-map b c.args.heap.now s c.reveal_invariant.ensures.few h shape claims in
-    let whole = c.in_ok-objects.ensures.listed b s (root-is b shape) (memory-is b shape) in
+    let whole = c.in_ok-objects.ensures.listed b s shape (root-is b shape) (memory-is b shape) in
     let listed : births_of c.deref.result.now ≡ mapped b = ap (λ (os : List Key). births_of os) c.deref.ensures.value ∙ whole in
     let items : births_of c.deref-o-items.result.now ≡ mapped b = ap (λ (os : List Key). births_of os) c.deref-o-items.ensures.value ∙ whole in
     err-memory c.from_residual-in_err-add_object.result c.in_err-add_object.field-0.0 is
@@ -58,7 +58,7 @@ pub returns-in_err-boot-clause-err : goal.returns-in_err-boot-clause-err
 returns-in_err-boot-clause-err g c = λ b s h shape claims.
     let is : c.from_residual-in_err-boot.result ≡ Err c.in_err-boot.field-0.0 = search rules in
     let may = shows-map b c.args.heap.now s c.reveal_invariant.ensures.few h shape claims in
-    let whole = c.in_ok-objects.ensures.listed b s (root-is b shape) (memory-is b shape) in
+    let whole = c.in_ok-objects.ensures.listed b s shape (root-is b shape) (memory-is b shape) in
     let items : births_of c.deref-o-items.result.now ≡ mapped b = ap (λ (os : List Key). births_of os) c.deref-o-items.ensures.value ∙ whole in
     let all : length c.deref-o-items.result.now ≤ c.loop-o.o-index = omega arith in
     err-memory c.from_residual-in_err-boot.result c.in_err-boot.field-0.0 is
@@ -69,7 +69,7 @@ pub returns-in_err-low-clause-err : goal.returns-in_err-low-clause-err
 returns-in_err-low-clause-err g c = λ b s h shape claims.
     let is : c.from_residual-in_err-low.result ≡ Err c.in_err-low.field-0.0 = search rules in
     let may = shows-map b c.args.heap.now s c.reveal_invariant.ensures.few h shape claims in
-    let whole = c.in_ok-objects.ensures.listed b s (root-is b shape) (memory-is b shape) in
+    let whole = c.in_ok-objects.ensures.listed b s shape (root-is b shape) (memory-is b shape) in
     let items : births_of c.deref-o-items.result.now ≡ mapped b = ap (λ (os : List Key). births_of os) c.deref-o-items.ensures.value ∙ whole in
     let second : births_of c.deref-2.result.now ≡ mapped b = ap (λ (os : List Key). births_of os) c.deref-2.ensures.value ∙ whole in
     let all : length c.deref-o-items.result.now ≤ c.loop-o.o-index = omega arith in
@@ -82,7 +82,7 @@ pub returns-in_err-root-clause-err : goal.returns-in_err-root-clause-err
 returns-in_err-root-clause-err g c = λ b s h shape claims.
     let is : c.from_residual-in_err-root.result ≡ Err c.in_err-root.field-0.0 = search rules in
     let may = shows-map b c.args.heap.now s c.reveal_invariant.ensures.few h shape claims in
-    let whole = c.in_ok-objects.ensures.listed b s (root-is b shape) (memory-is b shape) in
+    let whole = c.in_ok-objects.ensures.listed b s shape (root-is b shape) (memory-is b shape) in
     let items : births_of c.deref-o-items.result.now ≡ mapped b = ap (λ (os : List Key). births_of os) c.deref-o-items.ensures.value ∙ whole in
     let second : births_of c.deref-2.result.now ≡ mapped b = ap (λ (os : List Key). births_of os) c.deref-2.ensures.value ∙ whole in
     let third : births_of c.deref-3.result.now ≡ mapped b = ap (λ (os : List Key). births_of os) c.deref-3.ensures.value ∙ whole in

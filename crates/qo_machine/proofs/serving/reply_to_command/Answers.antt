@@ -3,14 +3,12 @@ use Rattle.std.proofs.Common.{refl}
 use Rattle.qo_machine.proofs.MemoryLemmas.{left_served}
 use Rattle.qo_machine.proofs.MachineLemmas.{left_done, served_command, served_want}
 use Rattle.qo_heap.proofs.HeapLemmas.{on-err}
-use Rattle.qo_machine.proofs.WiredLemmas.{wired_kept, wired_told}
-use Rattle.std.proofs.lemmas.Result.{on_ok_weaker}
+use Rattle.qo_machine.proofs.WiredLemmas.{left_kept, left_told}
 use Rattle.qo_machine.proofs.serving.reply_to_command.Goals as goal
 
-pub returns-in-Ok-clause-served : goal.returns-in-Ok-clause-served
-returns-in-Ok-clause-served g c =
-    on_ok_weaker c.send_reply-sent.result
-    (λ p. (
+pub returns-in_ok-sent-in-Ok-clause-served : goal.returns-in_ok-sent-in-Ok-clause-served
+returns-in_ok-sent-in-Ok-clause-served g c =
+    let p = c.in_ok-sent-in-Ok.ensures.sent in (
       p.0,
       p.1,
       p.2,
@@ -18,41 +16,39 @@ returns-in-Ok-clause-served g c =
           c.args.command.now _
           c.in-Ok.reply p.0 c.in-Ok.ensures.came c.in-Ok.ensures.rest p.3 c.send_reply-sent.ensures.board c.send_reply-sent.ensures.rest
           c.conclude.ensures.state c.conclude.ensures.board,
-    )) c.send_reply-sent.ensures.sent
+    )
 
-pub returns-in-Ok-clause-left : goal.returns-in-Ok-clause-left
-returns-in-Ok-clause-left g c =
-    on-err c.send_reply-sent.result
+pub returns-in_err-sent-in-Ok-clause-left : goal.returns-in_err-sent-in-Ok-clause-left
+returns-in_err-sent-in-Ok-clause-left g c =
+    on-err _
     (left_done c.args.outbox.now.at c.args.session c.args.machine.now c.perform.new.self c.send_reply-sent.new.machine c.conclude.new.self c.args.command.now _
     c.in-Ok.reply c.in-Ok.ensures.came c.in-Ok.ensures.rest c.send_reply-sent.ensures.board c.send_reply-sent.ensures.rest
     c.conclude.ensures.state c.conclude.ensures.board)
 
-pub returns-in-Err-clause-served : goal.returns-in-Err-clause-served
-returns-in-Err-clause-served g c =
-    on_ok_weaker c.send_memory_error.result
-    (λ more. (
-      _,
-      more,
-      (c.requires.session, tt),
-      served_want c.args.outbox.now.at c.args.session c.args.machine.now c.perform.new.self c.args.command.now _ _ refl c.in-Err.ensures.kept
-          c.in-Err.ensures.rest,
-    )) c.send_memory_error.ensures.told
+pub returns-in_ok-send_memory_error-in-Err-clause-served : goal.returns-in_ok-send_memory_error-in-Err-clause-served
+returns-in_ok-send_memory_error-in-Err-clause-served g c = (
+  _,
+  c.in_ok-send_memory_error-in-Err.ensures.told,
+  (c.requires.session, tt),
+  served_want c.args.outbox.now.at c.args.session c.args.machine.now c.perform.new.self c.args.command.now _ _ refl c.in-Err.ensures.kept
+      c.in-Err.ensures.rest,
+)
 
-pub returns-in-Err-clause-left : goal.returns-in-Err-clause-left
-returns-in-Err-clause-left g c =
-    on-err c.send_memory_error.result
+pub returns-in_err-send_memory_error-in-Err-clause-left : goal.returns-in_err-send_memory_error-in-Err-clause-left
+returns-in_err-send_memory_error-in-Err-clause-left g c =
+    on-err c.from_residual-in_err-send_memory_error-in-Err.result
     (λ s here.
     left_served c.args.outbox.now.at c.args.session s c.args.command.now _ _ c.perform.new.self
     (served_want c.args.outbox.now.at c.args.session c.args.machine.now c.perform.new.self c.args.command.now _ _ refl c.in-Err.ensures.kept
     c.in-Err.ensures.rest s here))
 
--- a query leaves the board, but for the events that wait, and the lines
+-- the events that wait are told, and what is left of the lines stays
 
-pub returns-in-Ok-clause-wired : goal.returns-in-Ok-clause-wired
-returns-in-Ok-clause-wired g c = λ query.
-    let same = c.in-Ok.ensures.leaves query in
-    wired_kept c.send_reply-sent.new.machine c.conclude.new.self c.conclude.ensures.board c.conclude.ensures.wires
-    (wired_told c.perform.new.self c.send_reply-sent.new.machine c.send_reply-sent.ensures.board c.send_reply-sent.ensures.wires (rw same c.requires.wired))
+pub returns-in_ok-sent-in-Ok-clause-touched : goal.returns-in_ok-sent-in-Ok-clause-touched
+returns-in_ok-sent-in-Ok-clause-touched g c =
+    left_kept c.in-Ok.reply.touched c.send_reply-sent.new.machine c.conclude.new.self c.conclude.ensures.board c.conclude.ensures.wires
+    (left_told c.in-Ok.reply.touched c.perform.new.self c.send_reply-sent.new.machine c.send_reply-sent.ensures.board c.send_reply-sent.ensures.wires
+    c.in-Ok.ensures.left)
 
-pub returns-in-Err-clause-wired : goal.returns-in-Err-clause-wired
-returns-in-Err-clause-wired g c = λ query. rw (c.in-Err.ensures.leaves query) c.requires.wired
+pub returns-in_ok-send_memory_error-in-Err-clause-touched : goal.returns-in_ok-send_memory_error-in-Err-clause-touched
+returns-in_ok-send_memory_error-in-Err-clause-touched g c = c.in-Err.ensures.same

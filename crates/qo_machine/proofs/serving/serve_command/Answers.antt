@@ -7,20 +7,20 @@ use Rattle.qo_machine.proofs.serving.serve_command.Goals as goal
 
 pub returns-clause-served : goal.returns-clause-served
 returns-clause-served g c =
-    let served = c.in_ok-reply_to_command.ensures.served in
-    on_ok_weaker c.settle_command.result
+    let served = c.in_ok-touched.ensures.served in
+    on_ok_weaker c.settle.result
     (λ wired. (
       served.0,
       served.1,
       served.2,
-      λ s here. settled_command c.args.outbox.now.at c.args.session s c.args.command.now _ served.0 c.reply_to_command.new.machine c.settle_command.new.self
-          c.settle_command.ensures.board c.settle_command.ensures.rest (served.3 s here),
-    )) c.settle_command.ensures.wired
+      λ s here. settled_command c.args.outbox.now.at c.args.session s c.args.command.now _ served.0 c.reply_to_command.new.machine c.settle.new.self
+          c.settle.ensures.board c.settle.ensures.rest (served.3 s here),
+    )) c.settle.ensures.wired
 
 pub returns-clause-left : goal.returns-clause-left
 returns-clause-left g c =
-    let served = c.in_ok-reply_to_command.ensures.served in
-    on-err c.settle_command.result
-    (λ s here. left_served c.args.outbox.now.at c.args.session s c.args.command.now _ served.0 c.settle_command.new.self
-    (settled_command c.args.outbox.now.at c.args.session s c.args.command.now _ served.0 c.reply_to_command.new.machine c.settle_command.new.self
-    c.settle_command.ensures.board c.settle_command.ensures.rest (served.3 s here)))
+    let served = c.in_ok-touched.ensures.served in
+    on-err c.settle.result
+    (λ s here. left_served c.args.outbox.now.at c.args.session s c.args.command.now _ served.0 c.settle.new.self
+    (settled_command c.args.outbox.now.at c.args.session s c.args.command.now _ served.0 c.reply_to_command.new.machine c.settle.new.self
+    c.settle.ensures.board c.settle.ensures.rest (served.3 s here)))

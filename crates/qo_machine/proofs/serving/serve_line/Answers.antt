@@ -8,7 +8,7 @@ use Rattle.qo_machine.proofs.serving.serve_line.Goals as goal
 
 pub returns-clause-served : goal.returns-clause-served
 returns-clause-served g c =
-    let served = c.in_ok-reply_to_line.ensures.served in
+    let served = c.in_ok-touched.ensures.served in
     on_ok_weaker c.settle.result
     (λ wired. (
       served.0,
@@ -20,7 +20,7 @@ returns-clause-served g c =
 
 pub returns-clause-left : goal.returns-clause-left
 returns-clause-left g c =
-    let served = c.in_ok-reply_to_line.ensures.served in
+    let served = c.in_ok-touched.ensures.served in
     on-err c.settle.result
     (λ s here. front_settled (by_line c.args.outbox.now.at) s c.args.line.now served.0 c.reply_to_line.new.machine c.settle.new.self c.settle.ensures.board
     c.settle.ensures.rest (served.3 s here))

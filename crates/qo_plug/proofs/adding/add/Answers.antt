@@ -1,14 +1,15 @@
 -- It is chosen where the device goes, its slot is judged, and it is made, placed and finished.
 use Rattle.std.proofs.Common.{◌≡◌, ◌≤◌, ◌==◌, ap, sym, subst, ◌∙◌, ℕ, false, Some, Err, arith}
 use Rattle.std.proofs.lemmas.Bool.Decides.{nat_tests}
-use Rattle.qo_model.specs.Plug.{Wanted}
+use Rattle.qo_model.specs.Plug.{Wanted, plug}
 use Rattle.qo_heap.specs.Board.{Shows}
 use Rattle.qo_plug.specs.Admission.{as_wanted}
-use Rattle.qo_plug.specs.KeptClaims.{KeptOrNewBut}
+use Rattle.qo_reset.specs.Counts.{CountsKept}
+use Rattle.qo_plug.specs.KeptClaims.{ClaimsOrNewBut, KeptSoFar}
 use Rattle.qo_plug.specs.Stages.{resources_barred}
 use Rattle.qo_plug.proofs.JudgementLemmas.{refused-told}
 use Rattle.qo_plug.proofs.AddLemmas.{cut-late, planned-judged, refused-last, refused-only, refused-within, resources-refused, shown-same}
-use Rattle.qo_plug.proofs.KeptLemmas.{far-but, far-new, new-from, new-then, so-far}
+use Rattle.qo_plug.proofs.KeptLemmas.{far-but, far-new, far-others, new-from, new-then, so-far}
 use Rattle.qo_plug.proofs.adding.add.Goals as goal
 
 pub returns-in-Err-clause-refused : goal.returns-in-Err-clause-refused
@@ -110,13 +111,31 @@ returns-in-Err-place-clause-unkept g c =
     new-then c.args.heap.now c.make.new.heap c.place.new.heap
     (new-from c.args.heap.now c.choose.new.heap c.make.new.heap c.in-Ok.ensures.same c.make.ensures.kept) c.in-Err-place.ensures.unkept
 
-pub returns-in-Ok-finish-clause-kept : goal.returns-in-Ok-finish-clause-kept
-returns-in-Ok-finish-clause-kept g c =
+pub make-requires-clause-counts : goal.make-requires-clause-counts
+make-requires-clause-counts g c = subst (CountsKept c.args.resets.now.births) (sym c.in-Ok.ensures.same) c.requires
+
+pub returns-in-Ok-finish-clause-claims : goal.returns-in-Ok-finish-clause-claims
+returns-in-Ok-finish-clause-claims g c =
     let placed = c.in-Ok-place.placed in
     let before = new-from c.args.heap.now c.choose.new.heap c.make.new.heap c.in-Ok.ensures.same c.make.ensures.kept in
-    subst (λ (n : ℕ). KeptOrNewBut n c.args.heap.now c.finish.new.heap) (sym c.in-Ok-finish.ensures.device)
+    subst (λ (n : ℕ). ClaimsOrNewBut n c.args.heap.now c.finish.new.heap) (sym c.in-Ok-finish.ensures.device)
     (far-but c.args.heap.now c.place.new.heap c.finish.new.heap placed.device.birth placed.plugging
-    (so-far c.args.heap.now c.make.new.heap c.place.new.heap placed.device.birth placed.plugging before c.in-Ok-place.ensures.kept) c.finish.ensures.kept)
+    (so-far c.args.heap.now c.make.new.heap c.place.new.heap placed.device.birth placed.plugging before c.in-Ok-place.ensures.kept) c.finish.ensures.claims)
+
+pub returns-in-Ok-finish-clause-counts : goal.returns-in-Ok-finish-clause-counts
+returns-in-Ok-finish-clause-counts g c = λ b is.
+    let a : Wanted = as_wanted c.args.options.now in
+    let planned = c.in-Ok.ensures.planned b c.args.resets.now.births c.args.rings.now is in
+    let begun = c.in-Ok-make.ensures.begun b a c.args.anonymous c.args.hotplug.now (shown-same c.in-Ok.ensures.same is) planned in
+    let counts =
+    c.in-Ok-finish.ensures.counts b a (c.in-Ok-place.ensures.settled b a begun is.notices)
+    (record { holds_are = is.holds_are; pending = is.pending; notices = is.notices }) in
+    let placed = c.in-Ok-place.placed in
+    let before = new-from c.args.heap.now c.choose.new.heap c.make.new.heap c.in-Ok.ensures.same c.make.ensures.kept in
+    let so_far =
+    subst (λ (n : ℕ). KeptSoFar n placed.plugging c.args.heap.now c.place.new.heap) (sym c.in-Ok-finish.ensures.device)
+    (so-far c.args.heap.now c.make.new.heap c.place.new.heap placed.device.birth placed.plugging before c.in-Ok-place.ensures.kept) in
+    (counts.0, far-others (plug b a).board c.args.heap.now c.place.new.heap c.finish.new.heap _ placed.plugging so_far counts.1)
 
 pub returns-in-Err-finish-clause-unkept : goal.returns-in-Err-finish-clause-unkept
 returns-in-Err-finish-clause-unkept g c =
@@ -124,4 +143,4 @@ returns-in-Err-finish-clause-unkept g c =
     let before = new-from c.args.heap.now c.choose.new.heap c.make.new.heap c.in-Ok.ensures.same c.make.ensures.kept in
     far-new c.args.heap.now c.place.new.heap c.finish.new.heap placed.device.birth placed.plugging
     (so-far c.args.heap.now c.make.new.heap c.place.new.heap placed.device.birth placed.plugging before c.in-Ok-place.ensures.kept) c.in-Err-finish.ensures.full
-    c.finish.ensures.kept
+    c.in-Err-finish.ensures.unkept

@@ -2,6 +2,7 @@
 use Rattle.std.proofs.Common.{◌≤◌, ℕ, ap, sym, subst, ◌∙◌, Err}
 use Rattle.qo_model.specs.Plug.{Wanted}
 use Rattle.qo_heap.specs.Board.{Shows}
+use Rattle.qo_reset.specs.Counts.{CountsKept}
 use Rattle.qo_plug.specs.Admission.{as_wanted}
 use Rattle.qo_plug.specs.Answers.{IsRefused}
 use Rattle.qo_plug.proofs.AddLemmas.{cut-late, shown-same}
@@ -11,6 +12,9 @@ use Rattle.qo_plug.proofs.beginning.begin.Goals as goal
 
 pub make-requires-clause-resources : goal.make-requires-clause-resources
 make-requires-clause-resources g c = c.in_ok-resources.ensures
+
+pub make-requires-clause-counts : goal.make-requires-clause-counts
+make-requires-clause-counts g c = subst (CountsKept c.args.resets.now.births) (sym c.in-Ok.ensures.same) c.requires
 
 pub returns-in-Err-clause-refused : goal.returns-in-Err-clause-refused
 returns-in-Err-clause-refused g c = λ b is.

@@ -1,14 +1,12 @@
 -- The device is new, and what was learnt before it was made stays so.
-use Rattle.std.proofs.Common.{◌≡◌, ◌≤◌, ◌+◌, ap, sym, subst, ◌∙◌, ℕ, IfOk, arith}
+use Rattle.std.proofs.Common.{◌≡◌, ◌≤◌, ◌+◌, ◌==◌, ap, sym, subst, ◌∙◌, ℕ, IfOk, arith}
 use Rattle.qo_claims.specs.Book.{ClaimsTaken}
-use Rattle.qo_model.specs.Reset.{count}
 use Rattle.qo_heap.proofs.HeapLemmas.{on-err}
 use Rattle.qo_plug.specs.FreeResources.{AreFreeResources, IsFreeId}
 use Rattle.qo_plug.specs.Drafts.{own_slots_of}
 use Rattle.qo_plug.proofs.AddLemmas.{planned-judged}
 use Rattle.qo_plug.proofs.GivenDraftLemmas.{left-fits, left-given, left-targets}
 use Rattle.qo_plug.proofs.GrowthLemmas.{live-low, unborn-quiet}
-use Rattle.qo_plug.proofs.AttemptLemmas.{cut-none}
 use Rattle.qo_plug.proofs.beginning.make.Goals as goal
 
 pub returns-clause-held : goal.returns-clause-held
@@ -57,7 +55,7 @@ returns-clause-begun g c = λ b a anonymous asked is planned.
       birth = made.birth ∙ sym (ap (λ (k : ℕ). k + 1) is.shown.born);
       barred = c.requires.resources.refused b a.props judged;
       resources = c.requires.resources.resources b a.props judged;
-      out = cut-none c.count-out.result (count b c.args.planned.target.bus.birth) (c.count-out.ensures b (is.shown, is.holds_are));
+      out = ap (λ (k : ℕ). k == 0) (c.count-out.ensures.count b (is.shown, is.holds_are));
       plan =
           left-given c.args.planned.plan c.as_mut_slice.result.now c.make_device.new.plan value c.in_ok-device.ensures.left c.args.planned.target.kind
           (own_slots_of c.make_device.new.heap c.in_ok-device.device.birth) made.own b a.props planned.has;
@@ -65,3 +63,6 @@ returns-clause-begun g c = λ b a anonymous asked is planned.
 
 pub returns-in_err-device-clause-err : goal.returns-in_err-device-clause-err
 returns-in_err-device-clause-err g c = on-err c.from_residual.result c.in_err-device.ensures.err
+
+pub count-out-requires-clause-live : goal.count-out-requires-clause-live
+count-out-requires-clause-live g c = c.requires.fit.bus

@@ -15,4 +15,4 @@ act-requires-clause-timely g c =
     (c.requires.quiet c.args.device.birth (omega arith)))
 
 pub returns : goal.returns
-returns g c = last-is c.args.act c.args.device.birth c.args.heap.now c.act_buses.new.heap c.act.new.self c.act_buses.ensures c.act.ensures
+returns g c = last-is c.args.act c.args.device.birth c.args.heap.now c.act_buses.new.heap c.act.new.self c.act_buses.ensures c.act.ensures.now

@@ -1,8 +1,8 @@
 -- The device starts and is let go, or is refused after its acts.
 use Rattle.std.proofs.Common.{ap, sym, ◌∙◌, Some}
-use Rattle.qo_plug.proofs.AddLemmas.{is-added, is-refused, kinds-in, open-place, path-in, plugged-in}
-use Rattle.qo_plug.proofs.BodyLemmas.{kept-bodies, there-bodies}
-use Rattle.qo_properties.proofs.KeptLemmas.{before-same, before-then, goes-kept}
+use Rattle.qo_plug.proofs.AddLemmas.{added-counts, counts-in, is-added, is-refused, kinds-in, open-place, path-in, plugged-in}
+use Rattle.qo_plug.proofs.BodyLemmas.{kept-own, there-own}
+use Rattle.qo_properties.proofs.KeptLemmas.{claims-before, claims-same, counts-before, goes-kept}
 use Rattle.qo_plug.proofs.finishing.finish.Goals as goal
 
 pub returns-in-Attached-clause-ok : goal.returns-in-Attached-clause-ok
@@ -21,13 +21,14 @@ returns-in-Attached-clause-ok g c = λ b a is beside.
     kinds-in b s.kind is.sound device a s.bus.birth at n is.birth c.in-Attached.field-0.kept c.args.resets.now.births c.args.hotplug.now c.start.new.hotplug
     c.args.heap.now c.start.new.heap c.drop_pin.new.heap beside.holds_are beside.pending beside.notices place stood
     c.start.ensures.shown c.start.ensures.told c.start.ensures.pending c.drop_pin.ensures.release in
-    let left = kept-bodies c.start.new.heap c.drop_pin.new.heap (there-bodies c.start.new.heap c.drop_pin.new.heap c.drop_pin.ensures.goes.bodies kinds) n in
+    let own = there-own c.start.new.heap c.drop_pin.new.heap c.drop_pin.ensures.goes.bodies c.drop_pin.ensures.goes.sides kinds in
+    let left = claims-same c.start.new.heap c.drop_pin.new.heap (kept-own c.start.new.heap c.drop_pin.new.heap own) n in
     let path =
     path-in b s.kind is.sound device a s.bus.birth at n is.birth c.in-Attached.field-0.kept c.args.resets.now.births c.args.hotplug.now c.start.new.hotplug
     c.args.heap.now c.start.new.heap c.drop_pin.new.heap beside.holds_are beside.pending beside.notices place stood
     c.start.ensures.shown c.start.ensures.told c.start.ensures.pending c.drop_pin.ensures.release n in
     is-added b a s at open_is (record { birth = n; slot = p.slot; path = c.in-Attached.field-0.told }) c.start.new.hotplug c.drop_pin.new.heap plugged
-    is.birth (sym slot) (path ∙ c.start.ensures.path ∙ ap Some (sym told)) (left ∙ c.start.ensures.kept n ∙ kept)
+    is.birth (sym slot) (path ∙ c.start.ensures.path ∙ ap Some (sym told)) (left ∙ c.start.ensures.claims n ∙ kept)
 
 pub returns-in-NoticesFull-clause-refused : goal.returns-in-NoticesFull-clause-refused
 returns-in-NoticesFull-clause-refused g c = λ b a is.
@@ -38,10 +39,31 @@ returns-in-NoticesFull-clause-refused g c = λ b a is.
 pub returns-in-Attached-clause-book : goal.returns-in-Attached-clause-book
 returns-in-Attached-clause-book g c = λ out h. c.drop_pin.ensures.goes.book out (c.start.ensures.book out h)
 
-pub returns-in-Attached-clause-kept : goal.returns-in-Attached-clause-kept
-returns-in-Attached-clause-kept g c =
-    before-then c.args.heap.now c.start.new.heap c.drop_pin.new.heap (before-same c.args.heap.now c.start.new.heap c.start.ensures.kept)
-    (goes-kept c.start.new.heap c.drop_pin.new.heap c.drop_pin.ensures.goes)
+pub returns-in-Attached-clause-claims : goal.returns-in-Attached-clause-claims
+returns-in-Attached-clause-claims g c = λ n k e.
+    sym (c.start.ensures.claims n)
+    ∙ claims-before c.start.new.heap c.drop_pin.new.heap (goes-kept c.start.new.heap c.drop_pin.new.heap c.drop_pin.ensures.goes) n k e
+
+pub returns-in-NoticesFull-clause-claims : goal.returns-in-NoticesFull-clause-claims
+returns-in-NoticesFull-clause-claims g c = claims-before c.args.heap.now c.refuse.new.heap c.refuse.ensures.kept
+
+pub returns-in-NoticesFull-clause-unkept : goal.returns-in-NoticesFull-clause-unkept
+returns-in-NoticesFull-clause-unkept g c = c.refuse.ensures.kept
+
+pub returns-in-Attached-clause-counts : goal.returns-in-Attached-clause-counts
+returns-in-Attached-clause-counts g c = λ b a is beside.
+    let s = is.target.0 in
+    let device = is.target.1 in
+    let (told, at, slot, open_is, stood, kept) = rw c.in-Attached.is at is.target.2 in
+    let p = c.args.placed in
+    let n = p.device.birth in
+    let place = open-place b a s at open_is device in
+    let left = goes-kept c.start.new.heap c.drop_pin.new.heap c.drop_pin.ensures.goes in
+    added-counts b a s at open_is n c.args.heap.now c.drop_pin.new.heap
+    (counts-in b s.kind is.sound device a s.bus.birth at n is.birth c.in-Attached.field-0.kept c.args.resets.now.births c.args.hotplug.now c.start.new.hotplug
+    c.args.heap.now c.start.new.heap c.drop_pin.new.heap beside.holds_are beside.pending beside.notices place stood
+    c.start.ensures.shown c.start.ensures.told c.start.ensures.pending c.drop_pin.ensures.release c.start.ensures.counted c.start.ensures.others
+    (counts-before c.start.new.heap c.drop_pin.new.heap left))
 
 pub returns-in-NoticesFull-clause-full : goal.returns-in-NoticesFull-clause-full
 returns-in-NoticesFull-clause-full g c = (c.in-NoticesFull.out, c.in-NoticesFull.is)

@@ -18,9 +18,9 @@ use Rattle.qo_properties.specs.Filling.{Fits, IsGiven}
 use Rattle.qo_properties.proofs.FillingLemmas.{all-live}
 use Rattle.qo_plug.specs.OwnSlots.{own_slots_of}
 use Rattle.qo_plug.specs.Placement.{kept_in, range_in, resources_in, with_book}
-use Rattle.qo_properties.specs.KeptClaims.{SameKept, kept_by}
+use Rattle.qo_properties.specs.KeptClaims.{SameKept, all_kept}
 use Rattle.qo_plug.specs.DeviceClaims.{id_claims_out, kept_out, taken_out}
-use Rattle.qo_plug.proofs.BodyLemmas.{kept-bodies, of-bodies}
+use Rattle.qo_plug.proofs.BodyLemmas.{kept-own, of-bodies}
 use Rattle.qo_plug.proofs.RangeLemmas.{still-dimm}
 use Rattle.qo_plug.proofs.PlacementSteps.{alike-then, pinned-same}
 use Rattle.qo_plug.proofs.PlacementLemmas.{joined-alike, joined-bare, placed-alike, placed-book, placed-claims, placed-ids, placed-kept, placed-own, placed-registers, placed-shown, reserved-book, reserved-live, reserved-shows, returned-kept, rows-joined, stands, still-unnamed}
@@ -90,7 +90,7 @@ put_body-requires-clause-live g c =
 
 pub put_body-requires-clause-dimm : goal.put_body-requires-clause-dimm
 put_body-requires-clause-dimm g c =
-    still-dimm c.args.attachment.resources.memory _ _ (of-bodies registers_of _ _ (c.put_values.ensures.stays.bodies c.args.device.birth)
+    still-dimm c.args.attachment.resources.memory _ _ (of-bodies registers_of _ _ (c.put_values.ensures.stays.own c.args.device.birth)
     ∙ placed-registers c.args.heap.now c.reserve_event.new.self c.take_claims.new.heap
     c.join.new.heap c.keep_claims.new.heap c.reserve_event.new.self.events.spare c.args.device c.args.attachment.container
     c.args.attachment.bus c.args.attachment.name c.args.attachment.resources.slot c.in_ok-taken.taken.kept c.reserve_event.ensures.kept
@@ -197,9 +197,9 @@ returns-in-Ok-clause-kept g c =
     c.in_ok-taken.taken.kept c.reserve_event.ensures.kept c.in_ok-taken.ensures.rest c.in-Ok.ensures.now c.keep_claims.ensures.now in
     subst (λ (k : KeptSet). SameKept (with_edit c.args.device.birth (kept_in k) c.args.heap.now) c.connect_clock.new.heap) c.in_ok-taken.ensures.kept
     (λ n.
-    kept-bodies c.put_body.new.heap c.connect_clock.new.heap c.connect_clock.ensures.stays.bodies n
+    kept-own c.put_body.new.heap c.connect_clock.new.heap c.connect_clock.ensures.stays.own n
     ∙ c.put_body.ensures.kept n
-    ∙ kept-bodies c.keep_claims.new.heap c.put_values.new.heap c.put_values.ensures.stays.bodies n
+    ∙ kept-own c.keep_claims.new.heap c.put_values.new.heap c.put_values.ensures.stays.own n
     ∙ given n)
 
 pub returns-in-Ok-clause-book : goal.returns-in-Ok-clause-book
@@ -216,7 +216,7 @@ returns-in-Ok-clause-book g c = λ out h.
 pub returns-in_err-taken-clause-unkept : goal.returns-in_err-taken-clause-unkept
 returns-in_err-taken-clause-unkept g c =
     on-err c.from_residual-in_err-taken.result
-    (λ n. ap (λ (x : Objects). kept_by x n) c.in_err-taken.ensures.rest ∙ ap (λ (x : Objects). kept_by x n) c.reserve_event.ensures.kept)
+    (λ n. ap (λ (x : Objects). all_kept x n) c.in_err-taken.ensures.rest ∙ ap (λ (x : Objects). all_kept x n) c.reserve_event.ensures.kept)
 
 pub returns-in-Err-clause-unkept : goal.returns-in-Err-clause-unkept
 returns-in-Err-clause-unkept g c =

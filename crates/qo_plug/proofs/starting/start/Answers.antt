@@ -3,8 +3,9 @@ use Rattle.std.proofs.Common.{◌≡◌, ap, ◌∙◌, true}
 use Rattle.qo_heap.proofs.ActsLemmas.{acts-book, acts-then}
 use Rattle.qo_heap.proofs.ActsReads.{acts-pins, acts-pins_of}
 use Rattle.qo_hotplug.specs.Hotplug.{Asked, notified}
-use Rattle.qo_properties.proofs.ActsKept.{acts-kept}
-use Rattle.qo_plug.proofs.StartLemmas.{ok-gives, path-all_pins, path-book, path-claims, path-kept, path-live, path-pins, started-told, starts, still-live, still-pathless}
+use Rattle.qo_properties.proofs.ActsKept.{acts-claims}
+use Rattle.qo_properties.proofs.KeptLemmas.{claims-same}
+use Rattle.qo_plug.proofs.StartLemmas.{ok-gives, path-all_pins, path-book, path-claims, path-counted, path-kept, path-live, path-others, path-pins, started-told, starts, still-live, still-pathless}
 use Rattle.qo_plug.proofs.starting.start.Goals as goal
 
 pub plugged-requires : goal.plugged-requires
@@ -67,8 +68,20 @@ returns-clause-path g c =
     (still-live c.args.heap.now c.plugged.new.heap
     (acts-then c.args.heap.now c.realize.new.heap c.plugged.new.heap c.realize.ensures.acts c.plugged.ensures.acts) c.args.device c.requires.live)
 
-pub returns-clause-kept : goal.returns-clause-kept
-returns-clause-kept g c = λ n.
-    path-claims c.plugged.new.heap c.keep_path.new.self c.args.device.birth c.args.path c.keep_path.ensures.now n
-    ∙ acts-kept c.realize.new.heap c.plugged.new.heap c.plugged.ensures.acts n
-    ∙ acts-kept c.args.heap.now c.realize.new.heap c.realize.ensures.acts n
+pub returns-clause-claims : goal.returns-clause-claims
+returns-clause-claims g c = λ n.
+    claims-same c.plugged.new.heap c.keep_path.new.self
+    (path-claims c.plugged.new.heap c.keep_path.new.self c.args.device.birth c.args.path c.keep_path.ensures.now) n
+    ∙ acts-claims c.realize.new.heap c.plugged.new.heap c.plugged.ensures.acts n
+    ∙ acts-claims c.args.heap.now c.realize.new.heap c.realize.ensures.acts n
+
+pub returns-clause-counted : goal.returns-clause-counted
+returns-clause-counted g c =
+    path-counted c.plugged.new.heap c.keep_path.new.self c.args.device.birth c.args.path c.keep_path.ensures.now c.args.resets.now.births
+    c.plugged.ensures.counted
+
+pub returns-clause-others : goal.returns-clause-others
+returns-clause-others g c = λ n apart.
+    path-others c.realize.new.heap c.plugged.new.heap c.keep_path.new.self c.args.device.birth c.args.path c.keep_path.ensures.now c.plugged.ensures.acts
+    c.plugged.ensures.others n apart
+    ∙ c.realize.ensures.counts n

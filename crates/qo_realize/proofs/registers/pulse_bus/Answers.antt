@@ -17,4 +17,4 @@ returns-in-Some-clause-book g c = acts-keep c.args.heap.now c.pulse.new.heap c.p
 
 pub returns-in-Some-clause-kept : goal.returns-in-Some-clause-kept
 returns-in-Some-clause-kept g c =
-    before-same c.args.heap.now c.pulse.new.heap (acts-kept c.args.heap.now c.pulse.new.heap c.pulse.ensures.acts)
+    before-same c.args.heap.now c.pulse.new.heap (acts-kept c.args.heap.now c.pulse.new.heap c.pulse.ensures.acts c.pulse.ensures.still)

@@ -1,5 +1,6 @@
 -- The body that was written is what the board has.
 use Rattle.qo_realize.proofs.RegisterLemmas.{has-written, put-book, put-kept, put-live, put-none}
+use Rattle.qo_realize.proofs.CountedLemmas.{body-counts}
 use Rattle.qo_realize.proofs.registers.write_register.Goals as goal
 
 pub returns-clause-written : goal.returns-clause-written
@@ -24,3 +25,6 @@ returns-clause-absent g c =
 pub returns-clause-kept : goal.returns-clause-kept
 returns-clause-kept g c =
     put-kept c.args.heap.now c.args.dev c.body_mut.result.now c.write.new.self c.requires.live c.body_mut.ensures.body c.write.ensures.kept
+
+pub returns-clause-counts : goal.returns-clause-counts
+returns-clause-counts g c = λ holds kept. body-counts c.args.dev.birth c.write.new.self holds c.args.heap.now kept

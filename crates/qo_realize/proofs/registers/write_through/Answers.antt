@@ -15,3 +15,9 @@ returns-clause-book g c = λ out h. c.do_beside.ensures.book out (c.write_regist
 pub returns-clause-kept : goal.returns-clause-kept
 returns-clause-kept g c =
     before-then c.args.heap.now c.write_register.new.heap c.do_beside.new.heap c.write_register.ensures.kept c.do_beside.ensures.kept
+
+pub do_beside-requires-clause-counts : goal.do_beside-requires-clause-counts
+do_beside-requires-clause-counts g c = c.write_register.ensures.counts c.args.resets.now.births c.requires.counts
+
+pub returns-in_err-effect-clause-counts : goal.returns-in_err-effect-clause-counts
+returns-in_err-effect-clause-counts g c = c.write_register.ensures.counts c.args.resets.now.births c.requires.counts

@@ -1,7 +1,8 @@
 use Rattle.std.proofs.Common.{◌≡◌, ◌-◌, length, false, take}
 use Rattle.std.specs.List.{flat_map, list_any}
 use Rattle.qo_heap.specs.Objects.{slots_of}
-use Rattle.qo_reset.specs.Phases.{below_on, births_of, exceeds_depth_at, is_bus, kids_in, post_by}
+use Rattle.qo_reset.specs.Counts.{is_full}
+use Rattle.qo_reset.specs.Phases.{below_on, is_bus, kids_in, post_by}
 use Rattle.qo_reset.proofs.counts.+exceeds_depth_below.Given as goal
 
 abbrev pub decreases-exceeds_depth_below : goal.decreases-exceeds_depth_below
@@ -9,7 +10,7 @@ decreases-exceeds_depth_below g l = l.levels
 
 abbrev pub invariant-loop-child : goal.invariant-loop-child
 invariant-loop-child g l =
-    list_any (exceeds_depth_at l.heap (births_of l.holds))
+    list_any (is_full l.heap)
     (flat_map (post_by (below_on l.heap) (l.levels - 1)) (kids_in (is_bus l.heap) (is_bus l.heap l.from.birth) (take l.at (slots_of l.heap l.from.birth)))) ≡
     false
 

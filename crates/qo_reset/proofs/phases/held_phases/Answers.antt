@@ -1,6 +1,8 @@
 use Rattle.std.proofs.Common.{sym}
 use Rattle.qo_heap.proofs.ActsLemmas.{acts-then}
+use Rattle.qo_reset.specs.Phases.{births_of}
 use Rattle.qo_reset.proofs.BoardLemmas.{shows-held}
+use Rattle.qo_reset.proofs.CountLemmas.{acts-kept, below-kept, kept-below}
 use Rattle.qo_reset.proofs.phases.held_phases.Goals as goal
 
 pub returns-clause-shown : goal.returns-clause-shown
@@ -11,3 +13,13 @@ returns-clause-acts g c = acts-then c.args.heap.now c.phase.new.heap c.phase-2.n
 
 pub returns-clause-timely : goal.returns-clause-timely
 returns-clause-timely g c = λ all. c.phase-2.ensures.timely (c.phase.ensures.timely all)
+
+pub phase-requires-2-clause-counts : goal.phase-requires-2-clause-counts
+phase-requires-2-clause-counts g c =
+    below-kept c.args.heap.now c.phase.new.heap (births_of c.args.holds.now) c.args.root.birth c.phase.ensures.acts c.phase.ensures.still
+    (kept-below c.args.heap.now (births_of c.args.holds.now) c.args.root.birth c.requires.counts)
+
+pub returns-clause-counts : goal.returns-clause-counts
+returns-clause-counts g c =
+    acts-kept c.phase.new.heap c.phase-2.new.heap (births_of c.args.holds.now) c.phase-2.ensures.acts c.phase-2.ensures.still
+    (acts-kept c.args.heap.now c.phase.new.heap (births_of c.args.holds.now) c.phase.ensures.acts c.phase.ensures.still c.requires.counts)

@@ -1,6 +1,8 @@
 use Rattle.std.proofs.Common.{sym}
 use Rattle.qo_heap.proofs.ActsLemmas.{acts-then}
+use Rattle.qo_reset.specs.Phases.{births_of}
 use Rattle.qo_reset.proofs.BoardLemmas.{shows-plugged}
+use Rattle.qo_reset.proofs.CountLemmas.{below-kept}
 use Rattle.qo_reset.proofs.phases.plugged_phases.Goals as goal
 
 pub returns-clause-shown : goal.returns-clause-shown
@@ -14,3 +16,12 @@ returns-clause-acts g c =
 
 pub returns-clause-timely : goal.returns-clause-timely
 returns-clause-timely g c = λ all. c.phase-3.ensures.timely (c.phase-2.ensures.timely (c.phase.ensures.timely all))
+
+pub phase-requires-2-clause-counts : goal.phase-requires-2-clause-counts
+phase-requires-2-clause-counts g c =
+    below-kept c.args.heap.now c.phase.new.heap (births_of c.args.holds.now) c.args.dev.birth c.phase.ensures.acts c.phase.ensures.still c.requires.counts
+
+pub phase-requires-3-clause-counts : goal.phase-requires-3-clause-counts
+phase-requires-3-clause-counts g c =
+    below-kept c.phase.new.heap c.phase-2.new.heap (births_of c.args.holds.now) c.args.dev.birth c.phase-2.ensures.acts c.phase-2.ensures.still
+    (below-kept c.args.heap.now c.phase.new.heap (births_of c.args.holds.now) c.args.dev.birth c.phase.ensures.acts c.phase.ensures.still c.requires.counts)

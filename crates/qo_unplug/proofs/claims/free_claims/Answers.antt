@@ -2,10 +2,12 @@
 use Rattle.std.proofs.Common.{refl, ap, sym, ◌∙◌, option_map}
 use Rattle.std.proofs.lemmas.Option.{same_Some}
 use Rattle.qo_claims.specs.Book.{ClaimsTaken}
-use Rattle.qo_kinds.specs.Bodies.{kept_of}
+use Rattle.qo_kinds.specs.Bodies.{kept_of, none_kept, with_kept}
 use Rattle.qo_object.specs.Content.{Content}
-use Rattle.qo_heap.specs.Objects.{without_kept}
+use Rattle.qo_heap.specs.Acts.{counted_in, counts_of}
+use Rattle.qo_heap.specs.Objects.{Objects, without_kept}
 use Rattle.qo_heap.proofs.BoardObjects.{live-content}
+use Rattle.qo_life.proofs.TreeLemmas.{read-content}
 use Rattle.qo_unplug.proofs.EndingLemmas.{bare-now, undoes-freed}
 use Rattle.qo_unplug.proofs.KeptLemmas.{kept-freed}
 use Rattle.qo_unplug.proofs.claims.free_claims.Goals as goal
@@ -27,3 +29,8 @@ pub returns-clause-others : goal.returns-clause-others
 returns-clause-others g c =
     kept-freed c.args.heap.now c.take_claims-kept.new.heap (record c.take_claims-kept.new.heap { claims = c.free_kept.new.claims }) c.args.o.birth
     c.free_kept.new.claims c.take_claims-kept.ensures.left refl
+
+pub returns-clause-counts : goal.returns-clause-counts
+returns-clause-counts g c = λ n.
+    ap (λ (x : Objects). counted_in x n) c.take_claims-kept.ensures.left
+    ∙ read-content counts_of c.args.o.birth (λ (d : Content). record d { body = with_kept none_kept d.body }) (λ d. refl) c.args.heap.now n

@@ -6,7 +6,7 @@ use Rattle.qo_unplug.proofs.UnparentingLemmas.{goes-pin, pin-live, pinned-of, ta
 use Rattle.qo_unplug.proofs.DetachmentLemmas.{beside-detached, book-detached, detach-room, names-detached, pin-timely, pins-detached}
 use Rattle.qo_unplug.proofs.DetachmentLemmas.{timely-detached, unrealized-pinned}
 use Rattle.qo_unplug.proofs.ScopeLemmas.{takes-taken_within}
-use Rattle.qo_unplug.proofs.DetachedClaims.{claims-detached}
+use Rattle.qo_unplug.proofs.DetachedClaims.{claims-detached, counts-detached, shown-detached}
 use Rattle.qo_unplug.proofs.detaching.detach.Goals as goal
 
 pub unrealize-requires-clause-live : goal.unrealize-requires-clause-live
@@ -80,6 +80,18 @@ returns-clause-timely g c =
     timely-detached (λ b. device_within b (length c.pin.new.self.rows + 1) c.args.dev.birth) c.args.heap.now c.pin.new.self c.unrealize.new.heap
     c.take_out.new.heap c.drop_pin.new.heap c.args.resets.now.births c.unrealize.new.resets.births c.args.hotplug.now c.unrealize.new.hotplug
     c.args.dev.birth c.live-levels.result c.pin.ensures.now c.unrealize.ensures.undoes c.take_out.ensures c.drop_pin.ensures.goes c.requires.timely
+
+pub returns-clause-seen : goal.returns-clause-seen
+returns-clause-seen g c = λ b tree clocks shows.
+    let pinned = goes-pin c.args.heap.now c.pin.new.self c.reveal_invariant.ensures c.args.dev c.requires.live c.pin.ensures.now in
+    shown-detached c.args.heap.now c.pin.new.self c.unrealize.new.heap c.take_out.new.heap c.drop_pin.new.heap c.args.dev.birth c.live-levels.result
+    c.live-levels.ensures pinned c.unrealize.ensures.clears c.take_out.ensures c.drop_pin.ensures.goes b tree clocks shows
+
+pub returns-clause-counts : goal.returns-clause-counts
+returns-clause-counts g c = λ b tree clocks shows n was h.
+    let pinned = goes-pin c.args.heap.now c.pin.new.self c.reveal_invariant.ensures c.args.dev c.requires.live c.pin.ensures.now in
+    counts-detached c.args.heap.now c.pin.new.self c.unrealize.new.heap c.take_out.new.heap c.drop_pin.new.heap c.args.dev.birth c.live-levels.result
+    c.live-levels.ensures c.pin.ensures.now pinned c.unrealize.ensures.clears c.take_out.ensures c.drop_pin.ensures.goes b tree clocks shows n was h
 
 pub returns-clause-claims : goal.returns-clause-claims
 returns-clause-claims g c = λ b tree clocks beside due h.

@@ -9,7 +9,7 @@ pub act-requires-clause-timely : goal.act-requires-clause-timely
 act-requires-clause-timely g c = may-act Unrealize c.args.heap.now c.args.o.birth c.requires.timely
 
 pub returns-clause-undoes : goal.returns-clause-undoes
-returns-clause-undoes g c = λ held asked. undoes-act c.args.heap.now c.act.new.self c.args.o.birth c.args.period c.act.ensures held asked
+returns-clause-undoes g c = λ held asked. undoes-act c.args.heap.now c.act.new.self c.args.o.birth c.args.period c.act.ensures.now held asked
 
 pub returns-clause-kept : goal.returns-clause-kept
-returns-clause-kept g c = kept-act c.args.heap.now c.act.new.self c.args.o.birth c.args.period c.act.ensures
+returns-clause-kept g c = kept-act c.args.heap.now c.act.new.self c.args.o.birth c.args.period c.act.ensures.now

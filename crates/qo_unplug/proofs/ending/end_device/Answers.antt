@@ -1,16 +1,20 @@
 -- The act and the clock, the value, the claims, and what stands beside the tree.
-use Rattle.std.proofs.Common.{[], codes, false}
+use Rattle.std.proofs.Common.{◌≡◌, refl, ◌∙◌, ap, sym, subst, ℕ, Some, [], codes, false}
 use Rattle.qo_values.specs.declared.kinds.Act.TheVariants.{Unrealize}
 use Rattle.qo_values.specs.declared.properties.Val.TheVariants as val
+use Rattle.qo_kinds.specs.declared.kept_set.KeptSet.{KeptSet}
 use Rattle.qo_model.specs.Board.{Board}
 use Rattle.qo_model.specs.Clocks.{acted, device_period}
 use Rattle.qo_model.specs.Devices.{clock_of}
 use Rattle.qo_model.specs.Unplug.{disconnected, set_named, unheld, unnoticed, unrealized_device}
 use Rattle.qo_hotplug.specs.Hotplug.{nothing_asked}
+use Rattle.qo_heap.specs.Objects.{Objects}
+use Rattle.qo_reset.specs.Turns.{counted, sided}
+use Rattle.qo_properties.specs.KeptClaims.{kept_by}
 use Rattle.qo_unplug.specs.Unrealizing.{Undoes, parts}
-use Rattle.qo_unplug.proofs.StepLemmas.{undoes-then, undoes-unheld, undoes-unnoticed}
-use Rattle.qo_properties.proofs.KeptLemmas.{before-then}
-use Rattle.qo_unplug.proofs.KeptLemmas.{due-device}
+use Rattle.qo_unplug.proofs.StepLemmas.{clears-heap, clears-then, clears-unheld, clears-unnoticed, undoes-then, undoes-unheld, undoes-unnoticed}
+use Rattle.qo_properties.proofs.KeptLemmas.{before-then, claims-before, counts-before}
+use Rattle.qo_unplug.proofs.KeptLemmas.{due-device, kept-edited}
 use Rattle.qo_unplug.proofs.ending.end_device.Goals as goal
 
 pub unset-requires : goal.unset-requires
@@ -19,6 +23,11 @@ unset-requires g c = (c.stop.ensures.undoes [] nothing_asked).live c.args.dev c.
 pub free_claims-requires : goal.free_claims-requires
 free_claims-requires g c =
     (c.unset.ensures.undoes [] nothing_asked).live c.args.dev ((c.stop.ensures.undoes [] nothing_asked).live c.args.dev c.requires.live)
+
+pub gone-requires : goal.gone-requires
+gone-requires g c =
+    (c.free_claims.ensures.undoes [] nothing_asked).live c.args.dev
+    ((c.unset.ensures.undoes [] nothing_asked).live c.args.dev ((c.stop.ensures.undoes [] nothing_asked).live c.args.dev c.requires.live))
 
 pub returns : goal.returns
 returns g c =
@@ -31,23 +40,38 @@ returns g c =
     let third : Board → Board → Board = λ b d. unheld n (second b d) in
     let s = parts c.args.heap.now held asked in
     let stopped = c.stop.ensures.undoes held asked in
-    let undoes : Undoes (λ _. unrealized_device n) s (parts c.free_claims.new.heap after c.gone-2.new.self) =
-    undoes-then third (λ _. unnoticed n) (parts c.args.heap.now held asked) (parts c.free_claims.new.heap after asked)
-    (parts c.free_claims.new.heap after c.gone-2.new.self)
-    (undoes-then second (λ _. unheld n) (parts c.args.heap.now held asked) (parts c.free_claims.new.heap held asked)
-    (parts c.free_claims.new.heap after asked)
-    (undoes-then second (λ _ d. d) (parts c.args.heap.now held asked) (parts c.unset.new.heap held asked) (parts c.free_claims.new.heap held asked)
-    (undoes-then first (λ _. set_named n (codes "realized") (val.Bool false)) (parts c.args.heap.now held asked) (parts c.stop.new.heap held asked)
+    let heap = c.args.heap.now in
+    let cleared = c.gone.new.heap in
+    let undoes : Undoes (λ _. unrealized_device n) s (parts cleared after c.gone-2.new.self) =
+    undoes-then third (λ _. unnoticed n) (parts heap held asked) (parts cleared after asked) (parts cleared after c.gone-2.new.self)
+    (undoes-then second (λ _. unheld n) (parts heap held asked) (parts c.free_claims.new.heap held asked) (parts cleared after asked)
+    (undoes-then second (λ _ d. d) (parts heap held asked) (parts c.unset.new.heap held asked) (parts c.free_claims.new.heap held asked)
+    (undoes-then first (λ _. set_named n (codes "realized") (val.Bool false)) (parts heap held asked) (parts c.stop.new.heap held asked)
     (parts c.unset.new.heap held asked) (c.stop.ensures.undoes held asked) (c.unset.ensures.undoes held asked))
     (c.free_claims.ensures.undoes held asked))
-    (undoes-unheld n c.free_claims.new.heap held after asked c.gone.ensures.holds))
-    (undoes-unnoticed n c.free_claims.new.heap after asked c.gone-2.new.self c.gone-2.ensures) in
+    (undoes-unheld n c.free_claims.new.heap cleared held after asked c.gone.ensures.holds c.gone.ensures.now))
+    (undoes-unnoticed n cleared after asked c.gone-2.new.self c.gone-2.ensures) in
+    let unkept = kept-edited c.free_claims.new.heap n (sided (counted 0)) (λ d. refl) in
+    let before : (m : ℕ) (k : KeptSet) → kept_by cleared m ≡ Some k → kept_by c.free_claims.new.heap m ≡ Some k =
+    λ m k at. sym (unkept m) ∙ subst (λ (x : Objects). kept_by x m ≡ Some k) c.gone.ensures.now at in
     record {
       undoes = undoes;
+      clears =
+          clears-then third (λ _. unnoticed n) heap cleared cleared
+          (clears-then second (λ _. unheld n) heap c.free_claims.new.heap cleared
+          (clears-then second (λ _ d. d) heap c.unset.new.heap c.free_claims.new.heap
+          (clears-then first (λ _. set_named n (codes "realized") (val.Bool false)) heap c.stop.new.heap c.unset.new.heap
+          (clears-heap first heap c.stop.new.heap c.stop.ensures.undoes (counts-before heap c.stop.new.heap c.stop.ensures.kept))
+          (clears-heap (λ _. set_named n (codes "realized") (val.Bool false)) c.stop.new.heap c.unset.new.heap c.unset.ensures.undoes
+          (counts-before c.stop.new.heap c.unset.new.heap c.unset.ensures.kept)))
+          (clears-heap (λ _ d. d) c.unset.new.heap c.free_claims.new.heap c.free_claims.ensures.undoes
+          (λ m k e. sym (c.free_claims.ensures.counts m) ∙ e)))
+          (clears-unheld n c.free_claims.new.heap cleared c.gone.ensures.now))
+          (clears-unnoticed n cleared);
       claims = λ b e ticks same beside due h.
-          due-device n e due c.args.heap.now c.unset.new.heap c.free_claims.new.heap (same.ticks ticks).named
-          ((stopped.tree b e ticks same beside).ticks ticks).named ((undoes.tree b e ticks same beside).ticks ticks).named
-          (undoes.shown b e ticks same beside).shown
-          (before-then c.args.heap.now c.stop.new.heap c.unset.new.heap c.stop.ensures.kept c.unset.ensures.kept) c.free_claims.ensures.bare
-          c.free_claims.ensures.others h;
+          due-device n e due heap c.unset.new.heap cleared (same.ticks ticks).named ((stopped.tree b e ticks same beside).ticks ticks).named
+          ((undoes.tree b e ticks same beside).ticks ticks).named (undoes.shown b e ticks same beside).shown
+          (claims-before heap c.unset.new.heap (before-then heap c.stop.new.heap c.unset.new.heap c.stop.ensures.kept c.unset.ensures.kept))
+          (ap (λ (x : Objects). kept_by x n) c.gone.ensures.now ∙ unkept n ∙ c.free_claims.ensures.bare)
+          (λ m k apart at. c.free_claims.ensures.others m k apart (before m k at)) h;
     }

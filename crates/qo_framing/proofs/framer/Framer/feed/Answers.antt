@@ -25,8 +25,8 @@ returns-in_ok-extend_from_slice-in-Open-clause-items c =
     let size : length c.self.inside.partial.items ≡ c.len.result = search rules in
     let found = c.in-Open.ensures.found (reverse c.self.inside.partial.items) old.scanned (length-reverse c.self.inside.partial.items ∙ size) in
     let is = sym c.self.view_is ∙ ap (λ (m : Mode). framing m c.self.inside.partial.items) c.in-Inside.is in
-    fed_open c.args.self.now c.self.inside.partial.items c.args.bytes.now c.extend_from_slice.new.self.items c.in-Inside.scanner c.args.room.items is old
-    found.0 c.requires c.in_ok-extend_from_slice-in-Open.ensures.items
+    fed_open c.args.self.now c.self.inside.partial.items c.args.bytes.now c.extend_from_slice.new.self.items c.in-Inside.scanner c.clear.new.self.items is old
+    found.0 c.clear.ensures.items c.in_ok-extend_from_slice-in-Open.ensures.items
 
 pub returns-in_ok-push_some-in-Ended-clause-items :
     goal.returns-in_ok-push_some-in-Ended-clause-items
@@ -35,7 +35,7 @@ returns-in_ok-push_some-in-Ended-clause-items c =
     let size : length c.self.inside.partial.items ≡ c.len.result = search rules in
     let found = c.in-Ended.ensures.found (reverse c.self.inside.partial.items) old.scanned (length-reverse c.self.inside.partial.items ∙ size) in
     let is = sym c.self.view_is ∙ ap (λ (m : Mode). framing m c.self.inside.partial.items) c.in-Inside.is in
-    let items_are = c.in_ok-push_some-in-Ended.ensures ∙ ap (λ l. l ++ c.in_ok-item-in-Ended.item ∷ []) c.requires in
+    let items_are = c.in_ok-push_some-in-Ended.ensures ∙ ap (λ l. l ++ c.in_ok-item-in-Ended.item ∷ []) c.clear.ensures.items in
     IfOk-weaker c.go_on-in-Ended.result
     _ _ (λ all h. fed c.args.self.now c.self.inside.partial.items c.args.bytes.now c.deref.result.now c.in-Inside.scanner c.in-Ended.ending c.in-Ended.count
     c.in_ok-item-in-Ended.item c.push_some.new.items.items (state_of c.rest_of-gap.result.0) c.rest_of-gap.result.1.now _ is old c.in-Ended.ensures.count.0

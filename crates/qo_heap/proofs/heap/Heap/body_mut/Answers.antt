@@ -24,5 +24,6 @@ returns g c =
       record {
         writes_back = tt;
         body = ap (option_map (λ (x : Content). x.body)) c.entry_mut.ensures.object ∙ ap Some (sym c.body_mut.ensures.body);
+        cost = c.entry_mut.ensures.cost;
       },
     )

@@ -1,31 +1,38 @@
-use Rattle.std.proofs.Common.{ap, ap₂, ◌∙◌, ◌≡◌, map, true, ℕ, List, Option, option_map}
-use Rattle.qo_events.specs.Queue.{Waiting}
-use Rattle.qo_object.specs.Content.{reference_count}
-use Rattle.qo_object.specs.declared.objects.FinalizedParts.{FinalizedParts}
-use Rattle.qo_heap.specs.Keeping.{entry_forgets}
-use Rattle.qo_heap.specs.Objects.{content_of, with_kept_event}
-use Rattle.qo_heap.proofs.EndLemmas.{path-place, places-ended}
-use Rattle.qo_heap.proofs.InsideObjects.{ended-inside, objects_inside, read-there}
+use Rattle.std.proofs.Common.{sym, ap, ◌∙◌, option_map, arith}
+use Rattle.qo_object.specs.Content.{Content}
+use Rattle.qo_heap.specs.Objects.{Objects, content_of, ended}
+use Rattle.qo_heap.proofs.EndedLinks.{lets-next, lets-none, one-less}
 use Rattle.qo_heap.proofs.heap.Heap.finish.Goals as goal
 
-pub tell_deleted-requires : goal.tell_deleted-requires
-tell_deleted-requires g c =
-    rw c.into_finalized_parts-kind.ensures
-    (path-place (objects_inside c.self.inside) c.self.invariant.0.0 c.self.invariant.0.1 c.args.o.birth c.take_object.result c.take_object.ensures.object)
+pub loop-init : goal.loop-init
+loop-init g c = lets-none c.args.o c.args.self.now c.args.steps.now c.requires.live c.requires.free c.requires.bare
 
-pub invariant_of-self : goal.invariant_of-self
-invariant_of-self g c =
-    let told : Option (List ℕ) → Option (List ℕ) → ℕ =
-    λ id path. (with_kept_event (option_map (λ (p : List ℕ). record { deleted = true; id = id; path = p }) path) c.self.inside.events).promised in
-    let same : told c.free_all-id.result c.into_finalized_parts-kind.result.path ≡ told c.take_object.result.device_id c.take_object.result.kept_path = ap₂ told
-    (c.free_all-id.ensures.id ∙ ap (λ (r : FinalizedParts). r.id) c.into_finalized_parts-kind.ensures)
-    (ap (λ (r : FinalizedParts). r.path) c.into_finalized_parts-kind.ensures) in
-    let places = ap (λ (w : Waiting). w.promised) c.tell_deleted.ensures ∙ same
-    ∙ places-ended (objects_inside c.self.inside) c.self.invariant.0.0 c.self.invariant.0.1 c.args.o.birth c.take_object.result c.take_object.ensures.object in
-    let bare = read-there reference_count (content_of (objects_inside c.self.inside) c.args.o.birth) c.take_object.result 0 c.take_object.ensures.object
-    (rw (← c.self.view_is) at c.requires.bare) in
-    let ended = ended-inside c.self.inside c.self.invariant c.args.o (rw (← c.self.view_is) at c.requires.free) c.take_object.result
-    c.take_object.ensures.object bare c.forget_all.new.table c.take_object.new.order.items
-    (c.forget_all.ensures.kept ∙ ap (map (entry_forgets c.args.o.birth)) c.take_object.ensures.kept)
-    (c.forget_all.ensures.born ∙ c.take_object.ensures.born) c.free_all-id.new.claims c.tell_deleted.new.events places in
-    (ended.0, (c.forget_all.ensures.ordered, (ended.1, c.self.invariant.1.1.1)))
+pub loop-smaller : goal.loop-smaller
+loop-smaller g c =
+    omega (arith, one-less c.args.o.birth c.loop.self c.drop_weak_end.new.self (c.drop_weak_end.ensures.dropped c.loop-test.true))
+
+pub loop-preserved : goal.loop-preserved
+loop-preserved g c =
+    lets-next c.args.o c.args.self.now c.loop.self c.drop_weak_end.new.self c.args.steps.now c.loop.steps c.drop_weak_end.new.steps c.loop.invariant
+    (c.drop_weak_end.ensures.dropped c.loop-test.true) (c.drop_weak_end.ensures.cost c.loop-test.true)
+
+pub remove-requires-clause-live : goal.remove-requires-clause-live
+remove-requires-clause-live g c = rw (c.drop_weak_end.ensures.same c.loop-test.false) c.loop.invariant.live
+
+pub remove-requires-clause-free : goal.remove-requires-clause-free
+remove-requires-clause-free g c = rw (c.drop_weak_end.ensures.same c.loop-test.false) c.loop.invariant.free
+
+pub remove-requires-clause-bare : goal.remove-requires-clause-bare
+remove-requires-clause-bare g c = rw (c.drop_weak_end.ensures.same c.loop-test.false) c.loop.invariant.bare
+
+pub remove-requires-clause-alone : goal.remove-requires-clause-alone
+remove-requires-clause-alone g c = rw (c.drop_weak_end.ensures.same c.loop-test.false) (c.drop_weak_end.ensures.none c.loop-test.false)
+
+pub returns-clause-now : goal.returns-clause-now
+returns-clause-now g c =
+    sym c.loop.invariant.left
+    ∙ sym (ap (λ (v : Objects). option_map (λ (x : Content). ended c.args.o.birth x v) (content_of v c.args.o.birth)) (c.drop_weak_end.ensures.same c.loop-test.false))
+    ∙ c.remove.ensures.now
+
+pub returns-clause-cost : goal.returns-clause-cost
+returns-clause-cost g c = omega (arith, c.loop.invariant.cost, c.drop_weak_end.ensures.cost_none c.loop-test.false, c.remove.ensures.cost)

@@ -10,4 +10,4 @@ invariant_of-self g c =
     let made : IsTable c.add_object.new.table c.add_object.new.order.items (objects_inside c.self.inside) =
     made-inside c.self.inside c.self.invariant c.args.kind (omega arith) c.add_object.result c.add_object.new.table c.add_object.new.order.items
     (rw c.new.ensures at c.add_object.ensures.added) (rw c.new.ensures at c.add_object.ensures.kept) (rw c.new.ensures at c.add_object.ensures.refused) in
-    (made.0, (c.add_object.ensures.ordered, (made.1, c.self.invariant.1.1.1)))
+    (made.0, (c.add_object.ensures.ordered, (made.1.0, (made.1.1, c.self.invariant.1.1.1.1))))

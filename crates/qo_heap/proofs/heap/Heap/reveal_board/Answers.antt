@@ -7,7 +7,7 @@ use Rattle.qo_heap.proofs.heap.Heap.reveal_board.Goals as goal
 
 pub returns : goal.returns
 returns c =
-    let notes = some_lem c.self.inside.total c.self.inside.notes.items c.self.invariant.1.1.1.1 (omega arith) in
+    let notes = some_lem c.self.inside.total c.self.inside.notes.items c.self.invariant.1.1.1.1.1 (omega arith) in
     rw (← c.self.view_is) (
       record {
         records = map record_of (plain (rows_in c.self.inside.table c.self.inside.order.items));

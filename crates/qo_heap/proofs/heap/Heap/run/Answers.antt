@@ -12,5 +12,5 @@ edited g c =
 pub invariant_of-self : goal.invariant_of-self
 invariant_of-self g c = (edited g c).good
 
-pub returns : goal.returns
-returns g c = rw (← c.self.view_is) (edited g c).now
+pub returns-clause-now : goal.returns-clause-now
+returns-clause-now g c = rw (← c.self.view_is) (edited g c).now

@@ -3,7 +3,8 @@ use Rattle.qo_object.specs.Slots.{with_val}
 use Rattle.qo_object.specs.Content.{set_at}
 use Rattle.qo_heap.proofs.HeapLemmas.{set-there}
 use Rattle.qo_heap.proofs.HoldLemmas.{changed-length, set-moves}
-use Rattle.qo_heap.proofs.InsideObjects.{EditedInside, changed-inside, changes-kept, content-written, few-there, objects_inside, with_content, with_written}
+use Rattle.qo_heap.proofs.InsideObjects.{EditedInside, changed-inside, changes-kept, content-written, few-there, objects_inside, weak-written, with_content, with_written}
+use Rattle.qo_heap.proofs.WeakSlots.{set-names}
 use Rattle.qo_heap.proofs.heap.Heap.set.Goals as goal
 
 edited : (g : _) (c : goal.After-self-1 g)
@@ -19,6 +20,7 @@ edited g c =
     (changes-kept h c.self.invariant o live (set_at c.args.val c.args.at) e w c.entry_mut.ensures.kept is
     (set-moves c.args.val c.args.at e.object)
     (few-there h c.self.invariant o live (set_at c.args.val c.args.at) e w c.entry_mut.ensures.kept is (le_of_eq (changed-length (with_val c.args.val) c.args.at e.object.slots))))
+    (weak-written h c.self.invariant o live (set_at c.args.val c.args.at) e w c.entry_mut.ensures.kept is (set-names c.args.val c.args.at e.object.slots))
     (λ x. set-there (objects_inside h) c.args.val c.args.at x) (λ x. refl)
 
 pub invariant_of-self : goal.invariant_of-self

@@ -1,52 +1,72 @@
-use Rattle.std.proofs.Common.{refl, ap, ◌≤◌, ◌<◌, ◌+◌, ◌∙◌, length, List, arith}
-use Rattle.qo_values.proofs.ListLemmas.{all-imply}
+use Rattle.std.proofs.Common.{◌≡◌, ◌≤◌, ap, subst, ◌∙◌, List, ℕ, length, slice_get, Option, arith}
+use Rattle.std.specs.List.{IsDistinct}
+use Rattle.std.specs.Option.{option_and_then}
+use Rattle.std.specs.Str.{bytes_eq}
 use Rattle.qo_slots.specs.declared.keys.Key.{Key}
-use Rattle.qo_object.specs.Content.{with_all_slots}
-use Rattle.qo_object.specs.Slots.{Named}
-use Rattle.qo_heap.specs.Keeping.{all_more, holds_in}
+use Rattle.qo_heap.specs.Furnishing.{refilled}
 use Rattle.qo_heap.specs.Rows.{IsLive}
-use Rattle.qo_heap.specs.declared.entries.Entry.{Entry}
-use Rattle.qo_heap.proofs.HeapLemmas.{each-names}
-use Rattle.qo_heap.proofs.HeldInside.{furnished-changes, live-held}
-use Rattle.qo_heap.proofs.InsideObjects.{EditedInside, changed-inside, content-written, entries, entries-few, objects_inside, with_content}
-use Rattle.qo_slots.specs.Table.{with_value}
+use Rattle.qo_heap.proofs.FurnishLemmas.{filled-end, filled-next, filling-live, given-empty, given-live, split-childless, split-empty, split-few, split-names, split-targets}
 use Rattle.qo_heap.proofs.heap.Heap.set_slots.Goals as goal
 
-pub add_holds-requires-clause-live : goal.add_holds-requires-clause-live
-add_holds-requires-clause-live g c =
-    rw c.as_slice.ensures.value (each-names (IsLive (objects_inside c.self.inside).rows) c.args.slots.items (rw (← c.self.view_is) at c.requires.targets))
+target-is : (ts seen : List (Option Key)) (k : ℕ) (target : Option Key) → seen ≡ ts → target ≡ option_and_then (λ (t : Option Key). t) (slice_get seen k)
+    → target ≡ option_and_then (λ (t : Option Key). t) (slice_get ts k)
+target-is ts seen k target same is = is ∙ ap (λ (l : List (Option Key)). option_and_then (λ (t : Option Key). t) (slice_get l k)) same
 
-pub add_holds-requires-clause-room : goal.add_holds-requires-clause-room
-add_holds-requires-clause-room g c =
-    let few : length c.args.slots.items ≤ 4294967296 = c.requires.few in
-    rw c.as_slice.ensures.value (all-imply (λ (row : Key × Entry). row.1.held ≤ 281474976710656) (λ (row : Key × Entry). row.1.held + length c.args.slots.items < 9223372036854775808)
-    (λ row low. omega (arith, low, few)) (entries c.self.inside) (entries-few c.self.inside c.self.invariant))
+pub furnish-requires-clause-targets : goal.furnish-requires-clause-targets
+furnish-requires-clause-targets g c =
+    split-targets (IsLive c.args.self.now.rows) c.slots.inside.targets.items c.slots.inside.slots.items c.slots.invariant.0
+    (rw (← c.slots.view_is) at c.requires.targets)
 
-pub entry_mut-requires-clause-live : goal.entry_mut-requires-clause-live
-entry_mut-requires-clause-live g c =
-    live-held c.self.inside c.self.invariant c.args.o (rw (← c.self.view_is) at c.requires.live) c.args.slots.items
-    (rw (← c.self.view_is) at c.requires.bare) c.requires.childless c.requires.few c.add_holds.new.table c.add_holds.ensures.ordered
-    (c.add_holds.ensures.rows ∙ ap (λ (l : List Named). all_more c.args.o (holds_in l) (entries c.self.inside)) c.as_slice.ensures.value)
-    c.add_holds.ensures.born
+pub furnish-requires-clause-differ : goal.furnish-requires-clause-differ
+furnish-requires-clause-differ g c =
+    subst (λ (l : List (List ℕ)). IsDistinct bytes_eq l) (split-names c.slots.inside.targets.items c.slots.inside.slots.items c.slots.invariant.0)
+    (rw (← c.slots.view_is) at c.requires.differ)
 
-edited : (g : _) (c : goal.After-self-1 g)
-    → EditedInside c.self.inside c.args.o (with_all_slots c.args.slots.items)
-    (with_value c.add_holds.new.table c.args.o (with_content c.entry_mut.result.now c.set_slots.new.self))
-edited g c =
-    let h = c.self.inside in
-    let f = with_all_slots c.args.slots.items in
-    let e = c.entry_mut.result.now in
-    let w = with_content e c.set_slots.new.self in
-    let live = rw (← c.self.view_is) at c.requires.live in
-    changed-inside h c.self.invariant c.args.o live f (with_value c.add_holds.new.table c.args.o w)
-    (furnished-changes h c.self.invariant c.args.o live c.args.slots.items (rw (← c.self.view_is) at c.requires.bare) c.requires.childless c.requires.few
-    c.add_holds.new.table c.add_holds.ensures.ordered
-    (c.add_holds.ensures.rows ∙ ap (λ (l : List Named). all_more c.args.o (holds_in l) (entries h)) c.as_slice.ensures.value) c.add_holds.ensures.born
-    e c.entry_mut.ensures.kept w (content-written f e c.set_slots.new.self c.set_slots.ensures))
-    (λ x all. rw (← c.self.view_is) at c.requires.targets) (λ x. refl)
+pub furnish-requires-clause-few : goal.furnish-requires-clause-few
+furnish-requires-clause-few g c =
+    let few : length (refilled c.slots.inside.targets.items c.slots.inside.slots.items) ≤ 4294967296 = rw (← c.slots.view_is) at c.requires.few in
+    let less : length c.slots.inside.slots.items ≤ 4294967296 =
+    omega (arith, few, split-few c.slots.inside.targets.items c.slots.inside.slots.items c.slots.invariant.0) in
+    less
 
-pub invariant_of-self : goal.invariant_of-self
-invariant_of-self g c = (edited g c).good
+pub furnish-requires-clause-childless : goal.furnish-requires-clause-childless
+furnish-requires-clause-childless g c =
+    split-childless c.slots.inside.targets.items c.slots.inside.slots.items c.slots.invariant.0 (rw (← c.slots.view_is) at c.requires.childless)
+
+pub furnish-requires-clause-empty : goal.furnish-requires-clause-empty
+furnish-requires-clause-empty g c = split-empty c.slots.inside.targets.items c.slots.inside.slots.items c.slots.invariant.0
+
+pub furnish-requires-clause-numbered : goal.furnish-requires-clause-numbered
+furnish-requires-clause-numbered g c = c.slots.invariant.1.0
+
+pub furnish-requires-clause-rising : goal.furnish-requires-clause-rising
+furnish-requires-clause-rising g c = c.slots.invariant.1.1
+
+pub loop-at-init : goal.loop-at-init
+loop-at-init g c = (c.slots.inside.slots.items, (c.slots.invariant.0, (c.slots.view_is, c.furnish.ensures)))
+
+pub point_if-requires-clause-live : goal.point_if-requires-clause-live
+point_if-requires-clause-live g c =
+    filling-live c.args.o c.args.self.now c.loop-at.self c.slots.inside.targets.items c.loop-at.at c.args.slots c.loop-at.invariant c.args.o c.requires.live
+
+pub point_if-requires-clause-target : goal.point_if-requires-clause-target
+point_if-requires-clause-target g c =
+    given-live c.args.o c.args.self.now c.loop-at.self c.slots.inside.targets.items c.loop-at.at c.args.slots c.loop-at.invariant c.target_in.result
+    (target-is c.slots.inside.targets.items c.as_slice.result.now c.loop-at.at c.target_in.result c.as_slice.ensures.value c.target_in.ensures) c.requires.targets
+
+pub point_if-requires-clause-link : goal.point_if-requires-clause-link
+point_if-requires-clause-link g c =
+    given-empty c.args.o c.args.self.now c.loop-at.self c.slots.inside.targets.items c.loop-at.at c.args.slots c.loop-at.invariant c.requires.live
+    c.target_in.result
+    (target-is c.slots.inside.targets.items c.as_slice.result.now c.loop-at.at c.target_in.result c.as_slice.ensures.value c.target_in.ensures)
+
+pub loop-at-preserved : goal.loop-at-preserved
+loop-at-preserved g c =
+    filled-next c.args.o c.args.self.now c.loop-at.self c.slots.inside.targets.items c.loop-at.at c.args.slots c.loop-at.invariant c.target_in.result
+    (target-is c.slots.inside.targets.items c.as_slice.result.now c.loop-at.at c.target_in.result c.as_slice.ensures.value c.target_in.ensures)
+    c.point_if.new.self c.point_if.ensures.some c.point_if.ensures.none
 
 pub returns : goal.returns
-returns g c = rw (← c.self.view_is) (edited g c).now
+returns g c =
+    let past : length c.slots.inside.targets.items ≤ c.loop-at.at = omega (arith, c.len-at-end.ensures, c.loop-at-test.false) in
+    filled-end c.args.o c.args.self.now c.loop-at.self c.slots.inside.targets.items c.loop-at.at c.args.slots c.loop-at.invariant past

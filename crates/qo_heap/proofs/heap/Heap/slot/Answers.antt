@@ -22,3 +22,9 @@ pub returns-in-None-clause-slot : goal.returns-in-None-clause-slot
 returns-in-None-clause-slot g c =
     rw c.look-object.ensures.object
     (sym (position-none (λ (s : List ℕ × Slot). bytes_eq c.args.name.now s.0) c.look-object.result.now.slots (sym c.find.ensures ∙ c.in-None.is)))
+
+pub returns-in-Some-clause-names : goal.returns-in-Some-clause-names
+returns-in-Some-clause-names g c = rw c.look-object.ensures.object c.reveal_invariant.ensures.named
+
+pub returns-in-None-clause-names : goal.returns-in-None-clause-names
+returns-in-None-clause-names g c = rw c.look-object.ensures.object c.reveal_invariant.ensures.named

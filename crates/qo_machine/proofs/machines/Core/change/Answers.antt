@@ -12,7 +12,8 @@ changed_text-text-requires g c = c.in_ok-empty.ensures empty empty_written
 
 pub returns-clause-came : goal.returns-clause-came
 returns-clause-came g c = λ b stands.
-    let did = c.in_ok-done.ensures b (stands_in b c.self.inside.board c.args.self.now (seen_board c.self.view_is) stands) in
+    let did = c.in_ok-done.ensures.came b stands in
+    let here = stands_in _ c.self.inside.board c.apply.new.self (seen_board c.self.view_is) did.0 in
     record {
       stands = did.0;
       events = ap (λ (d : Done). d.events) did.1;
@@ -21,5 +22,5 @@ returns-clause-came g c = λ b stands.
           IfOk-weaker c.changed_text-text.result _ _
           (λ text written.
           written (no_float (made b c.args.change.now).board c.in_ok-done.done.result)
-          ∙ ap (λ (d : Done). reply (option_map (λ id. id.now) c.args.id) d.result) did.1) (c.changed_text-text.ensures _ did.0);
+          ∙ ap (λ (d : Done). reply (option_map (λ id. id.now) c.args.id) d.result) did.1) (c.changed_text-text.ensures _ here);
     }

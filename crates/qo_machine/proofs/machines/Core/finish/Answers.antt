@@ -10,9 +10,9 @@ abbrev over : Board → List ℕ → List Session → State
 over b line sessions = record { board = b; sessions = sessions; guest_line = line; ended = true }
 
 pub invariant_of-self : goal.invariant_of-self
-invariant_of-self c = c.close_where.ensures.size
+invariant_of-self c = (c.close_where.ensures.size, c.self.invariant.1)
 
 pub returns-clause-done : goal.returns-clause-done
 returns-clause-done c = λ b.
     ap (λ (line : List ℕ). over b line c.close_where.new.sessions.items) c.clear.ensures.items
-    ∙ ap (over b []) (c.close_where.ensures.closed ∙ closed_sixteen c.self.inside.sessions.items c.self.invariant)
+    ∙ ap (over b []) (c.close_where.ensures.closed ∙ closed_sixteen c.self.inside.sessions.items c.self.invariant.0)

@@ -9,9 +9,9 @@ use Rattle.qo_machine.proofs.machines.Core.take.Goals as goal
 
 pub returns-clause-answered : goal.returns-clause-answered
 returns-clause-answered g c =
-    let items = rw c.item_room-room.ensures.same at c.in_ok-items.ensures.items in
-    let state = rw c.item_room-room.ensures.same at c.in_ok-items.ensures.state in
-    let board = c.feed.ensures.board ∙ ap (λ (m : Seen). m.board) c.item_room-room.ensures.same in
+    let items = rw c.item_room-room.ensures at c.in_ok-items.ensures.items in
+    let state = rw c.item_room-room.ensures at c.in_ok-items.ensures.state in
+    let board = c.feed.ensures.board ∙ ap (λ (m : Seen). m.board) c.item_room-room.ensures in
     rw c.keep_items.ensures
     (served_items c.serve_items-outs.result c.args.at c.args.session c.args.self.now c.feed.new.self c.serve_items-outs.new.machine c.args.bytes.now c.deref.result.now
     (omega arith) (λ b. c.deref.ensures.value ∙ items b) state board c.serve_items-outs.ensures.served)
@@ -24,13 +24,13 @@ pub returns-in_err-items-clause-breaks : goal.returns-in_err-items-clause-breaks
 returns-in_err-items-clause-breaks g c = λ s here.
     on-err c.from_residual.result
     (breaks_before s (record { at = c.args.at; what = Bytes c.args.session c.args.bytes.now }) c.args.self.now c.feed.new.self
-    (c.feed.ensures.board ∙ ap (λ (m : Seen). m.board) c.item_room-room.ensures.same) here)
+    (c.feed.ensures.board ∙ ap (λ (m : Seen). m.board) c.item_room-room.ensures) here)
 
 pub returns-clause-breaks : goal.returns-clause-breaks
 returns-clause-breaks g c = λ s here.
-    let items = rw c.item_room-room.ensures.same at c.in_ok-items.ensures.items in
-    let state = rw c.item_room-room.ensures.same at c.in_ok-items.ensures.state in
-    let board = c.feed.ensures.board ∙ ap (λ (m : Seen). m.board) c.item_room-room.ensures.same in
+    let items = rw c.item_room-room.ensures at c.in_ok-items.ensures.items in
+    let state = rw c.item_room-room.ensures at c.in_ok-items.ensures.state in
+    let board = c.feed.ensures.board ∙ ap (λ (m : Seen). m.board) c.item_room-room.ensures in
     rw c.keep_items.ensures
     (err_more c.serve_items-outs.result
     (λ left.

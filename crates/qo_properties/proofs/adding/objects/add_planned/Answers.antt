@@ -17,16 +17,16 @@ use Rattle.qo_properties.proofs.adding.objects.add_planned.Goals as goal
 
 pub make_with-requires-clause-targets : goal.make_with-requires-clause-targets
 make_with-requires-clause-targets g c =
-    slots-live c.args.admitted.kind c.args.plan.items c.in_ok-slots.slots.items c.in_ok-slots.ensures (IsLive c.args.heap.now.rows) c.requires.targets
+    slots-live c.args.admitted.kind c.args.plan.items c.in_ok-slots.slots c.in_ok-slots.ensures (IsLive c.args.heap.now.rows) c.requires.targets
 
 pub make_with-requires-clause-differ : goal.make_with-requires-clause-differ
-make_with-requires-clause-differ g c = slots-differ c.args.admitted.kind c.args.plan.items c.in_ok-slots.slots.items c.in_ok-slots.ensures
+make_with-requires-clause-differ g c = slots-differ c.args.admitted.kind c.args.plan.items c.in_ok-slots.slots c.in_ok-slots.ensures
 
 pub make_with-requires-clause-few : goal.make_with-requires-clause-few
-make_with-requires-clause-few g c = slots-few c.args.admitted.kind c.args.plan.items c.in_ok-slots.slots.items c.in_ok-slots.ensures
+make_with-requires-clause-few g c = slots-few c.args.admitted.kind c.args.plan.items c.in_ok-slots.slots c.in_ok-slots.ensures
 
 pub make_with-requires-clause-childless : goal.make_with-requires-clause-childless
-make_with-requires-clause-childless g c = slots-childless c.args.admitted.kind c.args.plan.items c.in_ok-slots.slots.items c.in_ok-slots.ensures
+make_with-requires-clause-childless g c = slots-childless c.args.admitted.kind c.args.plan.items c.in_ok-slots.slots c.in_ok-slots.ensures
 
 pub unpin-requires-clause-live : goal.unpin-requires-clause-live
 unpin-requires-clause-live g c = child-live c.reveal_invariant.ensures c.in_ok-made.ensures.made
@@ -46,7 +46,7 @@ returns-clause-ok g c = λ b props s given.
     (sym (child-unpinned c.reveal_invariant.ensures c.in_ok-made.ensures.made c.unpin.new.self c.unpin.ensures.now))
     (
     shows-object b c.args.heap.now s c.in_ok-made.made c.args.admitted.objects c.requires.objects c.in_ok-made.ensures.made.birth c.own-name.result
-    c.args.admitted.kind props c.in_ok-slots.slots.items
+    c.args.admitted.kind props c.in_ok-slots.slots
     (ap shown_slots c.in_ok-slots.ensures ∙ filled-given b props c.args.plan.items (new_slots c.args.admitted.kind) given
     ∙ ap (map (slot_given b props)) (new-shown c.args.admitted.kind (slots_of c.args.admitted.kind)))
     )
@@ -54,7 +54,7 @@ returns-clause-ok g c = λ b props s given.
 
 pub returns-clause-pins : goal.returns-clause-pins
 returns-clause-pins g c =
-    object-pins c.args.heap.now c.in_ok-made.made c.args.admitted.objects c.own-name.result c.args.admitted.kind c.in_ok-slots.slots.items c.unpin.new.self
+    object-pins c.args.heap.now c.in_ok-made.made c.args.admitted.objects c.own-name.result c.args.admitted.kind c.in_ok-slots.slots c.unpin.new.self
     (child-unpinned c.reveal_invariant.ensures c.in_ok-made.ensures.made c.unpin.new.self c.unpin.ensures.now)
 
 pub returns-in_err-made-clause-book : goal.returns-in_err-made-clause-book
@@ -62,7 +62,7 @@ returns-in_err-made-clause-book g c = tried-keeps c.args.heap.now c.make_with.ne
 
 pub returns-clause-book : goal.returns-clause-book
 returns-clause-book g c =
-    object-keeps c.args.heap.now c.in_ok-made.made c.args.admitted.objects c.own-name.result c.args.admitted.kind c.in_ok-slots.slots.items c.unpin.new.self
+    object-keeps c.args.heap.now c.in_ok-made.made c.args.admitted.objects c.own-name.result c.args.admitted.kind c.in_ok-slots.slots c.unpin.new.self
     (child-unpinned c.reveal_invariant.ensures c.in_ok-made.ensures.made c.unpin.new.self c.unpin.ensures.now)
 
 pub returns-in_err-made-clause-kept : goal.returns-in_err-made-clause-kept
@@ -70,5 +70,5 @@ returns-in_err-made-clause-kept g c = tried-kept c.args.heap.now c.make_with.new
 
 pub returns-clause-kept : goal.returns-clause-kept
 returns-clause-kept g c =
-    object-kept c.args.heap.now c.in_ok-made.made c.args.admitted.objects c.own-name.result c.args.admitted.kind c.in_ok-slots.slots.items c.unpin.new.self
+    object-kept c.args.heap.now c.in_ok-made.made c.args.admitted.objects c.own-name.result c.args.admitted.kind c.in_ok-slots.slots c.unpin.new.self
     (child-unpinned c.reveal_invariant.ensures c.in_ok-made.ensures.made c.unpin.new.self c.unpin.ensures.now)

@@ -19,4 +19,4 @@ pub finish-requires-clause-bare : goal.finish-requires-clause-bare
 finish-requires-clause-bare g c = unpinned-bare c.args.heap.now c.unpin.new.self c.args.o.birth c.unpin.ensures.now c.requires.bare
 
 pub returns : goal.returns
-returns g c = unpinned-kind c.args.heap.now c.unpin.new.self c.finish.new.self c.args.o.birth c.unpin.ensures.now c.finish.ensures
+returns g c = unpinned-kind c.args.heap.now c.unpin.new.self c.finish.new.self c.args.o.birth c.unpin.ensures.now c.finish.ensures.now

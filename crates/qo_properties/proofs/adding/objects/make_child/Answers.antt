@@ -7,8 +7,8 @@ pub make_with-requires : goal.make_with-requires
 make_with-requires g c =
     record {
       parent = c.requires;
-      targets = none-live c.args.kind c.new.result.items c.in_ok-slots.slots.items c.in_ok-slots.ensures c.new.ensures.items (IsLive c.args.heap.now.rows);
-      differ = slots-differ c.args.kind c.new.result.items c.in_ok-slots.slots.items c.in_ok-slots.ensures;
-      few = slots-few c.args.kind c.new.result.items c.in_ok-slots.slots.items c.in_ok-slots.ensures;
-      childless = slots-childless c.args.kind c.new.result.items c.in_ok-slots.slots.items c.in_ok-slots.ensures;
+      targets = none-live c.args.kind c.new.result.items c.in_ok-slots.slots c.in_ok-slots.ensures c.new.ensures.items (IsLive c.args.heap.now.rows);
+      differ = slots-differ c.args.kind c.new.result.items c.in_ok-slots.slots c.in_ok-slots.ensures;
+      few = slots-few c.args.kind c.new.result.items c.in_ok-slots.slots c.in_ok-slots.ensures;
+      childless = slots-childless c.args.kind c.new.result.items c.in_ok-slots.slots c.in_ok-slots.ensures;
     }

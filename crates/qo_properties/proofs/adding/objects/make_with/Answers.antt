@@ -30,7 +30,7 @@ set_slots-requires-clause-targets g c =
     all-imply (IsLive c.args.heap.now.rows) (IsLive c.add_child.new.self.rows)
     (beside-live c.args.heap.now c.create.new.heap c.add_child.new.self c.in_ok-o.o (fresh c.args.kind) c.args.parent.birth
     (with_slot c.args.name (Child c.in_ok-o.o)) c.in_ok-o.ensures.made.1 c.in-Ok.ensures.added)
-    (filter_map (λ (s : Named). target_of s.1) c.args.slots.items) c.requires.targets
+    (filter_map (λ (s : Named). target_of s.1) c.args.slots) c.requires.targets
 
 pub set_slots-requires-clause-bare : goal.set_slots-requires-clause-bare
 set_slots-requires-clause-bare g c =
@@ -68,6 +68,6 @@ returns-in-Ok-clause-made g c =
       birth = c.in_ok-o.ensures.made.0;
       is =
           furnished-child c.args.heap.now c.create.new.heap c.add_child.new.self c.set_slots.new.self c.in_ok-o.o c.args.parent c.args.name c.args.kind
-          c.args.slots.items c.reveal_invariant.ensures c.in_ok-o.ensures.made.0 c.requires.parent c.in_ok-o.ensures.made.1 c.in-Ok.ensures.added
+          c.args.slots c.reveal_invariant.ensures c.in_ok-o.ensures.made.0 c.requires.parent c.in_ok-o.ensures.made.1 c.in-Ok.ensures.added
           c.set_slots.ensures;
     }

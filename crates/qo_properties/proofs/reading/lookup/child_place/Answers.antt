@@ -1,26 +1,21 @@
--- The slots are looked at one after another.
-use Rattle.std.proofs.Common.{sym, ◌∙◌}
-use Rattle.qo_model.specs.Objects.{is_object_named}
+-- The one slot of the name is the place, where a child stands in it.
+use Rattle.std.proofs.Common.{rules, ◌≡◌, sym, ◌∙◌, None}
 use Rattle.qo_heap.specs.Objects.{slots_of}
-use Rattle.qo_heap.proofs.SlotPlaces.{place-here, place-next, place-past, slots-fewer}
+use Rattle.qo_properties.proofs.LookupLemmas.{child-absent, child-other, child-place}
 use Rattle.qo_properties.proofs.reading.lookup.child_place.Goals as goal
 
-pub returns-then-is_child_named : goal.returns-then-is_child_named
-returns-then-is_child_named g c =
-    sym (place-here (is_object_named c.args.id.now) c.loop-view.at (slots_of c.args.heap.now c.args.o.birth) (c.in-Some.view.name.now, c.in-Some.view.what.now)
-    (sym c.in-Some.ensures.slot) (sym c.is_child_named.ensures ∙ c.if-is_child_named.true))
-    ∙ c.loop-view.invariant
+pub returns-in_err-slot-clause-place : goal.returns-in_err-slot-clause-place
+returns-in_err-slot-clause-place g c =
+    let none : c.from_residual.result ≡ None = search rules in
+    none ∙ sym (child-absent c.args.id.now 0 (slots_of c.args.heap.now c.args.o.birth) (sym c.in_err-slot.ensures.slot))
 
-pub loop-view-smaller : goal.loop-view-smaller
-loop-view-smaller g c = slots-fewer c.loop-view.at _ _ (sym c.in-Some.ensures.slot)
+pub returns-then-is_child-clause-place : goal.returns-then-is_child-clause-place
+returns-then-is_child-clause-place g c =
+    c.in_ok-slot.ensures.at
+    ∙ sym (child-place c.args.id.now (slots_of c.args.heap.now c.args.o.birth) c.in_ok-slot.slot.name.now c.in_ok-slot.slot.what.now
+    (sym c.in_ok-slot.ensures.slot) (sym c.is_child.ensures ∙ c.if-is_child.true))
 
-pub loop-view-preserved : goal.loop-view-preserved
-loop-view-preserved g c =
-    sym (place-next (is_object_named c.args.id.now) c.loop-view.at (slots_of c.args.heap.now c.args.o.birth) (c.in-Some.view.name.now, c.in-Some.view.what.now)
-    (sym c.in-Some.ensures.slot) (sym c.is_child_named.ensures ∙ c.if-is_child_named.false))
-    ∙ c.loop-view.invariant
-
-pub returns : goal.returns
-returns g c =
-    sym (place-past (is_object_named c.args.id.now) c.loop-view.at (slots_of c.args.heap.now c.args.o.birth) (sym c.in_default.ensures.slot))
-    ∙ c.loop-view.invariant
+pub returns-clause-place : goal.returns-clause-place
+returns-clause-place g c =
+    sym (child-other c.args.id.now 0 (slots_of c.args.heap.now c.args.o.birth) c.in_ok-slot.slot.name.now c.in_ok-slot.slot.what.now
+    c.in_ok-slot.ensures.names (sym c.in_ok-slot.ensures.slot) (sym c.is_child.ensures ∙ c.if-is_child.false))

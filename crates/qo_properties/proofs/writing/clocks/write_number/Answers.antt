@@ -47,15 +47,15 @@ returns-in-Div-clause-pins g c =
 pub returns-in-Period-clause-kept : goal.returns-in-Period-clause-kept
 returns-in-Period-clause-kept g c =
     clock-kept c.args.heap.now c.set.new.heap (with_period c.args.c.birth c.args.number c.args.heap.now) c.set.result
-    (period-kept c.args.heap.now c.args.c.birth c.args.number) c.set.ensures.acts c.set.ensures.err
+    (period-kept c.args.heap.now c.args.c.birth c.args.number) c.set.ensures.acts c.set.ensures.counts c.set.ensures.err
 
 pub returns-in-Mul-clause-kept : goal.returns-in-Mul-clause-kept
 returns-in-Mul-clause-kept g c =
     clock-kept c.args.heap.now c.set_mul_div.new.heap (with_scale c.args.c.birth c.args.number c.div-div.result c.args.heap.now) c.set_mul_div.result
-    (scale-kept c.args.heap.now c.args.c.birth c.args.number c.div-div.result) c.set_mul_div.ensures.acts c.set_mul_div.ensures.err
+    (scale-kept c.args.heap.now c.args.c.birth c.args.number c.div-div.result) c.set_mul_div.ensures.acts c.set_mul_div.ensures.counts c.set_mul_div.ensures.err
 
 pub returns-in-Div-clause-kept : goal.returns-in-Div-clause-kept
 returns-in-Div-clause-kept g c =
     clock-kept c.args.heap.now c.set_mul_div-in-Div.new.heap (with_scale c.args.c.birth c.mul-mul.result c.args.number c.args.heap.now)
     c.set_mul_div-in-Div.result (scale-kept c.args.heap.now c.args.c.birth c.mul-mul.result c.args.number) c.set_mul_div-in-Div.ensures.acts
-    c.set_mul_div-in-Div.ensures.err
+    c.set_mul_div-in-Div.ensures.counts c.set_mul_div-in-Div.ensures.err

@@ -17,6 +17,7 @@ invariant_of-self g c =
           c.ask.result s sound
           (asked-good b c.args.id.now sound) (c.ask.ensures.asked b s.shows told) c.ask.ensures.err,
       c.self.invariant.2,
+      c.self.invariant.3,
     )
 
 pub ask-requires : goal.ask-requires

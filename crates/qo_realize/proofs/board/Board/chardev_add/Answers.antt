@@ -14,6 +14,7 @@ invariant_of-self c =
           (λ b. ring_added b c.args.id.now c.args.kind.now c.unwrap_or-size.result) c.add.result
           (λ b good. ring_added-good b c.args.id.now c.args.kind.now c.unwrap_or-size.result good) c.add.ensures.change c.add.ensures.err c.self.invariant.1,
       c.self.invariant.2,
+      c.self.invariant.3,
     )
 
 pub returns-clause-change : goal.returns-clause-change

@@ -15,6 +15,7 @@ invariant_of-self c =
           (λ b. chardev_removed b c.args.id.now) c.remove.result (λ b good. ring_removed-good b c.args.id.now good) c.remove.ensures.change
           c.remove.ensures.err c.self.invariant.1 c.self.invariant.2,
       c.self.invariant.2,
+      c.self.invariant.3,
     )
 
 pub returns-clause-change : goal.returns-clause-change

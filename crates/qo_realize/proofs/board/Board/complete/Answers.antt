@@ -4,7 +4,7 @@ use Rattle.qo_model.specs.Depth.{among}
 use Rattle.qo_realize.specs.Parts.{Parts, parts_of}
 use Rattle.qo_realize.specs.Representation.{Stands}
 use Rattle.qo_unplug.proofs.DetachmentLemmas.{once-pinned}
-use Rattle.qo_realize.proofs.CompletionLemmas.{completed-claims, completed-sound, completed-stands, is_beside, timely-heap}
+use Rattle.qo_realize.proofs.CompletionLemmas.{completed-counts, completed-claims, completed-sound, completed-stands, is_beside, timely-heap}
 use Rattle.qo_realize.proofs.GoodBoardLemmas.{good-of}
 use Rattle.qo_realize.proofs.board.Board.complete.Goals as goal
 
@@ -28,6 +28,8 @@ invariant_of-self g c =
       stands.1,
       completed-claims c.args.dev.birth inside.rings inside.anonymous inside.running inside.resets c.detach.new.resets inside.hotplug c.detach.new.hotplug
           inside.heap c.detach.new.heap pending c.self.invariant.1 c.detach.ensures.shown c.detach.ensures.claims c.self.invariant.2,
+      completed-counts c.args.dev.birth inside.rings inside.anonymous inside.running inside.resets c.detach.new.resets inside.hotplug c.detach.new.hotplug
+          inside.heap c.detach.new.heap pending c.self.invariant.1 c.detach.ensures.shown c.detach.ensures.seen c.detach.ensures.counts c.self.invariant.3,
     )
 
 pub returns : goal.returns

@@ -17,7 +17,7 @@ read-requires g c =
     let now : Parts = parts_of inside.rings inside.anonymous inside.running inside.resets inside.hotplug inside.heap in
     let live : IsLive inside.heap.rows c.args.dev = subst (λ (p : Parts). IsLive p.objects.rows c.args.dev) (sym c.self.view_is) c.requires in
     subst (λ (time : ℕ). IsTimely time c.body.result.now) (sym c.time-time.ensures)
-    (body-timely inside.heap.time inside.heap c.args.dev c.body.result.now live c.body.ensures (timely-there now c.self.invariant.1 c.args.dev.birth))
+    (body-timely inside.heap.time inside.heap c.args.dev c.body.result.now live c.body.ensures.body (timely-there now c.self.invariant.1 c.args.dev.birth))
 
 pub returns : goal.returns
 returns g c = λ b s.
@@ -28,7 +28,7 @@ returns g c = λ b s.
     c.read.ensures
     ∙ board-call (λ (r : Registers) (time period : ℕ). body_read r c.args.reg c.has_ring-ring.result time period) b inside.heap seen.shows
     c.args.dev c.body.result.now live
-    c.body.ensures c.time-time.result c.device_period-period.result c.time-time.ensures
+    c.body.ensures.body c.time-time.result c.device_period-period.result c.time-time.ensures
     (c.device_period-period.ensures b seen.shows (good-of now c.self.invariant.1 b seen).run.clocks.fit)
     ∙ ap (λ (ring : Bool). body_read (registers_at b c.args.dev.birth) c.args.reg ring b.now (device_period b c.args.dev.birth))
     (c.has_ring-ring.ensures b seen.shows)

@@ -24,6 +24,7 @@ invariant_of-self g c =
       write-claims inside.rings c.write_through.new.rings inside.anonymous inside.running inside.resets c.write_through.new.resets inside.hotplug
           inside.heap c.write_through.new.heap c.write_through.ensures.book c.args.dev.birth c.args.reg c.args.value c.write_through.result
           c.self.invariant.1 c.write_through.ensures.written c.write_through.ensures.absent c.write_through.ensures.kept c.self.invariant.2,
+      c.write_through.ensures.counts,
     )
 
 pub returns-clause-written : goal.returns-clause-written

@@ -17,6 +17,7 @@ invariant_of-self g c =
       hold-claims inside.rings inside.anonymous inside.running inside.resets c.hold.new.resets inside.hotplug inside.heap c.hold.new.heap
           (acts-keep inside.heap c.hold.new.heap c.hold.ensures.acts) c.args.path.now c.hold.result c.self.invariant.1 c.hold.ensures.acts c.hold.ensures.held
           c.hold.ensures.err c.self.invariant.2,
+      c.hold.ensures.counts,
     )
 
 pub returns-clause-held : goal.returns-clause-held

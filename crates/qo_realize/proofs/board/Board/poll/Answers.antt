@@ -16,4 +16,5 @@ invariant_of-self c =
       subst (λ (h : Asked). StandsForGood (parts_of inside.rings inside.anonymous inside.running inside.resets h inside.heap)) (sym c.poll.ensures.rest)
           (polled b, polled-stands b inside.rings inside.anonymous inside.running inside.resets inside.hotplug inside.heap s, polled-good b sound),
       c.self.invariant.2,
+      c.self.invariant.3,
     )

@@ -21,7 +21,8 @@ invariant_of-self g c =
       stands.0,
       stands.1,
       pulse-claims b c.in-Some.machine.birth inside.heap c.pulse.new.heap good.run.devices s.shows (c.pulse.ensures.shown b (s.shows, s.holds)).0
-          (before-same inside.heap c.pulse.new.heap (acts-kept inside.heap c.pulse.new.heap c.pulse.ensures.acts)) c.self.invariant.2,
+          (before-same inside.heap c.pulse.new.heap (acts-kept inside.heap c.pulse.new.heap c.pulse.ensures.acts c.pulse.ensures.still)) c.self.invariant.2,
+      c.pulse.ensures.counts,
     )
 
 pub returns-in-Some : goal.returns-in-Some

@@ -5,6 +5,7 @@ use Rattle.qo_realize.proofs.GoodBoardLemmas.{good-of}
 use Rattle.qo_realize.proofs.RepresentationLemmas.{err-stays, write-stands, written-sound}
 use Rattle.qo_unplug.proofs.MomentLemmas.{times-timely}
 use Rattle.qo_realize.proofs.ClaimsLemmas.{write-claims}
+use Rattle.qo_realize.proofs.CountedLemmas.{write-counts}
 use Rattle.qo_realize.proofs.board.Board.qom_set.Goals as goal
 
 pub set-requires : goal.set-requires
@@ -30,4 +31,6 @@ invariant_of-self g c =
           c.args.name.now c.args.val.now c.set.result s (c.set.ensures.written b s.shows (λ clock. sound.run.clocks.fit)) c.set.ensures.book) c.set.ensures.err,
       write-claims b c.args.path.now c.args.name.now c.args.val.now c.set.result c.self.inside.heap c.set.new.heap sound.run.devices s.shows
           (c.set.ensures.written b s.shows (λ clock. sound.run.clocks.fit)) c.set.ensures.err c.set.ensures.kept c.self.invariant.2,
+      write-counts b c.args.path.now c.args.name.now c.args.val.now c.set.result c.self.inside.resets.births c.self.inside.heap c.set.new.heap sound.run.devices
+          sound.holds s.shows s.holds (c.set.ensures.written b s.shows (λ clock. sound.run.clocks.fit)) c.set.ensures.err c.set.ensures.kept c.self.invariant.3,
     )

@@ -17,6 +17,7 @@ invariant_of-self g c =
       release-claims inside.rings inside.anonymous inside.running inside.resets c.release.new.resets inside.hotplug inside.heap c.release.new.heap
           (acts-keep inside.heap c.release.new.heap c.release.ensures.acts) c.args.path.now c.release.result c.self.invariant.1 c.release.ensures.acts
           c.release.ensures.released c.release.ensures.err c.self.invariant.2,
+      c.release.ensures.counts,
     )
 
 pub returns-clause-released : goal.returns-clause-released

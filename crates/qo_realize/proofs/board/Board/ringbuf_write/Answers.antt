@@ -16,6 +16,7 @@ invariant_of-self c =
           (λ b good. ring_written-good b c.args.device.now c.args.text.now c.unwrap_or-form.result good) (λ b told. c.write.ensures.change b) c.write.ensures.err
           c.self.invariant.1 c.self.invariant.2,
       c.self.invariant.2,
+      c.self.invariant.3,
     )
 
 pub returns-clause-change : goal.returns-clause-change

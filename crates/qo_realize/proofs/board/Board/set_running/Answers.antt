@@ -8,4 +8,5 @@ invariant_of-self c =
       c.self.invariant.0,
       switched-for-good inside.rings inside.anonymous inside.running c.args.on inside.resets inside.hotplug inside.heap c.self.invariant.1,
       c.self.invariant.2,
+      c.self.invariant.3,
     )

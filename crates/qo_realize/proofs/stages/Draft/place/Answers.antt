@@ -6,6 +6,7 @@ use Rattle.qo_realize.proofs.StageLemmas.{place-barred, plugged-is}
 use Rattle.qo_plug.proofs.KeptLemmas.{new-then}
 use Rattle.qo_plug.proofs.AddLemmas.{refused-within}
 use Rattle.qo_realize.proofs.ClaimsLemmas.{barred-claims}
+use Rattle.qo_realize.proofs.CountedLemmas.{barred-counts}
 use Rattle.qo_realize.proofs.stages.Draft.place.Goals as goal
 
 pub invariant_of-result : goal.invariant_of-result
@@ -32,6 +33,10 @@ board_of-requires g c =
       barred-claims ℕ b a c.in-Err.refusal is.since.before c.place.new.heap is.since.stood.shows
           (refused-within b a 5 6 ℕ ℕ c.in-Err.refusal c.place.new.heap (c.in-Err.ensures.refused b a is.begun))
           (λ m. c.in-Err.ensures.memory b a is.begun (cc m)) (new-then is.since.before i.heap c.place.new.heap is.kept c.in-Err.ensures.unkept) is.since.claims,
+      barred-counts ℕ b a c.in-Err.refusal x.resets.births is.since.before c.place.new.heap is.since.good.run.devices is.since.good.holds is.since.stood.shows
+          is.since.stood.holds (refused-within b a 5 6 ℕ ℕ c.in-Err.refusal c.place.new.heap (c.in-Err.ensures.refused b a is.begun))
+          (λ m. c.in-Err.ensures.memory b a is.begun (cc m)) (new-then is.since.before i.heap c.place.new.heap is.kept c.in-Err.ensures.unkept)
+          is.since.counts_kept,
     )
 
 pub returns-in-Ok : goal.returns-in-Ok

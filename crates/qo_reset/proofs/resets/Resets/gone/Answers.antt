@@ -8,7 +8,7 @@ use Rattle.qo_reset.proofs.HoldLemmas.{births-without}
 use Rattle.qo_reset.proofs.resets.Resets.gone.Goals as goal
 
 pub returns-clause-holds : goal.returns-clause-holds
-returns-clause-holds c =
+returns-clause-holds g c =
     let left : c.retain.new.self.items ≡ filter (λ (k : Key). not (nat_eq k.birth c.args.o.birth)) c.self.inside.holds.items =
     filter_same _ (λ (k : Key). not (nat_eq k.birth c.args.o.birth)) _ (λ x b f' k. search rules) _ _ c.retain.ensures.filtered in
     ap births_of left

@@ -3,8 +3,10 @@ use Rattle.qo_model.specs.Board.{Board}
 use Rattle.qo_model.specs.Release.{without_first}
 use Rattle.qo_model.specs.Reset.{after_hold, released}
 use Rattle.qo_heap.specs.Board.{Shows}
+use Rattle.qo_reset.specs.Counts.{CountsKept}
 use Rattle.qo_reset.specs.Phases.{births_of}
 use Rattle.qo_reset.proofs.BoardLemmas.{held-holds, pulse-is, released-holds}
+use Rattle.qo_reset.proofs.CountLemmas.{kept-same}
 use Rattle.qo_reset.proofs.resets.Resets.pulse.Goals as goal
 
 pub returns-clause-shown : goal.returns-clause-shown
@@ -24,3 +26,11 @@ returns-clause-shown g c = λ b s.
 
 pub returns-clause-timely : goal.returns-clause-timely
 returns-clause-timely g c = λ all. c.released_phases.ensures.timely (c.held_phases.ensures.timely all)
+
+pub released_phases-requires-clause-counts : goal.released_phases-requires-clause-counts
+released_phases-requires-clause-counts g c =
+    let eq : births_of c.deref.result.now ≡ c.args.self.now.births = search rules in
+    let left : c.put_last.new.self.births ≡ births_of c.deref-2.result.now = search rules in
+    subst (λ (l : List ℕ). CountsKept l c.held_phases.new.heap) (sym c.put_last.ensures.holds ∙ left)
+    (kept-same c.held_phases.new.heap c.args.root.birth c.args.self.now.births
+    (subst (λ (l : List ℕ). CountsKept l c.held_phases.new.heap) eq c.held_phases.ensures.counts))
