@@ -36,15 +36,17 @@ fn a_heap_has_these_fields(rt: HostRuntime) -> Result<(), Fail> {
 
 #[test]
 fn an_entry_has_these_fields(rt: HostRuntime) {
-    let entry = Entry::new(Object::new(rt.alloc(), TypeId::Tag));
+    let entry = Entry::new(rt.alloc(), Object::new(rt.alloc(), TypeId::Tag));
     let Entry {
         object,
         held,
         parent,
+        links,
     } = entry;
     assert_eq!(rt; object.pins(), 1);
     assert_eq!(rt; held, 0);
     assert!(rt; parent.is_none());
+    assert!(rt; links.first().is_none());
 }
 
 /// An object that may not be let go.
