@@ -26,10 +26,10 @@ fn property(name: &str, val: Val, alloc: Global) -> Result<PropList, AllocError>
 }
 
 /// A device of a type is added with these properties; its birth, or nothing where it is refused.
-fn device<L: Ledger>(
+fn device<'x, L: Ledger>(
     board: &mut Board,
-    driver: &str,
-    props: &PropList,
+    driver: &'x str,
+    props: &'x PropList,
     alloc: Global,
     steps: &mut Steps<L>,
 ) -> Result<Option<u64>, AllocError> {
