@@ -32,6 +32,6 @@ hold-requires-clause-counts g c =
     let empty : c.in_ok-heap.heap ≡ no_objects_made = search rules in
     let none : c.reserve.new.self.births ≡ [] = search rules in
     let made : IfOk c.make.result (λ o. (o.birth ≡ no_objects_made.born + 1) × (c.make.new.self ≡ record no_objects_made { rows = no_objects_made.rows ++ (o, fresh Machine) ∷ []; born = no_objects_made.born + 1 })) =
-        subst (λ (v : Objects). IfOk c.make.result (λ o. (o.birth ≡ v.born + 1) × (c.make.new.self ≡ record v { rows = v.rows ++ (o, fresh Machine) ∷ []; born = v.born + 1 }))) empty c.make.ensures.made in
+    subst (λ (v : Objects). IfOk c.make.result (λ o. (o.birth ≡ v.born + 1) × (c.make.new.self ≡ record v { rows = v.rows ++ (o, fresh Machine) ∷ []; born = v.born + 1 }))) empty c.make.ensures.made in
     let err : OnErr c.make.result (c.make.new.self ≡ no_objects_made) = subst (λ (v : Objects). OnErr c.make.result (c.make.new.self ≡ v)) empty c.make.ensures.err in
     subst (λ (holds : List ℕ). CountsKept holds c.make.new.self) (sym none) (made-counts c.make.result c.make.new.self Machine made err)
