@@ -91,7 +91,7 @@ impl Object {
     ghost use Rattle.qo_model.specs.Devices.{kid_name};
     ghost use Rattle.qo_model.specs.RowNames.{property_name};
     ghost use Rattle.qo_object.specs.Loans.{lends_body};
-    ghost use Rattle.qo_object.specs.Slots.{has_name, names_child, names_of};
+    ghost use Rattle.qo_object.specs.Slots.{has_name, names_child, names_of, slot_in};
     ghost use Rattle.qo_object.specs.Content.{IsObject, acted_at, fresh, with_id, with_path, with_side, with_work, with_slot, with_all_slots, named_at, dropped_at, empty_link_at, pointed_at, set_at, cut_at, with_pin, without_pin, forgotten, holding, is_holder, is_parent};
     ghost use Rattle.qo_object.specs.declared.errors.AddError.TheVariants.{Duplicate, Memory};
 
@@ -249,6 +249,13 @@ impl Object {
         ensures at { IfSome result (λ v. v.at ≡ at) }
     {
         self.slots.slot_at(at)
+    }
+
+    /// What stands in the slot at a place, from 0; None exactly past the end. It takes no memory.
+    pub fn what_at(&self, at: usize) -> Option<&Slot>
+        ensures { option_map (λ s. s.now) result ≡ slot_in self.now.slots at }
+    {
+        self.slots.what_at(at)
     }
 
     /// Adds a slot after the others. `Duplicate` comes exactly where there is a slot of that name;

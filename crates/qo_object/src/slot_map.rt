@@ -132,6 +132,14 @@ impl SlotMap {
         })
     }
 
+    /// What stands in the slot at a place; None past the end.
+    pub fn what_at(&self, at: usize) -> Option<&Slot>
+        ensures { option_map (λ s. s.now) result ≡ slot_in self.now at }
+    {
+        let slot = self.slots.get(at)?;
+        Some(&slot.1)
+    }
+
     /// Makes room for the first slots at once, where there is none yet. It adds nothing.
     fn make_room(&mut self) -> Result<(), AllocError>
         ensures same { self.new ≡ self.old }
