@@ -15,21 +15,12 @@ use Rattle.std.proofs.lemmas.Cmp.{nat_list_eq_equiv}
 use Rattle.std.proofs.lemmas.Option.{slice_get_within}
 use Rattle.qo_model.specs.Objects.{has_slot}
 use Rattle.qo_model.specs.Unplug.{first_of}
-use Rattle.std.proofs.Common.{get_or}
-use Rattle.std.specs.Bool.{Decides}
-use Rattle.std.proofs.lemmas.Slice.Eq.{bytes_eq-Decides}
 use Rattle.qo_heap.specs.Objects.{Objects, slots_of}
 use Rattle.qo_heap.specs.Board.{Shows}
 use Rattle.qo_heap.proofs.HeapLemmas.{is_some-find}
 use Rattle.qo_heap.proofs.BoardReads.{shows-slots}
 
--- a search that is past the last
-pub found-past : {X : Type 0} (p : X → Bool) (xs : List X) (i : ℕ) → slice_get xs i ≡ None → find p (drop i xs) ≡ None
-found-past p [] zero e = refl
-found-past p [] (suc i) e = refl
-found-past p (x ∷ xs) zero e = cc
-found-past p (x ∷ xs) (suc i) e = found-past p xs i e
-
+-- a walk that is past the last
 pub given-end : {X : Type 0} (f : X → Option ℕ) (xs : List X) (i : ℕ) → slice_get xs i ≡ None → filter_map f (drop i xs) ≡ []
 given-end f [] zero e = refl
 given-end f [] (suc i) e = refl
@@ -64,19 +55,6 @@ pub has-shown : {X : Type 0} (f : X → Named) (o : Option X) (b : board.Board) 
 has-shown f o b v s n name found =
     some-map f o ∙ ap is_some found ∙ is_some-find (λ (t : Named). bytes_eq name t.0) (slots_of v n)
     ∙ sym (ap (list_any (λ (t : List ℕ × board.Slot). bytes_eq t.0 name)) (shows-slots b v s n) ∙ any-shown name (slots_of v n))
-
--- a number that is no byte stands in no text
-pub kid-past : (name : List ℕ) (slot : ℕ) → get_or name 6 0 < 256 → 256 ≤ 48 + slot → false ≡ bytes_eq (kid_name slot) name
-kid-past name slot fits past = go (bytes_eq (kid_name slot) name) (bytes_eq-Decides (kid_name slot) name)
-  where
-    other : (kid_name slot ≡ name) → ⊥
-    other same =
-        let here : get_or name 6 0 ≡ 48 + slot = rw (← same) refl in
-        absurd (omega (arith, fits, here))
-
-    go : (t : Bool) → Decides t (kid_name slot ≡ name) → false ≡ t
-    go false d = refl
-    go true d = absurd (other (d.0 refl))
 
 -- what a look at a place of the slots says of the walk
 module _ {X : Type 0} (f : X → Named) (o : Option X) (xs : List Named) (i : ℕ) (e : option_map f o ≡ slice_get xs i) where

@@ -13,6 +13,7 @@ ghost use Rattle.qo_heap.specs.Board.{Shows};
 use crate::devices::{bus_of, is_of};
 use crate::slots::child_in;
 use qo_heap::{Heap, Oid, Slot, Steps};
+use qo_values::TypeId;
 use std::sync::ledger::Ledger;
 
 /// The bus that stands in a slot of a name; the clock's slot has none.
@@ -22,7 +23,7 @@ fn bus_in<L: Ledger>(heap: &Heap, name: &str, what: &Slot, steps: &mut Steps<L>)
     ensures live { IfSome result (IsLive heap.now.rows) }
 {
     let child = child_in(what)?;
-    if is_of(heap, child, "bus", steps) && name != "clk" {
+    if is_of(heap, child, TypeId::Bus, steps) && name != "clk" {
         return Some(child);
     }
     None
@@ -63,7 +64,7 @@ pub fn bridge_of<L: Ledger>(heap: &Heap, bus: Oid, steps: &mut Steps<L>) -> Opti
 {
     heap.reveal_invariant();
     let parent = heap.parent(bus, steps)?;
-    if is_of(heap, parent, "device", steps) {
+    if is_of(heap, parent, TypeId::Device, steps) {
         return Some(parent);
     }
     None

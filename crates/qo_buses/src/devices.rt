@@ -1,6 +1,7 @@
 //! What is read of a device (include/hw/qdev-core.h: realization; the clock of a device).
 
 ghost use Rattle.std.specs.Prelude.{◌≡◌, ◌+◌, IfSome};
+ghost use Rattle.qo_values.specs.Kinds.{type_name};
 ghost use Rattle.qo_model.specs.Board.{Board};
 ghost use Rattle.qo_model.specs.Devices.{bus_of, clock_of, is_realized, is_true, bus_slot_of};
 ghost use Rattle.qo_model.specs.Paths.{is_of};
@@ -12,16 +13,16 @@ use crate::slots::{child_at, number_at, plain_at, strong_at};
 use qo_heap::{Heap, Oid, Steps};
 use qo_model::PropertyName;
 use qo_types::TypeTable;
-use qo_values::Val;
+use qo_values::{TypeId, Val};
 use std::sync::ledger::Ledger;
 
-/// Whether an object is of a type or an interface of a name.
-pub fn is_of<L: Ledger>(heap: &Heap, o: Oid, wanted: &str, steps: &mut Steps<L>) -> bool
+/// Whether an object is of a type, or of one that derives from it.
+pub fn is_of<L: Ledger>(heap: &Heap, o: Oid, wanted: TypeId, steps: &mut Steps<L>) -> bool
     requires { IsLive heap.now.rows o }
-    ensures kind { (b : Board) → Shows b heap.now → result ≡ is_of b wanted.now o.birth }
+    ensures kind { (b : Board) → Shows b heap.now → result ≡ is_of b (type_name wanted) o.birth }
     ensures cost { steps.new ≡ steps.old + 1 }
 {
-    TypeTable::board().is_a(heap.kind(o, steps), wanted)
+    TypeTable::board().derives_from(heap.kind(o, steps), wanted)
 }
 
 /// The truth value that a value is; false of any other value.

@@ -1,50 +1,17 @@
 //! The kids of a bus, and its slots (docs/PROFILE.md: the slots of a bus and the names of its links).
 
-ghost use Rattle.std.specs.Prelude.{◌≡◌, IfSome, find, option_map, slice_get};
+ghost use Rattle.std.specs.Prelude.{◌≡◌, IfSome, slice_get};
 ghost use Rattle.std.specs.Option.{option_and_then};
-ghost use Rattle.std.specs.Str.{bytes_eq};
 ghost use Rattle.qo_model.specs.Board.{Board, slots_at};
-ghost use Rattle.qo_model.specs.Devices.{kid_at, kid_name, kids_of, strong_in};
+ghost use Rattle.qo_model.specs.Devices.{kid_at, kids_of, strong_in};
 ghost use Rattle.qo_model.specs.Unplug.{first_of};
 ghost use Rattle.qo_object.specs.BoardObject.{birth_of};
 ghost use Rattle.qo_heap.specs.Rows.{IsLive};
 ghost use Rattle.qo_heap.specs.Board.{Shows};
-ghost use Rattle.qo_heap.specs.Objects.{slots_of};
 
 use crate::slots::strong_in;
-use qo_heap::{Heap, Oid, SlotView, Steps};
+use qo_heap::{Heap, Oid, Steps};
 use std::sync::ledger::Ledger;
-
-/// Whether a name is that of the link of a bus to the kid in a slot.
-fn is_kid_name(name: &str, slot: u8) -> bool
-    ensures { result ≡ bytes_eq (kid_name slot) name.now }
-{
-    // A number that is no byte stands in no text.
-    let Some(digit) = slot.checked_add(b'0') else {
-        return false;
-    };
-    [b'c', b'h', b'i', b'l', b'd', b'[', digit, b']'].as_slice() == name.as_bytes()
-}
-
-/// The link of a bus to the kid in a slot; `None` exactly where it has none of that name.
-fn kid_slot<'h, L: Ledger>(
-    heap: &'h Heap,
-    bus: Oid,
-    slot: u8,
-    steps: &mut Steps<L>,
-) -> Option<SlotView<'h>>
-    requires { IsLive heap.now.rows bus }
-    ensures { option_map (λ v. (v.name.now, v.what.now)) result ≡ find (λ s. bytes_eq (kid_name slot) s.0) (slots_of heap.now bus.birth) }
-{
-    let mut at = 0;
-    while let Some(view) = heap.slot_at(bus, at, steps) {
-        if is_kid_name(view.name, slot) {
-            return Some(view);
-        }
-        at += 1;
-    }
-    None
-}
 
 /// The kid in a slot of a bus; `None` exactly where there is none.
 pub fn kid_at<L: Ledger>(heap: &Heap, bus: Oid, slot: u8, steps: &mut Steps<L>) -> Option<Oid>
@@ -53,7 +20,7 @@ pub fn kid_at<L: Ledger>(heap: &Heap, bus: Oid, slot: u8, steps: &mut Steps<L>) 
     ensures live { IfSome result (IsLive heap.now.rows) }
 {
     heap.reveal_invariant();
-    let view = kid_slot(heap, bus, slot, steps)?;
+    let view = heap.kid(bus, slot, steps)?;
     strong_in(view.what)
 }
 

@@ -38,7 +38,7 @@ fn is_fit<L: Ledger>(heap: &Heap, o: Oid, ty: TypeId, steps: &mut Steps<L>) -> b
     requires { IsLive heap.now.rows o }
     ensures { option_map (λ c. is_a c.kind (type_name ty)) (content_of heap.now o.birth) ≡ Some result }
 {
-    TypeTable::board().is_a(heap.kind(o, steps), ty.name())
+    TypeTable::board().derives_from(heap.kind(o, steps), ty)
 }
 
 /// Points the link of a name of an object at another, where it has no target and the other is of its

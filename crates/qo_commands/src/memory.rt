@@ -18,6 +18,7 @@ use qo_guest::GuestAnswer;
 use qo_heap::{Oid, Steps};
 use qo_layout::{BOOT_LEAF, KeptView, RegisterPlace};
 use qo_realize::Board;
+use qo_values::TypeId;
 use std::alloc::{AllocError, Global};
 use std::sync::ledger::Ledger;
 
@@ -51,7 +52,7 @@ fn device_of<L: Ledger>(board: &Board, place: RegisterPlace, steps: &mut Steps<L
         return None;
     }
     let dev = board.heap().by_birth(place.device)?;
-    if is_of(board.heap(), dev, "mem-dimm", steps) {
+    if is_of(board.heap(), dev, TypeId::MemDimm, steps) {
         return None;
     }
     Some(dev)

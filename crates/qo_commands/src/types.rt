@@ -165,7 +165,7 @@ pub(crate) fn list_properties(alloc: Global, typename: &str) -> Result<Done, All
     let Some(t) = types.find(typename) else {
         return Ok(refused(Code::E20));
     };
-    if !types.is_a(t, "device") {
+    if !types.derives_from(t, TypeId::Device) {
         return Ok(refused(Code::E22));
     }
     let listing = row_listing(alloc, t)?;

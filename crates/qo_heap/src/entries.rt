@@ -143,8 +143,7 @@ impl Entry {
     fn hold_at(&self, at: usize) -> Option<Hold>
         ensures { result ≡ hold_at self.now.object.slots at }
     {
-        let slot = self.object.slot_at(at)?;
-        hold_of(slot.what)
+        hold_of(self.object.what_at(at)?)
     }
 
     /// Where its weak link at a place stands, if there is one.

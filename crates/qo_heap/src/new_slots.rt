@@ -56,17 +56,17 @@ fn without_target(slot: Slot) -> (Slot, Option<Oid>)
 }
 
 impl NewSlots {
-    ghost use Rattle.std.specs.Prelude.{◌≡◌, [], ◌∷◌, ◌++◌, OnOk};
+    ghost use Rattle.std.specs.Prelude.{◌≡◌, [], ◌∷◌, ◌++◌, IfOk, OnOk};
 
-    /// No slots. It takes no memory.
-    pub fn new(alloc: Global) -> NewSlots
-        ensures { result ≡ [] }
+    /// No slots, and room for so many. The error is want of memory.
+    pub fn with_capacity(alloc: Global, capacity: usize) -> Result<NewSlots, AllocError>
+        ensures { IfOk result (λ slots. slots ≡ []) }
     {
-        NewSlots {
-            slots: Vec::new(alloc),
-            targets: Vec::new(alloc),
+        Ok(NewSlots {
+            slots: Vec::with_capacity(alloc, capacity)?,
+            targets: Vec::with_capacity(alloc, capacity)?,
             links: WeakLinks::new(alloc),
-        }
+        })
     }
 
     /// Adds a slot after the others. The error is want of memory.

@@ -27,6 +27,7 @@ impl Heap {
     ghost use Rattle.std.specs.Str.{bytes_eq};
     ghost use Rattle.std.specs.List.{IsDistinct};
     ghost use Rattle.qo_object.specs.Slots.{names_of};
+    ghost use Rattle.qo_model.specs.Devices.{kid_name};
     ghost use Rattle.qo_model.specs.RowNames.{property_name};
     ghost use Rattle.qo_object.specs.Slots.{target_of};
     ghost use Rattle.qo_heap.specs.Rows.{IsLive};
@@ -90,7 +91,25 @@ impl Heap {
         ensures at { option_map (λ v. v.at) result ≡ position (λ s. bytes_eq (property_name name) s.0) (slots_of self.now o.birth) }
         ensures cost { steps.new ≡ steps.old + 1 }
     {
-        self.slot(o, name.as_str(), steps)
+        let object = self.look(o, steps);
+        match object.find_row(name) {
+            Some(at) => object.slot_at(at),
+            None => None,
+        }
+    }
+
+    /// The link of a bus to the kid in a slot, by one look-up; `None` exactly where it has none of that
+    /// name.
+    pub fn kid<L: Ledger>(&self, o: Oid, slot: u8, steps: &mut Steps<L>) -> Option<SlotView<'_>>
+        requires { IsLive self.now.rows o }
+        ensures slot { option_map (λ v. (v.name.now, v.what.now)) result ≡ find (λ s. bytes_eq (kid_name slot) s.0) (slots_of self.now o.birth) }
+        ensures cost { steps.new ≡ steps.old + 1 }
+    {
+        let object = self.look(o, steps);
+        match object.find_kid(slot) {
+            Some(at) => object.slot_at(at),
+            None => None,
+        }
     }
 
     /// The slot of an object at a place, from 0; `None` exactly past the last. There are at most 2^32.

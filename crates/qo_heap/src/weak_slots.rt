@@ -19,8 +19,8 @@ pub fn is_weak(slot: &Slot) -> bool
 fn is_weak_at(object: &Object, at: usize) -> bool
     ensures { result ≡ is_weak_at object.now.slots at }
 {
-    match object.slot_at(at) {
-        Some(slot) => is_weak(slot.what),
+    match object.what_at(at) {
+        Some(slot) => is_weak(slot),
         None => false,
     }
 }
@@ -87,8 +87,8 @@ pub fn weak_target(slot: &Slot) -> Option<Oid>
 fn weak_target_at(object: &Object, at: usize) -> Option<Oid>
     ensures { result ≡ option_and_then weak_target (slot_in object.now.slots at) }
 {
-    match object.slot_at(at) {
-        Some(slot) => weak_target(slot.what),
+    match object.what_at(at) {
+        Some(slot) => weak_target(slot),
         None => None,
     }
 }

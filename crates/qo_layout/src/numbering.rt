@@ -17,7 +17,7 @@ use crate::registers::wiring;
 use crate::wiring::Wiring;
 use qo_buses::{bus_in_slot, is_of, kid_in_slot};
 use qo_heap::{Heap, Oid, Steps};
-use qo_values::{MEMORY_BUS_BIRTH, ROOT_BUS_BIRTH};
+use qo_values::{MEMORY_BUS_BIRTH, ROOT_BUS_BIRTH, TypeId};
 use std::alloc::{AllocError, Global};
 use std::sync::ledger::Ledger;
 
@@ -92,7 +92,7 @@ fn list_below<L: Ledger>(
     if levels == 0 {
         return Ok(());
     }
-    let bus = is_of(heap, o, "bus", steps);
+    let bus = is_of(heap, o, TypeId::Bus, steps);
     let count = heap.slot_count(o, steps);
     let first = first_below(wiring(heap, o, steps), count);
     for at in first..count {

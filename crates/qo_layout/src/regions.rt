@@ -13,7 +13,7 @@ use crate::places::{memory_places, range_of, slot_places};
 use qo_buses::{bus_of, depth, is_of};
 use qo_heap::{Heap, Oid, Steps};
 use qo_memmap::{Kind, Region};
-use qo_values::{BUS_SLOTS, MEMORY_BUS_BIRTH};
+use qo_values::{BUS_SLOTS, MEMORY_BUS_BIRTH, TypeId};
 use std::alloc::{AllocError, Global};
 use std::sync::ledger::Ledger;
 
@@ -41,7 +41,7 @@ fn is_memory<L: Ledger>(heap: &Heap, dev: Oid, steps: &mut Steps<L>) -> bool
     if bus.birth != MEMORY_BUS_BIRTH {
         return false;
     }
-    is_of(heap, dev, "mem-dimm", steps)
+    is_of(heap, dev, TypeId::MemDimm, steps)
 }
 
 /// Bytes of a device: of a DIMM on the memory bus all that it has, of any other those of its registers.
@@ -74,7 +74,7 @@ pub(crate) fn region_of<L: Ledger>(
             children: memory_places(alloc, heap, objects, o, steps)?,
         });
     }
-    if is_of(heap, o, "bus", steps) {
+    if is_of(heap, o, TypeId::Bus, steps) {
         let size = slot_size(depth(heap, o, steps));
         return Ok(Region {
             size: u64::from(BUS_SLOTS) * size,

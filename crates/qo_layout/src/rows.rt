@@ -18,6 +18,7 @@ use crate::wiring::{Row, Wiring, add_line};
 use qo_buses::is_of;
 use qo_heap::{Heap, Oid, Steps};
 use qo_irq::{Net, NetError};
+use qo_values::TypeId;
 use std::alloc::Global;
 use std::sync::ledger::Ledger;
 
@@ -76,7 +77,7 @@ fn lines_below<L: Ledger>(
     ensures lines { (b : Board) → Shows b heap.now → SoundShape b → driven ≡ wiring_by (registers_at b o.birth) → IfOk result (λ lines. AreLines rows.now (below b o.birth) lines.items) }
     ensures err { (b : Board) → Shows b heap.now → HasAll rows.now (below b o.birth) → IfErr result (λ e. e ≡ Memory) }
 {
-    let bus = is_of(heap, o, "bus", steps);
+    let bus = is_of(heap, o, TypeId::Bus, steps);
     let count = heap.slot_count(o, steps);
     let mut lines = Vec::new(alloc);
     for at in first_below(driven, count)..count {

@@ -8,61 +8,16 @@ ghost use Rattle.qo_irq.specs.declared.errors.NetError.TheVariants.{Memory};
 ghost use Rattle.qo_layout.specs.Lines.{slot_bit};
 ghost use Rattle.qo_layout.specs.Rows.{AreSlots, AreThere, HasRow, IsSlotLine, kept_line, slot_level};
 ghost use Rattle.qo_model.specs.Board.{Board};
-ghost use Rattle.qo_model.specs.Devices.{kid_at, kid_name, strong_in};
-ghost use Rattle.qo_object.specs.BoardObject.{birth_of, shown_slot};
-ghost use Rattle.qo_object.specs.Slots.{target_of};
+ghost use Rattle.qo_model.specs.Devices.{kid_at};
 ghost use Rattle.qo_values.specs.declared.births.TheConstants.{ROOT_BUS_BIRTH as root_bus};
 
 use crate::rows::line_of;
 use crate::wiring::Row;
-use qo_heap::{Heap, Oid, Slot, Steps};
+use qo_buses::kid_at;
+use qo_heap::{Heap, Oid, Steps};
 use qo_irq::{Net, NetError};
 use qo_values::{BUS_SLOTS, ROOT_BUS_BIRTH};
 use std::sync::ledger::Ledger;
-
-/// The name of the link of a bus to the kid in a slot.
-fn kid_name(slot: u8) -> &'static str
-    requires { slot < 8 }
-    ensures { result.now ≡ kid_name slot }
-{
-    match slot {
-        0 => "child[0]",
-        1 => "child[1]",
-        2 => "child[2]",
-        3 => "child[3]",
-        4 => "child[4]",
-        5 => "child[5]",
-        6 => "child[6]",
-        _ => "child[7]",
-    }
-}
-
-/// The target of a strong link.
-fn strong_in(what: &Slot) -> Option<Oid>
-    ensures target { birth_of result ≡ strong_in (shown_slot what.now) }
-    ensures named { IfSome result (λ key. target_of what.now ≡ Some key) }
-{
-    match what {
-        Slot::Link {
-            strong: true,
-            target,
-            ..
-        } => *target,
-        _ => None,
-    }
-}
-
-/// The kid in a slot of a bus, by one look-up; `None` exactly where there is none.
-fn kid_at<L: Ledger>(heap: &Heap, bus: Oid, slot: u8, steps: &mut Steps<L>) -> Option<Oid>
-    requires live { IsLive heap.now.rows bus }
-    requires low { slot < 8 }
-    ensures kid { (b : Board) → Shows b heap.now → birth_of result ≡ kid_at b bus.birth slot }
-    ensures live { IfSome result (IsLive heap.now.rows) }
-{
-    heap.reveal_invariant();
-    let view = heap.slot(bus, kid_name(slot), steps)?;
-    strong_in(view.what)
-}
 
 /// The line of the device in a slot of the root bus; `None` where none is there. `BadRef` where it has no
 /// line.
@@ -75,7 +30,6 @@ fn slot_line<L: Ledger>(
 ) -> Result<Option<u32>, NetError>
     requires live { IsLive heap.now.rows bus }
     requires root { bus.birth ≡ root_bus }
-    requires low { slot < 8 }
     ensures line { (b : Board) → Shows b heap.now → IfOk result (λ line. IsSlotLine rows.now (kid_at b root_bus slot) line) }
     ensures there { IfOk result (λ line. IfSome line (λ l. (d : ℕ) × HasRow rows.now d l)) }
     ensures err { (b : Board) → Shows b heap.now → IfSome (kid_at b root_bus slot) (λ d. (l : ℕ) × HasRow rows.now d l) → IfErr result (λ e. e ≡ Memory) }
@@ -139,7 +93,6 @@ fn slot_level(net: &Net, slots: &[Option<u32>], slot: u8) -> bool
 /// The bit of a slot, where its line is high.
 fn slot_bit(net: &Net, slots: &[Option<u32>], slot: u8) -> u32
     requires there { AreThere slots.now net.now }
-    requires low { slot < 8 }
     ensures bit { result ≡ slot_bit (slot_level net.now slots.now) slot }
     ensures most { result ≤ 128 }
 {

@@ -1,4 +1,5 @@
 pub mod ObjectLemmas
 pub mod NameLemmas
+pub mod KnownNames
 pub mod BoardObjectLemmas
 pub mod SlotLemmas

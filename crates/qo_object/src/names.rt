@@ -1,6 +1,7 @@
 //! The name under which a slot is added.
 
 ghost use Rattle.std.specs.Prelude.{◌≡◌, ◌<◌};
+ghost use Rattle.std.specs.Str.{bytes_eq};
 ghost use Rattle.qo_values.specs.declared.limits.TheConstants.{BUS_SLOTS};
 ghost use Rattle.qo_model.specs.Devices.{kid_name};
 ghost use Rattle.qo_model.specs.RowNames.{property_name};
@@ -87,8 +88,18 @@ fn kid_text(slot: u8) -> &'static str
     }
 }
 
+/// Whether a text is the name of the link of a bus to the kid in a slot.
+fn is_kid_name(text: &str, slot: u8) -> bool
+    ensures { result ≡ bytes_eq (kid_name slot) text.now }
+{
+    // A number that is no byte stands in no text.
+    let Some(digit) = slot.checked_add(b'0') else {
+        return false;
+    };
+    [b'c', b'h', b'i', b'l', b'd', b'[', digit, b']'].as_slice() == text.as_bytes()
+}
+
 impl SlotName {
-    ghost use Rattle.std.specs.Str.{bytes_eq};
     ghost use Rattle.qo_values.specs.Names.{IsName};
     ghost use Rattle.qo_object.specs.Names.{fingerprint_of};
 
@@ -135,6 +146,28 @@ impl SlotName {
             NameKind::Row(name) => name.as_str(),
             NameKind::Kid(slot) => kid_text(*slot),
             NameKind::Own(name) => name.as_str(),
+        }
+    }
+
+    /// Whether it is the name of a property in a row. It takes no memory.
+    pub(crate) fn is_row(&self, name: PropertyName) -> bool
+        ensures { result ≡ bytes_eq (property_name name) self.now }
+    {
+        match &self.given {
+            NameKind::Row(given) => *given == name,
+            NameKind::Kid(_) => false,
+            NameKind::Own(given) => given.as_str() == name.as_str(),
+        }
+    }
+
+    /// Whether it is the name of the link of a bus to the kid in a slot. It takes no memory.
+    pub(crate) fn is_kid(&self, slot: u8) -> bool
+        ensures { result ≡ bytes_eq (kid_name slot) self.now }
+    {
+        match &self.given {
+            NameKind::Row(_) => false,
+            NameKind::Kid(given) => *given == slot,
+            NameKind::Own(given) => is_kid_name(given.as_str(), slot),
         }
     }
 

@@ -7,6 +7,7 @@ use crate::room::{Side, Work, side_at_first, work_at_first};
 use crate::slot_map::SlotMap;
 use crate::slots::{Slot, SlotView};
 use qo_kinds::{Body, KeptSet};
+use qo_model::PropertyName;
 use qo_slots::Key;
 use qo_values::{Act, Id, Text, TypeId, Val};
 use std::alloc::Global;
@@ -87,8 +88,10 @@ impl Object {
     ghost use Rattle.std.specs.Str.{bytes_eq};
     ghost use Rattle.std.specs.Borrow.{sem};
     ghost use Rattle.qo_kinds.specs.Bodies.{MayAct, kept_of};
+    ghost use Rattle.qo_model.specs.Devices.{kid_name};
+    ghost use Rattle.qo_model.specs.RowNames.{property_name};
     ghost use Rattle.qo_object.specs.Loans.{lends_body};
-    ghost use Rattle.qo_object.specs.Slots.{has_name, names_child, names_of};
+    ghost use Rattle.qo_object.specs.Slots.{has_name, names_child, names_of, slot_in};
     ghost use Rattle.qo_object.specs.Content.{IsObject, acted_at, fresh, with_id, with_path, with_side, with_work, with_slot, with_all_slots, named_at, dropped_at, empty_link_at, pointed_at, set_at, cut_at, with_pin, without_pin, forgotten, holding, is_holder, is_parent};
     ghost use Rattle.qo_object.specs.declared.errors.AddError.TheVariants.{Duplicate, Memory};
 
@@ -226,12 +229,33 @@ impl Object {
         self.slots.find(name)
     }
 
+    /// The place of the slot of a property in a row, by one look-up. It takes no memory.
+    pub fn find_row(&self, name: PropertyName) -> Option<usize>
+        ensures { result ≡ position (λ s. bytes_eq (property_name name) s.0) self.now.slots }
+    {
+        self.slots.find_row(name)
+    }
+
+    /// The place of the link of a bus to the kid in a slot, by one look-up. It takes no memory.
+    pub fn find_kid(&self, slot: u8) -> Option<usize>
+        ensures { result ≡ position (λ s. bytes_eq (kid_name slot) s.0) self.now.slots }
+    {
+        self.slots.find_kid(slot)
+    }
+
     /// The slot at a place, from 0; None exactly past the end. It takes no memory.
     pub fn slot_at(&self, at: usize) -> Option<SlotView<'_>>
         ensures slot { option_map (λ v. (v.name.now, v.what.now)) result ≡ slice_get self.now.slots at }
         ensures at { IfSome result (λ v. v.at ≡ at) }
     {
         self.slots.slot_at(at)
+    }
+
+    /// What stands in the slot at a place, from 0; None exactly past the end. It takes no memory.
+    pub fn what_at(&self, at: usize) -> Option<&Slot>
+        ensures { option_map (λ s. s.now) result ≡ slot_in self.now.slots at }
+    {
+        self.slots.what_at(at)
     }
 
     /// Adds a slot after the others. `Duplicate` comes exactly where there is a slot of that name;

@@ -3,6 +3,7 @@
 use crate::index::Names;
 use crate::names::{Fingerprint, SlotName};
 use crate::slots::{Slot, SlotView};
+use qo_model::PropertyName;
 use qo_slots::Key;
 use qo_values::Val;
 use std::alloc::{AllocError, Global};
@@ -43,6 +44,8 @@ impl SlotMap {
     ghost use Rattle.std.specs.List.{list_any, IsDistinct};
     ghost use Rattle.std.specs.Option.{option_and_then};
     ghost use Rattle.std.specs.Str.{bytes_eq};
+    ghost use Rattle.qo_model.specs.Devices.{kid_name};
+    ghost use Rattle.qo_model.specs.RowNames.{property_name};
     ghost use Rattle.qo_object.specs.Slots.{names_of, has_name, slot_in, named_in, child_of, holds, names_child, names_weakly, changed_at, let_go_at, unlinked, pointed, with_val, forgotten_in};
 
     /// No slots.
@@ -92,6 +95,23 @@ impl SlotMap {
         }
     }
 
+    /// The place of the slot of a property in a row.
+    pub fn find_row(&self, name: PropertyName) -> Option<usize>
+        ensures { result ≡ position (λ s. bytes_eq (property_name name) s.0) self.now }
+    {
+        match &self.index {
+            Some(names) => names.find(name.as_str()),
+            None => self.slots.iter().position(|slot| slot.0.is_row(name)),
+        }
+    }
+
+    /// The place of the link of a bus to the kid in a slot.
+    pub fn find_kid(&self, slot: u8) -> Option<usize>
+        ensures { result ≡ position (λ s. bytes_eq (kid_name slot) s.0) self.now }
+    {
+        self.slots.iter().position(|named| named.0.is_kid(slot))
+    }
+
     /// Whether there is a slot of a name.
     pub fn has(&self, name: &str) -> bool
         ensures { result ≡ has_name name.now self.now }
@@ -110,6 +130,14 @@ impl SlotMap {
             name: slot.0.as_str(),
             what: &slot.1,
         })
+    }
+
+    /// What stands in the slot at a place; None past the end.
+    pub fn what_at(&self, at: usize) -> Option<&Slot>
+        ensures { option_map (λ s. s.now) result ≡ slot_in self.now at }
+    {
+        let slot = self.slots.get(at)?;
+        Some(&slot.1)
     }
 
     /// Makes room for the first slots at once, where there is none yet. It adds nothing.

@@ -33,7 +33,7 @@ pub fn device_kind(driver: &str) -> Result<TypeId, Code>
     if TypeTable::board().is_abstract(kind) {
         return Err(Code::E21);
     }
-    if !TypeTable::board().is_a(kind, "device") {
+    if !TypeTable::board().derives_from(kind, TypeId::Device) {
         return Err(Code::E22);
     }
     Ok(kind)
@@ -53,7 +53,7 @@ pub fn vacant<L: Ledger>(
     let Some(container) = heap.by_birth(birth) else {
         return Err(Code::E15);
     };
-    if !is_of(heap, container, "container", steps) {
+    if !is_of(heap, container, TypeId::Container, steps) {
         return Err(Code::E15);
     }
     if heap.slot(container, name, steps).is_some() {
@@ -66,7 +66,7 @@ pub fn vacant<L: Ledger>(
 fn is_slotted(kind: TypeId) -> bool
     ensures { result ≡ is_a kind (codes "slot-device") }
 {
-    TypeTable::board().is_a(kind, "slot-device")
+    TypeTable::board().derives_from(kind, TypeId::SlotDevice)
 }
 
 /// The bus where a device of a type goes that names none, if it is there.
@@ -109,9 +109,9 @@ fn takes<L: Ledger>(heap: &Heap, bus: Oid, kind: TypeId, steps: &mut Steps<L>) -
     ensures { (b : Board) → Shows b heap.now → result ≡ is_of b (bus_type kind) bus.birth }
 {
     if is_slotted(kind) {
-        is_of(heap, bus, "slot-bus", steps)
+        is_of(heap, bus, TypeId::SlotBus, steps)
     } else {
-        is_of(heap, bus, "mem-bus", steps)
+        is_of(heap, bus, TypeId::MemBus, steps)
     }
 }
 

@@ -22,7 +22,7 @@ ghost use Rattle.qo_plug.specs.Drafts.{IsQuiet, given_draft};
 use qo_heap::{Heap, Oid, Steps};
 use qo_life::drop_pin;
 use qo_types::TypeTable;
-use qo_values::Act;
+use qo_values::{Act, TypeId};
 use std::sync::ledger::Ledger;
 
 /// The bus that the object at a place in the order of births is, if it is one of a new device: of the
@@ -42,7 +42,7 @@ fn new_bus_at<L: Ledger>(
     if o.birth < device.birth {
         return None;
     }
-    if TypeTable::board().is_a(heap.kind(o, steps), "bus") {
+    if TypeTable::board().derives_from(heap.kind(o, steps), TypeId::Bus) {
         return Some(o);
     }
     None

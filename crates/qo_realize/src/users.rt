@@ -9,7 +9,7 @@ ghost use Rattle.qo_realize.specs.Users.{has_dimm, is_used};
 
 use qo_buses::{child_at, is_of};
 use qo_heap::{Heap, Oid, Steps};
-use qo_values::OBJECTS_BIRTH;
+use qo_values::{OBJECTS_BIRTH, TypeId};
 use std::sync::ledger::Ledger;
 
 /// Whether an object is a memory backend on which a DIMM stands.
@@ -18,7 +18,7 @@ fn has_dimm<L: Ledger>(heap: &Heap, o: Oid, steps: &mut Steps<L>) -> bool
     ensures used { (b : Board) → Shows b heap.now → IsRecounted b heap.now.claims → result ≡ has_dimm b o.birth }
     ensures cost { steps.new ≡ steps.old + 1 }
 {
-    if !is_of(heap, o, "memory-backend", steps) {
+    if !is_of(heap, o, TypeId::MemoryBackend, steps) {
         return false;
     }
     heap.book().is_backend_taken(o.birth)

@@ -9,6 +9,7 @@ ghost use Rattle.qo_reset.specs.Phases.{bus_child, is_bus, strong_target, turned
 
 use qo_heap::{Heap, Oid, Slot, Steps};
 use qo_types::TypeTable;
+use qo_values::TypeId;
 use std::sync::ledger::Ledger;
 
 /// Whether an object is a bus.
@@ -16,7 +17,7 @@ pub fn is_bus<L: Ledger>(heap: &Heap, o: Oid, steps: &mut Steps<L>) -> bool
     requires { IsLive heap.now.rows o }
     ensures { result ≡ is_bus heap.now o.birth }
 {
-    TypeTable::board().is_a(heap.kind(o, steps), "bus")
+    TypeTable::board().derives_from(heap.kind(o, steps), TypeId::Bus)
 }
 
 /// The device in a slot of a bus.

@@ -2,6 +2,7 @@
 
 ghost use Rattle.std.specs.Prelude.{◌≡◌, IfOk, option_map};
 ghost use Rattle.std.specs.List.{slice_get};
+ghost use Rattle.qo_values.specs.Kinds.{type_name};
 ghost use Rattle.qo_model.specs.Properties.{property_named};
 ghost use Rattle.qo_model.specs.Types.{chain, has_finalizer, interfaces_of, is_a, parent_of, type_named, slots_of};
 ghost use Rattle.qo_types.specs.Rows.{is_abstract, listed};
@@ -41,6 +42,19 @@ impl TypeTable {
             "device" => info(t).is_device,
             "slot-device" => info(t).is_slot_device,
             _ => info(t).ancestry.iter().any(|a| answers_to(*a, name)),
+        }
+    }
+
+    /// Whether a type is another one, or derives from it.
+    pub fn derives_from(&self, t: TypeId, ancestor: TypeId) -> bool
+        ensures { result ≡ is_a t (type_name ancestor) }
+    {
+        match ancestor {
+            TypeId::Object => self.is_a(t, "object"),
+            TypeId::Bus => info(t).is_bus,
+            TypeId::Device => info(t).is_device,
+            TypeId::SlotDevice => info(t).is_slot_device,
+            _ => self.is_a(t, ancestor.name()),
         }
     }
 

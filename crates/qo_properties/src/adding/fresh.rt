@@ -133,7 +133,7 @@ pub(crate) fn planned_slots(
     ensures { IfOk result (λ slots. slots ≡ filled plan.items (new_slots kind)) }
 {
     let rows = TypeTable::board().props(kind);
-    let mut slots = NewSlots::new(alloc);
+    let mut slots = NewSlots::with_capacity(alloc, rows.len())?;
     let mut fills = plan.into_iter();
     for row in rows {
         put_row(&mut slots, &mut fills, kind, *row, alloc)?;

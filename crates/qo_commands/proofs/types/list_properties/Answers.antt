@@ -15,12 +15,12 @@ returned_value-requires c = ap has_float c.in_ok-listing.ensures ∙ rows_no_flo
 pub returns-in_default : goal.returns-in_default
 returns-in_default c = λ b. c.refused.ensures.done b ∙ device-none b (type_named c.args.typename.now) (sym c.in_default.is ∙ c.find.ensures)
 
-pub returns-then-not-is_a : goal.returns-then-not-is_a
-returns-then-not-is_a c = λ b.
-    c.refused-then-not-is_a.ensures.done b
-    ∙ device-other b (type_named c.args.typename.now) c.in-Some.t (sym c.in-Some.is ∙ c.find.ensures) (sym c.is_a.ensures ∙ c.if-not-is_a.true)
+pub returns-then-not-derives_from : goal.returns-then-not-derives_from
+returns-then-not-derives_from c = λ b.
+    c.refused-then-not-derives_from.ensures.done b
+    ∙ device-other b (type_named c.args.typename.now) c.in-Some.t (sym c.in-Some.is ∙ c.find.ensures) (sym c.derives_from.ensures ∙ c.if-not-derives_from.true)
 
 pub returns : goal.returns
 returns c = λ b.
     c.returned_value.ensures b ∙ ap (λ (d : Data). returned b d) c.in_ok-listing.ensures
-    ∙ device-listed b (type_named c.args.typename.now) c.in-Some.t (sym c.in-Some.is ∙ c.find.ensures) (sym c.is_a.ensures ∙ c.if-not-is_a.false)
+    ∙ device-listed b (type_named c.args.typename.now) c.in-Some.t (sym c.in-Some.is ∙ c.find.ensures) (sym c.derives_from.ensures ∙ c.if-not-derives_from.false)
