@@ -1,5 +1,8 @@
 pub mod AnswerLemmas
-pub mod SubtreeLemmas
+pub mod ClockSlots
+pub mod FeedingLemmas
+pub mod KeptLemmas
+pub mod OverflowLemmas
 pub mod ClockRows
 pub mod FitLemmas
 pub mod ScopeLemmas

@@ -111,7 +111,8 @@ impl WeakLinks {
     pub fn next_of(&self, id: u64) -> Option<End>
         ensures { result ≡ option_and_then (λ x. x.next) (node_of self.now.nodes id) }
     {
-        let node = self.nodes.iter().find(|node| node.id == id)?;
+        let place = self.place_of(id)?;
+        let node = self.node_at(place)?;
         node.next
     }
 
