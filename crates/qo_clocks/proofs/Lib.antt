@@ -1,6 +1,8 @@
 pub mod AnswerLemmas
 pub mod ClockSlots
 pub mod FeedingLemmas
+pub mod BelowLemmas
+pub mod KeptBoards
 pub mod KeptLemmas
 pub mod OverflowLemmas
 pub mod ClockRows
