@@ -64,7 +64,7 @@ module _ (q : List ℕ → Bool) (f : Slot → Slot) where
           → find (λ (x : Named). q x.0) (changed_at f (at slots) slots) ≡ option_map (λ (x : Named). (x.0, f x.1)) (find (λ (x : Named). q x.0) slots)
           → find (λ (x : Named). q x.0) (changed_at f (at (s ∷ slots)) (s ∷ slots))
           ≡ option_map (λ (x : Named). (x.0, f x.1)) (find (λ (x : Named). q x.0) (s ∷ slots))
-      go true e rest = rw e refl
+      go true e rest = rw (e, e) refl
       go false e rest = rw (e, one, e) rest
 
   first-other : (p : List ℕ → Bool) → ((name : List ℕ) → q name ≡ true → p name ≡ false) → (slots : List Named)

@@ -1,10 +1,11 @@
 -- What is kept of clocks is what the boards say that the heap shows.
-use Rattle.std.proofs.Common.{◌≡◌, refl, ap, subst, sym, ◌∙◌, ℕ, zero, suc, ◌≤◌, ◌||◌, Bool, true, false, eqb, nat_eq, List, [], ◌∷◌, Option, Some, None, arith}
+use Rattle.std.proofs.Common.{◌≡◌, refl, ap, subst, sym, ◌∙◌, ℕ, zero, suc, ◌≤◌, ◌||◌, Bool, true, false, eqb, nat_eq, List, [], ◌∷◌, Option, Some, None, option_map, arith}
 use Rattle.std.specs.List.{flat_map, list_any}
 use Rattle.std.specs.Option.{option_map_or, option_to_list}
 use Rattle.std.proofs.Math.Path.{fun_ext}
 use Rattle.std.proofs.lemmas.Bool.{eq-eqb, eqb-true, or_left, or_right}
 use Rattle.std.proofs.lemmas.List.Folds.{list_any-append}
+use Rattle.std.proofs.lemmas.Option.{same_Some}
 use Rattle.qo_slots.specs.declared.keys.Key.{Key}
 use Rattle.qo_model.specs.Board.{Board}
 use Rattle.qo_model.specs.Clocks.{ClocksFit, child_period, div_of, mul_of, own_period, period, scaled, source_of}
@@ -12,6 +13,7 @@ use Rattle.qo_model.specs.Depth.{IsLocal, IsTree, Leads, among, by_objects, lead
 use Rattle.qo_model.specs.Paths.{births}
 use Rattle.qo_model.proofs.DepthLemmas.{by_objects_is}
 use Rattle.qo_model.proofs.PeriodLemmas.{period-fed, period-own, scaled-zero, with-source}
+use Rattle.qo_object.specs.declared.room.Side.{Side}
 use Rattle.qo_object.specs.BoardObject.{birth_of}
 use Rattle.qo_object.specs.Content.{Content}
 use Rattle.qo_object.specs.Slots.{Named}
@@ -167,3 +169,17 @@ clocked-acts b x v y s t acts fit none_round kept =
       none_round = λ c. subst (λ (next : ℕ → List ℕ). Leads next c c → ⊥) (sym (sources-acts b x v y s t acts)) (none_round c);
       kept = kept;
     }
+
+-- what is read of an object that is there
+pub clocked-read : (b : Board) (v : Objects) → Shows b v → Clocked b v → (n : ℕ) (x : Side) → option_map (λ (c : Content). c.side) (content_of v n) ≡ Some x
+    → (x.period ≡ period b n) × (x.child ≡ child_period b n)
+clocked-read b v s k n x e = go (content_of v n) refl e
+  where
+    go : (o : Option Content) → content_of v n ≡ o → option_map (λ (c : Content). c.side) o ≡ Some x
+        → (x.period ≡ period b n) × (x.child ≡ child_period b n)
+    go None at is = cc
+    go (Some c) at is =
+        let same : x ≡ c.side = sym (same_Some c.side x is) in (
+          ap (λ (y : Side). y.period) same ∙ kept-period b v s k.fits k.none_round k.kept n c at,
+          ap (λ (y : Side). y.child) same ∙ kept-child b v s k.fits k.none_round k.kept n c at,
+        )

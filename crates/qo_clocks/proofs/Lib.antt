@@ -4,6 +4,7 @@ pub mod FeedingLemmas
 pub mod BelowLemmas
 pub mod KeptBoards
 pub mod KeptLemmas
+pub mod KeptLinks
 pub mod OverflowLemmas
 pub mod ClockRows
 pub mod FitLemmas
