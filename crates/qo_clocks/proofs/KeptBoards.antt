@@ -1,6 +1,6 @@
 -- What is kept of clocks is what the boards say that the heap shows.
 use Rattle.std.proofs.Common.{◌≡◌, refl, ap, subst, sym, ◌∙◌, ℕ, zero, suc, ◌≤◌, ◌||◌, Bool, true, false, eqb, nat_eq, List, [], ◌∷◌, Option, Some, None, option_map, arith}
-use Rattle.std.specs.List.{flat_map, list_any}
+use Rattle.std.specs.List.{flat_map}
 use Rattle.std.specs.Option.{option_map_or, option_to_list}
 use Rattle.std.proofs.Math.Path.{fun_ext}
 use Rattle.std.proofs.lemmas.Bool.{eq-eqb, eqb-true, or_left, or_right}
@@ -16,13 +16,11 @@ use Rattle.qo_model.proofs.PeriodLemmas.{period-fed, period-own, scaled-zero, wi
 use Rattle.qo_object.specs.declared.room.Side.{Side}
 use Rattle.qo_object.specs.BoardObject.{birth_of}
 use Rattle.qo_object.specs.Content.{Content}
-use Rattle.qo_object.specs.Slots.{Named}
 use Rattle.qo_heap.specs.Acts.{Acts}
 use Rattle.qo_heap.specs.Board.{Shows}
 use Rattle.qo_heap.specs.Objects.{Objects, content_of, slots_of}
 use Rattle.qo_heap.proofs.ActsReads.{acts-slots}
-use Rattle.qo_clocks.specs.Kept.{Clocked, PeriodsKept, child_kept, kept_turn, sources}
-use Rattle.qo_clocks.specs.Periods.{scaled_on}
+use Rattle.qo_clocks.specs.Kept.{Clocked, PeriodsKept, child_kept, sources}
 use Rattle.qo_clocks.specs.Reads.{own_on, source_on}
 use Rattle.qo_clocks.proofs.FitLemmas.{fits-acts}
 use Rattle.qo_clocks.proofs.KeptLemmas.{ReadsAlike, scaled-alike, slots-alike, turn_by}

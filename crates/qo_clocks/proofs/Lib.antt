@@ -3,6 +3,7 @@ pub mod ClockSlots
 pub mod FeedingLemmas
 pub mod BelowLemmas
 pub mod KeptBoards
+pub mod KeptChanges
 pub mod KeptLemmas
 pub mod KeptLinks
 pub mod OverflowLemmas

@@ -117,7 +117,7 @@ goes-shown : (c : ℕ) (o : Option Key) → option_map_or (λ (s : Key). eqb s.b
 goes-shown c None = refl
 goes-shown c (Some s) = refl
 
-shows-goes : (b : Board) (v : Objects) → Shows b v → (c : ℕ) → goes_by v c ≡ is_source b c
+pub shows-goes : (b : Board) (v : Objects) → Shows b v → (c : ℕ) → goes_by v c ≡ is_source b c
 shows-goes b v s c =
     fun_ext
     (λ n. goes-shown c (source_on v n) ∙ sym (ap (λ (o : Option ℕ). option_map_or (λ (x : ℕ). eqb x c) o false) (shows-source b v s n)))
