@@ -146,14 +146,14 @@ read-all {A} read wanted (x ∷ slots) all = go (bytes_eq wanted x.0) refl (read
 none-reads : (slots : List Named) → AllByRecursion (λ (x : Named). ReadsAsNone x.0 x.1) slots → SameReads [] slots
 none-reads slots all =
     record {
-      source = read-all (λ (o : Option Slot). option_and_then weak_target o) (codes "source") slots 
-      (all-imply (λ (x : Named). ReadsAsNone x.0 x.1) (λ (x : Named). bytes_eq (codes "source") x.0 ≡ true → weak_target x.1 ≡ None) (λ x none. none.source) slots all);
-      own = read-all (λ (o : Option Slot). unwrap_or (option_and_then number_in_slot o) 0) (codes "period") slots 
-      (all-imply (λ (x : Named). ReadsAsNone x.0 x.1) (λ (x : Named). bytes_eq (codes "period") x.0 ≡ true → unwrap_or (number_in_slot x.1) 0 ≡ 0) (λ x none. none.own) slots all);
-      mul = read-all (λ (o : Option Slot). unwrap_or (option_and_then number_in_slot o) 1) (codes "mul") slots 
-      (all-imply (λ (x : Named). ReadsAsNone x.0 x.1) (λ (x : Named). bytes_eq (codes "mul") x.0 ≡ true → unwrap_or (number_in_slot x.1) 1 ≡ 1) (λ x none. none.mul) slots all);
-      div = read-all (λ (o : Option Slot). unwrap_or (option_and_then number_in_slot o) 1) (codes "div") slots 
-      (all-imply (λ (x : Named). ReadsAsNone x.0 x.1) (λ (x : Named). bytes_eq (codes "div") x.0 ≡ true → unwrap_or (number_in_slot x.1) 1 ≡ 1) (λ x none. none.div) slots all);
+      source = read-all (λ (o : Option Slot). option_and_then weak_target o) (codes "source") slots
+          (all-imply (λ (x : Named). ReadsAsNone x.0 x.1) (λ (x : Named). bytes_eq (codes "source") x.0 ≡ true → weak_target x.1 ≡ None) (λ x none. none.source) slots all);
+      own = read-all (λ (o : Option Slot). unwrap_or (option_and_then number_in_slot o) 0) (codes "period") slots
+          (all-imply (λ (x : Named). ReadsAsNone x.0 x.1) (λ (x : Named). bytes_eq (codes "period") x.0 ≡ true → unwrap_or (number_in_slot x.1) 0 ≡ 0) (λ x none. none.own) slots all);
+      mul = read-all (λ (o : Option Slot). unwrap_or (option_and_then number_in_slot o) 1) (codes "mul") slots
+          (all-imply (λ (x : Named). ReadsAsNone x.0 x.1) (λ (x : Named). bytes_eq (codes "mul") x.0 ≡ true → unwrap_or (number_in_slot x.1) 1 ≡ 1) (λ x none. none.mul) slots all);
+      div = read-all (λ (o : Option Slot). unwrap_or (option_and_then number_in_slot o) 1) (codes "div") slots
+          (all-imply (λ (x : Named). ReadsAsNone x.0 x.1) (λ (x : Named). bytes_eq (codes "div") x.0 ≡ true → unwrap_or (number_in_slot x.1) 1 ≡ 1) (λ x none. none.div) slots all);
     }
 
 pub kept-furnished : (v : Objects) (n : ℕ) (slots : List Named) → slots_of v n ≡ [] → AllByRecursion (λ (x : Named). ReadsAsNone x.0 x.1) slots

@@ -111,7 +111,7 @@ module _ (n above : ℕ) where
         omega (
           arith,
           nothing-weighs n (by_owner (is_key k)) row.0 (λ id. ap (λ (b : Bool). cond {A = ℕ} b 1 0) (other row.0 differ)) row.1.links.nodes
-          (weak_names row.1.object.slots),
+              (weak_names row.1.object.slots),
           later-none row.0.birth last rows (omega arith) rises.1,
           sum_by-cons (row_weight n (by_owner (is_key k))) row rows,
         )
