@@ -14,7 +14,7 @@ use Rattle.qo_heap.specs.Keeping.{plain}
 use Rattle.qo_heap.specs.Rows.{IsLive, Rises, births, object_at}
 use Rattle.qo_heap.specs.WeakEnds.{is_weak_owner, nearer, weak_count, weak_owner_above}
 use Rattle.qo_heap.specs.WeakLinks.{node_of, weak_names}
-use Rattle.qo_heap.specs.WeakLists.{HasWeakLists, IsChain, IsNumbered, bag_in, cell_in, head_in, named_weight, row_weight}
+use Rattle.qo_heap.specs.WeakLists.{IsChain, IsNumbered, bag_in, cell_in, head_in, named_weight, row_weight}
 use Rattle.qo_heap.specs.declared.entries.Entry.{Entry}
 use Rattle.qo_heap.specs.declared.weak_links.End.{End}
 use Rattle.qo_heap.specs.declared.weak_links.Node.{Node}
