@@ -22,6 +22,7 @@ mod WeakEnds
 mod WeakInside
 mod WeakMoves
 mod WeakNodes
+pub mod WeakOwners
 mod WeakRows
 mod WeakSlots
 mod WeakTables

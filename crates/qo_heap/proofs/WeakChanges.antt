@@ -61,7 +61,7 @@ each-there above last (row ∷ rows) rises =
       still-there row rows rows (all-higher row.0.birth row.0.birth last rows (omega arith) rises.1) (each-there row.0.birth last rows rises.1),
     )
 
-nothing-weighs : (n : ℕ) (w : End → ℕ) (owner : Key) → ((id : ℕ) → w (record { owner = owner; id = id }) ≡ 0) → (xs : List Node) (ts : List (Option Key))
+pub nothing-weighs : (n : ℕ) (w : End → ℕ) (owner : Key) → ((id : ℕ) → w (record { owner = owner; id = id }) ≡ 0) → (xs : List Node) (ts : List (Option Key))
     → named_weight n w owner xs ts ≡ 0
 nothing-weighs n w owner none [] ts = refl
 nothing-weighs n w owner none (x ∷ xs) [] = refl

@@ -186,7 +186,7 @@ ends-named last rows rises good n l d y there k x t at had number = go (is_born 
 
 -- nothing names an object whose list is empty and whose own weak links are empty
 
-count-named : (n : ℕ) (owner : Key) (xs : List Node) (slots : List Named) → length xs ≡ length (weak_names slots)
+pub count-named : (n : ℕ) (owner : Key) (xs : List Node) (slots : List Named) → length xs ≡ length (weak_names slots)
     → named_weight n (λ (e : End). 1) owner xs (weak_names slots) ≡ count_by (λ (s : Named). names_weakly n s.1) slots
 count-named n owner [] [] size = refl
 count-named n owner (x ∷ xs) [] size = absurd (omega (arith, size))

@@ -1,5 +1,6 @@
 -- For proofs alone. The weak links that end with an object: those that name it, and its own.
-use Rattle.std.specs.Prelude.{◌≡◌, ℕ, true, ◌||◌, ◌==◌, if◌then◌else◌, List, sum_by, count_by, Option, Some, is_some}
+use Rattle.std.specs.Prelude.{◌≡◌, ℕ, Bool, true, ◌&&◌, ◌||◌, ◌==◌, nat_lt, if◌then◌else◌, List, sum_by, count_by, find, Option, None, Some, is_some, option_map}
+use Rattle.std.specs.List.{list_any}
 use Rattle.std.specs.Option.{option_and_then}
 use Rattle.qo_slots.specs.declared.keys.Key.{Key}
 use Rattle.qo_object.specs.Slots.{Named, names_weakly, slot_in, weak_target}
@@ -21,6 +22,23 @@ weak_ends_in n row =
 
 abbrev pub weak_ends : ℕ → List (Key × Content) → ℕ
 weak_ends n rows = sum_by (weak_ends_in n) rows
+
+-- how many weak links name the object of a birth
+abbrev pub weak_count : ℕ → List (Key × Content) → ℕ
+weak_count n rows = sum_by (λ (row : Key × Content). count_by (λ (s : Named). names_weakly n s.1) row.1.slots) rows
+
+-- whether an object has one; and the object of the least birth above a number that has
+abbrev pub is_weak_owner : ℕ → Content → Bool
+is_weak_owner n c = list_any (λ (s : Named). names_weakly n s.1) c.slots
+
+abbrev pub weak_owner_above : ℕ → ℕ → List (Key × Content) → Option Key
+weak_owner_above n above rows =
+    option_map (λ (row : Key × Content). row.0) (find (λ (row : Key × Content). nat_lt above row.0.birth && is_weak_owner n row.1) rows)
+
+-- of what was found so far, if anything, and of another object, the one of the lesser birth above a number
+abbrev pub nearer : ℕ → Option Key → Key → Option Key
+nearer above None key = if nat_lt above key.birth then Some key else None
+nearer above (Some found) key = if nat_lt above key.birth && nat_lt key.birth found.birth then Some key else Some found
 
 -- a link is one of an owner's that has a target
 pub record IsLinked (key : Key) (e : Entry) (l : End) : Type 0 where

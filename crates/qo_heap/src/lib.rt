@@ -23,6 +23,7 @@ mod tree;
 mod weak_ends;
 mod weak_links;
 mod weak_lists;
+mod weak_owners;
 mod weak_slots;
 
 pub use ends::free_kept;

@@ -63,7 +63,8 @@ impl Node {
 impl WeakLinks {
     ghost use Rattle.std.specs.Prelude.{◌≡◌, ◌<◌, ◌==◌, [], ◌∷◌, ◌++◌, ◌+◌, IfSome, IfNone, OnOk, OnErr, length, option_to_list, position, remove, slice_get};
     ghost use Rattle.std.specs.List.{AllByRecursion};
-    ghost use Rattle.qo_heap.specs.WeakLinks.{NumbersRise, changed_node, new_node, no_links, weak_name, with_both, with_next, with_prev, without_last};
+    ghost use Rattle.std.specs.Option.{option_and_then};
+    ghost use Rattle.qo_heap.specs.WeakLinks.{NumbersRise, changed_node, new_node, no_links, node_of, weak_name, with_both, with_next, with_prev, without_last};
 
     /// Nothing names the object, and it has no weak links. It takes no memory.
     pub fn new(alloc: Global) -> WeakLinks
@@ -104,6 +105,15 @@ impl WeakLinks {
         ensures { result ≡ slice_get self.now.nodes place }
     {
         self.nodes.get(place).copied()
+    }
+
+    /// The link behind that of a number.
+    pub fn next_of(&self, id: u64) -> Option<End>
+        ensures { result ≡ option_and_then (λ x. x.next) (node_of self.now.nodes id) }
+    {
+        let place = self.place_of(id)?;
+        let node = self.node_at(place)?;
+        node.next
     }
 
     /// Has another stand before the link of a number.
