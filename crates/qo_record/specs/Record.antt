@@ -37,18 +37,20 @@ pub record Spelled : Type 0 where
   pub number : ℕ
   pub text : List ℕ
 
+-- a session by its number, and the bytes after the byte that ends it
+abbrev pub number_at : ℕ → List ℕ → Option (Spelled × List ℕ)
+number_at stop bytes = number_until stop 15 bytes >>= λ s. Some (record { number = s.0; text = decimal s.0 }, s.1)
+
 -- the session that opens, and the bytes after its line
 abbrev pub opening_at : Version → Names → List ℕ → Option (Spelled × List ℕ)
-opening_at One names bytes =
-    number_until 10 15 bytes >>= λ s. (if is_open names s.0 then None else Some (record { number = s.0; text = decimal s.0 }, s.1))
+opening_at One names bytes = number_at 10 bytes >>= λ s. (if is_open names s.0.number then None else Some s)
 opening_at Two names bytes =
     name_until 10 bytes
     >>= λ name. (if is_some (number_named names name.0) then None else (least_free names >>= λ s. Some (record { number = s; text = name.0 }, name.1)))
 
 -- a session that is open, and the bytes after the byte that ends it
 abbrev pub session_at : Version → Names → ℕ → List ℕ → Option (Spelled × List ℕ)
-session_at One names stop bytes =
-    number_until stop 15 bytes >>= λ s. (if is_open names s.0 then Some (record { number = s.0; text = decimal s.0 }, s.1) else None)
+session_at One names stop bytes = number_at stop bytes >>= λ s. (if is_open names s.0.number then Some s else None)
 session_at Two names stop bytes =
     name_until stop bytes >>= λ name. (number_named names name.0 >>= λ s. Some (record { number = s; text = name.0 }, name.1))
 
