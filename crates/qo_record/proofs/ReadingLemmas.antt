@@ -98,8 +98,11 @@ until_place stop (b ∷ bytes) = go (b == stop) refl (until_place stop bytes)
     go false other (inr p) =
         inr (suc p.0, record { place = rw other (omega (arith, p.1.place)); within = omega (arith, p.1.within); read = rw (other, p.1.read) refl })
 
-split_at : (bytes : List ℕ) (a b c d : ℕ) → a ≡ b → c ≡ d → Some (take a bytes, drop c bytes) ≡ Some (take b bytes, drop d bytes)
-split_at bytes a b c d p q = rw (p, q) refl
+abbrev parted : List ℕ → ℕ → ℕ → Option (List ℕ × List ℕ)
+parted bytes a b = Some (take a bytes, drop b bytes)
+
+split_at : (bytes : List ℕ) (a b c d : ℕ) → a ≡ b → c ≡ d → parted bytes a c ≡ parted bytes b d
+split_at bytes a b c d p q = ap (λ (k : ℕ). parted bytes k c) p ∙ ap (parted bytes b) q
 
 pub place_found : (stop : ℕ) (bytes : List ℕ) (at : ℕ) → position (λ (b : ℕ). b == stop) bytes ≡ Some at →
     (at < length bytes) × (word_until stop bytes ≡ Some (take at bytes, drop (at + 1) bytes))

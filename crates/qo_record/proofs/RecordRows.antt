@@ -1,23 +1,23 @@
 -- Worked rows of the reading of recorded streams, by computation.
-use Rattle.std.proofs.Common.{◌≡◌, ℕ, List, [], ◌∷◌, ◌++◌, map, codes, Option, None, Some, refl}
+use Rattle.std.proofs.Common.{◌≡◌, ℕ, List, [], ◌∷◌, ◌++◌, map, codes, decimal, Option, None, Some, refl}
 use Rattle.qo_causes.specs.Names.{Given, name_of}
 use Rattle.qo_causes.specs.declared.inputs.What.{What}
 use Rattle.qo_causes.specs.declared.inputs.What.TheVariants.{Open, Bytes, Shut}
 use Rattle.qo_record.specs.Names.{is_name, least_free, number_named}
 use Rattle.qo_record.specs.Record.{bad_place, entries_from, entry_at, stream_given}
 
-line : List ℕ → List ℕ
+abbrev line : List ℕ → List ℕ
 line text = text ++ 10 ∷ []
 
-whats : List ℕ → List What
+abbrev whats : List ℕ → List What
 whats bytes = map (λ (g : Given). g.input.what) (stream_given bytes)
 
 -- the names of a session after each entry
-named : ℕ → List ℕ → List (Option (List ℕ))
+abbrev named : ℕ → List ℕ → List (Option (List ℕ))
 named s bytes = map (λ (g : Given). name_of g.names s) (stream_given bytes)
 
 -- a session opens with a name
-ops : List ℕ
+abbrev ops : List ℕ
 ops = line (codes "qrec 2") ++ line (codes "open 1.000000 ops")
 
 ops_opens : whats ops ≡ Open 0 ∷ []
@@ -38,7 +38,7 @@ unfolding entries_from entry_at is_name number_named least_free
 guest_bad = refl
 
 -- of three names the last takes the number that the first left
-three : List ℕ
+abbrev three : List ℕ
 three =
     line (codes "qrec 2") ++ line (codes "open 1.000000 a") ++ line (codes "open 1.000000 b") ++ line (codes "shut 1.000000 a")
     ++ line (codes "open 1.000000 c") ++ line (codes "bytes 1.000000 b 2") ++ line (codes "{}")
@@ -52,13 +52,13 @@ unfolding entries_from entry_at is_name number_named least_free
 three_named = refl
 
 -- in the first version the name of a session is its number
-seven : List ℕ
+abbrev seven : List ℕ
 seven = line (codes "qrec 1") ++ line (codes "open 1.000000 7")
 
 seven_opens : whats seven ≡ Open 7 ∷ []
 unfolding entries_from entry_at is_name number_named least_free
 seven_opens = refl
 
-seven_named : named 7 seven ≡ Some (codes "7") ∷ []
+seven_named : named 7 seven ≡ Some (decimal 7) ∷ []
 unfolding entries_from entry_at is_name number_named least_free
 seven_named = refl
