@@ -116,11 +116,7 @@ pub(crate) fn moment_after<'a>(word: &[u8], bytes: &'a [u8]) -> Option<(Moment, 
 }
 
 /// An entry with the word `open`.
-fn open_entry<'a>(
-    version: Version,
-    names: &SessionNames,
-    bytes: &'a [u8],
-) -> Option<Entry<'a>>
+fn open_entry<'a>(version: Version, names: &SessionNames, bytes: &'a [u8]) -> Option<Entry<'a>>
     ensures entry { option_map entry_said result ≡ entry_of (codes "open ") (open_at version names.now) bytes.now }
     ensures fits { IfSome result (λ e. FitsSaid e.said) }
 {
@@ -130,11 +126,7 @@ fn open_entry<'a>(
 }
 
 /// An entry with the word `bytes`.
-fn bytes_entry<'a>(
-    version: Version,
-    names: &SessionNames,
-    bytes: &'a [u8],
-) -> Option<Entry<'a>>
+fn bytes_entry<'a>(version: Version, names: &SessionNames, bytes: &'a [u8]) -> Option<Entry<'a>>
     ensures entry { option_map entry_said result ≡ entry_of (codes "bytes ") (bytes_at version names.now) bytes.now }
     ensures fits { IfSome result (λ e. FitsSaid e.said) }
 {
@@ -144,11 +136,7 @@ fn bytes_entry<'a>(
 }
 
 /// An entry with the word `shut`.
-fn shut_entry<'a>(
-    version: Version,
-    names: &SessionNames,
-    bytes: &'a [u8],
-) -> Option<Entry<'a>>
+fn shut_entry<'a>(version: Version, names: &SessionNames, bytes: &'a [u8]) -> Option<Entry<'a>>
     ensures entry { option_map entry_said result ≡ entry_of (codes "shut ") (shut_at version names.now) bytes.now }
     ensures fits { IfSome result (λ e. FitsSaid e.said) }
 {

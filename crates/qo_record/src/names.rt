@@ -184,7 +184,11 @@ fn name_until(stop: u8, bytes: &[u8]) -> Option<(&[u8], &[u8])>
     ensures few { IfSome result (λ x. length x.0.now ≤ 32) }
 {
     let (name, rest) = word_until(stop, bytes)?;
-    if is_name(name) { Some((name, rest)) } else { None }
+    if is_name(name) {
+        Some((name, rest))
+    } else {
+        None
+    }
 }
 
 /// A session by its number, and the bytes after the byte that ends it.

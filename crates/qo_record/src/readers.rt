@@ -82,10 +82,7 @@ fn take_more<S: Source>(window: &mut Window, source: &mut S) -> Result<bool, Fai
 
 /// The version of the header at the front of what is ahead, or none where no header stands there. As many bytes are
 /// taken as it takes to tell.
-fn find_header<S: Source>(
-    window: &mut Window,
-    source: &mut S,
-) -> Result<Option<Version>, Failed>
+fn find_header<S: Source>(window: &mut Window, source: &mut S) -> Result<Option<Version>, Failed>
     ensures ahead { ahead_of window.new (S.left source.new) ≡ ahead_of window.old (S.left source.old) }
     ensures found { HeaderFound window.new (S.left source.new) result }
     ensures cause { HasCause (S.faults source.old) (S.faults source.new) result }

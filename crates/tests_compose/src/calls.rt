@@ -67,8 +67,7 @@ fn a_named_session_is_greeted_by_its_name(rt: HostRuntime) -> Result<(), Fail> {
 const NAMED: &str =
     "qrec 2\nopen 1.000000 a\nopen 1.000000 b\nshut 1.000000 a\nopen 1.000000 c\nbytes 1.000000 b 30\n{\"execute\":\"qmp_capabilities\"}\nbytes 1.000000 c 30\n{\"execute\":\"qmp_capabilities\"}\nbytes 1.000000 b 18\n{\"execute\":\"stop\"}\n";
 
-const STOPPED: &str =
-    "{\"event\":\"STOP\",\"timestamp\":{\"microseconds\":0,\"seconds\":1}}\r\n";
+const STOPPED: &str = "{\"event\":\"STOP\",\"timestamp\":{\"microseconds\":0,\"seconds\":1}}\r\n";
 
 #[test]
 fn events_go_to_named_sessions_in_the_order_of_their_numbers(rt: HostRuntime) -> Result<(), Fail> {
@@ -77,8 +76,8 @@ fn events_go_to_named_sessions_in_the_order_of_their_numbers(rt: HostRuntime) ->
     let want = joined(
         rt.alloc(),
         &[
-            "a", GREETED, "b", GREETED, "c", GREETED, "b ", empty, "c ", empty, "c ", STOPPED, "b ",
-            STOPPED, "b ", empty,
+            "a", GREETED, "b", GREETED, "c", GREETED, "b ", empty, "c ", empty, "c ", STOPPED,
+            "b ", STOPPED, "b ", empty,
         ],
     )?;
     leaves(&rt, &left, Status::Done, want.as_bytes(), b"");

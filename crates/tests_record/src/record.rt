@@ -361,7 +361,10 @@ fn lines_have_the_names_of_their_time(rt: HostRuntime) -> Result<(), Fail> {
     let mut hub = hub_over(rt.alloc(), source_of(rt.alloc(), THREE, &[])?)?;
     gives(&rt, rt.alloc(), &mut hub, &["1.000000 open 0"])?;
     assert_eq!(rt; hub.send(Lane::Session(0), b"1\r\n").err(), None);
-    assert_eq!(rt; hub.send(Lane::Guest, b"2\n").err(), Some(SendError::Failed));
+    assert_eq!(rt;
+        hub.send(Lane::Guest, b"2\n").err(),
+        Some(SendError::Failed)
+    );
     let texts = ["1.000000 open 1", "1.000000 shut 0"];
     gives(&rt, rt.alloc(), &mut hub, &texts)?;
     assert_eq!(rt; hub.send(Lane::Session(1), b"3\r\n").err(), None);
