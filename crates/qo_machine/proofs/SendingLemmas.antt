@@ -248,6 +248,13 @@ front_all names start new xs ys h =
       losses = h.losses;
     }
 
+-- the same, where the names are known by another name
+pub sent_as : {a b : Names} (start new : Told) (outs : List Message) (lost : List Bool) → a ≡ b → Sent a start new outs lost → Sent b start new outs lost
+sent_as start new outs lost is h = subst (λ (names : Names). Sent names start new outs lost) is h
+
+pub front_as : {a b : Names} (start new : Told) (outs : List Message) → a ≡ b → SentFront a start new outs → SentFront b start new outs
+front_as start new outs is h = subst (λ (names : Names). SentFront names start new outs) is h
+
 -- the lane of each message is such a lane
 lane_at : (outs : List Message) (i : ℕ) (d : Message) → AreToLanes outs → i < length outs → IsLane (slice_index_or outs i d).0
 lane_at [] i d h below = absurd (omega arith)

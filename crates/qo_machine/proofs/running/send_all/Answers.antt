@@ -1,6 +1,6 @@
 -- One message after another.
 use Rattle.std.proofs.Common.{refl, sym, subst, ◌∙◌, arith}
-use Rattle.qo_machine.proofs.SendingLemmas.{front_at, lane_of_item, one_further, sent_none}
+use Rattle.qo_machine.proofs.SendingLemmas.{front_as, front_at, lane_of_item, one_further, sent_as, sent_none}
 use Rattle.qo_machine.specs.Runs.{known}
 use Rattle.qo_machine.specs.Sending.{Sent}
 use Rattle.qo_machine.proofs.running.send_all.Goals as goal
@@ -24,7 +24,8 @@ pub returns-in-Err-clause-sends : goal.returns-in-Err-clause-sends
 returns-in-Err-clause-sends g c =
     let hub = g.H.Hub in
     front_at (hub.names c.args.hub.now) _ _ c.args.outs.now c.loop-out.out-index c.out-item.result (omega arith) c.out-item.is
-    (rw c.loop-out.invariant.names at (c.in-Err.ensures.err _ _ (rw c.loop-out.invariant.names c.loop-out.invariant.sent)))
+    (front_as _ _ _ c.loop-out.invariant.names
+    (c.in-Err.ensures.err _ _ (sent_as _ _ _ _ (sym c.loop-out.invariant.names) c.loop-out.invariant.sent)))
 
 pub loop-out-preserved : goal.loop-out-preserved
 loop-out-preserved g c =
@@ -36,7 +37,8 @@ loop-out-preserved g c =
           (known (hub.inputs c.send_one.new.hub) (hub.sent c.send_one.new.hub) (hub.got c.send_one.new.hub) (hub.losses c.send_one.new.hub)) outs
           c.send_one.new.lost)
           (sym (one_further c.args.outs.now c.loop-out.out-index c.out-item.result (omega arith) c.out-item.is))
-          (rw c.loop-out.invariant.names at (c.in_default.ensures.ok _ _ (rw c.loop-out.invariant.names c.loop-out.invariant.sent)));
+          (sent_as _ _ _ _ c.loop-out.invariant.names
+          (c.in_default.ensures.ok _ _ (sent_as _ _ _ _ (sym c.loop-out.invariant.names) c.loop-out.invariant.sent)));
       names = c.send_one.ensures.names ∙ c.loop-out.invariant.names;
       bad = c.send_one.ensures.bad ∙ c.loop-out.invariant.bad;
       asked = c.send_one.ensures.asked ∙ c.loop-out.invariant.asked;
