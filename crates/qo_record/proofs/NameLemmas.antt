@@ -1,12 +1,12 @@
 -- How a session is spelled in an entry.
-use Rattle.std.proofs.Common.{◌≡◌, ℕ, ◌+◌, ◌-◌, ◌≤◌, Bool, true, List, ◌∷◌, ◌++◌, length, take, refl, sym, ◌∙◌, ap, arith, length-append, Option}
+use Rattle.std.proofs.Common.{◌≡◌, ℕ, ◌+◌, ◌-◌, ◌≤◌, Bool, true, List, ◌∷◌, length, take, refl, sym, ◌∙◌, ap, arith, length-append, Option}
 use Rattle.std.proofs.Common.{None, Some, is_some, decimal, Bor}
 use Rattle.std.proofs.lemmas.Bool.{true≢false}
 use Rattle.std.specs.Option.{option_copied}
 use Rattle.std.proofs.Math.Seq.{take-append_seam}
 use Rattle.std.proofs.lemmas.Fmt.{length-decimal-le}
 use Rattle.qo_record.specs.Names.{header_of}
-use Rattle.qo_record.specs.Reading.{◌>>=◌, after_front, number_until}
+use Rattle.qo_record.specs.Reading.{after_front, number_until}
 use Rattle.qo_record.specs.Record.{number_at}
 use Rattle.qo_record.proofs.ReadingLemmas.{after_is, number_taken}
 use Rattle.qo_record.specs.Streams.{FitsSaid, IsOfSixteen, said_by}

@@ -15,7 +15,7 @@ use Rattle.qo_record.proofs.EntryLemmas.{entry_again, entry_taken}
 use Rattle.qo_record.proofs.ReadingLemmas.{name_is, none_some}
 use Rattle.qo_record.proofs.RecordLemmas.{entries_none, entries_some, headed_is, left_few, not_end}
 use Rattle.qo_record.specs.Names.{header_of}
-use Rattle.qo_record.specs.Record.{Read, bad_after, entries_from, entry_at, headed, offset_before, read_after}
+use Rattle.qo_record.specs.Record.{Read, bad_after, entries_from, entry_at, offset_before, read_after}
 use Rattle.qo_record.specs.Replays.{Progress, Replaying, Went, ahead_of, bad_ahead, bad_from, inputs_ahead, inputs_from, offset_from, capped_offset, read_from}
 use Rattle.qo_record.specs.Replays.{took_none, went_nowhere, went_then}
 use Rattle.qo_record.specs.Windows.{BeginsWithHeader, IsFirst, NoEntry, first_entry, recorded}

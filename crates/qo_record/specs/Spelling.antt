@@ -8,7 +8,7 @@
 --     moment = seconds "." six digits of microseconds
 -- Numbers are decimal without leading zeros: seconds 0 to 2^63 - 1, len 1 to 65,536, ns 1 to 2^63 - 1.
 -- s is in version 1 the number of a session, 0 to 15. In version 2 it is a name, and the session that opens takes the least number that is free.
-use Rattle.std.specs.Prelude.{ℕ, zero, suc, ◌≡◌, ◌≤◌, ◌<◌, ◌/◌, ◌%◌, ◌+◌, ◌^◌, Bool, true, false, List, [], ◌∷◌, ◌++◌, length, codes, decimal, Some, None, slice_set}
+use Rattle.std.specs.Prelude.{ℕ, zero, suc, ◌≡◌, ◌≤◌, ◌<◌, ◌/◌, ◌%◌, ◌+◌, ◌^◌, true, false, List, [], ◌∷◌, ◌++◌, length, codes, decimal, Some, None, slice_set}
 use Rattle.std.specs.List.{flat_map}
 use Rattle.qo_causes.specs.Names.{Given, Names}
 use Rattle.qo_causes.specs.declared.inputs.Input.{Input}

@@ -299,9 +299,10 @@ fn a_name_takes_the_least_free_number(rt: HostRuntime) -> Result<(), Fail> {
 #[test]
 fn sixteen_names_and_no_more(rt: HostRuntime) -> Result<(), Fail> {
     let mut stream = b"qrec 2\n".to_vec(rt.alloc())?;
-    for letter in b'h'..=b'x' {
+    for letter in b"hijklmnopqrstuvwx" {
         stream.extend_from_slice(b"open 1.000000 ")?;
-        stream.extend_from_slice(&[letter, b'\n'])?;
+        stream.push(*letter)?;
+        stream.push(b'\n')?;
     }
     assert_eq!(rt; stop(rt.alloc(), &stream, 16)?, Some(263));
     Ok(())

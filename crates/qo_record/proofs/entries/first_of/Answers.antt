@@ -3,7 +3,7 @@ use Rattle.std.proofs.Common.{ℕ, ◌-◌, List, length, drop, Some, sym, ◌�
 use Rattle.qo_causes.specs.declared.inputs.What.{What}
 use Rattle.qo_record.proofs.NameLemmas.{of_sixteen}
 use Rattle.qo_record.proofs.WindowLemmas.{after_size}
-use Rattle.qo_record.specs.Streams.{IsOfSixteen, entry_said}
+use Rattle.qo_record.specs.Streams.{entry_said}
 use Rattle.qo_record.proofs.entries.first_of.Goals as goal
 
 pub overflow_sub-result : goal.overflow_sub-result
