@@ -336,7 +336,7 @@ COMMANDS = (
     ("tools/qrec read < session.qrec", "it is run where the record is made"),
     ("tools/draw --steps < mine.session", "it is run where the record is made"),
     ("slot 0     u0 ", "it is a picture of the board of the session before it"),
-    ('record = "qrec 1" LF', "it is how a record is spelled, which tests/test_qrec.py tries"),
+    ('record = ("qrec 1" | "qrec 2") LF', "it is how a record is spelled, which tests/test_qrec.py tries"),
     ("abbrev pub ", test_definition),
 )
 NEED_NO_PROGRAM = (test_library, test_definition)

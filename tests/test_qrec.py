@@ -16,10 +16,14 @@ SESSIONS = {
     "raw g ack 1\n": b"qrec 1\nguest 0.000000 5\nack 1\n",
     "open 0\nraw 0 \\x00\\n\\r\\t\\\\\n": b"qrec 1\nopen 0.000000 0\nbytes 0.000000 0 5\n\x00\n\r\t\\\n",
     "open 0\n-> {\"\u00e9\":1}\n": b"qrec 1\nopen 0.000000 0\nbytes 0.000000 0 8\n{\"\xc3\xa9\":1}\n",
+    "qrec 2\n": b"qrec 2\n",
+    "qrec 2\nopen ops\nops-> {}\n@1.000000 raw ops \\x00\nshut ops\n": b"qrec 2\nopen 0.000000 ops\nbytes 0.000000 ops 2\n{}\nbytes 1.000000 ops 1\n\x00\nshut 1.000000 ops\n",
+    "qrec 2\nopen gg\nopen a-1\ng-> poll\na-1-> {}\n": b"qrec 2\nopen 0.000000 gg\nopen 0.000000 a-1\nguest 0.000000 5\npoll\n\nbytes 0.000000 a-1 2\n{}\n",
     "@9223372036854775807.999999 step 9223372036854775807\n": b"qrec 1\nstep 9223372036854775807.999999 9223372036854775807\n",
 }
-NO_INPUTS = ["open 16", "open 00", "open 0\nopen 0", "-> {}", "shut 0", "step 0", "step 9223372036854775808", "@1.5 step 1", "raw g \\q", "raw g \\", "g->", "16<- {}", "hello"]
-NO_ENTRIES = [(b"", 0), (b"qrec 2\n", 0), (b"qrec 1\nopen 0.000000 0", 7), (b"qrec 1\nbytes 0.000000 0 1\na\n", 7), (b"qrec 1\nstep 0.000000 0\n", 7), (b"qrec 1\nguest 0.000000 3\nab\n", 7)]
+NO_INPUTS = ["open 16", "open 00", "open 0\nopen 0", "-> {}", "shut 0", "step 0", "step 9223372036854775808", "@1.5 step 1", "raw g \\q", "raw g \\", "g->", "16<- {}", "hello", "open ops", "step 1\nqrec 2"]
+NO_NAMED_INPUTS = ["open 0", "open g", "open Ops", "open 1a", "open " + 33 * "a", "open a\nopen a", "a-> {}", "-> {}", "shut a", "step 0"]
+NO_ENTRIES = [(b"", 0), (b"qrec 3\n", 0), (b"qrec 2\nopen 0.000000 g\n", 7), (b"qrec 2\nopen 0.000000 0\n", 7), (b"qrec 2\nopen 0.000000 a\nopen 0.000000 a\n", 23), (b"qrec 2\nshut 0.000000 a\n", 7), (b"qrec 1\nopen 0.000000 0", 7), (b"qrec 1\nbytes 0.000000 0 1\na\n", 7), (b"qrec 1\nstep 0.000000 0\n", 7), (b"qrec 1\nguest 0.000000 3\nab\n", 7)]
 
 
 def run(word, data):
@@ -40,6 +44,17 @@ def test_expected():
     text = 'open 0\n<- {"a":1}\n1<- {}\ng<- ok\n'
     assert run("expected", text.encode()) == (0, b'0 {"a":1}\r\n1 {}\r\ng ok\n', b"")
     assert run("write", text.encode()) == run("write", b"open 0\n")
+    named = "qrec 2\nopen ops\nops<- {}\ng<- ok\n"
+    assert run("expected", named.encode()) == (0, b"ops {}\r\ng ok\n", b"")
+    assert run("write", named.encode()) == run("write", b"qrec 2\nopen ops\n")
+
+
+def test_many_names():
+    """Sixteen sessions may be open at once, and one more once one of them is shut."""
+    opened = "qrec 2\n" + "".join(f"open s{it}\n" for it in range(16))
+    assert run("write", opened.encode())[0] == 0
+    assert run("write", (opened + "open more\n").encode())[0] == 3
+    assert run("write", (opened + "shut s3\nopen more\n").encode())[0] == 0
 
 
 def test_refusals():
@@ -47,6 +62,9 @@ def test_refusals():
     for text in NO_INPUTS:
         status, out, told = run("write", text.encode())
         assert (status, out) == (3, b"") and told.startswith(f"qrec: line {text.count(chr(10)) + 1}: ".encode()), text
+    for text in NO_NAMED_INPUTS:
+        status, out, told = run("write", f"qrec 2\n{text}".encode())
+        assert (status, out) == (3, b"") and told.startswith(f"qrec: line {text.count(chr(10)) + 2}: ".encode()), text
     for record, place in NO_ENTRIES:
         status, _, told = run("read", record)
         assert status == 3 and told.startswith(f"qrec: bad record at byte {place}: ".encode()), record

@@ -3,14 +3,14 @@ use Rattle.std.proofs.Common.{◌≡◌, refl, ap, sym, ◌∙◌, ℕ, ◌+◌,
 use Rattle.std.proofs.lemmas.List.{length-take}
 use Rattle.std.specs.Prelude.{◌⊎◌}
 use Rattle.qo_causes.specs.Hub.{AtEnd}
-use Rattle.qo_causes.specs.declared.inputs.Input.{Input}
+use Rattle.qo_causes.specs.Names.{Given}
 use Rattle.qo_machine.proofs.AnsweringLemmas.{answered_runs}
 use Rattle.qo_machine.specs.Machine.{opening}
 use Rattle.qo_machine.specs.Runs.{OpenRun, RunMeets, Told, Turn, turn_inputs}
 use Rattle.qo_machine.specs.declared.running.Ending.{Ending}
 use Rattle.qo_machine.specs.declared.running.Ending.TheVariants as ending
 use Rattle.qo_record.proofs.ReadingLemmas.{none_some, some_is}
-use Rattle.qo_record.specs.Record.{bad_place, stream_inputs}
+use Rattle.qo_record.specs.Record.{bad_place, stream_given}
 use Rattle.qo_record.specs.Replays.{capped_offset}
 use Rattle.compose.proofs.ReplayLemmas.{each_taken, going_on}
 use Rattle.compose.specs.Completeness.{CompletesReplay, CompletesServe, IsWholeHub}
@@ -24,11 +24,11 @@ use Rattle.compose.specs.declared.statuses.Status.TheVariants.{Done, Usage, BadR
 not_bad : (turns : List Turn) (place : ℕ) (bytes : List ℕ) → bad_place bytes ≡ None → TakeToBad turns place bytes → ⊥
 not_bad turns place bytes none takes = none_some (sym (ap (option_map capped_offset) none) ∙ takes.1)
 
-not_limit : (turns : List Turn) (bytes : List ℕ) → length (stream_inputs bytes) < 1000000000 → TakeToLimit turns bytes → ⊥
+not_limit : (turns : List Turn) (bytes : List ℕ) → length (stream_given bytes) < 1000000000 → TakeToLimit turns bytes → ⊥
 not_limit turns bytes few takes =
-    let most : length (take 1000000000 (stream_inputs bytes)) ≡ min 1000000000 (length (stream_inputs bytes)) =
-    length-take 1000000000 (stream_inputs bytes) in
-    let is : length (turn_inputs turns) ≡ length (take 1000000000 (stream_inputs bytes)) = ap length takes.0 in
+    let most : length (take 1000000000 (stream_given bytes)) ≡ min 1000000000 (length (stream_given bytes)) =
+    length-take 1000000000 (stream_given bytes) in
+    let is : length (turn_inputs turns) ≡ length (take 1000000000 (stream_given bytes)) = ap length takes.0 in
     omega (arith, few, most, is, takes.1)
 
 did_whole : (status : Status) (bytes taken : List ℕ) (held_old held_new : Option (List ℕ)) (place : ℕ)
@@ -59,14 +59,14 @@ not_all old new bad turns run size whole = go new.inputs (sym whole.told ∙ run
     each : length (turn_inputs turns) ≡ length turns
     each = each_taken turns (going_on turns run.1)
 
-    go : (left : Option (List Input)) → Some whole.all ≡ option_map (λ (rest : List Input). turn_inputs turns ++ rest) left → ⊥
+    go : (left : Option (List Given)) → Some whole.all ≡ option_map (λ (rest : List Given). turn_inputs turns ++ rest) left → ⊥
     go None took = none_some (sym took)
     go (Some rest) took =
         let all : length whole.all ≡ length (turn_inputs turns ++ rest) = ap length (some_is took) in
         let both : length (turn_inputs turns ++ rest) ≡ length (turn_inputs turns) + length rest = length-append (turn_inputs turns) rest in
         omega (arith, whole.few, all, both, each, size)
 
-no_place : (inputs : Option (List Input)) (bad : Option (Option ℕ)) (place : ℕ) → AtEnd inputs bad (Some place) → bad ≡ Some None → ⊥
+no_place : (inputs : Option (List Given)) (bad : Option (Option ℕ)) (place : ℕ) → AtEnd inputs bad (Some place) → bad ≡ Some None → ⊥
 no_place inputs bad place at good = none_some (subst (λ (b : Option (Option ℕ)). IfSome b (λ told. told ≡ Some place)) good at.1)
 
 run_whole : (e : Ending) (old new : Told) (bad : Option (Option ℕ)) → RunMeets e 1000000000 old new bad → (serve_status e ≡ HubFault → ⊥)

@@ -8,14 +8,15 @@ use Rattle.std.specs.Prelude.{slice_index}
 use Rattle.memchr.specs.Find.{FindsNeedle, Nowhere, OccursAt}
 use Rattle.qo_values.specs.declared.codes.Code.TheVariants.{E99}
 use Rattle.qo_causes.specs.Hub.{lane_text, line}
+use Rattle.qo_causes.specs.Names.{Names}
 use Rattle.qo_replies.specs.Replies.{error_reply, id_member, line_end}
-use Rattle.qo_machine.specs.Machine.{Message, opening}
-use Rattle.qo_machine.specs.Runs.{outs_of, transcript}
+use Rattle.qo_machine.specs.Machine.{Message, State, opening}
+use Rattle.qo_machine.specs.Runs.{Turn, after, outs_at, outs_of, transcript, transcript_at, transcript_of}
 use Rattle.qo_record.proofs.DemoLemmas.{demos_are_read}
 use Rattle.qo_record.proofs.ReadingLemmas.{some_is}
-use Rattle.qo_record.specs.Demo.{demo_bytes, demo_inputs}
-use Rattle.qo_record.specs.Record.{stream_inputs}
-use Rattle.compose.proofs.MemoryLemmas.{NoneRefused, defined_run}
+use Rattle.qo_record.specs.Demo.{demo_bytes, demo_given}
+use Rattle.qo_record.specs.Record.{stream_given}
+use Rattle.compose.proofs.MemoryLemmas.{NoneRefused, defined_run, none_both}
 use Rattle.compose.specs.Demo.{Lacks, demo_transcript, refused_line, refused_reply}
 use Rattle.compose.specs.Replay.{Replayed}
 use Rattle.compose.specs.declared.statuses.Status.{Status}
@@ -40,24 +41,42 @@ refused_parts id =
 regrouped : (lane before code after rest : List ℕ) → (lane ++ 32 ∷ (before ++ (code ++ after))) ++ rest ≡ (lane ++ 32 ∷ before) ++ (code ++ (after ++ rest))
 regrouped lane before code after rest = simp append_assoc
 
--- what stands nowhere in a transcript stands nowhere after its first line
-further : (part : List ℕ) (m : Message) (outs : List Message) → Lacks part (transcript (m ∷ outs)) → Lacks part (transcript outs)
-further part m outs lacks before after e =
-    lacks (line m.0 m.1 ++ before) after (ap (λ (l : List ℕ). line m.0 m.1 ++ l) e ∙ sym (append_assoc (line m.0 m.1) before (part ++ after)))
+-- what stands nowhere among some bytes stands nowhere in a part of them
+lacks_first : (part xs ys : List ℕ) → Lacks part (xs ++ ys) → Lacks part xs
+lacks_first part xs ys lacks before after e =
+    let whole : (before ++ (part ++ after)) ++ ys ≡ before ++ (part ++ (after ++ ys)) = simp append_assoc in
+    lacks before (after ++ ys) (ap (λ (l : List ℕ). l ++ ys) e ∙ whole)
 
-pub none_refused : (outs : List Message) → Lacks refused_reply (transcript outs) → Lacks refused_line (transcript outs) → NoneRefused outs
-none_refused [] replied told = tt
-none_refused (m ∷ outs) replied told = (
-  (
-    λ id is.
-        let h = refused_parts id in
-        replied (lane_text m.0 ++ 32 ∷ h.before) (h.after ++ transcript outs)
-        (ap (λ (text : List ℕ). (lane_text m.0 ++ 32 ∷ text) ++ transcript outs) (is ∙ h.parts)
-        ∙ regrouped (lane_text m.0) h.before refused_reply h.after (transcript outs)),
-    λ is. told [] (10 ∷ transcript outs) (ap (λ (x : Message). line x.0 x.1 ++ transcript outs) is),
-  ),
-  none_refused outs (further refused_reply m outs replied) (further refused_line m outs told),
-)
+lacks_second : (part xs ys : List ℕ) → Lacks part (xs ++ ys) → Lacks part ys
+lacks_second part xs ys lacks before after e =
+    lacks (xs ++ before) after (ap (λ (l : List ℕ). xs ++ l) e ∙ sym (append_assoc xs before (part ++ after)))
+
+none_refused : (names : Names) (outs : List Message) → Lacks refused_reply (transcript names outs) → Lacks refused_line (transcript names outs) →
+    NoneRefused outs
+none_refused names [] replied told = tt
+none_refused names (m ∷ outs) replied told =
+    let lane : List ℕ = lane_text names m.0 in
+    let first : List ℕ = line names m.0 m.1 in
+    let rest : List ℕ = transcript names outs in (
+      (
+        λ id is.
+            let h = refused_parts id in
+            replied (lane ++ 32 ∷ h.before) (h.after ++ rest)
+            (ap (λ (text : List ℕ). (lane ++ 32 ∷ text) ++ rest) (is ∙ h.parts) ∙ regrouped lane h.before refused_reply h.after rest),
+        λ is. told [] (10 ∷ rest) (ap (λ (x : Message). line names x.0 x.1 ++ rest) is),
+      ),
+      none_refused names outs (lacks_second refused_reply first rest replied) (lacks_second refused_line first rest told),
+    )
+
+pub none_refused_in : (ts : List Turn) (s : State) → Lacks refused_reply (transcript_of s ts) → Lacks refused_line (transcript_of s ts) →
+    NoneRefused (outs_of s ts)
+none_refused_in [] s replied told = tt
+none_refused_in (t ∷ ts) s replied told =
+    let first : List ℕ = transcript_at s t in
+    let rest : List ℕ = transcript_of (after s t) ts in
+    none_both (outs_at s t) (outs_of (after s t) ts)
+    (none_refused t.names (outs_at s t) (lacks_first refused_reply first rest replied) (lacks_first refused_line first rest told))
+    (none_refused_in ts (after s t) (lacks_second refused_reply first rest replied) (lacks_second refused_line first rest told))
 
 -- What is not found stands nowhere.
 pub lacks_by : (part bytes : List ℕ) → Nowhere (OccursAt bytes part) 0 (length bytes + 1) → Lacks part bytes
@@ -88,13 +107,11 @@ kept_is : (bytes kept taken : List ℕ) (left : Option (List ℕ)) (seed steps p
 unfolding demo_transcript
 kept_is bytes kept taken left seed steps place is few ran replied told =
     let d = ran.did in
-    let put : kept ≡ transcript (outs_of opening d.0) = some_is d.1.put in
-    let read : stream_inputs bytes ≡ demo_inputs seed steps = ap stream_inputs is ∙ (demos_are_read seed steps few).0 in
-    let none = none_refused (outs_of opening d.0) (subst (λ (l : List ℕ). Lacks refused_reply l) put replied)
+    let put : kept ≡ transcript_of opening d.0 = some_is d.1.put in
+    let read : stream_given bytes ≡ demo_given seed steps = ap stream_given is ∙ (demos_are_read seed steps few).given in
+    let none = none_refused_in d.0 opening (subst (λ (l : List ℕ). Lacks refused_reply l) put replied)
     (subst (λ (l : List ℕ). Lacks refused_line l) put told) in
-    put
-    ∙ ap transcript
-    (defined_run d.0 (demo_inputs seed steps) d.2.0 d.1.last d.1.lost (sym read ∙ d.2.1) (λ over. (d.2.2 over).0) none)
+    put ∙ defined_run d.0 (demo_given seed steps) d.2.0 d.1.last d.1.lost (sym read ∙ d.2.1) (λ over. (d.2.2 over).0) none
 
 pub demo_done : (status : Status) (bytes start kept taken : List ℕ) (left : Option (List ℕ)) (seed steps place : ℕ) → status ≡ Done →
     bytes ≡ demo_bytes seed steps → start ≡ [] → steps < 2 ^ 32 → Replayed status (Some bytes) left (Some start) (Some kept) taken place →

@@ -6,6 +6,7 @@ use Rattle.std.proofs.lemmas.List.{map-append}
 use Rattle.std.proofs.lemmas.List.Elements.{filter_map-append}
 use Rattle.std.specs.List.{AllByRecursion, cons_option}
 use Rattle.qo_causes.specs.Hub.{given_by, is_end}
+use Rattle.qo_causes.specs.Names.{Given}
 use Rattle.qo_causes.specs.declared.inputs.Input.{Input}
 use Rattle.qo_causes.specs.declared.inputs.Moment.{Moment}
 use Rattle.qo_causes.specs.declared.inputs.What.{What}
@@ -21,14 +22,15 @@ use Rattle.qo_values.specs.declared.codes.Code.TheVariants.{E99}
 use Rattle.qo_values.specs.declared.limits.TheConstants.{SESSIONS}
 use Rattle.std.specs.Prelude.{nat_lt}
 use Rattle.qo_replies.specs.Replies.{error_reply}
-use Rattle.qo_machine.proofs.RunLemmas.{closed_none, outs_more}
+use Rattle.qo_machine.proofs.RunLemmas.{closed_none, lines_more, outs_more}
 use Rattle.qo_causes.specs.declared.hubs.Lane.TheVariants.{Guest as guest}
 use Rattle.qo_guest.specs.declared.answers.GuestAnswer.TheVariants.{NoMemory}
 use Rattle.qo_commands.specs.Lines.{lines_of, without_return}
 use Rattle.qo_machine.specs.Machine.{Choice, Made, Message, State, Stepped, answer_line, preceded, by_item, by_line, defined, finished, input_step, item_step, line_made, line_step}
 use Rattle.qo_machine.specs.Machine.{made_by, mode_of, opened, opening, refused, serve_by, serve_unless, step, taken, unchanged, with_line, with_session}
-use Rattle.qo_machine.specs.Runs.{EndsAtLast, Turn, after, closed_where, has_end, outs_at, outs_of, state_after, turn_inputs}
-use Rattle.compose.proofs.ReplayLemmas.{going_on}
+use Rattle.qo_machine.specs.Runs.{EndsAtLast, Turn, after, closed_where, has_end, outs_at, outs_of, state_after, transcript, transcript_at, transcript_of}
+use Rattle.qo_machine.specs.Runs.{turn_inputs}
+use Rattle.compose.proofs.ReplayLemmas.{given_at, going_on}
 use Rattle.compose.specs.Demo.{as_defined}
 use Rattle.compose.specs.Replay.{NoneLost}
 
@@ -39,6 +41,10 @@ NoneRefused outs = AllByRecursion (λ (m : Message). ((id : Option (List ℕ)) �
 none_before : (xs ys : List Message) → NoneRefused (xs ++ ys) → NoneRefused xs
 none_before [] ys h = tt
 none_before (x ∷ xs) ys h = (h.0, none_before xs ys h.1)
+
+pub none_both : (xs ys : List Message) → NoneRefused xs → NoneRefused ys → NoneRefused (xs ++ ys)
+none_both [] ys p q = q
+none_both (x ∷ xs) ys p q = (p.0, none_both xs ys p.1 q)
 
 none_after : (xs ys : List Message) → NoneRefused (xs ++ ys) → NoneRefused ys
 none_after [] ys h = h
@@ -161,7 +167,7 @@ none_closed (flag ∷ lost) (x ∷ all) h =
     ∙ ap (λ (l : List sessions.State). x ∷ l) (none_closed lost all (λ n. h (suc n)))
 
 turn_state : (s : State) (t : Turn) → ((n : ℕ) → slice_index_or t.lost n false ≡ false) → NoneRefused (outs_at s t) →
-    after s t ≡ after s (as_defined t.input)
+    after s t ≡ after s (as_defined (given_at t))
 turn_state s t kept h =
     let r = step_same s t.input t.choices h in
     let all : List sessions.State = (step s t.input t.choices).state.sessions in
@@ -170,34 +176,35 @@ turn_state s t kept h =
     ∙ ap (λ (l : List sessions.State). record (step s t.input []).state { sessions = l }) (closed_none (step s t.input []).state.sessions)
 
 -- the inputs of turns whose first is not the end
-abbrev with_given : Bool → Input → List Input → List Input
+abbrev with_given : Bool → Given → List Given → List Given
 with_given e i inputs = cons_option (if e then None else Some i) inputs
 
-given_first : (e : Bool) (i : Input) (inputs : List Input) → e ≡ false → with_given e i inputs ≡ i ∷ inputs
+given_first : (e : Bool) (i : Given) (inputs : List Given) → e ≡ false → with_given e i inputs ≡ i ∷ inputs
 given_first e i inputs on = ap (λ (b : Bool). with_given b i inputs) on
 
-abbrev plain : List Input → List Turn
+abbrev plain : List Given → List Turn
 plain inputs = map as_defined inputs
 
 record SameRun (s : State) (ts us : List Turn) : Type 0 where
-  outs : outs_of s ts ≡ outs_of s us
+  lines : transcript_of s ts ≡ transcript_of s us
   state : state_after s ts ≡ state_after s us
 
 run_same : (ts : List Turn) (s : State) → NoneLost ts → has_end ts ≡ false → NoneRefused (outs_of s ts) → SameRun s ts (plain (turn_inputs ts))
-run_same [] s lost none h = record { outs = refl; state = refl }
+run_same [] s lost none h = record { lines = refl; state = refl }
 run_same (t ∷ ts) s lost none h =
     let ends = or_parts (is_end t.input.what) (has_end ts) none in
     let here = none_before (outs_at s t) (outs_of (after s t) ts) h in
-    let on : after s t ≡ after s (as_defined t.input) = turn_state s t lost.0 here in
+    let one : Turn = as_defined (given_at t) in
+    let on : after s t ≡ after s one = turn_state s t lost.0 here in
     let r = run_same ts (after s t) lost.1 ends.1 (none_after (outs_at s t) (outs_of (after s t) ts) h) in
     let more : List Turn = plain (turn_inputs ts) in
-    let inputs : turn_inputs (t ∷ ts) ≡ t.input ∷ turn_inputs ts = given_first (is_end t.input.what) t.input (turn_inputs ts) ends.0 in
+    let inputs : turn_inputs (t ∷ ts) ≡ given_at t ∷ turn_inputs ts = given_first (is_end t.input.what) (given_at t) (turn_inputs ts) ends.0 in
     record {
-      outs =
-          ap (λ (l : List Message). outs_at s t ++ l) (r.outs ∙ ap (λ (u : State). outs_of u more) on)
-          ∙ ap (λ (l : List Message). l ++ outs_of (after s (as_defined t.input)) more) (step_same s t.input t.choices here).outs
-          ∙ sym (ap (λ (l : List Input). outs_of s (plain l)) inputs);
-      state = r.state ∙ ap (λ (u : State). state_after u more) on ∙ sym (ap (λ (l : List Input). state_after s (plain l)) inputs);
+      lines =
+          ap (λ (l : List ℕ). transcript_at s t ++ l) (r.lines ∙ ap (λ (u : State). transcript_of u more) on)
+          ∙ ap (λ (l : List Message). transcript t.names l ++ transcript_of (after s one) more) (step_same s t.input t.choices here).outs
+          ∙ sym (ap (λ (l : List Given). transcript_of s (plain l)) inputs);
+      state = r.state ∙ ap (λ (u : State). state_after u more) on ∙ sym (ap (λ (l : List Given). state_after s (plain l)) inputs);
     }
 
 -- After the end of the run nothing is sent, and the end sends nothing.
@@ -206,12 +213,12 @@ stays_ended : (s : State) (i : Input) → s.ended ≡ true → step s i [] ≡ u
 unfolding step
 stays_ended s i over = ap (λ (b : Bool). serve_unless b (unchanged s []) (input_step s i.at i.what [])) over
 
-ended_quiet : (inputs : List Input) (s : State) → s.ended ≡ true → outs_of s (plain inputs) ≡ []
+ended_quiet : (inputs : List Given) (s : State) → s.ended ≡ true → transcript_of s (plain inputs) ≡ []
 ended_quiet [] s over = refl
-ended_quiet (i ∷ inputs) s over =
-    let same = stays_ended s i over in
-    let next : State = after s (as_defined i) in
-    ap (λ (r : Stepped). r.outs ++ outs_of next (plain inputs)) same
+ended_quiet (g ∷ inputs) s over =
+    let same = stays_ended s g.input over in
+    let next : State = after s (as_defined g) in
+    ap (λ (r : Stepped). transcript g.names r.outs ++ transcript_of next (plain inputs)) same
     ∙ ended_quiet inputs next (ap (λ (r : Stepped). r.state.ended) same ∙ over)
 
 nothing_sent : (ended : Bool) (s t : State) (cs : List Choice) → (serve_unless ended (unchanged s cs) (unchanged t cs)).outs ≡ []
@@ -247,58 +254,62 @@ lost_before : (ts us : List Turn) → NoneLost (ts ++ us) → NoneLost ts
 lost_before [] us h = tt
 lost_before (t ∷ ts) us h = (h.0, lost_before ts us h.1)
 
-end_given : (e : Bool) (i : Input) → e ≡ true → with_given e i [] ≡ []
+end_given : (e : Bool) (i : Given) → e ≡ true → with_given e i [] ≡ []
 end_given e i h = ap (λ (b : Bool). with_given b i []) h
 
 -- the last turn was the end
-by_end : (before : List Turn) (last : Turn) (inputs rest : List Input) → (state_after opening before).ended ≡ false →
+by_end : (before : List Turn) (last : Turn) (inputs rest : List Given) → (state_after opening before).ended ≡ false →
     is_end last.input.what ≡ true → rest ≡ [] → NoneLost (before ++ last ∷ []) → inputs ≡ turn_inputs (before ++ last ∷ []) ++ rest →
-    NoneRefused (outs_of opening (before ++ last ∷ [])) → outs_of opening (before ++ last ∷ []) ≡ outs_of opening (plain inputs)
+    NoneRefused (outs_of opening (before ++ last ∷ [])) → transcript_of opening (before ++ last ∷ []) ≡ transcript_of opening (plain inputs)
 by_end before last inputs rest going is none lost all h =
     let s : State = state_after opening before in
-    let whole : outs_of opening (before ++ last ∷ []) ≡ outs_of opening before =
-    outs_more before (last ∷ []) opening ∙ ap (λ (l : List Message). outs_of opening before ++ (l ++ [])) (last_quiet s last is)
+    let quiet = last_quiet s last is in
+    let outs : outs_of opening (before ++ last ∷ []) ≡ outs_of opening before =
+    outs_more before (last ∷ []) opening ∙ ap (λ (l : List Message). outs_of opening before ++ (l ++ [])) quiet
     ∙ append-nil (outs_of opening before) in
+    let lines : transcript_of opening (before ++ last ∷ []) ≡ transcript_of opening before =
+    lines_more before (last ∷ []) opening ∙ ap (λ (l : List Message). transcript_of opening before ++ (transcript last.names l ++ [])) quiet
+    ∙ append-nil (transcript_of opening before) in
     let taken : turn_inputs (before ++ last ∷ []) ≡ turn_inputs before =
-    filter_map-append (λ (t : Turn). given_by t.input) before (last ∷ [])
-    ∙ ap (λ (l : List Input). turn_inputs before ++ l) (end_given (is_end last.input.what) last.input is) ∙ append-nil (turn_inputs before) in
+    filter_map-append (λ (t : Turn). given_by t.input t.names) before (last ∷ [])
+    ∙ ap (λ (l : List Given). turn_inputs before ++ l) (end_given (is_end last.input.what) (given_at last) is) ∙ append-nil (turn_inputs before) in
     let given : inputs ≡ turn_inputs before =
-    all ∙ ap (λ (l : List Input). turn_inputs (before ++ last ∷ []) ++ l) none ∙ append-nil (turn_inputs (before ++ last ∷ [])) ∙ taken in
-    whole
-    ∙ (run_same before opening (lost_before before (last ∷ []) lost) (going_on before going) (subst NoneRefused whole h)).outs
-    ∙ sym (ap (λ (l : List Input). outs_of opening (plain l)) given)
+    all ∙ ap (λ (l : List Given). turn_inputs (before ++ last ∷ []) ++ l) none ∙ append-nil (turn_inputs (before ++ last ∷ [])) ∙ taken in
+    lines
+    ∙ (run_same before opening (lost_before before (last ∷ []) lost) (going_on before going) (subst NoneRefused outs h)).lines
+    ∙ sym (ap (λ (l : List Given). transcript_of opening (plain l)) given)
 
 -- the run has ended by its last input
-by_input : (ts : List Turn) (inputs rest : List Input) → has_end ts ≡ false → (state_after opening ts).ended ≡ true → NoneLost ts →
-    inputs ≡ turn_inputs ts ++ rest → NoneRefused (outs_of opening ts) → outs_of opening ts ≡ outs_of opening (plain inputs)
+by_input : (ts : List Turn) (inputs rest : List Given) → has_end ts ≡ false → (state_after opening ts).ended ≡ true → NoneLost ts →
+    inputs ≡ turn_inputs ts ++ rest → NoneRefused (outs_of opening ts) → transcript_of opening ts ≡ transcript_of opening (plain inputs)
 by_input ts inputs rest none over lost all h =
     let r = run_same ts opening lost none h in
     let us : List Turn = plain (turn_inputs ts) in
-    let after_end : outs_of (state_after opening us) (plain rest) ≡ [] =
+    let after_end : transcript_of (state_after opening us) (plain rest) ≡ [] =
     ended_quiet rest (state_after opening us) (ap (λ (u : State). u.ended) (sym r.state) ∙ over) in
-    r.outs ∙ sym (append-nil (outs_of opening us)) ∙ ap (λ (l : List Message). outs_of opening us ++ l) (sym after_end)
-    ∙ sym (outs_more us (plain rest) opening)
-    ∙ ap (λ (l : List Turn). outs_of opening l) (sym (map-append as_defined (turn_inputs ts) rest))
-    ∙ sym (ap (λ (l : List Input). outs_of opening (plain l)) all)
+    r.lines ∙ sym (append-nil (transcript_of opening us)) ∙ ap (λ (l : List ℕ). transcript_of opening us ++ l) (sym after_end)
+    ∙ sym (lines_more us (plain rest) opening)
+    ∙ ap (λ (l : List Turn). transcript_of opening l) (sym (map-append as_defined (turn_inputs ts) rest))
+    ∙ sym (ap (λ (l : List Given). transcript_of opening (plain l)) all)
 
-ended_run : (before : List Turn) (last : Turn) (inputs rest : List Input) → (state_after opening before).ended ≡ false →
+ended_run : (before : List Turn) (last : Turn) (inputs rest : List Given) → (state_after opening before).ended ≡ false →
     (state_after opening (before ++ last ∷ [])).ended ≡ true → NoneLost (before ++ last ∷ []) → inputs ≡ turn_inputs (before ++ last ∷ []) ++ rest →
     (has_end (before ++ last ∷ []) ≡ true → rest ≡ []) → NoneRefused (outs_of opening (before ++ last ∷ [])) →
-    outs_of opening (before ++ last ∷ []) ≡ outs_of opening (plain inputs)
+    transcript_of opening (before ++ last ∷ []) ≡ transcript_of opening (plain inputs)
 ended_run before last inputs rest going over lost all none h = by (is_end last.input.what) refl
   where
     ends : has_end (before ++ last ∷ []) ≡ is_end last.input.what
     ends = end_of before last (going_on before going)
 
-    by : (e : Bool) → is_end last.input.what ≡ e → outs_of opening (before ++ last ∷ []) ≡ outs_of opening (plain inputs)
+    by : (e : Bool) → is_end last.input.what ≡ e → transcript_of opening (before ++ last ∷ []) ≡ transcript_of opening (plain inputs)
     by true is = by_end before last inputs rest going is (none (ends ∙ is)) lost all h
     by false is = by_input (before ++ last ∷ []) inputs rest (ends ∙ is) over lost all h
 
-pub defined_run : (ts : List Turn) (inputs rest : List Input) → EndsAtLast ts → NoneLost ts → inputs ≡ turn_inputs ts ++ rest →
-    (has_end ts ≡ true → rest ≡ []) → NoneRefused (outs_of opening ts) → outs_of opening ts ≡ outs_of opening (map as_defined inputs)
+pub defined_run : (ts : List Turn) (inputs rest : List Given) → EndsAtLast ts → NoneLost ts → inputs ≡ turn_inputs ts ++ rest →
+    (has_end ts ≡ true → rest ≡ []) → NoneRefused (outs_of opening ts) → transcript_of opening ts ≡ transcript_of opening (map as_defined inputs)
 defined_run ts inputs rest ends lost all none h =
     let P : List Turn → Type 0 = λ us. NoneLost us × (inputs ≡ turn_inputs us ++ rest) × (has_end us ≡ true → rest ≡ []) × NoneRefused (outs_of opening us)
     × ((state_after opening us).ended ≡ true) in
     let p = subst P ends.2 (lost, all, none, h, ends.4) in
-    ap (λ (us : List Turn). outs_of opening us) ends.2
+    ap (λ (us : List Turn). transcript_of opening us) ends.2
     ∙ ended_run ends.0 ends.1 inputs rest ends.3 p.4 p.0 p.1 p.2 p.3

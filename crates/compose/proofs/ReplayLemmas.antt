@@ -8,7 +8,7 @@ use Rattle.std.specs.List.{cons_option}
 use Rattle.std.specs.Io.KnownBytes.{prepend_known}
 use Rattle.qo_causes.specs.Hub.{AtEnd, is_end}
 use Rattle.qo_causes.specs.declared.hubs.Lane.{Lane}
-use Rattle.qo_causes.specs.declared.inputs.Input.{Input}
+use Rattle.qo_causes.specs.Names.{Given, Names, no_names}
 use Rattle.qo_machine.proofs.RunLemmas.{has_end_ends, nothing_appended, took_twice}
 use Rattle.qo_machine.specs.Machine.{opening}
 use Rattle.qo_machine.specs.Runs.{CutRun, OpenRun, RunMeets, Turn, has_end, known, last_input, risen, risen_by, state_after, turn_inputs}
@@ -16,7 +16,9 @@ use Rattle.qo_machine.specs.declared.running.Ending.{Ending}
 use Rattle.qo_machine.specs.declared.running.Ending.TheVariants as ending
 use Rattle.qo_record.proofs.CoverLemmas.{covered, given_first, given_whole, taken_is, took_inputs}
 use Rattle.qo_record.proofs.ReadingLemmas.{none_some}
-use Rattle.qo_record.specs.Record.{bad_place, entries_from, entries_within, entry_at, inputs_after, stream_inputs}
+use Rattle.qo_record.specs.Record.{bad_place, entries_from, entries_within, entry_at, read_after, stream_given}
+use Rattle.qo_record.specs.Spelling.{Recorded, given_from}
+use Rattle.qo_record.specs.declared.versions.Version.{Version}
 use Rattle.qo_record.specs.Replays.{Gave, IsStarved, Progress, StarvedWith, Replaying, Went, bad_ahead, inputs_ahead, inputs_from, capped_offset, unread}
 use Rattle.compose.specs.Replay.{DidReplay, IsCut, NoneLost, OpenReplay, Replayed, TakeHeld, TakePart, TakeToBad, TakeToEnd, TakeToLimit, offset_of, status_of}
 use Rattle.compose.specs.declared.statuses.Status.{Status}
@@ -46,7 +48,10 @@ none_lost (t ∷ ts) h = (here, none_lost ts (λ n. subst (λ (f : Bool). risen_
 
 -- Each turn but the end takes an input.
 
-first_length : (e : Bool) (i : Input) (rest : List Input) → e ≡ false → length (cons_option (if e then None else Some i) rest) ≡ length rest + 1
+abbrev pub given_at : Turn → Given
+given_at t = record { input = t.input; names = t.names }
+
+first_length : (e : Bool) (i : Given) (rest : List Given) → e ≡ false → length (cons_option (if e then None else Some i) rest) ≡ length rest + 1
 first_length true i rest over = absurd (true≢false over)
 first_length false i rest over = omega arith
 
@@ -54,7 +59,7 @@ pub each_taken : (ts : List Turn) → has_end ts ≡ false → length (turn_inpu
 each_taken [] none = refl
 each_taken (t ∷ ts) none =
     let ends = or_parts (is_end t.input.what) (has_end ts) none in
-    omega (arith, first_length (is_end t.input.what) t.input (turn_inputs ts) ends.0, each_taken ts ends.1)
+    omega (arith, first_length (is_end t.input.what) (given_at t) (turn_inputs ts) ends.0, each_taken ts ends.1)
 
 by_going : (e : Bool) → (e ≡ true → ⊥) → e ≡ false
 by_going true h = absurd (h refl)
@@ -65,17 +70,17 @@ going_on ts on = by_going (has_end ts) (λ over. true≢false (sym (has_end_ends
 
 -- A last turn takes one input, or none.
 
-one_input : (e : Bool) (i : Input) → length (cons_option (if e then None else Some i) []) ≤ 1
+one_input : (e : Bool) (i : Given) → length (cons_option (if e then None else Some i) []) ≤ 1
 one_input true i = omega arith
 one_input false i = omega arith
 
 one_taken : (last : Option Turn) → length (last_input last) ≤ 1
 one_taken None = omega arith
-one_taken (Some t) = one_input (is_end t.input.what) t.input
+one_taken (Some t) = one_input (is_end t.input.what) (given_at t)
 
-taken_all : (a b : Option (List Input)) (xs : List Input) → a ≡ option_map (λ (r : List Input). xs ++ r) b →
-    a ≡ option_map (λ (r : List Input). (xs ++ []) ++ r) b
-taken_all a b xs took = took ∙ ap (λ (l : List Input). option_map (λ (r : List Input). l ++ r) b) (sym (append-nil xs))
+taken_all : (a b : Option (List Given)) (xs : List Given) → a ≡ option_map (λ (r : List Given). xs ++ r) b →
+    a ≡ option_map (λ (r : List Given). (xs ++ []) ++ r) b
+taken_all a b xs took = took ∙ ap (λ (l : List Given). option_map (λ (r : List Given). l ++ r) b) (sym (append-nil xs))
 
 -- What is told of the record.
 
@@ -83,77 +88,77 @@ no_place : (n : Option ℕ) → option_map capped_offset n ≡ None → n ≡ No
 no_place None h = refl
 no_place (Some n) h = absurd (none_some (sym h))
 
-none_left : (inputs : Option (List Input)) (rest : List Input) → inputs ≡ Some rest → IfSome inputs (λ (r : List Input). r ≡ []) → rest ≡ []
-none_left inputs rest is h = subst (λ (i : Option (List Input)). IfSome i (λ (r : List Input). r ≡ [])) is h
+none_left : (inputs : Option (List Given)) (rest : List Given) → inputs ≡ Some rest → IfSome inputs (λ (r : List Given). r ≡ []) → rest ≡ []
+none_left inputs rest is h = subst (λ (i : Option (List Given)). IfSome i (λ (r : List Given). r ≡ [])) is h
 
-abbrev Read : Progress → Option (List ℕ) → Option (List ℕ) → List ℕ → List Input → Type 0
-Read p left_old left_new bytes given = Gave unread p left_old left_new bytes given
+abbrev Read : Progress → Option (List ℕ) → Option (List ℕ) → List ℕ → List Recorded → Type 0
+Read p left_old left_new bytes entries = Gave unread p left_old left_new bytes entries
 
-abbrev Took : Progress → Option (List ℕ) → Option (List ℕ) → List Input → Type 0
-Took p left_old left_new taken = inputs_ahead unread left_old ≡ option_map (λ (rest : List Input). taken ++ rest) (inputs_ahead p left_new)
+abbrev Took : Progress → Option (List ℕ) → Option (List ℕ) → List Given → Type 0
+Took p left_old left_new taken = inputs_ahead unread left_old ≡ option_map (λ (rest : List Given). taken ++ rest) (inputs_ahead p left_new)
 
-to_end : (p : Progress) (lo ln : Option (List ℕ)) (bytes : List ℕ) (given : List Input) (ts : List Turn) → Read p lo ln bytes given →
+to_end : (p : Progress) (lo ln : Option (List ℕ)) (bytes : List ℕ) (given : List Recorded) (ts : List Turn) → Read p lo ln bytes given →
     Took p lo ln (turn_inputs ts) → (has_end ts ≡ true → AtEnd (inputs_ahead p ln) (bad_ahead unread lo) None) → IfSome lo (TakeToEnd ts)
 to_end p None ln bytes given ts read took over = tt
 to_end p (Some all) ln bytes given ts read took over =
     let t = took_inputs p all ln bytes given (turn_inputs ts) read took in
     (t.rest, t.all_is, λ e. (none_left (inputs_ahead p ln) t.rest t.left_is (over e).0, no_place (bad_place all) (over e).1))
 
-to_bad : (p : Progress) (lo ln : Option (List ℕ)) (bytes : List ℕ) (given : List Input) (ts : List Turn) (n : ℕ) → Read p lo ln bytes given →
+to_bad : (p : Progress) (lo ln : Option (List ℕ)) (bytes : List ℕ) (given : List Recorded) (ts : List Turn) (n : ℕ) → Read p lo ln bytes given →
     Took p lo ln (turn_inputs ts) → AtEnd (inputs_ahead p ln) (bad_ahead unread lo) (Some n) → IfSome lo (TakeToBad ts n)
 to_bad p None ln bytes given ts n read took over = tt
 to_bad p (Some all) ln bytes given ts n read took over =
     let t = took_inputs p all ln bytes given (turn_inputs ts) read took in
     let none = none_left (inputs_ahead p ln) t.rest t.left_is over.0 in
-    (sym (append-nil (turn_inputs ts)) ∙ ap (λ (r : List Input). turn_inputs ts ++ r) (sym none) ∙ sym t.all_is, over.1)
+    (sym (append-nil (turn_inputs ts)) ∙ ap (λ (r : List Given). turn_inputs ts ++ r) (sym none) ∙ sym t.all_is, over.1)
 
-to_limit : (p : Progress) (lo ln : Option (List ℕ)) (bytes : List ℕ) (given : List Input) (ts : List Turn) → Read p lo ln bytes given →
+to_limit : (p : Progress) (lo ln : Option (List ℕ)) (bytes : List ℕ) (given : List Recorded) (ts : List Turn) → Read p lo ln bytes given →
     Took p lo ln (turn_inputs ts) → length (turn_inputs ts) ≡ 1000000000 → IfSome lo (TakeToLimit ts)
 to_limit p None ln bytes given ts read took size = tt
 to_limit p (Some all) ln bytes given ts read took size =
     let t = took_inputs p all ln bytes given (turn_inputs ts) read took in (
-      sym (ap (λ (k : ℕ). take k (stream_inputs all)) (sym size) ∙ ap (take (length (turn_inputs ts))) t.all_is ∙ take-append_seam (turn_inputs ts) t.rest),
+      sym (ap (λ (k : ℕ). take k (stream_given all)) (sym size) ∙ ap (take (length (turn_inputs ts))) t.all_is ∙ take-append_seam (turn_inputs ts) t.rest),
       size,
     )
 
-part_of : (p : Progress) (lo ln : Option (List ℕ)) (bytes : List ℕ) (given : List Input) (ts : List Turn) (last : Option Turn) →
+part_of : (p : Progress) (lo ln : Option (List ℕ)) (bytes : List ℕ) (given : List Recorded) (ts : List Turn) (last : Option Turn) →
     length p.buffered < 65700 → Read p lo ln bytes given → Took p lo ln (turn_inputs ts ++ last_input last) → IfSome lo (TakePart (bytes ++ p.buffered) ts last)
 part_of p None ln bytes given ts last few read took = tt
 part_of p (Some all) ln bytes given ts last few read took =
     let t = took_inputs p all ln bytes given (turn_inputs ts ++ last_input last) read took in
-    let held : List Input = inputs_from p.headed p.opened p.buffered in
+    let held : List Given = inputs_from p.version p.names p.buffered in
     record {
       front = (t.rest, t.all_is);
-      stand = (held, given_first p (Some all) ln bytes given p.buffered read ∙ ap (λ (l : List Input). l ++ held) t.given_is);
+      stand = (held, given_first p (Some all) ln bytes given p.buffered read ∙ ap (λ (l : List Given). l ++ held) t.given_is);
       covers =
           covered bytes p.buffered given (turn_inputs ts) (last_input last) (given_whole p (Some all) ln bytes given read) few t.given_is (one_taken last);
     }
 
 -- where the source failed no whole entry is held that was not given
-none_within : (n : ℕ) (opened : List Bool) (held : List ℕ) → entry_at opened held ≡ None → (entries_within n opened held).inputs ≡ []
-none_within zero opened held none = refl
-none_within (suc n) opened held none = rw none refl
+none_within : (n : ℕ) (v : Version) (names : Names) (held : List ℕ) → entry_at v names held ≡ None → (entries_within n v names held).entries ≡ []
+none_within zero v names held none = refl
+none_within (suc n) v names held none = rw none refl
 
-none_held : (headed : Bool) (opened : List Bool) (held : List ℕ) → StarvedWith headed opened held → inputs_from headed opened held ≡ []
+none_held : (version : Option Version) (names : Names) (held : List ℕ) → StarvedWith version names held → inputs_from version names held ≡ []
 unfolding entries_from
-none_held true opened held h = none_within (length held) opened held h.whole
-none_held false opened held h = ap inputs_after h
+none_held (Some v) names held h = ap (given_from names) (none_within (length held) v names held h.whole)
+none_held None names held h = ap (λ (r : Option (Version × List ℕ)). given_from names (read_after names held r).entries) h
 
-held_of : (p : Progress) (lo ln : Option (List ℕ)) (bytes : List ℕ) (given : List Input) (ts : List Turn) → IsStarved p → Read p lo ln bytes given →
+held_of : (p : Progress) (lo ln : Option (List ℕ)) (bytes : List ℕ) (given : List Recorded) (ts : List Turn) → IsStarved p → Read p lo ln bytes given →
     Took p lo ln (turn_inputs ts) → IfSome lo (λ _. TakeHeld (bytes ++ p.buffered) ts)
 held_of p None ln bytes given ts starved read took = tt
 held_of p (Some all) ln bytes given ts starved read took =
     let t = took_inputs p all ln bytes given (turn_inputs ts) read took in
-    sym (given_first p (Some all) ln bytes given p.buffered read ∙ ap (λ (l : List Input). given ++ l) (none_held p.headed p.opened p.buffered starved)
-    ∙ append-nil given ∙ t.given_is)
+    sym (given_first p (Some all) ln bytes given p.buffered read ∙ ap (λ (l : List Given). given_from no_names given ++ l)
+    (none_held p.version p.names p.buffered starved) ∙ append-nil (given_from no_names given) ∙ t.given_is)
 
 -- The run as a replay of the record.
 
-open_run : (oi ni : Option (List Input)) (ho hn : Option (List ℕ)) (og ng : Lane → Option (List ℕ)) (ts : List Turn) →
+open_run : (oi ni : Option (List Given)) (ho hn : Option (List ℕ)) (og ng : Lane → Option (List ℕ)) (ts : List Turn) →
     OpenRun (known oi ho og (λ n. 0)) (known ni hn ng (λ n. 0)) ts → OpenReplay ho hn ts
 open_run oi ni ho hn og ng ts h = record { going = h.1; lost = none_lost ts h.0.losses; put = h.0.sent }
 
-cut_run : (p : Progress) (lo ln ho hn : Option (List ℕ)) (bytes : List ℕ) (given : List Input) (og ng : Lane → Option (List ℕ)) →
+cut_run : (p : Progress) (lo ln ho hn : Option (List ℕ)) (bytes : List ℕ) (given : List Recorded) (og ng : Lane → Option (List ℕ)) →
     length p.buffered < 65700 → Read p lo ln bytes given →
     CutRun 1000000000 (known (inputs_ahead unread lo) ho og (λ n. 0)) (known (inputs_ahead p ln) hn ng (λ n. 0)) → IsCut lo (bytes ++ p.buffered) ho hn
 cut_run p lo ln ho hn bytes given og ng few read h =
@@ -171,7 +176,7 @@ cut_run p lo ln ho hn bytes given og ng few read h =
       part_of p lo ln bytes given h.1 h.2 few read took,
     )
 
-did : (e : Ending) (p : Progress) (lo ln ho hn : Option (List ℕ)) (bytes : List ℕ) (given : List Input) (og ng : Lane → Option (List ℕ)) →
+did : (e : Ending) (p : Progress) (lo ln ho hn : Option (List ℕ)) (bytes : List ℕ) (given : List Recorded) (og ng : Lane → Option (List ℕ)) →
     length p.buffered < 65700 → (e ≡ ending.NextFailed → IsStarved p) → Read p lo ln bytes given →
     RunMeets e 1000000000 (known (inputs_ahead unread lo) ho og (λ n. 0)) (known (inputs_ahead p ln) hn ng (λ n. 0)) (bad_ahead unread lo) →
     DidReplay (status_of e) lo (bytes ++ p.buffered) ho hn (offset_of e)
@@ -222,7 +227,7 @@ nothing_taken (Some bytes) = refl
 
 nothing_told : (left : Option (List ℕ)) → IfSome left (TakePart [] [] None)
 nothing_told None = tt
-nothing_told (Some bytes) = record { front = (stream_inputs bytes, refl); stand = ([], refl); covers = ([], refl) }
+nothing_told (Some bytes) = record { front = (stream_given bytes, refl); stand = ([], refl); covers = ([], refl) }
 
 pub not_made : (left held : Option (List ℕ)) → Replayed Memory left left held held [] 0
 not_made left held =

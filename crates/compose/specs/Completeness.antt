@@ -2,11 +2,11 @@
 use Rattle.std.specs.Prelude.{◌≡◌, ℕ, ◌<◌, ◌⊎◌, ⊤, Bool, true, false, List, length, Option, None, Some, IfSome}
 use Rattle.qo_causes.specs.Cause.{Rose}
 use Rattle.qo_causes.specs.Hub.{AtEnd}
-use Rattle.qo_causes.specs.declared.inputs.Input.{Input}
+use Rattle.qo_causes.specs.Names.{Given}
 use Rattle.qo_machine.specs.Answering.{AreAnswered}
 use Rattle.qo_machine.specs.Machine.{opening}
 use Rattle.qo_machine.specs.Runs.{EndsAtLast, OpenRun, Told, Turn, Turns}
-use Rattle.qo_record.specs.Record.{bad_place, stream_inputs}
+use Rattle.qo_record.specs.Record.{bad_place, stream_given}
 use Rattle.qo_values.specs.declared.limits.TheConstants.{INPUTS_MAX}
 use Rattle.qo_words.specs.Words.{Order, demo, types}
 use Rattle.compose.specs.Replay.{EndedReplay, TakeToEnd}
@@ -23,7 +23,7 @@ EndsWell status = (status ≡ Done) ⊎ (status ≡ Memory)
 -- a record without a bad place, of fewer inputs than a run may take
 pub record IsWhole (bytes : List ℕ) : Type 0 where
   pub good : bad_place bytes ≡ None
-  pub few : length (stream_inputs bytes) < INPUTS_MAX
+  pub few : length (stream_given bytes) < INPUTS_MAX
 
 -- the run took the inputs of the record up to the one at which it ended, or all of them and the end; its whole transcript was put, and in it each item and each
 -- line was answered exactly once
@@ -37,8 +37,8 @@ CompletesReplay status left held_old held_new =
     IfSome left (λ bytes. IsWhole bytes → ((status ≡ Done) × RanWhole bytes held_old held_new) ⊎ (status ≡ Memory))
 
 -- a hub that tells its inputs, of which there are fewer than a run may take, and that there is no bad place
-pub record IsWholeHub (inputs : Option (List Input)) (bad : Option (Option ℕ)) : Type 0 where
-  pub all : List Input
+pub record IsWholeHub (inputs : Option (List Given)) (bad : Option (Option ℕ)) : Type 0 where
+  pub all : List Given
   pub told : inputs ≡ Some all
   pub few : length all < INPUTS_MAX
   pub good : bad ≡ Some None

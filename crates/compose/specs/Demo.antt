@@ -6,10 +6,10 @@ use Rattle.std.specs.Io.KnownBytes.{append_known}
 use Rattle.serde_json.specs.Data.{Data}
 use Rattle.serde_json.specs.Find.{get}
 use Rattle.qo_causes.specs.Bytes.{AppendsPrefix}
-use Rattle.qo_causes.specs.declared.inputs.Input.{Input}
+use Rattle.qo_causes.specs.Names.{Given}
 use Rattle.qo_machine.specs.Machine.{opening}
-use Rattle.qo_machine.specs.Runs.{Turn, outs_of, transcript}
-use Rattle.qo_record.specs.Demo.{demo_inputs}
+use Rattle.qo_machine.specs.Runs.{Turn, transcript_of}
+use Rattle.qo_record.specs.Demo.{demo_given}
 use Rattle.qo_record.specs.Reading.{after_front}
 use Rattle.qo_requests.specs.Messages.{value_of}
 use Rattle.compose.specs.declared.counts.Kind.{Kind}
@@ -18,12 +18,12 @@ use Rattle.compose.specs.declared.statuses.Status.{Status}
 use Rattle.compose.specs.declared.statuses.Status.TheVariants.{Done, Usage, BadRecord, Memory, ReadFault, WriteFault, HubFault, InputLimit}
 
 -- an input that is done as it is defined: each command and each line has its memory, and no session is lost
-abbrev pub as_defined : Input → Turn
-as_defined i = record { input = i; choices = []; lost = []; cut = λ _. 0 }
+abbrev pub as_defined : Given → Turn
+as_defined g = record { input = g.input; names = g.names; choices = []; lost = []; cut = λ _. 0 }
 
 -- the transcript of the run over the inputs of a demo; their end sends nothing
 unfoldable pub demo_transcript : ℕ → ℕ → List ℕ
-demo_transcript seed steps = transcript (outs_of opening (map as_defined (demo_inputs seed steps)))
+demo_transcript seed steps = transcript_of opening (map as_defined (demo_given seed steps))
 
 -- what a message is, by the members that it has
 abbrev pub has : List ℕ → Data → Bool

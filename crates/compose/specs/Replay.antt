@@ -4,12 +4,12 @@ use Rattle.std.specs.List.{AllByRecursion}
 use Rattle.std.specs.Io.KnownBytes.{append_known, prepend_known}
 use Rattle.qo_causes.specs.Bytes.{AppendsPrefix}
 use Rattle.qo_causes.specs.Cause.{Rose}
-use Rattle.qo_causes.specs.declared.inputs.Input.{Input}
+use Rattle.qo_causes.specs.Names.{Given}
 use Rattle.qo_machine.specs.Machine.{opening}
-use Rattle.qo_machine.specs.Runs.{EndsAtLast, Turn, has_end, last_input, last_outs, outs_of, state_after, transcript, turn_inputs}
+use Rattle.qo_machine.specs.Runs.{EndsAtLast, Turn, has_end, last_input, last_transcript, state_after, transcript_of, turn_inputs}
 use Rattle.qo_machine.specs.declared.running.Ending.{Ending}
 use Rattle.qo_machine.specs.declared.running.Ending.TheVariants as ending
-use Rattle.qo_record.specs.Record.{bad_place, stream_inputs}
+use Rattle.qo_record.specs.Record.{bad_place, stream_given}
 use Rattle.qo_record.specs.Replays.{told_bad}
 use Rattle.qo_record.specs.declared.windows.TheConstants.{AHEAD_BYTES}
 use Rattle.qo_values.specs.declared.limits.TheConstants.{INPUTS_MAX}
@@ -25,53 +25,53 @@ pub record EndedReplay (held_old held_new : Option (List ℕ)) (turns : List Tur
   pub last : EndsAtLast turns
   pub few : length turns ≤ INPUTS_MAX
   pub lost : NoneLost turns
-  pub put : held_new ≡ append_known held_old (transcript (outs_of opening turns))
+  pub put : held_new ≡ append_known held_old (transcript_of opening turns)
 
 -- a run that has not ended; the whole transcript was put
 pub record OpenReplay (held_old held_new : Option (List ℕ)) (turns : List Turn) : Type 0 where
   pub going : (state_after opening turns).ended ≡ false
   pub lost : NoneLost turns
-  pub put : held_new ≡ append_known held_old (transcript (outs_of opening turns))
+  pub put : held_new ≡ append_known held_old (transcript_of opening turns)
 
 -- a run that has not ended before its last turn; a front of its transcript was put, and at least all of it but for that turn, if there is one
 pub record CutReplay (held_old held_new : Option (List ℕ)) (turns : List Turn) (last : Option Turn) : Type 0 where
   pub going : (state_after opening turns).ended ≡ false
   pub few : length turns + length (option_to_list last) ≤ INPUTS_MAX
   pub lost : NoneLost turns
-  pub put : (held : Option (List ℕ)) × (held ≡ append_known held_old (transcript (outs_of opening turns)))
-      × AppendsPrefix held held_new (transcript (last_outs (state_after opening turns) last))
+  pub put : (held : Option (List ℕ)) × (held ≡ append_known held_old (transcript_of opening turns))
+      × AppendsPrefix held held_new (last_transcript (state_after opening turns) last)
 
--- some inputs begin with others
-abbrev pub BeginsWith : List Input → List Input → Type 0
-BeginsWith inputs front = (more : List Input) × (inputs ≡ front ++ more)
+-- some inputs, with the names that stand with each, begin with others
+abbrev pub BeginsWith : List Given → List Given → Type 0
+BeginsWith inputs front = (more : List Given) × (inputs ≡ front ++ more)
 
 -- the turns take the inputs of a record up to the one at which the run ended, or all of them and the end, there being no bad place
 abbrev pub TakeToEnd : List Turn → List ℕ → Type 0
 TakeToEnd turns bytes =
-    (rest : List Input) × (stream_inputs bytes ≡ turn_inputs turns ++ rest) × (has_end turns ≡ true → (rest ≡ []) × (bad_place bytes ≡ None))
+    (rest : List Given) × (stream_given bytes ≡ turn_inputs turns ++ rest) × (has_end turns ≡ true → (rest ≡ []) × (bad_place bytes ≡ None))
 
 -- they take all inputs of a record, whose bad place is told so
 abbrev pub TakeToBad : List Turn → ℕ → List ℕ → Type 0
-TakeToBad turns place bytes = (turn_inputs turns ≡ stream_inputs bytes) × (told_bad bytes ≡ Some place)
+TakeToBad turns place bytes = (turn_inputs turns ≡ stream_given bytes) × (told_bad bytes ≡ Some place)
 
 -- they take the first inputs of a record, as many as a run may take
 abbrev pub TakeToLimit : List Turn → List ℕ → Type 0
-TakeToLimit turns bytes = (turn_inputs turns ≡ take INPUTS_MAX (stream_inputs bytes)) × (length (turn_inputs turns) ≡ INPUTS_MAX)
+TakeToLimit turns bytes = (turn_inputs turns ≡ take INPUTS_MAX (stream_given bytes)) × (length (turn_inputs turns) ≡ INPUTS_MAX)
 
 -- the inputs whose entries end so many bytes or more before the end of these
-abbrev pub inputs_before : List ℕ → List Input
-inputs_before taken = stream_inputs (take (length taken - AHEAD_BYTES) taken)
+abbrev pub inputs_before : List ℕ → List Given
+inputs_before taken = stream_given (take (length taken - AHEAD_BYTES) taken)
 
 -- the inputs are a front of those of a record, and their entries stand in the bytes that were taken of it; the turns but for the
 -- last take at least those whose entries end AHEAD_BYTES or more before the end of the bytes taken
 pub record TakePart (taken : List ℕ) (turns : List Turn) (last : Option Turn) (bytes : List ℕ) : Type 0 where
-  pub front : BeginsWith (stream_inputs bytes) (turn_inputs turns ++ last_input last)
-  pub stand : BeginsWith (stream_inputs taken) (turn_inputs turns ++ last_input last)
+  pub front : BeginsWith (stream_given bytes) (turn_inputs turns ++ last_input last)
+  pub stand : BeginsWith (stream_given taken) (turn_inputs turns ++ last_input last)
   pub covers : BeginsWith (turn_inputs turns) (inputs_before taken)
 
 -- they take all inputs whose whole entries stand in the bytes that were taken
 abbrev pub TakeHeld : List ℕ → List Turn → Type 0
-TakeHeld taken turns = turn_inputs turns ≡ stream_inputs taken
+TakeHeld taken turns = turn_inputs turns ≡ stream_given taken
 
 -- a run of a front of the record, if the source tells it, that was cut in its last turn
 abbrev pub IsCut : Option (List ℕ) → List ℕ → Option (List ℕ) → Option (List ℕ) → Type 0

@@ -1,6 +1,7 @@
 //! The hub of a caller that has none.
 
 ghost use Rattle.std.specs.Prelude.{None, Some, []};
+ghost use Rattle.qo_causes.specs.Names.{no_names};
 
 use qo_causes::{Failed, Hub, Input, Lane, Moment, NextError, SendError, What};
 
@@ -10,6 +11,8 @@ pub struct NoHub;
 
 impl Hub for NoHub {
     ghost inputs = { λ _. Some [] };
+
+    ghost names = { λ _. no_names };
 
     ghost bad = { λ _. Some None };
 

@@ -1,8 +1,9 @@
 -- What the calls of a hub do to its meanings and its counts.
-use Rattle.std.specs.Prelude.{ℕ, ◌≡◌, ◌≤◌, ◌==◌, Bool, true, false, if◌then◌else◌, List, [], ◌∷◌, ◌++◌, Option, Some, None, Result, Ok, Err, IfSome, option_map, decimal, codes}
+use Rattle.std.specs.Prelude.{ℕ, ◌≡◌, ◌≤◌, ◌==◌, Bool, true, false, if◌then◌else◌, List, [], ◌∷◌, ◌++◌, Option, Some, None, Result, Ok, Err, IfSome, option_map, unwrap_or, decimal, codes}
 use Rattle.std.specs.Io.KnownBytes.{append_known}
 use Rattle.qo_causes.specs.Bytes.{AppendsPrefix}
 use Rattle.qo_causes.specs.Cause.{Rose}
+use Rattle.qo_causes.specs.Names.{Given, Names, name_of}
 use Rattle.qo_causes.specs.declared.faults.Failed.{Failed}
 use Rattle.qo_causes.specs.declared.hubs.Lane.{Lane}
 use Rattle.qo_causes.specs.declared.hubs.Lane.TheVariants.{Session, Guest}
@@ -25,39 +26,44 @@ same_lane Guest Guest = true
 abbrev pub part : Lane → Lane → List ℕ → List ℕ
 part l lane bytes = if same_lane l lane then bytes else []
 
--- a lane as the transcript names it: the session's number, or `g` for the guest
-abbrev pub lane_text : Lane → List ℕ
-lane_text (Session s) = decimal s
-lane_text Guest = codes "g"
+-- a lane as the transcript names it: the name of its session among these, or its number where it has none; or `g` for the guest
+abbrev pub lane_text : Names → Lane → List ℕ
+lane_text names (Session s) = unwrap_or (name_of names s) (decimal s)
+lane_text names Guest = codes "g"
 
--- the transcript's line of one message, whose bytes have its line end
-abbrev pub line : Lane → List ℕ → List ℕ
-line lane bytes = lane_text lane ++ 32 ∷ bytes
+-- the transcript's line of one message, whose bytes have its line end, while sessions have these names
+abbrev pub line : Names → Lane → List ℕ → List ℕ
+line names lane bytes = lane_text names lane ++ 32 ∷ bytes
 
 -- does it say that there are no more inputs
 abbrev pub is_end : What → Bool
 is_end End = true
 is_end what = false
 
--- the input that came, and none at the end
-abbrev pub given_by : Input → Option Input
-given_by i = if is_end i.what then None else Some i
+-- the input that came with the names that stand with it, and none at the end
+abbrev pub given_by : Input → Names → Option Given
+given_by i names = if is_end i.what then None else Some (record { input = i; names = names })
 
 -- no input is left, and this is the bad place, or there is none
-abbrev pub AtEnd : Option (List Input) → Option (Option ℕ) → Option ℕ → Type 0
+abbrev pub AtEnd : Option (List Given) → Option (Option ℕ) → Option ℕ → Type 0
 AtEnd inputs bad place = IfSome inputs (λ rest. rest ≡ []) × IfSome bad (λ told. told ≡ place)
 
 -- the input was the first of those left; there is none only at an end that is not bad
-abbrev pub Gives : Option (List Input) → Option (List Input) → Option (Option ℕ) → Option Input → Type 0
+abbrev pub Gives : Option (List Given) → Option (List Given) → Option (Option ℕ) → Option Given → Type 0
 Gives old new bad (Some i) = old ≡ option_map (λ rest. i ∷ rest) new
 Gives old new bad None = (new ≡ old) × AtEnd old bad None
 
--- `next` gave the first input or the end, or the bad place where no input is left; other errors take no input
-abbrev pub NextGives : Option (List Input) → Option (List Input) → Option (Option ℕ) → Result Input NextError → Type 0
-NextGives old new bad (Ok i) = Gives old new bad (given_by i)
-NextGives old new bad (Err (Bad n)) = (new ≡ old) × AtEnd old bad (Some n)
-NextGives old new bad (Err NextFailed) = new ≡ old
-NextGives old new bad (Err Memory) = new ≡ old
+-- `next` gave the first input, with which the names now stand, or the end, or the bad place where no input is left; other errors take no input
+abbrev pub NextGives : Option (List Given) → Option (List Given) → Option (Option ℕ) → Names → Result Input NextError → Type 0
+NextGives old new bad names (Ok i) = Gives old new bad (given_by i names)
+NextGives old new bad names (Err (Bad n)) = (new ≡ old) × AtEnd old bad (Some n)
+NextGives old new bad names (Err NextFailed) = new ≡ old
+NextGives old new bad names (Err Memory) = new ≡ old
+
+-- where `next` gave no input the names now are as before
+abbrev pub NamesStay : Names → Names → Result Input NextError → Type 0
+NamesStay old new (Ok i) = is_end i.what ≡ true → new ≡ old
+NamesStay old new (Err e) = new ≡ old
 
 -- the fact holds where `next` answered Failed
 abbrev pub OnNextFailed : Result Input NextError → Type 0 → Type 0

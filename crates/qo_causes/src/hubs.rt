@@ -1,10 +1,10 @@
 //! The hub: it gives the inputs, one at a time, and takes the messages to each lane.
 ghost use Rattle.std.specs.Prelude.{◌≡◌, ◌≤◌, ℕ, List, Option, OnOk};
 ghost use Rattle.qo_causes.specs.declared.hubs.Lane.{Lane};
-ghost use Rattle.qo_causes.specs.declared.inputs.Input.{Input};
 ghost use Rattle.qo_causes.specs.Bytes.{PutsAll};
 ghost use Rattle.qo_causes.specs.Cause.{HasCause, Rose};
-ghost use Rattle.qo_causes.specs.Hub.{Asks, ButNextFailed, ButSendFailed, GoneOnly, Loses, NextGives, OnNextFailed, OnSendFailed, SameCounts, SameLanes, Sends, is_gone, line, part};
+ghost use Rattle.qo_causes.specs.Names.{Given, Names};
+ghost use Rattle.qo_causes.specs.Hub.{Asks, ButNextFailed, ButSendFailed, GoneOnly, Loses, NamesStay, NextGives, OnNextFailed, OnSendFailed, SameCounts, SameLanes, Sends, is_gone, line, part};
 
 use crate::faults::Failed;
 use crate::inputs::Input;
@@ -49,8 +49,12 @@ pub enum SendError {
 /// Its meanings are optional: a hub need not tell them. Its counts never fall, and a count that stands at
 /// its last value, 2^64 - 1, is taken as risen.
 pub trait Hub {
-    // The inputs that are left, where the hub tells them. The end is never among them.
-    ghost inputs: { Self → Option (List Input) };
+    // The inputs that are left, where the hub tells them, each with the names of the sessions that are open once it was
+    // taken. The end is never among them.
+    ghost inputs: { Self → Option (List Given) };
+
+    // The names of the open sessions now: those that stood with the last input that was given.
+    ghost names: { Self → Names };
 
     // The bad place: whether the hub tells it, and whether there is one.
     ghost bad: { Self → Option (Option ℕ) };
@@ -83,6 +87,7 @@ pub trait Hub {
     /// faults of `begin` and `next` rose; after Ok both counts of faults are as before.
     fn begin(&mut self, path: &str, connections: u32) -> Result<(), Failed>
         ensures asked { Asks (asked self.old) (asked self.new) path.now connections result }
+        ensures names { names self.new ≡ names self.old }
         ensures inputs { inputs self.new ≡ inputs self.old }
         ensures bad { bad self.new ≡ bad self.old }
         ensures got { SameLanes (got self.old) (got self.new) }
@@ -99,7 +104,8 @@ pub trait Hub {
     /// no input is left and the bad place is the one that it names. After an error the inputs left are as
     /// before. No count of faults rises where it does not answer `Failed`.
     fn next(&mut self) -> Result<Input, NextError>
-        ensures given { NextGives (inputs self.old) (inputs self.new) (bad self.old) result }
+        ensures given { NextGives (inputs self.old) (inputs self.new) (bad self.old) (names self.new) result }
+        ensures names { NamesStay (names self.old) (names self.new) result }
         ensures bad { bad self.new ≡ bad self.old }
         ensures asked { asked self.new ≡ asked self.old }
         ensures got { SameLanes (got self.old) (got self.new) }
@@ -122,7 +128,8 @@ pub trait Hub {
         ensures bad { bad self.new ≡ bad self.old }
         ensures asked { asked self.new ≡ asked self.old }
         ensures got { (l : Lane) → PutsAll (got self.old l) (got self.new l) result (part l lane bytes.now) }
-        ensures sent { Sends (sent self.old) (sent self.new) (line lane bytes.now) result }
+        ensures sent { Sends (sent self.old) (sent self.new) (line (names self.old) lane bytes.now) result }
+        ensures names { names self.new ≡ names self.old }
         ensures gone { GoneOnly lane result }
         ensures losses { (t : ℕ) → Loses (is_gone result t) (losses self.old t) (losses self.new t) }
         ensures send_count { send_faults self.old ≤ send_faults self.new }

@@ -1,7 +1,8 @@
 //! A hub in memory, whose calls fail, and whose sessions are gone, where it is told to.
-ghost use Rattle.std.specs.Prelude.{◌≡◌, ◌≤◌, ◌<◌, ℕ, None, Some, Err, IfOk, if◌then◌else◌, option_map, replicate, slice_index_or};
+ghost use Rattle.std.specs.Prelude.{◌≡◌, ◌≤◌, ◌<◌, ℕ, None, Some, Err, IfOk, if◌then◌else◌, map, option_map, replicate, slice_index_or};
 ghost use Rattle.qo_causes.specs.Cause.{HasCause, counted};
 ghost use Rattle.qo_causes.specs.Hub.{Loses, is_gone};
+ghost use Rattle.qo_causes.specs.Names.{no_names, unnamed};
 ghost use Rattle.qo_causes.specs.Script.{after_begin, after_next, after_send, before_end, begin_answer, after_first, empty_shelf, first_input, has_room, next_answer, script_of, send_answer, shelf_of, with_added, with_fault, with_loss};
 
 use crate::faults::Failed;
@@ -191,7 +192,9 @@ impl ScriptHub {
 }
 
 impl Hub for ScriptHub {
-    ghost inputs = { λ h. Some (before_end h.inputs) };
+    ghost inputs = { λ h. Some (map unnamed (before_end h.inputs)) };
+
+    ghost names = { λ _. no_names };
 
     ghost bad = { λ _. Some None };
 

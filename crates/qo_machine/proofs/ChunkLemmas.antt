@@ -1,7 +1,10 @@
 -- Bytes of a session, and of the guest, may be cut anywhere.
 use Rattle.std.proofs.Common.{◌≡◌, ℕ, zero, suc, nat_lt, Bool, true, false, if◌then◌else◌, ◌||◌, List, [], ◌∷◌, ◌++◌, refl, sym, ◌∙◌, ap, append_assoc, map, slice_set, slice_index_or}
 use Rattle.std.proofs.lemmas.Bool.{true≢false}
+use Rattle.std.proofs.lemmas.Grind.{flat_map-append}
 use Rattle.std.specs.List.{flat_map}
+use Rattle.qo_causes.specs.Hub.{line}
+use Rattle.qo_causes.specs.Names.{Names}
 use Rattle.qo_causes.specs.declared.hubs.Lane.TheVariants.{Session as to_session, Guest as guest}
 use Rattle.qo_causes.specs.declared.inputs.Input.{Input}
 use Rattle.qo_causes.specs.declared.inputs.Moment.{Moment}
@@ -27,12 +30,12 @@ use Rattle.qo_sessions.specs.declared.modes.Mode.TheVariants.{Closed, Negotiatin
 use Rattle.qo_values.specs.declared.codes.Code.TheVariants.{E99}
 use Rattle.qo_values.specs.declared.limits.TheConstants.{SESSIONS}
 use Rattle.qo_machine.proofs.MachineLemmas.{after_twice, serve_on_by, step_ended, step_on, stopped_by, with_same}
-use Rattle.qo_machine.proofs.RunLemmas.{outs_more, state_more}
+use Rattle.qo_machine.proofs.RunLemmas.{lines_more, outs_more, state_more}
 use Rattle.qo_commands.specs.Changes.{attempted}
 use Rattle.qo_commands.specs.Commands.{empty, event_of, perform, without_events}
 use Rattle.qo_machine.specs.Laws.{ChunksAreFree, CutAnywhere, Matches, in_one, in_two, quiet}
 use Rattle.qo_machine.specs.Machine.{Choice, Made, Message, State, Stepped, answer_line, answered, preceded, after_command, by_item, by_line, defined, refused, event_outs, first, guest_told, is_commanding, item_step, line_step, made_by, mode_of, numbers_below, opening, others, reply, serve, serve_by, serve_lines, serve_unless, session_of, step, taken, those_commanding, event_messages, unchanged, with_board, with_line, with_session}
-use Rattle.qo_machine.specs.Runs.{Turn, closed_where, outs_of, state_after}
+use Rattle.qo_machine.specs.Runs.{Turn, closed_where, outs_of, state_after, transcript, transcript_of}
 
 -- Where the stream of one session stands.
 
@@ -522,45 +525,62 @@ AsTwo piece s at a b choices one two =
     step s (input at (piece (a ++ b))) choices ≡ preceded (step s (input at (piece a)) one).outs
     (step (step s (input at (piece a)) one).state (input at (piece b)) two)
 
-outs_same : (piece : List ℕ → What) (s : State) (at : Moment) (a b : List ℕ) (choices one two : List Choice) (later : List Turn)
+outs_same : (piece : List ℕ → What) (s : State) (names : Names) (at : Moment) (a b : List ℕ) (choices one two : List Choice) (later : List Turn)
     → AsTwo piece s at a b choices one two
-    → outs_of s (quiet at (piece (a ++ b)) choices ∷ later) ≡ outs_of s (quiet at (piece a) one ∷ quiet at (piece b) two ∷ later)
+    → outs_of s (quiet names at (piece (a ++ b)) choices ∷ later) ≡ outs_of s (quiet names at (piece a) one ∷ quiet names at (piece b) two ∷ later)
 unfolding closed_where
-outs_same piece s at a b choices one two later h =
+outs_same piece s names at a b choices one two later h =
     let r = step s (input at (piece a)) one in
     let q = step r.state (input at (piece b)) two in
     ap (λ (x : Stepped). x.outs ++ outs_of x.state later) h ∙ append_assoc r.outs q.outs (outs_of q.state later)
 
-state_same : (piece : List ℕ → What) (s : State) (at : Moment) (a b : List ℕ) (choices one two : List Choice) (later : List Turn)
+state_same : (piece : List ℕ → What) (s : State) (names : Names) (at : Moment) (a b : List ℕ) (choices one two : List Choice) (later : List Turn)
     → AsTwo piece s at a b choices one two
-    → state_after s (quiet at (piece (a ++ b)) choices ∷ later) ≡ state_after s (quiet at (piece a) one ∷ quiet at (piece b) two ∷ later)
+    → state_after s (quiet names at (piece (a ++ b)) choices ∷ later) ≡ state_after s (quiet names at (piece a) one ∷ quiet names at (piece b) two ∷ later)
 unfolding closed_where
-state_same piece s at a b choices one two later h = ap (λ (x : Stepped). state_after x.state later) h
+state_same piece s names at a b choices one two later h = ap (λ (x : Stepped). state_after x.state later) h
 
-run_same : (piece : List ℕ → What) (before later : List Turn) (at : Moment) (a b : List ℕ) (choices one two : List Choice)
+lines_same : (piece : List ℕ → What) (s : State) (names : Names) (at : Moment) (a b : List ℕ) (choices one two : List Choice) (later : List Turn)
+    → AsTwo piece s at a b choices one two
+    → transcript_of s (quiet names at (piece (a ++ b)) choices ∷ later) ≡ transcript_of s (quiet names at (piece a) one ∷ quiet names at (piece b) two ∷ later)
+unfolding closed_where
+lines_same piece s names at a b choices one two later h =
+    let r = step s (input at (piece a)) one in
+    let q = step r.state (input at (piece b)) two in
+    ap (λ (x : Stepped). transcript names x.outs ++ transcript_of x.state later) h
+    ∙ ap (λ (l : List ℕ). l ++ transcript_of q.state later) (flat_map-append (λ (m : Message). line names m.0 m.1) r.outs q.outs)
+    ∙ append_assoc (transcript names r.outs) (transcript names q.outs) (transcript_of q.state later)
+
+run_same : (piece : List ℕ → What) (before later : List Turn) (names : Names) (at : Moment) (a b : List ℕ) (choices one two : List Choice)
     → AsTwo piece (state_after opening before) at a b choices one two
-    → Matches (in_one piece before later at (a ++ b) choices) (in_two piece before later at a b one two)
-run_same piece before later at a b choices one two h =
+    → Matches (in_one piece before later names at (a ++ b) choices) (in_two piece before later names at a b one two)
+run_same piece before later names at a b choices one two h =
     let s = state_after opening before in
-    let whole = quiet at (piece (a ++ b)) choices ∷ later in
-    let parts = quiet at (piece a) one ∷ quiet at (piece b) two ∷ later in (
-      outs_more before whole opening ∙ ap (λ (outs : List Message). outs_of opening before ++ outs) (outs_same piece s at a b choices one two later h)
-          ∙ sym (outs_more before parts opening),
-      state_more before whole opening ∙ state_same piece s at a b choices one two later h ∙ sym (state_more before parts opening),
-    )
+    let whole = quiet names at (piece (a ++ b)) choices ∷ later in
+    let parts = quiet names at (piece a) one ∷ quiet names at (piece b) two ∷ later in
+    record {
+      outs =
+          outs_more before whole opening ∙ ap (λ (outs : List Message). outs_of opening before ++ outs) (outs_same piece s names at a b choices one two later h)
+          ∙ sym (outs_more before parts opening);
+      lines =
+          lines_more before whole opening
+          ∙ ap (λ (lines : List ℕ). transcript_of opening before ++ lines) (lines_same piece s names at a b choices one two later h)
+          ∙ sym (lines_more before parts opening);
+      state = state_more before whole opening ∙ state_same piece s names at a b choices one two later h ∙ sym (state_more before parts opening);
+    }
 
 cut_anywhere : (piece : List ℕ → What) → ((s : State) (at : Moment) (a b : List ℕ) (cs : List Choice) → InTwo piece s at a b cs)
     → ((s : State) (at : Moment) (bytes : List ℕ) (cs : List Choice) → Uses s (input at (piece bytes)) cs) → CutAnywhere piece
-cut_anywhere piece two uses before later at a b = (
+cut_anywhere piece two uses before later names at a b = (
   λ cs.
       let s = state_after opening before in
       let left = (step s (input at (piece a)) cs).rest in
-      (cs, left, run_same piece before later at a b cs cs left (two s at a b cs)),
+      (cs, left, run_same piece before later names at a b cs cs left (two s at a b cs)),
   λ one other.
       let s = state_after opening before in
       let u = uses s at a one in (
         u.0 ++ other,
-        run_same piece before later at a b (u.0 ++ other) one other
+        run_same piece before later names at a b (u.0 ++ other) one other
             (two s at a b (u.0 ++ other) ∙ ap (then_step (input at (piece b))) (u.1 other)),
       ),
 )

@@ -2,20 +2,20 @@
 use Rattle.std.proofs.Common.{◌≡◌, ℕ, zero, suc, ◌+◌, ◌<◌, ◌≤◌, Bool, true, false, if◌then◌else◌, ◌||◌, List, [], ◌∷◌, ◌++◌, length, take, refl, sym, ◌∙◌, ap, subst, add-one, arith, append_assoc, length-append, Option, None, Some, Result, Ok, Err, option_map, slice_index_or, slice_set, replicate}
 use Rattle.std.specs.Prelude.{option_to_list}
 use Rattle.std.proofs.lemmas.Bool.{true≢false}
-use Rattle.std.proofs.lemmas.Grind.{flat_map-append}
 use Rattle.std.proofs.lemmas.List.{append-nil, length-set}
 use Rattle.std.specs.Io.KnownBytes.{append_known}
 use Rattle.std.specs.List.{cons_option}
 use Rattle.qo_values.specs.declared.limits.TheConstants.{SESSIONS}
 use Rattle.qo_machine.proofs.MachineLemmas.{step_ended, step_on}
 use Rattle.qo_causes.proofs.BytesLemmas.{append_known_twice}
-use Rattle.qo_causes.specs.Hub.{AtEnd, Gives, given_by, is_end, line}
+use Rattle.qo_causes.specs.Hub.{AtEnd, Gives, given_by, is_end}
+use Rattle.qo_causes.specs.Names.{Given, Names}
 use Rattle.qo_causes.specs.declared.hubs.Lane.{Lane}
 use Rattle.qo_causes.specs.declared.inputs.Input.{Input}
 use Rattle.qo_causes.specs.declared.inputs.What.{What}
 use Rattle.qo_causes.specs.declared.inputs.What.TheVariants.{Open, Bytes, Shut, Guest as GuestLine, Step, End}
 use Rattle.qo_machine.specs.Machine.{IsIn, Message, Seen, State, Stepped, Choice, opening, step}
-use Rattle.qo_machine.specs.Runs.{AllLostHad, Cut, CutRun, RunMeets, Told, Turn, TurnMeets, Turns, after, close_lost, closed_where, cut_to, has_end, is_lost, known, lane_at, lane_bytes, lane_of, outs_at, outs_of, risen, risen_by, state_after, transcript, turn_inputs}
+use Rattle.qo_machine.specs.Runs.{AllLostHad, Cut, CutRun, RunMeets, Told, Turn, TurnMeets, Turns, after, close_lost, closed_where, cut_to, has_end, is_lost, known, lane_at, lane_bytes, lane_of, outs_at, outs_of, risen, risen_by, state_after, transcript, transcript_at, transcript_of, turn_inputs}
 use Rattle.qo_machine.specs.Sending.{Sent, SentFront}
 use Rattle.qo_machine.specs.declared.running.Ending.{Ending}
 use Rattle.qo_machine.specs.declared.running.Ending.TheVariants.{Done, Bad, Memory, NextFailed, SendFailed, Limit}
@@ -58,6 +58,12 @@ outs_more (t ∷ ts) us s =
     ap (λ (outs : List Message). outs_at s t ++ outs) (outs_more ts us (after s t))
     ∙ sym (append_assoc (outs_at s t) (outs_of (after s t) ts) (outs_of (state_after (after s t) ts) us))
 
+pub lines_more : (ts us : List Turn) (s : State) → transcript_of s (ts ++ us) ≡ transcript_of s ts ++ transcript_of (state_after s ts) us
+lines_more [] us s = refl
+lines_more (t ∷ ts) us s =
+    ap (λ (lines : List ℕ). transcript_at s t ++ lines) (lines_more ts us (after s t))
+    ∙ sym (append_assoc (transcript_at s t) (transcript_of (after s t) ts) (transcript_of (state_after (after s t) ts) us))
+
 lane_more : (ts us : List Turn) (l : Lane) (s : State) → lane_of l s (ts ++ us) ≡ lane_of l s ts ++ lane_of l (state_after s ts) us
 lane_more [] us l s = refl
 lane_more (t ∷ ts) us l s =
@@ -83,17 +89,17 @@ had_more (t ∷ ts) us s p q = (p.0, had_more ts us (after s t) p.1 q)
 
 inputs_more : (ts us : List Turn) → turn_inputs (ts ++ us) ≡ turn_inputs ts ++ turn_inputs us
 inputs_more [] us = refl
-inputs_more (t ∷ ts) us = first (given_by t.input) (turn_inputs ts) (turn_inputs us) (turn_inputs (ts ++ us)) (inputs_more ts us)
+inputs_more (t ∷ ts) us = first (given_by t.input t.names) (turn_inputs ts) (turn_inputs us) (turn_inputs (ts ++ us)) (inputs_more ts us)
   where
-    first : (i : Option Input) (xs ys zs : List Input) → zs ≡ xs ++ ys → cons_option i zs ≡ cons_option i xs ++ ys
+    first : (i : Option Given) (xs ys zs : List Given) → zs ≡ xs ++ ys → cons_option i zs ≡ cons_option i xs ++ ys
     first None xs ys zs h = h
-    first (Some x) xs ys zs h = ap (λ (l : List Input). x ∷ l) h
+    first (Some x) xs ys zs h = ap (λ (l : List Given). x ∷ l) h
 
-pub took_twice : (a b c : Option (List Input)) (xs ys : List Input) → a ≡ option_map (λ (r : List Input). xs ++ r) b
-    → b ≡ option_map (λ (r : List Input). ys ++ r) c → a ≡ option_map (λ (r : List Input). (xs ++ ys) ++ r) c
-took_twice a b None xs ys p q = p ∙ ap (option_map (λ (r : List Input). xs ++ r)) q
+pub took_twice : (a b c : Option (List Given)) (xs ys : List Given) → a ≡ option_map (λ (r : List Given). xs ++ r) b
+    → b ≡ option_map (λ (r : List Given). ys ++ r) c → a ≡ option_map (λ (r : List Given). (xs ++ ys) ++ r) c
+took_twice a b None xs ys p q = p ∙ ap (option_map (λ (r : List Given). xs ++ r)) q
 took_twice a b (Some zs) xs ys p q =
-    p ∙ ap (option_map (λ (r : List Input). xs ++ r)) q ∙ ap (λ (l : List Input). Some l) (sym (append_assoc xs ys zs))
+    p ∙ ap (option_map (λ (r : List Given). xs ++ r)) q ∙ ap (λ (l : List Given). Some l) (sym (append_assoc xs ys zs))
 
 sent_twice : (a b c : Option (List ℕ)) (xs ys zs : List ℕ) → zs ≡ xs ++ ys → b ≡ append_known a xs → c ≡ append_known b ys → c ≡ append_known a zs
 sent_twice a b c xs ys zs whole p q =
@@ -105,8 +111,8 @@ turns_more s a b c ts us p q =
     record {
       took = rw (inputs_more ts us) (took_twice a.inputs b.inputs c.inputs (turn_inputs ts) (turn_inputs us) p.took q.took);
       sent =
-          sent_twice a.sent b.sent c.sent (transcript (outs_of s ts)) (transcript (outs_of (state_after s ts) us)) (transcript (outs_of s (ts ++ us)))
-          (ap transcript (outs_more ts us s) ∙ flat_map-append (λ (m : Message). line m.0 m.1) (outs_of s ts) (outs_of (state_after s ts) us)) p.sent q.sent;
+          sent_twice a.sent b.sent c.sent (transcript_of s ts) (transcript_of (state_after s ts) us) (transcript_of s (ts ++ us)) (lines_more ts us s) p.sent
+          q.sent;
       lanes = λ l.
           sent_twice (a.got l) (b.got l) (c.got l) (lane_of l s ts) (lane_of l (state_after s ts) us) (lane_of l s (ts ++ us)) (lane_more ts us l s) (p.lanes l)
           (q.lanes l);
@@ -158,7 +164,7 @@ ended_in s m at = ap (λ (x : State). x.ended) at.rest
 
 -- One turn.
 
-none_taken : (x : Option (List Input)) → x ≡ option_map (λ (r : List Input). [] ++ r) x
+none_taken : (x : Option (List Given)) → x ≡ option_map (λ (r : List Given). [] ++ r) x
 none_taken None = refl
 none_taken (Some xs) = refl
 
@@ -166,36 +172,36 @@ pub nothing_appended : (x : Option (List ℕ)) → x ≡ append_known x []
 nothing_appended None = refl
 nothing_appended (Some xs) = ap (λ (l : List ℕ). Some l) (sym (append-nil xs))
 
-took_one : (old new : Option (List Input)) (bad : Option (Option ℕ)) (i : Option Input) → Gives old new bad i
-    → old ≡ option_map (λ (r : List Input). cons_option i [] ++ r) new
+took_one : (old new : Option (List Given)) (bad : Option (Option ℕ)) (i : Option Given) → Gives old new bad i
+    → old ≡ option_map (λ (r : List Given). cons_option i [] ++ r) new
 took_one old new bad None h = sym h.0 ∙ none_taken new
 took_one old new bad (Some i) h = h
 
 -- an input was taken, and nothing sent
-abbrev pub taken_turn : Input → Turn
-taken_turn i = record { input = i; choices = []; lost = []; cut = λ l. 0 }
+abbrev pub taken_turn : Input → Names → Turn
+taken_turn i names = record { input = i; names = names; choices = []; lost = []; cut = λ l. 0 }
 
-pub cut_taken : (s : State) (oi ni : Option (List Input)) (os ns : Option (List ℕ)) (og ng : Lane → Option (List ℕ)) (ol nl : ℕ → ℕ) (bad : Option (Option ℕ))
-    (i : Input)
-    → Gives oi ni bad (given_by i) → ns ≡ os → ((l : Lane) → ng l ≡ og l) → ((n : ℕ) → nl n ≡ ol n)
-    → Cut s (known oi os og ol) (known ni ns ng nl) (Some (taken_turn i))
-cut_taken s oi ni os ns og ng ol nl bad i given sent got losses =
+pub cut_taken : (s : State) (oi ni : Option (List Given)) (os ns : Option (List ℕ)) (og ng : Lane → Option (List ℕ)) (ol nl : ℕ → ℕ) (bad : Option (Option ℕ))
+    (i : Input) (names : Names)
+    → Gives oi ni bad (given_by i names) → ns ≡ os → ((l : Lane) → ng l ≡ og l) → ((n : ℕ) → nl n ≡ ol n)
+    → Cut s (known oi os og ol) (known ni ns ng nl) (Some (taken_turn i names))
+cut_taken s oi ni os ns og ng ol nl bad i names given sent got losses =
     record {
-      took = took_one oi ni bad (given_by i) given;
+      took = took_one oi ni bad (given_by i names) given;
       sent = (0, omega arith, sent ∙ nothing_appended os);
       lanes = λ l. (0, omega arith, got l ∙ nothing_appended (og l));
       losses = λ n. omega (arith, losses n);
     }
 
 -- an input was taken, and its messages were cut short
-pub cut_sent : (s : State) (i : Input) (cs : List Choice) (slice outs : List Message) (oi mi ni : Option (List Input)) (os ms ns : Option (List ℕ))
+pub cut_sent : (s : State) (i : Input) (names : Names) (cs : List Choice) (slice outs : List Message) (oi mi ni : Option (List Given)) (os ms ns : Option (List ℕ))
     (og mg ng : Lane → Option (List ℕ)) (ol ml nl : ℕ → ℕ) (bad : Option (Option ℕ))
-    → (step s i cs).outs ≡ outs → slice ≡ outs → Gives oi mi bad (given_by i) → ms ≡ os → ((l : Lane) → mg l ≡ og l) → ((n : ℕ) → ml n ≡ ol n)
-    → SentFront (known mi ms mg ml) (known ni ns ng nl) slice
-    → Cut s (known oi os og ol) (known ni ns ng nl) (Some (record { input = i; choices = cs; lost = []; cut = λ l. 0 }))
-cut_sent s i cs slice outs oi mi ni os ms ns og mg ng ol ml nl bad is same given sent got losses h =
+    → (step s i cs).outs ≡ outs → slice ≡ outs → Gives oi mi bad (given_by i names) → ms ≡ os → ((l : Lane) → mg l ≡ og l) → ((n : ℕ) → ml n ≡ ol n)
+    → SentFront names (known mi ms mg ml) (known ni ns ng nl) slice
+    → Cut s (known oi os og ol) (known ni ns ng nl) (Some (record { input = i; names = names; choices = cs; lost = []; cut = λ l. 0 }))
+cut_sent s i names cs slice outs oi mi ni os ms ns og mg ng ol ml nl bad is same given sent got losses h =
     record {
-      took = took_one oi ni bad (given_by i) (rw h.inputs given);
+      took = took_one oi ni bad (given_by i names) (rw h.inputs given);
       sent = rw (outs_is, ← sent) h.sent;
       lanes = λ l. rw (outs_is, ← got l) (h.lanes l);
       losses = λ n. rw (← losses n) (h.losses n);
@@ -204,31 +210,31 @@ cut_sent s i cs slice outs oi mi ni os ms ns og mg ng ol ml nl bad is same given
     outs_is : (step s i cs).outs ≡ slice
     outs_is = is ∙ sym same
 
-at_end : (oi mi ni : Option (List Input)) (bad : Option (Option ℕ)) (i : Input) → ni ≡ mi → Gives oi mi bad (given_by i) → is_end i.what ≡ true
+at_end : (oi mi ni : Option (List Given)) (bad : Option (Option ℕ)) (i : Input) (names : Names) → ni ≡ mi → Gives oi mi bad (given_by i names) → is_end i.what ≡ true
     → AtEnd ni bad None
-at_end oi mi ni bad i same given over = subst (λ (x : Option (List Input)). AtEnd x bad None) (sym (same ∙ ended.0)) ended.1
+at_end oi mi ni bad i names same given over = subst (λ (x : Option (List Given)). AtEnd x bad None) (sym (same ∙ ended.0)) ended.1
   where
     ended : (mi ≡ oi) × AtEnd oi bad None
     ended = rw over at given
 
 -- an input was taken, and what it makes was sent
-pub one_turn : (s : State) (to : Seen) (i : Input) (cs : List Choice) (slice outs : List Message) (lost : List Bool) (oi mi ni : Option (List Input))
+pub one_turn : (s : State) (to : Seen) (i : Input) (names : Names) (cs : List Choice) (slice outs : List Message) (lost : List Bool) (oi mi ni : Option (List Given))
     (os ms ns : Option (List ℕ)) (og mg ng : Lane → Option (List ℕ)) (ol ml nl : ℕ → ℕ) (bad : Option (Option ℕ))
-    → (step s i cs).outs ≡ outs → slice ≡ outs → Gives oi mi bad (given_by i) → ms ≡ os → ((l : Lane) → mg l ≡ og l) → ((n : ℕ) → ml n ≡ ol n)
-    → Sent (known mi ms mg ml) (known ni ns ng nl) slice lost → IsIn (close_lost lost (step s i cs).state) to
+    → (step s i cs).outs ≡ outs → slice ≡ outs → Gives oi mi bad (given_by i names) → ms ≡ os → ((l : Lane) → mg l ≡ og l) → ((n : ℕ) → ml n ≡ ol n)
+    → Sent names (known mi ms mg ml) (known ni ns ng nl) slice lost → IsIn (close_lost lost (step s i cs).state) to
     → TurnMeets s to (known oi os og ol) (known ni ns ng nl) bad (Ok tt)
-one_turn s to i cs slice outs lost oi mi ni os ms ns og mg ng ol ml nl bad is same given sent got losses h shut = (
-  record { input = i; choices = cs; lost = lost; cut = h.lanes.0 },
+one_turn s to i names cs slice outs lost oi mi ni os ms ns og mg ng ol ml nl bad is same given sent got losses h shut = (
+  record { input = i; names = names; choices = cs; lost = lost; cut = h.lanes.0 },
   record {
-    took = took_one oi ni bad (given_by i) (rw h.inputs given);
-    sent = rw (append-nil (step s i cs).outs, outs_is, ← sent) h.sent;
+    took = took_one oi ni bad (given_by i names) (rw h.inputs given);
+    sent = rw (append-nil (transcript names (step s i cs).outs), outs_is, ← sent) h.sent;
     lanes = λ l.
         rw (append-nil (cut_to (is_lost lost l) (h.lanes.0 l) (lane_bytes l (step s i cs).outs)), outs_is, ← got l) (h.lanes.1.lanes l);
     losses = λ n. rw (← losses n) (h.losses n);
     had = (λ l f. rw outs_is (h.had l f), tt);
   },
   shut,
-  at_end oi mi ni bad i h.inputs given,
+  at_end oi mi ni bad i names h.inputs given,
 )
   where
     outs_is : (step s i cs).outs ≡ slice
@@ -237,7 +243,7 @@ one_turn s to i cs slice outs lost oi mi ni os ms ns og mg ng ol ml nl bad is sa
 -- Runs.
 
 -- no turns, and nothing changed
-pub turns_none : (s : State) (i : Option (List Input)) (t : Option (List ℕ)) (g : Lane → Option (List ℕ)) (n : ℕ → ℕ)
+pub turns_none : (s : State) (i : Option (List Given)) (t : Option (List ℕ)) (g : Lane → Option (List ℕ)) (n : ℕ → ℕ)
     → Turns s (known i t g n) (known i t g n) []
 turns_none s i t g n =
     record {
@@ -249,7 +255,7 @@ turns_none s i t g n =
     }
 
 -- nothing was done
-pub cut_none : (limit : ℕ) (i : Option (List Input)) (t : Option (List ℕ)) (g : Lane → Option (List ℕ)) (n : ℕ → ℕ)
+pub cut_none : (limit : ℕ) (i : Option (List Given)) (t : Option (List ℕ)) (g : Lane → Option (List ℕ)) (n : ℕ → ℕ)
     → CutRun limit (known i t g n) (known i t g n)
 cut_none limit i t g n = (
   known i t g n,
@@ -260,7 +266,7 @@ cut_none limit i t g n = (
   omega arith,
 )
 
-pub gone_none : (m : Seen) (i : Option (List Input)) (t : Option (List ℕ)) (g : Lane → Option (List ℕ)) (n : ℕ → ℕ) → IsIn opening m
+pub gone_none : (m : Seen) (i : Option (List Given)) (t : Option (List ℕ)) (g : Lane → Option (List ℕ)) (n : ℕ → ℕ) → IsIn opening m
     → (turns : List Turn) × GoneOn (known i t g n) (known i t g n) m 0 turns
 gone_none m i t g n at =
     ([], record { turns_are = turns_none opening i t g n; is_in = at; count_is = refl; going = sym (ended_in opening m at) })

@@ -10,11 +10,11 @@ use Rattle.qo_values.specs.declared.limits.TheConstants.{SESSIONS}
 use Rattle.qo_causes.proofs.BytesLemmas.{append_known_twice}
 use Rattle.qo_causes.specs.Bytes.{AppendsPrefix, PutsAll}
 use Rattle.qo_causes.specs.Hub.{GoneOnly, Loses, Sends, is_gone, line, part, same_lane}
+use Rattle.qo_causes.specs.Names.{Given, Names}
 use Rattle.qo_causes.specs.declared.hubs.Lane.{Lane}
 use Rattle.qo_causes.specs.declared.hubs.Lane.TheVariants.{Session, Guest}
 use Rattle.qo_causes.specs.declared.hubs.SendError.{SendError}
 use Rattle.qo_causes.specs.declared.hubs.SendError.TheVariants.{Gone, Failed}
-use Rattle.qo_causes.specs.declared.inputs.Input.{Input}
 use Rattle.qo_machine.specs.Machine.{Message}
 use Rattle.qo_machine.specs.Runs.{Told, known, cut_to, has_for, is_lost, lane_bytes, risen, transcript}
 use Rattle.qo_machine.specs.Sending.{AreToLanes, IsLane, Sent, SentFront}
@@ -67,9 +67,9 @@ pub lane_bytes_more : (l : Lane) (outs : List Message) (m : Message) → lane_by
 lane_bytes_more l outs m =
     flat_map-append (λ (x : Message). part l x.0 x.1) outs (m ∷ []) ∙ ap (λ (b : List ℕ). lane_bytes l outs ++ b) (append-nil (part l m.0 m.1))
 
-pub transcript_more : (outs : List Message) (m : Message) → transcript (outs ++ m ∷ []) ≡ transcript outs ++ line m.0 m.1
-transcript_more outs m =
-    flat_map-append (λ (x : Message). line x.0 x.1) outs (m ∷ []) ∙ ap (λ (b : List ℕ). transcript outs ++ b) (append-nil (line m.0 m.1))
+pub transcript_more : (names : Names) (outs : List Message) (m : Message) → transcript names (outs ++ m ∷ []) ≡ transcript names outs ++ line names m.0 m.1
+transcript_more names outs m =
+    flat_map-append (λ (x : Message). line names x.0 x.1) outs (m ∷ []) ∙ ap (λ (b : List ℕ). transcript names outs ++ b) (append-nil (line names m.0 m.1))
 
 -- what had a message still has; with a message of its own it has
 had_at : (had same : Bool) → had ≡ true → (had || (same || false)) ≡ true
@@ -124,15 +124,15 @@ gone_within true cut n bytes more within few = omega (arith, length-append bytes
 gone_within false cut n bytes more within few = omega (arith, length-append bytes [])
 
 -- its session is gone
-pub sent_gone : (start : Told) (mi ni : Option (List Input)) (ms ns : Option (List ℕ)) (mg ng : Lane → Option (List ℕ)) (ml nl : ℕ → ℕ) (outs : List Message)
+pub sent_gone : (names : Names) (start : Told) (mi ni : Option (List Given)) (ms ns : Option (List ℕ)) (mg ng : Lane → Option (List ℕ)) (ml nl : ℕ → ℕ) (outs : List Message)
     (m : Message) (k : ℕ) (lost : List Bool)
     → is_lost lost m.0 ≡ false → m.0 ≡ Session k → k < SESSIONS → ni ≡ mi → (ms ≡ None) × (ns ≡ None)
-    → ((l : Lane) → AppendsPrefix (mg l) (ng l) (part l m.0 m.1)) → ((n : ℕ) → Loses (n == k) (ml n) (nl n)) → Sent start (known mi ms mg ml) outs lost
-    → Sent start (known ni ns ng nl) (outs ++ m ∷ []) (slice_set lost k true)
-sent_gone start mi ni ms ns mg ng ml nl outs m k lost flag lane below inputs sent got losses h =
+    → ((l : Lane) → AppendsPrefix (mg l) (ng l) (part l m.0 m.1)) → ((n : ℕ) → Loses (n == k) (ml n) (nl n)) → Sent names start (known mi ms mg ml) outs lost
+    → Sent names start (known ni ns ng nl) (outs ++ m ∷ []) (slice_set lost k true)
+sent_gone names start mi ni ms ns mg ng ml nl outs m k lost flag lane below inputs sent got losses h =
     record {
       inputs = inputs ∙ h.inputs;
-      sent = sent.1 ∙ sym (none_stays start.sent (transcript outs) (transcript (outs ++ m ∷ [])) (sym h.sent ∙ sent.0));
+      sent = sent.1 ∙ sym (none_stays start.sent (transcript names outs) (transcript names (outs ++ m ∷ [])) (sym h.sent ∙ sent.0));
       lanes = (
         (λ l. if same_lane l m.0 then length (lane_bytes l outs) + (got l).0 else h.lanes.0 l),
         record {
@@ -168,14 +168,14 @@ risen_up true start now h = omega arith
 risen_up false start now h = h
 
 -- a message failed
-pub front_failed : (start : Told) (mi ni : Option (List Input)) (ms ns : Option (List ℕ)) (mg ng : Lane → Option (List ℕ)) (ml nl : ℕ → ℕ) (outs : List Message)
+pub front_failed : (names : Names) (start : Told) (mi ni : Option (List Given)) (ms ns : Option (List ℕ)) (mg ng : Lane → Option (List ℕ)) (ml nl : ℕ → ℕ) (outs : List Message)
     (m : Message) (lost : List Bool)
-    → is_lost lost m.0 ≡ false → ni ≡ mi → AppendsPrefix ms ns (line m.0 m.1) → ((l : Lane) → AppendsPrefix (mg l) (ng l) (part l m.0 m.1))
-    → ((n : ℕ) → nl n ≡ ml n) → Sent start (known mi ms mg ml) outs lost → SentFront start (known ni ns ng nl) (outs ++ m ∷ [])
-front_failed start mi ni ms ns mg ng ml nl outs m lost flag inputs sent got losses h =
+    → is_lost lost m.0 ≡ false → ni ≡ mi → AppendsPrefix ms ns (line names m.0 m.1) → ((l : Lane) → AppendsPrefix (mg l) (ng l) (part l m.0 m.1))
+    → ((n : ℕ) → nl n ≡ ml n) → Sent names start (known mi ms mg ml) outs lost → SentFront names start (known ni ns ng nl) (outs ++ m ∷ [])
+front_failed names start mi ni ms ns mg ng ml nl outs m lost flag inputs sent got losses h =
     record {
       inputs = inputs ∙ h.inputs;
-      sent = rw (transcript_more outs m) (front_after start.sent ms ns (transcript outs) (line m.0 m.1) h.sent sent);
+      sent = rw (transcript_more names outs m) (front_after start.sent ms ns (transcript names outs) (line names m.0 m.1) h.sent sent);
       lanes = λ l.
           rw (lane_bytes_more l outs m)
           (failed_at (is_lost lost l) (same_lane l m.0) (h.lanes.0 l) ((got l).0) (start.got l) (mg l) (ng l) (lane_bytes l outs) m.1
@@ -185,28 +185,28 @@ front_failed start mi ni ms ns mg ng ml nl outs m lost flag inputs sent got loss
 
 -- What `send` answers, by its error.
 
-pub err_gone : (start : Told) (mi ni : Option (List Input)) (ms ns : Option (List ℕ)) (mg ng : Lane → Option (List ℕ)) (ml nl : ℕ → ℕ) (outs : List Message)
+pub err_gone : (names : Names) (start : Told) (mi ni : Option (List Given)) (ms ns : Option (List ℕ)) (mg ng : Lane → Option (List ℕ)) (ml nl : ℕ → ℕ) (outs : List Message)
     (lane : Lane) (bytes text : List ℕ) (r : SendError) (s k : ℕ) (lost : List Bool)
-    → r ≡ Gone s → k ≡ s → bytes ≡ text → is_lost lost lane ≡ false → IsLane lane → ni ≡ mi → Sends ms ns (line lane bytes) (Err r)
+    → r ≡ Gone s → k ≡ s → bytes ≡ text → is_lost lost lane ≡ false → IsLane lane → ni ≡ mi → Sends ms ns (line names lane bytes) (Err r)
     → ((l : Lane) → PutsAll {T = Unit {0}} {E = SendError} (mg l) (ng l) (Err r) (part l lane bytes)) → GoneOnly lane (Err r)
-    → ((t : ℕ) → Loses (is_gone (Err r) t) (ml t) (nl t)) → Sent start (known mi ms mg ml) outs lost
-    → Sent start (known ni ns ng nl) (outs ++ (lane, text) ∷ []) (slice_set lost k true)
-err_gone start mi ni ms ns mg ng ml nl outs lane bytes text (Gone j) s k lost is from same flag wide inputs sent got gone losses h =
+    → ((t : ℕ) → Loses (is_gone (Err r) t) (ml t) (nl t)) → Sent names start (known mi ms mg ml) outs lost
+    → Sent names start (known ni ns ng nl) (outs ++ (lane, text) ∷ []) (slice_set lost k true)
+err_gone names start mi ni ms ns mg ng ml nl outs lane bytes text (Gone j) s k lost is from same flag wide inputs sent got gone losses h =
     let j_is : j ≡ k = cc in
     let below : IsLane (Session j) = subst IsLane gone wide in
     let k_below : k < SESSIONS = omega arith in
     let to : lane ≡ Session k = gone ∙ ap Session j_is in
-    sent_gone start mi ni ms ns mg ng ml nl outs (lane, text) k lost flag to k_below inputs sent (λ l. rw same at (got l)) (λ n. rw j_is at (losses n)) h
-err_gone start mi ni ms ns mg ng ml nl outs lane bytes text Failed s k lost is from same flag wide inputs sent got gone losses h = cc
+    sent_gone names start mi ni ms ns mg ng ml nl outs (lane, text) k lost flag to k_below inputs sent (λ l. rw same at (got l)) (λ n. rw j_is at (losses n)) h
+err_gone names start mi ni ms ns mg ng ml nl outs lane bytes text Failed s k lost is from same flag wide inputs sent got gone losses h = cc
 
-pub err_failed : (start : Told) (mi ni : Option (List Input)) (ms ns : Option (List ℕ)) (mg ng : Lane → Option (List ℕ)) (ml nl : ℕ → ℕ) (outs : List Message)
+pub err_failed : (names : Names) (start : Told) (mi ni : Option (List Given)) (ms ns : Option (List ℕ)) (mg ng : Lane → Option (List ℕ)) (ml nl : ℕ → ℕ) (outs : List Message)
     (lane : Lane) (bytes text : List ℕ) (r : SendError) (lost : List Bool)
-    → r ≡ Failed → bytes ≡ text → is_lost lost lane ≡ false → ni ≡ mi → Sends ms ns (line lane bytes) (Err r)
+    → r ≡ Failed → bytes ≡ text → is_lost lost lane ≡ false → ni ≡ mi → Sends ms ns (line names lane bytes) (Err r)
     → ((l : Lane) → PutsAll {T = Unit {0}} {E = SendError} (mg l) (ng l) (Err r) (part l lane bytes)) → ((t : ℕ) → Loses (is_gone (Err r) t) (ml t) (nl t))
-    → Sent start (known mi ms mg ml) outs lost → SentFront start (known ni ns ng nl) (outs ++ (lane, text) ∷ [])
-err_failed start mi ni ms ns mg ng ml nl outs lane bytes text (Gone j) lost is same flag inputs sent got losses h = cc
-err_failed start mi ni ms ns mg ng ml nl outs lane bytes text Failed lost is same flag inputs sent got losses h =
-    front_failed start mi ni ms ns mg ng ml nl outs (lane, text) lost flag inputs (rw same at sent) (λ l. rw same at (got l)) losses h
+    → Sent names start (known mi ms mg ml) outs lost → SentFront names start (known ni ns ng nl) (outs ++ (lane, text) ∷ [])
+err_failed names start mi ni ms ns mg ng ml nl outs lane bytes text (Gone j) lost is same flag inputs sent got losses h = cc
+err_failed names start mi ni ms ns mg ng ml nl outs lane bytes text Failed lost is same flag inputs sent got losses h =
+    front_failed names start mi ni ms ns mg ng ml nl outs (lane, text) lost flag inputs (rw same at sent) (λ l. rw same at (got l)) losses h
 
 -- The messages of a step.
 
@@ -223,9 +223,9 @@ lane_not_lost (Session n) = none_lost n
 lane_not_lost Guest = refl
 
 -- nothing was sent yet
-pub sent_none : (i : Option (List Input)) (s : Option (List ℕ)) (g : Lane → Option (List ℕ)) (n : ℕ → ℕ)
-    → Sent (known i s g n) (known i s g n) [] (replicate SESSIONS false)
-sent_none i s g n =
+pub sent_none : (names : Names) (i : Option (List Given)) (s : Option (List ℕ)) (g : Lane → Option (List ℕ)) (n : ℕ → ℕ)
+    → Sent names (known i s g n) (known i s g n) [] (replicate SESSIONS false)
+sent_none names i s g n =
     record {
       inputs = refl;
       sent = nothing_appended s;
@@ -237,16 +237,23 @@ sent_none i s g n =
     }
 
 -- a front of some messages is one of all
-pub front_all : (start new : Told) (xs ys : List Message) → SentFront start new xs → SentFront start new (xs ++ ys)
-front_all start new xs ys h =
+pub front_all : (names : Names) (start new : Told) (xs ys : List Message) → SentFront names start new xs → SentFront names start new (xs ++ ys)
+front_all names start new xs ys h =
     record {
       inputs = h.inputs;
-      sent = rw (flat_map-append (λ (x : Message). line x.0 x.1) xs ys) (front_more start.sent new.sent (transcript xs) (transcript ys) h.sent);
+      sent = rw (flat_map-append (λ (x : Message). line names x.0 x.1) xs ys) (front_more start.sent new.sent (transcript names xs) (transcript names ys) h.sent);
       lanes = λ l.
           rw (flat_map-append (λ (x : Message). part l x.0 x.1) xs ys)
           (front_more (start.got l) (new.got l) (lane_bytes l xs) (lane_bytes l ys) (h.lanes l));
       losses = h.losses;
     }
+
+-- the same, where the names are known by another name
+pub sent_as : {a b : Names} (start new : Told) (outs : List Message) (lost : List Bool) → a ≡ b → Sent a start new outs lost → Sent b start new outs lost
+sent_as start new outs lost is h = subst (λ (names : Names). Sent names start new outs lost) is h
+
+pub front_as : {a b : Names} (start new : Told) (outs : List Message) → a ≡ b → SentFront a start new outs → SentFront b start new outs
+front_as start new outs is h = subst (λ (names : Names). SentFront names start new outs) is h
 
 -- the lane of each message is such a lane
 lane_at : (outs : List Message) (i : ℕ) (d : Message) → AreToLanes outs → i < length outs → IsLane (slice_index_or outs i d).0
@@ -261,8 +268,8 @@ lane_of_item outs i m h below is = subst (λ (x : Message). IsLane x.0) (sym is)
 pub one_further : (outs : List Message) (i : ℕ) (m : Message) → i < length outs → m ≡ slice_index_or outs i m → take (i + 1) outs ≡ take i outs ++ m ∷ []
 one_further outs i m below is = rw add-one (take-suc outs i m below ∙ ap (λ (x : Message). take i outs ++ x ∷ []) (sym is))
 
-pub front_at : (start new : Told) (outs : List Message) (i : ℕ) (m : Message) → i < length outs → m ≡ slice_index_or outs i m
-    → SentFront start new (take i outs ++ m ∷ []) → SentFront start new outs
-front_at start new outs i m below is h =
-    subst (SentFront start new) (take-append-drop (i + 1) outs)
-    (front_all start new (take (i + 1) outs) (drop (i + 1) outs) (subst (SentFront start new) (sym (one_further outs i m below is)) h))
+pub front_at : (names : Names) (start new : Told) (outs : List Message) (i : ℕ) (m : Message) → i < length outs → m ≡ slice_index_or outs i m
+    → SentFront names start new (take i outs ++ m ∷ []) → SentFront names start new outs
+front_at names start new outs i m below is h =
+    subst (SentFront names start new) (take-append-drop (i + 1) outs)
+    (front_all names start new (take (i + 1) outs) (drop (i + 1) outs) (subst (SentFront names start new) (sym (one_further outs i m below is)) h))

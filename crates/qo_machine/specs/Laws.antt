@@ -1,6 +1,7 @@
 -- What holds of the machine alone.
 use Rattle.std.specs.Prelude.{◌≡◌, ◌≢◌, ℕ, true, false, List, [], ◌∷◌, ◌++◌, Some, ⊤}
 use Rattle.std.specs.List.{AllByRecursion}
+use Rattle.qo_causes.specs.Names.{Names}
 use Rattle.qo_causes.specs.declared.hubs.Lane.TheVariants.{Session as to_session}
 use Rattle.qo_causes.specs.declared.inputs.Input.{Input}
 use Rattle.qo_causes.specs.declared.inputs.Moment.{Moment}
@@ -24,7 +25,7 @@ use Rattle.qo_sessions.specs.Acts.{act}
 use Rattle.qo_sessions.specs.declared.acts.SessionAct.{SessionAct}
 use Rattle.qo_sessions.specs.declared.acts.SessionAct.TheVariants.{Answer, Negotiated, Do}
 use Rattle.qo_machine.specs.Machine.{Choice, Message, State, item_step, mode_of, opening, session_of, step}
-use Rattle.qo_machine.specs.Runs.{Turn, outs_of, state_after}
+use Rattle.qo_machine.specs.Runs.{Turn, outs_of, state_after, transcript_of}
 
 -- only one session changes, and only it is sent anything
 pub record Alone (n : ℕ) (s : State) (outs : List Message) (t : State) : Type 0 where
@@ -57,28 +58,30 @@ ItemAlone = (s : State) (at : Moment) (n : ℕ) (item : Item) (choice : Choice) 
 abbrev pub LanesAreApart : Type 0
 LanesAreApart = OpenAlone × ShutAlone × ItemAlone
 
--- two lists of turns send the same, and lead to the same state
-abbrev pub Matches : List Turn → List Turn → Type 0
-Matches ts us = (outs_of opening ts ≡ outs_of opening us) × (state_after opening ts ≡ state_after opening us)
+-- two lists of turns send the same, with the same transcript, and lead to the same state
+pub record Matches (ts us : List Turn) : Type 0 where
+  pub outs : outs_of opening ts ≡ outs_of opening us
+  pub lines : transcript_of opening ts ≡ transcript_of opening us
+  pub state : state_after opening ts ≡ state_after opening us
 
--- a turn in which no session is lost
-abbrev pub quiet : Moment → What → List Choice → Turn
-quiet at what choices = record { input = record { at = at; what = what }; choices = choices; lost = []; cut = λ _. 0 }
+-- a turn in which no session is lost, while sessions have these names
+abbrev pub quiet : Names → Moment → What → List Choice → Turn
+quiet names at what choices = record { input = record { at = at; what = what }; names = names; choices = choices; lost = []; cut = λ _. 0 }
 
--- of a run, one piece that comes whole, or in two at the same moment
-abbrev pub in_one : (List ℕ → What) → List Turn → List Turn → Moment → List ℕ → List Choice → List Turn
-in_one piece before after at bytes choices = before ++ quiet at (piece bytes) choices ∷ after
+-- of a run, one piece that comes whole, or in two at the same moment, with the same names
+abbrev pub in_one : (List ℕ → What) → List Turn → List Turn → Names → Moment → List ℕ → List Choice → List Turn
+in_one piece before after names at bytes choices = before ++ quiet names at (piece bytes) choices ∷ after
 
-abbrev pub in_two : (List ℕ → What) → List Turn → List Turn → Moment → List ℕ → List ℕ → List Choice → List Choice → List Turn
-in_two piece before after at a b first second = before ++ quiet at (piece a) first ∷ quiet at (piece b) second ∷ after
+abbrev pub in_two : (List ℕ → What) → List Turn → List Turn → Names → Moment → List ℕ → List ℕ → List Choice → List Choice → List Turn
+in_two piece before after names at a b first second = before ++ quiet names at (piece a) first ∷ quiet names at (piece b) second ∷ after
 
 -- whichever way such a piece comes, there is a run of the other way that sends the same
 abbrev pub CutAnywhere : (List ℕ → What) → Type 0
-CutAnywhere piece = (before after : List Turn) (at : Moment) (a b : List ℕ) →
-    ((choices : List Choice) → (first second : List Choice) × Matches (in_one piece before after at (a ++ b) choices)
-    (in_two piece before after at a b first second))
+CutAnywhere piece = (before after : List Turn) (names : Names) (at : Moment) (a b : List ℕ) →
+    ((choices : List Choice) → (first second : List Choice) × Matches (in_one piece before after names at (a ++ b) choices)
+    (in_two piece before after names at a b first second))
     × ((first second : List Choice)
-    → (choices : List Choice) × Matches (in_one piece before after at (a ++ b) choices) (in_two piece before after at a b first second))
+    → (choices : List Choice) × Matches (in_one piece before after names at (a ++ b) choices) (in_two piece before after names at a b first second))
 
 -- bytes of a session, and of the guest, may be cut anywhere
 abbrev pub ChunksAreFree : Type 0

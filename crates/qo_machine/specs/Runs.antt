@@ -4,6 +4,7 @@ use Rattle.std.specs.List.{flat_map, filter_map, list_any}
 use Rattle.std.specs.Io.KnownBytes.{append_known}
 use Rattle.qo_causes.specs.Bytes.{AppendsPrefix}
 use Rattle.qo_causes.specs.Hub.{AtEnd, given_by, is_end, line, part, same_lane}
+use Rattle.qo_causes.specs.Names.{Given, Names}
 use Rattle.qo_causes.specs.declared.hubs.Lane.{Lane}
 use Rattle.qo_causes.specs.declared.hubs.Lane.TheVariants.{Session, Guest}
 use Rattle.qo_causes.specs.declared.inputs.Input.{Input}
@@ -12,9 +13,11 @@ use Rattle.qo_sessions.specs.Sessions.{State as SessionState, closed}
 use Rattle.qo_machine.specs.declared.running.Ending.{Ending}
 use Rattle.qo_machine.specs.declared.running.Ending.TheVariants.{Done, Bad, Memory, NextFailed, SendFailed, Limit}
 
--- an input, the choices at it, the sessions that are lost in its step, and how many bytes of the step a lost one got
+-- an input, the names of the sessions that are open once it was taken, the choices at it, the sessions that are lost in its step, and how many bytes of the
+-- step a lost one got
 pub record Turn : Type 0 where
   pub input : Input
+  pub names : Names
   pub choices : List Choice
   pub lost : List Bool
   pub cut : Lane → ℕ
@@ -50,9 +53,17 @@ abbrev pub outs_of : State → List Turn → List Message
 outs_of s [] = []
 outs_of s (t ∷ ts) = outs_at s t ++ outs_of (after s t) ts
 
--- the transcript: each message as its line, in order
-abbrev pub transcript : List Message → List ℕ
-transcript outs = flat_map (λ m. line m.0 m.1) outs
+-- the lines of some messages, in order, while sessions have these names
+abbrev pub transcript : Names → List Message → List ℕ
+transcript names outs = flat_map (λ m. line names m.0 m.1) outs
+
+-- the transcript of a turn, and of some: each message as its line, in order, by the names that stand with the input of its turn
+abbrev pub transcript_at : State → Turn → List ℕ
+transcript_at s t = transcript t.names (outs_at s t)
+
+abbrev pub transcript_of : State → List Turn → List ℕ
+transcript_of s [] = []
+transcript_of s (t ∷ ts) = transcript_at s t ++ transcript_of (after s t) ts
 
 -- the bytes of a lane among some messages
 abbrev pub lane_bytes : Lane → List Message → List ℕ
@@ -70,9 +81,9 @@ abbrev pub lane_of : Lane → State → List Turn → List ℕ
 lane_of l s [] = []
 lane_of l s (t ∷ ts) = lane_at l s t ++ lane_of l (after s t) ts
 
--- the inputs of some turns; the end is none
-abbrev pub turn_inputs : List Turn → List Input
-turn_inputs ts = filter_map (λ t. given_by t.input) ts
+-- the inputs of some turns, each with the names that stand with it; the end is none
+abbrev pub turn_inputs : List Turn → List Given
+turn_inputs ts = filter_map (λ t. given_by t.input t.names) ts
 
 -- has the end come
 abbrev pub has_end : List Turn → Bool
@@ -103,35 +114,39 @@ AllLostHad s (t ∷ ts) = LostHad t.lost (outs_at s t) × AllLostHad (after s t)
 
 -- what a hub tells
 pub record Told : Type 0 where
-  pub inputs : Option (List Input)
+  pub inputs : Option (List Given)
   pub sent : Option (List ℕ)
   pub got : Lane → Option (List ℕ)
   pub losses : ℕ → ℕ
 
-abbrev pub known : Option (List Input) → Option (List ℕ) → (Lane → Option (List ℕ)) → (ℕ → ℕ) → Told
+abbrev pub known : Option (List Given) → Option (List ℕ) → (Lane → Option (List ℕ)) → (ℕ → ℕ) → Told
 known inputs sent got losses = record { inputs = inputs; sent = sent; got = got; losses = losses }
 
 -- by some turns a hub came from the one to the other: their inputs were taken, what they send was sent, and only who was sent to was lost
 pub record Turns (from : State) (old new : Told) (turns : List Turn) : Type 0 where
   pub took : old.inputs ≡ option_map (λ rest. turn_inputs turns ++ rest) new.inputs
-  pub sent : new.sent ≡ append_known old.sent (transcript (outs_of from turns))
+  pub sent : new.sent ≡ append_known old.sent (transcript_of from turns)
   pub lanes : (l : Lane) → new.got l ≡ append_known (old.got l) (lane_of l from turns)
   pub losses : (n : ℕ) → risen_by n (old.losses n) turns ≤ new.losses n
   pub had : AllLostHad from turns
 
--- what a last turn sends, and its input, if there is such a turn
+-- what a last turn sends, its transcript, and its input, if there is such a turn
 abbrev pub last_outs : State → Option Turn → List Message
 last_outs s None = []
 last_outs s (Some t) = outs_at s t
 
-abbrev pub last_input : Option Turn → List Input
+abbrev pub last_transcript : State → Option Turn → List ℕ
+last_transcript s None = []
+last_transcript s (Some t) = transcript_at s t
+
+abbrev pub last_input : Option Turn → List Given
 last_input None = []
 last_input (Some t) = turn_inputs (t ∷ [])
 
 -- by a last turn that was cut, if any: its input was taken, and fronts of what it sends were sent
 pub record Cut (from : State) (old new : Told) (last : Option Turn) : Type 0 where
   pub took : old.inputs ≡ option_map (λ rest. last_input last ++ rest) new.inputs
-  pub sent : AppendsPrefix old.sent new.sent (transcript (last_outs from last))
+  pub sent : AppendsPrefix old.sent new.sent (last_transcript from last)
   pub lanes : (l : Lane) → AppendsPrefix (old.got l) (new.got l) (lane_bytes l (last_outs from last))
   pub losses : (n : ℕ) → old.losses n ≤ new.losses n
 

@@ -4,6 +4,7 @@ use Rattle.std.specs.Io.KnownBytes.{append_known}
 use Rattle.std.specs.List.{AllByRecursion}
 use Rattle.qo_values.specs.declared.limits.TheConstants.{SESSIONS}
 use Rattle.qo_causes.specs.Bytes.{AppendsPrefix}
+use Rattle.qo_causes.specs.Names.{Names}
 use Rattle.qo_causes.specs.declared.faults.Failed.{Failed}
 use Rattle.qo_causes.specs.declared.hubs.Lane.{Lane}
 use Rattle.qo_causes.specs.declared.hubs.Lane.TheVariants.{Session, Guest}
@@ -24,10 +25,10 @@ pub record SentLanes (old new : Lane → Option (List ℕ)) (outs : List Message
   pub within : (l : Lane) → cut l ≤ length (lane_bytes l outs)
   pub lanes : (l : Lane) → new l ≡ append_known (old l) (cut_to (is_lost lost l) (cut l) (lane_bytes l outs))
 
--- the messages were sent, but for what is left out for lost sessions; each of these had a message
-pub record Sent (old new : Told) (outs : List Message) (lost : List Bool) : Type 0 where
+-- the messages were sent while sessions had these names, but for what is left out for lost sessions; each of these had a message
+pub record Sent (names : Names) (old new : Told) (outs : List Message) (lost : List Bool) : Type 0 where
   pub inputs : new.inputs ≡ old.inputs
-  pub sent : new.sent ≡ append_known old.sent (transcript outs)
+  pub sent : new.sent ≡ append_known old.sent (transcript names outs)
   pub lanes : (cut : Lane → ℕ) × SentLanes old.got new.got outs lost cut
   pub losses : (n : ℕ) → risen (slice_index_or lost n false) (old.losses n) ≤ new.losses n
   pub untold : (l : Lane) → is_lost lost l ≡ true → new.sent ≡ None
@@ -35,12 +36,12 @@ pub record Sent (old new : Told) (outs : List Message) (lost : List Bool) : Type
   pub size : length lost ≡ SESSIONS
 
 -- fronts of the messages were sent
-pub record SentFront (old new : Told) (outs : List Message) : Type 0 where
+pub record SentFront (names : Names) (old new : Told) (outs : List Message) : Type 0 where
   pub inputs : new.inputs ≡ old.inputs
-  pub sent : AppendsPrefix old.sent new.sent (transcript outs)
+  pub sent : AppendsPrefix old.sent new.sent (transcript names outs)
   pub lanes : (l : Lane) → AppendsPrefix (old.got l) (new.got l) (lane_bytes l outs)
   pub losses : (n : ℕ) → old.losses n ≤ new.losses n
 
-abbrev pub SendsAll : Told → Told → List Message → Result (List Bool) Failed → Type 0
-SendsAll old new outs (Ok lost) = Sent old new outs lost
-SendsAll old new outs (Err e) = SentFront old new outs
+abbrev pub SendsAll : Names → Told → Told → List Message → Result (List Bool) Failed → Type 0
+SendsAll names old new outs (Ok lost) = Sent names old new outs lost
+SendsAll names old new outs (Err e) = SentFront names old new outs

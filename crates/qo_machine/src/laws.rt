@@ -19,8 +19,8 @@ pub fn law_answers()
     ensures { AnsweredInRuns }
 {}
 
-/// In any run, bytes of a session that come whole may as well come in two pieces at the same moment,
-/// and the other way round: the same is sent, and the same state is left.
+/// In any run, bytes of a session that come whole may as well come in two pieces at the same moment, while sessions
+/// have the same names, and the other way round: the same is sent, with the same transcript, and the same state is left.
 pub fn law_chunks()
     ensures { ChunksAreFree }
 {}

@@ -47,8 +47,9 @@ fn send_one<H: Hub>(
     text: &Chars,
 ) -> Result<(), Failed>
     requires { IsLane lane }
-    ensures ok { OnOk result ((start : Told) (outs : List Message) → Sent start (known (H.inputs hub.old) (H.sent hub.old) (H.got hub.old) (H.losses hub.old)) outs lost.old → Sent start (known (H.inputs hub.new) (H.sent hub.new) (H.got hub.new) (H.losses hub.new)) (outs ++ (lane, text.now) ∷ []) lost.new) }
-    ensures err { OnErr result ((start : Told) (outs : List Message) → Sent start (known (H.inputs hub.old) (H.sent hub.old) (H.got hub.old) (H.losses hub.old)) outs lost.old → SentFront start (known (H.inputs hub.new) (H.sent hub.new) (H.got hub.new) (H.losses hub.new)) (outs ++ (lane, text.now) ∷ [])) }
+    ensures ok { OnOk result ((start : Told) (outs : List Message) → Sent (H.names hub.old) start (known (H.inputs hub.old) (H.sent hub.old) (H.got hub.old) (H.losses hub.old)) outs lost.old → Sent (H.names hub.old) start (known (H.inputs hub.new) (H.sent hub.new) (H.got hub.new) (H.losses hub.new)) (outs ++ (lane, text.now) ∷ []) lost.new) }
+    ensures err { OnErr result ((start : Told) (outs : List Message) → Sent (H.names hub.old) start (known (H.inputs hub.old) (H.sent hub.old) (H.got hub.old) (H.losses hub.old)) outs lost.old → SentFront (H.names hub.old) start (known (H.inputs hub.new) (H.sent hub.new) (H.got hub.new) (H.losses hub.new)) (outs ++ (lane, text.now) ∷ [])) }
+    ensures names { H.names hub.new ≡ H.names hub.old }
     ensures bad { H.bad hub.new ≡ H.bad hub.old }
     ensures asked { H.asked hub.new ≡ H.asked hub.old }
     ensures cause { HasCause (H.send_faults hub.old) (H.send_faults hub.new) result }
@@ -72,7 +73,8 @@ fn send_one<H: Hub>(
 /// Sends the messages of one step. What follows for a session that is lost is left out.
 fn send_all<H: Hub>(hub: &mut H, outs: &[(Lane, Chars)]) -> Result<[bool; LANES], Failed>
     requires { AreToLanes outs.now }
-    ensures sends { SendsAll (known (H.inputs hub.old) (H.sent hub.old) (H.got hub.old) (H.losses hub.old)) (known (H.inputs hub.new) (H.sent hub.new) (H.got hub.new) (H.losses hub.new)) outs.now result }
+    ensures sends { SendsAll (H.names hub.old) (known (H.inputs hub.old) (H.sent hub.old) (H.got hub.old) (H.losses hub.old)) (known (H.inputs hub.new) (H.sent hub.new) (H.got hub.new) (H.losses hub.new)) outs.now result }
+    ensures names { H.names hub.new ≡ H.names hub.old }
     ensures bad { H.bad hub.new ≡ H.bad hub.old }
     ensures asked { H.asked hub.new ≡ H.asked hub.old }
     ensures cause { HasCause (H.send_faults hub.old) (H.send_faults hub.new) result }

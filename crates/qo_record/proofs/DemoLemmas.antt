@@ -4,14 +4,17 @@ use Rattle.std.proofs.Common.{List, [], ◌∷◌, ◌++◌, length, codes, deci
 use Rattle.std.proofs.Common.{refl, sym, ◌∙◌, ap, subst, arith, append_assoc, length-append, Result, Ok, Err, OnOk}
 use Rattle.std.proofs.Math.Nat.{mod-add-mod}
 use Rattle.std.proofs.lemmas.Fmt.{decimal_digit, length-decimal-le}
-use Rattle.std.proofs.lemmas.List.Concat.{flat_map-append}
 use Rattle.qo_causes.specs.declared.inputs.What.{What}
 use Rattle.qo_causes.specs.declared.inputs.What.TheVariants.{Open, Bytes, Guest, Step}
-use Rattle.qo_record.specs.Demo.{at_second, demo_bytes, demo_inputs, demo_start, demo_step, demo_steps, demo_what, drawn, line_of, next_number}
-use Rattle.qo_record.specs.Demo.{plugging, resetting, unplugging, with_number}
+use Rattle.qo_causes.specs.Names.{Names, no_names}
+use Rattle.qo_causes.specs.declared.inputs.Input.{Input}
+use Rattle.qo_record.specs.Demo.{at_second, demo_bytes, demo_inputs, demo_start, demo_step, demo_steps, demo_what, drawn, line_of, next_number, number_text}
+use Rattle.qo_record.specs.Demo.{numbered, numbered_all, plugging, resetting, unplugging, with_number}
 use Rattle.qo_record.specs.Laws.{DemosAreRead, FirstDraw}
+use Rattle.qo_record.specs.Names.{header_of, is_open}
+use Rattle.qo_record.specs.Spelling.{FitAll, FitsPiece, FitsWhat, entries_text, entry_text, given_from, named_by}
+use Rattle.qo_record.specs.declared.versions.Version.TheVariants.{One}
 use Rattle.qo_record.proofs.RecordLemmas.{spelled_streams_are_read}
-use Rattle.qo_record.specs.Spelling.{FitAll, FitsPiece, FitsWhat, entries_text, entry_text, header, is_open, none_open, opened_by}
 
 -- The next number, in two steps that are each cut to 64 bits.
 
@@ -41,53 +44,62 @@ session_zero rest = ap (λ (l : List ℕ). l ++ rest) (sym (decimal_digit 0 (ome
 
 -- the same entry by another name of its text
 pub same_text : {E : Type 0} (r : Result Unit E) (new old : List ℕ) (second : ℕ) (text wanted : List ℕ) → text ≡ wanted →
-    OnOk r (new ≡ old ++ entry_text (at_second second (Bytes 0 text))) → OnOk r (new ≡ old ++ entry_text (at_second second (Bytes 0 wanted)))
+    OnOk r (new ≡ old ++ entry_text (numbered (at_second second (Bytes 0 text)))) → OnOk r (new ≡ old ++ entry_text (numbered (at_second second (Bytes 0 wanted))))
 same_text r new old second text wanted same put =
-    subst (λ (l : List ℕ). OnOk r (new ≡ old ++ entry_text (at_second second (Bytes 0 l)))) same put
+    subst (λ (l : List ℕ). OnOk r (new ≡ old ++ entry_text (numbered (at_second second (Bytes 0 l))))) same put
 
 -- Steps, one after the other.
 
 abbrev left_text : ℕ → ℕ → ℕ → List ℕ
-left_text more x second = entries_text (demo_steps more x second)
+left_text more x second = entries_text (numbered_all (demo_steps more x second))
 
-pub none_written : (seed steps : ℕ) → (header ++ entries_text demo_start) ++ left_text (steps - 0) seed 1 ≡ demo_bytes seed steps
+-- the entries of two lists of inputs
+numbered_append : (xs ys : List Input) → entries_text (numbered_all (xs ++ ys)) ≡ entries_text (numbered_all xs) ++ entries_text (numbered_all ys)
+numbered_append [] ys = refl
+numbered_append (x ∷ xs) ys =
+    ap (λ (l : List ℕ). entry_text (numbered x) ++ l) (numbered_append xs ys)
+    ∙ sym (append_assoc (entry_text (numbered x)) (entries_text (numbered_all xs)) (entries_text (numbered_all ys)))
+
+pub none_written : (seed steps : ℕ) →
+    (header_of One ++ entries_text (numbered_all demo_start)) ++ left_text (steps - 0) seed 1 ≡ demo_bytes seed steps
 unfolding demo_bytes demo_inputs
 none_written seed steps =
+    let start : List ℕ = entries_text (numbered_all demo_start) in
     let all : steps - 0 ≡ steps = omega arith in
-    ap (λ (n : ℕ). (header ++ entries_text demo_start) ++ left_text n seed 1) all
-    ∙ append_assoc header (entries_text demo_start) (left_text steps seed 1)
-    ∙ ap (λ (l : List ℕ). header ++ l) (sym (flat_map-append entry_text demo_start (demo_steps steps seed 1)))
+    ap (λ (n : ℕ). (header_of One ++ start) ++ left_text n seed 1) all
+    ∙ append_assoc (header_of One) start (left_text steps seed 1)
+    ∙ ap (λ (l : List ℕ). header_of One ++ l) (sym (numbered_append demo_start (demo_steps steps seed 1)))
 
 pub one_written : (steps i j x y : ℕ) (before after whole : List ℕ) → i < steps → before ++ left_text (steps - i) x (i + 1) ≡ whole →
-    j ≡ i → after ≡ before ++ entry_text (demo_step x (j + 1)) → y ≡ next_number (next_number x) → after ++ left_text (steps - (i + 1)) y (i + 1 + 1) ≡ whole
+    j ≡ i → after ≡ before ++ entry_text (numbered (demo_step x (j + 1))) → y ≡ next_number (next_number x) → after ++ left_text (steps - (i + 1)) y (i + 1 + 1) ≡ whole
 one_written steps i j x y before after whole within is same put drawn_twice =
     let more : ℕ = steps - (i + 1) in
     let count : steps - i ≡ suc more = omega arith in
     let last : List ℕ = left_text more (next_number (next_number x)) (i + 1 + 1) in
     ap (λ (n : ℕ). after ++ left_text more n (i + 1 + 1)) drawn_twice
-    ∙ ap (λ (l : List ℕ). l ++ last) (put ∙ ap (λ (n : ℕ). before ++ entry_text (demo_step x (n + 1))) same)
-    ∙ append_assoc before (entry_text (demo_step x (i + 1))) last
+    ∙ ap (λ (l : List ℕ). l ++ last) (put ∙ ap (λ (n : ℕ). before ++ entry_text (numbered (demo_step x (n + 1)))) same)
+    ∙ append_assoc before (entry_text (numbered (demo_step x (i + 1)))) last
     ∙ ap (λ (n : ℕ). before ++ left_text n x (i + 1)) (sym count) ∙ is
 
 -- The entries of a demo may stand.
 
 -- it may stand, and the same sessions are open after it
-record Stays (opened : List Bool) (what : What) : Type 0 where
-  fits : FitsWhat opened what
-  same : opened_by opened what ≡ opened
+record Stays (names : Names) (what : What) : Type 0 where
+  fits : FitsWhat One names (number_text what) what
+  same : named_by names (number_text what) what ≡ names
 
-either : {opened : List Bool} (b : Bool) (x y : What) → Stays opened x → Stays opened y → Stays opened (if b then x else y)
+either : {names : Names} (b : Bool) (x y : What) → Stays names x → Stays names y → Stays names (if b then x else y)
 either true x y p q = p
 either false x y p q = q
 
-sent : {opened : List Bool} (piece : List ℕ) → is_open opened 0 ≡ true → FitsPiece piece → Stays opened (Bytes 0 piece)
-sent piece stands fits = record { fits = (omega arith, stands, fits); same = refl }
+sent : {names : Names} (piece : List ℕ) → is_open names 0 ≡ true → FitsPiece piece → Stays names (Bytes 0 piece)
+sent piece stands fits = record { fits = ((omega arith, refl, stands), fits); same = refl }
 
-written : {opened : List Bool} (piece : List ℕ) → FitsPiece piece → Stays opened (Guest piece)
-written piece fits = record { fits = fits; same = refl }
+written : {names : Names} (piece : List ℕ) → FitsPiece piece → Stays names (Guest piece)
+written piece fits = record { fits = (refl, fits); same = refl }
 
-gone : {opened : List Bool} (ns : ℕ) → 1 ≤ ns → ns < 2 ^ 63 → Stays opened (Step ns)
-gone ns some few = record { fits = (some, few); same = refl }
+gone : {names : Names} (ns : ℕ) → 1 ≤ ns → ns < 2 ^ 63 → Stays names (Step ns)
+gone ns some few = record { fits = (refl, some, few); same = refl }
 
 digit_size : (n : ℕ) → n < 8 → length (decimal n) ≤ 1
 digit_size n few = length-decimal-le 1 n (omega arith) (omega arith) (omega arith)
@@ -112,8 +124,8 @@ plugging_fits driver n few size =
       omega (arith, size, id_size, slot_size, length-append ((head ++ driver) ++ id) slot, length-append (head ++ driver) id, length-append head driver),
     )
 
-what_stays : (opened : List Bool) (k n : ℕ) → n < 8 → is_open opened 0 ≡ true → Stays opened (demo_what k n)
-what_stays opened k n few stands =
+what_stays : (names : Names) (k n : ℕ) → n < 8 → is_open names 0 ≡ true → Stays names (demo_what k n)
+what_stays names k n few stands =
     let uart : List ℕ = plugging (codes "slot-uart") n in
     let timer : List ℕ = plugging (codes "slot-timer") n in
     let gives : List ℕ → List ℕ = λ before. with_number before n (10 ∷ []) in
@@ -140,26 +152,32 @@ what_stays opened k n few stands =
 below_eight : (n : ℕ) → n % 8 < 8
 below_eight n = omega arith
 
-steps_fit : (more x second : ℕ) (opened : List Bool) → second + more < 2 ^ 63 → is_open opened 0 ≡ true → FitAll opened (demo_steps more x second)
-steps_fit zero x second opened few stands = tt
-steps_fit (suc more) x second opened few stands =
+steps_fit : (more x second : ℕ) (names : Names) → second + more < 2 ^ 63 → is_open names 0 ≡ true → FitAll One names (numbered_all (demo_steps more x second))
+steps_fit zero x second names few stands = tt
+steps_fit (suc more) x second names few stands =
     let y : ℕ = next_number (next_number x) in
-    let s = what_stays opened (drawn (next_number x) % 8) (drawn y % 8) (below_eight (drawn y)) stands in (
+    let s = what_stays names (drawn (next_number x) % 8) (drawn y % 8) (below_eight (drawn y)) stands in (
       ((omega arith, omega arith), s.fits),
-      subst (λ (o : List Bool). FitAll o (demo_steps more (next_number (next_number x)) (second + 1))) (sym s.same)
-          (steps_fit more (next_number (next_number x)) (second + 1) opened (omega arith) stands),
+      subst (λ (n : Names). FitAll One n (numbered_all (demo_steps more (next_number (next_number x)) (second + 1)))) (sym s.same)
+          (steps_fit more (next_number (next_number x)) (second + 1) names (omega arith) stands),
     )
 
-pub demo_fits : (seed steps : ℕ) → steps < 2 ^ 32 → FitAll none_open (demo_inputs seed steps)
+-- the names of the first version once session 0 has opened
+abbrev zero_named : Names
+zero_named = named_by no_names (decimal 0) (Open 0)
+
+pub demo_fits : (seed steps : ℕ) → steps < 2 ^ 32 → FitAll One no_names (numbered_all (demo_inputs seed steps))
 unfolding demo_inputs
 demo_fits seed steps few = (
-  ((omega arith, omega arith), (omega arith, refl)),
-  (((omega arith, omega arith), (omega arith, refl, (omega arith, omega arith))), steps_fit steps seed 1 (opened_by none_open (Open 0)) (omega arith) refl),
+  ((omega arith, omega arith), (omega arith, refl, refl)),
+  (((omega arith, omega arith), ((omega arith, refl, refl), (omega arith, omega arith))), steps_fit steps seed 1 zero_named (omega arith) refl),
 )
 
 pub demos_are_read : DemosAreRead
 unfolding demo_bytes
-demos_are_read seed steps few = spelled_streams_are_read (demo_inputs seed steps) (demo_fits seed steps few)
+demos_are_read seed steps few =
+    let read = spelled_streams_are_read One (numbered_all (demo_inputs seed steps)) (demo_fits seed steps few) in
+    record { entries = read.0; given = ap (given_from no_names) read.0; none = read.1 }
 
 pub first_draw : FirstDraw
 unfolding drawn next_number

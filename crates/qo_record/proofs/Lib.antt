@@ -1,9 +1,11 @@
+pub mod CoverLemmas
+pub mod DemoLemmas
 pub mod EntryLemmas
 pub mod LineLemmas
+pub mod NameLemmas
+pub mod PartialEntryLemmas
 pub mod ReadingLemmas
 pub mod RecordLemmas
-pub mod WindowLemmas
+pub mod RecordRows
 pub mod ReplayLemmas
-pub mod CoverLemmas
-pub mod PartialEntryLemmas
-pub mod DemoLemmas
+pub mod WindowLemmas

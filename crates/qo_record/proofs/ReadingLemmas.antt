@@ -1,5 +1,5 @@
 -- Each reader of a part takes what is spelled so, and reads it again whatever follows.
-use Rattle.std.proofs.Common.{◌≡◌, ℕ, zero, suc, ◌+◌, ◌-◌, ◌*◌, ◌/◌, ◌%◌, ◌^◌, ◌<◌, ◌≤◌, ◌==◌, ◌&&◌, nat_le, ◌⊎◌, inl, inr, Bool, true, false}
+use Rattle.std.proofs.Common.{◌≡◌, ℕ, zero, suc, ◌+◌, ◌-◌, ◌*◌, ◌/◌, ◌%◌, ◌^◌, ◌<◌, ◌≤◌, ◌==◌, ◌&&◌, nat_le, nat_lt, ◌⊎◌, inl, inr, Bool, true, false}
 use Rattle.std.proofs.Common.{if◌then◌else◌, List, [], ◌∷◌, ◌++◌, length, take, drop, refl, sym, ◌∙◌, ap, subst, arith, append_assoc, Option, None}
 use Rattle.std.proofs.Common.{Some, decimal}
 use Rattle.std.proofs.Math.Nat.{div-div-eq-div-mul, div-le_self, pow-suc}
@@ -9,7 +9,11 @@ use Rattle.std.proofs.lemmas.Fmt.{decimal_by_steps, decimal_digit, decimal_step}
 use Rattle.std.proofs.lemmas.List.{take-append-drop}
 use Rattle.std.proofs.lemmas.Slice.Eq.{bytes_eq-Decides}
 use Rattle.std.specs.Str.{bytes_eq}
-use Rattle.qo_record.specs.Reading.{◌>>=◌, after_front, digits_of, digits_until, with_digit, number_until}
+use Rattle.std.specs.List.{list_all, list_any, position, position_or_len}
+use Rattle.std.proofs.lemmas.Bool.{and_parts, or_parts}
+use Rattle.qo_record.specs.Names.{begins_with_letter, is_name, is_name_byte}
+use Rattle.qo_record.specs.Reading.{◌>>=◌, after_front, digits_of, digits_until, with_digit, number_until, word_until}
+use Rattle.qo_record.specs.Record.{name_until}
 use Rattle.qo_record.specs.Spelling.{last_digits}
 
 -- Where something was read in the end, each part was read.
@@ -50,6 +54,113 @@ pub after_again : (front rest : List ℕ) → after_front front (front ++ rest) 
 after_again front rest =
     let same : bytes_eq front front ≡ true = (bytes_eq-Decides front front).1 refl in
     rw (take-append_seam front rest, drop-append_seam front rest, same) refl
+
+-- A word, and a name.
+
+pub until_taken : (stop : ℕ) (bytes : List ℕ) (w : List ℕ × List ℕ) → word_until stop bytes ≡ Some w → bytes ≡ w.0 ++ stop ∷ w.1
+until_taken stop [] w h = absurd (none_some h)
+until_taken stop (b ∷ bytes) w h =
+    elim (if_some (b == stop) (Some ([], bytes)) (word_until stop bytes >>= λ word. Some (b ∷ word.0, word.1)) w h) [
+      | inl p ↦ (
+          let is : b ≡ stop = grind (arith, nat_tests) in
+          subst (λ (y : List ℕ × List ℕ). b ∷ bytes ≡ y.0 ++ stop ∷ y.1) (some_is p.1) (ap (λ (k : ℕ). k ∷ bytes) is)
+          )
+      | inr p ↦ (
+          let s = bind_some (word_until stop bytes) (λ (word : List ℕ × List ℕ). Some (b ∷ word.0, word.1)) w p.1 in
+          subst (λ (y : List ℕ × List ℕ). b ∷ bytes ≡ y.0 ++ stop ∷ y.1) (some_is s.2) (ap (λ (l : List ℕ). b ∷ l) (until_taken stop bytes s.0 s.1))
+          )
+    ]
+
+pub until_again : (stop : ℕ) (word rest : List ℕ) → list_any (λ (b : ℕ). b == stop) word ≡ false → word_until stop (word ++ stop ∷ rest) ≡ Some (word, rest)
+until_again stop [] rest free = let same : (stop == stop) ≡ true = grind (arith, nat_tests) in rw same refl
+until_again stop (b ∷ word) rest free =
+    let p = or_parts (b == stop) (list_any (λ (x : ℕ). x == stop) word) free in
+    rw (p.0, until_again stop word rest p.1) refl
+
+-- the place of the byte that ends a word
+record EndsAt (stop : ℕ) (bytes : List ℕ) (n : ℕ) : Type 0 where
+  place : position_or_len (λ (b : ℕ). b == stop) bytes ≡ n
+  within : n < length bytes
+  read : word_until stop bytes ≡ Some (take n bytes, drop (suc n) bytes)
+
+record EndsNowhere (stop : ℕ) (bytes : List ℕ) : Type 0 where
+  place : position_or_len (λ (b : ℕ). b == stop) bytes ≡ length bytes
+  read : word_until stop bytes ≡ None
+
+until_place : (stop : ℕ) (bytes : List ℕ) → EndsNowhere stop bytes ⊎ ((n : ℕ) × EndsAt stop bytes n)
+until_place stop [] = inl (record { place = refl; read = refl })
+until_place stop (b ∷ bytes) = go (b == stop) refl (until_place stop bytes)
+  where
+    go : (t : Bool) → (b == stop) ≡ t → EndsNowhere stop bytes ⊎ ((n : ℕ) × EndsAt stop bytes n)
+        → EndsNowhere stop (b ∷ bytes) ⊎ ((n : ℕ) × EndsAt stop (b ∷ bytes) n)
+    go true here more = inr (0, record { place = rw here refl; within = omega arith; read = rw here refl })
+    go false other (inl p) = inl (record { place = rw other (omega (arith, p.place)); read = rw (other, p.read) refl })
+    go false other (inr p) =
+        inr (suc p.0, record { place = rw other (omega (arith, p.1.place)); within = omega (arith, p.1.within); read = rw (other, p.1.read) refl })
+
+abbrev parted : List ℕ → ℕ → ℕ → Option (List ℕ × List ℕ)
+parted bytes a b = Some (take a bytes, drop b bytes)
+
+split_at : (bytes : List ℕ) (a b c d : ℕ) → a ≡ b → c ≡ d → parted bytes a c ≡ parted bytes b d
+split_at bytes a b c d p q = ap (λ (k : ℕ). parted bytes k c) p ∙ ap (parted bytes b) q
+
+pub place_found : (stop : ℕ) (bytes : List ℕ) (at : ℕ) → position (λ (b : ℕ). b == stop) bytes ≡ Some at →
+    (at < length bytes) × (word_until stop bytes ≡ Some (take at bytes, drop (at + 1) bytes))
+place_found stop bytes at h = go (until_place stop bytes)
+  where
+    go : EndsNowhere stop bytes ⊎ ((n : ℕ) × EndsAt stop bytes n) → (at < length bytes) × (word_until stop bytes ≡ Some (take at bytes, drop (at + 1) bytes))
+    go (inl q) =
+        let test : nat_lt (position_or_len (λ (b : ℕ). b == stop) bytes) (length bytes) ≡ false = grind (arith, nat_tests, q.place) in
+        absurd (none_some (rw test at h))
+    go (inr q) =
+        let test : nat_lt (position_or_len (λ (b : ℕ). b == stop) bytes) (length bytes) ≡ true = grind (arith, nat_tests, q.1.place, q.1.within) in
+        let is : position_or_len (λ (b : ℕ). b == stop) bytes ≡ at = some_is (rw test at h) in
+        let n : q.0 ≡ at = sym q.1.place ∙ is in
+        let next : suc q.0 ≡ at + 1 = omega (arith, n) in
+        (omega (arith, n, q.1.within), q.1.read ∙ split_at bytes q.0 at (suc q.0) (at + 1) n next)
+
+pub no_place : (stop : ℕ) (bytes : List ℕ) → position (λ (b : ℕ). b == stop) bytes ≡ None → word_until stop bytes ≡ None
+no_place stop bytes h = go (until_place stop bytes)
+  where
+    go : EndsNowhere stop bytes ⊎ ((n : ℕ) × EndsAt stop bytes n) → word_until stop bytes ≡ None
+    go (inl q) = q.read
+    go (inr q) =
+        let test : nat_lt (position_or_len (λ (b : ℕ). b == stop) bytes) (length bytes) ≡ true = grind (arith, nat_tests, q.1.place, q.1.within) in
+        absurd (none_some (sym (rw test at h)))
+
+pub record IsName (name : List ℕ) : Type 0 where
+  pub few : length name ≤ 32
+  pub all : list_all is_name_byte name ≡ true
+
+pub name_is : (name : List ℕ) → is_name name ≡ true → IsName name
+unfolding is_name
+name_is name h =
+    let p = and_parts _ (list_all is_name_byte name) h in
+    let q = and_parts _ _ p.0 in
+    let r = and_parts (begins_with_letter name) (nat_le (length name) 32) q.0 in
+    record { few = grind (arith, nat_tests, r.1); all = p.1 }
+
+-- the bytes of a name are none that ends a word
+byte_free : (b stop : ℕ) → stop < 45 → is_name_byte b ≡ true → (b == stop) ≡ false
+byte_free b stop low h = grind (arith, nat_tests)
+
+name_free : (stop : ℕ) (name : List ℕ) → stop < 45 → list_all is_name_byte name ≡ true → list_any (λ (b : ℕ). b == stop) name ≡ false
+name_free stop [] low h = refl
+name_free stop (b ∷ name) low h =
+    let p = and_parts (is_name_byte b) (list_all is_name_byte name) h in
+    rw (byte_free b stop low p.0, name_free stop name low p.1) refl
+
+pub name_has_none : (stop : ℕ) (name : List ℕ) → stop < 45 → is_name name ≡ true → list_any (λ (b : ℕ). b == stop) name ≡ false
+name_has_none stop name low h = name_free stop name low (name_is name h).all
+
+pub name_taken : (stop : ℕ) (bytes : List ℕ) (n : List ℕ × List ℕ) → name_until stop bytes ≡ Some n → (is_name n.0 ≡ true) × (bytes ≡ n.0 ++ stop ∷ n.1)
+name_taken stop bytes n h =
+    let s = bind_some (word_until stop bytes) (λ (name : List ℕ × List ℕ). if is_name name.0 then Some name else None) n h in
+    let g = when_true (is_name s.0.0) (Some s.0) n s.2 in
+    subst (λ (y : List ℕ × List ℕ). (is_name y.0 ≡ true) × (bytes ≡ y.0 ++ stop ∷ y.1)) (some_is g.1) (g.0, until_taken stop bytes s.0 s.1)
+
+pub name_again : (stop : ℕ) (name rest : List ℕ) → stop < 45 → is_name name ≡ true → name_until stop (name ++ stop ∷ rest) ≡ Some (name, rest)
+name_again stop name rest low h = rw (until_again stop name rest (name_has_none stop name low h), h) refl
 
 -- Numbers.
 

@@ -1,16 +1,17 @@
 -- What a window holds after a take.
-use Rattle.std.proofs.Common.{◌≡◌, ℕ, ◌+◌, ◌-◌, ◌≤◌, Bool, List, ◌++◌, length, take, drop, refl, sym, ◌∙◌, ap, arith, length-append, append_assoc}
+use Rattle.std.proofs.Common.{◌≡◌, ℕ, ◌+◌, ◌-◌, ◌≤◌, List, ◌++◌, length, take, drop, refl, sym, ◌∙◌, ap, arith, length-append, append_assoc}
 use Rattle.std.proofs.Common.{Option, None, Some, Result, Ok, Err, IfOk}
 use Rattle.std.proofs.Math.Seq.{drop-append_seam, take-append-add}
 use Rattle.std.proofs.lemmas.List.{drop-append-le, length-take-le, take-append-drop, take-take}
 use Rattle.std.specs.Io.KnownBytes.{prepend_known}
 use Rattle.qo_causes.specs.Bytes.{Takes}
-use Rattle.qo_causes.specs.declared.inputs.Input.{Input}
+use Rattle.qo_causes.specs.Names.{Names}
 use Rattle.qo_record.proofs.EntryLemmas.{entry_taken}
 use Rattle.qo_record.specs.Record.{entry_at}
 use Rattle.qo_record.specs.Replays.{ahead_of}
 use Rattle.qo_record.specs.Windows.{TakesAfter, between}
-use Rattle.qo_record.specs.Spelling.{entry_text}
+use Rattle.qo_record.specs.Spelling.{Recorded, entry_text}
+use Rattle.qo_record.specs.declared.versions.Version.{Version}
 
 -- a place that is after a front is in what follows it
 pub piece_after : (front piece : List ℕ) (end n : ℕ) → length front ≡ end → between (front ++ piece) end (end + n) ≡ take n piece
@@ -60,10 +61,10 @@ taken_ahead old_bytes new_bytes buffered at end n old new order within same is t
     ∙ ap (ahead_of buffered) (sym took)
 
 -- the bytes after an entry are no more than all, and are the last so many
-pub after_size : (opened : List Bool) (bytes : List ℕ) (e : Input × List ℕ) → entry_at opened bytes ≡ Some e →
+pub after_size : (v : Version) (names : Names) (bytes : List ℕ) (e : Recorded × List ℕ) → entry_at v names bytes ≡ Some e →
     (length e.1 ≤ length bytes) × (drop (length bytes - length e.1) bytes ≡ e.1)
-after_size opened bytes e h =
-    let t = entry_taken opened bytes e h in
+after_size v names bytes e h =
+    let t = entry_taken v names bytes e h in
     let front : List ℕ = entry_text e.0 in
     let size : length bytes - length e.1 ≡ length front = omega (arith, ap (length {A = ℕ}) t.0, length-append front e.1) in
     (omega (arith, ap (length {A = ℕ}) t.0, length-append front e.1), rw size (rw t.0 (drop-append_seam front e.1)))

@@ -1,9 +1,12 @@
 -- The demo record: a recorded stream that is made of a seed and a number of steps (docs/PROFILE.md, the demo record).
-use Rattle.std.specs.Prelude.{ℕ, zero, suc, ◌+◌, ◌*◌, ◌/◌, ◌%◌, ◌^◌, ◌==◌, if◌then◌else◌, List, [], ◌∷◌, ◌++◌, codes, decimal}
+use Rattle.std.specs.Prelude.{ℕ, zero, suc, ◌+◌, ◌*◌, ◌/◌, ◌%◌, ◌^◌, ◌==◌, if◌then◌else◌, List, [], ◌∷◌, ◌++◌, map, codes, decimal}
+use Rattle.qo_causes.specs.Names.{Given, no_names}
 use Rattle.qo_causes.specs.declared.inputs.Input.{Input}
 use Rattle.qo_causes.specs.declared.inputs.What.{What}
-use Rattle.qo_causes.specs.declared.inputs.What.TheVariants.{Open, Bytes, Guest, Step}
-use Rattle.qo_record.specs.Spelling.{entries_text, header}
+use Rattle.qo_causes.specs.declared.inputs.What.TheVariants.{Open, Bytes, Shut, Guest, Step, End}
+use Rattle.qo_record.specs.Names.{header_of}
+use Rattle.qo_record.specs.Spelling.{Recorded, entries_text, given_from}
+use Rattle.qo_record.specs.declared.versions.Version.TheVariants.{One}
 
 -- numbers follow each other from the seed on, and a draw is the next number over 2^33, rounded down
 unfoldable pub next_number : ℕ → ℕ
@@ -62,9 +65,28 @@ demo_steps (suc more) x second = demo_step x second ∷ demo_steps more (next_nu
 abbrev pub demo_start : List Input
 demo_start = at_second 0 (Open 0) ∷ at_second 0 (Bytes 0 (line_of (codes "{\"execute\":\"qmp_capabilities\"}"))) ∷ []
 
--- the inputs of a demo, and its record
+-- the inputs of a demo
 unfoldable pub demo_inputs : ℕ → ℕ → List Input
 demo_inputs seed steps = demo_start ++ demo_steps steps seed 1
 
+-- an input as an entry of version 1, in which a session is spelled by its number
+abbrev pub number_text : What → List ℕ
+number_text (Open s) = decimal s
+number_text (Bytes s bytes) = decimal s
+number_text (Shut s) = decimal s
+number_text (Guest bytes) = []
+number_text (Step ns) = []
+number_text End = []
+
+abbrev pub numbered : Input → Recorded
+numbered i = record { input = i; session = number_text i.what }
+
+abbrev pub numbered_all : List Input → List Recorded
+numbered_all inputs = map numbered inputs
+
+-- the record of a demo, and its inputs with the names that stand with each
 unfoldable pub demo_bytes : ℕ → ℕ → List ℕ
-demo_bytes seed steps = header ++ entries_text (demo_inputs seed steps)
+demo_bytes seed steps = header_of One ++ entries_text (numbered_all (demo_inputs seed steps))
+
+abbrev pub demo_given : ℕ → ℕ → List Given
+demo_given seed steps = given_from no_names (numbered_all (demo_inputs seed steps))

@@ -1,9 +1,10 @@
 pub mod Demo
 pub mod Laws
+pub mod Names
+pub mod PartialEntries
 pub mod Reading
 pub mod Record
 pub mod Replays
 pub mod Spelling
 pub mod Streams
-pub mod PartialEntries
 pub mod Windows

@@ -1,17 +1,19 @@
 -- For proofs alone. What the code that reads from a source finds.
-use Rattle.std.specs.Prelude.{ℕ, ◌≡◌, ◌+◌, ◌<◌, ◌≤◌, ◌⊎◌, Bool, true, false, List, [], ◌++◌, length, take, drop, Option, None, Some, Result, Ok, Err, IfSome}
+use Rattle.std.specs.Prelude.{ℕ, ◌≡◌, ◌+◌, ◌<◌, ◌≤◌, ◌⊎◌, true, false, Bool, List, [], ◌++◌, length, take, drop, Option, None, Some, Result, Ok, Err, IfSome}
 use Rattle.std.specs.Io.KnownBytes.{prepend_known}
 use Rattle.qo_causes.specs.Cause.{Rose}
 use Rattle.qo_causes.specs.declared.hubs.NextError.{NextError}
 use Rattle.qo_causes.specs.declared.hubs.NextError.TheVariants.{Failed as NextFailed, Bad, Memory}
-use Rattle.qo_causes.specs.declared.inputs.Input.{Input}
-use Rattle.qo_record.specs.Reading.{after_front}
-use Rattle.qo_record.specs.Record.{entry_at}
+use Rattle.qo_causes.specs.Names.{Names}
+use Rattle.qo_record.specs.Names.{header_of}
+use Rattle.qo_record.specs.Record.{entry_at, headed}
 use Rattle.qo_record.specs.Replays.{NoneHeld, ahead_of}
-use Rattle.qo_record.specs.Spelling.{header, opened_by}
+use Rattle.qo_record.specs.Spelling.{Recorded}
+use Rattle.qo_record.specs.Streams.{IsOfSixteen}
 use Rattle.qo_record.specs.declared.entries.First.{First}
 use Rattle.qo_record.specs.declared.readers.Front.{Front}
 use Rattle.qo_record.specs.declared.readers.Front.TheVariants.{Header, Other, Short}
+use Rattle.qo_record.specs.declared.versions.Version.{Version}
 use Rattle.qo_record.specs.declared.windows.TheConstants.{ROOM}
 
 -- the bytes of a window: those from one place to another
@@ -24,9 +26,13 @@ TakesAfter old new (Ok n) buffer end =
     (old ≡ prepend_known (between buffer end (end + n)) new) × (n ≡ 0 → end < length buffer → IfSome new (λ left. left ≡ []))
 TakesAfter old new (Err e) buffer end = new ≡ old
 
--- an entry at the front of some bytes, and the bytes after it
-abbrev pub first_entry : List ℕ → First → Input × List ℕ
-first_entry bytes f = (f.input, drop f.size bytes)
+-- an entry at the front of some bytes
+abbrev pub recorded : First → Recorded
+recorded f = record { input = f.input; session = f.session }
+
+-- with the bytes after it
+abbrev pub first_entry : List ℕ → First → Recorded × List ℕ
+first_entry bytes f = (recorded f, drop f.size bytes)
 
 -- a take gave so many bytes more, or there are none
 abbrev pub Filled : {E : Type 0} → List ℕ → List ℕ → Option (List ℕ) → Result ℕ E → Type 0
@@ -39,39 +45,39 @@ More old new left (Ok true) = length old < length new
 More old new left (Ok false) = (new ≡ old) × ((length new ≡ ROOM) ⊎ IfSome left (λ more. more ≡ []))
 More old new left (Err e) = new ≡ old
 
--- some bytes begin with the header
-abbrev pub BeginsWithHeader : List ℕ → Type 0
-BeginsWithHeader bytes = (more : List ℕ) × (bytes ≡ header ++ more)
+-- some bytes begin with the header of a version
+abbrev pub BeginsWithHeader : Version → List ℕ → Type 0
+BeginsWithHeader v bytes = (more : List ℕ) × (bytes ≡ header_of v ++ more)
 
 -- what the first bytes of a stream are
 abbrev pub HeaderIn : List ℕ → Front → Type 0
-HeaderIn bytes Header = BeginsWithHeader bytes
-HeaderIn bytes Other = (more : List ℕ) → after_front header (bytes ++ more) ≡ None
-HeaderIn bytes Short = (after_front header bytes ≡ None) × (length bytes ≤ 7)
+HeaderIn bytes (Header v) = BeginsWithHeader v bytes
+HeaderIn bytes Other = (more : List ℕ) → headed (bytes ++ more) ≡ None
+HeaderIn bytes Short = (headed bytes ≡ None) × (length bytes ≤ 7)
 
 -- the header stands at the front of what is held, or is not ahead
-abbrev pub HeaderFound : {E : Type 0} → List ℕ → Option (List ℕ) → Result Bool E → Type 0
-HeaderFound buffered left (Ok true) = BeginsWithHeader buffered
-HeaderFound buffered left (Ok false) = IfSome (ahead_of buffered left) (λ bytes. after_front header bytes ≡ None)
-HeaderFound buffered left (Err e) = after_front header buffered ≡ None
+abbrev pub HeaderFound : {E : Type 0} → List ℕ → Option (List ℕ) → Result (Option Version) E → Type 0
+HeaderFound buffered left (Ok (Some v)) = BeginsWithHeader v buffered
+HeaderFound buffered left (Ok None) = IfSome (ahead_of buffered left) (λ bytes. headed bytes ≡ None)
+HeaderFound buffered left (Err e) = headed buffered ≡ None
 
--- it is the first entry of some bytes, while these sessions are open
-pub record IsFirst (opened : List Bool) (bytes : List ℕ) (f : First) : Type 0 where
-  pub entry : entry_at opened bytes ≡ Some (first_entry bytes f)
-  pub opens : f.opened ≡ opened_by opened f.input.what
+-- it is the first entry of some bytes, while sessions of these names are open
+pub record IsFirst (v : Version) (names : Names) (bytes : List ℕ) (f : First) : Type 0 where
+  pub entry : entry_at v names bytes ≡ Some (first_entry bytes f)
+  pub number : IsOfSixteen f.input.what
   pub within : f.size ≤ length bytes
 
 -- no entry stands ahead; where nothing is held nothing is left
-abbrev pub NoEntry : List Bool → List ℕ → List ℕ → Type 0
-NoEntry opened buffered left = (entry_at opened (buffered ++ left) ≡ None) × (buffered ≡ [] → left ≡ [])
+abbrev pub NoEntry : Version → Names → List ℕ → List ℕ → Type 0
+NoEntry v names buffered left = (entry_at v names (buffered ++ left) ≡ None) × (buffered ≡ [] → left ≡ [])
 
 -- the first entry is held, or none stands ahead; where the source failed neither a whole entry nor a wrong one was held
-abbrev pub EntryFound : List Bool → List ℕ → Option (List ℕ) → Result (Option First) NextError → Type 0
-EntryFound opened buffered left (Ok (Some f)) = IsFirst opened buffered f
-EntryFound opened buffered left (Ok None) = IfSome left (NoEntry opened buffered)
-EntryFound opened buffered left (Err (Bad n)) = ⊥
-EntryFound opened buffered left (Err NextFailed) = NoneHeld opened buffered
-EntryFound opened buffered left (Err Memory) = Unit {0}
+abbrev pub EntryFound : Version → Names → List ℕ → Option (List ℕ) → Result (Option First) NextError → Type 0
+EntryFound v names buffered left (Ok (Some f)) = IsFirst v names buffered f
+EntryFound v names buffered left (Ok None) = IfSome left (NoEntry v names buffered)
+EntryFound v names buffered left (Err (Bad n)) = ⊥
+EntryFound v names buffered left (Err NextFailed) = NoneHeld v names buffered
+EntryFound v names buffered left (Err Memory) = Unit {0}
 
 -- the count of faults rose where the source failed, and is as before where it did not
 abbrev pub LookedFor : ℕ → ℕ → Result (Option First) NextError → Type 0

@@ -2,9 +2,11 @@
 
 ghost use Rattle.std.specs.Prelude.{◌≡◌, ◌<◌, ◌+◌, ◌%◌, ◌∷◌, [], ◌++◌, decimal, IfOk, OnOk};
 ghost use Rattle.qo_causes.specs.declared.inputs.What.TheVariants as What;
-ghost use Rattle.qo_record.specs.Demo.{at_second, demo_bytes, demo_start, demo_step, demo_what, drawn, next_number, plugging, unplugging, with_number};
-ghost use Rattle.qo_record.specs.Spelling.{entries_text, entry_text, header, moment_text, piece_text};
+ghost use Rattle.qo_record.specs.Demo.{at_second, demo_bytes, demo_start, demo_step, demo_what, drawn, next_number, numbered, numbered_all, plugging, unplugging, with_number};
+ghost use Rattle.qo_record.specs.Names.{header_of};
+ghost use Rattle.qo_record.specs.Spelling.{entries_text, entry_text, moment_text, piece_text};
 
+use crate::versions::{Version, header_of};
 use itoa::Buffer;
 use std::alloc::{AllocError, Global};
 
@@ -87,7 +89,7 @@ fn add_piece(stream: &mut Vec<u8>, piece: &[u8]) -> Result<(), AllocError>
 
 /// Adds the entry that opens session 0.
 fn add_opening(stream: &mut Vec<u8>, second: u64) -> Result<(), AllocError>
-    ensures { OnOk result (stream.new.items ≡ stream.old.items ++ entry_text (at_second second (What.Open 0))) }
+    ensures { OnOk result (stream.new.items ≡ stream.old.items ++ entry_text (numbered (at_second second (What.Open 0)))) }
 {
     add_start(stream, b"open ", second)?;
     stream.extend_from_slice(b"0\n")
@@ -95,7 +97,7 @@ fn add_opening(stream: &mut Vec<u8>, second: u64) -> Result<(), AllocError>
 
 /// Adds an entry of bytes of session 0.
 fn add_bytes(stream: &mut Vec<u8>, second: u64, piece: &[u8]) -> Result<(), AllocError>
-    ensures { OnOk result (stream.new.items ≡ stream.old.items ++ entry_text (at_second second (What.Bytes 0 piece.now))) }
+    ensures { OnOk result (stream.new.items ≡ stream.old.items ++ entry_text (numbered (at_second second (What.Bytes 0 piece.now)))) }
 {
     add_start(stream, b"bytes ", second)?;
     stream.extend_from_slice(b"0 ")?;
@@ -104,7 +106,7 @@ fn add_bytes(stream: &mut Vec<u8>, second: u64, piece: &[u8]) -> Result<(), Allo
 
 /// Adds an entry of the guest.
 fn add_guest(stream: &mut Vec<u8>, second: u64, piece: &[u8]) -> Result<(), AllocError>
-    ensures { OnOk result (stream.new.items ≡ stream.old.items ++ entry_text (at_second second (What.Guest piece.now))) }
+    ensures { OnOk result (stream.new.items ≡ stream.old.items ++ entry_text (numbered (at_second second (What.Guest piece.now)))) }
 {
     add_start(stream, b"guest ", second)?;
     add_piece(stream, piece)
@@ -112,7 +114,7 @@ fn add_guest(stream: &mut Vec<u8>, second: u64, piece: &[u8]) -> Result<(), Allo
 
 /// Adds an entry by which time goes on.
 fn add_time(stream: &mut Vec<u8>, second: u64, nanos: u64) -> Result<(), AllocError>
-    ensures { OnOk result (stream.new.items ≡ stream.old.items ++ entry_text (at_second second (What.Step nanos))) }
+    ensures { OnOk result (stream.new.items ≡ stream.old.items ++ entry_text (numbered (at_second second (What.Step nanos)))) }
 {
     add_start(stream, b"step ", second)?;
     add_number(stream, nanos)?;
@@ -128,7 +130,7 @@ fn add_plugging(
     driver: &[u8],
     number: u64,
 ) -> Result<(), AllocError>
-    ensures { OnOk result (stream.new.items ≡ stream.old.items ++ entry_text (at_second second (What.Bytes 0 (plugging driver.now number)))) }
+    ensures { OnOk result (stream.new.items ≡ stream.old.items ++ entry_text (numbered (at_second second (What.Bytes 0 (plugging driver.now number))))) }
 {
     let text = plugging(alloc, driver, number)?;
     add_bytes(stream, second, &text)
@@ -143,7 +145,7 @@ fn add_line(
     number: u64,
     after: &[u8],
 ) -> Result<(), AllocError>
-    ensures { OnOk result (stream.new.items ≡ stream.old.items ++ entry_text (at_second second (What.Guest (with_number before.now number after.now)))) }
+    ensures { OnOk result (stream.new.items ≡ stream.old.items ++ entry_text (numbered (at_second second (What.Guest (with_number before.now number after.now))))) }
 {
     let text = with_number(alloc, before, number, after)?;
     add_guest(stream, second, &text)
@@ -156,7 +158,7 @@ fn add_unplugging(
     second: u64,
     number: u64,
 ) -> Result<(), AllocError>
-    ensures { OnOk result (stream.new.items ≡ stream.old.items ++ entry_text (at_second second (What.Bytes 0 (unplugging number)))) }
+    ensures { OnOk result (stream.new.items ≡ stream.old.items ++ entry_text (numbered (at_second second (What.Bytes 0 (unplugging number))))) }
 {
     let before = b"{\"execute\":\"device_del\",\"arguments\":{\"id\":\"d";
     let text = with_number(alloc, before, number, b"\"}}\n")?;
@@ -172,7 +174,7 @@ fn add_entry(
     number: u64,
 ) -> Result<(), AllocError>
     requires { number < 8 }
-    ensures { OnOk result (stream.new.items ≡ stream.old.items ++ entry_text (at_second second (demo_what kind number))) }
+    ensures { OnOk result (stream.new.items ≡ stream.old.items ++ entry_text (numbered (at_second second (demo_what kind number)))) }
 {
     match kind {
         0 => add_plugging(alloc, stream, second, b"slot-uart", number),
@@ -199,7 +201,7 @@ fn add_step(
     second: u64,
     draws: &mut Draws,
 ) -> Result<(), AllocError>
-    ensures entry { OnOk result (stream.new.items ≡ stream.old.items ++ entry_text (demo_step draws.old.number second)) }
+    ensures entry { OnOk result (stream.new.items ≡ stream.old.items ++ entry_text (numbered (demo_step draws.old.number second))) }
     ensures draws { draws.new.number ≡ next_number (next_number draws.old.number) }
 {
     let kind = draws.below_eight();
@@ -209,9 +211,9 @@ fn add_step(
 
 /// The entries by which session 0 opens and negotiates, after the header.
 fn started(alloc: Global) -> Result<Vec<u8>, AllocError>
-    ensures { IfOk result (λ stream. stream.items ≡ header ++ entries_text demo_start) }
+    ensures { IfOk result (λ stream. stream.items ≡ header_of Version.One ++ entries_text (numbered_all demo_start)) }
 {
-    let mut stream = Vec::from_slice(alloc, b"qrec 1\n")?;
+    let mut stream = Vec::from_slice(alloc, header_of(Version::One))?;
     add_opening(&mut stream, 0)?;
     add_bytes(&mut stream, 0, b"{\"execute\":\"qmp_capabilities\"}\n")?;
     Ok(stream)
@@ -221,7 +223,7 @@ fn started(alloc: Global) -> Result<Vec<u8>, AllocError>
 ///
 /// Each step stands at a whole second, the first at 1, and takes two draws modulo 8: what it does, and a number. It
 /// plugs or unplugs a device, resets the machine, lets time go on, or is a line of the guest. The memory is that of the
-/// record.
+/// record, which is of the first version.
 pub fn demo_record(alloc: Global, seed: u64, steps: u32) -> Result<Vec<u8>, AllocError>
     ensures { IfOk result (λ stream. stream.items ≡ demo_bytes seed steps) }
 {

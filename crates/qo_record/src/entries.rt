@@ -2,11 +2,13 @@
 
 ghost use Rattle.std.specs.Prelude.{◌≡◌, ◌≤◌, codes, length, option_map, IfOk, IfSome};
 ghost use Rattle.qo_record.specs.Record.{bytes_at, entry_at, entry_of, guest_at, moment_after, open_at, shut_at, step_at};
-ghost use Rattle.qo_record.specs.Spelling.{FitsPiece, opened_by};
+ghost use Rattle.qo_record.specs.Spelling.{FitsPiece};
 ghost use Rattle.qo_record.specs.Windows.{first_entry};
-ghost use Rattle.qo_record.specs.Streams.{FitsSaid, entry_said, said_by, said_what};
+ghost use Rattle.qo_record.specs.Streams.{FitsSaid, IsOfSixteen, entry_said, said_by, saying, session_of};
 
-use crate::reading::{after_front, moment_at, number_until, piece_at, session_until};
+use crate::names::{Session, SessionName, SessionNames, opening_at, session_at};
+use crate::reading::{after_front, moment_at, number_until, piece_at};
+use crate::versions::Version;
 use qo_causes::{Chunk, Input, Moment, What};
 use std::alloc::{AllocError, Global};
 
@@ -17,11 +19,11 @@ const STEP_MAX: u64 = 9_223_372_036_854_775_807;
 #[derive(Clone, Copy)]
 enum Said<'a> {
     /// A session opens.
-    Opens(u8),
+    Opens(Session<'a>),
     /// Bytes of a session come.
-    Sends(u8, &'a [u8]),
+    Sends(Session<'a>, &'a [u8]),
     /// A session is shut.
-    Shuts(u8),
+    Shuts(Session<'a>),
     /// The guest writes.
     Writes(&'a [u8]),
     /// Time goes on.
@@ -36,54 +38,57 @@ struct Entry<'a> {
     rest: &'a [u8],
 }
 
-/// The first entry of some bytes as an input, the sessions that are open after it, and how many bytes it has.
+/// The first entry of some bytes as an input, with its session as it is spelled, and how many bytes it has.
 #[derive(Drop)]
 pub(crate) struct First {
     pub(crate) input: Input,
-    pub(crate) opened: [bool; 16],
+    pub(crate) session: SessionName,
     pub(crate) size: usize,
 }
 
-/// A session that opens, where it is not open.
-fn open_at<'a>(opened: &[bool; 16], bytes: &'a [u8]) -> Option<(Said<'a>, &'a [u8])>
-    ensures said { option_map said_what result ≡ open_at opened.now bytes.now }
+/// A session that opens.
+fn open_at<'a>(
+    version: Version,
+    names: &SessionNames,
+    bytes: &'a [u8],
+) -> Option<(Said<'a>, &'a [u8])>
+    ensures said { option_map saying result ≡ open_at version names.now bytes.now }
     ensures fits { IfSome result (λ x. FitsSaid x.0) }
 {
-    let (session, rest) = session_until(b'\n', bytes)?;
-    if opened[session as usize] {
-        return None;
-    }
+    let (session, rest) = opening_at(version, names, bytes)?;
     Some((Said::Opens(session), rest))
 }
 
-/// Bytes of a session, where it is open.
-fn bytes_at<'a>(opened: &[bool; 16], bytes: &'a [u8]) -> Option<(Said<'a>, &'a [u8])>
-    ensures said { option_map said_what result ≡ bytes_at opened.now bytes.now }
+/// Bytes of a session, which is open.
+fn bytes_at<'a>(
+    version: Version,
+    names: &SessionNames,
+    bytes: &'a [u8],
+) -> Option<(Said<'a>, &'a [u8])>
+    ensures said { option_map saying result ≡ bytes_at version names.now bytes.now }
     ensures fits { IfSome result (λ x. FitsSaid x.0) }
 {
-    let (session, rest) = session_until(b' ', bytes)?;
-    if !opened[session as usize] {
-        return None;
-    }
+    let (session, rest) = session_at(version, names, b' ', bytes)?;
     let (piece, rest) = piece_at(rest)?;
     Some((Said::Sends(session, piece), rest))
 }
 
-/// A session that is shut, where it is open.
-fn shut_at<'a>(opened: &[bool; 16], bytes: &'a [u8]) -> Option<(Said<'a>, &'a [u8])>
-    ensures said { option_map said_what result ≡ shut_at opened.now bytes.now }
+/// A session that is shut, and was open.
+fn shut_at<'a>(
+    version: Version,
+    names: &SessionNames,
+    bytes: &'a [u8],
+) -> Option<(Said<'a>, &'a [u8])>
+    ensures said { option_map saying result ≡ shut_at version names.now bytes.now }
     ensures fits { IfSome result (λ x. FitsSaid x.0) }
 {
-    let (session, rest) = session_until(b'\n', bytes)?;
-    if !opened[session as usize] {
-        return None;
-    }
+    let (session, rest) = session_at(version, names, b'\n', bytes)?;
     Some((Said::Shuts(session), rest))
 }
 
 /// What the guest writes.
 fn guest_at(bytes: &[u8]) -> Option<(Said<'_>, &[u8])>
-    ensures said { option_map said_what result ≡ guest_at bytes.now }
+    ensures said { option_map saying result ≡ guest_at bytes.now }
     ensures fits { IfSome result (λ x. FitsSaid x.0) }
 {
     let (piece, rest) = piece_at(bytes)?;
@@ -92,7 +97,7 @@ fn guest_at(bytes: &[u8]) -> Option<(Said<'_>, &[u8])>
 
 /// How far time goes on.
 fn step_at(bytes: &[u8]) -> Option<(Said<'_>, &[u8])>
-    ensures said { option_map said_what result ≡ step_at bytes.now }
+    ensures said { option_map saying result ≡ step_at bytes.now }
     ensures fits { IfSome result (λ x. FitsSaid x.0) }
 {
     let (nanos, rest) = number_until(b'\n', STEP_MAX, bytes)?;
@@ -111,32 +116,32 @@ pub(crate) fn moment_after<'a>(word: &[u8], bytes: &'a [u8]) -> Option<(Moment, 
 }
 
 /// An entry with the word `open`.
-fn open_entry<'a>(opened: &[bool; 16], bytes: &'a [u8]) -> Option<Entry<'a>>
-    ensures entry { option_map entry_said result ≡ entry_of (codes "open ") (open_at opened.now) bytes.now }
+fn open_entry<'a>(version: Version, names: &SessionNames, bytes: &'a [u8]) -> Option<Entry<'a>>
+    ensures entry { option_map entry_said result ≡ entry_of (codes "open ") (open_at version names.now) bytes.now }
     ensures fits { IfSome result (λ e. FitsSaid e.said) }
 {
     let (at, rest) = moment_after(b"open ", bytes)?;
-    let (said, rest) = open_at(opened, rest)?;
+    let (said, rest) = open_at(version, names, rest)?;
     Some(Entry { at, said, rest })
 }
 
 /// An entry with the word `bytes`.
-fn bytes_entry<'a>(opened: &[bool; 16], bytes: &'a [u8]) -> Option<Entry<'a>>
-    ensures entry { option_map entry_said result ≡ entry_of (codes "bytes ") (bytes_at opened.now) bytes.now }
+fn bytes_entry<'a>(version: Version, names: &SessionNames, bytes: &'a [u8]) -> Option<Entry<'a>>
+    ensures entry { option_map entry_said result ≡ entry_of (codes "bytes ") (bytes_at version names.now) bytes.now }
     ensures fits { IfSome result (λ e. FitsSaid e.said) }
 {
     let (at, rest) = moment_after(b"bytes ", bytes)?;
-    let (said, rest) = bytes_at(opened, rest)?;
+    let (said, rest) = bytes_at(version, names, rest)?;
     Some(Entry { at, said, rest })
 }
 
 /// An entry with the word `shut`.
-fn shut_entry<'a>(opened: &[bool; 16], bytes: &'a [u8]) -> Option<Entry<'a>>
-    ensures entry { option_map entry_said result ≡ entry_of (codes "shut ") (shut_at opened.now) bytes.now }
+fn shut_entry<'a>(version: Version, names: &SessionNames, bytes: &'a [u8]) -> Option<Entry<'a>>
+    ensures entry { option_map entry_said result ≡ entry_of (codes "shut ") (shut_at version names.now) bytes.now }
     ensures fits { IfSome result (λ e. FitsSaid e.said) }
 {
     let (at, rest) = moment_after(b"shut ", bytes)?;
-    let (said, rest) = shut_at(opened, rest)?;
+    let (said, rest) = shut_at(version, names, rest)?;
     Some(Entry { at, said, rest })
 }
 
@@ -162,17 +167,17 @@ fn step_entry(bytes: &[u8]) -> Option<Entry<'_>>
 
 /// The entry at the front of the bytes.
 #[tactic(auto, unfolding(crate::specs::Record::entry_at))]
-fn entry_at<'a>(opened: &[bool; 16], bytes: &'a [u8]) -> Option<Entry<'a>>
-    ensures entry { option_map entry_said result ≡ entry_at opened.now bytes.now }
+fn entry_at<'a>(version: Version, names: &SessionNames, bytes: &'a [u8]) -> Option<Entry<'a>>
+    ensures entry { option_map entry_said result ≡ entry_at version names.now bytes.now }
     ensures fits { IfSome result (λ e. FitsSaid e.said) }
 {
-    if let Some(entry) = open_entry(opened, bytes) {
+    if let Some(entry) = open_entry(version, names, bytes) {
         return Some(entry);
     }
-    if let Some(entry) = bytes_entry(opened, bytes) {
+    if let Some(entry) = bytes_entry(version, names, bytes) {
         return Some(entry);
     }
-    if let Some(entry) = shut_entry(opened, bytes) {
+    if let Some(entry) = shut_entry(version, names, bytes) {
         return Some(entry);
     }
     match guest_entry(bytes) {
@@ -181,18 +186,17 @@ fn entry_at<'a>(opened: &[bool; 16], bytes: &'a [u8]) -> Option<Entry<'a>>
     }
 }
 
-/// The sessions that are open after an entry.
-fn opened_by(opened: [bool; 16], said: Said) -> [bool; 16]
+/// The session of an entry as it is spelled; no bytes where it has none.
+fn session_of(said: Said) -> SessionName
     requires { FitsSaid said }
-    ensures { result ≡ opened_by opened (said_by said.entry) }
+    ensures { result ≡ session_of said.entry }
 {
-    let mut opened = opened;
     match said {
-        Said::Opens(session) => opened[session as usize] = true,
-        Said::Shuts(session) => opened[session as usize] = false,
-        Said::Sends(..) | Said::Writes(_) | Said::Steps(_) => {}
+        Said::Opens(session) | Said::Sends(session, _) | Said::Shuts(session) => {
+            SessionName::from_slice(session.name)
+        }
+        Said::Writes(_) | Said::Steps(_) => SessionName::empty(),
     }
-    opened
 }
 
 /// A piece of the stream as a chunk of its own.
@@ -209,9 +213,9 @@ fn what_of(alloc: Global, said: Said) -> Result<What, AllocError>
     ensures { IfOk result (λ what. what ≡ said_by said.entry) }
 {
     match said {
-        Said::Opens(session) => Ok(What::Open(session)),
-        Said::Sends(session, piece) => Ok(What::Bytes(session, chunk_of(alloc, piece)?)),
-        Said::Shuts(session) => Ok(What::Shut(session)),
+        Said::Opens(session) => Ok(What::Open(session.number)),
+        Said::Sends(session, piece) => Ok(What::Bytes(session.number, chunk_of(alloc, piece)?)),
+        Said::Shuts(session) => Ok(What::Shut(session.number)),
         Said::Writes(piece) => Ok(What::Guest(chunk_of(alloc, piece)?)),
         Said::Steps(nanos) => Ok(What::Step(nanos)),
     }
@@ -221,20 +225,21 @@ fn what_of(alloc: Global, said: Said) -> Result<What, AllocError>
 #[inline(always)]
 pub(crate) fn first_of(
     alloc: Global,
-    opened: &[bool; 16],
+    version: Version,
+    names: &SessionNames,
     bytes: &[u8],
 ) -> Result<Option<First>, AllocError>
-    ensures entry { IfOk result (λ found. option_map (first_entry bytes.now) found ≡ entry_at opened.now bytes.now) }
-    ensures opened { IfOk result (λ found. IfSome found (λ f. f.opened ≡ opened_by opened.now f.input.what)) }
+    ensures entry { IfOk result (λ found. option_map (first_entry bytes.now) found ≡ entry_at version names.now bytes.now) }
+    ensures number { IfOk result (λ found. IfSome found (λ f. IsOfSixteen f.input.what)) }
     ensures within { IfOk result (λ found. IfSome found (λ f. f.size ≤ length bytes.now)) }
 {
-    let Some(entry) = entry_at(opened, bytes) else {
+    let Some(entry) = entry_at(version, names, bytes) else {
         return Ok(None);
     };
     let what = what_of(alloc, entry.said)?;
     Ok(Some(First {
         input: Input { at: entry.at, what },
-        opened: opened_by(*opened, entry.said),
+        session: session_of(entry.said),
         size: bytes.len() - entry.rest.len(),
     }))
 }

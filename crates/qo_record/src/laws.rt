@@ -9,12 +9,13 @@ pub fn law_entries()
     ensures { EntriesAreSpelled }
 {}
 
-/// After a header the inputs of a stream are the longest list of whole entries, and the bad place is that of what is left.
+/// After a header of either version the entries of a stream are the longest list of whole ones, and the bad place is that
+/// of what is left.
 pub fn law_streams()
     ensures { StreamsAreLongest }
 {}
 
-/// Without a header a stream has no inputs, and its bad place is 0.
+/// Without a header a stream has no entries, and its bad place is 0.
 pub fn law_header()
     ensures { HeaderIsNeeded }
 {}

@@ -5,9 +5,11 @@ mod demos;
 mod entries;
 pub mod laws;
 mod lines;
+mod names;
 mod readers;
 mod reading;
 mod replay_hub;
+mod versions;
 mod waiting;
 mod windows;
 

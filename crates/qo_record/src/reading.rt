@@ -1,8 +1,8 @@
 //! Readers of parts of an entry. Each answers what was read and the bytes after it.
 
-ghost use Rattle.std.specs.Prelude.{◌≡◌, ◌≤◌, ◌-◌, ◌<◌, option_map, IfSome};
+ghost use Rattle.std.specs.Prelude.{◌≡◌, ◌==◌, ◌≤◌, ◌-◌, ◌<◌, option_map, position, IfSome};
 ghost use Rattle.std.specs.Option.{option_copied};
-ghost use Rattle.qo_record.specs.Reading.{after_front, with_digit, digits_until, number_until, digits_of};
+ghost use Rattle.qo_record.specs.Reading.{after_front, with_digit, digits_until, number_until, digits_of, word_until};
 ghost use Rattle.qo_record.specs.Record.{moment_at, piece_at, piece_of};
 ghost use Rattle.qo_record.specs.Spelling.{FitsPiece};
 
@@ -10,9 +10,6 @@ use qo_causes::Moment;
 
 /// The last second of a moment: 2^63 - 1.
 const LAST_SECOND: u64 = 9_223_372_036_854_775_807;
-
-/// The last number of a session.
-const LAST_SESSION: u64 = 15;
 
 /// The most bytes in one piece.
 pub(crate) const PIECE_MAX: u64 = 65_536;
@@ -22,6 +19,22 @@ pub(crate) fn after_front<'a>(front: &[u8], bytes: &'a [u8]) -> Option<&'a [u8]>
     ensures { option_copied result ≡ after_front front.now bytes.now }
 {
     bytes.strip_prefix(front)
+}
+
+/// Where the first byte that ends a word stands.
+fn place_of(stop: u8, bytes: &[u8]) -> Option<usize>
+    ensures { result ≡ position (λ byte. byte == stop) bytes.now }
+{
+    bytes.iter().position(|byte| *byte == stop)
+}
+
+/// The bytes before the first one that ends a word, and those after it.
+#[tactic(auto, using(crate::proofs::ReadingLemmas::no_place))]
+pub(crate) fn word_until(stop: u8, bytes: &[u8]) -> Option<(&[u8], &[u8])>
+    ensures { option_map (λ x. (x.0.now, x.1.now)) result ≡ word_until stop bytes.now }
+{
+    let at = place_of(stop, bytes)?;
+    Some((&bytes[..at], &bytes[at + 1..]))
 }
 
 /// The number with one more digit, where the byte is one and the number is not above the last.
@@ -86,15 +99,6 @@ pub(crate) fn moment_at(bytes: &[u8]) -> Option<(Moment, &[u8])>
     let (seconds, rest) = number_until(b'.', LAST_SECOND, bytes)?;
     let (micros, rest) = six_digits(rest)?;
     Some((Moment { seconds, micros }, after_front(b" ", rest)?))
-}
-
-/// A session's number, and the byte that ends it.
-pub(crate) fn session_until(stop: u8, bytes: &[u8]) -> Option<(u8, &[u8])>
-    ensures number { option_map (λ x. (x.0, x.1.now)) result ≡ number_until stop 15 bytes.now }
-    ensures bound { IfSome result (λ x. x.0 ≤ 15) }
-{
-    let (number, rest) = number_until(stop, LAST_SESSION, bytes)?;
-    Some((number as u8, rest))
 }
 
 /// So many bytes, and the line's end after them.

@@ -22,8 +22,9 @@ pub struct Unmade<S, K> {
 ///
 /// It gives the entries of the stream as inputs, in order, and then their end, or the bad place where bytes
 /// are left that are no entry. It takes bytes from the source only where it holds no whole entry, and holds fewer
-/// than `AHEAD_BYTES` of them. Each message goes into the sink at once, as a line: its lane, a space, and its bytes.
-/// No session is lost.
+/// than `AHEAD_BYTES` of them. Each message goes into the sink at once, as a line: its lane, a space, and its bytes. The
+/// lane of a session is the name that it has by the entries that were given, or its number where it is not open; in a
+/// stream of the first version a session's name is its number. No session is lost.
 ///
 /// Contracts see the source, the sink, and how far the stream was read.
 #[derive(Drop)]
@@ -81,6 +82,8 @@ impl<S: Source, K: Sink> ReplayHub<S, K> {
 impl<S: Source, K: Sink> Hub for ReplayHub<S, K> {
     ghost inputs = { λ h. inputs_ahead h.read (S.left h.source) };
 
+    ghost names = { λ h. h.read.names };
+
     ghost bad = { λ h. bad_ahead h.read (S.left h.source) };
 
     ghost got = { λ _ _. None };
@@ -114,7 +117,8 @@ impl<S: Source, K: Sink> Hub for ReplayHub<S, K> {
 
     /// Puts the transcript's line of the message into the sink, in one piece where there is memory for it.
     fn send(&mut self, lane: Lane, bytes: &[u8]) -> Result<(), SendError> {
-        match put_message(&mut self.sink, &mut self.line, lane, bytes) {
+        let names = self.reader.names();
+        match put_message(&mut self.sink, &mut self.line, names, lane, bytes) {
             Ok(()) => Ok(()),
             Err(Failed) => Err(SendError::Failed),
         }

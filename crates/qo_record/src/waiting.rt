@@ -1,23 +1,33 @@
 //! Which bytes may still become an entry when more come.
 
 ghost use Rattle.std.specs.Prelude.{◌≡◌, option_map};
-ghost use Rattle.qo_record.specs.PartialEntries.{are_to_come, has_line, is_wrong, promised_by_guest, promised_by_session};
+ghost use Rattle.qo_record.specs.PartialEntries.{are_to_come, has_line, is_wrong, line_most, promised_by_guest, promised_by_session};
 
 use crate::entries::moment_after;
-use crate::reading::{PIECE_MAX, number_until, session_until};
+use crate::names::{SessionNames, session_at};
+use crate::reading::{PIECE_MAX, number_until};
+use crate::versions::Version;
 
 /// The most bytes that the first line of an entry has, with its end.
-const LINE_MAX: usize = 52;
+fn line_most(version: Version) -> usize
+    ensures { result ≡ line_most version }
+{
+    match version {
+        Version::One => 52,
+        Version::Two => 72,
+    }
+}
 
 /// How many bytes the first line of an entry of a session promises, and the bytes after that line.
-fn promised_by_session<'a>(opened: &[bool; 16], bytes: &'a [u8]) -> Option<(u64, &'a [u8])>
-    ensures { option_map (λ x. (x.0, x.1.now)) result ≡ promised_by_session opened.now bytes.now }
+fn promised_by_session<'a>(
+    version: Version,
+    names: &SessionNames,
+    bytes: &'a [u8],
+) -> Option<(u64, &'a [u8])>
+    ensures { option_map (λ x. (x.0, x.1.now)) result ≡ promised_by_session version names.now bytes.now }
 {
     let (_, rest) = moment_after(b"bytes ", bytes)?;
-    let (session, rest) = session_until(b' ', rest)?;
-    if !opened[session as usize] {
-        return None;
-    }
+    let (_, rest) = session_at(version, names, b' ', rest)?;
     number_until(b'\n', PIECE_MAX, rest)
 }
 
@@ -49,11 +59,11 @@ fn has_line(bytes: &[u8]) -> bool
 /// Whether bytes at whose front no entry stands will have none, whatever follows them. It is told where their first line
 /// has ended, or is too long.
 #[tactic(auto, unfolding(crate::specs::PartialEntries::is_wrong))]
-pub(crate) fn is_wrong(opened: &[bool; 16], bytes: &[u8]) -> bool
-    ensures { result ≡ is_wrong opened.now bytes.now }
+pub(crate) fn is_wrong(version: Version, names: &SessionNames, bytes: &[u8]) -> bool
+    ensures { result ≡ is_wrong version names.now bytes.now }
 {
-    let ended = bytes.len() >= LINE_MAX || has_line(bytes);
-    let by_session = are_to_come(promised_by_session(opened, bytes));
+    let ended = bytes.len() >= line_most(version) || has_line(bytes);
+    let by_session = are_to_come(promised_by_session(version, names, bytes));
     let by_guest = are_to_come(promised_by_guest(bytes));
     ended && !(by_session || by_guest)
 }

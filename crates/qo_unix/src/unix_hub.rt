@@ -2,6 +2,7 @@
 ghost use Rattle.std.specs.Prelude.{◌≡◌, ◌≤◌, ◌<◌, ◌==◌, ℕ, false, None, Err, IfOk, IfSome, if◌then◌else◌, length};
 ghost use Rattle.qo_causes.specs.Cause.{HasCause, counted};
 ghost use Rattle.qo_causes.specs.Hub.{GoneOnly, Loses, is_gone};
+ghost use Rattle.qo_causes.specs.Names.{no_names};
 ghost use Rattle.qo_unix.specs.Counts.{after_begin, after_input, after_next, after_send, none_counted, with_loss, IsDue};
 ghost use Rattle.qo_unix.specs.Inputs.{IsOurs, NeverBad, OfOneSession};
 ghost use Rattle.qo_unix.specs.declared.unix_hub.TheConstants.{CHUNK_BYTES};
@@ -205,6 +206,8 @@ impl UnixHub {
 
 impl Hub for UnixHub {
     ghost inputs = { λ _. None };
+
+    ghost names = { λ _. no_names };
 
     ghost bad = { λ _. None };
 

@@ -48,6 +48,42 @@ fn the_opening_tree_is_listed(rt: HostRuntime) -> Result<(), Fail> {
     Ok(())
 }
 
+/// The greeting without its lane.
+const GREETED: &str =
+    " {\"QMP\":{\"capabilities\":[],\"version\":{\"package\":\"compose\",\"qemu\":{\"major\":1,\"micro\":0,\"minor\":0}}}}\r\n";
+
+#[test]
+fn a_named_session_is_greeted_by_its_name(rt: HostRuntime) -> Result<(), Fail> {
+    let left = replay(rt.alloc(), b"qrec 2\nopen 1.000000 ops\n")?;
+    let want = joined(rt.alloc(), &["ops", GREETED])?;
+    leaves(&rt, &left, Status::Done, want.as_bytes(), b"");
+    let left = replay(rt.alloc(), b"qrec 2\nopen 1.000000 g\n")?;
+    let told = b"compose: bad record at byte 7\n";
+    leaves(&rt, &left, Status::BadRecord, b"", told);
+    Ok(())
+}
+
+/// Two sessions open, the first is shut, a third takes its number, both negotiate, and the second stops the machine.
+const NAMED: &str =
+    "qrec 2\nopen 1.000000 a\nopen 1.000000 b\nshut 1.000000 a\nopen 1.000000 c\nbytes 1.000000 b 30\n{\"execute\":\"qmp_capabilities\"}\nbytes 1.000000 c 30\n{\"execute\":\"qmp_capabilities\"}\nbytes 1.000000 b 18\n{\"execute\":\"stop\"}\n";
+
+const STOPPED: &str = "{\"event\":\"STOP\",\"timestamp\":{\"microseconds\":0,\"seconds\":1}}\r\n";
+
+#[test]
+fn events_go_to_named_sessions_in_the_order_of_their_numbers(rt: HostRuntime) -> Result<(), Fail> {
+    let left = replay(rt.alloc(), NAMED.as_bytes())?;
+    let empty = "{\"return\":{}}\r\n";
+    let want = joined(
+        rt.alloc(),
+        &[
+            "a", GREETED, "b", GREETED, "c", GREETED, "b ", empty, "c ", empty, "c ", STOPPED,
+            "b ", STOPPED, "b ", empty,
+        ],
+    )?;
+    leaves(&rt, &left, Status::Done, want.as_bytes(), b"");
+    Ok(())
+}
+
 #[test]
 fn a_truncated_entry_is_the_bad_place(rt: HostRuntime) -> Result<(), Fail> {
     let record = joined(rt.alloc(), &[OPEN, "bytes 1.0"])?;

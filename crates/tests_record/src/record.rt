@@ -125,14 +125,17 @@ fn stop_so(rt: &impl Abort, alloc: Global, rows: &[Row]) -> Result<(), Fail> {
 }
 
 /// Streams with and without a whole header.
-const HEADERS: [Row; 7] = [
+const HEADERS: [Row; 10] = [
     (b"qrec 1\n", 0, None),
+    (b"qrec 2\n", 0, None),
     (b"", 0, Some(0)),
     (b"qrec 1", 0, Some(0)),
-    (b"qrec 2\n", 0, Some(0)),
+    (b"qrec 2", 0, Some(0)),
+    (b"qrec 3\n", 0, Some(0)),
     (b"qrec 1\r\n", 0, Some(0)),
     (b"open 1.000000 0\n", 0, Some(0)),
     (b"qrec 1\nqrec 1\n", 0, Some(7)),
+    (b"qrec 2\nqrec 2\n", 0, Some(7)),
 ];
 
 #[test]
@@ -219,6 +222,92 @@ fn sessions_open_and_shut_in_turn(rt: HostRuntime) -> Result<(), Fail> {
     stop_so(&rt, rt.alloc(), &SESSIONS)
 }
 
+/// Names of sessions, and such as are none.
+const NAMES: [Row; 12] = [
+    (b"qrec 2\nopen 1.000000 ops\n", 1, None),
+    (b"qrec 2\nopen 1.000000 g\n", 0, Some(7)),
+    (b"qrec 2\nopen 1.000000 gg\n", 1, None),
+    (b"qrec 2\nopen 1.000000 a-1-\n", 1, None),
+    (b"qrec 2\nopen 1.000000 0\n", 0, Some(7)),
+    (b"qrec 2\nopen 1.000000 1a\n", 0, Some(7)),
+    (b"qrec 2\nopen 1.000000 -a\n", 0, Some(7)),
+    (b"qrec 2\nopen 1.000000 opS\n", 0, Some(7)),
+    (b"qrec 2\nopen 1.000000 \n", 0, Some(7)),
+    (
+        b"qrec 2\nopen 1.000000 abcdefghijklmnopqrstuvwxyz012345\n",
+        1,
+        None,
+    ),
+    (
+        b"qrec 2\nopen 1.000000 abcdefghijklmnopqrstuvwxyz0123456\n",
+        0,
+        Some(7),
+    ),
+    (b"qrec 1\nopen 1.000000 ops\n", 0, Some(7)),
+];
+
+#[test]
+fn names_are_exact(rt: HostRuntime) -> Result<(), Fail> {
+    stop_so(&rt, rt.alloc(), &NAMES)
+}
+
+/// Named sessions that open, send and shut in turn, and out of turn.
+const NAMED: [Row; 6] = [
+    (b"qrec 2\nopen 0.000000 a\nopen 0.000000 a\n", 1, Some(23)),
+    (b"qrec 2\nopen 0.000000 a\nopen 0.000000 b\n", 2, None),
+    (b"qrec 2\nshut 0.000000 a\n", 0, Some(7)),
+    (
+        b"qrec 2\nopen 0.000000 a\nbytes 0.000000 b 1\na\n",
+        1,
+        Some(23),
+    ),
+    (
+        b"qrec 2\nopen 0.000000 a\nbytes 0.000000 a 1\na\nguest 0.000000 1\n\n\nstep 0.000000 1\n",
+        4,
+        None,
+    ),
+    (
+        b"qrec 2\nopen 0.000000 a\nshut 0.000000 a\nopen 0.000000 a\nshut 0.000000 a\nbytes 0.000000 a 1\na\n",
+        4,
+        Some(71),
+    ),
+];
+
+#[test]
+fn named_sessions_open_and_shut_in_turn(rt: HostRuntime) -> Result<(), Fail> {
+    stop_so(&rt, rt.alloc(), &NAMED)
+}
+
+/// Two sessions open, the first is shut, and a third takes its number.
+const THREE: &[u8] =
+    b"qrec 2\nopen 1.000000 a\nopen 1.000000 b\nshut 1.000000 a\nopen 1.000000 c\nbytes 1.000000 b 2\n{}\n";
+
+#[test]
+fn a_name_takes_the_least_free_number(rt: HostRuntime) -> Result<(), Fail> {
+    let mut hub = hub(rt.alloc(), THREE)?;
+    let texts = [
+        "1.000000 open 0",
+        "1.000000 open 1",
+        "1.000000 shut 0",
+        "1.000000 open 0",
+        "1.000000 bytes 1 [123, 125]",
+        "0.000000 end",
+    ];
+    gives(&rt, rt.alloc(), &mut hub, &texts)
+}
+
+#[test]
+fn sixteen_names_and_no_more(rt: HostRuntime) -> Result<(), Fail> {
+    let mut stream = b"qrec 2\n".to_vec(rt.alloc())?;
+    for letter in b"hijklmnopqrstuvwx" {
+        stream.extend_from_slice(b"open 1.000000 ")?;
+        stream.push(*letter)?;
+        stream.push(b'\n')?;
+    }
+    assert_eq!(rt; stop(rt.alloc(), &stream, 16)?, Some(263));
+    Ok(())
+}
+
 /// Adds an entry of the guest with so many bytes, whose number is spelled so.
 fn add_piece(bytes: &mut Vec<u8>, number: &[u8], len: usize) -> Result<(), Fail> {
     bytes.extend_from_slice(b"guest 0.000000 ")?;
@@ -268,6 +357,29 @@ fn messages_go_into_the_sink_as_lines(rt: HostRuntime) -> Result<(), Fail> {
     Ok(())
 }
 
+#[test]
+fn lines_have_the_names_of_their_time(rt: HostRuntime) -> Result<(), Fail> {
+    let mut hub = hub_over(rt.alloc(), source_of(rt.alloc(), THREE, &[])?)?;
+    gives(&rt, rt.alloc(), &mut hub, &["1.000000 open 0"])?;
+    assert_eq!(rt; hub.send(Lane::Session(0), b"1\r\n").err(), None);
+    assert_eq!(rt;
+        hub.send(Lane::Guest, b"2\n").err(),
+        Some(SendError::Failed)
+    );
+    let texts = ["1.000000 open 1", "1.000000 shut 0"];
+    gives(&rt, rt.alloc(), &mut hub, &texts)?;
+    assert_eq!(rt; hub.send(Lane::Session(1), b"3\r\n").err(), None);
+    assert_eq!(rt; hub.send(Lane::Session(0), b"4\r\n").err(), None);
+    gives(&rt, rt.alloc(), &mut hub, &["1.000000 open 0"])?;
+    assert_eq!(rt; hub.send(Lane::Session(0), b"5\r\n").err(), None);
+    assert_eq!(rt; hub.send(Lane::Guest, b"6\n").err(), None);
+    assert_eq!(rt;
+        hub.into_parts().1.held(),
+        b"a 1\r\nb 3\r\n0 4\r\nc 5\r\ng 6\n".as_slice()
+    );
+    Ok(())
+}
+
 /// A source that gives one byte a take.
 #[derive(Drop)]
 struct Drip {
@@ -293,6 +405,9 @@ fn entries_come_byte_by_byte(rt: HostRuntime) -> Result<(), Fail> {
     let inner = source_of(rt.alloc(), b"qrec 1\nopen 1.000000 0\nbytes 1.0", &[])?;
     let mut cut = hub_over(rt.alloc(), Drip { inner })?;
     assert_eq!(rt; stop_of(&mut cut, 1)?, Some(23));
+    let inner = source_of(rt.alloc(), THREE, &[])?;
+    let mut named = hub_over(rt.alloc(), Drip { inner })?;
+    assert_eq!(rt; stop_of(&mut named, 5)?, None);
     Ok(())
 }
 
