@@ -1,2 +1,7 @@
 pub mod TreeLemmas
 pub mod PartLemmas
+pub mod OptionLemmas
+pub mod WordLemmas
+pub mod WalkLemmas
+pub mod TreeTextLemmas
+pub mod BusTextLemmas

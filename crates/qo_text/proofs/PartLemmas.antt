@@ -1,14 +1,14 @@
 -- The parts of a text, cut at its first comma.
 use Rattle.std.proofs.Common.{◌≡◌, ◌≢◌, ◌==◌, ◌<◌, ◌||◌, ℕ, zero, suc, Bool, true, false, not, List, [], ◌∷◌, ◌++◌, length, take, get_or, refl, sym, ap, ◌∙◌, subst, arith, append_assoc, append-nil}
-use Rattle.std.specs.List.{after_first, before_first, list_any, position_or_len}
+use Rattle.std.specs.List.{after_first, before_first, position_or_len}
 use Rattle.std.proofs.lemmas.Bool.{or_parts, eqb-true}
 use Rattle.std.proofs.lemmas.List.{get_or-take, length-take-le}
 use Rattle.std.proofs.lemmas.List.Sums.{fails_before_first, passes_at_first, split_at_first}
 use Rattle.qo_text.specs.Joined.{first_with}
-use Rattle.qo_text.specs.Options.{before, parts}
+use Rattle.qo_text.specs.Options.{before, holds, parts}
 
 abbrev free : List ℕ → Bool
-free xs = list_any (λ (c : ℕ). c == 44) xs
+free xs = holds 44 xs
 
 some_parts : (xs : List ℕ) → (p : List ℕ) × (ps : List (List ℕ)) × (parts xs ≡ p ∷ ps)
 unfolding parts
@@ -64,12 +64,12 @@ alone (c ∷ []) h = let p = or_parts (c == 44) _ h in rw p.0 refl
 alone (c ∷ d ∷ xs) h = let p = or_parts (c == 44) _ h in rw p.0 (ap (before c) (alone (d ∷ xs) p.1))
 
 -- by the place of the first comma
-any_none : (xs : List ℕ) → ((k : ℕ) → k < length xs → (get_or xs k 0 == 44) ≡ false) → free xs ≡ false
-any_none [] h = refl
-any_none (x ∷ xs) h = rw (h 0 (omega arith)) (any_none xs (λ k lt. h (suc k) (omega (arith, lt))))
+any_none : (byte : ℕ) (xs : List ℕ) → ((k : ℕ) → k < length xs → (get_or xs k 0 == byte) ≡ false) → holds byte xs ≡ false
+any_none byte [] h = refl
+any_none byte (x ∷ xs) h = rw (h 0 (omega arith)) (any_none byte xs (λ k lt. h (suc k) (omega (arith, lt))))
 
-pub free_all : (xs : List ℕ) → position_or_len (λ (c : ℕ). c == 44) xs ≡ length xs → free xs ≡ false
-free_all xs e = any_none xs (λ k lt. fails_before_first (λ (c : ℕ). c == 44) xs k 0 (omega (arith, lt, e)))
+pub free_all : (byte : ℕ) (xs : List ℕ) → position_or_len (λ (c : ℕ). c == byte) xs ≡ length xs → holds byte xs ≡ false
+free_all byte xs e = any_none byte xs (λ k lt. fails_before_first (λ (c : ℕ). c == byte) xs k 0 (omega (arith, lt, e)))
 
 pub cut_first : (xs : List ℕ) → position_or_len (λ (c : ℕ). c == 44) xs < length xs
     → (free (before_first (λ (c : ℕ). c == 44) xs) ≡ false) × (xs ≡ before_first (λ (c : ℕ). c == 44) xs ++ 44 ∷ after_first (λ (c : ℕ). c == 44) xs)
@@ -78,7 +78,7 @@ cut_first xs h =
     let size : length (take at xs) ≡ at = length-take-le at xs (omega (arith, h)) in
     let comma : get_or xs at 0 ≡ 44 = eqb-true (get_or xs at 0) 44 (passes_at_first (λ (c : ℕ). c == 44) xs 0 h) in
     (
-      any_none (take at xs) (λ k lt. let low : k < at = omega (arith, lt, size) in subst (λ x. (x == 44) ≡ false) (sym (get_or-take at xs k 0 low)) (fails_before_first (λ (c : ℕ). c == 44) xs k 0 low)),
+      any_none 44 (take at xs) (λ k lt. let low : k < at = omega (arith, lt, size) in subst (λ x. (x == 44) ≡ false) (sym (get_or-take at xs k 0 low)) (fails_before_first (λ (c : ℕ). c == 44) xs k 0 low)),
       split_at_first (λ (c : ℕ). c == 44) xs 0 h ∙ ap (λ (x : ℕ). take at xs ++ (x ∷ after_first (λ (c : ℕ). c == 44) xs)) comma,
     )
 

@@ -1,6 +1,6 @@
 -- The text of a tree tells the tree.
 use Rattle.std.proofs.Common.{◌≡◌, ◌≢◌, ◌==◌, ◌||◌, ◌*◌, ◌≤◌, ℕ, zero, suc, Bool, true, false, List, [], ◌∷◌, ◌++◌, length, Option, Some, None, option_map, option_and_then, refl, sym, ap, ap₂, ◌∙◌, subst, arith, append_assoc, replicate}
-use Rattle.std.specs.List.{AllByRecursion, list_any, find, flat_map}
+use Rattle.std.specs.List.{AllByRecursion, list_any, find, flat_map, filter_map}
 use Rattle.qo_model.specs.Depth.{by_depth}
 use Rattle.qo_model.specs.Paths.{births}
 use Rattle.std.proofs.lemmas.List.{length-replicate}
@@ -10,10 +10,10 @@ use Rattle.std.proofs.lemmas.Bool.{or_parts, eq-eqb}
 use Rattle.qo_values.specs.Kinds.{type_name}
 use Rattle.qo_values.specs.declared.kinds.TypeId.{TypeId}
 use Rattle.qo_values.specs.declared.kinds.TypeId.TheVariants.{Object, Container, Machine, Device, SlotDevice, SlotUart, SlotTimer, SlotBridge, MemDimm, Bus, SlotBus, MemBus, Clock, MemoryBackend, MemoryBackendRam, Tag}
-use Rattle.qo_model.specs.Board.{Board, Record, Slot, alias, child, plain, strong, weak, slots_at}
+use Rattle.qo_model.specs.Board.{Board, Record, Slot, child, kind_of, slots_at}
 use Rattle.qo_model.specs.Types.{TypeInfo, type_named, types}
-use Rattle.qo_text.specs.Trees.{Row, below_turn, kind_text, row_text, rows_below, slot_rows, tree_rows, tree_text}
-use Rattle.qo_text.specs.TreeLaw.{HasOneWordNames, IsOneWord, NamesOneWord, TextsTellTrees}
+use Rattle.qo_text.specs.Trees.{Row, below_turn, child_entries, child_entry, kind_text, row_of, row_text, rows_below, tree_rows, tree_text}
+use Rattle.qo_text.specs.TreeLaw.{HasOneWordNames, IsOneWord, TextsTellTrees}
 
 differ : (c d : ℕ) → (c == d) ≡ false → c ≢ d
 differ c d apart same = let yes : (c == d) ≡ true = eq-eqb c d same in cc
@@ -140,36 +140,31 @@ same_rows (r ∷ rs) (s ∷ ss) hr hs e =
     ap₂ (λ (a : Row) (l : List Row). a ∷ l) p.0 (same_rows rs ss hr.1 hs.1 p.1)
 
 -- names of children
-words_in : (n : ℕ) (rs : List Record) → AllByRecursion (λ (r : Record). AllByRecursion NamesOneWord r.slots) rs
-    → AllByRecursion NamesOneWord (option_map_or (λ (r : Record). r.slots) (find (λ r. r.birth == n) rs) [])
+abbrev AreWords : List (List ℕ × ℕ) → Type 0
+AreWords es = AllByRecursion (λ (e : List ℕ × ℕ). IsOneWord e.0) es
+
+words_in : (n : ℕ) (rs : List Record) → AllByRecursion (λ (r : Record). AreWords (filter_map child_entry r.slots)) rs
+    → AreWords (filter_map child_entry (option_map_or (λ (r : Record). r.slots) (find (λ r. r.birth == n) rs) []))
 words_in n [] h = tt
-words_in n (r ∷ rs) h = go (words_in n rs h.1) (r.birth == n) refl
-  where
-    go : AllByRecursion NamesOneWord (option_map_or (λ (r : Record). r.slots) (find (λ r. r.birth == n) rs) []) → (t : Bool) → (r.birth == n) ≡ t
-        → AllByRecursion NamesOneWord (option_map_or (λ (r : Record). r.slots) (find (λ r. r.birth == n) (r ∷ rs)) [])
-    go rest true e = rw e h.0
-    go rest false e = rw e rest
+words_in n (r ∷ rs) h = go (words_in n rs h.1) (r.birth == n) refl where
+  go : AreWords (filter_map child_entry (option_map_or (λ (r : Record). r.slots) (find (λ r. r.birth == n) rs) [])) → (t : Bool) → (r.birth == n) ≡ t
+      → AreWords (filter_map child_entry (option_map_or (λ (r : Record). r.slots) (find (λ r. r.birth == n) (r ∷ rs)) []))
+  go rest true e = rw e h.0
+  go rest false e = rw e rest
 
 both : (rs ss : List Row) → AreOneWord rs → AreOneWord ss → AreOneWord (rs ++ ss)
 both [] ss hr hs = hs
 both (r ∷ rs) ss hr hs = (hr.0, both rs ss hr.1 hs)
 
-one_slot : (b : Board) (f : ℕ → ℕ → List Row) (depth : ℕ) (s : List ℕ × Slot) → ((n d : ℕ) → AreOneWord (f n d)) → NamesOneWord s
-    → AreOneWord (slot_rows b f depth s)
-one_slot b f depth (name, child m) hf h = (h, hf m (suc depth))
-one_slot b f depth (name, plain v) hf h = tt
-one_slot b f depth (name, strong t target) hf h = tt
-one_slot b f depth (name, weak t target) hf h = tt
-one_slot b f depth (name, alias n of) hf h = tt
-
-each_below : (b : Board) (f : ℕ → ℕ → List Row) (depth : ℕ) (slots : List (List ℕ × Slot)) → ((n d : ℕ) → AreOneWord (f n d))
-    → AllByRecursion NamesOneWord slots → AreOneWord (flat_map (slot_rows b f depth) slots)
+each_below : (b : Board) (f : ℕ → ℕ → List Row) (depth : ℕ) (es : List (List ℕ × ℕ)) → ((n d : ℕ) → AreOneWord (f n d)) → AreWords es
+    → AreOneWord (flat_map (λ (e : List ℕ × ℕ). row_of b (suc depth) e ∷ f e.1 (suc depth)) es)
 each_below b f depth [] hf h = tt
-each_below b f depth (s ∷ slots) hf h = both (slot_rows b f depth s) _ (one_slot b f depth s hf h.0) (each_below b f depth slots hf h.1)
+each_below b f depth (e ∷ es) hf h =
+    both (row_of b (suc depth) e ∷ f e.1 (suc depth)) _ (h.0, hf e.1 (suc depth)) (each_below b f depth es hf h.1)
 
-below_words : (b : Board) → HasOneWordNames b → (levels n depth : ℕ) → AreOneWord (by_depth (below_turn b) (λ _ _. []) levels n depth)
+below_words : (b : Board) → HasOneWordNames b → (steps n depth : ℕ) → AreOneWord (by_depth (below_turn b) (λ _ _. []) steps n depth)
 below_words b h zero n depth = tt
-below_words b h (suc levels) n depth = each_below b _ depth (slots_at b n) (below_words b h levels) (words_in n b.records h)
+below_words b h (suc steps) n depth = each_below b _ depth (child_entries b n) (below_words b h steps) (words_in n b.records h)
 
 rows_one_word : (b : Board) → HasOneWordNames b → AreOneWord (tree_rows b)
 unfolding rows_below

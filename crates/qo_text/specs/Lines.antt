@@ -1,5 +1,5 @@
 -- How a line of the text monitor is read (QEMU's hmp-commands.hx and hmp-commands-info.hx; which lines there are is the profile's).
-use Rattle.std.specs.Prelude.{ℕ, Bool, not, ◌&&◌, ◌||◌, if◌then◌else◌, List, [], ◌∷◌, length, take, drop, codes, Option, Some, None, option_map, option_and_then}
+use Rattle.std.specs.Prelude.{ℕ, Bool, not, ◌&&◌, ◌||◌, ◌==◌, if◌then◌else◌, List, [], ◌∷◌, length, take, drop, codes, Option, Some, None, option_map, option_and_then}
 use Rattle.std.specs.Str.{bytes_eq}
 use Rattle.qo_requests.specs.declared.calls.Addition.TheVariants as addition
 use Rattle.qo_requests.specs.declared.calls.Alteration.TheVariants as alteration
@@ -19,7 +19,7 @@ adding driver found = change.Add (addition.DeviceAdd driver (text_of (codes "id"
 
 -- the driver is not empty and holds no `=`
 abbrev pub is_driver : List ℕ → Bool
-is_driver driver = not (bytes_eq driver []) && not (holds 61 driver)
+is_driver driver = not (length driver == 0) && not (holds 61 driver)
 
 -- the first part is the driver, and each other one an option
 abbrev pub addition_of : List (List ℕ) → Option Line
@@ -33,7 +33,7 @@ addition_in args = if holds 32 args then None else addition_of (parts args)
 
 -- `device_del` of an id, which is one word
 abbrev pub deletion_in : List ℕ → Option Line
-deletion_in id = if bytes_eq id [] || holds 32 id then None else Some (Do (change.Alter (alteration.DeviceDel id)))
+deletion_in id = if length id == 0 || holds 32 id then None else Some (Do (change.Alter (alteration.DeviceDel id)))
 
 -- a line of a word with an argument
 abbrev pub argued : List ℕ → Option Line

@@ -1,5 +1,5 @@
 -- The options of a monitor line (QEMU's util/qemu-option.c; which values they have is the profile's).
-use Rattle.std.specs.Prelude.{ℕ, Bool, not, ◌&&◌, ◌==◌, if◌then◌else◌, List, [], ◌∷◌, map, filter, find, codes, Option, Some, None, option_map, option_and_then}
+use Rattle.std.specs.Prelude.{ℕ, Bool, not, ◌&&◌, ◌==◌, if◌then◌else◌, List, [], ◌∷◌, length, map, filter, find, codes, Option, Some, None, option_map, option_and_then}
 use Rattle.std.specs.Cmp.Lexicographic.{slice_cmp}
 use Rattle.std.specs.List.{after_first, before_first, list_any}
 use Rattle.std.specs.Ordering.{nat_cmp, is_le}
@@ -27,7 +27,7 @@ parts (c ∷ d ∷ rest) =
 
 -- a key is not empty, and is not `driver`
 abbrev pub is_key : List ℕ → Bool
-is_key key = not (bytes_eq key []) && not (bytes_eq key (codes "driver"))
+is_key key = not (length key == 0) && not (bytes_eq key (codes "driver"))
 
 -- the key of a part and its value, which follows the first `=`
 abbrev pub option_in : List ℕ → Option (List ℕ × List ℕ)

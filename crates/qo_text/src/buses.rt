@@ -1,13 +1,13 @@
 //! What `info qtree` tells (docs/PROFILE.md, lines of the monitor).
 
-ghost use Rattle.std.specs.Prelude.{◌≡◌, ◌+◌, ◌*◌, ◌≤◌, ◌^◌, ◌++◌, [], string_bytes, flat_map, slice_get, IfOk, OnOk};
+ghost use Rattle.std.specs.Prelude.{◌≡◌, ◌+◌, ◌*◌, ◌≤◌, ◌^◌, ◌++◌, [], string_bytes, slice_get, option_map, IfOk, IfSome, OnOk};
 ghost use Rattle.std.specs.Option.{option_and_then, option_map_or};
 ghost use Rattle.qo_heap.specs.Board.{Shows};
 ghost use Rattle.qo_heap.specs.Rows.{IsLive};
 ghost use Rattle.qo_model.specs.Board.{Board, slots_at};
 ghost use Rattle.qo_model.specs.Depth.{by_depth};
 ghost use Rattle.qo_model.specs.Devices.{strong_in};
-ghost use Rattle.qo_text.specs.Buses.{bus_text, bus_turn, buses_text, device_text, id_text, slot_bus_text};
+ghost use Rattle.qo_text.specs.Buses.{bus_entry, bus_text, bus_turn, buses_text, device_text, id_text};
 
 use crate::rows::{put_line, put_names};
 use crate::trees::kind_name;
@@ -28,6 +28,23 @@ fn id_of<'h, L: Ledger>(heap: &'h Heap, dev: Oid, steps: &mut Steps<L>) -> &'h s
     }
 }
 
+/// The bus in a slot of a device, under its name; `None` where no bus stands there, and past the last
+/// slot.
+fn bus_at<'h, L: Ledger>(
+    heap: &'h Heap,
+    dev: Oid,
+    at: usize,
+    steps: &mut Steps<L>,
+) -> Option<(&'h str, Oid)>
+    requires { IsLive heap.now.rows dev }
+    ensures bus { (b : Board) → Shows b heap.now → option_map (λ e. (e.0.now, e.1.birth)) result ≡ option_and_then (bus_entry b) (slice_get (slots_at b dev.birth) at) }
+    ensures live { IfSome result (λ e. IsLive heap.now.rows e.1) }
+{
+    let slot = heap.slot_at(dev, at, steps)?;
+    let bus = bus_in_slot(heap, dev, at, steps)?;
+    Some((slot.name, bus))
+}
+
 /// Puts the lines of the bus in a slot of a device, and of what is on it, to a text; nothing where no
 /// bus stands there.
 #[cycle(buses)]
@@ -42,15 +59,13 @@ fn put_bus_at<L: Ledger>(
 ) -> Result<(), AllocError>
     requires live { IsLive heap.now.rows dev }
     requires few { spaces + 4 * levels ≤ 2 ^ 32 }
-    ensures { OnOk result ((b : Board) → Shows b heap.now → string_bytes text.new ≡ string_bytes text.old ++ option_map_or (slot_bus_text b (by_depth (bus_turn b) (λ _ _ _. []) levels) spaces) (slice_get (slots_at b dev.birth) at) []) }
+    ensures { OnOk result ((b : Board) → Shows b heap.now → string_bytes text.new ≡ string_bytes text.old ++ option_map_or (λ e. by_depth (bus_turn b) (λ _ _ _. []) levels e.1 e.0 spaces) (option_and_then (bus_entry b) (slice_get (slots_at b dev.birth) at)) []) }
 {
-    let Some(slot) = heap.slot_at(dev, at, steps) else {
+    let Some((name, bus)) = bus_at(heap, dev, at, steps) else {
         return Ok(());
     };
-    let Some(bus) = bus_in_slot(heap, dev, at, steps) else {
-        return Ok(());
-    };
-    put_bus(heap, bus, slot.name, spaces, levels, text, steps)
+    put_bus(heap, bus, name, spaces, levels, text, steps)?;
+    Ok(())
 }
 
 /// Puts the lines of a device on a bus, and of its buses, to a text.
@@ -95,7 +110,8 @@ fn put_kid<L: Ledger>(
     let Some(kid) = kid_in_slot(heap, bus, at, steps) else {
         return Ok(());
     };
-    put_device(heap, kid, spaces, levels, text, steps)
+    put_device(heap, kid, spaces, levels, text, steps)?;
+    Ok(())
 }
 
 /// Puts the lines of a bus under a name, and of the devices on it, to a text, so many levels deep.
@@ -137,13 +153,13 @@ fn put_root<L: Ledger>(
     ensures { OnOk result ((b : Board) → Shows b heap.now → string_bytes text.new ≡ string_bytes text.old ++ bus_text b birth name.now 0) }
 {
     heap.reveal_invariant();
-    match heap.by_birth(birth) {
-        Some(bus) => put_bus(heap, bus, name, 0, heap.live() + 1, text, steps),
-        None => {
-            put_line(text, 0, "bus: ", name)?;
-            put_line(text, 2, "type ", "")
-        }
-    }
+    let Some(bus) = heap.by_birth(birth) else {
+        put_line(text, 0, "bus: ", name)?;
+        put_line(text, 2, "type ", "")?;
+        return Ok(());
+    };
+    put_bus(heap, bus, name, 0, heap.live() + 1, text, steps)?;
+    Ok(())
 }
 
 /// The text of `info qtree`: each bus with the devices on it, and below these their buses. The error is

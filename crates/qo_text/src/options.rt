@@ -1,7 +1,9 @@
 //! The options of a line: parts joined by commas, each a key and a value (QEMU's util/qemu-option.c).
 //! The error of each call is want of memory.
 
-ghost use Rattle.std.specs.Prelude.{◌≡◌, ◌≤◌, [], map, length, position, true, IfOk, OnOk, Some, None, option_map, unwrap_or, if◌then◌else◌, ◌∷◌, ◌++◌};
+ghost use Rattle.std.specs.Prelude.{◌≡◌, [], find, position, slice_get, true, false, IfOk, OnOk, Some, None, option_map, if◌then◌else◌, ◌∷◌, ◌++◌};
+ghost use Rattle.std.specs.List.{position_or_len};
+ghost use Rattle.std.specs.Option.{option_map_or};
 ghost use Rattle.std.specs.Str.{bytes_eq};
 ghost use Rattle.qo_values.specs.PropertyLists.{NamesRise, is_above, names_of};
 ghost use Rattle.qo_text.specs.Joined.{keys_of};
@@ -59,13 +61,30 @@ fn option_in(alloc: Global, part: &str) -> Result<Option<(Text, Text)>, AllocErr
     Ok(Some((key, value)))
 }
 
+/// The place of the first option whose key is no earlier in byte order.
+fn first_upto(found: &[(Text, Text)], key: &str) -> Option<usize>
+    ensures { result ≡ position (is_upto key.now) found.now }
+{
+    found.iter().position(|option| key <= option.0.as_str())
+}
+
 /// Where a key goes among options in byte order: before the first whose key is no earlier.
 fn place_of(found: &[(Text, Text)], key: &str) -> usize
-    ensures { result ≡ unwrap_or (position (is_upto key.now) found.now) (length found.now) }
+    ensures { result ≡ position_or_len (is_upto key.now) found.now }
 {
-    match found.iter().position(|option| key <= option.0.as_str()) {
+    match first_upto(found, key) {
         Some(place) => place,
         None => found.len(),
+    }
+}
+
+/// Whether the option at a place has a key.
+fn is_at(found: &[(Text, Text)], place: usize, key: &str) -> bool
+    ensures { result ≡ option_map_or (λ p. bytes_eq key.now p.0) (slice_get found.now place) false }
+{
+    match found.get(place) {
+        Some(other) => key == other.0.as_str(),
+        None => false,
     }
 }
 
@@ -74,10 +93,8 @@ fn put_new(found: &mut Vec<(Text, Text)>, key: Text, value: Text) -> Result<bool
     ensures { IfOk result (λ is_new. put_new key value found.old.items ≡ (if is_new then Some found.new.items else None)) }
 {
     let place = place_of(found.as_slice(), key.as_str());
-    if let Some(other) = found.get(place) {
-        if key.as_str() == other.0.as_str() {
-            return Ok(false);
-        }
+    if is_at(found.as_slice(), place, key.as_str()) {
+        return Ok(false);
     }
     found.insert(place, (key, value))?;
     Ok(true)
@@ -103,6 +120,13 @@ pub(crate) fn options(
     Ok(Some(found))
 }
 
+/// The option of a key.
+fn option_named<'a>(key: &str, found: &'a [(Text, Text)]) -> Option<&'a (Text, Text)>
+    ensures { option_map (λ p. p.now) result ≡ find (λ p. bytes_eq p.0 key.now) found.now }
+{
+    found.iter().find(|option| option.0.as_str() == key)
+}
+
 /// The value of the option of a key, as a text.
 pub(crate) fn text_of(
     alloc: Global,
@@ -111,7 +135,7 @@ pub(crate) fn text_of(
 ) -> Result<Option<Text>, AllocError>
     ensures { IfOk result (λ text. text ≡ text_of key.now found.now) }
 {
-    match found.iter().find(|option| option.0.as_str() == key) {
+    match option_named(key, found) {
         Some(option) => {
             let text = String::from_str(alloc, option.1.as_str())?;
             Ok(Some(Text::from_string(text)))

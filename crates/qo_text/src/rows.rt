@@ -9,7 +9,7 @@ use std::alloc::AllocError;
 fn put_spaces(text: &mut String, spaces: usize) -> Result<(), AllocError>
     ensures { OnOk result (string_bytes text.new ≡ string_bytes text.old ++ replicate spaces 32) }
 {
-    for _ in 0..spaces {
+    for _space in 0..spaces {
         text.push(' ')?;
     }
     Ok(())
@@ -27,7 +27,8 @@ pub(crate) fn put_line(
     put_spaces(text, spaces)?;
     text.push_str(word)?;
     text.push_str(name)?;
-    text.push_str("\n")
+    text.push_str("\n")?;
+    Ok(())
 }
 
 /// Puts two names to a text, so many spaces in, with what stands before, between and behind them.
@@ -47,5 +48,6 @@ pub(crate) fn put_names(
     text.push_str(first)?;
     text.push_str(between)?;
     text.push_str(second)?;
-    text.push_str(back)
+    text.push_str(back)?;
+    Ok(())
 }

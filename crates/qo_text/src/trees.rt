@@ -1,12 +1,12 @@
 //! What `info qom-tree` tells (docs/PROFILE.md, lines of the monitor).
 
-ghost use Rattle.std.specs.Prelude.{◌≡◌, ◌+◌, ◌*◌, ◌≤◌, ◌^◌, ◌++◌, [], string_bytes, flat_map, slice_get, IfOk, OnOk};
-ghost use Rattle.std.specs.Option.{option_map_or};
+ghost use Rattle.std.specs.Prelude.{◌≡◌, ◌+◌, ◌-◌, ◌*◌, ◌≤◌, ◌^◌, ◌++◌, [], string_bytes, flat_map, slice_get, option_map, IfOk, IfSome, OnOk};
+ghost use Rattle.std.specs.Option.{option_and_then, option_map_or};
 ghost use Rattle.qo_heap.specs.Board.{Shows};
 ghost use Rattle.qo_heap.specs.Rows.{IsLive};
 ghost use Rattle.qo_model.specs.Board.{Board, kind_of, slots_at};
 ghost use Rattle.qo_model.specs.Depth.{by_depth};
-ghost use Rattle.qo_text.specs.Trees.{below_turn, kind_text, row_of, row_text, slot_rows, tree_text};
+ghost use Rattle.qo_text.specs.Trees.{below_turn, child_entry, child_rows, kind_text, row_of, row_text, tree_text};
 
 use crate::rows::put_names;
 use qo_heap::{Heap, Oid, Slot, Steps};
@@ -33,10 +33,31 @@ fn put_row<L: Ledger>(
 ) -> Result<(), AllocError>
     requires live { IsLive heap.now.rows o }
     requires few { depth ≤ 2 ^ 32 }
-    ensures { OnOk result ((b : Board) → Shows b heap.now → string_bytes text.new ≡ string_bytes text.old ++ row_text (row_of b depth name.now o.birth)) }
+    ensures { OnOk result ((b : Board) → Shows b heap.now → string_bytes text.new ≡ string_bytes text.old ++ row_text (row_of b depth (name.now, o.birth))) }
 {
     let kind = kind_name(heap, o, steps);
-    put_names(text, 2 * depth, "/", name, " (", kind, ")\n")
+    put_names(text, 2 * depth, "/", name, " (", kind, ")\n")?;
+    Ok(())
+}
+
+/// The child in a slot of an object, under its name; `None` where no child stands there, and past the
+/// last slot.
+fn child_at<'h, L: Ledger>(
+    heap: &'h Heap,
+    o: Oid,
+    at: usize,
+    steps: &mut Steps<L>,
+) -> Option<(&'h str, Oid)>
+    requires { IsLive heap.now.rows o }
+    ensures child { (b : Board) → Shows b heap.now → option_map (λ e. (e.0.now, e.1.birth)) result ≡ option_and_then child_entry (slice_get (slots_at b o.birth) at) }
+    ensures live { IfSome result (λ e. IsLive heap.now.rows e.1) }
+{
+    heap.reveal_invariant();
+    let slot = heap.slot_at(o, at, steps)?;
+    match slot.what {
+        Slot::Child(child) => Some((slot.name, *child)),
+        _ => None,
+    }
 }
 
 /// Puts the lines of the child in a slot of an object, and of what is below it, to a text; nothing where
@@ -53,18 +74,14 @@ fn put_child<L: Ledger>(
 ) -> Result<(), AllocError>
     requires live { IsLive heap.now.rows o }
     requires few { depth + levels ≤ 2 ^ 32 - 1 }
-    ensures { OnOk result ((b : Board) → Shows b heap.now → string_bytes text.new ≡ string_bytes text.old ++ flat_map row_text (option_map_or (slot_rows b (by_depth (below_turn b) (λ _ _. []) levels) depth) (slice_get (slots_at b o.birth) at) [])) }
+    ensures { OnOk result ((b : Board) → Shows b heap.now → string_bytes text.new ≡ string_bytes text.old ++ option_map_or (λ e. flat_map row_text (child_rows b (by_depth (below_turn b) (λ _ _. []) levels) depth e)) (option_and_then child_entry (slice_get (slots_at b o.birth) at)) []) }
 {
-    heap.reveal_invariant();
-    let Some(slot) = heap.slot_at(o, at, steps) else {
+    let Some((name, child)) = child_at(heap, o, at, steps) else {
         return Ok(());
     };
-    let Slot::Child(child) = slot.what else {
-        return Ok(());
-    };
-    let child = *child;
-    put_row(heap, slot.name, child, depth + 1, text, steps)?;
-    put_below(heap, child, depth + 1, levels, text, steps)
+    put_row(heap, name, child, depth + 1, text, steps)?;
+    put_below(heap, child, depth + 1, levels, text, steps)?;
+    Ok(())
 }
 
 /// Puts the lines of what is below an object to a text, so many levels deep.

@@ -1,6 +1,5 @@
-use Rattle.std.proofs.Common.{rules, ◌≡◌, ◌++◌, ◌∷◌, [], map, string_bytes, Some, None, refl, sym, ap, ◌∙◌, subst, arith, append_assoc}
+use Rattle.std.proofs.Common.{rules, ◌≡◌, ◌++◌, ◌∷◌, [], ℕ, List, string_bytes, Some, None, refl, sym, ap, ◌∙◌, arith, append_assoc}
 use Rattle.std.proofs.lemmas.Str.{encode_ascii}
-use Rattle.std.proofs.lemmas.List.{map-append}
 use Rattle.std.proofs.lemmas.Str.Pattern.{split_once_first, strip_prefix_char}
 use Rattle.qo_text.specs.Joined.{first_with}
 use Rattle.qo_text.specs.Options.{parts}
@@ -23,7 +22,7 @@ loop-front-preserved-in-Some-strip_prefix c =
             ap (λ l. first_with l (parts c.in-Some-strip_prefix.more.now)) spared
             ∙ sym (two (string_bytes c.loop-front.part) c.in-Some.front.now c.in-Some-strip_prefix.more.now (rw first.1 cut.0))
             ∙ ap (λ l. first_with (string_bytes c.loop-front.part) (parts l)) (sym whole) in
-    (search rules, ap (λ l. map string_bytes c.loop-front.found.items ++ l) turn ∙ c.loop-front.invariant.1)
+    (search rules, ap (λ (l : List (List ℕ)). c.loop-front.found.items ++ l) turn ∙ c.loop-front.invariant.1)
 
 pub loop-front-preserved : goal.loop-front-preserved
 loop-front-preserved c =
@@ -31,27 +30,29 @@ loop-front-preserved c =
     let cut = cut_first c.loop-front.rest.now first.0 in
     let strip = strip_prefix_char 44 c.in-Some.after.now None c.in_default-strip_prefix.ensures.cases (omega arith) in
     let whole : c.loop-front.rest.now ≡ c.in-Some.front.now ++ 44 ∷ c.in-Some.after.now = cut.1 ∙ rw (← first.1, ← first.2) refl in
-    let spared : string_bytes c.replace.result ≡ string_bytes c.loop-front.part ++ c.in-Some.front.now = ap string_bytes c.replace.ensures.value ∙ c.in_ok-push_str.ensures.bytes in
-    let empty : string_bytes c.replace.new.dest ≡ [] = ap string_bytes c.replace.ensures.after ∙ c.new.ensures.bytes in
+    let spared : c.from_string.result ≡ string_bytes c.loop-front.part ++ c.in-Some.front.now =
+    c.from_string.ensures ∙ ap string_bytes c.replace-whole.ensures.value ∙ c.in_ok-push_str.ensures.bytes in
+    let empty : string_bytes c.replace-whole.new.dest ≡ [] = ap string_bytes c.replace-whole.ensures.after ∙ c.new.ensures.bytes in
     let turn : (string_bytes c.loop-front.part ++ c.in-Some.front.now) ∷ parts c.in-Some.after.now ≡ first_with (string_bytes c.loop-front.part) (parts c.loop-front.rest.now) =
             sym (one (string_bytes c.loop-front.part) c.in-Some.front.now c.in-Some.after.now (rw first.1 cut.0) strip)
             ∙ ap (λ l. first_with (string_bytes c.loop-front.part) (parts l)) (sym whole) in
+    let done : List (List ℕ) = c.loop-front.found.items in
+    let text : List ℕ = c.from_string.result in
     (
       search rules,
-      ap (λ l. map string_bytes l ++ first_with (string_bytes c.replace.new.dest) (parts c.in-Some.after.now)) c.in_ok-push-2.ensures.items
-      ∙ ap (λ l. map string_bytes (c.loop-front.found.items ++ c.replace.result ∷ []) ++ first_with l (parts c.in-Some.after.now)) empty
-      ∙ ap (λ l. map string_bytes (c.loop-front.found.items ++ c.replace.result ∷ []) ++ l) (begun c.in-Some.after.now)
-      ∙ ap (λ l. l ++ parts c.in-Some.after.now) (map-append string_bytes c.loop-front.found.items (c.replace.result ∷ []))
-      ∙ append_assoc (map string_bytes c.loop-front.found.items) (string_bytes c.replace.result ∷ []) (parts c.in-Some.after.now)
-      ∙ ap (λ l. map string_bytes c.loop-front.found.items ++ l ∷ parts c.in-Some.after.now) spared
-      ∙ ap (λ l. map string_bytes c.loop-front.found.items ++ l) turn ∙ c.loop-front.invariant.1,
+      ap (λ (l : List (List ℕ)). l ++ first_with (string_bytes c.replace-whole.new.dest) (parts c.in-Some.after.now)) c.in_ok-push-2.ensures.items
+      ∙ ap (λ l. (done ++ text ∷ []) ++ first_with l (parts c.in-Some.after.now)) empty
+      ∙ ap (λ (l : List (List ℕ)). (done ++ text ∷ []) ++ l) (begun c.in-Some.after.now)
+      ∙ append_assoc done (text ∷ []) (parts c.in-Some.after.now)
+      ∙ ap (λ (l : List ℕ). done ++ l ∷ parts c.in-Some.after.now) spared
+      ∙ ap (λ (l : List (List ℕ)). done ++ l) turn ∙ c.loop-front.invariant.1,
     )
 
 pub returns : goal.returns
 returns c =
     let none = split_once_first 44 c.loop-front.rest.now None c.in_default.ensures.cases (omega arith) in
-    let spared : string_bytes c.push_str-2.new.self ≡ string_bytes c.loop-front.part ++ c.loop-front.rest.now = c.in_ok-push_str-2.ensures.bytes in
-    ap (map string_bytes) c.in_ok-push-3.ensures.items ∙ map-append string_bytes c.loop-front.found.items (c.push_str-2.new.self ∷ [])
-    ∙ ap (λ l. map string_bytes c.loop-front.found.items ++ l ∷ []) spared
-    ∙ ap (λ l. map string_bytes c.loop-front.found.items ++ l) (sym (last (string_bytes c.loop-front.part) c.loop-front.rest.now (free_all c.loop-front.rest.now none)))
+    let done : List (List ℕ) = c.loop-front.found.items in
+    let spared : c.from_string-2.result ≡ string_bytes c.loop-front.part ++ c.loop-front.rest.now = c.from_string-2.ensures ∙ c.in_ok-push_str-2.ensures.bytes in
+    c.in_ok-push-3.ensures.items ∙ ap (λ (l : List ℕ). done ++ l ∷ []) spared
+    ∙ ap (λ (l : List (List ℕ)). done ++ l) (sym (last (string_bytes c.loop-front.part) c.loop-front.rest.now (free_all 44 c.loop-front.rest.now none)))
     ∙ c.loop-front.invariant.1
