@@ -11,7 +11,7 @@ use Rattle.qo_heap.specs.Objects.{Objects, content_of}
 use Rattle.qo_heap.proofs.BoardReads.{shows-record, shows-size}
 use Rattle.qo_model.specs.Board.{Board, Record, Slot, kind_of, record_of, slots_at}
 use Rattle.qo_model.specs.Depth.{by_depth}
-use Rattle.qo_model.specs.Devices.{bus_in, kids_of}
+use Rattle.qo_model.specs.Devices.{bus_in, kids_of, strong_in}
 use Rattle.qo_model.specs.Paths.{births}
 use Rattle.qo_model.proofs.DepthLemmas.{one-less}
 use Rattle.qo_text.specs.Trees.{kind_text}
@@ -45,6 +45,13 @@ entry-is b o name what bus is read =
     let here : bus ≡ bus_in b (name, what) = read ∙ ap (option_and_then (bus_in b)) is in
     ap (option_map (λ (m : ℕ). (name, m))) here ∙ sym (ap (option_and_then (bus_entry b)) is)
 
+quoted : (kind id : List ℕ) → kind ++ (codes ", id \"" ++ (id ++ codes "\"\n")) ≡ (kind ++ (codes ", id \"" ++ (id ++ codes "\""))) ++ 10 ∷ []
+quoted kind id =
+    sym (
+      append_assoc kind (codes ", id \"" ++ (id ++ codes "\"")) (10 ∷ [])
+      ∙ ap (λ (l : List ℕ). kind ++ (codes ", id \"" ++ l)) (append_assoc id (codes "\"") (10 ∷ []))
+    )
+
 -- the line of a device
 pub device-put : (b : Board) (spaces n : ℕ) (kind id text next : List ℕ) → kind ≡ kind_text (kind_of b n) → id ≡ id_text b n
     → next ≡ text ++ (replicate (spaces + 2) 32 ++ (codes "dev: " ++ (kind ++ (codes ", id \"" ++ (id ++ codes "\"\n")))))
@@ -52,7 +59,7 @@ pub device-put : (b : Board) (spaces n : ℕ) (kind id text next : List ℕ) →
 device-put b spaces n kind id text next k i so =
     so ∙ ap (λ (l : List ℕ). text ++ (replicate (spaces + 2) 32 ++ (codes "dev: " ++ (l ++ (codes ", id \"" ++ (id ++ codes "\"\n")))))) k
     ∙ ap (λ (l : List ℕ). text ++ (replicate (spaces + 2) 32 ++ (codes "dev: " ++ (kind_text (kind_of b n) ++ (codes ", id \"" ++ (l ++ codes "\"\n")))))) i
-    ∙ simp append_assoc
+    ∙ ap (λ (l : List ℕ). text ++ (replicate (spaces + 2) 32 ++ (codes "dev: " ++ l))) (quoted (kind_text (kind_of b n)) (id_text b n))
 
 -- the lines of a bus
 pub bus-put : (b : Board) (spaces m : ℕ) (name kind text one two : List ℕ) → kind ≡ kind_text (kind_of b m)
@@ -86,7 +93,7 @@ unfolding bus_text
 root-gone b v s m name text one two gone first then =
     let slots : slots_at b m ≡ [] = slots-gone b v s m gone in
     let kind : kind_of b m ≡ None = kind-gone b v s m gone in
-    let kids : kids_of b m ≡ [] = ap (λ (l : List (List ℕ × Slot)). filter_map _ l) slots in
+    let kids : kids_of b m ≡ [] = ap (λ (l : List (List ℕ × Slot)). filter_map (λ (s : List ℕ × Slot). strong_in s.1) l) slots in
     then ∙ ap (λ (l : List ℕ). l ++ line_in 2 (codes "type ")) first ∙ append_assoc text (line_in 0 (codes "bus: " ++ name)) (line_in 2 (codes "type "))
     ∙ ap (λ (l : List ℕ). text ++ l) (sym (rw (kind, kids) (append-nil _)))
 

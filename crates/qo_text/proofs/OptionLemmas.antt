@@ -150,18 +150,20 @@ put-rises key value (p ∷ ps) qs put rises =
         let is : p ∷ rs ≡ qs = cc in
         subst (λ (l : List Pair). NamesRise (keys_of l)) is (after-put p.0 key value ps rs g (turned key p.0 e) rises.0, rest rs g)
 
+abbrev Rest : List (List ℕ) → List Pair → Type 0
+Rest others qs = (rs : List Pair) → options others rs ≡ Some qs → NamesRise (keys_of rs) → NamesRise (keys_of qs)
+
 pub options-rise : (parts : List (List ℕ)) (ps qs : List Pair) → options parts ps ≡ Some qs → NamesRise (keys_of ps) → NamesRise (keys_of qs)
 options-rise [] ps qs is rises = let same : ps ≡ qs = cc in subst (λ (l : List Pair). NamesRise (keys_of l)) same rises
 options-rise (part ∷ others) ps qs is rises = go (option_in part) (λ rs so up. options-rise others rs qs so up) is
   where
-    abbrev Rest : Type 0
-    Rest = (rs : List Pair) → options others rs ≡ Some qs → NamesRise (keys_of rs) → NamesRise (keys_of qs)
-
-    more : (p : Pair) (o : Option (List Pair)) → put_new p.0 p.1 ps ≡ o → Rest → option_and_then (options others) o ≡ Some qs → NamesRise (keys_of qs)
+    more : (p : Pair) (o : Option (List Pair)) → put_new p.0 p.1 ps ≡ o → Rest others qs → option_and_then (options others) o ≡ Some qs
+        → NamesRise (keys_of qs)
     more p None e rest is = cc
     more p (Some rs) e rest is = rest rs is (put-rises p.0 p.1 ps rs e rises)
 
-    go : (o : Option Pair) → Rest → option_and_then (λ (p : Pair). option_and_then (options others) (put_new p.0 p.1 ps)) o ≡ Some qs → NamesRise (keys_of qs)
+    go : (o : Option Pair) → Rest others qs → option_and_then (λ (p : Pair). option_and_then (options others) (put_new p.0 p.1 ps)) o ≡ Some qs
+        → NamesRise (keys_of qs)
     go None rest is = cc
     go (Some p) rest is = more p (put_new p.0 p.1 ps) refl rest is
 

@@ -1,10 +1,11 @@
 -- The parts of a text, cut at its first comma.
 use Rattle.std.proofs.Common.{◌≡◌, ◌≢◌, ◌==◌, ◌<◌, ◌||◌, ℕ, zero, suc, Bool, true, false, not, List, [], ◌∷◌, ◌++◌, length, take, get_or, refl, sym, ap, ◌∙◌, subst, arith, append_assoc, append-nil}
 use Rattle.std.specs.List.{after_first, before_first, position_or_len}
-use Rattle.std.proofs.lemmas.Bool.{or_parts, eqb-true}
+use Rattle.std.proofs.lemmas.Bool.{eq-eqb, eqb-true, or_parts}
 use Rattle.std.proofs.lemmas.List.{get_or-take, length-take-le}
 use Rattle.std.proofs.lemmas.List.Sums.{fails_before_first, passes_at_first, split_at_first}
 use Rattle.qo_text.specs.Joined.{first_with}
+use Rattle.qo_text.specs.Spellings.{PartsAreSpelled, StandsBehind, doubled, joined}
 use Rattle.qo_text.specs.Options.{before, holds, parts}
 
 abbrev free : List ℕ → Bool
@@ -44,9 +45,9 @@ front_of (c ∷ d ∷ front) rest h =
     rw p.0 (ap (before c) (front_of (d ∷ front) rest p.1) ∙ before_with c (d ∷ front) (parts (44 ∷ rest)))
 
 -- two commas are one in a part; one ends it
-pub doubled : (rest : List ℕ) → parts (44 ∷ 44 ∷ rest) ≡ before 44 (parts rest)
+doubled_comma : (rest : List ℕ) → parts (44 ∷ 44 ∷ rest) ≡ before 44 (parts rest)
 unfolding parts
-doubled rest = refl
+doubled_comma rest = refl
 
 pub ended : (rest : List ℕ) → ((more : List ℕ) → rest ≢ 44 ∷ more) → parts (44 ∷ rest) ≡ [] ∷ parts rest
 unfolding parts
@@ -96,7 +97,7 @@ before_is c rest = let s = some_parts rest in rw s.2 refl
 -- a turn by two commas, and a turn by one
 pub two : (part front more : List ℕ) → free front ≡ false → first_with part (parts (front ++ 44 ∷ 44 ∷ more)) ≡ first_with ((part ++ front) ++ 44 ∷ []) (parts more)
 two part front more h =
-    ap (first_with part) (front_of front (44 ∷ more) h ∙ ap (first_with front) (doubled more ∙ before_is 44 more) ∙ twice front (44 ∷ []) (parts more))
+    ap (first_with part) (front_of front (44 ∷ more) h ∙ ap (first_with front) (doubled_comma more ∙ before_is 44 more) ∙ twice front (44 ∷ []) (parts more))
     ∙ twice part (front ++ 44 ∷ []) (parts more) ∙ ap (λ (x : List ℕ). first_with x (parts more)) (sym (append_assoc part front (44 ∷ [])))
 
 pub one : (part front rest : List ℕ) → free front ≡ false → ((more : List ℕ) → rest ≢ 44 ∷ more)
@@ -106,3 +107,43 @@ one part front rest h none =
 
 pub last : (part rest : List ℕ) → free rest ≡ false → first_with part (parts rest) ≡ (part ++ rest) ∷ []
 last part rest h = ap (first_with part) (alone rest h)
+
+-- parts whose commas are doubled, joined by commas
+
+-- a byte that is no comma is a front of a part
+passed : (c : ℕ) (rest : List ℕ) → (c == 44) ≡ false → parts (c ∷ rest) ≡ before c (parts rest)
+unfolding parts
+passed c [] e = rw e refl
+passed c (d ∷ rest) e = rw e refl
+
+ended_alone : (part : List ℕ) → first_with part (parts []) ≡ part ∷ []
+unfolding parts
+ended_alone part = ap (λ (l : List ℕ). l ∷ []) (append-nil part)
+
+apart : (c : ℕ) → (c == 44) ≡ false → c ≡ 44 → ⊥
+apart c e is = let yes : (c == 44) ≡ true = eq-eqb c 44 is in cc
+
+spelled : (part rest : List ℕ) → parts (doubled part ++ rest) ≡ first_with part (parts rest)
+spelled [] rest = sym (no_front rest)
+spelled (c ∷ part) rest = go (c == 44) refl (spelled part rest)
+  where
+    go : (t : Bool) → (c == 44) ≡ t → parts (doubled part ++ rest) ≡ first_with part (parts rest) → parts (doubled (c ∷ part) ++ rest) ≡ first_with (c ∷ part) (parts rest)
+    go true e so =
+        let is : c ≡ 44 = eqb-true c 44 e in
+        rw (e, doubled_comma (doubled part ++ rest), so, before_with 44 part (parts rest), is) refl
+    go false e so = rw (e, passed c (doubled part ++ rest) e, so, before_with c part (parts rest)) refl
+
+joined_behind : (part : List ℕ) (others : List (List ℕ)) → StandsBehind part → (more : List ℕ) → joined part others ≢ 44 ∷ more
+joined_behind [] others h more = absurd h
+joined_behind (c ∷ part) others h more = go others
+  where
+    go : (l : List (List ℕ)) → joined (c ∷ part) l ≢ 44 ∷ more
+    go [] = rw h (λ same. let is : c ≡ 44 = cc in absurd (apart c h is))
+    go (next ∷ l) = rw h (λ same. let is : c ≡ 44 = cc in absurd (apart c h is))
+
+pub parts_are_spelled : PartsAreSpelled
+parts_are_spelled first [] h = ap parts (sym (append-nil (doubled first))) ∙ spelled first [] ∙ ended_alone first
+parts_are_spelled first (next ∷ others) h =
+    spelled first (44 ∷ joined next others)
+    ∙ ap (first_with first) (ended (joined next others) (joined_behind next others h.0) ∙ ap (λ (ps : List (List ℕ)). [] ∷ ps) (parts_are_spelled next others h.1))
+    ∙ ap (λ (l : List ℕ). l ∷ next ∷ others) (append-nil first)

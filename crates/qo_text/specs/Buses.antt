@@ -26,7 +26,7 @@ bus_entries b n = filter_map (bus_entry b) (slots_at b n)
 
 -- the line of a device, and the lines of a bus under a name
 abbrev pub device_line : Board → ℕ → ℕ → List ℕ
-device_line b spaces n = line_in (spaces + 2) (codes "dev: " ++ kind_text (kind_of b n) ++ codes ", id " ++ 34 ∷ (id_text b n ++ 34 ∷ []))
+device_line b spaces n = line_in (spaces + 2) (codes "dev: " ++ (kind_text (kind_of b n) ++ (codes ", id \"" ++ (id_text b n ++ codes "\""))))
 
 abbrev pub bus_lines : Board → ℕ → List ℕ → ℕ → List ℕ
 bus_lines b m name spaces = line_in spaces (codes "bus: " ++ name) ++ line_in (spaces + 2) (codes "type " ++ kind_text (kind_of b m))

@@ -5,3 +5,4 @@ pub mod Trees
 pub mod Buses
 pub mod TreeLaw
 pub mod Joined
+pub mod Spellings

@@ -101,6 +101,7 @@ fn argued(alloc: Global, text: &str) -> Result<Option<Line>, AllocError>
 }
 
 /// What a line of the monitor asks for; `None` exactly where the text is no line.
+#[tactic(auto, unfolding(crate::specs::Lines::line_of))]
 pub fn line_request(alloc: Global, text: &str) -> Result<Option<Line>, AllocError>
     ensures { IfOk result (λ line. line ≡ line_of text.now) }
 {

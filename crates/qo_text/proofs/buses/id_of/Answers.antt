@@ -1,5 +1,5 @@
 -- The id is that of the board.
-use Rattle.std.proofs.Common.{Some, None}
+use Rattle.std.proofs.Common.{Some, None, ◌∙◌}
 use Rattle.qo_text.proofs.BusTextLemmas.{id-shown}
 use Rattle.qo_text.proofs.buses.id_of.Goals as goal
 
