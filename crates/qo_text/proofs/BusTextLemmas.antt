@@ -48,8 +48,8 @@ entry-is b o name what bus is read =
 quoted : (kind id : List ℕ) → kind ++ (codes ", id \"" ++ (id ++ codes "\"\n")) ≡ (kind ++ (codes ", id \"" ++ (id ++ codes "\""))) ++ 10 ∷ []
 quoted kind id =
     sym (
-      append_assoc kind (codes ", id \"" ++ (id ++ codes "\"")) (10 ∷ [])
-      ∙ ap (λ (l : List ℕ). kind ++ (codes ", id \"" ++ l)) (append_assoc id (codes "\"") (10 ∷ []))
+    append_assoc kind (codes ", id \"" ++ (id ++ codes "\"")) (10 ∷ [])
+    ∙ ap (λ (l : List ℕ). kind ++ (codes ", id \"" ++ l)) (append_assoc id (codes "\"") (10 ∷ []))
     )
 
 -- the line of a device

@@ -77,8 +77,7 @@ pub cut_first : (xs : List ℕ) → position_or_len (λ (c : ℕ). c == 44) xs <
 cut_first xs h =
     let at : ℕ = position_or_len (λ (c : ℕ). c == 44) xs in
     let size : length (take at xs) ≡ at = length-take-le at xs (omega (arith, h)) in
-    let comma : get_or xs at 0 ≡ 44 = eqb-true (get_or xs at 0) 44 (passes_at_first (λ (c : ℕ). c == 44) xs 0 h) in
-    (
+    let comma : get_or xs at 0 ≡ 44 = eqb-true (get_or xs at 0) 44 (passes_at_first (λ (c : ℕ). c == 44) xs 0 h) in (
       any_none 44 (take at xs) (λ k lt. let low : k < at = omega (arith, lt, size) in subst (λ x. (x == 44) ≡ false) (sym (get_or-take at xs k 0 low)) (fails_before_first (λ (c : ℕ). c == 44) xs k 0 low)),
       split_at_first (λ (c : ℕ). c == 44) xs 0 h ∙ ap (λ (x : ℕ). take at xs ++ (x ∷ after_first (λ (c : ℕ). c == 44) xs)) comma,
     )

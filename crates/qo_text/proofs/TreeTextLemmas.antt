@@ -66,9 +66,9 @@ child-put b levels depth e o text row below first then is =
     let one : depth + 1 ≡ suc depth = omega arith in
     put-some (child_text b levels depth) e o text below
     (
-      then ∙ ap (λ (l : List ℕ). l ++ flat_map row_text (rows_to b levels e.1 (depth + 1))) first
-      ∙ append_assoc text (row_text (row_of b (depth + 1) e)) (flat_map row_text (rows_to b levels e.1 (depth + 1)))
-      ∙ ap (λ (k : ℕ). text ++ (row_text (row_of b k e) ++ flat_map row_text (rows_to b levels e.1 k))) one
+    then ∙ ap (λ (l : List ℕ). l ++ flat_map row_text (rows_to b levels e.1 (depth + 1))) first
+    ∙ append_assoc text (row_text (row_of b (depth + 1) e)) (flat_map row_text (rows_to b levels e.1 (depth + 1)))
+    ∙ ap (λ (k : ℕ). text ++ (row_text (row_of b k e) ++ flat_map row_text (rows_to b levels e.1 k))) one
     )
     is
 
@@ -81,8 +81,8 @@ pub below-text : (b : board.Board) (levels n depth : ℕ) → (levels ≡ 0 → 
     → flat_map (child_text b (levels - 1) depth) (child_entries b n) ≡ flat_map row_text (rows_to b levels n depth)
 below-text b levels n depth some =
     sym (
-      ap (λ (k : ℕ). flat_map row_text (rows_to b k n depth)) (one-less levels some)
-      ∙ nested (child_rows b (rows_to b (levels - 1)) depth) (child_entries b n)
+    ap (λ (k : ℕ). flat_map row_text (rows_to b k n depth)) (one-less levels some)
+    ∙ nested (child_rows b (rows_to b (levels - 1)) depth) (child_entries b n)
     )
 
 -- no levels, no lines

@@ -1,4 +1,4 @@
--- The value that an option of a monitor line has (docs/PROFILE.md, lines of the monitor).
+-- The value that an option of a monitor line has (docs/PROFILE.md, monitor lines).
 use Rattle.std.specs.Prelude.{ℕ, pos, neg_ℤ, ◌+◌, ◌-◌, ◌*◌, ◌^◌, ◌&&◌, ◌||◌, ◌==◌, nat_lt, nat_le, true, false, if◌then◌else◌, List, [], ◌∷◌, codes, Option, Some, None, option_and_then, unwrap_or}
 use Rattle.std.specs.Str.{bytes_eq}
 use Rattle.qo_values.specs.declared.properties.Val.{Val}

@@ -1,5 +1,5 @@
-//! The lines of the monitor (QEMU's hmp-commands.hx, hmp-commands-info.hx; docs/PROFILE.md, lines of the
-//! monitor). The error of each call is want of memory.
+//! The lines of the monitor (QEMU's hmp-commands.hx, hmp-commands-info.hx; docs/PROFILE.md, monitor
+//! lines). The error of each call is want of memory.
 
 ghost use Rattle.std.specs.Prelude.{◌≡◌, IfOk, option_map};
 ghost use Rattle.qo_values.specs.PropertyLists.{NamesRise};

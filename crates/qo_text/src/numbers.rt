@@ -1,4 +1,4 @@
-//! The values of options (docs/PROFILE.md, lines of the monitor).
+//! The values of options (docs/PROFILE.md, monitor lines).
 
 ghost use Rattle.std.specs.Prelude.{◌≡◌, IfOk};
 ghost use Rattle.qo_text.specs.Numbers.{below_zero, number_of, value_of, whole, with_digit, with_digits};

@@ -1,4 +1,4 @@
-//! What `info qom-tree` tells (docs/PROFILE.md, lines of the monitor).
+//! What `info qom-tree` tells (docs/PROFILE.md, monitor lines).
 
 ghost use Rattle.std.specs.Prelude.{◌≡◌, ◌+◌, ◌-◌, ◌*◌, ◌≤◌, ◌^◌, ◌++◌, [], string_bytes, flat_map, slice_get, option_map, IfOk, IfSome, OnOk};
 ghost use Rattle.std.specs.Option.{option_and_then, option_map_or};

@@ -20,7 +20,10 @@ const LINES: [(&str, &str); 9] = [
     ("info qtree", "Bus"),
     ("info  qtree", "none"),
     ("system_reset", "Do(Alter(SystemReset))"),
-    ("device_del u0", "Do(Alter(DeviceDel { id: Text { text: \"u0\" } }))"),
+    (
+        "device_del u0",
+        "Do(Alter(DeviceDel { id: Text { text: \"u0\" } }))",
+    ),
     (
         "device_add slot-uart,slot=3,id=u0",
         "Do(Add(DeviceAdd { driver: Text { text: \"slot-uart\" }, id: Some(Text { text: \"u0\" }), bus: None, props: PropList { pairs: [(Text { text: \"slot\" }, Uint(3))] } }))",
@@ -34,10 +37,12 @@ const LINES: [(&str, &str); 9] = [
 ];
 
 /// What `info qom-tree` tells of a board with a UART.
-const TREE: &str = "/ (container)\n  /machine (machine)\n    /peripheral (container)\n      /u0 (slot-uart)\n        /clk (clock)\n    /peripheral-anon (container)\n    /sysclk (clock)\n    /root.0 (slot-bus)\n    /mem.0 (mem-bus)\n  /objects (container)\n";
+const TREE: &str =
+    "/ (container)\n  /machine (machine)\n    /peripheral (container)\n      /u0 (slot-uart)\n        /clk (clock)\n    /peripheral-anon (container)\n    /sysclk (clock)\n    /root.0 (slot-bus)\n    /mem.0 (mem-bus)\n  /objects (container)\n";
 
 /// What `info qtree` tells of it.
-const BUSES: &str = "bus: root.0\n  type slot-bus\n  dev: slot-uart, id \"u0\"\nbus: mem.0\n  type mem-bus\n";
+const BUSES: &str =
+    "bus: root.0\n  type slot-bus\n  dev: slot-uart, id \"u0\"\nbus: mem.0\n  type mem-bus\n";
 
 /// What a line asks for, in short.
 fn told(alloc: Global, line: &str) -> Result<String, Fail> {

@@ -1,5 +1,5 @@
 -- A bus, the devices on it, and their buses.
-use Rattle.std.proofs.Common.{◌≡◌, ◌≤◌, ◌+◌, ◌-◌, ◌∙◌, ◌++◌, ap, length, string_bytes, sym, append-nil, arith}
+use Rattle.std.proofs.Common.{◌≤◌, ◌+◌, ◌-◌, ◌∙◌, ◌++◌, length, string_bytes, sym, append-nil, arith}
 use Rattle.std.specs.Prelude.{option_and_then, slice_get}
 use Rattle.qo_model.specs.Board.{slots_at}
 use Rattle.qo_model.specs.Devices.{strong_in}
@@ -38,8 +38,8 @@ put_device-returns g t c = λ b s.
     let last : length (slots_at b c.args.dev.birth) ≤ c.loop-at.at = omega (arith, many, c.loop-at-test.false) in
     device-all b c.args.levels c.args.spaces c.args.dev.birth (string_bytes c.args.text.now) (string_bytes c.loop-at.text)
     (
-      walk-all (entry_text b c.args.levels (c.args.spaces + 4)) (bus_entry b) c.loop-at.at (slots_at b c.args.dev.birth)
-      (string_bytes c.args.text.now ++ device_line b c.args.spaces c.args.dev.birth) (string_bytes c.loop-at.text) last (c.loop-at.invariant b s)
+    walk-all (entry_text b c.args.levels (c.args.spaces + 4)) (bus_entry b) c.loop-at.at (slots_at b c.args.dev.birth)
+    (string_bytes c.args.text.now ++ device_line b c.args.spaces c.args.dev.birth) (string_bytes c.loop-at.text) last (c.loop-at.invariant b s)
     )
 
 pub put_kid-returns-in_default : goal.put_kid-returns-in_default
@@ -75,7 +75,7 @@ put_bus-returns g t c = λ b s.
     let last : length (slots_at b c.args.bus.birth) ≤ c.loop-at.at = omega (arith, many, c.loop-at-test.false) in
     bus-all b c.args.levels c.args.spaces c.args.bus.birth c.args.name.now (string_bytes c.args.text.now) (string_bytes c.loop-at.text) c.if-levels-eq0.false
     (
-      walk-all (device_text b (bus_to b (c.args.levels - 1)) c.args.spaces) (λ t. strong_in t.1) c.loop-at.at (slots_at b c.args.bus.birth)
-      (string_bytes c.args.text.now ++ bus_lines b c.args.bus.birth c.args.name.now c.args.spaces) (string_bytes c.loop-at.text) last
-      (c.loop-at.invariant b s)
+    walk-all (device_text b (bus_to b (c.args.levels - 1)) c.args.spaces) (λ t. strong_in t.1) c.loop-at.at (slots_at b c.args.bus.birth)
+    (string_bytes c.args.text.now ++ bus_lines b c.args.bus.birth c.args.name.now c.args.spaces) (string_bytes c.loop-at.text) last
+    (c.loop-at.invariant b s)
     )

@@ -1,7 +1,7 @@
 -- The name of the slot, and the bus in it.
-use Rattle.std.proofs.Common.{◌≡◌, Some, None, sym, rules}
+use Rattle.std.proofs.Common.{◌≡◌, Some, None, rules}
 use Rattle.std.specs.Prelude.{slice_get}
-use Rattle.qo_object.specs.BoardObject.{birth_of, shown_slot}
+use Rattle.qo_object.specs.BoardObject.{shown_slot}
 use Rattle.qo_model.specs.Board.{slots_at}
 use Rattle.qo_buses.proofs.SlotLemmas.{shows-place_at}
 use Rattle.qo_text.proofs.BusTextLemmas.{entry-is, entry-none}

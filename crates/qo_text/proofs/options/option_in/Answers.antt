@@ -1,9 +1,7 @@
 -- The key stands before the first `=`.
-use Rattle.std.proofs.Common.{◌≡◌, ◌==◌, ◌<◌, ℕ, Some, None, true, false, refl, arith, rules}
-use Rattle.std.specs.List.{after_first, before_first, position_or_len}
+use Rattle.std.proofs.Common.{◌≡◌, None, false, refl, arith}
 use Rattle.std.proofs.lemmas.Str.Pattern.{split_once_first}
 use Rattle.qo_text.specs.Options.{holds}
-use Rattle.qo_text.proofs.OptionLemmas.{any-first}
 use Rattle.qo_text.proofs.PartLemmas.{free_all}
 use Rattle.qo_text.proofs.options.option_in.Goals as goal
 

@@ -15,13 +15,13 @@ loop-front-preserved-in-Some-strip_prefix c =
     let cut = cut_first c.loop-front.rest.now first.0 in
     let strip : c.in-Some.after.now ≡ 44 ∷ c.in-Some-strip_prefix.more.now = strip_prefix_char 44 c.in-Some.after.now (Some c.in-Some-strip_prefix.more) c.in-Some-strip_prefix.ensures.cases (omega arith) in
     let whole : c.loop-front.rest.now ≡ c.in-Some.front.now ++ 44 ∷ 44 ∷ c.in-Some-strip_prefix.more.now =
-            cut.1 ∙ rw (← first.1, ← first.2, strip) refl in
+    cut.1 ∙ rw (← first.1, ← first.2, strip) refl in
     let spared : string_bytes c.push.new.self ≡ (string_bytes c.loop-front.part ++ c.in-Some.front.now) ++ 44 ∷ [] =
-            c.in_ok-push.ensures.bytes ∙ ap (λ l. string_bytes c.push_str.new.self ++ l) (encode_ascii 44 (omega arith)) ∙ ap (λ l. l ++ 44 ∷ []) c.in_ok-push_str.ensures.bytes in
+    c.in_ok-push.ensures.bytes ∙ ap (λ l. string_bytes c.push_str.new.self ++ l) (encode_ascii 44 (omega arith)) ∙ ap (λ l. l ++ 44 ∷ []) c.in_ok-push_str.ensures.bytes in
     let turn : first_with (string_bytes c.push.new.self) (parts c.in-Some-strip_prefix.more.now) ≡ first_with (string_bytes c.loop-front.part) (parts c.loop-front.rest.now) =
-            ap (λ l. first_with l (parts c.in-Some-strip_prefix.more.now)) spared
-            ∙ sym (two (string_bytes c.loop-front.part) c.in-Some.front.now c.in-Some-strip_prefix.more.now (rw first.1 cut.0))
-            ∙ ap (λ l. first_with (string_bytes c.loop-front.part) (parts l)) (sym whole) in
+    ap (λ l. first_with l (parts c.in-Some-strip_prefix.more.now)) spared
+    ∙ sym (two (string_bytes c.loop-front.part) c.in-Some.front.now c.in-Some-strip_prefix.more.now (rw first.1 cut.0))
+    ∙ ap (λ l. first_with (string_bytes c.loop-front.part) (parts l)) (sym whole) in
     (search rules, ap (λ (l : List (List ℕ)). c.loop-front.found.items ++ l) turn ∙ c.loop-front.invariant.1)
 
 pub loop-front-preserved : goal.loop-front-preserved
@@ -34,18 +34,17 @@ loop-front-preserved c =
     c.from_string.ensures ∙ ap string_bytes c.replace-whole.ensures.value ∙ c.in_ok-push_str.ensures.bytes in
     let empty : string_bytes c.replace-whole.new.dest ≡ [] = ap string_bytes c.replace-whole.ensures.after ∙ c.new.ensures.bytes in
     let turn : (string_bytes c.loop-front.part ++ c.in-Some.front.now) ∷ parts c.in-Some.after.now ≡ first_with (string_bytes c.loop-front.part) (parts c.loop-front.rest.now) =
-            sym (one (string_bytes c.loop-front.part) c.in-Some.front.now c.in-Some.after.now (rw first.1 cut.0) strip)
-            ∙ ap (λ l. first_with (string_bytes c.loop-front.part) (parts l)) (sym whole) in
+    sym (one (string_bytes c.loop-front.part) c.in-Some.front.now c.in-Some.after.now (rw first.1 cut.0) strip)
+    ∙ ap (λ l. first_with (string_bytes c.loop-front.part) (parts l)) (sym whole) in
     let done : List (List ℕ) = c.loop-front.found.items in
-    let text : List ℕ = c.from_string.result in
-    (
+    let text : List ℕ = c.from_string.result in (
       search rules,
       ap (λ (l : List (List ℕ)). l ++ first_with (string_bytes c.replace-whole.new.dest) (parts c.in-Some.after.now)) c.in_ok-push-2.ensures.items
-      ∙ ap (λ l. (done ++ text ∷ []) ++ first_with l (parts c.in-Some.after.now)) empty
-      ∙ ap (λ (l : List (List ℕ)). (done ++ text ∷ []) ++ l) (begun c.in-Some.after.now)
-      ∙ append_assoc done (text ∷ []) (parts c.in-Some.after.now)
-      ∙ ap (λ (l : List ℕ). done ++ l ∷ parts c.in-Some.after.now) spared
-      ∙ ap (λ (l : List (List ℕ)). done ++ l) turn ∙ c.loop-front.invariant.1,
+          ∙ ap (λ l. (done ++ text ∷ []) ++ first_with l (parts c.in-Some.after.now)) empty
+          ∙ ap (λ (l : List (List ℕ)). (done ++ text ∷ []) ++ l) (begun c.in-Some.after.now)
+          ∙ append_assoc done (text ∷ []) (parts c.in-Some.after.now)
+          ∙ ap (λ (l : List ℕ). done ++ l ∷ parts c.in-Some.after.now) spared
+          ∙ ap (λ (l : List (List ℕ)). done ++ l) turn ∙ c.loop-front.invariant.1,
     )
 
 pub returns : goal.returns

@@ -1,5 +1,5 @@
 -- Each option is a property, or is passed over.
-use Rattle.std.proofs.Common.{◌≡◌, refl, ◌∙◌, ap, sym, ◌+◌, ◌∷◌, ◌++◌, [], List, drop, false, arith, rules}
+use Rattle.std.proofs.Common.{◌≡◌, refl, ◌∙◌, ap, sym, ◌+◌, ◌∷◌, ◌++◌, List, drop, false, arith, rules}
 use Rattle.std.proofs.lemmas.List.{drop_more}
 use Rattle.qo_values.proofs.NameOrder.{above_those_before, rises_without}
 use Rattle.qo_values.specs.PropertyLists.{names_of, NamesRise}

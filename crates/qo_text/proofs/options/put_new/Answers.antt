@@ -1,5 +1,5 @@
 -- An option goes where its key is not, before the first that is no earlier.
-use Rattle.std.proofs.Common.{◌≡◌, ◌≤◌, List, Some, None, true, false, sym, ap, ◌∙◌, length, subst, arith, rules}
+use Rattle.std.proofs.Common.{◌≡◌, List, Some, true, false, sym, ap, ◌∙◌, arith}
 use Rattle.std.specs.List.{insert}
 use Rattle.std.specs.Prelude.{slice_get}
 use Rattle.qo_text.specs.Options.{is_upto}

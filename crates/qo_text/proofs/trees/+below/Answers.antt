@@ -1,5 +1,5 @@
 -- A child's line, and the lines of what is below it.
-use Rattle.std.proofs.Common.{◌≡◌, ◌≤◌, ◌-◌, ◌∙◌, ◌++◌, ap, length, string_bytes, sym, append-nil, arith}
+use Rattle.std.proofs.Common.{◌≤◌, ◌-◌, ◌∙◌, ◌++◌, ap, length, string_bytes, sym, append-nil, arith}
 use Rattle.std.specs.Prelude.{option_and_then, slice_get}
 use Rattle.qo_model.specs.Board.{slots_at}
 use Rattle.qo_text.specs.Trees.{child_entry}
