@@ -1,15 +1,14 @@
 -- The lines of buses and of the devices on them.
-use Rattle.std.proofs.Common.{◌≡◌, ℕ, suc, ◌+◌, ◌-◌, List, [], ◌∷◌, ◌++◌, codes, length, refl, sym, ap, ◌∙◌, subst, append_assoc, append-nil, arith}
+use Rattle.std.proofs.Common.{◌≡◌, ℕ, suc, ◌+◌, ◌-◌, List, [], ◌∷◌, ◌++◌, codes, length, refl, sym, ap, ◌∙◌, append_assoc, append-nil, arith}
 use Rattle.std.proofs.Common.{Option, None, Some, option_map, replicate}
-use Rattle.std.specs.Prelude.{filter_map, flat_map, option_and_then, slice_get, unwrap_or}
-use Rattle.std.specs.Option.{option_map_or}
+use Rattle.std.specs.Prelude.{filter_map, flat_map, option_and_then, unwrap_or}
 use Rattle.qo_values.specs.declared.births.TheConstants.{ROOT_BUS_BIRTH, MEMORY_BUS_BIRTH}
 use Rattle.qo_object.specs.BoardObject.{shown}
 use Rattle.qo_object.specs.Content.{Content}
 use Rattle.qo_heap.specs.Board.{Shows}
 use Rattle.qo_heap.specs.Objects.{Objects, content_of}
 use Rattle.qo_heap.proofs.BoardReads.{shows-record, shows-size}
-use Rattle.qo_model.specs.Board.{Board, Record, Slot, kind_of, record_of, slots_at}
+use Rattle.qo_model.specs.Board.{Board, Record, Slot, kind_of, slots_at}
 use Rattle.qo_model.specs.Depth.{by_depth}
 use Rattle.qo_model.specs.Devices.{bus_in, kids_of, strong_in}
 use Rattle.qo_model.specs.Paths.{births}

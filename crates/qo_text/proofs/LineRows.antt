@@ -1,11 +1,9 @@
 -- Worked rows: lines of the monitor.
 use Rattle.std.proofs.Common.{◌≡◌, pos, neg_ℤ, refl, true, [], ◌∷◌, codes, Some, None}
-use Rattle.qo_values.specs.declared.properties.Val.{Val}
 use Rattle.qo_values.specs.declared.properties.Val.TheVariants as val
 use Rattle.qo_requests.specs.declared.calls.Addition.TheVariants.{DeviceAdd}
 use Rattle.qo_requests.specs.declared.calls.Alteration.TheVariants.{DeviceDel, SystemReset}
 use Rattle.qo_requests.specs.declared.calls.Change.TheVariants.{Add, Alter}
-use Rattle.qo_text.specs.declared.lines.Line.{Line}
 use Rattle.qo_text.specs.declared.lines.Line.TheVariants.{Do, Tree, Bus}
 use Rattle.qo_text.specs.Lines.{line_of}
 use Rattle.qo_text.specs.Numbers.{value_of}

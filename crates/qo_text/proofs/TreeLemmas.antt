@@ -1,5 +1,5 @@
 -- The text of a tree tells the tree.
-use Rattle.std.proofs.Common.{◌≡◌, ◌≢◌, ◌==◌, ◌||◌, ◌*◌, ◌≤◌, ℕ, zero, suc, Bool, true, false, List, [], ◌∷◌, ◌++◌, length, Option, Some, None, option_map, option_and_then, refl, sym, ap, ap₂, ◌∙◌, subst, arith, append_assoc, replicate}
+use Rattle.std.proofs.Common.{◌≡◌, ◌≢◌, ◌==◌, ◌*◌, ℕ, zero, suc, Bool, true, false, List, [], ◌∷◌, ◌++◌, length, Option, Some, None, option_map, refl, sym, ap, ap₂, ◌∙◌, arith, append_assoc, replicate}
 use Rattle.std.specs.List.{AllByRecursion, list_any, find, flat_map, filter_map}
 use Rattle.qo_model.specs.Depth.{by_depth}
 use Rattle.qo_model.specs.Paths.{births}
@@ -7,12 +7,11 @@ use Rattle.std.proofs.lemmas.List.{length-replicate}
 use Rattle.qo_values.specs.declared.births.TheConstants.{ROOT_BIRTH}
 use Rattle.std.specs.Option.{option_map_or}
 use Rattle.std.proofs.lemmas.Bool.{or_parts, eq-eqb}
-use Rattle.qo_values.specs.Kinds.{type_name}
 use Rattle.qo_values.specs.declared.kinds.TypeId.{TypeId}
 use Rattle.qo_values.specs.declared.kinds.TypeId.TheVariants.{Object, Container, Machine, Device, SlotDevice, SlotUart, SlotTimer, SlotBridge, MemDimm, Bus, SlotBus, MemBus, Clock, MemoryBackend, MemoryBackendRam, Tag}
-use Rattle.qo_model.specs.Board.{Board, Record, Slot, child, kind_of, slots_at}
+use Rattle.qo_model.specs.Board.{Board, Record}
 use Rattle.qo_model.specs.Types.{TypeInfo, type_named, types}
-use Rattle.qo_text.specs.Trees.{Row, below_turn, child_entries, child_entry, kind_text, row_of, row_text, rows_below, tree_rows, tree_text}
+use Rattle.qo_text.specs.Trees.{Row, below_turn, child_entries, child_entry, kind_text, row_of, row_text, rows_below, tree_rows}
 use Rattle.qo_text.specs.TreeLaw.{HasOneWordNames, IsOneWord, TextsTellTrees}
 
 differ : (c d : ℕ) → (c == d) ≡ false → c ≢ d

@@ -8,7 +8,7 @@ use Rattle.qo_text.specs.Buses.{bus_text, buses_text}
 
 opening-tree : tree_text opening_board
     ≡ codes "/ (container)\n  /machine (machine)\n    /peripheral (container)\n    /peripheral-anon (container)\n    /sysclk (clock)\n    /root.0 (slot-bus)\n    /mem.0 (mem-bus)\n  /objects (container)\n"
-unfolding opening_board rows_below
+unfolding opening_board rows_below types
 opening-tree = refl
 
 opening-buses : buses_text opening_board ≡ codes "bus: root.0\n  type slot-bus\nbus: mem.0\n  type mem-bus\n"

@@ -1,10 +1,9 @@
 -- The lines of the tree of objects, one after another.
-use Rattle.std.proofs.Common.{◌≡◌, ℕ, zero, suc, ◌+◌, ◌-◌, ◌≤◌, List, [], ◌∷◌, ◌++◌, codes, length, refl, sym, ap, ◌∙◌, subst, append_assoc, append-nil, arith}
+use Rattle.std.proofs.Common.{◌≡◌, ℕ, suc, ◌+◌, ◌-◌, List, [], ◌∷◌, ◌++◌, codes, length, refl, sym, ap, ◌∙◌, subst, append_assoc, append-nil, arith}
 use Rattle.std.proofs.Common.{Option, None, Some, option_map, true, false}
-use Rattle.std.specs.Prelude.{filter_map, flat_map, option_and_then, slice_get}
+use Rattle.std.specs.Prelude.{flat_map}
 use Rattle.std.specs.Option.{option_map_or}
 use Rattle.std.proofs.lemmas.List.Concat.{flat_map-append}
-use Rattle.qo_values.specs.declared.births.TheConstants.{ROOT_BIRTH}
 use Rattle.qo_slots.specs.declared.keys.Key.{Key}
 use Rattle.qo_object.specs.declared.slots.Slot.{Slot}
 use Rattle.qo_object.specs.declared.slots.Slot.TheVariants.{Plain, Child, Link, Alias}
@@ -18,7 +17,7 @@ use Rattle.qo_model.specs.Board as board
 use Rattle.qo_model.specs.Depth.{by_depth}
 use Rattle.qo_model.specs.Paths.{births}
 use Rattle.qo_model.proofs.DepthLemmas.{one-less}
-use Rattle.qo_text.specs.Trees.{Row, below_turn, child_entries, child_entry, child_rows, row_of, row_text, rows_below, tree_rows, tree_text}
+use Rattle.qo_text.specs.Trees.{Row, below_turn, child_entries, child_entry, child_rows, row_of, row_text, rows_below, tree_text}
 
 abbrev Entry : Type 0
 Entry = List ℕ × ℕ

@@ -5,7 +5,6 @@ use Rattle.std.specs.Prelude.{filter_map, flat_map, option_and_then, slice_get}
 use Rattle.std.specs.List.{cons_option}
 use Rattle.std.specs.Option.{option_map_or}
 use Rattle.std.proofs.lemmas.List.{take_all}
-use Rattle.std.proofs.lemmas.List.Concat.{flat_map-append}
 
 module _ {X Y : Type 0} (g : Y → List ℕ) (f : X → Option Y) where
   -- a slot more
