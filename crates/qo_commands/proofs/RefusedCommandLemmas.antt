@@ -302,8 +302,7 @@ line-left : (b : Board) (text : List ℕ) (change : Change) (code : Code) → li
     → LeftAlone b (call.Monitor text) code × ((performed b (call.Monitor text)).result ≡ Ok (string (refusal_line code)))
 line-left b text change code is e =
     let left = refused-left b (call.Change change) code e in
-    let same : performed b (call.Monitor text) ≡ monitored b (Some (Do change)) = ap (monitored b) is in
-    (
+    let same : performed b (call.Monitor text) ≡ monitored b (Some (Do change)) = ap (monitored b) is in (
       record {
         board = subst (λ (d : Done). AsItWas b d.board) (sym same) left.board;
         events = ap (λ (d : Done). d.events) same ∙ left.events;
