@@ -33,3 +33,9 @@ left-line b text change (Ok r) v is left = tt
 left-line b text change (Err e) v is (inl stands) = inl stands
 left-line b text change (Err e) v is (inr (i, joined, stands)) =
     inr (i, joined, subst (λ (l : Option Line). Stands (line_cut b l i joined) v) is stands)
+
+-- and one that was answered with what was said to be what it comes to
+pub came-told : {E : Type 0} (b : Board) (text : List ℕ) (line : Option Line) (d : Done) (id : Option (List ℕ)) (answer : Result Reply E) (v : Parts)
+    → line ≡ line_of text → d ≡ monitored b line → IfOk answer (λ r. CameAs d id r v) → IfOk answer (λ r. Came b (call.Monitor text) id r v)
+came-told b text line d id answer v is same came =
+    came-answered b text line id answer v is (subst (λ (x : Done). IfOk answer (λ r. CameAs x id r v)) same came)
