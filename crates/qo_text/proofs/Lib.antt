@@ -1,6 +1,7 @@
 pub mod TreeLemmas
 pub mod PartLemmas
 pub mod NumberLemmas
+pub mod SpelledLemmas
 pub mod OptionLemmas
 pub mod WordLemmas
 pub mod WalkLemmas

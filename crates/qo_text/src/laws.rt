@@ -1,6 +1,6 @@
 //! What holds of the definitions alone.
 
-ghost use Rattle.qo_text.specs.Spellings.{NumbersAreSpelled, PartsAreSpelled};
+ghost use Rattle.qo_text.specs.Spellings.{LinesAreSpelled, NumbersAreSpelled, PartsAreSpelled};
 ghost use Rattle.qo_text.specs.TreeLaw.{TextsTellTrees};
 
 /// Two boards whose children have names of one word, and whose texts are equal, have the same tree:
@@ -21,4 +21,11 @@ pub fn law_parts()
 /// 2^64.
 pub fn law_numbers()
     ensures { NumbersAreSpelled }
+{}
+
+/// A line that spells `device_add` of a driver and options, or `device_del` of an id, is read as that; a line
+/// with a key that comes twice as none.
+#[tactic(auto, using(crate::proofs::SpelledLemmas::lines_are_spelled))]
+pub fn law_lines()
+    ensures { LinesAreSpelled }
 {}
