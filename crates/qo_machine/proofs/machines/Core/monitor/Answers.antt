@@ -35,34 +35,34 @@ returns-in-Do-clause-kept g c = λ b stands.
     left-line b c.args.command_line.now c.in-Do.change c.change_by_line.result c.change_by_line.new.self.board
     (ap Some (sym c.in-Do.is) ∙ sym c.in-Some.is ∙ c.in_ok-line.ensures ∙ ap line_of c.as_str.ensures) (c.change_by_line.ensures.kept b stands)
 
-pub returns-in-Tree-clause-came : goal.returns-in-Tree-clause-came
-returns-in-Tree-clause-came g c = λ b stands.
+pub returns-in_ok-tell_tree-in-Tree-clause-came : goal.returns-in_ok-tell_tree-in-Tree-clause-came
+returns-in_ok-tell_tree-in-Tree-clause-came g c = λ b stands.
     let here = stands_in b c.self.inside.board c.args.self.now (seen_board c.self.view_is) stands in
-    came-told b c.args.command_line.now (Some Tree) (done_of b c.in_ok-tell_tree.field-0) (option_map (λ id. id.now) c.args.id) c.tell.result
+    came-told b c.args.command_line.now (Some Tree) (done_of b c.in_ok-tell_tree-in-Tree.field-0) (option_map (λ id. id.now) c.args.id) c.tell-in-Tree.result
     c.args.self.now.board (ap Some (sym c.in-Tree.is) ∙ sym c.in-Some.is ∙ c.in_ok-line.ensures ∙ ap line_of c.as_str.ensures)
-    (c.in_ok-tell_tree.ensures b here) (c.tell.ensures.came b stands)
+    (c.in_ok-tell_tree-in-Tree.ensures b here) (c.tell-in-Tree.ensures.came b stands)
 
-pub returns-in-Tree-clause-left : goal.returns-in-Tree-clause-left
-returns-in-Tree-clause-left g c = left_answered c.tell.result c.args.self.now.board c.args.self.now.lines c.tell.ensures.touched c.requires.wired
+pub returns-in_ok-tell_tree-in-Tree-clause-left : goal.returns-in_ok-tell_tree-in-Tree-clause-left
+returns-in_ok-tell_tree-in-Tree-clause-left g c = left_answered c.tell-in-Tree.result c.args.self.now.board c.args.self.now.lines c.tell-in-Tree.ensures.touched c.requires.wired
 
-pub returns-in-Tree-clause-same : goal.returns-in-Tree-clause-same
-returns-in-Tree-clause-same g c = on-err c.tell.result c.requires.wired
+pub returns-in_ok-tell_tree-in-Tree-clause-same : goal.returns-in_ok-tell_tree-in-Tree-clause-same
+returns-in_ok-tell_tree-in-Tree-clause-same g c = on-err c.tell-in-Tree.result c.requires.wired
 
-pub returns-in-Tree-clause-kept : goal.returns-in-Tree-clause-kept
-returns-in-Tree-clause-kept g c = λ b stands. on-err c.tell.result (inl stands)
+pub returns-in_ok-tell_tree-in-Tree-clause-kept : goal.returns-in_ok-tell_tree-in-Tree-clause-kept
+returns-in_ok-tell_tree-in-Tree-clause-kept g c = λ b stands. on-err c.tell-in-Tree.result (inl stands)
 
-pub returns-in-Bus-clause-came : goal.returns-in-Bus-clause-came
-returns-in-Bus-clause-came g c = λ b stands.
+pub returns-in_ok-tell_buses-in-Bus-clause-came : goal.returns-in_ok-tell_buses-in-Bus-clause-came
+returns-in_ok-tell_buses-in-Bus-clause-came g c = λ b stands.
     let here = stands_in b c.self.inside.board c.args.self.now (seen_board c.self.view_is) stands in
-    came-told b c.args.command_line.now (Some Bus) (done_of b c.in_ok-tell_buses.field-0) (option_map (λ id. id.now) c.args.id) c.tell.result
+    came-told b c.args.command_line.now (Some Bus) (done_of b c.in_ok-tell_buses-in-Bus.field-0) (option_map (λ id. id.now) c.args.id) c.tell-in-Bus.result
     c.args.self.now.board (ap Some (sym c.in-Bus.is) ∙ sym c.in-Some.is ∙ c.in_ok-line.ensures ∙ ap line_of c.as_str.ensures)
-    (c.in_ok-tell_buses.ensures b here) (c.tell.ensures.came b stands)
+    (c.in_ok-tell_buses-in-Bus.ensures b here) (c.tell-in-Bus.ensures.came b stands)
 
-pub returns-in-Bus-clause-left : goal.returns-in-Bus-clause-left
-returns-in-Bus-clause-left g c = left_answered c.tell.result c.args.self.now.board c.args.self.now.lines c.tell.ensures.touched c.requires.wired
+pub returns-in_ok-tell_buses-in-Bus-clause-left : goal.returns-in_ok-tell_buses-in-Bus-clause-left
+returns-in_ok-tell_buses-in-Bus-clause-left g c = left_answered c.tell-in-Bus.result c.args.self.now.board c.args.self.now.lines c.tell-in-Bus.ensures.touched c.requires.wired
 
-pub returns-in-Bus-clause-same : goal.returns-in-Bus-clause-same
-returns-in-Bus-clause-same g c = on-err c.tell.result c.requires.wired
+pub returns-in_ok-tell_buses-in-Bus-clause-same : goal.returns-in_ok-tell_buses-in-Bus-clause-same
+returns-in_ok-tell_buses-in-Bus-clause-same g c = on-err c.tell-in-Bus.result c.requires.wired
 
-pub returns-in-Bus-clause-kept : goal.returns-in-Bus-clause-kept
-returns-in-Bus-clause-kept g c = λ b stands. on-err c.tell.result (inl stands)
+pub returns-in_ok-tell_buses-in-Bus-clause-kept : goal.returns-in_ok-tell_buses-in-Bus-clause-kept
+returns-in_ok-tell_buses-in-Bus-clause-kept g c = λ b stands. on-err c.tell-in-Bus.result (inl stands)
