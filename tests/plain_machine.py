@@ -744,6 +744,21 @@ class ResetTree(ClockTree):
         """The devices on a bus, in the order in which they came."""
         return [it.target for it in self.objects[bus].slots if it.name.startswith("child[")]
 
+    def tree_text(self, birth=1, name="", depth=0):
+        """What the text monitor tells of an object of a name and of all below it."""
+        it = self.objects[birth]
+        below = [self.tree_text(slot.target, slot.name, depth + 1) for slot in it.slots if slot.kind is Kind.CHILD]
+        return f"{'  ' * depth}/{name} ({it.type})\n" + "".join(below)
+
+    def bus_text(self, birth, name, indent=""):
+        """What the text monitor tells of a bus of a name and of the devices on it."""
+        lines = [f"{indent}bus: {name}\n{indent}  type {self.objects[birth].type}\n"]
+        for kid in map(self.objects.get, self.kids(birth)):
+            lines.append(f'{indent}  dev: {kid.type}, id "{kid.device_id or ""}"\n')
+            buses = self.buses(kid)
+            lines += [self.bus_text(it.target, it.name, indent + "    ") for it in kid.slots if it.target in buses]
+        return "".join(lines)
+
     def reset_below(self, birth):
         """What is reset with an object, just below it."""
         it = self.objects[birth]
@@ -1373,6 +1388,7 @@ COMMANDS = {
     "object-del": {"id": "text"},
     "device_add": {"driver": "text", "id": "text?", "bus": "text?"},
     "device_del": {"id": "text"},
+    "human-monitor-command": {"command-line": "text"},
     "chardev-add": {"id": "text", "backend": "backend"},
     "chardev-remove": {"id": "text"},
     "ringbuf-read": {"device": "text", "size": "size", "format": "format?"},
@@ -1387,6 +1403,38 @@ COMMANDS = {
     "x-step": {"ns": "number"},
 }
 WITH_PROPERTIES = ("device_add", "object-add")
+
+
+def monitor_value(text):
+    """The value of an option on a line of the text monitor."""
+    if text in ("on", "off"):
+        return text == "on"
+    if re.fullmatch("0|-?[1-9][0-9]*", text, re.ASCII) and -(2**63) <= int(text) <= LAST_U64:
+        return int(text)
+    return text
+
+
+def monitor_addition(text):
+    """The arguments of the `device_add` that a line of the text monitor asks for, or None."""
+    driver, *options = [it.replace("\0", ",") for it in text.replace(",,", "\0").split(",")]
+    given = {"driver": driver}
+    for key, equals, value in (it.partition("=") for it in options):
+        if not equals or not key or key in given:
+            return None
+        given[key] = value if key in ("id", "bus") else monitor_value(value)
+    return given if driver and "=" not in driver else None
+
+
+def monitor_command(line):
+    """The command that a line of the text monitor asks for, and its arguments; None where there is none."""
+    word, space, rest = line.partition(" ")
+    if line == "system_reset":
+        return "system_reset", {}
+    if not space or " " in rest:
+        return None
+    if word == "device_add" and (given := monitor_addition(rest)):
+        return "device_add", given
+    return ("device_del", {"id": rest}) if word == "device_del" and rest else None
 
 
 def judge_arguments(command, arguments):
@@ -1674,6 +1722,24 @@ class Machine:
     def do_device_del(self, arguments):
         """Asks for the removal of a device."""
         self.board.ask_removal(arguments["id"])
+
+    def do_human_monitor_command(self, arguments):
+        """Does what a line of the text monitor asks for, and returns what it is told."""
+        line = arguments["command-line"]
+        if line == "info qom-tree":
+            return self.board.tree_text()
+        if line == "info qtree":
+            return self.board.bus_text(ROOT_BUS, "root.0") + self.board.bus_text(MEMORY_BUS, "mem.0")
+        asked = monitor_command(line)
+        if asked is None:
+            return "Error: line unreadable\n"
+        command, given = asked
+        try:
+            getattr(self, "do_" + command)(given)
+        except Refused as why:
+            number, text = why.code.value
+            return f"Error: E{number} {text}\n"
+        return ""
 
     def do_chardev_add(self, arguments):
         """Makes a ring."""

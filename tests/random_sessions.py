@@ -67,6 +67,7 @@ USUAL_ACTS = {
     "add_device": 34,
     "remove_device": 11,
     "say": 26,
+    "ask_by_line": 3,
     "add_object": 6,
     "remove_object": 4,
     "add_ring": 3,
@@ -266,6 +267,17 @@ class Maker:
         ids = [it.device_id for it in self.devices() if it.device_id]
         name = self.draw.choice(ids) if ids and self.chance(0.5) else self.path("device")
         self.command("device_del", {"id": self.draw.choice(self.device_ids) if self.chance(0.1) else name})
+
+    def ask_by_line(self):
+        """Asks by a line of the text monitor."""
+        word = self.draw.choice(["device_add", "device_add", "device_del", "info qom-tree", "info qtree", "system_reset", ""])
+        if word == "device_add":
+            options = [f"{name}={value}" for name, value in self.properties("slot-bridge").items()]
+            options.append(f"id={self.draw.choice(self.device_ids)}")
+            word = ",".join([f"device_add {self.draw.choice(DRIVERS)}", *options])
+        elif word == "device_del":
+            word += f" {self.draw.choice(self.device_ids)}"
+        self.command("human-monitor-command", {"command-line": word + (" " if self.chance(0.02) else "")})
 
     def say(self):
         """Has the guest say a line, by itself or by a command."""

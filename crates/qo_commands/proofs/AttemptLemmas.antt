@@ -12,18 +12,35 @@ use Rattle.qo_plug.specs.Cuts.{cut_as, cut_of, cut_open}
 use Rattle.qo_requests.specs.declared.calls.Addition.TheVariants.{ObjectAdd, DeviceAdd}
 use Rattle.qo_requests.specs.declared.calls.Call.{Call}
 use Rattle.qo_requests.specs.declared.calls.Call.TheVariants as call
+use Rattle.qo_requests.specs.declared.calls.Change.{Change}
 use Rattle.qo_requests.specs.declared.calls.Change.TheVariants.{Add, Alter}
-use Rattle.qo_commands.specs.Changes.{attempted}
+use Rattle.qo_text.specs.Lines.{line_of}
+use Rattle.qo_text.specs.declared.lines.Line.{Line}
+use Rattle.qo_text.specs.declared.lines.Line.TheVariants.{Bus, Do, Tree}
+use Rattle.qo_commands.specs.Changes.{attempted, cut_short, line_cut}
 
 -- only additions make attempts
+cut-short : (P : Board → Type 0) (b : Board) (change : Change) (i : ℕ) (joined : Bool) → P b
+    → ((driver id : List ℕ) (props : List Given) → P (cut_short b (Add (ObjectAdd driver id props)) i joined))
+    → ((driver : List ℕ) (id bus : Option (List ℕ)) (props : List Given) → P (cut_short b (Add (DeviceAdd driver id bus props)) i joined))
+    → P (cut_short b change i joined)
+cut-short P b (Alter alteration) i joined none object plug = none
+cut-short P b (Add (ObjectAdd driver id props)) i joined none object plug = object driver id props
+cut-short P b (Add (DeviceAdd driver id bus props)) i joined none object plug = plug driver id bus props
+
 pub attempted-by : (P : Board → Type 0) (b : Board) (command : Call) (i : ℕ) (joined : Bool) → P b
     → ((driver id : List ℕ) (props : List Given) → P (attempted b (call.Change (Add (ObjectAdd driver id props))) i joined))
     → ((driver : List ℕ) (id bus : Option (List ℕ)) (props : List Given) → P (attempted b (call.Change (Add (DeviceAdd driver id bus props))) i joined))
     → P (attempted b command i joined)
 attempted-by P b (call.Query query) i joined none object plug = none
-attempted-by P b (call.Change (Alter alteration)) i joined none object plug = none
-attempted-by P b (call.Change (Add (ObjectAdd driver id props))) i joined none object plug = object driver id props
-attempted-by P b (call.Change (Add (DeviceAdd driver id bus props))) i joined none object plug = plug driver id bus props
+attempted-by P b (call.Change change) i joined none object plug = cut-short P b change i joined none object plug
+attempted-by P b (call.Monitor text) i joined none object plug = go (line_of text)
+  where
+    go : (line : Option Line) → P (line_cut b line i joined)
+    go None = none
+    go (Some Tree) = none
+    go (Some Bus) = none
+    go (Some (Do change)) = cut-short P b change i joined none object plug
 
 -- a device's attempt that was cut
 cut-by : (P : Board → Type 0) (b : Board) (a : Wanted) (i : ℕ) (joined : Bool) → P b → ((t : TypeId) → P (cut_of b t i joined)) → P (cut_as b a i joined)

@@ -1,6 +1,7 @@
 -- What commands return has a text: no number has a fraction.
 use Rattle.std.proofs.Common.{◌≡◌, ℕ, Bool, true, false, List, [], ◌∷◌, map, refl, Option, None, Some, Result, Ok, Err}
 use Rattle.std.specs.Prelude.{codes}
+use Rattle.serde_json.specs.Data.{string}
 use Rattle.serde_json.specs.View.{items_of}
 use Rattle.serde_json.specs.Written.{items_have_float, has_float}
 use Rattle.qo_model.specs.Board.{Board}
@@ -65,6 +66,10 @@ no_float b (Err code) = refl
 pub empty_written : codes "{}" ≡ json empty
 unfolding json ascii chars serde_json_on_literals
 empty_written = refl
+
+pub nothing_told_written : codes "\"\"" ≡ json (string [])
+unfolding json ascii chars serde_json_on_literals
+nothing_told_written = refl
 
 pub running_written : codes "{\"running\":true,\"status\":\"running\"}" ≡ json (status_data true)
 unfolding json ascii chars serde_json_on_literals

@@ -39,13 +39,17 @@ use Rattle.qo_requests.specs.declared.calls.Alteration.{Alteration}
 use Rattle.qo_requests.specs.declared.calls.Alteration.TheVariants.{ChardevAdd, ChardevRemove, Cont, DeviceDel, ObjectDel, QomSet, RingbufRead, RingbufWrite, Stop, SystemReset, XGuest, XResetHold, XResetRelease, XSever, XStep}
 use Rattle.qo_requests.specs.declared.calls.Call.{Call}
 use Rattle.qo_requests.specs.declared.calls.Call.TheVariants as call
+use Rattle.qo_requests.specs.declared.calls.Change.{Change}
 use Rattle.qo_requests.specs.declared.calls.Change.TheVariants.{Add, Alter}
 use Rattle.qo_requests.specs.declared.calls.Query.{Query}
 use Rattle.qo_requests.specs.declared.calls.Query.TheVariants.{DeviceListProperties, QomGet, QomList, QomListTypes, QueryCommands, QueryStatus, QueryVersion, Quit, XMemmap, XQueryDetached, XQueryNotes}
+use Rattle.qo_text.specs.Lines.{line_of}
+use Rattle.qo_text.specs.declared.lines.Line.{Line}
+use Rattle.qo_text.specs.declared.lines.Line.TheVariants.{Bus, Do, Tree}
 use Rattle.qo_chardev.specs.Rings.{bytes_in, given_bytes, ring_named}
 use Rattle.qo_commands.specs.Changes.{attempted}
 use Rattle.qo_replies.specs.Properties.{property_data}
-use Rattle.qo_commands.specs.Commands.{Done, added, adding_properties, altered, answer_told, answered, changed, device_properties, guest_reply, performed, plugged, queried, refused_with, returned, ring_told, timed, wrote}
+use Rattle.qo_commands.specs.Commands.{Done, added, adding_properties, altered, answer_told, answered, changed, device_properties, guest_reply, line_answer, made, monitored, performed, plugged, queried, refusal_line, refused_with, returned, ring_told, timed, wrote}
 use Rattle.qo_commands.specs.Refusals.{LeftAlone, RefusedCommandsLaw, makes_objects}
 use Rattle.qo_commands.proofs.AttemptLemmas.{attempted-by}
 
@@ -273,16 +277,39 @@ added-left b (ObjectAdd driver id props) code e =
 added-left b (DeviceAdd driver id bus props) code e =
     device-left b (plug b (wanted driver id bus props)) code (λ why is. refused_devices_lem.device b (wanted driver id bus props) why is) e
 
+-- a line of the monitor returns a text, whatever it is
+never : (b : Board) (line : Option Line) (code : Code) → (monitored b line).result ≡ Err code → ⊥
+never b None code e = let clash : Ok _ ≡ Err code = e in cc
+never b (Some Tree) code e = let clash : Ok _ ≡ Err code = e in cc
+never b (Some Bus) code e = let clash : Ok _ ≡ Err code = e in cc
+never b (Some (Do change)) code e = let clash : Ok _ ≡ Err code = e in cc
+
 refused-left : (b : Board) (c : Call) (code : Code) → (performed b c).result ≡ Err code → LeftAlone b c code
 refused-left b (call.Query query) code e = left-by b (call.Query query) code (queried-leaves b query code e)
 refused-left b (call.Change (Alter alteration)) code e = left-by b (call.Change (Alter alteration)) code (altered-leaves b alteration code e)
 refused-left b (call.Change (Add addition)) code e =
     let up = added-left b addition code e in record { board = up.board; events = up.events; ends = up.ends }
+refused-left b (call.Monitor text) code e = absurd (never b (line_of text) code e)
 
 nothing-of : (b : Board) (c : Call) (code : Code) → (performed b c).result ≡ Err code → makes_objects c ≡ false → performed b c ≡ refused_with b code
 nothing-of b (call.Query query) code e adds = queried-leaves b query code e
 nothing-of b (call.Change (Alter alteration)) code e adds = altered-leaves b alteration code e
 nothing-of b (call.Change (Add addition)) code e adds = absurd (let clash : true ≡ false = adds in cc)
+nothing-of b (call.Monitor text) code e adds = absurd (never b (line_of text) code e)
+
+-- of a line of the monitor all but what it returns is as of its command
+line-left : (b : Board) (text : List ℕ) (change : Change) (code : Code) → line_of text ≡ Some (Do change) → (made b change).result ≡ Err code
+    → LeftAlone b (call.Monitor text) code × ((performed b (call.Monitor text)).result ≡ Ok (string (refusal_line code)))
+line-left b text change code is e =
+    let left = refused-left b (call.Change change) code e in
+    let same : performed b (call.Monitor text) ≡ monitored b (Some (Do change)) = ap (monitored b) is in (
+      record {
+        board = subst (λ (d : Done). AsItWas b d.board) (sym same) left.board;
+        events = ap (λ (d : Done). d.events) same ∙ left.events;
+        ends = ap (λ (d : Done). d.ends) same ∙ left.ends;
+      },
+      ap (λ (d : Done). d.result) same ∙ ap (λ (r : Result Data Code). Ok (string (line_answer r))) e,
+    )
 
 cut-left : (b : Board) (c : Call) (i : ℕ) (joined : Bool) → AsItWas b (attempted b c i joined)
 cut-left b c i joined =
@@ -294,4 +321,4 @@ cut-left b c i joined =
     one driver id false = nothing-left b
 
 pub refused_commands_lem : RefusedCommandsLaw
-refused_commands_lem = record { refused = refused-left; nothing = nothing-of; cut = cut-left }
+refused_commands_lem = record { refused = refused-left; nothing = nothing-of; line = line-left; cut = cut-left }

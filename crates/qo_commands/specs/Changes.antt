@@ -1,5 +1,5 @@
 -- The commands that change the board: what each leaves, by its answer.
-use Rattle.std.specs.Prelude.{◌≡◌, ◌==◌, ℕ, Bool, if◌then◌else◌, Result, Ok, Err, ◌⊎◌, ⊤}
+use Rattle.std.specs.Prelude.{◌≡◌, ◌==◌, ℕ, Bool, if◌then◌else◌, Option, Some, Result, Ok, Err, ◌⊎◌, ⊤}
 use Rattle.qo_values.specs.declared.codes.Code.{Code}
 use Rattle.qo_model.specs.Board.{Board}
 use Rattle.qo_model.specs.Objects.{attempted_as}
@@ -14,6 +14,9 @@ use Rattle.qo_requests.specs.declared.calls.Call.{Call}
 use Rattle.qo_requests.specs.declared.calls.Call.TheVariants as call
 use Rattle.qo_requests.specs.declared.calls.Change.{Change}
 use Rattle.qo_requests.specs.declared.calls.Change.TheVariants.{Add, Alter}
+use Rattle.qo_text.specs.Lines.{line_of}
+use Rattle.qo_text.specs.declared.lines.Line.{Line}
+use Rattle.qo_text.specs.declared.lines.Line.TheVariants.{Do}
 use Rattle.qo_commands.specs.Commands as defined
 use Rattle.qo_commands.specs.Commands.{empty, made, refused_with, returned}
 use Rattle.qo_commands.specs.Views.{done_of}
@@ -21,11 +24,20 @@ use Rattle.qo_commands.specs.declared.commands.Done.{Done}
 
 -- the board after an attempt of a command that was cut for want of memory, when it had made so many objects, the last of
 -- them joined or not: `object-add` makes one, and `device_add` those of its device, where nothing bars them
+abbrev pub cut_short : Board → Change → ℕ → Bool → Board
+cut_short b (Alter alteration) i joined = b
+cut_short b (Add (ObjectAdd driver id props)) i joined = if i == 1 then attempted_as b driver id else b
+cut_short b (Add (DeviceAdd driver id bus props)) i joined = cut_as b (wanted driver id bus props) i joined
+
+-- a line of the monitor is cut short as its command is
+abbrev pub line_cut : Board → Option Line → ℕ → Bool → Board
+line_cut b (Some (Do change)) i joined = cut_short b change i joined
+line_cut b line i joined = b
+
 abbrev pub attempted : Board → Call → ℕ → Bool → Board
 attempted b (call.Query query) i joined = b
-attempted b (call.Change (Alter alteration)) i joined = b
-attempted b (call.Change (Add (ObjectAdd driver id props))) i joined = if i == 1 then attempted_as b driver id else b
-attempted b (call.Change (Add (DeviceAdd driver id bus props))) i joined = cut_as b (wanted driver id bus props) i joined
+attempted b (call.Change change) i joined = cut_short b change i joined
+attempted b (call.Monitor text) i joined = line_cut b (line_of text) i joined
 
 -- a command came to what is defined, but for the events that wait
 abbrev pub Came : defined.Done → Done → Parts → Type 0

@@ -2,6 +2,7 @@
 use Rattle.std.specs.Prelude.{ℕ, Bool, true, false, if◌then◌else◌, List, [], ◌∷◌, ◌++◌, map, filter, filter_map, codes, Option, Some, None, unwrap_or, Result, Ok, Err}
 use Rattle.serde_json.specs.Data.{Data, Members, array, boolean, member, no_members, number, object, string, unsigned}
 use Rattle.serde_json.specs.View.{items_of}
+use Rattle.qo_values.specs.Codes.{description_of}
 use Rattle.qo_values.specs.declared.codes.Code.{Code}
 use Rattle.qo_values.specs.declared.codes.Code.TheVariants.{E20, E22, E54}
 use Rattle.qo_values.specs.Kinds.{type_name}
@@ -52,6 +53,11 @@ use Rattle.qo_requests.specs.declared.calls.Change.{Change}
 use Rattle.qo_requests.specs.declared.calls.Change.TheVariants.{Add, Alter}
 use Rattle.qo_requests.specs.declared.calls.Query.{Query}
 use Rattle.qo_requests.specs.declared.calls.Query.TheVariants.{DeviceListProperties, QomGet, QomList, QomListTypes, QueryCommands, QueryStatus, QueryVersion, Quit, XMemmap, XQueryDetached, XQueryNotes}
+use Rattle.qo_text.specs.Buses.{buses_text}
+use Rattle.qo_text.specs.Lines.{line_of}
+use Rattle.qo_text.specs.Trees.{tree_text}
+use Rattle.qo_text.specs.declared.lines.Line.{Line}
+use Rattle.qo_text.specs.declared.lines.Line.TheVariants.{Bus, Do, Tree}
 
 -- what a command comes to: what it returns or the code that refuses it, the board after it, its events, and whether it ends the run
 pub record Done : Type 0 where
@@ -259,10 +265,26 @@ abbrev pub made : Board → Change → Done
 made b (Add addition) = added b addition
 made b (Alter alteration) = altered b alteration
 
+-- how a line of the monitor tells what a command came to: nothing where it was done, and the text of the code that refuses it
+abbrev pub refusal_line : Code → List ℕ
+refusal_line code = codes "Error: " ++ (description_of code ++ 10 ∷ [])
+
+abbrev pub line_answer : Result Data Code → List ℕ
+line_answer (Ok value) = []
+line_answer (Err code) = refusal_line code
+
+-- what a line of the monitor comes to: it returns a text, and else is as its command
+abbrev pub monitored : Board → Option Line → Done
+monitored b None = returned b (string (codes "Error: line unreadable" ++ 10 ∷ []))
+monitored b (Some Tree) = returned b (string (tree_text b))
+monitored b (Some Bus) = returned b (string (buses_text b))
+monitored b (Some (Do change)) = record (made b change) { result = Ok (string (line_answer (made b change).result)) }
+
 -- what a command of a session that has negotiated comes to by itself; a query leaves the board
 abbrev pub performed : Board → Call → Done
 performed b (call.Query query) = record (queried b query) { board = b }
 performed b (call.Change change) = made b change
+performed b (call.Monitor text) = monitored b (line_of text)
 
 -- an event on a device, as sessions are told of it (qapi/qdev.json, DEVICE_DELETED and DEVICE_UNPLUG_GUEST_ERROR)
 abbrev pub event_of : DeviceEvent → Event

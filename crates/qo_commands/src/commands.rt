@@ -46,7 +46,7 @@ pub enum ReplyBody {
     Answer(GuestAnswer),
     /// The virtual time, in ns.
     Time(u64),
-    /// The bytes that were taken of a ring, as they are told.
+    /// A text: the bytes that were taken of a ring, as they are told, or what the monitor tells.
     Told(Text),
     /// A value of its own.
     Value(IntegerJson),

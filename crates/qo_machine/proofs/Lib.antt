@@ -12,6 +12,7 @@ pub mod LaneLemmas
 pub mod LawLemmas
 pub mod MemoryLemmas
 pub mod MachineLemmas
+pub mod MonitorLemmas
 pub mod NoteLemmas
 pub mod PhaseLemmas
 pub mod RelationLemmas

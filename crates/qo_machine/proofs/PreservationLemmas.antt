@@ -53,6 +53,9 @@ use Rattle.qo_requests.specs.declared.calls.Alteration.TheVariants.{Stop, Cont, 
 use Rattle.qo_requests.specs.declared.calls.Call.{Call}
 use Rattle.qo_requests.specs.declared.calls.Call.TheVariants as call
 use Rattle.qo_requests.specs.declared.calls.Change.TheVariants.{Add, Alter}
+use Rattle.qo_text.specs.Lines.{line_of}
+use Rattle.qo_text.specs.declared.lines.Line.{Line}
+use Rattle.qo_text.specs.declared.lines.Line.TheVariants.{Bus, Do, Tree}
 use Rattle.qo_chardev.specs.Rings.{new_ring, ring_changed, without_ring}
 use Rattle.qo_chardev.specs.declared.rings.TheConstants.{RING_SIZE_DEFAULT}
 use Rattle.qo_sessions.specs.Acts.{act}
@@ -63,7 +66,7 @@ use Rattle.qo_sessions.specs.declared.modes.Mode.{Mode}
 use Rattle.qo_sessions.specs.declared.modes.Mode.TheVariants.{Closed, Negotiating, Commanding}
 use Rattle.qo_commands.proofs.AttemptLemmas.{attempted-all}
 use Rattle.qo_commands.specs.Changes.{attempted}
-use Rattle.qo_commands.specs.Commands.{added, altered, answered, perform, performed, without_events}
+use Rattle.qo_commands.specs.Commands.{added, altered, answered, monitored, perform, performed, without_events}
 use Rattle.qo_commands.specs.Commands as commands
 use Rattle.qo_realize.proofs.ChardevLemmas.{by_code-all, gained-all, taken-all}
 use Rattle.qo_realize.proofs.HoldLemmas.{at_path-all, held_of-all, released_of-all}
@@ -316,6 +319,14 @@ performed_keeps : (P : Board → Type 0) → KeepsBoard P → (b : Board) (r : C
 performed_keeps P k b (call.Query query) p = p
 performed_keeps P k b (call.Change (Add addition)) p = added_keeps P k b addition p
 performed_keeps P k b (call.Change (Alter alteration)) p = altered_keeps P k b alteration p
+performed_keeps P k b (call.Monitor text) p = go (line_of text)
+  where
+    go : (line : Option Line) → P (monitored b line).board
+    go None = p
+    go (Some Tree) = p
+    go (Some Bus) = p
+    go (Some (Do (Add addition))) = added_keeps P k b addition p
+    go (Some (Do (Alter alteration))) = altered_keeps P k b alteration p
 
 -- so does each command, where the events that wait are no matter
 pub keeps_commands : (P : Board → Type 0) → KeepsBoard P → ((b : Board) → P b → P (without_events b)) → KeepsCommands P

@@ -10,7 +10,7 @@ use Rattle.qo_sessions.specs.declared.acts.SessionAct.TheVariants.{Answer, Negot
 use Rattle.qo_sessions.specs.declared.modes.Mode.TheVariants.{Commanding}
 use Rattle.qo_commands.specs.Hearing.{Outcome}
 use Rattle.qo_model.specs.Board.{Board}
-use Rattle.qo_commands.specs.Commands.{event_of, performed}
+use Rattle.qo_commands.specs.Commands.{Done, event_of, performed}
 use Rattle.qo_realize.specs.Parts.{Parts}
 use Rattle.qo_realize.specs.Representation.{Stands}
 use Rattle.qo_machine.specs.Machine.{Choice, IsIn, Made, Message, Seen, State, answer_line, preceded, by_item, by_line, event_outs, made_by, reply, serve_by, session_of, state_with, with_session}
@@ -69,6 +69,13 @@ pub record Came (b : Board) (command : Call) (id : Option (List ℕ)) (r : Reply
   pub events : option_to_list r.event ≡ (performed b command).events
   pub ends : r.ends ≡ (performed b command).ends
   pub replied : IfOk r.text (λ text. text ≡ reply id (performed b command).result)
+
+-- so did a line of the monitor, which comes to this
+pub record CameAs (d : Done) (id : Option (List ℕ)) (r : Reply) (v : Parts) : Type 0 where
+  pub stands : Stands d.board v
+  pub events : option_to_list r.event ≡ d.events
+  pub ends : r.ends ≡ d.ends
+  pub replied : IfOk r.text (λ text. text ≡ reply id d.result)
 
 -- a line of the guest came to its outcome, but for the events that wait: this is its answer, if there was memory for it, and its board stands
 pub record CameTo (o : Outcome) (r : Reply) (v : Parts) : Type 0 where

@@ -9,12 +9,13 @@ ghost use Rattle.qo_machine.specs.Machine.{Choice};
 ghost use Rattle.qo_machine.specs.Runs.{closed_where};
 
 use crate::outs::Outs;
-use crate::replying::{EMPTY, changed_text, guest_text, reply_text};
+use crate::replying::{EMPTY, NOTHING_TOLD, changed_text, guest_text, line_text, reply_text};
 use crate::serving::{serve_items, serve_lines};
 use json::Scratch;
 use qo_causes::{Input, Lane, Moment, What};
 use qo_commands::{
     Done, Touched, ask, cut_lines, hear, interrupt_lines, no_view, refresh_lines, settle_lines,
+    tell_buses, tell_tree, tell_unreadable,
 };
 use qo_events::DeviceEvent;
 use qo_framing::Item;
@@ -24,6 +25,7 @@ use qo_realize::Board;
 use qo_replies::{Event, return_written};
 use qo_requests::{Call, Change, Query};
 use qo_sessions::{Mode, Session, SessionAct};
+use qo_text::{Line, line_request};
 use qo_values::{Chars, SESSIONS, Text};
 use std::alloc::{AllocError, Global};
 use std::marker::{Brand, Model};
@@ -193,13 +195,15 @@ impl Machine {
 }
 
 impl Core {
-    ghost use Rattle.std.specs.Prelude.{true, false, IsErr, OnErr, OnOk};
+    ghost use Rattle.std.specs.Prelude.{true, false, IsErr, OnErr, OnOk, Some};
     ghost use Rattle.qo_model.specs.Board.{Board as Tree};
     ghost use Rattle.qo_sessions.specs.Acts.{act};
     ghost use Rattle.qo_sessions.specs.Sessions.{fed};
     ghost use Rattle.qo_commands.specs.Changes.{Changes, Left};
     ghost use Rattle.qo_requests.specs.declared.calls.Call.TheVariants as call;
-    ghost use Rattle.qo_commands.specs.Commands.{without_events};
+    ghost use Rattle.qo_commands.specs.Commands.{monitored, without_events};
+    ghost use Rattle.qo_commands.specs.Views.{done_of};
+    ghost use Rattle.qo_text.specs.declared.lines.Line.TheVariants as line;
     ghost use Rattle.qo_realize.specs.Representation.{Stands, StandsForGood};
     ghost use Rattle.qo_realize.specs.Time.{advanced};
     ghost use Rattle.qo_machine.specs.Machine.{Answers, BreaksOff, IsIn, State, after_command, beside, finished, input_step, mode_of, opening, session_of, state_with, with_line, with_session};
@@ -212,7 +216,7 @@ impl Core {
     ghost use Rattle.qo_commands.specs.declared.touched.Touched.TheVariants.{Nothing};
     ghost use Rattle.qo_model.specs.Opening.{opening_board};
     ghost use Rattle.qo_machine.specs.Between.{IsWired};
-    ghost use Rattle.qo_machine.specs.Serving.{Came, CameTo, moved};
+    ghost use Rattle.qo_machine.specs.Serving.{Came, CameAs, CameTo, moved};
 
     /// The machine at first: the opening board, and all sessions closed.
     fn start(alloc: Global) -> Result<Core, AllocError>
@@ -668,6 +672,83 @@ impl Core {
         })
     }
 
+    /// The reply of a line of the monitor that leaves the board, by what it comes to.
+    fn tell<L: Ledger>(
+        &self,
+        alloc: Global,
+        done: Done,
+        id: Option<&Text>,
+        steps: &mut Steps<L>,
+    ) -> Result<Reply, AllocError>
+        ensures came { (b : Tree) → Stands b self.now.board → IfOk result (λ r. CameAs (done_of b done) (option_map (λ id. id.now) id.entry) r self.now.board) }
+        ensures touched { IfOk result (λ r. r.touched ≡ Nothing) }
+    {
+        let text = reply_text(alloc, &self.board, id, &done.result, steps)?;
+        Ok(Reply {
+            text: Ok(text),
+            event: done.event,
+            ends: done.ends,
+            touched: Touched::Nothing,
+        })
+    }
+
+    /// Does the command of a line of the monitor, and gives the text of its reply. The text that says that
+    /// it was done is made first. Where memory runs out the board is as it was, or an attempt was cut.
+    fn change_by_line<L: Ledger>(
+        &mut self,
+        alloc: Global,
+        change: &Change,
+        id: Option<&Text>,
+        steps: &mut Steps<L>,
+    ) -> Result<Reply, AllocError>
+        requires wired { IsWired self.old }
+        ensures came { (b : Tree) → Stands b self.old.board → IfOk result (λ r. CameAs (monitored b (Some (line.Do change.now))) (option_map (λ id. id.now) id.entry) r self.new.board) }
+        ensures left { IfOk result (λ r. IsLeft r.touched self.new.board self.new.lines) }
+        ensures same { OnErr result (IsWired self.new) }
+        ensures kept { (b : Tree) → Stands b self.old.board → OnErr result (Left b (call.Change change.now) self.new.board) }
+        ensures rest { (b : Tree) → state_with b self.new ≡ state_with b self.old }
+        ensures lasts { self.new.out_of_memory ≡ self.old.out_of_memory }
+        ensures wires { self.new.lines ≡ self.old.lines }
+    {
+        let told = return_written(alloc, id, NOTHING_TOLD)?;
+        let done = self.apply(alloc, change, steps)?;
+        let text = line_text(alloc, id, told, &done.result);
+        Ok(Reply {
+            text,
+            event: done.event,
+            ends: done.ends,
+            touched: done.touched,
+        })
+    }
+
+    /// What a line of the monitor comes to, and the text of its reply. Where memory runs out the board is as
+    /// it was, or an attempt was cut.
+    fn monitor<L: Ledger>(
+        &mut self,
+        alloc: Global,
+        command_line: &Text,
+        id: Option<&Text>,
+        steps: &mut Steps<L>,
+    ) -> Result<Reply, AllocError>
+        requires wired { IsWired self.old }
+        ensures came { (b : Tree) → Stands b self.old.board → IfOk result (λ r. Came b (call.Monitor command_line.now) (option_map (λ id. id.now) id.entry) r self.new.board) }
+        ensures kept { (b : Tree) → Stands b self.old.board → OnErr result (Left b (call.Monitor command_line.now) self.new.board) }
+        ensures left { IfOk result (λ r. IsLeft r.touched self.new.board self.new.lines) }
+        ensures same { OnErr result (IsWired self.new) }
+        ensures rest { (b : Tree) → state_with b self.new ≡ state_with b self.old }
+        ensures lasts { self.new.out_of_memory ≡ self.old.out_of_memory }
+        ensures wires { self.new.lines ≡ self.old.lines }
+    {
+        let Some(line) = line_request(alloc, command_line.as_str())? else {
+            return self.tell(alloc, tell_unreadable(alloc)?, id, steps);
+        };
+        match line {
+            Line::Do(change) => self.change_by_line(alloc, &change, id, steps),
+            Line::Tree => self.tell(alloc, tell_tree(alloc, &self.board, steps)?, id, steps),
+            Line::Bus => self.tell(alloc, tell_buses(alloc, &self.board, steps)?, id, steps),
+        }
+    }
+
     /// What a command comes to, and the text of its reply. Where memory runs out the board is as it
     /// was, or an attempt was cut.
     #[inline(always)]
@@ -690,6 +771,7 @@ impl Core {
         match command {
             Call::Query(query) => self.answer(alloc, query, id, steps),
             Call::Change(change) => self.change(alloc, change, id, steps),
+            Call::Monitor { command_line } => self.monitor(alloc, command_line, id, steps),
         }
     }
 

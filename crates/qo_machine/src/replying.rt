@@ -1,15 +1,16 @@
 //! The texts of replies.
 
-ghost use Rattle.std.specs.Prelude.{◌≡◌, false, option_map, IfOk};
+ghost use Rattle.std.specs.Prelude.{◌≡◌, [], false, option_map, IfOk};
+ghost use Rattle.serde_json.specs.Data.{string};
 ghost use Rattle.serde_json.specs.Written.{has_float};
-ghost use Rattle.qo_commands.specs.Commands.{empty as nothing};
+ghost use Rattle.qo_commands.specs.Commands.{empty as nothing, line_answer};
 ghost use Rattle.qo_commands.specs.Views.{body_data, data_of, has_float_in};
 ghost use Rattle.qo_machine.specs.Machine.{answer_line, reply};
 ghost use Rattle.qo_model.specs.Board.{Board as Tree};
 ghost use Rattle.qo_realize.specs.Representation.{Stands};
 ghost use Rattle.qo_replies.specs.Replies.{return_reply};
 
-use qo_commands::{ReplyBody, answer_written, listing_text, time_written};
+use qo_commands::{ReplyBody, answer_written, listing_text, refusal_line, time_written};
 use qo_guest::{GuestAnswer, answer_text};
 use qo_heap::Steps;
 use qo_realize::Board;
@@ -21,6 +22,9 @@ use std::sync::ledger::Ledger;
 
 /// The texts of what commands return most often.
 pub(crate) const EMPTY: &str = "{}";
+
+/// The text that a line of the monitor returns whose command was done.
+pub(crate) const NOTHING_TOLD: &str = "\"\"";
 
 const RUNNING: &str = "{\"running\":true,\"status\":\"running\"}";
 
@@ -94,6 +98,27 @@ pub(crate) fn changed_text<L: Ledger>(
     match outcome {
         Ok(ReplyBody::Empty) => Ok(empty),
         other => reply_text(alloc, board, id, other, steps),
+    }
+}
+
+/// The text of the reply to a line of the monitor that has a command, where that which says that it was done
+/// was made before.
+pub(crate) fn line_text(
+    alloc: Global,
+    id: Option<&Text>,
+    told: Chars,
+    outcome: &Result<ReplyBody, Code>,
+) -> Result<Chars, AllocError>
+    requires { told ≡ return_reply (option_map (λ id. id.now) id) (string []) }
+    ensures { (b : Tree) → IfOk result (λ text. text ≡ return_reply (option_map (λ id. id.now) id.entry) (string (line_answer (data_of b outcome.now)))) }
+{
+    match outcome {
+        Ok(_) => Ok(told),
+        Err(code) => {
+            let text = refusal_line(alloc, *code)?;
+            let value = Value::try_from_str(alloc, text.as_str())?;
+            return_text(alloc, id, &value)
+        }
     }
 }
 

@@ -2,7 +2,7 @@
 use Rattle.std.specs.Prelude.{ℕ, Bool, true, false, List, [], ◌∷◌, codes, Option, find}
 use Rattle.std.specs.Str.{bytes_eq}
 use Rattle.qo_requests.specs.declared.commands.Command.{Command}
-use Rattle.qo_requests.specs.declared.commands.Command.TheVariants.{ChardevAdd, ChardevRemove, Cont, DeviceListProperties, DeviceAdd, DeviceDel, ObjectAdd, ObjectDel, QmpCapabilities, QomGet, QomList, QomListTypes, QomSet, QueryCommands, QueryStatus, QueryVersion, Quit, RingbufRead, RingbufWrite, Stop, SystemReset, XGuest, XMemmap, XQueryDetached, XQueryNotes, XResetHold, XResetRelease, XSever, XStep}
+use Rattle.qo_requests.specs.declared.commands.Command.TheVariants.{ChardevAdd, ChardevRemove, Cont, DeviceListProperties, DeviceAdd, DeviceDel, HumanMonitorCommand, ObjectAdd, ObjectDel, QmpCapabilities, QomGet, QomList, QomListTypes, QomSet, QueryCommands, QueryStatus, QueryVersion, Quit, RingbufRead, RingbufWrite, Stop, SystemReset, XGuest, XMemmap, XQueryDetached, XQueryNotes, XResetHold, XResetRelease, XSever, XStep}
 use Rattle.qo_requests.specs.declared.arguments.Argument.{Argument}
 use Rattle.qo_requests.specs.declared.arguments.Argument.TheVariants.{Needed, Optional}
 use Rattle.qo_requests.specs.declared.arguments.ArgumentType.TheVariants.{Object, Text, Texts, Truth, Number, RingBytes, Form, Plain}
@@ -29,6 +29,7 @@ command_name Cont = codes "cont"
 command_name DeviceListProperties = codes "device-list-properties"
 command_name DeviceAdd = codes "device_add"
 command_name DeviceDel = codes "device_del"
+command_name HumanMonitorCommand = codes "human-monitor-command"
 command_name ObjectAdd = codes "object-add"
 command_name ObjectDel = codes "object-del"
 command_name QmpCapabilities = codes "qmp_capabilities"
@@ -55,7 +56,7 @@ command_name XStep = codes "x-step"
 
 -- the commands, in byte order of their names
 abbrev pub commands : List Command
-commands = ChardevAdd ∷ ChardevRemove ∷ Cont ∷ DeviceListProperties ∷ DeviceAdd ∷ DeviceDel ∷ ObjectAdd ∷ ObjectDel ∷ QmpCapabilities ∷ QomGet ∷ QomList
+commands = ChardevAdd ∷ ChardevRemove ∷ Cont ∷ DeviceListProperties ∷ DeviceAdd ∷ DeviceDel ∷ HumanMonitorCommand ∷ ObjectAdd ∷ ObjectDel ∷ QmpCapabilities ∷ QomGet ∷ QomList
     ∷ QomListTypes ∷ QomSet ∷ QueryCommands ∷ QueryStatus ∷ QueryVersion ∷ Quit ∷ RingbufRead ∷ RingbufWrite ∷ Stop ∷ SystemReset ∷ XGuest ∷ XMemmap
     ∷ XQueryDetached ∷ XQueryNotes ∷ XResetHold ∷ XResetRelease ∷ XSever ∷ XStep ∷ []
 
@@ -70,6 +71,7 @@ arguments ChardevRemove = Needed field.Id Text ∷ []
 arguments DeviceListProperties = Needed field.Typename Text ∷ []
 arguments DeviceAdd = Needed field.Driver Text ∷ Optional field.Id Text ∷ Optional field.Bus Text ∷ []
 arguments DeviceDel = Needed field.Id Text ∷ []
+arguments HumanMonitorCommand = Needed field.CommandLine Text ∷ []
 arguments ObjectAdd = Needed field.QomType Text ∷ Needed field.Id Text ∷ []
 arguments ObjectDel = Needed field.Id Text ∷ []
 arguments QmpCapabilities = Optional field.Enable Texts ∷ []
@@ -117,6 +119,7 @@ request_of DeviceListProperties args = queries (query.DeviceListProperties (text
 request_of DeviceAdd args =
     adds (addition.DeviceAdd (text_in field.Driver args) (text_at field.Id args) (text_at field.Bus args) (properties_beside (arguments DeviceAdd) args))
 request_of DeviceDel args = alters (alteration.DeviceDel (text_in field.Id args))
+request_of HumanMonitorCommand args = request.Call (call.Monitor (text_in field.CommandLine args))
 request_of ObjectAdd args = adds (addition.ObjectAdd (text_in field.QomType args) (text_in field.Id args) (properties_beside (arguments ObjectAdd) args))
 request_of ObjectDel args = alters (alteration.ObjectDel (text_in field.Id args))
 request_of QmpCapabilities args = request.QmpCapabilities (texts_at field.Enable args)

@@ -3,7 +3,7 @@ use Rattle.std.specs.Prelude.{ℕ, List, codes, Option, unwrap_or}
 use Rattle.serde_json.specs.Data.{Data, null}
 use Rattle.serde_json.specs.Find.{get}
 use Rattle.qo_requests.specs.declared.fields.Field.{Field}
-use Rattle.qo_requests.specs.declared.fields.Field.TheVariants.{Abstract, Arguments, Backend, Birth, Bus, Device, Driver, Enable, Execute, Format, From, Id, Implements, Kind, Line, Ns, Path, Payload, Property, QomType, Size, Typename, Value}
+use Rattle.qo_requests.specs.declared.fields.Field.TheVariants.{Abstract, Arguments, Backend, Birth, Bus, CommandLine, Device, Driver, Enable, Execute, Format, From, Id, Implements, Kind, Line, Ns, Path, Payload, Property, QomType, Size, Typename, Value}
 
 -- a member's name, as messages spell it
 abbrev pub field_name : Field → List ℕ
@@ -12,6 +12,7 @@ field_name Arguments = codes "arguments"
 field_name Backend = codes "backend"
 field_name Birth = codes "birth"
 field_name Bus = codes "bus"
+field_name CommandLine = codes "command-line"
 field_name Device = codes "device"
 field_name Driver = codes "driver"
 field_name Enable = codes "enable"

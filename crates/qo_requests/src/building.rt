@@ -8,7 +8,7 @@ ghost use Rattle.qo_requests.specs.Commands.{arguments, request_of, ring_on};
 ghost use Rattle.qo_requests.specs.ArgumentMembers.{AreGiven};
 
 use crate::argument_values::ArgumentValues;
-use crate::calls::{Addition, Alteration, Query};
+use crate::calls::{Addition, Alteration, Call, Query};
 use crate::commands::{Command, backend_members, payload_members};
 use crate::fields::Field;
 use crate::requests::Request;
@@ -103,6 +103,9 @@ pub(crate) fn request_of(
         Command::DeviceAdd => device_adding(alloc, args)?,
         Command::DeviceDel => Request::alters(Alteration::DeviceDel {
             id: text_in(alloc, args, Field::Id)?,
+        }),
+        Command::HumanMonitorCommand => Request::Call(Call::Monitor {
+            command_line: text_in(alloc, args, Field::CommandLine)?,
         }),
         Command::ObjectAdd => object_adding(alloc, args)?,
         Command::ObjectDel => Request::alters(Alteration::ObjectDel {

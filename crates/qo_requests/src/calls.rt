@@ -9,6 +9,11 @@ pub enum Call {
     Query(Query),
     /// It changes the board, or is refused.
     Change(Change),
+    /// `human-monitor-command`: what it does is said by its line.
+    Monitor {
+        /// The line, the argument `command-line`.
+        command_line: Text,
+    },
 }
 
 /// A command that leaves the board.

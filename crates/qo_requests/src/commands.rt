@@ -24,6 +24,8 @@ pub enum Command {
     DeviceAdd,
     /// `device_del`.
     DeviceDel,
+    /// `human-monitor-command`.
+    HumanMonitorCommand,
     /// `object-add`.
     ObjectAdd,
     /// `object-del`.
@@ -84,6 +86,7 @@ impl Command {
             Command::DeviceListProperties => "device-list-properties",
             Command::DeviceAdd => "device_add",
             Command::DeviceDel => "device_del",
+            Command::HumanMonitorCommand => "human-monitor-command",
             Command::ObjectAdd => "object-add",
             Command::ObjectDel => "object-del",
             Command::QmpCapabilities => "qmp_capabilities",
@@ -121,6 +124,7 @@ impl Command {
             Command::DeviceListProperties,
             Command::DeviceAdd,
             Command::DeviceDel,
+            Command::HumanMonitorCommand,
             Command::ObjectAdd,
             Command::ObjectDel,
             Command::QmpCapabilities,
@@ -163,10 +167,10 @@ impl Command {
         ensures { result ≡ command_of name.now }
     {
         match name.as_bytes() {
-            [b'o', ..] => Command::first_named(&Command::all()[6..], name),
-            [b'q', b'u', ..] => Command::first_named(&Command::all()[13..], name),
-            [b'q', ..] => Command::first_named(&Command::all()[8..], name),
-            [b'x', ..] => Command::first_named(&Command::all()[21..], name),
+            [b'o', ..] => Command::first_named(&Command::all()[7..], name),
+            [b'q', b'u', ..] => Command::first_named(&Command::all()[14..], name),
+            [b'q', ..] => Command::first_named(&Command::all()[9..], name),
+            [b'x', ..] => Command::first_named(&Command::all()[22..], name),
             _ => Command::first_named(Command::all(), name),
         }
     }
@@ -188,6 +192,7 @@ impl Command {
                 Optional(Field::Id, Text),
                 Optional(Field::Bus, Text),
             ],
+            Command::HumanMonitorCommand => &[Needed(Field::CommandLine, Text)],
             Command::ObjectAdd => &[Needed(Field::QomType, Text), Needed(Field::Id, Text)],
             Command::QmpCapabilities => &[Optional(Field::Enable, Texts)],
             Command::QomGet => &[Needed(Field::Path, Text), Needed(Field::Property, Text)],

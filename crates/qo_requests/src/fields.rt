@@ -21,6 +21,8 @@ pub enum Field {
     Birth,
     /// `bus`.
     Bus,
+    /// `command-line`.
+    CommandLine,
     /// `device`.
     Device,
     /// `driver`.
@@ -70,6 +72,7 @@ impl Field {
             Field::Backend => "backend",
             Field::Birth => "birth",
             Field::Bus => "bus",
+            Field::CommandLine => "command-line",
             Field::Device => "device",
             Field::Driver => "driver",
             Field::Enable => "enable",

@@ -1,5 +1,5 @@
-//! Tests of the calls of the board: on objects, on devices that are added in stages, and of its memory map and
-//! its interrupt lines. They say what no clause says:
+//! Tests of the calls of the board: on objects, on devices that are added in stages, of its memory map and
+//! its interrupt lines, and of what the text monitor tells of it. They say what no clause says:
 //! that each of these succeeds with ample memory. They stand in a crate of their own since a crate with tests is proved
 //! twice, with them and without.
 #![tactic(auto)]
@@ -8,6 +8,8 @@
 mod layout;
 #[cfg(test)]
 mod lines;
+#[cfg(test)]
+mod monitor;
 #[cfg(test)]
 mod realize;
 #[cfg(test)]

@@ -1,5 +1,5 @@
 //! Worked sessions in which the guest reads and writes registers at hardware addresses, and reads interrupt lines,
-//! byte for byte through the top call. Expected texts are written out by hand.
+//! and of the text monitor, byte for byte through the top call. Expected texts are written out by hand.
 
 use crate::objects::{add_row, gives, greeted, opening};
 use std::alloc::Global;
@@ -127,5 +127,43 @@ const RAISED: [(&str, &str); 19] = [
 #[test]
 fn interrupt_lines_rise_and_fall(rt: HostRuntime) -> Result<(), Fail> {
     assert!(rt; holds(rt.alloc(), &RAISED)?);
+    Ok(())
+}
+
+/// Lines of the text monitor: what they do, and what they are told.
+const MONITORED: [(&str, &str); 7] = [
+    (
+        "human-monitor-command {\"command-line\":\"info qom-tree\"}",
+        "\"/ (container)\\n  /machine (machine)\\n    /peripheral (container)\\n    /peripheral-anon (container)\\n    /sysclk (clock)\\n    /root.0 (slot-bus)\\n    /mem.0 (mem-bus)\\n  /objects (container)\\n\"",
+    ),
+    (
+        "human-monitor-command {\"command-line\":\"info  qtree\"}",
+        "\"Error: line unreadable\\n\"",
+    ),
+    (
+        "human-monitor-command {\"command-line\":\"device_add slot-uart,id=u0,slot=3\"}",
+        "\"\"",
+    ),
+    (
+        "human-monitor-command {\"command-line\":\"device_add slot-uart,id=u0,slot=3\"}",
+        "\"Error: E24 id taken\\n\"",
+    ),
+    (
+        "human-monitor-command {\"command-line\":\"info qtree\"}",
+        "\"bus: root.0\\n  type slot-bus\\n  dev: slot-uart, id \\\"u0\\\"\\nbus: mem.0\\n  type mem-bus\\n\"",
+    ),
+    (
+        "human-monitor-command {\"command-line\":\"device_del u0\"}",
+        "\"\"",
+    ),
+    (
+        "human-monitor-command {\"command-line\":\"device_del u0\"}",
+        "\"Error: E34 removal pending\\n\"",
+    ),
+];
+
+#[test]
+fn monitor_is_told(rt: HostRuntime) -> Result<(), Fail> {
+    assert!(rt; holds(rt.alloc(), &MONITORED)?);
     Ok(())
 }
