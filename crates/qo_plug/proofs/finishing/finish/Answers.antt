@@ -2,7 +2,7 @@
 use Rattle.std.proofs.Common.{ap, sym, ◌∙◌, Some}
 use Rattle.qo_plug.proofs.AddLemmas.{added-counts, counts-in, is-added, is-refused, kinds-in, open-place, path-in, plugged-in}
 use Rattle.qo_plug.proofs.BodyLemmas.{kept-own, there-own}
-use Rattle.qo_properties.proofs.KeptLemmas.{claims-before, claims-same, counts-before, goes-kept}
+use Rattle.qo_properties.proofs.KeptLemmas.{claims-before, claims-same, counts-before, goes-kept, periods-before}
 use Rattle.qo_plug.proofs.finishing.finish.Goals as goal
 
 pub returns-in-Attached-clause-ok : goal.returns-in-Attached-clause-ok
@@ -43,6 +43,14 @@ pub returns-in-Attached-clause-claims : goal.returns-in-Attached-clause-claims
 returns-in-Attached-clause-claims g c = λ n k e.
     sym (c.start.ensures.claims n)
     ∙ claims-before c.start.new.heap c.drop_pin.new.heap (goes-kept c.start.new.heap c.drop_pin.new.heap c.drop_pin.ensures.goes) n k e
+
+pub returns-in-Attached-clause-periods : goal.returns-in-Attached-clause-periods
+returns-in-Attached-clause-periods g c = λ n k e.
+    sym (c.start.ensures.periods n)
+    ∙ periods-before c.start.new.heap c.drop_pin.new.heap (goes-kept c.start.new.heap c.drop_pin.new.heap c.drop_pin.ensures.goes) n k e
+
+pub returns-in-NoticesFull-clause-periods : goal.returns-in-NoticesFull-clause-periods
+returns-in-NoticesFull-clause-periods g c = periods-before c.args.heap.now c.refuse.new.heap c.refuse.ensures.kept
 
 pub returns-in-NoticesFull-clause-claims : goal.returns-in-NoticesFull-clause-claims
 returns-in-NoticesFull-clause-claims g c = claims-before c.args.heap.now c.refuse.new.heap c.refuse.ensures.kept

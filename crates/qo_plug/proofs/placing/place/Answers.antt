@@ -12,13 +12,13 @@ use Rattle.qo_plug.specs.Drafts.{given_draft}
 use Rattle.qo_plug.specs.DeviceClaims.{kept_on}
 use Rattle.qo_plug.specs.FreeResources.{IsFreeId}
 use Rattle.qo_plug.specs.Placement.{IsAttachment, kept_in, resources_in}
-use Rattle.qo_properties.specs.KeptClaims.{SameKept}
+use Rattle.qo_properties.specs.KeptClaims.{SameClaims}
 use Rattle.qo_plug.proofs.ClaimLemmas.{chosen-claims, draft-keeps}
 use Rattle.qo_plug.proofs.GivenDraftLemmas.{stood-planned}
 use Rattle.qo_plug.proofs.SourceLemmas.{source-same}
 use Rattle.qo_plug.proofs.StageLemmas.{attachment-of, bus-low, full-barred, given_up-cut, opened, resources-refused}
 use Rattle.qo_properties.proofs.KeptLemmas.{before-same, before-then}
-use Rattle.qo_plug.proofs.KeptLemmas.{given-but}
+use Rattle.qo_plug.proofs.KeptLemmas.{given-but, same-before}
 use Rattle.qo_plug.proofs.placing.place.Goals as goal
 
 pub returns-in-Err-clause-refused : goal.returns-in-Err-clause-refused
@@ -63,10 +63,10 @@ returns-in-Ok-stand-clause-settled g c = λ b a is notices.
     rw ens.bus (source-same b d.target.kind is.sound a.props d.target.bus.birth (bus-low b a d c.args.heap.now is c.requires)) in
     let opening = opened b a d c.args.heap.now is c.in-Ok.resources c.in-Ok.is room in
     let chosen = chosen-claims b d.target.kind d.target.bus.birth a.props c.in-Ok.resources (rw c.in-Ok.is at is.resources) in
-    let keeps = rw (ens.bus, ens.resources) at c.in-Ok-stand.ensures.kept in
+    let keeps = rw (ens.bus, ens.resources) at c.in-Ok-stand.ensures.claims in
     let kept =
     draft-keeps c.args.heap.now c.stand.new.heap d.device.birth d.target.kind (claims_given b d.target.kind d.target.bus.birth a.props) c.requires.rest
-    (subst (λ (k : KeptSet). SameKept (with_edit d.device.birth (kept_in k) c.args.heap.now) c.stand.new.heap) chosen keeps) in
+    (subst (λ (k : KeptSet). SameClaims (with_edit d.device.birth (kept_in k) c.args.heap.now) c.stand.new.heap) chosen keeps) in
     let stood = c.in-Ok-stand.ensures.stood b (given_draft b d.target.kind a.props) a is.shown attachment source is.plan in
     record {
       sound = is.sound;
@@ -98,9 +98,12 @@ returns-in-Err-stand-clause-book g c = λ out h. c.give_up-in-Err-stand.ensures.
 
 pub returns-in-Ok-stand-clause-kept : goal.returns-in-Ok-stand-clause-kept
 returns-in-Ok-stand-clause-kept g c =
-    given-but c.args.heap.now c.stand.new.heap c.args.begun.device.birth
-    (kept_in (kept_on c.attachment_at-attachment.result.0.bus.birth c.attachment_at-attachment.result.0.resources))
-    c.in-Ok-stand.ensures.kept
+    (
+      given-but c.args.heap.now c.stand.new.heap c.args.begun.device.birth
+      (kept_in (kept_on c.attachment_at-attachment.result.0.bus.birth c.attachment_at-attachment.result.0.resources))
+      c.in-Ok-stand.ensures.claims,
+      same-before c.args.heap.now c.stand.new.heap c.in-Ok-stand.ensures.counts,
+    )
 
 pub returns-in-Err-stand-clause-unkept : goal.returns-in-Err-stand-clause-unkept
 returns-in-Err-stand-clause-unkept g c =
