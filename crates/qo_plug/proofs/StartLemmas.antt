@@ -9,7 +9,9 @@ use Rattle.qo_values.specs.declared.kinds.TypeId.{TypeId}
 use Rattle.qo_slots.specs.declared.keys.Key.{Key}
 use Rattle.qo_claims.specs.declared.claims.Claimed.{Claimed}
 use Rattle.qo_heap.specs.Rows.{IsLive, row_at}
-use Rattle.qo_model.specs.Board.{Board, Notice, Record, Slot, child, plain, strong, weak, alias, slots_at}
+use Rattle.qo_model.specs.Board.{Board, Notice, Record, Slot, child, plain, strong, weak, alias, record_of, slots_at}
+use Rattle.qo_model.proofs.FirstSlotLemmas.{slots_in}
+use Rattle.qo_model.proofs.StepLemmas.{found-edited, slots-edited}
 use Rattle.qo_model.specs.Clocks.{acted, with_act_on}
 use Rattle.qo_model.specs.Devices.{bus_in, buses_of, clock_name}
 use Rattle.qo_model.specs.Paths.{canonical}
@@ -230,6 +232,15 @@ path-shown b v w s n path is now =
 pub started-shown : (n : ℕ) (t : TypeId) (b : Board) (w : Objects) → buses_of b n ≡ bus_births n t
     → Shows (notified_plug n (plugged (acted_all Realize (n ∷ buses_of b n) b) n)) w → Shows (started n t b) w
 started-shown n t b w same s = subst (λ (l : List ℕ). Shows (notified_plug n (plugged (acted_all Realize (n ∷ l) b) n)) w) same s
+
+-- slots stay
+pub started-slots : (n : ℕ) (t : TypeId) (c : Board) (i : ℕ) → slots_at (started n t c) i ≡ slots_at c i
+started-slots n t c i =
+    let d : Board = acted_all Realize (n ∷ bus_births n t) c in
+    ap slots_in (found-edited n (plug.with_path (canonical (plugged d n) n)) (λ r. refl) i (plugged d n).records)
+    ∙ slots-edited n (plug.with_path (canonical (plugged d n) n)) (λ r. refl) (record_of (plugged d n) i)
+    ∙ (plugged-still n d).slots i
+    ∙ (all-still Realize (n ∷ bus_births n t) c).slots i
 
 -- the path of a device that acted is the one before
 pub acted-path : (n : ℕ) (ns : List ℕ) (b : Board) (path : List ℕ) → canonical b n ≡ Some path → canonical (plugged (acted_all Realize ns b) n) n ≡ Some path

@@ -33,6 +33,11 @@ FedAs one (Attached path) v w =
     (x : Board) → Shows x w → ((n : ℕ) → clock_of x one ≡ Some n → ClockFed n v w) × (clock_of x one ≡ None → KeepsPeriods v w)
 FedAs one (NoticesFull out) v w = PeriodsBefore v w
 
+-- a placed device was plugged into a board: its clock is the one that it had, and where what is kept of it was right, it is
+pub record FedStays (c : Board) (one : ℕ) (v w : Objects) : Type 0 where
+  pub clock : (b : Board) → Shows b v → clock_of c one ≡ clock_of b one
+  pub its : (n : ℕ) → IsFed v n → IsFed w n
+
 -- a device was plugged into a board: what is kept of its clock is right; of who else is there the periods were kept before, or it was not there, and none
 -- are
 pub record FedOrNew (c : Board) (one : ℕ) (v w : Objects) : Type 0 where

@@ -16,7 +16,7 @@ ghost use Rattle.qo_model.specs.Board.{Board, is_live, kind_of};
 ghost use Rattle.qo_model.specs.Devices.{clock_of};
 ghost use Rattle.qo_model.specs.Objects.{Given};
 ghost use Rattle.qo_model.specs.Paths.{canonical};
-ghost use Rattle.qo_model.specs.Plug.{Wanted, addressed_at, link_named, registers_on, source_for, stood, valued, with_body_of, with_source};
+ghost use Rattle.qo_model.specs.Plug.{Wanted, addressed_at, link_named, registers_on, source_for, valued, with_body_of, with_source};
 ghost use Rattle.qo_model.specs.Release.{edit};
 ghost use Rattle.qo_model.specs.Unplug.{set_named};
 ghost use Rattle.qo_object.specs.declared.slots.Slot.TheVariants.{Link};
@@ -254,8 +254,8 @@ fn connect_clock<L: Ledger>(heap: &mut Heap, device: Oid, source: Option<Oid>, s
     ensures shown { (b : Board) → Shows b heap.old → IfSome source (λ o. Shows (with_source o.birth (clock_of b device.birth) b) heap.new) }
     ensures none { IfNone source (heap.new ≡ heap.old) }
     ensures connected { Connected heap.old heap.new }
-    ensures fed { (b : Board) (n : ℕ) → Shows b heap.old → clock_of b device.birth ≡ Some n → IfSome source (λ _. ClockFed n heap.old heap.new) }
-    ensures unfed { (b : Board) → Shows b heap.old → clock_of b device.birth ≡ None → KeepsPeriods heap.old heap.new }
+    ensures fed { (b : Board) (n : ℕ) → Shows b heap.new → clock_of b device.birth ≡ Some n → IfSome source (λ _. ClockFed n heap.old heap.new) }
+    ensures unfed { (b : Board) → Shows b heap.new → clock_of b device.birth ≡ None → KeepsPeriods heap.old heap.new }
 {
     heap.reveal_board();
     let Some(source) = source else {
@@ -399,8 +399,8 @@ pub fn stand<L: Ledger>(
     ensures pinned { 0 < pins_of heap.old device.birth → 0 < pins_of heap.new device.birth }
     ensures claims { OnOk result (SameClaims (with_edit device.birth (kept_in (kept_on attachment.bus.birth attachment.resources)) heap.old) heap.new) }
     ensures counts { OnOk result (KeepsCounts heap.old heap.new) }
-    ensures fed { OnOk result ((b c : Board) (a : Wanted) (n : ℕ) → Shows c heap.old → IsAttachment b a attachment.container.birth attachment.name id → AllZip (IsGiven b a.props) plan.items (own_slots_of heap.old device.birth) → is_live c (source_for c attachment.bus.birth) ≡ true → clock_of (stood b device.birth a (resources_in attachment.bus.birth attachment.resources) c) device.birth ≡ Some n → ClockFed n heap.old heap.new) }
-    ensures unfed { OnOk result ((b c : Board) (a : Wanted) → Shows c heap.old → IsAttachment b a attachment.container.birth attachment.name id → AllZip (IsGiven b a.props) plan.items (own_slots_of heap.old device.birth) → clock_of (stood b device.birth a (resources_in attachment.bus.birth attachment.resources) c) device.birth ≡ None → KeepsPeriods heap.old heap.new) }
+    ensures fed { OnOk result ((b c : Board) (n : ℕ) → Shows b heap.old → is_live b (source_for b attachment.bus.birth) ≡ true → Shows c heap.new → clock_of c device.birth ≡ Some n → ClockFed n heap.old heap.new) }
+    ensures unfed { OnOk result ((c : Board) → Shows c heap.new → clock_of c device.birth ≡ None → KeepsPeriods heap.old heap.new) }
     ensures unkept { OnErr result (SameKept heap.old heap.new) }
     ensures book { KeepsBook heap.old heap.new }
 {

@@ -2,13 +2,17 @@
 use Rattle.std.specs.Prelude.{◌≡◌, ◌⊎◌, ℕ, Some}
 use Rattle.qo_model.specs.Board.{Board}
 use Rattle.qo_object.specs.Content.{Content}
-use Rattle.qo_heap.specs.Acts.{periods_of}
+use Rattle.qo_heap.specs.Acts.{clocked_in, periods_of}
 use Rattle.qo_heap.specs.Board.{Shows}
 use Rattle.qo_heap.specs.Objects.{Objects, content_of}
 use Rattle.qo_clocks.specs.Kept.{Clocked}
 use Rattle.qo_clocks.specs.Periods.{scaled_on}
 use Rattle.qo_clocks.specs.Reads.{own_on}
 use Rattle.qo_properties.specs.KeptClaims.{KeptBefore}
+
+-- of who is there the same periods were kept before
+abbrev pub PeriodsBefore : Objects → Objects → Type 0
+PeriodsBefore v w = (n : ℕ) (k : ℕ × ℕ) → clocked_in w n ≡ Some k → clocked_in v n ≡ Some k
 
 -- where the clocks of a board are as they should be, with right periods kept, so are those of the board after
 abbrev pub KeepsClocks : Objects → Objects → Type 0

@@ -1,8 +1,8 @@
 -- The device is judged already: it takes its place, or is given up.
-use Rattle.std.proofs.Common.{◌≡◌, ℕ, Option, ◌≤◌, ◌==◌, refl, ap, sym, subst, ◌∙◌, List, false, length, nat_le, arith}
+use Rattle.std.proofs.Common.{◌≡◌, ℕ, Option, ◌≤◌, ◌==◌, refl, ap, sym, subst, ◌∙◌, List, true, false, length, nat_le, arith}
 use Rattle.std.proofs.lemmas.Bool.Decides.{nat_tests}
 use Rattle.qo_values.specs.declared.limits.TheConstants.{NOTICES_MAX}
-use Rattle.qo_model.specs.Board.{Notice}
+use Rattle.qo_model.specs.Board.{Board, Notice, is_live}
 use Rattle.qo_model.specs.Plug.{source_for}
 use Rattle.qo_slots.specs.declared.keys.Key.{Key}
 use Rattle.qo_kinds.specs.declared.kept_set.KeptSet.{KeptSet}
@@ -15,7 +15,7 @@ use Rattle.qo_plug.specs.Placement.{IsAttachment, kept_in, resources_in}
 use Rattle.qo_properties.specs.KeptClaims.{SameClaims}
 use Rattle.qo_plug.proofs.ClaimLemmas.{chosen-claims, draft-keeps}
 use Rattle.qo_plug.proofs.GivenDraftLemmas.{stood-planned}
-use Rattle.qo_plug.proofs.SourceLemmas.{source-same}
+use Rattle.qo_plug.proofs.SourceLemmas.{draft-live, source-same}
 use Rattle.qo_plug.proofs.StageLemmas.{attachment-of, bus-low, full-barred, given_up-cut, opened, resources-refused}
 use Rattle.qo_properties.proofs.KeptLemmas.{before-same, before-then}
 use Rattle.qo_plug.proofs.KeptLemmas.{given-but, same-before}
@@ -115,3 +115,22 @@ returns-then-are_full-clause-kept g c = λ n k e. e
 
 pub returns-in-Err-clause-unkept : goal.returns-in-Err-clause-unkept
 returns-in-Err-clause-unkept g c = c.give_up.ensures.kept
+
+pub returns-then-are_full-clause-fed : goal.returns-then-are_full-clause-fed
+returns-then-are_full-clause-fed g c = λ b a is there. (λ n k e. e)
+
+pub returns-in-Ok-stand-clause-fed : goal.returns-in-Ok-stand-clause-fed
+returns-in-Ok-stand-clause-fed g c = λ b a is there.
+    let d = c.args.begun in
+    let ens = c.attachment_at-attachment.ensures in
+    let draft : Board = given_draft b d.target.kind a.props in
+    let source : source_for b c.attachment_at-attachment.result.0.bus.birth ≡ source_for draft c.attachment_at-attachment.result.0.bus.birth =
+    rw ens.bus (source-same b d.target.kind is.sound a.props d.target.bus.birth (bus-low b a d c.args.heap.now is c.requires)) in
+    let live : is_live draft (source_for draft c.attachment_at-attachment.result.0.bus.birth) ≡ true =
+    subst (λ (n : ℕ). is_live draft n ≡ true) source
+    (draft-live b d.target.kind is.sound a.props (source_for b c.attachment_at-attachment.result.0.bus.birth) (there c.attachment_at-attachment.result.0.bus.birth)) in
+    λ x t.
+    (
+      λ n at. c.in-Ok-stand.ensures.fed draft x n is.shown live t at,
+      λ none. c.in-Ok-stand.ensures.unfed x t none,
+    )

@@ -225,7 +225,7 @@ returns-in-Ok-clause-counts g c =
     ∙ read-content counts_of c.args.device.birth (kept_in c.in_ok-taken.taken.kept) (λ d. refl) c.args.heap.now n
 
 pub returns-in-Ok-clause-fed : goal.returns-in-Ok-clause-fed
-returns-in-Ok-clause-fed g c = λ b d a n s attachment told there at.
+returns-in-Ok-clause-fed g c = λ b x n s there t at.
     let given = placed-claims c.args.heap.now c.reserve_event.new.self c.take_claims.new.heap c.join.new.heap c.keep_claims.new.heap
     c.reserve_event.new.self.events.spare c.args.device c.args.attachment.container c.args.attachment.bus c.args.attachment.name
     c.args.attachment.resources.slot
@@ -237,32 +237,14 @@ returns-in-Ok-clause-fed g c = λ b d a n s attachment told there at.
     let periods : KeepsPeriods c.args.heap.now c.put_body.new.heap = λ n.
     periods-same (with_edit c.args.device.birth (kept_in c.in_ok-taken.taken.kept) c.args.heap.now) c.put_body.new.heap before n
     ∙ read-content periods_of c.args.device.birth (kept_in c.in_ok-taken.taken.kept) (λ d. refl) c.args.heap.now n in
-    let range : Option Range = range_in c.args.attachment.resources.memory in
-    let resources : Resources = resources_in c.args.attachment.bus.birth c.args.attachment.resources in
-    let here : Board = joined b c.args.device.birth a resources d in
-    let there : Board = addressed_at c.args.device.birth range (valued b c.args.device.birth a.props resources here) in
-    let first : Shows d c.reserve_event.new.self =
-    reserved-shows d c.args.heap.now c.reserve_event.new.self c.reserve_event.new.self.events.spare c.reserve_event.ensures.kept s in
-    let given : AllZip (IsGiven b a.props) c.args.plan.items (own_slots_of c.keep_claims.new.heap c.args.device.birth) =
-    subst (λ (l : List Named). AllZip (IsGiven b a.props) c.args.plan.items l) (sym (placed-own c.args.heap.now c.reserve_event.new.self
-    c.take_claims.new.heap
-    c.join.new.heap c.keep_claims.new.heap c.reserve_event.new.self.events.spare c.args.device c.args.attachment.container
-    c.args.attachment.bus c.args.attachment.name c.args.attachment.resources.slot c.in_ok-taken.taken.kept c.reserve_event.ensures.kept
-    c.in_ok-taken.ensures.rest c.in-Ok.ensures.now c.keep_claims.ensures.now c.requires.apart)) told in
-    let valued_is : Shows there c.put_values.new.heap =
-    c.put_values.ensures.shown b here a.props (placed-kept c.args.heap.now c.reserve_event.new.self c.take_claims.new.heap
-    c.join.new.heap c.keep_claims.new.heap c.reserve_event.new.self.events.spare c.args.device c.args.attachment.container
-    c.args.attachment.bus c.args.attachment.name c.args.attachment.resources.slot c.in_ok-taken.taken.kept c.reserve_event.ensures.kept
-    c.in_ok-taken.ensures.rest c.in-Ok.ensures.now c.keep_claims.ensures.now b d a c.args.id range s attachment) given in
-    let body_is : Shows (stood b c.args.device.birth a resources d) c.put_body.new.heap =
-    subst (λ (id : Option (List ℕ)). Shows (edit c.args.device.birth (with_body_of id range) there) c.put_body.new.heap)
-    (sym (attachment.id_is ∙ sym c.in_ok-taken.ensures.id)) (c.put_body.ensures.shown there valued_is) in
+    let first : Shows b c.reserve_event.new.self =
+    reserved-shows b c.args.heap.now c.reserve_event.new.self c.reserve_event.new.self.events.spare c.reserve_event.ensures.kept s in
     fed-from c.args.heap.now c.put_body.new.heap c.connect_clock.new.heap n periods
-    (found-source (ClockFed n c.put_body.new.heap c.connect_clock.new.heap) d (source_for d c.args.attachment.bus.birth) c.source_of-source.result
-    (c.source_of-source.ensures.none d first) there (c.connect_clock.ensures.fed (stood b c.args.device.birth a resources d) n body_is at))
+    (found-source (ClockFed n c.put_body.new.heap c.connect_clock.new.heap) b (source_for b c.args.attachment.bus.birth) c.source_of-source.result
+    (c.source_of-source.ensures.none b first) there (c.connect_clock.ensures.fed x n t at))
 
 pub returns-in-Ok-clause-unfed : goal.returns-in-Ok-clause-unfed
-returns-in-Ok-clause-unfed g c = λ b d a s attachment told none.
+returns-in-Ok-clause-unfed g c = λ x t none.
     let given = placed-claims c.args.heap.now c.reserve_event.new.self c.take_claims.new.heap c.join.new.heap c.keep_claims.new.heap
     c.reserve_event.new.self.events.spare c.args.device c.args.attachment.container c.args.attachment.bus c.args.attachment.name
     c.args.attachment.resources.slot
@@ -274,27 +256,7 @@ returns-in-Ok-clause-unfed g c = λ b d a s attachment told none.
     let periods : KeepsPeriods c.args.heap.now c.put_body.new.heap = λ n.
     periods-same (with_edit c.args.device.birth (kept_in c.in_ok-taken.taken.kept) c.args.heap.now) c.put_body.new.heap before n
     ∙ read-content periods_of c.args.device.birth (kept_in c.in_ok-taken.taken.kept) (λ d. refl) c.args.heap.now n in
-    let range : Option Range = range_in c.args.attachment.resources.memory in
-    let resources : Resources = resources_in c.args.attachment.bus.birth c.args.attachment.resources in
-    let here : Board = joined b c.args.device.birth a resources d in
-    let there : Board = addressed_at c.args.device.birth range (valued b c.args.device.birth a.props resources here) in
-    let first : Shows d c.reserve_event.new.self =
-    reserved-shows d c.args.heap.now c.reserve_event.new.self c.reserve_event.new.self.events.spare c.reserve_event.ensures.kept s in
-    let given : AllZip (IsGiven b a.props) c.args.plan.items (own_slots_of c.keep_claims.new.heap c.args.device.birth) =
-    subst (λ (l : List Named). AllZip (IsGiven b a.props) c.args.plan.items l) (sym (placed-own c.args.heap.now c.reserve_event.new.self
-    c.take_claims.new.heap
-    c.join.new.heap c.keep_claims.new.heap c.reserve_event.new.self.events.spare c.args.device c.args.attachment.container
-    c.args.attachment.bus c.args.attachment.name c.args.attachment.resources.slot c.in_ok-taken.taken.kept c.reserve_event.ensures.kept
-    c.in_ok-taken.ensures.rest c.in-Ok.ensures.now c.keep_claims.ensures.now c.requires.apart)) told in
-    let valued_is : Shows there c.put_values.new.heap =
-    c.put_values.ensures.shown b here a.props (placed-kept c.args.heap.now c.reserve_event.new.self c.take_claims.new.heap
-    c.join.new.heap c.keep_claims.new.heap c.reserve_event.new.self.events.spare c.args.device c.args.attachment.container
-    c.args.attachment.bus c.args.attachment.name c.args.attachment.resources.slot c.in_ok-taken.taken.kept c.reserve_event.ensures.kept
-    c.in_ok-taken.ensures.rest c.in-Ok.ensures.now c.keep_claims.ensures.now b d a c.args.id range s attachment) given in
-    let body_is : Shows (stood b c.args.device.birth a resources d) c.put_body.new.heap =
-    subst (λ (id : Option (List ℕ)). Shows (edit c.args.device.birth (with_body_of id range) there) c.put_body.new.heap)
-    (sym (attachment.id_is ∙ sym c.in_ok-taken.ensures.id)) (c.put_body.ensures.shown there valued_is) in
-    (λ n. c.connect_clock.ensures.unfed (stood b c.args.device.birth a resources d) body_is none n ∙ periods n)
+    (λ n. c.connect_clock.ensures.unfed x t none n ∙ periods n)
 
 pub returns-in-Ok-clause-book : goal.returns-in-Ok-clause-book
 returns-in-Ok-clause-book g c = λ out h.
