@@ -33,14 +33,22 @@ FedAs one (Attached path) v w =
     (x : Board) → Shows x w → ((n : ℕ) → clock_of x one ≡ Some n → ClockFed n v w) × (clock_of x one ≡ None → KeepsPeriods v w)
 FedAs one (NoticesFull out) v w = PeriodsBefore v w
 
--- a placed device was plugged into a board: its clock is the one that it had, and where what is kept of it was right, it is
-pub record FedStays (c : Board) (one : ℕ) (v w : Objects) : Type 0 where
-  pub clock : (b : Board) → Shows b v → clock_of c one ≡ clock_of b one
-  pub its : (n : ℕ) → IsFed v n → IsFed w n
-
 -- a device was plugged into a board: what is kept of its clock is right; of who else is there the periods were kept before, or it was not there, and none
 -- are
 pub record FedOrNew (c : Board) (one : ℕ) (v w : Objects) : Type 0 where
   pub others : (m : ℕ) (k : ℕ × ℕ) → (clock_of c one ≡ Some m → ⊥) → clocked_in w m ≡ Some k
       → (clocked_in v m ≡ Some k) ⊎ ((clocked_in v m ≡ None) × (k ≡ (0, 0)))
   pub its : (n : ℕ) → clock_of c one ≡ Some n → IsFed w n
+
+-- so of a device that was begun, and then placed
+abbrev pub PeriodsOrNew : Objects → Objects → Type 0
+PeriodsOrNew v w = (m : ℕ) (k : ℕ × ℕ) → clocked_in w m ≡ Some k → (clocked_in v m ≡ Some k) ⊎ ((clocked_in v m ≡ None) × (k ≡ (0, 0)))
+
+abbrev pub FedSoFar : ℕ → Plugging → Objects → Objects → Type 0
+FedSoFar one (Attached path) v w = (x : Board) → Shows x w → FedOrNew x one v w
+FedSoFar one (NoticesFull out) v w = PeriodsOrNew v w
+
+-- a placed device was plugged into a board: its clock is the one that it had, and where what is kept of it was right, it is
+pub record FedStays (c : Board) (one : ℕ) (v w : Objects) : Type 0 where
+  pub clock : (b : Board) → Shows b v → clock_of c one ≡ clock_of b one
+  pub its : (n : ℕ) → IsFed v n → IsFed w n

@@ -17,13 +17,15 @@ use Rattle.qo_heap.specs.Acts.{clocked_in, periods_of}
 use Rattle.qo_heap.specs.Board.{Shows}
 use Rattle.qo_heap.specs.Objects.{Objects, content_of, no_objects_made}
 use Rattle.qo_heap.proofs.BoardReads.{shows-live}
-use Rattle.qo_clocks.specs.Kept.{IsClocked, PeriodsKept, child_kept, kept_turn}
+use Rattle.qo_clocks.specs.Kept.{Clocked, IsClocked, PeriodsKept, child_kept, kept_turn}
 use Rattle.qo_clocks.specs.Periods.{scaled_on}
 use Rattle.qo_clocks.specs.Reads.{div_on, mul_on, own_on, source_on}
 use Rattle.qo_clocks.proofs.KeptLemmas.{turn_by}
 use Rattle.qo_clocks.proofs.ReadLemmas.{shows-div, shows-mul, shows-own, shows-source}
 use Rattle.qo_properties.specs.KeptPeriods.{OwnKept}
 use Rattle.qo_sound.proofs.SearchLemmas.{all-found}
+use Rattle.qo_sound_clocks.specs.SoundClocks.{SoundClocks}
+use Rattle.qo_sound_clocks.proofs.FactLemmas.{clocks_say_lem}
 
 -- a clock of a board is one of another: its numbers and its source are the same
 pub record SameClock (b c : Board) (n : ℕ) : Type 0 where
@@ -176,3 +178,7 @@ opening-periods w t own n c there =
 
 pub own-empty : OwnKept no_objects_made
 own-empty n c e = absurd (let clash : None ≡ Some c = e in cc)
+
+-- on a sound board whose heap keeps right periods clocks are as they should be
+pub clocked-sound : (b : Board) (v : Objects) → SoundClocks b → PeriodsKept v → Clocked b v
+clocked-sound b v sound kept = record { fits = sound.fit; none_round = clocks_say_lem.none_round b sound; kept = kept }
