@@ -64,8 +64,8 @@ module _ (q : List ℕ → Bool) (f : Slot → Slot) where
           → find (λ (x : Named). q x.0) (changed_at f (at slots) slots) ≡ option_map (λ (x : Named). (x.0, f x.1)) (find (λ (x : Named). q x.0) slots)
           → find (λ (x : Named). q x.0) (changed_at f (at (s ∷ slots)) (s ∷ slots))
           ≡ option_map (λ (x : Named). (x.0, f x.1)) (find (λ (x : Named). q x.0) (s ∷ slots))
-      go true e rest = rw (e, e, e) refl
-      go false e rest = rw (e, one, e, e) rest
+      go true e rest = rw (e, e) refl
+      go false e rest = rw (e, one, e) rest
 
   first-other : (p : List ℕ → Bool) → ((name : List ℕ) → q name ≡ true → p name ≡ false) → (slots : List Named)
       → find (λ (s : Named). p s.0) (changed_at f (at slots) slots) ≡ find (λ (s : Named). p s.0) slots
@@ -77,12 +77,12 @@ module _ (q : List ℕ → Bool) (f : Slot → Slot) where
 
       by : (t : Bool) → p s.0 ≡ t → find (λ (x : Named). p x.0) (changed_at f (at slots) slots) ≡ find (λ (x : Named). p x.0) slots
           → find (λ (x : Named). p x.0) (s ∷ changed_at f (at slots) slots) ≡ find (λ (x : Named). p x.0) (s ∷ slots)
-      by true is rest = rw (is, is) refl
-      by false is rest = rw (is, is) rest
+      by true is rest = rw is refl
+      by false is rest = rw is rest
 
       go : (t : Bool) → q s.0 ≡ t → find (λ (x : Named). p x.0) (changed_at f (at slots) slots) ≡ find (λ (x : Named). p x.0) slots
           → find (λ (x : Named). p x.0) (changed_at f (at (s ∷ slots)) (s ∷ slots)) ≡ find (λ (x : Named). p x.0) (s ∷ slots)
-      go true e rest = rw (e, apart s.0 e, apart s.0 e) refl
+      go true e rest = rw (e, apart s.0 e) refl
       go false e rest = rw (e, one) (by (p s.0) refl rest)
 
 place-is : (q : Named → Bool) (slots : List Named) (i : ℕ) → position q slots ≡ Some i → position_or_len q slots ≡ i

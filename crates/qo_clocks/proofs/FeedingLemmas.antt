@@ -4,7 +4,7 @@ use Rattle.std.specs.Prelude.{option_and_then}
 use Rattle.std.specs.List.{AllByRecursion, list_any}
 use Rattle.std.specs.Option.{option_map_or}
 use Rattle.std.specs.Str.{bytes_eq}
-use Rattle.std.proofs.lemmas.Bool.{eq-eqb, eqb-true, or_left, or_right}
+use Rattle.std.proofs.lemmas.Bool.{eq-eqb, or_left, or_right}
 use Rattle.std.proofs.lemmas.Bool.Decides.{nat_tests}
 use Rattle.std.proofs.lemmas.Option.{same_Some}
 use Rattle.qo_values.proofs.ListLemmas.{all-imply}
@@ -185,7 +185,7 @@ module _ (q : ℕ → Bool) (p : Content → Bool) where
           let up : above ≤ row.0.birth = grind (arith, nat_tests, is) in
           let rest : all_above above rows ≡ all_above row.0.birth rows =
           same-above above row.0.birth row.0.birth last rows up (omega arith) rises.1 in
-          rw (is, self, self) (ap (λ (l : List ℕ). cond (q row.0.birth) (row.0.birth ∷ l) l) rest)
+          rw (is, self) (ap (λ (l : List ℕ). cond (q row.0.birth) (row.0.birth ∷ l) l) rest)
 
       go : (s : Bool) → nat_lt above row.0.birth ≡ s → (t : Bool) → p row.1 ≡ t
           → (first_above above rows ≡ Some k → all_above above rows ≡ cond (q k.birth) (k.birth ∷ all_above k.birth rows) (all_above k.birth rows))
@@ -203,13 +203,22 @@ module _ (q : ℕ → Bool) (p : Content → Bool) where
           let found : first_above above rows ≡ Some k = rw (is, at) at e in
           let far : row.0.birth < k.birth = (first-within above row.0.birth last rows k rises.1 found).0 in
           let low_it : nat_lt k.birth row.0.birth ≡ false = grind (arith, nat_tests) in
-          rw (is, not_it (q row.0.birth) refl) (by low_it (rest found))
+          rw is
+          (ap (λ (t : Bool). cond t (row.0.birth ∷ all_above above rows) (all_above above rows)) (not_it (q row.0.birth) refl) ∙ by low_it (rest found))
         where
           not_it : (u : Bool) → q row.0.birth ≡ u → q row.0.birth ≡ false
           not_it true has = absurd (cc (all.0 has, at))
           not_it false has = has
 
 -- of a heap
+
+-- none above a number was passed up to another
+pub record Passes (v : Objects) (c above passed : ℕ) : Type 0 where
+  pub low : above ≤ passed
+  pub left : fed_above v c passed ≡ fed_above v c above
+
+pub passes-none : (v : Objects) (c above : ℕ) → Passes v c above above
+passes-none v c above = record { low = omega arith; left = refl }
 
 module _ (v : Objects) (good : IsHeap v) (c : ℕ) where
   pub fed-all : fed_above v c 0 ≡ fed_on v c
@@ -222,15 +231,7 @@ module _ (v : Objects) (good : IsHeap v) (c : ℕ) where
           let some : nat_lt 0 row.0.birth ≡ true = grind (arith, nat_tests) in
           rw some (ap (λ (l : List ℕ). cond (goes_by v c row.0.birth) (row.0.birth ∷ l) l) (go row.0.birth last rows rises.1))
 
-  -- so far none above a number was passed
-  pub record Passes (above passed : ℕ) : Type 0 where
-    pub low : above ≤ passed
-    pub left : fed_above v c passed ≡ fed_above v c above
-
-  pub passes-none : (above : ℕ) → Passes above above
-  passes-none above = record { low = omega arith; left = refl }
-
-  module _ (above passed : ℕ) (so_far : Passes above passed) where
+  module _ (above passed : ℕ) (so_far : Passes v c above passed) where
     pub next-none : weak_owner_above c passed v.rows ≡ None → fed_above v c above ≡ []
     next-none e = sym so_far.left ∙ none-above (goes_by v c) (is_weak_owner c) passed v.rows (all-owners v good c) e
 
@@ -258,7 +259,7 @@ module _ (v : Objects) (good : IsHeap v) (c : ℕ) where
             fed = sym so_far.left ∙ split ∙ ap (λ (t : Bool). cond t (k.birth ∷ fed_above v c k.birth) (fed_above v c k.birth)) goes;
           }
 
-      pub next-passed : goes_by v c k.birth ≡ false → Passes above k.birth
+      pub next-passed : goes_by v c k.birth ≡ false → Passes v c above k.birth
       next-passed not =
           let low = so_far.low in
           let high = owner-high in

@@ -1,7 +1,7 @@
 -- What is kept of clocks: what leaves it right, and how it is kept afresh.
-use Rattle.std.proofs.Common.{◌≡◌, refl, ap, ap₂, subst, sym, ◌∙◌, ℕ, ◌-◌, ◌^◌, min, Bool, true, false, eqb, List, [], Option, Some, None, option_map}
+use Rattle.std.proofs.Common.{◌≡◌, refl, ap, ap₂, subst, sym, ◌∙◌, ℕ, ◌-◌, ◌^◌, min, Bool, true, false, eqb, Option, Some, None, option_map}
 use Rattle.std.specs.Option.{option_map_or}
-use Rattle.std.proofs.lemmas.Bool.{eq-eqb, eqb-true}
+use Rattle.std.proofs.lemmas.Bool.{eqb-true}
 use Rattle.std.proofs.lemmas.Option.{same_Some}
 use Rattle.qo_slots.specs.declared.keys.Key.{Key}
 use Rattle.qo_model.specs.Board.{Board}

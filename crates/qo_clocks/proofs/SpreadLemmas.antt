@@ -248,7 +248,7 @@ module _ (v : Objects) (levels c before after : ℕ) where
       pub next-timely : Timely x₂
       next-timely = rw called (called-timely n before after x₁ first-timely)
 
-      change : Change
+      abbrev change : Change
       change = record { clock = n; before = before; after = after; child = scaled_on v n after }
 
       scales : (p : ℕ) → scaled_on w n p ≡ scaled_on v n p

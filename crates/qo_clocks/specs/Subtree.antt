@@ -16,6 +16,7 @@ fed_on v c = filter (goes_by v c) (births v.rows)
 
 abbrev pub fed_above : Objects → ℕ → ℕ → List ℕ
 fed_above v c above = filter (λ (n : ℕ). nat_lt above n && goes_by v c n) (births v.rows)
+
 -- a clock is the first of these, and the others are those with births above its own
 pub record IsNextFed (v : Objects) (c above : ℕ) (n : Key) : Type 0 where
   pub live : IsLive v.rows n

@@ -23,7 +23,7 @@ use crate::links::set_number;
 use crate::periods::{child_period, fitting};
 use crate::reads::{slot_of, source_of};
 use crate::spread::spread;
-use qo_heap::{Heap, Oid, Side, Slot, Steps};
+use qo_heap::{Heap, Oid, Slot, Steps};
 use qo_model::PropertyName;
 use std::sync::ledger::Ledger;
 
@@ -100,7 +100,7 @@ pub fn set<L: Ledger>(
     }
     heap.reveal_invariant();
     let levels = heap.live() + 1;
-    let before = heap.side(c, steps).child;
+    let side = heap.side(c, steps);
     let own = written(heap, c, PropertyName::Period, period, 0, steps);
     let child = child_period(heap, c, own, steps);
     let Some(after) = all_fit(heap, c, child, levels, steps) else {
@@ -108,7 +108,7 @@ pub fn set<L: Ledger>(
     };
     set_number(heap, c, PropertyName::Period, period, steps);
     keep(heap, c, own, after, steps);
-    spread(heap, c, before, after, levels, steps);
+    spread(heap, c, side.child, after, levels, steps);
     Ok(())
 }
 
@@ -144,23 +144,19 @@ pub fn set_mul_div<L: Ledger>(
     }
     heap.reveal_invariant();
     let levels = heap.live() + 1;
-    let Side {
-        period: own,
-        child: before,
-        ..
-    } = heap.side(c, steps);
+    let side = heap.side(c, steps);
     let mul_after = written(heap, c, PropertyName::Mul, mul, 1, steps);
     let child = fitting(
         mul_after,
         written(heap, c, PropertyName::Div, div, 1, steps),
-        own,
+        side.period,
     );
     let Some(after) = all_fit(heap, c, child, levels, steps) else {
         return Err(ClockError::Overflow);
     };
     set_number(heap, c, PropertyName::Mul, mul, steps);
     set_number(heap, c, PropertyName::Div, div, steps);
-    keep(heap, c, own, after, steps);
-    spread(heap, c, before, after, levels, steps);
+    keep(heap, c, side.period, after, steps);
+    spread(heap, c, side.child, after, levels, steps);
     Ok(())
 }

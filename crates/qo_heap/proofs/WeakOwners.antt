@@ -14,7 +14,7 @@ use Rattle.qo_heap.specs.Keeping.{plain}
 use Rattle.qo_heap.specs.Rows.{IsLive, Rises, births, object_at}
 use Rattle.qo_heap.specs.WeakEnds.{is_weak_owner, nearer, weak_count, weak_owner_above}
 use Rattle.qo_heap.specs.WeakLinks.{node_of, weak_names}
-use Rattle.qo_heap.specs.WeakLists.{HasWeakLists, IsChain, IsNumbered, bag_in, cell_in, head_in, named_weight, row_weight}
+use Rattle.qo_heap.specs.WeakLists.{IsChain, IsNumbered, bag_in, cell_in, head_in, named_weight, row_weight}
 use Rattle.qo_heap.specs.declared.entries.Entry.{Entry}
 use Rattle.qo_heap.specs.declared.weak_links.End.{End}
 use Rattle.qo_heap.specs.declared.weak_links.Node.{Node}
@@ -111,7 +111,7 @@ module _ (n above : ℕ) where
         omega (
           arith,
           nothing-weighs n (by_owner (is_key k)) row.0 (λ id. ap (λ (b : Bool). cond {A = ℕ} b 1 0) (other row.0 differ)) row.1.links.nodes
-          (weak_names row.1.object.slots),
+              (weak_names row.1.object.slots),
           later-none row.0.birth last rows (omega arith) rises.1,
           sum_by-cons (row_weight n (by_owner (is_key k))) row rows,
         )

@@ -29,12 +29,7 @@ impl Heap {
 
     /// The object of the least birth above a number that has a weak link to an object; `None` exactly
     /// where none has. It looks at each weak link that names the object once, and takes no memory.
-    pub fn weak_owner<L: Ledger>(
-        &self,
-        o: Oid,
-        above: u64,
-        steps: &mut Steps<L>,
-    ) -> Option<Oid>
+    pub fn weak_owner<L: Ledger>(&self, o: Oid, above: u64, steps: &mut Steps<L>) -> Option<Oid>
         requires { IsLive self.now.rows o }
         ensures owner { result ≡ weak_owner_above o.birth above self.now.rows }
         ensures cost { steps.new ≤ steps.old + (1 + weak_count o.birth self.now.rows) }
