@@ -37,7 +37,13 @@ acts-claims v w acts n =
     ∙ kept-still n v.rows
 
 -- a side has no more parts
-side-of : (s t : Side) → (s.count, s.marks) ≡ (t.count, t.marks) → (s.period, s.child) ≡ (t.period, t.child) → s ≡ t
+abbrev tally : Side → ℕ × ℕ
+tally s = (s.count, s.marks)
+
+abbrev ticks : Side → ℕ × ℕ
+ticks s = (s.period, s.child)
+
+side-of : (s t : Side) → tally s ≡ tally t → ticks s ≡ ticks t → s ≡ t
 side-of s t counts periods = ap₂ (λ (x y : ℕ × ℕ). record { count = x.0; marks = x.1; period = y.0; child = y.1 }) counts periods
 
 pub acts-kept : (v w : Objects) → Acts v w → KeepsCounts v w → KeepsPeriods v w → SameKept v w

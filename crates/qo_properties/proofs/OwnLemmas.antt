@@ -1,5 +1,5 @@
 -- While the opening board is made, each object keeps the periods that it has where it goes by no other.
-use Rattle.std.proofs.Common.{rules, ◌≡◌, refl, ap, ap₂, sym, subst, ◌∙◌, ℕ, ◌^◌, ◌-◌, min, Bool, true, false, eqb, List, [], ◌∷◌, ◌++◌, codes, find, Option, Some, None, option_map, unwrap_or}
+use Rattle.std.proofs.Common.{if◌then◌else◌, rules, ◌≡◌, refl, ap, ap₂, sym, subst, ◌∙◌, ℕ, ◌^◌, ◌-◌, min, Bool, true, false, eqb, List, [], ◌∷◌, ◌++◌, codes, find, Option, Some, None, option_map, unwrap_or}
 use Rattle.std.specs.Option.{option_and_then}
 use Rattle.std.specs.Str.{bytes_eq}
 use Rattle.std.proofs.lemmas.Bool.{eqb-true}

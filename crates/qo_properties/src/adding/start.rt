@@ -66,9 +66,10 @@ fn set_period<L: Ledger>(heap: &mut Heap, clock: Oid, steps: &mut Steps<L>)
     requires content { content_of heap.old clock.birth ≡ Some (as_made Clock (new_slots Clock) 0) }
     ensures { heap.new ≡ with_edit clock.birth ticking heap.old }
 {
-    if let Some(at) = place_named(heap, clock, "period", steps) {
-        heap.set(clock, at, Val::Uint(SYSTEM_PERIOD), steps);
-    }
+    let Some(at) = place_named(heap, clock, "period", steps) else {
+        return;
+    };
+    heap.set(clock, at, Val::Uint(SYSTEM_PERIOD), steps);
     heap.reveal_invariant();
     let side = heap.side(clock, steps);
     heap.set_side(
