@@ -33,9 +33,9 @@ use Rattle.qo_properties.specs.KeptClaims.{KeptOrNew, kept_by}
 use Rattle.qo_properties.specs.KeptPeriods.{PeriodsBefore}
 use Rattle.qo_properties.proofs.ActsKept.{changed-kept}
 use Rattle.qo_properties.proofs.KeptLemmas.{claims-same, periods-either, periods-there}
-use Rattle.qo_plug.specs.declared.placing.Plugging.TheVariants.{Attached}
-use Rattle.qo_plug.specs.declared.standing.DevicePath.{DevicePath}
-use Rattle.qo_plug.specs.KeptPeriods.{ClockFed, FedAs, FedOrNew, FedStays, IsFed}
+use Rattle.qo_plug.specs.declared.placing.Plugging.TheVariants.{Attached, NoticesFull}
+use Rattle.qo_plug.specs.declared.placing.Plugging.{Plugging}
+use Rattle.qo_plug.specs.KeptPeriods.{ClockFed, FedAs, FedOrNew, FedSoFar, FedStays, IsFed, PeriodsOrNew}
 use Rattle.qo_plug.specs.Placement.{Connected, Stays}
 use Rattle.qo_plug.proofs.PlacementSteps.{alike-edit, alike-same, alike-then, stays-named}
 
@@ -208,25 +208,31 @@ module _ (b c : Board) (v w : Objects) (s : Shows b v) (t : Shows c w) (same : (
             child = sym (ap (λ (y : ℕ × ℕ). y.1) both) ∙ k.child ∙ ap (scaled_on v n) (ap (λ (y : ℕ × ℕ). y.0) both) ∙ sym (scaled n x.side.period);
           }
 
--- a device was begun, placed and plugged
-pub fed-new : (c : Board) (one : ℕ) (path : DevicePath) (b : Board) (u v x w : Objects) → KeptOrNew u v → Shows b x → FedAs one (Attached path) v x → PeriodsBefore x w
-    → FedStays c one x w → FedOrNew c one u w
-fed-new c one path b u v x w new shown fed before stays = record { others = others_are; its = its_are }
-  where
-    from_new : (m : ℕ) (k : ℕ × ℕ) → clocked_in v m ≡ Some k → (clocked_in u m ≡ Some k) ⊎ ((clocked_in u m ≡ None) × (k ≡ (0, 0)))
-    from_new m k e = let y = periods-there (content_of v m) k e in periods-either u m k y.0 y.2 (new m y.0 y.1)
+-- a device was begun, and placed
 
-    others_are : (m : ℕ) (k : ℕ × ℕ) → (clock_of c one ≡ Some m → ⊥) → clocked_in w m ≡ Some k
+from-new : (u v : Objects) → KeptOrNew u v → PeriodsOrNew u v
+from-new u v new m k e = let y = periods-there (content_of v m) k e in periods-either u m k y.0 y.2 (new m y.0 y.1)
+
+pub fed-so-far : (one : ℕ) (p : Plugging) (u v w : Objects) → KeptOrNew u v → FedAs one p v w → FedSoFar one p u w
+fed-so-far one (Attached path) u v w new fed = λ x shown. record { others = others_are x shown; its = λ n at. ((fed x shown).0 n at).its }
+  where
+    others_are : (x : Board) → Shows x w → (m : ℕ) (k : ℕ × ℕ) → (clock_of x one ≡ Some m → ⊥) → clocked_in w m ≡ Some k
         → (clocked_in u m ≡ Some k) ⊎ ((clocked_in u m ≡ None) × (k ≡ (0, 0)))
-    others_are m k apart e = from_new m k (by (clock_of b one) refl)
+    others_are x shown m k apart e = from-new u v new m k (by (clock_of x one) refl)
       where
-        by : (o : Option ℕ) → clock_of b one ≡ o → clocked_in v m ≡ Some k
-        by None p = sym ((fed b shown).1 p m) ∙ before m k e
-        by (Some n) p = sym (((fed b shown).0 n p).others m (other (eqb m n) refl)) ∙ before m k e
+        by : (o : Option ℕ) → clock_of x one ≡ o → clocked_in v m ≡ Some k
+        by None p = sym ((fed x shown).1 p m) ∙ e
+        by (Some n) p = sym (((fed x shown).0 n p).others m (other (eqb m n) refl)) ∙ e
           where
             other : (t : Bool) → eqb m n ≡ t → t ≡ false
             other false q = refl
-            other true q = absurd (apart (stays.clock b shown ∙ p ∙ ap Some (sym (eqb-true m n q))))
+            other true q = absurd (apart (p ∙ ap Some (sym (eqb-true m n q))))
+fed-so-far one (NoticesFull out) u v w new fed = λ m k e. from-new u v new m k (fed m k e)
 
-    its_are : (n : ℕ) → clock_of c one ≡ Some n → IsFed w n
-    its_are n at = stays.its n ((fed b shown).0 n (sym (stays.clock b shown) ∙ at)).its
+-- and plugged
+pub fed-then : (b c : Board) (one : ℕ) (u x w : Objects) → Shows b x → FedOrNew b one u x → PeriodsBefore x w → FedStays c one x w → FedOrNew c one u w
+fed-then b c one u x w shown fed before stays =
+    record {
+      others = λ m k apart e. fed.others m k (λ at. apart (stays.clock b shown ∙ at)) (before m k e);
+      its = λ n at. stays.its n (fed.its n (sym (stays.clock b shown) ∙ at));
+    }

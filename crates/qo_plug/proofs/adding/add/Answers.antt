@@ -7,9 +7,9 @@ use Rattle.qo_plug.specs.Admission.{as_wanted}
 use Rattle.qo_reset.specs.Counts.{CountsKept}
 use Rattle.qo_plug.specs.declared.placing.Plugging.{Plugging}
 use Rattle.qo_plug.specs.KeptClaims.{ClaimsOrNewBut, KeptSoFar}
-use Rattle.qo_plug.specs.KeptPeriods.{FedAs, FedOrNew, FedStays}
+use Rattle.qo_plug.specs.KeptPeriods.{FedOrNew, FedSoFar, FedStays}
 use Rattle.qo_plug.proofs.AddLemmas.{stood-shown}
-use Rattle.qo_plug.proofs.FedLemmas.{fed-new}
+use Rattle.qo_plug.proofs.FedLemmas.{fed-so-far, fed-then}
 use Rattle.qo_plug.specs.Stages.{resources_barred}
 use Rattle.qo_plug.proofs.JudgementLemmas.{refused-told}
 use Rattle.qo_plug.proofs.AddLemmas.{cut-late, planned-judged, refused-last, refused-only, refused-within, resources-refused, shown-same}
@@ -154,10 +154,11 @@ returns-in-Ok-finish-clause-fed g c = λ b is there.
     let path = c.in-Ok-finish.ensures.stood.0 in
     let attached = c.in-Ok-finish.ensures.stood.1 in
     let fed =
-    subst (λ (x : Plugging). FedAs placed.device.birth x c.make.new.heap c.place.new.heap) attached (c.in-Ok-place.ensures.fed b a begun there) in
+    subst (λ (x : Plugging). FedSoFar placed.device.birth x c.args.heap.now c.place.new.heap) attached
+    (fed-so-far placed.device.birth placed.plugging c.args.heap.now c.make.new.heap c.place.new.heap before (c.in-Ok-place.ensures.fed b a begun there)) in
     let shown = stood-shown b a placed c.place.new.heap path attached settled in
     subst (λ (n : ℕ). FedOrNew (plug b a).board n c.args.heap.now c.finish.new.heap) (sym c.in-Ok-finish.ensures.device)
-    (fed-new (plug b a).board placed.device.birth path shown.0 c.args.heap.now c.make.new.heap c.place.new.heap c.finish.new.heap before shown.1 fed
+    (fed-then shown.0 (plug b a).board placed.device.birth c.args.heap.now c.place.new.heap c.finish.new.heap shown.1 (fed shown.0 shown.1)
     c.finish.ensures.periods
     (subst (λ (n : ℕ). FedStays (plug b a).board n c.place.new.heap c.finish.new.heap) c.in-Ok-finish.ensures.device stays))
 
