@@ -1,5 +1,5 @@
 -- For proofs alone. What is kept of clocks, over a change of a heap: their periods.
-use Rattle.std.specs.Prelude.{◌≡◌, ◌⊎◌, ℕ, Some}
+use Rattle.std.specs.Prelude.{◌≡◌, ℕ, Some}
 use Rattle.qo_model.specs.Board.{Board}
 use Rattle.qo_object.specs.Content.{Content}
 use Rattle.qo_heap.specs.Acts.{clocked_in, periods_of}
@@ -8,7 +8,6 @@ use Rattle.qo_heap.specs.Objects.{Objects, content_of}
 use Rattle.qo_clocks.specs.Kept.{Clocked}
 use Rattle.qo_clocks.specs.Periods.{scaled_on}
 use Rattle.qo_clocks.specs.Reads.{own_on}
-use Rattle.qo_properties.specs.KeptClaims.{KeptBefore}
 
 -- of who is there the same periods were kept before
 abbrev pub PeriodsBefore : Objects → Objects → Type 0
@@ -17,10 +16,6 @@ PeriodsBefore v w = (n : ℕ) (k : ℕ × ℕ) → clocked_in w n ≡ Some k →
 -- where the clocks of a board are as they should be, with right periods kept, so are those of the board after
 abbrev pub KeepsClocks : Objects → Objects → Type 0
 KeepsClocks v w = (b : Board) → Shows b v → Clocked b v → (x : Board) → Shows x w → Clocked x w
-
--- the periods of those who are there were kept before, or clocks were written
-abbrev pub PeriodsStay : Objects → Objects → Type 0
-PeriodsStay v w = KeptBefore v w ⊎ KeepsClocks v w
 
 -- of each object the periods are kept that it has where it goes by no other
 abbrev pub OwnKept : Objects → Type 0

@@ -27,7 +27,13 @@ use Rattle.qo_sound_devices.proofs.DevicesLawLemmas.{devices_kept_lem}
 use Rattle.qo_sound_phases.proofs.CommandLemmas.{frame, keeps}
 use Rattle.qo_sound_phases.proofs.FrameLemmas.{Frame}
 use Rattle.qo_sound_phases.proofs.ResetTreeLemmas.{Placed, placed}
-use Rattle.qo_realize.proofs.PeriodLemmas.{SameClock, SameClocks}
+use Rattle.qo_object.specs.Content.{Content}
+use Rattle.qo_heap.specs.Board.{Shows}
+use Rattle.qo_heap.specs.Objects.{Objects, content_of}
+use Rattle.qo_clocks.specs.Kept.{IsClocked, PeriodsKept}
+use Rattle.qo_properties.specs.KeptClaims.{KeptOrNew}
+use Rattle.qo_properties.proofs.KeptLemmas.{periods-either, periods-there}
+use Rattle.qo_realize.proofs.PeriodLemmas.{OtherPeriods, SameClock, SameClocks, periods-stay, records-clocks}
 
 -- the values of slots
 
@@ -321,3 +327,23 @@ changed-clocks b change d h =
 
             no_source : (m : ℕ) → record_of b m ≡ None → source_of b m ≡ None
             no_source m p = rw (source_of, p) refl
+
+-- what is kept of clocks stays right
+
+other-periods : (v w : Objects) → KeptOrNew v w → OtherPeriods (λ _. false) v w
+other-periods v w either n k other e = let y = periods-there (content_of w n) k e in periods-either v n k y.0 y.2 (either n y.0 y.1)
+
+none-fed : (w : Objects) (n : ℕ) (x : Content) → ◌≡◌ {A = Bool} false true → content_of w n ≡ Some x → IsClocked w n x
+none-fed w n x e there = cc
+
+pub same-periods : (b c : Board) (v w : Objects) → SameClocks (λ _. false) b c → Shows b v → Shows c w → KeptOrNew v w → PeriodsKept v → PeriodsKept w
+same-periods b c v w same s t either kept = periods-stay (λ _. false) b c v w s t same (other-periods v w either) kept (none-fed w)
+
+pub changed-periods : (b : Board) (change : Change) (v w : Objects) → SoundDevices b → SoundSources b → Shows b v → Shows (changed b change) w → KeptOrNew v w
+    → PeriodsKept v → PeriodsKept w
+changed-periods b change v w d h s t either kept = same-periods b (changed b change) v w (changed-clocks b change d h) s t either kept
+
+pub beside-periods : (b c : Board) (v w : Objects) → SoundDevices c → SoundSources c → c.records ≡ b.records → Shows b v → Shows c w → KeptOrNew v w
+    → PeriodsKept v → PeriodsKept w
+beside-periods b c v w d h e s t either kept =
+    same-periods b c v w (records-clocks b c e (sources-linked c (placed c d) h)) s t either kept

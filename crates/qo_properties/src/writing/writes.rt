@@ -17,7 +17,7 @@ ghost use Rattle.qo_heap.specs.Objects.{content_of, slots_of};
 ghost use Rattle.qo_heap.specs.Moments.{Timely};
 ghost use Rattle.qo_properties.specs.Claims.{KeepsBook};
 ghost use Rattle.qo_properties.specs.KeptClaims.{ClaimsBefore, CountsBefore, KeptBefore};
-ghost use Rattle.qo_properties.specs.KeptPeriods.{PeriodsStay};
+ghost use Rattle.qo_properties.specs.KeptPeriods.{KeepsClocks};
 ghost use Rattle.qo_properties.specs.Writes.{Writes, is_link_at, is_of_clock, is_of_clock_at, is_plain_at, link_type_at, no_target, target_told, to_link, to_plain};
 
 use crate::reading::lookup::place_named;
@@ -285,7 +285,8 @@ fn set_property<L: Ledger>(
     ensures book { KeepsBook heap.old heap.new }
     ensures claims { ClaimsBefore heap.old heap.new }
     ensures counts { CountsBefore heap.old heap.new }
-    ensures periods { PeriodsStay heap.old heap.new }
+    ensures kept { (b : Tree) → Shows b heap.old → is_of_clock b o.birth name.now ≡ false → KeptBefore heap.old heap.new }
+    ensures clocks { (b : Tree) → Shows b heap.old → is_of_clock b o.birth name.now ≡ true → KeepsClocks heap.old heap.new }
 {
     if set_row(heap, o, name, steps).is_none() {
         return write(heap, o, name, val, alloc, steps);
@@ -321,7 +322,8 @@ pub fn set<L: Ledger>(
     ensures book { KeepsBook heap.old heap.new }
     ensures claims { ClaimsBefore heap.old heap.new }
     ensures counts { CountsBefore heap.old heap.new }
-    ensures periods { PeriodsStay heap.old heap.new }
+    ensures kept { (b : Tree) → Shows b heap.old → is_of_clock_at b path.now name.now ≡ false → KeptBefore heap.old heap.new }
+    ensures clocks { (b : Tree) → Shows b heap.old → is_of_clock_at b path.now name.now ≡ true → KeepsClocks heap.old heap.new }
 {
     let o = object_at(heap, path, steps)?;
     set_property(heap, o, name, val, alloc, steps)

@@ -4,6 +4,7 @@ use Rattle.qo_values.specs.declared.properties.Val.TheVariants.{Uint}
 use Rattle.qo_values.specs.declared.limits.TheConstants.{SYSTEM_PERIOD}
 use Rattle.qo_object.specs.Content.{set_at}
 use Rattle.qo_heap.specs.Objects.{with_edit}
+use Rattle.qo_heap.specs.Rows.{IsLive}
 use Rattle.qo_heap.proofs.HeapLemmas.{live-edit}
 use Rattle.qo_clocks.specs.Kept.{with_periods}
 use Rattle.qo_clocks.proofs.KeptLemmas.{keep-as}
@@ -19,7 +20,9 @@ side-side-requires g c =
 
 pub set_side-requires : goal.set_side-requires
 set_side-requires g c =
-    rw c.set.ensures.now (live-edit c.args.clock.birth (set_at (Uint SYSTEM_PERIOD) c.in-Some.at) c.args.heap.now.rows c.args.clock c.requires.live)
+    let there : IsLive c.set.new.self.rows c.args.clock =
+    rw c.set.ensures.now (live-edit c.args.clock.birth (set_at (Uint SYSTEM_PERIOD) c.in-Some.at) c.args.heap.now.rows c.args.clock c.requires.live) in
+    record { live = there }
 
 pub returns : goal.returns
 returns g c =
