@@ -1,5 +1,5 @@
 -- What is written to the clocks of the board, and read of them, by its heap.
-use Rattle.std.proofs.Common.{◌≡◌, refl, ap, sym, ◌∙◌, ℕ, true, false, cond, List, find, codes, Option, None, Some, is_none, is_some, option_map, OnOk, OnErr, Result, Ok, Err}
+use Rattle.std.proofs.Common.{◌≡◌, refl, ap, sym, ◌∙◌, ℕ, true, false, cond, List, find, codes, Option, None, Some, is_some, option_map, OnOk, OnErr, Result, Ok, Err}
 use Rattle.std.specs.Option.{option_and_then}
 use Rattle.std.specs.Str.{bytes_eq}
 use Rattle.qo_values.specs.declared.codes.Code.{Code}
@@ -101,21 +101,6 @@ clock-writes v (Ok done) (Ok b) h = (b, refl, h)
 clock-writes v (Err e) (Err code) h = ap (λ (k : Code). Err k) (sym h)
 clock-writes v (Ok done) (Err code) h = absurd h
 clock-writes v (Err e) (Ok b) h = absurd h
-
--- whether a row was found says whether it is a clock's
-pub row-none : (o p : Option Property) → o ≡ p → is_none o ≡ true → is_some p ≡ false
-row-none o p same none = ap is_some (sym same) ∙ go o none
-  where
-    go : (x : Option Property) → is_none x ≡ true → is_some x ≡ false
-    go None e = refl
-    go (Some r) e = cc
-
-pub row-some : (o p : Option Property) → o ≡ p → is_none o ≡ false → is_some p ≡ true
-row-some o p same some = ap is_some (sym same) ∙ go o some
-  where
-    go : (x : Option Property) → is_none x ≡ false → is_some x ≡ true
-    go None e = cc
-    go (Some r) e = refl
 
 -- what is not written leaves the clocks
 pub same-clocks : (v : Objects) → KeepsClocks v v

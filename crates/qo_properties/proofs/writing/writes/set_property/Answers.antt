@@ -1,6 +1,6 @@
 -- A write that is no clock's leaves what is kept.
-use Rattle.std.proofs.Common.{◌≡◌, ◌∙◌, sym, true, false}
-use Rattle.qo_properties.proofs.ClockLemmas.{row-none, row-some, same-clocks}
+use Rattle.std.proofs.Common.{◌≡◌, ◌∙◌, ap, sym, true, false, is_some, not}
+use Rattle.qo_properties.proofs.ClockLemmas.{same-clocks}
 use Rattle.qo_properties.proofs.KeptLemmas.{claims-before, counts-before}
 use Rattle.qo_properties.proofs.writing.writes.set_property.Goals as goal
 
@@ -15,5 +15,7 @@ returns-then-is_none-clause-kept g c = λ b s no. c.write.ensures.kept
 
 pub returns-then-is_none-clause-clocks : goal.returns-then-is_none-clause-clocks
 returns-then-is_none-clause-clocks g c = λ b s is.
-    absurd
-    (let clash : true ≡ false = sym is ∙ row-none c.set_row.result _ (c.set_row.ensures b s) (sym c.is_none.ensures ∙ c.if-is_none.true) in cc)
+    absurd (let clash : true ≡ false = sym is ∙ sym (ap is_some (c.set_row.ensures b s)) ∙ c.is_none.ensures ∙ ap not c.if-is_none.true in cc)
+
+pub returns-in_err-clock-clause-clocks : goal.returns-in_err-clock-clause-clocks
+returns-in_err-clock-clause-clocks g c = λ b s is. same-clocks c.args.heap.now
