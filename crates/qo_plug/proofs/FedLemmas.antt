@@ -109,6 +109,7 @@ module _ (v w : Objects) (n : ℕ) (change : Slot → Slot) (now : w ≡ kept_af
             ∙ read-content (λ (c : Content). kept_of c.body) n (with_periods period child) (λ c. refl) u m
             ∙ claims-same v u (changed-kept n (codes "source") change v) m;
         counts = counts;
+        spare = ap (λ (x : Objects). x.events.spare) now ∙ stays.spare;
         book = λ out h. subst (λ (x : Objects). IsBook out x) (sym now) (book-edit out u n (with_periods period child) (λ c. refl) (stays.book out h));
       }
 
@@ -118,6 +119,7 @@ connected-same v w same =
       alike = alike-same v w same;
       claims = λ m. ap (λ (x : Objects). kept_by x m) same;
       counts = λ m. ap (λ (x : Objects). counted_in x m) same;
+      spare = ap (λ (x : Objects). x.events.spare) same;
       book = λ out h. subst (λ (x : Objects). IsBook out x) (sym same) h;
     }
 

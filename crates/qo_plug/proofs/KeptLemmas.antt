@@ -1,5 +1,5 @@
 -- What is kept of objects, over one stage and the next.
-use Rattle.std.proofs.Common.{◌≡◌, ap, sym, subst, ◌∙◌, ℕ, [], option_map}
+use Rattle.std.proofs.Common.{◌≡◌, ap, sym, subst, ◌∙◌, ℕ, Bool, [], option_map}
 use Rattle.qo_kinds.specs.Bodies.{kept_of}
 use Rattle.qo_model.specs.Board.{Board}
 use Rattle.qo_object.specs.Content.{Content}

@@ -88,6 +88,7 @@ pub record Connected (v w : Objects) : Type 0 where
   pub alike : Alike v w
   pub claims : SameClaims v w
   pub counts : KeepsCounts v w
+  pub spare : w.events.spare ≡ v.events.spare
   pub book : KeepsBook v w
 
 -- the range of a memory, if there is one, and the resources of a device on a bus

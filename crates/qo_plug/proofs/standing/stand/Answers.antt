@@ -1,5 +1,5 @@
 -- Each step keeps what the ones before it made.
-use Rattle.std.proofs.Common.{◌≡◌, ◌++◌, ℕ, List, Option, ap, sym, subst, ◌∙◌}
+use Rattle.std.proofs.Common.{◌≡◌, refl, ◌++◌, ℕ, List, Option, ap, sym, subst, ◌∙◌}
 use Rattle.std.specs.List.{AllZip}
 use Rattle.std.proofs.lemmas.Option.{IfSome_then}
 use Rattle.qo_kinds.specs.Bodies.{registers_of}
