@@ -1,9 +1,10 @@
 -- The code's tables say what the definitions say.
 use Rattle.std.proofs.Common.{rules, ◌≡◌, ℕ, Bool, true, false, List, [], ◌∷◌, map, find, refl, ◌∙◌, Option, option_map, codes}
-use Rattle.std.specs.List.{slice_get}
+use Rattle.std.specs.List.{AllByRecursion, list_any, slice_get}
 use Rattle.std.specs.Str.{bytes_eq}
 use Rattle.qo_values.specs.Kinds.{type_name}
 use Rattle.qo_values.specs.declared.kinds.TypeId.{TypeId}
+use Rattle.qo_values.specs.contracts.kinds.TypeIdPartialEq.TheImpl.{ghosts}
 use Rattle.qo_values.proofs.EachLemmas.{each}
 use Rattle.qo_model.specs.Types.{TypeInfo, types, chain, is_a, parent_of, type_named}
 use Rattle.qo_types.specs.Rows.{type_ids}
@@ -35,3 +36,10 @@ parent_in = each (λ (t : TypeId). slice_get (chain t) 1 ≡ parent_of t) (searc
 pub each_object : (t : TypeId) → is_a t (codes "object") ≡ true
 unfolding types
 each_object = each (λ (t : TypeId). is_a t (codes "object") ≡ true) (search rules)
+
+-- a type is of the name of another one exactly where that is in its chain
+pub derived : (t a : TypeId) → list_any (λ (y : TypeId). ghosts.eq y a) (chain t) ≡ is_a t (type_name a)
+unfolding types
+derived t a =
+    each (λ (x : TypeId). list_any (λ (y : TypeId). ghosts.eq y x) (chain t) ≡ is_a t (type_name x))
+    (each (λ (s : TypeId). AllByRecursion (λ (x : TypeId). list_any (λ (y : TypeId). ghosts.eq y x) (chain s) ≡ is_a s (type_name x)) type_ids) (search rules) t) a

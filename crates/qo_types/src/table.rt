@@ -54,7 +54,7 @@ impl TypeTable {
             TypeId::Bus => info(t).is_bus,
             TypeId::Device => info(t).is_device,
             TypeId::SlotDevice => info(t).is_slot_device,
-            _ => self.is_a(t, ancestor.name()),
+            _ => info(t).ancestry.contains(&ancestor),
         }
     }
 
