@@ -4,13 +4,12 @@
 //! clock period"). A period is in units of 2^-32 ns; a clock of period 0 stands still. No call takes
 //! memory.
 //!
-//! Beside each clock its period is kept, and that of the clocks that go by it: a read is one look, and
-//! a write goes over the clocks below whose period changes, and over no other object.
+//! A period is computed along the sources when it is asked for. Periods that are kept would change
+//! no clause here.
 #![tactic(auto)]
 
 mod errors;
 mod feeding;
-mod kept;
 mod links;
 mod periods;
 mod reads;

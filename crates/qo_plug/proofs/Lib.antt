@@ -27,4 +27,3 @@ pub mod StartBuses
 pub mod StartLemmas
 pub mod TreeLemmas
 pub mod ValueLemmas
-pub mod FedLemmas

@@ -20,4 +20,3 @@ pub mod SlotsLemmas
 pub mod OpeningLemmas
 pub mod WriteLemmas
 pub mod FurtherCounts
-pub mod OwnLemmas

@@ -1,5 +1,4 @@
 pub mod KeptClaims
-pub mod KeptPeriods
 pub mod Additions
 pub mod Changes
 pub mod Claims

@@ -8,8 +8,6 @@ pub mod DueLemmas
 pub mod DeviceLemmas
 pub mod GuestLemmas
 pub mod HoldLemmas
-pub mod ClockChangeLemmas
-pub mod PeriodLemmas
 pub mod PlugLemmas
 pub mod RefusalLemmas
 pub mod RefusedDeviceLemmas

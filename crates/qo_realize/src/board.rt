@@ -44,7 +44,6 @@ pub struct Board {
 
 impl Model for Board {
     ghost use Rattle.qo_properties.specs.Pins.{OnlyRootPinned};
-    ghost use Rattle.qo_clocks.specs.Kept.{PeriodsKept};
     ghost use Rattle.qo_reset.specs.Counts.{CountsKept};
     ghost use Rattle.qo_realize.specs.BoardClaims.{KeepsClaims};
     ghost use Rattle.qo_realize.specs.Parts.{Parts, parts_of};
@@ -54,7 +53,7 @@ impl Model for Board {
 
     ghost view = { λ b. parts_of b.rings b.anonymous b.running b.resets b.hotplug b.heap };
 
-    ghost invariant = { λ b. OnlyRootPinned b.heap × StandsForGood (parts_of b.rings b.anonymous b.running b.resets b.hotplug b.heap) × KeepsClaims b.heap × CountsKept b.resets.births b.heap × PeriodsKept b.heap };
+    ghost invariant = { λ b. OnlyRootPinned b.heap × StandsForGood (parts_of b.rings b.anonymous b.running b.resets b.hotplug b.heap) × KeepsClaims b.heap × CountsKept b.resets.births b.heap };
 }
 
 /// How many devices without an id there are after the add of one, with an id or without; `None` where
@@ -101,7 +100,6 @@ impl Board {
     ghost use Rattle.qo_model.specs.Hotplug.{asked, completed, refused};
     ghost use Rattle.qo_object.specs.BoardObject.{birth_of};
     ghost use Rattle.qo_plug.specs.Admission.{as_wanted};
-    ghost use Rattle.qo_clocks.specs.Kept.{PeriodsKept};
     ghost use Rattle.qo_reset.specs.Counts.{CountsKept};
     ghost use Rattle.qo_realize.specs.Answers.{Adds, IsAnswered, Plugs, Writes};
     ghost use Rattle.qo_realize.specs.BoardClaims.{KeepsClaims};
@@ -129,14 +127,12 @@ impl Board {
     }
 
     /// What it stands for: there is a board that stands at it, and it is sound; and each body keeps the claims
-    /// of its object while that is realized, and none otherwise; what is kept of each object for
-    /// resets is how many holds are on it and above it; and what is kept of each clock are its period,
-    /// and that of the clocks that go by it.
+    /// of its object while that is realized, and none otherwise; and what is kept of each object for
+    /// resets is how many holds are on it and above it.
     pub fn reveal_board(&self)
         ensures stands { StandsForGood self.now }
         ensures claims { KeepsClaims self.now.objects }
         ensures counts { CountsKept self.now.holds self.now.objects }
-        ensures periods { PeriodsKept self.now.objects }
     {
         let _heap = &self.heap;
     }

@@ -5,7 +5,7 @@ ghost use Rattle.qo_values.specs.Registers as bodies;
 ghost use Rattle.qo_kinds.specs.Bodies.{IsTimely};
 ghost use Rattle.qo_kinds.specs.Effects.{shown_effect};
 ghost use Rattle.qo_model.specs.Board.{Board as Tree, Ring};
-ghost use Rattle.qo_clocks.specs.Kept.{Clocked};
+ghost use Rattle.qo_model.specs.Clocks.{ClocksFit};
 ghost use Rattle.qo_heap.specs.Rows.{IsLive};
 ghost use Rattle.qo_heap.specs.Board.{Shows};
 ghost use Rattle.qo_heap.specs.Objects.{content_of};
@@ -44,7 +44,7 @@ fn write_register<L: Ledger>(
 ) -> Option<Effect>
     requires live { IsLive heap.old.rows dev }
     requires timely { IfSome (content_of heap.old dev.birth) (λ c. IsTimely heap.old.time c.body) }
-    ensures written { (b : Tree) → Shows b heap.old → Clocked b heap.old → HasWritten b dev.birth (registers_written b dev.birth reg value) result heap.new }
+    ensures written { (b : Tree) → Shows b heap.old → ClocksFit b → HasWritten b dev.birth (registers_written b dev.birth reg value) result heap.new }
     ensures book { KeepsBook heap.old heap.new }
     ensures kept { KeptBefore heap.old heap.new }
     ensures live { IsLive heap.new.rows dev }
@@ -121,7 +121,7 @@ fn write_through<L: Ledger>(
     requires live { IsLive heap.old.rows dev }
     requires counts { CountsKept resets.old.births heap.old }
     requires timely { IfSome (content_of heap.old dev.birth) (λ c. IsTimely heap.old.time c.body) }
-    ensures written { (b : Tree) → IsHeld b resets.old.births rings.old heap.old → Clocked b heap.old → Written (guest_written b dev.birth reg value) result resets.new.births rings.new heap.new }
+    ensures written { (b : Tree) → IsHeld b resets.old.births rings.old heap.old → ClocksFit b → Written (guest_written b dev.birth reg value) result resets.new.births rings.new heap.new }
     ensures book { KeepsBook heap.old heap.new }
     ensures kept { KeptBefore heap.old heap.new }
     ensures counts { CountsKept resets.new.births heap.new }

@@ -9,7 +9,7 @@ ghost use Rattle.qo_model.specs.Unplug.{set_named, unrealized_bus, unrealized_de
 ghost use Rattle.qo_hotplug.specs.Hotplug.{Asked};
 ghost use Rattle.qo_heap.specs.Rows.{IsLive};
 ghost use Rattle.qo_heap.specs.Moments.{Timely};
-ghost use Rattle.qo_properties.specs.KeptClaims.{ClaimsBefore, CountsBefore, KeptBefore};
+ghost use Rattle.qo_properties.specs.KeptClaims.{KeptBefore};
 ghost use Rattle.qo_unplug.specs.Unrealizing.{Ends, HeapUndoes, parts, stopped};
 
 use crate::claims::free_claims;
@@ -47,8 +47,7 @@ fn stop<L: Ledger>(heap: &mut Heap, dev: Oid, steps: &mut Steps<L>)
     requires live { IsLive heap.old.rows dev }
     requires timely { Timely heap.old }
     ensures undoes { HeapUndoes (λ _. stopped dev.birth) heap.old heap.new }
-    ensures claims { ClaimsBefore heap.old heap.new }
-    ensures counts { CountsBefore heap.old heap.new }
+    ensures kept { KeptBefore heap.old heap.new }
 {
     let clock = clock_of(heap, dev, steps);
     let period = device_period(heap, dev, steps);

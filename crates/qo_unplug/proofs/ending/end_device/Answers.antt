@@ -13,7 +13,7 @@ use Rattle.qo_reset.specs.Turns.{counted, sided}
 use Rattle.qo_properties.specs.KeptClaims.{kept_by}
 use Rattle.qo_unplug.specs.Unrealizing.{Undoes, parts}
 use Rattle.qo_unplug.proofs.StepLemmas.{clears-heap, clears-then, clears-unheld, clears-unnoticed, undoes-then, undoes-unheld, undoes-unnoticed}
-use Rattle.qo_properties.proofs.KeptLemmas.{claims-before, counts-before}
+use Rattle.qo_properties.proofs.KeptLemmas.{before-then, claims-before, counts-before}
 use Rattle.qo_unplug.proofs.KeptLemmas.{due-device, kept-edited}
 use Rattle.qo_unplug.proofs.ending.end_device.Goals as goal
 
@@ -61,7 +61,7 @@ returns g c =
           (clears-then second (λ _. unheld n) heap c.free_claims.new.heap cleared
           (clears-then second (λ _ d. d) heap c.unset.new.heap c.free_claims.new.heap
           (clears-then first (λ _. set_named n (codes "realized") (val.Bool false)) heap c.stop.new.heap c.unset.new.heap
-          (clears-heap first heap c.stop.new.heap c.stop.ensures.undoes c.stop.ensures.counts)
+          (clears-heap first heap c.stop.new.heap c.stop.ensures.undoes (counts-before heap c.stop.new.heap c.stop.ensures.kept))
           (clears-heap (λ _. set_named n (codes "realized") (val.Bool false)) c.stop.new.heap c.unset.new.heap c.unset.ensures.undoes
           (counts-before c.stop.new.heap c.unset.new.heap c.unset.ensures.kept)))
           (clears-heap (λ _ d. d) c.unset.new.heap c.free_claims.new.heap c.free_claims.ensures.undoes
@@ -71,7 +71,7 @@ returns g c =
       claims = λ b e ticks same beside due h.
           due-device n e due heap c.unset.new.heap cleared (same.ticks ticks).named ((stopped.tree b e ticks same beside).ticks ticks).named
           ((undoes.tree b e ticks same beside).ticks ticks).named (undoes.shown b e ticks same beside).shown
-          (λ m k at. c.stop.ensures.claims m k (claims-before c.stop.new.heap c.unset.new.heap c.unset.ensures.kept m k at))
+          (claims-before heap c.unset.new.heap (before-then heap c.stop.new.heap c.unset.new.heap c.stop.ensures.kept c.unset.ensures.kept))
           (ap (λ (x : Objects). kept_by x n) c.gone.ensures.now ∙ unkept n ∙ c.free_claims.ensures.bare)
           (λ m k apart at. c.free_claims.ensures.others m k apart (before m k at)) h;
     }
