@@ -188,6 +188,16 @@ def test_picture(room, block):
     assert (room.folder / "board.svg").read_bytes() == (TOP / "docs/pictures/hotplug.svg").read_bytes()
 
 
+def test_tree(room, block):
+    """A board with one bridge tells this tree."""
+    sent = ({"execute": "qmp_capabilities"}, {"execute": "device_add", "arguments": {"driver": "slot-bridge", "id": "br"}},
+            {"execute": "human-monitor-command", "arguments": {"command-line": "info qtree"}})
+    session = "open 0\n" + "".join(f"-> {json.dumps(it)}\n" for it in sent)
+    (room.folder / "tree.session").write_text(session, encoding="utf-8")
+    told = room.printed("tools/qrec write < tree.session | ./run replay").splitlines()[-1]
+    assert json.loads(told.partition(" ")[2]) == {"return": block.text()}, told
+
+
 def test_serving(room, block):
     """A command that serves does so, and ends well; it may come behind one that makes the program, or before another that tests."""
     served(room, next(it for it in block.lines if "serve" in it).replace("compose/run", "./run"))
@@ -337,6 +347,7 @@ COMMANDS = (
     ("tools/draw --steps < mine.session", "it is run where the record is made"),
     ("slot 0     u0 ", "it is a picture of the board of the session before it"),
     ('record = ("qrec 1" | "qrec 2") LF', "it is how a record is spelled, which tests/test_qrec.py tries"),
+    ("bus: root.0", test_tree),
     ("abbrev pub ", test_definition),
 )
 NEED_NO_PROGRAM = (test_library, test_definition)
