@@ -93,6 +93,7 @@ fn slot_level(net: &Net, slots: &[Option<u32>], slot: u8) -> bool
 /// The bit of a slot, where its line is high.
 fn slot_bit(net: &Net, slots: &[Option<u32>], slot: u8) -> u32
     requires there { AreThere slots.now net.now }
+    requires low { slot < 8 }
     ensures bit { result ≡ slot_bit (slot_level net.now slots.now) slot }
     ensures most { result ≤ 128 }
 {
