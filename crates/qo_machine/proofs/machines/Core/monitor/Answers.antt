@@ -53,7 +53,7 @@ returns-in_ok-tell_tree-in-Tree-clause-kept g c = λ b stands. on-err c.tell-in-
 
 pub returns-in_ok-tell_buses-in-Bus-clause-came : goal.returns-in_ok-tell_buses-in-Bus-clause-came
 returns-in_ok-tell_buses-in-Bus-clause-came g c = λ b stands.
-    let here = stands_in b c.self.inside.board c.args.self.now (seen_board c.self.view_is) stands in
+    let here = stands_in b c.self-in-Bus.inside.board c.args.self.now (seen_board c.self-in-Bus.view_is) stands in
     came-told b c.args.command_line.now (Some Bus) (done_of b c.in_ok-tell_buses-in-Bus.field-0) (option_map (λ id. id.now) c.args.id) c.tell-in-Bus.result
     c.args.self.now.board (ap Some (sym c.in-Bus.is) ∙ sym c.in-Some.is ∙ c.in_ok-line.ensures ∙ ap line_of c.as_str.ensures)
     (c.in_ok-tell_buses-in-Bus.ensures b here) (c.tell-in-Bus.ensures.came b stands)
