@@ -1,0 +1,36 @@
+use Rattle.std.proofs.Common.{◌≡◌, ◌∷◌, [], ◌<◌, ◌+◌, suc, length, map, set, refl, sym, ap, ◌∙◌, subst, arith}
+use Rattle.std.proofs.lemmas.List.{length-map}
+use Rattle.qo_listen.specs.Ears.{AllOpen, HeardTo, ear, ears}
+use Rattle.qo_listen.proofs.EarLemmas.{still_open, one_more}
+use Rattle.qo_listen.proofs.listeners.tell_all.Goals as goal
+
+pub loop-listener-init : goal.loop-listener-init
+loop-listener-init g c = refl
+
+pub told-requires : goal.told-requires
+told-requires g c =
+    still_open (ear g.L.Listener) _ c.args.all.now c.loop-listener.all _ c.listener-item.result
+    (omega arith) c.loop-listener.invariant c.requires
+
+pub loop-listener-preserved : goal.loop-listener-preserved
+loop-listener-preserved g c =
+    let lt : c.loop-listener.listener-index < length c.loop-listener.all = omega arith in
+    let all = one_more (ear g.L.Listener) (c.args.note.now ∷ []) c.args.all.now c.loop-listener.all
+    c.loop-listener.listener-index c.told.new.self c.listener-item.result lt c.loop-listener.invariant
+    (record { heard = c.in_ok-told.ensures.heard; form = c.in_ok-told.ensures.form; closed = c.in_ok-told.ensures.closed }) in
+    let next : c.loop-listener.listener-index + 1 ≡ suc c.loop-listener.listener-index = omega arith in
+    subst
+    (λ n. HeardTo n (c.args.note.now ∷ []) (ears g.L.Listener c.args.all.now)
+    (ears g.L.Listener (set c.loop-listener.all c.loop-listener.listener-index c.told.new.self)))
+    (sym next) all
+
+pub returns : goal.returns
+returns g c =
+    let whole : c.loop-listener.listener-index ≡ length c.args.all.now = omega arith in
+    record {
+      told =
+          subst
+          (λ n. HeardTo n (c.args.note.now ∷ []) (ears g.L.Listener c.args.all.now)
+          (ears g.L.Listener c.loop-listener.all))
+          (whole ∙ sym (length-map c.args.all.now (ear g.L.Listener))) c.loop-listener.invariant;
+    }

@@ -1,0 +1,8 @@
+use Rattle.std.proofs.Common.{◌≡◌, ◌∷◌, [], map}
+use Rattle.qo_listen.specs.Ears.{AllOpen, HeardTo, ear, ears}
+use Rattle.qo_listen.proofs.listeners.tell_all.Given as goal
+
+abbrev pub invariant-loop-listener : goal.invariant-loop-listener
+invariant-loop-listener g l =
+    HeardTo l.listener-index (l.note ∷ []) (ears g.L.Listener l.initial.all)
+    (ears g.L.Listener l.all)

@@ -1,0 +1,3 @@
+pub mod Ears
+pub mod Sought
+pub mod Texts

@@ -1,0 +1,5 @@
+//! Tests of listeners by themselves: texts that were written by hand, and that each call succeeds with ample memory.
+#![tactic(auto)]
+
+#[cfg(test)]
+mod forms;
