@@ -1,6 +1,5 @@
 -- Some listeners are told a note, one after another.
-use Rattle.std.proofs.Common.{◌≡◌, ℕ, zero, suc, ◌<◌, Bool, false, List, [], ◌∷◌, length, map, get_or, set, refl, sym, ap, ◌∙◌, subst, arith}
-use Rattle.std.specs.List.{AllByRecursion}
+use Rattle.std.proofs.Common.{◌≡◌, ℕ, zero, suc, ◌<◌, false, List, [], ◌∷◌, length, map, get_or, set, ap, ◌∙◌, subst, arith}
 use Rattle.qo_model.specs.declared.notes.Note.{Note}
 use Rattle.qo_listen.specs.Ears.{Ear, Heard, HeardTo, AllOpen}
 

@@ -1,4 +1,4 @@
-use Rattle.std.proofs.Common.{◌≡◌, map, take}
+use Rattle.std.proofs.Common.{◌≡◌, take}
 use Rattle.qo_listen.specs.Ears.{ears, texts_of}
 use Rattle.qo_listen.proofs.listeners.reports_of.Given as goal
 

@@ -1,6 +1,6 @@
-use Rattle.std.proofs.Common.{◌≡◌, ◌∷◌, [], ◌<◌, ◌+◌, suc, length, map, set, refl, sym, ap, ◌∙◌, subst, arith}
+use Rattle.std.proofs.Common.{◌≡◌, ◌∷◌, [], ◌<◌, ◌+◌, suc, length, set, refl, sym, ◌∙◌, subst, arith}
 use Rattle.std.proofs.lemmas.List.{length-map}
-use Rattle.qo_listen.specs.Ears.{AllOpen, HeardTo, ear, ears}
+use Rattle.qo_listen.specs.Ears.{HeardTo, ear, ears}
 use Rattle.qo_listen.proofs.EarLemmas.{still_open, one_more}
 use Rattle.qo_listen.proofs.listeners.tell_all.Goals as goal
 

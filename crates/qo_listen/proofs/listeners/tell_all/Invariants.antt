@@ -1,5 +1,5 @@
-use Rattle.std.proofs.Common.{◌≡◌, ◌∷◌, [], map}
-use Rattle.qo_listen.specs.Ears.{AllOpen, HeardTo, ear, ears}
+use Rattle.std.proofs.Common.{◌∷◌, []}
+use Rattle.qo_listen.specs.Ears.{HeardTo, ears}
 use Rattle.qo_listen.proofs.listeners.tell_all.Given as goal
 
 abbrev pub invariant-loop-listener : goal.invariant-loop-listener

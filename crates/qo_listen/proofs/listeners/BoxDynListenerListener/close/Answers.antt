@@ -1,4 +1,4 @@
-use Rattle.std.proofs.Common.{rules, ◌≡◌, subst}
+use Rattle.std.proofs.Common.{◌≡◌, subst}
 use Rattle.qo_listen.proofs.listeners.BoxDynListenerListener.close.Goals as goal
 
 -- src/listeners.rt:69:5

@@ -1,4 +1,4 @@
-use Rattle.std.proofs.Common.{rules, ◌≡◌, subst, IfOk}
+use Rattle.std.proofs.Common.{◌≡◌, subst, IfOk}
 use Rattle.qo_listen.proofs.listeners.BoxDynListenerListener.report.Goals as goal
 
 -- src/listeners.rt:65:5

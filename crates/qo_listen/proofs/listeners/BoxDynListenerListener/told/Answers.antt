@@ -1,5 +1,5 @@
 use mathlib.Core.List.{mem-append_right}
-use Rattle.std.proofs.Common.{rules, ◌≡◌, ◌∷◌, [], ◌++◌, false, OnOk, OnErr, refl, sym, subst}
+use Rattle.std.proofs.Common.{◌≡◌, ◌∷◌, [], ◌++◌, false, OnOk, OnErr, refl, sym, subst}
 use Rattle.qo_listen.proofs.listeners.BoxDynListenerListener.told.Goals as goal
 
 -- src/listeners.rt:62:9
