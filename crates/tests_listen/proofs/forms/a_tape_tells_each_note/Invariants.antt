@@ -1,0 +1,9 @@
+-- It is not closed.
+use Rattle.std.proofs.Common.{◌≡◌, false}
+use Rattle.tests_listen.proofs.forms.a_tape_tells_each_note.Given as goal
+
+abbrev pub invariant-loop-note : goal.invariant-loop-note
+invariant-loop-note g l = l.tape.closed ≡ false
+
+abbrev pub invariant-loop-note-2 : goal.invariant-loop-note-2
+invariant-loop-note-2 g l = l.tape.closed ≡ false
