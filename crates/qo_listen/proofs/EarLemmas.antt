@@ -1,5 +1,5 @@
 -- Some listeners are told a note, one after another.
-use Rattle.std.proofs.Common.{◌≡◌, ℕ, zero, suc, ◌<◌, false, List, [], ◌∷◌, length, map, get_or, set, ap, ◌∙◌, subst, arith}
+use Rattle.std.proofs.Common.{◌≡◌, refl, ℕ, zero, suc, ◌<◌, false, List, [], ◌∷◌, length, map, get_or, set, ap, ◌∙◌, subst, Result, Ok, Err, OnErr, arith}
 use Rattle.qo_model.specs.declared.notes.Note.{Note}
 use Rattle.qo_listen.specs.Ears.{Ear, Heard, HeardTo, AllOpen}
 
@@ -24,3 +24,18 @@ one_more f notes (o ∷ olds) (n ∷ news) zero x d lt heard one =
     let same : f n ≡ f o = cc in let rest : map f news ≡ map f olds = cc in
     (subst (λ e. Heard notes e (f x)) same one, rest)
 one_more f notes (o ∷ olds) (n ∷ news) (suc i) x d lt heard one = (heard.0, one_more f notes olds news i x d (omega arith) heard.1 one)
+
+-- one that is put back as it was leaves all as they were
+pub put_same : {X : Type 0} (f : X → Ear) (news : List X) (i : ℕ) (x d : X) → i < length news → f x ≡ f (get_or news i d) → map f (set news i x) ≡ map f news
+put_same f [] i x d lt same = absurd (omega arith)
+put_same f (n ∷ news) zero x d lt same = ap (λ (e : Ear). e ∷ map f news) same
+put_same f (n ∷ news) (suc i) x d lt same = ap (λ (es : List Ear). f n ∷ es) (put_same f news i x d (omega arith) same)
+
+-- listeners of whom contracts see the same
+pub same_ear : (x y : Ear) → x.heard ≡ y.heard → x.text ≡ y.text → x.form ≡ y.form → x.closed ≡ y.closed → x ≡ y
+same_ear x y p q r s = λ i. record { heard = p i; text = q i; form = r i; closed = s i }
+
+-- what holds whatever is answered holds where that is an error
+pub on_error : {T E P : Type 0} (r : Result T E) → P → OnErr r P
+on_error (Ok x) p = tt
+on_error (Err e) p = p

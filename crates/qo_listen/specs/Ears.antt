@@ -33,6 +33,10 @@ HeardTo (suc n) notes [] news = news ≡ []
 HeardTo (suc n) notes (old ∷ olds) [] = ⊥
 HeardTo (suc n) notes (old ∷ olds) (new ∷ news) = Heard notes old new × HeardTo n notes olds news
 
+-- some of the first did
+abbrev pub HeardSome : List Note → List Ear → List Ear → Type 0
+HeardSome notes olds news = (n : ℕ) × HeardTo n notes olds news
+
 -- all of them did
 abbrev pub AllHeard : List Note → List Ear → List Ear → Type 0
 AllHeard notes olds news = HeardTo (length olds) notes olds news

@@ -3,7 +3,7 @@
 ghost use Rattle.std.specs.Prelude.{◌≡◌, [], ◌∷◌, ◌++◌, ℕ, ◌<◌, Bool, true, false, length, List, map, Option, IfErr, IfOk, OnOk, OnErr};
 ghost use Rattle.std.specs.List.{AllByRecursion};
 ghost use Rattle.qo_model.specs.declared.notes.Note.{Note as NoteView};
-ghost use Rattle.qo_listen.specs.Ears.{AllHeard, AllOpen, ear, ears, texts_of};
+ghost use Rattle.qo_listen.specs.Ears.{AllHeard, AllOpen, HeardSome, ear, ears, texts_of};
 
 use crate::listener::Listener;
 use qo_model::Note;
@@ -40,10 +40,12 @@ impl Listener for Box<dyn Listener> {
     }
 }
 
-/// Each of some is told a note, in order, up to the first that has no memory for it.
+/// Each of some is told a note, in order, up to the first that has no memory for it. That one and those
+/// after it are as before.
 fn tell_all<L: Listener>(all: &mut [L], note: &Note) -> Result<(), AllocError>
     requires { AllOpen (ears ⟦<L as Listener>⟧ all.old) }
     ensures told { OnOk result (AllHeard (note.now ∷ []) (ears ⟦<L as Listener>⟧ all.old) (ears ⟦<L as Listener>⟧ all.new)) }
+    ensures left { OnErr result (HeardSome (note.now ∷ []) (ears ⟦<L as Listener>⟧ all.old) (ears ⟦<L as Listener>⟧ all.new)) }
 {
     for listener in all.iter_mut() {
         listener.told(note)?;
@@ -74,10 +76,11 @@ impl Listeners {
     }
 
     /// Each is told a note, in order, up to the first that has no memory for it. The error is want of
-    /// memory.
+    /// memory: that one and those after it are as before.
     pub fn tell(&mut self, note: &Note) -> Result<(), AllocError>
         requires { AllOpen (ears ⟦<Box<dyn Listener> as Listener>⟧ self.old.all.items) }
         ensures told { OnOk result (AllHeard (note.now ∷ []) (ears ⟦<Box<dyn Listener> as Listener>⟧ self.old.all.items) (ears ⟦<Box<dyn Listener> as Listener>⟧ self.new.all.items)) }
+        ensures left { OnErr result (HeardSome (note.now ∷ []) (ears ⟦<Box<dyn Listener> as Listener>⟧ self.old.all.items) (ears ⟦<Box<dyn Listener> as Listener>⟧ self.new.all.items)) }
     {
         tell_all(self.all.as_mut_slice(), note)
     }
