@@ -1,0 +1,11 @@
+pub mod EntryLemmas
+pub mod ObjectLemmas
+pub mod OrderLawLemmas
+pub mod OrderedLemmas
+pub mod PlugLemmas
+pub mod TypesLemmas
+pub mod UserObjectLemmas
+pub mod ValueLemmas
+pub mod ValuesLawLemmas
+pub mod WriteLemmas
+pub mod YoungLemmas

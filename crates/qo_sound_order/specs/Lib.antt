@@ -1,0 +1,5 @@
+pub mod OrderKept
+pub mod SoundOrder
+pub mod SoundValues
+pub mod TypesKept
+pub mod ValuesKept
