@@ -13,6 +13,7 @@ mod HoldLemmas
 mod InsideObjects
 mod KeepingLemmas
 mod KeptEnds
+mod ChildPlaces
 mod ParentLemmas
 mod ReferenceLemmas
 mod WeakCalls

@@ -78,6 +78,7 @@ impl Heap {
 
     /// Runs an act of an object at the heap's time, where `period` is that of its clock, and notes
     /// it. It takes no memory.
+    #[inline(always)]
     pub fn act<L: Ledger>(&mut self, o: Oid, act: Act, period: u64, steps: &mut Steps<L>)
         requires live { IsLive self.old.rows o }
         requires timely { IfSome (content_of self.old o.birth) (λ c. MayAct act self.old.time c.body) }

@@ -155,6 +155,7 @@ impl Entry {
     }
 
     /// Lets its slot at a place go.
+    #[inline(always)]
     pub fn drop_at(&mut self, at: usize) -> Dropped
         ensures now { self.new ≡ with_object (dropped_at at) self.old }
         ensures named { result.named ≡ named_at self.old.object at }
@@ -203,6 +204,7 @@ impl Entry {
 
     /// Adds a slot after the others. The answer is the number of a weak link. `Duplicate` comes exactly
     /// where there is a slot of that name; `Memory` where memory runs out. An error leaves all as it was.
+    #[inline(always)]
     pub fn add_slot(&mut self, name: SlotName, slot: Slot) -> Result<Option<u64>, AddError>
         requires { NumbersRise self.old.links.nodes }
         ensures added { IfOk result (λ id. self.new ≡ with_links (added_links id self.old.links) (with_object (with_slot name slot) self.old)) }

@@ -76,11 +76,11 @@ impl Drop for Heap {
 }
 
 impl Heap {
-    ghost use Rattle.std.specs.Prelude.{◌≡◌, ◌+◌, ◌*◌, ◌<◌, ◌≤◌, ◌^◌, [], ◌∷◌, ◌++◌, length, IfOk, OnOk, OnErr, Err, Some, option_map};
+    ghost use Rattle.std.specs.Prelude.{◌≡◌, ℕ, ◌+◌, ◌*◌, ◌<◌, ◌≤◌, ◌^◌, [], ◌∷◌, ◌++◌, length, IfOk, OnOk, OnErr, Err, Some, option_map};
     ghost use Rattle.qo_heap.specs.Board.{Shows};
     ghost use Rattle.qo_model.specs.Board.{Board};
     ghost use Rattle.qo_object.specs.Content.{fresh, reference_count};
-    ghost use Rattle.qo_heap.specs.Keeping.{holders};
+    ghost use Rattle.qo_heap.specs.Keeping.{holders, owners};
     ghost use Rattle.qo_heap.specs.Rows.{IsLive};
     ghost use Rattle.qo_heap.specs.Objects.{IsHeap, content_of, ended, no_objects_made, parent_of, refs_of};
     ghost use Rattle.qo_heap.specs.WeakEnds.{weak_ends};
@@ -108,6 +108,13 @@ impl Heap {
     /// `LIVE_OBJECTS_MAX` objects, and what a child slot or a link names is there.
     pub fn reveal_invariant(&self)
         ensures { IsHeap self.now }
+    {
+        let _table = &self.table;
+    }
+
+    /// No object is the child of two slots.
+    pub(crate) fn reveal_once(&self)
+        ensures { (n : ℕ) → owners n self.now.rows ≤ 1 }
     {
         let _table = &self.table;
     }
@@ -142,6 +149,7 @@ impl Heap {
 
     /// Makes an object of a type, without slots and pinned once, of the next birth. `Limit` comes
     /// exactly at `LIVE_OBJECTS_MAX` live objects. An error leaves the heap as it was.
+    #[inline(always)]
     pub fn make<L: Ledger>(
         &mut self,
         alloc: Global,

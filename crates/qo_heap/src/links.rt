@@ -17,6 +17,7 @@ impl Heap {
 
     /// Lets the slot of an object at a place go, and answers what it named: a child slot is removed,
     /// a link is left without a target; a plain slot and an alias stay, as all does past the end.
+    #[inline(always)]
     pub fn empty<L: Ledger>(&mut self, o: Oid, at: usize, steps: &mut Steps<L>) -> Option<Oid>
         requires live { IsLive self.old.rows o }
         ensures now { self.new ≡ with_edit o.birth (dropped_at at) self.old }

@@ -70,6 +70,7 @@ impl NewSlots {
     }
 
     /// Adds a slot after the others. The error is want of memory.
+    #[inline(always)]
     pub fn push(&mut self, name: SlotName, slot: Slot) -> Result<(), AllocError>
         ensures { OnOk result (self.new ≡ self.old ++ (name, slot) ∷ []) }
     {

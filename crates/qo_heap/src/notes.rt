@@ -38,6 +38,7 @@ impl Heap {
     ghost use Rattle.qo_heap.specs.Objects.{with_note};
 
     /// Adds a note; where `NOTES_KEPT` are kept, the oldest goes. It takes no memory.
+    #[inline(always)]
     pub(crate) fn note(&mut self, note: Note)
         ensures { self.new ≡ with_note note self.old }
     {

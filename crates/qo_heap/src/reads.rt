@@ -51,6 +51,7 @@ impl Heap {
 
     /// The slot of a name of an object, by one look-up; `None` exactly where it has none. No two slots of an
     /// object have one name.
+    #[inline(always)]
     pub fn slot<L: Ledger>(&self, o: Oid, name: &str, steps: &mut Steps<L>) -> Option<SlotView<'_>>
         requires { IsLive self.now.rows o }
         ensures slot { option_map (λ v. (v.name.now, v.what.now)) result ≡ find (λ s. bytes_eq name.now s.0) (slots_of self.now o.birth) }
@@ -80,6 +81,7 @@ impl Heap {
     }
 
     /// The slot of a property of an object, by one look-up; `None` exactly where it has none.
+    #[inline(always)]
     pub fn property<L: Ledger>(
         &self,
         o: Oid,
@@ -100,6 +102,7 @@ impl Heap {
 
     /// The link of a bus to the kid in a slot, by one look-up; `None` exactly where it has none of that
     /// name.
+    #[inline(always)]
     pub fn kid<L: Ledger>(&self, o: Oid, slot: u8, steps: &mut Steps<L>) -> Option<SlotView<'_>>
         requires { IsLive self.now.rows o }
         ensures slot { option_map (λ v. (v.name.now, v.what.now)) result ≡ find (λ s. bytes_eq (kid_name slot) s.0) (slots_of self.now o.birth) }

@@ -36,6 +36,7 @@ impl Heap {
     ghost use Rattle.qo_heap.specs.declared.errors.SlotError.TheVariants.{Duplicate, HasParent, Memory};
 
     /// Adds a slot to an object, after the others. What it names must be there, and a child have no parent.
+    #[inline(always)]
     fn add<L: Ledger>(
         &mut self,
         o: Oid,
@@ -86,6 +87,7 @@ impl Heap {
 
     /// Adds a child slot. `Duplicate` comes exactly where the owner has a slot of that name, else
     /// `HasParent` exactly where the child has a parent. An error leaves the heap as it was.
+    #[inline(always)]
     pub fn add_child<L: Ledger>(
         &mut self,
         o: Oid,
@@ -115,6 +117,7 @@ impl Heap {
 
     /// Adds a link to objects of a type, which keeps its target alive where it is strong. `Duplicate`
     /// comes exactly where the owner has a slot of that name. An error leaves the heap as it was.
+    #[inline(always)]
     pub fn add_link<L: Ledger>(
         &mut self,
         o: Oid,
@@ -197,6 +200,7 @@ impl Heap {
 
     /// Gives an object these slots, whose names differ; it must have none, and none of these be a
     /// child slot. What they name must be there. It takes no memory.
+    #[inline(always)]
     pub fn set_slots<L: Ledger>(&mut self, o: Oid, slots: NewSlots, steps: &mut Steps<L>)
         requires live { IsLive self.old.rows o }
         requires targets { AllByRecursion (IsLive self.old.rows) (filter_map (λ s. target_of s.1) slots) }

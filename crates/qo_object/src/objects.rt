@@ -83,7 +83,7 @@ impl Drop for Object {
 }
 
 impl Object {
-    ghost use Rattle.std.specs.Prelude.{◌≡◌, ◌<◌, ◌≤◌, ◌^◌, true, false, None, IfSome, OnOk, OnErr, length, position, slice_get, option_map};
+    ghost use Rattle.std.specs.Prelude.{◌≡◌, ◌<◌, ◌≤◌, ◌^◌, true, false, None, IfSome, IsSomeAnd, OnOk, OnErr, length, position, slice_get, option_map};
     ghost use Rattle.std.specs.List.{IsDistinct};
     ghost use Rattle.std.specs.Str.{bytes_eq};
     ghost use Rattle.std.specs.Borrow.{sem};
@@ -261,6 +261,7 @@ impl Object {
     /// Adds a slot after the others. `Duplicate` comes exactly where there is a slot of that name;
     /// `Memory` where memory runs out, or where there are 2^32 slots. An error leaves the object as
     /// it was, and lets the slot go.
+    #[inline(always)]
     pub fn add(&mut self, name: SlotName, slot: Slot) -> Result<(), AddError>
         ensures added { OnOk result (self.new ≡ with_slot name slot self.old) }
         ensures absent { OnOk result (has_name name self.old.slots ≡ false) }
@@ -377,6 +378,15 @@ impl Object {
         self.slots.is_parent(birth)
     }
 
+    /// A place at which it has the object of a birth as a child, sought by halves. One that is there is
+    /// found where births rise along its children, which stand after all other slots. Elsewhere it may
+    /// be missed. It takes no memory.
+    pub fn child_sought(&self, birth: u64) -> Option<usize>
+        ensures { IfSome result (λ at. IsSomeAnd (slot_in self.now.slots at) (λ s. names_child birth s ≡ true)) }
+    {
+        self.slots.child_sought(birth)
+    }
+
     /// The first place at which it has the object of a birth as a child. It takes no memory.
     pub fn child_place(&self, birth: u64) -> Option<usize>
         ensures { result ≡ position (λ s. names_child birth s.1) self.now.slots }
@@ -385,6 +395,7 @@ impl Object {
     }
 
     /// Ends it, and answers what has to be ended with it. It takes no memory.
+    #[inline(always)]
     pub fn into_finalized_parts(self) -> FinalizedParts
         ensures { result ≡ record { kind = self.kind; kept = kept_of self.body; id = self.device_id; path = self.kept_path } }
     {

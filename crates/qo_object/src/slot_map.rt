@@ -10,7 +10,7 @@ use std::alloc::{AllocError, Global};
 use std::marker::Model;
 
 /// An object has about so many slots, so that the first one makes room for as many.
-const SLOTS_AT_FIRST: usize = 6;
+const SLOTS_AT_FIRST: usize = 8;
 
 /// Among up to so many slots a name is looked for by comparing it with each, which takes less than
 /// its hash.
@@ -40,7 +40,7 @@ impl Model for SlotMap {
 }
 
 impl SlotMap {
-    ghost use Rattle.std.specs.Prelude.{◌≡◌, ◌<◌, ℕ, List, [], ◌∷◌, ◌++◌, None, Ok, true, false, IfSome, OnErr, remove, length, count_by, position, slice_get, option_map, is_some};
+    ghost use Rattle.std.specs.Prelude.{◌≡◌, ◌<◌, ℕ, List, [], ◌∷◌, ◌++◌, None, Ok, true, false, IfSome, IsSomeAnd, OnErr, remove, length, count_by, position, slice_get, option_map, is_some};
     ghost use Rattle.std.specs.List.{list_any, IsDistinct};
     ghost use Rattle.std.specs.Option.{option_and_then};
     ghost use Rattle.std.specs.Str.{bytes_eq};
@@ -81,6 +81,7 @@ impl SlotMap {
     }
 
     /// The place of the slot of a name.
+    #[inline(always)]
     pub fn find(&self, name: &str) -> Option<usize>
         ensures { result ≡ position (λ s. bytes_eq name.now s.0) self.now }
     {
@@ -96,6 +97,7 @@ impl SlotMap {
     }
 
     /// The place of the slot of a property in a row.
+    #[inline(always)]
     pub fn find_row(&self, name: PropertyName) -> Option<usize>
         ensures { result ≡ position (λ s. bytes_eq (property_name name) s.0) self.now }
     {
@@ -177,6 +179,7 @@ impl SlotMap {
 
     /// Adds a slot under a name, after the others, unless there is one of that name, which then stays.
     /// It answers whether it was added. An error adds nothing.
+    #[inline(always)]
     pub fn add(&mut self, name: SlotName, slot: Slot) -> Result<bool, AllocError>
         ensures added { result ≡ Ok true → (has_name name self.old ≡ false) × (self.new ≡ self.old ++ (name, slot) ∷ []) }
         ensures there { result ≡ Ok false → (has_name name self.old ≡ true) × (self.new ≡ self.old) }
@@ -194,6 +197,7 @@ impl SlotMap {
     }
 
     /// Removes the slot at a place; past the end there is none.
+    #[inline(always)]
     pub fn remove(&mut self, at: usize)
         ensures { self.new ≡ remove self.old at }
     {
@@ -293,6 +297,24 @@ impl SlotMap {
         ensures { result ≡ list_any (λ s. names_weakly birth s.1) self.now }
     {
         self.slots.iter().any(|slot| slot.1.names_weakly(birth))
+    }
+
+    /// A place of one that has the object of a birth as a child, sought by halves. One that is there is
+    /// found where births rise along the children, which stand after all other slots. Elsewhere it may
+    /// be missed.
+    pub fn child_sought(&self, birth: u64) -> Option<usize>
+        ensures { IfSome result (λ at. IsSomeAnd (slot_in self.now at) (λ s. names_child birth s ≡ true)) }
+    {
+        let at = self.slots.as_slice().partition_point(|slot| match &slot.1 {
+            Slot::Child(child) => child.birth < birth,
+            _ => true,
+        });
+        let found = self.slots.get(at)?;
+        if found.1.names_child(birth) {
+            Some(at)
+        } else {
+            None
+        }
     }
 
     /// The first place of one that has the object of a birth as a child.
