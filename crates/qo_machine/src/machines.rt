@@ -47,6 +47,7 @@ fn closed_sessions(alloc: Global) -> Result<Vec<Session>, AllocError>
 }
 
 /// Closes the sessions whose flag is set.
+#[inline(always)]
 fn close_where(sessions: &mut Vec<Session>, lost: &[bool; LANES])
     requires { length sessions.old.items ≡ SESSIONS }
     ensures closed { sessions.new.items ≡ closed_where lost.now sessions.old.items }

@@ -167,6 +167,7 @@ impl Outbox {
 /// Each session that commands is told of the events that wait on the board, which no longer wait then,
 /// and of those of a command or a line; its reply goes to its lane.
 #[inline(always)]
+#[inline(always)]
 fn send_reply(
     machine: &mut Core,
     lane: Lane,

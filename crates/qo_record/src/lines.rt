@@ -78,6 +78,7 @@ fn put_line<K: Sink>(
 }
 
 /// Adds a lane's name to a buffer.
+#[inline(always)]
 fn add_lane(buffer: &mut Vec<u8>, names: &SessionNames, lane: Lane) -> Result<(), AllocError>
     ensures { OnOk result (buffer.new.items ≡ buffer.old.items ++ lane_text names.now lane) }
 {
@@ -95,6 +96,7 @@ fn add_lane(buffer: &mut Vec<u8>, names: &SessionNames, lane: Lane) -> Result<()
 }
 
 /// Makes a buffer the transcript's line of one message.
+#[inline(always)]
 fn spell_line(
     buffer: &mut Vec<u8>,
     names: &SessionNames,

@@ -276,6 +276,7 @@ fn session_by_name<'a>(
 }
 
 /// A session that is open, and the bytes after the byte that ends it.
+#[inline(always)]
 pub(crate) fn session_at<'a>(
     version: Version,
     names: &SessionNames,
