@@ -31,6 +31,7 @@ fn bus_in<L: Ledger>(heap: &Heap, name: &str, what: &Slot, steps: &mut Steps<L>)
 
 /// The bus that stands in the slot of an object at a place, from 0; `None` where no bus stands there,
 /// and past the last.
+#[inline(always)]
 pub fn bus_in_slot<L: Ledger>(heap: &Heap, o: Oid, at: usize, steps: &mut Steps<L>) -> Option<Oid>
     requires { IsLive heap.now.rows o }
     ensures bus { (b : Board) → Shows b heap.now → birth_of result ≡ option_and_then (bus_in b) (slice_get (slots_at b o.birth) at) }

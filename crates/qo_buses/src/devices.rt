@@ -9,7 +9,7 @@ ghost use Rattle.qo_object.specs.BoardObject.{birth_of};
 ghost use Rattle.qo_heap.specs.Rows.{IsLive};
 ghost use Rattle.qo_heap.specs.Board.{Shows};
 
-use crate::slots::{child_at, number_at, plain_at, strong_at};
+use crate::slots::{child_in, number_at, plain_at, strong_at};
 use qo_heap::{Heap, Oid, Steps};
 use qo_model::PropertyName;
 use qo_types::TypeTable;
@@ -69,5 +69,7 @@ pub fn clock_of<L: Ledger>(heap: &Heap, dev: Oid, steps: &mut Steps<L>) -> Optio
     ensures clock { (b : Board) → Shows b heap.now → birth_of result ≡ clock_of b dev.birth }
     ensures live { IfSome result (IsLive heap.now.rows) }
 {
-    child_at(heap, dev, PropertyName::Clk.as_str(), steps)
+    heap.reveal_invariant();
+    let slot = heap.property(dev, PropertyName::Clk, steps)?;
+    child_in(slot.what)
 }

@@ -16,6 +16,7 @@ ghost use Rattle.qo_life.specs.Life.{Goes};
 
 use crate::writing::point_named;
 use qo_heap::{Heap, Oid, SlotName, Steps};
+use qo_model::PropertyName;
 use qo_values::TypeId;
 use std::alloc::AllocError;
 use std::sync::ledger::Ledger;
@@ -51,5 +52,5 @@ pub fn point_bus<L: Ledger>(heap: &mut Heap, dev: Oid, bus: Oid, steps: &mut Ste
     ensures names { (key : Key) → IsLive heap.old.rows key → IsLive heap.new.rows key }
     ensures pins { pins_in heap.new.rows ≡ pins_in heap.old.rows }
 {
-    point_named(heap, dev, "parent_bus", bus, steps);
+    point_named(heap, dev, PropertyName::ParentBus, bus, steps);
 }

@@ -14,6 +14,7 @@ use qo_heap::{Heap, Oid, Steps};
 use std::sync::ledger::Ledger;
 
 /// The kid in a slot of a bus; `None` exactly where there is none.
+#[inline(always)]
 pub fn kid_at<L: Ledger>(heap: &Heap, bus: Oid, slot: u8, steps: &mut Steps<L>) -> Option<Oid>
     requires { IsLive heap.now.rows bus }
     ensures kid { (b : Board) → Shows b heap.now → birth_of result ≡ kid_at b bus.birth slot }

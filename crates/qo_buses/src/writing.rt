@@ -1,10 +1,11 @@
-//! What is written into the slots of an object, by their names. None of these calls takes memory.
+//! What is written into the slots of an object, by the names of their properties. None of these calls takes memory.
 
 ghost use Rattle.std.specs.Prelude.{◌≡◌, ℕ, Bool, Some, None, IfSome, IfNone, option_map};
 ghost use Rattle.qo_values.specs.Kinds.{type_name};
 ghost use Rattle.qo_slots.specs.declared.keys.Key.{Key};
 ghost use Rattle.qo_model.specs.Board.{Board};
 ghost use Rattle.qo_model.specs.Plug.{fitted, link_named};
+ghost use Rattle.qo_model.specs.RowNames.{property_name};
 ghost use Rattle.qo_model.specs.Types.{is_a};
 ghost use Rattle.qo_model.specs.Unplug.{set_named};
 ghost use Rattle.qo_object.specs.BoardObject.{shown_slot};
@@ -15,6 +16,7 @@ ghost use Rattle.qo_heap.specs.Objects.{content_of};
 ghost use Rattle.qo_life.specs.Life.{Goes};
 
 use qo_heap::{Heap, Oid, Slot, Steps};
+use qo_model::PropertyName;
 use qo_types::TypeTable;
 use qo_values::{TypeId, Val};
 use std::sync::ledger::Ledger;
@@ -43,15 +45,21 @@ fn is_fit<L: Ledger>(heap: &Heap, o: Oid, ty: TypeId, steps: &mut Steps<L>) -> b
 
 /// Points the link of a name of an object at another, where it has no target and the other is of its
 /// type.
-fn point_open<L: Ledger>(heap: &mut Heap, o: Oid, name: &str, target: Oid, steps: &mut Steps<L>)
+fn point_open<L: Ledger>(
+    heap: &mut Heap,
+    o: Oid,
+    name: PropertyName,
+    target: Oid,
+    steps: &mut Steps<L>,
+)
     requires live { IsLive heap.old.rows o }
     requires target { IsLive heap.old.rows target }
-    ensures goes { Goes (link_named o.birth name.now target.birth) heap.old heap.new }
+    ensures goes { Goes (link_named o.birth (property_name name) target.birth) heap.old heap.new }
     ensures names { (key : Key) → IsLive heap.old.rows key → IsLive heap.new.rows key }
     ensures pins { pins_in heap.new.rows ≡ pins_in heap.old.rows }
 {
     heap.reveal_invariant();
-    let Some(view) = heap.slot(o, name, steps) else {
+    let Some(view) = heap.property(o, name, steps) else {
         return;
     };
     let Some(ty) = open_type(view.what) else {
@@ -68,14 +76,14 @@ fn point_open<L: Ledger>(heap: &mut Heap, o: Oid, name: &str, target: Oid, steps
 pub fn point_named<L: Ledger>(
     heap: &mut Heap,
     o: Oid,
-    name: &str,
+    name: PropertyName,
     target: Oid,
     steps: &mut Steps<L>,
 )
     requires live { IsLive heap.old.rows o }
     requires target { IsLive heap.old.rows target }
-    ensures shown { (b : Board) → Shows b heap.old → Shows (link_named o.birth name.now target.birth b) heap.new }
-    ensures goes { Goes (link_named o.birth name.now target.birth) heap.old heap.new }
+    ensures shown { (b : Board) → Shows b heap.old → Shows (link_named o.birth (property_name name) target.birth b) heap.new }
+    ensures goes { Goes (link_named o.birth (property_name name) target.birth) heap.old heap.new }
     ensures names { (key : Key) → IsLive heap.old.rows key → IsLive heap.new.rows key }
     ensures pins { pins_in heap.new.rows ≡ pins_in heap.old.rows }
 {
@@ -83,14 +91,14 @@ pub fn point_named<L: Ledger>(
 }
 
 /// Gives the plain property of a name of an object a value.
-fn put_named<L: Ledger>(heap: &mut Heap, o: Oid, name: &str, val: Val, steps: &mut Steps<L>)
+fn put_named<L: Ledger>(heap: &mut Heap, o: Oid, name: PropertyName, val: Val, steps: &mut Steps<L>)
     requires { IsLive heap.old.rows o }
-    ensures goes { Goes (set_named o.birth name.now val) heap.old heap.new }
+    ensures goes { Goes (set_named o.birth (property_name name) val) heap.old heap.new }
     ensures names { (key : Key) → IsLive heap.old.rows key → IsLive heap.new.rows key }
     ensures pins { pins_in heap.new.rows ≡ pins_in heap.old.rows }
 {
     heap.reveal_invariant();
-    let Some(view) = heap.slot(o, name, steps) else {
+    let Some(view) = heap.property(o, name, steps) else {
         return;
     };
     let at = view.at;
@@ -98,10 +106,16 @@ fn put_named<L: Ledger>(heap: &mut Heap, o: Oid, name: &str, val: Val, steps: &m
 }
 
 /// Gives the plain property of a name of an object a value; anything else stays.
-pub fn set_named<L: Ledger>(heap: &mut Heap, o: Oid, name: &str, val: Val, steps: &mut Steps<L>)
+pub fn set_named<L: Ledger>(
+    heap: &mut Heap,
+    o: Oid,
+    name: PropertyName,
+    val: Val,
+    steps: &mut Steps<L>,
+)
     requires { IsLive heap.old.rows o }
-    ensures shown { (b : Board) → Shows b heap.old → Shows (set_named o.birth name.now val b) heap.new }
-    ensures goes { Goes (set_named o.birth name.now val) heap.old heap.new }
+    ensures shown { (b : Board) → Shows b heap.old → Shows (set_named o.birth (property_name name) val b) heap.new }
+    ensures goes { Goes (set_named o.birth (property_name name) val) heap.old heap.new }
     ensures names { (key : Key) → IsLive heap.old.rows key → IsLive heap.new.rows key }
     ensures pins { pins_in heap.new.rows ≡ pins_in heap.old.rows }
 {

@@ -1,5 +1,12 @@
 pub mod AnswerLemmas
-pub mod SubtreeLemmas
+pub mod ClockSlots
+pub mod FeedingLemmas
+pub mod BelowLemmas
+pub mod KeptBoards
+pub mod KeptChanges
+pub mod KeptLemmas
+pub mod KeptLinks
+pub mod OverflowLemmas
 pub mod ClockRows
 pub mod FitLemmas
 pub mod ScopeLemmas

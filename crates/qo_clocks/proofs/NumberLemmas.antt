@@ -7,7 +7,7 @@ use Rattle.qo_values.specs.declared.properties.Val.TheVariants as val
 use Rattle.qo_model.specs.Board as board
 use Rattle.qo_model.specs.Board.{Board, slot_named}
 use Rattle.qo_model.specs.Changes.{with_val}
-use Rattle.qo_model.specs.Clocks.{ClocksFit, child_period, div_of, mul_of, own_period, period, scaled, scaled_by, source_of, weak_in}
+use Rattle.qo_model.specs.Clocks.{child_period, div_of, mul_of, own_period, period, scaled, scaled_by, source_of, weak_in}
 use Rattle.qo_model.specs.Devices.{number_in, plain_in}
 use Rattle.qo_model.specs.Paths as paths
 use Rattle.qo_model.specs.Unplug.{set_named}
@@ -21,15 +21,14 @@ use Rattle.qo_heap.specs.Board.{Shows}
 use Rattle.qo_heap.specs.Objects.{Objects}
 use Rattle.qo_heap.proofs.BoardReads.{shows-births, shows-slot_named}
 use Rattle.qo_clocks.specs.Links.{changed_named}
-use Rattle.qo_clocks.specs.Periods.{scaled_on, wide_on}
-use Rattle.qo_clocks.specs.Reads.{own_on, slot_on, source_on}
+use Rattle.qo_clocks.specs.Periods.{wide_on}
+use Rattle.qo_clocks.specs.Reads.{slot_on, source_on}
 use Rattle.qo_clocks.specs.Writes.{is_plain, with_period, with_scale, written_on}
 use Rattle.qo_clocks.proofs.LinkLemmas.{shows-set_named}
-use Rattle.qo_clocks.proofs.PeriodLemmas.{cut-low}
-use Rattle.qo_clocks.proofs.ReadLemmas.{shows-own, shows-source}
+use Rattle.qo_clocks.proofs.ReadLemmas.{shows-source}
 use Rattle.qo_clocks.proofs.CycleLemmas.{period-kept}
 use Rattle.qo_clocks.proofs.SettingLemmas.{births-set, slot-elsewhere, slot-other, slot-own}
-use Rattle.qo_clocks.proofs.WriteLemmas.{shows-wide}
+use Rattle.qo_clocks.proofs.PeriodLemmas.{shows-wide}
 
 -- a number in a slot, and that in a slot that it is written to
 
@@ -84,22 +83,17 @@ module _ (b : Board) (v : Objects) (s : Shows b v) (c p : ℕ) where
         own = λ n e. ap (read 0) (slot-elsewhere b c (codes "period") (val.Uint p) n (codes "period") e);
       }
 
+  pub own-period : source_of b c ≡ None → period with_own c ≡ written_on v c (codes "period") p 0
+  own-period none =
+      period-own with_own c (own-written.sources c ∙ none)
+      ∙ written-is b v s c p 0 (codes "period") (slot_named with_own c (codes "period")) (slot-own b c (codes "period") (val.Uint p))
+
   pub own-child : source_of b c ≡ None → wide_on v c (written_on v c (codes "period") p 0) ≡ child_period with_own c
   own-child none =
-      let own : own_period with_own c ≡ written_on v c (codes "period") p 0 =
-      written-is b v s c p 0 (codes "period") (slot_named with_own c (codes "period")) (slot-own b c (codes "period") (val.Uint p)) in
-      let now : period with_own c ≡ written_on v c (codes "period") p 0 = period-own with_own c (own-written.sources c ∙ none) ∙ own in
+      let now : period with_own c ≡ written_on v c (codes "period") p 0 = own-period none in
       shows-wide b v s c (written_on v c (codes "period") p 0)
       ∙ ap (scaled b c) (sym now)
       ∙ ap₂ (λ (mul div : ℕ). scaled_by mul div (period with_own c)) (sym (own-mul c)) (sym (own-div c))
-
--- a period as it was, for those that go by the clock
-
-pub child-before : (b : Board) (v : Objects) → Shows b v → ClocksFit b → (c p : ℕ) → p ≡ period b c → scaled_on v c p ≡ child_period b c
-child-before b v s fit c p e = cut-low (wide_on v c p) (child_period b c) (shows-wide b v s c p ∙ ap (scaled b c) e) (fit.fits c)
-
-pub own-before : (b : Board) (v : Objects) → Shows b v → ClocksFit b → (c : ℕ) → source_of b c ≡ None → scaled_on v c (own_on v c) ≡ child_period b c
-own-before b v s fit c none = child-before b v s fit c (own_on v c) (sym (period-own b c none ∙ shows-own b v s c))
 
 -- mul and div are written
 
@@ -154,11 +148,14 @@ module _ (b : Board) (v : Objects) (s : Shows b v) (c m d : ℕ) where
       go true e = not_zero e
       go false e = let no : ⊥ = omega arith in no
 
+  pub both-period : (own : ℕ) → own ≡ period b c → own ≡ period with_both c
+  both-period own e = e ∙ sym (period-kept b with_both c both-written both-own)
+
   pub both-child : (own : ℕ) → own ≡ period b c
       → scaled_by (written_on v c (codes "mul") m 1) (written_on v c (codes "div") d 1) own ≡ child_period with_both c
   both-child own e =
       let mul : mul_of with_both c ≡ written_on v c (codes "mul") m 1 =
       written-is b v s c m 1 (codes "mul") (slot_named with_both c (codes "mul"))
       (slot-other with_mul c (codes "div") (val.Uint d) c (codes "mul") refl ∙ slot-own b c (codes "mul") (val.Uint m)) in
-      let same : own ≡ period with_both c = e ∙ sym (period-kept b with_both c both-written both-own) in
+      let same : own ≡ period with_both c = both-period own e in
       ap₂ (λ (x y : ℕ). scaled_by x y own) (sym mul) (sym both-div) ∙ ap (scaled with_both c) same

@@ -1,5 +1,5 @@
 -- What is read of a clock on the heap is what the boards that it shows have.
-use Rattle.std.proofs.Common.{◌≡◌, refl, ap, sym, subst, ◌∙◌, ℕ, Bool, true, false, List, find, Option, Some, None, option_map, unwrap_or, IfSome, codes}
+use Rattle.std.proofs.Common.{◌≡◌, refl, ap, sym, subst, ◌∙◌, ℕ, true, false, List, find, Option, Some, None, option_map, unwrap_or, IfSome, codes}
 use Rattle.std.specs.Prelude.{option_and_then}
 use Rattle.std.specs.Str.{bytes_eq}
 use Rattle.qo_values.specs.declared.properties.Val.TheVariants as val

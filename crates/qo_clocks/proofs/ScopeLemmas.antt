@@ -69,10 +69,13 @@ pub scale-timely : (v : Objects) (c m d : ℕ) → Timely v → Timely (with_sca
 scale-timely v c m d all =
     timely-changed c (codes "div") (with_val (val.Uint d)) (with_mul c m v) (timely-changed c (codes "mul") (with_val (val.Uint m)) v all)
 
+pub scale-live : (v : Objects) (c m d : ℕ) (key : Key) → IsLive v.rows key → IsLive (with_scale c m d v).rows key
+scale-live v c m d key live =
+    live-changed c (codes "div") (with_val (val.Uint d)) (with_mul c m v) key (live-changed c (codes "mul") (with_val (val.Uint m)) v key live)
+
 pub scale-names : (v x : Objects) (c m d : ℕ) → Acts (with_scale c m d v) x → (key : Key) → IsLive v.rows key → IsLive x.rows key
 scale-names v x c m d acts key live =
-    rw (acts-live (with_scale c m d v) x acts key)
-    (live-changed c (codes "div") (with_val (val.Uint d)) (with_mul c m v) key (live-changed c (codes "mul") (with_val (val.Uint m)) v key live))
+    rw (acts-live (with_scale c m d v) x acts key) (scale-live v c m d key live)
 
 pub scale-book : (v x : Objects) (c m d : ℕ) → Acts (with_scale c m d v) x → (out : List Claimed) → IsBook out v → IsBook out x
 scale-book v x c m d acts out book =

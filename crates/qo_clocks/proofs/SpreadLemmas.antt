@@ -1,11 +1,9 @@
--- Calls of devices leave who goes by whom, and a change spreads place by place.
-use Rattle.std.proofs.Common.{◌≡◌, refl, ap, ap₂, sym, subst, ◌∙◌, ℕ, zero, suc, ◌+◌, ◌≤◌, Bool, true, false, eqb, List, [], ◌∷◌, ◌++◌, map, take, length, filter, find, cond, slice_get, append-nil, Option, Some, None, option_map, option_and_then, IfSome, arith}
-use Rattle.std.proofs.lemmas.List.{take_all}
-use Rattle.std.specs.List.{cons_option, flat_map}
+-- Calls of devices leave who goes by whom, and a change spreads clock by clock.
+use Rattle.std.proofs.Common.{◌≡◌, refl, ap, ap₂, sym, ◌∙◌, ℕ, suc, Bool, true, false, ◌&&◌, eqb, nat_lt, List, [], ◌∷◌, ◌++◌, map, filter, find, cond, Option, Some, None, option_map, IfSome}
+use Rattle.std.specs.List.{flat_map}
 use Rattle.std.specs.Option.{option_map_or}
 use Rattle.std.proofs.Math.Path.{fun_ext}
-use Rattle.std.proofs.lemmas.Bool.{eqb-true}
-use Rattle.std.proofs.lemmas.List.Concat.{flat_map-append}
+use Rattle.std.proofs.lemmas.Bool.{eq-eqb, eqb-true}
 use Rattle.qo_values.specs.declared.kinds.Act.{Act}
 use Rattle.qo_values.specs.declared.kinds.Act.TheVariants.{Pre, Update}
 use Rattle.qo_kinds.specs.Bodies.{MayAct}
@@ -13,21 +11,21 @@ use Rattle.qo_slots.specs.declared.keys.Key.{Key}
 use Rattle.qo_heap.specs.Rows.{IsLive, births, object_at}
 use Rattle.qo_model.specs.declared.notes.Deed.TheVariants.{Did}
 use Rattle.qo_model.specs.Depth.{by_depth}
-use Rattle.qo_object.specs.declared.room.Side.{Side}
 use Rattle.qo_object.specs.Content.{Content, acted_at, is_parent}
-use Rattle.qo_object.specs.BoardObject.{birth_of}
-use Rattle.qo_heap.specs.Acts.{Acts, KeepsCounts, counted_in, counts_of, stilled}
-use Rattle.qo_heap.specs.Objects.{Objects, content_of, parent_of, with_edit}
+use Rattle.qo_heap.specs.Acts.{Acts, KeepsCounts, KeepsPeriods, counts_of, periods_of, stilled}
+use Rattle.qo_heap.specs.Objects.{IsHeap, Objects, content_of, parent_of, with_edit}
 use Rattle.qo_heap.specs.Moments.{AllTimely, Timely}
 use Rattle.qo_heap.proofs.ActsLemmas.{acts-act, acts-live, acts-none, acts-then}
 use Rattle.qo_heap.proofs.ActsReads.{acts-slots}
-use Rattle.qo_heap.proofs.BoardObjects.{content-edited, content-other}
 use Rattle.qo_heap.proofs.MomentLemmas.{acts-timely}
-use Rattle.qo_clocks.specs.Subtree.{fed_in, goes_by}
+use Rattle.qo_clocks.specs.Kept.{with_periods}
+use Rattle.qo_clocks.specs.Subtree.{fed_above, fed_on, goes_by}
 use Rattle.qo_clocks.specs.Periods.{scaled_on}
 use Rattle.qo_clocks.specs.Reads.{source_on}
-use Rattle.qo_clocks.specs.Spread.{Change, acted_on, all_called_on, called_on, change_at, changes_on, spread_on, spread_to}
-use Rattle.qo_clocks.proofs.SubtreeLemmas.{at_place, fed-more}
+use Rattle.qo_clocks.specs.Spread.{Change, acted_on, all_changed_on, called_on, change_at, changed_on, changes_on, spread_on}
+use Rattle.qo_clocks.proofs.ClockSlots.{read-after}
+use Rattle.qo_clocks.proofs.FeedingLemmas.{fed-all}
+use Rattle.qo_clocks.proofs.KeptLemmas.{periods-acts, periods-counts, periods-timely}
 
 -- a timer may act
 
@@ -63,8 +61,12 @@ module _ (v w : Objects) (acts : Acts v w) where
   acts-births =
       sym (births-still w.rows) ∙ ap (map (λ (x : Key × Content). x.0.birth)) acts.rows ∙ births-still v.rows
 
-  acts-fed : (c : ℕ) → fed_in w c w.rows ≡ fed_in v c v.rows
+  acts-fed : (c : ℕ) → fed_on w c ≡ fed_on v c
   acts-fed c = ap₂ (λ (p : ℕ → Bool) (l : List ℕ). filter p l) (acts-goes c) acts-births
+
+  pub acts-fed_above : (c above : ℕ) → fed_above w c above ≡ fed_above v c above
+  acts-fed_above c above =
+      ap₂ (λ (p : ℕ → Bool) (l : List ℕ). filter (λ (n : ℕ). nat_lt above n && p n) l) (acts-goes c) acts-births
 
   pub acts-changes : (levels : ℕ) → changes_on w levels ≡ changes_on v levels
   unfolding changes_on
@@ -73,21 +75,8 @@ module _ (v w : Objects) (acts : Acts v w) where
     where
       turn : (ℕ → ℕ → ℕ) → (ℕ → List ℕ) → (ℕ → ℕ → ℕ → List Change) → ℕ → ℕ → ℕ → List Change
       turn scale fed f c before after =
-          flat_map (λ (n : ℕ). record { clock = n; before = before; after = after } ∷ f n (scale n before) (scale n after)) (fed c)
-
-  keys-still : (rows : List (Key × Content)) (i : ℕ)
-      → option_map (λ (x : Key × Content). x.0) (slice_get (map stilled rows) i) ≡ option_map (λ (row : Key × Content). row.0) (slice_get rows i)
-  keys-still [] i = refl
-  keys-still (row ∷ rows) zero = refl
-  keys-still (row ∷ rows) (suc i) = keys-still rows i
-
-  pub acts-place : (c i : ℕ) → at_place w c i ≡ at_place v c i
-  acts-place c i =
-      let keys : option_map (λ (row : Key × Content). row.0) (slice_get w.rows i) ≡ option_map (λ (row : Key × Content). row.0) (slice_get v.rows i) =
-      sym (keys-still w.rows i)
-      ∙ ap (λ (l : List (Key × Content)). option_map (λ (x : Key × Content). x.0) (slice_get l i)) acts.rows
-      ∙ keys-still v.rows i in
-      ap₂ (λ (p : ℕ → Bool) (o : Option Key). option_and_then (λ (k : Key). cond (p k.birth) (Some k) None) o) (acts-goes c) keys
+          cond (eqb before after) []
+          (flat_map (λ (n : ℕ). record { clock = n; before = before; after = after; child = scale n after } ∷ f n (scale n before) (scale n after)) (fed c))
 
   parent-still : (n : ℕ) (rows : List (Key × Content))
       → option_map (λ (x : Key × Content). x.0) (find (λ (x : Key × Content). is_parent n x.1) (map stilled rows))
@@ -115,160 +104,199 @@ module _ (v w : Objects) (acts : Acts v w) where
 pub acted-acts : (act : Act) (n p : ℕ) (v : Objects) → Acts v (acted_on act n p v)
 acted-acts act n p v = acts-act v (record { birth = n; deed = Did act }) n act v.time p
 
-count-kept : (n : ℕ) (f : Content → Content) → ((c : Content) → (f c).side ≡ c.side) → (v : Objects) → KeepsCounts v (with_edit n f v)
-count-kept n f same v m = go (eqb m n) refl
-  where
-    two : (o : Option Content) → option_map counts_of (option_map f o) ≡ option_map counts_of o
-    two None = refl
-    two (Some c) = ap (λ (s : Side). Some (s.count, s.marks)) (same c)
-
-    go : (t : Bool) → eqb m n ≡ t → counted_in (with_edit n f v) m ≡ counted_in v m
-    go true p =
-        subst (λ (k : ℕ). counted_in (with_edit n f v) k ≡ counted_in v k) (sym (eqb-true m n p))
-        (ap (option_map counts_of) (content-edited v n f) ∙ two (content_of v n))
-    go false p = ap (option_map counts_of) (content-other v n m f p)
-
 acted-counts : (act : Act) (n p : ℕ) (v : Objects) → KeepsCounts v (acted_on act n p v)
-acted-counts act n p v = count-kept n (acted_at act v.time p) (λ c. refl) v
+acted-counts act n p v = read-after counts_of n (acted_at act v.time p) (λ c. refl) v
+
+acted-periods : (act : Act) (n p : ℕ) (v : Objects) → KeepsPeriods v (acted_on act n p v)
+acted-periods act n p v = read-after periods_of n (acted_at act v.time p) (λ c. refl) v
 
 pub acted-timely : (act : Act) (n p : ℕ) (v : Objects) → Timely v → Timely (acted_on act n p v)
 acted-timely act n p v all = acts-timely v (record { birth = n; deed = Did act }) n act p all
 
-abbrev parent_called : Change → Objects → Option Key → Objects
-parent_called x v o = elim o as (λ _. Objects) [ None ↦ v | Some d ↦ acted_on Update d.birth x.after (acted_on Pre d.birth x.before v) ]
+abbrev parent_called : ℕ → ℕ → Objects → Option Key → Objects
+parent_called before after v o = elim o as (λ _. Objects) [ None ↦ v | Some d ↦ acted_on Update d.birth after (acted_on Pre d.birth before v) ]
 
-abbrev called_if : Change → Objects → Bool → Objects
-called_if x v t = elim t as (λ _. Objects) [ true ↦ v | false ↦ parent_called x v (parent_of v x.clock) ]
+module _ (n before after : ℕ) (v : Objects) where
+  pub called-acts : Acts v (called_on n before after v)
+  called-acts = by (parent_of v n)
+    where
+      by : (o : Option Key) → Acts v (parent_called before after v o)
+      by None = acts-none v
+      by (Some d) =
+          acts-then v (acted_on Pre d.birth before v) (acted_on Update d.birth after (acted_on Pre d.birth before v))
+          (acted-acts Pre d.birth before v) (acted-acts Update d.birth after (acted_on Pre d.birth before v))
 
-pub called-acts : (x : Change) (v : Objects) → Acts v (called_on x v)
-called-acts x v = go (eqb x.before x.after)
-  where
-    by : (o : Option Key) → Acts v (parent_called x v o)
-    by None = acts-none v
-    by (Some d) =
-        acts-then v (acted_on Pre d.birth x.before v) (acted_on Update d.birth x.after (acted_on Pre d.birth x.before v))
-        (acted-acts Pre d.birth x.before v) (acted-acts Update d.birth x.after (acted_on Pre d.birth x.before v))
+  called-counts : KeepsCounts v (called_on n before after v)
+  called-counts = by (parent_of v n)
+    where
+      by : (o : Option Key) → KeepsCounts v (parent_called before after v o)
+      by None = λ m. refl
+      by (Some d) = λ m. acted-counts Update d.birth after (acted_on Pre d.birth before v) m ∙ acted-counts Pre d.birth before v m
 
-    go : (t : Bool) → Acts v (called_if x v t)
-    go true = acts-none v
-    go false = by (parent_of v x.clock)
+  pub called-periods : KeepsPeriods v (called_on n before after v)
+  called-periods = by (parent_of v n)
+    where
+      by : (o : Option Key) → KeepsPeriods v (parent_called before after v o)
+      by None = λ m. refl
+      by (Some d) = λ m. acted-periods Update d.birth after (acted_on Pre d.birth before v) m ∙ acted-periods Pre d.birth before v m
 
-called-counts : (x : Change) (v : Objects) → KeepsCounts v (called_on x v)
-called-counts x v = go (eqb x.before x.after)
-  where
-    by : (o : Option Key) → KeepsCounts v (parent_called x v o)
-    by None = λ m. refl
-    by (Some d) = λ m. acted-counts Update d.birth x.after (acted_on Pre d.birth x.before v) m ∙ acted-counts Pre d.birth x.before v m
+  pub called-timely : Timely v → Timely (called_on n before after v)
+  called-timely all = by (parent_of v n)
+    where
+      by : (o : Option Key) → Timely (parent_called before after v o)
+      by None = all
+      by (Some d) = acted-timely Update d.birth after (acted_on Pre d.birth before v) (acted-timely Pre d.birth before v all)
 
-    go : (t : Bool) → KeepsCounts v (called_if x v t)
-    go true = λ m. refl
-    go false = by (parent_of v x.clock)
+-- a clock keeps other periods, and its parent is called back
 
-pub called-timely : (x : Change) (v : Objects) → Timely v → Timely (called_on x v)
-called-timely x v all = go (eqb x.before x.after)
-  where
-    by : (o : Option Key) → Timely (parent_called x v o)
-    by None = all
-    by (Some d) = acted-timely Update d.birth x.after (acted_on Pre d.birth x.before v) (acted-timely Pre d.birth x.before v all)
+abbrev kept_of : Change → Objects → Objects
+kept_of x v = with_edit x.clock (with_periods x.after x.child) v
 
-    go : (t : Bool) → Timely (called_if x v t)
-    go true = all
-    go false = by (parent_of v x.clock)
+pub changed-acts : (x : Change) (v : Objects) → Acts v (changed_on x v)
+changed-acts x v =
+    acts-then v (kept_of x v) (changed_on x v) (periods-acts x.clock x.after x.child v) (called-acts x.clock x.before x.after (kept_of x v))
 
-pub all-called-acts : (xs : List Change) (v : Objects) → Acts v (all_called_on xs v)
-unfolding all_called_on
-all-called-acts [] v = acts-none v
-all-called-acts (x ∷ xs) v = acts-then v (called_on x v) (all_called_on xs (called_on x v)) (called-acts x v) (all-called-acts xs (called_on x v))
+changed-counts : (x : Change) (v : Objects) → KeepsCounts v (changed_on x v)
+changed-counts x v m = called-counts x.clock x.before x.after (kept_of x v) m ∙ periods-counts x.clock x.after x.child v m
 
-all-called-counts : (xs : List Change) (v : Objects) → KeepsCounts v (all_called_on xs v)
-unfolding all_called_on
-all-called-counts [] v m = refl
-all-called-counts (x ∷ xs) v m = all-called-counts xs (called_on x v) m ∙ called-counts x v m
+changed-timely : (x : Change) (v : Objects) → Timely v → Timely (changed_on x v)
+changed-timely x v all = called-timely x.clock x.before x.after (kept_of x v) (periods-timely x.clock x.after x.child v all)
 
-all-called-timely : (xs : List Change) (v : Objects) → Timely v → Timely (all_called_on xs v)
-unfolding all_called_on
-all-called-timely [] v all = all
-all-called-timely (x ∷ xs) v all = all-called-timely xs (called_on x v) (called-timely x v all)
+pub all-changed-acts : (xs : List Change) (v : Objects) → Acts v (all_changed_on xs v)
+unfolding all_changed_on
+all-changed-acts [] v = acts-none v
+all-changed-acts (x ∷ xs) v = acts-then v (changed_on x v) (all_changed_on xs (changed_on x v)) (changed-acts x v) (all-changed-acts xs (changed_on x v))
+
+all-changed-counts : (xs : List Change) (v : Objects) → KeepsCounts v (all_changed_on xs v)
+unfolding all_changed_on
+all-changed-counts [] v m = refl
+all-changed-counts (x ∷ xs) v m = all-changed-counts xs (changed_on x v) m ∙ changed-counts x v m
+
+all-changed-timely : (xs : List Change) (v : Objects) → Timely v → Timely (all_changed_on xs v)
+unfolding all_changed_on
+all-changed-timely [] v all = all
+all-changed-timely (x ∷ xs) v all = all-changed-timely xs (changed_on x v) (changed-timely x v all)
 
 pub spread-acts : (v : Objects) (levels c before after : ℕ) → Acts v (spread_on v levels c before after)
 unfolding spread_on
-spread-acts v levels c before after = all-called-acts (changes_on v levels c before after) v
+spread-acts v levels c before after = all-changed-acts (changes_on v levels c before after) v
 
 pub spread-counts : (v : Objects) (levels c before after : ℕ) → KeepsCounts v (spread_on v levels c before after)
 unfolding spread_on
-spread-counts v levels c before after = all-called-counts (changes_on v levels c before after) v
+spread-counts v levels c before after = all-changed-counts (changes_on v levels c before after) v
 
 pub spread-timely : (v : Objects) (levels c before after : ℕ) → Timely v → Timely (spread_on v levels c before after)
 unfolding spread_on
-spread-timely v levels c before after all = all-called-timely (changes_on v levels c before after) v all
+spread-timely v levels c before after all = all-changed-timely (changes_on v levels c before after) v all
 
-to-acts : (v : Objects) (levels c before after i : ℕ) → Acts v (spread_to v levels c before after i)
-unfolding spread_to
-to-acts v levels c before after i = all-called-acts _ v
+-- the loop over the clocks that go by a clock: what is left to do makes the whole
 
-pub to-timely : (v : Objects) (levels c before after i : ℕ) → Timely v → Timely (spread_to v levels c before after i)
-unfolding spread_to
-to-timely v levels c before after i all = all-called-timely _ v all
+changed-append : (xs ys : List Change) (v : Objects) → all_changed_on (xs ++ ys) v ≡ all_changed_on ys (all_changed_on xs v)
+unfolding all_changed_on
+changed-append [] ys v = refl
+changed-append (x ∷ xs) ys v = changed-append xs ys (changed_on x v)
 
--- the loop over the places
+-- none where there are no levels, or where the period stays
+pub spread-none : (v : Objects) (c before after : ℕ) → v ≡ spread_on v 0 c before after
+unfolding spread_on changes_on all_changed_on
+spread-none v c before after = refl
 
-called-append : (xs ys : List Change) (v : Objects) → all_called_on (xs ++ ys) v ≡ all_called_on ys (all_called_on xs v)
-unfolding all_called_on
-called-append [] ys v = refl
-called-append (x ∷ xs) ys v = called-append xs ys (called_on x v)
+pub spread-still : (v : Objects) (all levels c before after : ℕ) → all ≡ suc levels → before ≡ after → v ≡ spread_on v all c before after
+unfolding spread_on changes_on all_changed_on
+spread-still v all levels c before after more same =
+    sym
+    (ap (λ (d : ℕ). all_changed_on (changes_on v d c before after) v) more
+    ∙ ap (λ (t : Bool). all_changed_on (cond t [] (flat_map (change_at v (changes_on v levels) before after) (fed_on v c))) v) (eq-eqb before after same))
 
-pub to-none : (v : Objects) (levels c before after : ℕ) → v ≡ spread_to v levels c before after 0
-unfolding spread_to all_called_on
-to-none v levels c before after = refl
+module _ (v : Objects) (levels c before after : ℕ) where
+  abbrev change_of : ℕ → List Change
+  change_of = change_at v (changes_on v levels) before after
 
-to-more : (v w : Objects) (levels c before after i : ℕ) (o : Option Key) → w ≡ spread_to v levels c before after i → o ≡ at_place w c i
-    → spread_to v levels c before after (i + 1) ≡ all_called_on (flat_map (change_at v (changes_on v levels) before after) (cons_option (birth_of o) [])) w
-unfolding spread_to
-to-more v w levels c before after i o now e =
-    let acts : Acts v w = rw now (to-acts v levels c before after i) in
-    let one : i + 1 ≡ suc i = omega arith in
-    let f : ℕ → List Change = change_at v (changes_on v levels) before after in
-    ap (λ (j : ℕ). all_called_on (flat_map f (fed_in v c (take j v.rows))) v) one
-    ∙ ap (λ (l : List ℕ). all_called_on (flat_map f l) v) (fed-more v c i v.rows o (e ∙ acts-place v w acts c i))
-    ∙ ap (λ (l : List Change). all_called_on l v) (flat_map-append f (fed_in v c (take i v.rows)) (cons_option (birth_of o) []))
-    ∙ called-append (flat_map f (fed_in v c (take i v.rows))) (flat_map f (cons_option (birth_of o) [])) v
-    ∙ ap (all_called_on (flat_map f (cons_option (birth_of o) []))) (sym now)
+  pub record Spreads (above : ℕ) (w : Objects) : Type 0 where
+    pub acts : Acts v w
+    pub timely : Timely w
+    pub left :
+        all_changed_on (flat_map (change_at v (changes_on v levels) before after) (fed_above v c above)) w
+        ≡ all_changed_on (flat_map (change_at v (changes_on v levels) before after) (fed_on v c)) v
 
-pub to-other : (v w : Objects) (levels c before after i : ℕ) → w ≡ spread_to v levels c before after i → None ≡ at_place w c i
-    → w ≡ spread_to v levels c before after (i + 1)
-unfolding all_called_on
-to-other v w levels c before after i now e = sym (to-more v w levels c before after i None now e)
+  pub spreads-init : IsHeap v → Timely v → Spreads 0 v
+  spreads-init good timely =
+      record { acts = acts-none v; timely = timely; left = ap (λ (l : List ℕ). all_changed_on (flat_map change_of l) v) (fed-all v good c) }
 
-pub to-kid : (v w x : Objects) (levels c before after i : ℕ) (k : Key) (be af : ℕ) → w ≡ spread_to v levels c before after i → Some k ≡ at_place w c i
-    → x ≡ called_on (record { clock = k.birth; before = before; after = after }) w → be ≡ scaled_on x k.birth before → af ≡ scaled_on x k.birth after
-    → spread_on x levels k.birth be af ≡ spread_to v levels c before after (i + 1)
-unfolding spread_on all_called_on
-to-kid v w x levels c before after i k be af now e called is_be is_af =
-    let change : Change = record { clock = k.birth; before = before; after = after } in
-    let first : Acts v w = rw now (to-acts v levels c before after i) in
-    let acts : Acts v x = acts-then v w x first (rw called (called-acts change w)) in
-    let scales : scaled_on x ≡ scaled_on v = acts-scaled v x acts in
-    let low : be ≡ scaled_on v k.birth before = is_be ∙ ap (λ (scale : ℕ → ℕ → ℕ). scale k.birth before) scales in
-    let high : af ≡ scaled_on v k.birth after = is_af ∙ ap (λ (scale : ℕ → ℕ → ℕ). scale k.birth after) scales in
-    ap (λ (f : ℕ → ℕ → ℕ → List Change). all_called_on (f k.birth be af) x) (acts-changes v x acts levels)
-    ∙ ap₂ (λ (p q : ℕ). all_called_on (changes_on v levels k.birth p q) x) low high
-    ∙ ap (all_called_on (changes_on v levels k.birth (scaled_on v k.birth before) (scaled_on v k.birth after))) called
-    ∙ ap (λ (l : List Change). all_called_on l w) (sym (append-nil (change_at v (changes_on v levels) before after k.birth)))
-    ∙ sym (to-more v w levels c before after i (Some k) now e)
+  pub spreads-live : (above : ℕ) (w : Objects) → Spreads above w → (key : Key) → IsLive v.rows key → IsLive w.rows key
+  spreads-live above w s key live = rw (acts-live v w s.acts key) live
 
-pub to-all : (v w : Objects) (all levels c before after i : ℕ) → all ≡ suc levels → length v.rows ≤ i → w ≡ spread_to v levels c before after i
-    → w ≡ spread_on v all c before after
-unfolding spread_on spread_to changes_on
-to-all v w all levels c before after i more le now =
-    now
-    ∙ ap (λ (l : List (Key × Content)). all_called_on (flat_map (change_at v (changes_on v levels) before after) (fed_in v c l)) v) (take_all i v.rows le)
-    ∙ ap (λ (d : ℕ). all_called_on (changes_on v d c before after) v) (sym more)
+  -- one clock more
+  module _ (above : ℕ) (w : Objects) (s : Spreads above w) (n af : ℕ) (fed : fed_above w c above ≡ n ∷ fed_above w c n) (is_af : af ≡ scaled_on w n after)
+      (x₁ : Objects) (kept : x₁ ≡ with_edit n (with_periods after af) w) where
+    first-acts : Acts v x₁
+    first-acts = acts-then v w x₁ s.acts (rw kept (periods-acts n after af w))
 
-pub none-spread : (v : Objects) (c before after : ℕ) → v ≡ spread_on v 0 c before after
-unfolding spread_on changes_on all_called_on
-none-spread v c before after = refl
+    pub first-live : (key : Key) → IsLive w.rows key → IsLive x₁.rows key
+    first-live key live = rw (acts-live w x₁ (rw kept (periods-acts n after af w)) key) live
 
-pub live-to : (v w : Objects) (levels c before after i : ℕ) (key : Key) → w ≡ spread_to v levels c before after i → IsLive v.rows key → IsLive w.rows key
-live-to v w levels c before after i key now live =
-    let acts : Acts v w = rw now (to-acts v levels c before after i) in
-    rw (acts-live v w acts key) live
+    pub first-timely : Timely x₁
+    first-timely = rw kept (periods-timely n after af w s.timely)
+
+    module _ (x₂ : Objects) (called : x₂ ≡ called_on n before after x₁) where
+      next-acts : Acts v x₂
+      next-acts = acts-then v x₁ x₂ first-acts (rw called (called-acts n before after x₁))
+
+      pub next-live : (key : Key) → IsLive w.rows key → IsLive x₂.rows key
+      next-live key live = rw (acts-live x₁ x₂ (rw called (called-acts n before after x₁)) key) (first-live key live)
+
+      pub next-timely : Timely x₂
+      next-timely = rw called (called-timely n before after x₁ first-timely)
+
+      abbrev change : Change
+      change = record { clock = n; before = before; after = after; child = scaled_on v n after }
+
+      scales : (p : ℕ) → scaled_on w n p ≡ scaled_on v n p
+      scales p = ap (λ (scale : ℕ → ℕ → ℕ). scale n p) (acts-scaled v w s.acts)
+
+      changed : x₂ ≡ changed_on change w
+      changed =
+          called
+          ∙ ap (called_on n before after) (kept ∙ ap (λ (k : ℕ). with_edit n (with_periods after k) w) (is_af ∙ scales after))
+
+      pub spreads-next : (be : ℕ) → be ≡ scaled_on w n before → (y : Objects) → y ≡ spread_on x₂ levels n be af → Spreads n y
+      unfolding spread_on all_changed_on
+      spreads-next be is_be y spread =
+          record {
+            acts = acts-then v x₂ y next-acts (rw spread (spread-acts x₂ levels n be af));
+            timely = rw spread (spread-timely x₂ levels n be af next-timely);
+            left = ap (all_changed_on (flat_map change_of (fed_above v c n))) here ∙ sym all ∙ s.left;
+          }
+        where
+          here : y ≡ all_changed_on (change_of n) w
+          here =
+              spread
+              ∙ ap (λ (f : ℕ → ℕ → ℕ → List Change). all_changed_on (f n be af) x₂) (acts-changes v x₂ next-acts levels)
+              ∙ ap₂ (λ (p q : ℕ). all_changed_on (changes_on v levels n p q) x₂) (is_be ∙ scales before) (is_af ∙ scales after)
+              ∙ ap (all_changed_on (changes_on v levels n (scaled_on v n before) (scaled_on v n after))) changed
+
+          fed_on_v : fed_above v c above ≡ n ∷ fed_above v c n
+          fed_on_v =
+              sym (acts-fed_above v w s.acts c above) ∙ fed ∙ ap (λ (l : List ℕ). n ∷ l) (acts-fed_above v w s.acts c n)
+
+          all : all_changed_on (flat_map change_of (fed_above v c above)) w
+              ≡ all_changed_on (flat_map change_of (fed_above v c n)) (all_changed_on (change_of n) w)
+          all =
+              ap (λ (l : List ℕ). all_changed_on (flat_map change_of l) w) fed_on_v
+              ∙ changed-append (change_of n) (flat_map change_of (fed_above v c n)) w
+
+  pub spreads-end : (all above : ℕ) (w : Objects) → all ≡ suc levels → (before ≡ after → ⊥) → Spreads above w → fed_above w c above ≡ []
+      → w ≡ spread_on v all c before after
+  unfolding spread_on changes_on all_changed_on
+  spreads-end all above w more differ s fed =
+      sym (ap (λ (l : List ℕ). all_changed_on (flat_map change_of l) w) (sym (acts-fed_above v w s.acts c above) ∙ fed))
+      ∙ s.left
+      ∙ sym
+      (ap (λ (d : ℕ). all_changed_on (changes_on v d c before after) v) more
+      ∙ go (eqb before after) refl)
+    where
+      go : (t : Bool) → eqb before after ≡ t
+          → all_changed_on (cond t [] (flat_map (change_at v (changes_on v levels) before after) (fed_on v c))) v
+          ≡ all_changed_on (flat_map (change_at v (changes_on v levels) before after) (fed_on v c)) v
+      go true is = absurd (differ (eqb-true before after is))
+      go false is = refl

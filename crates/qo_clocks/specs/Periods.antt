@@ -1,9 +1,8 @@
 -- For proofs alone. Periods on the heap.
 use Rattle.std.specs.Prelude.{ℕ, ◌^◌, ◌-◌, min, nat_le, if◌then◌else◌, Option, None, Some}
 use Rattle.qo_model.specs.Clocks.{scaled_by}
-use Rattle.qo_model.specs.Depth.{by_depth}
 use Rattle.qo_heap.specs.Objects.{Objects}
-use Rattle.qo_clocks.specs.Reads.{div_on, mul_on, own_on, source_on}
+use Rattle.qo_clocks.specs.Reads.{div_on, mul_on}
 
 -- a period as the clocks that go by a clock have it; and told as the greatest number of 64 bits where it is greater
 abbrev pub wide_on : Objects → ℕ → ℕ → ℕ
@@ -15,11 +14,3 @@ scaled_on v n period = min (wide_on v n period) (2 ^ 64 - 1)
 -- a number, if it fits in 64 bits
 abbrev pub fitting : ℕ → Option ℕ
 fitting n = if nat_le (2 ^ 64) n then None else Some n
-
--- the period of a clock: its own, or by its source's
-abbrev pub period_turn_on : Objects → (ℕ → ℕ) → ℕ → ℕ
-period_turn_on v f n = elim (source_on v n) [ None ↦ own_on v n | Some s ↦ scaled_on v s.birth (f s.birth) ]
-
--- where its sources are gone up to a depth
-unfoldable pub period_on : Objects → ℕ → ℕ → ℕ
-period_on v levels n = by_depth (period_turn_on v) (λ _. 0) levels n

@@ -12,7 +12,7 @@ use Rattle.qo_heap.specs.Board.{Shows}
 use Rattle.qo_heap.specs.Objects.{Objects}
 use Rattle.qo_clocks.specs.declared.errors.ClockError.{ClockError}
 use Rattle.qo_clocks.specs.declared.errors.ClockError.TheVariants.{HasSource, DividerZero, Overflow}
-use Rattle.qo_clocks.specs.Subtree.{overflows_on}
+use Rattle.qo_clocks.specs.Overflows.{overflows_on}
 use Rattle.qo_clocks.specs.Links.{changed_named}
 use Rattle.qo_clocks.specs.Reads.{slot_on}
 

@@ -1,31 +1,48 @@
 //! The clocks below a clock: those that go by it, and those that go by these (docs/devel/clocks.rst,
-//! "Connecting two clocks together"). No call takes memory.
+//! "Connecting two clocks together"). A clock goes by its source by a weak link, so they are found
+//! among those that have a weak link to the clock. No call takes memory.
 
-ghost use Rattle.std.specs.Prelude.{◌≡◌, option_and_then, option_map, slice_get, IfSome};
+ghost use Rattle.std.specs.Prelude.{◌≡◌, ◌∷◌, [], IfSome, IfNone};
 ghost use Rattle.qo_heap.specs.Rows.{IsLive};
-ghost use Rattle.qo_clocks.specs.Subtree.{fed_at, overflows_on};
+ghost use Rattle.qo_clocks.specs.Overflows.{overflows_on};
+ghost use Rattle.qo_clocks.specs.Subtree.{IsNextFed, fed_above, goes_by};
 
 use crate::periods::child_period;
 use crate::reads::source_of;
 use qo_heap::{Heap, Oid, Steps};
 use std::sync::ledger::Ledger;
 
-/// The object at a place in the order of births, if it is a clock that goes by a clock.
-pub fn fed_at<L: Ledger>(heap: &Heap, place: usize, c: Oid, steps: &mut Steps<L>) -> Option<Oid>
-    ensures fed { result ≡ option_and_then (fed_at heap.now c.birth) (option_map (λ row. row.0) (slice_get heap.now.rows place)) }
-    ensures live { IfSome result (IsLive heap.now.rows) }
+/// Whether a clock goes by another.
+fn goes_by<L: Ledger>(heap: &Heap, n: Oid, c: Oid, steps: &mut Steps<L>) -> bool
+    requires { IsLive heap.now.rows n }
+    ensures { result ≡ goes_by heap.now c.birth n.birth }
+{
+    match source_of(heap, n, steps) {
+        Some(source) => source.birth == c.birth,
+        None => false,
+    }
+}
+
+/// The clock of the least birth above a number among those that go by a clock.
+pub fn next_fed<L: Ledger>(heap: &Heap, c: Oid, above: u64, steps: &mut Steps<L>) -> Option<Oid>
+    requires { IsLive heap.now.rows c }
+    ensures some { IfSome result (λ n. IsNextFed heap.now c.birth above n) }
+    ensures none { IfNone result (fed_above heap.now c.birth above ≡ []) }
 {
     heap.reveal_invariant();
-    let n = heap.oid_at(place)?;
-    let source = source_of(heap, n, steps)?;
-    if source.birth == c.birth {
-        return Some(n);
+    let mut passed = above;
+    while let Some(n) = heap.weak_owner(c, passed, steps) {
+        if goes_by(heap, n, c, steps) {
+            return Some(n);
+        }
+        passed = n.birth;
     }
     None
 }
 
 /// Whether the period for the clocks that go by a clock below another would not fit, to a depth,
-/// where those that go by that other have a period.
+/// where those that go by that other have a period. None below a clock is looked at whose period for
+/// them stays.
 pub fn overflows<L: Ledger>(
     heap: &Heap,
     c: Oid,
@@ -33,20 +50,25 @@ pub fn overflows<L: Ledger>(
     levels: usize,
     steps: &mut Steps<L>,
 ) -> bool
+    requires { IsLive heap.now.rows c }
     ensures { result ≡ overflows_on heap.now levels c.birth period }
 {
     if levels == 0 {
         return false;
     }
-    for place in 0..heap.live() {
-        if let Some(n) = fed_at(heap, place, c, steps) {
-            let Some(child) = child_period(heap, n, period, steps) else {
-                return true;
-            };
-            if overflows(heap, n, child, levels - 1, steps) {
-                return true;
-            }
+    if heap.side(c, steps).child == period {
+        return false;
+    }
+    heap.reveal_invariant();
+    let mut above = 0;
+    while let Some(n) = next_fed(heap, c, above, steps) {
+        let Some(child) = child_period(heap, n, period, steps) else {
+            return true;
+        };
+        if overflows(heap, n, child, levels - 1, steps) {
+            return true;
         }
+        above = n.birth;
     }
     false
 }

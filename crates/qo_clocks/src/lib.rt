@@ -4,12 +4,13 @@
 //! clock period"). A period is in units of 2^-32 ns; a clock of period 0 stands still. No call takes
 //! memory.
 //!
-//! A period is computed along the sources when it is asked for. Periods that are kept would change
-//! no clause here.
+//! Beside each clock its period is kept, and that of the clocks that go by it: a read is one look, and
+//! a write goes over the clocks below whose period changes, and over no other object.
 #![tactic(auto)]
 
 mod errors;
 mod feeding;
+mod kept;
 mod links;
 mod periods;
 mod reads;

@@ -1,14 +1,15 @@
 //! The periods of clocks (docs/devel/clocks.rst, "The clock state" and "Clock multiplier and divider
 //! settings").
 
-ghost use Rattle.std.specs.Prelude.{◌≡◌};
+ghost use Rattle.std.specs.Prelude.{◌≡◌, ◌≤◌, ◌+◌};
 ghost use Rattle.qo_heap.specs.Rows.{IsLive};
 ghost use Rattle.qo_model.specs.Board.{Board};
-ghost use Rattle.qo_model.specs.Clocks.{ClocksFit, device_period, of_hz, period, scaled_by};
+ghost use Rattle.qo_model.specs.Clocks.{device_period, of_hz, period, scaled_by};
 ghost use Rattle.qo_heap.specs.Board.{Shows};
-ghost use Rattle.qo_clocks.specs.Periods.{fitting, period_on, scaled_on, wide_on};
+ghost use Rattle.qo_clocks.specs.Kept.{Clocked};
+ghost use Rattle.qo_clocks.specs.Periods.{fitting, scaled_on, wide_on};
 
-use crate::reads::{clock_of, div, mul, own_period, source_of};
+use crate::reads::{clock_of, div, mul};
 use qo_heap::{Heap, Oid, Steps};
 use qo_values::UNITS_PER_NS;
 use std::sync::ledger::Ledger;
@@ -34,6 +35,7 @@ pub fn fitting(mul: u64, div: u64, period: u64) -> Option<u64>
 
 /// A period as the clocks that go by a clock have it; `None` exactly where it is more than 64 bits
 /// hold.
+#[inline(always)]
 pub fn child_period<L: Ledger>(
     heap: &Heap,
     c: Oid,
@@ -49,6 +51,7 @@ pub fn child_period<L: Ledger>(
 
 /// A period as the clocks that go by a clock have it; more than 64 bits hold is told as the greatest
 /// number that they hold.
+#[inline(always)]
 pub fn scaled<L: Ledger>(heap: &Heap, c: Oid, period: u64, steps: &mut Steps<L>) -> u64
     requires { IsLive heap.now.rows c }
     ensures { result ≡ scaled_on heap.now c.birth period }
@@ -56,36 +59,22 @@ pub fn scaled<L: Ledger>(heap: &Heap, c: Oid, period: u64, steps: &mut Steps<L>)
     child_period(heap, c, period, steps).unwrap_or(u64::MAX)
 }
 
-/// The period of a clock, where its sources are gone up to a depth; 0 beyond it.
-fn period_within<L: Ledger>(heap: &Heap, c: Oid, levels: usize, steps: &mut Steps<L>) -> u64
-    requires { IsLive heap.now.rows c }
-    ensures { result ≡ period_on heap.now levels c.birth }
-{
-    if levels == 0 {
-        return 0;
-    }
-    match source_of(heap, c, steps) {
-        Some(source) => {
-            let period = period_within(heap, source, levels - 1, steps);
-            scaled(heap, source, period, steps)
-        }
-        None => own_period(heap, c, steps),
-    }
-}
-
-/// The period of a clock, in units of 2^-32 ns: its own, or by its source's where it has one.
+/// The period of a clock, in units of 2^-32 ns: its own, or by its source's where it has one. It takes
+/// one look, and no memory.
 pub fn period<L: Ledger>(heap: &Heap, c: Oid, steps: &mut Steps<L>) -> u64
     requires { IsLive heap.now.rows c }
-    ensures { (b : Board) → Shows b heap.now → ClocksFit b → result ≡ period b c.birth }
+    ensures period { (b : Board) → Shows b heap.now → Clocked b heap.now → result ≡ period b c.birth }
+    ensures cost { steps.new ≡ steps.old + 1 }
 {
-    heap.reveal_invariant();
-    period_within(heap, c, heap.live() + 1, steps)
+    heap.side(c, steps).period
 }
 
-/// The period of the clock of a device, in units of 2^-32 ns; 0 where it has none.
+/// The period of the clock of a device, in units of 2^-32 ns; 0 where it has none. It takes two looks
+/// at most, and no memory.
 pub fn device_period<L: Ledger>(heap: &Heap, dev: Oid, steps: &mut Steps<L>) -> u64
     requires { IsLive heap.now.rows dev }
-    ensures { (b : Board) → Shows b heap.now → ClocksFit b → result ≡ device_period b dev.birth }
+    ensures period { (b : Board) → Shows b heap.now → Clocked b heap.now → result ≡ device_period b dev.birth }
+    ensures cost { steps.new ≤ steps.old + 2 }
 {
     match clock_of(heap, dev, steps) {
         Some(clock) => period(heap, clock, steps),

@@ -1,6 +1,6 @@
 //! What is read of a clock: its numbers and its source.
 
-ghost use Rattle.std.specs.Prelude.{◌≡◌, IfSome, option_map, unwrap_or};
+ghost use Rattle.std.specs.Prelude.{◌≡◌, ◌+◌, IfSome, option_map, unwrap_or};
 ghost use Rattle.qo_model.specs.RowNames.{property_name};
 ghost use Rattle.qo_heap.specs.Rows.{IsLive};
 ghost use Rattle.qo_clocks.specs.Reads.{child_in, clock_on, div_on, mul_on, number_in_slot, number_on, own_on, slot_on, source_on, weak_target};
@@ -18,7 +18,8 @@ pub fn slot_of<'a, L: Ledger>(
     steps: &mut Steps<L>,
 ) -> Option<&'a Slot>
     requires { IsLive heap.now.rows o }
-    ensures { option_map (λ s. s.now) result ≡ slot_on heap.now o.birth (property_name name) }
+    ensures slot { option_map (λ s. s.now) result ≡ slot_on heap.now o.birth (property_name name) }
+    ensures cost { steps.new ≡ steps.old + 1 }
 {
     let view = heap.property(o, name, steps)?;
     Some(view.what)
@@ -110,6 +111,7 @@ pub fn clock_of<L: Ledger>(heap: &Heap, dev: Oid, steps: &mut Steps<L>) -> Optio
     requires { IsLive heap.now.rows dev }
     ensures clock { result ≡ clock_on heap.now dev.birth }
     ensures live { IfSome result (IsLive heap.now.rows) }
+    ensures cost { steps.new ≡ steps.old + 1 }
 {
     heap.reveal_invariant();
     child_in(slot_of(heap, dev, PropertyName::Clk, steps)?)

@@ -7,20 +7,21 @@ ghost use Rattle.qo_claims.specs.declared.claims.Claimed.{Claimed};
 ghost use Rattle.qo_slots.specs.declared.keys.Key.{Key};
 ghost use Rattle.qo_model.specs.Board.{Board};
 ghost use Rattle.qo_model.specs.ClockChanges.{clock_scaled, clock_set};
-ghost use Rattle.qo_model.specs.Clocks.{ClocksFit};
 ghost use Rattle.qo_model.specs.RowNames.{property_name};
 ghost use Rattle.qo_heap.specs.Rows.{IsLive};
 ghost use Rattle.qo_heap.specs.Acts.{Acts, KeepsCounts};
 ghost use Rattle.qo_heap.specs.Board.{Shows};
 ghost use Rattle.qo_heap.specs.Book.{IsBook};
 ghost use Rattle.qo_heap.specs.Moments.{Timely};
+ghost use Rattle.qo_clocks.specs.Kept.{Clocked};
 ghost use Rattle.qo_clocks.specs.Writes.{Answers, all_fit, with_period, with_scale, written_on};
 
 use crate::errors::ClockError;
 use crate::feeding::overflows;
+use crate::kept::keep;
 use crate::links::set_number;
-use crate::periods::{child_period, fitting, period, scaled};
-use crate::reads::{own_period, slot_of, source_of};
+use crate::periods::{child_period, fitting};
+use crate::reads::{slot_of, source_of};
 use crate::spread::spread;
 use qo_heap::{Heap, Oid, Slot, Steps};
 use qo_model::PropertyName;
@@ -54,6 +55,7 @@ fn all_fit<L: Ledger>(
     levels: usize,
     steps: &mut Steps<L>,
 ) -> Option<u64>
+    requires { IsLive heap.now.rows c }
     ensures { result ≡ all_fit heap.now levels c.birth period }
 {
     let period = period?;
@@ -70,8 +72,9 @@ fn all_fit<L: Ledger>(
 ///
 /// `HasSource` exactly where the clock goes by another; else `Overflow` exactly where the period for
 /// the clocks that go by it, or by one below it, would be more than 2^64 - 1. An error leaves all as
-/// it was. All this where every such period fits so far and no clock divides by 0, which is then so
-/// after the call too. It takes no memory.
+/// it was. All this where the clocks are as they should be: every such period fits so far, no clock
+/// divides by 0 or goes by itself, and the periods that are kept are right. This is then so after the
+/// call too. It takes no memory.
 ///
 /// What is called back may be a timer, which reads the time, so no timer may have had a moment after
 /// the heap's time.
@@ -83,13 +86,13 @@ pub fn set<L: Ledger>(
 ) -> Result<(), ClockError>
     requires live { IsLive heap.old.rows c }
     requires timely { Timely heap.old }
-    ensures answer { (b : Board) → Shows b heap.old → ClocksFit b → Answers heap.new result (clock_set b c.birth period) }
+    ensures answer { (b : Board) → Shows b heap.old → Clocked b heap.old → Answers heap.new result (clock_set b c.birth period) }
     ensures acts { OnOk result (Acts (with_period c.birth period heap.old) heap.new) }
     ensures counts { OnOk result (KeepsCounts (with_period c.birth period heap.old) heap.new) }
     ensures err { OnErr result (heap.new ≡ heap.old) }
     ensures names { (key : Key) → IsLive heap.old.rows key → IsLive heap.new.rows key }
     ensures book { (out : List Claimed) → IsBook out heap.old → IsBook out heap.new }
-    ensures fits { (b : Board) → Shows b heap.old → ClocksFit b → (x : Board) → Shows x heap.new → ClocksFit x }
+    ensures fits { (b : Board) → Shows b heap.old → Clocked b heap.old → (x : Board) → Shows x heap.new → Clocked x heap.new }
     ensures timely { Timely heap.new }
 {
     if source_of(heap, c, steps).is_some() {
@@ -97,14 +100,15 @@ pub fn set<L: Ledger>(
     }
     heap.reveal_invariant();
     let levels = heap.live() + 1;
-    let before = scaled(heap, c, own_period(heap, c, steps), steps);
+    let side = heap.side(c, steps);
     let own = written(heap, c, PropertyName::Period, period, 0, steps);
     let child = child_period(heap, c, own, steps);
     let Some(after) = all_fit(heap, c, child, levels, steps) else {
         return Err(ClockError::Overflow);
     };
     set_number(heap, c, PropertyName::Period, period, steps);
-    spread(heap, c, before, after, levels, steps);
+    keep(heap, c, own, after, steps);
+    spread(heap, c, side.child, after, levels, steps);
     Ok(())
 }
 
@@ -115,8 +119,8 @@ pub fn set<L: Ledger>(
 ///
 /// `DividerZero` exactly where the divider is 0; else `Overflow` exactly where the period for the
 /// clocks that go by it, or by one below it, would be more than 2^64 - 1. An error leaves all as it
-/// was. As with `set`, every such period fits before and after the call, and no timer may have had a
-/// moment after the heap's time. It takes no memory.
+/// was. As with `set`, the clocks are as they should be before and after the call, and no timer may
+/// have had a moment after the heap's time. It takes no memory.
 pub fn set_mul_div<L: Ledger>(
     heap: &mut Heap,
     c: Oid,
@@ -126,13 +130,13 @@ pub fn set_mul_div<L: Ledger>(
 ) -> Result<(), ClockError>
     requires live { IsLive heap.old.rows c }
     requires timely { Timely heap.old }
-    ensures answer { (b : Board) → Shows b heap.old → ClocksFit b → Answers heap.new result (clock_scaled b c.birth mul div) }
+    ensures answer { (b : Board) → Shows b heap.old → Clocked b heap.old → Answers heap.new result (clock_scaled b c.birth mul div) }
     ensures acts { OnOk result (Acts (with_scale c.birth mul div heap.old) heap.new) }
     ensures counts { OnOk result (KeepsCounts (with_scale c.birth mul div heap.old) heap.new) }
     ensures err { OnErr result (heap.new ≡ heap.old) }
     ensures names { (key : Key) → IsLive heap.old.rows key → IsLive heap.new.rows key }
     ensures book { (out : List Claimed) → IsBook out heap.old → IsBook out heap.new }
-    ensures fits { (b : Board) → Shows b heap.old → ClocksFit b → (x : Board) → Shows x heap.new → ClocksFit x }
+    ensures fits { (b : Board) → Shows b heap.old → Clocked b heap.old → (x : Board) → Shows x heap.new → Clocked x heap.new }
     ensures timely { Timely heap.new }
 {
     if div == 0 {
@@ -140,19 +144,19 @@ pub fn set_mul_div<L: Ledger>(
     }
     heap.reveal_invariant();
     let levels = heap.live() + 1;
-    let own = period(heap, c, steps);
-    let before = scaled(heap, c, own, steps);
+    let side = heap.side(c, steps);
     let mul_after = written(heap, c, PropertyName::Mul, mul, 1, steps);
     let child = fitting(
         mul_after,
         written(heap, c, PropertyName::Div, div, 1, steps),
-        own,
+        side.period,
     );
     let Some(after) = all_fit(heap, c, child, levels, steps) else {
         return Err(ClockError::Overflow);
     };
     set_number(heap, c, PropertyName::Mul, mul, steps);
     set_number(heap, c, PropertyName::Div, div, steps);
-    spread(heap, c, before, after, levels, steps);
+    keep(heap, c, side.period, after, steps);
+    spread(heap, c, side.child, after, levels, steps);
     Ok(())
 }

@@ -6,7 +6,8 @@ use Rattle.qo_layout.specs.Rows.{AreShaped, LinesAre, Wired}
 use Rattle.qo_layout.proofs.LineRecordsLemmas.{irq-same, lines-same, shaped-same}
 use Rattle.qo_layout.proofs.SameLemmas.{same_lem}
 use Rattle.qo_model.specs.Board.{Board}
-use Rattle.qo_model.specs.Clocks.{ClocksFit}
+use Rattle.qo_clocks.specs.Kept.{Clocked, PeriodsKept}
+use Rattle.qo_realize.proofs.PeriodLemmas.{clocked-sound}
 use Rattle.qo_realize.specs.Parts.{Parts}
 use Rattle.qo_realize.specs.Representation.{Stands, StandsForGood}
 use Rattle.qo_realize.specs.SoundBoard.{SoundBoard}
@@ -60,8 +61,10 @@ irq-heard p l h r is b s =
     ∙ ap (λ (n : ℕ). answered b (Value n)) (irq-same h.board b (same-records h.board b p h.stands s) (same-time h.board b p h.stands s))
 
 -- lines that are made of the heap of a board are its lines
-pub lines-made : (p : Parts) (l : Wired) → StandsForGood p → ((b : Board) → Shows b p.objects → SoundShape b → ClocksFit b → LinesAre b l) → HasLines p l
-lines-made p l (b, stands, good) made = has-lines p l b stands good (made b stands.shows good.shape good.run.clocks.fit)
+pub lines-made : (p : Parts) (l : Wired) → StandsForGood p → PeriodsKept p.objects → ((b : Board) → Shows b p.objects → SoundShape b → Clocked b p.objects → LinesAre b l)
+    → HasLines p l
+lines-made p l (b, stands, good) kept made =
+    has-lines p l b stands good (made b stands.shows good.shape (clocked-sound b p.objects good.run.clocks kept))
 
 -- What is left of them.
 
@@ -126,9 +129,10 @@ pub left-shape : (t : Touched) (p : Parts) (l : Wired) → t ≡ Registers → I
 left-shape t p l is h = subst (λ (x : Touched). IsLeft x p l) is h
 
 -- registers are read again
-pub lines-read : (p : Parts) (l k : Wired) → HasShape p l → ((b : Board) → Shows b p.objects → ClocksFit b → AreShaped b l → LinesAre b k) → HasLines p k
-lines-read p l k h read =
-    by-shape (λ w. HasLines p k) p l h (λ b stands sound shaped. has-lines p k b stands sound (read b stands.shows sound.run.clocks.fit shaped))
+pub lines-read : (p : Parts) (l k : Wired) → HasShape p l → PeriodsKept p.objects → ((b : Board) → Shows b p.objects → Clocked b p.objects → AreShaped b l → LinesAre b k)
+    → HasLines p k
+lines-read p l k h kept read =
+    by-shape (λ w. HasLines p k) p l h (λ b stands sound shaped. has-lines p k b stands sound (read b stands.shows (clocked-sound b p.objects sound.run.clocks kept) shaped))
 
 -- the same lines beside other parts, where each sound board that stood there stands there but for what lines do not hang on
 pub left-beside : (t : Touched) (p q : Parts) (l : Wired) (f : Board → Board)

@@ -16,10 +16,15 @@ use Rattle.qo_object.specs.Slots.{Named}
 use Rattle.qo_heap.specs.Board.{Shows}
 use Rattle.qo_heap.specs.Objects.{Objects, slots_of}
 use Rattle.qo_heap.proofs.BoardReads.{shows-slots}
-use Rattle.qo_layout.specs.Numbering.{NoneBefore, below_at, below_in}
+use Rattle.qo_sound_shapes.specs.SoundShape.{SoundShape}
+use Rattle.qo_layout.specs.Numbering.{NoneBefore, below_at, below_in, first_below, is_leaf}
 use Rattle.qo_layout.specs.Growth.{HasAll, HasMore}
-use Rattle.qo_layout.specs.Rows.{AreLines, AreRows, HasRow}
+use Rattle.qo_layout.specs.Registers.{registers_at}
+use Rattle.qo_layout.specs.Rows.{AreLines, AreRows, HasRow, wiring}
 use Rattle.qo_layout.specs.declared.wiring.Row.{Row}
+use Rattle.qo_layout.specs.declared.wiring.Wiring.{Wiring}
+use Rattle.qo_layout.specs.declared.wiring.Wiring.TheVariants.{Joined, Masked, Own}
+use Rattle.qo_layout.proofs.LeafLemmas.{none-first}
 
 -- one line more
 lines-push : (rows : List Row) (os lines : List ℕ) (o line : ℕ) → AreLines rows os lines → HasRow rows o line
@@ -83,6 +88,27 @@ lines-all b v s rows n at count bus lines all last is before =
     (ap (λ (xs : List (List ℕ × Slot)). filter_map (below_in b bus) xs) (take_all at (slots_at b n) (omega (arith, slots-shown b v s n, all, last)))
     ∙ below-all b n bus is)
     before
+
+-- nothing is below an object in whose slots nothing can be
+pub lines-none : (b : Board) (v : Objects) → Shows b v → SoundShape b → (rows : List Row) (o : ℕ) (driven : Wiring) (count first : ℕ)
+    → driven ≡ wiring (registers_at b o) → count ≡ length (slots_of v o) → first ≡ first_below driven count → first ≡ count
+    → AreLines rows (below b o) []
+lines-none b v s shape rows o driven count first is all e last =
+    let none : NoneBefore b o first = none-first b v s shape o driven count first is all e in
+    lines-all b v s rows o first count (is_of b (codes "bus") o) [] all (omega (arith, last)) refl
+    (lines-first b rows o first (is_of b (codes "bus") o) [] refl none refl)
+
+leaf-last : (driven : Wiring) (count : ℕ) → is_leaf driven ≡ true → count ≡ first_below driven count
+leaf-last Own count e = refl
+leaf-last Masked count e = absurd (let clash : false ≡ true = e in cc)
+leaf-last Joined count e = absurd (let clash : false ≡ true = e in cc)
+
+-- so it is with a leaf
+pub leaf-none : (b : Board) (v : Objects) → Shows b v → SoundShape b → (rows : List Row) (o : ℕ) (driven : Wiring) → driven ≡ wiring (registers_at b o)
+    → is_leaf driven ≡ true → AreLines rows (below b o) []
+leaf-none b v s shape rows o driven is leaf =
+    let count = length (slots_of v o) in
+    lines-none b v s shape rows o driven count count is refl (leaf-last driven count leaf) refl
 
 -- what is in a slot has a line, where all that is below the object has one
 all-at : {X : Type 0} (rows : List Row) (g : X → Option ℕ) (xs : List X) (i : ℕ) → HasAll rows (filter_map g xs)

@@ -11,29 +11,33 @@ use Rattle.std.proofs.lemmas.List.Sums.{sum_by-cons}
 use Rattle.std.proofs.Math.ListN.{length-append}
 use Rattle.qo_values.specs.declared.births.TheConstants.{ROOT_BUS_BIRTH}
 use Rattle.qo_irq.specs.Wires.{line_level}
-use Rattle.qo_model.specs.Board.{Board, Record, Slot}
+use Rattle.qo_model.specs.Board.{Board, Slot}
 use Rattle.qo_model.specs.Devices.{kid_at, kid_name, strong_in}
-use Rattle.qo_object.specs.BoardObject.{shown}
+use Rattle.qo_object.specs.BoardObject.{shown_slots}
+use Rattle.qo_object.specs.Content.{Content}
 use Rattle.qo_heap.specs.Board.{Shows}
-use Rattle.qo_heap.specs.Objects.{Objects, content_of}
-use Rattle.qo_heap.proofs.BoardReads.{shows-record}
+use Rattle.qo_heap.specs.Objects.{Objects, content_of, slots_of}
+use Rattle.qo_heap.proofs.BoardReads.{shows-slots}
 use Rattle.qo_sound_devices.specs.SoundDevices.{SoundDevices}
 use Rattle.qo_layout.specs.Lines.{irq_of, line, slot_bit, slot_line}
 use Rattle.qo_layout.specs.Rows.{AreSlots, IsSlotLine, LinesAre, Wired, kept_line, slot_level}
 use Rattle.qo_layout.specs.declared.wiring.Row.{Row}
 use Rattle.qo_layout.proofs.LineLemmas.{lines_lem}
 
--- where there is no bus, no slot of it has a device
-kid-none : (b : Board) (v : Objects) → Shows b v → (bus n : ℕ) → content_of v bus ≡ None → kid_at b bus n ≡ None
-kid-none b v s bus n gone =
+-- where a bus has no slots, none has a device
+kid-none : (b : Board) (v : Objects) → Shows b v → (bus n : ℕ) → slots_of v bus ≡ [] → kid_at b bus n ≡ None
+kid-none b v s bus n none =
     ap
-    (λ (o : Option Record).
-    option_and_then strong_in
-    (option_map (λ (t : List ℕ × Slot). t.1) (find (λ (t : List ℕ × Slot). bytes_eq t.0 (kid_name n)) (option_map_or (λ (r : Record). r.slots) o []))))
-    (shows-record b v s bus ∙ ap (option_map (shown bus)) gone)
+    (λ (slots : List (List ℕ × Slot)).
+    option_and_then strong_in (option_map (λ (t : List ℕ × Slot). t.1) (find (λ (t : List ℕ × Slot). bytes_eq t.0 (kid_name n)) slots)))
+    (shows-slots b v s bus ∙ ap shown_slots none)
 
-pub slots-none : (b : Board) (v : Objects) → Shows b v → (rows : List Row) → content_of v ROOT_BUS_BIRTH ≡ None → AreSlots b rows 8 []
-slots-none b v s rows gone n below = rw (kid-none b v s ROOT_BUS_BIRTH n gone) tt
+pub slots-none : (b : Board) (v : Objects) → Shows b v → (rows : List Row) → slots_of v ROOT_BUS_BIRTH ≡ [] → AreSlots b rows 8 []
+slots-none b v s rows none n below = rw (kid-none b v s ROOT_BUS_BIRTH n none) tt
+
+-- so it is where there is no bus
+pub slots-gone : (b : Board) (v : Objects) → Shows b v → (rows : List Row) → content_of v ROOT_BUS_BIRTH ≡ None → AreSlots b rows 8 []
+slots-gone b v s rows gone = slots-none b v s rows (ap (λ (o : Option Content). option_map_or (λ (c : Content). c.slots) o []) gone)
 
 -- one slot more
 pub slots-next : (b : Board) (rows : List Row) (n : ℕ) (slots more : List (Option ℕ)) (line : Option ℕ) → length slots ≡ n → AreSlots b rows n slots

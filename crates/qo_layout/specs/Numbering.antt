@@ -36,6 +36,11 @@ first_below Own count = count
 first_below Masked count = count - 1
 first_below Joined count = 0
 
+-- nothing is below an object whose line is driven so, whatever slots it has
+abbrev pub is_leaf : Wiring → Bool
+is_leaf Own = true
+is_leaf w = false
+
 -- nothing is below an object in the slots before a place
 abbrev pub NoneBefore : Board → ℕ → ℕ → Type 0
 NoneBefore b o at = filter_map (below_in b (is_of b (codes "bus") o)) (take at (slots_at b o)) ≡ []

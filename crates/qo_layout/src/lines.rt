@@ -7,7 +7,7 @@ ghost use Rattle.qo_layout.specs.Lines.{irq_of};
 ghost use Rattle.qo_layout.specs.Registers.{AreTimely};
 ghost use Rattle.qo_layout.specs.Rows.{AreShaped, LinesAre};
 ghost use Rattle.qo_model.specs.Board.{Board};
-ghost use Rattle.qo_model.specs.Clocks.{ClocksFit};
+ghost use Rattle.qo_clocks.specs.Kept.{Clocked};
 ghost use Rattle.qo_sound_devices.specs.SoundDevices.{SoundDevices};
 ghost use Rattle.qo_sound_shapes.specs.SoundShape.{SoundShape};
 
@@ -65,7 +65,7 @@ impl Lines {
         steps: &mut Steps<L>,
     ) -> Result<Lines, NetError>
         requires { AreTimely heap.now }
-        ensures lines { (b : Board) → Shows b heap.now → SoundShape b → ClocksFit b → IfOk result (λ lines. LinesAre b lines) }
+        ensures lines { (b : Board) → Shows b heap.now → SoundShape b → Clocked b heap.now → IfOk result (λ lines. LinesAre b lines) }
         ensures err { (b : Board) → Shows b heap.now → SoundDevices b → SoundShape b → IfErr result (λ e. e ≡ Memory) }
     {
         Lines::none(alloc).remade(alloc, heap, steps)
@@ -79,7 +79,7 @@ impl Lines {
         steps: &mut Steps<L>,
     ) -> Result<Lines, NetError>
         requires { AreTimely heap.now }
-        ensures lines { (b : Board) → Shows b heap.now → SoundShape b → ClocksFit b → IfOk result (λ lines. LinesAre b lines) }
+        ensures lines { (b : Board) → Shows b heap.now → SoundShape b → Clocked b heap.now → IfOk result (λ lines. LinesAre b lines) }
         ensures err { (b : Board) → Shows b heap.now → SoundDevices b → SoundShape b → IfErr result (λ e. e ≡ Memory) }
     {
         heap.reveal_invariant();
@@ -105,7 +105,7 @@ impl Lines {
     /// or has gone, since the lines were made. It takes no memory.
     pub fn refresh<L: Ledger>(&mut self, heap: &Heap, steps: &mut Steps<L>)
         requires { AreTimely heap.now }
-        ensures { (b : Board) → Shows b heap.now → ClocksFit b → AreShaped b self.old → LinesAre b self.new }
+        ensures { (b : Board) → Shows b heap.now → Clocked b heap.now → AreShaped b self.old → LinesAre b self.new }
     {
         set_inputs(&mut self.net, &self.rows, heap, steps);
     }

@@ -10,7 +10,7 @@ ghost use Rattle.qo_model.specs.Reset.{post};
 ghost use Rattle.qo_object.specs.BoardObject.{birth_of};
 ghost use Rattle.qo_heap.specs.Board.{Shows};
 ghost use Rattle.qo_layout.specs.Layout.{mapped};
-ghost use Rattle.qo_layout.specs.Numbering.{below_at, births_of, first_below, post_at, post_within};
+ghost use Rattle.qo_layout.specs.Numbering.{below_at, births_of, first_below, is_leaf, post_at, post_within};
 ghost use Rattle.qo_sound_shapes.specs.SoundShape.{SoundShape};
 
 use crate::registers::wiring;
@@ -22,6 +22,7 @@ use std::alloc::{AllocError, Global};
 use std::sync::ledger::Ledger;
 
 /// What is below an object in the slot at a place: of a bus a device, of any other object a bus.
+#[inline(always)]
 pub(crate) fn below_in_slot<L: Ledger>(
     heap: &Heap,
     o: Oid,
@@ -50,6 +51,16 @@ pub(crate) fn first_below(driven: Wiring, count: usize) -> usize
         Wiring::Own => count,
         Wiring::Masked => count.saturating_sub(1),
         Wiring::Joined => 0,
+    }
+}
+
+/// Whether nothing is below an object whatever slots it has: its line is an input.
+pub(crate) fn is_leaf(driven: Wiring) -> bool
+    ensures { result ≡ is_leaf driven }
+{
+    match driven {
+        Wiring::Own => true,
+        Wiring::Masked | Wiring::Joined => false,
     }
 }
 

@@ -9,7 +9,8 @@ ghost use Rattle.qo_kinds.specs.Bodies.{registers_in};
 ghost use Rattle.qo_layout.specs.Registers.{AreTimely, registers_at};
 ghost use Rattle.qo_layout.specs.Rows.{input_of, wiring};
 ghost use Rattle.qo_model.specs.Board.{Board};
-ghost use Rattle.qo_model.specs.Clocks.{ClocksFit, device_period};
+ghost use Rattle.qo_clocks.specs.Kept.{Clocked};
+ghost use Rattle.qo_model.specs.Clocks.{device_period};
 
 use crate::wiring::Wiring;
 use qo_clocks::device_period;
@@ -45,7 +46,7 @@ fn uart_asks(uart: &Uart) -> bool
 fn is_down<L: Ledger>(heap: &Heap, dev: Oid, timer: &Timer, steps: &mut Steps<L>) -> bool
     requires live { IsLive heap.now.rows dev }
     requires timely { timer.now.last ≤ heap.now.time }
-    ensures { (b : Board) → Shows b heap.now → ClocksFit b → result ≡ (timer_count timer.now heap.now.time (device_period b dev.birth) == 0) }
+    ensures { (b : Board) → Shows b heap.now → Clocked b heap.now → result ≡ (timer_count timer.now heap.now.time (device_period b dev.birth) == 0) }
 {
     let period = device_period(heap, dev, steps);
     let count = timer.read(TIMER_COUNT, heap.time(), period).unwrap_or(0);
@@ -65,7 +66,7 @@ fn is_counting(timer: &Timer, time: u64) -> bool
 fn timer_asks<L: Ledger>(heap: &Heap, dev: Oid, timer: &Timer, steps: &mut Steps<L>) -> bool
     requires live { IsLive heap.now.rows dev }
     requires timely { timer.now.last ≤ heap.now.time }
-    ensures { (b : Board) → Shows b heap.now → ClocksFit b → result ≡ (((if timer.now.enabled then 1 else 0) == 1) && (timer_count timer.now heap.now.time (device_period b dev.birth) == 0)) }
+    ensures { (b : Board) → Shows b heap.now → Clocked b heap.now → result ≡ (((if timer.now.enabled then 1 else 0) == 1) && (timer_count timer.now heap.now.time (device_period b dev.birth) == 0)) }
 {
     if !is_counting(timer, heap.time()) {
         return false;
@@ -85,7 +86,7 @@ fn is_hidden(bridge: &Bridge) -> bool
 pub(crate) fn input_of<L: Ledger>(heap: &Heap, o: Oid, steps: &mut Steps<L>) -> bool
     requires live { IsLive heap.now.rows o }
     requires timely { AreTimely heap.now }
-    ensures { (b : Board) → Shows b heap.now → ClocksFit b → result ≡ input_of b o.birth }
+    ensures { (b : Board) → Shows b heap.now → Clocked b heap.now → result ≡ input_of b o.birth }
 {
     match &heap.body(o, steps).device {
         Device::Uart(uart) => uart_asks(uart),

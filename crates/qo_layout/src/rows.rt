@@ -12,7 +12,7 @@ ghost use Rattle.qo_model.specs.Board.{Board};
 ghost use Rattle.qo_model.specs.Reset.{below};
 ghost use Rattle.qo_sound_shapes.specs.SoundShape.{SoundShape};
 
-use crate::numbering::{below_in_slot, first_below};
+use crate::numbering::{below_in_slot, first_below, is_leaf};
 use crate::registers::wiring;
 use crate::wiring::{Row, Wiring, add_line};
 use qo_buses::is_of;
@@ -64,7 +64,8 @@ fn push_line<L: Ledger>(
     }
 }
 
-/// The lines of all that is below an object whose line is driven so. `BadRef` where one has none.
+/// The lines of all that is below an object whose line is driven so. Where nothing can be below it, no slot is
+/// looked up. `BadRef` where one has none.
 fn lines_below<L: Ledger>(
     alloc: Global,
     heap: &Heap,
@@ -77,10 +78,17 @@ fn lines_below<L: Ledger>(
     ensures lines { (b : Board) → Shows b heap.now → SoundShape b → driven ≡ wiring_by (registers_at b o.birth) → IfOk result (λ lines. AreLines rows.now (below b o.birth) lines.items) }
     ensures err { (b : Board) → Shows b heap.now → HasAll rows.now (below b o.birth) → IfErr result (λ e. e ≡ Memory) }
 {
-    let bus = is_of(heap, o, TypeId::Bus, steps);
-    let count = heap.slot_count(o, steps);
     let mut lines = Vec::new(alloc);
-    for at in first_below(driven, count)..count {
+    if is_leaf(driven) {
+        return Ok(lines);
+    }
+    let count = heap.slot_count(o, steps);
+    let first = first_below(driven, count);
+    if first == count {
+        return Ok(lines);
+    }
+    let bus = is_of(heap, o, TypeId::Bus, steps);
+    for at in first..count {
         push_line(heap, o, bus, at, rows, &mut lines, steps)?;
     }
     Ok(lines)

@@ -43,8 +43,8 @@ fn slot_line<L: Ledger>(
     }
 }
 
-/// Lists the line of the device in each slot of the root bus, in place of what was listed. `BadRef` where one
-/// has no line.
+/// Lists the line of the device in each slot of the root bus, in place of what was listed. A bus with no slots
+/// is not asked for each of them. `BadRef` where a device has no line.
 pub(crate) fn list_slots<L: Ledger>(
     heap: &Heap,
     rows: &[Row],
@@ -60,6 +60,10 @@ pub(crate) fn list_slots<L: Ledger>(
     let Some(bus) = heap.by_birth(ROOT_BUS_BIRTH) else {
         return Ok(());
     };
+    let count = heap.slot_count(bus, steps);
+    if count == 0 {
+        return Ok(());
+    }
     for slot in 0..BUS_SLOTS {
         let line = slot_line(heap, bus, slot, rows, steps)?;
         if slots.push(line).is_err() {

@@ -3,9 +3,9 @@ use Rattle.std.proofs.Common.{◌≡◌, refl, ap, sym, subst, ◌∙◌, ℕ, �
 use Rattle.std.specs.List.{AllByRecursion}
 use Rattle.std.proofs.lemmas.Bool.Decides.{nat_tests}
 use Rattle.std.proofs.lemmas.Option.{same_Some}
-use Rattle.std.specs.Option.{option_and_then}
+use Rattle.std.specs.Option.{option_and_then, option_map_or}
 use Rattle.qo_values.specs.declared.kinds.TypeId.{TypeId}
-use Rattle.qo_model.specs.Board.{Board, Record, Ring, kind_of, record_of}
+use Rattle.qo_model.specs.Board.{Board, Record, Ring, kind_of, record_of, slots_at}
 use Rattle.qo_slots.specs.declared.keys.Key.{Key}
 use Rattle.qo_heap.specs.Rows.{IsLive}
 use Rattle.qo_values.specs.declared.codes.Code.{Code}
@@ -22,7 +22,7 @@ use Rattle.qo_sound.proofs.PlugLemmas.{IsPlace, place-of}
 use Rattle.qo_sound.proofs.ViewLemmas.{PinsRootAlone, rest-from_sound}
 use Rattle.qo_heap.specs.Acts.{counted_in}
 use Rattle.qo_heap.specs.Board.{Shows}
-use Rattle.qo_heap.specs.Objects.{Objects, content_of}
+use Rattle.qo_heap.specs.Objects.{IsHeap, Objects, content_of}
 use Rattle.qo_heap.proofs.BoardReads.{shows-kind, shows-record}
 use Rattle.qo_object.specs.BoardObject.{shown}
 use Rattle.qo_object.specs.Content.{Content}
@@ -47,10 +47,19 @@ use Rattle.qo_plug.specs.Answers.{IsAdded, IsCut, IsOpen, IsPlugged, IsRefused, 
 use Rattle.qo_plug.specs.Resources.{claims_given}
 use Rattle.qo_plug.specs.DevicePlans.{IsJudgedOn, IsPlanned}
 use Rattle.qo_plug.specs.Drafts.{CutShort, pinned_draft}
-use Rattle.qo_plug.specs.Stages.{resources_barred}
+use Rattle.qo_plug.specs.Stages.{IsSettled, resources_barred}
 use Rattle.qo_plug.specs.Placement.{Stood, resources_in}
+use Rattle.qo_plug.specs.Placement as placement
+use Rattle.qo_plug.specs.declared.placing.AttachedDevice.{AttachedDevice}
+use Rattle.qo_plug.specs.declared.placing.Plugging.TheVariants.{Attached}
+use Rattle.qo_plug.specs.declared.standing.DevicePath.{DevicePath}
 use Rattle.qo_properties.specs.KeptClaims.{kept_by}
+use Rattle.qo_clocks.proofs.ReadLemmas.{shows-clock}
+use Rattle.qo_properties.specs.KeptPeriods.{PeriodsBefore}
 use Rattle.qo_plug.specs.KeptClaims.{CountedOn, OthersBefore}
+use Rattle.qo_plug.specs.KeptPeriods.{FedStays}
+use Rattle.qo_plug.proofs.FedLemmas.{clock-alike, fed-boards}
+use Rattle.qo_plug.proofs.StartLemmas.{started-slots}
 use Rattle.qo_plug.proofs.AdmissionLemmas.{added-late, admitted-bus}
 use Rattle.qo_plug.proofs.JudgementLemmas.{late-given, late-resources}
 use Rattle.qo_plug.proofs.PlugSteps.{counted-path, cut-whole, let-go, plugged-count, plugged-holds, plugged-kinds, plugged-notices, plugged-pending, plugged-post, plugged-records, seat-holds, seat-notices, seated}
@@ -109,6 +118,11 @@ module _ (b : Board) (a : Wanted) where
         × OthersBefore (with_plugged b target.kind a (resources_in target.bus.birth at)) one v w
         → CountedOn (plug b a).board one w × OthersBefore (plug b a).board one v w
     added-counts one v w h = subst (λ (q : Plugged). CountedOn q.board one w × OthersBefore q.board one v w) (sym added-plugged) h
+
+    -- and its clock
+    pub added-fed : (one : ℕ) (v w : Objects) → FedStays (with_plugged b target.kind a (resources_in target.bus.birth at)) one v w
+        → FedStays (plug b a).board one v w
+    added-fed one v w h = subst (λ (q : Plugged). FedStays q.board one v w) (sym added-plugged) h
 
     pub is-added : (x : Added) (h : Asked) (w : Objects) → IsPlugged b target.kind a (resources_in target.bus.birth at) h w → x.birth ≡ b.born + 1
         → x.slot ≡ at.slot
@@ -290,6 +304,19 @@ module _ (b : Board) (t : TypeId) (sound : SoundTree b) (device : is_a t (codes 
           notices = plugged-notices b t sound a resources ∙ told here t (seat-notices b t sound a resources ∙ notices);
         }
 
+    -- its clock is the one that it had
+    pub fed-in : PeriodsBefore w y → IsHeap y → FedStays (with_plugged b t a resources) m w y
+    fed-in before good =
+        let own : Stood b (pinned_draft b t) n a resources path w = subst (λ (i : ℕ). Stood b (pinned_draft b t) i a resources path w) is stood_at in
+        let shown_here : Shows here w = counted-shown a.id (clocked (source_for b bus) n (stood b n a resources (pinned_draft b t))) w own.shown in
+        let slots : (i : ℕ) → slots_at (with_plugged b t a resources) i ≡ slots_at here i = λ i.
+        ap (λ (o : Option Record). option_map_or (λ (r : Record). r.slots) o []) (plugged-records b t sound a resources i) ∙ started-slots n t here i in
+        record {
+          clock = λ c s. clock-alike here (with_plugged b t a resources) w y shown_here plugged-in.shown slots before good m
+              ∙ shows-clock here w shown_here m ∙ sym (shows-clock c w s m);
+          its = fed-boards here (with_plugged b t a resources) w y shown_here plugged-in.shown slots before good;
+        }
+
     -- the path that is kept stays
     pub path-in : (i : ℕ) → option_and_then (λ (c : Content). c.kept_path) (content_of y i) ≡ option_and_then (λ (c : Content). c.kept_path) (content_of x i)
     path-in i =
@@ -328,3 +355,10 @@ module _ (b : Board) (t : TypeId) (sound : SoundTree b) (device : is_a t (codes 
 
         pair : (i : ℕ) (k : ℕ × ℕ) → counted_in x i ≡ Some k → is_under x i m ≡ true → k ≡ (count (with_plugged b t a resources) i, 0)
         pair i k at under = counted-pair x holds i k (λ d there. counted i d there under) at ∙ ap (λ (j : ℕ). (j, 0)) (sym (count-is i))
+
+-- the board of a device that was placed
+pub stood-shown : (b : Board) (a : Wanted) (p : AttachedDevice) (v : Objects) (path : DevicePath) → p.plugging ≡ Attached path → IsSettled b a p v
+    → (c : Board) × Shows c v
+stood-shown b a p v path attached is =
+    let (told, at, slot, open_is, stood, kept) = rw attached at is.target.2 in
+    (placement.seated b p.device.birth a (resources_in is.target.0.bus.birth at) (pinned_draft b is.target.0.kind), stood.shown)

@@ -28,12 +28,13 @@ use Rattle.qo_sound.proofs.DraftLemmas.{with_pins}
 use Rattle.qo_sound.proofs.StepsLemmas.{passed-steps}
 use Rattle.qo_object.specs.Content.{Content, acted_at}
 use Rattle.qo_object.specs.BoardObject.{birth_of}
-use Rattle.qo_heap.specs.Acts.{Acts, KeepsCounts, stilled}
+use Rattle.qo_heap.specs.Acts.{Acts, KeepsCounts, KeepsPeriods, periods_of, stilled}
 use Rattle.qo_heap.specs.Board.{Shows, record_of}
 use Rattle.qo_heap.specs.Objects.{IsHeap, Objects, content_of}
 use Rattle.qo_heap.proofs.ActsLemmas.{acts-act, acts-live, acts-none, acts-then}
 use Rattle.qo_heap.proofs.PlacesLemmas.{at-key, object-at-place}
 use Rattle.qo_heap.proofs.BoardObjects.{content-edited, content-other}
+use Rattle.qo_life.proofs.TreeLemmas.{read-content}
 use Rattle.qo_properties.proofs.NewSlotLemmas.{next-slot, past}
 use Rattle.qo_reset.specs.Phases.{acted_on, walked}
 use Rattle.qo_reset.proofs.BoardLemmas.{shows-walked}
@@ -199,13 +200,28 @@ last-is act n v u w is next = next ∙ ap (acted_on act n) is ∙ sym (walked-ap
 pub record Leaves (v w : Objects) : Type 0 where
   pub acts : Acts v w
   pub counts : KeepsCounts v w
+  pub periods : KeepsPeriods v w
   pub quiet : (m : ℕ) → IsQuiet v m → IsQuiet w m
 
 pub leaves-then : (v u w : Objects) → Leaves v u → Leaves u w → Leaves v w
-leaves-then v u w l k = record { acts = acts-then v u w l.acts k.acts; counts = λ m. k.counts m ∙ l.counts m; quiet = λ m q. k.quiet m (l.quiet m q) }
+leaves-then v u w l k =
+    record {
+      acts = acts-then v u w l.acts k.acts;
+      counts = λ m. k.counts m ∙ l.counts m;
+      periods = λ m. k.periods m ∙ l.periods m;
+      quiet = λ m q. k.quiet m (l.quiet m q);
+    }
+
+acted-periods : (act : Act) (n : ℕ) (v : Objects) → KeepsPeriods v (acted_on act n v)
+acted-periods act n v m = read-content periods_of n (acted_at act v.time 0) (λ c. refl) v m
+
+all-periods : (act : Act) (ns : List ℕ) (v : Objects) → KeepsPeriods v (walked act ns v)
+unfolding walked
+all-periods act [] v m = refl
+all-periods act (n ∷ ns) v m = all-periods act ns (acted_on act n v) m ∙ acted-periods act n v m
 
 walked-leaves : (act : Act) (ns : List ℕ) (v : Objects) → Leaves v (walked act ns v)
-walked-leaves act ns v = record { acts = walked-acts act ns v; counts = all-counts act ns v; quiet = quiet-walked act ns v }
+walked-leaves act ns v = record { acts = walked-acts act ns v; counts = all-counts act ns v; periods = all-periods act ns v; quiet = quiet-walked act ns v }
 
 pub buses-leaves : (act : Act) (ns : List ℕ) (v w : Objects) → w ≡ walked act ns v → Leaves v w
 buses-leaves act ns v w is = subst (Leaves v) (sym is) (walked-leaves act ns v)
@@ -224,7 +240,7 @@ last-leaves act n v w is = subst (Leaves v) (sym is) (walked-leaves act (new_bus
 
 pub out-leaves : (out : Bool) (n : ℕ) (v w : Objects) → w ≡ let_out out n v → Leaves v w
 out-leaves true n v w is = last-leaves Exit n v w is
-out-leaves false n v w is = subst (Leaves v) (sym is) (record { acts = acts-none v; counts = λ m. refl; quiet = λ m q. q })
+out-leaves false n v w is = subst (Leaves v) (sym is) (record { acts = acts-none v; counts = λ m. refl; periods = λ m. refl; quiet = λ m q. q })
 
 pub leaves-live : (v w : Objects) → Leaves v w → (key : Key) → IsLive v.rows key → IsLive w.rows key
 leaves-live v w l key live = rw (acts-live v w l.acts key) live

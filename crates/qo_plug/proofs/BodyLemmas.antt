@@ -7,7 +7,6 @@ use Rattle.qo_kinds.specs.declared.bodies.Body.{Body}
 use Rattle.qo_kinds.specs.declared.kept_set.KeptSet.{KeptSet}
 use Rattle.qo_object.specs.declared.room.Side.{Side}
 use Rattle.qo_object.specs.Content.{Content}
-use Rattle.qo_heap.specs.Acts.{counts_of}
 use Rattle.qo_heap.specs.Objects.{Objects, content_of, with_edit}
 use Rattle.qo_heap.proofs.BoardObjects.{content-edited, content-other}
 use Rattle.qo_plug.specs.Placement.{kept_in, own_of}
@@ -48,7 +47,7 @@ pub of-bodies : {A : Type 0} (g : Body → A) (x y : Option Content) → option_
 of-bodies g x y same = of-own (λ b s. g b) x y same
 
 pub kept-own : (v w : Objects) → SameOwn v w → SameKept v w
-kept-own v w same n = of-own (λ (b : Body) (s : Side). (kept_of b, (s.count, s.marks))) (content_of v n) (content_of w n) (same n)
+kept-own v w same n = of-own (λ (b : Body) (s : Side). (kept_of b, s)) (content_of v n) (content_of w n) (same n)
 
 given-one : (k : KeptSet) (x : Option Content) → option_map (λ (c : Content). kept_of c.body) (option_map (kept_in k) x) ≡ option_map (λ (c : Content). k) x
 given-one k None = refl
@@ -58,7 +57,7 @@ pub given-kept : (v : Objects) (n : ℕ) (k : KeptSet) → kept_by (with_edit n 
 given-kept v n k = ap (option_map (λ (c : Content). kept_of c.body)) (content-edited v n (kept_in k)) ∙ given-one k (content_of v n)
 
 abbrev given : KeptSet → Content → Kept
-given k c = (k, counts_of c)
+given k c = (k, c.side)
 
 given-whole : (k : KeptSet) (x : Option Content) → option_map kept_with (option_map (kept_in k) x) ≡ option_map (given k) x
 given-whole k None = refl
@@ -77,5 +76,5 @@ kept-given v w o k same n = go (eqb n o) refl
     go : (t : Bool) → eqb n o ≡ t → all_kept (with_edit o (kept_in k) w) n ≡ all_kept (with_edit o (kept_in k) v) n
     go true p =
         subst (λ (m : ℕ). all_kept (with_edit o (kept_in k) w) m ≡ all_kept (with_edit o (kept_in k) v) m) (sym (eqb-true n o p))
-        (given-all w o k ∙ of-own (λ (b : Body) (s : Side). (k, (s.count, s.marks))) (content_of v o) (content_of w o) (same o) ∙ sym (given-all v o k))
+        (given-all w o k ∙ of-own (λ (b : Body) (s : Side). (k, s)) (content_of v o) (content_of w o) (same o) ∙ sym (given-all v o k))
     go false p = other w p ∙ kept-own v w same n ∙ sym (other v p)

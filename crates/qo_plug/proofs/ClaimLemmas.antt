@@ -14,8 +14,7 @@ use Rattle.qo_heap.specs.Objects.{Objects, content_of, with_edit}
 use Rattle.qo_plug.specs.Resources.{IsChosen, backend_given, claims_given, ring_given}
 use Rattle.qo_plug.specs.Drafts.{bare}
 use Rattle.qo_plug.specs.Placement.{kept_in}
-use Rattle.qo_properties.proofs.KeptLemmas.{claims-same}
-use Rattle.qo_properties.specs.KeptClaims.{SameKept, kept_by}
+use Rattle.qo_properties.specs.KeptClaims.{SameClaims, kept_by}
 use Rattle.qo_plug.specs.DeviceClaims.{kept_on}
 use Rattle.qo_plug.specs.declared.resources.Memory.{Memory}
 use Rattle.qo_plug.specs.declared.resources.Resources.{Resources as Chosen}
@@ -38,8 +37,8 @@ chosen-claims b t bus props c is =
 
 -- a device as it was made keeps the claims that it is given
 pub draft-keeps : (v w : Objects) (n : ℕ) (t : TypeId) (k : KeptSet) → option_map bare (content_of v n) ≡ Some (bare (fresh t))
-    → SameKept (with_edit n (kept_in k) v) w → kept_by w n ≡ Some k
-draft-keeps v w n t k made same = claims-same (with_edit n (kept_in k) v) w same n ∙ given-kept v n k ∙ go (content_of v n) made
+    → SameClaims (with_edit n (kept_in k) v) w → kept_by w n ≡ Some k
+draft-keeps v w n t k made same = same n ∙ given-kept v n k ∙ go (content_of v n) made
   where
     go : (o : Option Content) → option_map bare o ≡ Some (bare (fresh t)) → option_map (λ (c : Content). k) o ≡ Some k
     go None e = cc

@@ -27,3 +27,4 @@ pub mod StartBuses
 pub mod StartLemmas
 pub mod TreeLemmas
 pub mod ValueLemmas
+pub mod FedLemmas

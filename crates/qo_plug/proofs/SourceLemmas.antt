@@ -9,7 +9,7 @@ use Rattle.std.proofs.lemmas.List.Folds.{find-append}
 use Rattle.std.proofs.lemmas.Option.{same_Some}
 use Rattle.qo_values.specs.declared.births.TheConstants.{SYSTEM_CLOCK_BIRTH}
 use Rattle.qo_values.specs.declared.kinds.TypeId.{TypeId}
-use Rattle.qo_model.specs.Board.{Board, Record, Slot, plain, child, strong, weak, alias, record_of}
+use Rattle.qo_model.specs.Board.{Board, Record, Slot, plain, child, strong, weak, alias, is_live, record_of}
 use Rattle.qo_model.specs.Changes as changes
 use Rattle.qo_model.specs.Devices.{child_named, clock_of}
 use Rattle.qo_model.specs.Objects.{Given}
@@ -96,6 +96,17 @@ module _ (b : Board) (t : TypeId) (sound : SoundTree b) (props : List Given) whe
 
   draft-records : (given_draft b t props).records ≡ b.records ++ news
   draft-records = ap (λ (c : Board). c.records) (given-is b t sound props ∙ ap (with_pins (held b t sound)) draft.shape)
+
+  -- who was there is there
+  pub draft-live : (m : ℕ) → is_live b m ≡ true → is_live (given_draft b t props) m ≡ true
+  draft-live m live =
+      ap (λ (rs : List Record). is_some (find (λ (r : Record). r.birth == m) rs)) draft-records
+      ∙ ap is_some (find-append (λ (r : Record). r.birth == m) b.records news)
+      ∙ either (record_of b m) (find (λ (r : Record). r.birth == m) news) live
+    where
+      either : (o p : Option Record) → is_some o ≡ true → is_some (option_or o p) ≡ true
+      either None p e = cc
+      either (Some r) p e = refl
 
   kids : AreKids n n (kids_from (suc n) (kinds_in (slots_of t)))
   kids = star-kids n n draft.slots (kids_from (suc n) (kinds_in (slots_of t))) draft.star_is

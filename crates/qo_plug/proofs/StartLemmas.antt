@@ -9,7 +9,9 @@ use Rattle.qo_values.specs.declared.kinds.TypeId.{TypeId}
 use Rattle.qo_slots.specs.declared.keys.Key.{Key}
 use Rattle.qo_claims.specs.declared.claims.Claimed.{Claimed}
 use Rattle.qo_heap.specs.Rows.{IsLive, row_at}
-use Rattle.qo_model.specs.Board.{Board, Notice, Record, Slot, child, plain, strong, weak, alias, slots_at}
+use Rattle.qo_model.specs.Board.{Board, Notice, Record, Slot, child, plain, strong, weak, alias, record_of, slots_at}
+use Rattle.qo_model.proofs.FirstSlotLemmas.{slots_in}
+use Rattle.qo_model.proofs.StepLemmas.{found-edited, slots-edited}
 use Rattle.qo_model.specs.Clocks.{acted, with_act_on}
 use Rattle.qo_model.specs.Devices.{bus_in, buses_of, clock_name}
 use Rattle.qo_model.specs.Paths.{canonical}
@@ -21,7 +23,7 @@ use Rattle.qo_model.specs.Types.{is_a}
 use Rattle.qo_model.specs.declared.notes.Deed.TheVariants.{Did}
 use Rattle.qo_object.specs.Content.{Content, acted_at, with_path}
 use Rattle.qo_events.specs.Queue.{promised}
-use Rattle.qo_heap.specs.Acts.{Acts, KeepsCounts, counted_in, counts_of}
+use Rattle.qo_heap.specs.Acts.{Acts, KeepsCounts, KeepsPeriods, clocked_in, counted_in, counts_of, periods_of}
 use Rattle.qo_heap.specs.Board.{Shows, pins_in}
 use Rattle.qo_heap.specs.Book.{IsBook}
 use Rattle.qo_heap.specs.Objects.{Objects, content_of, pins_of, with_edit, with_note}
@@ -159,9 +161,11 @@ pub record Realized (n at : ℕ) (v w : Objects) : Type 0 where
   pub shown : (b : Board) → Shows b v → Shows (acted_all Realize (filter_map (bus_in b) (take at (slots_at b n))) b) w
   pub acts : Acts v w
   pub counts : KeepsCounts v w
+  pub periods : KeepsPeriods v w
 
-pub realized-more : (n at : ℕ) (v u w : Objects) → Realized n at v u → BusActs n at u w → Acts u w → KeepsCounts u w → Realized n (at + 1) v w
-realized-more n at v u w r step acts counts =
+pub realized-more : (n at : ℕ) (v u w : Objects) → Realized n at v u → BusActs n at u w → Acts u w → KeepsCounts u w → KeepsPeriods u w
+    → Realized n (at + 1) v w
+realized-more n at v u w r step acts counts periods =
     record {
       shown = λ b s.
           let c : Board = acted_all Realize (filter_map (bus_in b) (take at (slots_at b n))) b in
@@ -179,6 +183,7 @@ realized-more n at v u w r step acts counts =
           subst (λ (d : Board). Shows d w) same (step c (r.shown b s));
       acts = acts-then v u w r.acts acts;
       counts = λ m. counts m ∙ r.counts m;
+      periods = λ m. periods m ∙ r.periods m;
     }
 
 pub realized-all : (n at : ℕ) (v w : Objects) → Realized n at v w → (b : Board) → Shows b v → slice_get (slots_at b n) at ≡ None
@@ -228,6 +233,15 @@ pub started-shown : (n : ℕ) (t : TypeId) (b : Board) (w : Objects) → buses_o
     → Shows (notified_plug n (plugged (acted_all Realize (n ∷ buses_of b n) b) n)) w → Shows (started n t b) w
 started-shown n t b w same s = subst (λ (l : List ℕ). Shows (notified_plug n (plugged (acted_all Realize (n ∷ l) b) n)) w) same s
 
+-- slots stay
+pub started-slots : (n : ℕ) (t : TypeId) (c : Board) (i : ℕ) → slots_at (started n t c) i ≡ slots_at c i
+started-slots n t c i =
+    let d : Board = acted_all Realize (n ∷ bus_births n t) c in
+    ap slots_in (found-edited n (plug.with_path (canonical (plugged d n) n)) (λ r. refl) i (plugged d n).records)
+    ∙ slots-edited n (plug.with_path (canonical (plugged d n) n)) (λ r. refl) (record_of (plugged d n) i)
+    ∙ (plugged-still n d).slots i
+    ∙ (all-still Realize (n ∷ bus_births n t) c).slots i
+
 -- the path of a device that acted is the one before
 pub acted-path : (n : ℕ) (ns : List ℕ) (b : Board) (path : List ℕ) → canonical b n ≡ Some path → canonical (plugged (acted_all Realize ns b) n) n ≡ Some path
 acted-path n ns b path is =
@@ -256,6 +270,10 @@ act-acts v w o is = subst (Acts v) (sym is) (acts-act v (record { birth = o.birt
 pub act-counts : (v w : Objects) (o : Key) → w ≡ with_note (record { birth = o.birth; deed = Did Realize }) (with_edit o.birth (acted_at Realize v.time 0) v)
     → KeepsCounts v w
 act-counts v w o is m = ap (λ (x : Objects). counted_in x m) is ∙ read-content counts_of o.birth (acted_at Realize v.time 0) (λ c. refl) v m
+
+pub act-periods : (v w : Objects) (o : Key) → w ≡ with_note (record { birth = o.birth; deed = Did Realize }) (with_edit o.birth (acted_at Realize v.time 0) v)
+    → KeepsPeriods v w
+act-periods v w o is m = ap (λ (x : Objects). clocked_in x m) is ∙ read-content periods_of o.birth (acted_at Realize v.time 0) (λ c. refl) v m
 
 pub found-shown : (v w : Objects) (o : Key) → w ≡ with_note (record { birth = o.birth; deed = Did Realize }) (with_edit o.birth (acted_at Realize v.time 0) v)
     → (b : Board) → Shows b v → (found : Option ℕ) → Some o.birth ≡ found → Shows (acted_all Realize (option_to_list found) b) w

@@ -7,32 +7,31 @@ use Rattle.qo_model.specs.Depth.{among}
 use Rattle.qo_model.specs.Reset.{count, post}
 use Rattle.qo_heap.specs.Acts.{counted_in}
 use Rattle.qo_heap.specs.Objects.{Objects}
-use Rattle.qo_properties.specs.KeptClaims.{Kept, KeptBefore, KeptOrNew, all_kept, kept_by, new_kept}
+use Rattle.qo_properties.specs.KeptClaims.{CountsBefore, KeptBefore, KeptOrNew, kept_by}
 use Rattle.qo_plug.specs.declared.placing.Plugging.{Plugging}
 use Rattle.qo_plug.specs.declared.placing.Plugging.TheVariants.{Attached, NoticesFull}
 
--- of who is there, but for one object, the same was kept before
-abbrev pub KeptBut : ℕ → Objects → Objects → Type 0
-KeptBut one v w = (n : ℕ) (k : Kept) → (n == one) ≡ false → all_kept w n ≡ Some k → all_kept v n ≡ Some k
+-- of who is there, but for one object, the body kept the same claims before
+abbrev pub ClaimsBut : ℕ → Objects → Objects → Type 0
+ClaimsBut one v w = (n : ℕ) (k : KeptSet) → (n == one) ≡ false → kept_by w n ≡ Some k → kept_by v n ≡ Some k
 
 -- the same, but that of who was not there nothing is kept
-abbrev pub KeptOrNewBut : ℕ → Objects → Objects → Type 0
-KeptOrNewBut one v w =
-    (n : ℕ) (k : Kept) → (n == one) ≡ false → all_kept w n ≡ Some k → (all_kept v n ≡ Some k) ⊎ ((all_kept v n ≡ None) × (k ≡ new_kept))
-
--- the same of the claims alone
 abbrev pub ClaimsOrNewBut : ℕ → Objects → Objects → Type 0
 ClaimsOrNewBut one v w =
     (n : ℕ) (k : KeptSet) → (n == one) ≡ false → kept_by w n ≡ Some k → (kept_by v n ≡ Some k) ⊎ ((kept_by v n ≡ None) × (k ≡ none_kept))
 
+-- of who is there what is kept of holds was kept before; or it was not there, and nothing is
+abbrev pub CountsOrNew : Objects → Objects → Type 0
+CountsOrNew v w = (n : ℕ) (k : ℕ × ℕ) → counted_in w n ≡ Some k → (counted_in v n ≡ Some k) ⊎ ((counted_in v n ≡ None) × (k ≡ (0, 0)))
+
 -- a device was placed: it keeps claims, and no other one; or none does, since it stands nowhere
 abbrev pub KeptAs : ℕ → Plugging → Objects → Objects → Type 0
-KeptAs one (Attached path) v w = KeptBut one v w
+KeptAs one (Attached path) v w = ClaimsBut one v w × CountsBefore v w
 KeptAs one (NoticesFull out) v w = KeptBefore v w
 
 -- so of a device that was begun, and then placed
 abbrev pub KeptSoFar : ℕ → Plugging → Objects → Objects → Type 0
-KeptSoFar one (Attached path) v w = KeptOrNewBut one v w
+KeptSoFar one (Attached path) v w = ClaimsOrNewBut one v w × CountsOrNew v w
 KeptSoFar one (NoticesFull out) v w = KeptOrNew v w
 
 -- of a device that was plugged into a board, and of all below it, the count that is kept is the board's, and there is no mark

@@ -8,6 +8,7 @@ pub mod Drafts
 pub mod FreeResources
 pub mod FurtherDrafts
 pub mod KeptClaims
+pub mod KeptPeriods
 pub mod OwnSlots
 pub mod Placement
 pub mod Resources

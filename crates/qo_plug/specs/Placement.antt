@@ -17,9 +17,11 @@ use Rattle.qo_object.specs.declared.slots.Slot.TheVariants.{Child, Link}
 use Rattle.qo_object.specs.Slots.{Named}
 use Rattle.qo_object.specs.declared.room.Side.{Side}
 use Rattle.qo_object.specs.Content.{Content, with_slot}
+use Rattle.qo_heap.specs.Acts.{KeepsCounts}
 use Rattle.qo_heap.specs.Board.{Shows, pins_in}
 use Rattle.qo_heap.specs.Objects.{Objects, content_of, with_edit}
 use Rattle.qo_properties.specs.Claims.{KeepsBook}
+use Rattle.qo_properties.specs.KeptClaims.{SameClaims}
 use Rattle.qo_properties.specs.Filling.{filled_with}
 use Rattle.qo_properties.specs.OpeningSteps.{KeepsNames}
 use Rattle.qo_properties.specs.declared.adding.filling.InitialValue.{InitialValue}
@@ -78,6 +80,14 @@ pub record Stays (v w : Objects) : Type 0 where
   pub alike : Alike v w
   pub ids : (n : ℕ) → option_map (λ (c : Content). c.device_id) (content_of w n) ≡ option_map (λ (c : Content). c.device_id) (content_of v n)
   pub own : (n : ℕ) → option_map own_of (content_of w n) ≡ option_map own_of (content_of v n)
+  pub spare : w.events.spare ≡ v.events.spare
+  pub book : KeepsBook v w
+
+-- a clock was connected: who was there is there as it was, but for the periods that are kept of clocks
+pub record Connected (v w : Objects) : Type 0 where
+  pub alike : Alike v w
+  pub claims : SameClaims v w
+  pub counts : KeepsCounts v w
   pub spare : w.events.spare ≡ v.events.spare
   pub book : KeepsBook v w
 

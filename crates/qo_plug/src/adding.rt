@@ -9,6 +9,7 @@ ghost use Rattle.qo_plug.specs.declared.refusals.AddRefusal.TheVariants.{Memory}
 ghost use Rattle.qo_plug.specs.Admission.{IfRefused, as_wanted};
 ghost use Rattle.qo_plug.specs.Answers.{IsAdded, IsCut, IsRefused, IsShown};
 ghost use Rattle.qo_plug.specs.KeptClaims.{ClaimsOrNewBut, CountedOn, OthersOrNew};
+ghost use Rattle.qo_plug.specs.KeptPeriods.{FedOrNew, SourcesThere};
 ghost use Rattle.qo_reset.specs.Counts.{CountsKept};
 
 use crate::beginning::{choose, make, note_failed_add};
@@ -60,6 +61,7 @@ pub fn add<L: Ledger>(
     ensures claims { IfOk result (λ x. ClaimsOrNewBut x.birth heap.old heap.new) }
     ensures counts { (b : Board) → IsShown b anonymous resets.now.births rings.now hotplug.old heap.old →
         IfOk result (λ x. CountedOn (plug b (as_wanted options.now)).board x.birth heap.new × OthersOrNew (plug b (as_wanted options.now)).board x.birth heap.old heap.new) }
+    ensures fed { (b : Board) → IsShown b anonymous resets.now.births rings.now hotplug.old heap.old → SourcesThere b → IfOk result (λ x. FedOrNew (plug b (as_wanted options.now)).board x.birth heap.old heap.new) }
     ensures unkept { OnErr result (KeptOrNew heap.old heap.new) }
 {
     let planned = match choose(heap, hotplug, anonymous, options, alloc, steps) {

@@ -66,7 +66,7 @@ fn child_named<L: Ledger>(
     requires { IsLive heap.now.rows o }
     ensures { (b : Board) → Shows b heap.now → birth_of result ≡ owned b o.birth (property_name name) }
 {
-    let slot = heap.slot(o, name.as_str(), steps)?;
+    let slot = heap.property(o, name, steps)?;
     match slot.what {
         Slot::Child(child) => Some(*child),
         _ => None,

@@ -7,10 +7,13 @@ ghost use Rattle.qo_model.specs.Board.{Board};
 ghost use Rattle.qo_model.specs.Plug.{Wanted, plug};
 ghost use Rattle.qo_properties.specs.Claims.{KeepsBook};
 ghost use Rattle.qo_properties.specs.KeptClaims.{ClaimsBefore, KeptBefore};
-ghost use Rattle.qo_plug.specs.declared.placing.Plugging.TheVariants.{NoticesFull};
+ghost use Rattle.qo_properties.specs.KeptPeriods.{PeriodsBefore};
+ghost use Rattle.qo_plug.specs.declared.placing.Plugging.TheVariants.{Attached, NoticesFull};
+ghost use Rattle.qo_plug.specs.declared.standing.DevicePath.{DevicePath};
 ghost use Rattle.qo_plug.specs.Admission.{barred_in};
 ghost use Rattle.qo_plug.specs.Answers.{IsAdded, IsRefused};
 ghost use Rattle.qo_plug.specs.KeptClaims.{CountedOn, OthersBefore};
+ghost use Rattle.qo_plug.specs.KeptPeriods.{FedStays};
 ghost use Rattle.qo_plug.specs.Stages.{IsBeside, IsReady, IsSettled};
 
 use crate::adding::Added;
@@ -45,7 +48,10 @@ pub fn finish<L: Ledger>(
     ensures asked { OnErr result (hotplug.new ≡ hotplug.old) }
     ensures book { KeepsBook heap.old heap.new }
     ensures claims { ClaimsBefore heap.old heap.new }
+    ensures periods { PeriodsBefore heap.old heap.new }
     ensures unkept { OnErr result (KeptBefore heap.old heap.new) }
+    ensures stood { IfOk result (λ _. (path : DevicePath) × (placed.plugging ≡ Attached path)) }
+    ensures fed { (b : Board) (a : Wanted) → IsSettled b a placed heap.old → IsBeside b resets.now.births hotplug.old → IfOk result (λ x. FedStays (plug b a).board x.birth heap.old heap.new) }
     ensures counts { (b : Board) (a : Wanted) → IsSettled b a placed heap.old → IsBeside b resets.now.births hotplug.old →
         IfOk result (λ x. CountedOn (plug b a).board x.birth heap.new × OthersBefore (plug b a).board x.birth heap.old heap.new) }
 {
@@ -58,6 +64,7 @@ pub fn finish<L: Ledger>(
         Plugging::Attached(DevicePath { kept, told }) => {
             start(heap, resets, hotplug, device, kept, steps);
             drop_pin(heap, device, steps);
+            heap.reveal_invariant();
             Ok(Added {
                 birth: device.birth,
                 slot,

@@ -11,6 +11,7 @@ ghost use Rattle.qo_plug.specs.declared.refusals.AddRefusal.TheVariants.{Memory}
 ghost use Rattle.qo_plug.specs.Admission.{IfRefused};
 ghost use Rattle.qo_plug.specs.Answers.{IsCut, IsRefused};
 ghost use Rattle.qo_plug.specs.KeptClaims.{KeptAs};
+ghost use Rattle.qo_plug.specs.KeptPeriods.{FedAs, SourcesThere};
 ghost use Rattle.qo_plug.specs.Stages.{IsBegun, IsHeld, IsReady, IsSettled};
 
 use crate::beginning::NewDevice;
@@ -94,6 +95,7 @@ pub fn place<L: Ledger>(
     ensures memory { (b : Board) (a : Wanted) → IsBegun b a begun heap.old → result ≡ Err Memory → IsCut b a heap.new }
     ensures book { KeepsBook heap.old heap.new }
     ensures kept { IfOk result (λ p. KeptAs p.device.birth p.plugging heap.old heap.new) }
+    ensures fed { (b : Board) (a : Wanted) → IsBegun b a begun heap.old → SourcesThere b → IfOk result (λ p. FedAs p.device.birth p.plugging heap.old heap.new) }
     ensures unkept { OnErr result (KeptBefore heap.old heap.new) }
 {
     let NewDevice {

@@ -3,7 +3,7 @@
 //! (include/hw/qdev-core.h: the bus of a device; docs/devel/clocks.rst). All that takes memory comes
 //! first, and is taken back where it fails.
 
-ghost use Rattle.std.specs.Prelude.{◌≡◌, ◌==◌, ◌≤◌, ◌<◌, ◌++◌, List, true, false, Some, None, IfOk, IfSome, IfNone, OnOk, OnErr, codes, option_map, option_and_then, slice_get};
+ghost use Rattle.std.specs.Prelude.{◌≡◌, ◌==◌, ◌≤◌, ◌<◌, ◌++◌, ℕ, List, true, false, Some, None, IfOk, IfSome, IfNone, OnOk, OnErr, codes, option_map, option_and_then, slice_get};
 ghost use Rattle.std.specs.List.{AllByRecursion, AllZip};
 ghost use Rattle.std.specs.Option.{option_map_or};
 ghost use Rattle.qo_claims.specs.declared.claims.Claimed.{Claimed};
@@ -12,12 +12,13 @@ ghost use Rattle.qo_kinds.specs.Bodies.{registers_of, with_registers};
 ghost use Rattle.qo_values.specs.declared.births.TheConstants.{SYSTEM_CLOCK_BIRTH};
 ghost use Rattle.qo_values.specs.declared.limits.TheConstants.{BUS_SLOTS};
 ghost use Rattle.qo_values.specs.declared.properties.Val.{Val};
-ghost use Rattle.qo_model.specs.Board.{Board, kind_of};
+ghost use Rattle.qo_model.specs.Board.{Board, is_live, kind_of};
 ghost use Rattle.qo_model.specs.Devices.{clock_of};
 ghost use Rattle.qo_model.specs.Objects.{Given};
 ghost use Rattle.qo_model.specs.Paths.{canonical};
 ghost use Rattle.qo_model.specs.Plug.{Wanted, addressed_at, link_named, registers_on, source_for, valued, with_body_of, with_source};
 ghost use Rattle.qo_model.specs.Release.{edit};
+ghost use Rattle.qo_model.specs.RowNames.{property_name};
 ghost use Rattle.qo_model.specs.Unplug.{set_named};
 ghost use Rattle.qo_object.specs.declared.slots.Slot.TheVariants.{Link};
 ghost use Rattle.qo_values.specs.declared.kinds.TypeId.TheVariants as types;
@@ -30,8 +31,10 @@ ghost use Rattle.qo_properties.specs.Claims.{KeepsBook};
 ghost use Rattle.qo_properties.specs.Filling.{Fits, IsGiven, filled_at, fits_at, target_in};
 ghost use Rattle.qo_properties.specs.OpeningSteps.{KeepsNames};
 ghost use Rattle.qo_plug.specs.OwnSlots.{is_own, own_slots_of};
-ghost use Rattle.qo_plug.specs.Placement.{Alike, IsAttachment, IsDimm, Stays, Stood, joined_on, kept_in, range_in, ranged, resources_in, with_own};
-ghost use Rattle.qo_properties.specs.KeptClaims.{SameKept};
+ghost use Rattle.qo_plug.specs.Placement.{Alike, IsAttachment, IsDimm, Stays, Stood, joined_on, kept_in, range_in, ranged, resources_in, with_own, Connected};
+ghost use Rattle.qo_properties.specs.KeptClaims.{SameClaims, SameKept};
+ghost use Rattle.qo_plug.specs.KeptPeriods.{ClockFed};
+ghost use Rattle.qo_heap.specs.Acts.{KeepsCounts, KeepsPeriods};
 ghost use Rattle.qo_plug.specs.DeviceClaims.{id_claims_out, kept_on};
 ghost use Rattle.qo_plug.specs.FreeResources.{AreFreeResources, IsFreeId};
 
@@ -42,6 +45,7 @@ use qo_clocks::connect;
 use qo_dimm::Dimm;
 use qo_heap::{Heap, Oid, Slot, SlotName, Steps};
 use qo_kinds::{Body, Device};
+use qo_model::PropertyName;
 use qo_paths::canonical;
 use qo_properties::InitialValue;
 use qo_values::{Id, Name, SYSTEM_CLOCK_BIRTH, Text, Val};
@@ -120,9 +124,15 @@ fn settle_own<L: Ledger>(heap: &mut Heap, o: Oid, mut plan: Vec<InitialValue>, s
 }
 
 /// Gives the plain property of a name of a device a value.
-fn put_value<L: Ledger>(heap: &mut Heap, device: Oid, name: &str, val: Val, steps: &mut Steps<L>)
+fn put_value<L: Ledger>(
+    heap: &mut Heap,
+    device: Oid,
+    name: PropertyName,
+    val: Val,
+    steps: &mut Steps<L>,
+)
     requires { IsLive heap.old.rows device }
-    ensures shown { (b : Board) → Shows b heap.old → Shows (set_named device.birth name.now val b) heap.new }
+    ensures shown { (b : Board) → Shows b heap.old → Shows (set_named device.birth (property_name name) val b) heap.new }
     ensures stays { Stays heap.old heap.new }
 {
     heap.reveal_board();
@@ -153,7 +163,7 @@ fn put_address<L: Ledger>(
 {
     match memory {
         Some(Memory { range, .. }) => {
-            put_value(heap, device, "addr", Val::Uint(range.at), steps);
+            put_value(heap, device, PropertyName::Addr, Val::Uint(range.at), steps);
         }
         None => {}
     }
@@ -179,9 +189,15 @@ fn put_values<L: Ledger>(
 {
     heap.reveal_invariant();
     settle_own(heap, device, plan, steps);
-    put_value(heap, device, "slot", Val::Uint(u64::from(slot)), steps);
+    put_value(
+        heap,
+        device,
+        PropertyName::Slot,
+        Val::Uint(u64::from(slot)),
+        steps,
+    );
     put_bus(heap, device, bus, steps);
-    put_value(heap, device, "realized", Val::Bool(true), steps);
+    put_value(heap, device, PropertyName::Realized, Val::Bool(true), steps);
     put_address(heap, device, memory, steps);
 }
 
@@ -251,7 +267,9 @@ fn connect_clock<L: Ledger>(heap: &mut Heap, device: Oid, source: Option<Oid>, s
     requires source { IfSome source (IsLive heap.old.rows) }
     ensures shown { (b : Board) → Shows b heap.old → IfSome source (λ o. Shows (with_source o.birth (clock_of b device.birth) b) heap.new) }
     ensures none { IfNone source (heap.new ≡ heap.old) }
-    ensures stays { Stays heap.old heap.new }
+    ensures connected { Connected heap.old heap.new }
+    ensures fed { (b : Board) (n : ℕ) → Shows b heap.new → clock_of b device.birth ≡ Some n → IfSome source (λ _. ClockFed n heap.old heap.new) }
+    ensures unfed { (b : Board) → Shows b heap.new → clock_of b device.birth ≡ None → KeepsPeriods heap.old heap.new }
 {
     heap.reveal_board();
     let Some(source) = source else {
@@ -362,7 +380,8 @@ fn join<L: Ledger>(
 /// A device that was made takes its place: it joins its container and its bus, has the values that
 /// are planned for its own slots, its id if it has one, its claims, and its clock's source, and a DIMM
 /// stands on its range; answers its canonical path. What it claims is held by no other. Its body keeps
-/// the claims of its attachment, and each other body those that it kept. A place for an event on it is kept
+/// the claims of its attachment, and each other body those that it kept. Of its clock the periods are kept
+/// that it has by its source, and of other clocks those that were. A place for an event on it is kept
 /// free. The error is want of memory, and a device that has no path counts as that; it leaves all boards
 /// as they were, and to each body its claims.
 pub fn stand<L: Ledger>(
@@ -392,7 +411,10 @@ pub fn stand<L: Ledger>(
     ensures names { KeepsNames heap.old heap.new }
     ensures paths { option_map (λ c. c.kept_path) (content_of heap.new device.birth) ≡ option_map (λ c. c.kept_path) (content_of heap.old device.birth) }
     ensures pinned { 0 < pins_of heap.old device.birth → 0 < pins_of heap.new device.birth }
-    ensures kept { OnOk result (SameKept (with_edit device.birth (kept_in (kept_on attachment.bus.birth attachment.resources)) heap.old) heap.new) }
+    ensures claims { OnOk result (SameClaims (with_edit device.birth (kept_in (kept_on attachment.bus.birth attachment.resources)) heap.old) heap.new) }
+    ensures counts { OnOk result (KeepsCounts heap.old heap.new) }
+    ensures fed { OnOk result ((b c : Board) (n : ℕ) → Shows b heap.old → is_live b (source_for b attachment.bus.birth) ≡ true → Shows c heap.new → clock_of c device.birth ≡ Some n → ClockFed n heap.old heap.new) }
+    ensures unfed { OnOk result ((c : Board) → Shows c heap.new → clock_of c device.birth ≡ None → KeepsPeriods heap.old heap.new) }
     ensures unkept { OnErr result (SameKept heap.old heap.new) }
     ensures book { KeepsBook heap.old heap.new }
 {

@@ -11,7 +11,7 @@ ghost use Rattle.qo_model.specs.Devices.{bus_in, buses_of};
 ghost use Rattle.qo_model.specs.Paths.{canonical};
 ghost use Rattle.qo_model.specs.Plug.{acted_all, bus_births, started};
 ghost use Rattle.qo_heap.specs.Rows.{IsLive};
-ghost use Rattle.qo_heap.specs.Acts.{Acts, KeepsCounts, counted_in};
+ghost use Rattle.qo_heap.specs.Acts.{Acts, KeepsCounts, KeepsPeriods, counted_in};
 ghost use Rattle.qo_heap.specs.Board.{Shows, pins_in};
 ghost use Rattle.qo_heap.specs.Objects.{content_of, pins_of};
 ghost use Rattle.qo_properties.specs.Claims.{KeepsBook};
@@ -33,6 +33,7 @@ fn realize_at<L: Ledger>(heap: &mut Heap, device: Oid, at: usize, steps: &mut St
     ensures shown { (b : Board) → Shows b heap.old → Shows (acted_all Realize (option_to_list (option_and_then (bus_in b) (slice_get (slots_at b device.birth) at))) b) heap.new }
     ensures acts { Acts heap.old heap.new }
     ensures counts { KeepsCounts heap.old heap.new }
+    ensures periods { KeepsPeriods heap.old heap.new }
 {
     if let Some(bus) = bus_in_slot(heap, device, at, steps) {
         heap.act(bus, Act::Realize, 0, steps);
@@ -45,6 +46,7 @@ fn realize_buses<L: Ledger>(heap: &mut Heap, device: Oid, steps: &mut Steps<L>)
     ensures shown { (b : Board) → Shows b heap.old → Shows (acted_all Realize (buses_of b device.birth) b) heap.new }
     ensures acts { Acts heap.old heap.new }
     ensures counts { KeepsCounts heap.old heap.new }
+    ensures periods { KeepsPeriods heap.old heap.new }
 {
     let mut at = 0;
     while heap.slot_at(device, at, steps).is_some() {
@@ -59,6 +61,7 @@ fn realize<L: Ledger>(heap: &mut Heap, device: Oid, steps: &mut Steps<L>)
     ensures shown { (b : Board) → Shows b heap.old → Shows (acted_all Realize (device.birth ∷ buses_of b device.birth) b) heap.new }
     ensures acts { Acts heap.old heap.new }
     ensures counts { KeepsCounts heap.old heap.new }
+    ensures periods { KeepsPeriods heap.old heap.new }
 {
     heap.act(device, Act::Realize, 0, steps);
     realize_buses(heap, device, steps);
@@ -91,6 +94,7 @@ pub fn start<L: Ledger>(
     ensures claims { (n : ℕ) → kept_by heap.new n ≡ kept_by heap.old n }
     ensures counted { CountedBelow device.birth resets.now.births heap.new }
     ensures others { (n : ℕ) → is_under heap.new n device.birth ≡ false → counted_in heap.new n ≡ counted_in heap.old n }
+    ensures periods { KeepsPeriods heap.old heap.new }
 {
     realize(heap, device, steps);
     resets.plugged(heap, device, steps);

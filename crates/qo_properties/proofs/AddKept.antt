@@ -2,6 +2,7 @@
 use Rattle.std.proofs.Common.{◌≡◌, ◌⊎◌, inl, inr, refl, ap, sym, subst, ◌∙◌, ℕ, Bool, true, false, eqb, List, [], ◌∷◌, ◌++◌, Option, Some, None, option_map}
 use Rattle.std.proofs.lemmas.Option.{same_Some}
 use Rattle.qo_values.specs.declared.kinds.TypeId.{TypeId}
+use Rattle.qo_kinds.specs.Bodies.{kept_of, none_kept}
 use Rattle.qo_kinds.specs.declared.kept_set.KeptSet.{KeptSet}
 use Rattle.qo_kinds.proofs.BodyLemmas.{fresh-bare}
 use Rattle.qo_slots.specs.declared.keys.Key.{Key}
@@ -9,14 +10,17 @@ use Rattle.qo_heap.specs.Rows.{object_at}
 use Rattle.qo_object.specs.declared.slots.Slot.TheVariants.{Child}
 use Rattle.qo_object.specs.Slots.{Named}
 use Rattle.qo_object.specs.Content.{Content, as_made, fresh, with_slot}
-use Rattle.qo_heap.specs.Objects.{Objects, with_edit}
+use Rattle.qo_object.specs.Room.{no_side}
+use Rattle.qo_heap.specs.Acts.{counts_of}
+use Rattle.qo_heap.specs.Objects.{Objects, content_of, with_edit}
 use Rattle.qo_life.proofs.TreeLemmas.{read-content}
 use Rattle.qo_properties.specs.Additions.{IsTried, with_newest}
 use Rattle.qo_properties.specs.KeptClaims.{Kept, KeptOrNew, NoneKept, all_kept, kept_with, new_kept}
+use Rattle.qo_properties.proofs.KeptLemmas.{counts_in}
 
 -- of a new object nothing is kept
 pub fresh-kept : (t : TypeId) → kept_with (fresh t) ≡ new_kept
-fresh-kept t = ap (λ (x : KeptSet). (x, (0, 0))) (fresh-bare t)
+fresh-kept t = ap (λ (x : KeptSet). (x, no_side)) (fresh-bare t)
 
 pub same-kept : (v w : Objects) → w ≡ v → KeptOrNew v w
 same-kept v w same n k e = inl (subst (λ (x : Objects). all_kept x n ≡ Some k) same e)
@@ -46,13 +50,20 @@ more key c bare n k (row ∷ rows) e = go (eqb row.0.birth n) refl (more key c b
 pub more-kept : (v w : Objects) (key : Key) (c : Content) → kept_with c ≡ new_kept → w.rows ≡ v.rows ++ (key, c) ∷ [] → KeptOrNew v w
 more-kept v w key c bare is n k e = more key c bare n k v.rows (subst (λ (rows : List (Key × Content)). kept_at rows n ≡ Some k) is e)
 
--- where nothing kept a claim, nothing does
+-- where nothing was kept but periods, nothing is
 pub none-new : (v w : Objects) → KeptOrNew v w → NoneKept v → NoneKept w
-none-new v w kept none n k e = by (kept n k e)
+none-new v w kept none n c there = by (kept n (kept_with c) (ap (option_map kept_with) there))
   where
-    by : (all_kept v n ≡ Some k) ⊎ ((all_kept v n ≡ None) × (k ≡ new_kept)) → k ≡ new_kept
-    by (inl same) = none n k same
-    by (inr new) = new.1
+    before : (o : Option Content) → content_of v n ≡ o → option_map kept_with o ≡ Some (kept_with c) → (kept_of c.body ≡ none_kept) × (counts_of c ≡ (0, 0))
+    before None p e = absurd (let clash : None ≡ Some (kept_with c) = e in cc)
+    before (Some d) p e =
+        let same : kept_with d ≡ kept_with c = same_Some (kept_with d) (kept_with c) e in
+        let h = none n d p in
+        (sym (ap (λ (k : Kept). k.0) same) ∙ h.0, sym (ap counts_in same) ∙ h.1)
+
+    by : (all_kept v n ≡ Some (kept_with c)) ⊎ ((all_kept v n ≡ None) × (kept_with c ≡ new_kept)) → (kept_of c.body ≡ none_kept) × (counts_of c ≡ (0, 0))
+    by (inl same) = before (content_of v n) refl same
+    by (inr new) = (ap (λ (k : Kept). k.0) new.1, ap counts_in new.1)
 
 pub object-kept : (v : Objects) (o parent : Key) (name : List ℕ) (t : TypeId) (slots : List Named) (w : Objects)
     → w ≡ with_newest o (as_made t slots 0) (with_edit parent.birth (with_slot name (Child o)) v) → KeptOrNew v w

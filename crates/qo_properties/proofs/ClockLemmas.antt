@@ -23,13 +23,16 @@ use Rattle.qo_model.specs.declared.properties.Property.{Property}
 use Rattle.qo_heap.specs.Acts.{Acts}
 use Rattle.qo_heap.specs.Board.{Shows, pins_in}
 use Rattle.qo_heap.specs.Objects.{Objects, content_of, slots_of}
+use Rattle.qo_heap.proofs.ActsLemmas.{acts-none}
 use Rattle.qo_heap.proofs.ActsReads.{acts-pins}
 use Rattle.qo_heap.proofs.BoardReads.{shows-kind}
 use Rattle.qo_clocks.specs.declared.errors.ClockError.{ClockError}
 use Rattle.qo_clocks.specs.Links.{changed_named, index_on, with_slot_changed}
 use Rattle.qo_clocks.specs.Reads.{source_on}
 use Rattle.qo_clocks.specs.Writes.{Answers, with_period, with_scale}
+use Rattle.qo_clocks.proofs.KeptBoards.{clocked-acts}
 use Rattle.qo_clocks.proofs.ReadLemmas.{shows-source}
+use Rattle.qo_properties.specs.KeptPeriods.{KeepsClocks}
 use Rattle.qo_properties.specs.ClockWrites.{refused_as}
 use Rattle.qo_properties.specs.Writes.{Writes}
 use Rattle.qo_properties.proofs.PinLemmas.{edited-pins}
@@ -98,6 +101,10 @@ clock-writes v (Ok done) (Ok b) h = (b, refl, h)
 clock-writes v (Err e) (Err code) h = ap (λ (k : Code). Err k) (sym h)
 clock-writes v (Ok done) (Err code) h = absurd h
 clock-writes v (Err e) (Ok b) h = absurd h
+
+-- what is not written leaves the clocks
+pub same-clocks : (v : Objects) → KeepsClocks v v
+same-clocks v b s k x t = clocked-acts b x v v s t (acts-none v) k.fits k.none_round k.kept
 
 -- the same pins
 

@@ -20,3 +20,4 @@ pub mod SlotsLemmas
 pub mod OpeningLemmas
 pub mod WriteLemmas
 pub mod FurtherCounts
+pub mod OwnLemmas

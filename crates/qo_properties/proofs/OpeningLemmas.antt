@@ -4,6 +4,7 @@ use Rattle.std.specs.Option.{option_map_or}
 use Rattle.std.specs.Str.{bytes_eq}
 use Rattle.std.proofs.lemmas.Bool.{eqb-true}
 use Rattle.std.proofs.lemmas.Bool.Decides.{nat_tests}
+use Rattle.std.proofs.lemmas.Option.{same_Some}
 use Rattle.qo_values.specs.declared.kinds.TypeId.{TypeId}
 use Rattle.qo_values.specs.declared.kinds.TypeId.TheVariants.{Clock}
 use Rattle.qo_kinds.proofs.BodyLemmas.{fresh-bare}
@@ -25,7 +26,7 @@ use Rattle.qo_heap.specs.Objects.{IsHeap, Objects, content_of, pins_of, slots_of
 use Rattle.qo_heap.proofs.BookLemmas.{book-edit}
 use Rattle.qo_heap.proofs.EndLemmas.{live-more}
 use Rattle.qo_heap.proofs.HeapLemmas.{live-edit}
-use Rattle.qo_heap.proofs.BoardChanges.{shows-made, shows-added}
+use Rattle.qo_heap.proofs.BoardChanges.{shows-added, shows-made, shows-set}
 use Rattle.qo_heap.proofs.BoardEdits.{shows-without_pin}
 use Rattle.qo_heap.proofs.BoardObjects.{content-edited, content-other}
 use Rattle.qo_properties.specs.NewSlots.{new_slots, with_slots}
@@ -33,7 +34,13 @@ use Rattle.qo_properties.proofs.AddKept.{fresh-kept, more-kept, none-new}
 use Rattle.qo_properties.proofs.AddLemmas.{apart-from, edit-newest, others}
 use Rattle.qo_properties.proofs.ClaimLemmas.{more-keeps}
 use Rattle.qo_properties.proofs.KeptLemmas.{none-edited}
-use Rattle.qo_properties.specs.OpeningSteps.{IsMade, no_objects, with_new, with_new_child, with_all}
+use Rattle.qo_properties.proofs.OwnLemmas.{own-child, own-edited, own-fresh, own-more, own-slotted}
+use Rattle.qo_values.specs.declared.limits.TheConstants.{SYSTEM_PERIOD}
+use Rattle.qo_values.specs.declared.properties.Val.TheVariants.{Uint}
+use Rattle.qo_clocks.specs.Kept.{with_periods}
+use Rattle.qo_clocks.proofs.KeptLemmas.{periods-shown}
+use Rattle.qo_properties.proofs.FillingLemmas.{edit-twice}
+use Rattle.qo_properties.specs.OpeningSteps.{IsMade, no_objects, ticking, with_new, with_new_child, with_all}
 
 -- rows with one more, of a later birth
 
@@ -86,6 +93,9 @@ module _ (v : Objects) (good : IsHeap v) (key : Key) (kind : TypeId) (birth : ke
             (more-keeps v key (fresh kind) (v.born + 1) v.log (fresh-bare kind) refl out h);
         bare = λ none. none-edited (made_in v key kind) key.birth (with_slots (new_slots kind)) (λ c. refl)
             (none-new v (made_in v key kind) (more-kept v (made_in v key kind) key (fresh kind) (fresh-kept kind) refl) none);
+        periods = λ own. own-edited (made_in v key kind) key.birth (with_slots (new_slots kind))
+            (λ c there now. own-slotted kind c (same_Some c (fresh kind) (sym there ∙ ap (option_map (λ (row : Row). row.1)) row-made)))
+            (own-more v (made_in v key kind) key (fresh kind) refl (own-fresh kind) own);
       }
 
   -- it is given its slots
@@ -136,6 +146,8 @@ module _ (v w : Objects) (good : IsHeap v) (parent key : Key) (kind : TypeId) (n
             (book-edit out w parent.birth (with_slot name (Child key)) (λ c. refl) (made.book out h));
         bare = λ none. none-edited child_in key.birth content.without_pin (λ c. refl)
             (none-edited w parent.birth (with_slot name (Child key)) (λ c. refl) (made.bare none));
+        periods = λ own. own-edited child_in key.birth content.without_pin (λ c there now. now)
+            (own-edited w parent.birth (with_slot name (Child key)) (λ c there now. own-child name key c now) (made.periods own));
       }
 
   pub shows-child : (b : board.Board) → Shows b v → Shows (with_new kind b) w → IsHeap child_in
@@ -163,6 +175,16 @@ absent i e = cc
 
 pub period-there : (v : Objects) (n : ℕ) → content_of v n ≡ Some new_clock → None ≡ position (λ (s : Named). bytes_eq (codes "period") s.0) (slots_of v n) → ⊥
 period-there v n there at = absent 1 (at ∙ clock-period v n there)
+
+-- it ticks
+pub ticking-is : (v : Objects) (n : ℕ) → with_edit n (with_periods SYSTEM_PERIOD SYSTEM_PERIOD) (with_edit n (content.set_at (Uint SYSTEM_PERIOD) 1) v) ≡ with_edit n ticking v
+ticking-is v n = edit-twice n (with_periods SYSTEM_PERIOD SYSTEM_PERIOD) (content.set_at (Uint SYSTEM_PERIOD) 1) ticking (λ c. refl) v
+
+pub shows-ticking : (b : board.Board) (v : Objects) → Shows b v → (n : ℕ) → Shows (set n 1 (Uint SYSTEM_PERIOD) b) (with_edit n ticking v)
+shows-ticking b v s n =
+    subst (λ (x : Objects). Shows (set n 1 (Uint SYSTEM_PERIOD) b) x) (ticking-is v n)
+    (periods-shown n SYSTEM_PERIOD SYSTEM_PERIOD (with_edit n (content.set_at (Uint SYSTEM_PERIOD) 1) v) (set n 1 (Uint SYSTEM_PERIOD) b)
+    (shows-set b v s n 1 (Uint SYSTEM_PERIOD)))
 
 -- the beginning and the end
 

@@ -1,4 +1,5 @@
 pub mod KeptClaims
+pub mod KeptPeriods
 pub mod Additions
 pub mod Changes
 pub mod Claims

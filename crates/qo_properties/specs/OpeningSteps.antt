@@ -6,14 +6,16 @@ use Rattle.qo_values.specs.declared.kinds.TypeId.TheVariants.{Container, Machine
 use Rattle.qo_values.specs.declared.properties.Val.TheVariants.{Uint}
 use Rattle.qo_slots.specs.declared.keys.Key.{Key}
 use Rattle.qo_heap.specs.Rows.{IsLive}
-use Rattle.qo_object.specs.Content.{as_made}
+use Rattle.qo_object.specs.Content.{Content, as_made, set_at}
 use Rattle.qo_model.specs.Board.{Board, child}
 use Rattle.qo_model.specs.Changes.{make, set, add, with_fresh_slots}
 use Rattle.qo_values.specs.declared.limits.TheConstants.{SYSTEM_PERIOD}
 use Rattle.qo_model.specs.Release.{without_pin}
 use Rattle.qo_heap.specs.Objects.{Objects, content_of}
 use Rattle.qo_properties.specs.Claims.{KeepsBook}
+use Rattle.qo_clocks.specs.Kept.{with_periods}
 use Rattle.qo_properties.specs.KeptClaims.{NoneKept}
+use Rattle.qo_properties.specs.KeptPeriods.{OwnKept}
 use Rattle.qo_properties.specs.NewSlots.{new_slots}
 
 -- an object of a type more, with its plain properties and its links
@@ -73,3 +75,8 @@ pub record IsMade (old new : Objects) (kind : TypeId) (pins : ℕ) (o : Key) : T
   pub names : KeepsNames old new
   pub book : KeepsBook old new
   pub bare : NoneKept old → NoneKept new
+  pub periods : OwnKept old → OwnKept new
+
+-- a new clock ticks with the system's period, and this is kept of it
+abbrev pub ticking : Content → Content
+ticking c = with_periods SYSTEM_PERIOD SYSTEM_PERIOD (set_at (Uint SYSTEM_PERIOD) 1 c)

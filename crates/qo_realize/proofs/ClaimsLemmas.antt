@@ -131,8 +131,8 @@ write-keep b d path name val is devices =
     path name val is
 
 pub write-claims : (b : Board) (path name : List ℕ) (val : Val) (result : Result (Unit {0}) Refusal) (v w : Objects) → SoundDevices b → Shows b v
-    → writes.Writes w result (write_at b path name val) → OnErr result (w ≡ v) → KeptBefore v w → KeepsClaims v → KeepsClaims w
-write-claims b path name val (Ok u) v w devices s (c, is, t) same kept h = step-claims b c v w s t (write-keep b c path name val is devices) (claims-before v w kept) h
+    → writes.Writes w result (write_at b path name val) → OnErr result (w ≡ v) → ClaimsBefore v w → KeepsClaims v → KeepsClaims w
+write-claims b path name val (Ok u) v w devices s (c, is, t) same kept h = step-claims b c v w s t (write-keep b c path name val is devices) kept h
 write-claims b path name val (Err e) v w devices s told same kept h = same-claims v w same h
 
 -- a device is added, or not

@@ -8,14 +8,13 @@ use Rattle.qo_model.specs.Unplug.{detach}
 use Rattle.qo_heap.specs.Board.{Shows}
 use Rattle.qo_heap.specs.Objects.{Objects}
 use Rattle.qo_heap.specs.Moments.{Timely}
+use Rattle.qo_clocks.specs.Kept.{PeriodsKept}
 use Rattle.qo_properties.specs.Claims.{KeepsBook}
 use Rattle.qo_properties.specs.Pins.{OnlyRootPinned}
 use Rattle.qo_reset.specs.Counts.{CountsKept}
 use Rattle.qo_reset.specs.HoldList.{HoldList}
 use Rattle.qo_sound.specs.DeviceScope.{DetachLeaves}
-use Rattle.qo_sound.specs.TreeKept.{SoundTree}
 use Rattle.qo_sound.proofs.DeviceScopeLemmas.{devices_stay_lem}
-use Rattle.qo_sound_clocks.specs.SoundClocks.{SoundClocks}
 use Rattle.qo_unplug.specs.BoardParts.{Beside}
 use Rattle.qo_unplug.proofs.MomentLemmas.{times-timely}
 use Rattle.qo_realize.specs.SoundBoard.{SoundBoard}
@@ -23,7 +22,7 @@ use Rattle.qo_kinds.specs.declared.kept_set.KeptSet.{KeptSet}
 use Rattle.qo_model.proofs.AmongLemmas.{among-all}
 use Rattle.qo_sound_claims.proofs.StayLawLemmas.{claims_stay_lem}
 use Rattle.qo_sound_devices.specs.SoundLists.{IsOn}
-use Rattle.qo_sound_devices.specs.SoundPlaces.{stands}
+use Rattle.qo_unplug.specs.Feeding.{MayDetach}
 use Rattle.qo_unplug.specs.RealizedClaims.{KeepsDue}
 use Rattle.qo_unplug.specs.Unrealizing.{KeepsHeld}
 use Rattle.qo_realize.specs.BoardClaims.{KeepsClaims, claims_due}
@@ -60,40 +59,57 @@ completed-stands b n rings anonymous running held holds old new v w s beside kee
       book = keeps [] s.book;
     }
 
+-- a device of a sound board whose removal is pending may be detached
+pub may-detach : (b : Board) (n : ℕ) (v : Objects) → SoundBoard b → among b.pending n ≡ true → PeriodsKept v → MayDetach b n v
+may-detach b n v good pending periods =
+    record {
+      devices = good.run.devices;
+      clocks = good.run.clocks;
+      sources = good.sources;
+      stood = (among-all (IsOn b) b.pending good.run.devices.lists.pending n pending).0;
+      kept = periods;
+    }
+
 pub completed-sound : (n : ℕ) (rings : List Ring) (anonymous : ℕ) (running : Bool) (held holds : HoldList) (old new : Asked) (v w : Objects)
-    → among old.pending n ≡ true → StandsForGood (parts_of rings anonymous running held old v)
-    → ((b : Board) → SoundTree b → SoundClocks b → Beside b v held.births old → Beside (detach b n) w holds.births new) → KeepsBook v w
+    → among old.pending n ≡ true → StandsForGood (parts_of rings anonymous running held old v) → PeriodsKept v
+    → ((b : Board) → MayDetach b n v → Beside b v held.births old → Beside (detach b n) w holds.births new) → KeepsBook v w
     → OnlyRootPinned w × StandsForGood (parts_of rings anonymous running holds new w)
-completed-sound n rings anonymous running held holds old new v w pending (b, s, good) detaches keeps =
+completed-sound n rings anonymous running held holds old new v w pending (b, s, good) periods detaches keeps =
+    let may : MayDetach b n v = may-detach b n v good (ap (λ (ns : List ℕ). among ns n) s.pending ∙ pending) periods in
     let after : SoundBoard (completed b n) = completed-good b n (ap (λ (ns : List ℕ). among ns n) s.pending ∙ pending) good in
     let stands : Stands (completed b n) (parts_of rings anonymous running holds new w) = completed-stands b n rings anonymous running held holds old new v w s
-    (detaches b good.run.devices.tree good.run.clocks (is_beside b rings anonymous running held old v s)) keeps in
+    (detaches b may (is_beside b rings anonymous running held old v s)) keeps in
     good-pinned (completed b n) (parts_of rings anonymous running holds new w) stands after
 
 -- and what is kept of holds is right
 pub completed-counts : (n : ℕ) (rings : List Ring) (anonymous : ℕ) (running : Bool) (held holds : HoldList) (old new : Asked) (v w : Objects)
-    → among old.pending n ≡ true → StandsForGood (parts_of rings anonymous running held old v)
-    → ((b : Board) → SoundTree b → SoundClocks b → Beside b v held.births old → Beside (detach b n) w holds.births new)
-    → ((b : Board) → SoundTree b → SoundClocks b → Shows b v → Shows (detach b n) w)
-    → ((b : Board) → SoundTree b → SoundClocks b → Shows b v → (m : ℕ) (was : ℕ × ℕ) → KeepsHeld m was b v → KeepsHeld m was (detach b n) w)
+    → among old.pending n ≡ true → StandsForGood (parts_of rings anonymous running held old v) → PeriodsKept v
+    → ((b : Board) → MayDetach b n v → Beside b v held.births old → Beside (detach b n) w holds.births new)
+    → ((b : Board) → MayDetach b n v → Shows b v → Shows (detach b n) w)
+    → ((b : Board) → MayDetach b n v → Shows b v → (m : ℕ) (was : ℕ × ℕ) → KeepsHeld m was b v → KeepsHeld m was (detach b n) w)
     → CountsKept held.births v → CountsKept holds.births w
-completed-counts n rings anonymous running held holds old new v w pending (b, s, good) detaches seen keeps kept =
+completed-counts n rings anonymous running held holds old new v w pending (b, s, good) periods detaches seen keeps kept =
     let beside : Beside b v held.births old = is_beside b rings anonymous running held old v s in
-    let on : stands b n ≡ true =
-    (among-all (IsOn b) b.pending good.run.devices.lists.pending n (ap (λ (ns : List ℕ). among ns n) s.pending ∙ pending)).0 in
-    let after : Beside (detach b n) w holds.births new = detaches b good.run.devices.tree good.run.clocks beside in
-    detached-counts b n held.births holds.births v w good.run good.holds on s.shows s.holds after.shown after.holds seen keeps kept
+    let may : MayDetach b n v = may-detach b n v good (ap (λ (ns : List ℕ). among ns n) s.pending ∙ pending) periods in
+    let after : Beside (detach b n) w holds.births new = detaches b may beside in
+    detached-counts b n held.births holds.births v w good.run good.holds may.stood good.sources periods s.shows s.holds after.shown after.holds seen keeps kept
+
+-- and of clocks
+pub completed-periods : (n : ℕ) (rings : List Ring) (anonymous : ℕ) (running : Bool) (held : HoldList) (old : Asked) (v w : Objects)
+    → among old.pending n ≡ true → StandsForGood (parts_of rings anonymous running held old v) → PeriodsKept v
+    → ((b : Board) → MayDetach b n v → Shows b v → PeriodsKept w) → PeriodsKept w
+completed-periods n rings anonymous running held old v w pending (b, s, good) periods stay =
+    stay b (may-detach b n v good (ap (λ (ns : List ℕ). among ns n) s.pending ∙ pending) periods) s.shows
 
 -- it keeps no claim any more, and the others theirs
 pub completed-claims : (n : ℕ) (rings : List Ring) (anonymous : ℕ) (running : Bool) (held holds : HoldList) (old new : Asked) (v w : Objects)
-    → among old.pending n ≡ true → StandsForGood (parts_of rings anonymous running held old v)
-    → ((b : Board) → SoundTree b → SoundClocks b → Beside b v held.births old → Beside (detach b n) w holds.births new)
-    → ((b : Board) → SoundTree b → SoundClocks b → Beside b v held.births old → (due : ℕ → KeptSet) → KeepsDue due b v → KeepsDue due (detach b n) w)
+    → among old.pending n ≡ true → StandsForGood (parts_of rings anonymous running held old v) → PeriodsKept v
+    → ((b : Board) → MayDetach b n v → Beside b v held.births old → Beside (detach b n) w holds.births new)
+    → ((b : Board) → MayDetach b n v → Beside b v held.births old → (due : ℕ → KeptSet) → KeepsDue due b v → KeepsDue due (detach b n) w)
     → KeepsClaims v → KeepsClaims w
-completed-claims n rings anonymous running held holds old new v w pending (b, s, good) detaches claims h =
+completed-claims n rings anonymous running held holds old new v w pending (b, s, good) periods detaches claims h =
     let beside : Beside b v held.births old = is_beside b rings anonymous running held old v s in
-    let on : stands b n ≡ true =
-    (among-all (IsOn b) b.pending good.run.devices.lists.pending n (ap (λ (ns : List ℕ). among ns n) s.pending ∙ pending)).0 in
-    all-claims (detach b n) w (detaches b good.run.devices.tree good.run.clocks beside).shown
-    (stay-due b (detach b n) w (claims_stay_lem.detached b n good.run.devices on good.backends)
-    (claims b good.run.devices.tree good.run.clocks beside (claims_due b) (h b s.shows)))
+    let may : MayDetach b n v = may-detach b n v good (ap (λ (ns : List ℕ). among ns n) s.pending ∙ pending) periods in
+    all-claims (detach b n) w (detaches b may beside).shown
+    (stay-due b (detach b n) w (claims_stay_lem.detached b n good.run.devices may.stood good.backends)
+    (claims b may beside (claims_due b) (h b s.shows)))

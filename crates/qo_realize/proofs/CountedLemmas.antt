@@ -1,11 +1,10 @@
 -- How many holds are kept of each object: each call of the board leaves that right.
-use Rattle.std.proofs.Common.{◌≡◌, ◌⊎◌, inl, inr, refl, ap, sym, subst, ◌∙◌, ℕ, ◌+◌, ◌==◌, Bool, true, false, ◌||◌, cond, eqb, List, [], ◌∷◌, ◌++◌, length, Option, Some, None, option_map, is_some, Result, Ok, Err, OnErr, arith}
+use Rattle.std.proofs.Common.{◌≡◌, ◌⊎◌, inl, inr, refl, ap, sym, subst, ◌∙◌, ℕ, ◌+◌, Bool, true, false, ◌||◌, cond, eqb, List, [], ◌∷◌, ◌++◌, length, Option, Some, None, option_map, is_some, Result, Ok, Err, OnErr, arith}
 use Rattle.std.specs.Prelude.{count_by}
 use Rattle.std.specs.List.{AllByRecursion, flat_map}
 use Rattle.std.specs.Option.{option_map_or}
 use Rattle.std.proofs.lemmas.Bool.{eq-eqb}
 use Rattle.std.proofs.lemmas.List.Sums.{sum_by-cons}
-use Rattle.qo_values.specs.Registers.{Registers}
 use Rattle.qo_values.specs.declared.codes.Code.{Code}
 use Rattle.qo_values.specs.declared.kinds.TypeId.{TypeId}
 use Rattle.qo_values.specs.declared.properties.Val.{Val}
@@ -19,9 +18,9 @@ use Rattle.qo_model.specs.Clocks.{div_of, mul_of}
 use Rattle.qo_model.specs.Depth.{among, by_depth}
 use Rattle.qo_model.specs.FinalNotesRuns.{Change, added, after_write, changed, wrote}
 use Rattle.qo_model.specs.Objects.{Given, attempted_as, barred_by, object_add, with_attempt}
-use Rattle.qo_model.specs.Plug.{Plugged, Wanted, barred_early, barred_late, bus_for, cut_attempt, plug, plug_as, plug_attempt, plug_by, plug_late, resources_of, type_barred, with_plugged}
+use Rattle.qo_model.specs.Plug.{Wanted, barred_early, barred_late, bus_for, cut_attempt, plug, plug_as, plug_attempt, plug_by, plug_late, resources_of, type_barred, with_plugged}
 use Rattle.qo_model.specs.Paths.{births}
-use Rattle.qo_model.specs.Release.{pin, unpin}
+use Rattle.qo_model.specs.Release.{pin}
 use Rattle.qo_model.specs.Reset.{below, count, post, post_turn}
 use Rattle.qo_model.specs.Types.{TypeInfo, type_named}
 use Rattle.qo_model.specs.Unplug.{detach, unrealize}
@@ -30,6 +29,7 @@ use Rattle.qo_model.proofs.ReleaseScopeLemmas.{unpin-leaves}
 use Rattle.qo_model.proofs.ChangeScopeLemmas.{attempted_as-stays, changed-stays}
 use Rattle.qo_model.proofs.ClockScopeLemmas.{write_at-stays}
 use Rattle.qo_model.proofs.ClockPropertyLemmas.{write_at-cases}
+use Rattle.qo_clocks.specs.Kept.{PeriodsKept}
 use Rattle.qo_heap.specs.Acts.{counted_in, counts_of}
 use Rattle.qo_heap.specs.Board.{Shows}
 use Rattle.qo_heap.specs.Objects.{Objects, content_of, with_edit}
@@ -43,25 +43,25 @@ use Rattle.qo_plug.specs.declared.refusals.AddRefusal.{AddRefusal}
 use Rattle.qo_plug.specs.declared.refusals.AddRefusal.TheVariants.{Refused, Memory}
 use Rattle.qo_hotplug.specs.Hotplug.{Asked}
 use Rattle.qo_properties.specs.Additions as properties
-use Rattle.qo_properties.specs.KeptClaims.{KeptBefore, KeptOrNew}
+use Rattle.qo_properties.specs.KeptClaims.{CountsBefore, KeptBefore, KeptOrNew}
 use Rattle.qo_properties.specs.Writes as writes
 use Rattle.qo_properties.specs.declared.refusals.Refusal.{Refusal}
 use Rattle.qo_properties.specs.declared.refusals.Refusal.TheVariants as object
-use Rattle.qo_properties.proofs.KeptLemmas.{counts-either, counts-of, counts-there}
+use Rattle.qo_properties.proofs.KeptLemmas.{counts-before, counts-either, counts-there}
 use Rattle.qo_reset.specs.Counts.{CountsKept, IsCounted}
-use Rattle.qo_reset.specs.Phases.{below_on, count_on, post_by}
+use Rattle.qo_reset.specs.Phases.{count_on, post_by}
 use Rattle.qo_reset.proofs.BoardLemmas.{shows-count}
 use Rattle.qo_reset.proofs.EditLemmas.{counted-pair, edit-count, pair-counted}
 use Rattle.qo_reset.proofs.WalkLemmas.{read-after}
-use Rattle.qo_sound.specs.TreeKept.{SoundTree}
 use Rattle.qo_sound.proofs.DeviceScopeLemmas.{devices_stay_lem}
 use Rattle.qo_sound.proofs.ViewLemmas.{rest-from_sound}
 use Rattle.qo_sound_bounds.specs.SoundHolds.{SoundHolds}
 use Rattle.qo_sound_bounds.proofs.ClockWriteLemmas.{Written, written-acts, written-none, written-numbers}
 use Rattle.qo_sound_bounds.proofs.FeedLemmas.{added-placed}
+use Rattle.qo_sound_bounds.specs.SoundSources.{SoundSources}
 use Rattle.qo_sound_bounds.proofs.HoldsLemmas.{holds_kept_lem}
+use Rattle.qo_sound_bounds.proofs.SourceLemmas.{beside-sources}
 use Rattle.qo_sound_clocks.specs.ClockRuns.{SoundRun}
-use Rattle.qo_sound_clocks.specs.SoundClocks.{SoundClocks}
 use Rattle.qo_sound_clocks.proofs.StepsLemmas.{calls-kept, kept-scaled, kept-set}
 use Rattle.qo_sound_clocks.proofs.WriteLawLemmas.{writes_keep_lem}
 use Rattle.qo_sound_devices.specs.SoundDevices.{SoundDevices}
@@ -78,8 +78,9 @@ use Rattle.qo_sound_phases.proofs.PlugLemmas.{back, reached-old}
 use Rattle.qo_sound_phases.proofs.PlugLemmas as plugging
 use Rattle.qo_sound_phases.proofs.ReachLemmas.{StaysReached, post-reached, reached-live, shape-reached}
 use Rattle.qo_sound_phases.proofs.ResetTreeLemmas.{Placed, placed}
-use Rattle.qo_sound_phases.proofs.ShapeLemmas.{SameShape, shape-count, shape-records}
+use Rattle.qo_sound_phases.proofs.ShapeLemmas.{shape-count, shape-records}
 use Rattle.qo_sound_phases.proofs.UnrealizingLemmas.{unrealize-all_holds}
+use Rattle.qo_unplug.specs.Feeding.{MayDetach}
 use Rattle.qo_unplug.specs.Unparenting.{taken_within}
 use Rattle.qo_unplug.specs.Unrealizing.{KeepsHeld}
 use Rattle.qo_unplug.proofs.ScopeLemmas.{takes-taken_within}
@@ -196,7 +197,7 @@ module _ (b : Board) (a : Wanted) where
       go None p = rw (plug_by, p) refl
       go (Some row) p = rw (plug_by, p) (as-same row.id (barred_early b row.id a) r (rw (plug_by, p) at e))
 
-  refused-same : (r : ℕ × Code) → (plug b a).refusal ≡ Some r → (plug b a).board.records ≡ b.records
+  pub refused-same : (r : ℕ × Code) → (plug b a).refusal ≡ Some r → (plug b a).board.records ≡ b.records
   unfolding plug
   refused-same r e = by-same (type_barred a.driver) r e
 
@@ -272,8 +273,8 @@ module _ (b c : Board) (v w : Objects) (old new : List ℕ) (s : Shows b v) (hel
       each : (k : ℕ × ℕ) → counted_in w n ≡ Some k → k ≡ (count_on w new n, 0)
       each k e = let y = counts-there (content_of w n) k e in before-pair n k (same n) (counts-either v n k y.0 y.2 (either n y.0 y.1))
 
-  pub step-counts : SameCounts b c → KeptBefore v w → CountsKept new w
-  step-counts same before = new-counts same (λ n k e. inl (before n k e))
+  pub step-counts : SameCounts b c → CountsBefore v w → CountsKept new w
+  step-counts same before n x there = pair-counted w new n (λ k e. before-pair n k (same n) (inl (before n k e))) x there
 
   -- a device was added
   added-counts : (one : ℕ) → ((n : ℕ) → among (post c one) n ≡ false → count c n ≡ count b n) → CountedOn c one w → OthersOrNew c one v w → CountsKept new w
@@ -299,7 +300,8 @@ same-counts old new v w same holds kept = subst (λ (x : Objects). CountsKept ne
 pub changed-counts : (b : Board) (change : Change) (holds : List ℕ) (v w : Objects) → SoundDevices b → SoundHolds b → Shows b v → b.holds ≡ holds
     → Shows (changed b change) w → KeptBefore v w → CountsKept holds v → CountsKept holds w
 changed-counts b change holds v w d h s held t before kept =
-    step-counts b (changed b change) v w holds holds s held t ((changed-stays b change).holds ∙ held) d h kept (change-counts b change d h) before
+    step-counts b (changed b change) v w holds holds s held t ((changed-stays b change).holds ∙ held) d h kept (change-counts b change d h)
+    (counts-before v w before)
 
 pub add-counts : (b : Board) (driver id : List ℕ) (props : List Given) (result : Result (Unit {0}) Refusal) (holds : List ℕ) (v w : Objects) → SoundDevices b
     → SoundHolds b → Shows b v → b.holds ≡ holds → properties.Adds b driver id props result w → KeptOrNew v w → CountsKept holds v → CountsKept holds w
@@ -316,7 +318,7 @@ add-counts b driver id props (Err object.Memory) holds v w d h s held (inr shows
     (attempted-counts b driver id) before
 
 pub write-counts : (b : Board) (path name : List ℕ) (val : Val) (result : Result (Unit {0}) Refusal) (holds : List ℕ) (v w : Objects) → SoundDevices b
-    → SoundHolds b → Shows b v → b.holds ≡ holds → writes.Writes w result (write_at b path name val) → OnErr result (w ≡ v) → KeptBefore v w
+    → SoundHolds b → Shows b v → b.holds ≡ holds → writes.Writes w result (write_at b path name val) → OnErr result (w ≡ v) → CountsBefore v w
     → CountsKept holds v → CountsKept holds w
 write-counts b path name val (Ok u) holds v w d h s held (c, is, t) same before kept =
     step-counts b c v w holds holds s held t ((write_at-stays b c path name val is).holds ∙ held) d h kept (write-counts_board b c path name val is d h) before
@@ -410,10 +412,11 @@ below-itself b n = last (flat_map (by_depth (post_turn b) (λ _. []) (length (bi
         go true q = refl
         go false q = q
 
-module _ (b : Board) (d : ℕ) (old new : List ℕ) (v w : Objects) (run : SoundRun b) (on : SoundHolds b) (there : stands b d ≡ true) (s : Shows b v)
+module _ (b : Board) (d : ℕ) (old new : List ℕ) (v w : Objects) (run : SoundRun b) (on : SoundHolds b) (there : stands b d ≡ true)
+    (sources : SoundSources b) (periods : PeriodsKept v) (s : Shows b v)
     (held : b.holds ≡ old) (t : Shows (detach b d) w) (holds : (detach b d).holds ≡ new)
-    (seen : (x : Board) → SoundTree x → SoundClocks x → Shows x v → Shows (detach x d) w)
-    (keeps : (x : Board) → SoundTree x → SoundClocks x → Shows x v → (n : ℕ) (was : ℕ × ℕ) → KeepsHeld n was x v → KeepsHeld n was (detach x d) w)
+    (seen : (x : Board) → MayDetach x d v → Shows x v → Shows (detach x d) w)
+    (keeps : (x : Board) → MayDetach x d v → Shows x v → (n : ℕ) (was : ℕ × ℕ) → KeepsHeld n was x v → KeepsHeld n was (detach x d) w)
     (kept : CountsKept old v) where
   abbrev after : Board
   after = detach b d
@@ -425,8 +428,18 @@ module _ (b : Board) (d : ℕ) (old new : List ℕ) (v w : Objects) (run : Sound
   one-run : (n : ℕ) → SoundRun (with_holds (n ∷ []) b)
   one-run n = run-with (n ∷ []) b run
 
+  one-may : (n : ℕ) → MayDetach (with_holds (n ∷ []) b) d v
+  one-may n =
+      record {
+        devices = (one-run n).devices;
+        clocks = (one-run n).clocks;
+        sources = beside-sources b (with_holds (n ∷ []) b) refl sources;
+        stood = there;
+        kept = periods;
+      }
+
   one-seen : (n : ℕ) → Shows (detach (with_holds (n ∷ []) b) d) w
-  one-seen n = seen (one n) (one-run n).devices.tree (one-run n).clocks (sees (n ∷ []) b v s)
+  one-seen n = seen (one n) (one-may n) (sees (n ∷ []) b v s)
 
   same-records : (n : ℕ) → (detach (with_holds (n ∷ []) b) d).records ≡ (detach b d).records
   same-records n = (one-seen n).records ∙ sym t.records
@@ -478,7 +491,7 @@ module _ (b : Board) (d : ℕ) (old new : List ℕ) (v w : Objects) (run : Sound
       pair-counted w new n
       (λ k e.
       pair n k (among (detach (with_holds (n ∷ []) b) d).holds n) refl
-      (keeps (one n) (one-run n).devices.tree (one-run n).clocks (sees (n ∷ []) b v s) n (count b n, 0)
+      (keeps (one n) (one-may n) (sees (n ∷ []) b v s) n (count b n, 0)
       (λ j f. counted-pair v old n j (kept n) f ∙ ap (λ (m : ℕ). (m, 0)) (sym (shows-count b v s old held n)) ∙ sym (ap (λ (u : Bool). cond u (count b n, 0) (0, 0))
       (alone n))) k e)
       ∙ ap (λ (j : ℕ). (j, 0)) (shows-count after w t new holds n))

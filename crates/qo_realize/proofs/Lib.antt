@@ -8,7 +8,11 @@ pub mod DueLemmas
 pub mod DeviceLemmas
 pub mod GuestLemmas
 pub mod HoldLemmas
+pub mod ClockChangeLemmas
+pub mod PeriodLemmas
+pub mod ClockedLemmas
 pub mod PlugLemmas
+pub mod PlugClockLemmas
 pub mod RefusalLemmas
 pub mod RefusedDeviceLemmas
 pub mod RegisterLemmas

@@ -16,10 +16,9 @@ use Rattle.qo_heap.specs.Rows.{IsLive}
 use Rattle.qo_object.specs.Content.{Content}
 use Rattle.qo_object.specs.BoardObject.{shown}
 use Rattle.qo_model.specs.Board.{Board, Record, record_of, Ring}
-use Rattle.qo_model.specs.Clocks.{ClocksFit, device_period}
+use Rattle.qo_model.specs.Clocks.{device_period}
 use Rattle.qo_model.specs.Devices.{first_bus}
 use Rattle.qo_model.specs.Reset.{pulse}
-use Rattle.qo_heap.specs.Acts.{counts_of}
 use Rattle.qo_heap.specs.Board.{Shows}
 use Rattle.qo_heap.specs.Book.{claim_eq, kept_times}
 use Rattle.qo_heap.specs.Objects.{IsHeap, Objects, content_of, with_edit}
@@ -29,6 +28,7 @@ use Rattle.qo_heap.proofs.BoardEdits.{shows-edit}
 use Rattle.qo_heap.proofs.BoardObjects.{content-edited, content-other, live-content}
 use Rattle.qo_heap.proofs.BoardReads.{shows-record}
 use Rattle.qo_hotplug.specs.Hotplug.{Asked}
+use Rattle.qo_clocks.specs.Kept.{Clocked, PeriodsKept}
 use Rattle.qo_properties.specs.Claims.{KeepsBook}
 use Rattle.qo_properties.proofs.KeptLemmas.{claims-before}
 use Rattle.qo_properties.specs.KeptClaims.{Kept, KeptBefore, all_kept, kept_with}
@@ -46,6 +46,7 @@ use Rattle.qo_realize.specs.Registers.{GuestWrites, HasWritten, IsHeld, Written,
 use Rattle.qo_realize.specs.Representation.{Stands, StandsForGood}
 use Rattle.qo_realize.proofs.GoodBoardLemmas.{good-pinned, written-good}
 use Rattle.qo_realize.proofs.ClaimsLemmas.{guest-keep, same-claims, step-claims}
+use Rattle.qo_realize.proofs.PeriodLemmas.{clocked-sound}
 use Rattle.qo_realize.proofs.RegisterWriteLemmas.{WriteLeaves, written-leaves}
 
 -- the body of an object that is there
@@ -140,10 +141,10 @@ put-kept v o old new live is kept n k e = go (eqb n o.birth) refl
     go true p =
         let (c, there, same) = body-there v o old live is in
         let own : n ≡ o.birth = eqb-true n o.birth p in
-        let now : held (content_of (with_edit o.birth (put new) v) o.birth) ≡ Some (kept_of new, counts_of c) =
+        let now : held (content_of (with_edit o.birth (put new) v) o.birth) ≡ Some (kept_of new, c.side) =
         ap held (content-edited v o.birth (put new) ∙ ap (option_map (put new)) there) in
-        let is_now : Some (kept_of new, counts_of c) ≡ Some k = sym now ∙ sym (ap (all_kept (with_edit o.birth (put new) v)) own) ∙ e in
-        ap (all_kept v) own ∙ ap held there ∙ ap (λ (x : KeptSet). Some (x, counts_of c)) (ap kept_of same ∙ sym kept) ∙ is_now
+        let is_now : Some (kept_of new, c.side) ≡ Some k = sym now ∙ sym (ap (all_kept (with_edit o.birth (put new) v)) own) ∙ e in
+        ap (all_kept v) own ∙ ap held there ∙ ap (λ (x : KeptSet). Some (x, c.side)) (ap kept_of same ∙ sym kept) ∙ is_now
 
 -- a write of what is there leaves all
 pub put-none : (v : Objects) → IsHeap v → (o : Key) (old new : Body) → IsLive v.rows o → option_map (λ (c : Content). c.body) (content_of v o.birth) ≡ Some old
@@ -211,18 +212,18 @@ module _ (rings others : List Ring) (anonymous : ℕ) (running : Bool) (old new 
   write-stands b (Some u) s (c, is, held) = (c, is, written-stands b c s (written-leaves b d reg value c is) held)
   write-stands b None s is = is
 
-  pub write-claims : (result : Option (Unit {0})) → StandsForGood before
-      → ((b : Board) → IsHeld b old.births rings v → ClocksFit b → Written (guest_written b d reg value) result new.births others w)
+  pub write-claims : (result : Option (Unit {0})) → StandsForGood before → PeriodsKept v
+      → ((b : Board) → IsHeld b old.births rings v → Clocked b v → Written (guest_written b d reg value) result new.births others w)
       → IfNone result ((w ≡ v) × (new.births ≡ old.births) × (others ≡ rings)) → KeptBefore v w → KeepsClaims v → KeepsClaims w
-  write-claims None (b, s, good) h same kept claims = same-claims v w same.0 claims
-  write-claims (Some u) (b, s, good) h same kept claims =
-      let (c, is, held) = h b (record { held = (s.shows, s.holds); rings_are = s.rings }) good.run.clocks.fit in
+  write-claims None (b, s, good) periods h same kept claims = same-claims v w same.0 claims
+  write-claims (Some u) (b, s, good) periods h same kept claims =
+      let (c, is, held) = h b (record { held = (s.shows, s.holds); rings_are = s.rings }) (clocked-sound b v good.run.clocks periods) in
       step-claims b c v w s.shows held.held.0 (guest-keep b d reg value c is good.run.devices) (claims-before v w kept) claims
 
-  pub write-keeps : (result : Option (Unit {0})) → StandsForGood before
-      → ((b : Board) → IsHeld b old.births rings v → ClocksFit b → Written (guest_written b d reg value) result new.births others w)
+  pub write-keeps : (result : Option (Unit {0})) → StandsForGood before → PeriodsKept v
+      → ((b : Board) → IsHeld b old.births rings v → Clocked b v → Written (guest_written b d reg value) result new.births others w)
       → IfNone result ((w ≡ v) × (new.births ≡ old.births) × (others ≡ rings)) → OnlyRootPinned w × StandsForGood after
-  write-keeps None (b, s, good) h same = good-pinned b after (subst (λ (p : Parts). Stands b p) (sym (same-parts same)) s) good
-  write-keeps (Some u) (b, s, good) h same =
-      let (c, is, held) = h b (record { held = (s.shows, s.holds); rings_are = s.rings }) good.run.clocks.fit in
+  write-keeps None (b, s, good) periods h same = good-pinned b after (subst (λ (p : Parts). Stands b p) (sym (same-parts same)) s) good
+  write-keeps (Some u) (b, s, good) periods h same =
+      let (c, is, held) = h b (record { held = (s.shows, s.holds); rings_are = s.rings }) (clocked-sound b v good.run.clocks periods) in
       good-pinned c after (written-stands b c s (written-leaves b d reg value c is) held) (written-good b d reg value c is good)

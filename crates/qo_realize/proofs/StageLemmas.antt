@@ -20,8 +20,11 @@ use Rattle.qo_plug.proofs.StageLemmas.{passed-making, passed-placing}
 use Rattle.qo_properties.specs.Claims.{KeepsBook}
 use Rattle.qo_properties.specs.KeptClaims.{KeptOrNew}
 use Rattle.qo_plug.specs.KeptClaims.{KeptAs}
+use Rattle.qo_plug.specs.KeptPeriods.{FedAs}
+use Rattle.qo_plug.proofs.FedLemmas.{fed-so-far}
 use Rattle.qo_plug.proofs.KeptLemmas.{so-far}
 use Rattle.qo_realize.specs.BoardClaims.{KeepsClaims}
+use Rattle.qo_clocks.specs.Kept.{PeriodsKept}
 use Rattle.qo_reset.specs.Counts.{CountsKept}
 use Rattle.qo_reset.specs.HoldList.{HoldList}
 use Rattle.qo_sound.proofs.DeviceScopeLemmas.{devices_stay_lem}
@@ -45,9 +48,19 @@ module _ (b : Board) (a : Wanted) (rings : List Ring) (anonymous next : ℕ) (ru
   abbrev at : Objects → Parts
   at v = parts_of rings anonymous running holds old v
 
-  pub since-begun : (v w : Objects) → Stands b (at v) → SoundBoard b → next ≡ counts anonymous a.id → KeepsBook v w → KeepsClaims v → CountsKept holds.births v → Since b a (at w) next
-  since-begun v w s good is keeps claims counted =
-      record { before = v; stood = s; book = keeps; good = good; counted = is ∙ ap (λ (n : ℕ). counts n a.id) (sym s.anonymous); claims = claims; counts_kept = counted }
+  pub since-begun : (v w : Objects) → Stands b (at v) → SoundBoard b → next ≡ counts anonymous a.id → KeepsBook v w → KeepsClaims v → CountsKept holds.births v
+      → PeriodsKept v → Since b a (at w) next
+  since-begun v w s good is keeps claims counted clocked =
+      record {
+        before = v;
+        stood = s;
+        book = keeps;
+        good = good;
+        counted = is ∙ ap (λ (n : ℕ). counts n a.id) (sym s.anonymous);
+        claims = claims;
+        counts_kept = counted;
+        periods_kept = clocked;
+      }
 
   module _ (v : Objects) (since : Since b a (at v) next) where
     pub since-beside : IsBeside b holds.births old
@@ -59,7 +72,16 @@ module _ (b : Board) (a : Wanted) (rings : List Ring) (anonymous next : ℕ) (ru
 
       pub since-then : Since b a (at w) next
       since-then =
-          record { before = since.before; stood = since.stood; book = kept; good = since.good; counted = since.counted; claims = since.claims; counts_kept = since.counts_kept }
+          record {
+            before = since.before;
+            stood = since.stood;
+            book = kept;
+            good = since.good;
+            counted = since.counted;
+            claims = since.claims;
+            counts_kept = since.counts_kept;
+            periods_kept = since.periods_kept;
+          }
 
       -- it is refused, or an attempt is cut
       since-barred : (new : Asked) → new ≡ old → (e : AddRefusal)
@@ -109,15 +131,21 @@ module _ (b : Board) (a : Wanted) (rings : List Ring) (anonymous next : ℕ) (ru
       given_up-stands t bus s = (plug_attempt b t bus 4, since-given_up t bus s, given_up-good b t bus since.good)
 
   -- a draft, and what is plugged of it
-  pub drafted-is : (v w : Objects) (d : NewDevice) → Stands b (at v) → SoundBoard b → next ≡ counts anonymous a.id → KeepsBook v w → KeepsClaims v → CountsKept holds.births v → KeptOrNew v w → IsBegun b a d w
+  pub drafted-is : (v w : Objects) (d : NewDevice) → Stands b (at v) → SoundBoard b → next ≡ counts anonymous a.id → KeepsBook v w → KeepsClaims v
+      → CountsKept holds.births v → PeriodsKept v → KeptOrNew v w → IsBegun b a d w
       → IsDrafted b a (record { parts = at w; next = next; begun = d })
   unfolding since-begun
-  drafted-is v w d s good is keeps claims counted own begun =
-      record { since = since-begun v w s good is keeps claims counted; begun = begun; kept = own; passed = passed-making b a d.target begun.admitted begun.given }
+  drafted-is v w d s good is keeps claims counted clocked own begun =
+      record {
+        since = since-begun v w s good is keeps claims counted clocked;
+        begun = begun;
+        kept = own;
+        passed = passed-making b a d.target begun.admitted begun.given;
+      }
 
   -- where a stage was begun on a board that stood, whatever of it is shown
   module _ (v w : Objects) (p : Parts) (whole : at v ≡ p) (stood : Stands b p) (good : SoundBoard b) (is : next ≡ counts anonymous a.id) (keeps : KeepsBook v w)
-      (claims : KeepsClaims v) (counted : CountsKept holds.births v) where
+      (claims : KeepsClaims v) (counted : CountsKept holds.births v) (clocked : PeriodsKept v) where
     seen : Stands b (at v)
     seen = subst (Stands b) (sym whole) stood
 
@@ -128,21 +156,22 @@ module _ (b : Board) (a : Wanted) (rings : List Ring) (anonymous next : ℕ) (ru
     shown = is_shown b rings anonymous running holds old v seen good claims
 
     pub begun-drafted : (d : NewDevice) → KeptOrNew v w → (Shown → IsBegun b a d w) → IsDrafted b a (record { parts = at w; next = next; begun = d })
-    begun-drafted d own begun = drafted-is v w d seen good is keeps claims counted own (begun shown)
+    begun-drafted d own begun = drafted-is v w d seen good is keeps claims counted clocked own (begun shown)
 
     pub begun-barred : (e : AddRefusal)
         → (Shown → IfRefused (the (Result device.Added AddRefusal) (Err e)) (λ stage code. (1 ≤ stage) × (stage ≤ 4) × IsRefused b a stage code w))
         → (Shown → e ≡ Memory → IsCut b a w) → IsWithin 1 4 e × Plugs b a (Err e) (at w)
-    begun-barred e refused memory = begin-barred v (since-begun v v seen good is (λ out h. h) claims counted) w keeps e (refused shown) (memory shown)
+    begun-barred e refused memory = begin-barred v (since-begun v v seen good is (λ out h. h) claims counted clocked) w keeps e (refused shown) (memory shown)
 
   pub plugged-is : (v w : Objects) (p : AttachedDevice) (since : Since b a (at v) next) → KeptOrNew since.before v → KeepsBook v w
-      → KeptAs p.device.birth p.plugging v w → IsSettled b a p w
+      → KeptAs p.device.birth p.plugging v w → FedAs p.device.birth p.plugging v w → IsSettled b a p w
       → IsPlugged b a (record { parts = at w; next = next; placed = p })
   unfolding since-then
-  plugged-is v w p since before keeps own settled =
+  plugged-is v w p since before keeps own fed settled =
       record {
         since = since-then v since w keeps;
         settled = settled;
         kept = so-far since.before v w p.device.birth p.plugging before own;
+        fed = fed-so-far p.device.birth p.plugging since.before v w before fed;
         passed = passed-placing b a p w settled;
       }

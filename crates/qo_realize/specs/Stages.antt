@@ -6,7 +6,9 @@ use Rattle.qo_model.specs.Plug.{Wanted, plug, plug_attempt}
 use Rattle.qo_heap.specs.Objects.{Objects}
 use Rattle.qo_properties.specs.Claims.{KeepsBook}
 use Rattle.qo_properties.specs.KeptClaims.{KeptOrNew}
+use Rattle.qo_clocks.specs.Kept.{PeriodsKept}
 use Rattle.qo_plug.specs.KeptClaims.{KeptSoFar}
+use Rattle.qo_plug.specs.KeptPeriods.{FedSoFar}
 use Rattle.qo_plug.specs.Stages.{IsBegun, IsSettled}
 use Rattle.qo_plug.specs.declared.adding.Added.{Added}
 use Rattle.qo_plug.specs.declared.beginning.NewDevice.{NewDevice}
@@ -41,6 +43,7 @@ pub record Since (b : Board) (a : Wanted) (p : Parts) (next : ℕ) : Type 0 wher
   pub counted : next ≡ counts b.anonymous a.id
   pub claims : KeepsClaims before
   pub counts_kept : CountsKept p.holds before
+  pub periods_kept : PeriodsKept before
 
 -- on a board a device was begun as it was asked for, or placed: nothing of the stages so far refuses it
 pub record IsDrafted (b : Board) (a : Wanted) (d : DraftParts) : Type 0 where
@@ -53,6 +56,7 @@ pub record IsPlugged (b : Board) (a : Wanted) (p : PluggedParts) : Type 0 where
   pub since : Since b a p.parts p.next
   pub settled : IsSettled b a p.placed p.parts.objects
   pub kept : KeptSoFar p.placed.device.birth p.placed.plugging since.before p.parts.objects
+  pub fed : FedSoFar p.placed.device.birth p.placed.plugging since.before p.parts.objects
   pub passed : IfSome (plug b a).refusal (λ refusal. 7 < refusal.0)
 
 abbrev pub DraftOfGood : DraftParts → Type 0

@@ -31,7 +31,7 @@ use std::sync::ledger::Ledger;
 /// whole: its tree, the places of devices and the lists that name them, clocks and timers, shapes,
 /// owners, rings, claims, holds and limits. The body of each object keeps the claims that its slots say
 /// while it is realized, and none otherwise. What is kept of each object for resets is how many holds
-/// are on it and above it.
+/// are on it and above it. What is kept of each clock are its period, and that of the clocks that go by it.
 #[derive(Drop)]
 pub struct Board {
     pub(crate) heap: Heap,
@@ -44,6 +44,7 @@ pub struct Board {
 
 impl Model for Board {
     ghost use Rattle.qo_properties.specs.Pins.{OnlyRootPinned};
+    ghost use Rattle.qo_clocks.specs.Kept.{PeriodsKept};
     ghost use Rattle.qo_reset.specs.Counts.{CountsKept};
     ghost use Rattle.qo_realize.specs.BoardClaims.{KeepsClaims};
     ghost use Rattle.qo_realize.specs.Parts.{Parts, parts_of};
@@ -53,7 +54,7 @@ impl Model for Board {
 
     ghost view = { λ b. parts_of b.rings b.anonymous b.running b.resets b.hotplug b.heap };
 
-    ghost invariant = { λ b. OnlyRootPinned b.heap × StandsForGood (parts_of b.rings b.anonymous b.running b.resets b.hotplug b.heap) × KeepsClaims b.heap × CountsKept b.resets.births b.heap };
+    ghost invariant = { λ b. OnlyRootPinned b.heap × StandsForGood (parts_of b.rings b.anonymous b.running b.resets b.hotplug b.heap) × KeepsClaims b.heap × CountsKept b.resets.births b.heap × PeriodsKept b.heap };
 }
 
 /// How many devices without an id there are after the add of one, with an id or without; `None` where
@@ -100,6 +101,7 @@ impl Board {
     ghost use Rattle.qo_model.specs.Hotplug.{asked, completed, refused};
     ghost use Rattle.qo_object.specs.BoardObject.{birth_of};
     ghost use Rattle.qo_plug.specs.Admission.{as_wanted};
+    ghost use Rattle.qo_clocks.specs.Kept.{PeriodsKept};
     ghost use Rattle.qo_reset.specs.Counts.{CountsKept};
     ghost use Rattle.qo_realize.specs.Answers.{Adds, IsAnswered, Plugs, Writes};
     ghost use Rattle.qo_realize.specs.BoardClaims.{KeepsClaims};
@@ -127,12 +129,14 @@ impl Board {
     }
 
     /// What it stands for: there is a board that stands at it, and it is sound; and each body keeps the claims
-    /// of its object while that is realized, and none otherwise; and what is kept of each object for
-    /// resets is how many holds are on it and above it.
+    /// of its object while that is realized, and none otherwise; what is kept of each object for
+    /// resets is how many holds are on it and above it; and what is kept of each clock are its period,
+    /// and that of the clocks that go by it.
     pub fn reveal_board(&self)
         ensures stands { StandsForGood self.now }
         ensures claims { KeepsClaims self.now.objects }
         ensures counts { CountsKept self.now.holds self.now.objects }
+        ensures periods { PeriodsKept self.now.objects }
     {
         let _heap = &self.heap;
     }

@@ -5,7 +5,7 @@ ghost use Rattle.qo_values.specs.Registers as bodies;
 ghost use Rattle.qo_kinds.specs.Bodies.{IsTimely};
 ghost use Rattle.qo_kinds.specs.Effects.{shown_effect};
 ghost use Rattle.qo_model.specs.Board.{Board as Tree, Ring};
-ghost use Rattle.qo_model.specs.Clocks.{ClocksFit};
+ghost use Rattle.qo_clocks.specs.Kept.{Clocked, PeriodsKept};
 ghost use Rattle.qo_heap.specs.Rows.{IsLive};
 ghost use Rattle.qo_heap.specs.Board.{Shows};
 ghost use Rattle.qo_heap.specs.Objects.{content_of};
@@ -44,11 +44,12 @@ fn write_register<L: Ledger>(
 ) -> Option<Effect>
     requires live { IsLive heap.old.rows dev }
     requires timely { IfSome (content_of heap.old dev.birth) (λ c. IsTimely heap.old.time c.body) }
-    ensures written { (b : Tree) → Shows b heap.old → ClocksFit b → HasWritten b dev.birth (registers_written b dev.birth reg value) result heap.new }
+    ensures written { (b : Tree) → Shows b heap.old → Clocked b heap.old → HasWritten b dev.birth (registers_written b dev.birth reg value) result heap.new }
     ensures book { KeepsBook heap.old heap.new }
     ensures kept { KeptBefore heap.old heap.new }
     ensures live { IsLive heap.new.rows dev }
     ensures counts { (holds : List ℕ) → CountsKept holds heap.old → CountsKept holds heap.new }
+    ensures periods { PeriodsKept heap.old → PeriodsKept heap.new }
     ensures absent { IfNone result (heap.new ≡ heap.old) }
 {
     heap.reveal_invariant();
@@ -77,6 +78,7 @@ fn pulse_bus<L: Ledger>(heap: &mut Heap, resets: &mut Resets, dev: Oid, steps: &
     ensures book { KeepsBook heap.old heap.new }
     ensures kept { KeptBefore heap.old heap.new }
     ensures counts { CountsKept resets.new.births heap.new }
+    ensures periods { PeriodsKept heap.old → PeriodsKept heap.new }
 {
     if let Some(bus) = first_bus(heap, dev, steps) {
         resets.pulse(heap, bus, steps);
@@ -99,6 +101,7 @@ fn do_beside<L: Ledger>(
     ensures book { KeepsBook heap.old heap.new }
     ensures kept { KeptBefore heap.old heap.new }
     ensures counts { CountsKept resets.new.births heap.new }
+    ensures periods { PeriodsKept heap.old → PeriodsKept heap.new }
 {
     match effect {
         Effect::Nothing => {}
@@ -121,10 +124,11 @@ fn write_through<L: Ledger>(
     requires live { IsLive heap.old.rows dev }
     requires counts { CountsKept resets.old.births heap.old }
     requires timely { IfSome (content_of heap.old dev.birth) (λ c. IsTimely heap.old.time c.body) }
-    ensures written { (b : Tree) → IsHeld b resets.old.births rings.old heap.old → ClocksFit b → Written (guest_written b dev.birth reg value) result resets.new.births rings.new heap.new }
+    ensures written { (b : Tree) → IsHeld b resets.old.births rings.old heap.old → Clocked b heap.old → Written (guest_written b dev.birth reg value) result resets.new.births rings.new heap.new }
     ensures book { KeepsBook heap.old heap.new }
     ensures kept { KeptBefore heap.old heap.new }
     ensures counts { CountsKept resets.new.births heap.new }
+    ensures periods { PeriodsKept heap.old → PeriodsKept heap.new }
     ensures absent { IfNone result ((heap.new ≡ heap.old) × (resets.new.births ≡ resets.old.births) × (rings.new ≡ rings.old)) }
 {
     let effect = write_register(heap, dev, reg, value, steps)?;

@@ -9,7 +9,7 @@ ghost use Rattle.qo_model.specs.Unplug.{first_of};
 ghost use Rattle.qo_values.specs.declared.births.TheConstants.{MACHINE_BIRTH};
 ghost use Rattle.qo_object.specs.BoardObject.{birth_of};
 ghost use Rattle.qo_heap.specs.Rows.{IsLive};
-ghost use Rattle.qo_heap.specs.Acts.{Acts};
+ghost use Rattle.qo_heap.specs.Acts.{Acts, KeepsPeriods};
 ghost use Rattle.qo_heap.specs.Board.{Shows};
 ghost use Rattle.qo_properties.specs.Reads.{birth_told};
 ghost use Rattle.qo_reset.specs.Counts.{CountsKept};
@@ -52,6 +52,7 @@ fn hold<L: Ledger>(
     ensures held { (b : Tree) → Holds b resets.old.births heap.old → Holding b (held_at b path.now) result resets.new.births heap.new }
     ensures acts { Acts heap.old heap.new }
     ensures counts { CountsKept resets.new.births heap.new }
+    ensures periods { KeepsPeriods heap.old heap.new }
     ensures err { OnErr result ((heap.new ≡ heap.old) × (resets.new.births ≡ resets.old.births)) }
 {
     let o = resettable_at(heap, path, steps)?;
@@ -77,6 +78,7 @@ fn release<L: Ledger>(
     ensures released { (b : Tree) → Holds b resets.old.births heap.old → Releases b (released_at b path.now) result resets.new.births heap.new }
     ensures acts { Acts heap.old heap.new }
     ensures counts { CountsKept resets.new.births heap.new }
+    ensures periods { KeepsPeriods heap.old heap.new }
     ensures err { OnErr result ((heap.new ≡ heap.old) × (resets.new.births ≡ resets.old.births)) }
 {
     let o = resettable_at(heap, path, steps)?;

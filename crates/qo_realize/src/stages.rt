@@ -5,6 +5,7 @@ ghost use Rattle.std.specs.Prelude.{◌≡◌};
 ghost use Rattle.qo_model.specs.Board as model;
 ghost use Rattle.qo_model.specs.Plug.{Wanted};
 ghost use Rattle.qo_plug.specs.Admission.{as_wanted};
+ghost use Rattle.qo_clocks.specs.Kept.{PeriodsKept};
 ghost use Rattle.qo_reset.specs.Counts.{CountsKept};
 ghost use Rattle.qo_realize.specs.BoardClaims.{KeepsClaims};
 ghost use Rattle.qo_realize.specs.Parts.{parts_of};
@@ -92,6 +93,7 @@ fn parts(board: Board) -> (Heap, Beside)
     ensures good { StandsForGood board }
     ensures claims { KeepsClaims result.0 }
     ensures counts { CountsKept result.1.resets.births result.0 }
+    ensures periods { PeriodsKept result.0 }
 {
     let Board {
         heap,
@@ -113,7 +115,7 @@ fn parts(board: Board) -> (Heap, Beside)
 
 /// The board of its objects, and of what stands beside them.
 fn board_of(heap: Heap, beside: Beside) -> Board
-    requires { StandsForGood (parts_of beside.rings beside.anonymous beside.running beside.resets beside.hotplug heap) × KeepsClaims heap × CountsKept beside.resets.births heap }
+    requires { StandsForGood (parts_of beside.rings beside.anonymous beside.running beside.resets beside.hotplug heap) × KeepsClaims heap × CountsKept beside.resets.births heap × PeriodsKept heap }
     ensures { result ≡ parts_of beside.rings beside.anonymous beside.running beside.resets beside.hotplug heap }
 {
     let Beside {

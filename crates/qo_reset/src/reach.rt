@@ -52,6 +52,7 @@ fn bus_child<L: Ledger>(heap: &Heap, name: &str, slot: &Slot, steps: &mut Steps<
 }
 
 /// What is below an object in the slot at a place, if anything is; `None` exactly past the last.
+#[inline(always)]
 pub fn below_at<L: Ledger>(
     heap: &Heap,
     o: Oid,

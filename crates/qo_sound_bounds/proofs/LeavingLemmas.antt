@@ -1,6 +1,6 @@
 -- A device that is detached with all that is below it: the clocks of devices that are unrealized lose their sources, and those of the others keep them.
 use Rattle.std.proofs.Common.{◌≡◌, refl, ap, sym, subst, ◌∙◌, ℕ, zero, suc, true, false, ◌==◌, List, [], ◌∷◌, length, Option, Some, None, option_map, option_and_then, codes, arith}
-use Rattle.qo_model.proofs.Common.{option_map_or, MACHINE_BIRTH, Unrealize, Val, Board, Record, Slot, plain, child, strong, weak, alias, record_of, slots_at, with_changed, with_val, acted, device_period, source_of, bus_of, child_named, clock_of, is_realized, all_completed, completed, reset_whole, index_from, source_for, edit, pin, put_in_order, detach, disconnected, is_named, set_named, unrealize, unrealized_bus, unrealized_device, unseen, unseen_named}
+use Rattle.qo_model.proofs.Common.{option_map_or, MACHINE_BIRTH, Unrealize, Val, Board, Record, is_live, Slot, plain, child, strong, weak, alias, record_of, slots_at, with_changed, with_val, acted, device_period, source_of, bus_of, child_named, clock_of, is_realized, all_completed, completed, reset_whole, index_from, source_for, edit, pin, put_in_order, detach, disconnected, is_named, set_named, unrealize, unrealized_bus, unrealized_device, unseen, unseen_named}
 use Rattle.std.proofs.lemmas.Bool.{eqb-true, eq-eqb}
 use Rattle.std.proofs.lemmas.Option.{same_Some}
 use Rattle.qo_values.specs.declared.properties.Val.TheVariants as val
@@ -15,7 +15,7 @@ use Rattle.qo_sound.proofs.UnplugLemmas.{held-unrealize, HasPins}
 use Rattle.qo_sound.proofs.ViewLemmas.{PinsRootAlone, rest-from_sound}
 use Rattle.qo_sound_devices.specs.SoundDevices.{SoundDevices}
 use Rattle.qo_sound_devices.specs.SoundLists.{IsOn}
-use Rattle.qo_sound_devices.specs.SoundPlaces.{child_entries, listed, stands}
+use Rattle.qo_sound_devices.specs.SoundPlaces.{IsHome, child_entries, listed, stands}
 use Rattle.qo_sound_devices.proofs.DevicesLawLemmas.{devices_kept_lem}
 use Rattle.qo_sound_devices.proofs.DropLemmas.{edited-slots}
 use Rattle.qo_sound_devices.proofs.DepthLemmas.{unrealize-dimmed, unrealize-only}
@@ -30,7 +30,7 @@ use Rattle.qo_sound_phases.proofs.ResetTreeLemmas.{one-parent, Placed, placed}
 use Rattle.qo_sound_phases.proofs.DetachmentLemmas.{frame, kp, lit-stands, unstood}
 use Rattle.qo_sound_phases.proofs.UnrealizingLemmas.{unrealize-walk}
 use Rattle.qo_sound_bounds.specs.SoundSources.{IsDeviceClock, SoundSources}
-use Rattle.qo_sound_bounds.proofs.ClockLemmas.{clock-listed, frame-sources}
+use Rattle.qo_sound_bounds.proofs.ClockLemmas.{clock-listed, frame-clock, frame-sources, source-live}
 use Rattle.qo_sound_bounds.proofs.SightLemmas.{KeepsClockLinks, sight-detached, sight-none}
 use Rattle.qo_sound_bounds.proofs.SourceLemmas.{pulse-sources}
 use Rattle.qo_sound_bounds.proofs.ClockWriteLemmas.{set-source}
@@ -94,6 +94,16 @@ disconnected-other None k c apart = refl
 disconnected-other (Some n) k c apart =
     set-source n (codes "period") (val.Uint 0) (unseen_named n (codes "source") c) k ∙ unseen-other n k c (apart n refl)
 
+-- none goes by another than before
+pub less-disconnected : (o : Option ℕ) (k s : ℕ) (c : Board) → source_of (disconnected o c) k ≡ Some s → source_of c k ≡ Some s
+less-disconnected None k s c e = e
+less-disconnected (Some n) k s c e =
+    decide (k == n)
+    (λ q.
+    let none : source_of (disconnected (Some n) c) k ≡ None = ap (source_of (disconnected (Some n) c)) (eqb-true k n q) ∙ disconnected-own n c in
+    absurd (let bad : None ≡ Some s = sym none ∙ e in cc))
+    (λ q. sym (disconnected-other (Some n) k c (λ m i. ap (λ (y : ℕ). k == y) (sym (same_Some n m i)) ∙ q)) ∙ e)
+
 -- clocks stay those of their devices
 
 clock-set : (n : ℕ) (name : List ℕ) (v : Val) (c : Board) (x : ℕ) → clock_of (set_named n name v c) x ≡ clock_of c x
@@ -117,31 +127,37 @@ clock-disconnected : (o : Option ℕ) (c : Board) (x : ℕ) → clock_of (discon
 clock-disconnected None c x = refl
 clock-disconnected (Some n) c x = clock-set n (codes "period") (val.Uint 0) (unseen_named n (codes "source") c) x ∙ clock-unseen n c x
 
-clock-acted : (n period : ℕ) (c : Board) (x : ℕ) → clock_of (acted Unrealize n period c) x ≡ clock_of c x
+pub clock-acted : (n period : ℕ) (c : Board) (x : ℕ) → clock_of (acted Unrealize n period c) x ≡ clock_of c x
 clock-acted n period c x =
     ap (λ (ss : List (List ℕ × Slot)). option_and_then child_named (named_in (codes "clk") ss)) (acted-slots Unrealize n period c x)
 
-source-acted : (n period : ℕ) (c : Board) (x : ℕ) → source_of (acted Unrealize n period c) x ≡ source_of c x
+pub source-acted : (n period : ℕ) (c : Board) (x : ℕ) → source_of (acted Unrealize n period c) x ≡ source_of c x
 source-acted n period c x =
     ap (λ (ss : List (List ℕ × Slot)). option_and_then weak_in (named_in (codes "source") ss)) (acted-slots Unrealize n period c x)
 
-device-clock : (d : ℕ) (c : Board) (x : ℕ) → clock_of (unrealized_device d c) x ≡ clock_of c x
+pub device-clock : (d : ℕ) (c : Board) (x : ℕ) → clock_of (unrealized_device d c) x ≡ clock_of c x
 device-clock d c x =
     clock-set d (codes "realized") (val.Bool false) (disconnected (clock_of c d) (acted Unrealize d (device_period c d) c)) x
     ∙ clock-disconnected (clock_of c d) (acted Unrealize d (device_period c d) c) x
     ∙ clock-acted d (device_period c d) c x
 
-device-other : (d : ℕ) (c : Board) (k : ℕ) → ((n : ℕ) → clock_of c d ≡ Some n → (k == n) ≡ false) → source_of (unrealized_device d c) k ≡ source_of c k
+pub device-other : (d : ℕ) (c : Board) (k : ℕ) → ((n : ℕ) → clock_of c d ≡ Some n → (k == n) ≡ false) → source_of (unrealized_device d c) k ≡ source_of c k
 device-other d c k apart =
     set-source d (codes "realized") (val.Bool false) (disconnected (clock_of c d) (acted Unrealize d (device_period c d) c)) k
     ∙ disconnected-other (clock_of c d) k (acted Unrealize d (device_period c d) c) apart
     ∙ source-acted d (device_period c d) c k
 
-device-own : (d : ℕ) (c : Board) (n : ℕ) → clock_of c d ≡ Some n → source_of (unrealized_device d c) n ≡ None
+pub device-own : (d : ℕ) (c : Board) (n : ℕ) → clock_of c d ≡ Some n → source_of (unrealized_device d c) n ≡ None
 device-own d c n e =
     set-source d (codes "realized") (val.Bool false) (disconnected (clock_of c d) (acted Unrealize d (device_period c d) c)) n
     ∙ ap (λ (o : Option ℕ). source_of (disconnected o (acted Unrealize d (device_period c d) c)) n) e
     ∙ disconnected-own n (acted Unrealize d (device_period c d) c)
+
+pub device-less : (d : ℕ) (c : Board) (k s : ℕ) → source_of (unrealized_device d c) k ≡ Some s → source_of c k ≡ Some s
+device-less d c k s e =
+    sym (source-acted d (device_period c d) c k)
+    ∙ less-disconnected (clock_of c d) k s (acted Unrealize d (device_period c d) c)
+    (sym (set-source d (codes "realized") (val.Bool false) (disconnected (clock_of c d) (acted Unrealize d (device_period c d) c)) k) ∙ e)
 
 -- what is told of the sources as devices are unrealized
 module _ (b p : Board) (k : Placed p) where
@@ -216,7 +232,7 @@ module _ (b p : Board) (k : Placed p) where
               absurd (let bad : None ≡ Some s = sym none ∙ e in cc))
               (λ w. left (λ j v. ap (λ (y : ℕ). m == y) (same_Some j n (sym v ∙ q)) ∙ w))
 
-module _ (b : Board) (d : ℕ) (s : SoundDevices b) (e : stands b d ≡ true) (h : SoundSources b) where
+module _ (b : Board) (d : ℕ) (s : SoundDevices b) (stood : stands b d ≡ true) (h : SoundSources b) where
   abbrev u : Board
   u = unrealize (pin b d) d
 
@@ -224,9 +240,9 @@ module _ (b : Board) (d : ℕ) (s : SoundDevices b) (e : stands b d ≡ true) (h
   kb = placed b s
 
   kz : Placed (detach b d)
-  kz = placed (detach b d) (devices_kept_lem.detached b d s e)
+  kz = placed (detach b d) (devices_kept_lem.detached b d s stood)
 
-  told-first : Told b (pin b d) (kp b d s e) (pin b d)
+  told-first : Told b (pin b d) (kp b d s stood) (pin b d)
   unfolding pin
   told-first =
       record {
@@ -236,10 +252,10 @@ module _ (b : Board) (d : ℕ) (s : SoundDevices b) (e : stands b d ≡ true) (h
         only = λ m q w. let i : IsDeviceClock b m = h.only m q w in record { device = i.device; realized = i.realized; its = i.its };
       }
 
-  told : Told b (pin b d) (kp b d s e) (unrealize (pin b d) d)
+  told : Told b (pin b d) (kp b d s stood) (unrealize (pin b d) d)
   told =
-      unrealize-walk (pin b d) d (Told b (pin b d) (kp b d s e)) (λ x c v t. told-device b (pin b d) (kp b d s e) x c t)
-      (λ x m c v i t. told-bus b (pin b d) (kp b d s e) m c t) told-first
+      unrealize-walk (pin b d) d (Told b (pin b d) (kp b d s stood)) (λ x c v t. told-device b (pin b d) (kp b d s stood) x c t)
+      (λ x m c v i t. told-bus b (pin b d) (kp b d s stood) m c t) told-first
 
   -- names differ on the way
   sits : HasPins (put_in_order d (1 ∷ [])) (unrealize (pin b d) d)
@@ -266,17 +282,56 @@ module _ (b : Board) (d : ℕ) (s : SoundDevices b) (e : stands b d ≡ true) (h
   lit : (x : ℕ) → is_realized (detach b d) x ≡ true → is_realized (unrealize (pin b d) d) x ≡ true
   lit x r =
       let there : stands (detach b d) x ≡ true = kz.places.only x r in
-      let before : is_realized b x ≡ true = kb.places.each x ((frame b d s e).stood x there) refl in
+      let before : is_realized b x ≡ true = kb.places.each x ((frame b d s stood).stood x there) refl in
       decide (is_realized (unrealize (pin b d) d) x) (λ q. q)
-      (λ q. absurd (unstood b d s e x (unrealize-only (pin b d) d x (pin-realized b d x ∙ before) q) there))
+      (λ q. absurd (unstood b d s stood x (unrealize-only (pin b d) d x (pin-realized b d x ∙ before) q) there))
 
   pub detach-sources : SoundSources (detach b d)
   detach-sources =
-      frame-sources b (detach b d) kb kz (frame b d s e) (unrealize (pin b d) d) (λ x. told.clock x ∙ pin-clock b d x) lit
-      (λ x r. lit-stands b d s e x (kb.places.only x (was x r)) r)
+      frame-sources b (detach b d) kb kz (frame b d s stood) (unrealize (pin b d) d) (λ x. told.clock x ∙ pin-clock b d x) lit
+      (λ x r. lit-stands b d s stood x (kb.places.only x (was x r)) r)
       (λ m q w. on.source m q ((fewer m).source q (now.seen m q w)))
       (λ m q w i j. now.source m q (sight.seen m q i j (on.seen m q w)))
       (λ x bus m r its clk. told.fed x bus m r (pin-bus b d x ∙ its) (pin-clock b d x ∙ clk)) told.only h was
+
+  -- a clock that stays goes by the one that it went by once all was unrealized
+  pub detach-source : (n : ℕ) → is_live (detach b d) n ≡ true → source_of (detach b d) n ≡ source_of (unrealize (pin b d) d) n
+  detach-source n live = go (source_of (unrealize (pin b d) d) n) refl
+    where
+      back : (m : ℕ) → source_of (detach b d) n ≡ Some m → source_of (unrealize (pin b d) d) n ≡ Some m
+      back m w = on.source n m ((fewer n).source m (now.seen n m w))
+
+      none : source_of (unrealize (pin b d) d) n ≡ None → (o : Option ℕ) → source_of (detach b d) n ≡ o
+          → source_of (detach b d) n ≡ source_of (unrealize (pin b d) d) n
+      none e None w = w ∙ sym e
+      none e (Some m) w = absurd (let bad : None ≡ Some m = sym e ∙ back m w in cc)
+
+      go : (o : Option ℕ) → source_of (unrealize (pin b d) d) n ≡ o → source_of (detach b d) n ≡ source_of (unrealize (pin b d) d) n
+      go None e = none e (source_of (detach b d) n) refl
+      go (Some m) e =
+          let i : IsDeviceClock (unrealize (pin b d) d) n = told.only n m e in
+          let there : stands (detach b d) i.device ≡ true = lit-stands b d s stood i.device (kb.places.only i.device (was i.device i.realized)) i.realized in
+          let home : IsHome (detach b d) i.device = kz.places.home i.device there (λ w. cc) in
+          let its : clock_of (detach b d) i.device ≡ Some n =
+          frame-clock b (detach b d) kb kz (frame b d s stood) i.device there ∙ sym (told.clock i.device ∙ pin-clock b d i.device) ∙ i.its in
+          let fed : source_of (detach b d) n ≡ Some (source_for (detach b d) home.bus) =
+          detach-sources.fed i.device home.bus n (kz.places.each i.device there refl) home.on its in
+          fed ∙ sym (back (source_for (detach b d) home.bus) fed)
+
+  -- what it goes by is there
+  pub detach-linked : (n m : ℕ) → source_of (detach b d) n ≡ Some m → is_live (detach b d) m ≡ true
+  detach-linked n m goes =
+      let i : IsDeviceClock (detach b d) n = detach-sources.only n m goes in
+      let there : stands (detach b d) i.device ≡ true = kz.places.only i.device i.realized in
+      let home : IsHome (detach b d) i.device = kz.places.home i.device there (λ w. cc) in
+      let fed : source_of (detach b d) n ≡ Some (source_for (detach b d) home.bus) =
+      detach-sources.fed i.device home.bus n i.realized home.on i.its in
+      subst (λ (x : ℕ). is_live (detach b d) x ≡ true) (same_Some (source_for (detach b d) home.bus) m (sym fed ∙ goes))
+      (source-live (detach b d) kz home.bus (kz.places.owner i.device home.bus there home.on))
+
+  -- what is read of clocks once all was unrealized
+  pub unrealized-reads : Reads (unrealize (pin b d) d)
+  unrealized-reads = on
 
 -- the removals that are pending come to their end, and the machine is reset
 completed-sources : (times : ℕ) (b : Board) → SoundDevices b → SoundSources b → SoundDevices (all_completed times b) × SoundSources (all_completed times b)

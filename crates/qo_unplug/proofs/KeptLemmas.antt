@@ -1,5 +1,5 @@
 -- What bodies keep of claims, over the steps of a heap, and by whether each object is realized.
-use Rattle.std.proofs.Common.{◌≡◌, refl, ap, sym, subst, ◌∙◌, ℕ, Bool, true, false, ◌==◌, codes, List, Option, Some, None, option_map, option_and_then}
+use Rattle.std.proofs.Common.{◌≡◌, refl, ap, sym, subst, ◌∙◌, ℕ, Bool, true, false, ◌==◌, codes, Option, Some, None, option_map, option_and_then}
 use Rattle.std.specs.List.{AllByRecursion, IsDistinct}
 use Rattle.std.specs.Option.{option_map_or}
 use Rattle.std.specs.Str.{bytes_eq}
@@ -31,7 +31,10 @@ use Rattle.qo_sound.proofs.SearchLemmas.{all-found}
 use Rattle.qo_sound.proofs.SlotLemmas.{names_in}
 use Rattle.qo_sound_clocks.proofs.ReadLemmas.{plain-read}
 use Rattle.qo_sound_claims.proofs.SlotLemmas.{lit_in}
-use Rattle.qo_properties.specs.KeptClaims.{ClaimsBefore, KeptBefore, all_kept, kept_by, kept_with}
+use Rattle.qo_clocks.specs.Kept.{kept_afresh, kept_turn, with_periods}
+use Rattle.qo_clocks.specs.Periods.{scaled_on}
+use Rattle.qo_properties.specs.KeptClaims.{ClaimsBefore, KeptBefore, SameClaims, all_kept, kept_by, kept_with}
+use Rattle.qo_properties.proofs.KeptLemmas.{claims-same}
 use Rattle.qo_unplug.specs.RealizedClaims.{KeepsDue, due_if}
 use Rattle.qo_unplug.proofs.RealizedLemmas.{LitAt, SameLit, dark-set, other-set, same_lit-acted, same_lit-disconnected, same_lit-then}
 
@@ -51,12 +54,15 @@ kept-act v w n period is m k e =
     ∙ (subst (λ (x : Objects). all_kept x m ≡ Some k) is e)
 
 -- a clock that stands still
-pub kept-disconnected : (v w : Objects) (n : ℕ) → w ≡ changed_named n (codes "period") (with_val (val.Uint 0)) (changed_named n (codes "source") unseen_on v)
-    → KeptBefore v w
-kept-disconnected v w n is m k e =
+pub claims-disconnected : (v w : Objects) (n : ℕ)
+    → w ≡ kept_afresh n (changed_named n (codes "period") (with_val (val.Uint 0)) (changed_named n (codes "source") unseen_on v)) → SameClaims v w
+claims-disconnected v w n is m =
     let u : Objects = changed_named n (codes "source") unseen_on v in
-    sym (changed-kept n (codes "period") (with_val (val.Uint 0)) u m ∙ changed-kept n (codes "source") unseen_on v m)
-    ∙ subst (λ (x : Objects). all_kept x m ≡ Some k) is e
+    let x : Objects = changed_named n (codes "period") (with_val (val.Uint 0)) u in
+    ap (λ (y : Objects). kept_by y m) is
+    ∙ kept-edited x n (with_periods (kept_turn x n) (scaled_on x n (kept_turn x n))) (λ c. refl) m
+    ∙ claims-same u x (changed-kept n (codes "period") (with_val (val.Uint 0)) u) m
+    ∙ claims-same v u (changed-kept n (codes "source") unseen_on v) m
 
 -- claims of one object are free
 abbrev bared : Content → Content

@@ -4,6 +4,9 @@ pub mod RealizedLemmas
 pub mod UnparentingLemmas
 pub mod DetachmentLemmas
 pub mod TreeLemmas
+pub mod ValueLemmas
+pub mod PeriodLemmas
+pub mod FeedingLemmas
 pub mod MomentLemmas
 pub mod StepLemmas
 pub mod EndingLemmas

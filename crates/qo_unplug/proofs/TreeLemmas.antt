@@ -12,12 +12,13 @@ use Rattle.qo_values.specs.declared.properties.Val.{Val}
 use Rattle.qo_values.specs.declared.properties.Val.TheVariants as val
 use Rattle.qo_model.specs.Board.{Board, Record, Slot, plain, child, strong, weak, alias, kind_of, record_of, slots_at}
 use Rattle.qo_model.specs.Changes.{changed_at, set, with_changed, with_val}
-use Rattle.qo_model.specs.Clocks.{acted, with_act_on}
-use Rattle.qo_model.specs.Devices.{bus_in, clock_name}
+use Rattle.qo_model.specs.Clocks.{acted, source_of, with_act_on}
+use Rattle.qo_model.specs.Devices.{bus_in, child_named, clock_name, clock_of}
 use Rattle.qo_model.specs.Objects.{index_from}
 use Rattle.qo_model.specs.Release.{edit, edited}
 use Rattle.qo_model.specs.Types.{is_a}
 use Rattle.qo_model.specs.Unplug.{disconnected, is_named, set_named, unseen, unseen_named}
+use Rattle.qo_model.proofs.FirstSlotLemmas.{named_in}
 use Rattle.qo_sound.proofs.FirmBoardLemmas.{HasNames}
 use Rattle.qo_sound.proofs.RecordLemmas.{all-map, all-unmap}
 use Rattle.qo_sound.proofs.SlotLemmas.{names-each}
@@ -26,6 +27,8 @@ use Rattle.qo_sound_clocks.proofs.GrowthLemmas.{fewer-sound}
 use Rattle.qo_sound_clocks.proofs.LawLemmas.{clocks_kept_lem}
 use Rattle.qo_sound_clocks.proofs.SlotLemmas.{OtherName}
 use Rattle.qo_sound_clocks.proofs.ReadLemmas.{named-reads}
+use Rattle.qo_sound_bounds.proofs.ClockWriteLemmas.{set-source}
+use Rattle.qo_sound_bounds.proofs.LeavingLemmas.{less-disconnected, source-acted}
 use Rattle.qo_unplug.specs.Unrealizing.{SameTree, Ticks, bus_at, kid_in, kid_in_place, still, still_slot, still_slots}
 
 -- who reads no more as a clock, and keeps the names of its slots, keeps the clocks sound
@@ -44,10 +47,16 @@ ticks-fewer b c same fewer h =
     record { clocks = fewer-sound b c (named-reads b h.named) (named-reads c named) h.clocks fewer; named = named }
 
 pub same-none : (b : Board) → SameTree b b
-same-none b = record { records = refl; pins = refl; ticks = λ h. h }
+same-none b = record { records = refl; pins = refl; ticks = λ h. h; sources = λ n s e. e }
 
 pub same-then : (b c d : Board) → SameTree b c → SameTree c d → SameTree b d
-same-then b c d p q = record { records = q.records ∙ p.records; pins = q.pins ∙ p.pins; ticks = λ h. q.ticks (p.ticks h) }
+same-then b c d p q =
+    record {
+      records = q.records ∙ p.records;
+      pins = q.pins ∙ p.pins;
+      ticks = λ h. q.ticks (p.ticks h);
+      sources = λ n s e. p.sources n s (q.sources n s e);
+    }
 
 -- what stands beside the objects is no part of it
 pub ticks-beside : (b c : Board) → c.records ≡ b.records → Ticks b → Ticks c
@@ -55,7 +64,13 @@ ticks-beside b c same h =
     record { clocks = clocks_kept_lem.beside b c same h.clocks; named = subst (AllByRecursion HasNames) (sym same) h.named }
 
 pub same-beside : (b c : Board) → c.records ≡ b.records → c.pins ≡ b.pins → SameTree b c
-same-beside b c same pins = record { records = ap (map still) same; pins = pins; ticks = ticks-beside b c same }
+same-beside b c same pins =
+    record {
+      records = ap (map still) same;
+      pins = pins;
+      ticks = ticks-beside b c same;
+      sources = λ n s e. sym (ap (λ (rs : List Record). source_of (record b { records = rs }) n) same) ∙ e;
+    }
 
 -- a step that leaves the objects but for what may change, the pins, the holds, the pending removals and the notices
 record Leaves (b c : Board) : Type 0 where
@@ -156,10 +171,10 @@ pub record Quiet (b c : Board) : Type 0 where
   pub pending : c.pending ≡ b.pending
   pub notices : c.notices ≡ b.notices
 
-quiet-of : (b c : Board) → Leaves b c → Fewer b c → Quiet b c
-quiet-of b c leaves fewer =
+quiet-of : (b c : Board) → Leaves b c → Fewer b c → ((n s : ℕ) → source_of c n ≡ Some s → source_of b n ≡ Some s) → Quiet b c
+quiet-of b c leaves fewer sources =
     record {
-      tree = record { records = leaves.records; pins = leaves.pins; ticks = ticks-fewer b c leaves.records fewer };
+      tree = record { records = leaves.records; pins = leaves.pins; ticks = ticks-fewer b c leaves.records fewer; sources = sources };
       holds = leaves.holds;
       pending = leaves.pending;
       notices = leaves.notices;
@@ -169,14 +184,19 @@ pub quiet-none : (b : Board) → Quiet b b
 quiet-none b = record { tree = same-none b; holds = refl; pending = refl; notices = refl }
 
 pub quiet-acted : (b : Board) (n p : ℕ) → Quiet b (acted Unrealize n p b)
-quiet-acted b n p = quiet-of b (acted Unrealize n p b) (leaves-acted b n p) (fewer-acted b Unrealize n p b (fewer-none b))
+quiet-acted b n p =
+    quiet-of b (acted Unrealize n p b) (leaves-acted b n p) (fewer-acted b Unrealize n p b (fewer-none b))
+    (λ m s e. sym (source-acted n p b m) ∙ e)
 
 pub quiet-set_named : (b : Board) (n : ℕ) (name : List ℕ) (v : Val) → OtherName name → Quiet b (set_named n name v b)
-quiet-set_named b n name v other = quiet-of b (set_named n name v b) (leaves-set_named b n name v) (fewer-set b n name v other b (fewer-none b))
+quiet-set_named b n name v other =
+    quiet-of b (set_named n name v b) (leaves-set_named b n name v) (fewer-set b n name v other b (fewer-none b))
+    (λ m s e. sym (set-source n name v b m) ∙ e)
 
 pub quiet-disconnected : (b : Board) (n : ℕ) → Quiet b (disconnected (Some n) b)
 quiet-disconnected b n =
     quiet-of b (disconnected (Some n) b) (leaves-disconnected b n) (fewer-disconnected b (Some n) b (fewer-none b))
+    (λ m s e. less-disconnected (Some n) m s b e)
 
 -- what is read off two boards of the same tree
 
@@ -265,3 +285,32 @@ in-place f g same (Some s) = same s
 pub same-bus : (b c : Board) → SameTree b c → (d i : ℕ) → bus_at c d i ≡ bus_at b d i
 same-bus b c same d i =
     in-place (bus_in c) (bus_in b) (same-bus_in b c same) (slice_get (slots_at c d) i) ∙ same-place (bus_in b) (bus-still b) b c same d i
+
+-- the clock of an object
+
+named-still_slots : (name : List ℕ) (slots : List (List ℕ × Slot)) → named_in name (still_slots slots) ≡ option_map still_slot (named_in name slots)
+named-still_slots name [] = refl
+named-still_slots name (s ∷ slots) = go (bytes_eq s.0 name) (named-still_slots name slots)
+  where
+    go : (t : Bool) → named_in name (still_slots slots) ≡ option_map still_slot (named_in name slots)
+        → option_map (λ (x : List ℕ × Slot). x.1) (cond t (Some (s.0, still_slot s.1)) (find (λ (x : List ℕ × Slot). bytes_eq x.0 name) (still_slots slots)))
+        ≡ option_map still_slot (option_map (λ (x : List ℕ × Slot). x.1) (cond t (Some s) (find (λ (x : List ℕ × Slot). bytes_eq x.0 name) slots)))
+    go true rest = refl
+    go false rest = rest
+
+child-still : (o : Option Slot) → option_and_then child_named (option_map still_slot o) ≡ option_and_then child_named o
+child-still None = refl
+child-still (Some (plain v)) = refl
+child-still (Some (child m)) = refl
+child-still (Some (strong t target)) = refl
+child-still (Some (weak t target)) = refl
+child-still (Some (alias m of)) = refl
+
+clock-still : (slots : List (List ℕ × Slot))
+    → option_and_then child_named (named_in clock_name (still_slots slots)) ≡ option_and_then child_named (named_in clock_name slots)
+clock-still slots = ap (option_and_then child_named) (named-still_slots clock_name slots) ∙ child-still (named_in clock_name slots)
+
+pub same-clock : (b c : Board) → SameTree b c → (d : ℕ) → clock_of c d ≡ clock_of b d
+same-clock b c same d =
+    sym (clock-still (slots_at c d)) ∙ ap (λ (l : List (List ℕ × Slot)). option_and_then child_named (named_in clock_name l)) (same-slots b c same d)
+    ∙ clock-still (slots_at b d)

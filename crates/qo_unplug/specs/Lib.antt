@@ -1,4 +1,5 @@
 pub mod Unparenting
 pub mod BoardParts
+pub mod Feeding
 pub mod RealizedClaims
 pub mod Unrealizing

@@ -1,5 +1,5 @@
 -- For proofs alone. How the parts of a board are unrealized: what stays of a board meanwhile, and each step to a depth.
-use Rattle.std.specs.Prelude.{◌≡◌, ℕ, if◌then◌else◌, List, map, take, filter_map, slice_get, Option, None, Some}
+use Rattle.std.specs.Prelude.{◌≡◌, ℕ, ⊤, if◌then◌else◌, List, map, take, filter_map, slice_get, Option, None, Some}
 use Rattle.std.specs.List.{AllByRecursion, IsDistinct}
 use Rattle.std.specs.Option.{option_and_then}
 use Rattle.std.specs.Str.{bytes_eq}
@@ -10,7 +10,7 @@ use Rattle.qo_kinds.specs.declared.kept_set.KeptSet.{KeptSet}
 use Rattle.qo_slots.specs.declared.keys.Key.{Key}
 use Rattle.qo_heap.specs.Rows.{IsLive}
 use Rattle.qo_model.specs.Board.{Board, Record, Slot, plain, weak, slots_at}
-use Rattle.qo_model.specs.Clocks.{acted, device_period}
+use Rattle.qo_model.specs.Clocks.{acted, device_period, source_of}
 use Rattle.qo_model.specs.Depth.{among, by_depth}
 use Rattle.qo_model.specs.Devices.{bus_in, clock_of, kids_of, strong_in}
 use Rattle.qo_model.specs.Unplug.{disconnected, each, unrealize_turn, unrealized_bus}
@@ -20,6 +20,7 @@ use Rattle.qo_heap.specs.Board.{Shows, pins_in}
 use Rattle.qo_heap.specs.Objects.{Objects}
 use Rattle.qo_heap.specs.Moments.{Timely}
 use Rattle.qo_properties.specs.Claims.{KeepsBook}
+use Rattle.qo_clocks.specs.Kept.{PeriodsKept}
 use Rattle.qo_sound_clocks.specs.SoundClocks.{SoundClocks}
 use Rattle.qo_unplug.specs.BoardParts.{Beside}
 use Rattle.qo_unplug.specs.RealizedClaims.{KeepsDue}
@@ -42,11 +43,21 @@ pub record Ticks (b : Board) : Type 0 where
   pub named : AllByRecursion (λ (r : Record). IsDistinct bytes_eq (map (λ (s : List ℕ × Slot). s.0) r.slots)) b.records
 
 -- two boards have the same objects with the same children and strong links, and the same pins; where the clocks of the
--- first are sound, those of the second are
+-- first are sound, those of the second are, and they go by no others
 pub record SameTree (b c : Board) : Type 0 where
   pub records : map still c.records ≡ map still b.records
   pub pins : c.pins ≡ b.pins
   pub ticks : Ticks b → Ticks c
+  pub sources : (n s : ℕ) → source_of c n ≡ Some s → source_of b n ≡ Some s
+
+-- so it is on the way from a board to another, whose heap keeps the periods of its clocks
+pub record OnTheWay (b c : Board) (v : Objects) : Type 0 where
+  pub tree : SameTree b c
+  pub kept : PeriodsKept v
+
+-- a step that needs nothing of an earlier board and of the one before it
+abbrev pub nothing_needed : Board → Board → Type 0
+nothing_needed b c = ⊤
 
 -- the parts of a board of which unrealizing changes something
 pub record Parts : Type 0 where
@@ -58,10 +69,11 @@ abbrev pub parts : Objects → List ℕ → Asked → Parts
 parts v held asked = record { heap = v; held = held; asked = asked }
 
 -- parts become others as a board does by a step, which may look at an earlier board of the same tree, whose clocks are
--- sound; who is there stays, the book of claims stays right, the pins stay, and no timer gets ahead of the time
-pub record Undoes (step : Board → Board → Board) (s t : Parts) : Type 0 where
-  pub shown : (b c : Board) → Ticks b → SameTree b c → Beside c s.heap s.held s.asked → Beside (step b c) t.heap t.held t.asked
-  pub tree : (b c : Board) → Ticks b → SameTree b c → Beside c s.heap s.held s.asked → SameTree b (step b c)
+-- sound, where what it needs is so; the periods stay right, who is there stays, the book of claims stays right, the pins
+-- stay, and no timer gets ahead of the time
+pub record Undoes (needs : Board → Board → Type 0) (step : Board → Board → Board) (s t : Parts) : Type 0 where
+  pub shown : (b c : Board) → Ticks b → needs b c → OnTheWay b c s.heap → Beside c s.heap s.held s.asked → Beside (step b c) t.heap t.held t.asked
+  pub way : (b c : Board) → Ticks b → needs b c → OnTheWay b c s.heap → Beside c s.heap s.held s.asked → OnTheWay b (step b c) t.heap
   pub live : (key : Key) → IsLive s.heap.rows key → IsLive t.heap.rows key
   pub book : KeepsBook s.heap t.heap
   pub pins : pins_in t.heap.rows ≡ pins_in s.heap.rows
@@ -72,21 +84,22 @@ abbrev pub KeepsHeld : ℕ → ℕ × ℕ → Board → Objects → Type 0
 KeepsHeld n was c v = (k : ℕ × ℕ) → counted_in v n ≡ Some k → k ≡ (if among c.holds n then was else (0, 0))
 
 -- heaps become others as boards do by such a step, whatever stands beside them; and what is kept of holds goes with them
-pub record Clears (step : Board → Board → Board) (v w : Objects) : Type 0 where
-  pub shown : (b c : Board) → Ticks b → SameTree b c → Shows c v → Shows (step b c) w
-  pub tree : (b c : Board) → Ticks b → SameTree b c → Shows c v → SameTree b (step b c)
-  pub counts : (n : ℕ) (was : ℕ × ℕ) (b c : Board) → Ticks b → SameTree b c → Shows c v → KeepsHeld n was c v → KeepsHeld n was (step b c) w
+pub record Clears (needs : Board → Board → Type 0) (step : Board → Board → Board) (v w : Objects) : Type 0 where
+  pub shown : (b c : Board) → Ticks b → needs b c → OnTheWay b c v → Shows c v → Shows (step b c) w
+  pub way : (b c : Board) → Ticks b → needs b c → OnTheWay b c v → Shows c v → OnTheWay b (step b c) w
+  pub counts : (n : ℕ) (was : ℕ × ℕ) (b c : Board) → Ticks b → needs b c → OnTheWay b c v → Shows c v → KeepsHeld n was c v
+      → KeepsHeld n was (step b c) w
 
 -- all this, and where bodies kept what was due to what is realized, they do so after it
-pub record Ends (step : Board → Board → Board) (s t : Parts) : Type 0 where
-  pub undoes : Undoes step s t
-  pub clears : Clears step s.heap t.heap
-  pub claims : (b c : Board) → Ticks b → SameTree b c → Beside c s.heap s.held s.asked → (due : ℕ → KeptSet) → KeepsDue due c s.heap
-      → KeepsDue due (step b c) t.heap
+pub record Ends (needs : Board → Board → Type 0) (step : Board → Board → Board) (s t : Parts) : Type 0 where
+  pub undoes : Undoes needs step s t
+  pub clears : Clears needs step s.heap t.heap
+  pub claims : (b c : Board) → Ticks b → needs b c → OnTheWay b c s.heap → Beside c s.heap s.held s.asked → (due : ℕ → KeptSet)
+      → KeepsDue due c s.heap → KeepsDue due (step b c) t.heap
 
 -- parts become others so by a step of a heap alone, whatever stands beside it
-abbrev pub HeapUndoes : (Board → Board → Board) → Objects → Objects → Type 0
-HeapUndoes step v w = (held : List ℕ) (asked : Asked) → Undoes step (parts v held asked) (parts w held asked)
+abbrev pub HeapUndoes : (Board → Board → Type 0) → (Board → Board → Board) → Objects → Objects → Type 0
+HeapUndoes needs step v w = (held : List ℕ) (asked : Asked) → Undoes needs step (parts v held asked) (parts w held asked)
 
 -- a device acts, and its clock loses its source and stands still
 abbrev pub stopped : ℕ → Board → Board

@@ -3,8 +3,6 @@
 ghost use Rattle.std.specs.Prelude.{◌≡◌, ℕ, ◌≤◌};
 ghost use Rattle.qo_model.specs.Board.{Board};
 ghost use Rattle.qo_model.specs.Unplug.{detach};
-ghost use Rattle.qo_sound.specs.TreeKept.{SoundTree};
-ghost use Rattle.qo_sound_clocks.specs.SoundClocks.{SoundClocks};
 ghost use Rattle.qo_heap.specs.Rows.{IsLive};
 ghost use Rattle.qo_heap.specs.Board.{Shows, pins_in};
 ghost use Rattle.qo_heap.specs.Objects.{pins_of};
@@ -12,7 +10,9 @@ ghost use Rattle.qo_heap.specs.Moments.{Timely};
 ghost use Rattle.qo_life.specs.Life.{KeepsNames};
 ghost use Rattle.qo_properties.specs.Claims.{KeepsBook};
 ghost use Rattle.qo_kinds.specs.declared.kept_set.KeptSet.{KeptSet};
+ghost use Rattle.qo_clocks.specs.Kept.{PeriodsKept};
 ghost use Rattle.qo_unplug.specs.BoardParts.{Beside};
+ghost use Rattle.qo_unplug.specs.Feeding.{MayDetach};
 ghost use Rattle.qo_unplug.specs.RealizedClaims.{KeepsDue};
 ghost use Rattle.qo_unplug.specs.Unrealizing.{KeepsHeld};
 
@@ -28,8 +28,9 @@ use std::sync::ledger::Ledger;
 /// (include/hw/qdev-core.h, "Realization" and `unparent`; include/hw/hotplug.h; the order is the
 /// profile's). What nothing refers to any more is finalized. No hold, no pending removal and no
 /// notice is left of a device that was unrealized, and no hold is kept of it. A timer stops at the heap's time, which none may be
-/// ahead of. Each object may be held from outside the tree once at most. It always succeeds, and
-/// takes no memory.
+/// ahead of. Each object may be held from outside the tree once at most. Where the device stands on a
+/// sound board, no clock goes by its own any more once those below it are unrealized, so the periods
+/// that are kept of clocks stay right. It always succeeds, and takes no memory.
 pub fn detach<L: Ledger>(
     heap: &mut Heap,
     resets: &mut Resets,
@@ -40,12 +41,13 @@ pub fn detach<L: Ledger>(
     requires live { IsLive heap.old.rows dev }
     requires timely { Timely heap.old }
     requires pins { (n : ℕ) → pins_of heap.old n ≤ 1 }
-    ensures shown { (b : Board) → SoundTree b → SoundClocks b → Beside b heap.old resets.old.births hotplug.old →
+    ensures shown { (b : Board) → MayDetach b dev.birth heap.old → Beside b heap.old resets.old.births hotplug.old →
         Beside (detach b dev.birth) heap.new resets.new.births hotplug.new }
-    ensures seen { (b : Board) → SoundTree b → SoundClocks b → Shows b heap.old → Shows (detach b dev.birth) heap.new }
-    ensures counts { (b : Board) → SoundTree b → SoundClocks b → Shows b heap.old → (n : ℕ) (was : ℕ × ℕ) →
+    ensures seen { (b : Board) → MayDetach b dev.birth heap.old → Shows b heap.old → Shows (detach b dev.birth) heap.new }
+    ensures counts { (b : Board) → MayDetach b dev.birth heap.old → Shows b heap.old → (n : ℕ) (was : ℕ × ℕ) →
         KeepsHeld n was b heap.old → KeepsHeld n was (detach b dev.birth) heap.new }
-    ensures claims { (b : Board) → SoundTree b → SoundClocks b → Beside b heap.old resets.old.births hotplug.old → (due : ℕ → KeptSet) →
+    ensures periods { (b : Board) → MayDetach b dev.birth heap.old → Shows b heap.old → PeriodsKept heap.new }
+    ensures claims { (b : Board) → MayDetach b dev.birth heap.old → Beside b heap.old resets.old.births hotplug.old → (due : ℕ → KeptSet) →
         KeepsDue due b heap.old → KeepsDue due (detach b dev.birth) heap.new }
     ensures book { KeepsBook heap.old heap.new }
     ensures names { KeepsNames heap.old heap.new }

@@ -9,14 +9,16 @@ ghost use Rattle.qo_model.specs.Unplug.{set_named, unrealized_bus, unrealized_de
 ghost use Rattle.qo_hotplug.specs.Hotplug.{Asked};
 ghost use Rattle.qo_heap.specs.Rows.{IsLive};
 ghost use Rattle.qo_heap.specs.Moments.{Timely};
-ghost use Rattle.qo_properties.specs.KeptClaims.{KeptBefore};
-ghost use Rattle.qo_unplug.specs.Unrealizing.{Ends, HeapUndoes, parts, stopped};
+ghost use Rattle.qo_properties.specs.KeptClaims.{ClaimsBefore, CountsBefore, KeptBefore};
+ghost use Rattle.qo_unplug.specs.Feeding.{FeedsNone};
+ghost use Rattle.qo_unplug.specs.Unrealizing.{Ends, HeapUndoes, nothing_needed, parts, stopped};
 
 use crate::claims::free_claims;
 use qo_buses::{clock_of, set_named};
 use qo_clocks::{device_period, disconnect};
 use qo_heap::{Heap, Oid, Steps};
 use qo_hotplug::Hotplug;
+use qo_model::PropertyName;
 use qo_reset::Resets;
 use qo_values::{Act, Val};
 use std::sync::ledger::Ledger;
@@ -25,7 +27,7 @@ use std::sync::ledger::Ledger;
 fn act<L: Ledger>(heap: &mut Heap, o: Oid, period: u64, steps: &mut Steps<L>)
     requires live { IsLive heap.old.rows o }
     requires timely { Timely heap.old }
-    ensures undoes { HeapUndoes (λ _ c. acted Unrealize o.birth period c) heap.old heap.new }
+    ensures undoes { HeapUndoes nothing_needed (λ _ c. acted Unrealize o.birth period c) heap.old heap.new }
     ensures kept { KeptBefore heap.old heap.new }
 {
     heap.act(o, Act::Unrealize, period, steps);
@@ -35,19 +37,21 @@ fn act<L: Ledger>(heap: &mut Heap, o: Oid, period: u64, steps: &mut Steps<L>)
 pub fn end_bus<L: Ledger>(heap: &mut Heap, resets: &mut Resets, bus: Oid, steps: &mut Steps<L>)
     requires live { IsLive heap.old.rows bus }
     requires timely { Timely heap.old }
-    ensures { (asked : Asked) → Ends (λ _. unrealized_bus bus.birth)
+    ensures { (asked : Asked) → Ends nothing_needed (λ _. unrealized_bus bus.birth)
         (parts heap.old resets.old.births asked) (parts heap.new resets.new.births asked) }
 {
     act(heap, bus, 0, steps);
     resets.gone(heap, bus, steps);
 }
 
-/// A device acts with the period of its clock, which then loses its source and stands still.
+/// A device acts with the period of its clock, which then loses its source and stands still. No clock
+/// is to go by it.
 fn stop<L: Ledger>(heap: &mut Heap, dev: Oid, steps: &mut Steps<L>)
     requires live { IsLive heap.old.rows dev }
     requires timely { Timely heap.old }
-    ensures undoes { HeapUndoes (λ _. stopped dev.birth) heap.old heap.new }
-    ensures kept { KeptBefore heap.old heap.new }
+    ensures undoes { HeapUndoes (λ _. FeedsNone dev.birth) (λ _. stopped dev.birth) heap.old heap.new }
+    ensures claims { ClaimsBefore heap.old heap.new }
+    ensures counts { CountsBefore heap.old heap.new }
 {
     let clock = clock_of(heap, dev, steps);
     let period = device_period(heap, dev, steps);
@@ -60,14 +64,14 @@ fn stop<L: Ledger>(heap: &mut Heap, dev: Oid, steps: &mut Steps<L>)
 /// A device is told to be realized no more.
 fn unset<L: Ledger>(heap: &mut Heap, dev: Oid, steps: &mut Steps<L>)
     requires { IsLive heap.old.rows dev }
-    ensures undoes { HeapUndoes (λ _. set_named dev.birth (codes "realized") (val.Bool false)) heap.old heap.new }
+    ensures undoes { HeapUndoes nothing_needed (λ _. set_named dev.birth (codes "realized") (val.Bool false)) heap.old heap.new }
     ensures kept { KeptBefore heap.old heap.new }
 {
-    set_named(heap, dev, "realized", Val::Bool(false), steps);
+    set_named(heap, dev, PropertyName::Realized, Val::Bool(false), steps);
 }
 
 /// A device is unrealized, whose buses are: it acts, its clock stands still, it is realized no more,
-/// its claims are free, and no hold, pending removal or notice of it is left.
+/// its claims are free, and no hold, pending removal or notice of it is left. No clock is to go by its own.
 pub fn end_device<L: Ledger>(
     heap: &mut Heap,
     resets: &mut Resets,
@@ -77,7 +81,7 @@ pub fn end_device<L: Ledger>(
 )
     requires live { IsLive heap.old.rows dev }
     requires timely { Timely heap.old }
-    ensures { Ends (λ _. unrealized_device dev.birth)
+    ensures { Ends (λ _. FeedsNone dev.birth) (λ _. unrealized_device dev.birth)
         (parts heap.old resets.old.births hotplug.old) (parts heap.new resets.new.births hotplug.new) }
 {
     stop(heap, dev, steps);

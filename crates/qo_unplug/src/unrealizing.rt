@@ -1,10 +1,11 @@
 //! A device is unrealized, with all that is below it: the kids of each bus, the bus, and then the
 //! device (include/hw/qdev-core.h, "Realization").
 
-ghost use Rattle.std.specs.Prelude.{◌+◌, length};
+ghost use Rattle.std.specs.Prelude.{◌≡◌, ℕ, ◌+◌, Some, length};
 ghost use Rattle.qo_heap.specs.Rows.{IsLive};
 ghost use Rattle.qo_heap.specs.Moments.{Timely};
-ghost use Rattle.qo_unplug.specs.Unrealizing.{Ends, bus_undone, bus_within, device_within, kid_undone, parts};
+ghost use Rattle.qo_unplug.specs.Feeding.{BusFeeds, FeedsWithin};
+ghost use Rattle.qo_unplug.specs.Unrealizing.{Ends, bus_at, bus_undone, bus_within, device_within, kid_in_place, kid_undone, parts};
 
 use crate::ending::{end_bus, end_device};
 use qo_buses::{bus_in_slot, kid_in_slot};
@@ -26,7 +27,7 @@ fn unrealize_kid<L: Ledger>(
 )
     requires live { IsLive heap.old.rows bus }
     requires timely { Timely heap.old }
-    ensures { Ends (λ b. kid_undone b levels bus.birth at)
+    ensures { Ends (λ b _. (k : ℕ) → kid_in_place b bus.birth at ≡ Some k → FeedsWithin b levels k) (λ b. kid_undone b levels bus.birth at)
         (parts heap.old resets.old.births hotplug.old) (parts heap.new resets.new.births hotplug.new) }
 {
     if let Some(kid) = kid_in_slot(heap, bus, at, steps) {
@@ -46,7 +47,7 @@ fn unrealize_bus<L: Ledger>(
 )
     requires live { IsLive heap.old.rows bus }
     requires timely { Timely heap.old }
-    ensures { Ends (λ b. bus_within b levels bus.birth)
+    ensures { Ends (λ b _. BusFeeds b levels bus.birth) (λ b. bus_within b levels bus.birth)
         (parts heap.old resets.old.births hotplug.old) (parts heap.new resets.new.births hotplug.new) }
 {
     let count = heap.slot_count(bus, steps);
@@ -69,7 +70,7 @@ fn unrealize_bus_at<L: Ledger>(
 )
     requires live { IsLive heap.old.rows dev }
     requires timely { Timely heap.old }
-    ensures { Ends (λ b. bus_undone b levels dev.birth at)
+    ensures { Ends (λ b _. (m : ℕ) → bus_at b dev.birth at ≡ Some m → BusFeeds b levels m) (λ b. bus_undone b levels dev.birth at)
         (parts heap.old resets.old.births hotplug.old) (parts heap.new resets.new.births hotplug.new) }
 {
     if let Some(bus) = bus_in_slot(heap, dev, at, steps) {
@@ -89,7 +90,7 @@ fn unrealize_device<L: Ledger>(
 )
     requires live { IsLive heap.old.rows dev }
     requires timely { Timely heap.old }
-    ensures { Ends (λ b. device_within b levels dev.birth)
+    ensures { Ends (λ b _. FeedsWithin b levels dev.birth) (λ b. device_within b levels dev.birth)
         (parts heap.old resets.old.births hotplug.old) (parts heap.new resets.new.births hotplug.new) }
 {
     if levels == 0 {
@@ -112,7 +113,7 @@ pub fn unrealize<L: Ledger>(
 )
     requires live { IsLive heap.old.rows dev }
     requires timely { Timely heap.old }
-    ensures { Ends (λ b. device_within b (length heap.old.rows + 1) dev.birth)
+    ensures { Ends (λ b _. FeedsWithin b (length heap.old.rows + 1) dev.birth) (λ b. device_within b (length heap.old.rows + 1) dev.birth)
         (parts heap.old resets.old.births hotplug.old) (parts heap.new resets.new.births hotplug.new) }
 {
     heap.reveal_invariant();

@@ -46,6 +46,7 @@ fn first_val(kind: TypeId, first: First, alloc: Global) -> Result<Val, AllocErro
 
 /// What a plain property of a new object of a type holds: the value planned, or its first where none
 /// is.
+#[inline(always)]
 fn plain_val(
     kind: TypeId,
     first: First,
@@ -96,6 +97,7 @@ fn link_slot(ty: TypeId, strong: bool, fill: InitialValue) -> Slot
 
 /// Puts the slot that a new object of a type has for a row, if it has one, after others, filled with
 /// what is planned next.
+#[inline(always)]
 fn put_row(
     slots: &mut NewSlots,
     fills: &mut IntoIter<InitialValue>,

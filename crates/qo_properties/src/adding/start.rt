@@ -3,21 +3,20 @@
 ghost use Rattle.std.specs.Prelude.{◌≡◌, Some, IfOk, OnOk};
 ghost use Rattle.qo_values.specs.Names.{IsName};
 ghost use Rattle.qo_values.specs.declared.kinds.TypeId.TheVariants.{Clock};
-ghost use Rattle.qo_values.specs.declared.limits.TheConstants.{SYSTEM_PERIOD};
-ghost use Rattle.qo_values.specs.declared.properties.Val.TheVariants.{Uint};
 ghost use Rattle.qo_model.specs.Board.{Board};
 ghost use Rattle.qo_heap.specs.Rows.{IsLive};
-ghost use Rattle.qo_object.specs.Content.{set_at, as_made};
+ghost use Rattle.qo_object.specs.Content.{as_made};
 ghost use Rattle.qo_heap.specs.Board.{Shows};
 ghost use Rattle.qo_heap.specs.Objects.{content_of, with_edit};
 ghost use Rattle.qo_properties.specs.Claims.{KeepsBook};
 ghost use Rattle.qo_properties.specs.KeptClaims.{NoneKept};
+ghost use Rattle.qo_properties.specs.KeptPeriods.{OwnKept};
 ghost use Rattle.qo_properties.specs.NewSlots.{new_slots};
-ghost use Rattle.qo_properties.specs.OpeningSteps.{IsMade, KeepsNames, with_new, with_new_child, with_clock, with_containers, with_buses, with_machine, with_all};
+ghost use Rattle.qo_properties.specs.OpeningSteps.{IsMade, KeepsNames, with_new, with_new_child, with_clock, with_containers, with_buses, with_machine, with_all, ticking};
 
 use crate::adding::fresh::{name_of, set_default_slots};
 use crate::reading::lookup::place_named;
-use qo_heap::{Heap, Oid, SlotName, Steps};
+use qo_heap::{Heap, Oid, Side, SlotName, Steps};
 use qo_values::{SYSTEM_PERIOD, TypeId, Val};
 use std::alloc::{AllocError, Global};
 use std::sync::ledger::Ledger;
@@ -61,15 +60,27 @@ fn make_child<L: Ledger>(
     Ok(child)
 }
 
-/// Sets the period of a new clock to the system's.
+/// Sets the period of a new clock to the system's, which is kept of it then, and of those that go by it.
 fn set_period<L: Ledger>(heap: &mut Heap, clock: Oid, steps: &mut Steps<L>)
     requires live { IsLive heap.old.rows clock }
     requires content { content_of heap.old clock.birth ≡ Some (as_made Clock (new_slots Clock) 0) }
-    ensures { heap.new ≡ with_edit clock.birth (set_at (Uint SYSTEM_PERIOD) 1) heap.old }
+    ensures { heap.new ≡ with_edit clock.birth ticking heap.old }
 {
-    if let Some(at) = place_named(heap, clock, "period", steps) {
-        heap.set(clock, at, Val::Uint(SYSTEM_PERIOD), steps);
-    }
+    let Some(at) = place_named(heap, clock, "period", steps) else {
+        return;
+    };
+    heap.set(clock, at, Val::Uint(SYSTEM_PERIOD), steps);
+    heap.reveal_invariant();
+    let side = heap.side(clock, steps);
+    heap.set_side(
+        clock,
+        Side {
+            period: SYSTEM_PERIOD,
+            child: SYSTEM_PERIOD,
+            ..side
+        },
+        steps,
+    );
 }
 
 /// Makes the system clock as a child of the machine.
@@ -83,6 +94,7 @@ fn make_clock<L: Ledger>(
     ensures names { OnOk result (KeepsNames heap.old heap.new) }
     ensures book { OnOk result (KeepsBook heap.old heap.new) }
     ensures bare { OnOk result (NoneKept heap.old → NoneKept heap.new) }
+    ensures periods { OnOk result (OwnKept heap.old → OwnKept heap.new) }
     ensures shown { OnOk result ((b : Board) → Shows b heap.old → Shows (with_clock machine.birth b) heap.new) }
 {
     let clock = make_child(heap, machine, "sysclk", TypeId::Clock, alloc, steps)?;
@@ -101,6 +113,7 @@ fn make_containers<L: Ledger>(
     ensures names { OnOk result (KeepsNames heap.old heap.new) }
     ensures book { OnOk result (KeepsBook heap.old heap.new) }
     ensures bare { OnOk result (NoneKept heap.old → NoneKept heap.new) }
+    ensures periods { OnOk result (OwnKept heap.old → OwnKept heap.new) }
     ensures shown { OnOk result ((b : Board) → Shows b heap.old → Shows (with_containers machine.birth b) heap.new) }
 {
     make_child(heap, machine, "peripheral", TypeId::Container, alloc, steps)?;
@@ -126,6 +139,7 @@ fn make_buses<L: Ledger>(
     ensures names { OnOk result (KeepsNames heap.old heap.new) }
     ensures book { OnOk result (KeepsBook heap.old heap.new) }
     ensures bare { OnOk result (NoneKept heap.old → NoneKept heap.new) }
+    ensures periods { OnOk result (OwnKept heap.old → OwnKept heap.new) }
     ensures shown { OnOk result ((b : Board) → Shows b heap.old → Shows (with_buses machine.birth b) heap.new) }
 {
     make_child(heap, machine, "root.0", TypeId::SlotBus, alloc, steps)?;
@@ -144,6 +158,7 @@ fn make_machine<L: Ledger>(
     ensures names { OnOk result (KeepsNames heap.old heap.new) }
     ensures book { OnOk result (KeepsBook heap.old heap.new) }
     ensures bare { OnOk result (NoneKept heap.old → NoneKept heap.new) }
+    ensures periods { OnOk result (OwnKept heap.old → OwnKept heap.new) }
     ensures shown { OnOk result ((b : Board) → Shows b heap.old → Shows (with_machine root.birth b) heap.new) }
 {
     let machine = make_child(heap, root, "machine", TypeId::Machine, alloc, steps)?;
@@ -162,6 +177,7 @@ pub fn make_all<L: Ledger>(
     ensures shown { OnOk result ((b : Board) → Shows b heap.old → Shows (with_all b) heap.new) }
     ensures book { OnOk result (KeepsBook heap.old heap.new) }
     ensures bare { OnOk result (NoneKept heap.old → NoneKept heap.new) }
+    ensures periods { OnOk result (OwnKept heap.old → OwnKept heap.new) }
 {
     let root = make_new(heap, TypeId::Container, alloc, steps)?;
     make_machine(heap, root, alloc, steps)?;

@@ -3,7 +3,8 @@
 
 ghost use Rattle.std.specs.Prelude.{◌≡◌, true, IfOk, is_some, option_map};
 ghost use Rattle.qo_model.specs.Board.{Board as Tree, slot_named};
-ghost use Rattle.qo_model.specs.Clocks.{ClocksFit, derived_period, source_of};
+ghost use Rattle.qo_model.specs.Clocks.{derived_period, source_of};
+ghost use Rattle.qo_clocks.specs.Kept.{Clocked};
 ghost use Rattle.qo_model.specs.Properties.{own_value, plain_value, value_of};
 ghost use Rattle.qo_model.specs.Access.{read};
 ghost use Rattle.qo_object.specs.BoardObject.{shown_slot};
@@ -37,7 +38,7 @@ pub fn copy_of(val: &Val, alloc: Global) -> Result<Val, AllocError>
 /// none.
 fn derived_period<L: Ledger>(heap: &Heap, o: Oid, steps: &mut Steps<L>) -> Option<u64>
     requires { IsLive heap.now.rows o }
-    ensures { (b : Tree) → Shows b heap.now → (is_some (source_of b o.birth) ≡ true → ClocksFit b) → result ≡ derived_period b o.birth }
+    ensures { (b : Tree) → Shows b heap.now → (is_some (source_of b o.birth) ≡ true → Clocked b heap.now) → result ≡ derived_period b o.birth }
 {
     source_of(heap, o, steps)?;
     Some(period(heap, o, steps))
@@ -54,7 +55,7 @@ fn plain_value<L: Ledger>(
     steps: &mut Steps<L>,
 ) -> Result<Val, AllocError>
     requires { IsLive heap.now.rows o }
-    ensures { (b : Tree) → Shows b heap.now → (is_derived b o.birth name.now ≡ true → ClocksFit b) → IfOk result (λ read. read ≡ plain_value b o.birth name.now val.now) }
+    ensures { (b : Tree) → Shows b heap.now → (is_derived b o.birth name.now ≡ true → Clocked b heap.now) → IfOk result (λ read. read ≡ plain_value b o.birth name.now val.now) }
 {
     if name != "period" {
         return copy_of(val, alloc);
@@ -75,7 +76,7 @@ fn own_value<L: Ledger>(
     steps: &mut Steps<L>,
 ) -> Result<Val, AllocError>
     requires { IsLive heap.now.rows o }
-    ensures { (b : Tree) → Shows b heap.now → (is_derived b o.birth name.now ≡ true → ClocksFit b) → IfOk result (λ val. val ≡ own_value b o.birth name.now (shown_slot what.now)) }
+    ensures { (b : Tree) → Shows b heap.now → (is_derived b o.birth name.now ≡ true → Clocked b heap.now) → IfOk result (λ val. val ≡ own_value b o.birth name.now (shown_slot what.now)) }
 {
     match what {
         Slot::Plain(val) => plain_value(heap, o, name, val, alloc, steps),
@@ -99,7 +100,7 @@ fn passed_on<L: Ledger>(
     alloc: Global,
     steps: &mut Steps<L>,
 ) -> Result<Option<Val>, AllocError>
-    ensures { (b : Tree) → Shows b heap.now → (is_derived b birth of.now ≡ true → ClocksFit b) → IfOk result (λ val. val ≡ option_map (own_value b birth of.now) (slot_named b birth of.now)) }
+    ensures { (b : Tree) → Shows b heap.now → (is_derived b birth of.now ≡ true → Clocked b heap.now) → IfOk result (λ val. val ≡ option_map (own_value b birth of.now) (slot_named b birth of.now)) }
 {
     let Some(o) = object_of(heap, birth) else {
         return Ok(None);
@@ -119,7 +120,7 @@ fn value_of<L: Ledger>(
     steps: &mut Steps<L>,
 ) -> Result<Option<Val>, AllocError>
     requires { IsLive heap.now.rows o }
-    ensures { (b : Tree) → Shows b heap.now → (reads_derived b o.birth name.now ≡ true → ClocksFit b) → IfOk result (λ val. val ≡ value_of b o.birth name.now) }
+    ensures { (b : Tree) → Shows b heap.now → (reads_derived b o.birth name.now ≡ true → Clocked b heap.now) → IfOk result (λ val. val ≡ value_of b o.birth name.now) }
 {
     let Some(slot) = heap.slot(o, name, steps) else {
         return Ok(None);
@@ -142,7 +143,7 @@ pub fn get<L: Ledger>(
     alloc: Global,
     steps: &mut Steps<L>,
 ) -> Result<Val, Refusal>
-    ensures { (b : Tree) → Shows b heap.now → (reads_derived_at b path.now name.now ≡ true → ClocksFit b) → Answers (λ val. val) result (read b path.now name.now) }
+    ensures { (b : Tree) → Shows b heap.now → (reads_derived_at b path.now name.now ≡ true → Clocked b heap.now) → Answers (λ val. val) result (read b path.now name.now) }
 {
     let o = object_at(heap, path, steps)?;
     match value_of(heap, o, name, alloc, steps)? {

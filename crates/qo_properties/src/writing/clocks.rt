@@ -4,12 +4,13 @@
 ghost use Rattle.std.specs.Prelude.{◌≡◌, IfOk, OnErr};
 ghost use Rattle.qo_model.specs.Board.{Board as Tree};
 ghost use Rattle.qo_model.specs.ClockProperties.{role_written, led_to, number_written, own_property, set_row};
-ghost use Rattle.qo_model.specs.Clocks.{ClocksFit};
 ghost use Rattle.qo_heap.specs.Rows.{IsLive};
 ghost use Rattle.qo_heap.specs.Board.{Shows, pins_in};
 ghost use Rattle.qo_heap.specs.Moments.{Timely};
 ghost use Rattle.qo_properties.specs.Claims.{KeepsBook};
-ghost use Rattle.qo_properties.specs.KeptClaims.{KeptBefore};
+ghost use Rattle.qo_clocks.specs.Kept.{Clocked};
+ghost use Rattle.qo_properties.specs.KeptClaims.{ClaimsBefore, CountsBefore};
+ghost use Rattle.qo_properties.specs.KeptPeriods.{KeepsClocks};
 ghost use Rattle.qo_properties.specs.ClockWrites.{property_told, refused_as};
 ghost use Rattle.qo_properties.specs.Writes.{Writes};
 
@@ -109,11 +110,13 @@ fn write_number<L: Ledger>(
 ) -> Result<(), Refusal>
     requires live { IsLive heap.old.rows c }
     requires timely { Timely heap.old }
-    ensures written { (b : Tree) → Shows b heap.old → ClocksFit b → Writes heap.new result (number_written b c.birth name number) }
+    ensures written { (b : Tree) → Shows b heap.old → Clocked b heap.old → Writes heap.new result (number_written b c.birth name number) }
     ensures err { OnErr result (heap.new ≡ heap.old) }
     ensures pins { pins_in heap.new.rows ≡ pins_in heap.old.rows }
     ensures book { KeepsBook heap.old heap.new }
-    ensures kept { KeptBefore heap.old heap.new }
+    ensures claims { ClaimsBefore heap.old heap.new }
+    ensures counts { CountsBefore heap.old heap.new }
+    ensures clocks { KeepsClocks heap.old heap.new }
 {
     match name {
         PropertyName::Period => refused_as(set(heap, c, number, steps)),
@@ -141,11 +144,13 @@ pub fn write_property<L: Ledger>(
 ) -> Result<(), Refusal>
     requires live { IsLive heap.old.rows c }
     requires timely { Timely heap.old }
-    ensures written { (b : Tree) → Shows b heap.old → ClocksFit b → Writes heap.new result (role_written b c.birth row.name row.role val.now) }
+    ensures written { (b : Tree) → Shows b heap.old → Clocked b heap.old → Writes heap.new result (role_written b c.birth row.name row.role val.now) }
     ensures err { OnErr result (heap.new ≡ heap.old) }
     ensures pins { pins_in heap.new.rows ≡ pins_in heap.old.rows }
     ensures book { KeepsBook heap.old heap.new }
-    ensures kept { KeptBefore heap.old heap.new }
+    ensures claims { ClaimsBefore heap.old heap.new }
+    ensures counts { CountsBefore heap.old heap.new }
+    ensures clocks { KeepsClocks heap.old heap.new }
 {
     let PropertyRole::Plain(ty, _) = row.role else {
         return Err(Refusal::Refused(Code::E18));

@@ -7,7 +7,7 @@ ghost use Rattle.qo_model.specs.Board.{Board as Tree, slot_at};
 ghost use Rattle.qo_model.specs.Properties.{link_target, pointed_at, relinked, write, written, written_by};
 ghost use Rattle.qo_model.specs.Access.{write_at};
 ghost use Rattle.qo_model.specs.ClockProperties.{set_property};
-ghost use Rattle.qo_model.specs.Clocks.{ClocksFit};
+ghost use Rattle.qo_clocks.specs.Kept.{Clocked};
 ghost use Rattle.qo_object.specs.Content.{empty_link_at};
 ghost use Rattle.qo_object.specs.BoardObject.{birth_of};
 ghost use Rattle.qo_object.specs.Slots.{referent, slot_in};
@@ -16,7 +16,8 @@ ghost use Rattle.qo_heap.specs.Board.{Shows, pins_in};
 ghost use Rattle.qo_heap.specs.Objects.{content_of, slots_of};
 ghost use Rattle.qo_heap.specs.Moments.{Timely};
 ghost use Rattle.qo_properties.specs.Claims.{KeepsBook};
-ghost use Rattle.qo_properties.specs.KeptClaims.{KeptBefore};
+ghost use Rattle.qo_properties.specs.KeptClaims.{ClaimsBefore, CountsBefore, KeptBefore};
+ghost use Rattle.qo_properties.specs.KeptPeriods.{KeepsClocks};
 ghost use Rattle.qo_properties.specs.Writes.{Writes, is_link_at, is_of_clock, is_of_clock_at, is_plain_at, link_type_at, no_target, target_told, to_link, to_plain};
 
 use crate::reading::lookup::place_named;
@@ -278,11 +279,14 @@ fn set_property<L: Ledger>(
 ) -> Result<(), Refusal>
     requires live { IsLive heap.old.rows o }
     requires timely { Timely heap.old }
-    ensures written { (b : Tree) → Shows b heap.old → (is_of_clock b o.birth name.now ≡ true → ClocksFit b) → Writes heap.new result (set_property b o.birth name.now val.now) }
+    ensures written { (b : Tree) → Shows b heap.old → (is_of_clock b o.birth name.now ≡ true → Clocked b heap.old) → Writes heap.new result (set_property b o.birth name.now val.now) }
     ensures err { OnErr result (heap.new ≡ heap.old) }
     ensures pins { pins_in heap.new.rows ≡ pins_in heap.old.rows }
     ensures book { KeepsBook heap.old heap.new }
-    ensures kept { KeptBefore heap.old heap.new }
+    ensures claims { ClaimsBefore heap.old heap.new }
+    ensures counts { CountsBefore heap.old heap.new }
+    ensures kept { (b : Tree) → Shows b heap.old → is_of_clock b o.birth name.now ≡ false → KeptBefore heap.old heap.new }
+    ensures clocks { (b : Tree) → Shows b heap.old → is_of_clock b o.birth name.now ≡ true → KeepsClocks heap.old heap.new }
 {
     if set_row(heap, o, name, steps).is_none() {
         return write(heap, o, name, val, alloc, steps);
@@ -312,11 +316,14 @@ pub fn set<L: Ledger>(
     steps: &mut Steps<L>,
 ) -> Result<(), Refusal>
     requires timely { Timely heap.old }
-    ensures written { (b : Tree) → Shows b heap.old → (is_of_clock_at b path.now name.now ≡ true → ClocksFit b) → Writes heap.new result (write_at b path.now name.now val.now) }
+    ensures written { (b : Tree) → Shows b heap.old → (is_of_clock_at b path.now name.now ≡ true → Clocked b heap.old) → Writes heap.new result (write_at b path.now name.now val.now) }
     ensures err { OnErr result (heap.new ≡ heap.old) }
     ensures pins { pins_in heap.new.rows ≡ pins_in heap.old.rows }
     ensures book { KeepsBook heap.old heap.new }
-    ensures kept { KeptBefore heap.old heap.new }
+    ensures claims { ClaimsBefore heap.old heap.new }
+    ensures counts { CountsBefore heap.old heap.new }
+    ensures kept { (b : Tree) → Shows b heap.old → is_of_clock_at b path.now name.now ≡ false → KeptBefore heap.old heap.new }
+    ensures clocks { (b : Tree) → Shows b heap.old → is_of_clock_at b path.now name.now ≡ true → KeepsClocks heap.old heap.new }
 {
     let o = object_at(heap, path, steps)?;
     set_property(heap, o, name, val, alloc, steps)

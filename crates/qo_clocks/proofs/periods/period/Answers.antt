@@ -1,7 +1,5 @@
-use Rattle.std.proofs.Common.{◌∙◌, ◌+◌, ℕ, ap}
-use Rattle.qo_clocks.proofs.PeriodLemmas.{shows-period}
+use Rattle.qo_clocks.proofs.KeptBoards.{clocked-read}
 use Rattle.qo_clocks.proofs.periods.period.Goals as goal
 
-pub returns : goal.returns
-returns g c = λ b s fit.
-    c.period_within.ensures ∙ shows-period b c.args.heap.now s fit (c.live.result + 1) c.args.c.birth (ap (λ (k : ℕ). k + 1) c.live.ensures)
+pub returns-clause-period : goal.returns-clause-period
+returns-clause-period g c = λ b s clocked. (clocked-read b c.args.heap.now s clocked c.args.c.birth c.side.result c.side.ensures.side).0

@@ -1,9 +1,12 @@
-use Rattle.std.proofs.Common.{◌≡◌, ◌-◌}
-use Rattle.qo_clocks.specs.Spread.{spread_to}
+use Rattle.std.proofs.Common.{◌-◌}
+use Rattle.qo_clocks.proofs.SpreadLemmas.{Spreads}
 use Rattle.qo_clocks.proofs.spread.+spread.Given as goal
 
 abbrev pub decreases-spread : goal.decreases-spread
 decreases-spread g l = l.levels
 
-abbrev pub invariant-loop-place : goal.invariant-loop-place
-invariant-loop-place g l = l.heap ≡ spread_to l.fn.heap (l.levels - 1) l.c.birth l.before l.after l.place
+abbrev pub invariant-loop-n : goal.invariant-loop-n
+invariant-loop-n g l = Spreads l.fn.heap (l.levels - 1) l.c.birth l.before l.after l.above l.heap
+
+abbrev pub decreases-loop-n : goal.decreases-loop-n
+decreases-loop-n g l = l.fn.heap.born - l.above

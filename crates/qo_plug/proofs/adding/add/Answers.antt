@@ -5,7 +5,11 @@ use Rattle.qo_model.specs.Plug.{Wanted, plug}
 use Rattle.qo_heap.specs.Board.{Shows}
 use Rattle.qo_plug.specs.Admission.{as_wanted}
 use Rattle.qo_reset.specs.Counts.{CountsKept}
+use Rattle.qo_plug.specs.declared.placing.Plugging.{Plugging}
 use Rattle.qo_plug.specs.KeptClaims.{ClaimsOrNewBut, KeptSoFar}
+use Rattle.qo_plug.specs.KeptPeriods.{FedOrNew, FedSoFar, FedStays}
+use Rattle.qo_plug.proofs.AddLemmas.{stood-shown}
+use Rattle.qo_plug.proofs.FedLemmas.{fed-so-far, fed-then}
 use Rattle.qo_plug.specs.Stages.{resources_barred}
 use Rattle.qo_plug.proofs.JudgementLemmas.{refused-told}
 use Rattle.qo_plug.proofs.AddLemmas.{cut-late, planned-judged, refused-last, refused-only, refused-within, resources-refused, shown-same}
@@ -136,6 +140,27 @@ returns-in-Ok-finish-clause-counts g c = λ b is.
     subst (λ (n : ℕ). KeptSoFar n placed.plugging c.args.heap.now c.place.new.heap) (sym c.in-Ok-finish.ensures.device)
     (so-far c.args.heap.now c.make.new.heap c.place.new.heap placed.device.birth placed.plugging before c.in-Ok-place.ensures.kept) in
     (counts.0, far-others (plug b a).board c.args.heap.now c.place.new.heap c.finish.new.heap _ placed.plugging so_far counts.1)
+
+pub returns-in-Ok-finish-clause-fed : goal.returns-in-Ok-finish-clause-fed
+returns-in-Ok-finish-clause-fed g c = λ b is there.
+    let a : Wanted = as_wanted c.args.options.now in
+    let planned = c.in-Ok.ensures.planned b c.args.resets.now.births c.args.rings.now is in
+    let begun = c.in-Ok-make.ensures.begun b a c.args.anonymous c.args.hotplug.now (shown-same c.in-Ok.ensures.same is) planned in
+    let settled = c.in-Ok-place.ensures.settled b a begun is.notices in
+    let stays =
+    c.in-Ok-finish.ensures.fed b a settled (record { holds_are = is.holds_are; pending = is.pending; notices = is.notices }) in
+    let placed = c.in-Ok-place.placed in
+    let before = new-from c.args.heap.now c.choose.new.heap c.make.new.heap c.in-Ok.ensures.same c.make.ensures.kept in
+    let path = c.in-Ok-finish.ensures.stood.0 in
+    let attached = c.in-Ok-finish.ensures.stood.1 in
+    let fed =
+    subst (λ (x : Plugging). FedSoFar placed.device.birth x c.args.heap.now c.place.new.heap) attached
+    (fed-so-far placed.device.birth placed.plugging c.args.heap.now c.make.new.heap c.place.new.heap before (c.in-Ok-place.ensures.fed b a begun there)) in
+    let shown = stood-shown b a placed c.place.new.heap path attached settled in
+    subst (λ (n : ℕ). FedOrNew (plug b a).board n c.args.heap.now c.finish.new.heap) (sym c.in-Ok-finish.ensures.device)
+    (fed-then shown.0 (plug b a).board placed.device.birth c.args.heap.now c.place.new.heap c.finish.new.heap shown.1 (fed shown.0 shown.1)
+    c.finish.ensures.periods
+    (subst (λ (n : ℕ). FedStays (plug b a).board n c.place.new.heap c.finish.new.heap) c.in-Ok-finish.ensures.device stays))
 
 pub returns-in-Err-finish-clause-unkept : goal.returns-in-Err-finish-clause-unkept
 returns-in-Err-finish-clause-unkept g c =

@@ -39,5 +39,6 @@ returns-clause-kept g c =
     before-then c.args.heap.now c.pass.new.heap c.drop_pin.new.heap
     (before-same c.args.heap.now c.pass.new.heap
     (acts-kept c.args.heap.now c.pass.new.heap (passed-leaves c.args.out c.args.device.birth c.args.heap.now c.pass.new.heap c.pass.ensures).acts
-    (passed-leaves c.args.out c.args.device.birth c.args.heap.now c.pass.new.heap c.pass.ensures).counts))
+    (passed-leaves c.args.out c.args.device.birth c.args.heap.now c.pass.new.heap c.pass.ensures).counts
+    (passed-leaves c.args.out c.args.device.birth c.args.heap.now c.pass.new.heap c.pass.ensures).periods))
     (goes-kept c.pass.new.heap c.drop_pin.new.heap c.drop_pin.ensures.goes)

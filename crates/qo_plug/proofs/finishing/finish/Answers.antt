@@ -1,8 +1,8 @@
 -- The device starts and is let go, or is refused after its acts.
 use Rattle.std.proofs.Common.{ap, sym, ◌∙◌, Some}
-use Rattle.qo_plug.proofs.AddLemmas.{added-counts, counts-in, is-added, is-refused, kinds-in, open-place, path-in, plugged-in}
+use Rattle.qo_plug.proofs.AddLemmas.{added-counts, added-fed, counts-in, fed-in, is-added, is-refused, kinds-in, open-place, path-in, plugged-in}
 use Rattle.qo_plug.proofs.BodyLemmas.{kept-own, there-own}
-use Rattle.qo_properties.proofs.KeptLemmas.{claims-before, claims-same, counts-before, goes-kept}
+use Rattle.qo_properties.proofs.KeptLemmas.{claims-before, claims-same, counts-before, goes-kept, periods-before}
 use Rattle.qo_plug.proofs.finishing.finish.Goals as goal
 
 pub returns-in-Attached-clause-ok : goal.returns-in-Attached-clause-ok
@@ -44,6 +44,14 @@ returns-in-Attached-clause-claims g c = λ n k e.
     sym (c.start.ensures.claims n)
     ∙ claims-before c.start.new.heap c.drop_pin.new.heap (goes-kept c.start.new.heap c.drop_pin.new.heap c.drop_pin.ensures.goes) n k e
 
+pub returns-in-Attached-clause-periods : goal.returns-in-Attached-clause-periods
+returns-in-Attached-clause-periods g c = λ n k e.
+    sym (c.start.ensures.periods n)
+    ∙ periods-before c.start.new.heap c.drop_pin.new.heap (goes-kept c.start.new.heap c.drop_pin.new.heap c.drop_pin.ensures.goes) n k e
+
+pub returns-in-NoticesFull-clause-periods : goal.returns-in-NoticesFull-clause-periods
+returns-in-NoticesFull-clause-periods g c = periods-before c.args.heap.now c.refuse.new.heap c.refuse.ensures.kept
+
 pub returns-in-NoticesFull-clause-claims : goal.returns-in-NoticesFull-clause-claims
 returns-in-NoticesFull-clause-claims g c = claims-before c.args.heap.now c.refuse.new.heap c.refuse.ensures.kept
 
@@ -64,6 +72,24 @@ returns-in-Attached-clause-counts g c = λ b a is beside.
     c.args.heap.now c.start.new.heap c.drop_pin.new.heap beside.holds_are beside.pending beside.notices place stood
     c.start.ensures.shown c.start.ensures.told c.start.ensures.pending c.drop_pin.ensures.release c.start.ensures.counted c.start.ensures.others
     (counts-before c.start.new.heap c.drop_pin.new.heap left))
+
+pub returns-in-Attached-clause-stood : goal.returns-in-Attached-clause-stood
+returns-in-Attached-clause-stood g c = (c.in-Attached.field-0, c.in-Attached.is)
+
+pub returns-in-Attached-clause-fed : goal.returns-in-Attached-clause-fed
+returns-in-Attached-clause-fed g c = λ b a is beside.
+    let s = is.target.0 in
+    let device = is.target.1 in
+    let (told, at, slot, open_is, stood, kept) = rw c.in-Attached.is at is.target.2 in
+    let p = c.args.placed in
+    let n = p.device.birth in
+    let place = open-place b a s at open_is device in
+    let left = goes-kept c.start.new.heap c.drop_pin.new.heap c.drop_pin.ensures.goes in
+    added-fed b a s at open_is n c.args.heap.now c.drop_pin.new.heap
+    (fed-in b s.kind is.sound device a s.bus.birth at n is.birth c.in-Attached.field-0.kept c.args.resets.now.births c.args.hotplug.now c.start.new.hotplug
+    c.args.heap.now c.start.new.heap c.drop_pin.new.heap beside.holds_are beside.pending beside.notices place stood
+    c.start.ensures.shown c.start.ensures.told c.start.ensures.pending c.drop_pin.ensures.release
+    (λ i k e. sym (c.start.ensures.periods i) ∙ periods-before c.start.new.heap c.drop_pin.new.heap left i k e) c.reveal_invariant.ensures)
 
 pub returns-in-NoticesFull-clause-full : goal.returns-in-NoticesFull-clause-full
 returns-in-NoticesFull-clause-full g c = (c.in-NoticesFull.out, c.in-NoticesFull.is)

@@ -1,8 +1,8 @@
 -- The device is judged already: it takes its place, or is given up.
-use Rattle.std.proofs.Common.{◌≡◌, ℕ, Option, ◌≤◌, ◌==◌, refl, ap, sym, subst, ◌∙◌, List, false, length, nat_le, arith}
+use Rattle.std.proofs.Common.{◌≡◌, ℕ, Option, ◌≤◌, ◌==◌, refl, ap, sym, subst, ◌∙◌, List, true, false, length, nat_le, arith}
 use Rattle.std.proofs.lemmas.Bool.Decides.{nat_tests}
 use Rattle.qo_values.specs.declared.limits.TheConstants.{NOTICES_MAX}
-use Rattle.qo_model.specs.Board.{Notice}
+use Rattle.qo_model.specs.Board.{Board, Notice, is_live}
 use Rattle.qo_model.specs.Plug.{source_for}
 use Rattle.qo_slots.specs.declared.keys.Key.{Key}
 use Rattle.qo_kinds.specs.declared.kept_set.KeptSet.{KeptSet}
@@ -12,13 +12,13 @@ use Rattle.qo_plug.specs.Drafts.{given_draft}
 use Rattle.qo_plug.specs.DeviceClaims.{kept_on}
 use Rattle.qo_plug.specs.FreeResources.{IsFreeId}
 use Rattle.qo_plug.specs.Placement.{IsAttachment, kept_in, resources_in}
-use Rattle.qo_properties.specs.KeptClaims.{SameKept}
+use Rattle.qo_properties.specs.KeptClaims.{SameClaims}
 use Rattle.qo_plug.proofs.ClaimLemmas.{chosen-claims, draft-keeps}
 use Rattle.qo_plug.proofs.GivenDraftLemmas.{stood-planned}
-use Rattle.qo_plug.proofs.SourceLemmas.{source-same}
+use Rattle.qo_plug.proofs.SourceLemmas.{draft-live, source-same}
 use Rattle.qo_plug.proofs.StageLemmas.{attachment-of, bus-low, full-barred, given_up-cut, opened, resources-refused}
 use Rattle.qo_properties.proofs.KeptLemmas.{before-same, before-then}
-use Rattle.qo_plug.proofs.KeptLemmas.{given-but}
+use Rattle.qo_plug.proofs.KeptLemmas.{given-but, same-before}
 use Rattle.qo_plug.proofs.placing.place.Goals as goal
 
 pub returns-in-Err-clause-refused : goal.returns-in-Err-clause-refused
@@ -63,10 +63,10 @@ returns-in-Ok-stand-clause-settled g c = λ b a is notices.
     rw ens.bus (source-same b d.target.kind is.sound a.props d.target.bus.birth (bus-low b a d c.args.heap.now is c.requires)) in
     let opening = opened b a d c.args.heap.now is c.in-Ok.resources c.in-Ok.is room in
     let chosen = chosen-claims b d.target.kind d.target.bus.birth a.props c.in-Ok.resources (rw c.in-Ok.is at is.resources) in
-    let keeps = rw (ens.bus, ens.resources) at c.in-Ok-stand.ensures.kept in
+    let keeps = rw (ens.bus, ens.resources) at c.in-Ok-stand.ensures.claims in
     let kept =
     draft-keeps c.args.heap.now c.stand.new.heap d.device.birth d.target.kind (claims_given b d.target.kind d.target.bus.birth a.props) c.requires.rest
-    (subst (λ (k : KeptSet). SameKept (with_edit d.device.birth (kept_in k) c.args.heap.now) c.stand.new.heap) chosen keeps) in
+    (subst (λ (k : KeptSet). SameClaims (with_edit d.device.birth (kept_in k) c.args.heap.now) c.stand.new.heap) chosen keeps) in
     let stood = c.in-Ok-stand.ensures.stood b (given_draft b d.target.kind a.props) a is.shown attachment source is.plan in
     record {
       sound = is.sound;
@@ -97,10 +97,12 @@ pub returns-in-Err-stand-clause-book : goal.returns-in-Err-stand-clause-book
 returns-in-Err-stand-clause-book g c = λ out h. c.give_up-in-Err-stand.ensures.book out (c.stand.ensures.book out h)
 
 pub returns-in-Ok-stand-clause-kept : goal.returns-in-Ok-stand-clause-kept
-returns-in-Ok-stand-clause-kept g c =
-    given-but c.args.heap.now c.stand.new.heap c.args.begun.device.birth
-    (kept_in (kept_on c.attachment_at-attachment.result.0.bus.birth c.attachment_at-attachment.result.0.resources))
-    c.in-Ok-stand.ensures.kept
+returns-in-Ok-stand-clause-kept g c = (
+  given-but c.args.heap.now c.stand.new.heap c.args.begun.device.birth
+      (kept_in (kept_on c.attachment_at-attachment.result.0.bus.birth c.attachment_at-attachment.result.0.resources))
+      c.in-Ok-stand.ensures.claims,
+  same-before c.args.heap.now c.stand.new.heap c.in-Ok-stand.ensures.counts,
+)
 
 pub returns-in-Err-stand-clause-unkept : goal.returns-in-Err-stand-clause-unkept
 returns-in-Err-stand-clause-unkept g c =
@@ -112,3 +114,21 @@ returns-then-are_full-clause-kept g c = λ n k e. e
 
 pub returns-in-Err-clause-unkept : goal.returns-in-Err-clause-unkept
 returns-in-Err-clause-unkept g c = c.give_up.ensures.kept
+
+pub returns-then-are_full-clause-fed : goal.returns-then-are_full-clause-fed
+returns-then-are_full-clause-fed g c = λ b a is there. (λ n k e. e)
+
+pub returns-in-Ok-stand-clause-fed : goal.returns-in-Ok-stand-clause-fed
+returns-in-Ok-stand-clause-fed g c = λ b a is there.
+    let d = c.args.begun in
+    let ens = c.attachment_at-attachment.ensures in
+    let draft : Board = given_draft b d.target.kind a.props in
+    let source : source_for b c.attachment_at-attachment.result.0.bus.birth ≡ source_for draft c.attachment_at-attachment.result.0.bus.birth =
+    rw ens.bus (source-same b d.target.kind is.sound a.props d.target.bus.birth (bus-low b a d c.args.heap.now is c.requires)) in
+    let live : is_live draft (source_for draft c.attachment_at-attachment.result.0.bus.birth) ≡ true =
+    subst (λ (n : ℕ). is_live draft n ≡ true) source
+    (draft-live b d.target.kind is.sound a.props (source_for b c.attachment_at-attachment.result.0.bus.birth) (there c.attachment_at-attachment.result.0.bus.birth)) in
+    λ x t. (
+      λ n at. c.in-Ok-stand.ensures.fed draft x n is.shown live t at,
+      λ none. c.in-Ok-stand.ensures.unfed x t none,
+    )

@@ -1,5 +1,5 @@
 -- Each step keeps what the ones before it made.
-use Rattle.std.proofs.Common.{◌≡◌, ◌++◌, ℕ, List, Option, ap, sym, subst, ◌∙◌}
+use Rattle.std.proofs.Common.{◌≡◌, refl, ◌++◌, ℕ, List, Option, ap, sym, subst, ◌∙◌}
 use Rattle.std.specs.List.{AllZip}
 use Rattle.std.proofs.lemmas.Option.{IfSome_then}
 use Rattle.qo_kinds.specs.Bodies.{registers_of}
@@ -7,7 +7,7 @@ use Rattle.qo_kinds.specs.declared.kept_set.KeptSet.{KeptSet}
 use Rattle.qo_heap.specs.Rows.{IsLive}
 use Rattle.qo_model.specs.Board.{Board}
 use Rattle.qo_values.specs.declared.ranges.Range.{Range}
-use Rattle.qo_model.specs.Plug.{Resources, addressed_at, joined, stood, valued, with_body_of}
+use Rattle.qo_model.specs.Plug.{Resources, addressed_at, joined, source_for, stood, valued, with_body_of}
 use Rattle.qo_model.specs.Release.{edit}
 use Rattle.qo_object.specs.Slots.{Named}
 use Rattle.qo_heap.specs.Board.{Shows}
@@ -18,7 +18,12 @@ use Rattle.qo_properties.specs.Filling.{Fits, IsGiven}
 use Rattle.qo_properties.proofs.FillingLemmas.{all-live}
 use Rattle.qo_plug.specs.OwnSlots.{own_slots_of}
 use Rattle.qo_plug.specs.Placement.{kept_in, range_in, resources_in, with_book}
-use Rattle.qo_properties.specs.KeptClaims.{SameKept, all_kept}
+use Rattle.qo_heap.specs.Acts.{KeepsPeriods, counts_of, periods_of}
+use Rattle.qo_life.proofs.TreeLemmas.{read-content}
+use Rattle.qo_properties.specs.KeptClaims.{SameClaims, SameKept, all_kept}
+use Rattle.qo_properties.proofs.KeptLemmas.{claims-same, counts-same, periods-same}
+use Rattle.qo_plug.specs.KeptPeriods.{ClockFed}
+use Rattle.qo_plug.proofs.FedLemmas.{fed-from, found-source}
 use Rattle.qo_plug.specs.DeviceClaims.{id_claims_out, kept_out, taken_out}
 use Rattle.qo_plug.proofs.BodyLemmas.{kept-own, of-bodies}
 use Rattle.qo_plug.proofs.RangeLemmas.{still-dimm}
@@ -166,7 +171,7 @@ returns-in-Ok-clause-names g c =
     c.args.attachment.container c.args.attachment.bus c.args.attachment.name c.args.attachment.resources.slot c.in_ok-taken.taken.kept
     c.reserve_event.ensures.kept
     c.in_ok-taken.ensures.rest c.in-Ok.ensures.now c.keep_claims.ensures.now) c.put_values.ensures.stays.alike) c.put_body.ensures.alike)
-    c.connect_clock.ensures.stays.alike).names
+    c.connect_clock.ensures.connected.alike).names
 
 pub returns-in-Ok-clause-paths : goal.returns-in-Ok-clause-paths
 returns-in-Ok-clause-paths g c =
@@ -176,7 +181,7 @@ returns-in-Ok-clause-paths g c =
     c.args.attachment.container c.args.attachment.bus c.args.attachment.name c.args.attachment.resources.slot c.in_ok-taken.taken.kept
     c.reserve_event.ensures.kept
     c.in_ok-taken.ensures.rest c.in-Ok.ensures.now c.keep_claims.ensures.now) c.put_values.ensures.stays.alike) c.put_body.ensures.alike)
-    c.connect_clock.ensures.stays.alike).paths c.args.device.birth
+    c.connect_clock.ensures.connected.alike).paths c.args.device.birth
 
 pub returns-in-Ok-clause-pinned : goal.returns-in-Ok-clause-pinned
 returns-in-Ok-clause-pinned g c =
@@ -187,24 +192,75 @@ returns-in-Ok-clause-pinned g c =
     c.reserve_event.new.self.events.spare c.args.device c.args.attachment.container c.args.attachment.bus c.args.attachment.name
     c.args.attachment.resources.slot
     c.in_ok-taken.taken.kept c.reserve_event.ensures.kept c.in_ok-taken.ensures.rest c.in-Ok.ensures.now c.keep_claims.ensures.now)
-    c.put_values.ensures.stays.alike) c.put_body.ensures.alike) c.connect_clock.ensures.stays.alike).pins c.args.device.birth
+    c.put_values.ensures.stays.alike) c.put_body.ensures.alike) c.connect_clock.ensures.connected.alike).pins c.args.device.birth
 
-pub returns-in-Ok-clause-kept : goal.returns-in-Ok-clause-kept
-returns-in-Ok-clause-kept g c =
+pub returns-in-Ok-clause-claims : goal.returns-in-Ok-clause-claims
+returns-in-Ok-clause-claims g c =
     let given = placed-claims c.args.heap.now c.reserve_event.new.self c.take_claims.new.heap c.join.new.heap c.keep_claims.new.heap
     c.reserve_event.new.self.events.spare c.args.device c.args.attachment.container c.args.attachment.bus c.args.attachment.name
     c.args.attachment.resources.slot
     c.in_ok-taken.taken.kept c.reserve_event.ensures.kept c.in_ok-taken.ensures.rest c.in-Ok.ensures.now c.keep_claims.ensures.now in
-    subst (λ (k : KeptSet). SameKept (with_edit c.args.device.birth (kept_in k) c.args.heap.now) c.connect_clock.new.heap) c.in_ok-taken.ensures.kept
-    (λ n.
-    kept-own c.put_body.new.heap c.connect_clock.new.heap c.connect_clock.ensures.stays.own n
-    ∙ c.put_body.ensures.kept n
+    let before : SameKept (with_edit c.args.device.birth (kept_in c.in_ok-taken.taken.kept) c.args.heap.now) c.put_body.new.heap = λ n.
+    c.put_body.ensures.kept n
     ∙ kept-own c.keep_claims.new.heap c.put_values.new.heap c.put_values.ensures.stays.own n
-    ∙ given n)
+    ∙ given n in
+    subst (λ (k : KeptSet). SameClaims (with_edit c.args.device.birth (kept_in k) c.args.heap.now) c.connect_clock.new.heap) c.in_ok-taken.ensures.kept
+    (λ n.
+    c.connect_clock.ensures.connected.claims n
+    ∙ claims-same (with_edit c.args.device.birth (kept_in c.in_ok-taken.taken.kept) c.args.heap.now) c.put_body.new.heap before n)
+
+pub returns-in-Ok-clause-counts : goal.returns-in-Ok-clause-counts
+returns-in-Ok-clause-counts g c =
+    let given = placed-claims c.args.heap.now c.reserve_event.new.self c.take_claims.new.heap c.join.new.heap c.keep_claims.new.heap
+    c.reserve_event.new.self.events.spare c.args.device c.args.attachment.container c.args.attachment.bus c.args.attachment.name
+    c.args.attachment.resources.slot
+    c.in_ok-taken.taken.kept c.reserve_event.ensures.kept c.in_ok-taken.ensures.rest c.in-Ok.ensures.now c.keep_claims.ensures.now in
+    let before : SameKept (with_edit c.args.device.birth (kept_in c.in_ok-taken.taken.kept) c.args.heap.now) c.put_body.new.heap = λ n.
+    c.put_body.ensures.kept n
+    ∙ kept-own c.keep_claims.new.heap c.put_values.new.heap c.put_values.ensures.stays.own n
+    ∙ given n in
+    λ n.
+    c.connect_clock.ensures.connected.counts n
+    ∙ counts-same (with_edit c.args.device.birth (kept_in c.in_ok-taken.taken.kept) c.args.heap.now) c.put_body.new.heap before n
+    ∙ read-content counts_of c.args.device.birth (kept_in c.in_ok-taken.taken.kept) (λ d. refl) c.args.heap.now n
+
+pub returns-in-Ok-clause-fed : goal.returns-in-Ok-clause-fed
+returns-in-Ok-clause-fed g c = λ b x n s there t at.
+    let given = placed-claims c.args.heap.now c.reserve_event.new.self c.take_claims.new.heap c.join.new.heap c.keep_claims.new.heap
+    c.reserve_event.new.self.events.spare c.args.device c.args.attachment.container c.args.attachment.bus c.args.attachment.name
+    c.args.attachment.resources.slot
+    c.in_ok-taken.taken.kept c.reserve_event.ensures.kept c.in_ok-taken.ensures.rest c.in-Ok.ensures.now c.keep_claims.ensures.now in
+    let before : SameKept (with_edit c.args.device.birth (kept_in c.in_ok-taken.taken.kept) c.args.heap.now) c.put_body.new.heap = λ n.
+    c.put_body.ensures.kept n
+    ∙ kept-own c.keep_claims.new.heap c.put_values.new.heap c.put_values.ensures.stays.own n
+    ∙ given n in
+    let periods : KeepsPeriods c.args.heap.now c.put_body.new.heap = λ n.
+    periods-same (with_edit c.args.device.birth (kept_in c.in_ok-taken.taken.kept) c.args.heap.now) c.put_body.new.heap before n
+    ∙ read-content periods_of c.args.device.birth (kept_in c.in_ok-taken.taken.kept) (λ d. refl) c.args.heap.now n in
+    let first : Shows b c.reserve_event.new.self =
+    reserved-shows b c.args.heap.now c.reserve_event.new.self c.reserve_event.new.self.events.spare c.reserve_event.ensures.kept s in
+    fed-from c.args.heap.now c.put_body.new.heap c.connect_clock.new.heap n periods
+    (found-source (ClockFed n c.put_body.new.heap c.connect_clock.new.heap) b (source_for b c.args.attachment.bus.birth) c.source_of-source.result
+    (c.source_of-source.ensures.none b first) there (c.connect_clock.ensures.fed x n t at))
+
+pub returns-in-Ok-clause-unfed : goal.returns-in-Ok-clause-unfed
+returns-in-Ok-clause-unfed g c = λ x t none.
+    let given = placed-claims c.args.heap.now c.reserve_event.new.self c.take_claims.new.heap c.join.new.heap c.keep_claims.new.heap
+    c.reserve_event.new.self.events.spare c.args.device c.args.attachment.container c.args.attachment.bus c.args.attachment.name
+    c.args.attachment.resources.slot
+    c.in_ok-taken.taken.kept c.reserve_event.ensures.kept c.in_ok-taken.ensures.rest c.in-Ok.ensures.now c.keep_claims.ensures.now in
+    let before : SameKept (with_edit c.args.device.birth (kept_in c.in_ok-taken.taken.kept) c.args.heap.now) c.put_body.new.heap = λ n.
+    c.put_body.ensures.kept n
+    ∙ kept-own c.keep_claims.new.heap c.put_values.new.heap c.put_values.ensures.stays.own n
+    ∙ given n in
+    let periods : KeepsPeriods c.args.heap.now c.put_body.new.heap = λ n.
+    periods-same (with_edit c.args.device.birth (kept_in c.in_ok-taken.taken.kept) c.args.heap.now) c.put_body.new.heap before n
+    ∙ read-content periods_of c.args.device.birth (kept_in c.in_ok-taken.taken.kept) (λ d. refl) c.args.heap.now n in
+    (λ n. c.connect_clock.ensures.unfed x t none n ∙ periods n)
 
 pub returns-in-Ok-clause-book : goal.returns-in-Ok-clause-book
 returns-in-Ok-clause-book g c = λ out h.
-    c.connect_clock.ensures.stays.book out (c.put_body.ensures.book out (c.put_values.ensures.stays.book (id_claims_out c.in_ok-taken.taken.id_claim ++
+    c.connect_clock.ensures.connected.book out (c.put_body.ensures.book out (c.put_values.ensures.stays.book (id_claims_out c.in_ok-taken.taken.id_claim ++
     out) (placed-book c.args.heap.now c.reserve_event.new.self c.take_claims.new.heap
     c.join.new.heap c.keep_claims.new.heap c.reserve_event.new.self.events.spare c.args.device c.args.attachment.container
     c.args.attachment.bus c.args.attachment.name c.args.attachment.resources.slot c.in_ok-taken.taken.kept c.reserve_event.ensures.kept

@@ -3,7 +3,7 @@ use Rattle.std.proofs.Common.{◌∙◌}
 use Rattle.qo_model.specs.Clocks.{acted}
 use Rattle.qo_values.specs.declared.kinds.Act.TheVariants.{Realize}
 use Rattle.qo_heap.proofs.ActsLemmas.{acts-then}
-use Rattle.qo_plug.proofs.StartLemmas.{act-acts, act-counts, act-shown, realized-first, still-live}
+use Rattle.qo_plug.proofs.StartLemmas.{act-acts, act-counts, act-periods, act-shown, realized-first, still-live}
 use Rattle.qo_plug.proofs.starting.realize.Goals as goal
 
 pub realize_buses-requires : goal.realize_buses-requires
@@ -23,3 +23,7 @@ returns-clause-acts g c =
 pub returns-clause-counts : goal.returns-clause-counts
 returns-clause-counts g c = λ n.
     c.realize_buses.ensures.counts n ∙ act-counts c.args.heap.now c.act.new.self c.args.device c.act.ensures.now n
+
+pub returns-clause-periods : goal.returns-clause-periods
+returns-clause-periods g c = λ n.
+    c.realize_buses.ensures.periods n ∙ act-periods c.args.heap.now c.act.new.self c.args.device c.act.ensures.now n

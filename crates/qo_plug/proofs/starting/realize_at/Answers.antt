@@ -3,7 +3,7 @@ use Rattle.std.specs.Option.{option_and_then}
 use Rattle.std.proofs.Common.{slice_get}
 use Rattle.qo_model.specs.Board.{slots_at}
 use Rattle.qo_model.specs.Devices.{bus_in}
-use Rattle.qo_plug.proofs.StartLemmas.{act-acts, act-counts, found-shown}
+use Rattle.qo_plug.proofs.StartLemmas.{act-acts, act-counts, act-periods, found-shown}
 use Rattle.qo_plug.proofs.starting.realize_at.Goals as goal
 
 pub returns-in-Some-clause-shown : goal.returns-in-Some-clause-shown
@@ -16,3 +16,6 @@ returns-in-Some-clause-acts g c = act-acts c.args.heap.now c.act.new.self c.in-S
 
 pub returns-in-Some-clause-counts : goal.returns-in-Some-clause-counts
 returns-in-Some-clause-counts g c = act-counts c.args.heap.now c.act.new.self c.in-Some.bus c.act.ensures.now
+
+pub returns-in-Some-clause-periods : goal.returns-in-Some-clause-periods
+returns-in-Some-clause-periods g c = act-periods c.args.heap.now c.act.new.self c.in-Some.bus c.act.ensures.now

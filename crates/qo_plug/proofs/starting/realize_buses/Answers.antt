@@ -26,7 +26,7 @@ loop-device-smaller g c =
 pub loop-device-preserved : goal.loop-device-preserved
 loop-device-preserved g c =
     realized-more c.args.device.birth c.loop-device.at c.args.heap.now c.loop-device.heap c.realize_at.new.heap c.loop-device.invariant
-    c.realize_at.ensures.shown c.realize_at.ensures.acts c.realize_at.ensures.counts
+    c.realize_at.ensures.shown c.realize_at.ensures.acts c.realize_at.ensures.counts c.realize_at.ensures.periods
 
 pub returns-clause-shown : goal.returns-clause-shown
 returns-clause-shown g c = λ b s.

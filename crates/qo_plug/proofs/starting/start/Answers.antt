@@ -4,7 +4,7 @@ use Rattle.qo_heap.proofs.ActsLemmas.{acts-book, acts-then}
 use Rattle.qo_heap.proofs.ActsReads.{acts-pins, acts-pins_of}
 use Rattle.qo_hotplug.specs.Hotplug.{Asked, notified}
 use Rattle.qo_properties.proofs.ActsKept.{acts-claims}
-use Rattle.qo_properties.proofs.KeptLemmas.{claims-same}
+use Rattle.qo_properties.proofs.KeptLemmas.{claims-same, periods-same}
 use Rattle.qo_plug.proofs.StartLemmas.{ok-gives, path-all_pins, path-book, path-claims, path-counted, path-kept, path-live, path-others, path-pins, started-told, starts, still-live, still-pathless}
 use Rattle.qo_plug.proofs.starting.start.Goals as goal
 
@@ -85,3 +85,10 @@ returns-clause-others g c = λ n apart.
     path-others c.realize.new.heap c.plugged.new.heap c.keep_path.new.self c.args.device.birth c.args.path c.keep_path.ensures.now c.plugged.ensures.acts
     c.plugged.ensures.others n apart
     ∙ c.realize.ensures.counts n
+
+pub returns-clause-periods : goal.returns-clause-periods
+returns-clause-periods g c = λ n.
+    periods-same c.plugged.new.heap c.keep_path.new.self
+    (path-claims c.plugged.new.heap c.keep_path.new.self c.args.device.birth c.args.path c.keep_path.ensures.now) n
+    ∙ c.plugged.ensures.periods n
+    ∙ c.realize.ensures.periods n

@@ -5,6 +5,7 @@ use Rattle.qo_realize.proofs.HoldLemmas.{acts-keep}
 use Rattle.qo_realize.proofs.RegisterLemmas.{pulse-held}
 use Rattle.qo_properties.proofs.ActsKept.{acts-kept}
 use Rattle.qo_properties.proofs.KeptLemmas.{before-same}
+use Rattle.qo_realize.proofs.PeriodLemmas.{acts-periods}
 use Rattle.qo_realize.proofs.registers.pulse_bus.Goals as goal
 
 pub returns-in-Some-clause-shown : goal.returns-in-Some-clause-shown
@@ -17,4 +18,7 @@ returns-in-Some-clause-book g c = acts-keep c.args.heap.now c.pulse.new.heap c.p
 
 pub returns-in-Some-clause-kept : goal.returns-in-Some-clause-kept
 returns-in-Some-clause-kept g c =
-    before-same c.args.heap.now c.pulse.new.heap (acts-kept c.args.heap.now c.pulse.new.heap c.pulse.ensures.acts c.pulse.ensures.still)
+    before-same c.args.heap.now c.pulse.new.heap (acts-kept c.args.heap.now c.pulse.new.heap c.pulse.ensures.acts c.pulse.ensures.still c.pulse.ensures.periods)
+
+pub returns-in-Some-clause-periods : goal.returns-in-Some-clause-periods
+returns-in-Some-clause-periods g c = acts-periods c.args.heap.now c.pulse.new.heap c.pulse.ensures.acts c.pulse.ensures.periods

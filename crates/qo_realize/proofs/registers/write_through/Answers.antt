@@ -21,3 +21,6 @@ do_beside-requires-clause-counts g c = c.write_register.ensures.counts c.args.re
 
 pub returns-in_err-effect-clause-counts : goal.returns-in_err-effect-clause-counts
 returns-in_err-effect-clause-counts g c = c.write_register.ensures.counts c.args.resets.now.births c.requires.counts
+
+pub returns-clause-periods : goal.returns-clause-periods
+returns-clause-periods g c = λ kept. c.do_beside.ensures.periods (c.write_register.ensures.periods kept)

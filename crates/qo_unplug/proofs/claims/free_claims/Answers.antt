@@ -4,7 +4,7 @@ use Rattle.std.proofs.lemmas.Option.{same_Some}
 use Rattle.qo_claims.specs.Book.{ClaimsTaken}
 use Rattle.qo_kinds.specs.Bodies.{kept_of, none_kept, with_kept}
 use Rattle.qo_object.specs.Content.{Content}
-use Rattle.qo_heap.specs.Acts.{counted_in, counts_of}
+use Rattle.qo_heap.specs.Acts.{clocked_in, counted_in, counts_of, periods_of}
 use Rattle.qo_heap.specs.Objects.{Objects, without_kept}
 use Rattle.qo_heap.proofs.BoardObjects.{live-content}
 use Rattle.qo_life.proofs.TreeLemmas.{read-content}
@@ -34,3 +34,8 @@ pub returns-clause-counts : goal.returns-clause-counts
 returns-clause-counts g c = λ n.
     ap (λ (x : Objects). counted_in x n) c.take_claims-kept.ensures.left
     ∙ read-content counts_of c.args.o.birth (λ (d : Content). record d { body = with_kept none_kept d.body }) (λ d. refl) c.args.heap.now n
+
+pub returns-clause-periods : goal.returns-clause-periods
+returns-clause-periods g c = λ n.
+    ap (λ (x : Objects). clocked_in x n) c.take_claims-kept.ensures.left
+    ∙ read-content periods_of c.args.o.birth (λ (d : Content). record d { body = with_kept none_kept d.body }) (λ d. refl) c.args.heap.now n

@@ -1,12 +1,13 @@
 -- The device is held, unrealized, taken out, and let go.
 use Rattle.std.proofs.Common.{◌+◌, length}
 use Rattle.qo_unplug.specs.Unparenting.{taken_within}
+use Rattle.qo_unplug.specs.Feeding.{FeedsWithin}
 use Rattle.qo_unplug.specs.Unrealizing.{device_within}
 use Rattle.qo_unplug.proofs.UnparentingLemmas.{goes-pin, pin-live, pinned-of, taken-live, taken-pinned}
 use Rattle.qo_unplug.proofs.DetachmentLemmas.{beside-detached, book-detached, detach-room, names-detached, pin-timely, pins-detached}
 use Rattle.qo_unplug.proofs.DetachmentLemmas.{timely-detached, unrealized-pinned}
 use Rattle.qo_unplug.proofs.ScopeLemmas.{takes-taken_within}
-use Rattle.qo_unplug.proofs.DetachedClaims.{claims-detached, counts-detached, shown-detached}
+use Rattle.qo_unplug.proofs.DetachedClaims.{claims-detached, counts-detached, periods-detached, shown-detached}
 use Rattle.qo_unplug.proofs.detaching.detach.Goals as goal
 
 pub unrealize-requires-clause-live : goal.unrealize-requires-clause-live
@@ -48,22 +49,24 @@ drop_pin-requires-clause-pinned g c =
     (unrealized-pinned c.args.heap.now c.pin.new.self c.unrealize.new.heap c.args.dev.birth pinned c.unrealize.ensures.undoes.pins))
 
 pub returns-clause-shown : goal.returns-clause-shown
-returns-clause-shown g c = λ b tree clocks beside.
+returns-clause-shown g c = λ b may beside.
     let pinned = goes-pin c.args.heap.now c.pin.new.self c.reveal_invariant.ensures c.args.dev c.requires.live c.pin.ensures.now in
     beside-detached c.args.heap.now c.pin.new.self c.unrealize.new.heap c.take_out.new.heap c.drop_pin.new.heap c.args.resets.now.births
     c.unrealize.new.resets.births c.args.hotplug.now c.unrealize.new.hotplug c.args.dev.birth c.live-levels.result c.live-levels.ensures c.pin.ensures.now
-    pinned c.unrealize.ensures.undoes c.take_out.ensures c.drop_pin.ensures.goes b tree clocks beside
+    pinned c.unrealize.ensures.undoes c.take_out.ensures c.drop_pin.ensures.goes b may beside
 
 pub returns-clause-book : goal.returns-clause-book
 returns-clause-book g c =
     let pinned = goes-pin c.args.heap.now c.pin.new.self c.reveal_invariant.ensures c.args.dev c.requires.live c.pin.ensures.now in
-    book-detached (λ b. device_within b (length c.pin.new.self.rows + 1) c.args.dev.birth) (taken_within c.live-levels.result c.args.dev.birth)
+    book-detached (λ b _. FeedsWithin b (length c.pin.new.self.rows + 1) c.args.dev.birth)
+    (λ b. device_within b (length c.pin.new.self.rows + 1) c.args.dev.birth) (taken_within c.live-levels.result c.args.dev.birth)
     c.args.heap.now c.pin.new.self c.unrealize.new.heap c.take_out.new.heap c.drop_pin.new.heap c.args.resets.now.births c.unrealize.new.resets.births
     c.args.hotplug.now c.unrealize.new.hotplug c.args.dev.birth pinned c.unrealize.ensures.undoes c.take_out.ensures c.drop_pin.ensures.goes
 
 pub returns-clause-names : goal.returns-clause-names
 returns-clause-names g c =
-    names-detached (λ b. device_within b (length c.pin.new.self.rows + 1) c.args.dev.birth) (taken_within c.live-levels.result c.args.dev.birth)
+    names-detached (λ b _. FeedsWithin b (length c.pin.new.self.rows + 1) c.args.dev.birth)
+    (λ b. device_within b (length c.pin.new.self.rows + 1) c.args.dev.birth) (taken_within c.live-levels.result c.args.dev.birth)
     c.args.heap.now c.pin.new.self c.unrealize.new.heap c.take_out.new.heap c.drop_pin.new.heap c.args.resets.now.births c.unrealize.new.resets.births
     c.args.hotplug.now c.unrealize.new.hotplug c.args.dev.birth c.pin.ensures.now c.unrealize.ensures.undoes c.take_out.ensures c.drop_pin.ensures.goes
 
@@ -77,25 +80,32 @@ returns-clause-pins g c =
 
 pub returns-clause-timely : goal.returns-clause-timely
 returns-clause-timely g c =
-    timely-detached (λ b. device_within b (length c.pin.new.self.rows + 1) c.args.dev.birth) c.args.heap.now c.pin.new.self c.unrealize.new.heap
+    timely-detached (λ b _. FeedsWithin b (length c.pin.new.self.rows + 1) c.args.dev.birth)
+    (λ b. device_within b (length c.pin.new.self.rows + 1) c.args.dev.birth) c.args.heap.now c.pin.new.self c.unrealize.new.heap
     c.take_out.new.heap c.drop_pin.new.heap c.args.resets.now.births c.unrealize.new.resets.births c.args.hotplug.now c.unrealize.new.hotplug
     c.args.dev.birth c.live-levels.result c.pin.ensures.now c.unrealize.ensures.undoes c.take_out.ensures c.drop_pin.ensures.goes c.requires.timely
 
 pub returns-clause-seen : goal.returns-clause-seen
-returns-clause-seen g c = λ b tree clocks shows.
+returns-clause-seen g c = λ b may shows.
     let pinned = goes-pin c.args.heap.now c.pin.new.self c.reveal_invariant.ensures c.args.dev c.requires.live c.pin.ensures.now in
     shown-detached c.args.heap.now c.pin.new.self c.unrealize.new.heap c.take_out.new.heap c.drop_pin.new.heap c.args.dev.birth c.live-levels.result
-    c.live-levels.ensures pinned c.unrealize.ensures.clears c.take_out.ensures c.drop_pin.ensures.goes b tree clocks shows
+    c.live-levels.ensures c.pin.ensures.now pinned c.unrealize.ensures.clears c.take_out.ensures c.drop_pin.ensures.goes b may shows
 
 pub returns-clause-counts : goal.returns-clause-counts
-returns-clause-counts g c = λ b tree clocks shows n was h.
+returns-clause-counts g c = λ b may shows n was h.
     let pinned = goes-pin c.args.heap.now c.pin.new.self c.reveal_invariant.ensures c.args.dev c.requires.live c.pin.ensures.now in
     counts-detached c.args.heap.now c.pin.new.self c.unrealize.new.heap c.take_out.new.heap c.drop_pin.new.heap c.args.dev.birth c.live-levels.result
-    c.live-levels.ensures c.pin.ensures.now pinned c.unrealize.ensures.clears c.take_out.ensures c.drop_pin.ensures.goes b tree clocks shows n was h
+    c.live-levels.ensures c.pin.ensures.now pinned c.unrealize.ensures.clears c.take_out.ensures c.drop_pin.ensures.goes b may shows n was h
 
 pub returns-clause-claims : goal.returns-clause-claims
-returns-clause-claims g c = λ b tree clocks beside due h.
+returns-clause-claims g c = λ b may beside due h.
     let pinned = goes-pin c.args.heap.now c.pin.new.self c.reveal_invariant.ensures c.args.dev c.requires.live c.pin.ensures.now in
     claims-detached c.args.heap.now c.pin.new.self c.unrealize.new.heap c.take_out.new.heap c.drop_pin.new.heap c.args.resets.now.births
     c.unrealize.new.resets.births c.args.hotplug.now c.unrealize.new.hotplug c.args.dev.birth c.live-levels.result c.live-levels.ensures c.pin.ensures.now
-    pinned c.unrealize.ensures c.take_out.ensures c.drop_pin.ensures.goes b tree clocks beside due h
+    pinned c.unrealize.ensures c.take_out.ensures c.drop_pin.ensures.goes b may beside due h
+
+pub returns-clause-periods : goal.returns-clause-periods
+returns-clause-periods g c = λ b may shows.
+    let pinned = goes-pin c.args.heap.now c.pin.new.self c.reveal_invariant.ensures c.args.dev c.requires.live c.pin.ensures.now in
+    periods-detached c.args.heap.now c.pin.new.self c.unrealize.new.heap c.take_out.new.heap c.drop_pin.new.heap c.args.dev.birth c.live-levels.result
+    c.live-levels.ensures c.pin.ensures.now pinned c.unrealize.ensures.clears c.take_out.ensures c.drop_pin.ensures.goes b may shows

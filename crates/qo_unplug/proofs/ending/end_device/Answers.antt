@@ -11,9 +11,10 @@ use Rattle.qo_hotplug.specs.Hotplug.{nothing_asked}
 use Rattle.qo_heap.specs.Objects.{Objects}
 use Rattle.qo_reset.specs.Turns.{counted, sided}
 use Rattle.qo_properties.specs.KeptClaims.{kept_by}
-use Rattle.qo_unplug.specs.Unrealizing.{Undoes, parts}
-use Rattle.qo_unplug.proofs.StepLemmas.{clears-heap, clears-then, clears-unheld, clears-unnoticed, undoes-then, undoes-unheld, undoes-unnoticed}
-use Rattle.qo_properties.proofs.KeptLemmas.{before-then, claims-before, counts-before}
+use Rattle.qo_unplug.specs.Feeding.{FeedsNone}
+use Rattle.qo_unplug.specs.Unrealizing.{Undoes, nothing_needed, parts}
+use Rattle.qo_unplug.proofs.StepLemmas.{clears-heap, clears-then, clears-unheld, clears-unnoticed, nothing-met, undoes-then, undoes-unheld, undoes-unnoticed}
+use Rattle.qo_properties.proofs.KeptLemmas.{claims-before, counts-before}
 use Rattle.qo_unplug.proofs.KeptLemmas.{due-device, kept-edited}
 use Rattle.qo_unplug.proofs.ending.end_device.Goals as goal
 
@@ -42,12 +43,16 @@ returns g c =
     let stopped = c.stop.ensures.undoes held asked in
     let heap = c.args.heap.now in
     let cleared = c.gone.new.heap in
-    let undoes : Undoes (λ _. unrealized_device n) s (parts cleared after c.gone-2.new.self) =
-    undoes-then third (λ _. unnoticed n) (parts heap held asked) (parts cleared after asked) (parts cleared after c.gone-2.new.self)
-    (undoes-then second (λ _. unheld n) (parts heap held asked) (parts c.free_claims.new.heap held asked) (parts cleared after asked)
-    (undoes-then second (λ _ d. d) (parts heap held asked) (parts c.unset.new.heap held asked) (parts c.free_claims.new.heap held asked)
-    (undoes-then first (λ _. set_named n (codes "realized") (val.Bool false)) (parts heap held asked) (parts c.stop.new.heap held asked)
-    (parts c.unset.new.heap held asked) (c.stop.ensures.undoes held asked) (c.unset.ensures.undoes held asked))
+    let fed : Board → Board → Type 0 = λ _. FeedsNone n in
+    let undoes : Undoes fed (λ _. unrealized_device n) s (parts cleared after c.gone-2.new.self) =
+    undoes-then fed nothing_needed third (λ _. unnoticed n) (parts heap held asked) (parts cleared after asked) (parts cleared after c.gone-2.new.self)
+    (nothing-met fed third)
+    (undoes-then fed nothing_needed second (λ _. unheld n) (parts heap held asked) (parts c.free_claims.new.heap held asked) (parts cleared after asked)
+    (nothing-met fed second)
+    (undoes-then fed nothing_needed second (λ _ d. d) (parts heap held asked) (parts c.unset.new.heap held asked) (parts c.free_claims.new.heap held asked)
+    (nothing-met fed second)
+    (undoes-then fed nothing_needed first (λ _. set_named n (codes "realized") (val.Bool false)) (parts heap held asked) (parts c.stop.new.heap held asked)
+    (parts c.unset.new.heap held asked) (nothing-met fed first) (c.stop.ensures.undoes held asked) (c.unset.ensures.undoes held asked))
     (c.free_claims.ensures.undoes held asked))
     (undoes-unheld n c.free_claims.new.heap cleared held after asked c.gone.ensures.holds c.gone.ensures.now))
     (undoes-unnoticed n cleared after asked c.gone-2.new.self c.gone-2.ensures) in
@@ -57,21 +62,22 @@ returns g c =
     record {
       undoes = undoes;
       clears =
-          clears-then third (λ _. unnoticed n) heap cleared cleared
-          (clears-then second (λ _. unheld n) heap c.free_claims.new.heap cleared
-          (clears-then second (λ _ d. d) heap c.unset.new.heap c.free_claims.new.heap
-          (clears-then first (λ _. set_named n (codes "realized") (val.Bool false)) heap c.stop.new.heap c.unset.new.heap
-          (clears-heap first heap c.stop.new.heap c.stop.ensures.undoes (counts-before heap c.stop.new.heap c.stop.ensures.kept))
-          (clears-heap (λ _. set_named n (codes "realized") (val.Bool false)) c.stop.new.heap c.unset.new.heap c.unset.ensures.undoes
+          clears-then fed nothing_needed third (λ _. unnoticed n) heap cleared cleared (nothing-met fed third)
+          (clears-then fed nothing_needed second (λ _. unheld n) heap c.free_claims.new.heap cleared (nothing-met fed second)
+          (clears-then fed nothing_needed second (λ _ d. d) heap c.unset.new.heap c.free_claims.new.heap (nothing-met fed second)
+          (clears-then fed nothing_needed first (λ _. set_named n (codes "realized") (val.Bool false)) heap c.stop.new.heap c.unset.new.heap
+          (nothing-met fed first)
+          (clears-heap fed first heap c.stop.new.heap c.stop.ensures.undoes c.stop.ensures.counts)
+          (clears-heap nothing_needed (λ _. set_named n (codes "realized") (val.Bool false)) c.stop.new.heap c.unset.new.heap c.unset.ensures.undoes
           (counts-before c.stop.new.heap c.unset.new.heap c.unset.ensures.kept)))
-          (clears-heap (λ _ d. d) c.unset.new.heap c.free_claims.new.heap c.free_claims.ensures.undoes
+          (clears-heap nothing_needed (λ _ d. d) c.unset.new.heap c.free_claims.new.heap c.free_claims.ensures.undoes
           (λ m k e. sym (c.free_claims.ensures.counts m) ∙ e)))
           (clears-unheld n c.free_claims.new.heap cleared c.gone.ensures.now))
           (clears-unnoticed n cleared);
-      claims = λ b e ticks same beside due h.
-          due-device n e due heap c.unset.new.heap cleared (same.ticks ticks).named ((stopped.tree b e ticks same beside).ticks ticks).named
-          ((undoes.tree b e ticks same beside).ticks ticks).named (undoes.shown b e ticks same beside).shown
-          (claims-before heap c.unset.new.heap (before-then heap c.stop.new.heap c.unset.new.heap c.stop.ensures.kept c.unset.ensures.kept))
+      claims = λ b e ticks needed way beside due h.
+          due-device n e due heap c.unset.new.heap cleared (way.tree.ticks ticks).named ((stopped.way b e ticks needed way beside).tree.ticks ticks).named
+          ((undoes.way b e ticks needed way beside).tree.ticks ticks).named (undoes.shown b e ticks needed way beside).shown
+          (λ m k at. c.stop.ensures.claims m k (claims-before c.stop.new.heap c.unset.new.heap c.unset.ensures.kept m k at))
           (ap (λ (x : Objects). kept_by x n) c.gone.ensures.now ∙ unkept n ∙ c.free_claims.ensures.bare)
           (λ m k apart at. c.free_claims.ensures.others m k apart (before m k at)) h;
     }

@@ -3,7 +3,6 @@ use Rattle.std.proofs.Common.{codes, false}
 use Rattle.qo_values.specs.declared.properties.Val.TheVariants as val
 use Rattle.qo_sound_clocks.proofs.DecreaseLemmas.{other-realized}
 use Rattle.qo_unplug.proofs.EndingLemmas.{undoes-set}
-use Rattle.qo_model.specs.Unplug.{set_named}
 use Rattle.qo_properties.proofs.KeptLemmas.{goes-kept}
 use Rattle.qo_unplug.proofs.ending.unset.Goals as goal
 

@@ -1,20 +1,22 @@
 -- The kids of a bus and the bus, and the buses of a device and the device.
 use Rattle.std.proofs.Common.{◌-◌, Some, None}
 use Rattle.qo_unplug.specs.Unrealizing.{parts}
-use Rattle.qo_unplug.proofs.StepLemmas.{ends-none}
-use Rattle.qo_unplug.proofs.WalkLemmas.{bus-read, buses-first, buses-last, buses-next, kid-read, kids-first, kids-last, kids-next, none-within}
+use Rattle.qo_unplug.proofs.WalkLemmas.{bus-read, buses-first, buses-last, buses-next, kid-read, kids-first, kids-last, kids-next, no-bus, none-within, one-bus, one-device, one-none}
 use Rattle.qo_unplug.proofs.unrealizing.+unrealizing.Goals as goal
 
 pub unrealize_kid-returns-in-Some : goal.unrealize_kid-returns-in-Some
 unrealize_kid-returns-in-Some g t c =
     kid-read (parts c.args.heap.now c.args.resets.now.births c.args.hotplug.now)
     (parts c.unrealize_device.new.heap c.unrealize_device.new.resets.births c.unrealize_device.new.hotplug) c.args.bus.birth c.args.at c.args.levels
-    (Some c.in-Some.kid) (λ b s. c.in-Some.ensures.kid b s) c.unrealize_device.ensures
+    (Some c.in-Some.kid) (λ b s. c.in-Some.ensures.kid b s)
+    (one-device (parts c.args.heap.now c.args.resets.now.births c.args.hotplug.now)
+    (parts c.unrealize_device.new.heap c.unrealize_device.new.resets.births c.unrealize_device.new.hotplug) c.args.levels c.in-Some.kid.birth
+    c.unrealize_device.ensures)
 
 pub unrealize_kid-returns-in_default : goal.unrealize_kid-returns-in_default
 unrealize_kid-returns-in_default g t c =
     let s = parts c.args.heap.now c.args.resets.now.births c.args.hotplug.now in
-    kid-read s s c.args.bus.birth c.args.at c.args.levels None (λ b shown. c.in_default.ensures.kid b shown) (ends-none s)
+    kid-read s s c.args.bus.birth c.args.at c.args.levels None (λ b shown. c.in_default.ensures.kid b shown) (one-none s c.args.levels)
 
 pub unrealize_bus-loop-at-init : goal.unrealize_bus-loop-at-init
 unrealize_bus-loop-at-init g t c = kids-first (parts c.args.heap.now c.args.resets.now.births c.args.hotplug.now) c.args.bus.birth c.args.levels
@@ -37,12 +39,15 @@ pub unrealize_bus_at-returns-in-Some : goal.unrealize_bus_at-returns-in-Some
 unrealize_bus_at-returns-in-Some g t c =
     bus-read (parts c.args.heap.now c.args.resets.now.births c.args.hotplug.now)
     (parts c.unrealize_bus.new.heap c.unrealize_bus.new.resets.births c.unrealize_bus.new.hotplug) c.args.dev.birth c.args.at c.args.levels
-    (Some c.in-Some.bus) (λ b s. c.in-Some.ensures.bus b s) c.unrealize_bus.ensures
+    (Some c.in-Some.bus) (λ b s. c.in-Some.ensures.bus b s)
+    (one-bus (parts c.args.heap.now c.args.resets.now.births c.args.hotplug.now)
+    (parts c.unrealize_bus.new.heap c.unrealize_bus.new.resets.births c.unrealize_bus.new.hotplug) c.args.levels c.in-Some.bus.birth
+    c.unrealize_bus.ensures)
 
 pub unrealize_bus_at-returns-in_default : goal.unrealize_bus_at-returns-in_default
 unrealize_bus_at-returns-in_default g t c =
     let s = parts c.args.heap.now c.args.resets.now.births c.args.hotplug.now in
-    bus-read s s c.args.dev.birth c.args.at c.args.levels None (λ b shown. c.in_default.ensures.bus b shown) (ends-none s)
+    bus-read s s c.args.dev.birth c.args.at c.args.levels None (λ b shown. c.in_default.ensures.bus b shown) (no-bus s c.args.levels)
 
 pub unrealize_device-returns-then-levels-eq0 : goal.unrealize_device-returns-then-levels-eq0
 unrealize_device-returns-then-levels-eq0 g t c =

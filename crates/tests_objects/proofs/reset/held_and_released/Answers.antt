@@ -1,14 +1,15 @@
 -- Of an object that was made no hold is counted.
-use Rattle.std.proofs.Common.{rules, ◌≡◌, refl, ap, sym, subst, ℕ, ◌+◌, List, [], ◌∷◌, ◌++◌, Some, None, option_map}
+use Rattle.std.proofs.Common.{rules, ◌≡◌, refl, ap, sym, subst, ℕ, ◌+◌, List, [], ◌∷◌, ◌++◌}
 use Rattle.std.specs.Prelude.{IfOk, OnErr, Result, Ok, Err}
 use Rattle.qo_values.specs.declared.kinds.TypeId.{TypeId}
 use Rattle.qo_values.specs.declared.kinds.TypeId.TheVariants.{Machine}
 use Rattle.qo_slots.specs.declared.keys.Key.{Key}
-use Rattle.qo_object.specs.Content.{Content, fresh}
+use Rattle.qo_object.specs.Content.{fresh}
+use Rattle.qo_heap.specs.Acts.{counts_of}
 use Rattle.qo_heap.specs.Objects.{Objects, no_objects_made}
 use Rattle.qo_properties.proofs.AddKept.{fresh-kept, more-kept, none-new}
 use Rattle.qo_properties.proofs.KeptLemmas.{none-empty}
-use Rattle.qo_properties.specs.KeptClaims.{Kept, NoneKept, kept_with, new_kept}
+use Rattle.qo_properties.specs.KeptClaims.{NoneKept}
 use Rattle.qo_reset.specs.Counts.{CountsKept}
 use Rattle.qo_reset.specs.Phases.{count_on}
 use Rattle.tests_objects.proofs.reset.held_and_released.Goals as goal
@@ -16,8 +17,8 @@ use Rattle.tests_objects.proofs.reset.held_and_released.Goals as goal
 none-counted : (w : Objects) → NoneKept w → CountsKept [] w
 unfolding count_on
 none-counted w bare n c there =
-    let new : kept_with c ≡ new_kept = bare n (kept_with c) (ap (option_map kept_with) there) in
-    record { count = ap (λ (k : Kept). k.1.0) new; unmarked = ap (λ (k : Kept). k.1.1) new }
+    let new : counts_of c ≡ (0, 0) = (bare n c there).1 in
+    record { count = ap (λ (k : ℕ × ℕ). k.0) new; unmarked = ap (λ (k : ℕ × ℕ). k.1) new }
 
 made-counts : {E : Type 0} (r : Result Key E) (w : Objects) (kind : TypeId)
     → IfOk r (λ o. (o.birth ≡ no_objects_made.born + 1) × (w ≡ record no_objects_made { rows = no_objects_made.rows ++ (o, fresh kind) ∷ []; born = no_objects_made.born + 1 }))

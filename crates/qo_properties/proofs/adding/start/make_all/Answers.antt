@@ -17,3 +17,6 @@ returns-clause-book g c = λ out h.
 
 pub returns-clause-bare : goal.returns-clause-bare
 returns-clause-bare g c = λ none. c.in_ok-make_child.ensures.made.bare (c.in_ok-make_machine.ensures.bare (c.in_ok-root.ensures.made.bare none))
+
+pub returns-clause-periods : goal.returns-clause-periods
+returns-clause-periods g c = λ own. c.in_ok-make_child.ensures.made.periods (c.in_ok-make_machine.ensures.periods (c.in_ok-root.ensures.made.periods own))

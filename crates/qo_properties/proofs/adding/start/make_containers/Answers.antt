@@ -8,3 +8,6 @@ returns-clause-book g c = λ out h. c.in_ok-make_child-2.ensures.made.book out (
 
 pub returns-clause-bare : goal.returns-clause-bare
 returns-clause-bare g c = λ none. c.in_ok-make_child-2.ensures.made.bare (c.in_ok-make_child.ensures.made.bare none)
+
+pub returns-clause-periods : goal.returns-clause-periods
+returns-clause-periods g c = λ own. c.in_ok-make_child-2.ensures.made.periods (c.in_ok-make_child.ensures.made.periods own)

@@ -18,3 +18,7 @@ returns-clause-book g c = λ out h. c.in_ok-make_buses.ensures.book out
 pub returns-clause-bare : goal.returns-clause-bare
 returns-clause-bare g c = λ none. c.in_ok-make_buses.ensures.bare
     (c.in_ok-make_clock.ensures.bare (c.in_ok-make_containers.ensures.bare (c.in_ok-machine.ensures.made.bare none)))
+
+pub returns-clause-periods : goal.returns-clause-periods
+returns-clause-periods g c = λ own. c.in_ok-make_buses.ensures.periods
+    (c.in_ok-make_clock.ensures.periods (c.in_ok-make_containers.ensures.periods (c.in_ok-machine.ensures.made.periods own)))

@@ -12,5 +12,5 @@ pub returns : goal.returns
 returns g c = λ b s fit.
     let heap = c.args.heap.now in
     let n = c.args.o.birth in
-    ap Some (c.period.ensures b s (fit (source-there b heap s n _ c.in_ok-source_of.ensures.source)))
+    ap Some (c.period.ensures.period b s (fit (source-there b heap s n _ c.in_ok-source_of.ensures.source)))
     ∙ sym (derived-is b heap s n _ c.in_ok-source_of.ensures.source)

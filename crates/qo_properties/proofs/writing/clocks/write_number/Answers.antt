@@ -1,14 +1,34 @@
 -- The number that stays is read before, and what the clocks answer is told by its code.
-use Rattle.std.proofs.Common.{◌≡◌, ap, sym, subst, ◌∙◌, ℕ, Result}
+use Rattle.qo_values.specs.declared.codes.Code.TheVariants.{E18}
+use Rattle.qo_model.specs.ClockProperties.{number_written}
+use Rattle.std.proofs.Common.{rules, Err, ◌≡◌, refl, ap, sym, subst, ◌∙◌, ℕ, Result}
 use Rattle.qo_values.specs.declared.codes.Code.{Code}
 use Rattle.qo_model.specs.Board.{Board}
-use Rattle.qo_model.specs.ClockChanges.{clock_scaled}
+use Rattle.qo_model.specs.ClockChanges.{clock_scaled, clock_set}
 use Rattle.qo_model.specs.Clocks.{div_of, mul_of}
 use Rattle.qo_clocks.specs.Writes.{Answers, with_period, with_scale}
 use Rattle.qo_clocks.proofs.ReadLemmas.{shows-div, shows-mul}
-use Rattle.qo_properties.proofs.ActsKept.{clock-kept, period-kept, scale-kept}
-use Rattle.qo_properties.proofs.ClockLemmas.{clock-pins, clock-writes, period-pins, scale-pins}
+use Rattle.qo_properties.proofs.ActsKept.{clock-claims, clock-counts, period-kept, scale-kept}
+use Rattle.qo_properties.proofs.ClockLemmas.{same-clocks, clock-pins, clock-writes, period-pins, scale-pins}
 use Rattle.qo_properties.proofs.writing.clocks.write_number.Goals as goal
+
+pub returns-in-Period-clause-written : goal.returns-in-Period-clause-written
+returns-in-Period-clause-written g c = λ b s clocked.
+    rw (c.in-Period.is, c.refused_as.ensures)
+    (clock-writes c.set.new.heap c.set.result (clock_set b c.args.c.birth c.args.number) (c.set.ensures.answer b s clocked))
+
+pub returns-in_default : goal.returns-in_default
+returns-in_default g c =
+    let none : (b : Board) → number_written b c.args.c.birth c.args.name c.args.number ≡ Err E18 = search rules in
+    record {
+      written = λ b s clocked. none b;
+      err = refl;
+      pins = refl;
+      book = λ out h. h;
+      claims = λ n k e. e;
+      counts = λ n k e. e;
+      clocks = same-clocks c.args.heap.now;
+    }
 
 pub returns-in-Period-clause-pins : goal.returns-in-Period-clause-pins
 returns-in-Period-clause-pins g c =
@@ -44,18 +64,41 @@ returns-in-Div-clause-pins g c =
     c.set_mul_div-in-Div.result (scale-pins c.args.heap.now c.args.c.birth c.mul-mul.result c.args.number) c.set_mul_div-in-Div.ensures.acts
     c.set_mul_div-in-Div.ensures.err
 
-pub returns-in-Period-clause-kept : goal.returns-in-Period-clause-kept
-returns-in-Period-clause-kept g c =
-    clock-kept c.args.heap.now c.set.new.heap (with_period c.args.c.birth c.args.number c.args.heap.now) c.set.result
-    (period-kept c.args.heap.now c.args.c.birth c.args.number) c.set.ensures.acts c.set.ensures.counts c.set.ensures.err
+pub returns-in-Period-clause-claims : goal.returns-in-Period-clause-claims
+returns-in-Period-clause-claims g c =
+    clock-claims c.args.heap.now c.set.new.heap (with_period c.args.c.birth c.args.number c.args.heap.now) c.set.result
+    (period-kept c.args.heap.now c.args.c.birth c.args.number) c.set.ensures.acts c.set.ensures.err
 
-pub returns-in-Mul-clause-kept : goal.returns-in-Mul-clause-kept
-returns-in-Mul-clause-kept g c =
-    clock-kept c.args.heap.now c.set_mul_div.new.heap (with_scale c.args.c.birth c.args.number c.div-div.result c.args.heap.now) c.set_mul_div.result
-    (scale-kept c.args.heap.now c.args.c.birth c.args.number c.div-div.result) c.set_mul_div.ensures.acts c.set_mul_div.ensures.counts c.set_mul_div.ensures.err
+pub returns-in-Period-clause-counts : goal.returns-in-Period-clause-counts
+returns-in-Period-clause-counts g c =
+    clock-counts c.args.heap.now c.set.new.heap (with_period c.args.c.birth c.args.number c.args.heap.now) c.set.result
+    (period-kept c.args.heap.now c.args.c.birth c.args.number) c.set.ensures.counts c.set.ensures.err
 
-pub returns-in-Div-clause-kept : goal.returns-in-Div-clause-kept
-returns-in-Div-clause-kept g c =
-    clock-kept c.args.heap.now c.set_mul_div-in-Div.new.heap (with_scale c.args.c.birth c.mul-mul.result c.args.number c.args.heap.now)
-    c.set_mul_div-in-Div.result (scale-kept c.args.heap.now c.args.c.birth c.mul-mul.result c.args.number) c.set_mul_div-in-Div.ensures.acts
-    c.set_mul_div-in-Div.ensures.counts c.set_mul_div-in-Div.ensures.err
+pub returns-in-Period-clause-clocks : goal.returns-in-Period-clause-clocks
+returns-in-Period-clause-clocks g c = c.set.ensures.fits
+
+pub returns-in-Mul-clause-claims : goal.returns-in-Mul-clause-claims
+returns-in-Mul-clause-claims g c =
+    clock-claims c.args.heap.now c.set_mul_div.new.heap (with_scale c.args.c.birth c.args.number c.div-div.result c.args.heap.now) c.set_mul_div.result
+    (scale-kept c.args.heap.now c.args.c.birth c.args.number c.div-div.result) c.set_mul_div.ensures.acts c.set_mul_div.ensures.err
+
+pub returns-in-Mul-clause-counts : goal.returns-in-Mul-clause-counts
+returns-in-Mul-clause-counts g c =
+    clock-counts c.args.heap.now c.set_mul_div.new.heap (with_scale c.args.c.birth c.args.number c.div-div.result c.args.heap.now) c.set_mul_div.result
+    (scale-kept c.args.heap.now c.args.c.birth c.args.number c.div-div.result) c.set_mul_div.ensures.counts c.set_mul_div.ensures.err
+
+pub returns-in-Mul-clause-clocks : goal.returns-in-Mul-clause-clocks
+returns-in-Mul-clause-clocks g c = c.set_mul_div.ensures.fits
+
+pub returns-in-Div-clause-claims : goal.returns-in-Div-clause-claims
+returns-in-Div-clause-claims g c =
+    clock-claims c.args.heap.now c.set_mul_div-in-Div.new.heap (with_scale c.args.c.birth c.mul-mul.result c.args.number c.args.heap.now) c.set_mul_div-in-Div.result
+    (scale-kept c.args.heap.now c.args.c.birth c.mul-mul.result c.args.number) c.set_mul_div-in-Div.ensures.acts c.set_mul_div-in-Div.ensures.err
+
+pub returns-in-Div-clause-counts : goal.returns-in-Div-clause-counts
+returns-in-Div-clause-counts g c =
+    clock-counts c.args.heap.now c.set_mul_div-in-Div.new.heap (with_scale c.args.c.birth c.mul-mul.result c.args.number c.args.heap.now) c.set_mul_div-in-Div.result
+    (scale-kept c.args.heap.now c.args.c.birth c.mul-mul.result c.args.number) c.set_mul_div-in-Div.ensures.counts c.set_mul_div-in-Div.ensures.err
+
+pub returns-in-Div-clause-clocks : goal.returns-in-Div-clause-clocks
+returns-in-Div-clause-clocks g c = c.set_mul_div-in-Div.ensures.fits

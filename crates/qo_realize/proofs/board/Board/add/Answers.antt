@@ -7,6 +7,8 @@ use Rattle.qo_realize.proofs.PlugLemmas.{added-stands, barred-stands, is_shown, 
 use Rattle.qo_realize.proofs.GoodBoardLemmas.{good-of}
 use Rattle.qo_plug.specs.declared.adding.Added.{Added}
 use Rattle.qo_realize.proofs.ClaimsLemmas.{barred-claims, plug-claims}
+use Rattle.qo_realize.proofs.ClockedLemmas.{barred-periods, good-sources}
+use Rattle.qo_realize.proofs.PlugClockLemmas.{plug-periods}
 use Rattle.qo_realize.proofs.CountedLemmas.{barred-counts, plug-counts}
 use Rattle.qo_realize.proofs.board.Board.add.Goals as goal
 
@@ -26,6 +28,8 @@ invariant_of-self g c =
       plug-claims b a c.in-Ok.added c.add.new.hotplug inside.heap c.add.new.heap good.run.devices good.backends s.shows h c.in-Ok.ensures.claims c.self.invariant.2,
       plug-counts b a c.in-Ok.added c.add.new.hotplug inside.resets.births inside.heap c.add.new.heap good.run.devices good.holds s.shows s.holds h
           (c.in-Ok.ensures.counts b shown) c.self.invariant.3,
+      plug-periods b a c.in-Ok.added c.add.new.hotplug inside.heap c.add.new.heap good s.shows h
+          (c.in-Ok.ensures.fed b shown (good-sources b good)) c.self.invariant.4,
     )
 
 pub invariant_of-self-in-Err : goal.invariant_of-self-in-Err
@@ -44,6 +48,8 @@ invariant_of-self-in-Err g c =
           (λ m. c.in-Err.ensures.memory b shown (cc m)) c.in-Err.ensures.unkept c.self.invariant.2,
       barred-counts Added b a c.in-Err.refusal inside.resets.births inside.heap c.add.new.heap good.run.devices good.holds s.shows s.holds
           (c.in-Err.ensures.refused b shown) (λ m. c.in-Err.ensures.memory b shown (cc m)) c.in-Err.ensures.unkept c.self.invariant.3,
+      barred-periods Added b a c.in-Err.refusal inside.heap c.add.new.heap good s.shows (c.in-Err.ensures.refused b shown)
+          (λ m. c.in-Err.ensures.memory b shown (cc m)) c.in-Err.ensures.unkept c.self.invariant.4,
     )
 
 pub returns-in-Ok : goal.returns-in-Ok

@@ -18,6 +18,7 @@ invariant_of-self g c =
           (asked-good b c.args.id.now sound) (c.ask.ensures.asked b s.shows told) c.ask.ensures.err,
       c.self.invariant.2,
       c.self.invariant.3,
+      c.self.invariant.4,
     )
 
 pub ask-requires : goal.ask-requires

@@ -15,6 +15,7 @@ invariant_of-self c =
           (λ b good. ring_added-good b c.args.id.now c.args.kind.now c.unwrap_or-size.result good) c.add.ensures.change c.add.ensures.err c.self.invariant.1,
       c.self.invariant.2,
       c.self.invariant.3,
+      c.self.invariant.4,
     )
 
 pub returns-clause-change : goal.returns-clause-change

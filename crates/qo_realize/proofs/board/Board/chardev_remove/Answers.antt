@@ -16,6 +16,7 @@ invariant_of-self c =
           c.remove.ensures.err c.self.invariant.1 c.self.invariant.2,
       c.self.invariant.2,
       c.self.invariant.3,
+      c.self.invariant.4,
     )
 
 pub returns-clause-change : goal.returns-clause-change

@@ -1,10 +1,10 @@
 -- The device is let go.
-use Rattle.std.proofs.Common.{ap, sym, subst, ◌∙◌}
+use Rattle.std.proofs.Common.{ℕ, List, ap, sym, subst, ◌∙◌}
 use Rattle.qo_model.specs.Depth.{among}
 use Rattle.qo_realize.specs.Parts.{Parts, parts_of}
 use Rattle.qo_realize.specs.Representation.{Stands}
 use Rattle.qo_unplug.proofs.DetachmentLemmas.{once-pinned}
-use Rattle.qo_realize.proofs.CompletionLemmas.{completed-counts, completed-claims, completed-sound, completed-stands, is_beside, timely-heap}
+use Rattle.qo_realize.proofs.CompletionLemmas.{completed-counts, completed-claims, completed-periods, completed-sound, completed-stands, is_beside, may-detach, timely-heap}
 use Rattle.qo_realize.proofs.GoodBoardLemmas.{good-of}
 use Rattle.qo_realize.proofs.board.Board.complete.Goals as goal
 
@@ -23,13 +23,16 @@ invariant_of-self g c =
     let stands =
     completed-sound c.args.dev.birth inside.rings inside.anonymous inside.running inside.resets c.detach.new.resets inside.hotplug
     c.detach.new.hotplug inside.heap c.detach.new.heap
-    pending c.self.invariant.1 c.detach.ensures.shown c.detach.ensures.book in (
+    pending c.self.invariant.1 c.self.invariant.4 c.detach.ensures.shown c.detach.ensures.book in (
       stands.0,
       stands.1,
       completed-claims c.args.dev.birth inside.rings inside.anonymous inside.running inside.resets c.detach.new.resets inside.hotplug c.detach.new.hotplug
-          inside.heap c.detach.new.heap pending c.self.invariant.1 c.detach.ensures.shown c.detach.ensures.claims c.self.invariant.2,
+          inside.heap c.detach.new.heap pending c.self.invariant.1 c.self.invariant.4 c.detach.ensures.shown c.detach.ensures.claims c.self.invariant.2,
       completed-counts c.args.dev.birth inside.rings inside.anonymous inside.running inside.resets c.detach.new.resets inside.hotplug c.detach.new.hotplug
-          inside.heap c.detach.new.heap pending c.self.invariant.1 c.detach.ensures.shown c.detach.ensures.seen c.detach.ensures.counts c.self.invariant.3,
+          inside.heap c.detach.new.heap pending c.self.invariant.1 c.self.invariant.4 c.detach.ensures.shown c.detach.ensures.seen c.detach.ensures.counts
+          c.self.invariant.3,
+      completed-periods c.args.dev.birth inside.rings inside.anonymous inside.running inside.resets inside.hotplug inside.heap c.detach.new.heap
+          pending c.self.invariant.1 c.self.invariant.4 c.detach.ensures.periods,
     )
 
 pub returns : goal.returns
@@ -37,7 +40,9 @@ returns g c = λ b s.
     let inside = c.self.inside in
     let seen = subst (λ (p : Parts). Stands b p) (sym c.self.view_is) s in
     let good = good-of (parts_of inside.rings inside.anonymous inside.running inside.resets inside.hotplug inside.heap) c.self.invariant.1 b seen in
+    let pending =
+    ap (λ (ns : List ℕ). among ns c.args.dev.birth) seen.pending ∙ ap (λ (p : Parts). among p.pending c.args.dev.birth) c.self.view_is ∙ c.requires.pending in
     completed-stands b c.args.dev.birth inside.rings inside.anonymous inside.running inside.resets c.detach.new.resets inside.hotplug
     c.detach.new.hotplug inside.heap c.detach.new.heap seen
-    (c.detach.ensures.shown b good.run.devices.tree good.run.clocks
+    (c.detach.ensures.shown b (may-detach b c.args.dev.birth inside.heap good pending c.self.invariant.4)
     (is_beside b inside.rings inside.anonymous inside.running inside.resets inside.hotplug inside.heap seen)) c.detach.ensures.book

@@ -9,6 +9,7 @@ use Rattle.qo_realize.specs.Parts.{Parts, parts_of}
 use Rattle.qo_realize.specs.Representation.{Stands}
 use Rattle.qo_realize.proofs.RegisterLemmas.{board-call, body-timely, timely-there}
 use Rattle.qo_realize.proofs.GoodBoardLemmas.{good-of}
+use Rattle.qo_realize.proofs.PeriodLemmas.{clocked-sound}
 use Rattle.qo_realize.proofs.board.Board.guest_read.Goals as goal
 
 pub read-requires : goal.read-requires
@@ -29,6 +30,6 @@ returns g c = λ b s.
     ∙ board-call (λ (r : Registers) (time period : ℕ). body_read r c.args.reg c.has_ring-ring.result time period) b inside.heap seen.shows
     c.args.dev c.body.result.now live
     c.body.ensures.body c.time-time.result c.device_period-period.result c.time-time.ensures
-    (c.device_period-period.ensures b seen.shows (good-of now c.self.invariant.1 b seen).run.clocks.fit)
+    (c.device_period-period.ensures.period b seen.shows (clocked-sound b inside.heap (good-of now c.self.invariant.1 b seen).run.clocks c.self.invariant.4))
     ∙ ap (λ (ring : Bool). body_read (registers_at b c.args.dev.birth) c.args.reg ring b.now (device_period b c.args.dev.birth))
     (c.has_ring-ring.ensures b seen.shows)

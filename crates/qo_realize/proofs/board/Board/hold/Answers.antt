@@ -3,6 +3,7 @@ use Rattle.std.proofs.Common.{sym, subst}
 use Rattle.qo_realize.specs.Parts.{Parts}
 use Rattle.qo_realize.specs.Representation.{Stands}
 use Rattle.qo_realize.proofs.HoldLemmas.{acts-keep, hold-changes, hold-claims, hold-keeps}
+use Rattle.qo_realize.proofs.PeriodLemmas.{acts-periods}
 use Rattle.qo_realize.proofs.board.Board.hold.Goals as goal
 
 pub invariant_of-self : goal.invariant_of-self
@@ -18,6 +19,7 @@ invariant_of-self g c =
           (acts-keep inside.heap c.hold.new.heap c.hold.ensures.acts) c.args.path.now c.hold.result c.self.invariant.1 c.hold.ensures.acts c.hold.ensures.held
           c.hold.ensures.err c.self.invariant.2,
       c.hold.ensures.counts,
+      acts-periods inside.heap c.hold.new.heap c.hold.ensures.acts c.hold.ensures.periods c.self.invariant.4,
     )
 
 pub returns-clause-held : goal.returns-clause-held

@@ -3,6 +3,7 @@ use Rattle.qo_realize.specs.Parts.{Parts}
 use Rattle.qo_realize.specs.Representation.{Stands}
 use Rattle.qo_realize.proofs.RepresentationLemmas.{add-stands, added-sound}
 use Rattle.qo_realize.proofs.ClaimsLemmas.{add-claims}
+use Rattle.qo_realize.proofs.ClockedLemmas.{add-periods}
 use Rattle.qo_realize.proofs.CountedLemmas.{add-counts}
 use Rattle.qo_realize.proofs.board.Board.object_add.Goals as goal
 
@@ -25,4 +26,6 @@ invariant_of-self g c =
           (c.add_object.ensures.change b s.shows) c.add_object.ensures.kept c.self.invariant.2,
       add-counts b c.args.driver.now c.args.id.now c.args.props.now c.add_object.result c.self.inside.resets.births c.self.inside.heap c.add_object.new.heap
           sound.run.devices sound.holds s.shows s.holds (c.add_object.ensures.change b s.shows) c.add_object.ensures.kept c.self.invariant.3,
+      add-periods b c.args.driver.now c.args.id.now c.args.props.now c.add_object.result c.self.inside.heap c.add_object.new.heap sound s.shows
+          (c.add_object.ensures.change b s.shows) c.add_object.ensures.kept c.self.invariant.4,
     )

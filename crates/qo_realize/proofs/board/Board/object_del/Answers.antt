@@ -7,6 +7,7 @@ use Rattle.qo_realize.specs.Representation.{Stands}
 use Rattle.qo_realize.proofs.RecountLemmas.{stands-recounted}
 use Rattle.qo_realize.proofs.RepresentationLemmas.{answered-sound, err-stays, del-stands}
 use Rattle.qo_realize.proofs.ClaimsLemmas.{change-claims}
+use Rattle.qo_realize.proofs.ClockedLemmas.{command-periods}
 use Rattle.qo_realize.proofs.CountedLemmas.{changed-counts}
 use Rattle.qo_realize.proofs.board.Board.object_del.Goals as goal
 
@@ -39,6 +40,8 @@ invariant_of-self g c =
           c.remove.ensures.kept c.self.invariant.2,
       changed-counts b (deleted c.args.id.now) c.self.inside.resets.births c.self.inside.heap c.remove.new.heap sound.run.devices sound.holds s.shows s.holds
           (c.remove.ensures.change b s.shows).board c.remove.ensures.kept c.self.invariant.3,
+      command-periods b (deleted c.args.id.now) c.self.inside.heap c.remove.new.heap sound s.shows (c.remove.ensures.change b s.shows).board
+          c.remove.ensures.kept c.self.invariant.4,
     )
 
 -- two looks, and what is removed

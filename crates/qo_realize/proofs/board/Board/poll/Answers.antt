@@ -17,4 +17,5 @@ invariant_of-self c =
           (polled b, polled-stands b inside.rings inside.anonymous inside.running inside.resets inside.hotplug inside.heap s, polled-good b sound),
       c.self.invariant.2,
       c.self.invariant.3,
+      c.self.invariant.4,
     )

@@ -8,6 +8,7 @@ use Rattle.qo_realize.proofs.ResetLemmas.{machine-there, none-said}
 use Rattle.qo_properties.proofs.ActsKept.{acts-kept}
 use Rattle.qo_properties.proofs.KeptLemmas.{before-same}
 use Rattle.qo_realize.proofs.ClaimsLemmas.{pulse-claims}
+use Rattle.qo_realize.proofs.PeriodLemmas.{acts-periods}
 use Rattle.qo_realize.proofs.board.Board.pulse_machine.Goals as goal
 
 pub invariant_of-self : goal.invariant_of-self
@@ -21,8 +22,10 @@ invariant_of-self g c =
       stands.0,
       stands.1,
       pulse-claims b c.in-Some.machine.birth inside.heap c.pulse.new.heap good.run.devices s.shows (c.pulse.ensures.shown b (s.shows, s.holds)).0
-          (before-same inside.heap c.pulse.new.heap (acts-kept inside.heap c.pulse.new.heap c.pulse.ensures.acts c.pulse.ensures.still)) c.self.invariant.2,
+          (before-same inside.heap c.pulse.new.heap
+          (acts-kept inside.heap c.pulse.new.heap c.pulse.ensures.acts c.pulse.ensures.still c.pulse.ensures.periods)) c.self.invariant.2,
       c.pulse.ensures.counts,
+      acts-periods inside.heap c.pulse.new.heap c.pulse.ensures.acts c.pulse.ensures.periods c.self.invariant.4,
     )
 
 pub returns-in-Some : goal.returns-in-Some

@@ -6,6 +6,8 @@ use Rattle.qo_realize.proofs.RepresentationLemmas.{err-stays, write-stands, writ
 use Rattle.qo_unplug.proofs.MomentLemmas.{times-timely}
 use Rattle.qo_realize.proofs.ClaimsLemmas.{write-claims}
 use Rattle.qo_realize.proofs.CountedLemmas.{write-counts}
+use Rattle.qo_realize.proofs.ClockedLemmas.{write-periods}
+use Rattle.qo_realize.proofs.PeriodLemmas.{clocked-sound}
 use Rattle.qo_realize.proofs.board.Board.qom_set.Goals as goal
 
 pub set-requires : goal.set-requires
@@ -15,7 +17,7 @@ pub returns-clause-written : goal.returns-clause-written
 returns-clause-written g c = λ b s.
     let seen = subst (λ (p : Parts). Stands b p) (sym c.self.view_is) s in
     write-stands b _ c.set.new.heap c.args.path.now c.args.name.now c.args.val.now c.set.result seen
-    (c.set.ensures.written b seen.shows (λ clock. (good-of _ c.self.invariant.1 b seen).run.clocks.fit)) c.set.ensures.book
+    (c.set.ensures.written b seen.shows (λ clock. clocked-sound b _ (good-of _ c.self.invariant.1 b seen).run.clocks c.self.invariant.4)) c.set.ensures.book
 
 pub returns-clause-err : goal.returns-clause-err
 returns-clause-err g c =
@@ -25,12 +27,15 @@ returns-clause-err g c =
 
 pub invariant_of-self : goal.invariant_of-self
 invariant_of-self g c =
-    let (b, s, sound) = c.self.invariant.1 in (
+    let (b, s, sound) = c.self.invariant.1 in
+    let written = c.set.ensures.written b s.shows (λ clock. clocked-sound b _ sound.run.clocks c.self.invariant.4) in (
       c.set.ensures.pins ∙ c.self.invariant.0,
       written-sound b _ c.set.new.heap c.args.path.now c.args.name.now c.args.val.now c.set.result s sound (write-stands b _ c.set.new.heap c.args.path.now
-          c.args.name.now c.args.val.now c.set.result s (c.set.ensures.written b s.shows (λ clock. sound.run.clocks.fit)) c.set.ensures.book) c.set.ensures.err,
+          c.args.name.now c.args.val.now c.set.result s written c.set.ensures.book) c.set.ensures.err,
       write-claims b c.args.path.now c.args.name.now c.args.val.now c.set.result c.self.inside.heap c.set.new.heap sound.run.devices s.shows
-          (c.set.ensures.written b s.shows (λ clock. sound.run.clocks.fit)) c.set.ensures.err c.set.ensures.kept c.self.invariant.2,
+          written c.set.ensures.err c.set.ensures.claims c.self.invariant.2,
       write-counts b c.args.path.now c.args.name.now c.args.val.now c.set.result c.self.inside.resets.births c.self.inside.heap c.set.new.heap sound.run.devices
-          sound.holds s.shows s.holds (c.set.ensures.written b s.shows (λ clock. sound.run.clocks.fit)) c.set.ensures.err c.set.ensures.kept c.self.invariant.3,
+          sound.holds s.shows s.holds written c.set.ensures.err c.set.ensures.counts c.self.invariant.3,
+      write-periods b c.args.path.now c.args.name.now c.args.val.now c.set.result c.self.inside.heap c.set.new.heap sound s.shows written c.set.ensures.err
+          (c.set.ensures.kept b s.shows) (c.set.ensures.clocks b s.shows) c.self.invariant.4,
     )

@@ -3,6 +3,7 @@ use Rattle.std.proofs.Common.{sym, subst}
 use Rattle.qo_realize.specs.Parts.{Parts}
 use Rattle.qo_realize.specs.Representation.{Stands}
 use Rattle.qo_realize.proofs.HoldLemmas.{acts-keep, release-answers, release-claims, release-keeps}
+use Rattle.qo_realize.proofs.PeriodLemmas.{acts-periods}
 use Rattle.qo_realize.proofs.board.Board.release.Goals as goal
 
 pub invariant_of-self : goal.invariant_of-self
@@ -18,6 +19,7 @@ invariant_of-self g c =
           (acts-keep inside.heap c.release.new.heap c.release.ensures.acts) c.args.path.now c.release.result c.self.invariant.1 c.release.ensures.acts
           c.release.ensures.released c.release.ensures.err c.self.invariant.2,
       c.release.ensures.counts,
+      acts-periods inside.heap c.release.new.heap c.release.ensures.acts c.release.ensures.periods c.self.invariant.4,
     )
 
 pub returns-clause-released : goal.returns-clause-released

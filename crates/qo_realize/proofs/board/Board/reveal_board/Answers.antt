@@ -1,5 +1,6 @@
 -- What stands inside is what is seen.
 use Rattle.std.proofs.Common.{subst}
+use Rattle.qo_clocks.specs.Kept.{PeriodsKept}
 use Rattle.qo_reset.specs.Counts.{CountsKept}
 use Rattle.qo_realize.specs.BoardClaims.{KeepsClaims}
 use Rattle.qo_realize.specs.Parts.{Parts}
@@ -10,3 +11,6 @@ returns-clause-claims c = subst (λ (p : Parts). KeepsClaims p.objects) c.self.v
 
 pub returns-clause-counts : goal.returns-clause-counts
 returns-clause-counts c = subst (λ (p : Parts). CountsKept p.holds p.objects) c.self.view_is c.self.invariant.3
+
+pub returns-clause-periods : goal.returns-clause-periods
+returns-clause-periods c = subst (λ (p : Parts). PeriodsKept p.objects) c.self.view_is c.self.invariant.4

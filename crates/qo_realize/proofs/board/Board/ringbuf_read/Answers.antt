@@ -16,6 +16,7 @@ invariant_of-self c =
           (λ b good. ring_read-good b c.args.device.now c.args.size c.unwrap_or-form.result good) c.take.ensures.read c.take.ensures.err c.self.invariant.1,
       c.self.invariant.2,
       c.self.invariant.3,
+      c.self.invariant.4,
     )
 
 pub returns-clause-read : goal.returns-clause-read

@@ -9,4 +9,5 @@ invariant_of-self c =
       switched-for-good inside.rings inside.anonymous inside.running c.args.on inside.resets inside.hotplug inside.heap c.self.invariant.1,
       c.self.invariant.2,
       c.self.invariant.3,
+      c.self.invariant.4,
     )

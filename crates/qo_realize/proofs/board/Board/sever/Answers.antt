@@ -5,6 +5,7 @@ use Rattle.qo_realize.specs.Parts.{Parts}
 use Rattle.qo_realize.specs.Representation.{Stands}
 use Rattle.qo_realize.proofs.RepresentationLemmas.{answered-sound, err-stays, sever-stands}
 use Rattle.qo_realize.proofs.ClaimsLemmas.{change-claims}
+use Rattle.qo_realize.proofs.ClockedLemmas.{command-periods}
 use Rattle.qo_realize.proofs.CountedLemmas.{changed-counts}
 use Rattle.qo_realize.proofs.board.Board.sever.Goals as goal
 
@@ -29,4 +30,6 @@ invariant_of-self g c =
           c.sever.ensures.kept c.self.invariant.2,
       changed-counts b (severed c.args.birth) c.self.inside.resets.births c.self.inside.heap c.sever.new.heap sound.run.devices sound.holds s.shows s.holds
           (c.sever.ensures.change b s.shows).board c.sever.ensures.kept c.self.invariant.3,
+      command-periods b (severed c.args.birth) c.self.inside.heap c.sever.new.heap sound s.shows (c.sever.ensures.change b s.shows).board
+          c.sever.ensures.kept c.self.invariant.4,
     )

@@ -7,7 +7,9 @@ use Rattle.qo_properties.proofs.KeptLemmas.{none-empty}
 use Rattle.qo_realize.proofs.ClaimsLemmas.{opening-claims}
 use Rattle.qo_reset.specs.HoldList.{HoldList}
 use Rattle.qo_plug.proofs.KeptLemmas.{opening-counts}
+use Rattle.qo_properties.specs.KeptPeriods.{OwnKept}
 use Rattle.qo_realize.proofs.CountedLemmas.{same-counts}
+use Rattle.qo_realize.proofs.PeriodLemmas.{opening-periods, own-empty}
 use Rattle.qo_realize.proofs.board.Board.start.Goals as goal
 
 pub returns : goal.returns
@@ -27,4 +29,5 @@ invariant_of-result g c =
       opening-claims c.make_all.new.heap opened.1.shows (c.in_ok-make_all.ensures.bare (subst NoneKept (sym c.in_ok-heap.ensures) none-empty)),
       same-counts [] c.new-2.result.births c.make_all.new.heap c.make_all.new.heap refl (ap (λ (h : HoldList). h.births) c.new-2.ensures)
           (opening-counts c.make_all.new.heap (c.in_ok-make_all.ensures.bare (subst NoneKept (sym c.in_ok-heap.ensures) none-empty))),
+      opening-periods c.make_all.new.heap opened.1.shows (c.in_ok-make_all.ensures.periods (subst OwnKept (sym c.in_ok-heap.ensures) own-empty)),
     )

@@ -4,6 +4,7 @@ use Rattle.qo_realize.specs.Stages.{DraftParts, IsDrafted}
 use Rattle.qo_realize.proofs.StageLemmas.{given_up-stands, since-given_up}
 use Rattle.qo_plug.proofs.KeptLemmas.{new-then}
 use Rattle.qo_realize.proofs.ClaimsLemmas.{given_up-claims}
+use Rattle.qo_realize.proofs.ClockedLemmas.{given_up-periods}
 use Rattle.qo_realize.proofs.CountedLemmas.{given_up-counts}
 use Rattle.qo_realize.proofs.stages.Draft.abandon.Goals as goal
 
@@ -21,6 +22,9 @@ board_of-requires g c =
       given_up-counts b i.begun.target.kind i.begun.target.bus.birth x.resets.births is.since.before c.abandon.new.heap is.since.good.run.devices
           is.since.good.holds is.since.stood.shows is.since.stood.holds (c.abandon.ensures.given_up b a is.begun)
           (new-then is.since.before i.heap c.abandon.new.heap is.kept c.abandon.ensures.kept) is.since.counts_kept,
+      given_up-periods b i.begun.target.kind i.begun.target.bus.birth is.since.before c.abandon.new.heap is.since.good is.since.stood.shows
+          (c.abandon.ensures.given_up b a is.begun)
+          (new-then is.since.before i.heap c.abandon.new.heap is.kept c.abandon.ensures.kept) is.since.periods_kept,
     )
 
 pub returns : goal.returns

@@ -9,6 +9,8 @@ use Rattle.qo_values.specs.declared.codes.Code.TheVariants.{E44}
 use Rattle.qo_plug.specs.KeptClaims.{ClaimsOrNewBut, KeptSoFar}
 use Rattle.qo_plug.proofs.KeptLemmas.{far-but, far-new, far-others}
 use Rattle.qo_realize.proofs.ClaimsLemmas.{late-claims, plug-claims}
+use Rattle.qo_realize.proofs.ClockedLemmas.{late-periods}
+use Rattle.qo_realize.proofs.PlugClockLemmas.{far-fed, plug-periods}
 use Rattle.qo_realize.proofs.CountedLemmas.{late-counts, plug-counts}
 use Rattle.qo_realize.proofs.stages.Plugged.finish.Goals as goal
 
@@ -32,6 +34,9 @@ board_of-requires g c =
             far-others (plug b a).board is.since.before i.heap c.finish.new.heap c.in-Ok.added.birth i.placed.plugging
                 (subst (λ (n : ℕ). KeptSoFar n i.placed.plugging is.since.before i.heap) (sym c.in-Ok.ensures.device) is.kept) counts.1,
           ) is.since.counts_kept,
+      plug-periods b a c.in-Ok.added c.finish.new.hotplug is.since.before c.finish.new.heap is.since.good is.since.stood.shows added
+          (far-fed b a i.placed (plug b a).board is.since.before i.heap c.finish.new.heap c.in-Ok.added.birth is.settled is.fed c.in-Ok.ensures.stood
+          c.in-Ok.ensures.device c.in-Ok.ensures.periods (c.in-Ok.ensures.fed b a is.settled beside)) is.since.periods_kept,
     )
 
 pub board_of-requires-in-Err : goal.board_of-requires-in-Err
@@ -52,6 +57,9 @@ board_of-requires-in-Err g c =
           is.since.stood.holds (c.in-Err.ensures.refused b a is.settled)
           (far-new is.since.before i.heap c.finish.new.heap i.placed.device.birth i.placed.plugging is.kept c.in-Err.ensures.full c.in-Err.ensures.unkept)
           is.since.counts_kept,
+      late-periods b a 8 E44 is.since.before c.finish.new.heap is.since.good is.since.stood.shows (c.in-Err.ensures.refused b a is.settled)
+          (far-new is.since.before i.heap c.finish.new.heap i.placed.device.birth i.placed.plugging is.kept c.in-Err.ensures.full c.in-Err.ensures.unkept)
+          is.since.periods_kept,
     )
 
 pub returns-in-Ok : goal.returns-in-Ok
