@@ -106,6 +106,7 @@ fn put_named<L: Ledger>(heap: &mut Heap, o: Oid, name: PropertyName, val: Val, s
 }
 
 /// Gives the plain property of a name of an object a value; anything else stays.
+#[inline(always)]
 pub fn set_named<L: Ledger>(
     heap: &mut Heap,
     o: Oid,

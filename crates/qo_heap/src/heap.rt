@@ -181,6 +181,7 @@ impl Heap {
     /// Ends an object to which nothing refers and that holds nothing: empties the weak links that name
     /// it, adds its final notes, derived first, frees its claims, adds the event of a device whose path
     /// is kept, and removes it. It takes no memory.
+    #[inline(always)]
     pub fn finish<L: Ledger>(&mut self, o: Oid, steps: &mut Steps<L>)
         requires live { IsLive self.old.rows o }
         requires free { refs_of self.old o.birth ≡ 0 }

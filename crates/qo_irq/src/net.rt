@@ -86,6 +86,7 @@ impl Net {
     /// Adds a line, and answers its number: that of the lines before it. An input begins low. An error
     /// adds nothing: `BadRef` where the gate names a line that is not there, else `Full` at `MAX_LINES`
     /// lines, or `Memory`.
+    #[inline(always)]
     pub fn add(&mut self, gate: Gate) -> Result<u32, NetError>
         ensures { Added self.old self.new (wire_of gate false) result }
     {

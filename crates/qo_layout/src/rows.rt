@@ -39,6 +39,7 @@ pub(crate) fn line_of(rows: &[Row], object: u64) -> Option<u32>
 }
 
 /// Adds the line of what is in a slot of an object, if something is. `BadRef` where it has none.
+#[inline(always)]
 fn push_line<L: Ledger>(
     heap: &Heap,
     o: Oid,

@@ -42,6 +42,7 @@ fn initialize_whole<L: Ledger>(heap: &mut Heap, o: Oid, kind: TypeId, steps: &mu
 /// Makes an object of a type, without slots and pinned once, of the next birth, and runs its
 /// initializers, base first, each of which is noted (docs/devel/qom.rst, "The QEMU Object Model": `instance_init`). `Limit`
 /// comes exactly at `LIVE_OBJECTS_MAX` live objects. An error leaves the heap as it was.
+#[inline(always)]
 pub fn create<L: Ledger>(
     heap: &mut Heap,
     alloc: Global,

@@ -81,7 +81,6 @@ impl SlotMap {
     }
 
     /// The place of the slot of a name.
-    #[inline(always)]
     pub fn find(&self, name: &str) -> Option<usize>
         ensures { result ≡ position (λ s. bytes_eq name.now s.0) self.now }
     {
@@ -97,7 +96,6 @@ impl SlotMap {
     }
 
     /// The place of the slot of a property in a row.
-    #[inline(always)]
     pub fn find_row(&self, name: PropertyName) -> Option<usize>
         ensures { result ≡ position (λ s. bytes_eq (property_name name) s.0) self.now }
     {
@@ -164,6 +162,7 @@ impl SlotMap {
     }
 
     /// The names with one more, where there are then more than `COMPARED_MAX`, and there is memory.
+    #[inline(always)]
     fn names_with(&mut self, name: &str) -> Option<Names>
         requires { has_name name.now self.old ≡ false }
         ensures same { self.new ≡ self.old }

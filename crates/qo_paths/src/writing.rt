@@ -58,6 +58,7 @@ fn path_down(names: &[&str], alloc: Global) -> Result<String, AllocError>
 /// The canonical path of an object (docs/devel/qom.rst, "The QEMU Object Model"): `/` itself, or a
 /// `/` and the name of the child slot for each step down to the object; `None` exactly where it is
 /// detached. The error is want of memory.
+#[inline(always)]
 pub fn canonical<L: Ledger>(
     heap: &Heap,
     o: Oid,

@@ -36,6 +36,7 @@ use std::sync::ledger::Ledger;
 
 /// Makes a further object of a device as its child, which alone holds it then. Where memory wants,
 /// the heap is as it was, or the object was made and ended.
+#[inline(always)]
 pub(crate) fn make_kid<L: Ledger>(
     heap: &mut Heap,
     device: Oid,

@@ -45,6 +45,7 @@ pub(crate) fn give_up<L: Ledger>(heap: &mut Heap, o: Oid, steps: &mut Steps<L>)
 /// as a child of another. It gets them
 /// once it is a child, which takes no memory, so that where memory wants, it holds nothing: the heap is
 /// as it was, or the object was made and ended.
+#[inline(always)]
 fn make_with<L: Ledger>(
     heap: &mut Heap,
     parent: Oid,
