@@ -1,12 +1,12 @@
 //! What no clause says: that commands are answered where there is enough memory. What they tell is
-//! compared with texts written by hand. Of more commands this is told by the tests of `compose`.
+//! compared with texts written by hand.
 ghost use Rattle.std.specs.Prelude.{◌≡◌, ◌<◌};
 
 use qo_commands::{Done, ReplyBody, ask, change, interrupt_lines, listing_text, no_view};
 use qo_heap::Steps;
 use qo_realize::Board;
 use qo_requests::{Addition, Alteration, Change, Query};
-use qo_values::{Code, PropList, Text};
+use qo_values::{Code, PropList, Text, Val};
 use std::alloc::{AllocError, Global};
 use std::marker::Brand;
 use std::sync::ledger::{Blank, Ledger};
@@ -70,9 +70,25 @@ fn reads<L: Ledger>(alloc: Global, blank: Blank) -> Result<bool, AllocError>
     let path = text(alloc, "sysclk")?;
     let property = text(alloc, "period")?;
     let period = Query::QomGet { path, property };
+    let noted = Query::XQueryNotes { from: 7 };
     Ok(
         lists_type(alloc, &board, &listed, &mut steps)?
-            && tells(alloc, &board, &period, "42949672960", &mut steps)?,
+            && tells(alloc, &board, &period, "42949672960", &mut steps)?
+            && tells(
+                alloc,
+                &board,
+                &noted,
+                "{\"first\":0,\"notes\":[],\"total\":0}",
+                &mut steps,
+            )?
+            && tells(alloc, &board, &Query::XQueryDetached, "[]", &mut steps)?
+            && tells(
+                alloc,
+                &board,
+                &Query::XMemmap,
+                "[{\"at\":0,\"name\":\"boot\",\"offset\":0,\"size\":65536}]",
+                &mut steps,
+            )?,
     )
 }
 
@@ -117,6 +133,35 @@ fn adds<L: Ledger>(
     )
 }
 
+/// Writes the text of the tag.
+fn writes<L: Ledger>(
+    alloc: Global,
+    board: &mut Board,
+    steps: &mut Steps<L>,
+) -> Result<Option<Code>, AllocError> {
+    let path = text(alloc, "/objects/t")?;
+    let property = text(alloc, "text")?;
+    let value = Val::Text(text(alloc, "seen")?);
+    let written = Change::Alter(Alteration::QomSet {
+        path,
+        property,
+        value,
+    });
+    answer(alloc, board, &written, steps)
+}
+
+/// Whether the text of the tag is read.
+fn reads_text<L: Ledger>(
+    alloc: Global,
+    board: &Board,
+    steps: &mut Steps<L>,
+) -> Result<bool, AllocError> {
+    let path = text(alloc, "t")?;
+    let property = text(alloc, "text")?;
+    let read = Query::QomGet { path, property };
+    tells(alloc, board, &read, "\"seen\"", steps)
+}
+
 /// Removes the tag.
 fn removes<L: Ledger>(
     alloc: Global,
@@ -132,7 +177,22 @@ fn removes<L: Ledger>(
     )
 }
 
-/// Whether a tag is added and removed.
+/// Whether the last note on the tag is told.
+fn tells_end<L: Ledger>(
+    alloc: Global,
+    board: &Board,
+    steps: &mut Steps<L>,
+) -> Result<bool, AllocError> {
+    tells(
+        alloc,
+        board,
+        &Query::XQueryNotes { from: 1 },
+        "{\"first\":1,\"notes\":[\"final 9 tag\"],\"total\":2}",
+        steps,
+    )
+}
+
+/// Whether a tag is added, written, read and removed, and is not there to be severed.
 fn changes<L: Ledger>(alloc: Global, blank: Blank) -> Result<bool, AllocError>
     requires name { blank.name ≡ L.name }
     requires parts { blank.parts ≡ L.parts }
@@ -141,8 +201,13 @@ fn changes<L: Ledger>(alloc: Global, blank: Blank) -> Result<bool, AllocError>
     let mut steps = Steps::<L>::from_blank(blank);
     let mut board = Board::start(alloc, &mut steps)?;
     let is_added = adds(alloc, &mut board, &mut steps)?.is_none();
+    let is_written = writes(alloc, &mut board, &mut steps)?.is_none();
+    let is_read = reads_text(alloc, &board, &mut steps)?;
     let is_removed = removes(alloc, &mut board, &mut steps)?.is_none();
-    Ok(is_added && is_removed)
+    let is_noted = tells_end(alloc, &board, &mut steps)?;
+    let severed = Change::Alter(Alteration::XSever { birth: 9 });
+    let is_gone = answer(alloc, &mut board, &severed, &mut steps)? == Some(Code::E33);
+    Ok(is_added && is_written && is_read && is_removed && is_noted && is_gone)
 }
 
 #[test]

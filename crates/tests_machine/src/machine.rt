@@ -1,5 +1,5 @@
 //! That steps and runs succeed with ample memory: no clause says that memory does not want, nor that a
-//! reply is not E99. Whole sessions are told by the tests of `compose`.
+//! reply is not E99.
 
 use qo_causes::{Chunk, Input, Lane, Moment, ScriptHub, What};
 use qo_machine::{Ending, Machine, Outs, run};
@@ -13,10 +13,22 @@ const NEGOTIATE: &[u8] = b"{\"execute\":\"qmp_capabilities\"}";
 
 const LIST_ROOT: &[u8] = b"{\"execute\":\"qom-list\",\"arguments\":{\"path\":\"/\"}}";
 
+const QUIT: &[u8] = b"{\"execute\":\"quit\"}";
+
 const EMPTY: &[u8] = b"{\"return\":{}}\r\n";
 
 const ROOT: &[u8] =
     b"{\"return\":[{\"name\":\"type\",\"type\":\"string\"},{\"name\":\"machine\",\"type\":\"child<machine>\"},{\"name\":\"objects\",\"type\":\"child<container>\"}]}\r\n";
+
+const SHUTDOWN: &[u8] =
+    b"{\"data\":{\"guest\":false,\"reason\":\"host-qmp-quit\"},\"event\":\"SHUTDOWN\",\"timestamp\":{\"microseconds\":0,\"seconds\":1}}\r\n";
+
+const NONE_AND_NO_LINE: &[u8] = b"gok none\ngno line\n";
+
+const FINE: &[u8] = b"gok\n";
+
+const GUEST_SHUTDOWN: &[u8] =
+    b"{\"data\":{\"guest\":true,\"reason\":\"guest-shutdown\"},\"event\":\"SHUTDOWN\",\"timestamp\":{\"microseconds\":0,\"seconds\":1}}\r\n";
 
 fn input(what: What) -> Input {
     Input {
@@ -39,6 +51,11 @@ fn chunk(alloc: Global, bytes: &[u8]) -> Result<Chunk, Fail> {
 /// Bytes of a session.
 fn bytes(alloc: Global, session: u8, bytes: &[u8]) -> Result<Input, Fail> {
     Ok(input(What::Bytes(session, chunk(alloc, bytes)?)))
+}
+
+/// Bytes of the guest.
+fn guest(alloc: Global, bytes: &[u8]) -> Result<Input, Fail> {
+    Ok(input(What::Guest(chunk(alloc, bytes)?)))
 }
 
 /// The texts of some messages, one after another, each after its lane.
@@ -64,16 +81,36 @@ fn joined(alloc: Global, pieces: &[&[u8]]) -> Result<Vec<u8>, Fail> {
 }
 
 #[test]
-fn a_session_is_greeted(rt: HostRuntime) -> Result<(), Fail> {
+fn a_session_is_served(rt: HostRuntime) -> Result<(), Fail> {
     let alloc = rt.alloc();
     let mut machine = Machine::start(alloc)?;
     let opened = machine.step(alloc, &input(What::Open(0)))?;
     assert_eq!(rt; told(alloc, &opened)?, joined(alloc, &[b"0", GREETING])?);
+    let commands = joined(alloc, &[NEGOTIATE, LIST_ROOT, QUIT])?;
+    let served = machine.step(alloc, &bytes(alloc, 0, &commands)?)?;
+    let replies = [b"0", EMPTY, b"0", ROOT, b"0", SHUTDOWN, b"0", EMPTY];
+    assert_eq!(rt; told(alloc, &served)?, joined(alloc, &replies)?);
     Ok(())
 }
 
-/// A hub with the inputs of a session that negotiates and lists the root.
-fn listing_hub(alloc: Global) -> Result<ScriptHub, Fail> {
+#[test]
+fn the_guest_is_answered_line_by_line(rt: HostRuntime) -> Result<(), Fail> {
+    let alloc = rt.alloc();
+    let mut machine = Machine::start(alloc)?;
+    machine.step(alloc, &input(What::Open(0)))?;
+    machine.step(alloc, &bytes(alloc, 0, NEGOTIATE)?)?;
+    let unfinished = machine.step(alloc, &guest(alloc, b"po")?)?;
+    assert_eq!(rt; told(alloc, &unfinished)?, joined(alloc, &[])?);
+    let lines = guest(alloc, b"ll\r\nbark\nshutdown\npoll\n")?;
+    let served = machine.step(alloc, &lines)?;
+    let answers = [NONE_AND_NO_LINE, b"0", GUEST_SHUTDOWN, FINE];
+    assert_eq!(rt; told(alloc, &served)?, joined(alloc, &answers)?);
+    assert!(rt; machine.ended());
+    Ok(())
+}
+
+/// A hub with the inputs of a session that negotiates and lists the root, and whose calls of these numbers fail.
+fn listing_hub(alloc: Global, nexts: &[u64], sends: &[u64]) -> Result<ScriptHub, Fail> {
     let mut inputs = Vec::new(alloc);
     inputs.push(input(What::Open(0)))?;
     inputs.push(bytes(alloc, 0, NEGOTIATE)?)?;
@@ -82,8 +119,8 @@ fn listing_hub(alloc: Global) -> Result<ScriptHub, Fail> {
         alloc,
         inputs,
         4_096,
-        Vec::new(alloc),
-        Vec::new(alloc),
+        Vec::from_slice(alloc, nexts)?,
+        Vec::from_slice(alloc, sends)?,
         Vec::new(alloc),
     )?)
 }
@@ -91,7 +128,7 @@ fn listing_hub(alloc: Global) -> Result<ScriptHub, Fail> {
 #[test]
 fn a_run_sends_each_message(rt: HostRuntime) -> Result<(), Fail> {
     let alloc = rt.alloc();
-    let mut hub = listing_hub(alloc)?;
+    let mut hub = listing_hub(alloc, &[], &[])?;
     assert_eq!(rt; run(alloc, &mut hub, 4), Ending::Done);
     assert_eq!(rt;
         hub.lane(Lane::Session(0)),
@@ -101,9 +138,13 @@ fn a_run_sends_each_message(rt: HostRuntime) -> Result<(), Fail> {
 }
 
 #[test]
-fn a_run_stops_at_its_limit(rt: HostRuntime) -> Result<(), Fail> {
+fn a_run_stops_at_its_limit_and_at_a_fault(rt: HostRuntime) -> Result<(), Fail> {
     let alloc = rt.alloc();
-    let mut hub = listing_hub(alloc)?;
+    let mut hub = listing_hub(alloc, &[], &[])?;
     assert_eq!(rt; run(alloc, &mut hub, 3), Ending::Limit);
+    let mut hub = listing_hub(alloc, &[3], &[])?;
+    assert_eq!(rt; run(alloc, &mut hub, 4), Ending::NextFailed);
+    let mut hub = listing_hub(alloc, &[], &[3])?;
+    assert_eq!(rt; run(alloc, &mut hub, 4), Ending::SendFailed);
     Ok(())
 }
