@@ -1,9 +1,7 @@
-//! Tests of commands, of steps of the machine and of runs over a hub. They say what no clause says: that commands are
-//! answered with ample memory, and not by E99, and what they tell, in texts that were written by hand. They stand in a
-//! crate of their own since a crate with tests is proved twice, with them and without.
+//! Tests of steps of the machine and of runs over a hub. They say what no clause says: that inputs are answered with ample
+//! memory, and not by E99, and what is sent, in texts that were written by hand. They stand in a crate of their own since
+//! a crate with tests is proved twice, with them and without.
 #![tactic(auto)]
 
-#[cfg(test)]
-mod commands;
 #[cfg(test)]
 mod machine;

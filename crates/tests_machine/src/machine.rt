@@ -4,59 +4,68 @@
 use qo_causes::{Chunk, Input, Lane, Moment, ScriptHub, What};
 use qo_machine::{Ending, Machine, Outs, run};
 use std::alloc::Global;
+use std::process::Abort;
 use std::test::Fail;
 
-const GREETING: &[u8] =
-    b"{\"QMP\":{\"capabilities\":[],\"version\":{\"package\":\"compose\",\"qemu\":{\"major\":1,\"micro\":0,\"minor\":0}}}}\r\n";
+/// What comes to a machine.
+enum Given {
+    /// Session 0 opens.
+    Open,
+    /// Session 0 says this.
+    Says(&'static str),
+    /// The guest says this.
+    Guest(&'static str),
+}
 
-const NEGOTIATE: &[u8] = b"{\"execute\":\"qmp_capabilities\"}";
+impl Given {
+    /// It as what an input is.
+    fn what(&self, alloc: Global) -> Result<What, Fail> {
+        match self {
+            Given::Open => Ok(What::Open(0)),
+            Given::Says(text) => Ok(What::Bytes(0, chunk(alloc, text)?)),
+            Given::Guest(text) => Ok(What::Guest(chunk(alloc, text)?)),
+        }
+    }
 
-const LIST_ROOT: &[u8] = b"{\"execute\":\"qom-list\",\"arguments\":{\"path\":\"/\"}}";
-
-const QUIT: &[u8] = b"{\"execute\":\"quit\"}";
-
-const EMPTY: &[u8] = b"{\"return\":{}}\r\n";
-
-const ROOT: &[u8] =
-    b"{\"return\":[{\"name\":\"type\",\"type\":\"string\"},{\"name\":\"machine\",\"type\":\"child<machine>\"},{\"name\":\"objects\",\"type\":\"child<container>\"}]}\r\n";
-
-const SHUTDOWN: &[u8] =
-    b"{\"data\":{\"guest\":false,\"reason\":\"host-qmp-quit\"},\"event\":\"SHUTDOWN\",\"timestamp\":{\"microseconds\":0,\"seconds\":1}}\r\n";
-
-const NONE_AND_NO_LINE: &[u8] = b"gok none\ngno line\n";
-
-const FINE: &[u8] = b"gok\n";
-
-const GUEST_SHUTDOWN: &[u8] =
-    b"{\"data\":{\"guest\":true,\"reason\":\"guest-shutdown\"},\"event\":\"SHUTDOWN\",\"timestamp\":{\"microseconds\":0,\"seconds\":1}}\r\n";
-
-fn input(what: What) -> Input {
-    Input {
-        at: Moment {
+    /// It as an input at the second 1.
+    fn input(&self, alloc: Global) -> Result<Input, Fail> {
+        let at = Moment {
             seconds: 1,
             micros: 0,
-        },
-        what,
+        };
+        let what = self.what(alloc)?;
+        Ok(Input { at, what })
     }
 }
 
-/// Bytes as one piece.
-fn chunk(alloc: Global, bytes: &[u8]) -> Result<Chunk, Fail> {
-    if bytes.is_empty() || bytes.len() > Chunk::MAX {
+/// A text as one piece.
+fn chunk(alloc: Global, text: &str) -> Result<Chunk, Fail> {
+    if text.is_empty() || text.len() > Chunk::MAX {
         return Err("no chunk".into());
     }
-    Ok(Chunk::from_vec(Vec::from_slice(alloc, bytes)?))
+    Ok(Chunk::from_vec(Vec::from_slice(alloc, text.as_bytes())?))
 }
 
-/// Bytes of a session.
-fn bytes(alloc: Global, session: u8, bytes: &[u8]) -> Result<Input, Fail> {
-    Ok(input(What::Bytes(session, chunk(alloc, bytes)?)))
-}
+const GREETING: &str =
+    "{\"QMP\":{\"capabilities\":[],\"version\":{\"package\":\"compose\",\"qemu\":{\"major\":1,\"micro\":0,\"minor\":0}}}}\r\n";
 
-/// Bytes of the guest.
-fn guest(alloc: Global, bytes: &[u8]) -> Result<Input, Fail> {
-    Ok(input(What::Guest(chunk(alloc, bytes)?)))
-}
+const NEGOTIATE: &str = "{\"execute\":\"qmp_capabilities\"}";
+
+const LIST_ROOT: &str = "{\"execute\":\"qom-list\",\"arguments\":{\"path\":\"/\"}}";
+
+const ALL_AT_ONCE: &str =
+    "{\"execute\":\"qmp_capabilities\"}{\"execute\":\"qom-list\",\"arguments\":{\"path\":\"/\"}}{\"execute\":\"quit\"}";
+
+const EMPTY: &str = "{\"return\":{}}\r\n";
+
+const ROOT: &str =
+    "{\"return\":[{\"name\":\"type\",\"type\":\"string\"},{\"name\":\"machine\",\"type\":\"child<machine>\"},{\"name\":\"objects\",\"type\":\"child<container>\"}]}\r\n";
+
+const SHUTDOWN: &str =
+    "{\"data\":{\"guest\":false,\"reason\":\"host-qmp-quit\"},\"event\":\"SHUTDOWN\",\"timestamp\":{\"microseconds\":0,\"seconds\":1}}\r\n";
+
+const GUEST_SHUTDOWN: &str =
+    "{\"data\":{\"guest\":true,\"reason\":\"guest-shutdown\"},\"event\":\"SHUTDOWN\",\"timestamp\":{\"microseconds\":0,\"seconds\":1}}\r\n";
 
 /// The texts of some messages, one after another, each after its lane.
 fn told(alloc: Global, outs: &Outs) -> Result<Vec<u8>, Fail> {
@@ -71,66 +80,83 @@ fn told(alloc: Global, outs: &Outs) -> Result<Vec<u8>, Fail> {
     Ok(text)
 }
 
-/// What a step of the machine sends.
-fn answer(alloc: Global, machine: &mut Machine, input: &Input) -> Result<Vec<u8>, Fail> {
-    let outs = machine.step(alloc, input)?;
-    told(alloc, &outs)
-}
-
-/// How a run of so many inputs ends.
-fn ending(alloc: Global, hub: &mut ScriptHub, limit: u64) -> Ending {
-    run(alloc, hub, limit)
-}
-
-/// Pieces, one after another.
-fn joined(alloc: Global, pieces: &[&[u8]]) -> Result<Vec<u8>, Fail> {
+/// Texts, one after another.
+fn joined(alloc: Global, pieces: &[&str]) -> Result<Vec<u8>, Fail> {
     let mut text = Vec::new(alloc);
     for piece in pieces {
-        text.extend_from_slice(piece)?;
+        text.extend_from_slice(piece.as_bytes())?;
     }
     Ok(text)
 }
 
-/// A machine at its beginning.
-fn started(alloc: Global) -> Result<Machine, Fail> {
-    Ok(Machine::start(alloc)?)
+/// What a step of the machine sends.
+fn answer(alloc: Global, machine: &mut Machine, given: &Given) -> Result<Vec<u8>, Fail> {
+    let outs = machine.step(alloc, &given.input(alloc)?)?;
+    told(alloc, &outs)
 }
+
+/// What comes, and what is sent for it: each text after its lane.
+type Row = (Given, &'static [&'static str]);
+
+/// A machine answers so from its beginning.
+fn answers_so(rt: &impl Abort, alloc: Global, rows: &[Row]) -> Result<(), Fail> {
+    let mut machine = Machine::start(alloc)?;
+    for (given, wanted) in rows {
+        let sent = answer(alloc, &mut machine, given)?;
+        assert_eq!(rt; sent, joined(alloc, wanted)?);
+    }
+    Ok(())
+}
+
+/// A session that says all at once, and ends the run.
+const SESSION: [Row; 2] = [
+    (Given::Open, &["0", GREETING]),
+    (
+        Given::Says(ALL_AT_ONCE),
+        &["0", EMPTY, "0", ROOT, "0", SHUTDOWN, "0", EMPTY],
+    ),
+];
 
 #[test]
 fn a_session_is_served(rt: HostRuntime) -> Result<(), Fail> {
-    let alloc = rt.alloc();
-    let mut machine = started(alloc)?;
-    let opened = answer(alloc, &mut machine, &input(What::Open(0)))?;
-    assert_eq!(rt; opened, joined(alloc, &[b"0", GREETING])?);
-    let commands = joined(alloc, &[NEGOTIATE, LIST_ROOT, QUIT])?;
-    let served = answer(alloc, &mut machine, &bytes(alloc, 0, &commands)?)?;
-    let replies = [b"0", EMPTY, b"0", ROOT, b"0", SHUTDOWN, b"0", EMPTY];
-    assert_eq!(rt; served, joined(alloc, &replies)?);
-    Ok(())
+    answers_so(&rt, rt.alloc(), &SESSION)
 }
+
+/// A guest whose first line comes in two pieces, and who says one that is none.
+const LINES: [Row; 5] = [
+    (Given::Open, &["0", GREETING]),
+    (Given::Says(NEGOTIATE), &["0", EMPTY]),
+    (Given::Guest("po"), &[]),
+    (
+        Given::Guest("ll\r\nbark\nshutdown\npoll\n"),
+        &[
+            "g",
+            "ok none\n",
+            "g",
+            "no line\n",
+            "0",
+            GUEST_SHUTDOWN,
+            "g",
+            "ok\n",
+        ],
+    ),
+    (Given::Guest("poll\n"), &[]),
+];
 
 #[test]
 fn the_guest_is_answered_line_by_line(rt: HostRuntime) -> Result<(), Fail> {
-    let alloc = rt.alloc();
-    let mut machine = started(alloc)?;
-    answer(alloc, &mut machine, &input(What::Open(0)))?;
-    answer(alloc, &mut machine, &bytes(alloc, 0, NEGOTIATE)?)?;
-    let unfinished = answer(alloc, &mut machine, &guest(alloc, b"po")?)?;
-    assert_eq!(rt; unfinished, joined(alloc, &[])?);
-    let lines = guest(alloc, b"ll\r\nbark\nshutdown\npoll\n")?;
-    let served = answer(alloc, &mut machine, &lines)?;
-    let answers = [NONE_AND_NO_LINE, b"0", GUEST_SHUTDOWN, FINE];
-    assert_eq!(rt; served, joined(alloc, &answers)?);
-    assert!(rt; machine.ended());
-    Ok(())
+    answers_so(&rt, rt.alloc(), &LINES)
 }
 
-/// A hub with the inputs of a session that negotiates and lists the root, and whose calls of these numbers fail.
-fn listing_hub(alloc: Global, nexts: &[u64], sends: &[u64]) -> Result<ScriptHub, Fail> {
+/// A session that negotiates and lists the root.
+const LISTING: [Given; 3] = [Given::Open, Given::Says(NEGOTIATE), Given::Says(LIST_ROOT)];
+
+/// A hub with these inputs, and whose calls of these numbers fail.
+fn hub(alloc: Global, givens: &[Given], nexts: &[u64], sends: &[u64]) -> Result<ScriptHub, Fail> {
     let mut inputs = Vec::new(alloc);
-    inputs.push(input(What::Open(0)))?;
-    inputs.push(bytes(alloc, 0, NEGOTIATE)?)?;
-    inputs.push(bytes(alloc, 0, LIST_ROOT)?)?;
+    for given in givens {
+        inputs.push(given.input(alloc)?)?;
+    }
     Ok(ScriptHub::new(
         alloc,
         inputs,
@@ -141,26 +167,70 @@ fn listing_hub(alloc: Global, nexts: &[u64], sends: &[u64]) -> Result<ScriptHub,
     )?)
 }
 
-#[test]
-fn a_run_sends_each_message(rt: HostRuntime) -> Result<(), Fail> {
-    let alloc = rt.alloc();
-    let mut hub = listing_hub(alloc, &[], &[])?;
-    assert_eq!(rt; ending(alloc, &mut hub, 4), Ending::Done);
-    assert_eq!(rt;
-        hub.lane(Lane::Session(0)),
-        joined(alloc, &[GREETING, EMPTY, ROOT])?.as_slice()
-    );
-    Ok(())
+/// How a run over the listing ends, and what the session got.
+fn run_over(
+    alloc: Global,
+    nexts: &[u64],
+    sends: &[u64],
+    limit: u64,
+) -> Result<(Ending, Vec<u8>), Fail> {
+    let mut hub = hub(alloc, &LISTING, nexts, sends)?;
+    let ending = run(alloc, &mut hub, limit);
+    let got = Vec::from_slice(alloc, hub.lane(Lane::Session(0)))?;
+    Ok((ending, got))
 }
 
+/// A run over the listing.
+struct Run {
+    /// The numbers of the calls of the hub that fail to give an input.
+    nexts: &'static [u64],
+    /// The numbers of those that fail to send.
+    sends: &'static [u64],
+    /// How many inputs it may take.
+    limit: u64,
+    /// How it ends.
+    ending: Ending,
+    /// What the session got.
+    got: &'static [&'static str],
+}
+
+const RUNS: [Run; 4] = [
+    Run {
+        nexts: &[],
+        sends: &[],
+        limit: 4,
+        ending: Ending::Done,
+        got: &[GREETING, EMPTY, ROOT],
+    },
+    Run {
+        nexts: &[],
+        sends: &[],
+        limit: 3,
+        ending: Ending::Limit,
+        got: &[GREETING, EMPTY, ROOT],
+    },
+    Run {
+        nexts: &[3],
+        sends: &[],
+        limit: 4,
+        ending: Ending::NextFailed,
+        got: &[GREETING, EMPTY],
+    },
+    Run {
+        nexts: &[],
+        sends: &[3],
+        limit: 4,
+        ending: Ending::SendFailed,
+        got: &[GREETING, EMPTY],
+    },
+];
+
 #[test]
-fn a_run_stops_at_its_limit_and_at_a_fault(rt: HostRuntime) -> Result<(), Fail> {
-    let alloc = rt.alloc();
-    let mut hub = listing_hub(alloc, &[], &[])?;
-    assert_eq!(rt; ending(alloc, &mut hub, 3), Ending::Limit);
-    let mut hub = listing_hub(alloc, &[3], &[])?;
-    assert_eq!(rt; ending(alloc, &mut hub, 4), Ending::NextFailed);
-    let mut hub = listing_hub(alloc, &[], &[3])?;
-    assert_eq!(rt; ending(alloc, &mut hub, 4), Ending::SendFailed);
+fn runs_end_so(rt: HostRuntime) -> Result<(), Fail> {
+    for row in &RUNS {
+        let (ending, got) = run_over(rt.alloc(), row.nexts, row.sends, row.limit)?;
+        assert_eq!(rt; ending, row.ending);
+        assert_eq!(rt; got, joined(rt.alloc(), row.got)?);
+    }
     Ok(())
 }

@@ -52,11 +52,11 @@ fn stop(alloc: Global, bytes: &[u8], count: usize) -> Result<Option<u64>, Fail> 
     stop_of(&mut hub(alloc, bytes)?, count)
 }
 
-/// How many bytes the guest wrote.
-fn guest_size(what: &What) -> usize {
-    match what {
-        What::Guest(chunk) => chunk.as_slice().len(),
-        _ => 0,
+/// How many bytes the guest wrote next.
+fn next_size<H: Hub>(hub: &mut H) -> Result<usize, Fail> {
+    match hub.next()?.what {
+        What::Guest(chunk) => Ok(chunk.as_slice().len()),
+        _ => Ok(0),
     }
 }
 
@@ -95,6 +95,39 @@ fn next_told<H: Hub>(alloc: Global, hub: &mut H) -> Result<String, Fail> {
         Ok(input) => told(alloc, &input),
         Err(error) => Ok(format!(in alloc; "{error}")?),
     }
+}
+
+/// What a hub does.
+enum Act {
+    /// It gives this next: an input, or why there is none.
+    Gives(&'static str),
+    /// It sends this to a lane.
+    Sends(Lane, &'static str),
+    /// It fails to send this.
+    FailsToSend(Lane, &'static str),
+}
+
+/// Whether a hub does this.
+fn does<H: Hub>(alloc: Global, hub: &mut H, act: &Act) -> Result<bool, Fail> {
+    match act {
+        Act::Gives(text) => Ok(next_told(alloc, hub)?.as_str() == *text),
+        Act::Sends(lane, text) => Ok(hub.send(*lane, text.as_bytes()).is_ok()),
+        Act::FailsToSend(lane, text) => {
+            Ok(hub.send(*lane, text.as_bytes()).err() == Some(SendError::Failed))
+        }
+    }
+}
+
+/// How many of these, from the first on, a hub does.
+fn done<H: Hub>(alloc: Global, hub: &mut H, acts: &[Act]) -> Result<usize, Fail> {
+    let mut count = 0;
+    for act in acts {
+        if !does(alloc, hub, act)? {
+            return Ok(count);
+        }
+        count += 1;
+    }
+    Ok(count)
 }
 
 /// A hub gives these next.
@@ -332,24 +365,24 @@ fn pieces_have_at_most_65536_bytes(rt: HostRuntime) -> Result<(), Fail> {
     let most = stream_of_piece(rt.alloc(), b"65536", 65_536)?;
     assert_eq!(rt; stop(rt.alloc(), &most, 1)?, None);
     let mut whole = hub(rt.alloc(), &most)?;
-    assert_eq!(rt; guest_size(&whole.next()?.what), 65_536);
+    assert_eq!(rt; next_size(&mut whole)?, 65_536);
     let more = stream_of_piece(rt.alloc(), b"65537", 65_537)?;
     assert_eq!(rt; stop(rt.alloc(), &more, 0)?, Some(7));
     Ok(())
 }
 
+/// Messages to sessions and to the guest, of which the second is refused.
+const MESSAGES: [Act; 4] = [
+    Act::Sends(Lane::Session(15), "one\r\n"),
+    Act::FailsToSend(Lane::Guest, "two\n"),
+    Act::Sends(Lane::Session(0), "three\r\n"),
+    Act::Sends(Lane::Guest, "four\n"),
+];
+
 #[test]
 fn messages_go_into_the_sink_as_lines(rt: HostRuntime) -> Result<(), Fail> {
     let mut hub = hub(rt.alloc(), b"qrec 1\n")?;
-    let failed = Some(SendError::Failed);
-    for (lane, message, error) in [
-        (Lane::Session(15), b"one\r\n".as_slice(), None),
-        (Lane::Guest, b"two\n", failed),
-        (Lane::Session(0), b"three\r\n", None),
-        (Lane::Guest, b"four\n", None),
-    ] {
-        assert_eq!(rt; hub.send(lane, message).err(), error);
-    }
+    assert_eq!(rt; done(rt.alloc(), &mut hub, &MESSAGES)?, 4);
     assert_eq!(rt;
         hub.into_parts().1.held(),
         b"15 one\r\n0 three\r\ng four\n".as_slice()
@@ -357,22 +390,24 @@ fn messages_go_into_the_sink_as_lines(rt: HostRuntime) -> Result<(), Fail> {
     Ok(())
 }
 
+/// Messages between inputs that open and shut named sessions.
+const BETWEEN: [Act; 10] = [
+    Act::Gives("1.000000 open 0"),
+    Act::Sends(Lane::Session(0), "1\r\n"),
+    Act::FailsToSend(Lane::Guest, "2\n"),
+    Act::Gives("1.000000 open 1"),
+    Act::Gives("1.000000 shut 0"),
+    Act::Sends(Lane::Session(1), "3\r\n"),
+    Act::Sends(Lane::Session(0), "4\r\n"),
+    Act::Gives("1.000000 open 0"),
+    Act::Sends(Lane::Session(0), "5\r\n"),
+    Act::Sends(Lane::Guest, "6\n"),
+];
+
 #[test]
 fn lines_have_the_names_of_their_time(rt: HostRuntime) -> Result<(), Fail> {
-    let mut hub = hub_over(rt.alloc(), source_of(rt.alloc(), THREE, &[])?)?;
-    gives(&rt, rt.alloc(), &mut hub, &["1.000000 open 0"])?;
-    assert_eq!(rt; hub.send(Lane::Session(0), b"1\r\n").err(), None);
-    assert_eq!(rt;
-        hub.send(Lane::Guest, b"2\n").err(),
-        Some(SendError::Failed)
-    );
-    let texts = ["1.000000 open 1", "1.000000 shut 0"];
-    gives(&rt, rt.alloc(), &mut hub, &texts)?;
-    assert_eq!(rt; hub.send(Lane::Session(1), b"3\r\n").err(), None);
-    assert_eq!(rt; hub.send(Lane::Session(0), b"4\r\n").err(), None);
-    gives(&rt, rt.alloc(), &mut hub, &["1.000000 open 0"])?;
-    assert_eq!(rt; hub.send(Lane::Session(0), b"5\r\n").err(), None);
-    assert_eq!(rt; hub.send(Lane::Guest, b"6\n").err(), None);
+    let mut hub = hub(rt.alloc(), THREE)?;
+    assert_eq!(rt; done(rt.alloc(), &mut hub, &BETWEEN)?, 10);
     assert_eq!(rt;
         hub.into_parts().1.held(),
         b"a 1\r\nb 3\r\n0 4\r\nc 5\r\ng 6\n".as_slice()
@@ -397,17 +432,25 @@ impl Source for Drip {
     }
 }
 
+/// Where a stream that comes byte by byte stops after so many inputs.
+fn drip_stop(alloc: Global, bytes: &[u8], count: usize) -> Result<Option<u64>, Fail> {
+    let inner = source_of(alloc, bytes, &[])?;
+    stop_of(&mut hub_over(alloc, Drip { inner })?, count)
+}
+
+/// Streams that are whole, cut, and named.
+const DRIPS: [Row; 3] = [
+    (EACH_KIND, 5, None),
+    (b"qrec 1\nopen 1.000000 0\nbytes 1.0", 1, Some(23)),
+    (THREE, 5, None),
+];
+
 #[test]
 fn entries_come_byte_by_byte(rt: HostRuntime) -> Result<(), Fail> {
-    let inner = source_of(rt.alloc(), EACH_KIND, &[])?;
-    let mut drip = hub_over(rt.alloc(), Drip { inner })?;
-    assert_eq!(rt; stop_of(&mut drip, 5)?, None);
-    let inner = source_of(rt.alloc(), b"qrec 1\nopen 1.000000 0\nbytes 1.0", &[])?;
-    let mut cut = hub_over(rt.alloc(), Drip { inner })?;
-    assert_eq!(rt; stop_of(&mut cut, 1)?, Some(23));
-    let inner = source_of(rt.alloc(), THREE, &[])?;
-    let mut named = hub_over(rt.alloc(), Drip { inner })?;
-    assert_eq!(rt; stop_of(&mut named, 5)?, None);
+    for (bytes, count, place) in &DRIPS {
+        let stopped = drip_stop(rt.alloc(), bytes, *count)?;
+        assert_eq!(rt; stopped, *place, "{bytes:?}");
+    }
     Ok(())
 }
 
@@ -417,24 +460,26 @@ fn entries_of_the_largest_size_follow_each_other(rt: HostRuntime) -> Result<(), 
     add_piece(&mut bytes, b"65536", 65_536)?;
     bytes.extend_from_slice(b"step 0.000000 1\nwrong")?;
     let mut hub = hub(rt.alloc(), &bytes)?;
-    assert_eq!(rt; guest_size(&hub.next()?.what), 65_536);
-    assert_eq!(rt; guest_size(&hub.next()?.what), 65_536);
+    assert_eq!(rt; next_size(&mut hub)?, 65_536);
+    assert_eq!(rt; next_size(&mut hub)?, 65_536);
     assert_eq!(rt; stop_of(&mut hub, 1)?, Some(131_139));
     Ok(())
 }
 
+/// A message between what a source gave, and what it fails to give.
+const FAILED_TAKE: [Act; 5] = [
+    Act::Gives("1.000000 open 0"),
+    Act::Sends(Lane::Session(0), "one\r\n"),
+    Act::Gives("1.000000 step 5"),
+    Act::Gives("the hub failed"),
+    Act::Gives("no input at byte 39"),
+];
+
 #[test]
 fn whole_entries_are_given_before_a_take(rt: HostRuntime) -> Result<(), Fail> {
-    let source = source_of(
-        rt.alloc(),
-        b"qrec 1\nopen 1.000000 0\nstep 1.000000 5\nste",
-        &[2],
-    )?;
-    let mut hub = hub_over(rt.alloc(), source)?;
-    gives(&rt, rt.alloc(), &mut hub, &["1.000000 open 0"])?;
-    assert!(rt; hub.send(Lane::Session(0), b"one\r\n").is_ok());
-    let after = ["1.000000 step 5", "the hub failed", "no input at byte 39"];
-    gives(&rt, rt.alloc(), &mut hub, &after)?;
+    let stream = b"qrec 1\nopen 1.000000 0\nstep 1.000000 5\nste";
+    let mut hub = hub_over(rt.alloc(), source_of(rt.alloc(), stream, &[2])?)?;
+    assert_eq!(rt; done(rt.alloc(), &mut hub, &FAILED_TAKE)?, 5);
     assert_eq!(rt; hub.into_parts().1.held(), b"0 one\r\n".as_slice());
     Ok(())
 }
@@ -450,15 +495,19 @@ fn a_failed_take_is_not_the_end(rt: HostRuntime) -> Result<(), Fail> {
     )
 }
 
-/// What stands after the opening of session 0, where the source fails before it gives more than these bytes.
-fn after_opening(alloc: Global, bytes: &[u8]) -> Result<Option<NextError>, Fail> {
-    let mut stream = b"qrec 1\nopen 1.000000 0\n".to_vec(alloc)?;
-    stream.extend_from_slice(bytes)?;
-    let mut hub = hub_over(alloc, source_of(alloc, &stream, &[2])?)?;
+/// What stands after the opening of session 0.
+fn second<H: Hub>(hub: &mut H) -> Result<Option<NextError>, Fail> {
     if !matches!(hub.next()?.what, What::Open(0)) {
         return Err("the opening did not come".into());
     }
     Ok(hub.next().err())
+}
+
+/// What stands after the opening of session 0, where the source fails before it gives more than these bytes.
+fn after_opening(alloc: Global, bytes: &[u8]) -> Result<Option<NextError>, Fail> {
+    let mut stream = b"qrec 1\nopen 1.000000 0\n".to_vec(alloc)?;
+    stream.extend_from_slice(bytes)?;
+    second(&mut hub_over(alloc, source_of(alloc, &stream, &[2])?)?)
 }
 
 /// Bytes that no entry begins with, and that promise none that are still to come.

@@ -57,6 +57,59 @@ fn lists_type<L: Ledger>(
     Ok(listed.as_str() == "[{\"name\":\"type\",\"type\":\"string\"}]")
 }
 
+/// Whether the users' objects are listed.
+fn lists_objects<L: Ledger>(
+    alloc: Global,
+    board: &Board,
+    steps: &mut Steps<L>,
+) -> Result<bool, AllocError> {
+    let path = text(alloc, "/objects")?;
+    lists_type(alloc, board, &Query::QomList { path }, steps)
+}
+
+/// Whether the period of the system clock is told.
+fn tells_period<L: Ledger>(
+    alloc: Global,
+    board: &Board,
+    steps: &mut Steps<L>,
+) -> Result<bool, AllocError> {
+    let path = text(alloc, "sysclk")?;
+    let property = text(alloc, "period")?;
+    let read = Query::QomGet { path, property };
+    tells(alloc, board, &read, "42949672960", steps)
+}
+
+/// Whether no note is told.
+fn tells_no_note<L: Ledger>(
+    alloc: Global,
+    board: &Board,
+    steps: &mut Steps<L>,
+) -> Result<bool, AllocError> {
+    let read = Query::XQueryNotes { from: 7 };
+    tells(
+        alloc,
+        board,
+        &read,
+        "{\"first\":0,\"notes\":[],\"total\":0}",
+        steps,
+    )
+}
+
+/// Whether the map is told.
+fn tells_map<L: Ledger>(
+    alloc: Global,
+    board: &Board,
+    steps: &mut Steps<L>,
+) -> Result<bool, AllocError> {
+    tells(
+        alloc,
+        board,
+        &Query::XMemmap,
+        "[{\"at\":0,\"name\":\"boot\",\"offset\":0,\"size\":65536}]",
+        steps,
+    )
+}
+
 /// Whether the opening board is read.
 fn reads<L: Ledger>(alloc: Global, blank: Blank) -> Result<bool, AllocError>
     requires name { blank.name ≡ L.name }
@@ -65,31 +118,12 @@ fn reads<L: Ledger>(alloc: Global, blank: Blank) -> Result<bool, AllocError>
 {
     let mut steps = Steps::<L>::from_blank(blank);
     let board = Board::start(alloc, &mut steps)?;
-    let path = text(alloc, "/objects")?;
-    let listed = Query::QomList { path };
-    let path = text(alloc, "sysclk")?;
-    let property = text(alloc, "period")?;
-    let period = Query::QomGet { path, property };
-    let noted = Query::XQueryNotes { from: 7 };
-    Ok(
-        lists_type(alloc, &board, &listed, &mut steps)?
-            && tells(alloc, &board, &period, "42949672960", &mut steps)?
-            && tells(
-                alloc,
-                &board,
-                &noted,
-                "{\"first\":0,\"notes\":[],\"total\":0}",
-                &mut steps,
-            )?
-            && tells(alloc, &board, &Query::XQueryDetached, "[]", &mut steps)?
-            && tells(
-                alloc,
-                &board,
-                &Query::XMemmap,
-                "[{\"at\":0,\"name\":\"boot\",\"offset\":0,\"size\":65536}]",
-                &mut steps,
-            )?,
-    )
+    let is_listed = lists_objects(alloc, &board, &mut steps)?;
+    let is_timed = tells_period(alloc, &board, &mut steps)?;
+    let is_quiet = tells_no_note(alloc, &board, &mut steps)?;
+    let is_attached = tells(alloc, &board, &Query::XQueryDetached, "[]", &mut steps)?;
+    let is_mapped = tells_map(alloc, &board, &mut steps)?;
+    Ok(is_listed && is_timed && is_quiet && is_attached && is_mapped)
 }
 
 #[test]
@@ -192,6 +226,20 @@ fn tells_end<L: Ledger>(
     )
 }
 
+/// Severs what is not there.
+fn severs<L: Ledger>(
+    alloc: Global,
+    board: &mut Board,
+    steps: &mut Steps<L>,
+) -> Result<Option<Code>, AllocError> {
+    answer(
+        alloc,
+        board,
+        &Change::Alter(Alteration::XSever { birth: 9 }),
+        steps,
+    )
+}
+
 /// Whether a tag is added, written, read and removed, and is not there to be severed.
 fn changes<L: Ledger>(alloc: Global, blank: Blank) -> Result<bool, AllocError>
     requires name { blank.name ≡ L.name }
@@ -205,8 +253,7 @@ fn changes<L: Ledger>(alloc: Global, blank: Blank) -> Result<bool, AllocError>
     let is_read = reads_text(alloc, &board, &mut steps)?;
     let is_removed = removes(alloc, &mut board, &mut steps)?.is_none();
     let is_noted = tells_end(alloc, &board, &mut steps)?;
-    let severed = Change::Alter(Alteration::XSever { birth: 9 });
-    let is_gone = answer(alloc, &mut board, &severed, &mut steps)? == Some(Code::E33);
+    let is_gone = severs(alloc, &mut board, &mut steps)? == Some(Code::E33);
     Ok(is_added && is_written && is_read && is_removed && is_noted && is_gone)
 }
 
