@@ -66,8 +66,49 @@ fn irq<L: Ledger>(lines: &mut Lines, board: &Board, steps: &mut Steps<L>) -> u32
     lines.irq()
 }
 
-/// Whether the line of a UART rises where its SCRATCH is written, and that of a timer behind a bridge where the
-/// timer has counted down, unless the bridge hides it.
+/// Adds a UART, and answers whether its line rises where its SCRATCH is written.
+fn uart_rises<L: Ledger>(
+    board: &mut Board,
+    alloc: Global,
+    steps: &mut Steps<L>,
+) -> Result<bool, AddRefusal> {
+    let uart = plug(board, "slot-uart", "u0", None, alloc, steps)?;
+    let quiet = lines(board, alloc, steps)?.irq() == 0;
+    let written = write(board, uart, 3, 1, steps);
+    let asked = lines(board, alloc, steps)?.irq() == 1;
+    Ok(quiet && written && asked)
+}
+
+/// Writes 1 to the timer's RELOAD, and begins it.
+fn begin<L: Ledger>(board: &mut Board, timer: u64, steps: &mut Steps<L>) -> bool {
+    write(board, timer, 1, 1, steps) && write(board, timer, 0, 1, steps)
+}
+
+/// Lets 10 ns go by, and answers the number of the lines then.
+fn after_ten<L: Ledger>(board: &mut Board, kept: &mut Lines, steps: &mut Steps<L>) -> Option<u32> {
+    board.advance(10).ok()?;
+    Some(irq(kept, board, steps))
+}
+
+/// Adds a bridge and a timer behind it, and answers whether the timer's line rises where it has counted down, and falls
+/// where the bridge hides it.
+fn timer_rises<L: Ledger>(
+    board: &mut Board,
+    alloc: Global,
+    steps: &mut Steps<L>,
+) -> Result<bool, AddRefusal> {
+    let bridge = plug(board, "slot-bridge", "br", None, alloc, steps)?;
+    let timer = plug(board, "slot-timer", "t", Some("br/bus.0"), alloc, steps)?;
+    let mut kept = lines(board, alloc, steps)?;
+    let begun = begin(board, timer, steps) && irq(&mut kept, board, steps) == 1;
+    let on = after_ten(board, &mut kept, steps) == Some(3);
+    let off = after_ten(board, &mut kept, steps) == Some(1);
+    let gone = board.advance(10).is_ok() && write(board, bridge, 0, 1, steps);
+    let hidden = irq(&mut kept, board, steps) == 1;
+    Ok(begun && on && off && gone && hidden)
+}
+
+/// Whether the lines of a UART and of a timer behind a bridge rise and fall.
 fn rise_and_fall<L: Ledger>(alloc: Global, blank: Blank) -> Result<bool, AddRefusal>
     requires name { blank.name ≡ L.name }
     requires parts { blank.parts ≡ L.parts }
@@ -75,28 +116,9 @@ fn rise_and_fall<L: Ledger>(alloc: Global, blank: Blank) -> Result<bool, AddRefu
 {
     let mut steps = Steps::<L>::from_blank(blank);
     let mut board = Board::start(alloc, &mut steps)?;
-    let uart = plug(&mut board, "slot-uart", "u0", None, alloc, &mut steps)?;
-    let quiet = lines(&board, alloc, &mut steps)?.irq() == 0;
-    let written = write(&mut board, uart, 3, 1, &mut steps);
-    let asked = lines(&board, alloc, &mut steps)?.irq() == 1;
-    let bridge = plug(&mut board, "slot-bridge", "br", None, alloc, &mut steps)?;
-    let timer = plug(
-        &mut board,
-        "slot-timer",
-        "t",
-        Some("br/bus.0"),
-        alloc,
-        &mut steps,
-    )?;
-    let mut kept = lines(&board, alloc, &mut steps)?;
-    let reload = write(&mut board, timer, 1, 1, &mut steps);
-    let begun = write(&mut board, timer, 0, 1, &mut steps);
-    let before = irq(&mut kept, &board, &mut steps) == 1;
-    let on = board.advance(10).is_ok() && irq(&mut kept, &board, &mut steps) == 3;
-    let off = board.advance(10).is_ok() && irq(&mut kept, &board, &mut steps) == 1;
-    let gone = board.advance(10).is_ok() && write(&mut board, bridge, 0, 1, &mut steps);
-    let hidden = irq(&mut kept, &board, &mut steps) == 1;
-    Ok(quiet && written && asked && reload && begun && before && on && off && gone && hidden)
+    let uart = uart_rises(&mut board, alloc, &mut steps)?;
+    let timer = timer_rises(&mut board, alloc, &mut steps)?;
+    Ok(uart && timer)
 }
 
 #[test]

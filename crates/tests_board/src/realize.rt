@@ -38,6 +38,30 @@ fn refuses<L: Ledger>(
     Ok(matches!(refused, Err(Refusal::Refused(Code::E17))))
 }
 
+/// Adds a tag that holds itself, and answers whether its text is read.
+fn ties<L: Ledger>(
+    board: &mut Board,
+    alloc: Global,
+    steps: &mut Steps<L>,
+) -> Result<bool, Refusal> {
+    board.object_add("tag", "a", &one("text", "first", alloc)?, alloc, steps)?;
+    board.qom_set("a", "next", &text("a", alloc)?, alloc, steps)?;
+    let read = board.qom_get("a", "text", alloc, steps)?;
+    Ok(matches!(read, Val::Text(_)))
+}
+
+/// Whether the tag is removed, is detached then, and is severed.
+fn ends<L: Ledger>(
+    board: &mut Board,
+    alloc: Global,
+    steps: &mut Steps<L>,
+) -> Result<bool, Refusal> {
+    let removed = board.object_del("a", steps).is_ok();
+    let detached = board.detached(alloc, steps)?.len() == 1;
+    let severed = board.sever(9, steps).is_ok();
+    Ok(removed && detached && severed)
+}
+
 /// Whether a tag is added, read, listed, written, removed and severed; it holds itself meanwhile.
 fn call_all<L: Ledger>(alloc: Global, blank: Blank) -> Result<bool, Refusal>
     requires name { blank.name ≡ L.name }
@@ -46,17 +70,12 @@ fn call_all<L: Ledger>(alloc: Global, blank: Blank) -> Result<bool, Refusal>
 {
     let mut steps = Steps::<L>::from_blank(blank);
     let mut board = Board::start(alloc, &mut steps)?;
-    board.object_add("tag", "a", &one("text", "first", alloc)?, alloc, &mut steps)?;
-    board.qom_set("a", "next", &text("a", alloc)?, alloc, &mut steps)?;
-    let read = board.qom_get("a", "text", alloc, &mut steps)?;
+    let tied = ties(&mut board, alloc, &mut steps)?;
     let listed = matches!(board.qom_list("a", &mut steps), Ok(9));
     let refused = refuses(&mut board, alloc, &mut steps)?;
-    let removed = board.object_del("a", &mut steps).is_ok();
-    let detached = board.detached(alloc, &mut steps)?;
-    let severed = board.sever(9, &mut steps).is_ok();
-    let notes = board.notes(board.notes_first(0), alloc)?;
-    let told = listed && detached.len() == 1 && notes.len() == 4;
-    Ok(matches!(read, Val::Text(_)) && refused && removed && severed && told)
+    let ended = ends(&mut board, alloc, &mut steps)?;
+    let noted = board.notes(board.notes_first(0), alloc)?.len() == 4;
+    Ok(tied && listed && refused && ended && noted)
 }
 
 #[test]
