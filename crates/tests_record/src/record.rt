@@ -118,16 +118,14 @@ fn does<H: Hub>(alloc: Global, hub: &mut H, act: &Act) -> Result<bool, Fail> {
     }
 }
 
-/// How many of these, from the first on, a hub does.
-fn done<H: Hub>(alloc: Global, hub: &mut H, acts: &[Act]) -> Result<usize, Fail> {
-    let mut count = 0;
+/// Whether a hub does these, one after the other.
+fn does_all<H: Hub>(alloc: Global, hub: &mut H, acts: &[Act]) -> Result<bool, Fail> {
     for act in acts {
         if !does(alloc, hub, act)? {
-            return Ok(count);
+            return Ok(false);
         }
-        count += 1;
     }
-    Ok(count)
+    Ok(true)
 }
 
 /// A hub gives these next.
@@ -382,7 +380,7 @@ const MESSAGES: [Act; 4] = [
 #[test]
 fn messages_go_into_the_sink_as_lines(rt: HostRuntime) -> Result<(), Fail> {
     let mut hub = hub(rt.alloc(), b"qrec 1\n")?;
-    assert_eq!(rt; done(rt.alloc(), &mut hub, &MESSAGES)?, 4);
+    assert!(rt; does_all(rt.alloc(), &mut hub, &MESSAGES)?);
     assert_eq!(rt;
         hub.into_parts().1.held(),
         b"15 one\r\n0 three\r\ng four\n".as_slice()
@@ -407,7 +405,7 @@ const BETWEEN: [Act; 10] = [
 #[test]
 fn lines_have_the_names_of_their_time(rt: HostRuntime) -> Result<(), Fail> {
     let mut hub = hub(rt.alloc(), THREE)?;
-    assert_eq!(rt; done(rt.alloc(), &mut hub, &BETWEEN)?, 10);
+    assert!(rt; does_all(rt.alloc(), &mut hub, &BETWEEN)?);
     assert_eq!(rt;
         hub.into_parts().1.held(),
         b"a 1\r\nb 3\r\n0 4\r\nc 5\r\ng 6\n".as_slice()
@@ -479,7 +477,7 @@ const FAILED_TAKE: [Act; 5] = [
 fn whole_entries_are_given_before_a_take(rt: HostRuntime) -> Result<(), Fail> {
     let stream = b"qrec 1\nopen 1.000000 0\nstep 1.000000 5\nste";
     let mut hub = hub_over(rt.alloc(), source_of(rt.alloc(), stream, &[2])?)?;
-    assert_eq!(rt; done(rt.alloc(), &mut hub, &FAILED_TAKE)?, 5);
+    assert!(rt; does_all(rt.alloc(), &mut hub, &FAILED_TAKE)?);
     assert_eq!(rt; hub.into_parts().1.held(), b"0 one\r\n".as_slice());
     Ok(())
 }
