@@ -16,6 +16,9 @@ stand-requires-clause-fits g c =
     left-fits c.in-Ok.plan c.as_mut_slice.result.now c.make_device.new.plan c.as_mut_slice.ensures.value c.in_ok-device.ensures.left SlotBridge
     (own_slots_of c.make_device.new.heap c.in_ok-device.device.birth) c.in_ok-device.ensures.made.own c.in-Ok.ensures.fits
 
+pub start-requires-clause-live : goal.start-requires-clause-live
+start-requires-clause-live g c = c.in_ok-kept.ensures.names c.in_ok-device.device c.in_ok-device.ensures.made.live
+
 pub start-requires-clause-pathless : goal.start-requires-clause-pathless
 start-requires-clause-pathless g c =
     draft-pathless SlotBridge (content_of c.make_device.new.heap c.in_ok-device.device.birth) (content_of c.stand.new.heap c.in_ok-device.device.birth)
