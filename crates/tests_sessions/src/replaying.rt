@@ -12,11 +12,11 @@ pub(crate) struct Left {
     pub(crate) told: Vec<u8>,
 }
 
-/// Replays a record, with a sink that has room for 131,072 bytes.
+/// Replays a record, with a sink that has room for 2,097,152 bytes.
 pub(crate) fn replay(alloc: Global, record: &[u8]) -> Result<Left, AllocError> {
     let words = Vec::from_array(alloc, [String::from_str(alloc, "replay")?])?;
     let source = ByteSource::new(Vec::from_slice(alloc, record)?, Vec::new(alloc));
-    let sink = ByteSink::new(alloc, 131_072, Vec::new(alloc))?;
+    let sink = ByteSink::new(alloc, 2_097_152, Vec::new(alloc))?;
     let mut complaints = ByteSink::new(alloc, 4_096, Vec::new(alloc))?;
     let Ran {
         status,

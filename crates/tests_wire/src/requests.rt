@@ -46,7 +46,7 @@ fn gives(
 #[test]
 fn names_are_in_byte_order(rt: HostRuntime) {
     let all = Command::all();
-    assert_eq!(rt; all.len(), 30);
+    assert_eq!(rt; all.len(), 31);
     for (first, second) in all.iter().zip(all[1..].iter()) {
         let (before, after) = (first.name(), second.name());
         assert!(rt; before < after, "{before} {after}");
