@@ -1,6 +1,7 @@
 pub mod Answering
 pub mod Between
 pub mod Later
+pub mod Listening
 pub mod Laws
 pub mod Machine
 pub mod Runs

@@ -11,4 +11,4 @@ mod telling;
 
 pub use machines::Machine;
 pub use outs::Outs;
-pub use running::{Ending, run};
+pub use running::{Ending, run, run_told};

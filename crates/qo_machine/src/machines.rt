@@ -4,7 +4,9 @@ ghost use Rattle.std.specs.Prelude.{◌≡◌, ◌<◌, [], List, length, option
 ghost use Rattle.qo_values.specs.declared.limits.TheConstants.{SESSIONS};
 ghost use Rattle.qo_causes.specs.declared.inputs.Moment.{Moment};
 ghost use Rattle.qo_causes.specs.declared.inputs.What.TheVariants as What;
+ghost use Rattle.qo_listen.specs.Ears.{AllOpen, ears};
 ghost use Rattle.qo_sessions.specs.Sessions.{closed};
+ghost use Rattle.qo_machine.specs.Listening.{AnswersTold, Hears, HearsFront, StepHeardFront};
 ghost use Rattle.qo_machine.specs.Machine.{Choice};
 ghost use Rattle.qo_machine.specs.Runs.{closed_where};
 
@@ -21,10 +23,12 @@ use qo_events::DeviceEvent;
 use qo_framing::Item;
 use qo_heap::Steps;
 use qo_layout::{KeptView, Lines};
+use qo_listen::{Listener, Listeners};
 use qo_realize::Board;
 use qo_replies::{Event, return_written};
 use qo_requests::{Call, Change, Query};
 use qo_sessions::{Mode, Session, SessionAct};
+use qo_telling::tell_new;
 use qo_text::{Line, line_request};
 use qo_values::{Chars, SESSIONS, Text};
 use std::alloc::{AllocError, Global};
@@ -172,8 +176,37 @@ impl Machine {
         ensures sound { (s : State) → IsIn s self.new → IsSoundBetween s.board }
         ensures lines { OnOk result (IsWired self.new) }
     {
+        let mut nobody = Listeners::new(alloc);
+        let done = self.step_told(alloc, input, &mut nobody);
+        nobody.end();
+        done
+    }
+
+    /// As `step`; and after each item and each line of the guest each listener is told what was noted, in order.
+    /// Where a listener has no memory for a note, that is want of memory of the step. What was noted is what is
+    /// noted on the way to the state after the step, by the same choices; where memory runs out each listener
+    /// has heard a front of what some choices note. While the total of notes counts each of them, none is missed.
+    pub fn step_told(
+        &mut self,
+        alloc: Global,
+        input: &Input,
+        listeners: &mut Listeners,
+    ) -> Result<Outs, AllocError>
+        requires open { AllOpen (ears ⟦<Box<dyn Listener> as Listener>⟧ listeners.old.all.items) }
+        ensures answered { (s : State) → IsIn s self.old → IfOk result (λ outs. AnswersTold s input.now outs self.new (ears ⟦<Box<dyn Listener> as Listener>⟧ listeners.old.all.items) (ears ⟦<Box<dyn Listener> as Listener>⟧ listeners.new.all.items)) }
+        ensures heard { (s : State) → IsIn s self.old → OnErr result (StepHeardFront s input.now (ears ⟦<Box<dyn Listener> as Listener>⟧ listeners.old.all.items) (ears ⟦<Box<dyn Listener> as Listener>⟧ listeners.new.all.items)) }
+        ensures open { AllOpen (ears ⟦<Box<dyn Listener> as Listener>⟧ listeners.new.all.items) }
+        ensures lanes { IfOk result AreToLanes }
+        ensures closes { OnErr result ((b : Tree) → state_with b self.new ≡ finished (state_with b self.old)) }
+        ensures lasts { OnOk result (self.new.out_of_memory ≡ false) }
+        ensures spends { OnErr result (self.new.out_of_memory ≡ true) }
+        ensures out_of_memory { self.old.out_of_memory ≡ true → IsErr result }
+        ensures breaks { (s : State) → IsIn s self.old → OnErr result (BreaksOff s input.now self.new) }
+        ensures sound { (s : State) → IsIn s self.new → IsSoundBetween s.board }
+        ensures lines { OnOk result (IsWired self.new) }
+    {
         self.core.reveal_board();
-        let done = self.core.step(alloc, input);
+        let done = self.core.step(alloc, input, listeners);
         self.core.reveal_board();
         done
     }
@@ -198,6 +231,10 @@ impl Machine {
 impl Core {
     ghost use Rattle.std.specs.Prelude.{true, false, IsErr, OnErr, OnOk, Some};
     ghost use Rattle.qo_model.specs.Board.{Board as Tree};
+    ghost use Rattle.qo_model.specs.Notes.{total_of};
+    ghost use Rattle.qo_model.specs.declared.notes.Note.{Note};
+    ghost use Rattle.qo_listen.specs.Ears.{AllHeard};
+    ghost use Rattle.qo_telling.specs.Telling.{HeardFronts, IsNew};
     ghost use Rattle.qo_sessions.specs.Acts.{act};
     ghost use Rattle.qo_sessions.specs.Sessions.{fed};
     ghost use Rattle.qo_commands.specs.Changes.{Changes, Left};
@@ -207,7 +244,7 @@ impl Core {
     ghost use Rattle.qo_text.specs.declared.lines.Line.TheVariants as line;
     ghost use Rattle.qo_realize.specs.Representation.{Stands, StandsForGood};
     ghost use Rattle.qo_realize.specs.Time.{advanced};
-    ghost use Rattle.qo_machine.specs.Machine.{Answers, BreaksOff, IsIn, State, after_command, beside, finished, input_step, mode_of, opening, session_of, state_with, with_line, with_session};
+    ghost use Rattle.qo_machine.specs.Machine.{BreaksOff, IsIn, State, after_command, beside, finished, input_step, mode_of, opening, session_of, state_with, with_line, with_session};
     ghost use Rattle.qo_machine.specs.Runs.{close_lost};
     ghost use Rattle.qo_machine.specs.Sending.{AreToLanes};
     ghost use Rattle.qo_commands.specs.Hearing.{heard};
@@ -274,10 +311,18 @@ impl Core {
         self.ended
     }
 
-    /// Does what one input does, as `Machine::step` says.
-    fn step(&mut self, alloc: Global, input: &Input) -> Result<Outs, AllocError>
+    /// Does what one input does, as `Machine::step_told` says.
+    fn step(
+        &mut self,
+        alloc: Global,
+        input: &Input,
+        listeners: &mut Listeners,
+    ) -> Result<Outs, AllocError>
         requires wired { self.old.out_of_memory ≡ false → IsWired self.old }
-        ensures answered { (s : State) → IsIn s self.old → IfOk result (λ outs. Answers s input.now outs self.new) }
+        requires open { AllOpen (ears ⟦<Box<dyn Listener> as Listener>⟧ listeners.old.all.items) }
+        ensures answered { (s : State) → IsIn s self.old → IfOk result (λ outs. AnswersTold s input.now outs self.new (ears ⟦<Box<dyn Listener> as Listener>⟧ listeners.old.all.items) (ears ⟦<Box<dyn Listener> as Listener>⟧ listeners.new.all.items)) }
+        ensures heard { (s : State) → IsIn s self.old → OnErr result (StepHeardFront s input.now (ears ⟦<Box<dyn Listener> as Listener>⟧ listeners.old.all.items) (ears ⟦<Box<dyn Listener> as Listener>⟧ listeners.new.all.items)) }
+        ensures open { AllOpen (ears ⟦<Box<dyn Listener> as Listener>⟧ listeners.new.all.items) }
         ensures lanes { IfOk result AreToLanes }
         ensures closes { OnErr result ((b : Tree) → state_with b self.new ≡ finished (state_with b self.old)) }
         ensures lasts { OnOk result (self.new.out_of_memory ≡ false) }
@@ -290,7 +335,7 @@ impl Core {
             self.finish();
             return Err(AllocError);
         }
-        match self.step_counting::<Brand>(alloc, input, Blank::new(1)) {
+        match self.step_counting::<Brand>(alloc, input, Blank::new(1), listeners) {
             Ok(outs) => Ok(outs),
             Err(AllocError) => {
                 self.out_of_memory = true;
@@ -306,19 +351,23 @@ impl Core {
         alloc: Global,
         input: &Input,
         blank: Blank,
+        listeners: &mut Listeners,
     ) -> Result<Outs, AllocError>
         requires name { blank.name ≡ L.name }
         requires parts { blank.parts ≡ L.parts }
         requires wired { IsWired self.old }
         requires some { 0 < blank.parts }
-        ensures answered { (s : State) → IsIn s self.old → IfOk result (λ outs. Answers s input.now outs self.new) }
+        requires open { AllOpen (ears ⟦<Box<dyn Listener> as Listener>⟧ listeners.old.all.items) }
+        ensures answered { (s : State) → IsIn s self.old → IfOk result (λ outs. AnswersTold s input.now outs self.new (ears ⟦<Box<dyn Listener> as Listener>⟧ listeners.old.all.items) (ears ⟦<Box<dyn Listener> as Listener>⟧ listeners.new.all.items)) }
+        ensures heard { (s : State) → IsIn s self.old → OnErr result (StepHeardFront s input.now (ears ⟦<Box<dyn Listener> as Listener>⟧ listeners.old.all.items) (ears ⟦<Box<dyn Listener> as Listener>⟧ listeners.new.all.items)) }
+        ensures open { AllOpen (ears ⟦<Box<dyn Listener> as Listener>⟧ listeners.new.all.items) }
         ensures breaks { (s : State) → IsIn s self.old → OnErr result (BreaksOff s input.now self.new) }
         ensures lanes { IfOk result AreToLanes }
         ensures lasts { self.new.out_of_memory ≡ self.old.out_of_memory }
         ensures wired { OnOk result (IsWired self.new) }
     {
         let mut steps = Steps::<L>::from_blank(blank);
-        self.serve(alloc, input, &mut steps)
+        self.serve(alloc, input, &mut steps, listeners)
     }
 
     /// Closes the sessions that are lost, as if each was shut. It takes no memory.
@@ -337,9 +386,13 @@ impl Core {
         alloc: Global,
         input: &Input,
         steps: &mut Steps<L>,
+        listeners: &mut Listeners,
     ) -> Result<Outs, AllocError>
         requires wired { IsWired self.old }
-        ensures answered { (s : State) → IsIn s self.old → IfOk result (λ outs. Answers s input.now outs self.new) }
+        requires open { AllOpen (ears ⟦<Box<dyn Listener> as Listener>⟧ listeners.old.all.items) }
+        ensures answered { (s : State) → IsIn s self.old → IfOk result (λ outs. AnswersTold s input.now outs self.new (ears ⟦<Box<dyn Listener> as Listener>⟧ listeners.old.all.items) (ears ⟦<Box<dyn Listener> as Listener>⟧ listeners.new.all.items)) }
+        ensures heard { (s : State) → IsIn s self.old → OnErr result (StepHeardFront s input.now (ears ⟦<Box<dyn Listener> as Listener>⟧ listeners.old.all.items) (ears ⟦<Box<dyn Listener> as Listener>⟧ listeners.new.all.items)) }
+        ensures open { AllOpen (ears ⟦<Box<dyn Listener> as Listener>⟧ listeners.new.all.items) }
         ensures breaks { (s : State) → IsIn s self.old → OnErr result (BreaksOff s input.now self.new) }
         ensures lanes { IfOk result AreToLanes }
         ensures lasts { self.new.out_of_memory ≡ self.old.out_of_memory }
@@ -350,9 +403,14 @@ impl Core {
         }
         match &input.what {
             What::Open(session) => self.open(alloc, *session),
-            What::Bytes(session, bytes) => {
-                self.take(alloc, input.at, *session, bytes.as_slice(), steps)
-            }
+            What::Bytes(session, bytes) => self.take(
+                alloc,
+                input.at,
+                *session,
+                bytes.as_slice(),
+                steps,
+                listeners,
+            ),
             What::Shut(session) => {
                 self.shut(*session);
                 Ok(Outs::none(alloc))
@@ -361,7 +419,9 @@ impl Core {
                 self.finish();
                 Ok(Outs::none(alloc))
             }
-            What::Guest(piece) => self.take_guest(alloc, input.at, piece.as_slice(), steps),
+            What::Guest(piece) => {
+                self.take_guest(alloc, input.at, piece.as_slice(), steps, listeners)
+            }
             What::Step(ns) => {
                 self.go_on(*ns, steps);
                 Ok(Outs::none(alloc))
@@ -399,7 +459,7 @@ impl Core {
         }
     }
 
-    /// Bytes of a session come: the items that they complete are served in turn.
+    /// Bytes of a session come: the items that they complete are served in turn, and listeners are told.
     fn take<L: Ledger>(
         &mut self,
         alloc: Global,
@@ -407,9 +467,13 @@ impl Core {
         session: u8,
         bytes: &[u8],
         steps: &mut Steps<L>,
+        listeners: &mut Listeners,
     ) -> Result<Outs, AllocError>
         requires wired { IsWired self.old }
-        ensures answered { (s : State) → IsIn s self.old → IfOk result (λ outs. (choices : List Choice) × (t : State) × IsIn t self.new × (input_step s at (What.Bytes session bytes.now) choices ≡ record { outs = outs; state = t; rest = [] })) }
+        requires open { AllOpen (ears ⟦<Box<dyn Listener> as Listener>⟧ listeners.old.all.items) }
+        ensures answered { (s : State) → IsIn s self.old → IfOk result (λ outs. (choices : List Choice) × (t : State) × IsIn t self.new × (input_step s at (What.Bytes session bytes.now) choices ≡ record { outs = outs; state = t; rest = [] }) × Hears s.board t.board (ears ⟦<Box<dyn Listener> as Listener>⟧ listeners.old.all.items) (ears ⟦<Box<dyn Listener> as Listener>⟧ listeners.new.all.items)) }
+        ensures heard { (s : State) → IsIn s self.old → OnErr result ((choices : List Choice) × HearsFront s.board (input_step s at (What.Bytes session bytes.now) choices).state.board (ears ⟦<Box<dyn Listener> as Listener>⟧ listeners.old.all.items) (ears ⟦<Box<dyn Listener> as Listener>⟧ listeners.new.all.items)) }
+        ensures open { AllOpen (ears ⟦<Box<dyn Listener> as Listener>⟧ listeners.new.all.items) }
         ensures breaks { (s : State) → IsIn s self.old → OnErr result (BreaksOff s (record { at = at; what = What.Bytes session bytes.now }) self.new) }
         ensures lanes { IfOk result AreToLanes }
         ensures lasts { self.new.out_of_memory ≡ self.old.out_of_memory }
@@ -420,7 +484,7 @@ impl Core {
         }
         let room = self.item_room(alloc);
         let items = self.feed(alloc, session, bytes, room)?;
-        let outs = serve_items(self, alloc, at, session, &items, steps);
+        let outs = serve_items(self, alloc, at, session, &items, steps, listeners);
         self.keep_items(items);
         outs
     }
@@ -474,23 +538,27 @@ impl Core {
         self.sessions[usize::from(session)].feed(alloc, bytes, room)
     }
 
-    /// Bytes of the guest come: the lines that end in them are served in turn.
+    /// Bytes of the guest come: the lines that end in them are served in turn, and listeners are told.
     fn take_guest<L: Ledger>(
         &mut self,
         alloc: Global,
         at: Moment,
         bytes: &[u8],
         steps: &mut Steps<L>,
+        listeners: &mut Listeners,
     ) -> Result<Outs, AllocError>
         requires wired { IsWired self.old }
-        ensures answered { (s : State) → IsIn s self.old → IfOk result (λ outs. (choices : List Choice) × (t : State) × IsIn t self.new × (input_step s at (What.Guest bytes.now) choices ≡ record { outs = outs; state = t; rest = [] })) }
+        requires open { AllOpen (ears ⟦<Box<dyn Listener> as Listener>⟧ listeners.old.all.items) }
+        ensures answered { (s : State) → IsIn s self.old → IfOk result (λ outs. (choices : List Choice) × (t : State) × IsIn t self.new × (input_step s at (What.Guest bytes.now) choices ≡ record { outs = outs; state = t; rest = [] }) × Hears s.board t.board (ears ⟦<Box<dyn Listener> as Listener>⟧ listeners.old.all.items) (ears ⟦<Box<dyn Listener> as Listener>⟧ listeners.new.all.items)) }
+        ensures heard { (s : State) → IsIn s self.old → OnErr result ((choices : List Choice) × HearsFront s.board (input_step s at (What.Guest bytes.now) choices).state.board (ears ⟦<Box<dyn Listener> as Listener>⟧ listeners.old.all.items) (ears ⟦<Box<dyn Listener> as Listener>⟧ listeners.new.all.items)) }
+        ensures open { AllOpen (ears ⟦<Box<dyn Listener> as Listener>⟧ listeners.new.all.items) }
         ensures breaks { (s : State) → IsIn s self.old → OnErr result (BreaksOff s (record { at = at; what = What.Guest bytes.now }) self.new) }
         ensures lanes { IfOk result AreToLanes }
         ensures lasts { self.new.out_of_memory ≡ self.old.out_of_memory }
         ensures wired { OnOk result (IsWired self.new) }
     {
         let lines = self.cut(alloc, bytes)?;
-        serve_lines(self, alloc, at, &lines, steps)
+        serve_lines(self, alloc, at, &lines, steps, listeners)
     }
 
     /// The lines of the guest that end in some bytes; the front of the unfinished one is kept.
@@ -774,6 +842,31 @@ impl Core {
             Call::Change(change) => self.change(alloc, change, id, steps),
             Call::Monitor { command_line } => self.monitor(alloc, command_line, id, steps),
         }
+    }
+
+    /// How many notes there were. It takes no memory.
+    pub(crate) fn notes_total(&self) -> u64
+        ensures good { StandsForGood self.now.board }
+        ensures total { (b : Tree) → Stands b self.now.board → result ≡ total_of b.notes }
+    {
+        self.board.reveal_board();
+        self.board.notes_total()
+    }
+
+    /// Each listener is told the notes from a number on, in order. The error is want of memory: each has then
+    /// heard a front of them.
+    pub(crate) fn tell_new(
+        &self,
+        alloc: Global,
+        from: u64,
+        listeners: &mut Listeners,
+    ) -> Result<(), AllocError>
+        requires open { AllOpen (ears ⟦<Box<dyn Listener> as Listener>⟧ listeners.old.all.items) }
+        ensures told { (b : Tree) (more : List Note) → Stands b self.now.board → IsNew b from more → OnOk result (AllHeard more (ears ⟦<Box<dyn Listener> as Listener>⟧ listeners.old.all.items) (ears ⟦<Box<dyn Listener> as Listener>⟧ listeners.new.all.items)) }
+        ensures left { (b : Tree) (more : List Note) → Stands b self.now.board → IsNew b from more → OnErr result (HeardFronts more (ears ⟦<Box<dyn Listener> as Listener>⟧ listeners.old.all.items) (ears ⟦<Box<dyn Listener> as Listener>⟧ listeners.new.all.items)) }
+        ensures open { AllOpen (ears ⟦<Box<dyn Listener> as Listener>⟧ listeners.new.all.items) }
+    {
+        tell_new(alloc, &self.board, from, listeners)
     }
 
     /// The events on devices that wait on the board, in the order of their coming. It takes no memory.

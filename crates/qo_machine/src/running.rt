@@ -3,12 +3,15 @@
 ghost use Rattle.std.specs.Prelude.{◌≡◌, ◌≢◌, ◌≤◌, List, [], ◌∷◌, ◌++◌, OnErr, OnOk};
 ghost use Rattle.qo_causes.specs.Cause.{HasCause, Rose};
 ghost use Rattle.qo_machine.specs.Machine.{IsIn, Message, State};
-ghost use Rattle.qo_machine.specs.Runs.{RunMeets, Told, TurnMeets, is_lost, known};
+ghost use Rattle.qo_listen.specs.Ears.{AllOpen, ears};
+ghost use Rattle.qo_machine.specs.Listening.{RunTold, TurnTold};
+ghost use Rattle.qo_machine.specs.Runs.{RunMeets, Told, is_lost, known};
 ghost use Rattle.qo_machine.specs.declared.running.Ending.TheVariants as Ending;
 ghost use Rattle.qo_machine.specs.Sending.{AreToLanes, IsLane, SendsAll, Sent, SentFront};
 
 use crate::machines::{LANES, Machine};
 use qo_causes::{Failed, Hub, Lane, NextError, SendError};
+use qo_listen::{Listener, Listeners};
 use qo_values::Chars;
 use std::alloc::Global;
 
@@ -91,9 +94,16 @@ fn send_all<H: Hub>(hub: &mut H, outs: &[(Lane, Chars)]) -> Result<[bool; LANES]
     Ok(lost)
 }
 
-/// One turn: an input is taken and done, and what it makes is sent.
-fn turn<H: Hub>(alloc: Global, hub: &mut H, machine: &mut Machine) -> Result<(), Ending>
-    ensures meets { (s : State) → IsIn s machine.old → TurnMeets s machine.new (known (H.inputs hub.old) (H.sent hub.old) (H.got hub.old) (H.losses hub.old)) (known (H.inputs hub.new) (H.sent hub.new) (H.got hub.new) (H.losses hub.new)) (H.bad hub.old) result }
+/// One turn: an input is taken and done, listeners are told, and what it makes is sent.
+fn turn<H: Hub>(
+    alloc: Global,
+    hub: &mut H,
+    machine: &mut Machine,
+    listeners: &mut Listeners,
+) -> Result<(), Ending>
+    requires open { AllOpen (ears ⟦<Box<dyn Listener> as Listener>⟧ listeners.old.all.items) }
+    ensures meets { (s : State) → IsIn s machine.old → TurnTold s machine.new (known (H.inputs hub.old) (H.sent hub.old) (H.got hub.old) (H.losses hub.old)) (known (H.inputs hub.new) (H.sent hub.new) (H.got hub.new) (H.losses hub.new)) (H.bad hub.old) (ears ⟦<Box<dyn Listener> as Listener>⟧ listeners.old.all.items) (ears ⟦<Box<dyn Listener> as Listener>⟧ listeners.new.all.items) result }
+    ensures open { AllOpen (ears ⟦<Box<dyn Listener> as Listener>⟧ listeners.new.all.items) }
     ensures bad { H.bad hub.new ≡ H.bad hub.old }
     ensures asked { H.asked hub.new ≡ H.asked hub.old }
     ensures next_count { H.next_faults hub.old ≤ H.next_faults hub.new }
@@ -111,7 +121,7 @@ fn turn<H: Hub>(alloc: Global, hub: &mut H, machine: &mut Machine) -> Result<(),
         Err(NextError::Bad(place)) => return Err(Ending::Bad(place)),
         Err(NextError::Memory) => return Err(Ending::Memory),
     };
-    let Ok(outs) = machine.step(alloc, &input) else {
+    let Ok(outs) = machine.step_told(alloc, &input, listeners) else {
         return Err(Ending::Memory);
     };
     match send_all(hub, outs.as_slice()) {
@@ -141,11 +151,40 @@ pub fn run<H: Hub>(alloc: Global, hub: &mut H, limit: u64) -> Ending
     ensures send_quiet { result ≢ Ending.SendFailed → H.send_faults hub.new ≡ H.send_faults hub.old }
     ensures later { H.later hub.old hub.new }
 {
+    let mut nobody = Listeners::new(alloc);
+    let ending = run_told(alloc, hub, limit, &mut nobody);
+    nobody.end();
+    ending
+}
+
+/// As `run`; and after each item and each line of the guest each listener is told what was noted, in order. Each
+/// has heard the notes of the run; where the run ended for want of memory, which may be that of a listener, a
+/// front of them. So it is while the total of notes counts each of them.
+pub fn run_told<H: Hub>(
+    alloc: Global,
+    hub: &mut H,
+    limit: u64,
+    listeners: &mut Listeners,
+) -> Ending
+    requires open { AllOpen (ears ⟦<Box<dyn Listener> as Listener>⟧ listeners.old.all.items) }
+    ensures meets { RunTold result limit (known (H.inputs hub.old) (H.sent hub.old) (H.got hub.old) (H.losses hub.old)) (known (H.inputs hub.new) (H.sent hub.new) (H.got hub.new) (H.losses hub.new)) (H.bad hub.old) (ears ⟦<Box<dyn Listener> as Listener>⟧ listeners.old.all.items) (ears ⟦<Box<dyn Listener> as Listener>⟧ listeners.new.all.items) }
+    ensures open { AllOpen (ears ⟦<Box<dyn Listener> as Listener>⟧ listeners.new.all.items) }
+    ensures bad { H.bad hub.new ≡ H.bad hub.old }
+    ensures asked { H.asked hub.new ≡ H.asked hub.old }
+    ensures next_count { H.next_faults hub.old ≤ H.next_faults hub.new }
+    ensures send_count { H.send_faults hub.old ≤ H.send_faults hub.new }
+    ensures next_cause { result ≡ Ending.NextFailed → Rose (H.next_faults hub.old) (H.next_faults hub.new) }
+    ensures send_cause { result ≡ Ending.SendFailed → Rose (H.send_faults hub.old) (H.send_faults hub.new) }
+    ensures starved { result ≡ Ending.NextFailed → H.starved hub.new }
+    ensures next_quiet { result ≢ Ending.NextFailed → H.next_faults hub.new ≡ H.next_faults hub.old }
+    ensures send_quiet { result ≢ Ending.SendFailed → H.send_faults hub.new ≡ H.send_faults hub.old }
+    ensures later { H.later hub.old hub.new }
+{
     let Ok(mut machine) = Machine::start(alloc) else {
         return Ending::Memory;
     };
     for _ in 0..limit {
-        if let Err(ending) = turn(alloc, hub, &mut machine) {
+        if let Err(ending) = turn(alloc, hub, &mut machine, listeners) {
             return ending;
         }
         if machine.ended() {

@@ -8,10 +8,12 @@ ghost use Rattle.qo_values.specs.declared.codes.Code.TheVariants.{E99};
 ghost use Rattle.qo_model.specs.Board.{Board as Tree};
 ghost use Rattle.qo_realize.specs.Representation.{Stands};
 ghost use Rattle.qo_commands.specs.Commands.{event_of, without_events};
-ghost use Rattle.qo_machine.specs.Machine.{IsIn, Message, State, answer_line, beside, commanding, event_outs, state_with, those_commanding, event_messages};
+ghost use Rattle.qo_listen.specs.Ears.{AllOpen, ears};
+ghost use Rattle.qo_machine.specs.Machine.{IsIn, Message, State, answer_line, beside, by_item, by_line, commanding, event_outs, state_with, those_commanding, event_messages};
 ghost use Rattle.qo_values.specs.declared.limits.TheConstants.{SESSIONS};
 ghost use Rattle.qo_machine.specs.Sending.{AreToLanes, IsLane};
 ghost use Rattle.qo_machine.specs.Between.{IsWired};
+ghost use Rattle.qo_machine.specs.Listening.{ServesHeardFront, ServesTold};
 ghost use Rattle.qo_machine.specs.Serving.{CommandLeft, CommandServed, LinesFront, LinesTo, ServesFront, ServesTo, Tells};
 ghost use Rattle.qo_commands.specs.Touched.{IsLeft};
 
@@ -25,6 +27,7 @@ use qo_events::DeviceEvent;
 use qo_framing::Item;
 use qo_guest::GuestAnswer;
 use qo_heap::Steps;
+use qo_listen::{Listener, Listeners};
 use qo_replies::{Event, error_text, return_written};
 use qo_requests::Call;
 use qo_sessions::{Mode, SessionAct};
@@ -280,7 +283,32 @@ fn serve_item<L: Ledger>(
     Ok(())
 }
 
-/// Items of a session are served in turn.
+/// An item of a session is served, unless the run has ended, and each listener is told what was noted.
+fn serve_item_told<L: Ledger>(
+    machine: &mut Core,
+    session: u8,
+    item: &Item,
+    outbox: &mut Outbox,
+    steps: &mut Steps<L>,
+    listeners: &mut Listeners,
+) -> Result<(), AllocError>
+    requires session { session < SESSIONS }
+    requires wired { IsWired machine.old }
+    requires open { AllOpen (ears ⟦<Box<dyn Listener> as Listener>⟧ listeners.old.all.items) }
+    ensures served { OnOk result ((front : List Message) × (outbox.new.outs ≡ outbox.old.outs ++ front) × AreToLanes front × ((s : State) → IsIn s machine.old → ServesTold (by_item outbox.old.at session) s (item.now ∷ []) front machine.new (ears ⟦<Box<dyn Listener> as Listener>⟧ listeners.old.all.items) (ears ⟦<Box<dyn Listener> as Listener>⟧ listeners.new.all.items))) }
+    ensures left { OnErr result ((s : State) → IsIn s machine.old → ServesFront outbox.old.at session s (item.now ∷ []) machine.new) }
+    ensures heard { OnErr result ((s : State) → IsIn s machine.old → ServesHeardFront (by_item outbox.old.at session) s (item.now ∷ []) (ears ⟦<Box<dyn Listener> as Listener>⟧ listeners.old.all.items) (ears ⟦<Box<dyn Listener> as Listener>⟧ listeners.new.all.items)) }
+    ensures open { AllOpen (ears ⟦<Box<dyn Listener> as Listener>⟧ listeners.new.all.items) }
+    ensures wired { OnOk result (IsWired machine.new) }
+    ensures lasts { machine.new.out_of_memory ≡ machine.old.out_of_memory }
+    ensures moment { outbox.new.at ≡ outbox.old.at }
+{
+    let from = machine.notes_total();
+    serve_item(machine, session, item, outbox, steps)?;
+    machine.tell_new(outbox.alloc, from, listeners)
+}
+
+/// Items of a session are served in turn. After each one each listener is told what was noted.
 pub(crate) fn serve_items<L: Ledger>(
     machine: &mut Core,
     alloc: Global,
@@ -288,18 +316,22 @@ pub(crate) fn serve_items<L: Ledger>(
     session: u8,
     items: &[Item],
     steps: &mut Steps<L>,
+    listeners: &mut Listeners,
 ) -> Result<Outs, AllocError>
     requires session { session < SESSIONS }
     requires wired { IsWired machine.old }
-    ensures served { IfOk result (λ outs. (s : State) → IsIn s machine.old → ServesTo at session s items.now outs machine.new) }
+    requires open { AllOpen (ears ⟦<Box<dyn Listener> as Listener>⟧ listeners.old.all.items) }
+    ensures served { IfOk result (λ outs. (s : State) → IsIn s machine.old → ServesTold (by_item at session) s items.now outs machine.new (ears ⟦<Box<dyn Listener> as Listener>⟧ listeners.old.all.items) (ears ⟦<Box<dyn Listener> as Listener>⟧ listeners.new.all.items)) }
     ensures left { OnErr result ((s : State) → IsIn s machine.old → ServesFront at session s items.now machine.new) }
+    ensures heard { OnErr result ((s : State) → IsIn s machine.old → ServesHeardFront (by_item at session) s items.now (ears ⟦<Box<dyn Listener> as Listener>⟧ listeners.old.all.items) (ears ⟦<Box<dyn Listener> as Listener>⟧ listeners.new.all.items)) }
+    ensures open { AllOpen (ears ⟦<Box<dyn Listener> as Listener>⟧ listeners.new.all.items) }
     ensures lanes { IfOk result AreToLanes }
     ensures wired { OnOk result (IsWired machine.new) }
     ensures lasts { machine.new.out_of_memory ≡ machine.old.out_of_memory }
 {
     let mut outbox = Outbox::with_room(machine, alloc, at, items.len())?;
     for item in items {
-        serve_item(machine, session, item, &mut outbox, steps)?;
+        serve_item_told(machine, session, item, &mut outbox, steps, listeners)?;
     }
     Ok(outbox.into_outs())
 }
@@ -356,24 +388,51 @@ fn serve_line<L: Ledger>(
     machine.settle(outbox.alloc, touched, steps)
 }
 
-/// Lines of the guest are served in turn.
+/// A line of the guest is served, and each listener is told what was noted.
+fn serve_line_told<L: Ledger>(
+    machine: &mut Core,
+    line: &Chars,
+    outbox: &mut Outbox,
+    steps: &mut Steps<L>,
+    listeners: &mut Listeners,
+) -> Result<(), AllocError>
+    requires wired { IsWired machine.old }
+    requires open { AllOpen (ears ⟦<Box<dyn Listener> as Listener>⟧ listeners.old.all.items) }
+    ensures served { OnOk result ((front : List Message) × (outbox.new.outs ≡ outbox.old.outs ++ front) × AreToLanes front × ((s : State) → IsIn s machine.old → ServesTold (by_line outbox.old.at) s (line.now ∷ []) front machine.new (ears ⟦<Box<dyn Listener> as Listener>⟧ listeners.old.all.items) (ears ⟦<Box<dyn Listener> as Listener>⟧ listeners.new.all.items))) }
+    ensures left { OnErr result ((s : State) → IsIn s machine.old → LinesFront outbox.old.at s (line.now ∷ []) machine.new) }
+    ensures heard { OnErr result ((s : State) → IsIn s machine.old → ServesHeardFront (by_line outbox.old.at) s (line.now ∷ []) (ears ⟦<Box<dyn Listener> as Listener>⟧ listeners.old.all.items) (ears ⟦<Box<dyn Listener> as Listener>⟧ listeners.new.all.items)) }
+    ensures open { AllOpen (ears ⟦<Box<dyn Listener> as Listener>⟧ listeners.new.all.items) }
+    ensures wired { OnOk result (IsWired machine.new) }
+    ensures lasts { machine.new.out_of_memory ≡ machine.old.out_of_memory }
+    ensures moment { outbox.new.at ≡ outbox.old.at }
+{
+    let from = machine.notes_total();
+    serve_line(machine, line, outbox, steps)?;
+    machine.tell_new(outbox.alloc, from, listeners)
+}
+
+/// Lines of the guest are served in turn. After each one each listener is told what was noted.
 pub(crate) fn serve_lines<L: Ledger>(
     machine: &mut Core,
     alloc: Global,
     at: Moment,
     lines: &[Chars],
     steps: &mut Steps<L>,
+    listeners: &mut Listeners,
 ) -> Result<Outs, AllocError>
-    requires { IsWired machine.old }
-    ensures served { IfOk result (λ outs. (s : State) → IsIn s machine.old → LinesTo at s lines.now outs machine.new) }
+    requires wired { IsWired machine.old }
+    requires open { AllOpen (ears ⟦<Box<dyn Listener> as Listener>⟧ listeners.old.all.items) }
+    ensures served { IfOk result (λ outs. (s : State) → IsIn s machine.old → ServesTold (by_line at) s lines.now outs machine.new (ears ⟦<Box<dyn Listener> as Listener>⟧ listeners.old.all.items) (ears ⟦<Box<dyn Listener> as Listener>⟧ listeners.new.all.items)) }
     ensures left { OnErr result ((s : State) → IsIn s machine.old → LinesFront at s lines.now machine.new) }
+    ensures heard { OnErr result ((s : State) → IsIn s machine.old → ServesHeardFront (by_line at) s lines.now (ears ⟦<Box<dyn Listener> as Listener>⟧ listeners.old.all.items) (ears ⟦<Box<dyn Listener> as Listener>⟧ listeners.new.all.items)) }
+    ensures open { AllOpen (ears ⟦<Box<dyn Listener> as Listener>⟧ listeners.new.all.items) }
     ensures lanes { IfOk result AreToLanes }
     ensures wired { OnOk result (IsWired machine.new) }
     ensures lasts { machine.new.out_of_memory ≡ machine.old.out_of_memory }
 {
     let mut outbox = Outbox::new(alloc, at);
     for line in lines {
-        serve_line(machine, line, &mut outbox, steps)?;
+        serve_line_told(machine, line, &mut outbox, steps, listeners)?;
     }
     Ok(outbox.into_outs())
 }
