@@ -220,7 +220,7 @@ serve_still items at n f s cs going =
 abbrev then_serve : {X : Type 0} → (Choice → State → X → Made) → List X → Stepped → Stepped
 then_serve f xs r = preceded r.outs (serve_by f xs r.state r.rest)
 
-serve_more : {X : Type 0} (f : Choice → State → X → Made) (xs ys : List X) (s : State) (cs : List Choice)
+pub serve_more : {X : Type 0} (f : Choice → State → X → Made) (xs ys : List X) (s : State) (cs : List Choice)
     → serve_by f (xs ++ ys) s cs ≡ then_serve f ys (serve_by f xs s cs)
 serve_more f [] ys s cs = refl
 serve_more f (x ∷ xs) ys s cs =

@@ -14,6 +14,8 @@ use Rattle.qo_machine.specs.declared.machines.Reply.{Reply}
 use Rattle.qo_machine.proofs.MemoryLemmas.{front_one_by}
 use Rattle.qo_machine.proofs.MachineLemmas.{by_board, in_at, serve_all_by, serves_one_by}
 use Rattle.std.proofs.lemmas.Result.{IfOk-weaker}
+use Rattle.qo_listen.specs.Ears.{Ear}
+use Rattle.qo_machine.specs.Listening.{Hears, ServesTold}
 use Rattle.qo_machine.specs.Machine.{Choice, IsIn, Made, Message, Seen, State, answer_line, after_command, by_line, defined, event_outs, input_step, line_step, refused, state_with, with_board, with_line}
 use Rattle.qo_machine.specs.Serving.{CameTo, LinesFront, LinesTo, ServesBy, Tells}
 
@@ -109,28 +111,32 @@ line_refused_left at m to line going same move s here =
     (subst (λ (x : State). IsIn x to) (move b) (in_at b to (subst (Stands b) (sym same) stands))))) s here
 
 -- all lines that end in some bytes
-lines_taken : (at : Moment) (s : State) (m : Seen) (bytes : List ℕ) (lines : List (List ℕ)) (outs : List Message) → lines ≡ (lines_of s.guest_line bytes).lines
-    → LinesTo at (with_line s (lines_of s.guest_line bytes).rest) lines outs m
+lines_taken : (at : Moment) (s : State) (m : Seen) (bytes : List ℕ) (lines : List (List ℕ)) (outs : List Message) (x y : List Ear)
+    → lines ≡ (lines_of s.guest_line bytes).lines
+    → ServesTold (by_line at) (with_line s (lines_of s.guest_line bytes).rest) lines outs m x y
     → (choices : List Choice) × (t : State) × IsIn t m × (input_step s at (Guest bytes) choices ≡ record { outs = outs; state = t; rest = [] })
-lines_taken at s m bytes lines outs is p =
+    × Hears s.board t.board x y
+lines_taken at s m bytes lines outs x y is p =
     let l = lines_of s.guest_line bytes in
     let start = with_line s l.rest in
     let q : ServesBy (by_line at) start l.lines outs p.0 = subst (λ (xs : List (List ℕ)). ServesBy (by_line at) start xs outs p.0) is p.2 in
-    (q.0, p.0, p.1, serve_all_by (by_line at) start p.0 l.lines outs q)
+    (q.0, p.0, p.1, serve_all_by (by_line at) start p.0 l.lines outs q, p.3)
 
-pub served_lines : {E : Type 0} (r : Result (List Message) E) (at : Moment) (m mid to : Seen) (bytes : List ℕ) (lines : List (List ℕ))
+pub served_lines : {E : Type 0} (r : Result (List Message) E) (at : Moment) (m mid to : Seen) (bytes : List ℕ) (lines : List (List ℕ)) (x y : List Ear)
     → lines ≡ (lines_of m.guest_line bytes).lines
     → ((b : Board) → state_with b mid ≡ with_line (state_with b m) (lines_of m.guest_line bytes).rest) → mid.board ≡ m.board
-    → IfOk r (λ outs. (s : State) → IsIn s mid → LinesTo at s lines outs to) → (s : State) → IsIn s m
+    → IfOk r (λ outs. (s : State) → IsIn s mid → ServesTold (by_line at) s lines outs to x y) → (s : State) → IsIn s m
     → IfOk r
-    (λ outs. (choices : List Choice) × (t : State) × IsIn t to × (input_step s at (Guest bytes) choices ≡ record { outs = outs; state = t; rest = [] }))
-served_lines r at m mid to bytes lines cuts move same served s here =
+    (λ outs. (choices : List Choice) × (t : State) × IsIn t to × (input_step s at (Guest bytes) choices ≡ record { outs = outs; state = t; rest = [] })
+    × Hears s.board t.board x y)
+served_lines r at m mid to bytes lines x y cuts move same served s here =
     by_board
-    (λ (x : State). IfOk r
-    (λ outs. (choices : List Choice) × (t : State) × IsIn t to × (input_step x at (Guest bytes) choices ≡ record { outs = outs; state = t; rest = [] }))) m
+    (λ (z : State). IfOk r
+    (λ outs. (choices : List Choice) × (t : State) × IsIn t to × (input_step z at (Guest bytes) choices ≡ record { outs = outs; state = t; rest = [] })
+    × Hears z.board t.board x y)) m
     (λ b stands.
     IfOk-weaker r _ _
     (λ outs h.
-    lines_taken at (state_with b m) to bytes lines outs cuts
+    lines_taken at (state_with b m) to bytes lines outs x y cuts
     (h (with_line (state_with b m) (lines_of m.guest_line bytes).rest)
-    (subst (λ (x : State). IsIn x mid) (move b) (in_at b mid (subst (Stands b) (sym same) stands))))) served) s here
+    (subst (λ (z : State). IsIn z mid) (move b) (in_at b mid (subst (Stands b) (sym same) stands))))) served) s here

@@ -4,11 +4,14 @@ pub mod BoardLemmas
 pub mod ChunkLemmas
 pub mod ClocksLemmas
 pub mod DevicesLemmas
+pub mod FewLemmas
 pub mod GuestLemmas
+pub mod HeardLemmas
 pub mod HistoryLemmas
 pub mod HoldLemmas
 pub mod PreservationLemmas
 pub mod LaneLemmas
+pub mod ListeningLemmas
 pub mod LawLemmas
 pub mod MemoryLemmas
 pub mod MachineLemmas

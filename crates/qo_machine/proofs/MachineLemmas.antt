@@ -27,7 +27,9 @@ use Rattle.qo_model.specs.Opening.{opening_board}
 use Rattle.qo_commands.proofs.AttemptLemmas.{attempted-none}
 use Rattle.qo_commands.specs.Changes.{Left, attempted}
 use Rattle.qo_commands.specs.Commands.{Done, empty, event_of, perform, performed, without_events}
+use Rattle.qo_listen.specs.Ears.{Ear}
 use Rattle.qo_machine.specs.declared.machines.Reply.{Reply}
+use Rattle.qo_machine.specs.Listening.{AnswersTold, Hears, ServesTold}
 use Rattle.qo_realize.specs.Parts.{Parts}
 use Rattle.qo_realize.specs.Representation.{Stands}
 use Rattle.qo_realize.specs.Time.{advanced}
@@ -210,14 +212,15 @@ serve_all_by {X = X} f s t xs outs p =
     ∙ ap (λ (o : List Message). record { outs = o; state = t; rest = [] }) (append-nil outs)
 
 -- bytes of a session
-pub bytes_taken : (at : Moment) (n : ℕ) (s : State) (m : Seen) (bytes : List ℕ) (items : List Item) (outs : List Message) → n < SESSIONS
-    → items ≡ (fed (session_of s n) bytes).items → ServesTo at n (with_session s n (fed (session_of s n) bytes).session) items outs m
+pub bytes_taken : (at : Moment) (n : ℕ) (s : State) (m : Seen) (bytes : List ℕ) (items : List Item) (outs : List Message) (x y : List Ear) → n < SESSIONS
+    → items ≡ (fed (session_of s n) bytes).items → ServesTold (by_item at n) (with_session s n (fed (session_of s n) bytes).session) items outs m x y
     → (choices : List Choice) × (t : State) × IsIn t m × (input_step s at (Bytes n bytes) choices ≡ record { outs = outs; state = t; rest = [] })
-bytes_taken at n s m bytes items outs below is p =
+    × Hears s.board t.board x y
+bytes_taken at n s m bytes items outs x y below is p =
     let f = fed (session_of s n) bytes in
     let start = with_session s n f.session in
     let q : Serves at n start f.items outs p.0 = subst (λ (js : List Item). Serves at n start js outs p.0) is p.2 in
-    (q.0, p.0, p.1, rw (lt-ltb n SESSIONS below) (serve_all_by (by_item at n) start p.0 f.items outs q))
+    (q.0, p.0, p.1, rw (lt-ltb n SESSIONS below) (serve_all_by (by_item at n) start p.0 f.items outs q), p.3)
 
 -- A machine that moved beside its board.
 
@@ -245,11 +248,19 @@ answers_timed i outs ns m to going what none keeps same s at =
     (ap (λ (t : State). unchanged t []) (sym (same c)) ∙ leaves (state_with c to) outs none)
     (in_at c to (keeps b stands))) s at
 
--- bytes of a session, as the machine answers them
-pub answers_taken : (i : Input) (w : What) (outs : List Message) (m to : Seen) → m.ended ≡ false → i.what ≡ w → (s : State) → IsIn s m
-    → (choices : List Choice) × (t : State) × IsIn t to × (input_step s i.at w choices ≡ record { outs = outs; state = t; rest = [] }) → Answers s i outs to
-answers_taken i w outs m to going what s at p =
-    answers_on s p.1 i w outs to p.0 [] (ap (λ (x : State). x.ended) at.rest ∙ going) what p.3 p.2
+-- bytes of a session, as the machine answers them and listeners are told
+pub answers_taken : (i : Input) (w : What) (outs : List Message) (m to : Seen) (x y : List Ear) → m.ended ≡ false → i.what ≡ w → (s : State) → IsIn s m
+    → (choices : List Choice) × (t : State) × IsIn t to × (input_step s i.at w choices ≡ record { outs = outs; state = t; rest = [] })
+    × Hears s.board t.board x y → AnswersTold s i outs to x y
+answers_taken i w outs m to x y going what s at p =
+    let is : step s i p.0 ≡ record { outs = outs; state = p.1; rest = [] } =
+    step_on s i w p.0 (ap (λ (z : State). z.ended) at.rest ∙ going) what ∙ p.3 in
+    let there : (step s i p.0).state ≡ p.1 = ap (λ (r : Stepped). r.state) is in (
+      p.0,
+      ap (λ (r : Stepped). r.outs) is,
+      subst (λ (z : State). IsIn z to) (sym there) p.2,
+      subst (λ (z : State). Hears s.board z.board x y) (sym there) p.4,
+    )
 
 -- A machine serves.
 
@@ -372,29 +383,31 @@ served_beside r i w m to going what is same s here =
     (is b i.at)) s here
 
 -- bytes of a session
-pub served_bytes : {E : Type 0} (r : Result (List Message) E) (i : Input) (w : What) (m to : Seen) → m.ended ≡ false → i.what ≡ w
+pub served_bytes : {E : Type 0} (r : Result (List Message) E) (i : Input) (w : What) (m to : Seen) (x y : List Ear) → m.ended ≡ false → i.what ≡ w
     → ((s : State) → IsIn s m
-    → IfOk r (λ outs. (choices : List Choice) × (t : State) × IsIn t to × (input_step s i.at w choices ≡ record { outs = outs; state = t; rest = [] })))
-    → (s : State) → IsIn s m → IfOk r (λ outs. Answers s i outs to)
-served_bytes r i w m to going what is s here = IfOk-weaker r _ _ (λ outs p. answers_taken i w outs m to going what s here p) (is s here)
+    → IfOk r (λ outs. (choices : List Choice) × (t : State) × IsIn t to × (input_step s i.at w choices ≡ record { outs = outs; state = t; rest = [] })
+    × Hears s.board t.board x y))
+    → (s : State) → IsIn s m → IfOk r (λ outs. AnswersTold s i outs to x y)
+served_bytes r i w m to x y going what is s here = IfOk-weaker r _ _ (λ outs p. answers_taken i w outs m to x y going what s here p) (is s here)
 
 -- the items that bytes complete
-pub served_items : {E : Type 0} (r : Result (List Message) E) (at : Moment) (n : ℕ) (m mid to : Seen) (bytes : List ℕ) (items : List Item) → n < SESSIONS
-    → ((b : Board) → items ≡ (fed (session_of (state_with b m) n) bytes).items)
+pub served_items : {E : Type 0} (r : Result (List Message) E) (at : Moment) (n : ℕ) (m mid to : Seen) (bytes : List ℕ) (items : List Item) (x y : List Ear)
+    → n < SESSIONS → ((b : Board) → items ≡ (fed (session_of (state_with b m) n) bytes).items)
     → ((b : Board) → state_with b mid ≡ with_session (state_with b m) n (fed (session_of (state_with b m) n) bytes).session) → mid.board ≡ m.board
-    → IfOk r (λ outs. (s : State) → IsIn s mid → ServesTo at n s items outs to) → (s : State) → IsIn s m
+    → IfOk r (λ outs. (s : State) → IsIn s mid → ServesTold (by_item at n) s items outs to x y) → (s : State) → IsIn s m
     → IfOk r
-    (λ outs. (choices : List Choice) × (t : State) × IsIn t to × (input_step s at (Bytes n bytes) choices ≡ record { outs = outs; state = t; rest = [] }))
-served_items r at n m mid to bytes items below cuts move same served s here =
+    (λ outs. (choices : List Choice) × (t : State) × IsIn t to × (input_step s at (Bytes n bytes) choices ≡ record { outs = outs; state = t; rest = [] })
+    × Hears s.board t.board x y)
+served_items r at n m mid to bytes items x y below cuts move same served s here =
     by_board
-    (λ (x : State). IfOk r (λ outs. (choices : List Choice) × (t : State) × IsIn t to
-    × (input_step x at (Bytes n bytes) choices ≡ record { outs = outs; state = t; rest = [] }))) m
+    (λ (z : State). IfOk r (λ outs. (choices : List Choice) × (t : State) × IsIn t to
+    × (input_step z at (Bytes n bytes) choices ≡ record { outs = outs; state = t; rest = [] }) × Hears z.board t.board x y)) m
     (λ b stands.
     IfOk-weaker r _ _
     (λ outs h.
-    bytes_taken at n (state_with b m) to bytes items outs below (cuts b)
+    bytes_taken at n (state_with b m) to bytes items outs x y below (cuts b)
     (h (with_session (state_with b m) n (fed (session_of (state_with b m) n) bytes).session)
-    (subst (λ (x : State). IsIn x mid) (move b) (in_at b mid (subst (Stands b) (sym same) stands))))) served) s here
+    (subst (λ (z : State). IsIn z mid) (move b) (in_at b mid (subst (Stands b) (sym same) stands))))) served) s here
 
 -- bytes of a number that is no session's
 pub beyond : (at : Moment) (n : ℕ) (bytes : List ℕ) (s : State) (outs : List Message) → SESSIONS ≤ n → outs ≡ []

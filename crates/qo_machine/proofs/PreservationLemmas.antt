@@ -1,4 +1,4 @@
--- What each command keeps of the board, and each attempt that is given up, a step and a run keep.
+-- What each command does to the board, and each attempt that is given up, an item does; and what each keeps, a step and a run keep.
 use Rattle.std.proofs.Common.{◌^◌, ◌<◌, ◌≤◌, ap, arith, ◌≡◌, ℕ, ◌+◌, ◌==◌, ◌||◌, nat_lt, not, Bool, true, false, if◌then◌else◌, List, [], ◌∷◌, refl, subst, sym, Option, None, Some, Result, Ok, Err, codes, unwrap_or, ◌++◌}
 use Rattle.qo_causes.specs.declared.inputs.Input.{Input}
 use Rattle.qo_causes.specs.declared.inputs.Moment.{Moment}
@@ -81,61 +81,78 @@ pub data GuestFinds (b : Board) (d : ℕ) : Type 0 where
   by_slots : (at : Addr) → addressed b at ≡ Some d → GuestFinds b d
   by_address : (at : ℕ) (place : RegisterPlace) → register_at b at ≡ Some place → place.device ≡ d → (d == BOOT_LEAF) ≡ false → GuestFinds b d
 
--- what each change of the rings keeps: one is added, as nothing bars it; one that nothing bars from it goes; the oldest bytes of one are taken; and bytes come
--- after those of one
-pub record KeepsRings (P : Board → Type 0) : Type 0 where
-  pub added : (b : Board) (id kind : List ℕ) (size : ℕ) → chardev_barred b id kind size ≡ None → P b → P (with_rings (b.rings ++ new_ring id size ∷ []) b)
-  pub removed : (b : Board) (id : List ℕ) → removal_barred b id ≡ None → P b → P (with_rings (without_ring id b.rings) b)
-  pub read : (b : Board) (id : List ℕ) (most : ℕ) → P b → P (with_rings (ring_changed (λ m. ring_drop m most) id b.rings) b)
-  pub written : (b : Board) (id bytes : List ℕ) → P b → P (with_rings (ring_changed (λ m. ring_add m bytes) id b.rings) b)
+-- what each change of the rings relates a board to: one is added, as nothing bars it; one that nothing bars from it goes; the oldest bytes of one are taken; and
+-- bytes come after those of one
+pub record ChangesRings (R : Board → Board → Type 0) : Type 0 where
+  pub added : (b : Board) (id kind : List ℕ) (size : ℕ) → chardev_barred b id kind size ≡ None → R b (with_rings (b.rings ++ new_ring id size ∷ []) b)
+  pub removed : (b : Board) (id : List ℕ) → removal_barred b id ≡ None → R b (with_rings (without_ring id b.rings) b)
+  pub read : (b : Board) (id : List ℕ) (most : ℕ) → R b (with_rings (ring_changed (λ m. ring_drop m most) id b.rings) b)
+  pub written : (b : Board) (id bytes : List ℕ) → R b (with_rings (ring_changed (λ m. ring_add m bytes) id b.rings) b)
 
 -- so does what has no part in them
-pub any-rings : (P : Board → Type 0) → ((b : Board) (rings : List Ring) → P b → P (with_rings rings b)) → KeepsRings P
-any-rings P ringed =
+pub rings-changed : (R : Board → Board → Type 0) → ((b : Board) (rings : List Ring) → R b (with_rings rings b)) → ChangesRings R
+rings-changed R ringed =
     record {
-      added = λ b id kind size free p. ringed b (b.rings ++ new_ring id size ∷ []) p;
-      removed = λ b id free p. ringed b (without_ring id b.rings) p;
-      read = λ b id most p. ringed b (ring_changed (λ m. ring_drop m most) id b.rings) p;
-      written = λ b id bytes p. ringed b (ring_changed (λ m. ring_add m bytes) id b.rings) p;
+      added = λ b id kind size free. ringed b (b.rings ++ new_ring id size ∷ []);
+      removed = λ b id free. ringed b (without_ring id b.rings);
+      read = λ b id most. ringed b (ring_changed (λ m. ring_drop m most) id b.rings);
+      written = λ b id bytes. ringed b (ring_changed (λ m. ring_add m bytes) id b.rings);
     }
 
--- what each change of the board keeps, and each attempt
-pub record KeepsBoard (P : Board → Type 0) : Type 0 where
-  pub change : (b : Board) (change : Change) → P b → P (changed b change)
+-- what each change of the board, and each attempt, relates a board to
+pub record ChangesBoard (R : Board → Board → Type 0) : Type 0 where
+  pub change : (b : Board) (change : Change) → R b (changed b change)
   -- a clock is written, by a number as wide as its property
-  pub set : (b d : Board) (c period : ℕ) → period < 2 ^ 64 → clock_set b c period ≡ Ok d → P b → P d
-  pub multiplied : (b d : Board) (c mul : ℕ) → mul < 2 ^ 32 → clock_scaled b c mul (div_of b c) ≡ Ok d → P b → P d
-  pub divided : (b d : Board) (c div : ℕ) → div < 2 ^ 32 → clock_scaled b c (mul_of b c) div ≡ Ok d → P b → P d
-  pub attempt : (b : Board) (t : TypeId) → P b → P (with_attempt b t)
+  pub set : (b d : Board) (c period : ℕ) → period < 2 ^ 64 → clock_set b c period ≡ Ok d → R b d
+  pub multiplied : (b d : Board) (c mul : ℕ) → mul < 2 ^ 32 → clock_scaled b c mul (div_of b c) ≡ Ok d → R b d
+  pub divided : (b d : Board) (c div : ℕ) → div < 2 ^ 32 → clock_scaled b c (mul_of b c) div ≡ Ok d → R b d
+  pub attempt : (b : Board) (t : TypeId) → R b (with_attempt b t)
   -- a device is added or refused, and an attempt at it is cut
-  pub plugged : (b : Board) (a : Wanted) → P b → P (plug b a).board
-  pub cut : (b : Board) (t : TypeId) (i : ℕ) (joined : Bool) → P b → P (cut_attempt b t i joined)
+  pub plugged : (b : Board) (a : Wanted) → R b (plug b a).board
+  pub cut : (b : Board) (t : TypeId) (i : ℕ) (joined : Bool) → R b (cut_attempt b t i joined)
   -- a removal is asked for, comes, or is refused, and the guest takes a notice
-  pub asked : (b : Board) (id : List ℕ) → P b → P (asked b id).board
-  pub completed : (b : Board) (at : Addr) (d : ℕ) → addressed b at ≡ Some d → is_pending b d ≡ true → P b → P (completed b d)
-  pub refused : (b : Board) (d : ℕ) → P b → P (refused_removal b d)
-  pub polled : (b : Board) → P b → P (polled b)
+  pub asked : (b : Board) (id : List ℕ) → R b (asked b id).board
+  pub completed : (b : Board) (at : Addr) (d : ℕ) → addressed b at ≡ Some d → is_pending b d ≡ true → R b (completed b d)
+  pub refused : (b : Board) (d : ℕ) → R b (refused_removal b d)
+  pub polled : (b : Board) → R b (polled b)
   -- the guest writes to a register of the device at an address
-  pub written : (b : Board) (d reg value : ℕ) (c : Board) → GuestFinds b d → guest_written b d reg value ≡ Some c → P b → P c
+  pub written : (b : Board) (d reg value : ℕ) (c : Board) → GuestFinds b d → guest_written b d reg value ≡ Some c → R b c
   -- it has other rings
-  pub rings : KeepsRings P
+  pub rings : ChangesRings R
   -- it comes to a later moment, and runs or stands still
-  pub timed : (b : Board) (now : ℕ) → b.now ≤ now → now ≤ TIME_MAX → P b → P (at_time now b)
-  pub switched : (b : Board) (on : Bool) → P b → P (with_running on b)
+  pub timed : (b : Board) (now : ℕ) → b.now ≤ now → now ≤ TIME_MAX → R b (at_time now b)
+  pub switched : (b : Board) (on : Bool) → R b (with_running on b)
   -- an attached object that may be is held in reset, where it is not held too often, and one that is held is released; the whole board is reset; and the
   -- machine wakes up
-  pub held_so : (b : Board) (n : ℕ) (kind : ResetKind) → is_of b (codes "resettable") n ≡ true → attached b n ≡ true → exceeds_depth b n ≡ false → P b
-      → P (after_hold b n kind)
-  pub released_so : (b : Board) (n : ℕ) → is_of b (codes "resettable") n ≡ true → among b.holds n ≡ true → P b → P (released b n)
-  pub reset : (b : Board) → P b → P (reset_whole b)
-  pub wakes : (b : Board) → P b → P (woken b)
+  pub held_so : (b : Board) (n : ℕ) (kind : ResetKind) → is_of b (codes "resettable") n ≡ true → attached b n ≡ true → exceeds_depth b n ≡ false
+      → R b (after_hold b n kind)
+  pub released_so : (b : Board) (n : ℕ) → is_of b (codes "resettable") n ≡ true → among b.holds n ≡ true → R b (released b n)
+  pub reset : (b : Board) → R b (reset_whole b)
+  pub wakes : (b : Board) → R b (woken b)
 
--- what each command keeps of the board, and each attempt
-pub record KeepsCommands (P : Board → Type 0) : Type 0 where
-  pub command : (b : Board) (r : Call) → P b → P (perform b r).board
-  pub attempt : (b : Board) (r : Call) (i : ℕ) (joined : Bool) → P b → P (attempted b r i joined)
+-- what each command, and each attempt, relates a board to
+pub record ChangesCommands (R : Board → Board → Type 0) : Type 0 where
+  pub command : (b : Board) (r : Call) → R b (perform b r).board
+  pub attempt : (b : Board) (r : Call) (i : ℕ) (joined : Bool) → R b (attempted b r i joined)
   -- a step of the time
-  pub advance : (b : Board) (ns : ℕ) → P b → P (advanced b ns).board
+  pub advance : (b : Board) (ns : ℕ) → R b (advanced b ns).board
+
+-- after a change a fact is so where it was so before it
+abbrev pub Keeps : (Board → Type 0) → Board → Board → Type 0
+Keeps P b c = P b → P c
+
+-- what each change of the board keeps, and each attempt; of the rings; and what each command does
+abbrev pub KeepsBoard : (Board → Type 0) → Type 0
+KeepsBoard P = ChangesBoard (Keeps P)
+
+abbrev pub KeepsRings : (Board → Type 0) → Type 0
+KeepsRings P = ChangesRings (Keeps P)
+
+abbrev pub KeepsCommands : (Board → Type 0) → Type 0
+KeepsCommands P = ChangesCommands (Keeps P)
+
+pub any-rings : (P : Board → Type 0) → ((b : Board) (rings : List Ring) → P b → P (with_rings rings b)) → KeepsRings P
+any-rings P ringed = rings-changed (Keeps P) ringed
 
 -- Commands.
 
@@ -150,19 +167,6 @@ changed_board P c p = by c.refusal
     by None = p
     by (Some code) = p
 
-set_board : (P : Board → Type 0) → KeepsBoard P → (b : Board) (path name : List ℕ) (v : Val) → P b → P (commands.wrote b (write_at b path name v)).board
-set_board P k b path name v p = by (write_at b path name v) refl
-  where
-    by : (r : Result Board Code) → write_at b path name v ≡ r → P (commands.wrote b r).board
-    by (Ok d) is =
-        write_at-cases (P d) b d
-        (λ n name v q. subst P (ap (after_write b) q) (k.change b (wrote n name v) p))
-        (λ c period fits q. k.set b d c period fits q p)
-        (λ c mul fits q. k.multiplied b d c mul fits q p)
-        (λ c div fits q. k.divided b d c div fits q p)
-        path name v is
-    by (Err code) is = p
-
 -- a device
 plugged_board : (P : Board → Type 0) (add : Plugged) → P add.board → P (commands.plugged add).board
 plugged_board P add p = by add.refusal
@@ -170,81 +174,6 @@ plugged_board P add p = by add.refusal
     by : (r : Option (ℕ × Code)) → P (commands.plugged (record { refusal = r; board = add.board })).board
     by None = p
     by (Some refusal) = p
-
--- a line of the guest
-pending_keeps : (P : Board → Type 0) (b c : Board) (d : ℕ) → P b → (is_pending b d ≡ true → P c) → P (if_pending b d c).board
-pending_keeps P b c d p q = by (is_pending b d) refl
-  where
-    by : (t : Bool) → is_pending b d ≡ t → P (if t then fine c else hearing.answered b NoPending).board
-    by true is = q is
-    by false is = p
-
-written_keeps : (P : Board → Type 0) → KeepsBoard P → (b : Board) (d reg value : ℕ) → GuestFinds b d → P b
-    → P (if_written b (guest_written b d reg value)).board
-written_keeps P k b d reg value there p = by (guest_written b d reg value) refl
-  where
-    by : (o : Option Board) → guest_written b d reg value ≡ o → P (if_written b o).board
-    by None is = p
-    by (Some c) is = k.written b d reg value c there is p
-
-peek_keeps : (P : Board → Type 0) (b : Board) (o : Option RegisterPlace) → P b → P (peeked b o).board
-peek_keeps P b None p = p
-peek_keeps P b (Some place) p = by (has_registers b place.device)
-  where
-    by : (t : Bool) → P (if t then read_by b place.register (Some place.device) else hearing.answered b NoRegister).board
-    by true = p
-    by false = p
-
-poke_keeps : (P : Board → Type 0) → KeepsBoard P → (b : Board) (at value : ℕ) (o : Option RegisterPlace) → register_at b at ≡ o → P b
-    → P (poked b value o).board
-poke_keeps P k b at value None is p = p
-poke_keeps P k b at value (Some place) is p = by (place.device == BOOT_LEAF) (is_of b (codes "mem-dimm") place.device) refl
-  where
-    by : (boot memory : Bool) → (place.device == BOOT_LEAF) ≡ boot
-        → P (if not (boot || memory) then written_by b place.register value (Some place.device) else hearing.answered b NoRegister).board
-    by true memory apart = p
-    by false true apart = p
-    by false false apart = written_keeps P k b place.device place.register value (by_address at place is refl apart) p
-
-acted_keeps : (P : Board → Type 0) → KeepsBoard P → (b : Board) (act : GuestAct) → P b → P (acted b act).board
-acted_keeps P k b (Ack at) p = by (addressed b at) refl
-  where
-    by : (o : Option ℕ) → addressed b at ≡ o → P (acked b o).board
-    by None is = p
-    by (Some d) is = pending_keeps P b (completed b d) d p (λ pending. k.completed b at d is pending p)
-acted_keeps P k b (Nack at) p = by (addressed b at)
-  where
-    by : (o : Option ℕ) → P (nacked b o).board
-    by None = p
-    by (Some d) = pending_keeps P b (refused_removal b d) d p (λ pending. k.refused b d p)
-acted_keeps P k b Poll p = k.polled b p
-acted_keeps P k b (Read at reg) p = by (addressed b at)
-  where
-    by : (o : Option ℕ) → P (read_by b reg o).board
-    by None = p
-    by (Some d) = p
-acted_keeps P k b (Write at reg value) p = by (addressed b at) refl
-  where
-    by : (o : Option ℕ) → addressed b at ≡ o → P (written_by b reg value o).board
-    by None is = p
-    by (Some d) is = written_keeps P k b d reg value (by_slots at is) p
-acted_keeps P k b (Peek at) p = peek_keeps P b (register_at b at) p
-acted_keeps P k b (Poke at value) p = poke_keeps P k b at value (register_at b at) refl p
-acted_keeps P k b Irq p = p
-acted_keeps P k b Reset p = k.reset b p
-acted_keeps P k b Shutdown p = p
-
-pub heard_keeps : (P : Board → Type 0) → KeepsBoard P → (b : Board) (line : List ℕ) → P b → P (heard b line).board
-unfolding heard
-heard_keeps P k b line p = by (guest_line line)
-  where
-    runs : (act : GuestAct) (t : Bool) → P (if t then acted b act else hearing.answered b NoStopped).board
-    runs act true = acted_keeps P k b act p
-    runs act false = p
-
-    by : (o : Option GuestAct) → P (heard_act b o).board
-    by None = p
-    by (Some act) = runs act b.running
 
 -- the virtual time
 timed_board : (P : Board → Type 0) (c : Changed) → P c.board → P (commands.timed c).board
@@ -268,120 +197,219 @@ advanced-all P b ns p q = by b.running (nat_lt TIME_MAX (b.now + ns)) refl
     by true true e = p
     by true false e = q (grind (arith, e))
 
--- holds
-held_of-keeps : (P : Board → Type 0) → KeepsBoard P → (b : Board) (n : ℕ) (kind : ResetKind) → is_of b (codes "resettable") n ≡ true → P b
-    → P (held_of b n kind).board
-held_of-keeps P k b n kind is p = held_of-all P b n kind p (λ home deep. k.held_so b n kind is home deep p)
-
-released_of-keeps : (P : Board → Type 0) → KeepsBoard P → (b : Board) (n : ℕ) → is_of b (codes "resettable") n ≡ true → P b → P (released_of b n).board
-released_of-keeps P k b n is p = released_of-all P b n p (λ stands. k.released_so b n is stands p)
-
--- an object is deleted, or stays as it is in use
-removed-keeps : (P : Board → Type 0) → KeepsBoard P → (b : Board) (id : List ℕ) → P b → P (object_removed b id).board
-removed-keeps P k b id p = by (is_used b id)
+-- a register that the guest reads
+peek_keeps : (P : Board → Type 0) (b : Board) (o : Option RegisterPlace) → P b → P (peeked b o).board
+peek_keeps P b None p = p
+peek_keeps P b (Some place) p = by (has_registers b place.device)
   where
-    come : Bool → Changed
-    come used = if used then record { refusal = Some E32; board = b } else object_del b id
-
-    by : (used : Bool) → P (come used).board
+    by : (t : Bool) → P (if t then read_by b place.register (Some place.device) else hearing.answered b NoRegister).board
     by true = p
-    by false = k.change b (deleted id) p
+    by false = p
 
-added_keeps : (P : Board → Type 0) → KeepsBoard P → (b : Board) (a : Addition) → P b → P (added b a).board
-unfolding added
-added_keeps P k b (ObjectAdd driver id props) p = changed_board P (object_add b driver id props) (k.change b (object_added driver id props) p)
-added_keeps P k b (DeviceAdd driver id bus props) p = plugged_board P (plug b (wanted driver id bus props)) (k.plugged b (wanted driver id bus props) p)
+-- what each change relates a board to, each command does, where the board itself is so related
+module _ (R : Board → Board → Type 0) (same : (b : Board) → R b b) (k : ChangesBoard R) where
+  set_board : (b : Board) (path name : List ℕ) (v : Val) → R b (commands.wrote b (write_at b path name v)).board
+  set_board b path name v = by (write_at b path name v) refl
+    where
+      by : (r : Result Board Code) → write_at b path name v ≡ r → R b (commands.wrote b r).board
+      by (Ok d) is =
+          write_at-cases (R b d) b d
+          (λ n name v q. subst (R b) (ap (after_write b) q) (k.change b (wrote n name v)))
+          (λ c period fits q. k.set b d c period fits q)
+          (λ c mul fits q. k.multiplied b d c mul fits q)
+          (λ c div fits q. k.divided b d c div fits q)
+          path name v is
+      by (Err code) is = same b
 
-altered_keeps : (P : Board → Type 0) → KeepsBoard P → (b : Board) (a : Alteration) → P b → P (altered b a).board
-unfolding altered
-altered_keeps P k b Stop p = k.switched b false p
-altered_keeps P k b Cont p = k.switched b true p
-altered_keeps P k b SystemReset p = k.reset b p
-altered_keeps P k b (QomSet path property value) p = set_board P k b path property value p
-altered_keeps P k b (ObjectDel id) p = changed_board P (object_removed b id) (removed-keeps P k b id p)
-altered_keeps P k b (DeviceDel id) p = changed_board P (asked b id) (k.asked b id p)
-altered_keeps P k b (ChardevAdd id kind size) p =
-    let more : List Ring = b.rings ++ new_ring id (unwrap_or size RING_SIZE_DEFAULT) ∷ [] in
-    changed_board P (chardev_added b id kind size)
-    (by_code-all P b (with_rings more b) (chardev_barred b id kind (unwrap_or size RING_SIZE_DEFAULT)) p
-    (λ free. k.rings.added b id kind (unwrap_or size RING_SIZE_DEFAULT) free p))
-altered_keeps P k b (ChardevRemove id) p =
-    let fewer : List Ring = without_ring id b.rings in
-    changed_board P (chardev_removed b id) (by_code-all P b (with_rings fewer b) (removal_barred b id) p (λ free. k.rings.removed b id free p))
-altered_keeps P k b (RingbufRead device size format) p =
-    let reading : Reading = ringbuf_read b device size format in
-    answered_board P reading.board string reading.text (taken-all P b device size (unwrap_or format Utf8) p (k.rings.read b device size p))
-altered_keeps P k b (RingbufWrite device payload format) p =
-    changed_board P (ringbuf_written b device payload format)
-    (gained-all P b device payload (unwrap_or format Utf8) p (λ bytes. k.rings.written b device bytes p))
-altered_keeps P k b (XResetHold path asked_kind) p =
-    let kind : ResetKind = unwrap_or asked_kind Cold in
-    changed_board P (held_at b path kind) (at_path-all P b path (λ n. held_of b n kind) p (λ n is. held_of-keeps P k b n kind is p))
-altered_keeps P k b (XResetRelease path) p =
-    changed_board P (released_at b path) (at_path-all P b path (released_of b) p (λ n is. released_of-keeps P k b n is p))
-altered_keeps P k b XWakeup p = k.wakes b p
-altered_keeps P k b (XSever birth) p = changed_board P (sever b birth) (k.change b (severed birth) p)
-altered_keeps P k b (XGuest line) p = heard_keeps P k b line p
-altered_keeps P k b (XStep ns) p = timed_board P (advanced b ns) (advanced-all P b ns p (λ low. k.timed b (b.now + ns) (omega arith) low p))
+  -- a line of the guest
+  pending_changes : (b c : Board) (d : ℕ) → (is_pending b d ≡ true → R b c) → R b (if_pending b d c).board
+  pending_changes b c d q = by (is_pending b d) refl
+    where
+      by : (t : Bool) → is_pending b d ≡ t → R b (if t then fine c else hearing.answered b NoPending).board
+      by true is = q is
+      by false is = same b
 
-performed_keeps : (P : Board → Type 0) → KeepsBoard P → (b : Board) (r : Call) → P b → P (performed b r).board
-performed_keeps P k b (call.Query query) p = p
-performed_keeps P k b (call.Change (Add addition)) p = added_keeps P k b addition p
-performed_keeps P k b (call.Change (Alter alteration)) p = altered_keeps P k b alteration p
-performed_keeps P k b (call.Monitor text) p = go (line_of text)
-  where
-    go : (line : Option Line) → P (monitored b line).board
-    go None = p
-    go (Some Tree) = p
-    go (Some Bus) = p
-    go (Some (Do (Add addition))) = added_keeps P k b addition p
-    go (Some (Do (Alter alteration))) = altered_keeps P k b alteration p
+  written_changes : (b : Board) (d reg value : ℕ) → GuestFinds b d → R b (if_written b (guest_written b d reg value)).board
+  written_changes b d reg value there = by (guest_written b d reg value) refl
+    where
+      by : (o : Option Board) → guest_written b d reg value ≡ o → R b (if_written b o).board
+      by None is = same b
+      by (Some c) is = k.written b d reg value c there is
 
--- so does each command, where the events that wait are no matter
+  poke_changes : (b : Board) (at value : ℕ) (o : Option RegisterPlace) → register_at b at ≡ o → R b (poked b value o).board
+  poke_changes b at value None is = same b
+  poke_changes b at value (Some place) is = by (place.device == BOOT_LEAF) (is_of b (codes "mem-dimm") place.device) refl
+    where
+      by : (boot memory : Bool) → (place.device == BOOT_LEAF) ≡ boot
+          → R b (if not (boot || memory) then written_by b place.register value (Some place.device) else hearing.answered b NoRegister).board
+      by true memory apart = same b
+      by false true apart = same b
+      by false false apart = written_changes b place.device place.register value (by_address at place is refl apart)
+
+  acted_changes : (b : Board) (act : GuestAct) → R b (acted b act).board
+  acted_changes b (Ack at) = by (addressed b at) refl
+    where
+      by : (o : Option ℕ) → addressed b at ≡ o → R b (acked b o).board
+      by None is = same b
+      by (Some d) is = pending_changes b (completed b d) d (λ pending. k.completed b at d is pending)
+  acted_changes b (Nack at) = by (addressed b at)
+    where
+      by : (o : Option ℕ) → R b (nacked b o).board
+      by None = same b
+      by (Some d) = pending_changes b (refused_removal b d) d (λ pending. k.refused b d)
+  acted_changes b Poll = k.polled b
+  acted_changes b (Read at reg) = by (addressed b at)
+    where
+      by : (o : Option ℕ) → R b (read_by b reg o).board
+      by None = same b
+      by (Some d) = same b
+  acted_changes b (Write at reg value) = by (addressed b at) refl
+    where
+      by : (o : Option ℕ) → addressed b at ≡ o → R b (written_by b reg value o).board
+      by None is = same b
+      by (Some d) is = written_changes b d reg value (by_slots at is)
+  acted_changes b (Peek at) = peek_keeps (R b) b (register_at b at) (same b)
+  acted_changes b (Poke at value) = poke_changes b at value (register_at b at) refl
+  acted_changes b Irq = same b
+  acted_changes b Reset = k.reset b
+  acted_changes b Shutdown = same b
+
+  heard_changes : (b : Board) (line : List ℕ) → R b (heard b line).board
+  unfolding heard
+  heard_changes b line = by (guest_line line)
+    where
+      runs : (act : GuestAct) (t : Bool) → R b (if t then acted b act else hearing.answered b NoStopped).board
+      runs act true = acted_changes b act
+      runs act false = same b
+
+      by : (o : Option GuestAct) → R b (heard_act b o).board
+      by None = same b
+      by (Some act) = runs act b.running
+
+  -- holds
+  held_of-changes : (b : Board) (n : ℕ) (kind : ResetKind) → is_of b (codes "resettable") n ≡ true → R b (held_of b n kind).board
+  held_of-changes b n kind is = held_of-all (R b) b n kind (same b) (λ home deep. k.held_so b n kind is home deep)
+
+  released_of-changes : (b : Board) (n : ℕ) → is_of b (codes "resettable") n ≡ true → R b (released_of b n).board
+  released_of-changes b n is = released_of-all (R b) b n (same b) (λ stands. k.released_so b n is stands)
+
+  -- an object is deleted, or stays as it is in use
+  removed-changes : (b : Board) (id : List ℕ) → R b (object_removed b id).board
+  removed-changes b id = by (is_used b id)
+    where
+      come : Bool → Changed
+      come used = if used then record { refusal = Some E32; board = b } else object_del b id
+
+      by : (used : Bool) → R b (come used).board
+      by true = same b
+      by false = k.change b (deleted id)
+
+  added_changes : (b : Board) (a : Addition) → R b (added b a).board
+  unfolding added
+  added_changes b (ObjectAdd driver id props) = changed_board (R b) (object_add b driver id props) (k.change b (object_added driver id props))
+  added_changes b (DeviceAdd driver id bus props) = plugged_board (R b) (plug b (wanted driver id bus props)) (k.plugged b (wanted driver id bus props))
+
+  altered_changes : (b : Board) (a : Alteration) → R b (altered b a).board
+  unfolding altered
+  altered_changes b Stop = k.switched b false
+  altered_changes b Cont = k.switched b true
+  altered_changes b SystemReset = k.reset b
+  altered_changes b (QomSet path property value) = set_board b path property value
+  altered_changes b (ObjectDel id) = changed_board (R b) (object_removed b id) (removed-changes b id)
+  altered_changes b (DeviceDel id) = changed_board (R b) (asked b id) (k.asked b id)
+  altered_changes b (ChardevAdd id kind size) =
+      let more : List Ring = b.rings ++ new_ring id (unwrap_or size RING_SIZE_DEFAULT) ∷ [] in
+      changed_board (R b) (chardev_added b id kind size)
+      (by_code-all (R b) b (with_rings more b) (chardev_barred b id kind (unwrap_or size RING_SIZE_DEFAULT)) (same b)
+      (λ free. k.rings.added b id kind (unwrap_or size RING_SIZE_DEFAULT) free))
+  altered_changes b (ChardevRemove id) =
+      let fewer : List Ring = without_ring id b.rings in
+      changed_board (R b) (chardev_removed b id) (by_code-all (R b) b (with_rings fewer b) (removal_barred b id) (same b) (λ free. k.rings.removed b id free))
+  altered_changes b (RingbufRead device size format) =
+      let reading : Reading = ringbuf_read b device size format in
+      answered_board (R b) reading.board string reading.text
+      (taken-all (R b) b device size (unwrap_or format Utf8) (same b) (k.rings.read b device size))
+  altered_changes b (RingbufWrite device payload format) =
+      changed_board (R b) (ringbuf_written b device payload format)
+      (gained-all (R b) b device payload (unwrap_or format Utf8) (same b) (λ bytes. k.rings.written b device bytes))
+  altered_changes b (XResetHold path asked_kind) =
+      let kind : ResetKind = unwrap_or asked_kind Cold in
+      changed_board (R b) (held_at b path kind) (at_path-all (R b) b path (λ n. held_of b n kind) (same b) (λ n is. held_of-changes b n kind is))
+  altered_changes b (XResetRelease path) =
+      changed_board (R b) (released_at b path) (at_path-all (R b) b path (released_of b) (same b) (λ n is. released_of-changes b n is))
+  altered_changes b XWakeup = k.wakes b
+  altered_changes b (XSever birth) = changed_board (R b) (sever b birth) (k.change b (severed birth))
+  altered_changes b (XGuest line) = heard_changes b line
+  altered_changes b (XStep ns) = timed_board (R b) (advanced b ns) (advanced-all (R b) b ns (same b) (λ low. k.timed b (b.now + ns) (omega arith) low))
+
+  performed_changes : (b : Board) (r : Call) → R b (performed b r).board
+  performed_changes b (call.Query query) = same b
+  performed_changes b (call.Change (Add addition)) = added_changes b addition
+  performed_changes b (call.Change (Alter alteration)) = altered_changes b alteration
+  performed_changes b (call.Monitor text) = go (line_of text)
+    where
+      go : (line : Option Line) → R b (monitored b line).board
+      go None = same b
+      go (Some Tree) = same b
+      go (Some Bus) = same b
+      go (Some (Do (Add addition))) = added_changes b addition
+      go (Some (Do (Alter alteration))) = altered_changes b alteration
+
+  -- where the events that wait are no matter
+  pub changes_commands : ((b c : Board) → R b c → R b (without_events c)) → ChangesCommands R
+  changes_commands free =
+      record {
+        command = λ b r. free b (performed b r).board (performed_changes b r);
+        attempt = λ b r i joined. attempted-all (R b) b r i joined (same b) (λ t. k.attempt b t) (λ t. k.cut b t i joined);
+        advance = λ b ns. advanced-all (R b) b ns (same b) (λ low. k.timed b (b.now + ns) (omega arith) low);
+      }
+
+-- so does each command keep what each change does
 pub keeps_commands : (P : Board → Type 0) → KeepsBoard P → ((b : Board) → P b → P (without_events b)) → KeepsCommands P
-keeps_commands P k free =
-    record {
-      command = λ b r p. free (performed b r).board (performed_keeps P k b r p);
-      attempt = λ b r i joined p. attempted-all P b r i joined p (λ t. k.attempt b t p) (λ t. k.cut b t i joined p);
-      advance = λ b ns p. advanced-all P b ns p (λ low. k.timed b (b.now + ns) (omega arith) low p);
-    }
+keeps_commands P k free = changes_commands (Keeps P) (λ b p. p) k (λ b c keeps p. free c (keeps p))
 
 -- Items, steps and runs.
 
-ends_board : (P : Board → Type 0) (e : Bool) (s : State) → P s.board → P (after_command e s).board
-ends_board P true s p = p
-ends_board P false s p = p
+-- what each command relates a board to, an item does, and a line of the guest as what it does as a command
+module _ (R : Board → Board → Type 0) (same : (b : Board) → R b b) (k : ChangesCommands R) where
+  ends_changes : (b : Board) (e : Bool) (s : State) → R b s.board → R b (after_command e s).board
+  ends_changes b true s r = r
+  ends_changes b false s r = r
 
-made_board : (P : Board → Type 0) → KeepsCommands P → (choice : Choice) (at : Moment) (n : ℕ) (s : State) (what : SessionAct) → P s.board
-    → P (made_by choice at n s what).state.board
-made_board P k (refused i joined) at n s (Answer code id) p = p
-made_board P k (refused i joined) at n s (Negotiated id) p = p
-made_board P k (refused i joined) at n s (Do command id) p = k.attempt s.board command i joined p
-made_board P k defined at n s (Answer code id) p = p
-made_board P k defined at n s (Negotiated id) p = p
-made_board P k defined at n s (Do command id) p =
-    ends_board P (perform s.board command).ends (with_board s (perform s.board command).board) (k.command s.board command p)
+  made_changes : (choice : Choice) (at : Moment) (n : ℕ) (s : State) (what : SessionAct) → R s.board (made_by choice at n s what).state.board
+  made_changes (refused i joined) at n s (Answer code id) = same s.board
+  made_changes (refused i joined) at n s (Negotiated id) = same s.board
+  made_changes (refused i joined) at n s (Do command id) = k.attempt s.board command i joined
+  made_changes defined at n s (Answer code id) = same s.board
+  made_changes defined at n s (Negotiated id) = same s.board
+  made_changes defined at n s (Do command id) =
+      ends_changes s.board (perform s.board command).ends (with_board s (perform s.board command).board) (k.command s.board command)
 
-item_board : (P : Board → Type 0) → KeepsCommands P → (choice : Choice) (at : Moment) (n : ℕ) (s : State) (item : Item) → P s.board
+  pub item_changes : (choice : Choice) (at : Moment) (n : ℕ) (s : State) (item : Item) → R s.board (item_step choice at n s item).state.board
+  unfolding item_step
+  item_changes choice at n s item = made_changes choice at n s (act (mode_of s n) item)
+
+  pub line_changes : (choice : Choice) (at : Moment) (s : State) (line : List ℕ) → R s.board (line_step choice at s line).state.board
+  unfolding line_step altered
+  line_changes (refused i joined) at s line = same s.board
+  line_changes defined at s line =
+      let o = heard s.board (without_return line) in
+      ends_changes s.board o.ends (with_board s (without_events o.board)) (k.command s.board (call.Change (Alter (XGuest (without_return line)))))
+
+pub item_board : (P : Board → Type 0) → KeepsCommands P → (choice : Choice) (at : Moment) (n : ℕ) (s : State) (item : Item) → P s.board
     → P (item_step choice at n s item).state.board
-unfolding item_step
-item_board P k choice at n s item p = made_board P k choice at n s (act (mode_of s n) item) p
+item_board P k choice at n s item p = item_changes (Keeps P) (λ b q. q) k choice at n s item p
 
-unless_board : (P : Board → Type 0) (e : Bool) (a b : Stepped) → P a.state.board → P b.state.board → P (serve_unless e a b).state.board
+pub line_board : (P : Board → Type 0) → KeepsCommands P → (choice : Choice) (at : Moment) (s : State) (line : List ℕ) → P s.board
+    → P (line_step choice at s line).state.board
+line_board P k choice at s line p = line_changes (Keeps P) (λ b q. q) k choice at s line p
+
+pub unless_board : (P : Board → Type 0) (e : Bool) (a b : Stepped) → P a.state.board → P b.state.board → P (serve_unless e a b).state.board
 unless_board P true a b p q = p
 unless_board P false a b p q = q
 
--- a line of the guest keeps what it does as a command
-line_board : (P : Board → Type 0) → KeepsCommands P → (choice : Choice) (at : Moment) (s : State) (line : List ℕ) → P s.board
-    → P (line_step choice at s line).state.board
-unfolding line_step altered
-line_board P k (refused i joined) at s line p = p
-line_board P k defined at s line p =
-    let o = heard s.board (without_return line) in
-    ends_board P o.ends (with_board s (without_events o.board)) (k.command s.board (call.Change (Alter (XGuest (without_return line)))) p)
-
 -- what is served in turn keeps what each keeps
-serve_board_by : {X : Type 0} (P : Board → Type 0) (f : Choice → State → X → Made)
+pub serve_board_by : {X : Type 0} (P : Board → Type 0) (f : Choice → State → X → Made)
     → ((choice : Choice) (s : State) (x : X) → P s.board → P (f choice s x).state.board) → (xs : List X) (s : State) (cs : List Choice) → P s.board
     → P (serve_by f xs s cs).state.board
 serve_board_by P f keeps [] s cs p = p

@@ -56,12 +56,13 @@ module _ (R : Board → Board → Type 0) (same : (b : Board) → R b b) (goes_o
         wakes = λ c h. goes_on b c (woken c) h (changes.pulsed c MACHINE_BIRTH Wakeup tt tt);
       }
 
+  -- who was related to a board before a command is so after it
+  pub related_commands : (b : Board) → KeepsCommands (R b)
+  related_commands b = keeps_commands (R b) (related-board b) (λ c h. goes_on b c (without_events c) h (beside.told c))
+
   pub related_in_runs : RelatedInRuns R
   related_in_runs =
       record {
-        step = λ s input choices. step_keeps (R s.board) (related-commands s.board) s input choices (same s.board);
-        run = λ s turns. run_keeps (R s.board) (related-commands s.board) s turns (same s.board);
+        step = λ s input choices. step_keeps (R s.board) (related_commands s.board) s input choices (same s.board);
+        run = λ s turns. run_keeps (R s.board) (related_commands s.board) s turns (same s.board);
       }
-    where
-      related-commands : (b : Board) → KeepsCommands (R b)
-      related-commands b = keeps_commands (R b) (related-board b) (λ c h. goes_on b c (without_events c) h (beside.told c))

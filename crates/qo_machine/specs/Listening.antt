@@ -2,6 +2,7 @@
 use Rattle.std.specs.Prelude.{◌≡◌, ◌<◌, ◌≤◌, ℕ, true, List, [], ◌∷◌, ◌++◌, length, ◌+◌, Option, Some, None, option_to_list, Result, Ok, Err}
 use Rattle.qo_causes.specs.Hub.{AtEnd, is_end}
 use Rattle.qo_causes.specs.declared.inputs.Input.{Input}
+use Rattle.qo_values.specs.declared.limits.TheConstants.{NOTES_KEPT}
 use Rattle.qo_model.specs.Board.{Board}
 use Rattle.qo_model.specs.declared.notes.Note.{Note}
 use Rattle.qo_listen.specs.Ears.{AllHeard, Ear}
@@ -19,6 +20,10 @@ Hears b c olds news = (more : List Note) × (c.notes ≡ b.notes ++ more) × (Is
 -- each heard a front of it
 abbrev pub HearsFront : Board → Board → List Ear → List Ear → Type 0
 HearsFront b c olds news = (more : List Note) × (c.notes ≡ b.notes ++ more) × (IsCounted c → HeardFronts more olds news)
+
+-- what is noted from one board to a later one comes after what was, and is no more than is kept
+abbrev pub Follows : Board → Board → Type 0
+Follows b c = (more : List Note) × (c.notes ≡ b.notes ++ more) × (length more ≤ NOTES_KEPT)
 
 -- by some choices a step from a state sends this, a machine is then in the state that it leads to, and each listener heard what was noted on the way
 abbrev pub AnswersTold : State → Input → List Message → Seen → List Ear → List Ear → Type 0

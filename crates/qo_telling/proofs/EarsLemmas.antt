@@ -1,0 +1,96 @@
+-- What listeners hear of several notes.
+use Rattle.std.proofs.Common.{◌≡◌, refl, sym, ap, subst, ◌∙◌, ℕ, zero, suc, List, [], ◌∷◌, ◌++◌, length, take, drop, append-nil, append_assoc}
+use Rattle.std.proofs.lemmas.List.{take-append-drop}
+use Rattle.qo_model.specs.declared.notes.Note.{Note}
+use Rattle.qo_listen.specs.Ears.{AllHeard, AllOpen, Ear, Heard, HeardTo}
+use Rattle.qo_telling.specs.Telling.{HeardFront, HeardFronts}
+
+-- One listener.
+
+heard-none : (e : Ear) → Heard [] e e
+heard-none e = record { heard = sym (append-nil e.heard); form = refl; closed = refl }
+
+heard-then : (a b : List Note) (x y z : Ear) → Heard a x y → Heard b y z → Heard (a ++ b) x z
+heard-then a b x y z h k =
+    record {
+      heard = k.heard ∙ ap (λ (l : List Note). l ++ b) h.heard ∙ append_assoc x.heard a b;
+      form = k.form ∙ h.form;
+      closed = k.closed ∙ h.closed;
+    }
+
+-- All of them.
+
+-- nothing was heard
+pub all-none : (xs : List Ear) → AllHeard [] xs xs
+all-none [] = refl
+all-none (x ∷ xs) = (heard-none x, all-none xs)
+
+-- some notes, and then more
+pub all-then : (a b : List Note) (xs ys zs : List Ear) → AllHeard a xs ys → AllHeard b ys zs → AllHeard (a ++ b) xs zs
+all-then a b [] [] zs h k = k
+all-then a b [] (y ∷ ys) zs h k = absurd (let clash : y ∷ ys ≡ [] = h in cc)
+all-then a b (x ∷ xs) [] zs h k = absurd h
+all-then a b (x ∷ xs) (y ∷ ys) [] h k = absurd k
+all-then a b (x ∷ xs) (y ∷ ys) (z ∷ zs) h k = (heard-then a b x y z h.0 k.0, all-then a b xs ys zs h.1 k.1)
+
+-- none is closed by that
+pub all-open : (a : List Note) (xs ys : List Ear) → AllHeard a xs ys → AllOpen xs → AllOpen ys
+all-open a [] [] h open = tt
+all-open a [] (y ∷ ys) h open = absurd (let clash : y ∷ ys ≡ [] = h in cc)
+all-open a (x ∷ xs) [] h open = absurd h
+all-open a (x ∷ xs) (y ∷ ys) h open = (h.0.closed ∙ open.0, all-open a xs ys h.1 open.1)
+
+-- Fronts.
+
+-- of what was heard nothing, and all
+pub fronts-none : (a : List Note) (xs : List Ear) → HeardFronts a xs xs
+fronts-none a [] = refl
+fronts-none a (x ∷ xs) = (([], a, refl, heard-none x), fronts-none a xs)
+
+pub fronts-all : (a b : List Note) (xs ys : List Ear) → AllHeard a xs ys → HeardFronts (a ++ b) xs ys
+fronts-all a b [] ys h = h
+fronts-all a b (x ∷ xs) [] h = absurd h
+fronts-all a b (x ∷ xs) (y ∷ ys) h = ((a, b, refl, h.0), fronts-all a b xs ys h.1)
+
+-- what the first so many heard
+pub fronts-some : (n : ℕ) (a : List Note) (xs ys : List Ear) → HeardTo n a xs ys → HeardFronts a xs ys
+fronts-some zero a xs ys h = subst (HeardFronts a xs) (sym h) (fronts-none a xs)
+fronts-some (suc n) a [] ys h = h
+fronts-some (suc n) a (x ∷ xs) [] h = absurd h
+fronts-some (suc n) a (x ∷ xs) (y ∷ ys) h = ((a, [], sym (append-nil a), h.0), fronts-some n a xs ys h.1)
+
+-- some notes, and a front of more
+pub fronts-then : (a b : List Note) (xs ys zs : List Ear) → AllHeard a xs ys → HeardFronts b ys zs → HeardFronts (a ++ b) xs zs
+fronts-then a b [] [] zs h k = k
+fronts-then a b [] (y ∷ ys) zs h k = absurd (let clash : y ∷ ys ≡ [] = h in cc)
+fronts-then a b (x ∷ xs) [] zs h k = absurd h
+fronts-then a b (x ∷ xs) (y ∷ ys) [] h k = absurd k
+fronts-then a b (x ∷ xs) (y ∷ ys) (z ∷ zs) h k = (
+  (
+    a ++ k.0.0,
+    k.0.1,
+    ap (λ (l : List Note). a ++ l) k.0.2 ∙ sym (append_assoc a k.0.0 k.0.1),
+    heard-then a k.0.0 x y z h.0 k.0.3,
+  ),
+  fronts-then a b xs ys zs h.1 k.1,
+)
+
+-- a front of some notes is one of more
+pub fronts-more : (a b : List Note) (xs ys : List Ear) → HeardFronts a xs ys → HeardFronts (a ++ b) xs ys
+fronts-more a b [] ys h = h
+fronts-more a b (x ∷ xs) [] h = absurd h
+fronts-more a b (x ∷ xs) (y ∷ ys) h = (
+  (h.0.0, h.0.1 ++ b, ap (λ (l : List Note). l ++ b) h.0.2 ∙ append_assoc h.0.0 h.0.1 b, h.0.3),
+  fronts-more a b xs ys h.1,
+)
+
+-- none is closed by that
+pub fronts-open : (a : List Note) (xs ys : List Ear) → HeardFronts a xs ys → AllOpen xs → AllOpen ys
+fronts-open a [] [] h open = tt
+fronts-open a [] (y ∷ ys) h open = absurd (let clash : y ∷ ys ≡ [] = h in cc)
+fronts-open a (x ∷ xs) [] h open = absurd h
+fronts-open a (x ∷ xs) (y ∷ ys) h open = (h.0.3.closed ∙ open.0, fronts-open a xs ys h.1 open.1)
+
+-- a front of notes that were told up to a place
+pub fronts-upto : (i : ℕ) (a : List Note) (xs ys : List Ear) → HeardFronts (take i a) xs ys → HeardFronts a xs ys
+fronts-upto i a xs ys h = subst (λ (l : List Note). HeardFronts l xs ys) (take-append-drop i a) (fronts-more (take i a) (drop i a) xs ys h)

@@ -1,0 +1,2 @@
+pub mod EarsLemmas
+pub mod NotesLemmas
