@@ -111,6 +111,10 @@ module _ {X : Type 0} (f : Choice → State → X → Made) where
   pub told-none : (s : State) (m : Seen) (x : List Ear) → IsIn s m → ServesTold f s [] [] m x x
   told-none s m x here = (s, here, ([], λ further rest. refl), hears-none s.board s.board refl x)
 
+  -- they were served
+  pub told-serves : (s : State) (m : Seen) (xs : List X) (outs : List Message) (x y : List Ear) → ServesTold f s xs outs m x y → ServesToBy f s xs outs m
+  told-serves s m xs outs x y p = (p.0, p.1, p.2)
+
   -- some were served and told, and one more
   pub told-on : (s : State) (mid to : Seen) (xs ys : List X) (a b : List Message) (x y z : List Ear) → ServesTold f s xs a mid x y
       → ((t : State) → IsIn t mid → ServesTold f t ys b to y z) → ServesTold f s (xs ++ ys) (a ++ b) to x z

@@ -15,7 +15,12 @@ use Rattle.qo_causes.specs.declared.inputs.Input.{Input}
 use Rattle.qo_causes.specs.declared.inputs.What.{What}
 use Rattle.qo_causes.specs.declared.inputs.What.TheVariants.{Open, Bytes, Shut, Guest as GuestLine, Step, End}
 use Rattle.qo_machine.specs.Machine.{IsIn, Message, Seen, State, Stepped, Choice, opening, step}
-use Rattle.qo_machine.specs.Runs.{AllLostHad, Cut, CutRun, RunMeets, Told, Turn, TurnMeets, Turns, after, close_lost, closed_where, cut_to, has_end, is_lost, known, lane_at, lane_bytes, lane_of, outs_at, outs_of, risen, risen_by, state_after, transcript, transcript_at, transcript_of, turn_inputs}
+use Rattle.qo_model.specs.Board.{Board}
+use Rattle.qo_listen.specs.Ears.{Ear}
+use Rattle.qo_telling.proofs.EarsLemmas.{fronts-none}
+use Rattle.qo_machine.proofs.HeardLemmas.{front-then, heard-all, heard-so, hears-none, hears-then}
+use Rattle.qo_machine.specs.Listening.{CutRunTold, HeardSo, Hears, RunTold, TurnTold, board_after}
+use Rattle.qo_machine.specs.Runs.{AllLostHad, Cut, RunMeets, Told, Turn, Turns, after, close_lost, closed_where, cut_to, has_end, is_lost, known, lane_at, lane_bytes, lane_of, outs_at, outs_of, risen, risen_by, state_after, transcript, transcript_at, transcript_of, turn_inputs}
 use Rattle.qo_machine.specs.Sending.{Sent, SentFront}
 use Rattle.qo_machine.specs.declared.running.Ending.{Ending}
 use Rattle.qo_machine.specs.declared.running.Ending.TheVariants.{Done, Bad, Memory, NextFailed, SendFailed, Limit}
@@ -151,12 +156,13 @@ pub closed_else : (i : ℕ) (lost : List Bool) (sessions before now : List Sessi
 closed_else i lost sessions before now below within flag was is =
     is ∙ was ∙ sym (rw flag at (closed_more i lost sessions below within))
 
--- whole turns from the opening to the state that a machine is in, so many of them; its run has not ended
-pub record GoneOn (old new : Told) (m : Seen) (count : ℕ) (turns : List Turn) : Type 0 where
+-- whole turns from the opening to the state that a machine is in, so many of them, and what listeners heard; its run has not ended
+pub record GoneOn (old new : Told) (m : Seen) (count : ℕ) (x y : List Ear) (turns : List Turn) : Type 0 where
   pub turns_are : Turns opening old new turns
   pub is_in : IsIn (state_after opening turns) m
   pub count_is : length turns ≡ count
   pub going : m.ended ≡ false
+  pub heard : Hears opening.board (state_after opening turns).board x y
 
 -- whether the run has ended, by a machine
 pub ended_in : (s : State) (m : Seen) → IsIn s m → s.ended ≡ m.ended
@@ -178,14 +184,14 @@ took_one old new bad None h = sym h.0 ∙ none_taken new
 took_one old new bad (Some i) h = h
 
 -- an input was taken, and nothing sent
-abbrev pub taken_turn : Input → Names → Turn
-taken_turn i names = record { input = i; names = names; choices = []; lost = []; cut = λ l. 0 }
+abbrev pub taken_turn : Input → Names → List Choice → Turn
+taken_turn i names cs = record { input = i; names = names; choices = cs; lost = []; cut = λ l. 0 }
 
 pub cut_taken : (s : State) (oi ni : Option (List Given)) (os ns : Option (List ℕ)) (og ng : Lane → Option (List ℕ)) (ol nl : ℕ → ℕ) (bad : Option (Option ℕ))
-    (i : Input) (names : Names)
+    (i : Input) (names : Names) (cs : List Choice)
     → Gives oi ni bad (given_by i names) → ns ≡ os → ((l : Lane) → ng l ≡ og l) → ((n : ℕ) → nl n ≡ ol n)
-    → Cut s (known oi os og ol) (known ni ns ng nl) (Some (taken_turn i names))
-cut_taken s oi ni os ns og ng ol nl bad i names given sent got losses =
+    → Cut s (known oi os og ol) (known ni ns ng nl) (Some (taken_turn i names cs))
+cut_taken s oi ni os ns og ng ol nl bad i names cs given sent got losses =
     record {
       took = took_one oi ni bad (given_by i names) given;
       sent = (0, omega arith, sent ∙ nothing_appended os);
@@ -198,7 +204,7 @@ pub cut_sent : (s : State) (i : Input) (names : Names) (cs : List Choice) (slice
     (og mg ng : Lane → Option (List ℕ)) (ol ml nl : ℕ → ℕ) (bad : Option (Option ℕ))
     → (step s i cs).outs ≡ outs → slice ≡ outs → Gives oi mi bad (given_by i names) → ms ≡ os → ((l : Lane) → mg l ≡ og l) → ((n : ℕ) → ml n ≡ ol n)
     → SentFront names (known mi ms mg ml) (known ni ns ng nl) slice
-    → Cut s (known oi os og ol) (known ni ns ng nl) (Some (record { input = i; names = names; choices = cs; lost = []; cut = λ l. 0 }))
+    → Cut s (known oi os og ol) (known ni ns ng nl) (Some (taken_turn i names cs))
 cut_sent s i names cs slice outs oi mi ni os ms ns og mg ng ol ml nl bad is same given sent got losses h =
     record {
       took = took_one oi ni bad (given_by i names) (rw h.inputs given);
@@ -219,11 +225,11 @@ at_end oi mi ni bad i names same given over = subst (λ (x : Option (List Given)
 
 -- an input was taken, and what it makes was sent
 pub one_turn : (s : State) (to : Seen) (i : Input) (names : Names) (cs : List Choice) (slice outs : List Message) (lost : List Bool) (oi mi ni : Option (List Given))
-    (os ms ns : Option (List ℕ)) (og mg ng : Lane → Option (List ℕ)) (ol ml nl : ℕ → ℕ) (bad : Option (Option ℕ))
+    (os ms ns : Option (List ℕ)) (og mg ng : Lane → Option (List ℕ)) (ol ml nl : ℕ → ℕ) (bad : Option (Option ℕ)) (x y : List Ear)
     → (step s i cs).outs ≡ outs → slice ≡ outs → Gives oi mi bad (given_by i names) → ms ≡ os → ((l : Lane) → mg l ≡ og l) → ((n : ℕ) → ml n ≡ ol n)
     → Sent names (known mi ms mg ml) (known ni ns ng nl) slice lost → IsIn (close_lost lost (step s i cs).state) to
-    → TurnMeets s to (known oi os og ol) (known ni ns ng nl) bad (Ok tt)
-one_turn s to i names cs slice outs lost oi mi ni os ms ns og mg ng ol ml nl bad is same given sent got losses h shut = (
+    → Hears s.board (step s i cs).state.board x y → TurnTold s to (known oi os og ol) (known ni ns ng nl) bad x y (Ok tt)
+one_turn s to i names cs slice outs lost oi mi ni os ms ns og mg ng ol ml nl bad x y is same given sent got losses h shut heard = (
   record { input = i; names = names; choices = cs; lost = lost; cut = h.lanes.0 },
   record {
     took = took_one oi ni bad (given_by i names) (rw h.inputs given);
@@ -235,6 +241,7 @@ one_turn s to i names cs slice outs lost oi mi ni os ms ns og mg ng ol ml nl bad
   },
   shut,
   at_end oi mi ni bad i names h.inputs given,
+  heard,
 )
   where
     outs_is : (step s i cs).outs ≡ slice
@@ -255,50 +262,64 @@ turns_none s i t g n =
     }
 
 -- nothing was done
-pub cut_none : (limit : ℕ) (i : Option (List Given)) (t : Option (List ℕ)) (g : Lane → Option (List ℕ)) (n : ℕ → ℕ)
-    → CutRun limit (known i t g n) (known i t g n)
-cut_none limit i t g n = (
+pub cut_none : (limit : ℕ) (i : Option (List Given)) (t : Option (List ℕ)) (g : Lane → Option (List ℕ)) (n : ℕ → ℕ) (x : List Ear)
+    → CutRunTold limit (known i t g n) (known i t g n) (λ b. HeardSo b x x)
+cut_none limit i t g n x = (
   known i t g n,
   [],
   None,
   (turns_none opening i t g n, refl),
   record { took = none_taken i; sent = (0, omega arith, nothing_appended t); lanes = λ l. (0, omega arith, nothing_appended (g l)); losses = λ k. omega arith },
   omega arith,
+  λ counted. fronts-none [] x,
 )
 
-pub gone_none : (m : Seen) (i : Option (List Given)) (t : Option (List ℕ)) (g : Lane → Option (List ℕ)) (n : ℕ → ℕ) → IsIn opening m
-    → (turns : List Turn) × GoneOn (known i t g n) (known i t g n) m 0 turns
-gone_none m i t g n at =
-    ([], record { turns_are = turns_none opening i t g n; is_in = at; count_is = refl; going = sym (ended_in opening m at) })
+pub gone_none : (m : Seen) (i : Option (List Given)) (t : Option (List ℕ)) (g : Lane → Option (List ℕ)) (n : ℕ → ℕ) (x : List Ear) → IsIn opening m
+    → (turns : List Turn) × GoneOn (known i t g n) (known i t g n) m 0 x x turns
+gone_none m i t g n x at = (
+  [],
+  record {
+    turns_are = turns_none opening i t g n;
+    is_in = at;
+    count_is = refl;
+    going = sym (ended_in opening m at);
+    heard = hears-none opening.board opening.board refl x;
+  },
+)
 
 -- what a turn does from each state that a machine is in
-abbrev TurnsFrom : Seen → Seen → Told → Told → Option (Option ℕ) → Result (Unit {0}) Ending → Type 0
-TurnsFrom m to b c bad answer = (s : State) → IsIn s m → TurnMeets s to b c bad answer
+abbrev TurnsFrom : Seen → Seen → Told → Told → Option (Option ℕ) → List Ear → List Ear → Result (Unit {0}) Ending → Type 0
+TurnsFrom m to b c bad x y answer = (s : State) → IsIn s m → TurnTold s to b c bad x y answer
 
 -- one turn more
-abbrev further : (m to : Seen) (b c : Told) (bad : Option (Option ℕ)) (ts : List Turn) → IsIn (state_after opening ts) m → TurnsFrom m to b c bad (Ok tt) → Turn
-further m to b c bad ts at p = (p (state_after opening ts) at).0
+module _ (a b c : Told) (m to : Seen) (count : ℕ) (bad : Option (Option ℕ)) (x y z : List Ear) (ts : List Turn) (h : GoneOn a b m count x y ts)
+    (p : TurnsFrom m to b c bad y z (Ok tt)) where
+  abbrev pub further : Turn
+  further = (p (state_after opening ts) h.is_in).0
 
-joined : (a b c : Told) (m to : Seen) (count : ℕ) (bad : Option (Option ℕ)) (ts : List Turn) → (h : GoneOn a b m count ts)
-    → (p : TurnsFrom m to b c bad (Ok tt)) → Turns opening a c (ts ++ further m to b c bad ts h.is_in p ∷ [])
-joined a b c m to count bad ts h p =
-    turns_more opening a b c ts (further m to b c bad ts h.is_in p ∷ []) h.turns_are (p (state_after opening ts) h.is_in).1
+  joined : Turns opening a c (ts ++ further ∷ [])
+  joined = turns_more opening a b c ts (further ∷ []) h.turns_are (p (state_after opening ts) h.is_in).1
 
-joined_state : (a b c : Told) (m to : Seen) (count : ℕ) (bad : Option (Option ℕ)) (ts : List Turn) → (h : GoneOn a b m count ts)
-    → (p : TurnsFrom m to b c bad (Ok tt)) → IsIn (state_after opening (ts ++ further m to b c bad ts h.is_in p ∷ [])) to
-joined_state a b c m to count bad ts h p =
-    subst (λ (x : State). IsIn x to) (sym (state_more ts (further m to b c bad ts h.is_in p ∷ []) opening)) (p (state_after opening ts) h.is_in).2
+  joined_state : IsIn (state_after opening (ts ++ further ∷ [])) to
+  joined_state = subst (λ (s : State). IsIn s to) (sym (state_more ts (further ∷ []) opening)) (p (state_after opening ts) h.is_in).2
 
-pub going_on : (a b c : Told) (m to : Seen) (count : ℕ) (bad : Option (Option ℕ)) → (turns : List Turn) × GoneOn a b m count turns
-    → TurnsFrom m to b c bad (Ok tt) → to.ended ≡ false → (turns : List Turn) × GoneOn a c to (count + 1) turns
-going_on a b c m to count bad h p going =
-    let t = further m to b c bad h.0 h.1.is_in p in (
+  joined_heard : Hears opening.board (state_after opening (ts ++ further ∷ [])).board x z
+  joined_heard =
+      subst (λ (s : State). Hears opening.board s.board x z) (sym (state_more ts (further ∷ []) opening))
+      (hears-then opening.board (state_after opening ts).board (after (state_after opening ts) further).board x y z h.heard
+      (p (state_after opening ts) h.is_in).4)
+
+pub going_on : (a b c : Told) (m to : Seen) (count : ℕ) (bad : Option (Option ℕ)) (x y z : List Ear) → (turns : List Turn) × GoneOn a b m count x y turns
+    → TurnsFrom m to b c bad y z (Ok tt) → to.ended ≡ false → (turns : List Turn) × GoneOn a c to (count + 1) x z turns
+going_on a b c m to count bad x y z h p going =
+    let t = further a b c m to count bad x y z h.0 h.1 p in (
       h.0 ++ t ∷ [],
       record {
-        turns_are = joined a b c m to count bad h.0 h.1 p;
-        is_in = joined_state a b c m to count bad h.0 h.1 p;
+        turns_are = joined a b c m to count bad x y z h.0 h.1 p;
+        is_in = joined_state a b c m to count bad x y z h.0 h.1 p;
         count_is = length-append h.0 (t ∷ []) ∙ ap (λ (n : ℕ). n + 1) h.1.count_is;
         going = going;
+        heard = joined_heard a b c m to count bad x y z h.0 h.1 p;
       },
     )
 
@@ -358,46 +379,96 @@ last_within ts None count limit is few = omega (arith, is)
 last_within ts (Some t) count limit is few = omega (arith, is)
 
 -- the run of a machine goes on, by the turns that led there
-still_going : (a b : Told) (m : Seen) (count : ℕ) (ts : List Turn) → GoneOn a b m count ts → (state_after opening ts).ended ≡ false
-still_going a b m count ts h = ended_in (state_after opening ts) m h.is_in ∙ h.going
+still_going : (a b : Told) (m : Seen) (count : ℕ) (x y : List Ear) (ts : List Turn) → GoneOn a b m count x y ts → (state_after opening ts).ended ≡ false
+still_going a b m count x y ts h = ended_in (state_after opening ts) m h.is_in ∙ h.going
 
-pub done : (a b c : Told) (m to : Seen) (count limit : ℕ) (bad other : Option (Option ℕ)) → bad ≡ other → count < limit
-    → (turns : List Turn) × GoneOn a b m count turns → TurnsFrom m to b c bad (Ok tt) → to.ended ≡ true → RunMeets Done limit a c other
-done a b c m to count limit bad other is few h p over =
-    let t = further m to b c bad h.0 h.1.is_in p in
+pub done : (a b c : Told) (m to : Seen) (count limit : ℕ) (bad other : Option (Option ℕ)) (x y z : List Ear) → bad ≡ other → count < limit
+    → (turns : List Turn) × GoneOn a b m count x y turns → TurnsFrom m to b c bad y z (Ok tt) → to.ended ≡ true → RunTold Done limit a c other x z
+done a b c m to count limit bad other x y z is few h p over =
+    let t = further a b c m to count bad x y z h.0 h.1 p in
     let ts = h.0 ++ t ∷ [] in
-    let at = joined_state a b c m to count bad h.0 h.1 p in
-    subst (RunMeets Done limit a c) is (
+    let at = joined_state a b c m to count bad x y z h.0 h.1 p in
+    let going = still_going a b m count x y h.0 h.1 in
+    subst (λ (place : Option (Option ℕ)). RunTold Done limit a c place x z) is (
       ts,
-      joined a b c m to count bad h.0 h.1 p,
-      (h.0, t, refl, still_going a b m count h.0 h.1, ended_in (state_after opening ts) to at ∙ over),
+      joined a b c m to count bad x y z h.0 h.1 p,
+      (h.0, t, refl, going, ended_in (state_after opening ts) to at ∙ over),
       within h.0 t count limit h.1.count_is few,
-      λ e. (p (state_after opening h.0) h.1.is_in).3 (has_end_last h.0 t opening (still_going a b m count h.0 h.1) e),
+      λ e. (p (state_after opening h.0) h.1.is_in).3 (has_end_last h.0 t opening going e),
+      heard-all (state_after opening ts).board x z (joined_heard a b c m to count bad x y z h.0 h.1 p),
     )
 
+-- as many turns as there may be
+pub limited : (a b : Told) (m : Seen) (limit : ℕ) (bad : Option (Option ℕ)) (x y : List Ear) → (turns : List Turn) × GoneOn a b m limit x y turns
+    → RunTold Limit limit a b bad x y
+limited a b m limit bad x y h = (
+  h.0,
+  (h.1.turns_are, still_going a b m limit x y h.0 h.1),
+  h.1.count_is,
+  heard-all (state_after opening h.0).board x y h.1.heard,
+)
+
 -- whole turns, and then nothing more
-also : (a b c : Told) (m : Seen) (count : ℕ) (ts : List Turn) → GoneOn a b m count ts → Turns (state_after opening ts) b c [] → Turns opening a c ts
-also a b c m count ts h p =
+pub also : (a b c : Told) (m : Seen) (count : ℕ) (x y : List Ear) (ts : List Turn) → GoneOn a b m count x y ts → Turns (state_after opening ts) b c []
+    → Turns opening a c ts
+also a b c m count x y ts h p =
     subst (λ (us : List Turn). Turns opening a c us) (append-nil ts) (turns_more opening a b c ts [] h.turns_are p)
 
 -- a turn that stopped the run
-pub stopped_by : (a b c : Told) (m to : Seen) (count limit : ℕ) (bad : Option (Option ℕ)) (e : Ending) → count < limit
-    → (turns : List Turn) × GoneOn a b m count turns → TurnsFrom m to b c bad (Err e) → RunMeets e limit a c bad
-stopped_by a b c m to count limit bad e few h p = by e (p (state_after opening h.0) h.1.is_in)
+pub stopped_by : (a b c : Told) (m to : Seen) (count limit : ℕ) (bad : Option (Option ℕ)) (x y z : List Ear) (e : Ending) → count < limit
+    → (turns : List Turn) × GoneOn a b m count x y turns → TurnsFrom m to b c bad y z (Err e) → RunTold e limit a c bad x z
+stopped_by a b c m to count limit bad x y z e few h p = by e (p (state_after opening h.0) h.1.is_in)
   where
-    by : (e : Ending) → TurnMeets (state_after opening h.0) to b c bad (Err e) → RunMeets e limit a c bad
+    going : (state_after opening h.0).ended ≡ false
+    going = still_going a b m count x y h.0 h.1
+
+    few_turns : length h.0 < limit
+    few_turns = omega (arith, few, h.1.count_is)
+
+    all : (d : Board) → Hears (state_after opening h.0).board d y z → Hears opening.board d x z
+    all d heard = hears-then opening.board (state_after opening h.0).board d x y z h.1.heard heard
+
+    by : (e : Ending) → TurnTold (state_after opening h.0) to b c bad y z (Err e) → RunTold e limit a c bad x z
     by Done q = absurd q
     by Limit q = absurd q
     by (Bad n) q = (
       h.0,
-      (also a b c m count h.0 h.1 q.0, still_going a b m count h.0 h.1),
-      (let few_turns : length h.0 < limit = omega (arith, h.1.count_is) in few_turns),
+      (also a b c m count x y h.0 h.1 q.0, going),
+      few_turns,
       q.1,
+      heard-all (state_after opening h.0).board x z (all (state_after opening h.0).board q.2),
     )
     by NextFailed q = (
       h.0,
-      (also a b c m count h.0 h.1 q, still_going a b m count h.0 h.1),
-      (let few_turns : length h.0 < limit = omega (arith, h.1.count_is) in few_turns),
+      (also a b c m count x y h.0 h.1 q.0, going),
+      few_turns,
+      heard-all (state_after opening h.0).board x z (all (state_after opening h.0).board q.1),
     )
-    by SendFailed q = (b, h.0, q.0, (h.1.turns_are, still_going a b m count h.0 h.1), q.1, last_within h.0 q.0 count limit h.1.count_is few)
-    by Memory q = (b, h.0, q.0, (h.1.turns_are, still_going a b m count h.0 h.1), q.1, last_within h.0 q.0 count limit h.1.count_is few)
+    by SendFailed q = (
+      b,
+      h.0,
+      q.0,
+      (h.1.turns_are, going),
+      q.1,
+      last_within h.0 q.0 count limit h.1.count_is few,
+      heard-all (board_after (state_after opening h.0) q.0) x z (all (board_after (state_after opening h.0) q.0) q.2),
+    )
+    by Memory q = (
+      b,
+      h.0,
+      q.0,
+      (h.1.turns_are, going),
+      q.1,
+      last_within h.0 q.0 count limit h.1.count_is few,
+      heard-so (board_after (state_after opening h.0) q.0) x z
+          (front-then opening.board (state_after opening h.0).board (board_after (state_after opening h.0) q.0) x y z h.1.heard q.2),
+    )
+
+-- what a run did that nobody listened to
+pub run_met : (e : Ending) (limit : ℕ) (a b : Told) (bad : Option (Option ℕ)) (x y : List Ear) → RunTold e limit a b bad x y → RunMeets e limit a b bad
+run_met Done limit a b bad x y h = (h.0, h.1, h.2, h.3, h.4)
+run_met (Bad n) limit a b bad x y h = (h.0, h.1, h.2, h.3)
+run_met Limit limit a b bad x y h = (h.0, h.1, h.2)
+run_met NextFailed limit a b bad x y h = (h.0, h.1, h.2)
+run_met SendFailed limit a b bad x y h = (h.0, h.1, h.2, h.3, h.4, h.5)
+run_met Memory limit a b bad x y h = (h.0, h.1, h.2, h.3, h.4, h.5)

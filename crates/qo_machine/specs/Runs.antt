@@ -1,5 +1,5 @@
 -- Runs: what a list of inputs sends to each lane, and what a hub tells of it.
-use Rattle.std.specs.Prelude.{◌≡◌, ℕ, ◌+◌, ◌-◌, ◌^◌, ◌<◌, ◌≤◌, min, max, Bool, true, false, if◌then◌else◌, List, [], ◌∷◌, ◌++◌, length, take, Option, Some, None, Result, Ok, Err, option_map, option_to_list, slice_index_or}
+use Rattle.std.specs.Prelude.{◌≡◌, ℕ, ◌+◌, ◌-◌, ◌^◌, ◌<◌, ◌≤◌, min, max, Bool, true, false, if◌then◌else◌, List, [], ◌∷◌, ◌++◌, length, take, Option, Some, None, option_map, option_to_list, slice_index_or}
 use Rattle.std.specs.List.{flat_map, filter_map, list_any}
 use Rattle.std.specs.Io.KnownBytes.{append_known}
 use Rattle.qo_causes.specs.Bytes.{AppendsPrefix}
@@ -8,7 +8,7 @@ use Rattle.qo_causes.specs.Names.{Given, Names}
 use Rattle.qo_causes.specs.declared.hubs.Lane.{Lane}
 use Rattle.qo_causes.specs.declared.hubs.Lane.TheVariants.{Session, Guest}
 use Rattle.qo_causes.specs.declared.inputs.Input.{Input}
-use Rattle.qo_machine.specs.Machine.{IsIn, Message, Seen, State, Choice, step, opening}
+use Rattle.qo_machine.specs.Machine.{Message, State, Choice, step, opening}
 use Rattle.qo_sessions.specs.Sessions.{State as SessionState, closed}
 use Rattle.qo_machine.specs.declared.running.Ending.{Ending}
 use Rattle.qo_machine.specs.declared.running.Ending.TheVariants.{Done, Bad, Memory, NextFailed, SendFailed, Limit}
@@ -165,17 +165,6 @@ abbrev pub CutRun : ℕ → Told → Told → Type 0
 CutRun limit old new =
     (mid : Told) × (turns : List Turn) × (last : Option Turn) × OpenRun old mid turns × Cut (state_after opening turns) mid new last
     × (length turns + length (option_to_list last) ≤ limit)
-
--- what one turn did by its answer, from a state; a machine is then in the state after it; the hub has this bad place
-abbrev pub TurnMeets : State → Seen → Told → Told → Option (Option ℕ) → Result (Unit {0}) Ending → Type 0
-TurnMeets from to old new bad (Ok u) =
-    (t : Turn) × Turns from old new (t ∷ []) × IsIn (after from t) to × (is_end t.input.what ≡ true → AtEnd new.inputs bad None)
-TurnMeets from to old new bad (Err (Bad n)) = Turns from old new [] × AtEnd new.inputs bad (Some n)
-TurnMeets from to old new bad (Err NextFailed) = Turns from old new []
-TurnMeets from to old new bad (Err SendFailed) = (last : Option Turn) × Cut from old new last
-TurnMeets from to old new bad (Err Memory) = (last : Option Turn) × Cut from old new last
-TurnMeets from to old new bad (Err Done) = ⊥
-TurnMeets from to old new bad (Err Limit) = ⊥
 
 -- what a run did by how it ended, of at most so many inputs; the hub had this bad place
 abbrev pub RunMeets : Ending → ℕ → Told → Told → Option (Option ℕ) → Type 0

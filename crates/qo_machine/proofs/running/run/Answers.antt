@@ -1,44 +1,11 @@
--- Turn by turn.
-use Rattle.std.proofs.Common.{refl, sym, ◌∙◌, arith}
-use Rattle.qo_machine.proofs.RunLemmas.{cut_none, done, going_on, gone_none, stopped_by}
+-- Nobody listens.
+use Rattle.std.proofs.Common.{sym, subst}
+use Rattle.qo_listen.specs.Ears.{AllOpen}
+use Rattle.qo_machine.proofs.RunLemmas.{run_met}
 use Rattle.qo_machine.proofs.running.run.Goals as goal
 
-pub returns-in_default-clause-meets : goal.returns-in_default-clause-meets
-returns-in_default-clause-meets g c = cut_none c.args.limit _ _ _ _
+pub run_told-requires : goal.run_told-requires
+run_told-requires g c = subst AllOpen (sym c.new-nobody.ensures) tt
 
-pub loop-init : goal.loop-init
-loop-init g c =
-    record {
-      gone = gone_none _ _ _ _ _ c.in-Ok.ensures.state.0;
-      bad = refl;
-      asked = refl;
-      next_count = refl;
-      send_count = refl;
-      later = g.met.H.Hub.now c.args.hub.now;
-    }
-
-pub returns-then-ended-clause-meets : goal.returns-then-ended-clause-meets
-returns-then-ended-clause-meets g c =
-    done _ _ _ c.loop.machine c.turn.new.machine c.loop.counter c.args.limit (g.H.Hub.bad c.loop.hub) (g.H.Hub.bad c.args.hub.now) c.loop.invariant.bad
-    (omega arith) c.loop.invariant.gone c.in_default-turn.ensures.meets (sym c.if-ended.ensures)
-
-pub returns-in-Err-clause-meets : goal.returns-in-Err-clause-meets
-returns-in-Err-clause-meets g c =
-    rw (← c.loop.invariant.bad) (stopped_by _ _ _ c.loop.machine c.turn.new.machine c.loop.counter c.args.limit (g.H.Hub.bad c.loop.hub) c.in-Err.ending
-    (omega arith) c.loop.invariant.gone c.in-Err.ensures.meets)
-
-pub returns-in-Err-clause-later : goal.returns-in-Err-clause-later
-returns-in-Err-clause-later g c = g.met.H.Hub.after _ _ _ c.loop.invariant.later c.turn.ensures.later
-
-pub loop-preserved : goal.loop-preserved
-loop-preserved g c =
-    record {
-      gone =
-          going_on _ _ _ c.loop.machine c.turn.new.machine c.loop.counter (g.H.Hub.bad c.loop.hub) c.loop.invariant.gone c.in_default-turn.ensures.meets
-          (sym c.if-ended.ensures);
-      bad = c.turn.ensures.bad ∙ c.loop.invariant.bad;
-      asked = c.turn.ensures.asked ∙ c.loop.invariant.asked;
-      next_count = c.in_default-turn.ensures.next_quiet (λ e. cc) ∙ c.loop.invariant.next_count;
-      send_count = c.in_default-turn.ensures.send_quiet (λ e. cc) ∙ c.loop.invariant.send_count;
-      later = g.met.H.Hub.after _ _ _ c.loop.invariant.later c.turn.ensures.later;
-    }
+pub returns-clause-meets : goal.returns-clause-meets
+returns-clause-meets g c = run_met c.run_told-ending.result c.args.limit _ _ _ _ _ c.run_told-ending.ensures.meets

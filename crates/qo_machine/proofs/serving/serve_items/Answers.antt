@@ -4,50 +4,69 @@ use Rattle.qo_framing.specs.declared.items.Item.{Item}
 use Rattle.qo_causes.specs.declared.inputs.Moment.{Moment}
 use Rattle.qo_machine.proofs.LaneLemmas.{more_lanes}
 use Rattle.qo_machine.proofs.MemoryLemmas.{front_of_all_by, front_on_by}
-use Rattle.qo_machine.proofs.MachineLemmas.{serves_on_by, take_one}
+use Rattle.qo_machine.proofs.ListeningLemmas.{front-unheard, heard-upto, items-later, told-on, told-serves}
+use Rattle.qo_machine.proofs.MachineLemmas.{take_one}
 use Rattle.qo_heap.proofs.HeapLemmas.{on-err}
+use Rattle.qo_machine.specs.Listening.{ServesHeardFront, ServesTold}
 use Rattle.qo_machine.specs.Machine.{IsIn, Message, State, by_item}
 use Rattle.qo_machine.specs.Sending.{AreToLanes}
-use Rattle.qo_machine.specs.Serving.{ServesFront, ServesTo}
+use Rattle.qo_machine.specs.Serving.{ServesFront}
 use Rattle.qo_machine.proofs.serving.serve_items.Goals as goal
 
 pub loop-item-preserved : goal.loop-item-preserved
 loop-item-preserved g c =
-    let one = c.in_ok-serve_item.ensures.served in
+    let one = c.in_ok-serve_item_told.ensures.served in
     record {
-      moment = c.serve_item.ensures.moment ∙ c.loop-item.invariant.moment;
+      moment = c.serve_item_told.ensures.moment ∙ c.loop-item.invariant.moment;
       served = λ s here.
           subst
-          (λ (outs : List Message). ServesTo c.args.at c.args.session s (take (c.loop-item.item-index + 1) c.args.items.now) outs c.serve_item.new.machine)
-          (sym one.1)
-          (subst (λ (items : List Item). ServesTo c.args.at c.args.session s items (c.loop-item.outbox.outs ++ one.0) c.serve_item.new.machine)
+          (λ (outs : List Message). ServesTold (by_item c.args.at c.args.session) s (take (c.loop-item.item-index + 1) c.args.items.now) outs
+          c.serve_item_told.new.machine _ _) (sym one.1)
+          (subst (λ (items : List Item). ServesTold (by_item c.args.at c.args.session) s items (c.loop-item.outbox.outs ++ one.0) c.serve_item_told.new.machine _ _)
           (sym (take_one c.args.items.now c.loop-item.item-index c.item-item.result (omega arith) c.item-item.is))
-          (serves_on_by (by_item c.args.at c.args.session) s c.loop-item.machine c.serve_item.new.machine (take c.loop-item.item-index c.args.items.now)
-          (c.item-item.result ∷ []) c.loop-item.outbox.outs one.0 (c.loop-item.invariant.served s here)
+          (told-on (by_item c.args.at c.args.session) s c.loop-item.machine c.serve_item_told.new.machine (take c.loop-item.item-index c.args.items.now)
+          (c.item-item.result ∷ []) c.loop-item.outbox.outs one.0 _ _ _ (c.loop-item.invariant.served s here)
           (subst (λ (at : Moment). (t : State) → IsIn t c.loop-item.machine
-          → ServesTo at c.args.session t (c.item-item.result ∷ []) one.0 c.serve_item.new.machine) c.loop-item.invariant.moment one.3)));
+          → ServesTold (by_item at c.args.session) t (c.item-item.result ∷ []) one.0 c.serve_item_told.new.machine _ _) c.loop-item.invariant.moment one.3)));
+      open = c.serve_item_told.ensures.open;
       lanes = more_lanes c.loop-item.outbox.outs one.0 _ one.1 c.loop-item.invariant.lanes one.2;
-      lasts = c.in_ok-serve_item.ensures.lasts ∙ c.loop-item.invariant.lasts;
-      wired = c.in_ok-serve_item.ensures.wired;
+      lasts = c.in_ok-serve_item_told.ensures.lasts ∙ c.loop-item.invariant.lasts;
+      wired = c.in_ok-serve_item_told.ensures.wired;
     }
 
 pub returns-clause-lanes : goal.returns-clause-lanes
 returns-clause-lanes g c = subst AreToLanes (sym c.into_outs.ensures) c.loop-item.invariant.lanes
 
-pub returns-in_err-serve_item-clause-left : goal.returns-in_err-serve_item-clause-left
-returns-in_err-serve_item-clause-left g c =
-    on-err c.from_residual-in_err-serve_item.result
+pub returns-in_err-serve_item_told-clause-left : goal.returns-in_err-serve_item_told-clause-left
+returns-in_err-serve_item_told-clause-left g c =
+    on-err c.from_residual-in_err-serve_item_told.result
     (λ s here.
-    front_of_all_by (by_item c.args.at c.args.session) s c.serve_item.new.machine c.args.items.now (c.loop-item.item-index + 1)
-    (subst (λ (items : List Item). ServesFront c.args.at c.args.session s items c.serve_item.new.machine)
+    front_of_all_by (by_item c.args.at c.args.session) s c.serve_item_told.new.machine c.args.items.now (c.loop-item.item-index + 1)
+    (subst (λ (items : List Item). ServesFront c.args.at c.args.session s items c.serve_item_told.new.machine)
     (sym (take_one c.args.items.now c.loop-item.item-index c.item-item.result (omega arith) c.item-item.is))
-    (front_on_by (by_item c.args.at c.args.session) s c.loop-item.machine c.serve_item.new.machine (take c.loop-item.item-index c.args.items.now)
-    (c.item-item.result ∷ []) c.loop-item.outbox.outs (c.loop-item.invariant.served s here)
-    (subst (λ (at : Moment). (t : State) → IsIn t c.loop-item.machine → ServesFront at c.args.session t (c.item-item.result ∷ []) c.serve_item.new.machine)
-    c.loop-item.invariant.moment c.in_err-serve_item.ensures.left))))
+    (front_on_by (by_item c.args.at c.args.session) s c.loop-item.machine c.serve_item_told.new.machine (take c.loop-item.item-index c.args.items.now)
+    (c.item-item.result ∷ []) c.loop-item.outbox.outs (told-serves (by_item c.args.at c.args.session) s c.loop-item.machine
+    (take c.loop-item.item-index c.args.items.now) c.loop-item.outbox.outs _ _ (c.loop-item.invariant.served s here))
+    (subst (λ (at : Moment). (t : State) → IsIn t c.loop-item.machine
+    → ServesFront at c.args.session t (c.item-item.result ∷ []) c.serve_item_told.new.machine) c.loop-item.invariant.moment
+    c.in_err-serve_item_told.ensures.left))))
+
+pub returns-in_err-serve_item_told-clause-heard : goal.returns-in_err-serve_item_told-clause-heard
+returns-in_err-serve_item_told-clause-heard g c =
+    on-err c.from_residual-in_err-serve_item_told.result
+    (λ s here.
+    heard-upto (by_item c.args.at c.args.session) (items-later c.args.at c.args.session) s c.loop-item.machine c.args.items.now c.loop-item.item-index
+    c.item-item.result c.loop-item.outbox.outs _ _ _ (omega arith) c.item-item.is (c.loop-item.invariant.served s here)
+    (subst (λ (at : Moment). (t : State) → IsIn t c.loop-item.machine → ServesHeardFront (by_item at c.args.session) t (c.item-item.result ∷ []) _ _)
+    c.loop-item.invariant.moment c.in_err-serve_item_told.ensures.heard))
 
 -- where there is no room for the messages nothing is served
 
 pub returns-in_err-outbox-clause-left : goal.returns-in_err-outbox-clause-left
 returns-in_err-outbox-clause-left g c =
     on-err c.from_residual.result (λ s here. ([], c.args.items.now, [], refl, rw c.with_room.ensures.same here))
+
+pub returns-in_err-outbox-clause-heard : goal.returns-in_err-outbox-clause-heard
+returns-in_err-outbox-clause-heard g c =
+    on-err c.from_residual.result
+    (λ s here. front-unheard (by_item c.args.at c.args.session) (items-later c.args.at c.args.session) c.args.items.now _ s)

@@ -1,16 +1,19 @@
 -- The items passed over are served.
 use Rattle.std.proofs.Common.{◌≡◌, take}
+use Rattle.qo_listen.specs.Ears.{AllOpen, ears}
 use Rattle.qo_machine.specs.Between.{IsWired}
-use Rattle.qo_machine.specs.Machine.{IsIn, State}
+use Rattle.qo_machine.specs.Listening.{ServesTold}
+use Rattle.qo_machine.specs.Machine.{IsIn, State, by_item}
 use Rattle.qo_machine.specs.Sending.{AreToLanes}
-use Rattle.qo_machine.specs.Serving.{ServesTo}
 use Rattle.qo_machine.proofs.serving.serve_items.Given as goal
 
 abbrev pub invariant-loop-item : goal.invariant-loop-item
 invariant-loop-item g l =
     record {
       moment : l.outbox.at ≡ l.fn.at;
-      served : (s : State) → IsIn s l.fn.machine → ServesTo l.fn.at l.session s (take l.item-index l.items) l.outbox.outs l.machine;
+      served : (s : State) → IsIn s l.fn.machine
+          → ServesTold (by_item l.fn.at l.session) s (take l.item-index l.items) l.outbox.outs l.machine (ears EARS l.fn.listeners.all.items) (ears EARS l.listeners.all.items);
+      open : AllOpen (ears EARS l.listeners.all.items);
       lanes : AreToLanes l.outbox.outs;
       lasts : l.machine.out_of_memory ≡ l.fn.machine.out_of_memory;
       wired : IsWired l.machine;

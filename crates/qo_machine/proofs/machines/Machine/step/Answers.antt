@@ -1,18 +1,14 @@
--- After the step no event waits, so the board is sound as between two inputs; and its lines are right where memory lasts.
-use Rattle.qo_machine.proofs.SoundnessLemmas.{sound_between, stepped}
-use Rattle.qo_machine.proofs.WiredLemmas.{wired_unless}
+-- Nobody listens.
+use Rattle.std.proofs.Common.{sym, subst}
+use Rattle.std.proofs.lemmas.Result.{IfOk-weaker}
+use Rattle.qo_listen.specs.Ears.{AllOpen}
+use Rattle.qo_machine.proofs.ListeningLemmas.{answers-told}
 use Rattle.qo_machine.proofs.machines.Machine.step.Goals as goal
 
-pub invariant_of-self : goal.invariant_of-self
-invariant_of-self c = (
-  stepped c.self.inside.core c.step-done.new.self c.args.input.now c.step-done.result c.reveal_board.ensures c.self.invariant.0 c.step-done.ensures.answered
-      c.step-done.ensures.breaks,
-  wired_unless c.step-done.result c.step-done.new.self c.step-done.ensures.wired c.step-done.ensures.spends,
-)
+pub step_told-requires : goal.step_told-requires
+step_told-requires c = subst AllOpen (sym c.new-nobody.ensures) tt
 
-pub returns-clause-sound : goal.returns-clause-sound
-returns-clause-sound c = λ s here.
-    let settled =
-    stepped c.self.inside.core c.step-done.new.self c.args.input.now c.step-done.result c.reveal_board.ensures c.self.invariant.0 c.step-done.ensures.answered
-    c.step-done.ensures.breaks in
-    sound_between c.step-done.new.self c.reveal_board-2.ensures settled s here
+pub returns-clause-answered : goal.returns-clause-answered
+returns-clause-answered c = λ s here.
+    IfOk-weaker c.step_told-done.result _ _ (λ outs a. answers-told s c.args.input.now outs c.step_told-done.new.self _ _ a)
+    (c.step_told-done.ensures.answered s here)

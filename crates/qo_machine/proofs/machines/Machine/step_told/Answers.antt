@@ -1,0 +1,18 @@
+-- After the step no event waits, so the board is sound as between two inputs; and its lines are right where memory lasts.
+use Rattle.qo_machine.proofs.SoundnessLemmas.{sound_between, stepped}
+use Rattle.qo_machine.proofs.WiredLemmas.{wired_unless}
+use Rattle.qo_machine.proofs.machines.Machine.step_told.Goals as goal
+
+pub invariant_of-self : goal.invariant_of-self
+invariant_of-self c = (
+  stepped c.self.inside.core c.step-done.new.self c.args.input.now c.step-done.result c.reveal_board.ensures c.self.invariant.0 c.step-done.ensures.answered
+      c.step-done.ensures.breaks,
+  wired_unless c.step-done.result c.step-done.new.self c.step-done.ensures.wired c.step-done.ensures.spends,
+)
+
+pub returns-clause-sound : goal.returns-clause-sound
+returns-clause-sound c = λ s here.
+    let settled =
+    stepped c.self.inside.core c.step-done.new.self c.args.input.now c.step-done.result c.reveal_board.ensures c.self.invariant.0 c.step-done.ensures.answered
+    c.step-done.ensures.breaks in
+    sound_between c.step-done.new.self c.reveal_board-2.ensures settled s here
