@@ -192,10 +192,10 @@ impl Machine {
         input: &Input,
         listeners: &mut Listeners,
     ) -> Result<Outs, AllocError>
-        requires open { AllOpen (ears ⟦<Box<dyn Listener> as Listener>⟧ listeners.old.all.items) }
+        requires listening { AllOpen (ears ⟦<Box<dyn Listener> as Listener>⟧ listeners.old.all.items) }
         ensures answered { (s : State) → IsIn s self.old → IfOk result (λ outs. AnswersTold s input.now outs self.new (ears ⟦<Box<dyn Listener> as Listener>⟧ listeners.old.all.items) (ears ⟦<Box<dyn Listener> as Listener>⟧ listeners.new.all.items)) }
         ensures heard { (s : State) → IsIn s self.old → OnErr result (StepHeardFront s input.now (ears ⟦<Box<dyn Listener> as Listener>⟧ listeners.old.all.items) (ears ⟦<Box<dyn Listener> as Listener>⟧ listeners.new.all.items)) }
-        ensures open { AllOpen (ears ⟦<Box<dyn Listener> as Listener>⟧ listeners.new.all.items) }
+        ensures listening { AllOpen (ears ⟦<Box<dyn Listener> as Listener>⟧ listeners.new.all.items) }
         ensures lanes { IfOk result AreToLanes }
         ensures closes { OnErr result ((b : Tree) → state_with b self.new ≡ finished (state_with b self.old)) }
         ensures lasts { OnOk result (self.new.out_of_memory ≡ false) }
@@ -319,10 +319,10 @@ impl Core {
         listeners: &mut Listeners,
     ) -> Result<Outs, AllocError>
         requires wired { self.old.out_of_memory ≡ false → IsWired self.old }
-        requires open { AllOpen (ears ⟦<Box<dyn Listener> as Listener>⟧ listeners.old.all.items) }
+        requires listening { AllOpen (ears ⟦<Box<dyn Listener> as Listener>⟧ listeners.old.all.items) }
         ensures answered { (s : State) → IsIn s self.old → IfOk result (λ outs. AnswersTold s input.now outs self.new (ears ⟦<Box<dyn Listener> as Listener>⟧ listeners.old.all.items) (ears ⟦<Box<dyn Listener> as Listener>⟧ listeners.new.all.items)) }
         ensures heard { (s : State) → IsIn s self.old → OnErr result (StepHeardFront s input.now (ears ⟦<Box<dyn Listener> as Listener>⟧ listeners.old.all.items) (ears ⟦<Box<dyn Listener> as Listener>⟧ listeners.new.all.items)) }
-        ensures open { AllOpen (ears ⟦<Box<dyn Listener> as Listener>⟧ listeners.new.all.items) }
+        ensures listening { AllOpen (ears ⟦<Box<dyn Listener> as Listener>⟧ listeners.new.all.items) }
         ensures lanes { IfOk result AreToLanes }
         ensures closes { OnErr result ((b : Tree) → state_with b self.new ≡ finished (state_with b self.old)) }
         ensures lasts { OnOk result (self.new.out_of_memory ≡ false) }
@@ -357,10 +357,10 @@ impl Core {
         requires parts { blank.parts ≡ L.parts }
         requires wired { IsWired self.old }
         requires some { 0 < blank.parts }
-        requires open { AllOpen (ears ⟦<Box<dyn Listener> as Listener>⟧ listeners.old.all.items) }
+        requires listening { AllOpen (ears ⟦<Box<dyn Listener> as Listener>⟧ listeners.old.all.items) }
         ensures answered { (s : State) → IsIn s self.old → IfOk result (λ outs. AnswersTold s input.now outs self.new (ears ⟦<Box<dyn Listener> as Listener>⟧ listeners.old.all.items) (ears ⟦<Box<dyn Listener> as Listener>⟧ listeners.new.all.items)) }
         ensures heard { (s : State) → IsIn s self.old → OnErr result (StepHeardFront s input.now (ears ⟦<Box<dyn Listener> as Listener>⟧ listeners.old.all.items) (ears ⟦<Box<dyn Listener> as Listener>⟧ listeners.new.all.items)) }
-        ensures open { AllOpen (ears ⟦<Box<dyn Listener> as Listener>⟧ listeners.new.all.items) }
+        ensures listening { AllOpen (ears ⟦<Box<dyn Listener> as Listener>⟧ listeners.new.all.items) }
         ensures breaks { (s : State) → IsIn s self.old → OnErr result (BreaksOff s input.now self.new) }
         ensures lanes { IfOk result AreToLanes }
         ensures lasts { self.new.out_of_memory ≡ self.old.out_of_memory }
@@ -389,10 +389,10 @@ impl Core {
         listeners: &mut Listeners,
     ) -> Result<Outs, AllocError>
         requires wired { IsWired self.old }
-        requires open { AllOpen (ears ⟦<Box<dyn Listener> as Listener>⟧ listeners.old.all.items) }
+        requires listening { AllOpen (ears ⟦<Box<dyn Listener> as Listener>⟧ listeners.old.all.items) }
         ensures answered { (s : State) → IsIn s self.old → IfOk result (λ outs. AnswersTold s input.now outs self.new (ears ⟦<Box<dyn Listener> as Listener>⟧ listeners.old.all.items) (ears ⟦<Box<dyn Listener> as Listener>⟧ listeners.new.all.items)) }
         ensures heard { (s : State) → IsIn s self.old → OnErr result (StepHeardFront s input.now (ears ⟦<Box<dyn Listener> as Listener>⟧ listeners.old.all.items) (ears ⟦<Box<dyn Listener> as Listener>⟧ listeners.new.all.items)) }
-        ensures open { AllOpen (ears ⟦<Box<dyn Listener> as Listener>⟧ listeners.new.all.items) }
+        ensures listening { AllOpen (ears ⟦<Box<dyn Listener> as Listener>⟧ listeners.new.all.items) }
         ensures breaks { (s : State) → IsIn s self.old → OnErr result (BreaksOff s input.now self.new) }
         ensures lanes { IfOk result AreToLanes }
         ensures lasts { self.new.out_of_memory ≡ self.old.out_of_memory }
@@ -470,10 +470,10 @@ impl Core {
         listeners: &mut Listeners,
     ) -> Result<Outs, AllocError>
         requires wired { IsWired self.old }
-        requires open { AllOpen (ears ⟦<Box<dyn Listener> as Listener>⟧ listeners.old.all.items) }
+        requires listening { AllOpen (ears ⟦<Box<dyn Listener> as Listener>⟧ listeners.old.all.items) }
         ensures answered { (s : State) → IsIn s self.old → IfOk result (λ outs. (choices : List Choice) × (t : State) × IsIn t self.new × (input_step s at (What.Bytes session bytes.now) choices ≡ record { outs = outs; state = t; rest = [] }) × Hears s.board t.board (ears ⟦<Box<dyn Listener> as Listener>⟧ listeners.old.all.items) (ears ⟦<Box<dyn Listener> as Listener>⟧ listeners.new.all.items)) }
         ensures heard { (s : State) → IsIn s self.old → OnErr result ((choices : List Choice) × HearsFront s.board (input_step s at (What.Bytes session bytes.now) choices).state.board (ears ⟦<Box<dyn Listener> as Listener>⟧ listeners.old.all.items) (ears ⟦<Box<dyn Listener> as Listener>⟧ listeners.new.all.items)) }
-        ensures open { AllOpen (ears ⟦<Box<dyn Listener> as Listener>⟧ listeners.new.all.items) }
+        ensures listening { AllOpen (ears ⟦<Box<dyn Listener> as Listener>⟧ listeners.new.all.items) }
         ensures breaks { (s : State) → IsIn s self.old → OnErr result (BreaksOff s (record { at = at; what = What.Bytes session bytes.now }) self.new) }
         ensures lanes { IfOk result AreToLanes }
         ensures lasts { self.new.out_of_memory ≡ self.old.out_of_memory }
@@ -548,10 +548,10 @@ impl Core {
         listeners: &mut Listeners,
     ) -> Result<Outs, AllocError>
         requires wired { IsWired self.old }
-        requires open { AllOpen (ears ⟦<Box<dyn Listener> as Listener>⟧ listeners.old.all.items) }
+        requires listening { AllOpen (ears ⟦<Box<dyn Listener> as Listener>⟧ listeners.old.all.items) }
         ensures answered { (s : State) → IsIn s self.old → IfOk result (λ outs. (choices : List Choice) × (t : State) × IsIn t self.new × (input_step s at (What.Guest bytes.now) choices ≡ record { outs = outs; state = t; rest = [] }) × Hears s.board t.board (ears ⟦<Box<dyn Listener> as Listener>⟧ listeners.old.all.items) (ears ⟦<Box<dyn Listener> as Listener>⟧ listeners.new.all.items)) }
         ensures heard { (s : State) → IsIn s self.old → OnErr result ((choices : List Choice) × HearsFront s.board (input_step s at (What.Guest bytes.now) choices).state.board (ears ⟦<Box<dyn Listener> as Listener>⟧ listeners.old.all.items) (ears ⟦<Box<dyn Listener> as Listener>⟧ listeners.new.all.items)) }
-        ensures open { AllOpen (ears ⟦<Box<dyn Listener> as Listener>⟧ listeners.new.all.items) }
+        ensures listening { AllOpen (ears ⟦<Box<dyn Listener> as Listener>⟧ listeners.new.all.items) }
         ensures breaks { (s : State) → IsIn s self.old → OnErr result (BreaksOff s (record { at = at; what = What.Guest bytes.now }) self.new) }
         ensures lanes { IfOk result AreToLanes }
         ensures lasts { self.new.out_of_memory ≡ self.old.out_of_memory }
@@ -861,10 +861,10 @@ impl Core {
         from: u64,
         listeners: &mut Listeners,
     ) -> Result<(), AllocError>
-        requires open { AllOpen (ears ⟦<Box<dyn Listener> as Listener>⟧ listeners.old.all.items) }
+        requires listening { AllOpen (ears ⟦<Box<dyn Listener> as Listener>⟧ listeners.old.all.items) }
         ensures told { (b : Tree) (more : List Note) → Stands b self.now.board → IsNew b from more → OnOk result (AllHeard more (ears ⟦<Box<dyn Listener> as Listener>⟧ listeners.old.all.items) (ears ⟦<Box<dyn Listener> as Listener>⟧ listeners.new.all.items)) }
         ensures left { (b : Tree) (more : List Note) → Stands b self.now.board → IsNew b from more → OnErr result (HeardFronts more (ears ⟦<Box<dyn Listener> as Listener>⟧ listeners.old.all.items) (ears ⟦<Box<dyn Listener> as Listener>⟧ listeners.new.all.items)) }
-        ensures open { AllOpen (ears ⟦<Box<dyn Listener> as Listener>⟧ listeners.new.all.items) }
+        ensures listening { AllOpen (ears ⟦<Box<dyn Listener> as Listener>⟧ listeners.new.all.items) }
     {
         tell_new(alloc, &self.board, from, listeners)
     }

@@ -101,9 +101,9 @@ fn turn<H: Hub>(
     machine: &mut Machine,
     listeners: &mut Listeners,
 ) -> Result<(), Ending>
-    requires open { AllOpen (ears ⟦<Box<dyn Listener> as Listener>⟧ listeners.old.all.items) }
+    requires listening { AllOpen (ears ⟦<Box<dyn Listener> as Listener>⟧ listeners.old.all.items) }
     ensures meets { (s : State) → IsIn s machine.old → TurnTold s machine.new (known (H.inputs hub.old) (H.sent hub.old) (H.got hub.old) (H.losses hub.old)) (known (H.inputs hub.new) (H.sent hub.new) (H.got hub.new) (H.losses hub.new)) (H.bad hub.old) (ears ⟦<Box<dyn Listener> as Listener>⟧ listeners.old.all.items) (ears ⟦<Box<dyn Listener> as Listener>⟧ listeners.new.all.items) result }
-    ensures open { AllOpen (ears ⟦<Box<dyn Listener> as Listener>⟧ listeners.new.all.items) }
+    ensures listening { AllOpen (ears ⟦<Box<dyn Listener> as Listener>⟧ listeners.new.all.items) }
     ensures bad { H.bad hub.new ≡ H.bad hub.old }
     ensures asked { H.asked hub.new ≡ H.asked hub.old }
     ensures next_count { H.next_faults hub.old ≤ H.next_faults hub.new }
@@ -166,9 +166,9 @@ pub fn run_told<H: Hub>(
     limit: u64,
     listeners: &mut Listeners,
 ) -> Ending
-    requires open { AllOpen (ears ⟦<Box<dyn Listener> as Listener>⟧ listeners.old.all.items) }
+    requires listening { AllOpen (ears ⟦<Box<dyn Listener> as Listener>⟧ listeners.old.all.items) }
     ensures meets { RunTold result limit (known (H.inputs hub.old) (H.sent hub.old) (H.got hub.old) (H.losses hub.old)) (known (H.inputs hub.new) (H.sent hub.new) (H.got hub.new) (H.losses hub.new)) (H.bad hub.old) (ears ⟦<Box<dyn Listener> as Listener>⟧ listeners.old.all.items) (ears ⟦<Box<dyn Listener> as Listener>⟧ listeners.new.all.items) }
-    ensures open { AllOpen (ears ⟦<Box<dyn Listener> as Listener>⟧ listeners.new.all.items) }
+    ensures listening { AllOpen (ears ⟦<Box<dyn Listener> as Listener>⟧ listeners.new.all.items) }
     ensures bad { H.bad hub.new ≡ H.bad hub.old }
     ensures asked { H.asked hub.new ≡ H.asked hub.old }
     ensures next_count { H.next_faults hub.old ≤ H.next_faults hub.new }

@@ -294,11 +294,11 @@ fn serve_item_told<L: Ledger>(
 ) -> Result<(), AllocError>
     requires session { session < SESSIONS }
     requires wired { IsWired machine.old }
-    requires open { AllOpen (ears ⟦<Box<dyn Listener> as Listener>⟧ listeners.old.all.items) }
+    requires listening { AllOpen (ears ⟦<Box<dyn Listener> as Listener>⟧ listeners.old.all.items) }
     ensures served { OnOk result ((front : List Message) × (outbox.new.outs ≡ outbox.old.outs ++ front) × AreToLanes front × ((s : State) → IsIn s machine.old → ServesTold (by_item outbox.old.at session) s (item.now ∷ []) front machine.new (ears ⟦<Box<dyn Listener> as Listener>⟧ listeners.old.all.items) (ears ⟦<Box<dyn Listener> as Listener>⟧ listeners.new.all.items))) }
     ensures left { OnErr result ((s : State) → IsIn s machine.old → ServesFront outbox.old.at session s (item.now ∷ []) machine.new) }
     ensures heard { OnErr result ((s : State) → IsIn s machine.old → ServesHeardFront (by_item outbox.old.at session) s (item.now ∷ []) (ears ⟦<Box<dyn Listener> as Listener>⟧ listeners.old.all.items) (ears ⟦<Box<dyn Listener> as Listener>⟧ listeners.new.all.items)) }
-    ensures open { AllOpen (ears ⟦<Box<dyn Listener> as Listener>⟧ listeners.new.all.items) }
+    ensures listening { AllOpen (ears ⟦<Box<dyn Listener> as Listener>⟧ listeners.new.all.items) }
     ensures wired { OnOk result (IsWired machine.new) }
     ensures lasts { machine.new.out_of_memory ≡ machine.old.out_of_memory }
     ensures moment { outbox.new.at ≡ outbox.old.at }
@@ -320,11 +320,11 @@ pub(crate) fn serve_items<L: Ledger>(
 ) -> Result<Outs, AllocError>
     requires session { session < SESSIONS }
     requires wired { IsWired machine.old }
-    requires open { AllOpen (ears ⟦<Box<dyn Listener> as Listener>⟧ listeners.old.all.items) }
+    requires listening { AllOpen (ears ⟦<Box<dyn Listener> as Listener>⟧ listeners.old.all.items) }
     ensures served { IfOk result (λ outs. (s : State) → IsIn s machine.old → ServesTold (by_item at session) s items.now outs machine.new (ears ⟦<Box<dyn Listener> as Listener>⟧ listeners.old.all.items) (ears ⟦<Box<dyn Listener> as Listener>⟧ listeners.new.all.items)) }
     ensures left { OnErr result ((s : State) → IsIn s machine.old → ServesFront at session s items.now machine.new) }
     ensures heard { OnErr result ((s : State) → IsIn s machine.old → ServesHeardFront (by_item at session) s items.now (ears ⟦<Box<dyn Listener> as Listener>⟧ listeners.old.all.items) (ears ⟦<Box<dyn Listener> as Listener>⟧ listeners.new.all.items)) }
-    ensures open { AllOpen (ears ⟦<Box<dyn Listener> as Listener>⟧ listeners.new.all.items) }
+    ensures listening { AllOpen (ears ⟦<Box<dyn Listener> as Listener>⟧ listeners.new.all.items) }
     ensures lanes { IfOk result AreToLanes }
     ensures wired { OnOk result (IsWired machine.new) }
     ensures lasts { machine.new.out_of_memory ≡ machine.old.out_of_memory }
@@ -397,11 +397,11 @@ fn serve_line_told<L: Ledger>(
     listeners: &mut Listeners,
 ) -> Result<(), AllocError>
     requires wired { IsWired machine.old }
-    requires open { AllOpen (ears ⟦<Box<dyn Listener> as Listener>⟧ listeners.old.all.items) }
+    requires listening { AllOpen (ears ⟦<Box<dyn Listener> as Listener>⟧ listeners.old.all.items) }
     ensures served { OnOk result ((front : List Message) × (outbox.new.outs ≡ outbox.old.outs ++ front) × AreToLanes front × ((s : State) → IsIn s machine.old → ServesTold (by_line outbox.old.at) s (line.now ∷ []) front machine.new (ears ⟦<Box<dyn Listener> as Listener>⟧ listeners.old.all.items) (ears ⟦<Box<dyn Listener> as Listener>⟧ listeners.new.all.items))) }
     ensures left { OnErr result ((s : State) → IsIn s machine.old → LinesFront outbox.old.at s (line.now ∷ []) machine.new) }
     ensures heard { OnErr result ((s : State) → IsIn s machine.old → ServesHeardFront (by_line outbox.old.at) s (line.now ∷ []) (ears ⟦<Box<dyn Listener> as Listener>⟧ listeners.old.all.items) (ears ⟦<Box<dyn Listener> as Listener>⟧ listeners.new.all.items)) }
-    ensures open { AllOpen (ears ⟦<Box<dyn Listener> as Listener>⟧ listeners.new.all.items) }
+    ensures listening { AllOpen (ears ⟦<Box<dyn Listener> as Listener>⟧ listeners.new.all.items) }
     ensures wired { OnOk result (IsWired machine.new) }
     ensures lasts { machine.new.out_of_memory ≡ machine.old.out_of_memory }
     ensures moment { outbox.new.at ≡ outbox.old.at }
@@ -421,11 +421,11 @@ pub(crate) fn serve_lines<L: Ledger>(
     listeners: &mut Listeners,
 ) -> Result<Outs, AllocError>
     requires wired { IsWired machine.old }
-    requires open { AllOpen (ears ⟦<Box<dyn Listener> as Listener>⟧ listeners.old.all.items) }
+    requires listening { AllOpen (ears ⟦<Box<dyn Listener> as Listener>⟧ listeners.old.all.items) }
     ensures served { IfOk result (λ outs. (s : State) → IsIn s machine.old → ServesTold (by_line at) s lines.now outs machine.new (ears ⟦<Box<dyn Listener> as Listener>⟧ listeners.old.all.items) (ears ⟦<Box<dyn Listener> as Listener>⟧ listeners.new.all.items)) }
     ensures left { OnErr result ((s : State) → IsIn s machine.old → LinesFront at s lines.now machine.new) }
     ensures heard { OnErr result ((s : State) → IsIn s machine.old → ServesHeardFront (by_line at) s lines.now (ears ⟦<Box<dyn Listener> as Listener>⟧ listeners.old.all.items) (ears ⟦<Box<dyn Listener> as Listener>⟧ listeners.new.all.items)) }
-    ensures open { AllOpen (ears ⟦<Box<dyn Listener> as Listener>⟧ listeners.new.all.items) }
+    ensures listening { AllOpen (ears ⟦<Box<dyn Listener> as Listener>⟧ listeners.new.all.items) }
     ensures lanes { IfOk result AreToLanes }
     ensures wired { OnOk result (IsWired machine.new) }
     ensures lasts { machine.new.out_of_memory ≡ machine.old.out_of_memory }

@@ -34,11 +34,11 @@ all-then a b (x ∷ xs) (y ∷ ys) [] h k = absurd k
 all-then a b (x ∷ xs) (y ∷ ys) (z ∷ zs) h k = (heard-then a b x y z h.0 k.0, all-then a b xs ys zs h.1 k.1)
 
 -- none is closed by that
-pub all-open : (a : List Note) (xs ys : List Ear) → AllHeard a xs ys → AllOpen xs → AllOpen ys
-all-open a [] [] h open = tt
-all-open a [] (y ∷ ys) h open = absurd (let clash : y ∷ ys ≡ [] = h in cc)
-all-open a (x ∷ xs) [] h open = absurd h
-all-open a (x ∷ xs) (y ∷ ys) h open = (h.0.closed ∙ open.0, all-open a xs ys h.1 open.1)
+pub all-free : (a : List Note) (xs ys : List Ear) → AllHeard a xs ys → AllOpen xs → AllOpen ys
+all-free a [] [] h free = tt
+all-free a [] (y ∷ ys) h free = absurd (let clash : y ∷ ys ≡ [] = h in cc)
+all-free a (x ∷ xs) [] h free = absurd h
+all-free a (x ∷ xs) (y ∷ ys) h free = (h.0.closed ∙ free.0, all-free a xs ys h.1 free.1)
 
 -- Fronts.
 
@@ -85,11 +85,11 @@ fronts-more a b (x ∷ xs) (y ∷ ys) h = (
 )
 
 -- none is closed by that
-pub fronts-open : (a : List Note) (xs ys : List Ear) → HeardFronts a xs ys → AllOpen xs → AllOpen ys
-fronts-open a [] [] h open = tt
-fronts-open a [] (y ∷ ys) h open = absurd (let clash : y ∷ ys ≡ [] = h in cc)
-fronts-open a (x ∷ xs) [] h open = absurd h
-fronts-open a (x ∷ xs) (y ∷ ys) h open = (h.0.3.closed ∙ open.0, fronts-open a xs ys h.1 open.1)
+pub fronts-free : (a : List Note) (xs ys : List Ear) → HeardFronts a xs ys → AllOpen xs → AllOpen ys
+fronts-free a [] [] h free = tt
+fronts-free a [] (y ∷ ys) h free = absurd (let clash : y ∷ ys ≡ [] = h in cc)
+fronts-free a (x ∷ xs) [] h free = absurd h
+fronts-free a (x ∷ xs) (y ∷ ys) h free = (h.0.3.closed ∙ free.0, fronts-free a xs ys h.1 free.1)
 
 -- a front of notes that were told up to a place
 pub fronts-upto : (i : ℕ) (a : List Note) (xs ys : List Ear) → HeardFronts (take i a) xs ys → HeardFronts a xs ys

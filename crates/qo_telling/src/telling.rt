@@ -19,7 +19,7 @@ fn tell_each(notes: &[Note], listeners: &mut Listeners) -> Result<(), AllocError
     requires { AllOpen (ears ⟦<Box<dyn Listener> as Listener>⟧ listeners.old.all.items) }
     ensures told { OnOk result (AllHeard notes.now (ears ⟦<Box<dyn Listener> as Listener>⟧ listeners.old.all.items) (ears ⟦<Box<dyn Listener> as Listener>⟧ listeners.new.all.items)) }
     ensures left { OnErr result (HeardFronts notes.now (ears ⟦<Box<dyn Listener> as Listener>⟧ listeners.old.all.items) (ears ⟦<Box<dyn Listener> as Listener>⟧ listeners.new.all.items)) }
-    ensures open { AllOpen (ears ⟦<Box<dyn Listener> as Listener>⟧ listeners.new.all.items) }
+    ensures listening { AllOpen (ears ⟦<Box<dyn Listener> as Listener>⟧ listeners.new.all.items) }
 {
     for note in notes {
         listeners.tell(note)?;
@@ -38,7 +38,7 @@ pub fn tell_new(
     requires { AllOpen (ears ⟦<Box<dyn Listener> as Listener>⟧ listeners.old.all.items) }
     ensures told { (b : Tree) (more : List NoteView) → Stands b board.now → IsNew b from more → OnOk result (AllHeard more (ears ⟦<Box<dyn Listener> as Listener>⟧ listeners.old.all.items) (ears ⟦<Box<dyn Listener> as Listener>⟧ listeners.new.all.items)) }
     ensures left { (b : Tree) (more : List NoteView) → Stands b board.now → IsNew b from more → OnErr result (HeardFronts more (ears ⟦<Box<dyn Listener> as Listener>⟧ listeners.old.all.items) (ears ⟦<Box<dyn Listener> as Listener>⟧ listeners.new.all.items)) }
-    ensures open { AllOpen (ears ⟦<Box<dyn Listener> as Listener>⟧ listeners.new.all.items) }
+    ensures listening { AllOpen (ears ⟦<Box<dyn Listener> as Listener>⟧ listeners.new.all.items) }
 {
     if listeners.all.is_empty() {
         return Ok(());

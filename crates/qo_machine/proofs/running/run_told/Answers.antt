@@ -10,7 +10,7 @@ pub loop-init : goal.loop-init
 loop-init g c =
     record {
       gone = gone_none _ _ _ _ _ _ c.in-Ok.ensures.state.0;
-      open = c.requires;
+      listening = c.requires;
       bad = refl;
       asked = refl;
       next_count = refl;
@@ -37,7 +37,7 @@ loop-preserved g c =
       gone =
           going_on _ _ _ c.loop.machine c.turn.new.machine c.loop.counter (g.H.Hub.bad c.loop.hub) _ _ _ c.loop.invariant.gone c.in_default-turn.ensures.meets
           (sym c.if-ended.ensures);
-      open = c.turn.ensures.open;
+      listening = c.turn.ensures.listening;
       bad = c.turn.ensures.bad ∙ c.loop.invariant.bad;
       asked = c.turn.ensures.asked ∙ c.loop.invariant.asked;
       next_count = c.in_default-turn.ensures.next_quiet (λ e. cc) ∙ c.loop.invariant.next_count;

@@ -12,7 +12,7 @@ invariant-loop g l =
       gone : (turns : List Turn) × GoneOn (known (hub.inputs l.fn.hub) (hub.sent l.fn.hub) (hub.got l.fn.hub) (hub.losses l.fn.hub))
           (known (hub.inputs l.hub) (hub.sent l.hub) (hub.got l.hub) (hub.losses l.hub)) l.machine l.counter
           (ears EARS l.fn.listeners.all.items) (ears EARS l.listeners.all.items) turns;
-      open : AllOpen (ears EARS l.listeners.all.items);
+      listening : AllOpen (ears EARS l.listeners.all.items);
       bad : hub.bad l.hub ≡ hub.bad l.fn.hub;
       asked : hub.asked l.hub ≡ hub.asked l.fn.hub;
       next_count : hub.next_faults l.hub ≡ hub.next_faults l.fn.hub;

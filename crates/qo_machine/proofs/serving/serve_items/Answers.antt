@@ -28,7 +28,7 @@ loop-item-preserved g c =
           (c.item-item.result ∷ []) c.loop-item.outbox.outs one.0 _ _ _ (c.loop-item.invariant.served s here)
           (subst (λ (at : Moment). (t : State) → IsIn t c.loop-item.machine
           → ServesTold (by_item at c.args.session) t (c.item-item.result ∷ []) one.0 c.serve_item_told.new.machine _ _) c.loop-item.invariant.moment one.3)));
-      open = c.serve_item_told.ensures.open;
+      listening = c.serve_item_told.ensures.listening;
       lanes = more_lanes c.loop-item.outbox.outs one.0 _ one.1 c.loop-item.invariant.lanes one.2;
       lasts = c.in_ok-serve_item_told.ensures.lasts ∙ c.loop-item.invariant.lasts;
       wired = c.in_ok-serve_item_told.ensures.wired;

@@ -27,7 +27,7 @@ loop-line-preserved g c =
           (c.line-item.result ∷ []) c.loop-line.outbox.outs one.0 _ _ _ (c.loop-line.invariant.served s here)
           (subst (λ (at : Moment). (t : State) → IsIn t c.loop-line.machine
           → ServesTold (by_line at) t (c.line-item.result ∷ []) one.0 c.serve_line_told.new.machine _ _) c.loop-line.invariant.moment one.3)));
-      open = c.serve_line_told.ensures.open;
+      listening = c.serve_line_told.ensures.listening;
       lanes = more_lanes c.loop-line.outbox.outs one.0 _ one.1 c.loop-line.invariant.lanes one.2;
       lasts = c.in_ok-serve_line_told.ensures.lasts ∙ c.loop-line.invariant.lasts;
       wired = c.in_ok-serve_line_told.ensures.wired;

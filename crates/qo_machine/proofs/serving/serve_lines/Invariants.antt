@@ -13,7 +13,7 @@ invariant-loop-line g l =
       moment : l.outbox.at ≡ l.fn.at;
       served : (s : State) → IsIn s l.fn.machine
           → ServesTold (by_line l.fn.at) s (take l.line-index l.lines) l.outbox.outs l.machine (ears EARS l.fn.listeners.all.items) (ears EARS l.listeners.all.items);
-      open : AllOpen (ears EARS l.listeners.all.items);
+      listening : AllOpen (ears EARS l.listeners.all.items);
       lanes : AreToLanes l.outbox.outs;
       lasts : l.machine.out_of_memory ≡ l.fn.machine.out_of_memory;
       wired : IsWired l.machine;

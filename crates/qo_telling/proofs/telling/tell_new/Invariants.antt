@@ -3,4 +3,4 @@
 use Rattle.qo_telling.proofs.telling.tell_new.Given as goal
 
 abbrev pub invariant-loop-at : goal.invariant-loop-at
-invariant-loop-at g l = ⊤
+invariant-loop-at g l = Unit {0}
