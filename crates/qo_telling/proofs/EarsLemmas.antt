@@ -94,3 +94,13 @@ fronts-free a (x ∷ xs) (y ∷ ys) h free = (h.0.3.closed ∙ free.0, fronts-fr
 -- a front of notes that were told up to a place
 pub fronts-upto : (i : ℕ) (a : List Note) (xs ys : List Ear) → HeardFronts (take i a) xs ys → HeardFronts a xs ys
 fronts-upto i a xs ys h = subst (λ (l : List Note). HeardFronts l xs ys) (take-append-drop i a) (fronts-more (take i a) (drop i a) xs ys h)
+
+-- where all of those up to a place were heard, a front of all was, and perhaps more of the next ones
+pub fronts-at : (i : ℕ) (a : List Note) (xs ys : List Ear) → AllHeard (take i a) xs ys → HeardFronts a xs ys
+fronts-at i a xs ys h =
+    subst (λ (l : List Note). HeardFronts l xs ys) (take-append-drop i a) (fronts-all (take i a) (drop i a) xs ys h)
+
+-- nobody heard something
+pub all-nobody : (a : List Note) (xs : List Ear) → xs ≡ [] → AllHeard a xs xs
+all-nobody a [] none = refl
+all-nobody a (x ∷ xs) none = absurd (let clash : x ∷ xs ≡ [] = none in cc)

@@ -5,7 +5,7 @@ use Rattle.qo_heap.proofs.HeapLemmas.{on-err}
 use Rattle.qo_model.specs.declared.notes.Note.{Note}
 use Rattle.qo_listen.specs.Ears.{AllHeard}
 use Rattle.qo_telling.specs.Telling.{HeardFronts}
-use Rattle.qo_telling.proofs.EarsLemmas.{all-none, all-open, all-then, fronts-open, fronts-some, fronts-then, fronts-upto}
+use Rattle.qo_telling.proofs.EarsLemmas.{all-none, all-free, all-then, fronts-free, fronts-some, fronts-then, fronts-upto}
 use Rattle.qo_telling.proofs.telling.tell_each.Goals as goal
 
 pub loop-note-init : goal.loop-note-init
@@ -18,7 +18,7 @@ loop-note-preserved g c =
     record {
       told = subst (λ (l : List Note). AllHeard l _ _) (sym one)
           (all-then (take c.loop-note.note-index c.args.notes.now) (c.note-item.result ∷ []) _ _ _ c.loop-note.invariant.told c.in_ok-tell.ensures.told);
-      listening = all-open (c.note-item.result ∷ []) _ _ c.in_ok-tell.ensures.told c.loop-note.invariant.listening;
+      listening = all-free (c.note-item.result ∷ []) _ _ c.in_ok-tell.ensures.told c.loop-note.invariant.listening;
     }
 
 pub returns-clause-told : goal.returns-clause-told
@@ -39,4 +39,4 @@ returns-in_err-tell-clause-left g c =
 pub returns-in_err-tell-clause-listening : goal.returns-in_err-tell-clause-listening
 returns-in_err-tell-clause-listening g c =
     let some = c.in_err-tell.ensures.left in
-    fronts-open (c.note-item.result ∷ []) _ _ (fronts-some some.0 (c.note-item.result ∷ []) _ _ some.1) c.loop-note.invariant.listening
+    fronts-free (c.note-item.result ∷ []) _ _ (fronts-some some.0 (c.note-item.result ∷ []) _ _ some.1) c.loop-note.invariant.listening
