@@ -1,8 +1,8 @@
 -- What listeners hear of several notes.
-use Rattle.std.proofs.Common.{◌≡◌, refl, sym, ap, subst, ◌∙◌, ℕ, zero, suc, List, [], ◌∷◌, ◌++◌, length, take, drop, append-nil, append_assoc}
-use Rattle.std.proofs.lemmas.List.{take-append-drop}
+use Rattle.std.proofs.Common.{◌≡◌, refl, sym, ap, subst, ◌∙◌, ℕ, zero, suc, List, [], ◌∷◌, ◌++◌, length, take, drop, append-nil, append_assoc, ◌+◌, ◌<◌, slice_index_or}
+use Rattle.std.proofs.lemmas.List.{take-append-drop, take_more}
 use Rattle.qo_model.specs.declared.notes.Note.{Note}
-use Rattle.qo_listen.specs.Ears.{AllHeard, AllOpen, Ear, Heard, HeardTo}
+use Rattle.qo_listen.specs.Ears.{AllHeard, AllOpen, Ear, Heard, HeardSome, HeardTo}
 use Rattle.qo_telling.specs.Telling.{HeardFront, HeardFronts}
 
 -- One listener.
@@ -104,3 +104,21 @@ fronts-at i a xs ys h =
 pub all-nobody : (a : List Note) (xs : List Ear) → xs ≡ [] → AllHeard a xs xs
 all-nobody a [] none = refl
 all-nobody a (x ∷ xs) none = absurd (let clash : x ∷ xs ≡ [] = none in cc)
+
+-- Note by note.
+
+pub one-more : (notes : List Note) (i : ℕ) (d : Note) (xs ys zs : List Ear) → i < length notes → AllHeard (take i notes) xs ys
+    → AllHeard (slice_index_or notes i d ∷ []) ys zs → AllHeard (take (i + 1) notes) xs zs
+one-more notes i d xs ys zs below h k =
+    subst (λ (l : List Note). AllHeard l xs zs) (sym (take_more notes i d below)) (all-then (take i notes) (slice_index_or notes i d ∷ []) xs ys zs h k)
+
+pub one-front : (notes : List Note) (i : ℕ) (d : Note) (xs ys zs : List Ear) → i < length notes → AllHeard (take i notes) xs ys
+    → HeardSome (slice_index_or notes i d ∷ []) ys zs → HeardFronts notes xs zs
+one-front notes i d xs ys zs below h k =
+    fronts-upto (i + 1) notes xs zs
+    (subst (λ (l : List Note). HeardFronts l xs zs) (sym (take_more notes i d below))
+    (fronts-then (take i notes) (slice_index_or notes i d ∷ []) xs ys zs h (fronts-some k.0 (slice_index_or notes i d ∷ []) ys zs k.1)))
+
+-- none is closed by a note, whoever heard it
+pub one-clear : (a : List Note) (xs ys : List Ear) → HeardSome a xs ys → AllOpen xs → AllOpen ys
+one-clear a xs ys k free = fronts-free a xs ys (fronts-some k.0 a xs ys k.1) free

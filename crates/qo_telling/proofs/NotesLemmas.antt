@@ -1,12 +1,14 @@
 -- The new notes of a board, as readings give them.
-use Rattle.std.proofs.Common.{◌≡◌, refl, sym, ap, ◌∙◌, ℕ, ◌+◌, ◌-◌, ◌^◌, ◌<◌, ◌≤◌, min, max, List, [], ◌∷◌, ◌++◌, length, take, drop, length-append, length-drop, drop-drop, take-add, arith}
-use Rattle.std.proofs.lemmas.List.{drop_at, take_min}
+use Rattle.std.proofs.Common.{◌≡◌, refl, sym, ap, subst, ◌∙◌, ℕ, ◌+◌, ◌-◌, ◌^◌, ◌<◌, ◌≤◌, min, max, List, [], ◌∷◌, ◌++◌, length, take, drop, length-append, length-drop, drop-drop, take-add, arith}
+use Rattle.std.proofs.lemmas.List.{drop_at, take_all, take_min}
 use Rattle.qo_values.specs.declared.limits.TheConstants.{NOTES_KEPT, NOTES_PER_REPLY}
 use Rattle.qo_model.specs.Board.{Board}
 use Rattle.qo_model.specs.NoteReplies.{first_from, given_from}
 use Rattle.qo_model.specs.Notes.{kept_of, total_of}
 use Rattle.qo_model.specs.declared.notes.Note.{Note}
-use Rattle.qo_telling.specs.Telling.{IsNew}
+use Rattle.qo_listen.specs.Ears.{AllHeard, Ear}
+use Rattle.qo_telling.specs.Telling.{HeardFronts, IsNew}
+use Rattle.qo_telling.proofs.EarsLemmas.{all-none, all-then, fronts-then, fronts-upto}
 
 module _ (b : Board) (from : ℕ) (more : List Note) (new : IsNew b from more) where
   abbrev before : List Note
@@ -43,3 +45,32 @@ pub up-to : {X : Type 0} (xs : List X) (k next : ℕ) → min (k + NOTES_PER_REP
     → take k xs ++ take NOTES_PER_REPLY (drop k xs) ≡ take next xs
 up-to {X = X} xs k next is =
     sym (take-add k NOTES_PER_REPLY xs) ∙ sym (take_min (k + NOTES_PER_REPLY) xs) ∙ ap (λ (n : ℕ). take n xs) is ∙ take_min next xs
+
+module _ (b : Board) (from : ℕ) (more : List Note) (new : IsNew b from more) (xs ys : List Ear) where
+  -- none of them was told yet
+  pub none-yet : AllHeard (take (from - from) more) xs xs
+  none-yet = subst (λ (n : ℕ). AllHeard (take n more) xs xs) {x = 0} {y = from - from} (omega arith) (all-none xs)
+
+  -- all of them were, at the total
+  pub all-told : (at all : ℕ) → all ≡ total_of b.notes → all ≤ at → AllHeard (take (at - from) more) xs ys → AllHeard more xs ys
+  all-told at all is past told =
+      subst (λ (l : List Note). AllHeard l xs ys) (take_all (at - from) more (omega (arith, is, past, total b from more new))) told
+
+  -- a reading more, at a place below the total
+  module _ (at next all : ℕ) (later : from ≤ at) (is : all ≡ total_of b.notes) (within : at < all) (goes : next ≡ min (at + NOTES_PER_REPLY) (2 ^ 64 - 1))
+      (read : List Note) (reads : read ≡ given_from at b.notes) (zs : List Ear) (told : AllHeard (take (at - from) more) xs ys) where
+    reading : read ≡ take NOTES_PER_REPLY (drop (at - from) more)
+    reading = reads ∙ given b from more new at later (omega (arith, is, within, total b from more new))
+
+    parts : take (at - from) more ++ read ≡ take (next - from) more
+    parts =
+        ap (λ (l : List Note). take (at - from) more ++ l) reading
+        ∙ up-to more (at - from) (next - from) (let counted : length b.notes < 2 ^ 64 - 1 = new.counted in omega (arith, goes, later, counted, long b from more new))
+
+    pub more-told : AllHeard read ys zs → AllHeard (take (next - from) more) xs zs
+    more-told h = subst (λ (l : List Note). AllHeard l xs zs) parts (all-then (take (at - from) more) read xs ys zs told h)
+
+    pub more-front : HeardFronts read ys zs → HeardFronts more xs zs
+    more-front h =
+        fronts-upto (next - from) more xs zs
+        (subst (λ (l : List Note). HeardFronts l xs zs) parts (fronts-then (take (at - from) more) read xs ys zs told h))
