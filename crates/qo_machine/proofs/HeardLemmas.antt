@@ -2,6 +2,7 @@
 use Rattle.std.proofs.Common.{◌≡◌, refl, sym, ap, subst, ◌∙◌, ℕ, ◌+◌, ◌-◌, ◌^◌, ◌<◌, min, List, [], ◌∷◌, ◌++◌, length, append-nil, append_assoc, length-append, arith}
 use Rattle.qo_model.specs.Board.{Board}
 use Rattle.qo_model.specs.Notes.{total_of}
+use Rattle.qo_model.specs.Opening.{opening_board}
 use Rattle.qo_model.specs.declared.notes.Note.{Note}
 use Rattle.qo_listen.specs.Ears.{AllHeard, Ear}
 use Rattle.qo_telling.specs.Telling.{HeardFronts, IsCounted, IsNew}
@@ -66,7 +67,13 @@ new-notes b c from total f counted =
 
 -- all notes of a run, which begins with none
 pub heard-all : (b : Board) (x y : List Ear) → Hears opening.board b x y → HeardAll b x y
+unfolding opening_board
 heard-all b x y h = λ counted. subst (λ (l : List Note). AllHeard l x y) (sym h.1) (h.2 counted)
 
 pub heard-so : (b : Board) (x y : List Ear) → HearsFront opening.board b x y → HeardSo b x y
+unfolding opening_board
 heard-so b x y h = λ counted. subst (λ (l : List Note). HeardFronts l x y) (sym h.1) (h.2 counted)
+
+-- before it began
+pub heard-none-so : (x : List Ear) → HeardSo opening.board x x
+heard-none-so x = heard-so opening.board x x (hears-front opening.board opening.board x x (hears-none opening.board opening.board refl x))

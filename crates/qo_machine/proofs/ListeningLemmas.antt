@@ -125,13 +125,13 @@ module _ {X : Type 0} (f : Choice → State → X → Made) where
 
   -- some were served and told, and of others a front was told
   pub heard-on : EachLater f → (s : State) (mid : Seen) (xs ys zs : List X) (a : List Message) (x y z : List Ear) → ServesTold f s xs a mid x y
-      → ((t : State) → IsIn t mid → ServesHeardFront f t ys y z) → ServesHeardFront f s (xs ++ ys ++ zs) x z
+      → ((t : State) → IsIn t mid → ServesHeardFront f t ys y z) → ServesHeardFront f s (xs ++ (ys ++ zs)) x z
   heard-on later s mid xs ys zs a x y z p q =
       let t = p.0 in
       let h = q t p.1 in
       let some : Stepped = serve_by f ys t h.0 in
       let all : Stepped = serve_by f zs some.state some.rest in
-      let whole : (serve_by f (xs ++ ys ++ zs) s (p.2.0 ++ h.0)).state ≡ all.state =
+      let whole : (serve_by f (xs ++ (ys ++ zs)) s (p.2.0 ++ h.0)).state ≡ all.state =
       ap (λ (r : Stepped). r.state) (p.2.1 (ys ++ zs) h.0) ∙ ap (λ (r : Stepped). r.state) (serve_more f ys zs t h.0) in (
         p.2.0 ++ h.0,
         subst (λ (u : State). HearsFront s.board u.board x z) (sym whole)
@@ -144,7 +144,7 @@ module _ {X : Type 0} (f : Choice → State → X → Made) where
       → next ≡ slice_index_or xs i next → ServesTold f s (take i xs) a mid x y → ((t : State) → IsIn t mid → ServesHeardFront f t (next ∷ []) y z)
       → ServesHeardFront f s xs x z
   heard-upto later s mid xs i next a x y z below is p q =
-      let whole : take i xs ++ (next ∷ []) ++ drop (i + 1) xs ≡ xs =
+      let whole : take i xs ++ ((next ∷ []) ++ drop (i + 1) xs) ≡ xs =
       sym (append_assoc (take i xs) (next ∷ []) (drop (i + 1) xs)) ∙ ap (λ (l : List X). l ++ drop (i + 1) xs) (sym (take_one xs i next below is))
       ∙ take-append-drop (i + 1) xs in
       subst (λ (l : List X). ServesHeardFront f s l x z) whole (heard-on later s mid (take i xs) (next ∷ []) (drop (i + 1) xs) a x y z p q)

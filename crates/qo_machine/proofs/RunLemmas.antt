@@ -17,8 +17,7 @@ use Rattle.qo_causes.specs.declared.inputs.What.TheVariants.{Open, Bytes, Shut, 
 use Rattle.qo_machine.specs.Machine.{IsIn, Message, Seen, State, Stepped, Choice, opening, step}
 use Rattle.qo_model.specs.Board.{Board}
 use Rattle.qo_listen.specs.Ears.{Ear}
-use Rattle.qo_telling.proofs.EarsLemmas.{fronts-none}
-use Rattle.qo_machine.proofs.HeardLemmas.{front-then, heard-all, heard-so, hears-none, hears-then}
+use Rattle.qo_machine.proofs.HeardLemmas.{front-then, heard-all, heard-none-so, heard-so, hears-none, hears-then}
 use Rattle.qo_machine.specs.Listening.{CutRunTold, HeardSo, Hears, RunTold, TurnTold, board_after}
 use Rattle.qo_machine.specs.Runs.{AllLostHad, Cut, RunMeets, Told, Turn, Turns, after, close_lost, closed_where, cut_to, has_end, is_lost, known, lane_at, lane_bytes, lane_of, outs_at, outs_of, risen, risen_by, state_after, transcript, transcript_at, transcript_of, turn_inputs}
 use Rattle.qo_machine.specs.Sending.{Sent, SentFront}
@@ -271,7 +270,7 @@ cut_none limit i t g n x = (
   (turns_none opening i t g n, refl),
   record { took = none_taken i; sent = (0, omega arith, nothing_appended t); lanes = λ l. (0, omega arith, nothing_appended (g l)); losses = λ k. omega arith },
   omega arith,
-  λ counted. fronts-none [] x,
+  heard-none-so x,
 )
 
 pub gone_none : (m : Seen) (i : Option (List Given)) (t : Option (List ℕ)) (g : Lane → Option (List ℕ)) (n : ℕ → ℕ) (x : List Ear) → IsIn opening m

@@ -2,6 +2,8 @@
 use Rattle.std.proofs.Common.{refl, sym, ◌∙◌, subst, List, [], ◌∷◌, ◌++◌, ◌+◌, take, arith}
 use Rattle.qo_framing.specs.declared.items.Item.{Item}
 use Rattle.qo_causes.specs.declared.inputs.Moment.{Moment}
+use Rattle.qo_listen.specs.Ears.{ears}
+use Rattle.qo_listen.specs.contracts.listeners.BoxDynListenerListener.TheImpl.{ghosts}
 use Rattle.qo_machine.proofs.LaneLemmas.{more_lanes}
 use Rattle.qo_machine.proofs.MemoryLemmas.{front_of_all_by, front_on_by}
 use Rattle.qo_machine.proofs.ListeningLemmas.{front-unheard, heard-upto, items-later, told-on, told-serves}
@@ -16,18 +18,21 @@ use Rattle.qo_machine.proofs.serving.serve_items.Goals as goal
 pub loop-item-preserved : goal.loop-item-preserved
 loop-item-preserved g c =
     let one = c.in_ok-serve_item_told.ensures.served in
+    let first = ears (ghosts g.dyn-1) c.args.listeners.now.all.items in
+    let before = ears (ghosts g.dyn-1) c.loop-item.listeners.all.items in
+    let now = ears (ghosts g.dyn-1) c.serve_item_told.new.listeners.all.items in
     record {
       moment = c.serve_item_told.ensures.moment ∙ c.loop-item.invariant.moment;
       served = λ s here.
           subst
           (λ (outs : List Message). ServesTold (by_item c.args.at c.args.session) s (take (c.loop-item.item-index + 1) c.args.items.now) outs
-          c.serve_item_told.new.machine _ _) (sym one.1)
-          (subst (λ (items : List Item). ServesTold (by_item c.args.at c.args.session) s items (c.loop-item.outbox.outs ++ one.0) c.serve_item_told.new.machine _ _)
+          c.serve_item_told.new.machine first now) (sym one.1)
+          (subst (λ (items : List Item). ServesTold (by_item c.args.at c.args.session) s items (c.loop-item.outbox.outs ++ one.0) c.serve_item_told.new.machine first now)
           (sym (take_one c.args.items.now c.loop-item.item-index c.item-item.result (omega arith) c.item-item.is))
           (told-on (by_item c.args.at c.args.session) s c.loop-item.machine c.serve_item_told.new.machine (take c.loop-item.item-index c.args.items.now)
-          (c.item-item.result ∷ []) c.loop-item.outbox.outs one.0 _ _ _ (c.loop-item.invariant.served s here)
+          (c.item-item.result ∷ []) c.loop-item.outbox.outs one.0 first before now (c.loop-item.invariant.served s here)
           (subst (λ (at : Moment). (t : State) → IsIn t c.loop-item.machine
-          → ServesTold (by_item at c.args.session) t (c.item-item.result ∷ []) one.0 c.serve_item_told.new.machine _ _) c.loop-item.invariant.moment one.3)));
+          → ServesTold (by_item at c.args.session) t (c.item-item.result ∷ []) one.0 c.serve_item_told.new.machine before now) c.loop-item.invariant.moment one.3)));
       listening = c.serve_item_told.ensures.listening;
       lanes = more_lanes c.loop-item.outbox.outs one.0 _ one.1 c.loop-item.invariant.lanes one.2;
       lasts = c.in_ok-serve_item_told.ensures.lasts ∙ c.loop-item.invariant.lasts;
@@ -46,7 +51,7 @@ returns-in_err-serve_item_told-clause-left g c =
     (sym (take_one c.args.items.now c.loop-item.item-index c.item-item.result (omega arith) c.item-item.is))
     (front_on_by (by_item c.args.at c.args.session) s c.loop-item.machine c.serve_item_told.new.machine (take c.loop-item.item-index c.args.items.now)
     (c.item-item.result ∷ []) c.loop-item.outbox.outs (told-serves (by_item c.args.at c.args.session) s c.loop-item.machine
-    (take c.loop-item.item-index c.args.items.now) c.loop-item.outbox.outs _ _ (c.loop-item.invariant.served s here))
+    (take c.loop-item.item-index c.args.items.now) c.loop-item.outbox.outs (ears (ghosts g.dyn-1) c.args.listeners.now.all.items) (ears (ghosts g.dyn-1) c.loop-item.listeners.all.items) (c.loop-item.invariant.served s here))
     (subst (λ (at : Moment). (t : State) → IsIn t c.loop-item.machine
     → ServesFront at c.args.session t (c.item-item.result ∷ []) c.serve_item_told.new.machine) c.loop-item.invariant.moment
     c.in_err-serve_item_told.ensures.left))))
@@ -56,8 +61,9 @@ returns-in_err-serve_item_told-clause-heard g c =
     on-err c.from_residual-in_err-serve_item_told.result
     (λ s here.
     heard-upto (by_item c.args.at c.args.session) (items-later c.args.at c.args.session) s c.loop-item.machine c.args.items.now c.loop-item.item-index
-    c.item-item.result c.loop-item.outbox.outs _ _ _ (omega arith) c.item-item.is (c.loop-item.invariant.served s here)
-    (subst (λ (at : Moment). (t : State) → IsIn t c.loop-item.machine → ServesHeardFront (by_item at c.args.session) t (c.item-item.result ∷ []) _ _)
+    c.item-item.result c.loop-item.outbox.outs (ears (ghosts g.dyn-1) c.args.listeners.now.all.items) (ears (ghosts g.dyn-1) c.loop-item.listeners.all.items)
+    (ears (ghosts g.dyn-1) c.serve_item_told.new.listeners.all.items) (omega arith) c.item-item.is (c.loop-item.invariant.served s here)
+    (subst (λ (at : Moment). (t : State) → IsIn t c.loop-item.machine → ServesHeardFront (by_item at c.args.session) t (c.item-item.result ∷ []) (ears (ghosts g.dyn-1) c.loop-item.listeners.all.items) (ears (ghosts g.dyn-1) c.serve_item_told.new.listeners.all.items))
     c.loop-item.invariant.moment c.in_err-serve_item_told.ensures.heard))
 
 -- where there is no room for the messages nothing is served
