@@ -398,12 +398,13 @@ done a b c m to count limit bad other x y z is few h p over =
     )
 
 -- as many turns as there may be
-pub limited : (a b : Told) (m : Seen) (limit : ℕ) (bad : Option (Option ℕ)) (x y : List Ear) → (turns : List Turn) × GoneOn a b m limit x y turns
+pub limited : (a b : Told) (m : Seen) (count limit : ℕ) (bad : Option (Option ℕ)) (x y : List Ear) → count ≡ limit
+    → (turns : List Turn) × GoneOn a b m count x y turns
     → RunTold Limit limit a b bad x y
-limited a b m limit bad x y h = (
+limited a b m count limit bad x y full h = (
   h.0,
-  (h.1.turns_are, still_going a b m limit x y h.0 h.1),
-  h.1.count_is,
+  (h.1.turns_are, still_going a b m count x y h.0 h.1),
+  h.1.count_is ∙ full,
   heard-all (state_after opening h.0).board x y h.1.heard,
 )
 

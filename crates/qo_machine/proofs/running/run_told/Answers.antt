@@ -10,7 +10,7 @@ pub loop-init : goal.loop-init
 loop-init g c =
     record {
       gone = gone_none _ _ _ _ _ _ c.in-Ok.ensures.state.0;
-      listening = c.requires;
+      listening = c.requires.listening;
       bad = refl;
       asked = refl;
       next_count = refl;
@@ -47,4 +47,7 @@ loop-preserved g c =
 
 pub returns-clause-meets : goal.returns-clause-meets
 returns-clause-meets g c =
-    rw (← c.loop.invariant.bad) (limited _ _ c.loop.machine c.args.limit (g.H.Hub.bad c.loop.hub) _ _ c.loop.invariant.gone)
+    limited _ _ c.loop.machine c.loop.counter c.args.limit (g.H.Hub.bad c.args.hub.now) _ _ (omega arith) c.loop.invariant.gone
+
+pub returns-then-ended-clause-later : goal.returns-then-ended-clause-later
+returns-then-ended-clause-later g c = g.met.H.Hub.after _ _ _ c.loop.invariant.later c.turn.ensures.later

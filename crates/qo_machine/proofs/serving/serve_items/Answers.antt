@@ -1,19 +1,36 @@
 -- One item more.
-use Rattle.std.proofs.Common.{refl, sym, ◌∙◌, subst, List, [], ◌∷◌, ◌++◌, ◌+◌, take, arith}
+use Rattle.std.proofs.Common.{refl, ap, sym, ◌∙◌, subst, List, [], ◌∷◌, ◌++◌, ◌+◌, take, arith}
 use Rattle.qo_framing.specs.declared.items.Item.{Item}
 use Rattle.qo_causes.specs.declared.inputs.Moment.{Moment}
 use Rattle.qo_listen.specs.Ears.{ears}
 use Rattle.qo_listen.specs.contracts.listeners.BoxDynListenerListener.TheImpl.{ghosts}
 use Rattle.qo_machine.proofs.LaneLemmas.{more_lanes}
 use Rattle.qo_machine.proofs.MemoryLemmas.{front_of_all_by, front_on_by}
-use Rattle.qo_machine.proofs.ListeningLemmas.{front-unheard, heard-upto, items-later, told-on, told-serves}
+use Rattle.qo_machine.proofs.ListeningLemmas.{front-unheard, heard-upto, items-later, told-none, told-on, told-serves}
 use Rattle.qo_machine.proofs.MachineLemmas.{take_one}
 use Rattle.qo_heap.proofs.HeapLemmas.{on-err}
+use Rattle.qo_machine.specs.Between.{IsWired}
 use Rattle.qo_machine.specs.Listening.{ServesHeardFront, ServesTold}
-use Rattle.qo_machine.specs.Machine.{IsIn, Message, State, by_item}
+use Rattle.qo_machine.specs.Machine.{IsIn, Message, Seen, State, by_item}
 use Rattle.qo_machine.specs.Sending.{AreToLanes}
 use Rattle.qo_machine.specs.Serving.{ServesFront}
 use Rattle.qo_machine.proofs.serving.serve_items.Goals as goal
+
+pub loop-item-init : goal.loop-item-init
+loop-item-init g c =
+    let first = ears (ghosts g.dyn-1) c.args.listeners.now.all.items in
+    let same = c.with_room.ensures.same in
+    record {
+      moment = c.in_ok-outbox.ensures.moment;
+      served = λ s here.
+          subst (λ (outs : List Message). ServesTold (by_item c.args.at c.args.session) s [] outs c.with_room.new.machine first first)
+          (sym c.in_ok-outbox.ensures.none)
+          (told-none (by_item c.args.at c.args.session) s c.with_room.new.machine first (subst (IsIn s) (sym same) here));
+      listening = c.requires.listening;
+      lanes = subst AreToLanes (sym c.in_ok-outbox.ensures.none) tt;
+      lasts = ap (λ (m : Seen). m.out_of_memory) same;
+      wired = subst IsWired (sym same) c.requires.wired;
+    }
 
 pub loop-item-preserved : goal.loop-item-preserved
 loop-item-preserved g c =

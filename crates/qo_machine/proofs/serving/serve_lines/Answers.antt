@@ -1,11 +1,11 @@
 -- One line more.
-use Rattle.std.proofs.Common.{sym, ◌∙◌, subst, ℕ, List, [], ◌∷◌, ◌++◌, ◌+◌, take, arith}
+use Rattle.std.proofs.Common.{refl, sym, ◌∙◌, subst, ℕ, List, [], ◌∷◌, ◌++◌, ◌+◌, take, arith}
 use Rattle.qo_causes.specs.declared.inputs.Moment.{Moment}
 use Rattle.qo_listen.specs.Ears.{ears}
 use Rattle.qo_listen.specs.contracts.listeners.BoxDynListenerListener.TheImpl.{ghosts}
 use Rattle.qo_machine.proofs.LaneLemmas.{more_lanes}
 use Rattle.qo_machine.proofs.MemoryLemmas.{front_of_all_by, front_on_by}
-use Rattle.qo_machine.proofs.ListeningLemmas.{heard-upto, lines-later, told-on, told-serves}
+use Rattle.qo_machine.proofs.ListeningLemmas.{heard-upto, lines-later, told-none, told-on, told-serves}
 use Rattle.qo_machine.proofs.MachineLemmas.{take_one}
 use Rattle.qo_heap.proofs.HeapLemmas.{on-err}
 use Rattle.qo_machine.specs.Listening.{ServesHeardFront, ServesTold}
@@ -13,6 +13,20 @@ use Rattle.qo_machine.specs.Machine.{IsIn, Message, State, by_line}
 use Rattle.qo_machine.specs.Sending.{AreToLanes}
 use Rattle.qo_machine.specs.Serving.{LinesFront}
 use Rattle.qo_machine.proofs.serving.serve_lines.Goals as goal
+
+pub loop-line-init : goal.loop-line-init
+loop-line-init g c =
+    let first = ears (ghosts g.dyn-1) c.args.listeners.now.all.items in
+    record {
+      moment = c.new-outbox.ensures.moment;
+      served = λ s here.
+          subst (λ (outs : List Message). ServesTold (by_line c.args.at) s [] outs c.args.machine.now first first) (sym c.new-outbox.ensures.none)
+          (told-none (by_line c.args.at) s c.args.machine.now first here);
+      listening = c.requires.listening;
+      lanes = subst AreToLanes (sym c.new-outbox.ensures.none) tt;
+      lasts = refl;
+      wired = c.requires.wired;
+    }
 
 pub loop-line-preserved : goal.loop-line-preserved
 loop-line-preserved g c =
