@@ -10,7 +10,7 @@ use Rattle.qo_machine.proofs.running.turn.Goals as goal
 
 pub returns-in_default-clause-meets : goal.returns-in_default-clause-meets
 returns-in_default-clause-meets g c = λ s here.
-    let heard = c.in_default.zzz s here in (
+    let heard = c.in_default.ensures.heard s here in (
       Some (taken_turn c.in-Ok.input (g.H.Hub.names c.next.new.self) heard.0),
       cut_taken s _ _ _ _ _ _ _ _ _ c.in-Ok.input (g.H.Hub.names c.next.new.self) heard.0 c.in-Ok.ensures.given c.in-Ok.ensures.sent c.in-Ok.ensures.got
           c.in-Ok.ensures.losses,

@@ -5,7 +5,7 @@ use Rattle.qo_listen.specs.Ears.{AllOpen}
 use Rattle.qo_machine.proofs.machines.Machine.step.Goals as goal
 
 pub step_told-done-requires : goal.step_told-done-requires
-step_told-done-requires c = subst AllOpen (sym c.new-nobody.ensures) tt
+step_told-done-requires c = record { listening = subst AllOpen (sym c.new-nobody.ensures) tt }
 
 pub returns-clause-answered : goal.returns-clause-answered
 returns-clause-answered c = λ s here.
