@@ -1,5 +1,5 @@
 -- What listeners hear from board to board.
-use Rattle.std.proofs.Common.{◌≡◌, refl, sym, ap, subst, ◌∙◌, ℕ, ◌+◌, ◌-◌, ◌^◌, ◌<◌, min, List, [], ◌∷◌, ◌++◌, length, append-nil, append_assoc, length-append, arith}
+use Rattle.std.proofs.Common.{◌≡◌, refl, sym, ap, subst, ◌∙◌, ℕ, ◌+◌, ◌-◌, ◌^◌, ◌<◌, List, [], ◌++◌, length, append-nil, append_assoc, length-append, arith}
 use Rattle.qo_model.specs.Board.{Board}
 use Rattle.qo_model.specs.Notes.{total_of}
 use Rattle.qo_model.specs.Opening.{opening_board}

@@ -23,7 +23,7 @@ use Rattle.qo_sessions.specs.declared.modes.Mode.TheVariants.{Closed, Negotiatin
 use Rattle.qo_commands.specs.Lines.{lines_of}
 use Rattle.qo_framing.specs.declared.items.Item.{Item}
 use Rattle.qo_machine.specs.Later.{IsLater}
-use Rattle.qo_machine.specs.Listening.{AnswersTold, Follows, Hears, HearsFront, ServesHeardFront, ServesTold, StepHeardFront}
+use Rattle.qo_machine.specs.Listening.{AnswersTold, Follows, HearsFront, ServesHeardFront, ServesTold, StepHeardFront}
 use Rattle.qo_machine.specs.Machine.{Answers, Choice, IsIn, Made, Message, Seen, State, Stepped, by_item, by_line, first, input_step, mode_of, opened, others, preceded, serve_by, session_of, state_with, step, taken, unchanged, with_line, with_session}
 use Rattle.qo_machine.specs.Serving.{ServesBy, ServesFrontBy, ServesToBy}
 use Rattle.qo_machine.proofs.ChunkLemmas.{serve_more}

@@ -81,7 +81,8 @@ pub data GuestFinds (b : Board) (d : ℕ) : Type 0 where
   by_slots : (at : Addr) → addressed b at ≡ Some d → GuestFinds b d
   by_address : (at : ℕ) (place : RegisterPlace) → register_at b at ≡ Some place → place.device ≡ d → (d == BOOT_LEAF) ≡ false → GuestFinds b d
 
--- what each change of the rings relates a board to: one is added, as nothing bars it; one that nothing bars from it goes; the oldest bytes of one are taken; and
+-- what each change of the rings relates a board to: one is added, as nothing bars it; one that nothing bars from it goes; the oldest bytes of one are taken;
+-- and
 -- bytes come after those of one
 pub record ChangesRings (R : Board → Board → Type 0) : Type 0 where
   pub added : (b : Board) (id kind : List ℕ) (size : ℕ) → chardev_barred b id kind size ≡ None → R b (with_rings (b.rings ++ new_ring id size ∷ []) b)

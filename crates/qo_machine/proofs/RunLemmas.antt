@@ -199,7 +199,8 @@ cut_taken s oi ni os ns og ng ol nl bad i names cs given sent got losses =
     }
 
 -- an input was taken, and its messages were cut short
-pub cut_sent : (s : State) (i : Input) (names : Names) (cs : List Choice) (slice outs : List Message) (oi mi ni : Option (List Given)) (os ms ns : Option (List ℕ))
+pub cut_sent : (s : State) (i : Input) (names : Names) (cs : List Choice) (slice outs : List Message) (oi mi ni : Option (List Given))
+    (os ms ns : Option (List ℕ))
     (og mg ng : Lane → Option (List ℕ)) (ol ml nl : ℕ → ℕ) (bad : Option (Option ℕ))
     → (step s i cs).outs ≡ outs → slice ≡ outs → Gives oi mi bad (given_by i names) → ms ≡ os → ((l : Lane) → mg l ≡ og l) → ((n : ℕ) → ml n ≡ ol n)
     → SentFront names (known mi ms mg ml) (known ni ns ng nl) slice
@@ -215,7 +216,8 @@ cut_sent s i names cs slice outs oi mi ni os ms ns og mg ng ol ml nl bad is same
     outs_is : (step s i cs).outs ≡ slice
     outs_is = is ∙ sym same
 
-at_end : (oi mi ni : Option (List Given)) (bad : Option (Option ℕ)) (i : Input) (names : Names) → ni ≡ mi → Gives oi mi bad (given_by i names) → is_end i.what ≡ true
+at_end : (oi mi ni : Option (List Given)) (bad : Option (Option ℕ)) (i : Input) (names : Names) → ni ≡ mi → Gives oi mi bad (given_by i names)
+    → is_end i.what ≡ true
     → AtEnd ni bad None
 at_end oi mi ni bad i names same given over = subst (λ (x : Option (List Given)). AtEnd x bad None) (sym (same ∙ ended.0)) ended.1
   where
@@ -223,7 +225,8 @@ at_end oi mi ni bad i names same given over = subst (λ (x : Option (List Given)
     ended = rw over at given
 
 -- an input was taken, and what it makes was sent
-pub one_turn : (s : State) (to : Seen) (i : Input) (names : Names) (cs : List Choice) (slice outs : List Message) (lost : List Bool) (oi mi ni : Option (List Given))
+pub one_turn : (s : State) (to : Seen) (i : Input) (names : Names) (cs : List Choice) (slice outs : List Message) (lost : List Bool)
+    (oi mi ni : Option (List Given))
     (os ms ns : Option (List ℕ)) (og mg ng : Lane → Option (List ℕ)) (ol ml nl : ℕ → ℕ) (bad : Option (Option ℕ)) (x y : List Ear)
     → (step s i cs).outs ≡ outs → slice ≡ outs → Gives oi mi bad (given_by i names) → ms ≡ os → ((l : Lane) → mg l ≡ og l) → ((n : ℕ) → ml n ≡ ol n)
     → Sent names (known mi ms mg ml) (known ni ns ng nl) slice lost → IsIn (close_lost lost (step s i cs).state) to

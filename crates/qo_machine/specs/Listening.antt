@@ -76,7 +76,8 @@ CutRunTold limit old new heard =
     (mid : Told) × (turns : List Turn) × (last : Option Turn) × OpenRun old mid turns × Cut (state_after opening turns) mid new last
     × (length turns + length (option_to_list last) ≤ limit) × heard (board_after (state_after opening turns) last)
 
--- what a run did by how it ended, as of one that nobody listens to; and each listener heard the notes of the run, in order, or where memory ran out a front of them
+-- what a run did by how it ended, as of one that nobody listens to; and each listener heard the notes of the run, in order, or where memory ran out a front of
+-- them
 abbrev pub RunTold : Ending → ℕ → Told → Told → Option (Option ℕ) → List Ear → List Ear → Type 0
 RunTold Done limit old new bad olds news =
     (turns : List Turn) × Turns opening old new turns × EndsAtLast turns × (length turns ≤ limit) × (has_end turns ≡ true → AtEnd new.inputs bad None)

@@ -3,7 +3,7 @@ use Rattle.std.proofs.Common.{◌≡◌, refl, sym, ap, subst, ◌∙◌, ℕ, z
 use Rattle.std.proofs.lemmas.List.{take-append-drop, take_more}
 use Rattle.qo_model.specs.declared.notes.Note.{Note}
 use Rattle.qo_listen.specs.Ears.{AllHeard, AllOpen, Ear, Heard, HeardSome, HeardTo}
-use Rattle.qo_telling.specs.Telling.{HeardFront, HeardFronts}
+use Rattle.qo_telling.specs.Telling.{HeardFronts}
 
 -- One listener.
 

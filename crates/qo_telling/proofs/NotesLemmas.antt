@@ -1,5 +1,5 @@
 -- The new notes of a board, as readings give them.
-use Rattle.std.proofs.Common.{◌≡◌, refl, sym, ap, subst, ◌∙◌, ℕ, ◌+◌, ◌-◌, ◌^◌, ◌<◌, ◌≤◌, min, max, List, [], ◌∷◌, ◌++◌, length, take, drop, length-append, length-drop, drop-drop, take-add, arith}
+use Rattle.std.proofs.Common.{◌≡◌, sym, ap, subst, ◌∙◌, ℕ, ◌+◌, ◌-◌, ◌^◌, ◌<◌, ◌≤◌, min, List, ◌++◌, length, take, drop, length-append, length-drop, drop-drop, take-add, arith}
 use Rattle.std.proofs.lemmas.List.{drop_at, take_all, take_min}
 use Rattle.qo_values.specs.declared.limits.TheConstants.{NOTES_KEPT, NOTES_PER_REPLY}
 use Rattle.qo_model.specs.Board.{Board}
@@ -65,7 +65,8 @@ module _ (b : Board) (from : ℕ) (more : List Note) (new : IsNew b from more) (
     parts : take (at - from) more ++ read ≡ take (next - from) more
     parts =
         ap (λ (l : List Note). take (at - from) more ++ l) reading
-        ∙ up-to more (at - from) (next - from) (let counted : length b.notes < 2 ^ 64 - 1 = new.counted in omega (arith, goes, later, counted, long b from more new))
+        ∙ up-to more (at - from) (next - from) (let counted : length b.notes < 2 ^ 64 - 1 = new.counted in
+        omega (arith, goes, later, counted, long b from more new))
 
     pub more-told : AllHeard read ys zs → AllHeard (take (next - from) more) xs zs
     more-told h = subst (λ (l : List Note). AllHeard l xs zs) parts (all-then (take (at - from) more) read xs ys zs told h)

@@ -37,14 +37,17 @@ send_all-requires g c = subst AreToLanes (sym c.as_slice.ensures) c.in-Ok-step_t
 pub returns-in-Ok-send_all-clause-meets : goal.returns-in-Ok-send_all-clause-meets
 returns-in-Ok-send_all-clause-meets g c = λ s here.
     let did = c.in-Ok-step_told.ensures.answered s here in
-    one_turn s _ c.in-Ok.input (g.H.Hub.names c.next.new.self) did.0 _ c.in-Ok-step_told.outs c.in-Ok-send_all.lost _ _ _ _ _ _ _ _ _ _ _ _ _ _ _ did.1 c.as_slice.ensures c.in-Ok.ensures.given
-    c.in-Ok.ensures.sent c.in-Ok.ensures.got c.in-Ok.ensures.losses c.in-Ok-send_all.ensures.sends (c.close_lost.ensures.state _ (rw c.keep_outs.ensures did.2)) did.3
+    one_turn s _ c.in-Ok.input (g.H.Hub.names c.next.new.self) did.0 _ c.in-Ok-step_told.outs c.in-Ok-send_all.lost _ _ _ _ _ _ _ _ _ _ _ _ _ _ _ did.1
+    c.as_slice.ensures c.in-Ok.ensures.given
+    c.in-Ok.ensures.sent c.in-Ok.ensures.got c.in-Ok.ensures.losses c.in-Ok-send_all.ensures.sends (c.close_lost.ensures.state _ (rw c.keep_outs.ensures did.2))
+    did.3
 
 pub returns-clause-meets : goal.returns-clause-meets
 returns-clause-meets g c = λ s here.
     let did = c.in-Ok-step_told.ensures.answered s here in (
       _,
-      cut_sent s c.in-Ok.input (g.H.Hub.names c.next.new.self) did.0 _ c.in-Ok-step_told.outs _ _ _ _ _ _ _ _ _ _ (g.H.Hub.losses c.next.new.self) _ _ did.1 c.as_slice.ensures c.in-Ok.ensures.given
+      cut_sent s c.in-Ok.input (g.H.Hub.names c.next.new.self) did.0 _ c.in-Ok-step_told.outs _ _ _ _ _ _ _ _ _ _ (g.H.Hub.losses c.next.new.self) _ _ did.1
+          c.as_slice.ensures c.in-Ok.ensures.given
           c.in-Ok.ensures.sent c.in-Ok.ensures.got c.in-Ok.ensures.losses c.in-Err.ensures.sends,
       did.3,
     )

@@ -44,12 +44,14 @@ loop-item-preserved g c =
           subst
           (λ (outs : List Message). ServesTold (by_item c.args.at c.args.session) s (take (c.loop-item.item-index + 1) c.args.items.now) outs
           c.serve_item_told.new.machine first now) (sym one.1)
-          (subst (λ (items : List Item). ServesTold (by_item c.args.at c.args.session) s items (c.loop-item.outbox.outs ++ one.0) c.serve_item_told.new.machine first now)
+          (subst (λ (items : List Item).
+          ServesTold (by_item c.args.at c.args.session) s items (c.loop-item.outbox.outs ++ one.0) c.serve_item_told.new.machine first now)
           (sym (take_one c.args.items.now c.loop-item.item-index c.item-item.result (omega arith) c.item-item.is))
           (told-on (by_item c.args.at c.args.session) s c.loop-item.machine c.serve_item_told.new.machine (take c.loop-item.item-index c.args.items.now)
           (c.item-item.result ∷ []) c.loop-item.outbox.outs one.0 first before now (c.loop-item.invariant.served s here)
           (subst (λ (at : Moment). (t : State) → IsIn t c.loop-item.machine
-          → ServesTold (by_item at c.args.session) t (c.item-item.result ∷ []) one.0 c.serve_item_told.new.machine before now) c.loop-item.invariant.moment one.3)));
+          → ServesTold (by_item at c.args.session) t (c.item-item.result ∷ []) one.0 c.serve_item_told.new.machine before now) c.loop-item.invariant.moment
+          one.3)));
       listening = c.serve_item_told.ensures.listening;
       lanes = more_lanes c.loop-item.outbox.outs one.0 _ one.1 c.loop-item.invariant.lanes one.2;
       lasts = c.in_ok-serve_item_told.ensures.lasts ∙ c.loop-item.invariant.lasts;
@@ -68,7 +70,8 @@ returns-in_err-serve_item_told-clause-left g c =
     (sym (take_one c.args.items.now c.loop-item.item-index c.item-item.result (omega arith) c.item-item.is))
     (front_on_by (by_item c.args.at c.args.session) s c.loop-item.machine c.serve_item_told.new.machine (take c.loop-item.item-index c.args.items.now)
     (c.item-item.result ∷ []) c.loop-item.outbox.outs (told-serves (by_item c.args.at c.args.session) s c.loop-item.machine
-    (take c.loop-item.item-index c.args.items.now) c.loop-item.outbox.outs (ears (ghosts g.dyn-1) c.args.listeners.now.all.items) (ears (ghosts g.dyn-1) c.loop-item.listeners.all.items) (c.loop-item.invariant.served s here))
+    (take c.loop-item.item-index c.args.items.now) c.loop-item.outbox.outs (ears (ghosts g.dyn-1) c.args.listeners.now.all.items)
+    (ears (ghosts g.dyn-1) c.loop-item.listeners.all.items) (c.loop-item.invariant.served s here))
     (subst (λ (at : Moment). (t : State) → IsIn t c.loop-item.machine
     → ServesFront at c.args.session t (c.item-item.result ∷ []) c.serve_item_told.new.machine) c.loop-item.invariant.moment
     c.in_err-serve_item_told.ensures.left))))
@@ -80,7 +83,8 @@ returns-in_err-serve_item_told-clause-heard g c =
     heard-upto (by_item c.args.at c.args.session) (items-later c.args.at c.args.session) s c.loop-item.machine c.args.items.now c.loop-item.item-index
     c.item-item.result c.loop-item.outbox.outs (ears (ghosts g.dyn-1) c.args.listeners.now.all.items) (ears (ghosts g.dyn-1) c.loop-item.listeners.all.items)
     (ears (ghosts g.dyn-1) c.serve_item_told.new.listeners.all.items) (omega arith) c.item-item.is (c.loop-item.invariant.served s here)
-    (subst (λ (at : Moment). (t : State) → IsIn t c.loop-item.machine → ServesHeardFront (by_item at c.args.session) t (c.item-item.result ∷ []) (ears (ghosts g.dyn-1) c.loop-item.listeners.all.items) (ears (ghosts g.dyn-1) c.serve_item_told.new.listeners.all.items))
+    (subst (λ (at : Moment). (t : State) → IsIn t c.loop-item.machine → ServesHeardFront (by_item at c.args.session) t (c.item-item.result ∷ [])
+    (ears (ghosts g.dyn-1) c.loop-item.listeners.all.items) (ears (ghosts g.dyn-1) c.serve_item_told.new.listeners.all.items))
     c.loop-item.invariant.moment c.in_err-serve_item_told.ensures.heard))
 
 -- where there is no room for the messages nothing is served

@@ -38,7 +38,8 @@ loop-line-preserved g c =
       moment = c.serve_line_told.ensures.moment ∙ c.loop-line.invariant.moment;
       served = λ s here.
           subst
-          (λ (outs : List Message). ServesTold (by_line c.args.at) s (take (c.loop-line.line-index + 1) c.args.lines.now) outs c.serve_line_told.new.machine first now)
+          (λ (outs : List Message).
+          ServesTold (by_line c.args.at) s (take (c.loop-line.line-index + 1) c.args.lines.now) outs c.serve_line_told.new.machine first now)
           (sym one.1)
           (subst (λ (lines : List (List ℕ)). ServesTold (by_line c.args.at) s lines (c.loop-line.outbox.outs ++ one.0) c.serve_line_told.new.machine first now)
           (sym (take_one c.args.lines.now c.loop-line.line-index c.line-item.result (omega arith) c.line-item.is))
@@ -64,7 +65,8 @@ returns-in_err-serve_line_told-clause-left g c =
     (sym (take_one c.args.lines.now c.loop-line.line-index c.line-item.result (omega arith) c.line-item.is))
     (front_on_by (by_line c.args.at) s c.loop-line.machine c.serve_line_told.new.machine (take c.loop-line.line-index c.args.lines.now)
     (c.line-item.result ∷ []) c.loop-line.outbox.outs (told-serves (by_line c.args.at) s c.loop-line.machine
-    (take c.loop-line.line-index c.args.lines.now) c.loop-line.outbox.outs (ears (ghosts g.dyn-1) c.args.listeners.now.all.items) (ears (ghosts g.dyn-1) c.loop-line.listeners.all.items) (c.loop-line.invariant.served s here))
+    (take c.loop-line.line-index c.args.lines.now) c.loop-line.outbox.outs (ears (ghosts g.dyn-1) c.args.listeners.now.all.items)
+    (ears (ghosts g.dyn-1) c.loop-line.listeners.all.items) (c.loop-line.invariant.served s here))
     (subst (λ (at : Moment). (t : State) → IsIn t c.loop-line.machine → LinesFront at t (c.line-item.result ∷ []) c.serve_line_told.new.machine)
     c.loop-line.invariant.moment c.in_err-serve_line_told.ensures.left))))
 
@@ -75,5 +77,6 @@ returns-in_err-serve_line_told-clause-heard g c =
     heard-upto (by_line c.args.at) (lines-later c.args.at) s c.loop-line.machine c.args.lines.now c.loop-line.line-index
     c.line-item.result c.loop-line.outbox.outs (ears (ghosts g.dyn-1) c.args.listeners.now.all.items) (ears (ghosts g.dyn-1) c.loop-line.listeners.all.items)
     (ears (ghosts g.dyn-1) c.serve_line_told.new.listeners.all.items) (omega arith) c.line-item.is (c.loop-line.invariant.served s here)
-    (subst (λ (at : Moment). (t : State) → IsIn t c.loop-line.machine → ServesHeardFront (by_line at) t (c.line-item.result ∷ []) (ears (ghosts g.dyn-1) c.loop-line.listeners.all.items) (ears (ghosts g.dyn-1) c.serve_line_told.new.listeners.all.items))
+    (subst (λ (at : Moment). (t : State) → IsIn t c.loop-line.machine → ServesHeardFront (by_line at) t (c.line-item.result ∷ [])
+    (ears (ghosts g.dyn-1) c.loop-line.listeners.all.items) (ears (ghosts g.dyn-1) c.serve_line_told.new.listeners.all.items))
     c.loop-line.invariant.moment c.in_err-serve_line_told.ensures.heard))

@@ -13,7 +13,8 @@ invariant-loop-line g l =
     record {
       moment : l.outbox.at ≡ l.fn.at;
       served : (s : State) → IsIn s l.fn.machine
-          → ServesTold (by_line l.fn.at) s (take l.line-index l.lines) l.outbox.outs l.machine (ears (ghosts g.dyn-1) l.fn.listeners.all.items) (ears (ghosts g.dyn-1) l.listeners.all.items);
+          → ServesTold (by_line l.fn.at) s (take l.line-index l.lines) l.outbox.outs l.machine (ears (ghosts g.dyn-1) l.fn.listeners.all.items)
+          (ears (ghosts g.dyn-1) l.listeners.all.items);
       listening : AllOpen (ears (ghosts g.dyn-1) l.listeners.all.items);
       lanes : AreToLanes l.outbox.outs;
       lasts : l.machine.out_of_memory ≡ l.fn.machine.out_of_memory;

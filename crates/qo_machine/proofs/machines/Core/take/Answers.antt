@@ -15,7 +15,8 @@ returns-clause-answered g c =
     let state = rw c.item_room-room.ensures at c.in_ok-items.ensures.state in
     let board = c.feed.ensures.board ∙ ap (λ (m : Seen). m.board) c.item_room-room.ensures in
     rw c.keep_items.ensures
-    (served_items c.serve_items-outs.result c.args.at c.args.session c.args.self.now c.feed.new.self c.serve_items-outs.new.machine c.args.bytes.now c.deref.result.now _ _
+    (served_items c.serve_items-outs.result c.args.at c.args.session c.args.self.now c.feed.new.self c.serve_items-outs.new.machine c.args.bytes.now
+    c.deref.result.now _ _
     (omega arith) (λ b. c.deref.ensures.value ∙ items b) state board c.serve_items-outs.ensures.served)
 
 pub returns-then-session-ge-SESSIONS-clause-answered : goal.returns-then-session-ge-SESSIONS-clause-answered
