@@ -30,7 +30,7 @@ memory-backend-ram memory-backend plain -
 tag object plain user-creatable
 """
 NEGOTIATED = b"replies 1\nerrors 0\nevents 0\nanswers 0\nbytes 119\n"
-USAGE = b"usage: compose replay | serve --socket PATH --connections N | demo --seed N --steps K | types\n"
+USAGE = b"usage: compose replay | serve --socket PATH --connections N | demo --seed N --steps K | types | watch\n"
 
 
 def differs(name, words, given, status, printed, complained):

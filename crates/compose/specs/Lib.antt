@@ -4,3 +4,4 @@ pub mod Exits
 pub mod Replay
 pub mod Service
 pub mod Types
+pub mod Watch

@@ -111,7 +111,7 @@ DidReplay HubFault bytes taken held_old held_new place = ⊥
 abbrev pub line_of : Status → ℕ → List ℕ
 line_of Done place = []
 line_of Usage place =
-    codes "usage: compose replay | serve --socket PATH --connections N | demo --seed N --steps K | types" ++ 10 ∷ []
+    codes "usage: compose replay | serve --socket PATH --connections N | demo --seed N --steps K | types | watch" ++ 10 ∷ []
 line_of BadRecord place = codes "compose: bad record at byte " ++ decimal place ++ 10 ∷ []
 line_of Memory place = codes "compose: out of memory" ++ 10 ∷ []
 line_of ReadFault place = codes "compose: read fault" ++ 10 ∷ []

@@ -2,6 +2,7 @@
 
 ghost use Rattle.std.specs.Prelude.{◌≡◌, ◌≢◌, ◌↔◌, ◌⊎◌, ℕ, false, true, List, None, Some, map, string_bytes};
 ghost use Rattle.qo_causes.specs.Cause.{Rose};
+ghost use Rattle.qo_listen.specs.Ears.{AllOpen, ears};
 ghost use Rattle.qo_machine.specs.Runs.{known};
 ghost use Rattle.compose.specs.Completeness.{CompletesReplay, CompletesServe, EndsWell, NoFault, puts_lines};
 ghost use Rattle.compose.specs.Demo.{ToldDemo};
@@ -9,7 +10,8 @@ ghost use Rattle.compose.specs.Exits.{exit_code};
 ghost use Rattle.compose.specs.Replay.{Complained, Replayed, line_of};
 ghost use Rattle.compose.specs.Service.{Served, asks_hub};
 ghost use Rattle.compose.specs.Types.{ToldTypes};
-ghost use Rattle.qo_words.specs.Words.{demo as a_demo, order, replay as a_replay, serve as a_serve, types as a_types};
+ghost use Rattle.compose.specs.Watch.{Watched};
+ghost use Rattle.qo_words.specs.Words.{demo as a_demo, order, replay as a_replay, serve as a_serve, types as a_types, watch as a_watch};
 
 use crate::complaints::complain;
 use crate::demos::tell_demo;
@@ -17,7 +19,9 @@ use crate::replays::replay;
 use crate::serves::serve;
 use crate::statuses::{Ran, Status};
 use crate::type_lines::tell_types;
+use crate::watches::watch;
 use qo_causes::{Hub, Sink, Source};
+use qo_listen::{Listener, Listeners};
 use qo_words::{Order, order_in};
 use std::alloc::{AllocError, Global};
 
@@ -26,10 +30,13 @@ use std::alloc::{AllocError, Global};
 /// `replay` runs the recorded stream of `source` on a new machine, entry by entry as it comes, and puts each message
 /// into `sink` at once. `serve` lets the hub begin at a path with so many connections, and runs a new machine over it.
 /// `demo` makes the record of a seed and a number of steps, runs it in memory, and puts five lines into `sink` that count
-/// what was sent. `types` puts the line of each type into `sink`. One line goes to `complaints` for each status but
+/// what was sent. `types` puts the line of each type into `sink`. `watch` runs the recorded stream as `replay` does,
+/// tells the listeners what is noted on the way, and puts what these tell into `sink` where the run comes to its end; of
+/// the transcript nothing is put. By each order the listeners are ended. One line goes to `complaints` for each status but
 /// `Done`; a fault there changes no status. What an order does not use is left as it was.
 ///
-/// - `Done`: the run has ended, at the end of its inputs or by a command before; its whole transcript was put or sent.
+/// - `Done`: the run has ended, at the end of its inputs or by a command before; its whole transcript was put or sent,
+///   or by `watch` the reports of its listeners.
 /// - `Usage`: exactly where the words are no order; nothing was read.
 /// - `BadRecord`: the run came to the bad place, which the line shows; the whole transcript was put.
 /// - `InputLimit`: the run has taken 1,000,000,000 inputs and has not ended; its whole transcript was put.
@@ -37,7 +44,7 @@ use std::alloc::{AllocError, Global};
 ///   status that count is as before.
 /// - `HubFault`: only by `serve`, and only where a count of faults of the hub rose: it did not begin, gave no
 ///   input, or sent no message; by any other status these counts are as before.
-/// - `Memory`: memory ran out; what was put or sent is a front of what the run sends. Of a demo nothing was put: its lines
+/// - `Memory`: memory ran out; what was put or sent is a front of what the run sends, and by `watch` nothing. Of a demo nothing was put: its lines
 ///   are those of the run in which each command has its memory. Where there was none for the words of `serve`, the hub
 ///   did not begin.
 ///
@@ -56,11 +63,14 @@ pub fn compose<S: Source, K: Sink, E: Sink, H: Hub>(
     mut sink: K,
     complaints: &mut E,
     hub: &mut H,
+    listeners: Listeners,
 ) -> Ran<S, K>
+    requires { AllOpen (ears ⟦<Box<dyn Listener> as Listener>⟧ listeners.all.items) }
     ensures code { result.code ≡ exit_code result.status }
     ensures usage { (result.status ≡ Status.Usage) ↔ (order (map string_bytes words.now) ≡ None) }
     ensures refused { order (map string_bytes words.now) ≡ None → (result.source ≡ source) × (result.sink ≡ sink) × Complained (E.held complaints.old) (E.held complaints.new) (E.faults complaints.old) (E.faults complaints.new) (line_of Status.Usage 0) }
     ensures replay { order (map string_bytes words.now) ≡ Some a_replay → (taken : List ℕ) × (place : ℕ) × Replayed result.status (S.left source) (S.left result.source) (K.held sink) (K.held result.sink) taken place × Complained (E.held complaints.old) (E.held complaints.new) (E.faults complaints.old) (E.faults complaints.new) (line_of result.status place) }
+    ensures watch { order (map string_bytes words.now) ≡ Some a_watch → (taken : List ℕ) × (place : ℕ) × Watched result.status (S.left source) (S.left result.source) (K.held sink) (K.held result.sink) taken place (ears ⟦<Box<dyn Listener> as Listener>⟧ listeners.all.items) × Complained (E.held complaints.old) (E.held complaints.new) (E.faults complaints.old) (E.faults complaints.new) (line_of result.status place) }
     ensures serve { (path : List ℕ) (connections : ℕ) → order (map string_bytes words.now) ≡ Some (a_serve path connections) → (place : ℕ) × Served path connections result.status place (H.asked hub.old) (H.asked hub.new) (known (H.inputs hub.old) (H.sent hub.old) (H.got hub.old) (H.losses hub.old)) (known (H.inputs hub.new) (H.sent hub.new) (H.got hub.new) (H.losses hub.new)) (H.bad hub.old) × (result.source ≡ source) × (result.sink ≡ sink) × Complained (E.held complaints.old) (E.held complaints.new) (E.faults complaints.old) (E.faults complaints.new) (line_of result.status place) }
     ensures types { order (map string_bytes words.now) ≡ Some a_types → ToldTypes result.status (K.held sink) (K.held result.sink) × (result.source ≡ source) × Complained (E.held complaints.old) (E.held complaints.new) (E.faults complaints.old) (E.faults complaints.new) (line_of result.status 0) }
     ensures demo { (seed steps : ℕ) → order (map string_bytes words.now) ≡ Some (a_demo seed steps) → ToldDemo result.status seed steps (K.held sink) (K.held result.sink) × (result.source ≡ source) × Complained (E.held complaints.old) (E.held complaints.new) (E.faults complaints.old) (E.faults complaints.new) (line_of result.status 0) }
@@ -77,31 +87,42 @@ pub fn compose<S: Source, K: Sink, E: Sink, H: Hub>(
     ensures hub_kept { asks_hub (order (map string_bytes words.now)) ≡ false → (hub.new ≡ hub.old) × (result.status ≢ Status.HubFault) }
 {
     match order_in(alloc, words) {
+        Ok(Some(Order::Watch)) => {
+            let (ran, place) = watch(alloc, source, sink, listeners);
+            complain(complaints, ran.status, place);
+            ran
+        }
         Ok(Some(Order::Replay)) => {
+            listeners.end();
             let (ran, place) = replay(alloc, source, sink);
             complain(complaints, ran.status, place);
             ran
         }
         Ok(Some(Order::Serve { path, connections })) => {
+            listeners.end();
             let (status, place) = serve(alloc, path.as_str(), connections, hub);
             complain(complaints, status, place);
             Ran::ended(status, source, sink)
         }
         Ok(Some(Order::Types)) => {
+            listeners.end();
             let status = tell_types(alloc, &mut sink);
             complain(complaints, status, 0);
             Ran::ended(status, source, sink)
         }
         Ok(Some(Order::Demo { seed, steps })) => {
+            listeners.end();
             let status = tell_demo(alloc, seed, steps, &mut sink);
             complain(complaints, status, 0);
             Ran::ended(status, source, sink)
         }
         Ok(None) => {
+            listeners.end();
             complain(complaints, Status::Usage, 0);
             Ran::ended(Status::Usage, source, sink)
         }
         Err(AllocError) => {
+            listeners.end();
             complain(complaints, Status::Memory, 0);
             Ran::ended(Status::Memory, source, sink)
         }

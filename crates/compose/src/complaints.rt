@@ -47,7 +47,7 @@ fn put_line<K: Sink>(sink: &mut K, status: Status, place: u64) -> Result<(), Fai
         Status::Done => put_all(sink, b""),
         Status::Usage => put_all(
             sink,
-            b"usage: compose replay | serve --socket PATH --connections N | demo --seed N --steps K | types\n",
+            b"usage: compose replay | serve --socket PATH --connections N | demo --seed N --steps K | types | watch\n",
         ),
         Status::BadRecord => put_place(sink, place),
         Status::Memory => put_all(sink, b"compose: out of memory\n"),

@@ -11,6 +11,7 @@ mod replays;
 mod serves;
 mod statuses;
 mod type_lines;
+mod watches;
 
 pub use calls::compose;
 pub use complaints::{no_order, out_of_memory};

@@ -13,6 +13,7 @@ mod script_hub;
 mod shelves;
 mod sinks;
 mod sources;
+mod void_sink;
 
 pub use byte_sink::ByteSink;
 pub use byte_source::ByteSource;
@@ -23,3 +24,4 @@ pub use inputs::{Chunk, Input, Moment, What};
 pub use script_hub::ScriptHub;
 pub use sinks::{Sink, put_all};
 pub use sources::Source;
+pub use void_sink::VoidSink;

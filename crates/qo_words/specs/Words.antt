@@ -9,6 +9,7 @@ pub data Order : Type 0 where
   serve : List ℕ → ℕ → Order
   demo : ℕ → ℕ → Order
   types : Order
+  watch : Order
 
 -- further digits, to the end
 abbrev pub digits_on : ℕ → ℕ → List ℕ → Option ℕ
@@ -70,6 +71,7 @@ order [] = None
 order (word ∷ words) =
     if bytes_eq word (codes "replay") then alone (Some replay) words
     else if bytes_eq word (codes "types") then alone (Some types) words
+    else if bytes_eq word (codes "watch") then alone (Some watch) words
     else if bytes_eq word (codes "serve") then (options (codes "--socket") (codes "--connections") words >>= λ x. serve_of x.0 x.1)
     else if bytes_eq word (codes "demo") then (options (codes "--seed") (codes "--steps") words >>= λ x. demo_of x.0 x.1)
     else None

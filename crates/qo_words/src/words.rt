@@ -36,6 +36,8 @@ pub enum Order {
     },
     /// Tells the types.
     Types,
+    /// Replays a recorded stream, and tells what listeners heard.
+    Watch,
 }
 
 /// An order by its word, with the values of its options as they are written.
@@ -49,6 +51,8 @@ pub(crate) enum Form<'a> {
     Demo { seed: &'a str, steps: &'a str },
     /// `types`.
     Types,
+    /// `watch`.
+    Watch,
 }
 
 /// The text after a front.
@@ -177,6 +181,7 @@ fn form_in(words: &[String]) -> Option<Form<'_>>
     match word.as_str() {
         "replay" => alone(Form::Replay, rest),
         "types" => alone(Form::Types, rest),
+        "watch" => alone(Form::Watch, rest),
         "serve" => {
             let (path, connections) = options("--socket", "--connections", rest)?;
             Some(Form::Serve { path, connections })
@@ -227,7 +232,7 @@ fn demo_order(alloc: Global, seed: &str, steps: &str) -> Result<Option<Order>, A
 
 /// The order that the words are.
 ///
-/// They are `replay`, `types`, `serve` with `--socket` and `--connections`, or `demo` with `--seed` and `--steps`. The
+/// They are `replay`, `types`, `watch`, `serve` with `--socket` and `--connections`, or `demo` with `--seed` and `--steps`. The
 /// two options stand in either order, each once; a value is the next word or follows `=`, is not empty and begins with
 /// no `-`. A number is in digits without a leading zero. The error is want of memory, which comes only where the words
 /// are an order that has values.
@@ -238,6 +243,7 @@ pub fn order_in(alloc: Global, words: &[String]) -> Result<Option<Order>, AllocE
     match form_in(words) {
         Some(Form::Replay) => Ok(Some(Order::Replay)),
         Some(Form::Types) => Ok(Some(Order::Types)),
+        Some(Form::Watch) => Ok(Some(Order::Watch)),
         Some(Form::Serve { path, connections }) => serve_order(alloc, path, connections),
         Some(Form::Demo { seed, steps }) => demo_order(alloc, seed, steps),
         None => Ok(None),
