@@ -2,6 +2,7 @@
 
 use compose::{NoHub, Ran, Status, compose};
 use qo_causes::{ByteSink, ByteSource};
+use qo_listen::Listeners;
 use std::alloc::{AllocError, Global};
 
 /// What a call left: its status, what its sink holds, and what was complained.
@@ -58,6 +59,7 @@ pub(crate) fn call_with_room(
         sink,
         &mut complaints,
         &mut hub,
+        Listeners::new(alloc),
     );
     Ok(Left {
         status,

@@ -2,6 +2,7 @@
 
 use compose::{NoHub, Ran, Status, compose};
 use qo_causes::{ByteSink, ByteSource};
+use qo_listen::Listeners;
 use std::test::Fail;
 
 #[test]
@@ -24,6 +25,7 @@ fn the_example_of_the_readme(rt: HostRuntime) -> Result<(), Fail> {
         sink,
         &mut complaints,
         &mut NoHub,
+        Listeners::new(alloc),
     );
     assert_eq!(rt; status, Status::Done);
     let transcript = sink.held();

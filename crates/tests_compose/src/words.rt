@@ -3,6 +3,7 @@
 use crate::calling::{Left, call, call_with_room};
 use compose::{NoHub, Ran, Status, compose};
 use qo_causes::{ByteSink, ByteSource, Chunk, Input, Lane, Moment, ScriptHub, What};
+use qo_listen::Listeners;
 use qo_record::demo_record;
 use std::alloc::Global;
 use std::test::Fail;
@@ -113,6 +114,7 @@ fn done(alloc: Global, line: &str, record: Vec<u8>, room: usize) -> Result<Left,
         sink,
         &mut complaints,
         &mut NoHub,
+        Listeners::new(alloc),
     );
     Ok(Left {
         status,
@@ -211,7 +213,15 @@ fn served(alloc: Global, line: &str, hub: &mut ScriptHub) -> Result<(Status, Vec
         code: _,
         source: _,
         sink: _,
-    } = compose(alloc, words.as_slice(), source, sink, &mut complaints, hub);
+    } = compose(
+        alloc,
+        words.as_slice(),
+        source,
+        sink,
+        &mut complaints,
+        hub,
+        Listeners::new(alloc),
+    );
     Ok((status, Vec::from_slice(alloc, complaints.held())?))
 }
 

@@ -2,6 +2,7 @@
 
 use compose::{Ran, Status, compose};
 use qo_causes::{ByteSink, ByteSource, Chunk, Input, Lane, Moment, ScriptHub, What};
+use qo_listen::Listeners;
 use std::alloc::Global;
 use std::process::Abort;
 use std::test::Fail;
@@ -60,7 +61,15 @@ fn served(alloc: Global, hub: &mut ScriptHub) -> Result<Status, Fail> {
         code: _,
         source: _,
         sink: _,
-    } = compose(alloc, words.as_slice(), source, sink, &mut complaints, hub);
+    } = compose(
+        alloc,
+        words.as_slice(),
+        source,
+        sink,
+        &mut complaints,
+        hub,
+        Listeners::new(alloc),
+    );
     Ok(status)
 }
 

@@ -2,6 +2,7 @@
 
 use compose::{NoHub, Ran, Status, compose};
 use qo_causes::{ByteSink, ByteSource, Sink};
+use qo_listen::Listeners;
 use std::alloc::{AllocError, Global};
 
 /// What a replay left: its status, its transcript, and what was complained.
@@ -52,6 +53,7 @@ pub(crate) fn replay_into<K: Sink + Drop>(
         sink,
         complaints,
         &mut NoHub,
+        Listeners::new(alloc),
     );
     Ok((status, sink))
 }

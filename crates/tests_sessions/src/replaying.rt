@@ -2,6 +2,7 @@
 
 use compose::{NoHub, Ran, Status, compose};
 use qo_causes::{ByteSink, ByteSource};
+use qo_listen::Listeners;
 use std::alloc::{AllocError, Global};
 
 /// What a replay left: its status, its transcript, and what was complained.
@@ -30,6 +31,7 @@ pub(crate) fn replay(alloc: Global, record: &[u8]) -> Result<Left, AllocError> {
         sink,
         &mut complaints,
         &mut NoHub,
+        Listeners::new(alloc),
     );
     Ok(Left {
         status,
