@@ -4,3 +4,4 @@ pub mod MemoryLemmas
 pub mod DemoLemmas
 pub mod ReplayLemmas
 pub mod TypeLemmas
+pub mod WatchLemmas

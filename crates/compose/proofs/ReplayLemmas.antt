@@ -97,7 +97,7 @@ Read p left_old left_new bytes entries = Gave unread p left_old left_new bytes e
 abbrev Took : Progress → Option (List ℕ) → Option (List ℕ) → List Given → Type 0
 Took p left_old left_new taken = inputs_ahead unread left_old ≡ option_map (λ (rest : List Given). taken ++ rest) (inputs_ahead p left_new)
 
-to_end : (p : Progress) (lo ln : Option (List ℕ)) (bytes : List ℕ) (given : List Recorded) (ts : List Turn) → Read p lo ln bytes given →
+pub to_end : (p : Progress) (lo ln : Option (List ℕ)) (bytes : List ℕ) (given : List Recorded) (ts : List Turn) → Read p lo ln bytes given →
     Took p lo ln (turn_inputs ts) → (has_end ts ≡ true → AtEnd (inputs_ahead p ln) (bad_ahead unread lo) None) → IfSome lo (TakeToEnd ts)
 to_end p None ln bytes given ts read took over = tt
 to_end p (Some all) ln bytes given ts read took over =
@@ -176,7 +176,7 @@ cut_run p lo ln ho hn bytes given og ng few read h =
       part_of p lo ln bytes given h.1 h.2 few read took,
     )
 
-did : (e : Ending) (p : Progress) (lo ln ho hn : Option (List ℕ)) (bytes : List ℕ) (given : List Recorded) (og ng : Lane → Option (List ℕ)) →
+pub did : (e : Ending) (p : Progress) (lo ln ho hn : Option (List ℕ)) (bytes : List ℕ) (given : List Recorded) (og ng : Lane → Option (List ℕ)) →
     length p.buffered < 65700 → (e ≡ ending.NextFailed → IsStarved p) → Read p lo ln bytes given →
     RunMeets e 1000000000 (known (inputs_ahead unread lo) ho og (λ n. 0)) (known (inputs_ahead p ln) hn ng (λ n. 0)) (bad_ahead unread lo) →
     DidReplay (status_of e) lo (bytes ++ p.buffered) ho hn (offset_of e)

@@ -1,15 +1,18 @@
 -- What `watch` does, by its status.
 use Rattle.std.specs.Prelude.{◌≡◌, ◌⊎◌, ℕ, List, [], ◌∷◌, ◌++◌, Option, Some, None, IfSome, option_and_then, option_map}
+use Rattle.std.specs.List.{AllByRecursion}
 use Rattle.std.specs.Io.KnownBytes.{append_known, prepend_known}
 use Rattle.qo_causes.specs.Bytes.{AppendsPrefix}
 use Rattle.qo_model.specs.Board.{Board}
 use Rattle.qo_model.specs.declared.notes.Note.{Note}
 use Rattle.qo_listen.specs.Ears.{Ear}
-use Rattle.qo_listen.specs.Texts.{Form, form_text}
+use Rattle.qo_listen.specs.Texts.{Form, TellsText, form_text}
 use Rattle.qo_telling.specs.Telling.{IsCounted}
 use Rattle.qo_machine.specs.Machine.{opening}
 use Rattle.qo_machine.specs.Runs.{Turn, state_after}
-use Rattle.compose.specs.Replay.{DidReplay, EndedReplay, IsCut, TakeToEnd}
+use Rattle.qo_machine.specs.declared.running.Ending.{Ending}
+use Rattle.qo_machine.specs.declared.running.Ending.TheVariants as ending
+use Rattle.compose.specs.Replay.{DidReplay, EndedReplay, IsCut, TakeToEnd, status_of}
 use Rattle.compose.specs.declared.statuses.Status.{Status}
 use Rattle.compose.specs.declared.statuses.Status.TheVariants.{Done, Usage, BadRecord, Memory, ReadFault, WriteFault, HubFault, InputLimit}
 
@@ -58,3 +61,12 @@ PutReports Done held_old held_new reports = held_new ≡ append_known held_old r
 PutReports WriteFault held_old held_new reports = AppendsPrefix held_old held_new reports
 PutReports Memory held_old held_new reports = held_new ≡ held_old
 PutReports status held_old held_new reports = ⊥
+
+-- and what was put after a run that ended so
+abbrev pub EndedWith : Ending → Status → Option (List ℕ) → Option (List ℕ) → List ℕ → Type 0
+EndedWith ending.Done status held_old held_new reports = PutReports status held_old held_new reports
+EndedWith e status held_old held_new reports = (status ≡ status_of e) × (held_new ≡ held_old)
+
+-- each listener that tells its form tells in that form
+abbrev pub AllTell : List Ear → Type 0
+AllTell ears = AllByRecursion (λ (e : Ear). TellsText e.form e.text e.heard) ears

@@ -13,7 +13,7 @@ use qo_values::INPUTS_MAX;
 use std::alloc::Global;
 
 /// The status of a run that ended so.
-pub(crate) fn status_of(ending: Ending) -> Status
+fn status_of(ending: Ending) -> Status
     ensures { result ≡ status_of ending }
 {
     match ending {

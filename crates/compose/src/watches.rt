@@ -4,13 +4,14 @@ ghost use Rattle.std.specs.Prelude.{◌≡◌, ◌≢◌, ℕ, List};
 ghost use Rattle.qo_causes.specs.Cause.{Rose};
 ghost use Rattle.qo_listen.specs.Ears.{AllOpen, ears, texts_of};
 ghost use Rattle.compose.specs.Exits.{exit_code};
-ghost use Rattle.compose.specs.Watch.{PutReports, Watched};
+ghost use Rattle.compose.specs.Watch.{EndedWith, PutReports, Watched};
+ghost use Rattle.qo_machine.specs.declared.running.Ending.TheVariants as Ending;
 
-use crate::replays::{offset_of, status_of};
+use crate::replays::offset_of;
 use crate::statuses::{Ran, Status};
 use qo_causes::{Failed, Sink, Source, VoidSink, put_all};
 use qo_listen::{Listener, Listeners};
-use qo_machine::run_told;
+use qo_machine::{Ending, run_told};
 use qo_record::{ReplayHub, Unmade};
 use qo_values::INPUTS_MAX;
 use std::alloc::Global;
@@ -20,6 +21,7 @@ fn put_reports<K: Sink>(alloc: Global, listeners: &Listeners, sink: &mut K) -> S
     ensures put { PutReports result (K.held sink.old) (K.held sink.new) (texts_of (ears ⟦<Box<dyn Listener> as Listener>⟧ listeners.now.all.items)) }
     ensures cause { result ≡ Status.WriteFault → Rose (K.faults sink.old) (K.faults sink.new) }
     ensures quiet { result ≢ Status.WriteFault → K.faults sink.new ≡ K.faults sink.old }
+    ensures other { (result ≢ Status.Usage) × (result ≢ Status.HubFault) × (result ≢ Status.ReadFault) }
 {
     let Ok(reports) = listeners.reports(alloc) else {
         return Status::Memory;
@@ -27,6 +29,31 @@ fn put_reports<K: Sink>(alloc: Global, listeners: &Listeners, sink: &mut K) -> S
     match put_all(sink, reports.as_slice()) {
         Ok(()) => Status::Done,
         Err(Failed) => Status::WriteFault,
+    }
+}
+
+/// The status of a run that ended so. Where it came to its end, what listeners tell is put into a sink, and it is the
+/// status of that.
+fn status_after<K: Sink>(
+    alloc: Global,
+    ending: Ending,
+    listeners: &Listeners,
+    sink: &mut K,
+) -> Status
+    ensures put { EndedWith ending result (K.held sink.old) (K.held sink.new) (texts_of (ears ⟦<Box<dyn Listener> as Listener>⟧ listeners.now.all.items)) }
+    ensures cause { ending ≢ Ending.SendFailed → result ≡ Status.WriteFault → Rose (K.faults sink.old) (K.faults sink.new) }
+    ensures quiet { result ≢ Status.WriteFault → K.faults sink.new ≡ K.faults sink.old }
+    ensures read { result ≡ Status.ReadFault → ending ≡ Ending.NextFailed }
+    ensures starved { ending ≡ Ending.NextFailed → result ≡ Status.ReadFault }
+    ensures other { (result ≢ Status.Usage) × (result ≢ Status.HubFault) }
+{
+    match ending {
+        Ending::Done => put_reports(alloc, listeners, sink),
+        Ending::Bad(_) => Status::BadRecord,
+        Ending::Memory => Status::Memory,
+        Ending::NextFailed => Status::ReadFault,
+        Ending::SendFailed => Status::WriteFault,
+        Ending::Limit => Status::InputLimit,
     }
 }
 
@@ -51,10 +78,7 @@ pub(crate) fn watch<S: Source, K: Sink>(
         Ok(mut hub) => {
             let ending = run_told(alloc, &mut hub, INPUTS_MAX, &mut listeners);
             let (source, _void) = hub.into_parts();
-            let status = match status_of(ending) {
-                Status::Done => put_reports(alloc, &listeners, &mut sink),
-                status => status,
-            };
+            let status = status_after(alloc, ending, &listeners, &mut sink);
             listeners.end();
             (Ran::ended(status, source, sink), offset_of(ending))
         }
