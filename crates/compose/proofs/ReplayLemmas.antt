@@ -91,7 +91,7 @@ no_place (Some n) h = absurd (none_some (sym h))
 none_left : (inputs : Option (List Given)) (rest : List Given) → inputs ≡ Some rest → IfSome inputs (λ (r : List Given). r ≡ []) → rest ≡ []
 none_left inputs rest is h = subst (λ (i : Option (List Given)). IfSome i (λ (r : List Given). r ≡ [])) is h
 
-abbrev Read : Progress → Option (List ℕ) → Option (List ℕ) → List ℕ → List Recorded → Type 0
+abbrev pub Read : Progress → Option (List ℕ) → Option (List ℕ) → List ℕ → List Recorded → Type 0
 Read p left_old left_new bytes entries = Gave unread p left_old left_new bytes entries
 
 abbrev Took : Progress → Option (List ℕ) → Option (List ℕ) → List Given → Type 0

@@ -10,3 +10,5 @@ mod objects;
 mod replaying;
 #[cfg(test)]
 mod streams;
+#[cfg(test)]
+mod watches;

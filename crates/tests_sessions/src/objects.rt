@@ -68,7 +68,7 @@ const ERRORS: [(&str, &str); 13] = [
 ];
 
 /// Adds an entry of a command to session 0: its name, and after a space its arguments, if it has any.
-fn add_command(alloc: Global, record: &mut Vec<u8>, command: &str) -> Result<(), Fail> {
+pub(crate) fn add_command(alloc: Global, record: &mut Vec<u8>, command: &str) -> Result<(), Fail> {
     let text = match command.split_once(" ") {
         Some((name, arguments)) => {
             format!(in alloc; "{{\"execute\":\"{}\",\"arguments\":{}}}", name, arguments)?
