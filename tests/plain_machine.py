@@ -1835,6 +1835,12 @@ class Machine:
         """Empties the strong links of a detached object."""
         self.board.sever(arguments["birth"])
 
+    def reports(self):
+        """What `watch` puts of the run so far: all notes, and the births of those who were made and did not end."""
+        notes = self.board.notes
+        made, ended = ({int(it.split()[1]) for it in notes if it.startswith(act)} for act in ("init ", "final "))
+        return "".join(f"{it}\n" for it in [*notes, " ".join(["live", *map(str, sorted(made - ended))])])
+
     def do_x_query_notes(self, arguments):
         """Tells notes from a number on."""
         notes = self.board.notes

@@ -6,9 +6,10 @@
 Each session is made from a seed of its own, on a small board with few names: devices of all drivers, users' objects,
 links, rings, clocks, holds, removals, lines of the guest, interrupt lines, time and sessions, and much that is refused.
 It ends with all that can be read: each property of each object that can be reached, registers, interrupt lines, rings,
-and all notes; half of them then take away all that was added, and read once more. It prints nothing where all agree, and
-else the first seed that does not, with the first message that differs; exit status 1 then, and 2 where the program is not
-built (./build makes it). `tests/test_plain_machine.py 1 SEED` makes that session alone.
+and all notes; half of them then take away all that was added, and read once more. What `watch` puts of the same record is
+compared too. It prints nothing where all agree, and else the first seed that does not, with the first message that differs;
+exit status 1 then, and 2 where the program is not built (./build makes it). `tests/test_plain_machine.py 1 SEED` makes that
+session alone.
 """
 
 import pathlib
@@ -40,7 +41,21 @@ def difference(maker):
             return f"message {count}: plain {one!r}, program {other!r}"
     if done.returncode != 0:
         return f"status {done.returncode}: {done.stderr.decode().strip()}"
-    return None if len(wanted) == len(got) else f"plain {len(wanted)} messages, program {len(got)}"
+    if len(wanted) != len(got):
+        return f"plain {len(wanted)} messages, program {len(got)}"
+    return unlike_reports(maker, record)
+
+
+def unlike_reports(maker, record):
+    """How what `watch` puts differs from what the plain machine noted, or None."""
+    done = subprocess.run([PROGRAM, "watch"], input=record, capture_output=True, check=False)
+    if done.returncode != 0:
+        return f"watch: status {done.returncode}: {done.stderr.decode().strip()}"
+    wanted, got = maker.machine.reports().splitlines(), done.stdout.decode("latin-1").splitlines()
+    for count, (one, other) in enumerate(zip(wanted, got), 1):
+        if one != other:
+            return f"report {count}: plain {one!r}, program {other!r}"
+    return None if len(wanted) == len(got) else f"plain {len(wanted)} lines of reports, program {len(got)}"
 
 
 def main(words):
