@@ -65,7 +65,7 @@ pub fn compose<S: Source, K: Sink, E: Sink, H: Hub>(
     hub: &mut H,
     listeners: Listeners,
 ) -> Ran<S, K>
-    requires { AllOpen (ears ⟦<Box<dyn Listener> as Listener>⟧ listeners.all.items) }
+    requires listening { AllOpen (ears ⟦<Box<dyn Listener> as Listener>⟧ listeners.all.items) }
     ensures code { result.code ≡ exit_code result.status }
     ensures usage { (result.status ≡ Status.Usage) ↔ (order (map string_bytes words.now) ≡ None) }
     ensures refused { order (map string_bytes words.now) ≡ None → (result.source ≡ source) × (result.sink ≡ sink) × Complained (E.held complaints.old) (E.held complaints.new) (E.faults complaints.old) (E.faults complaints.new) (line_of Status.Usage 0) }

@@ -65,7 +65,7 @@ pub(crate) fn watch<S: Source, K: Sink>(
     mut sink: K,
     mut listeners: Listeners,
 ) -> (Ran<S, K>, u64)
-    requires { AllOpen (ears ⟦<Box<dyn Listener> as Listener>⟧ listeners.all.items) }
+    requires listening { AllOpen (ears ⟦<Box<dyn Listener> as Listener>⟧ listeners.all.items) }
     ensures code { result.0.code ≡ exit_code result.0.status }
     ensures watched { (taken : List ℕ) × Watched result.0.status (S.left source) (S.left result.0.source) (K.held sink) (K.held result.0.sink) taken result.1 (ears ⟦<Box<dyn Listener> as Listener>⟧ listeners.all.items) }
     ensures read_cause { result.0.status ≡ Status.ReadFault → Rose (S.faults source) (S.faults result.0.source) }

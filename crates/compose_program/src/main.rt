@@ -49,7 +49,7 @@ fn called<W: io::Write>(
     hub: &mut UnixHub,
     listeners: Listeners,
 ) -> ExitCode
-    requires { AllOpen (ears ⟦<Box<dyn Listener> as Listener>⟧ listeners.all.items) }
+    requires listening { AllOpen (ears ⟦<Box<dyn Listener> as Listener>⟧ listeners.all.items) }
 {
     let Ran {
         status: _,
