@@ -1,8 +1,10 @@
 -- What a run over the inputs of a stream did that listeners were told of.
-use Rattle.std.proofs.Common.{◌≡◌, ℕ, ◌<◌, List, [], ◌∷◌, ◌++◌, length, refl, sym, ◌∙◌, ap, subst, inl, inr, Option, None, Some, IfSome, option_and_then, option_map}
+use Rattle.std.proofs.Common.{◌≡◌, ℕ, ◌+◌, ◌-◌, ◌^◌, ◌<◌, ◌≤◌, min, arith, List, [], ◌∷◌, ◌++◌, length, refl, sym, ◌∙◌, ap, subst, inl, inr, Option, None, Some, IfSome, option_and_then, option_map}
+use Rattle.qo_causes.specs.Cause.{Rose}
 use Rattle.qo_causes.specs.declared.hubs.Lane.{Lane}
 use Rattle.qo_model.specs.declared.notes.Note.{Note}
-use Rattle.qo_listen.specs.Ears.{AllHeard, Ear, texts_of}
+use Rattle.qo_listen.specs.Ears.{AllHeard, Ear, ears, texts_of}
+use Rattle.qo_listen.specs.declared.listener.Listener.{Ghosts}
 use Rattle.qo_listen.specs.Texts.{Form, TellsText, form_text}
 use Rattle.qo_machine.proofs.RunLemmas.{run_met}
 use Rattle.qo_machine.specs.Listening.{RunTold}
@@ -18,6 +20,15 @@ use Rattle.compose.specs.Watch.{AllTell, AreReports, DidWatch, EndedWatch, Ended
 use Rattle.compose.specs.declared.statuses.Status.{Status}
 use Rattle.compose.specs.declared.statuses.Status.TheVariants.{Done, Usage, BadRecord, Memory, ReadFault, WriteFault, HubFault, InputLimit}
 use Rattle.compose.proofs.ReplayLemmas.{Read, did, none_lost, not_made, to_end}
+
+-- each listener tells in the form that it says
+pub all-tell : {X : Type 0} (is : Ghosts X) (all : List X) → AllTell (ears is all)
+all-tell is [] = tt
+all-tell is (x ∷ xs) = (is.tells x, all-tell is xs)
+
+-- a count that stays at 0 did not rise
+pub never_rose : Rose 0 0 → ⊥
+never_rose rose = let risen : min (0 + 1) (2 ^ 64 - 1) ≤ 0 = rose in omega (arith, risen)
 
 -- what listeners tell that heard some notes
 reports-are : (notes : List Note) (xs ys : List Ear) → AllHeard notes xs ys → AllTell ys → IfSome (told_texts notes xs) (λ texts. texts_of ys ≡ texts)
