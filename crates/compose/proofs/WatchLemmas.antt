@@ -76,23 +76,27 @@ did_watch ending.Done status p lo ln ho hn bytes given og ng xs ys few starved r
 did_watch (ending.Bad n) status p lo ln ho hn bytes given og ng xs ys few starved read h tells sends put =
     let d =
     did (ending.Bad n) p lo ln None None bytes given og ng few starved read
-    (run_met (ending.Bad n) 1000000000 (known (inputs_ahead unread lo) None og (λ n. 0)) (known (inputs_ahead p ln) None ng (λ n. 0)) (bad_ahead unread lo) xs ys h) in
+    (run_met (ending.Bad n) 1000000000 (known (inputs_ahead unread lo) None og (λ n. 0)) (known (inputs_ahead p ln) None ng (λ n. 0)) (bad_ahead unread lo) xs
+    ys h) in
     subst (λ (s : Status). DidWatch s lo (bytes ++ p.buffered) ho hn n xs) (sym put.0) (put.1, d)
 did_watch ending.Limit status p lo ln ho hn bytes given og ng xs ys few starved read h tells sends put =
     let d =
     did ending.Limit p lo ln None None bytes given og ng few starved read
-    (run_met ending.Limit 1000000000 (known (inputs_ahead unread lo) None og (λ n. 0)) (known (inputs_ahead p ln) None ng (λ n. 0)) (bad_ahead unread lo) xs ys h) in
+    (run_met ending.Limit 1000000000 (known (inputs_ahead unread lo) None og (λ n. 0)) (known (inputs_ahead p ln) None ng (λ n. 0)) (bad_ahead unread lo) xs ys
+    h) in
     subst (λ (s : Status). DidWatch s lo (bytes ++ p.buffered) ho hn 0 xs) (sym put.0) (put.1, d)
 did_watch ending.NextFailed status p lo ln ho hn bytes given og ng xs ys few starved read h tells sends put =
     let d =
     did ending.NextFailed p lo ln None None bytes given og ng few starved read
-    (run_met ending.NextFailed 1000000000 (known (inputs_ahead unread lo) None og (λ n. 0)) (known (inputs_ahead p ln) None ng (λ n. 0)) (bad_ahead unread lo) xs ys h) in
+    (run_met ending.NextFailed 1000000000 (known (inputs_ahead unread lo) None og (λ n. 0)) (known (inputs_ahead p ln) None ng (λ n. 0)) (bad_ahead unread lo)
+    xs ys h) in
     subst (λ (s : Status). DidWatch s lo (bytes ++ p.buffered) ho hn 0 xs) (sym put.0) (put.1, d)
 did_watch ending.SendFailed status p lo ln ho hn bytes given og ng xs ys few starved read h tells sends put = absurd (sends refl)
 did_watch ending.Memory status p lo ln ho hn bytes given og ng xs ys few starved read h tells sends put =
     let d =
     did ending.Memory p lo ln None None bytes given og ng few starved read
-    (run_met ending.Memory 1000000000 (known (inputs_ahead unread lo) None og (λ n. 0)) (known (inputs_ahead p ln) None ng (λ n. 0)) (bad_ahead unread lo) xs ys h) in
+    (run_met ending.Memory 1000000000 (known (inputs_ahead unread lo) None og (λ n. 0)) (known (inputs_ahead p ln) None ng (λ n. 0)) (bad_ahead unread lo) xs ys
+    h) in
     subst (λ (s : Status). DidWatch s lo (bytes ++ p.buffered) ho hn 0 xs) (sym put.0) (put.1, inr d)
 
 -- of a hub that was made and given up

@@ -28,15 +28,11 @@ fn puts(alloc: Global, record: &[u8], texts: &[&str]) -> Result<bool, Fail> {
     let source = ByteSource::new(Vec::from_slice(alloc, record)?, Vec::new(alloc));
     let sink = ByteSink::new(alloc, 4_096, Vec::new(alloc))?;
     let mut complaints = ByteSink::new(alloc, 256, Vec::new(alloc))?;
+    let tape: Box<dyn Listener> = Box::new(alloc, Tape::new(alloc))?;
+    let mirror: Box<dyn Listener> = Box::new(alloc, Mirror::new(alloc))?;
     let mut listeners = Listeners::new(alloc);
-    if let Ok(tape) = Box::new(alloc, Tape::new(alloc)) {
-        let tape: Box<dyn Listener> = tape;
-        let _added = listeners.add(tape);
-    }
-    if let Ok(mirror) = Box::new(alloc, Mirror::new(alloc)) {
-        let mirror: Box<dyn Listener> = mirror;
-        let _added = listeners.add(mirror);
-    }
+    let _tape = listeners.add(tape);
+    let _mirror = listeners.add(mirror);
     let Ran {
         status,
         code: _,
