@@ -160,12 +160,7 @@ pub fn run<H: Hub>(alloc: Global, hub: &mut H, limit: u64) -> Ending
 /// As `run`; and after each item and each line of the guest each listener is told what was noted, in order. Each
 /// has heard the notes of the run; where the run ended for want of memory, which may be that of a listener, a
 /// front of them. So it is while the total of notes counts each of them.
-pub fn run_told<H: Hub>(
-    alloc: Global,
-    hub: &mut H,
-    limit: u64,
-    listeners: &mut Listeners,
-) -> Ending
+pub fn run_told<H: Hub>(alloc: Global, hub: &mut H, limit: u64, listeners: &mut Listeners) -> Ending
     requires listening { AllOpen (ears ⟦<Box<dyn Listener> as Listener>⟧ listeners.old.all.items) }
     ensures meets { RunTold result limit (known (H.inputs hub.old) (H.sent hub.old) (H.got hub.old) (H.losses hub.old)) (known (H.inputs hub.new) (H.sent hub.new) (H.got hub.new) (H.losses hub.new)) (H.bad hub.old) (ears ⟦<Box<dyn Listener> as Listener>⟧ listeners.old.all.items) (ears ⟦<Box<dyn Listener> as Listener>⟧ listeners.new.all.items) }
     ensures listening { AllOpen (ears ⟦<Box<dyn Listener> as Listener>⟧ listeners.new.all.items) }

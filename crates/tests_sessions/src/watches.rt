@@ -8,7 +8,8 @@ use std::alloc::Global;
 use std::test::Fail;
 
 /// What is noted where a timer is added.
-const ADDED: &str = "init 9 device\ninit 9 slot-device\ninit 9 slot-timer\ninit 10 clock\nrealize 9\nenter 9\nhold 9\nexit 9\n";
+const ADDED: &str =
+    "init 9 device\ninit 9 slot-device\ninit 9 slot-timer\ninit 10 clock\nrealize 9\nenter 9\nhold 9\nexit 9\n";
 
 /// And where it goes.
 const GONE: &str =
@@ -17,7 +18,11 @@ const GONE: &str =
 /// A record that adds a timer and asks for its removal.
 fn asked(alloc: Global) -> Result<Vec<u8>, Fail> {
     let mut record = opening(alloc)?;
-    add_command(alloc, &mut record, "device_add {\"driver\":\"slot-timer\",\"id\":\"t\"}")?;
+    add_command(
+        alloc,
+        &mut record,
+        "device_add {\"driver\":\"slot-timer\",\"id\":\"t\"}",
+    )?;
     add_command(alloc, &mut record, "device_del {\"id\":\"t\"}")?;
     Ok(record)
 }

@@ -30,7 +30,7 @@ called-requires c =
     let nobody : AllOpen (ears is c.new-listeners.result.all.items) = subst AllOpen (sym c.new-listeners.ensures) tt in
     let one : AllOpen (ears is c.match-new-2.listeners.all.items) =
     elim c.match-new-2.branch [
-      in-Ok-new-2+in-Err-1 w ↦ rw w.listeners-is
+      | in-Ok-new-2+in-Err-1 w ↦ rw w.listeners-is
           (added-open w.add-added.result (ears is c.new-listeners.result.all.items) (ears is w.add-added.new.self.all.items) (ear is w.into_dyn_box-tape.result)
           w.add-added.ensures.added w.add-added.ensures.left
           (read_made own.own-1 (own.own-1.entry (inl tt)) (inl tt) refl Bool (λ j x. j.1.closed x) w.into_dyn_box-tape.result.vtable
@@ -47,7 +47,7 @@ called-requires c =
     ] in
     let both : AllOpen (ears is c.match-new-3.listeners.all.items) =
     elim c.match-new-3.branch [
-      in-Ok-new-3+in-Err-1 w ↦ rw w.listeners-is
+      | in-Ok-new-3+in-Err-1 w ↦ rw w.listeners-is
           (added-open w.add-added-in-Ok-new-3.result (ears is c.match-new-2.listeners.all.items) (ears is w.add-added-in-Ok-new-3.new.self.all.items)
           (ear is w.into_dyn_box-mirror.result) w.add-added-in-Ok-new-3.ensures.added w.add-added-in-Ok-new-3.ensures.left
           (read_made own.own-1 (own.own-1.entry (inr (inl tt))) (inr (inl tt)) refl Bool (λ j x. j.1.closed x) w.into_dyn_box-mirror.result.vtable
