@@ -496,12 +496,13 @@ impl Core {
         replace(&mut self.items, Vec::new(alloc))
     }
 
-    /// Keeps the room of items that were served, and lets them go. It takes no memory.
+    /// Keeps the room of items that were served, with that of the first of them, and lets the others go. It
+    /// takes no memory.
     fn keep_items(&mut self, items: Vec<Item>)
         ensures { self.new ≡ self.old }
     {
         let mut room = items;
-        room.clear();
+        room.truncate(1);
         self.items = room;
     }
 
