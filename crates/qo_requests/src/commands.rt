@@ -9,7 +9,7 @@ use crate::arguments::Argument::{self, Needed, Optional};
 use crate::arguments::ArgumentType::{
     Form, Number, Object, Plain, ResetType, RingBytes, Text, Texts, Truth,
 };
-use crate::fields::Field;
+use crate::fields::{Field, is_same};
 
 /// A command, in byte order of the names.
 #[derive(Clone, Copy, Debug, PartialEq, Eq)]
@@ -164,7 +164,7 @@ impl Command {
         commands
             .iter()
             .copied()
-            .find(|command| command.name() == name)
+            .find(|command| is_same(command.name(), name))
     }
 
     /// The command of a name. The commands stand in byte order, so those before the first letters of a name
