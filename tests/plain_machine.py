@@ -29,10 +29,11 @@ SLOTS_AT = 2**44  # where the slots of the root bus begin, and the size of one
 DEVICE_SIZE = 2**12  # of what shows of a device in a slot
 SYSTEM_PERIOD = 42_949_672_960
 PERIOD_UNIT = 2**32
-MOST_OBJECTS = 4096
+MOST_OBJECTS = 65_536
 MOST_NOTICES = 64
-MOST_NOTES_KEPT = 65_536
+MOST_NOTES_KEPT = 1_048_576
 MOST_NOTES_TOLD = 256
+ASK_AGAIN = 5_000_000_000  # nanoseconds after which a removal may be asked again
 MOST_HOLDS_ABOVE = 49
 MOST_BRIDGES_DEEP = 8
 MOST_SLOTS = 8
@@ -294,11 +295,17 @@ class Body:
         """What an act does to the body; `period` is that of the device's clock."""
         if name == "enter":
             self.enter()
+        elif name == "wake":
+            self.wake()
         elif name == "hold":
             self.holds += 1
 
     def enter(self):
-        """What the first phase of a reset does."""
+        """What the first phase of a cold reset does."""
+
+    def wake(self):
+        """What the first phase of a wakeup does."""
+        self.enter()
 
     def registers(self, board, device):
         """The values of the registers as the guest reads them."""
@@ -325,6 +332,11 @@ class UartBody(Body):
         self.divisor = 1
         self.scratch = 0
         self.sent = 0
+
+    def wake(self):
+        kept = self.divisor
+        self.enter()
+        self.divisor = kept
 
     def act(self, name, now, period):
         super().act(name, now, period)
@@ -362,6 +374,11 @@ class TimerBody(Body):
         self.reload = LAST_U32
         self.segments = []
         self.started = None
+
+    def wake(self):
+        kept = self.reload
+        self.enter()
+        self.reload = kept
 
     def end_segment(self, now, period):
         """Ends the segment that runs, if one does."""
@@ -781,10 +798,10 @@ class ResetTree(ClockTree):
         for birth in births:
             self.act(birth, name, self.device_period(self.objects[birth]))
 
-    def hold(self, birth):
-        """Holds an object, and all below it, in reset."""
+    def hold(self, birth, kind="cold"):
+        """Holds an object, and all below it, in a reset of a type."""
         coming = [it for it in self.reset_order(birth) if self.reset_count(it) == 0]
-        self.phase("enter", coming)
+        self.phase("wake" if kind == "wakeup" else "enter", coming)
         self.phase("hold", coming)
         self.holds.append(birth)
 
@@ -793,9 +810,9 @@ class ResetTree(ClockTree):
         self.holds.remove(birth)
         self.phase("exit", [it for it in self.reset_order(birth) if self.reset_count(it) == 0])
 
-    def reset(self, birth):
+    def reset(self, birth, kind="cold"):
         """Resets an object and all below it."""
-        self.hold(birth)
+        self.hold(birth, kind)
         self.release(birth)
 
 
@@ -804,7 +821,7 @@ class DeviceTree(ResetTree):
 
     def __init__(self):
         super().__init__()
-        self.pending = []
+        self.pending = {}  # the time of the last asking of each removal, in the order of the first asking
         self.notices = []
         self.rings = []
         self.unnamed = 0
@@ -1037,7 +1054,7 @@ class DeviceTree(ResetTree):
         gone = [birth] + self.buses(device)
         self.holds = [it for it in self.holds if it not in gone]
         self.notices = [it for it in self.notices if it[1] != birth]
-        self.pending = [it for it in self.pending if it != birth]
+        self.pending.pop(birth, None)
 
     def take_out(self, birth):
         """Takes an unrealized device out of its container and off its bus, after all that is below it."""
@@ -1067,11 +1084,11 @@ class DeviceTree(ResetTree):
         birth = self.device_named(name)
         if not self.is_attached(birth):
             raise Refused(Code.NOT_REMOVABLE)
-        if birth in self.pending:
+        if birth in self.pending and self.now < self.pending[birth] + ASK_AGAIN:
             raise Refused(Code.REMOVAL_PENDING)
         if len(self.notices) >= MOST_NOTICES:
             raise Refused(Code.NOTICES_FULL)
-        self.pending.append(birth)
+        self.pending[birth] = self.now
         self.notices.append(("unplug", birth))
 
     def device_named(self, name):
@@ -1087,14 +1104,14 @@ class DeviceTree(ResetTree):
 
     def refuse_removal(self, birth):
         """What the guest's refusal of a removal does."""
-        self.pending.remove(birth)
+        del self.pending[birth]
         self.notices = [it for it in self.notices if it != ("unplug", birth)]
         self.tell_of_device("DEVICE_UNPLUG_GUEST_ERROR", self.objects[birth])
 
     def reset_machine(self, by_guest):
         """Resets the machine, after all removals that are pending."""
         while self.pending:
-            self.detach(self.pending[0])
+            self.detach(next(iter(self.pending)))
         self.reset(MACHINE)
         self.tell("RESET", guest=by_guest, reason="guest-reset" if by_guest else "host-qmp-system-reset")
 
@@ -1364,6 +1381,7 @@ KINDS = {
     "size": lambda it: NUMBER.fits(it) and it <= MOST_RING,
     "value": lambda it: isinstance(it, (bool, str)) or is_whole(it),
     "format": lambda it: it in ("utf8", "base64"),
+    "reset-type": lambda it: it in ("cold", "wakeup"),
     "truth": TRUTH.fits,
     "texts": lambda it: isinstance(it, list) and all(isinstance(one, str) for one in it),
     "backend": is_backend,
@@ -1393,8 +1411,9 @@ COMMANDS = {
     "chardev-remove": {"id": "text"},
     "ringbuf-read": {"device": "text", "size": "size", "format": "format?"},
     "ringbuf-write": {"device": "text", "data": "text", "format": "format?"},
-    "x-reset-hold": {"path": "text"},
+    "x-reset-hold": {"path": "text", "type": "reset-type?"},
     "x-reset-release": {"path": "text"},
+    "x-wakeup": {},
     "x-sever": {"birth": "number"},
     "x-query-notes": {"from": "number"},
     "x-query-detached": {},
@@ -1799,7 +1818,11 @@ class Machine:
             raise Refused(Code.PATH_NOT_FOUND)
         if any(self.board.reset_count(it) >= MOST_HOLDS_ABOVE for it in self.board.reset_order(birth)):
             raise Refused(Code.RESET_DEPTH)
-        self.board.hold(birth)
+        self.board.hold(birth, arguments.get("type", "cold"))
+
+    def do_x_wakeup(self, _):
+        """Wakes the machine up: a reset that keeps some registers, and completes no removal."""
+        self.board.reset(MACHINE, "wakeup")
 
     def do_x_reset_release(self, arguments):
         """Takes a hold away."""

@@ -37,6 +37,7 @@ SPANS = [1, 3, 10, 25, 1000, 2**31, 2**62]
 WRITTEN = ["0x0", "0x1", "0x1", "0x2", "0x41", "0x7f", "0xff", "0x63", "0xFFFFFFFF"]
 SHORT_RELOADS = [0, 1, 1, 2, 99]
 MOST_AWAITED = 2**40  # ns
+RESET_TYPES = ["wakeup", "wakeup", "wakeup", "cold", "warm"]
 PRINTED = [0x41, 0x62, 0x7F, 0x80, 0xFF, 0x1F, 0, 0x22, 0x5C, 10, 8]
 NO_LINES = [
     "ack", "poll ", " poll", "ack  0", "read 0", "read 0 00", "write 0 0 1", "write 0 0 0x", "write 0 0 0x123456789",
@@ -51,6 +52,8 @@ ODD_COMMANDS = [
     ("device_add", {"id": "a"}),
     ("device_add", {"driver": 1}),
     ("device_del", {"id": "a", "x": 1}),
+    ("x-reset-hold", {"path": "/machine", "type": 1}),
+    ("x-wakeup", {"path": "/machine"}),
     ("x-sever", {"birth": -1}),
     ("x-query-notes", {"from": True}),
     ("chardev-add", {"id": "r0", "backend": {"type": "ringbuf"}}),
@@ -84,6 +87,8 @@ USUAL_ACTS = {
     "hold": 3,
     "release": 2,
     "reset": 1,
+    "wake": 1,
+    "ask_again": 1,
     "pause": 1,
     "pass_time": 2,
     "write_clock": 2,
@@ -100,6 +105,7 @@ FLAVOURS = [
     (None, {"change_sessions": 20, "do_odd": 10}),
     ("hang_links", {"set_property": 25, "sever": 6, "remove_device": 14}),
     ("hang_links", {"hold": 8, "sever": 5, "say": 34}),
+    (None, {"ask_again": 8, "remove_device": 20}),
     ("stack_bridges", {"remove_device": 6}),
     ("fill_notices", {"remove_device": 14, "reset": 0.2}),
     ("fill_memory", {"add_object": 14, "add_device": 40, "remove_device": 16}),
@@ -290,7 +296,7 @@ class Maker:
     def guest_line(self):
         """A line of the guest."""
         if self.board.pending and self.chance(0.3):
-            waiting = self.board.objects[self.draw.choice(self.board.pending)]
+            waiting = self.board.objects[self.draw.choice(list(self.board.pending))]
             return f"{self.draw.choice(['ack', 'ack', 'nack'])} {self.board.address(waiting)}"
         word = self.draw.choices(
             ["poll", "irq", "ack", "nack", "read", "write", "peek", "poke", "reset", ""], [22, 8, 8, 4, 15, 22, 8, 8, 3, 4]
@@ -440,7 +446,10 @@ class Maker:
 
     def hold(self):
         """Holds an object in reset."""
-        self.command("x-reset-hold", {"path": self.path(self.draw.choice(["device", "bus", "resettable"]))})
+        arguments = {"path": self.path(self.draw.choice(["device", "bus", "resettable"]))}
+        if self.chance(0.5):
+            arguments["type"] = self.draw.choice(RESET_TYPES)
+        self.command("x-reset-hold", arguments)
 
     def release(self):
         """Takes a hold away."""
@@ -452,6 +461,19 @@ class Maker:
     def reset(self):
         """Resets the machine."""
         self.command("system_reset")
+
+    def wake(self):
+        """Wakes the machine up."""
+        self.command("x-wakeup")
+
+    def ask_again(self):
+        """Asks again for a removal that is pending, mostly after the time that has to pass."""
+        if self.board.pending:
+            birth, asked = self.draw.choice(list(self.board.pending.items()))
+            left = asked + plain_machine.ASK_AGAIN - self.board.now
+            if left > 0 and self.chance(0.8):
+                self.input(f"step {max(1, left - self.draw.choice([0, 0, 0, 1]))}")
+            self.command("device_del", {"id": self.board.canonical_path(birth)})
 
     def pause(self):
         """Stops the machine, and has it go on, mostly after something else."""

@@ -49,9 +49,9 @@ FULL = [add() for _ in range(5)]
 # bridges of the setup have a notice each, but for the one that is gone; the one that goes has another
 NOTICES = [add(bus="t/bus.0") for _ in range(8)] + [add(bus=f"b{n}/bus.0") for n in range(1, 8) for _ in range(7)]
 NOTICES = NOTICES[: 64 - 11]
-# the opening objects, the tag, ten bridges, and the one that is gone without its bus: a bridge is one too many at 4,094
+# the opening objects, the tag, ten bridges, and the one that is gone without its bus: a bridge is one too many at 65,534
 LIVE = 8 + 1 + 10 * 3 + 2
-CROWD = [command("object-add", **{"qom-type": "tag", "id": f"c{n}"}) for n in range(4094 - LIVE)]
+CROWD = [command("object-add", **{"qom-type": "tag", "id": f"c{n}"}) for n in range(65_534 - LIVE)]
 
 # the stage, the code, the arguments, and what is done before them
 ATTEMPTS = [
@@ -92,7 +92,7 @@ ATTEMPTS = [
     (5, "E42", {"bus": "b8/bus.0"}, []),
     (8, "E44", {}, NOTICES),
 ]
-# the same of timers, which have no bus, and are two objects: so there is room for one at 4,094
+# the same of timers, which have no bus, and are two objects: so there is room for one at 65,534
 TIMERS = [
     (3, "E26", {"driver": TIMER, "bus": "/machine/mem.0"}, []),
     (4, "E43", {"driver": TIMER}, [*CROWD, command("object-add", **{"qom-type": "tag", "id": "last"})]),
@@ -141,16 +141,21 @@ DIMMS = [
 ]
 
 
-def replies(commands):
-    """What each command is answered: an object with `return` or `error`, after the negotiation; events are left out."""
+def texts(commands):
+    """What each command is answered, as its text, after the negotiation; events are left out."""
     text = "".join(commands).encode()
     chunks = [text[at : at + 65536] for at in range(0, len(text), 65536)]
     entries = b"".join(b"bytes 0.000000 0 %d\n%s\n" % (len(chunk), chunk) for chunk in chunks)
     negotiation = command("qmp_capabilities").encode()
     record = b"qrec 1\nopen 0.000000 0\nbytes 0.000000 0 %d\n%s\n" % (len(negotiation), negotiation) + entries
     ran = subprocess.run([PROGRAM, "replay"], input=record, capture_output=True, timeout=120, check=True)
-    messages = [json.loads(line[2:]) for line in ran.stdout.splitlines()]
-    return [it for it in messages[2:] if "event" not in it]
+    messages = [line[2:] for line in ran.stdout.splitlines()]
+    return [it for it in messages[2:] if not it.startswith((b'{"data":', b'{"event":'))]
+
+
+def replies(commands):
+    """What each command is answered: an object with `return` or `error`."""
+    return [json.loads(it) for it in texts(commands)]
 
 
 def code_of(reply):
@@ -184,11 +189,9 @@ def looks(paths):
 def births_of(commands):
     """How many objects were made, and how many notes there are, after some commands."""
     total = replies([*commands, command("x-query-notes", **{"from": 0})])[-1]["return"]["total"]
-    made = 0
-    for at in range(0, total, 256):
-        notes = replies([*commands, command("x-query-notes", **{"from": at})])[-1]["return"]["notes"]
-        made = max([made, *(int(note.split()[1]) for note in notes if note.startswith("init "))])
-    return made + 1, total
+    questions = [command("x-query-notes", **{"from": at}) for at in range(0, total, 256)]
+    notes = [note for reply in replies([*commands, *questions])[len(commands) :] for note in reply["return"]["notes"]]
+    return max(int(note.split()[1]) for note in notes if note.startswith("init ")) + 1, total
 
 
 def notes_of(stage, code, birth, driver):
@@ -221,16 +224,16 @@ def leaves_a_trace(row):
     birth, total = births_of(start)
     look = looks(tree(start))
     polls = [command("x-guest", line="poll")] * 65
-    seen = replies([*start, *look, add(**arguments), *look, command("x-query-notes", **{"from": total}), *polls])
+    seen = texts([*start, *look, add(**arguments), *look, command("x-query-notes", **{"from": total}), *polls])
     old, refused, new = seen[len(start) : len(start) + len(look)], seen[len(start) + len(look)], seen[len(start) + len(look) + 1 :]
-    notes, notices = new[len(look)]["return"]["notes"], new[len(look) + 1 :]
-    if code_of(refused) != code:
+    notes, notices = json.loads(new[len(look)])["return"]["notes"], new[len(look) + 1 :]
+    if code_of(json.loads(refused)) != code:
         return told(row, f"it is answered {refused}")
     if new[: len(look)] != old:
         return told(row, "the tree is not as before")
     if notes != notes_of(stage, code, birth, arguments.get("driver", BRIDGE)):
         return told(row, f"the notes are {notes}")
-    if notices != replies([*start, *polls])[len(start) :]:
+    if notices != texts([*start, *polls])[len(start) :]:
         return told(row, "the notices are not as before")
     return False
 

@@ -18,6 +18,7 @@ BROWSER = next((it for it in map(shutil.which, ("chromium", "chromium-browser", 
 BEGIN = 'open 0\n-> {"execute":"qmp_capabilities"}\n'
 BRIDGE = BEGIN + '-> {"execute":"device_add","arguments":{"driver":"slot-bridge","id":"br","slot":3}}\n'
 REMOVAL = BRIDGE + '-> {"execute":"device_del","arguments":{"id":"br"}}\n'
+ASK_AGAIN = "step 5000000000\n"  # after which the removal may be asked for again
 PENDING_COLOUR = (0xFC, 0x81, 0x81)
 
 
@@ -53,6 +54,7 @@ def test_pending():
     """A removal that is pending is marked, and its notice waits, until the guest lets the device go."""
     told = texts(REMOVAL)
     assert told.count("removal pending") == 1 and told[1] == "waits for the guest: plug 3, unplug 3"
+    assert texts(REMOVAL + ASK_AGAIN).count("removal pending") == 1
     assert "br" not in texts(REMOVAL + "g-> ack 3\n")
     assert texts(REMOVAL, ["--inputs", "3"]) == texts(BRIDGE)
 

@@ -1,11 +1,11 @@
 -- The way up from a bus, turn by turn.
-use Rattle.std.proofs.Common.{◌≡◌, refl, ap, sym, ◌∙◌, ℕ, suc, ◌+◌, ◌<◌, Bool, true, false, codes, List, [], ◌∷◌, map, length, eqb, Option, Some}
+use Rattle.std.proofs.Common.{◌≡◌, refl, ap, sym, ◌∙◌, ℕ, suc, ◌+◌, ◌<◌, Bool, true, false, codes, List, [], length, Option, Some}
 use Rattle.std.proofs.Common.{None, arith}
 use Rattle.std.specs.Option.{option_and_then, option_map_or}
 use Rattle.qo_values.specs.declared.kinds.TypeId.{TypeId}
 use Rattle.qo_object.specs.Content.{Content}
-use Rattle.qo_model.specs.Board.{Board}
-use Rattle.qo_model.specs.Depth.{among, by_depth}
+use Rattle.qo_model.specs.Board.{Board, is_pending}
+use Rattle.qo_model.specs.Depth.{by_depth}
 use Rattle.qo_model.specs.Devices.{bridge_of, bus_above, bus_of, depth_of, depth_turn, going_turn, is_going}
 use Rattle.qo_model.specs.Paths.{is_of}
 use Rattle.qo_model.specs.Types.{is_a}
@@ -16,7 +16,6 @@ use Rattle.qo_heap.specs.Board.{Shows}
 use Rattle.qo_heap.proofs.BoardReads.{shows-kind, shows-parent, shows-size}
 use Rattle.qo_paths.proofs.DepthSteps.{left_at, depth-all, depth-turn}
 use Rattle.std.specs.Prelude.{if◌then◌else◌, option_map}
-use Rattle.std.specs.List.{list_any}
 
 -- whether an object is of a type, by its type in the heap
 pub of-is : (b : Board) (v : Objects) → Shows b v → (n : ℕ) (kind : TypeId) (wanted : List ℕ)
@@ -27,11 +26,6 @@ of-is b v s n kind wanted is = ap (λ (o : Option TypeId). option_map_or (λ (k 
 pub bridge-is : (b : Board) (v : Objects) → Shows b v → (n : ℕ) (o : Option Key) → parent_of v n ≡ o
     → bridge_of b n ≡ option_and_then (λ (p : ℕ). if is_of b (codes "device") p then Some p else None) (birth_of o)
 bridge-is b v s n o is = ap (option_and_then (λ (p : ℕ). if is_of b (codes "device") p then Some p else None)) (shows-parent b v s n ∙ ap birth_of is)
-
--- the objects of a removal, by their births
-pub among-births : (d : ℕ) (keys : List Key) → among (map (λ (o : Key). o.birth) keys) d ≡ list_any (λ (o : Key). eqb d o.birth) keys
-among-births d [] = refl
-among-births d (key ∷ keys) = rw (among-births d keys) refl
 
 -- the depth that is left to count
 abbrev pub depth_left : Board → ℕ → ℕ → ℕ → ℕ
@@ -68,13 +62,13 @@ going-first b v s n =
 pub going-none : (b : Board) (size i n : ℕ) → i < size + 1 → bridge_of b n ≡ None → going_left b size i n ≡ false
 going-none b size i n below none = depth-turn (going_turn b) (λ _. false) size i n below ∙ rw (none, going_turn) refl
 
-pub going-here : (b : Board) (size i n d : ℕ) → i < size + 1 → bridge_of b n ≡ Some d → among b.pending d ≡ true → going_left b size i n ≡ true
+pub going-here : (b : Board) (size i n d : ℕ) → i < size + 1 → bridge_of b n ≡ Some d → is_pending b d ≡ true → going_left b size i n ≡ true
 going-here b size i n d below up is = depth-turn (going_turn b) (λ _. false) size i n below ∙ rw (up, going_turn, is) refl
 
-pub going-top : (b : Board) (size i n d : ℕ) → i < size + 1 → bridge_of b n ≡ Some d → among b.pending d ≡ false → bus_of b d ≡ None
+pub going-top : (b : Board) (size i n d : ℕ) → i < size + 1 → bridge_of b n ≡ Some d → is_pending b d ≡ false → bus_of b d ≡ None
     → going_left b size i n ≡ false
 going-top b size i n d below up not none = depth-turn (going_turn b) (λ _. false) size i n below ∙ rw (up, going_turn, not, none) refl
 
-pub going-up : (b : Board) (size i n d m : ℕ) → i < size + 1 → bridge_of b n ≡ Some d → among b.pending d ≡ false → bus_of b d ≡ Some m
+pub going-up : (b : Board) (size i n d m : ℕ) → i < size + 1 → bridge_of b n ≡ Some d → is_pending b d ≡ false → bus_of b d ≡ Some m
     → going_left b size i n ≡ going_left b size (i + 1) m
 going-up b size i n d m below up not above = depth-turn (going_turn b) (λ _. false) size i n below ∙ rw (up, going_turn, not, above) refl

@@ -1,7 +1,6 @@
 //! The buses of devices: those that a device has, and the way up from a bus.
 
-ghost use Rattle.std.specs.Prelude.{◌≡◌, ◌==◌, map, IfSome, slice_get};
-ghost use Rattle.std.specs.List.{list_any};
+ghost use Rattle.std.specs.Prelude.{◌≡◌, IfSome, slice_get};
 ghost use Rattle.std.specs.Option.{option_and_then};
 ghost use Rattle.qo_model.specs.Board.{Board, slots_at};
 ghost use Rattle.qo_model.specs.Devices.{bridge_of, bus_above, bus_in, depth_of, first_bus, is_going};
@@ -13,6 +12,7 @@ ghost use Rattle.qo_heap.specs.Board.{Shows};
 use crate::devices::{bus_of, is_of};
 use crate::slots::child_in;
 use qo_heap::{Heap, Oid, Slot, Steps};
+use qo_hotplug::Hotplug;
 use qo_values::TypeId;
 use std::sync::ledger::Ledger;
 
@@ -96,16 +96,9 @@ pub fn depth<L: Ledger>(heap: &Heap, bus: Oid, steps: &mut Steps<L>) -> u64
     heap.live() as u64 + 1
 }
 
-/// Whether the object of a birth is among some.
-fn is_among(objects: &[Oid], birth: u64) -> bool
-    ensures { result ≡ list_any (λ o. birth == o.birth) objects.now }
-{
-    objects.iter().any(|o| birth == o.birth)
-}
-
 /// Whether a removal is pending of the device whose bus this is, or of one above it.
-pub fn is_going<L: Ledger>(heap: &Heap, bus: Oid, pending: &[Oid], steps: &mut Steps<L>) -> bool
-    ensures { (b : Board) → Shows b heap.now → b.pending ≡ map (λ o. o.birth) pending.now → result ≡ is_going b bus.birth }
+pub fn is_going<L: Ledger>(heap: &Heap, bus: Oid, hotplug: &Hotplug, steps: &mut Steps<L>) -> bool
+    ensures { (b : Board) → Shows b heap.now → b.pending ≡ hotplug.now.pending → result ≡ is_going b bus.birth }
 {
     heap.reveal_invariant();
     let mut at = bus;
@@ -114,7 +107,7 @@ pub fn is_going<L: Ledger>(heap: &Heap, bus: Oid, pending: &[Oid], steps: &mut S
         let Some(bridge) = bridge_of(heap, at, steps) else {
             return false;
         };
-        if is_among(pending, bridge.birth) {
+        if hotplug.is_pending(bridge) {
             return true;
         }
         match bus_of(heap, bridge, steps) {

@@ -43,7 +43,7 @@ came-err : (c : Board) (code : Code) (d : outcome.Done) (p : Parts) → Stands c
 came-err c code d p now so = (now, so c)
 
 -- a change was made
-changed-ok : (change : Changed) (d : outcome.Done) (p : Parts) → change.refusal ≡ None → Stands change.board p
+pub changed-ok : (change : Changed) (d : outcome.Done) (p : Parts) → change.refusal ≡ None → Stands change.board p
     → ((x : Board) → done_of x d ≡ returned x empty) → Came (changed change) d p
 changed-ok change d p none now so =
     came-as (changed change) (returned change.board empty) d p (rw (changed, none) refl) (came-value change.board empty d p now so)

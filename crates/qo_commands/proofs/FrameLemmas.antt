@@ -5,12 +5,14 @@ use Rattle.qo_values.specs.Registers.{Effect, Registers, byte, nothing, pulse as
 use Rattle.qo_values.specs.declared.births.TheConstants.{MACHINE_BIRTH}
 use Rattle.qo_values.specs.declared.codes.Code.{Code}
 use Rattle.qo_values.specs.declared.kinds.Act.{Act}
+use Rattle.qo_values.specs.declared.kinds.ResetKind.{ResetKind}
+use Rattle.qo_values.specs.declared.kinds.ResetKind.TheVariants.{Cold, Wakeup}
 use Rattle.qo_values.specs.declared.limits.TheConstants.{TIME_MAX}
 use Rattle.qo_buses.specs.Rings.{claimed_ring}
-use Rattle.qo_model.specs.Board.{Board, Record}
+use Rattle.qo_model.specs.Board.{Board, Record, Removal}
 use Rattle.qo_model.specs.Clocks.{acted, with_act_on}
 use Rattle.qo_model.specs.Devices.{first_bus}
-use Rattle.qo_model.specs.Hotplug.{all_completed, reset_whole}
+use Rattle.qo_model.specs.Hotplug.{all_completed, reset_whole, woken}
 use Rattle.qo_model.specs.Objects.{Changed}
 use Rattle.qo_model.specs.Paths.{attached}
 use Rattle.qo_model.specs.Release.{edit, edited}
@@ -51,14 +53,14 @@ module _ (b : Board) where
   unfolding acted
   framed-acted act n period c h = h ∙ frame-edit n (with_act_on act c.now period) (λ r. refl) c
 
-  framed-held : (n : ℕ) → Framed (after_hold b n)
-  framed-held n = quiet-held Framed framed-beside framed-acted b n refl
+  framed-held : (n : ℕ) (kind : ResetKind) → Framed (after_hold b n kind)
+  framed-held n kind = quiet-held Framed framed-beside framed-acted b n kind refl
 
   framed-released : (n : ℕ) → Framed (released b n)
   framed-released n = quiet-released Framed framed-beside framed-acted b n refl
 
-  framed-pulse : (c : Board) (n : ℕ) → Framed c → Framed (pulse c n)
-  framed-pulse c n h = quiet-pulse Framed framed-beside framed-acted c n h
+  framed-pulse : (c : Board) (n : ℕ) (kind : ResetKind) → Framed c → Framed (pulse c n kind)
+  framed-pulse c n kind h = quiet-pulse Framed framed-beside framed-acted c n kind h
 
   -- what a write of the guest does beside
 
@@ -66,9 +68,9 @@ module _ (b : Board) where
   framed-effect d nothing c h = h
   framed-effect d pulses c h = go (first_bus c d)
     where
-      go : (o : Option ℕ) → Framed (option_map_or (pulse c) o c)
+      go : (o : Option ℕ) → Framed (option_map_or (λ m. pulse c m Cold) o c)
       go None = h
-      go (Some bus) = framed-pulse c bus h
+      go (Some bus) = framed-pulse c bus Cold h
   framed-effect d (byte n) c h = go (claimed_ring c d)
     where
       go : (o : Option (List ℕ)) → Framed (option_map_or (pushed n c) o c)
@@ -89,12 +91,16 @@ written-frame b reg value None = refl
 written-frame b reg value (Some d) = frame-written b d reg value
 
 -- a reset of the whole board
-pub reset-touches : (b : Board) (pending : List ℕ) → b.pending ≡ pending → Touches (touched_by_reset pending) b (reset_whole b)
+pub reset-touches : (b : Board) (pending : List Removal) → b.pending ≡ pending → Touches (touched_by_reset pending) b (reset_whole b)
 unfolding reset_whole
 reset-touches b [] none =
-    subst (λ (c : Board). frame_of b ≡ frame_of (pulse c MACHINE_BIRTH)) (sym (ap (λ (ds : List ℕ). all_completed (length ds) b) none))
-    (framed-pulse b b MACHINE_BIRTH refl)
-reset-touches b (d ∷ ds) some = tt
+    subst (λ (c : Board). frame_of b ≡ frame_of (pulse c MACHINE_BIRTH Cold)) (sym (ap (λ (rs : List Removal). all_completed (length rs) b) none))
+    (framed-pulse b b MACHINE_BIRTH Cold refl)
+reset-touches b (r ∷ removals) some = tt
+
+-- a wakeup
+pub woken-frame : (b : Board) → frame_of b ≡ frame_of (woken b)
+woken-frame b = framed-pulse b b MACHINE_BIRTH Wakeup refl
 
 -- either of two changes
 or-frame : (b : Board) (t : Bool) (c d : Changed) → frame_of b ≡ frame_of c.board → frame_of b ≡ frame_of d.board
@@ -108,15 +114,15 @@ advanced-frame b ns = or-frame b (not b.running) _ _ refl (or-frame b (nat_lt TI
 
 -- holds
 
-held_of-frame : (b : Board) (n : ℕ) → frame_of b ≡ frame_of (held_of b n).board
-held_of-frame b n = or-frame b (not (attached b n)) _ _ refl (or-frame b (exceeds_depth b n) _ _ refl (framed-held b n))
+held_of-frame : (b : Board) (n : ℕ) (kind : ResetKind) → frame_of b ≡ frame_of (held_of b n kind).board
+held_of-frame b n kind = or-frame b (not (attached b n)) _ _ refl (or-frame b (exceeds_depth b n) _ _ refl (framed-held b n kind))
 
-pub held-frame : (b : Board) (path : List ℕ) → frame_of b ≡ frame_of (held_at b path).board
-held-frame b path = go (resettable_at b path)
+pub held-frame : (b : Board) (path : List ℕ) (kind : ResetKind) → frame_of b ≡ frame_of (held_at b path kind).board
+held-frame b path kind = go (resettable_at b path)
   where
-    go : (r : Result ℕ Code) → frame_of b ≡ frame_of (at_path b (held_of b) r).board
+    go : (r : Result ℕ Code) → frame_of b ≡ frame_of (at_path b (λ n. held_of b n kind) r).board
     go (Err code) = refl
-    go (Ok n) = held_of-frame b n
+    go (Ok n) = held_of-frame b n kind
 
 pub released-frame : (b : Board) (path : List ℕ) → frame_of b ≡ frame_of (released_at b path).board
 released-frame b path = go (resettable_at b path)

@@ -6,6 +6,7 @@ use Rattle.qo_values.specs.Registers.{Effect, Registers, bare, body_write, bridg
 use Rattle.qo_values.specs.Registers as effect
 use Rattle.qo_values.specs.Timer.{timer_write}
 use Rattle.qo_values.specs.Uart.{uart_write}
+use Rattle.qo_values.specs.declared.kinds.ResetKind.TheVariants.{Cold}
 use Rattle.qo_guest.specs.declared.answers.GuestAnswer.TheVariants.{NoPending, NoRegister}
 use Rattle.qo_guest.specs.declared.lines.GuestAct.{GuestAct}
 use Rattle.qo_guest.specs.declared.lines.GuestAct.TheVariants.{Ack, Nack, Poll, Read, Write, Peek, Poke, Irq, Reset, Shutdown}
@@ -15,9 +16,8 @@ use Rattle.qo_layout.specs.Layout.{dimm_in}
 use Rattle.qo_layout.specs.SameViews.{SameObjects}
 use Rattle.qo_layout.proofs.SameObjectLemmas.{same-edited, same-pulsed, same-then}
 use Rattle.qo_layout.proofs.SameViewLemmas.{same_view_lem}
-use Rattle.qo_model.specs.Board.{Board, Record}
+use Rattle.qo_model.specs.Board.{Board, Record, is_pending}
 use Rattle.qo_model.specs.Clocks.{device_period}
-use Rattle.qo_model.specs.Depth.{among}
 use Rattle.qo_model.specs.Devices.{first_bus}
 use Rattle.qo_model.specs.Hotplug.{refused}
 use Rattle.qo_model.specs.Reset.{pulse}
@@ -76,7 +76,8 @@ range-written (dimm d) reg value ring now period =
 range-written (bridge b) reg value ring now period = go (reg == 0) (reg == 1)
   where
     go : (zero one : Bool)
-        → IfSome {T = Registers × Effect} (cond zero (Some (bridge (record b { raised = value % 2 == 1 }), cond ((value % 2 == 1) && not b.raised) effect.pulse effect.nothing))
+        → IfSome {T = Registers × Effect}
+        (cond zero (Some (bridge (record b { raised = value % 2 == 1 }), cond ((value % 2 == 1) && not b.raised) effect.pulse effect.nothing))
         (cond one (Some (bridge b, effect.nothing)) None)) (λ w. dimm_in w.0 ≡ dimm_in (bridge b))
     go true one = refl
     go false true = refl
@@ -92,9 +93,9 @@ same-effect : (d : ℕ) (e : Effect) (b : Board) → SameObjects b (after_effect
 same-effect d effect.nothing b = same_view_lem.beside b b refl
 same-effect d effect.pulse b = go (first_bus b d)
   where
-    go : (o : Option ℕ) → SameObjects b (option_map_or (pulse b) o b)
+    go : (o : Option ℕ) → SameObjects b (option_map_or (λ m. pulse b m Cold) o b)
     go None = same_view_lem.beside b b refl
-    go (Some m) = same-pulsed b m
+    go (Some m) = same-pulsed b m Cold
 same-effect d (effect.byte n) b = go (claimed_ring b d)
   where
     go : (o : Option (List ℕ)) → SameObjects b (option_map_or (pushed n b) o b)
@@ -127,7 +128,7 @@ same-written b reg value (Some d) = go (guest_written b d reg value) (same-guest
 
 same-nacked : (b : Board) (o : Option ℕ) → SameObjects b (nacked b o).board
 same-nacked b None = same_view_lem.beside b b refl
-same-nacked b (Some d) = go (among b.pending d)
+same-nacked b (Some d) = go (is_pending b d)
   where
     go : (pending : Bool) → SameObjects b (cond pending (fine (refused b d)) (answered b NoPending)).board
     go true = same_view_lem.beside b (refused b d) refl

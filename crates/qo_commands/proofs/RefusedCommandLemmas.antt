@@ -7,6 +7,8 @@ use Rattle.qo_values.specs.declared.codes.Code.{Code}
 use Rattle.qo_values.specs.declared.codes.Code.TheVariants.{E15, E20, E22, E32, E33, E34, E35, E36, E37, E48, E49, E50, E53, E54}
 use Rattle.qo_values.specs.declared.forms.Form.{Form}
 use Rattle.qo_values.specs.declared.forms.Form.TheVariants.{Utf8}
+use Rattle.qo_values.specs.declared.kinds.ResetKind.{ResetKind}
+use Rattle.qo_values.specs.declared.kinds.ResetKind.TheVariants.{Cold}
 use Rattle.qo_values.specs.declared.births.TheConstants.{OBJECTS_BIRTH}
 use Rattle.qo_values.specs.declared.limits.TheConstants.{TIME_MAX}
 use Rattle.qo_chardev.specs.Texts.{encoded as text_told}
@@ -19,7 +21,7 @@ use Rattle.qo_commands.proofs.RefusedLineLemmas.{refused_lines_lem}
 use Rattle.qo_model.specs.Access.{listing_at, read, write_at}
 use Rattle.qo_model.specs.Board.{Board, Ring, is_live, slots_at}
 use Rattle.qo_model.specs.Depth.{among}
-use Rattle.qo_model.specs.Hotplug.{asked, asked_of, device_at}
+use Rattle.qo_model.specs.Hotplug.{asked, asked_of, device_at, is_early}
 use Rattle.qo_model.specs.Objects.{Changed, attempted_as, index_from, is_object_named, object_add, object_del, sever}
 use Rattle.qo_model.specs.Paths.{Resolution, attached, found, missing, resolve, several}
 use Rattle.qo_model.specs.Plug.{Plugged, claims_ring, has_ring, notice_barred, plug}
@@ -36,7 +38,7 @@ use Rattle.qo_realize.proofs.RefusedDeviceLemmas.{refused_devices_lem, nothing-l
 use Rattle.qo_requests.specs.declared.calls.Addition.{Addition}
 use Rattle.qo_requests.specs.declared.calls.Addition.TheVariants.{DeviceAdd, ObjectAdd}
 use Rattle.qo_requests.specs.declared.calls.Alteration.{Alteration}
-use Rattle.qo_requests.specs.declared.calls.Alteration.TheVariants.{ChardevAdd, ChardevRemove, Cont, DeviceDel, ObjectDel, QomSet, RingbufRead, RingbufWrite, Stop, SystemReset, XGuest, XResetHold, XResetRelease, XSever, XStep}
+use Rattle.qo_requests.specs.declared.calls.Alteration.TheVariants.{ChardevAdd, ChardevRemove, Cont, DeviceDel, ObjectDel, QomSet, RingbufRead, RingbufWrite, Stop, SystemReset, XGuest, XResetHold, XResetRelease, XSever, XStep, XWakeup}
 use Rattle.qo_requests.specs.declared.calls.Call.{Call}
 use Rattle.qo_requests.specs.declared.calls.Call.TheVariants as call
 use Rattle.qo_requests.specs.declared.calls.Change.{Change}
@@ -119,7 +121,7 @@ severed-stays b n =
 asked_of-stays : (b : Board) (d : ℕ) → Stays b (asked_of b d)
 asked_of-stays b d =
     or-stays b (not (attached b d)) _ _ (here-stays b (Some E35))
-    (or-stays b (among b.pending d) _ _ (here-stays b (Some E34))
+    (or-stays b (is_early b d) _ _ (here-stays b (Some E34))
     (or-stays b (is_some (notice_barred b)) _ _ (here-stays b (notice_barred b)) (there-stays b _)))
 
 asked-stays : (b : Board) (id : List ℕ) → Stays b (asked b id)
@@ -145,8 +147,8 @@ at_path-stays : (b : Board) (change : ℕ → Changed) (r : Result ℕ Code) →
 at_path-stays b change (Ok n) stays = stays n
 at_path-stays b change (Err why) stays = here-stays b (Some why)
 
-held-stays : (b : Board) (n : ℕ) → Stays b (held_of b n)
-held-stays b n =
+held-stays : (b : Board) (kind : ResetKind) (n : ℕ) → Stays b (held_of b n kind)
+held-stays b kind n =
     or-stays b (not (attached b n)) _ _ (here-stays b (Some E15)) (or-stays b (exceeds_depth b n) _ _ (here-stays b (Some E48)) (there-stays b _))
 
 released-stays : (b : Board) (n : ℕ) → Stays b (released_of b n)
@@ -209,9 +211,12 @@ altered-leaves b Stop = λ code e. absurd (let clash : Ok _ ≡ Err code = e in 
 altered-leaves b Cont = λ code e. absurd (let clash : Ok _ ≡ Err code = e in cc)
 altered-leaves b (XStep ns) = timed-stays b (advanced b ns).board (advanced b ns).refusal (advanced-stays b ns)
 altered-leaves b SystemReset = λ code e. absurd (let clash : Ok _ ≡ Err code = e in cc)
-altered-leaves b (XResetHold path) = changed-leaves b (held_at b path) (at_path-stays b (held_of b) (resettable_at b path) (held-stays b))
+altered-leaves b (XResetHold path kind) =
+    changed-leaves b (held_at b path (unwrap_or kind Cold))
+    (at_path-stays b (λ n. held_of b n (unwrap_or kind Cold)) (resettable_at b path) (held-stays b (unwrap_or kind Cold)))
 altered-leaves b (XResetRelease path) =
     changed-leaves b (released_at b path) (at_path-stays b (released_of b) (resettable_at b path) (released-stays b))
+altered-leaves b XWakeup = λ code e. absurd (let clash : Ok _ ≡ Err code = e in cc)
 
 either-leaves : (b : Board) (t : Bool) (value : Data) (why : Code) → Leaves b (record (if t then returned b value else refused_with b why) { board = b })
 either-leaves b true value why = returned-leaves b b value

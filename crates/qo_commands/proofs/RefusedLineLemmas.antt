@@ -9,8 +9,7 @@ use Rattle.qo_guest.specs.declared.lines.GuestAct.{GuestAct}
 use Rattle.qo_guest.specs.declared.lines.GuestAct.TheVariants.{Ack, Irq, Nack, Peek, Poke, Poll, Read, Reset, Shutdown, Write}
 use Rattle.qo_layout.specs.Layout.{register_at}
 use Rattle.qo_layout.specs.declared.views.RegisterPlace.{RegisterPlace}
-use Rattle.qo_model.specs.Board.{Board, Notice}
-use Rattle.qo_model.specs.Depth.{among}
+use Rattle.qo_model.specs.Board.{Board, Notice, is_pending}
 use Rattle.qo_model.specs.Hotplug.{completed, refused}
 use Rattle.qo_realize.specs.Guest.{first_notice}
 use Rattle.qo_realize.specs.Registers.{guest_read, guest_written}
@@ -22,7 +21,7 @@ abbrev Alone : Board → Outcome → Type 0
 Alone b d = is_refusal d.answer ≡ true → d ≡ answered b d.answer
 
 pending-alone : (b c : Board) (d : ℕ) → Alone b (if_pending b d c)
-pending-alone b c d = by (among b.pending d)
+pending-alone b c d = by (is_pending b d)
   where
     by : (t : Bool) → Alone b (if t then fine c else answered b NoPending)
     by true = λ e. absurd (true≢false (sym e))

@@ -5,6 +5,8 @@ use Rattle.qo_values.specs.declared.codes.Code.{Code}
 use Rattle.qo_values.specs.declared.codes.Code.TheVariants.{E33, E36}
 use Rattle.qo_values.specs.declared.forms.Form.{Form}
 use Rattle.qo_values.specs.declared.forms.Form.TheVariants.{Utf8}
+use Rattle.qo_values.specs.declared.kinds.ResetKind.{ResetKind}
+use Rattle.qo_values.specs.declared.kinds.ResetKind.TheVariants.{Cold}
 use Rattle.qo_values.specs.Rings.{ring_oldest}
 use Rattle.qo_values.specs.declared.properties.Val.{Val}
 use Rattle.qo_chardev.specs.Rings.{bytes_in, given_bytes, new_ring, ring_named, without_ring}
@@ -13,9 +15,8 @@ use Rattle.qo_chardev.specs.declared.rings.TheConstants.{RING_SIZE_DEFAULT}
 use Rattle.qo_guest.specs.declared.answers.GuestAnswer.{GuestAnswer}
 use Rattle.qo_guest.specs.declared.answers.GuestAnswer.TheVariants.{Fine}
 use Rattle.qo_layout.specs.declared.views.RegisterPlace.{RegisterPlace}
-use Rattle.qo_model.specs.Board.{Board, Ring}
-use Rattle.qo_model.specs.Depth.{among}
-use Rattle.qo_model.specs.Hotplug.{asked, asked_of, device_at, refused}
+use Rattle.qo_model.specs.Board.{Board, Removal, Ring, is_pending}
+use Rattle.qo_model.specs.Hotplug.{asked, asked_of, device_at, is_early, refused, woken}
 use Rattle.qo_model.specs.Objects.{Changed}
 use Rattle.qo_model.specs.Paths.{attached}
 use Rattle.qo_model.specs.Plug.{notice_barred}
@@ -25,7 +26,7 @@ use Rattle.qo_realize.specs.Refusals.{AsItWas}
 use Rattle.qo_realize.specs.Resets.{held_at, released_at}
 use Rattle.qo_realize.specs.Time.{advanced}
 use Rattle.qo_requests.specs.declared.calls.Alteration.{Alteration}
-use Rattle.qo_requests.specs.declared.calls.Alteration.TheVariants.{ChardevAdd, ChardevRemove, Cont, DeviceDel, ObjectDel, QomSet, RingbufRead, RingbufWrite, Stop, SystemReset, XGuest, XResetHold, XResetRelease, XSever, XStep}
+use Rattle.qo_requests.specs.declared.calls.Alteration.TheVariants.{ChardevAdd, ChardevRemove, Cont, DeviceDel, ObjectDel, QomSet, RingbufRead, RingbufWrite, Stop, SystemReset, XGuest, XResetHold, XResetRelease, XSever, XStep, XWakeup}
 use Rattle.qo_requests.specs.declared.calls.Call.TheVariants as call
 use Rattle.qo_requests.specs.declared.calls.Change.{Change}
 use Rattle.qo_requests.specs.declared.calls.Change.TheVariants.{Alter}
@@ -39,7 +40,7 @@ use Rattle.qo_commands.specs.declared.commands.ReplyBody.{ReplyBody}
 use Rattle.qo_commands.specs.declared.hearing.Heard.{Heard}
 use Rattle.qo_commands.specs.declared.touched.Touched.{Touched}
 use Rattle.qo_commands.specs.declared.touched.Touched.TheVariants.{Nothing, Registers, Devices}
-use Rattle.qo_commands.proofs.FrameLemmas.{advanced-frame, held-frame, released-frame, reset-touches, written-frame}
+use Rattle.qo_commands.proofs.FrameLemmas.{advanced-frame, held-frame, released-frame, reset-touches, woken-frame, written-frame}
 use Rattle.qo_commands.proofs.RefusedCommandLemmas.{refused_commands_lem}
 
 -- Lines of the guest.
@@ -79,7 +80,7 @@ either-touches b t false d e p q = q
 
 pub nacked-touches : (b : Board) (o : Option ℕ) → Touches Nothing b (nacked b o).board
 nacked-touches b None = (refl, refl)
-nacked-touches b (Some d) = either-touches b Nothing (among b.pending d) _ _ (refl, refl) (refl, refl)
+nacked-touches b (Some d) = either-touches b Nothing (is_pending b d) _ _ (refl, refl) (refl, refl)
 
 pub read-touches : (b : Board) (reg : ℕ) (o : Option ℕ) → Touches Nothing b (read_by b reg o).board
 read-touches b reg None = (refl, refl)
@@ -109,7 +110,7 @@ asked-touches b id = go (device_at b id)
     go None = (refl, refl)
     go (Some d) =
         or-touches b Nothing (not (attached b d)) _ _ (refl, refl)
-        (or-touches b Nothing (among b.pending d) _ _ (refl, refl)
+        (or-touches b Nothing (is_early b d) _ _ (refl, refl)
         (or-touches b Nothing (is_some (notice_barred b)) _ _ (refl, refl) (refl, refl)))
 
 -- rings alone are others
@@ -220,15 +221,19 @@ pub stepped-touches : (b : Board) (ns : ℕ) → Touches Registers b (altered b 
 unfolding altered
 stepped-touches b ns = touches-board Registers b (timed (advanced b ns)).board (advanced b ns).board (timed-board (advanced b ns)) (advanced-frame b ns)
 
-pub held-touches : (b : Board) (path : List ℕ) → Touches Registers b (altered b (XResetHold path)).board
+pub held-touches : (b : Board) (path : List ℕ) (kind : Option ResetKind) → Touches Registers b (altered b (XResetHold path kind)).board
 unfolding altered
-held-touches b path = changed-touches Registers b (held_at b path) (held-frame b path)
+held-touches b path kind = changed-touches Registers b (held_at b path (unwrap_or kind Cold)) (held-frame b path (unwrap_or kind Cold))
 
 pub released-touches : (b : Board) (path : List ℕ) → Touches Registers b (altered b (XResetRelease path)).board
 unfolding altered
 released-touches b path = changed-touches Registers b (released_at b path) (released-frame b path)
 
-pub reset-touched : (b : Board) (pending : List ℕ) → b.pending ≡ pending → Touches (touched_by_reset pending) b (altered b SystemReset).board
+pub woken-touches : (b : Board) → Touches Registers b (altered b XWakeup).board
+unfolding altered
+woken-touches b = changed-touches Registers b (record { refusal = None; board = woken b }) (woken-frame b)
+
+pub reset-touched : (b : Board) (pending : List Removal) → b.pending ≡ pending → Touches (touched_by_reset pending) b (altered b SystemReset).board
 unfolding altered
 reset-touched b pending same = reset-touches b pending same
 

@@ -14,10 +14,11 @@ use Rattle.qo_commands.specs.Hearing.{Outcome, heard}
 use Rattle.qo_layout.specs.Layout.{flat_view}
 use Rattle.qo_memmap.specs.declared.span.Span.{Span}
 use Rattle.qo_model.specs.Board.{Board, DeviceEvent, is_live}
-use Rattle.qo_model.specs.Hotplug.{asked, reset_whole}
+use Rattle.qo_model.specs.Hotplug.{asked, reset_whole, woken}
 use Rattle.qo_model.specs.Plug.{Plugged, plug}
 use Rattle.qo_plug.specs.Admission.{wanted}
 use Rattle.qo_values.specs.PlainValues.{data_of}
+use Rattle.qo_values.specs.declared.kinds.ResetKind.TheVariants.{Cold}
 use Rattle.qo_model.specs.Listing.{around, value_word}
 use Rattle.qo_model.specs.NoteReplies.{first_from, given_from}
 use Rattle.qo_model.specs.Notes.{note_text, total_of}
@@ -46,7 +47,7 @@ use Rattle.qo_requests.specs.declared.commands.Command.{Command}
 use Rattle.qo_requests.specs.declared.calls.Addition.{Addition}
 use Rattle.qo_requests.specs.declared.calls.Addition.TheVariants.{ObjectAdd, DeviceAdd}
 use Rattle.qo_requests.specs.declared.calls.Alteration.{Alteration}
-use Rattle.qo_requests.specs.declared.calls.Alteration.TheVariants.{ChardevAdd, ChardevRemove, Cont, DeviceDel, ObjectDel, QomSet, RingbufRead, RingbufWrite, Stop, SystemReset, XGuest, XResetHold, XResetRelease, XSever, XStep}
+use Rattle.qo_requests.specs.declared.calls.Alteration.TheVariants.{ChardevAdd, ChardevRemove, Cont, DeviceDel, ObjectDel, QomSet, RingbufRead, RingbufWrite, Stop, SystemReset, XGuest, XResetHold, XResetRelease, XSever, XStep, XWakeup}
 use Rattle.qo_requests.specs.declared.calls.Call.{Call}
 use Rattle.qo_requests.specs.declared.calls.Call.TheVariants as call
 use Rattle.qo_requests.specs.declared.calls.Change.{Change}
@@ -258,8 +259,9 @@ altered b Stop = switched b false Stopped
 altered b Cont = switched b true Resume
 altered b (XStep ns) = timed (advanced b ns)
 altered b SystemReset = reset_by b
-altered b (XResetHold path) = changed (held_at b path)
+altered b (XResetHold path kind) = changed (held_at b path (unwrap_or kind Cold))
 altered b (XResetRelease path) = changed (released_at b path)
+altered b XWakeup = changed (record { refusal = None; board = woken b })
 
 abbrev pub made : Board → Change → Done
 made b (Add addition) = added b addition

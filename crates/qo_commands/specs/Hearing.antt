@@ -5,8 +5,7 @@ use Rattle.qo_guest.specs.declared.answers.GuestAnswer.{GuestAnswer}
 use Rattle.qo_guest.specs.declared.answers.GuestAnswer.TheVariants.{Fine, Plug, Unplug, NoNotice, Value, NoLine, NoStopped, NoAddress, NoDevice, NoPending, NoRegister}
 use Rattle.qo_guest.specs.declared.lines.GuestAct.{GuestAct}
 use Rattle.qo_guest.specs.declared.lines.GuestAct.TheVariants.{Ack, Nack, Poll, Read, Write, Peek, Poke, Irq, Reset as start_over, Shutdown as power_off}
-use Rattle.qo_model.specs.Board.{Board, Notice}
-use Rattle.qo_model.specs.Depth.{among}
+use Rattle.qo_model.specs.Board.{Board, Notice, is_pending}
 use Rattle.qo_model.specs.Hotplug.{completed, refused, reset_whole}
 use Rattle.qo_model.specs.Paths.{is_of}
 use Rattle.qo_layout.specs.Layout.{register_at}
@@ -39,7 +38,7 @@ fine b = answered b Fine
 
 -- of a device whose removal is pending
 abbrev pub if_pending : Board → ℕ → Board → Outcome
-if_pending b d after = if among b.pending d then fine after else answered b NoPending
+if_pending b d after = if is_pending b d then fine after else answered b NoPending
 
 -- the guest lets a device go, or refuses to
 abbrev pub acked : Board → Option ℕ → Outcome

@@ -1,7 +1,7 @@
 -- For proofs alone. What a command or a line of the guest touched of what interrupt lines hang on, and what is left then of the lines.
-use Rattle.std.specs.Prelude.{◌≡◌, ℕ, List, [], ◌∷◌, map, Result, Ok, Err, ⊤}
+use Rattle.std.specs.Prelude.{◌≡◌, List, [], ◌∷◌, map, Result, Ok, Err, ⊤}
 use Rattle.qo_layout.specs.Rows.{AreShaped, Wired}
-use Rattle.qo_model.specs.Board.{Board, Record}
+use Rattle.qo_model.specs.Board.{Board, Record, Removal}
 use Rattle.qo_model.specs.SoundGraph.{without_values}
 use Rattle.qo_realize.specs.Parts.{Parts}
 use Rattle.qo_realize.specs.Representation.{Stands}
@@ -27,9 +27,9 @@ unless_refused touched (Ok done) = touched
 unless_refused touched (Err code) = Nothing
 
 -- what a reset of the whole board touches, by the removals that are pending
-abbrev pub touched_by_reset : List ℕ → Touched
+abbrev pub touched_by_reset : List Removal → Touched
 touched_by_reset [] = Registers
-touched_by_reset (d ∷ ds) = Devices
+touched_by_reset (r ∷ removals) = Devices
 
 -- a sound board stands at these parts, and lines are made for its objects, whatever their inputs hold
 pub record ShapeOf (p : Parts) (l : Wired) : Type 0 where

@@ -26,7 +26,7 @@ use qo_plug::{AddRefusal, DeviceOptions};
 use qo_realize::Board;
 use qo_replies::Event;
 use qo_requests::{Addition, Alteration, Change};
-use qo_values::{Code, PropList, Text, Val};
+use qo_values::{Code, PropList, ResetKind, Text, Val};
 use std::alloc::{AllocError, Global};
 use std::sync::ledger::Ledger;
 
@@ -213,12 +213,18 @@ fn reset<L: Ledger>(board: &mut Board, steps: &mut Steps<L>) -> Done
     }
 }
 
-/// Holds the object at a path in reset.
-fn hold<L: Ledger>(board: &mut Board, path: &str, steps: &mut Steps<L>) -> Result<Done, AllocError>
-    ensures came { (b : Tree) → Stands b board.old → Alters b (altered b (alteration.XResetHold path.now)) result board.new }
-    ensures touched { (b : Tree) → Stands b board.old → IfOk result (λ d. Touches d.touched b (altered b (alteration.XResetHold path.now)).board) }
+/// Holds the object at a path in a reset of a type, or in a cold one where none is named.
+fn hold<L: Ledger>(
+    board: &mut Board,
+    path: &str,
+    kind: Option<ResetKind>,
+    steps: &mut Steps<L>,
+) -> Result<Done, AllocError>
+    ensures came { (b : Tree) → Stands b board.old → Alters b (altered b (alteration.XResetHold path.now kind)) result board.new }
+    ensures touched { (b : Tree) → Stands b board.old → IfOk result (λ d. Touches d.touched b (altered b (alteration.XResetHold path.now kind)).board) }
 {
-    outcome_of(board.hold(path, steps), Touched::Registers)
+    let kind = kind.unwrap_or(ResetKind::Cold);
+    outcome_of(board.hold(path, kind, steps), Touched::Registers)
 }
 
 /// Releases a hold on the object at a path.
@@ -227,6 +233,15 @@ fn release<L: Ledger>(board: &mut Board, path: &str, steps: &mut Steps<L>) -> Do
     ensures touched { (b : Tree) → Stands b board.old → Touches result.touched b (altered b (alteration.XResetRelease path.now)).board }
 {
     done_by(board.release(path, steps), Touched::Registers)
+}
+
+/// The machine wakes up.
+fn wake<L: Ledger>(board: &mut Board, steps: &mut Steps<L>) -> Done
+    ensures came { (b : Tree) → Stands b board.old → Came (altered b alteration.XWakeup) result board.new }
+    ensures touched { (b : Tree) → Stands b board.old → Touches result.touched b (altered b alteration.XWakeup).board }
+{
+    board.wakeup(steps);
+    done_by(Ok(()), Touched::Registers)
 }
 
 /// A command that makes objects. Where it is refused the board is as it was, but for an attempt that
@@ -315,8 +330,9 @@ fn alter<L: Ledger>(
         Alteration::Cont => Ok(cont(board)),
         Alteration::XStep { ns } => Ok(step(board, *ns)),
         Alteration::SystemReset => Ok(reset(board, steps)),
-        Alteration::XResetHold { path } => hold(board, path.as_str(), steps),
+        Alteration::XResetHold { path, kind } => hold(board, path.as_str(), *kind, steps),
         Alteration::XResetRelease { path } => Ok(release(board, path.as_str(), steps)),
+        Alteration::XWakeup => Ok(wake(board, steps)),
     }
 }
 

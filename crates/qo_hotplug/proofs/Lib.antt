@@ -1,1 +1,1 @@
-pub mod Births
+pub mod Again

@@ -10,7 +10,7 @@ pub struct NoticesFull;
 /// Why a removal is not asked for.
 #[derive(Clone, Copy, Debug, PartialEq, Eq, Error)]
 pub enum AskError {
-    /// It is pending already.
+    /// It is pending, and was asked for a short while ago.
     #[error("removal pending")]
     Pending,
     /// As many notices wait for the guest as may.

@@ -3,12 +3,15 @@
 ghost use Rattle.std.specs.Prelude.{◌≡◌, ◌≤◌, ◌==◌, ◌||◌, not, filter};
 ghost use Rattle.std.specs.List.{list_any};
 ghost use Rattle.std.specs.Vec.{vec_len, vec_capacity};
-ghost use Rattle.qo_model.specs.Depth.{among};
-ghost use Rattle.qo_model.specs.Unplug.{without_all};
-ghost use Rattle.qo_hotplug.specs.Hotplug.{births};
+ghost use Rattle.std.specs.Prelude.{◌&&◌, ◌+◌, map, nat_lt};
+ghost use Rattle.qo_values.specs.declared.limits.TheConstants.{ASK_AGAIN_AFTER};
+ghost use Rattle.qo_model.specs.Board.{Removal as Pending, is_of_device};
+ghost use Rattle.qo_model.specs.Hotplug.{asked_at};
+ghost use Rattle.qo_model.specs.Unplug.{without_removal};
 
 use crate::errors::{AskError, NotPending, NoticesFull};
 use crate::notices::Notice;
+use crate::removals::Removal;
 use qo_slots::Key as Oid;
 use qo_values::{LIVE_OBJECTS_MAX, NOTICES_MAX};
 use std::alloc::{AllocError, Global};
@@ -20,12 +23,12 @@ const PENDING: usize = LIVE_OBJECTS_MAX as usize;
 /// Notices that wait, at most.
 const NOTICES: usize = NOTICES_MAX as usize;
 
-/// The devices whose removal is pending, in the order of asking, and the notices that wait for the
+/// The devices whose removal is pending, in the order of the first asking, and the notices that wait for the
 /// guest, in theirs (include/hw/hotplug.h). Keys may dangle: contracts see births alone. All room
 /// is taken by `new`.
 #[derive(Drop)]
 pub struct Hotplug {
-    pending: Vec<Oid>,
+    pending: Vec<Removal>,
     notices: Vec<Notice>,
 }
 
@@ -33,21 +36,21 @@ impl Model for Hotplug {
     ghost use Rattle.std.specs.Prelude.{◌≤◌};
     ghost use Rattle.std.specs.Vec.{vec_len, vec_capacity};
     ghost use Rattle.qo_values.specs.declared.limits.TheConstants.{LIVE_OBJECTS_MAX, NOTICES_MAX};
-    ghost use Rattle.qo_hotplug.specs.Hotplug.{Asked, births};
+    ghost use Rattle.qo_hotplug.specs.Hotplug.{Asked};
 
     ghost Value = { Asked };
 
-    ghost view = { λ h. record { pending = births h.pending.items; notices = h.notices.items } };
+    ghost view = { λ h. record { pending = h.pending.items; notices = h.notices.items } };
 
     ghost invariant = { λ h. (LIVE_OBJECTS_MAX ≤ vec_capacity h.pending) × (NOTICES_MAX ≤ vec_capacity h.notices) × (vec_len h.notices ≤ NOTICES_MAX) };
 }
 
 /// A device's removals are taken out of those that are pending.
-fn drop_pending(pending: &mut Vec<Oid>, device: Oid)
-    ensures items { births pending.new.items ≡ without_all device.birth (births pending.old.items) }
+fn drop_pending(pending: &mut Vec<Removal>, device: Oid)
+    ensures items { pending.new.items ≡ without_removal device.birth pending.old.items }
     ensures capacity { vec_capacity pending.new ≡ vec_capacity pending.old }
 {
-    pending.retain(|other| other.birth != device.birth);
+    pending.retain(|removal| removal.device().birth != device.birth);
 }
 
 /// The notices that the removal of a device is asked for are taken out.
@@ -68,17 +71,36 @@ fn drop_notices(notices: &mut Vec<Notice>, device: Oid)
     notices.retain(|notice| notice.device().birth != device.birth);
 }
 
-/// Whether a device is among some.
-fn is_among(devices: &[Oid], device: Oid) -> bool
-    ensures { result ≡ list_any (λ other. device.birth == other.birth) devices.now }
+/// Whether the removal of a device is among some.
+fn is_among(removals: &[Removal], device: Oid) -> bool
+    ensures { result ≡ list_any (is_of_device device.birth) removals.now }
 {
-    devices.iter().any(|other| device.birth == other.birth)
+    removals.iter().any(|removal| removal.is_of(device))
+}
+
+/// Whether the removal of a device is among some and was asked for less than `ASK_AGAIN_AFTER` ns before a moment.
+fn is_early(removals: &[Removal], device: Oid, now: u64) -> bool
+    ensures { result ≡ list_any (λ (r : Pending). is_of_device device.birth r && nat_lt now (r.asked + ASK_AGAIN_AFTER)) removals.now }
+{
+    removals
+        .iter()
+        .any(|removal| removal.is_of(device) && removal.is_early(now))
+}
+
+/// The removal of a device among some is asked for again.
+fn ask_again(removals: &mut Vec<Removal>, device: Oid, now: u64)
+    ensures items { removals.new.items ≡ map (asked_at device.birth now) removals.old.items }
+    ensures capacity { vec_capacity removals.new ≡ vec_capacity removals.old }
+{
+    for at in 0..removals.len() {
+        removals[at].ask_again(device, now);
+    }
 }
 
 impl Hotplug {
     ghost use Rattle.std.specs.Prelude.{◌<◌, ◌⊎◌, ◌↔◌, true, None, Some, IfOk, IfErr, OnOk, OnErr, IsErr, is_ok, option_map, slice_get, length};
     ghost use Rattle.qo_values.specs.declared.limits.TheConstants.{LIVE_OBJECTS_MAX, NOTICES_MAX};
-    ghost use Rattle.qo_hotplug.specs.Hotplug.{nothing_asked, notified, asked, ask_refusal, refused, gone, first_notice, after_first};
+    ghost use Rattle.qo_hotplug.specs.Hotplug.{nothing_asked, notified, asked, ask_refusal, refused, gone, first_notice, after_first, is_among};
 
     /// Nothing is pending and nothing waits. All room is taken here; no other call takes memory.
     pub fn new(alloc: Global) -> Result<Hotplug, AllocError>
@@ -104,22 +126,27 @@ impl Hotplug {
         Ok(())
     }
 
-    /// The removal of a device is asked for, and the guest is told so. It is refused where it is pending
-    /// already, and else where the notices are full. It takes no memory.
-    pub fn ask(&mut self, device: Oid) -> Result<(), AskError>
-        requires { (among self.old.pending device.birth ≡ true) ⊎ (length self.old.pending < LIVE_OBJECTS_MAX) }
-        ensures free { OnOk result (ask_refusal device.birth self.old ≡ None) }
-        ensures ok { OnOk result (self.new ≡ asked device.birth self.old) }
-        ensures refused { IfErr result (λ why. ask_refusal device.birth self.old ≡ Some why) }
+    /// The removal of a device is asked for at a moment of the virtual time, and the guest is told so. It is refused
+    /// where it is pending and was last asked for less than `ASK_AGAIN_AFTER` ns before, and else where the notices are
+    /// full. One that is pending keeps its place. It takes no memory.
+    pub fn ask(&mut self, device: Oid, now: u64) -> Result<(), AskError>
+        requires { (is_among device.birth self.old ≡ true) ⊎ (length self.old.pending < LIVE_OBJECTS_MAX) }
+        ensures free { OnOk result (ask_refusal device.birth now self.old ≡ None) }
+        ensures ok { OnOk result (self.new ≡ asked device.birth now self.old) }
+        ensures refused { IfErr result (λ why. ask_refusal device.birth now self.old ≡ Some why) }
         ensures err { OnErr result (self.new ≡ self.old) }
     {
-        if self.is_pending(device) {
+        if is_early(&self.pending, device, now) {
             return Err(AskError::Pending);
         }
         if self.notices.len() >= NOTICES {
             return Err(AskError::NoticesFull);
         }
-        self.pending.push_reserved(device);
+        if self.is_pending(device) {
+            ask_again(&mut self.pending, device, now);
+        } else {
+            self.pending.push_reserved(Removal::new(device, now));
+        }
         self.notices.push_reserved(Notice::unplug(device));
         Ok(())
     }
@@ -127,7 +154,7 @@ impl Hotplug {
     /// The guest lets a device go; this tells whether its removal is pending. That it ends is told by
     /// `gone`. It takes no memory.
     pub fn acked(&self, device: Oid) -> Result<(), NotPending>
-        ensures { is_ok result ≡ among self.now.pending device.birth }
+        ensures { is_ok result ≡ is_among device.birth self.now }
     {
         if self.is_pending(device) {
             Ok(())
@@ -139,7 +166,7 @@ impl Hotplug {
     /// The guest refuses the removal of a device: it is neither pending nor told any more. It is an error
     /// where none is pending. It takes no memory.
     pub fn nacked(&mut self, device: Oid) -> Result<(), NotPending>
-        ensures pending { is_ok result ≡ among self.old.pending device.birth }
+        ensures pending { is_ok result ≡ is_among device.birth self.old }
         ensures ok { OnOk result (self.new ≡ refused device.birth self.old) }
         ensures err { OnErr result (self.new ≡ self.old) }
     {
@@ -172,21 +199,22 @@ impl Hotplug {
 
     /// The device whose removal has been pending longest. None where none is. It takes no memory.
     pub fn first_pending(&self) -> Option<Oid>
-        ensures { option_map (λ o. o.birth) result ≡ slice_get self.now.pending 0 }
+        ensures { option_map (λ o. o.birth) result ≡ option_map (λ (r : Pending). r.birth) (slice_get self.now.pending 0) }
     {
-        self.pending.first().copied()
+        let first = self.pending.first()?;
+        Some(first.device())
     }
 
     /// Whether the removal of a device is pending. It takes no memory.
     pub fn is_pending(&self, device: Oid) -> bool
-        ensures { result ≡ among self.now.pending device.birth }
+        ensures { result ≡ is_among device.birth self.now }
     {
         is_among(&self.pending, device)
     }
 
     /// The devices whose removal is pending, in the order of asking. It takes no memory.
-    pub fn pending(&self) -> &[Oid]
-        ensures { births result.now ≡ self.now.pending }
+    pub fn pending(&self) -> &[Removal]
+        ensures { result.now ≡ self.now.pending }
     {
         self.pending.as_slice()
     }

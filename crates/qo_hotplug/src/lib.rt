@@ -4,7 +4,9 @@
 mod errors;
 mod hotplug;
 mod notices;
+mod removals;
 
 pub use errors::{AskError, NotPending, NoticesFull};
 pub use hotplug::Hotplug;
 pub use notices::Notice;
+pub use removals::Removal;

@@ -2,6 +2,8 @@
 
 ghost use Rattle.std.specs.Prelude.{◌≡◌, ◌≤◌, IfNone, ℕ, false, option_map, true};
 ghost use Rattle.qo_values.specs.Registers.{body_act, body_read, body_write, fresh_registers};
+ghost use Rattle.qo_values.specs.Timer.{timer_wake};
+ghost use Rattle.qo_values.specs.Uart.{uart_wake};
 ghost use Rattle.qo_values.specs.Registers as registers;
 ghost use Rattle.qo_kinds.specs.Bodies.{IsBare, IsTimely, MayAct, reads_moment, acted, body_of, device_in, kept_of, none_kept, registers_of, with_kept, with_registers};
 ghost use Rattle.qo_kinds.specs.Effects.{shown_effect};
@@ -38,12 +40,43 @@ pub enum Device {
     Bare,
 }
 
+/// The register of a UART that a wakeup keeps.
+const DIVISOR: u8 = 1;
+
+/// The register of a timer that a wakeup keeps.
+const RELOAD: u8 = 1;
+
+/// The enter phase of a wakeup of a UART: as `enter`, but DIVISOR stays.
+fn wake_uart(uart: &mut Uart)
+    ensures { uart.new ≡ uart_wake uart.old }
+{
+    let divisor = uart.read(DIVISOR, false, 0);
+    uart.enter();
+    if let Some(divisor) = divisor {
+        uart.write(DIVISOR, divisor, false);
+    }
+}
+
+/// The enter phase of a wakeup of a timer: as `enter`, but RELOAD stays. It is disabled
+/// then, so that no segment begins.
+fn wake_timer(timer: &mut Timer)
+    ensures { timer.new ≡ timer_wake timer.old }
+{
+    let last = timer.last();
+    let reload = timer.read(RELOAD, last, 0);
+    timer.enter();
+    if let Some(reload) = reload {
+        timer.write(RELOAD, reload, last, 0);
+    }
+}
+
 /// An act of a UART.
 fn act_uart(uart: &mut Uart, act: Act)
     ensures { (time period : ℕ) → registers.uart uart.new ≡ body_act act time period (registers.uart uart.old) }
 {
     match act {
         Act::Enter => uart.enter(),
+        Act::Wake => wake_uart(uart),
         Act::Hold => uart.hold(),
         Act::Exit => uart.exit(),
         _ => {}
@@ -57,6 +90,7 @@ fn act_timer(timer: &mut Timer, act: Act, time: u64, period: u64)
 {
     match act {
         Act::Enter => timer.enter(),
+        Act::Wake => wake_timer(timer),
         Act::Hold => timer.hold(),
         Act::Unrealize => timer.halt(time, period),
         Act::Pre => timer.pre_update(time, period),

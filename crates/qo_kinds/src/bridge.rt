@@ -46,7 +46,7 @@ impl Bridge {
         ensures { (time period : ℕ) → bridge self.new ≡ body_act act time period (bridge self.old) }
     {
         match act {
-            Act::Enter => self.raised = false,
+            Act::Enter | Act::Wake => self.raised = false,
             Act::Hold => self.holds = self.holds.saturating_add(1),
             _ => {}
         }

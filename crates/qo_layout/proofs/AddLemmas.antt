@@ -175,7 +175,7 @@ pub not-full : (b : Board) (v : Objects) → Shows b v → length v.rows ≤ LIV
     → births_of objects ≡ mapped b → MAX_REGIONS ≤ length objects → ⊥
 not-full b v s few h shape objects listed full =
     absurd
-    (let most : length (mapped b) ≤ 8192 = few-mapped b h shape (shows-few b v s few) in
+    (let most : length (mapped b) ≤ LIVE_OBJECTS_MAX = few-mapped b h shape (shows-few b v s few) in
     let same : length objects ≡ length (mapped b) = sym (births-length objects) ∙ ap (λ (ns : List ℕ). length ns) listed in
     omega (arith, most, same, full))
 

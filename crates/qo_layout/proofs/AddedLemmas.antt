@@ -10,9 +10,9 @@ use Rattle.std.proofs.lemmas.List.{length-map, length-take-le}
 use Rattle.std.proofs.lemmas.Map.Made.{length-le_from_is_member}
 use Rattle.std.proofs.lemmas.Nat.{mul-le}
 use Rattle.qo_values.specs.Placing.{window_start}
-use Rattle.qo_values.specs.declared.births.TheConstants.{MEMORY_BUS_BIRTH, ROOT_BUS_BIRTH}
+use Rattle.qo_values.specs.declared.births.TheConstants.{MACHINE_BIRTH, MEMORY_BUS_BIRTH, ROOT_BUS_BIRTH}
 use Rattle.qo_values.specs.declared.limits.TheConstants.{LIVE_OBJECTS_MAX}
-use Rattle.qo_model.specs.Board.{Board, Record, is_live}
+use Rattle.qo_model.specs.Board.{Board, Record}
 use Rattle.qo_model.specs.Depth.{among}
 use Rattle.qo_model.specs.Devices.{bus_of, depth_of, first_bus, kid_at}
 use Rattle.qo_model.specs.Paths.{births, is_of}
@@ -21,8 +21,8 @@ use Rattle.qo_model.proofs.StepLemmas.{live-among}
 use Rattle.qo_sound.proofs.TestLemmas.{decide}
 use Rattle.qo_sound_devices.specs.SoundDevices.{SoundDevices}
 use Rattle.qo_sound_devices.specs.SoundPlaces.{HasOwner, stands}
-use Rattle.qo_sound_devices.proofs.PlacesLemmas.{of-live, stands-live}
-use Rattle.qo_sound_phases.proofs.ListLemmas.{among-left, among-right}
+use Rattle.qo_sound_phases.specs.SoundPhases.{machine}
+use Rattle.qo_sound_phases.proofs.ReachLemmas.{post-reached, reached-live}
 use Rattle.qo_sound_phases.proofs.ResetTreeLemmas.{Placed, placed as places-of, post-once, stands-no_bus}
 use Rattle.qo_sound_claims.specs.SoundClaims.{SoundClaims}
 use Rattle.qo_sound_shapes.specs.SoundShape.{SoundShape}
@@ -33,6 +33,7 @@ use Rattle.qo_memmap.specs.declared.region.Place.{Place}
 use Rattle.qo_memmap.specs.declared.region.TheConstants.{ADDRESS_LIMIT}
 use Rattle.qo_layout.specs.Layout.{MapLaw, is_memory, board_map, boot_leaf, device_places, low_alias, low_number, mapped, memory_places, placed, range_of, region_of, root_number, root_region, slot_places, slot_size, slots_of_bus}
 use Rattle.qo_layout.proofs.DimmLemmas.{address-fits, dimm-fits}
+use Rattle.qo_layout.proofs.MachineLemmas.{below-machine}
 use Rattle.qo_layout.proofs.MapLemmas.{all-slots, each-region, low-under, memory-is, object-under, root-is, root-under}
 use Rattle.qo_layout.proofs.RankLemmas.{object-area, root-area, low-area, shallow-at}
 use Rattle.qo_layout.proofs.RegionLemmas.{IsKidAt, depth-same, kid-on, mapped-cases}
@@ -123,30 +124,24 @@ module _ (b : Board) (h : SoundDevices b) (shape : SoundShape b) where
             let least : 4096 ≤ slot_size (depth_of b o) = fits (depth_of b o) deep in
             let most : slot_size (depth_of b o) ≤ 2 ^ 44 = slot-most (depth_of b o) in
             rw (off, its.0)
-            (in-range (record { size = 8 * slot_size (depth_of b o); kind = Container; children = flat_map (slot_places b o (slot_size (depth_of b o))) slots_of_bus })
+            (in-range (record {
+              size = 8 * slot_size (depth_of b o);
+              kind = Container;
+              children = flat_map (slot_places b o (slot_size (depth_of b o))) slots_of_bus;
+            })
             (omega (arith, least)) (omega (arith, most)) refl
             (all-slots (λ (x : Place). leb x.at ADDRESS_LIMIT) (slot_places b o (slot_size (depth_of b o))) slots_of_bus
             (λ i. slot-range o (slot_size (depth_of b o)) i its.0 most)))
 
   -- How many there are.
 
-  object-live : (o : ℕ) → among (mapped b) o ≡ true → among (births b) o ≡ true
-  object-live o e = sym (live-among b o) ∙ by (mapped-cases b h (root-is b shape) (memory-is b shape) o e)
-    where
-      by : ((is_of b (codes "bus") o ≡ true) × HasOwner b o) ⊎ (stands b o ≡ true) → is_live b o ≡ true
-      by (inl its) = of-live b (codes "bus") o its.0
-      by (inr s) = stands-live b k.firm o s
-
-  pub few : length b.records ≤ LIVE_OBJECTS_MAX → length (mapped b) ≤ 8192
+  pub few : length b.records ≤ LIVE_OBJECTS_MAX → length (mapped b) ≤ LIVE_OBJECTS_MAX
   few room =
       let whole : length (births b) ≡ length b.records = length-map b.records (λ (r : Record). r.birth) in
-      let root : length (post b ROOT_BUS_BIRTH) ≤ length (births b) =
-      length-le_from_is_member nat_eq_equiv (post b ROOT_BUS_BIRTH) (births b) (post-once b k ROOT_BUS_BIRTH)
-      (λ m e. object-live m (among-left m (post b ROOT_BUS_BIRTH) (post b MEMORY_BUS_BIRTH) e)) in
-      let memory : length (post b MEMORY_BUS_BIRTH) ≤ length (births b) =
-      length-le_from_is_member nat_eq_equiv (post b MEMORY_BUS_BIRTH) (births b) (post-once b k MEMORY_BUS_BIRTH)
-      (λ m e. object-live m (among-right m (post b ROOT_BUS_BIRTH) (post b MEMORY_BUS_BIRTH) e)) in
-      omega (arith, whole, root, memory, room, length-append (post b ROOT_BUS_BIRTH) (post b MEMORY_BUS_BIRTH))
+      let all : length (post b MACHINE_BIRTH) ≤ length (births b) =
+      length-le_from_is_member nat_eq_equiv (post b MACHINE_BIRTH) (births b) (post-once b k MACHINE_BIRTH)
+      (λ m e. sym (live-among b m) ∙ reached-live b k m (post-reached b k MACHINE_BIRTH m (machine refl) e)) in
+      omega (arith, whole, all, room, below-machine b h shape, length-append (post b ROOT_BUS_BIRTH) (post b MEMORY_BUS_BIRTH))
 
   -- The law.
 

@@ -44,7 +44,7 @@ post-is b h o = by_objects_is (below b) (post_turn b) (λ x. []) (births b) (pos
 
 -- it is longer than what is gone over below one that is below it
 
-length-part : (f : ℕ → List ℕ) (m : ℕ) (ms : List ℕ) → among ms m ≡ true → length (f m) ≤ length (flat_map f ms)
+pub length-part : (f : ℕ → List ℕ) (m : ℕ) (ms : List ℕ) → among ms m ≡ true → length (f m) ≤ length (flat_map f ms)
 length-part f m [] e = absurd (let clash : false ≡ true = e in cc)
 length-part f m (x ∷ ms) e = go (eqb m x) refl (length-part f m ms)
   where

@@ -3,6 +3,7 @@ pub mod AddLemmas
 pub mod AddedLemmas
 pub mod DimmLemmas
 pub mod LengthLemmas
+pub mod MachineLemmas
 pub mod MapLemmas
 pub mod NumberingLemmas
 pub mod OpeningRows

@@ -171,10 +171,10 @@ next-before b rows objects i d after low before =
 
 -- there are not too many
 pub few-objects : (b : Board) (v : Objects) → Shows b v → length v.rows ≤ LIVE_OBJECTS_MAX → SoundDevices b → SoundShape b → (objects : List Key)
-    → births_of objects ≡ mapped b → length objects ≤ 8192
+    → births_of objects ≡ mapped b → length objects ≤ LIVE_OBJECTS_MAX
 few-objects b v s most h shape objects listed =
     let records : length b.records ≡ length v.rows =
     ap (λ (rs : List Record). length rs) s.records ∙ length-map v.rows (λ (row : Key × Content). record_of row) in
-    let all : length (mapped b) ≤ 8192 = few b h shape (omega (arith, records, most)) in
+    let all : length (mapped b) ≤ LIVE_OBJECTS_MAX = few b h shape (omega (arith, records, most)) in
     let same : length (births_of objects) ≡ length objects = length-map objects (λ (o : Key). o.birth) in
     omega (arith, all, same, ap (λ (ns : List ℕ). length ns) listed)

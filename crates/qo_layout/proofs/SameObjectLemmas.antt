@@ -4,7 +4,9 @@ use Rattle.std.proofs.lemmas.Bool.{eqb-true}
 use Rattle.std.specs.Option.{option_map_or}
 use Rattle.qo_values.specs.Registers.{Registers, bare, body_act, bridge, dimm, timer, uart}
 use Rattle.qo_values.specs.declared.kinds.Act.{Act}
-use Rattle.qo_values.specs.declared.kinds.Act.TheVariants.{Enter, Exit, Hold, Init, Pre, Realize, Unrealize, Update}
+use Rattle.qo_values.specs.declared.kinds.Act.TheVariants.{Enter, Exit, Hold, Init, Pre, Realize, Unrealize, Update, Wake}
+use Rattle.qo_values.specs.declared.kinds.ResetKind.{ResetKind}
+use Rattle.qo_values.specs.Kinds.{entering}
 use Rattle.qo_model.specs.Board.{Board, Record, record_of}
 use Rattle.qo_model.specs.Clocks.{acted, with_act_on}
 use Rattle.qo_model.specs.Release.{edit, edited, without_first}
@@ -67,6 +69,11 @@ range-acted Enter now period (timer t) = refl
 range-acted Enter now period (dimm d) = refl
 range-acted Enter now period (bridge b) = refl
 range-acted Enter now period bare = refl
+range-acted Wake now period (uart u) = refl
+range-acted Wake now period (timer t) = refl
+range-acted Wake now period (dimm d) = refl
+range-acted Wake now period (bridge b) = refl
+range-acted Wake now period bare = refl
 range-acted Hold now period (uart u) = refl
 range-acted Hold now period (timer t) = refl
 range-acted Hold now period (dimm d) = refl
@@ -101,13 +108,12 @@ same-phased act [] b = same-beside b b refl
 same-phased act (o ∷ os) b = same-then b (acted act o 0 b) (phased act os (acted act o 0 b)) (same-acted act o 0 b) (same-phased act os (acted act o 0 b))
 
 -- so does a reset of what is below an object
-pub same-held : (b : Board) (r : ℕ) → SameObjects b (after_hold b r)
+pub same-held : (b : Board) (r : ℕ) (kind : ResetKind) → SameObjects b (after_hold b r kind)
 unfolding after_hold
-same-held b r =
+same-held b r kind =
     let os : List ℕ = filter (is_not_in_reset b) (post b r) in
-    let e : SameObjects b (phased Hold os (phased Enter os b)) =
-    same-then b (phased Enter os b) (phased Hold os (phased Enter os b)) (same-phased Enter os b) (same-phased Hold os (phased Enter os b))
-    in
+    let c : Board = phased (entering kind) os b in
+    let e : SameObjects b (phased Hold os c) = same-then b c (phased Hold os c) (same-phased (entering kind) os b) (same-phased Hold os c) in
     record { objects = e.objects; ranges = e.ranges }
 
 pub same-released : (b : Board) (r : ℕ) → SameObjects b (released b r)
@@ -117,6 +123,6 @@ same-released b r =
     let e : SameObjects c (phased Exit (filter (is_not_in_reset c) (post c r)) c) = same-phased Exit (filter (is_not_in_reset c) (post c r)) c in
     record { objects = e.objects; ranges = e.ranges }
 
-pub same-pulsed : (b : Board) (r : ℕ) → SameObjects b (pulse b r)
+pub same-pulsed : (b : Board) (r : ℕ) (kind : ResetKind) → SameObjects b (pulse b r kind)
 unfolding pulse
-same-pulsed b r = same-then b (after_hold b r) (released (after_hold b r) r) (same-held b r) (same-released (after_hold b r) r)
+same-pulsed b r kind = same-then b (after_hold b r kind) (released (after_hold b r kind) r) (same-held b r kind) (same-released (after_hold b r kind) r)

@@ -11,6 +11,7 @@ ghost use Rattle.qo_layout.specs.Rows.{AreLines, AreRows, AreWired, HasRow, obje
 ghost use Rattle.qo_model.specs.Board.{Board};
 ghost use Rattle.qo_model.specs.Reset.{below};
 ghost use Rattle.qo_sound_shapes.specs.SoundShape.{SoundShape};
+ghost use Rattle.qo_values.specs.declared.limits.TheConstants.{LIVE_OBJECTS_MAX};
 
 use crate::numbering::{below_in_slot, first_below, is_leaf};
 use crate::registers::wiring;
@@ -122,7 +123,8 @@ pub(crate) fn add_object<L: Ledger>(
 }
 
 /// Adds the lines of objects to a net, with a row for each, in place of what was there. Each object must come
-/// after all that is below it, and there must be at most 8192 of them, so that the one error is want of memory.
+/// after all that is below it, and there must be at most `LIVE_OBJECTS_MAX` of them, so that the one error is
+/// want of memory.
 pub(crate) fn add_objects<L: Ledger>(
     alloc: Global,
     heap: &Heap,
@@ -135,7 +137,7 @@ pub(crate) fn add_objects<L: Ledger>(
     ensures rows { OnOk result (AreRows rows.new.items net.new) }
     ensures objects { OnOk result (objects_of rows.new.items ≡ births_of objects.now) }
     ensures wired { (b : Board) → Shows b heap.now → SoundShape b → OnOk result (AreWired b rows.new.items net.new) }
-    ensures err { (b : Board) → Shows b heap.now → SoundShape b → ComeAfter b (births_of objects.now) → length objects.now ≤ 8192 → IfErr result (λ e. e ≡ Memory) }
+    ensures err { (b : Board) → Shows b heap.now → SoundShape b → ComeAfter b (births_of objects.now) → length objects.now ≤ LIVE_OBJECTS_MAX → IfErr result (λ e. e ≡ Memory) }
 {
     net.clear();
     rows.clear();

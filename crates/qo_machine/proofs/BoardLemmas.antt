@@ -1,9 +1,11 @@
 -- Steps keep the whole of what a sound board is.
+use Rattle.qo_values.specs.declared.births.TheConstants.{MACHINE_BIRTH}
+use Rattle.qo_values.specs.declared.kinds.ResetKind.TheVariants.{Wakeup}
 use Rattle.qo_commands.specs.Commands.{without_events}
 use Rattle.qo_model.specs.Board.{Board}
 use Rattle.qo_model.specs.Clocks.{div_of, mul_of}
 use Rattle.qo_realize.specs.SoundBoard.{SoundBoard}
-use Rattle.qo_realize.proofs.GoodBoardLemmas.{added-good, asked-good, attempt-good, changed-good, cleared-good, completed-good, cut-good, held-good, polled-good, refused-good, released-good, reset-good, ringed-good, scaled-good, set-good, switched-good, timed-good, written-good}
+use Rattle.qo_realize.proofs.GoodBoardLemmas.{added-good, asked-good, attempt-good, changed-good, cleared-good, completed-good, cut-good, held-good, polled-good, pulsed-good, refused-good, released-good, reset-good, ringed-good, scaled-good, set-good, switched-good, timed-good, written-good}
 use Rattle.qo_realize.proofs.RingLemmas.{added_backends, gained_backends, read_backends, removed_backends}
 use Rattle.qo_machine.proofs.PreservationLemmas.{KeepsBoard, KeepsCommands, keeps_commands}
 
@@ -32,9 +34,10 @@ board_kept =
           };
       timed = λ b now on low h. timed-good b now on low h;
       switched = λ b on h. switched-good b on h;
-      held_so = λ b n is home deep h. held-good b n is home deep h;
+      held_so = λ b n kind is home deep h. held-good b n kind is home deep h;
       released_so = λ b n is held h. released-good b n h;
       reset = λ b h. reset-good b h;
+      wakes = λ b h. pulsed-good b MACHINE_BIRTH Wakeup h;
     }
 
 -- events are no matter to it

@@ -1,4 +1,6 @@
 -- Steps keep devices in their places with the lists that name them, clocks with their numbers, and no timer ahead of the time.
+use Rattle.qo_values.specs.declared.births.TheConstants.{MACHINE_BIRTH}
+use Rattle.qo_values.specs.declared.kinds.ResetKind.TheVariants.{Cold, Wakeup}
 use Rattle.qo_commands.specs.Commands.{without_events}
 use Rattle.qo_model.specs.Board.{Board}
 use Rattle.qo_model.specs.Clocks.{div_of, mul_of}
@@ -25,13 +27,14 @@ run_kept =
       polled = λ b h. polled-run b h;
       written = λ b d reg value c there is h.
           written-all SoundRun b d reg value (λ registers e so. registers-run b d reg value registers e so h)
-          (λ x n id q. ringed-run x (pushed n x id).rings q) (λ x m on q. pulsed-run x m q) c is;
+          (λ x n id q. ringed-run x (pushed n x id).rings q) (λ x m on q. pulsed-run x m Cold q) c is;
       rings = any-rings SoundRun (λ b rings h. ringed-run b rings h);
       timed = λ b now on low h. timed-run b now on h;
       switched = λ b on h. switched-run b on h;
-      held_so = λ b n is home deep h. held-run b n h;
+      held_so = λ b n kind is home deep h. held-run b n kind h;
       released_so = λ b n is held h. released-run b n h;
       reset = λ b h. reset-run b h;
+      wakes = λ b h. pulsed-run b MACHINE_BIRTH Wakeup h;
     }
 
 -- events are no matter to them

@@ -1,5 +1,7 @@
 -- Steps keep devices in their places, and the lists that name devices.
-use Rattle.std.proofs.Common.{List, refl}
+use Rattle.std.proofs.Common.{List, refl, arith}
+use Rattle.qo_values.specs.declared.births.TheConstants.{MACHINE_BIRTH}
+use Rattle.qo_values.specs.declared.kinds.ResetKind.TheVariants.{Cold, Wakeup}
 use Rattle.qo_commands.specs.Commands.{without_events}
 use Rattle.qo_model.specs.Board.{Board, Ring}
 use Rattle.qo_model.specs.Clocks.{div_of, mul_of}
@@ -16,7 +18,7 @@ use Rattle.qo_machine.proofs.PreservationLemmas.{any-rings, KeepsBoard, KeepsCom
 
 -- rings are no matter to them
 pub ringed-devices : (b : Board) (rings : List Ring) → SoundDevices b → SoundDevices (with_rings rings b)
-ringed-devices b rings h = devices_kept_lem.beside b (with_rings rings b) refl refl refl refl refl refl h
+ringed-devices b rings h = devices_kept_lem.beside b (with_rings rings b) refl refl refl refl refl refl (omega arith) h
 
 -- changes and attempts keep them
 pub devices_kept : KeepsBoard SoundDevices
@@ -35,18 +37,19 @@ devices_kept =
       polled = λ b h. polled-devices b h;
       written = λ b d reg value c there is h.
           written-all SoundDevices b d reg value (λ registers e so. registers_kept_lem.devices b d registers h)
-          (λ x n id q. ringed-devices x (pushed n x id).rings q) (λ x m on q. devices_kept_lem.pulsed x m q) c is;
+          (λ x n id q. ringed-devices x (pushed n x id).rings q) (λ x m on q. devices_kept_lem.pulsed x m Cold q) c is;
       rings = any-rings SoundDevices (λ b rings h. ringed-devices b rings h);
-      timed = λ b now on low h. devices_kept_lem.beside b (at_time now b) refl refl refl refl refl refl h;
-      switched = λ b on h. devices_kept_lem.beside b (with_running on b) refl refl refl refl refl refl h;
-      held_so = λ b n is home deep h. devices_kept_lem.held_so b n h;
+      timed = λ b now on low h. devices_kept_lem.beside b (at_time now b) refl refl refl refl refl refl on h;
+      switched = λ b on h. devices_kept_lem.beside b (with_running on b) refl refl refl refl refl refl (omega arith) h;
+      held_so = λ b n kind is home deep h. devices_kept_lem.held_so b n kind h;
       released_so = λ b n is held h. devices_kept_lem.released_so b n h;
       reset = λ b h. devices_kept_lem.reset b h;
+      wakes = λ b h. devices_kept_lem.pulsed b MACHINE_BIRTH Wakeup h;
     }
 
 -- the events are no matter to them
 pub devices_free : (b : Board) → SoundDevices b → SoundDevices (without_events b)
-devices_free b h = devices_kept_lem.beside b (without_events b) refl refl refl refl refl refl h
+devices_free b h = devices_kept_lem.beside b (without_events b) refl refl refl refl refl refl (omega arith) h
 
 pub devices_commands : KeepsCommands SoundDevices
 devices_commands = keeps_commands SoundDevices devices_kept devices_free

@@ -1,5 +1,7 @@
 -- Steps keep holds on what a reset reaches, and no object with more holds on it and above it than may be.
 use Rattle.std.proofs.Common.{refl, List}
+use Rattle.qo_values.specs.declared.births.TheConstants.{MACHINE_BIRTH}
+use Rattle.qo_values.specs.declared.kinds.ResetKind.TheVariants.{Cold, Wakeup}
 use Rattle.qo_commands.specs.Commands.{without_events}
 use Rattle.qo_model.specs.Clocks.{div_of, mul_of}
 use Rattle.qo_realize.specs.Guest.{polled}
@@ -11,7 +13,7 @@ use Rattle.qo_sound_bounds.proofs.HoldsLemmas.{holds_kept_lem}
 use Rattle.qo_sound_phases.specs.PhaseRuns.{SoundResets}
 use Rattle.qo_sound_phases.proofs.LawLemmas.{phases_say_lem}
 use Rattle.qo_sound_devices.specs.SoundLists.{IsOn}
-use Rattle.qo_model.proofs.AmongLemmas.{among-all}
+use Rattle.qo_sound_devices.proofs.DevicesLawLemmas.{removal-all}
 use Rattle.qo_machine.specs.Laws.{KeptInRuns, PhasesInRuns, SoundHeld}
 use Rattle.qo_machine.specs.Machine.{opening}
 use Rattle.qo_machine.specs.Runs.{Turn, state_after}
@@ -33,14 +35,14 @@ held_kept =
       asked = λ b id h. (phases_kept.asked b id h.0, holds_kept_lem.asked_for b id h.1);
       completed = λ b at d is pending h. (
         phases_kept.completed b at d is pending h.0,
-        holds_kept_lem.detached b d h.0.devices (among-all (IsOn b) b.pending h.0.devices.lists.pending d pending).0 h.1,
+        holds_kept_lem.detached b d h.0.devices (removal-all (IsOn b) b.pending h.0.devices.lists.pending d pending).0 h.1,
       );
       refused = λ b d h. (phases_kept.refused b d h.0, holds_kept_lem.refused_by b d h.1);
       polled = λ b h. (phases_kept.polled b h.0, holds_kept_lem.beside b (polled b) refl refl h.1);
       written = λ b d reg value c there is h. (
         phases_kept.written b d reg value c there is h.0,
         written-all SoundHolds b d reg value (λ registers e so. holds_kept_lem.registers b d registers h.1)
-            (λ x n id q. holds_kept_lem.beside x (pushed n x id) refl refl q) (λ x m on q. holds_kept_lem.pulsed x m q) c is,
+            (λ x n id q. holds_kept_lem.beside x (pushed n x id) refl refl q) (λ x m on q. holds_kept_lem.pulsed x m Cold q) c is,
       );
       rings =
           record {
@@ -51,12 +53,13 @@ held_kept =
           };
       timed = λ b now on low h. (phases_kept.timed b now on low h.0, holds_kept_lem.beside b (at_time now b) refl refl h.1);
       switched = λ b on h. (phases_kept.switched b on h.0, holds_kept_lem.beside b (with_running on b) refl refl h.1);
-      held_so = λ b n is home deep h. (
-        phases_kept.held_so b n is home deep h.0,
-        holds_kept_lem.held_so b n (holds_kept_lem.reached b h.0.devices h.0.phases.lone n (may-so b n is home)) deep h.1,
+      held_so = λ b n kind is home deep h. (
+        phases_kept.held_so b n kind is home deep h.0,
+        holds_kept_lem.held_so b n kind (holds_kept_lem.reached b h.0.devices h.0.phases.lone n (may-so b n is home)) deep h.1,
       );
       released_so = λ b n is held h. (phases_kept.released_so b n is held h.0, holds_kept_lem.released_so b n h.1);
       reset = λ b h. (phases_kept.reset b h.0, holds_kept_lem.reset b h.0.devices h.1);
+      wakes = λ b h. (phases_kept.wakes b h.0, holds_kept_lem.pulsed b MACHINE_BIRTH Wakeup h.1);
     }
 
 held_commands : KeepsCommands SoundHeld

@@ -1,13 +1,13 @@
 -- Final notes over runs.
-use Rattle.std.proofs.Common.{◌≡◌, ℕ, zero, suc, true, refl, length, codes, Option, Some, None}
+use Rattle.std.proofs.Common.{◌≡◌, ℕ, zero, suc, true, refl, length, codes, Option, Some, None, slice_get}
 use Rattle.qo_values.specs.declared.births.TheConstants.{MACHINE_BIRTH, ROOT_BIRTH}
-use Rattle.qo_model.specs.Board.{Board, is_live}
+use Rattle.qo_values.specs.declared.kinds.ResetKind.TheVariants.{Cold, Wakeup}
+use Rattle.qo_model.specs.Board.{Board, Removal, is_live}
 use Rattle.qo_model.specs.Clocks.{div_of, mul_of}
 use Rattle.qo_model.specs.FinalNotes.{NotesInOrder}
 use Rattle.qo_model.proofs.FinalNotesGrowthLemmas.{attempt-grows, grown-keeps}
 use Rattle.qo_model.proofs.FinalNotesRunsLemmas.{final_once_lem, once, opening_notes}
 use Rattle.qo_model.specs.Hotplug.{all_completed, completed, reset_whole}
-use Rattle.qo_model.specs.Unplug.{first_of}
 use Rattle.qo_realize.specs.Chardevs.{with_rings}
 use Rattle.qo_realize.specs.Guest.{polled}
 use Rattle.qo_realize.specs.Registers.{pushed}
@@ -36,7 +36,7 @@ Ordered b = SoundDevices b × NotesInOrder b
 -- the removals that are pending come to their end
 completed-ordered : (times : ℕ) (b : Board) → Ordered b → Ordered (all_completed times b)
 completed-ordered zero b o = o
-completed-ordered (suc times) b o = go (first_of b.pending) refl (completed-ordered times)
+completed-ordered (suc times) b o = go (slice_get b.pending 0) refl (completed-ordered times)
   where
     ended : (d : ℕ) → IsOn b d → Ordered (completed b d)
     ended d on = (
@@ -44,9 +44,10 @@ completed-ordered (suc times) b o = go (first_of b.pending) refl (completed-orde
       notes_kept_lem.detached b d o.0.tree (stands-live b (rest-from_sound b o.0.tree).used.firm d on.0) o.1,
     )
 
-    go : (x : Option ℕ) → first_of b.pending ≡ x → ((c : Board) → Ordered c → Ordered (all_completed times c)) → Ordered (all_completed (suc times) b)
+    go : (x : Option Removal) → slice_get b.pending 0 ≡ x → ((c : Board) → Ordered c → Ordered (all_completed times c))
+        → Ordered (all_completed (suc times) b)
     go None e rest = rw (all_completed, e) o
-    go (Some d) e rest = rw (all_completed, e) (rest (completed b d) (ended d (first-on (IsOn b) b.pending o.0.lists.pending d e)))
+    go (Some r) e rest = rw (all_completed, e) (rest (completed b r.birth) (ended r.birth (first-on (IsOn b) b.pending o.0.lists.pending r e)))
 
 -- the machine is there
 machine-live : (b : Board) → SoundDevices b → is_live b MACHINE_BIRTH ≡ true
@@ -57,7 +58,7 @@ unfolding reset_whole
 reset-notes b o =
     let c : Board = all_completed (length b.pending) b in
     let p : Ordered c = completed-ordered (length b.pending) b o in
-    notes_kept_lem.pulsed c MACHINE_BIRTH p.0.tree (machine-live c p.0) p.1
+    notes_kept_lem.pulsed c MACHINE_BIRTH Cold p.0.tree (machine-live c p.0) p.1
 
 -- notes stay in order
 notes_kept : KeepsBoard Ordered
@@ -79,15 +80,19 @@ notes_kept =
           written-all Ordered b d reg value
           (λ registers e so. (registers_kept_lem.devices b d registers o.0, registers_kept_lem.notes b d registers o.1))
           (λ x n id q. (ringed-devices x (pushed n x id).rings q.0, notes_kept_lem.beside x (pushed n x id) refl refl refl q.1))
-          (λ x m on q. (devices_kept_lem.pulsed x m q.0, notes_kept_lem.pulsed x m q.0.tree (bus-live x d m on) q.1)) c is;
+          (λ x m on q. (devices_kept_lem.pulsed x m Cold q.0, notes_kept_lem.pulsed x m Cold q.0.tree (bus-live x d m on) q.1)) c is;
       rings = any-rings Ordered (λ b rings o. (ringed-devices b rings o.0, notes_kept_lem.beside b (with_rings rings b) refl refl refl o.1));
       timed = λ b now on low o. (devices_kept.timed b now on low o.0, notes_kept_lem.beside b (at_time now b) refl refl refl o.1);
       switched = λ b on o. (devices_kept.switched b on o.0, notes_kept_lem.beside b (with_running on b) refl refl refl o.1);
       held_so =
-          λ b n is home deep o. (devices_kept.held_so b n is home deep o.0, notes_kept_lem.held_so b n o.0.tree (of-live b (codes "resettable") n is) o.1);
+          λ b n kind is home deep o. (
+            devices_kept.held_so b n kind is home deep o.0,
+            notes_kept_lem.held_so b n kind o.0.tree (of-live b (codes "resettable") n is) o.1,
+          );
       released_so =
           λ b n is held o. (devices_kept.released_so b n is held o.0, notes_kept_lem.released_so b n o.0.tree (of-live b (codes "resettable") n is) o.1);
       reset = λ b o. (devices_kept.reset b o.0, reset-notes b o);
+      wakes = λ b o. (devices_kept.wakes b o.0, notes_kept_lem.pulsed b MACHINE_BIRTH Wakeup o.0.tree (machine-live b o.0) o.1);
     }
 
 -- events are no matter to them

@@ -5,6 +5,7 @@ use Rattle.std.proofs.lemmas.Option.{same_Some}
 use Rattle.qo_values.specs.Registers.{Effect, byte, nothing, Registers}
 use Rattle.qo_values.specs.Registers as effect
 use Rattle.qo_values.specs.declared.births.TheConstants.{MEMORY_BUS_BIRTH, ROOT_BUS_BIRTH}
+use Rattle.qo_values.specs.declared.kinds.ResetKind.TheVariants.{Cold}
 use Rattle.qo_guest.specs.declared.addresses.Addr.TheVariants.{Slots, Mem}
 use Rattle.qo_buses.specs.Rings.{claimed_ring}
 use Rattle.qo_layout.proofs.ShownLemmas.{shown-stands}
@@ -21,8 +22,7 @@ use Rattle.qo_realize.specs.Registers.{after_effect, guest_written, pushed, regi
 use Rattle.qo_realize.specs.Time.{at_time, with_running}
 use Rattle.qo_sound_devices.specs.SoundLists.{IsOn}
 use Rattle.qo_sound_devices.specs.SoundPlaces.{stands}
-use Rattle.qo_sound_devices.proofs.DevicesLawLemmas.{devices_kept_lem}
-use Rattle.qo_model.proofs.AmongLemmas.{among-all}
+use Rattle.qo_sound_devices.proofs.DevicesLawLemmas.{devices_kept_lem, removal-all}
 use Rattle.qo_sound_clocks.specs.RegisterWrites.{registers_set}
 use Rattle.qo_sound_clocks.proofs.RegisterLemmas.{registers_kept_lem}
 use Rattle.qo_sound_phases.specs.PhaseRuns.{SoundResets}
@@ -76,11 +76,11 @@ module _ (b : Board) (d : ℕ) (there : stands b d ≡ true) (h : SoundResets b)
       s : SoundResets set
       s = registers-so registers
 
-      by : (bus : Option ℕ) → first_bus set d ≡ bus → SoundResets (option_map_or (pulse set) bus set)
+      by : (bus : Option ℕ) → first_bus set d ≡ bus → SoundResets (option_map_or (λ m. pulse set m Cold) bus set)
       by None e = s
       by (Some m) e =
           let may : may_reset set m ≡ true = phases_say_lem.first_bus set s.devices d m (phases_kept_lem.stand_with_registers b d registers d there) e in
-          record { devices = devices_kept_lem.pulsed set m s.devices; phases = phases_kept_lem.pulsed set m may s.devices s.phases }
+          record { devices = devices_kept_lem.pulsed set m Cold s.devices; phases = phases_kept_lem.pulsed set m Cold may s.devices s.phases }
 
   written-so : (reg value : ℕ) (c : Board) → guest_written b d reg value ≡ Some c → SoundResets c
   written-so reg value c is = go (registers_written b d reg value) refl
@@ -123,7 +123,7 @@ phases_kept =
       completed = λ b at d is pending h.
           record {
             devices = devices_kept.completed b at d is pending h.devices;
-            phases = phases_kept_lem.detached b d h.devices (among-all (IsOn b) b.pending h.devices.lists.pending d pending).0 h.phases;
+            phases = phases_kept_lem.detached b d h.devices (removal-all (IsOn b) b.pending h.devices.lists.pending d pending).0 h.phases;
           };
       refused = λ b d h. record { devices = devices_kept.refused b d h.devices; phases = phases_kept_lem.refused_by b d h.phases };
       polled = λ b h.
@@ -140,10 +140,10 @@ phases_kept =
             devices = devices_kept.switched b on h.devices;
             phases = phases_kept_lem.beside b (with_running on b) refl refl refl refl h.phases;
           };
-      held_so = λ b n is home deep h.
+      held_so = λ b n kind is home deep h.
           record {
-            devices = devices_kept.held_so b n is home deep h.devices;
-            phases = phases_kept_lem.held_so b n (may-so b n is home) h.devices h.phases;
+            devices = devices_kept.held_so b n kind is home deep h.devices;
+            phases = phases_kept_lem.held_so b n kind (may-so b n is home) h.devices h.phases;
           };
       released_so = λ b n is on h.
           record {
@@ -151,6 +151,7 @@ phases_kept =
             phases = phases_kept_lem.released_so b n on h.devices h.phases;
           };
       reset = λ b h. record { devices = devices_kept.reset b h.devices; phases = phases_kept_lem.reset b h.devices h.phases };
+      wakes = λ b h. record { devices = devices_kept.wakes b h.devices; phases = phases_kept_lem.wakes b h.devices h.phases };
     }
 
 -- events are no matter to them

@@ -10,17 +10,19 @@ use Rattle.qo_values.specs.Rings.{ring_add, ring_drop}
 use Rattle.qo_values.specs.declared.codes.Code.{Code}
 use Rattle.qo_values.specs.declared.codes.Code.TheVariants.{E32, E53}
 use Rattle.qo_values.specs.declared.forms.Form.TheVariants.{Utf8}
+use Rattle.qo_values.specs.declared.kinds.ResetKind.{ResetKind}
+use Rattle.qo_values.specs.declared.kinds.ResetKind.TheVariants.{Cold}
 use Rattle.qo_values.specs.declared.kinds.TypeId.{TypeId}
 use Rattle.qo_values.specs.declared.properties.Val.{Val}
 use Rattle.qo_values.specs.declared.limits.TheConstants.{SESSIONS, TIME_MAX}
-use Rattle.qo_model.specs.Board.{Board, Ring}
+use Rattle.qo_model.specs.Board.{Board, Ring, is_pending}
 use Rattle.qo_model.specs.ClockChanges.{clock_scaled, clock_set}
 use Rattle.qo_model.specs.Clocks.{div_of, mul_of}
 use Rattle.qo_model.specs.FinalNotesRuns.{Change, added as object_added, after_write, deleted, wrote, severed, changed}
 use Rattle.qo_model.specs.Objects.{Changed, object_add, object_del, sever, with_attempt}
 use Rattle.qo_model.proofs.ClockPropertyLemmas.{write_at-cases}
 use Rattle.qo_model.specs.Depth.{among}
-use Rattle.qo_model.specs.Hotplug.{asked, completed, reset_whole}
+use Rattle.qo_model.specs.Hotplug.{asked, completed, reset_whole, woken}
 use Rattle.qo_model.specs.Hotplug.{refused as refused_removal}
 use Rattle.qo_model.specs.Paths.{attached, is_of}
 use Rattle.qo_model.specs.Plug.{Plugged, Wanted, cut_attempt, plug}
@@ -49,7 +51,7 @@ use Rattle.qo_model.specs.Access.{write_at}
 use Rattle.qo_requests.specs.declared.calls.Addition.{Addition}
 use Rattle.qo_requests.specs.declared.calls.Addition.TheVariants.{DeviceAdd, ObjectAdd}
 use Rattle.qo_requests.specs.declared.calls.Alteration.{Alteration}
-use Rattle.qo_requests.specs.declared.calls.Alteration.TheVariants.{Stop, Cont, SystemReset, QomSet, ObjectDel, DeviceDel, ChardevAdd, ChardevRemove, RingbufRead, RingbufWrite, XResetHold, XResetRelease, XSever, XGuest, XStep}
+use Rattle.qo_requests.specs.declared.calls.Alteration.TheVariants.{Stop, Cont, SystemReset, QomSet, ObjectDel, DeviceDel, ChardevAdd, ChardevRemove, RingbufRead, RingbufWrite, XResetHold, XResetRelease, XSever, XGuest, XStep, XWakeup}
 use Rattle.qo_requests.specs.declared.calls.Call.{Call}
 use Rattle.qo_requests.specs.declared.calls.Call.TheVariants as call
 use Rattle.qo_requests.specs.declared.calls.Change.TheVariants.{Add, Alter}
@@ -110,7 +112,7 @@ pub record KeepsBoard (P : Board → Type 0) : Type 0 where
   pub cut : (b : Board) (t : TypeId) (i : ℕ) (joined : Bool) → P b → P (cut_attempt b t i joined)
   -- a removal is asked for, comes, or is refused, and the guest takes a notice
   pub asked : (b : Board) (id : List ℕ) → P b → P (asked b id).board
-  pub completed : (b : Board) (at : Addr) (d : ℕ) → addressed b at ≡ Some d → among b.pending d ≡ true → P b → P (completed b d)
+  pub completed : (b : Board) (at : Addr) (d : ℕ) → addressed b at ≡ Some d → is_pending b d ≡ true → P b → P (completed b d)
   pub refused : (b : Board) (d : ℕ) → P b → P (refused_removal b d)
   pub polled : (b : Board) → P b → P (polled b)
   -- the guest writes to a register of the device at an address
@@ -120,10 +122,13 @@ pub record KeepsBoard (P : Board → Type 0) : Type 0 where
   -- it comes to a later moment, and runs or stands still
   pub timed : (b : Board) (now : ℕ) → b.now ≤ now → now ≤ TIME_MAX → P b → P (at_time now b)
   pub switched : (b : Board) (on : Bool) → P b → P (with_running on b)
-  -- an attached object that may be is held in reset, where it is not held too often, and one that is held is released; and the whole board is reset
-  pub held_so : (b : Board) (n : ℕ) → is_of b (codes "resettable") n ≡ true → attached b n ≡ true → exceeds_depth b n ≡ false → P b → P (after_hold b n)
+  -- an attached object that may be is held in reset, where it is not held too often, and one that is held is released; the whole board is reset; and the
+  -- machine wakes up
+  pub held_so : (b : Board) (n : ℕ) (kind : ResetKind) → is_of b (codes "resettable") n ≡ true → attached b n ≡ true → exceeds_depth b n ≡ false → P b
+      → P (after_hold b n kind)
   pub released_so : (b : Board) (n : ℕ) → is_of b (codes "resettable") n ≡ true → among b.holds n ≡ true → P b → P (released b n)
   pub reset : (b : Board) → P b → P (reset_whole b)
+  pub wakes : (b : Board) → P b → P (woken b)
 
 -- what each command keeps of the board, and each attempt
 pub record KeepsCommands (P : Board → Type 0) : Type 0 where
@@ -167,10 +172,10 @@ plugged_board P add p = by add.refusal
     by (Some refusal) = p
 
 -- a line of the guest
-pending_keeps : (P : Board → Type 0) (b c : Board) (d : ℕ) → P b → (among b.pending d ≡ true → P c) → P (if_pending b d c).board
-pending_keeps P b c d p q = by (among b.pending d) refl
+pending_keeps : (P : Board → Type 0) (b c : Board) (d : ℕ) → P b → (is_pending b d ≡ true → P c) → P (if_pending b d c).board
+pending_keeps P b c d p q = by (is_pending b d) refl
   where
-    by : (t : Bool) → among b.pending d ≡ t → P (if t then fine c else hearing.answered b NoPending).board
+    by : (t : Bool) → is_pending b d ≡ t → P (if t then fine c else hearing.answered b NoPending).board
     by true is = q is
     by false is = p
 
@@ -264,8 +269,9 @@ advanced-all P b ns p q = by b.running (nat_lt TIME_MAX (b.now + ns)) refl
     by true false e = q (grind (arith, e))
 
 -- holds
-held_of-keeps : (P : Board → Type 0) → KeepsBoard P → (b : Board) (n : ℕ) → is_of b (codes "resettable") n ≡ true → P b → P (held_of b n).board
-held_of-keeps P k b n is p = held_of-all P b n p (λ home deep. k.held_so b n is home deep p)
+held_of-keeps : (P : Board → Type 0) → KeepsBoard P → (b : Board) (n : ℕ) (kind : ResetKind) → is_of b (codes "resettable") n ≡ true → P b
+    → P (held_of b n kind).board
+held_of-keeps P k b n kind is p = held_of-all P b n kind p (λ home deep. k.held_so b n kind is home deep p)
 
 released_of-keeps : (P : Board → Type 0) → KeepsBoard P → (b : Board) (n : ℕ) → is_of b (codes "resettable") n ≡ true → P b → P (released_of b n).board
 released_of-keeps P k b n is p = released_of-all P b n p (λ stands. k.released_so b n is stands p)
@@ -308,9 +314,12 @@ altered_keeps P k b (RingbufRead device size format) p =
 altered_keeps P k b (RingbufWrite device payload format) p =
     changed_board P (ringbuf_written b device payload format)
     (gained-all P b device payload (unwrap_or format Utf8) p (λ bytes. k.rings.written b device bytes p))
-altered_keeps P k b (XResetHold path) p = changed_board P (held_at b path) (at_path-all P b path (held_of b) p (λ n is. held_of-keeps P k b n is p))
+altered_keeps P k b (XResetHold path asked_kind) p =
+    let kind : ResetKind = unwrap_or asked_kind Cold in
+    changed_board P (held_at b path kind) (at_path-all P b path (λ n. held_of b n kind) p (λ n is. held_of-keeps P k b n kind is p))
 altered_keeps P k b (XResetRelease path) p =
     changed_board P (released_at b path) (at_path-all P b path (released_of b) p (λ n is. released_of-keeps P k b n is p))
+altered_keeps P k b XWakeup p = k.wakes b p
 altered_keeps P k b (XSever birth) p = changed_board P (sever b birth) (k.change b (severed birth) p)
 altered_keeps P k b (XGuest line) p = heard_keeps P k b line p
 altered_keeps P k b (XStep ns) p = timed_board P (advanced b ns) (advanced-all P b ns p (λ low. k.timed b (b.now + ns) (omega arith) low p))

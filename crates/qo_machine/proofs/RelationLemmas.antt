@@ -1,9 +1,11 @@
 -- A relation of boards that every change goes on by holds along each step and each run.
 use Rattle.std.proofs.Common.{ℕ, ◌≤◌, Bool, List}
 use Rattle.qo_values.specs.Registers.{Registers}
+use Rattle.qo_values.specs.declared.births.TheConstants.{MACHINE_BIRTH}
+use Rattle.qo_values.specs.declared.kinds.ResetKind.TheVariants.{Cold, Wakeup}
 use Rattle.qo_model.specs.Board.{Board, Ring}
 use Rattle.qo_model.specs.Clocks.{div_of, mul_of}
-use Rattle.qo_model.specs.Hotplug.{completed, reset_whole}
+use Rattle.qo_model.specs.Hotplug.{completed, reset_whole, woken}
 use Rattle.qo_model.specs.Reset.{after_hold, pulse, released}
 use Rattle.qo_realize.specs.Chardevs.{with_rings}
 use Rattle.qo_realize.specs.Guest.{polled}
@@ -44,13 +46,14 @@ module _ (R : Board → Board → Type 0) (same : (b : Board) → R b b) (goes_o
         written = λ c d reg value e there is h.
             written-all (R b) c d reg value (λ registers effect so. goes_on b c (registers_set c d registers) h (beside.registers c d registers))
             (λ x n id q. goes_on b x (pushed n x id) q (beside.rings x (pushed n x id).rings))
-            (λ x m on q. goes_on b x (pulse x m) q (changes.pulsed x m tt tt)) e is;
+            (λ x m on q. goes_on b x (pulse x m Cold) q (changes.pulsed x m Cold tt tt)) e is;
         rings = any-rings (R b) (λ c rings h. goes_on b c (with_rings rings c) h (beside.rings c rings));
         timed = λ c now on low h. goes_on b c (at_time now c) h (beside.timed c now on);
         switched = λ c on h. goes_on b c (with_running on c) h (beside.switched c on);
-        held_so = λ c n is home deep h. goes_on b c (after_hold c n) h (changes.held_so c n tt tt);
+        held_so = λ c n kind is home deep h. goes_on b c (after_hold c n kind) h (changes.held_so c n kind tt tt);
         released_so = λ c n is held h. goes_on b c (released c n) h (changes.released_so c n tt tt);
         reset = λ c h. goes_on b c (reset_whole c) h (changes.reset c tt);
+        wakes = λ c h. goes_on b c (woken c) h (changes.pulsed c MACHINE_BIRTH Wakeup tt tt);
       }
 
   pub related_in_runs : RelatedInRuns R

@@ -1,5 +1,8 @@
 -- Steps keep the tree of the board sound.
 use Rattle.std.proofs.Common.{ℕ, Bool, List, refl}
+use Rattle.qo_values.specs.declared.births.TheConstants.{MACHINE_BIRTH}
+use Rattle.qo_values.specs.declared.kinds.ResetKind.{ResetKind}
+use Rattle.qo_values.specs.declared.kinds.ResetKind.TheVariants.{Cold, Wakeup}
 use Rattle.qo_model.proofs.CycleLemmas.{cycle_lem}
 use Rattle.qo_model.proofs.OpeningLemmas.{opening_sound}
 use Rattle.qo_model.proofs.TreeLemmas.{frame_lem}
@@ -46,9 +49,9 @@ unfolding graph_of
 ringed-tree b rings h = (frame_lem.graph b (with_rings rings b) refl h.0, frame_lem.aliases b (with_rings rings b) refl h.1)
 
 -- a hold and a hold less
-pulsed-tree : (b : Board) (m : ℕ) → SoundTree b → SoundTree (pulse b m)
+pulsed-tree : (b : Board) (m : ℕ) (kind : ResetKind) → SoundTree b → SoundTree (pulse b m kind)
 unfolding pulse
-pulsed-tree b m h = sound_kept_lem.released_so (after_hold b m) m (sound_kept_lem.held_so b m h)
+pulsed-tree b m kind h = sound_kept_lem.released_so (after_hold b m kind) m (sound_kept_lem.held_so b m kind h)
 
 -- changes and attempts keep the tree sound
 pub tree_kept : KeepsBoard SoundTree
@@ -67,13 +70,14 @@ tree_kept =
       polled = λ b h. polled-tree b h;
       written = λ b d reg value c there is h.
           written-all SoundTree b d reg value (λ registers e so. registers_kept_lem.tree b d registers h) (λ x n id q. ringed-tree x (pushed n x id).rings q)
-          (λ x m on q. pulsed-tree x m q) c is;
+          (λ x m on q. pulsed-tree x m Cold q) c is;
       rings = any-rings SoundTree (λ b rings h. ringed-tree b rings h);
       timed = λ b now on low h. timed-tree b now h;
       switched = λ b on h. switched-tree b on h;
-      held_so = λ b n is home deep h. sound_kept_lem.held_so b n h;
+      held_so = λ b n kind is home deep h. sound_kept_lem.held_so b n kind h;
       released_so = λ b n is held h. sound_kept_lem.released_so b n h;
       reset = λ b h. sound_kept_lem.reset b h;
+      wakes = λ b h. pulsed-tree b MACHINE_BIRTH Wakeup h;
     }
 
 -- the tree has no part in the events

@@ -1,6 +1,7 @@
 -- Worked rows of devices: bridges that are added, refused and removed.
 use Rattle.std.proofs.Common.{◌≡◌, refl, ℕ, ◌^◌, ◌-◌, true, List, [], ◌∷◌, map, drop, codes, Option, Some, None, Result, Ok, Err}
 use Rattle.qo_model.proofs.Common.{Code, E17, E18, E19, E20, E21, E22, E23, E24, E25, E26, E28, E29, E36, E38, E42, E45, E46, E47, MemoryBackend, Board, DeviceEvent, Slot, plain, strong, slots_at, add, cut, set, clock_scaled, clock_set, acted, clocks_below, period, depth_of, is_going, deed_word, deed_type, option_map_or, type_name, Given, object_add, opening_board, attached, births, path_down_to, Wanted, Plugged, plug, drop_slot, finish, finalize, finalize_within, let_go, pin, unpin, plugged, post, pulse, released, types, apart_within, detach, unrealize, least}
+use Rattle.qo_values.specs.declared.kinds.ResetKind.TheVariants.{Cold, Wakeup}
 use Rattle.qo_model.specs.declared.notes.Note.{Note}
 use Rattle.qo_values.specs.declared.properties.Val.TheVariants as val
 use Rattle.qo_model.specs.Reset.{after_hold}
@@ -114,9 +115,9 @@ refused-codes = refl
 
 -- holds: a timer plugged below a held bridge, and both let go
 abbrev timed : Board
-timed = (plug (after_hold one 9) (on (codes "br/bus.0") (wanted (codes "slot-timer") (codes "t")))).board
+timed = (plug (after_hold one 9 Cold) (on (codes "br/bus.0") (wanted (codes "slot-timer") (codes "t")))).board
 
-held-notes : map told (drop 14 (released (released (after_hold timed 2) 9) 2).notes) ≡
+held-notes : map told (drop 14 (released (released (after_hold timed 2 Cold) 9) 2).notes) ≡
     (codes "enter", 11, []) ∷ (codes "enter", 9, []) ∷ (codes "hold", 11, []) ∷ (codes "hold", 9, [])
     ∷ (codes "init", 12, codes "device") ∷ (codes "init", 12, codes "slot-device") ∷ (codes "init", 12, codes "slot-timer") ∷ (codes "init", 13, codes "clock")
     ∷ (codes "realize", 12, []) ∷ (codes "enter", 12, []) ∷ (codes "hold", 12, [])
@@ -177,3 +178,22 @@ dimm-slots : map (λ (s : List ℕ × Slot). s.1) (drop 6 (slots_at (plug backed
 unfolding types opening_board path_down_to attached drop_slot finish finalize finalize_within let_go pin unpin add set cut acted period clocks_below depth_of
     is_going plug plugged post after_hold released pulse least
 dimm-slots = refl
+
+-- a wakeup of the whole board with a timer, and a hold by a wakeup below which a cold one goes through no phase
+abbrev with_timer : Board
+with_timer = (plug opening_board (wanted (codes "slot-timer") (codes "t"))).board
+
+woken-notes : map told (drop 8 (pulse with_timer 2 Wakeup).notes) ≡
+    (codes "wake", 9, []) ∷ (codes "wake", 6, []) ∷ (codes "wake", 7, []) ∷ (codes "wake", 2, [])
+    ∷ (codes "hold", 9, []) ∷ (codes "hold", 6, []) ∷ (codes "hold", 7, []) ∷ (codes "hold", 2, [])
+    ∷ (codes "exit", 9, []) ∷ (codes "exit", 6, []) ∷ (codes "exit", 7, []) ∷ (codes "exit", 2, []) ∷ []
+unfolding types opening_board path_down_to attached drop_slot finish finalize finalize_within let_go pin unpin add set cut acted period clocks_below depth_of
+    is_going plug plugged post after_hold released pulse least unrealize apart_within detach
+woken-notes = refl
+
+held-twice : map told (released (released (after_hold (after_hold opening_board 2 Wakeup) 2 Cold) 2) 2).notes ≡
+    (codes "wake", 6, []) ∷ (codes "wake", 7, []) ∷ (codes "wake", 2, []) ∷ (codes "hold", 6, []) ∷ (codes "hold", 7, []) ∷ (codes "hold", 2, [])
+    ∷ (codes "exit", 6, []) ∷ (codes "exit", 7, []) ∷ (codes "exit", 2, []) ∷ []
+unfolding types opening_board path_down_to attached drop_slot finish finalize finalize_within let_go pin unpin add set cut acted period clocks_below depth_of
+    is_going plug plugged post after_hold released pulse least unrealize apart_within detach
+held-twice = refl

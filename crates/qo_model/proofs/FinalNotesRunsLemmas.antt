@@ -1,6 +1,7 @@
 -- Final notes over lists of changes, from the opening board on.
 use Rattle.std.proofs.Common.{◌≡◌, refl, ap, ap₂, sym, ◌∙◌, ℕ, zero, suc, ◌<◌, ◌≤◌, leb, Bool, true, false, ◌||◌, ◌==◌, if◌then◌else◌, List, [], ◌∷◌, ◌++◌, map, Option, Some, None, is_some, arith, rules}
 use Rattle.qo_model.proofs.Common.{AllByRecursion, list_any, option_map_or, Act, Init, Realize, Unrealize, Enter, Hold, Exit, Pre, Update, TypeId, Board, Record, is_live, kind_of, beginning, ending, is_bound, is_final, FinalOnce, IsBorn, NotesInOrder, Story, Change, after_changes, changed, FinalOnceLaw, opening_board, notes_on, inits}
+use Rattle.qo_values.specs.declared.kinds.Act.TheVariants.{Wake}
 use Rattle.qo_model.specs.declared.notes.Deed.{Deed}
 use Rattle.qo_model.specs.declared.notes.Deed.TheVariants.{Did, Final}
 use Rattle.qo_model.specs.declared.notes.Note.{Note}
@@ -95,6 +96,7 @@ unbound-not-final (x ∷ xs) e = go x.deed refl (unbound-not-final xs)
         unbound Realize q = rw (is_bound, q) at e
         unbound Unrealize q = rw (is_bound, q) at e
         unbound Enter q = rw (is_bound, q) at e
+        unbound Wake q = rw (is_bound, q) at e
         unbound Hold q = rw (is_bound, q) at e
         unbound Exit q = rw (is_bound, q) at e
         unbound Pre q = rw (is_bound, q) at e

@@ -24,7 +24,7 @@ abbrev both_asked : Board
 both_asked = (asked (with_bridge (codes "c") asked_once) (codes "c")).board
 
 -- the removal of a bridge is asked for
-pending-of : (asked one (codes "br")).board.pending ≡ 9 ∷ []
+pending-of : (asked one (codes "br")).board.pending ≡ record { birth = 9; asked = 0 } ∷ []
 unfolding types opening_board path_down_to attached drop_slot finish finalize finalize_within let_go pin unpin add set cut acted period clocks_below depth_of
     is_going plug plugged post after_hold released pulse least unrealize apart_within detach reset_whole
 pending-of = refl
@@ -34,7 +34,7 @@ unfolding types opening_board path_down_to attached drop_slot finish finalize fi
     is_going plug plugged post after_hold released pulse least unrealize apart_within detach reset_whole
 told-of = refl
 
-by-path : (asked one (codes "/machine/peripheral/br")).board.pending ≡ 9 ∷ []
+by-path : (asked one (codes "/machine/peripheral/br")).board.pending ≡ record { birth = 9; asked = 0 } ∷ []
 unfolding types opening_board path_down_to attached drop_slot finish finalize finalize_within let_go pin unpin add set cut acted period clocks_below depth_of
     is_going plug plugged post after_hold released pulse least unrealize apart_within detach reset_whole
 by-path = refl
@@ -93,3 +93,27 @@ reset-rest : births (reset_whole both_asked) ≡ births opening_board
 unfolding types opening_board path_down_to attached drop_slot finish finalize finalize_within let_go pin unpin add set cut acted period clocks_below depth_of
     is_going plug plugged post after_hold released pulse least unrealize apart_within detach reset_whole
 reset-rest = refl
+
+-- asked for again: too early by a nanosecond, and then in time, at its old place, by a notice more
+abbrev at_time : ℕ → Board → Board
+at_time now b = record b { now = now }
+
+early : (asked (at_time 4999999999 asked_once) (codes "br")).refusal ≡ Some E34
+unfolding types opening_board path_down_to attached drop_slot finish finalize finalize_within let_go pin unpin add set cut acted period clocks_below depth_of
+    is_going plug plugged post after_hold released pulse least unrealize apart_within detach reset_whole
+early = refl
+
+in-time : (asked (at_time 5000000000 both_asked) (codes "br")).board.pending ≡ record { birth = 9; asked = 5000000000 } ∷ record { birth = 12; asked = 0 } ∷ []
+unfolding types opening_board path_down_to attached drop_slot finish finalize finalize_within let_go pin unpin add set cut acted period clocks_below depth_of
+    is_going plug plugged post after_hold released pulse least unrealize apart_within detach reset_whole
+in-time = refl
+
+told-twice : map said (asked (at_time 5000000000 asked_once) (codes "br")).board.notices ≡ (true, 9) ∷ (false, 9) ∷ (false, 9) ∷ []
+unfolding types opening_board path_down_to attached drop_slot finish finalize finalize_within let_go pin unpin add set cut acted period clocks_below depth_of
+    is_going plug plugged post after_hold released pulse least unrealize apart_within detach reset_whole
+told-twice = refl
+
+all-told-less : map said (refused (asked (at_time 5000000000 asked_once) (codes "br")).board 9).notices ≡ (true, 9) ∷ []
+unfolding types opening_board path_down_to attached drop_slot finish finalize finalize_within let_go pin unpin add set cut acted period clocks_below depth_of
+    is_going plug plugged post after_hold released pulse least unrealize apart_within detach reset_whole
+all-told-less = refl

@@ -1,5 +1,6 @@
 -- The board: the tree of objects and what stands beside it (docs/devel/qom.rst; notices: include/hw/hotplug.h; holds: docs/devel/reset.rst).
 use Rattle.std.specs.Prelude.{ℕ, Bool, ◌==◌, List, [], find, slice_get, Option, None, Some, is_some, option_map}
+use Rattle.std.specs.List.{list_any}
 use Rattle.std.specs.Option.{option_map_or}
 use Rattle.std.specs.Str.{bytes_eq}
 use Rattle.qo_values.specs.Registers.{Registers}
@@ -42,6 +43,11 @@ pub record DeviceEvent : Type 0 where
   pub id : Option (List ℕ)
   pub path : List ℕ
 
+-- a removal that is asked for: of a device by its birth, and the virtual time in ns at which it was last asked for
+pub record Removal : Type 0 where
+  pub birth : ℕ
+  pub asked : ℕ
+
 -- the board; no count of references, holds or kids stands in it, and no period of a clock with a source
 pub record Board : Type 0 where
   -- the objects in the order of their births, the births so far, and the accepted adds of devices without an id
@@ -51,9 +57,9 @@ pub record Board : Type 0 where
   -- the virtual time in ns, and whether the machine runs
   pub now : ℕ
   pub running : Bool
-  -- the objects that are held in reset, with repeats; the devices whose removal is asked for, in order of asking; the notices in order
+  -- the objects that are held in reset, with repeats; the devices whose removal is asked for, in order of the first asking; the notices in order
   pub holds : List ℕ
-  pub pending : List ℕ
+  pub pending : List Removal
   pub notices : List Notice
   pub rings : List Ring
   -- the objects that are held from outside the tree, with repeats
@@ -74,6 +80,13 @@ is_live b n = is_some (record_of b n)
 -- its type
 abbrev pub kind_of : Board → ℕ → Option TypeId
 kind_of b n = option_map (λ (r : Record). r.kind) (record_of b n)
+
+-- whether the removal of a device is pending
+abbrev pub is_of_device : ℕ → Removal → Bool
+is_of_device d r = r.birth == d
+
+abbrev pub is_pending : Board → ℕ → Bool
+is_pending b d = list_any (is_of_device d) b.pending
 
 -- its slots, and none where there is no such object
 abbrev pub slots_at : Board → ℕ → List (List ℕ × Slot)

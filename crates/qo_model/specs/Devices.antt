@@ -6,8 +6,8 @@ use Rattle.std.specs.Option.{option_map_or}
 use Rattle.std.specs.Str.{bytes_eq}
 use Rattle.qo_values.specs.declared.properties.Val.{Val}
 use Rattle.qo_values.specs.declared.properties.Val.TheVariants as val
-use Rattle.qo_model.specs.Board.{Board, Record, Slot, plain, child, strong, slots_at, slot_named}
-use Rattle.qo_model.specs.Depth.{among, by_objects}
+use Rattle.qo_model.specs.Board.{Board, Record, Slot, plain, child, strong, is_pending, slots_at, slot_named}
+use Rattle.qo_model.specs.Depth.{by_objects}
 use Rattle.qo_model.specs.Paths.{births, is_of, parent_of}
 
 -- the value of the plain property of a name of n itself
@@ -116,7 +116,7 @@ abbrev pub going_turn : Board → (ℕ → Bool) → ℕ → Bool
 going_turn b f bus =
     elim (bridge_of b bus) [
       | None ↦ false
-      | Some d ↦ elim (among b.pending d) [ true ↦ true | false ↦ elim (bus_of b d) [ None ↦ false | Some above ↦ f above ] ]
+      | Some d ↦ elim (is_pending b d) [ true ↦ true | false ↦ elim (bus_of b d) [ None ↦ false | Some above ↦ f above ] ]
     ]
 
 unfoldable pub is_going : Board → ℕ → Bool

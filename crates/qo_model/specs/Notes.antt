@@ -2,7 +2,7 @@
 use Rattle.std.specs.Prelude.{ℕ, ◌-◌, ◌^◌, min, List, ◌∷◌, length, drop, codes, decimal, Option, None, Some, option_map, option_to_list}
 use Rattle.std.specs.List.{join_with_byte}
 use Rattle.qo_values.specs.Kinds.{type_name}
-use Rattle.qo_values.specs.declared.kinds.Act.TheVariants.{Init, Realize, Unrealize, Enter, Hold, Exit, Pre, Update}
+use Rattle.qo_values.specs.declared.kinds.Act.TheVariants.{Init, Realize, Unrealize, Enter, Wake, Hold, Exit, Pre, Update}
 use Rattle.qo_values.specs.declared.kinds.TypeId.{TypeId}
 use Rattle.qo_values.specs.declared.limits.TheConstants.{NOTES_KEPT}
 use Rattle.qo_model.specs.declared.notes.Deed.{Deed}
@@ -15,6 +15,7 @@ deed_word (Did (Init t)) = codes "init"
 deed_word (Did Realize) = codes "realize"
 deed_word (Did Unrealize) = codes "unrealize"
 deed_word (Did Enter) = codes "enter"
+deed_word (Did Wake) = codes "wake"
 deed_word (Did Hold) = codes "hold"
 deed_word (Did Exit) = codes "exit"
 deed_word (Did Pre) = codes "pre"

@@ -3,6 +3,8 @@ use Rattle.std.specs.Prelude.{ℕ, Bool, ◌==◌, nat_lt, if◌then◌else◌, 
 use Rattle.std.specs.List.{flat_map, list_any}
 use Rattle.qo_values.specs.declared.kinds.Act.{Act}
 use Rattle.qo_values.specs.declared.kinds.Act.TheVariants.{Enter, Hold, Exit}
+use Rattle.qo_values.specs.declared.kinds.ResetKind.{ResetKind}
+use Rattle.qo_values.specs.Kinds.{entering}
 use Rattle.qo_values.specs.declared.limits.TheConstants.{HOLD_COUNT_MAX}
 use Rattle.qo_model.specs.Board.{Board}
 use Rattle.qo_model.specs.Clocks.{acted}
@@ -38,10 +40,10 @@ abbrev pub phased : Act → List ℕ → Board → Board
 phased act [] b = b
 phased act (o ∷ os) b = phased act os (acted act o 0 b)
 
--- a hold: those that were out enter and then hold
-unfoldable pub after_hold : Board → ℕ → Board
-after_hold b r =
-    let c = phased Hold (filter (is_not_in_reset b) (post b r)) (phased Enter (filter (is_not_in_reset b) (post b r)) b) in
+-- a hold, for a reset of a type: those that were out enter and then hold; the type belongs to the enter phase alone
+unfoldable pub after_hold : Board → ℕ → ResetKind → Board
+after_hold b r kind =
+    let c = phased Hold (filter (is_not_in_reset b) (post b r)) (phased (entering kind) (filter (is_not_in_reset b) (post b r)) b) in
     record c { holds = b.holds ++ r ∷ [] }
 
 -- a hold less: those that are out now exit
@@ -50,8 +52,8 @@ released b r =
     let c = record b { holds = without_first r b.holds } in
     phased Exit (filter (is_not_in_reset c) (post c r)) c
 
-unfoldable pub pulse : Board → ℕ → Board
-pulse b r = released (after_hold b r) r
+unfoldable pub pulse : Board → ℕ → ResetKind → Board
+pulse b r kind = released (after_hold b r kind) r
 
 -- what is plugged goes through the phases, and stays held where it is below a hold
 unfoldable pub plugged : Board → ℕ → Board

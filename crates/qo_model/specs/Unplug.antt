@@ -6,7 +6,7 @@ use Rattle.qo_values.specs.declared.births.TheConstants.{ANONYMOUS_BIRTH, PERIPH
 use Rattle.qo_values.specs.declared.kinds.Act.TheVariants.{Unrealize}
 use Rattle.qo_values.specs.declared.properties.Val.{Val}
 use Rattle.qo_values.specs.declared.properties.Val.TheVariants as val
-use Rattle.qo_model.specs.Board.{Board, Notice, Slot, strong, weak, slots_at, slot_at, referent}
+use Rattle.qo_model.specs.Board.{Board, Notice, Slot, strong, weak, slots_at, slot_at, referent, Removal}
 use Rattle.qo_model.specs.Changes.{cut, set, with_changed}
 use Rattle.qo_model.specs.Clocks.{acted, device_period}
 use Rattle.qo_model.specs.Depth.{by_objects}
@@ -19,11 +19,14 @@ use Rattle.qo_model.specs.Release.{after, drop_slot, edit, finalize, let_go, pin
 abbrev pub without_all : ℕ → List ℕ → List ℕ
 without_all n ms = filter (λ m. not (m == n)) ms
 
+abbrev pub without_removal : ℕ → List Removal → List Removal
+without_removal n rs = filter (λ (r : Removal). not (r.birth == n)) rs
+
 abbrev pub unheld : ℕ → Board → Board
 unheld n b = record b { holds = without_all n b.holds }
 
 abbrev pub unnoticed : ℕ → Board → Board
-unnoticed n b = record b { notices = filter (λ (x : Notice). not (x.birth == n)) b.notices; pending = without_all n b.pending }
+unnoticed n b = record b { notices = filter (λ (x : Notice). not (x.birth == n)) b.notices; pending = without_removal n b.pending }
 
 -- a plain slot of a name is set; another slot, and an object without such a slot, stay
 abbrev pub is_named : List ℕ → List ℕ × Slot → Bool

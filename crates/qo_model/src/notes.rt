@@ -34,6 +34,7 @@ impl Deed {
             Deed::Did(Act::Realize) => "realize",
             Deed::Did(Act::Unrealize) => "unrealize",
             Deed::Did(Act::Enter) => "enter",
+            Deed::Did(Act::Wake) => "wake",
             Deed::Did(Act::Hold) => "hold",
             Deed::Did(Act::Exit) => "exit",
             Deed::Did(Act::Pre) => "pre",

@@ -1,7 +1,8 @@
 -- Buses that are attached: what stands above them is counted without a bound.
 use Rattle.std.proofs.Common.{◌≡◌, refl, ap, sym, ◌∙◌, ℕ, zero, suc, ◌<◌, ◌≤◌, Bool, true, false, ◌||◌, length, Option, Some, None, option_and_then, codes, arith}
-use Rattle.qo_model.proofs.Common.{if◌then◌else◌, MACHINE_BIRTH, Board, among, by_depth, by_objects, bridge_of, bus_above, bus_of, depth_of, depth_turn, going_turn, is_going, attached, births, is_of}
+use Rattle.qo_model.proofs.Common.{if◌then◌else◌, MACHINE_BIRTH, Board, by_depth, by_objects, bridge_of, bus_above, bus_of, depth_of, depth_turn, going_turn, is_going, attached, births, is_of}
 use Rattle.std.proofs.lemmas.Option.{same_Some}
+use Rattle.qo_model.specs.Board.{is_pending}
 use Rattle.qo_sound.proofs.ViewLemmas.{PinsRootAlone, rest-from_sound}
 use Rattle.qo_sound_devices.specs.SoundDevices.{SoundDevices}
 use Rattle.qo_sound_devices.specs.SoundPlaces.{bridges, child_entries, HasOwner, IsHome, machines}
@@ -92,9 +93,9 @@ going-plain b f q = go (bridge_of b q) refl
   where
     go : (o : Option ℕ) → bridge_of b q ≡ o → going_turn b f q ≡ going_under b f (bridge_of b q)
     go None e = rw (going_turn, e) refl
-    go (Some d) e = by (among b.pending d) refl (bus_of b d) refl
+    go (Some d) e = by (is_pending b d) refl (bus_of b d) refl
       where
-        by : (t : Bool) → among b.pending d ≡ t → (o : Option ℕ) → bus_of b d ≡ o → going_turn b f q ≡ going_under b f (bridge_of b q)
+        by : (t : Bool) → is_pending b d ≡ t → (o : Option ℕ) → bus_of b d ≡ o → going_turn b f q ≡ going_under b f (bridge_of b q)
         by true p o k = rw (going_turn, e, p) refl
         by false p None k = rw (going_turn, e, p, k) refl
         by false p (Some m) k = rw (going_turn, e, p, k) refl
@@ -109,7 +110,7 @@ going-local b q f g same = going-plain b f q ∙ go (bridge_of b q) refl ∙ sym
       where
         by : (o : Option ℕ) → bus_of b d ≡ o → going_under b f (Some d) ≡ going_under b g (Some d)
         by None k = rw k refl
-        by (Some m) k = rw k (ap (λ (t : Bool). among b.pending d || t) (same d m e k))
+        by (Some m) k = rw k (ap (λ (t : Bool). is_pending b d || t) (same d m e k))
 
 pub going-unrolled : (b : Board) → SoundDevices b → (q : ℕ) → is_of b (codes "bus") q ≡ true → attached b q ≡ true
     → is_going b q ≡ going_under b (is_going b) (bridge_of b q)

@@ -44,7 +44,7 @@ module _ (b : Board) (tree : SoundTree b) (h : SoundPlaces b) where
       record {
         tree = tree;
         places = places_kept_lem.beside b quiet refl (omega arith) refl tree h;
-        lists = record { pending = tt; once = tt; notices = tt; few = omega arith };
+        lists = record { pending = tt; once = tt; asked = tt; notices = tt; few = omega arith };
       }
 
   device-stands : (d : ℕ) → stands b d ≡ true → is_of b (codes "device") d ≡ true

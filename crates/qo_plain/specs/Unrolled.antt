@@ -2,9 +2,8 @@
 use Rattle.std.specs.Prelude.{◌≡◌, ℕ, suc, Bool, true, false, ◌||◌, [], ◌∷◌, ◌++◌, codes, Option, Some, None}
 use Rattle.std.specs.List.{flat_map}
 use Rattle.std.specs.Option.{option_map_or}
-use Rattle.qo_model.specs.Board.{Board}
+use Rattle.qo_model.specs.Board.{Board, is_pending}
 use Rattle.qo_model.specs.Clocks.{clocks_below, fed_by}
-use Rattle.qo_model.specs.Depth.{among}
 use Rattle.qo_model.specs.Devices.{bridge_of, bus_above, bus_of, buses_of, depth_of, is_going, kids_of}
 use Rattle.qo_model.specs.Paths.{attached, is_of}
 use Rattle.qo_model.specs.Reset.{below, post}
@@ -20,7 +19,7 @@ depth_under depth (Some above) = suc (depth above)
 -- whether a removal is pending of a bridge, or of one above the bus that it is on
 abbrev pub going_under : Board → (ℕ → Bool) → Option ℕ → Bool
 going_under b going None = false
-going_under b going (Some d) = among b.pending d || option_map_or going (bus_of b d) false
+going_under b going (Some d) = is_pending b d || option_map_or going (bus_of b d) false
 
 -- how objects of b are unrealized: of a device the kids of each of its buses and then the bus, bus after bus, and last the device itself
 pub record Unrealizes (b : Board) : Type 0 where

@@ -6,7 +6,7 @@ use Rattle.qo_values.specs.declared.kinds.TypeId.{TypeId}
 use Rattle.qo_values.specs.declared.properties.Val.{Val}
 use Rattle.qo_values.specs.declared.properties.Val.TheVariants as val
 use Rattle.qo_values.specs.declared.ranges.Range.{Range}
-use Rattle.qo_model.specs.Board.{Board, Notice, slots_at}
+use Rattle.qo_model.specs.Board.{Board, Notice, Removal, slots_at}
 use Rattle.qo_model.specs.Changes.{add, make, set}
 use Rattle.qo_model.specs.Clocks.{acted}
 use Rattle.qo_model.specs.Devices.{clock_of}
@@ -25,7 +25,7 @@ use Rattle.qo_plug.specs.Drafts.{created, pinned_draft}
 -- what stands beside the objects that concerns devices
 pub record Aside : Type 0 where
   pub holds : List ℕ
-  pub pending : List ℕ
+  pub pending : List Removal
   pub notices : List Notice
 
 abbrev pub aside : Board → Aside

@@ -126,7 +126,7 @@ pub(crate) fn choose<L: Ledger>(
 {
     let target = match check_options(
         heap,
-        hotplug.pending(),
+        hotplug,
         anonymous,
         options.driver,
         options.id,

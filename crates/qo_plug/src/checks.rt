@@ -1,7 +1,7 @@
 //! Why a device is refused before anything of it is made: its type, its id, its bus, and the room
 //! for its objects. The first that stands is the refusal, decided on the board before.
 
-ghost use Rattle.std.specs.Prelude.{◌≡◌, true, Err, Some, None, IfNone, IfOk, IfSome, codes, is_some, map, option_map};
+ghost use Rattle.std.specs.Prelude.{◌≡◌, true, Err, Some, None, IfNone, IfOk, IfSome, codes, is_some, option_map};
 ghost use Rattle.qo_values.specs.declared.codes.Code.{Code};
 ghost use Rattle.qo_values.specs.declared.codes.Code.TheVariants.{E26};
 ghost use Rattle.qo_model.specs.Board.{Board};
@@ -14,6 +14,7 @@ ghost use Rattle.qo_properties.specs.Changes.{refusal_in};
 
 use qo_buses::{is_going, is_of};
 use qo_heap::{Heap, Oid, Steps};
+use qo_hotplug::Hotplug;
 use qo_paths::{is_attached, resolve};
 use qo_properties::objects_in;
 use qo_types::TypeTable;
@@ -115,26 +116,26 @@ fn takes<L: Ledger>(heap: &Heap, bus: Oid, kind: TypeId, steps: &mut Steps<L>) -
     }
 }
 
-/// The bus on which a device of a type is to go, by its path if one is given. `pending` are the
-/// devices whose removal is asked for. `E25` comes where the path leads to no bus, or to several;
+/// The bus on which a device of a type is to go, by its path if one is given. `hotplug` has the
+/// removals that are asked for. `E25` comes where the path leads to no bus, or to several;
 /// `E26` where the bus is of another kind; `E27` where it is detached, or a removal is pending of a
 /// bridge above it.
 pub fn open_bus<L: Ledger>(
     heap: &Heap,
     kind: TypeId,
     path: Option<&str>,
-    pending: &[Oid],
+    hotplug: &Hotplug,
     steps: &mut Steps<L>,
 ) -> Result<Oid, Code>
     ensures live { IfOk result (IsLive heap.now.rows) }
     ensures bus { (b : Board) → Shows b heap.now → IfOk result (λ o. bus_for b kind (option_map (λ p. p.now) path.entry) ≡ Some o.birth) }
-    ensures refused { (b : Board) → Shows b heap.now → b.pending ≡ map (λ o. o.birth) pending.now → refusal_in result ≡ bus_barred b kind (bus_for b kind (option_map (λ p. p.now) path.entry)) }
+    ensures refused { (b : Board) → Shows b heap.now → b.pending ≡ hotplug.now.pending → refusal_in result ≡ bus_barred b kind (bus_for b kind (option_map (λ p. p.now) path.entry)) }
 {
     let bus = bus_at(heap, kind, path, steps)?;
     if !takes(heap, bus, kind, steps) {
         return Err(Code::E26);
     }
-    if !is_attached(heap, bus, steps) || is_going(heap, bus, pending, steps) {
+    if !is_attached(heap, bus, steps) || is_going(heap, bus, hotplug, steps) {
         return Err(Code::E27);
     }
     Ok(bus)

@@ -1,6 +1,6 @@
 //! The checks of what is asked for of a device: what bars it before anything of it is made, and where it is to go.
 
-ghost use Rattle.std.specs.Prelude.{◌≡◌, ◌≤◌, List, true, false, codes, Some, None, IfOk, OnOk, map, option_map};
+ghost use Rattle.std.specs.Prelude.{◌≡◌, ◌≤◌, List, true, false, codes, Some, None, IfOk, OnOk, option_map};
 ghost use Rattle.qo_values.specs.declared.births.TheConstants.{ANONYMOUS_BIRTH, PERIPHERAL_BIRTH};
 ghost use Rattle.qo_values.specs.Ids.{is_id};
 ghost use Rattle.qo_claims.specs.Book.{is_taken};
@@ -19,6 +19,7 @@ use crate::checks::{device_kind, open_bus, room, vacant};
 use crate::refusals::AddRefusal;
 use qo_buses::anonymous_name;
 use qo_heap::{Heap, Oid, Steps};
+use qo_hotplug::Hotplug;
 use qo_values::{ANONYMOUS_BIRTH, Code, Id, IdError, Name, PERIPHERAL_BIRTH, TypeId};
 use std::alloc::Global;
 use std::sync::ledger::Ledger;
@@ -151,14 +152,14 @@ fn place_for<L: Ledger>(
 }
 
 /// Where a device that is asked for is to go: its type, its place in the tree and its bus, where
-/// nothing bars it before an attempt. `pending` are the devices whose removal is asked for,
+/// nothing bars it before an attempt. `hotplug` has the removals that are asked for,
 /// `anonymous` is how many devices without an id were added. A refusal is the first in the order of
 /// the stages: of its type (stage 1: `E20`, `E21`, `E22`), its id and its place in the container
 /// (2: `E23`, `E24`, `E15`), its bus (3: `E25`, `E26`, `E27`), and the room for its objects
 /// (4: `E43`); nothing of it is made then.
 pub fn check_options<L: Ledger>(
     heap: &Heap,
-    pending: &[Oid],
+    hotplug: &Hotplug,
     anonymous: u64,
     driver: &str,
     id: Option<&str>,
@@ -168,8 +169,8 @@ pub fn check_options<L: Ledger>(
 ) -> Result<Target, AddRefusal>
     ensures live { IfOk result (λ s. IsLive heap.now.rows s.place.container × IsLive heap.now.rows s.bus) }
     ensures device { IfOk result (λ s. is_a s.kind (codes "device") ≡ true) }
-    ensures admitted { (b : Board) (props : List Given) → Shows b heap.now → IsRecounted b heap.now.claims → b.pending ≡ map (λ o. o.birth) pending.now → b.anonymous ≡ anonymous → IfOk result (IsAdmitted b (wanted driver.now (option_map (λ t. t.now) id.entry) (option_map (λ t. t.now) bus.entry) props)) }
-    ensures refused { (b : Board) (props : List Given) → Shows b heap.now → IsRecounted b heap.now.claims → b.pending ≡ map (λ o. o.birth) pending.now → b.anonymous ≡ anonymous → IfRefused result (λ stage code. (1 ≤ stage) × (stage ≤ 4) × (plug b (wanted driver.now (option_map (λ t. t.now) id.entry) (option_map (λ t. t.now) bus.entry) props) ≡ record { refusal = Some (stage, code); board = b })) }
+    ensures admitted { (b : Board) (props : List Given) → Shows b heap.now → IsRecounted b heap.now.claims → b.pending ≡ hotplug.now.pending → b.anonymous ≡ anonymous → IfOk result (IsAdmitted b (wanted driver.now (option_map (λ t. t.now) id.entry) (option_map (λ t. t.now) bus.entry) props)) }
+    ensures refused { (b : Board) (props : List Given) → Shows b heap.now → IsRecounted b heap.now.claims → b.pending ≡ hotplug.now.pending → b.anonymous ≡ anonymous → IfRefused result (λ stage code. (1 ≤ stage) × (stage ≤ 4) × (plug b (wanted driver.now (option_map (λ t. t.now) id.entry) (option_map (λ t. t.now) bus.entry) props) ≡ record { refusal = Some (stage, code); board = b })) }
     ensures free { IfOk result (λ s. IsFreeId s.place.id heap.now.claims) }
 {
     let kind = match device_kind(driver) {
@@ -180,7 +181,7 @@ pub fn check_options<L: Ledger>(
         Ok(place) => place,
         Err(refusal) => return Err(refusal),
     };
-    let bus = match open_bus(heap, kind, bus, pending, steps) {
+    let bus = match open_bus(heap, kind, bus, hotplug, steps) {
         Ok(bus) => bus,
         Err(code) => return Err(AddRefusal::Refused { stage: 3, code }),
     };

@@ -1,8 +1,10 @@
 -- Each call leaves to each body the claims that its object is due, and no others.
-use Rattle.std.proofs.Common.{◌≡◌, refl, ap, sym, subst, ◌∙◌, ℕ, false, codes, List, Option, None, Some, Result, Ok, Err, OnErr, inl, inr, is_some}
+use Rattle.std.proofs.Common.{◌≡◌, refl, ap, sym, subst, ◌∙◌, ℕ, false, codes, List, Option, None, Some, Result, Ok, Err, OnErr, inl, inr, is_some, arith}
 use Rattle.std.specs.Option.{option_map_or}
 use Rattle.qo_values.specs.Registers.{Effect, body_write, Registers, bare}
 use Rattle.qo_values.specs.declared.codes.Code.{Code}
+use Rattle.qo_values.specs.declared.kinds.ResetKind.{ResetKind}
+use Rattle.qo_values.specs.declared.kinds.ResetKind.TheVariants.{Cold}
 use Rattle.qo_values.specs.declared.kinds.TypeId.{TypeId}
 use Rattle.qo_values.specs.declared.properties.Val.{Val}
 use Rattle.qo_buses.specs.Rings.{claimed_ring}
@@ -141,7 +143,8 @@ pub plug-claims : (b : Board) (a : Wanted) (x : Added) (asked : Asked) (v w : Ob
     → ClaimsOrNewBut x.birth v w → KeepsClaims v → KeepsClaims w
 plug-claims b a x asked v w devices backends s came kept h =
     all-claims (plug b a).board w came.shown
-    (added-due b (plug b a).board v s (h b s) a x w (claims_stay_lem.added b a devices backends came.refusal) came.birth (is-taken b a came.refusal) came.kept kept)
+    (added-due b (plug b a).board v s (h b s) a x w (claims_stay_lem.added b a devices backends came.refusal) came.birth (is-taken b a came.refusal) came.kept
+    kept)
 
 pub late-claims : (b : Board) (a : Wanted) (stage : ℕ) (code : Code) (v w : Objects) → Shows b v → IsRefused b a stage code w → KeptOrNew v w → KeepsClaims v
     → KeepsClaims w
@@ -171,8 +174,10 @@ given_up-claims b t bus v w s shows = new-claims b (plug_attempt b t bus 4) v w 
 
 -- holds, and a reset
 
-pub pulse-claims : (b : Board) (n : ℕ) (v w : Objects) → SoundDevices b → Shows b v → Shows (pulse b n) w → KeptBefore v w → KeepsClaims v → KeepsClaims w
-pulse-claims b n v w devices s t kept = step-claims b (pulse b n) v w s t (claims_stay_lem.pulsed b n devices) (claims-before v w kept)
+pub pulse-claims : (b : Board) (n : ℕ) (kind : ResetKind) (v w : Objects) → SoundDevices b → Shows b v → Shows (pulse b n kind) w → KeptBefore v w
+    → KeepsClaims v → KeepsClaims w
+pulse-claims b n kind v w devices s t kept =
+    step-claims b (pulse b n kind) v w s t (claims_stay_lem.pulsed b n kind devices) (claims-before v w kept)
 
 -- the guest writes to a register
 
@@ -199,7 +204,10 @@ guest-keep b d reg value c is devices =
     (λ registers e set. record { keep = set-keep b d reg value registers e set devices; devices = registers_kept_lem.devices b d registers devices })
     (λ x n id h. record {
       keep = keep-then b x (pushed n x id) h.keep (claims_stay_lem.beside x (pushed n x id) refl);
-      devices = devices_kept_lem.beside x (pushed n x id) refl refl refl refl refl refl h.devices;
+      devices = devices_kept_lem.beside x (pushed n x id) refl refl refl refl refl refl (omega arith) h.devices;
     })
-    (λ x m first h. record { keep = keep-then b x (pulse x m) h.keep (claims_stay_lem.pulsed x m h.devices); devices = devices_kept_lem.pulsed x m h.devices })
+    (λ x m first h. record {
+      keep = keep-then b x (pulse x m Cold) h.keep (claims_stay_lem.pulsed x m Cold h.devices);
+      devices = devices_kept_lem.pulsed x m Cold h.devices;
+    })
     c is).keep

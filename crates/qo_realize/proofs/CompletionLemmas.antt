@@ -2,7 +2,6 @@
 use Rattle.std.proofs.Common.{◌≡◌, ap, ◌∙◌, ℕ, Bool, true, List, []}
 use Rattle.qo_hotplug.specs.Hotplug.{Asked}
 use Rattle.qo_model.specs.Board.{Board, Ring}
-use Rattle.qo_model.specs.Depth.{among}
 use Rattle.qo_model.specs.Hotplug.{completed}
 use Rattle.qo_model.specs.Unplug.{detach}
 use Rattle.qo_heap.specs.Board.{Shows}
@@ -19,9 +18,9 @@ use Rattle.qo_unplug.specs.BoardParts.{Beside}
 use Rattle.qo_unplug.proofs.MomentLemmas.{times-timely}
 use Rattle.qo_realize.specs.SoundBoard.{SoundBoard}
 use Rattle.qo_kinds.specs.declared.kept_set.KeptSet.{KeptSet}
-use Rattle.qo_model.proofs.AmongLemmas.{among-all}
 use Rattle.qo_sound_claims.proofs.StayLawLemmas.{claims_stay_lem}
 use Rattle.qo_sound_devices.specs.SoundLists.{IsOn}
+use Rattle.qo_sound_devices.proofs.DevicesLawLemmas.{removal-all}
 use Rattle.qo_unplug.specs.Feeding.{MayDetach}
 use Rattle.qo_unplug.specs.RealizedClaims.{KeepsDue}
 use Rattle.qo_unplug.specs.Unrealizing.{KeepsHeld}
@@ -30,6 +29,7 @@ use Rattle.qo_realize.proofs.ClaimsLemmas.{all-claims}
 use Rattle.qo_realize.proofs.CountedLemmas.{detached-counts}
 use Rattle.qo_realize.proofs.DueLemmas.{stay-due}
 use Rattle.qo_realize.specs.Parts.{Parts, parts_of}
+use Rattle.qo_realize.specs.Removals.{is_listed}
 use Rattle.qo_realize.specs.Representation.{Stands, StandsForGood}
 use Rattle.qo_realize.proofs.GoodBoardLemmas.{completed-good, good-pinned}
 
@@ -60,56 +60,56 @@ completed-stands b n rings anonymous running held holds old new v w s beside kee
     }
 
 -- a device of a sound board whose removal is pending may be detached
-pub may-detach : (b : Board) (n : ℕ) (v : Objects) → SoundBoard b → among b.pending n ≡ true → PeriodsKept v → MayDetach b n v
+pub may-detach : (b : Board) (n : ℕ) (v : Objects) → SoundBoard b → is_listed n b.pending ≡ true → PeriodsKept v → MayDetach b n v
 may-detach b n v good pending periods =
     record {
       devices = good.run.devices;
       clocks = good.run.clocks;
       sources = good.sources;
-      stood = (among-all (IsOn b) b.pending good.run.devices.lists.pending n pending).0;
+      stood = (removal-all (IsOn b) b.pending good.run.devices.lists.pending n pending).0;
       kept = periods;
     }
 
 pub completed-sound : (n : ℕ) (rings : List Ring) (anonymous : ℕ) (running : Bool) (held holds : HoldList) (old new : Asked) (v w : Objects)
-    → among old.pending n ≡ true → StandsForGood (parts_of rings anonymous running held old v) → PeriodsKept v
+    → is_listed n old.pending ≡ true → StandsForGood (parts_of rings anonymous running held old v) → PeriodsKept v
     → ((b : Board) → MayDetach b n v → Beside b v held.births old → Beside (detach b n) w holds.births new) → KeepsBook v w
     → OnlyRootPinned w × StandsForGood (parts_of rings anonymous running holds new w)
 completed-sound n rings anonymous running held holds old new v w pending (b, s, good) periods detaches keeps =
-    let may : MayDetach b n v = may-detach b n v good (ap (λ (ns : List ℕ). among ns n) s.pending ∙ pending) periods in
-    let after : SoundBoard (completed b n) = completed-good b n (ap (λ (ns : List ℕ). among ns n) s.pending ∙ pending) good in
+    let may : MayDetach b n v = may-detach b n v good (ap (is_listed n) s.pending ∙ pending) periods in
+    let after : SoundBoard (completed b n) = completed-good b n (ap (is_listed n) s.pending ∙ pending) good in
     let stands : Stands (completed b n) (parts_of rings anonymous running holds new w) = completed-stands b n rings anonymous running held holds old new v w s
     (detaches b may (is_beside b rings anonymous running held old v s)) keeps in
     good-pinned (completed b n) (parts_of rings anonymous running holds new w) stands after
 
 -- and what is kept of holds is right
 pub completed-counts : (n : ℕ) (rings : List Ring) (anonymous : ℕ) (running : Bool) (held holds : HoldList) (old new : Asked) (v w : Objects)
-    → among old.pending n ≡ true → StandsForGood (parts_of rings anonymous running held old v) → PeriodsKept v
+    → is_listed n old.pending ≡ true → StandsForGood (parts_of rings anonymous running held old v) → PeriodsKept v
     → ((b : Board) → MayDetach b n v → Beside b v held.births old → Beside (detach b n) w holds.births new)
     → ((b : Board) → MayDetach b n v → Shows b v → Shows (detach b n) w)
     → ((b : Board) → MayDetach b n v → Shows b v → (m : ℕ) (was : ℕ × ℕ) → KeepsHeld m was b v → KeepsHeld m was (detach b n) w)
     → CountsKept held.births v → CountsKept holds.births w
 completed-counts n rings anonymous running held holds old new v w pending (b, s, good) periods detaches seen keeps kept =
     let beside : Beside b v held.births old = is_beside b rings anonymous running held old v s in
-    let may : MayDetach b n v = may-detach b n v good (ap (λ (ns : List ℕ). among ns n) s.pending ∙ pending) periods in
+    let may : MayDetach b n v = may-detach b n v good (ap (is_listed n) s.pending ∙ pending) periods in
     let after : Beside (detach b n) w holds.births new = detaches b may beside in
     detached-counts b n held.births holds.births v w good.run good.holds may.stood good.sources periods s.shows s.holds after.shown after.holds seen keeps kept
 
 -- and of clocks
 pub completed-periods : (n : ℕ) (rings : List Ring) (anonymous : ℕ) (running : Bool) (held : HoldList) (old : Asked) (v w : Objects)
-    → among old.pending n ≡ true → StandsForGood (parts_of rings anonymous running held old v) → PeriodsKept v
+    → is_listed n old.pending ≡ true → StandsForGood (parts_of rings anonymous running held old v) → PeriodsKept v
     → ((b : Board) → MayDetach b n v → Shows b v → PeriodsKept w) → PeriodsKept w
 completed-periods n rings anonymous running held old v w pending (b, s, good) periods stay =
-    stay b (may-detach b n v good (ap (λ (ns : List ℕ). among ns n) s.pending ∙ pending) periods) s.shows
+    stay b (may-detach b n v good (ap (is_listed n) s.pending ∙ pending) periods) s.shows
 
 -- it keeps no claim any more, and the others theirs
 pub completed-claims : (n : ℕ) (rings : List Ring) (anonymous : ℕ) (running : Bool) (held holds : HoldList) (old new : Asked) (v w : Objects)
-    → among old.pending n ≡ true → StandsForGood (parts_of rings anonymous running held old v) → PeriodsKept v
+    → is_listed n old.pending ≡ true → StandsForGood (parts_of rings anonymous running held old v) → PeriodsKept v
     → ((b : Board) → MayDetach b n v → Beside b v held.births old → Beside (detach b n) w holds.births new)
     → ((b : Board) → MayDetach b n v → Beside b v held.births old → (due : ℕ → KeptSet) → KeepsDue due b v → KeepsDue due (detach b n) w)
     → KeepsClaims v → KeepsClaims w
 completed-claims n rings anonymous running held holds old new v w pending (b, s, good) periods detaches claims h =
     let beside : Beside b v held.births old = is_beside b rings anonymous running held old v s in
-    let may : MayDetach b n v = may-detach b n v good (ap (λ (ns : List ℕ). among ns n) s.pending ∙ pending) periods in
+    let may : MayDetach b n v = may-detach b n v good (ap (is_listed n) s.pending ∙ pending) periods in
     all-claims (detach b n) w (detaches b may beside).shown
     (stay-due b (detach b n) w (claims_stay_lem.detached b n good.run.devices may.stood good.backends)
     (claims b may beside (claims_due b) (h b s.shows)))

@@ -3,13 +3,14 @@ use Rattle.std.proofs.Common.{◌≡◌, ◌≤◌, ◌<◌, ◌^◌, arith, ref
 use Rattle.std.specs.Option.{option_map_or}
 use Rattle.qo_values.specs.Registers.{Effect, Registers, bare}
 use Rattle.qo_values.specs.declared.codes.Code.{Code}
+use Rattle.qo_values.specs.declared.kinds.ResetKind.{ResetKind}
+use Rattle.qo_values.specs.declared.kinds.ResetKind.TheVariants.{Cold}
 use Rattle.qo_values.specs.declared.kinds.TypeId.{TypeId}
 use Rattle.qo_values.specs.declared.limits.TheConstants.{TIME_MAX}
 use Rattle.qo_buses.specs.Rings.{claimed_ring}
-use Rattle.qo_model.specs.Board.{Board, Record, Ring, record_of}
+use Rattle.qo_model.specs.Board.{Board, Record, Ring, is_pending, record_of}
 use Rattle.qo_model.specs.ClockChanges.{clock_scaled, clock_set}
 use Rattle.qo_model.specs.Clocks.{device_period}
-use Rattle.qo_model.specs.Depth.{among}
 use Rattle.qo_model.specs.FinalNotesRuns.{Change, changed}
 use Rattle.qo_model.specs.Hotplug.{asked, completed, refused, reset_whole}
 use Rattle.qo_model.specs.Objects.{attempted_as, barred_by, with_attempt}
@@ -19,7 +20,7 @@ use Rattle.qo_model.specs.Plug.{Wanted, barred_early, cut_attempt, objects_in, p
 use Rattle.qo_model.specs.Reset.{after_hold, exceeds_depth, pulse, released}
 use Rattle.qo_model.specs.SoundGraph.{graph_of}
 use Rattle.qo_model.specs.Types.{TypeInfo, type_named}
-use Rattle.qo_model.proofs.AmongLemmas.{among-all}
+use Rattle.qo_sound_devices.proofs.DevicesLawLemmas.{removal-all}
 use Rattle.qo_plug.specs.Cuts.{cut_as, cut_of, cut_open}
 use Rattle.qo_plug.proofs.PlugSteps.{cut-whole}
 use Rattle.qo_properties.specs.Pins.{OnlyRootPinned}
@@ -219,7 +220,7 @@ pub given_up-good : (b : Board) (t : TypeId) (bus : ℕ) → SoundBoard b → So
 given_up-good b t bus good = subst SoundBoard (sym (cut-whole b t bus)) (cut-good b t (objects_in t) true good)
 
 -- a device whose removal is pending, which stands in its place, is let go
-pub completed-good : (b : Board) (d : ℕ) → among b.pending d ≡ true → SoundBoard b → SoundBoard (completed b d)
+pub completed-good : (b : Board) (d : ℕ) → is_pending b d ≡ true → SoundBoard b → SoundBoard (completed b d)
 completed-good b d pending h =
     record {
       run = completed-run b d pending h.run;
@@ -233,21 +234,21 @@ completed-good b d pending h =
     }
   where
     there : stands b d ≡ true
-    there = (among-all (IsOn b) b.pending h.run.devices.lists.pending d pending).0
+    there = (removal-all (IsOn b) b.pending h.run.devices.lists.pending d pending).0
 
 -- a hold of a reset on an attached object that is not held too often, a hold less, both, and the reset of the whole board
-pub held-good : (b : Board) (n : ℕ) → is_of b (codes "resettable") n ≡ true → attached b n ≡ true → exceeds_depth b n ≡ false → SoundBoard b
-    → SoundBoard (after_hold b n)
-held-good b n is home deep h =
+pub held-good : (b : Board) (n : ℕ) (kind : ResetKind) → is_of b (codes "resettable") n ≡ true → attached b n ≡ true → exceeds_depth b n ≡ false
+    → SoundBoard b → SoundBoard (after_hold b n kind)
+held-good b n kind is home deep h =
     record {
-      run = held-run b n h.run;
-      shape = shapes_kept_lem.held_so b n h.shape;
-      owners = owners_kept_lem.held_so b n h.owners;
-      sources = sources_kept_lem.held_so b n h.run.devices h.sources;
-      segments = segments_kept_lem.held_so b n h.run.times h.segments;
-      backends = claims_kept_lem.held_so b n h.run.devices h.backends;
-      holds = holds_kept_lem.held_so b n (holds_kept_lem.reached b h.run.devices h.owners.lone n (rw (home, is) refl)) deep h.holds;
-      bounds = bounds_kept_lem.held_so b n h.bounds;
+      run = held-run b n kind h.run;
+      shape = shapes_kept_lem.held_so b n kind h.shape;
+      owners = owners_kept_lem.held_so b n kind h.owners;
+      sources = sources_kept_lem.held_so b n kind h.run.devices h.sources;
+      segments = segments_kept_lem.held_so b n kind h.run.times h.segments;
+      backends = claims_kept_lem.held_so b n kind h.run.devices h.backends;
+      holds = holds_kept_lem.held_so b n kind (holds_kept_lem.reached b h.run.devices h.owners.lone n (rw (home, is) refl)) deep h.holds;
+      bounds = bounds_kept_lem.held_so b n kind h.bounds;
     }
 
 pub released-good : (b : Board) (n : ℕ) → SoundBoard b → SoundBoard (released b n)
@@ -263,17 +264,17 @@ released-good b n h =
       bounds = bounds_kept_lem.released_so b n h.bounds;
     }
 
-pub pulsed-good : (b : Board) (n : ℕ) → SoundBoard b → SoundBoard (pulse b n)
-pulsed-good b n h =
+pub pulsed-good : (b : Board) (n : ℕ) (kind : ResetKind) → SoundBoard b → SoundBoard (pulse b n kind)
+pulsed-good b n kind h =
     record {
-      run = pulsed-run b n h.run;
-      shape = shapes_kept_lem.pulsed b n h.shape;
-      owners = owners_kept_lem.pulsed b n h.owners;
-      sources = sources_kept_lem.pulsed b n h.run.devices h.sources;
-      segments = segments_kept_lem.pulsed b n h.run.times h.segments;
-      backends = claims_kept_lem.pulsed b n h.run.devices h.backends;
-      holds = holds_kept_lem.pulsed b n h.holds;
-      bounds = bounds_kept_lem.pulsed b n h.bounds;
+      run = pulsed-run b n kind h.run;
+      shape = shapes_kept_lem.pulsed b n kind h.shape;
+      owners = owners_kept_lem.pulsed b n kind h.owners;
+      sources = sources_kept_lem.pulsed b n kind h.run.devices h.sources;
+      segments = segments_kept_lem.pulsed b n kind h.run.times h.segments;
+      backends = claims_kept_lem.pulsed b n kind h.run.devices h.backends;
+      holds = holds_kept_lem.pulsed b n kind h.holds;
+      bounds = bounds_kept_lem.pulsed b n kind h.bounds;
     }
 
 pub reset-good : (b : Board) → SoundBoard b → SoundBoard (reset_whole b)
@@ -329,7 +330,7 @@ pushed-good b n id h = ringed-good b (pushed n b id).rings (gained_backends b id
 pub written-good : (b : Board) (d reg value : ℕ) (c : Board) → guest_written b d reg value ≡ Some c → SoundBoard b → SoundBoard c
 written-good b d reg value c is h =
     written-all SoundBoard b d reg value (λ registers e so. registers-good b d reg value registers e so h) (λ x n id q. pushed-good x n id q)
-    (λ x m on q. pulsed-good x m q) c is
+    (λ x m on q. pulsed-good x m Cold q) c is
 
 -- each board that stands at the same parts as a sound one is sound
 pub alike-good : (b c : Board) (p : Parts) → Stands b p → Stands c p → SoundBoard b → SoundBoard c

@@ -2,6 +2,7 @@
 use Rattle.std.proofs.Common.{◌≡◌, refl, ap, sym, subst, ◌∙◌, ap₂, ℕ, Bool, true, false, not, if◌then◌else◌, List, [], codes, Some, None, Result, Ok, Err, OnErr}
 use Rattle.qo_values.specs.declared.codes.Code.{Code}
 use Rattle.qo_values.specs.declared.codes.Code.TheVariants.{E15, E48, E49}
+use Rattle.qo_values.specs.declared.kinds.ResetKind.{ResetKind}
 use Rattle.qo_model.specs.Board.{Board, Ring}
 use Rattle.qo_model.specs.Depth.{among}
 use Rattle.qo_model.specs.Objects.{Changed}
@@ -43,15 +44,15 @@ at_path-all P b path change p q = by (resolve b path (codes "resettable")) refl
     by missing e = rw (resettable_at, e) p
     by several e = rw (resettable_at, e) p
 
-pub held_of-all : (P : Board → Type 0) (b : Board) (n : ℕ) → P b → (attached b n ≡ true → exceeds_depth b n ≡ false → P (after_hold b n))
-    → P (held_of b n).board
-held_of-all P b n p q = by (attached b n) refl (exceeds_depth b n) refl
+pub held_of-all : (P : Board → Type 0) (b : Board) (n : ℕ) (kind : ResetKind) → P b
+    → (attached b n ≡ true → exceeds_depth b n ≡ false → P (after_hold b n kind)) → P (held_of b n kind).board
+held_of-all P b n kind p q = by (attached b n) refl (exceeds_depth b n) refl
   where
     come : Bool → Bool → Changed
     come home deep =
         if not home then record { refusal = Some E15; board = b }
         else if deep then record { refusal = Some E48; board = b }
-        else record { refusal = None; board = after_hold b n }
+        else record { refusal = None; board = after_hold b n kind }
 
     by : (home : Bool) → attached b n ≡ home → (deep : Bool) → exceeds_depth b n ≡ deep → P (come home deep).board
     by false e deep d = p
@@ -68,9 +69,10 @@ released_of-all P b n p q = by (among b.holds n) refl
     by true e = q e
     by false e = p
 
-held_at-all : (P : Board → Type 0) (b : Board) (path : List ℕ) → P b
-    → ((n : ℕ) → is_of b (codes "resettable") n ≡ true → attached b n ≡ true → exceeds_depth b n ≡ false → P (after_hold b n)) → P (held_at b path).board
-held_at-all P b path p q = at_path-all P b path (held_of b) p (λ n is. held_of-all P b n p (λ home deep. q n is home deep))
+held_at-all : (P : Board → Type 0) (b : Board) (path : List ℕ) (kind : ResetKind) → P b
+    → ((n : ℕ) → is_of b (codes "resettable") n ≡ true → attached b n ≡ true → exceeds_depth b n ≡ false → P (after_hold b n kind))
+    → P (held_at b path kind).board
+held_at-all P b path kind p q = at_path-all P b path (λ n. held_of b n kind) p (λ n is. held_of-all P b n kind p (λ home deep. q n is home deep))
 
 released_at-all : (P : Board → Type 0) (b : Board) (path : List ℕ) → P b → ((n : ℕ) → P (released b n)) → P (released_at b path).board
 released_at-all P b path p q = at_path-all P b path (released_of b) p (λ n is. released_of-all P b n p (λ there. q n))
@@ -78,14 +80,14 @@ released_at-all P b path p q = at_path-all P b path (released_of b) p (λ n is. 
 none-leaves : (b : Board) → ResetLeaves b b
 none-leaves b = record { anonymous = refl; now = refl; running = refl; pending = refl; notices = refl; rings = refl; events = refl }
 
-held_at-leaves : (b : Board) (path : List ℕ) → ResetLeaves b (held_at b path).board
-held_at-leaves b path = held_at-all (ResetLeaves b) b path (none-leaves b) (λ n is home deep. devices_stay_lem.held_so b n)
+held_at-leaves : (b : Board) (path : List ℕ) (kind : ResetKind) → ResetLeaves b (held_at b path kind).board
+held_at-leaves b path kind = held_at-all (ResetLeaves b) b path kind (none-leaves b) (λ n is home deep. devices_stay_lem.held_so b n kind)
 
 released_at-leaves : (b : Board) (path : List ℕ) → ResetLeaves b (released_at b path).board
 released_at-leaves b path = released_at-all (ResetLeaves b) b path (none-leaves b) (λ n. devices_stay_lem.released_so b n)
 
-held_at-good : (b : Board) (path : List ℕ) → SoundBoard b → SoundBoard (held_at b path).board
-held_at-good b path good = held_at-all SoundBoard b path good (λ n is home deep. held-good b n is home deep good)
+held_at-good : (b : Board) (path : List ℕ) (kind : ResetKind) → SoundBoard b → SoundBoard (held_at b path kind).board
+held_at-good b path kind good = held_at-all SoundBoard b path kind good (λ n is home deep. held-good b n kind is home deep good)
 
 released_at-good : (b : Board) (path : List ℕ) → SoundBoard b → SoundBoard (released_at b path).board
 released_at-good b path good = released_at-all SoundBoard b path good (λ n. released-good b n good)
@@ -134,9 +136,10 @@ module _ (rings : List Ring) (anonymous : ℕ) (running : Bool) (old new : HoldL
   answers b change (Err code) s l is same =
       record { refusal = ap (λ (x : Changed). x.refusal) is; board = subst (λ (x : Changed). Stands x.board after) (sym is) (left-stands b s same) }
 
-  pub hold-changes : (b : Board) (path : List ℕ) (result : Result Unit Refusal) → Stands b before → Resets b (held_at b path) result new.births w
-      → OnErr result ((w ≡ v) × (new.births ≡ old.births)) → Changes (held_at b path) b result after
-  hold-changes b path result s h same = changes b (held_at b path) result s (held_at-leaves b path) h same
+  pub hold-changes : (b : Board) (path : List ℕ) (kind : ResetKind) (result : Result Unit Refusal) → Stands b before
+      → Resets b (held_at b path kind) result new.births w → OnErr result ((w ≡ v) × (new.births ≡ old.births))
+      → Changes (held_at b path kind) b result after
+  hold-changes b path kind result s h same = changes b (held_at b path kind) result s (held_at-leaves b path kind) h same
 
   pub release-answers : (b : Board) (path : List ℕ) (result : Result Unit Code) → Stands b before → Releases b (released_at b path) result new.births w
       → OnErr result ((w ≡ v) × (new.births ≡ old.births)) → IsAnswered (released_at b path) result after
@@ -144,26 +147,27 @@ module _ (rings : List Ring) (anonymous : ℕ) (running : Bool) (old new : HoldL
 
   -- the board that stands is good
 
-  hold-good : (b : Board) (path : List ℕ) (result : Result Unit Refusal) → SoundBoard b → Changes (held_at b path) b result after
+  hold-good : (b : Board) (path : List ℕ) (kind : ResetKind) (result : Result Unit Refusal) → SoundBoard b → Changes (held_at b path kind) b result after
       → OnlyRootPinned w × StandsForGood after
-  hold-good b path (Ok u) good h = good-pinned (held_at b path).board after h.1 (held_at-good b path good)
-  hold-good b path (Err (Refused code)) good h = good-pinned b after h.1 good
-  hold-good b path (Err Memory) good h = good-pinned b after h good
+  hold-good b path kind (Ok u) good h = good-pinned (held_at b path kind).board after h.1 (held_at-good b path kind good)
+  hold-good b path kind (Err (Refused code)) good h = good-pinned b after h.1 good
+  hold-good b path kind (Err Memory) good h = good-pinned b after h good
 
-  pub hold-keeps : (path : List ℕ) (result : Result Unit Refusal) → StandsForGood before → ((b : Board) → Holds b old.births v
-      → Resets b (held_at b path) result new.births w)
+  pub hold-keeps : (path : List ℕ) (kind : ResetKind) (result : Result Unit Refusal) → StandsForGood before → ((b : Board) → Holds b old.births v
+      → Resets b (held_at b path kind) result new.births w)
       → OnErr result ((w ≡ v) × (new.births ≡ old.births)) → OnlyRootPinned w × StandsForGood after
-  hold-keeps path result (b, s, good) h same = hold-good b path result good (hold-changes b path result s (h b (s.shows, s.holds)) same)
+  hold-keeps path kind result (b, s, good) h same =
+      hold-good b path kind result good (hold-changes b path kind result s (h b (s.shows, s.holds)) same)
 
-  pub hold-claims : (path : List ℕ) (result : Result Unit Refusal) → StandsForGood before → Acts v w → ((b : Board) → Holds b old.births v
-      → Resets b (held_at b path) result new.births w)
+  pub hold-claims : (path : List ℕ) (kind : ResetKind) (result : Result Unit Refusal) → StandsForGood before → Acts v w → ((b : Board) → Holds b old.births v
+      → Resets b (held_at b path kind) result new.births w)
       → OnErr result ((w ≡ v) × (new.births ≡ old.births)) → KeepsClaims v → KeepsClaims w
-  hold-claims path (Ok u) (b, s, good) acts h same =
-      step-claims b (held_at b path).board v w s.shows (h b (s.shows, s.holds)).1.0
-      (held_at-all (ClaimsKeep b) b path (claims_stay_lem.beside b b refl) (λ n is home deep. claims_stay_lem.held_so b n good.run.devices))
+  hold-claims path kind (Ok u) (b, s, good) acts h same =
+      step-claims b (held_at b path kind).board v w s.shows (h b (s.shows, s.holds)).1.0
+      (held_at-all (ClaimsKeep b) b path kind (claims_stay_lem.beside b b refl) (λ n is home deep. claims_stay_lem.held_so b n kind good.run.devices))
       (λ n k e. sym (acts-claims v w acts n) ∙ e)
-  hold-claims path (Err (Refused code)) (b, s, good) acts h same = same-claims v w same.0
-  hold-claims path (Err Memory) (b, s, good) acts h same = same-claims v w same.0
+  hold-claims path kind (Err (Refused code)) (b, s, good) acts h same = same-claims v w same.0
+  hold-claims path kind (Err Memory) (b, s, good) acts h same = same-claims v w same.0
 
   pub release-claims : (path : List ℕ) (result : Result Unit Code) → StandsForGood before → Acts v w → ((b : Board) → Holds b old.births v
       → Releases b (released_at b path) result new.births w)
@@ -180,9 +184,10 @@ module _ (rings : List Ring) (anonymous : ℕ) (running : Bool) (old new : HoldL
   release-keeps path result (b, s, good) h same =
       good-pinned (released_at b path).board after (release-answers b path result s (h b (s.shows, s.holds)) same).board (released_at-good b path good)
 
-  pub pulse-stands : (b : Board) (n : ℕ) → Stands b before → Holds (pulse b n) new.births w → Stands (pulse b n) after
-  pulse-stands b n s h = reset-stands b (pulse b n) s (devices_stay_lem.pulsed b n) h
+  pub pulse-stands : (b : Board) (n : ℕ) (kind : ResetKind) → Stands b before → Holds (pulse b n kind) new.births w → Stands (pulse b n kind) after
+  pulse-stands b n kind s h = reset-stands b (pulse b n kind) s (devices_stay_lem.pulsed b n kind) h
 
-  pub pulse-keeps : (n : ℕ) → StandsForGood before → ((b : Board) → Holds b old.births v → Holds (pulse b n) new.births w)
+  pub pulse-keeps : (n : ℕ) (kind : ResetKind) → StandsForGood before → ((b : Board) → Holds b old.births v → Holds (pulse b n kind) new.births w)
       → OnlyRootPinned w × StandsForGood after
-  pulse-keeps n (b, s, good) h = good-pinned (pulse b n) after (pulse-stands b n s (h b (s.shows, s.holds))) (pulsed-good b n good)
+  pulse-keeps n kind (b, s, good) h =
+      good-pinned (pulse b n kind) after (pulse-stands b n kind s (h b (s.shows, s.holds))) (pulsed-good b n kind good)

@@ -1,4 +1,5 @@
 pub mod AddressLemmas
+pub mod AskLemmas
 pub mod RemovalLemmas
 pub mod ChardevLemmas
 pub mod ClaimsLemmas

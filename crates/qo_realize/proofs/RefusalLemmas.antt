@@ -7,7 +7,7 @@ use Rattle.qo_events.specs.Queue.{Waiting}
 use Rattle.qo_hotplug.specs.Hotplug as hotplug
 use Rattle.qo_hotplug.specs.Hotplug.{Asked}
 use Rattle.qo_model.specs.Board.{Board, DeviceEvent, Notice, Record, record_of, Ring}
-use Rattle.qo_model.specs.Unplug.{without_all}
+use Rattle.qo_model.specs.Unplug.{without_removal}
 use Rattle.qo_model.specs.Hotplug.{refused}
 use Rattle.qo_model.specs.Hotplug as model
 use Rattle.qo_object.specs.Content.{Content}
@@ -64,7 +64,7 @@ refused-rows v w n spare is = go (content_of v n) is
     go (Some c) e = ap (λ (x : Objects). x.rows) (sym (same_Some (told_refused v spare c) w e))
 
 pub refused-asked : (b : Board) (n : ℕ) (h : Asked) → IsAsked b h → IsAsked (refused b n) (hotplug.refused n h)
-refused-asked b n h a = record { pending = ap (without_all n) a.pending; notices = ap (filter (λ (x : Notice). x.plug || not (x.birth == n))) a.notices }
+refused-asked b n h a = record { pending = ap (without_removal n) a.pending; notices = ap (filter (λ (x : Notice). x.plug || not (x.birth == n))) a.notices }
 
 -- the board's part
 pub refused-stands : (b : Board) (rings : List Ring) (anonymous : ℕ) (running : Bool) (holds : HoldList) (old new : Asked) (v w : Objects) (n : ℕ)

@@ -5,6 +5,7 @@ use Rattle.std.proofs.lemmas.Bool.{eqb-true}
 use Rattle.std.proofs.lemmas.Option.{same_Some}
 use Rattle.qo_values.specs.Registers.{Effect, body_write, Registers, bare}
 use Rattle.qo_values.specs.Registers as effect
+use Rattle.qo_values.specs.declared.kinds.ResetKind.TheVariants.{Cold}
 use Rattle.qo_buses.specs.Rings.{claimed_ring}
 use Rattle.qo_kinds.specs.Bodies.{IsTimely, kept_of, registers_of}
 use Rattle.qo_kinds.specs.declared.bodies.Body.{Body}
@@ -163,10 +164,10 @@ put-live v o new live = live-edit o.birth (put new) v.rows o live
 
 -- a bus goes through a pulse, which leaves the rings
 pub pulse-held : (b : Board) (d m : ℕ) (holds next : List ℕ) (rings : List Ring) (v w : Objects) → IsHeld b holds rings v → first_bus b d ≡ Some m
-    → Holds (pulse b m) next w → IsHeld (after_effect d effect.pulse b) next rings w
+    → Holds (pulse b m Cold) next w → IsHeld (after_effect d effect.pulse b) next rings w
 pulse-held b d m holds next rings v w h is after =
-    subst (λ (bus : Option ℕ). IsHeld (option_map_or (pulse b) bus b) next rings w) (sym is)
-    (record { held = after; rings_are = (devices_stay_lem.pulsed b m).rings ∙ h.rings_are })
+    subst (λ (bus : Option ℕ). IsHeld (option_map_or (λ n. pulse b n Cold) bus b) next rings w) (sym is)
+    (record { held = after; rings_are = (devices_stay_lem.pulsed b m Cold).rings ∙ h.rings_are })
 
 -- the board after the write
 pub was-written : (b : Board) (d reg value : ℕ) (e : told.Effect) (holds next : List ℕ) (rings others : List Ring) (v w : Objects) → b.holds ≡ holds

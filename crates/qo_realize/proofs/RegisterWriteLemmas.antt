@@ -4,6 +4,7 @@ use Rattle.std.specs.Option.{option_map_or}
 use Rattle.std.proofs.lemmas.Option.{same_Some}
 use Rattle.qo_values.specs.Registers.{Effect, byte, nothing, Registers}
 use Rattle.qo_values.specs.Registers as effect
+use Rattle.qo_values.specs.declared.kinds.ResetKind.TheVariants.{Cold}
 use Rattle.qo_buses.specs.Rings.{claimed_ring}
 use Rattle.qo_model.specs.Board.{Board}
 use Rattle.qo_model.specs.Devices.{first_bus}
@@ -17,7 +18,7 @@ use Rattle.qo_realize.specs.Registers.{after_effect, guest_written, pushed, regi
 pub written-all : (P : Board → Type 0) (b : Board) (d reg value : ℕ)
     → ((registers : Registers) (e : Effect) → registers_written b d reg value ≡ Some (registers, e) → P (registers_set b d registers))
     → ((x : Board) (n : ℕ) (id : List ℕ) → P x → P (pushed n x id))
-    → ((x : Board) (m : ℕ) → first_bus x d ≡ Some m → P x → P (pulse x m)) → (c : Board) → guest_written b d reg value ≡ Some c → P c
+    → ((x : Board) (m : ℕ) → first_bus x d ≡ Some m → P x → P (pulse x m Cold)) → (c : Board) → guest_written b d reg value ≡ Some c → P c
 written-all P b d reg value set gains pulsed c is = go (registers_written b d reg value) refl
   where
     beside : (x : Board) (e : Effect) → P x → P (after_effect d e x)
@@ -29,7 +30,7 @@ written-all P b d reg value set gains pulsed c is = go (registers_written b d re
         by (Some id) = gains x n id h
     beside x effect.pulse h = by (first_bus x d) refl
       where
-        by : (bus : Option ℕ) → first_bus x d ≡ bus → P (option_map_or (pulse x) bus x)
+        by : (bus : Option ℕ) → first_bus x d ≡ bus → P (option_map_or (λ m. pulse x m Cold) bus x)
         by None is = h
         by (Some m) is = pulsed x m is h
 
@@ -60,4 +61,4 @@ written-leaves b d reg value =
     written-all (WriteLeaves b) b d reg value
     (λ registers e is. record { anonymous = refl; running = refl; pending = refl; notices = refl })
     (λ x n id h. record { anonymous = h.anonymous; running = h.running; pending = h.pending; notices = h.notices })
-    (λ x m is h. leaves-then b x (pulse x m) h (devices_stay_lem.pulsed x m))
+    (λ x m is h. leaves-then b x (pulse x m Cold) h (devices_stay_lem.pulsed x m Cold))

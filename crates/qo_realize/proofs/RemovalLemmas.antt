@@ -6,12 +6,11 @@ use Rattle.std.specs.Prelude.{drop}
 use Rattle.std.proofs.lemmas.List.{length-map}
 use Rattle.std.proofs.lemmas.Map.Made.{length-le_from_is_member}
 use Rattle.qo_values.specs.declared.codes.Code.{Code}
-use Rattle.qo_values.proofs.ListLemmas.{all-imply}
 use Rattle.qo_hotplug.specs.Hotplug as hotplug
 use Rattle.qo_hotplug.specs.Hotplug.{Asked}
 use Rattle.qo_slots.specs.declared.keys.Key.{Key}
 use Rattle.qo_heap.specs.Rows.{IsLive}
-use Rattle.qo_model.specs.Board.{Board, Notice, Record, Ring, is_live}
+use Rattle.qo_model.specs.Board.{Board, Notice, Record, Removal, Ring, is_live, is_pending}
 use Rattle.qo_model.specs.Depth.{among}
 use Rattle.qo_model.specs.Objects.{Changed}
 use Rattle.qo_model.specs.Paths.{births}
@@ -21,8 +20,10 @@ use Rattle.qo_heap.specs.Board.{Shows}
 use Rattle.qo_heap.specs.Objects.{Objects}
 use Rattle.qo_heap.proofs.BoardReads.{shows-live_key}
 use Rattle.qo_reset.specs.HoldList.{HoldList}
+use Rattle.qo_sound.proofs.RecordLemmas.{all-map}
 use Rattle.qo_sound.proofs.ViewLemmas.{rest-from_sound}
-use Rattle.qo_sound_devices.specs.SoundLists.{IsOn}
+use Rattle.qo_sound_devices.specs.SoundLists.{IsOn, births_of}
+use Rattle.qo_sound_devices.proofs.ListsKeptLemmas.{new-birth}
 use Rattle.qo_sound_devices.proofs.PlacesLemmas.{stands-live}
 use Rattle.qo_realize.specs.Answers.{IsAnswered}
 use Rattle.qo_realize.specs.SoundBoard.{SoundBoard}
@@ -85,25 +86,30 @@ asks-answer b rings anonymous running holds old new v change (Err code) s is sam
 -- there is room for the removal of an object that is there: each that is pending is there, and none twice
 asking-room : (b : Board) (d : ℕ) → SoundBoard b → is_live b d ≡ true → HasRoom b.pending d
 unfolding IsDistinct
-asking-room b d good live = by (among b.pending d) refl
+asking-room b d good live = by (is_pending b d) refl
   where
-    on : AllByRecursion (λ n. among (births b) n ≡ true) b.pending
-    on =
-        all-imply (IsOn b) (λ n. among (births b) n ≡ true)
-        (λ n on. sym (live-among b n) ∙ stands-live b (rest-from_sound b good.run.devices.tree).used.firm n on.0) b.pending good.run.devices.lists.pending
+    devices : List ℕ
+    devices = births_of b.pending
 
-    by : (t : Bool) → among b.pending d ≡ t → HasRoom b.pending d
+    on : AllByRecursion (λ n. among (births b) n ≡ true) devices
+    on =
+        all-map (λ (r : Removal). IsOn b r.birth) (λ n. among (births b) n ≡ true) (λ (r : Removal). r.birth)
+        (λ r on. sym (live-among b r.birth) ∙ stands-live b (rest-from_sound b good.run.devices.tree).used.firm r.birth on.0) b.pending
+        good.run.devices.lists.pending
+
+    by : (t : Bool) → is_pending b d ≡ t → HasRoom b.pending d
     by true e = inl e
     by false e =
-        let few : length (d ∷ b.pending) ≤ length (births b) =
-        length-le_from_is_member nat_eq_equiv (d ∷ b.pending) (births b) (among-apart d b.pending e, good.run.devices.lists.once)
-        (among-all (λ n. among (births b) n ≡ true) (d ∷ b.pending) (sym (live-among b d) ∙ live, on)) in
+        let few : length (d ∷ devices) ≤ length (births b) =
+        length-le_from_is_member nat_eq_equiv (d ∷ devices) (births b) (among-apart d devices (new-birth b.pending d e), good.run.devices.lists.once)
+        (among-all (λ n. among (births b) n ≡ true) (d ∷ devices) (sym (live-among b d) ∙ live, on)) in
+        let same : length devices ≡ length b.pending = length-map b.pending (λ (r : Removal). r.birth) in
         let all : length (births b) ≡ length b.records = length-map b.records (λ (r : Record). r.birth) in
-        inr (omega (arith, few, all, good.bounds.room))
+        inr (omega (arith, few, same, all, good.bounds.room))
 
 pub has-room : (p : Parts) → StandsForGood p → (o : Key) → IsLive p.objects.rows o → HasRoom p.pending o.birth
 has-room p (b, s, good) o live =
-    subst (λ (pending : List ℕ). HasRoom pending o.birth) s.pending (asking-room b o.birth good (shows-live_key b p.objects s.shows o live))
+    subst (λ (pending : List Removal). HasRoom pending o.birth) s.pending (asking-room b o.birth good (shows-live_key b p.objects s.shows o live))
 
 -- a notice was taken
 pub polled-stands : (b : Board) (rings : List Ring) (anonymous : ℕ) (running : Bool) (holds : HoldList) (old : Asked) (v : Objects)

@@ -1,20 +1,22 @@
 -- What stands where the whole board is reset.
 use Rattle.std.proofs.Common.{◌≡◌, refl, ap, sym, subst, ◌∙◌, ℕ, zero, suc, ◌+◌, true, false, List, [], ◌∷◌, Option, Some, None, IfSome, IfNone, is_some, add-one}
-use Rattle.std.specs.Prelude.{slice_get}
+use Rattle.std.specs.Prelude.{◌==◌, slice_get}
+use Rattle.std.specs.List.{AllByRecursion}
+use Rattle.std.proofs.lemmas.Bool.{eq-eqb}
+use Rattle.std.proofs.lemmas.Option.{same_Some}
 use Rattle.qo_values.specs.declared.births.TheConstants.{MACHINE_BIRTH, ROOT_BIRTH}
 use Rattle.qo_slots.specs.declared.keys.Key.{Key}
 use Rattle.qo_object.specs.Content.{Content}
 use Rattle.qo_object.specs.BoardObject.{birth_of}
-use Rattle.qo_model.specs.Board.{Board, is_live}
+use Rattle.qo_model.specs.Board.{Board, Removal, is_live}
 use Rattle.qo_model.specs.Hotplug.{all_completed, completed}
-use Rattle.qo_model.specs.Unplug.{first_of}
 use Rattle.qo_heap.specs.Objects.{content_of}
 use Rattle.qo_heap.proofs.BoardReads.{shows-live}
 use Rattle.qo_sound.proofs.ViewLemmas.{rest-from_sound}
 use Rattle.qo_sound_devices.specs.SoundLists.{IsOn}
 use Rattle.qo_sound_devices.proofs.PlacesLemmas.{child-live, stands-live}
-use Rattle.qo_sound_devices.proofs.ResetLemmas.{first-on}
 use Rattle.qo_realize.specs.Parts.{Parts}
+use Rattle.qo_realize.specs.Removals.{first_device, is_listed}
 use Rattle.qo_realize.specs.Representation.{Stands, StandsForGood}
 
 -- what is said where there is none
@@ -36,44 +38,53 @@ machine-there p (b, s, good) =
     not-gone b p s MACHINE_BIRTH (child-live b (rest-from_sound b good.run.devices.tree).used.firm ROOT_BIRTH MACHINE_BIRTH good.run.devices.places.1.machine)
 
 -- the first device whose removal is pending
-pending-there : (p : Parts) → StandsForGood p → (d : ℕ) → first_of p.pending ≡ Some d → content_of p.objects d ≡ None → ⊥
+pub first_listed : (removals : List Removal) (d : ℕ) → Some d ≡ first_device removals → is_listed d removals ≡ true
+first_listed [] d e = absurd (let clash : Some d ≡ None = e in cc)
+first_listed (r ∷ removals) d e = let same : (r.birth == d) ≡ true = eq-eqb r.birth d (sym (same_Some d r.birth e)) in rw same refl
+
+first-device : (P : ℕ → Type 0) (removals : List Removal) → AllByRecursion (λ (r : Removal). P r.birth) removals → (d : ℕ)
+    → first_device removals ≡ Some d → P d
+first-device P [] h d e = absurd (let clash : None ≡ Some d = e in cc)
+first-device P (r ∷ removals) h d e = subst P (same_Some r.birth d e) h.0
+
+pending-there : (p : Parts) → StandsForGood p → (d : ℕ) → first_device p.pending ≡ Some d → content_of p.objects d ≡ None → ⊥
 pending-there p (b, s, good) d is =
-    let on : IsOn b d = first-on (IsOn b) b.pending good.run.devices.lists.pending d (ap first_of s.pending ∙ is) in
+    let on : IsOn b d = first-device (IsOn b) b.pending good.run.devices.lists.pending d (ap first_device s.pending ∙ is) in
     not-gone b p s d (stands-live b (rest-from_sound b good.run.devices.tree).used.firm d on.0)
 
-pub first-same : (ns : List ℕ) → slice_get ns 0 ≡ first_of ns
-first-same [] = refl
-first-same (n ∷ ns) = refl
-
-pub first-told : (p : Parts) (d : ℕ) (o : Option Key) → StandsForGood p → first_of p.pending ≡ Some d → IfSome o (λ k. k.birth ≡ d)
-    → IfNone o (content_of p.objects d ≡ None) → birth_of o ≡ first_of p.pending
+pub first-told : (p : Parts) (d : ℕ) (o : Option Key) → StandsForGood p → first_device p.pending ≡ Some d → IfSome o (λ k. k.birth ≡ d)
+    → IfNone o (content_of p.objects d ≡ None) → birth_of o ≡ first_device p.pending
 first-told p d (Some k) good is born none = ap (λ (n : ℕ). Some n) born ∙ sym is
 first-told p d None good is born none = absurd (pending-there p good d is none)
 
 -- one removal more that comes to its end
-abbrev one_more : Board → Board
-one_more b = elim (first_of b.pending) [ None ↦ b | Some d ↦ completed b d ]
+abbrev one_more : Board → Option ℕ → Board
+one_more b None = b
+one_more b (Some d) = completed b d
 
-completed-more : (k : ℕ) (b : Board) → all_completed (suc k) b ≡ one_more (all_completed k b)
-completed-more zero b = go (first_of b.pending) refl
+completed-more : (k : ℕ) (b : Board) → all_completed (suc k) b ≡ one_more (all_completed k b) (first_device (all_completed k b).pending)
+completed-more zero b = go (slice_get b.pending 0) refl
   where
-    go : (o : Option ℕ) → first_of b.pending ≡ o → all_completed 1 b ≡ one_more b
-    go None e = rw (all_completed, one_more, e) refl
-    go (Some d) e = rw (all_completed, one_more, e) refl
-completed-more (suc k) b = go (first_of b.pending) refl (completed-more k)
+    go : (o : Option Removal) → slice_get b.pending 0 ≡ o → all_completed 1 b ≡ one_more b (first_device b.pending)
+    go None e = rw (all_completed, first_device, e) refl
+    go (Some r) e = rw (all_completed, first_device, e) refl
+completed-more (suc k) b = go (slice_get b.pending 0) refl (completed-more k)
   where
-    go : (o : Option ℕ) → first_of b.pending ≡ o → ((c : Board) → all_completed (suc k) c ≡ one_more (all_completed k c))
-        → all_completed (suc (suc k)) b ≡ one_more (all_completed (suc k) b)
-    go None e rest = rw (all_completed, e) (rw (one_more, e) refl)
-    go (Some d) e rest = rw (all_completed, e) (rest (completed b d))
+    go : (o : Option Removal) → slice_get b.pending 0 ≡ o
+        → ((c : Board) → all_completed (suc k) c ≡ one_more (all_completed k c) (first_device (all_completed k c).pending))
+        → all_completed (suc (suc k)) b ≡ one_more (all_completed (suc k) b) (first_device (all_completed (suc k) b).pending)
+    go None e rest = rw (all_completed, e) (rw (first_device, e) refl)
+    go (Some r) e rest = rw (all_completed, e) (rest (completed b r.birth))
 
-pub more-none : (k : ℕ) (b : Board) (p : Parts) → Stands (all_completed k b) p → None ≡ first_of p.pending → Stands (all_completed (k + 1) b) p
+pub more-none : (k : ℕ) (b : Board) (p : Parts) → Stands (all_completed k b) p → None ≡ first_device p.pending → Stands (all_completed (k + 1) b) p
 more-none k b p s none =
-    let same : all_completed (suc k) b ≡ all_completed k b = completed-more k b ∙ rw (one_more, ap first_of s.pending ∙ sym none) refl in
+    let same : all_completed (suc k) b ≡ all_completed k b =
+    completed-more k b ∙ ap (one_more (all_completed k b)) (ap first_device s.pending ∙ sym none) in
     rw add-one (subst (λ (c : Board). Stands c p) (sym same) s)
 
-pub more-some : (k d : ℕ) (b : Board) (p q : Parts) → Stands (all_completed k b) p → Some d ≡ first_of p.pending
+pub more-some : (k d : ℕ) (b : Board) (p q : Parts) → Stands (all_completed k b) p → Some d ≡ first_device p.pending
     → ((c : Board) → Stands c p → Stands (completed c d) q) → Stands (all_completed (k + 1) b) q
 more-some k d b p q s some comes =
-    let same : all_completed (suc k) b ≡ completed (all_completed k b) d = completed-more k b ∙ rw (one_more, ap first_of s.pending ∙ sym some) refl in
+    let same : all_completed (suc k) b ≡ completed (all_completed k b) d =
+    completed-more k b ∙ ap (one_more (all_completed k b)) (ap first_device s.pending ∙ sym some) in
     rw add-one (subst (λ (c : Board). Stands c q) (sym same) (comes (all_completed k b) s))

@@ -2,22 +2,21 @@
 use Rattle.std.proofs.Common.{◌≡◌, ◌≤◌, ◌<◌, ◌^◌, arith, refl, ap, sym, subst, ◌∙◌, ℕ, Bool, true, List, [], ◌∷◌, drop, Option, None, Some, Ok, is_some}
 use Rattle.std.specs.Option.{option_map_or}
 use Rattle.qo_values.specs.Registers.{Effect, Registers, bare}
+use Rattle.qo_values.specs.declared.kinds.ResetKind.{ResetKind}
 use Rattle.qo_values.specs.declared.kinds.TypeId.{TypeId}
 use Rattle.qo_buses.specs.Rings.{claimed_ring}
-use Rattle.qo_model.specs.Board.{Board, Notice, Record, Ring, record_of}
+use Rattle.qo_model.specs.Board.{Board, Notice, Record, Ring, is_pending, record_of}
 use Rattle.qo_model.specs.ClockChanges.{clock_scaled, clock_set}
 use Rattle.qo_model.specs.Clocks.{device_period}
-use Rattle.qo_model.specs.Depth.{among}
 use Rattle.qo_model.specs.FinalNotesRuns.{Change, changed}
 use Rattle.qo_model.specs.Hotplug.{asked, completed, refused, reset_whole}
 use Rattle.qo_model.specs.Objects.{with_attempt}
 use Rattle.qo_model.specs.Opening.{opening_board}
 use Rattle.qo_model.specs.Plug.{Wanted, cut_attempt, plug}
 use Rattle.qo_model.specs.Reset.{after_hold, pulse, released}
-use Rattle.qo_model.proofs.AmongLemmas.{among-all}
 use Rattle.qo_sound_devices.specs.SoundDevices.{SoundDevices}
 use Rattle.qo_sound_devices.specs.SoundLists.{IsOn}
-use Rattle.qo_sound_devices.proofs.DevicesLawLemmas.{devices_kept_lem}
+use Rattle.qo_sound_devices.proofs.DevicesLawLemmas.{devices_kept_lem, removal-all}
 use Rattle.qo_sound_clocks.specs.ClockRuns.{SoundRun}
 use Rattle.qo_sound_clocks.specs.RegisterWrites.{registers_set}
 use Rattle.qo_sound_clocks.specs.SoundTimes.{IsTimely, SoundTimes}
@@ -56,7 +55,7 @@ pub alike-run : (b c : Board) → c.records ≡ b.records → c.born ≡ b.born 
     → c.notices ≡ b.notices → b.now ≤ c.now → SoundRun b → SoundRun c
 alike-run b c records born anonymous pins pending notices on h =
     record {
-      devices = devices_kept_lem.beside b c records born anonymous pins pending notices h.devices;
+      devices = devices_kept_lem.beside b c records born anonymous pins pending notices on h.devices;
       clocks = clocks_kept_lem.beside b c records h.clocks;
       numbers = numbers_kept_lem.beside b c records h.numbers;
       times = times_kept_lem.beside b c records on h.times;
@@ -100,7 +99,7 @@ pub polled-devices : (b : Board) → SoundDevices b → SoundDevices (polled b)
 polled-devices b h = go b.notices refl
   where
     go : (notices : List Notice) → b.notices ≡ notices → SoundDevices (polled b)
-    go [] is = devices_kept_lem.beside b (polled b) refl refl refl refl refl (ap (drop 1) is ∙ sym is) h
+    go [] is = devices_kept_lem.beside b (polled b) refl refl refl refl refl (ap (drop 1) is ∙ sym is) (omega arith) h
     go (notice ∷ others) is =
         subst (λ (notices : List Notice). SoundDevices (record b { notices = notices })) (sym (ap (drop 1) is)) (devices_kept_lem.read b notice others is h)
 
@@ -144,10 +143,10 @@ cut-run b t i joined h =
     }
 
 -- whose removal is pending stands in its place, so it may be detached
-pub completed-devices : (b : Board) (d : ℕ) → among b.pending d ≡ true → SoundDevices b → SoundDevices (completed b d)
-completed-devices b d pending h = devices_kept_lem.detached b d h (among-all (IsOn b) b.pending h.lists.pending d pending).0
+pub completed-devices : (b : Board) (d : ℕ) → is_pending b d ≡ true → SoundDevices b → SoundDevices (completed b d)
+completed-devices b d pending h = devices_kept_lem.detached b d h (removal-all (IsOn b) b.pending h.lists.pending d pending).0
 
-pub completed-run : (b : Board) (d : ℕ) → among b.pending d ≡ true → SoundRun b → SoundRun (completed b d)
+pub completed-run : (b : Board) (d : ℕ) → is_pending b d ≡ true → SoundRun b → SoundRun (completed b d)
 completed-run b d pending h =
     record {
       devices = completed-devices b d pending h.devices;
@@ -157,13 +156,13 @@ completed-run b d pending h =
     }
 
 -- a hold of a reset, a hold less, both, and the reset of the whole board
-pub held-run : (b : Board) (n : ℕ) → SoundRun b → SoundRun (after_hold b n)
-held-run b n h =
+pub held-run : (b : Board) (n : ℕ) (kind : ResetKind) → SoundRun b → SoundRun (after_hold b n kind)
+held-run b n kind h =
     record {
-      devices = devices_kept_lem.held_so b n h.devices;
-      clocks = clocks_kept_lem.held_so b n h.clocks;
-      numbers = numbers_kept_lem.held_so b n h.numbers;
-      times = times_kept_lem.held_so b n h.times;
+      devices = devices_kept_lem.held_so b n kind h.devices;
+      clocks = clocks_kept_lem.held_so b n kind h.clocks;
+      numbers = numbers_kept_lem.held_so b n kind h.numbers;
+      times = times_kept_lem.held_so b n kind h.times;
     }
 
 pub released-run : (b : Board) (n : ℕ) → SoundRun b → SoundRun (released b n)
@@ -175,13 +174,13 @@ released-run b n h =
       times = times_kept_lem.released_so b n h.times;
     }
 
-pub pulsed-run : (b : Board) (n : ℕ) → SoundRun b → SoundRun (pulse b n)
-pulsed-run b n h =
+pub pulsed-run : (b : Board) (n : ℕ) (kind : ResetKind) → SoundRun b → SoundRun (pulse b n kind)
+pulsed-run b n kind h =
     record {
-      devices = devices_kept_lem.pulsed b n h.devices;
-      clocks = clocks_kept_lem.pulsed b n h.clocks;
-      numbers = numbers_kept_lem.pulsed b n h.numbers;
-      times = times_kept_lem.pulsed b n h.times;
+      devices = devices_kept_lem.pulsed b n kind h.devices;
+      clocks = clocks_kept_lem.pulsed b n kind h.clocks;
+      numbers = numbers_kept_lem.pulsed b n kind h.numbers;
+      times = times_kept_lem.pulsed b n kind h.times;
     }
 
 pub reset-run : (b : Board) → SoundRun b → SoundRun (reset_whole b)

@@ -1,6 +1,6 @@
 -- For proofs alone. What contracts see of a board: its objects, and what stands beside them.
 use Rattle.std.specs.Prelude.{ℕ, ◌+◌, Bool, List, Option, None, Some}
-use Rattle.qo_model.specs.Board.{Notice, Ring}
+use Rattle.qo_model.specs.Board.{Notice, Removal, Ring}
 use Rattle.qo_heap.specs.Objects.{Objects}
 use Rattle.qo_hotplug.specs.Hotplug.{Asked}
 use Rattle.qo_reset.specs.HoldList.{HoldList}
@@ -11,9 +11,9 @@ pub record Parts : Type 0 where
   -- the accepted adds of devices without an id, and whether the machine runs
   pub anonymous : ℕ
   pub running : Bool
-  -- by their births: the objects that are held in reset, with repeats, and the devices whose removal is asked for; and the notices for the guest, in order
+  -- the objects that are held in reset, by their births, with repeats; the removals that are asked for; and the notices for the guest, in order
   pub holds : List ℕ
-  pub pending : List ℕ
+  pub pending : List Removal
   pub notices : List Notice
   pub rings : List Ring
 

@@ -4,6 +4,7 @@ use Rattle.std.specs.Option.{option_map_or}
 use Rattle.qo_values.specs.Registers.{Effect, body_read, body_write, Registers, bare}
 use Rattle.qo_values.specs.Registers as effect
 use Rattle.qo_values.specs.Rings.{ring_push}
+use Rattle.qo_values.specs.declared.kinds.ResetKind.TheVariants.{Cold}
 use Rattle.qo_model.specs.Board.{Board, Record, Ring, record_of}
 use Rattle.qo_model.specs.Clocks.{device_period}
 use Rattle.qo_model.specs.Devices.{first_bus}
@@ -36,10 +37,10 @@ registers_written b d reg value = body_write (registers_at b d) reg value (is_so
 abbrev pub pushed : ℕ → Board → List ℕ → Board
 pushed n b id = with_rings (ring_changed (λ m. ring_push m n) id b.rings) b
 
--- the board after what a write does beside the registers: the first bus of the device goes through a pulse; a byte goes to the ring that it has claimed
+-- the board after what a write does beside the registers: the first bus of the device goes through a cold pulse; a byte goes to the ring that it has claimed
 abbrev pub after_effect : ℕ → Effect → Board → Board
 after_effect d effect.nothing b = b
-after_effect d effect.pulse b = option_map_or (pulse b) (first_bus b d) b
+after_effect d effect.pulse b = option_map_or (λ m. pulse b m Cold) (first_bus b d) b
 after_effect d (effect.byte n) b = option_map_or (pushed n b) (claimed_ring b d) b
 
 -- the board after a write to a register of a device; none where the register is absent

@@ -2,6 +2,7 @@
 use Rattle.std.specs.Prelude.{◌≡◌, ℕ, not, if◌then◌else◌, List, codes, Some, None, Result, Ok, Err, ⊤}
 use Rattle.qo_values.specs.declared.codes.Code.{Code}
 use Rattle.qo_values.specs.declared.codes.Code.TheVariants.{E15, E16, E48, E49}
+use Rattle.qo_values.specs.declared.kinds.ResetKind.{ResetKind}
 use Rattle.qo_model.specs.Board.{Board}
 use Rattle.qo_model.specs.Depth.{among}
 use Rattle.qo_model.specs.Objects.{Changed}
@@ -21,15 +22,15 @@ abbrev pub at_path : Board → (ℕ → Changed) → Result ℕ Code → Changed
 at_path b change (Ok n) = change n
 at_path b change (Err code) = record { refusal = Some code; board = b }
 
--- a hold: not on what is detached, and not where it is one too many
-abbrev pub held_of : Board → ℕ → Changed
-held_of b n =
+-- a hold, for a reset of a type: not on what is detached, and not where it is one too many
+abbrev pub held_of : Board → ℕ → ResetKind → Changed
+held_of b n kind =
     if not (attached b n) then record { refusal = Some E15; board = b }
     else if exceeds_depth b n then record { refusal = Some E48; board = b }
-    else record { refusal = None; board = after_hold b n }
+    else record { refusal = None; board = after_hold b n kind }
 
-abbrev pub held_at : Board → List ℕ → Changed
-held_at b path = at_path b (held_of b) (resettable_at b path)
+abbrev pub held_at : Board → List ℕ → ResetKind → Changed
+held_at b path kind = at_path b (λ n. held_of b n kind) (resettable_at b path)
 
 -- a hold less, where there is one on the object
 abbrev pub released_of : Board → ℕ → Changed

@@ -97,7 +97,6 @@ impl Board {
     ghost use Rattle.qo_heap.specs.Log as log;
     ghost use Rattle.qo_properties.specs.Reads.{Answers};
     ghost use Rattle.qo_buses.specs.Addresses.{addressed};
-    ghost use Rattle.qo_model.specs.Depth.{among};
     ghost use Rattle.qo_model.specs.Hotplug.{asked, completed, refused};
     ghost use Rattle.qo_object.specs.BoardObject.{birth_of};
     ghost use Rattle.qo_plug.specs.Admission.{as_wanted};
@@ -106,6 +105,7 @@ impl Board {
     ghost use Rattle.qo_realize.specs.Answers.{Adds, IsAnswered, Plugs, Writes};
     ghost use Rattle.qo_realize.specs.BoardClaims.{KeepsClaims};
     ghost use Rattle.qo_realize.specs.Guest.{address_of, first_notice, polled};
+    ghost use Rattle.qo_realize.specs.Removals.{is_listed};
     ghost use Rattle.qo_realize.specs.Representation.{Stands, StandsForGood};
     ghost use Rattle.qo_sound_devices.specs.SoundPlaces.{stands};
     ghost use Rattle.qo_realize.specs.Users.{object_removed};
@@ -400,8 +400,9 @@ impl Board {
     /// Asks for the removal of the device that a text is of, and the guest is told so (QEMU's QAPI,
     /// `device_del`): of one that begins with `/` the device at that absolute path, of any other the
     /// child of that name of the container of devices with an id. `E33` comes where there is no such
-    /// device, `E35` where it is detached, `E34` where its removal is pending already, and `E44` where
-    /// as many notices wait as may. An error leaves the board as it was. It takes no memory.
+    /// device, `E35` where it is detached, `E34` where its removal is pending and was asked for less than
+    /// `ASK_AGAIN_AFTER` ns of the virtual time before, and `E44` where as many notices wait as may. An
+    /// error leaves the board as it was. It takes no memory.
     pub fn ask_removal<L: Ledger>(&mut self, id: &str, steps: &mut Steps<L>) -> Result<(), Code>
         ensures asked { (b : model.Board) → Stands b self.old → IsAnswered (asked b id.now) result self.new }
         ensures err { OnErr result (self.new ≡ self.old) }
@@ -419,7 +420,7 @@ impl Board {
 
     /// Whether the removal of a device is pending. It takes no memory.
     pub fn is_pending(&self, dev: Oid) -> bool
-        ensures { result ≡ among self.now.pending dev.birth }
+        ensures { result ≡ is_listed dev.birth self.now.pending }
     {
         self.hotplug.is_pending(dev)
     }
@@ -434,7 +435,7 @@ impl Board {
         steps: &mut Steps<L>,
     ) -> Result<(), AllocError>
         requires live { IsLive self.old.objects.rows dev }
-        requires pending { among self.old.pending dev.birth ≡ true }
+        requires pending { is_listed dev.birth self.old.pending ≡ true }
         ensures refused { (b : model.Board) → Stands b self.old → OnOk result (Stands (refused b dev.birth) self.new) }
         ensures err { OnErr result (self.new ≡ self.old) }
     {
@@ -445,7 +446,7 @@ impl Board {
     /// taken out, with all that is below it. It takes no memory, and always succeeds.
     pub fn complete<L: Ledger>(&mut self, dev: Oid, steps: &mut Steps<L>)
         requires live { IsLive self.old.objects.rows dev }
-        requires pending { among self.old.pending dev.birth ≡ true }
+        requires pending { is_listed dev.birth self.old.pending ≡ true }
         ensures { (b : model.Board) → Stands b self.old → Stands (completed b dev.birth) self.new }
     {
         detach(

@@ -23,6 +23,7 @@ use qo_clocks::device_period;
 use qo_heap::{Heap, Oid, Steps};
 use qo_kinds::Effect;
 use qo_reset::Resets;
+use qo_values::ResetKind;
 use std::sync::ledger::Ledger;
 
 /// Whether a device has claimed a ring.
@@ -70,7 +71,7 @@ fn send<L: Ledger>(heap: &Heap, rings: &mut Rings, dev: Oid, byte: u8, steps: &m
     }
 }
 
-/// The first bus of a device goes through the phases of a reset.
+/// The first bus of a device goes through the phases of a cold reset.
 fn pulse_bus<L: Ledger>(heap: &mut Heap, resets: &mut Resets, dev: Oid, steps: &mut Steps<L>)
     requires live { IsLive heap.old.rows dev }
     requires counts { CountsKept resets.old.births heap.old }
@@ -81,7 +82,7 @@ fn pulse_bus<L: Ledger>(heap: &mut Heap, resets: &mut Resets, dev: Oid, steps: &
     ensures periods { PeriodsKept heap.old → PeriodsKept heap.new }
 {
     if let Some(bus) = first_bus(heap, dev, steps) {
-        resets.pulse(heap, bus, steps);
+        resets.pulse(heap, bus, ResetKind::Cold, steps);
     }
 }
 

@@ -3,14 +3,13 @@
 
 ghost use Rattle.std.specs.Prelude.{◌≡◌, true, IfSome, OnOk, OnErr};
 ghost use Rattle.qo_model.specs.Board.{Board};
-ghost use Rattle.qo_model.specs.Depth.{among};
 ghost use Rattle.qo_model.specs.Hotplug.{asked, asked_of, device_at, refused};
 ghost use Rattle.qo_model.specs.Paths.{attached};
 ghost use Rattle.qo_object.specs.BoardObject.{birth_of};
 ghost use Rattle.qo_heap.specs.Rows.{IsLive};
 ghost use Rattle.qo_heap.specs.Board.{Shows};
 ghost use Rattle.qo_properties.specs.Claims.{KeepsBook};
-ghost use Rattle.qo_realize.specs.Removals.{Asks, HasRoom, IsAsked};
+ghost use Rattle.qo_realize.specs.Removals.{Asks, HasRoom, IsAsked, is_listed};
 
 use qo_buses::child_at;
 use qo_heap::{Heap, Oid, Steps};
@@ -33,14 +32,16 @@ fn device_at<L: Ledger>(heap: &Heap, id: &str, steps: &mut Steps<L>) -> Option<O
     child_at(heap, peripheral, id, steps)
 }
 
-/// Asks for the removal of a device in the tree. `E34` comes where it is pending, else `E44` where as
-/// many notices wait as may. An error leaves all as it was.
-fn ask_attached(hotplug: &mut Hotplug, dev: Oid) -> Result<(), Code>
+/// Asks for the removal of a device in the tree, at a moment of the virtual time. `E34` comes where it
+/// is pending and was asked for less than `ASK_AGAIN_AFTER` ns before, else `E44` where as many notices
+/// wait as may. An error leaves all as it was.
+#[tactic(auto, using(crate::proofs::AskLemmas::asks_ok, crate::proofs::AskLemmas::asks_early, crate::proofs::AskLemmas::asks_full))]
+fn ask_attached(hotplug: &mut Hotplug, dev: Oid, now: u64) -> Result<(), Code>
     requires { HasRoom hotplug.old.pending dev.birth }
-    ensures asked { (b : Board) → IsAsked b hotplug.old → attached b dev.birth ≡ true → Asks b (asked_of b dev.birth) result hotplug.new }
+    ensures asked { (b : Board) → IsAsked b hotplug.old → b.now ≡ now → attached b dev.birth ≡ true → Asks b (asked_of b dev.birth) result hotplug.new }
     ensures err { OnErr result (hotplug.new ≡ hotplug.old) }
 {
-    match hotplug.ask(dev) {
+    match hotplug.ask(dev, now) {
         Ok(()) => Ok(()),
         Err(AskError::Pending) => Err(Code::E34),
         Err(AskError::NoticesFull) => Err(Code::E44),
@@ -48,9 +49,9 @@ fn ask_attached(hotplug: &mut Hotplug, dev: Oid) -> Result<(), Code>
 }
 
 /// Asks for the removal of the device that a text is of, and the guest is told so. `E33` comes where
-/// there is no such device, `E35` where it is detached, `E34` where its removal is pending already, and
-/// `E44` where as many notices wait as may. An error leaves all as it was. There is room for the removal of
-/// each object.
+/// there is no such device, `E35` where it is detached, `E34` where its removal is pending and was asked
+/// for less than `ASK_AGAIN_AFTER` ns of the virtual time before, and `E44` where as many notices wait as
+/// may. An error leaves all as it was. There is room for the removal of each object.
 pub fn ask<L: Ledger>(
     heap: &Heap,
     hotplug: &mut Hotplug,
@@ -67,7 +68,7 @@ pub fn ask<L: Ledger>(
     if !is_attached(heap, dev, steps) {
         return Err(Code::E35);
     }
-    ask_attached(hotplug, dev)
+    ask_attached(hotplug, dev, heap.time())
 }
 
 /// The guest refuses the removal of a device, which is pending: it is pending no longer, the guest is
@@ -81,7 +82,7 @@ pub fn refuse<L: Ledger>(
     steps: &mut Steps<L>,
 ) -> Result<(), AllocError>
     requires live { IsLive heap.old.rows dev }
-    requires pending { among hotplug.old.pending dev.birth ≡ true }
+    requires pending { is_listed dev.birth hotplug.old.pending ≡ true }
     ensures refused { OnOk result ((b : Board) → Shows b heap.old → IsAsked b hotplug.old → Shows (refused b dev.birth) heap.new × IsAsked (refused b dev.birth) hotplug.new) }
     ensures book { KeepsBook heap.old heap.new }
     ensures rows { heap.new.rows ≡ heap.old.rows }

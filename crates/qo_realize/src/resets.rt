@@ -3,9 +3,8 @@
 
 ghost use Rattle.std.specs.Prelude.{◌≡◌, IfOk, IfSome, OnErr, length};
 ghost use Rattle.qo_model.specs.Board.{Board as Tree};
-ghost use Rattle.qo_model.specs.Hotplug.{all_completed, reset_whole};
+ghost use Rattle.qo_model.specs.Hotplug.{all_completed, reset_whole, woken};
 ghost use Rattle.qo_model.specs.Reset.{pulse};
-ghost use Rattle.qo_model.specs.Unplug.{first_of};
 ghost use Rattle.qo_values.specs.declared.births.TheConstants.{MACHINE_BIRTH};
 ghost use Rattle.qo_object.specs.BoardObject.{birth_of};
 ghost use Rattle.qo_heap.specs.Rows.{IsLive};
@@ -15,6 +14,7 @@ ghost use Rattle.qo_properties.specs.Reads.{birth_told};
 ghost use Rattle.qo_reset.specs.Counts.{CountsKept};
 ghost use Rattle.qo_reset.specs.Phases.{Holds};
 ghost use Rattle.qo_realize.specs.Answers.{Changes, IsAnswered};
+ghost use Rattle.qo_realize.specs.Removals.{first_device};
 ghost use Rattle.qo_realize.specs.Resets.{Releases, Resets as Holding, held_at, released_at, resettable_at};
 ghost use Rattle.qo_realize.specs.Representation.{Stands};
 
@@ -23,7 +23,7 @@ use qo_heap::{Heap, Oid, Steps};
 use qo_paths::{PathError, is_attached, resolve};
 use qo_properties::Refusal;
 use qo_reset::Resets;
-use qo_values::{Code, MACHINE_BIRTH};
+use qo_values::{Code, MACHINE_BIRTH, ResetKind};
 use std::sync::ledger::Ledger;
 
 /// The object at a path that may be held in reset. Refused with E15 where the path leads to none, and
@@ -39,17 +39,18 @@ fn resettable_at<L: Ledger>(heap: &Heap, path: &str, steps: &mut Steps<L>) -> Re
     }
 }
 
-/// Holds the object at a path in reset. Refused with E15 where the path leads to none, E16 where to
+/// Holds the object at a path in a reset of a type. Refused with E15 where the path leads to none, E16 where to
 /// several, E15 where it is detached, and E48 where the hold would be one too many. The other error is
 /// want of memory. An error leaves all as it was.
 fn hold<L: Ledger>(
     heap: &mut Heap,
     resets: &mut Resets,
     path: &str,
+    kind: ResetKind,
     steps: &mut Steps<L>,
 ) -> Result<(), Refusal>
     requires { CountsKept resets.old.births heap.old }
-    ensures held { (b : Tree) → Holds b resets.old.births heap.old → Holding b (held_at b path.now) result resets.new.births heap.new }
+    ensures held { (b : Tree) → Holds b resets.old.births heap.old → Holding b (held_at b path.now kind) result resets.new.births heap.new }
     ensures acts { Acts heap.old heap.new }
     ensures counts { CountsKept resets.new.births heap.new }
     ensures periods { KeepsPeriods heap.old heap.new }
@@ -60,7 +61,7 @@ fn hold<L: Ledger>(
         return Err(Refusal::Refused(Code::E15));
     }
     resets.reserve()?;
-    match resets.hold(heap, o, steps) {
+    match resets.hold(heap, o, kind, steps) {
         Ok(()) => Ok(()),
         Err(_) => Err(Refusal::Refused(Code::E48)),
     }
@@ -89,17 +90,23 @@ fn release<L: Ledger>(
 }
 
 impl Board {
-    /// Holds the object at a path in reset, with all that is below it (docs/devel/reset.rst,
-    /// "Triggering reset", `resettable_assert_reset`): what was in no reset enters one. Refused with E15
+    /// Holds the object at a path in a reset of a type, with all that is below it (docs/devel/reset.rst,
+    /// "Triggering reset", `resettable_assert_reset`): what was in no reset enters one. The type is no
+    /// matter to a hold once it stands. Refused with E15
     /// where the path leads to no object that is `resettable`, E16 where to several, E15 where the
     /// object is detached, and E48 where there are so many holds on it or on what is below it, and above
     /// these, that one more would be too many. The other error is want of memory. An error leaves the
     /// board as it was.
-    pub fn hold<L: Ledger>(&mut self, path: &str, steps: &mut Steps<L>) -> Result<(), Refusal>
-        ensures held { (b : Tree) → Stands b self.old → Changes (held_at b path.now) b result self.new }
+    pub fn hold<L: Ledger>(
+        &mut self,
+        path: &str,
+        kind: ResetKind,
+        steps: &mut Steps<L>,
+    ) -> Result<(), Refusal>
+        ensures held { (b : Tree) → Stands b self.old → Changes (held_at b path.now kind) b result self.new }
         ensures err { OnErr result (self.new ≡ self.old) }
     {
-        hold(&mut self.heap, &mut self.resets, path, steps)
+        hold(&mut self.heap, &mut self.resets, path, kind, steps)
     }
 
     /// Releases a hold on the object at a path (docs/devel/reset.rst, "Triggering reset",
@@ -123,15 +130,16 @@ impl Board {
 
     /// The device whose removal has been pending longest; `None` exactly where none is.
     fn first_pending(&self) -> Option<Oid>
-        ensures first { birth_of result ≡ first_of self.now.pending }
+        ensures first { birth_of result ≡ first_device self.now.pending }
         ensures live { IfSome result (IsLive self.now.objects.rows) }
     {
         let first = self.hotplug.first_pending()?;
         self.heap.by_birth(first.birth)
     }
 
-    /// The removals that are pending come to their end, in the order of asking. One may take with it
+    /// The removals that are pending come to their end, in the order of the first asking. One may take with it
     /// others that are pending below it.
+    #[tactic(auto, using(crate::proofs::ResetLemmas::first_listed))]
     fn complete_all<L: Ledger>(&mut self, steps: &mut Steps<L>)
         ensures { (b : Tree) → Stands b self.old → Stands (all_completed (length b.pending) b) self.new }
     {
@@ -142,22 +150,31 @@ impl Board {
         }
     }
 
-    /// The machine goes through the phases of a reset, with all that is below it.
-    fn pulse_machine<L: Ledger>(&mut self, steps: &mut Steps<L>)
-        ensures { (b : Tree) → Stands b self.old → Stands (pulse b MACHINE_BIRTH) self.new }
+    /// The machine goes through the phases of a reset of a type, with all that is below it.
+    fn pulse_machine<L: Ledger>(&mut self, kind: ResetKind, steps: &mut Steps<L>)
+        ensures { (b : Tree) → Stands b self.old → Stands (pulse b MACHINE_BIRTH kind) self.new }
     {
         if let Some(machine) = self.heap.by_birth(MACHINE_BIRTH) {
-            self.resets.pulse(&mut self.heap, machine, steps);
+            self.resets.pulse(&mut self.heap, machine, kind, steps);
         }
     }
 
     /// Resets the whole board (QEMU's QAPI, `system_reset`; include/hw/resettable.h): first the devices
-    /// whose removal is pending are let go, in the order of asking, and then the machine goes through
-    /// the phases. It takes no memory, and always succeeds.
+    /// whose removal is pending are let go, in the order of the first asking, and then the machine goes through
+    /// the phases, cold. It takes no memory, and always succeeds.
     pub fn system_reset<L: Ledger>(&mut self, steps: &mut Steps<L>)
         ensures { (b : Tree) → Stands b self.old → Stands (reset_whole b) self.new }
     {
         self.complete_all(steps);
-        self.pulse_machine(steps);
+        self.pulse_machine(ResetKind::Cold, steps);
+    }
+
+    /// Wakes the machine up: it goes through the phases of a wakeup, with all that is below it
+    /// (docs/devel/reset.rst, "Reset types"; the profile's `x-wakeup`). No removal comes to its end by
+    /// that. It takes no memory, and always succeeds.
+    pub fn wakeup<L: Ledger>(&mut self, steps: &mut Steps<L>)
+        ensures { (b : Tree) → Stands b self.old → Stands (woken b) self.new }
+    {
+        self.pulse_machine(ResetKind::Wakeup, steps);
     }
 }

@@ -32,6 +32,10 @@ all_texts (item d ds) = is_some (as_str d) && all_texts ds
 abbrev pub is_form : List ℕ → Bool
 is_form name = bytes_eq name (codes "utf8") || bytes_eq name (codes "base64")
 
+-- the name of a type of a reset
+abbrev pub is_reset_type : List ℕ → Bool
+is_reset_type name = bytes_eq name (codes "cold") || bytes_eq name (codes "wakeup")
+
 -- a value is of a kind
 abbrev pub fits : ArgumentType → Data → Bool
 fits kind.Any d = true
@@ -42,6 +46,7 @@ fits kind.Truth d = is_some (as_bool d)
 fits kind.Number d = is_some (option_and_then as_u64 (as_number d))
 fits kind.RingBytes d = option_map_or (λ size. nat_le size RING_SIZE_MAX) (option_and_then as_u64 (as_number d)) false
 fits kind.Form d = option_map_or is_form (as_str d) false
+fits kind.ResetType d = option_map_or is_reset_type (as_str d) false
 fits kind.Plain d = is_some (plain_of d)
 
 -- the name is that of one of these

@@ -2,14 +2,14 @@
 use Rattle.std.specs.Prelude.{ℕ, Bool, true, false, List, [], ◌∷◌, codes, Option, find}
 use Rattle.std.specs.Str.{bytes_eq}
 use Rattle.qo_requests.specs.declared.commands.Command.{Command}
-use Rattle.qo_requests.specs.declared.commands.Command.TheVariants.{ChardevAdd, ChardevRemove, Cont, DeviceListProperties, DeviceAdd, DeviceDel, HumanMonitorCommand, ObjectAdd, ObjectDel, QmpCapabilities, QomGet, QomList, QomListTypes, QomSet, QueryCommands, QueryStatus, QueryVersion, Quit, RingbufRead, RingbufWrite, Stop, SystemReset, XGuest, XMemmap, XQueryDetached, XQueryNotes, XResetHold, XResetRelease, XSever, XStep}
+use Rattle.qo_requests.specs.declared.commands.Command.TheVariants.{ChardevAdd, ChardevRemove, Cont, DeviceListProperties, DeviceAdd, DeviceDel, HumanMonitorCommand, ObjectAdd, ObjectDel, QmpCapabilities, QomGet, QomList, QomListTypes, QomSet, QueryCommands, QueryStatus, QueryVersion, Quit, RingbufRead, RingbufWrite, Stop, SystemReset, XGuest, XMemmap, XQueryDetached, XQueryNotes, XResetHold, XResetRelease, XSever, XStep, XWakeup}
 use Rattle.qo_requests.specs.declared.arguments.Argument.{Argument}
 use Rattle.qo_requests.specs.declared.arguments.Argument.TheVariants.{Needed, Optional}
-use Rattle.qo_requests.specs.declared.arguments.ArgumentType.TheVariants.{Object, Text, Texts, Truth, Number, RingBytes, Form, Plain}
+use Rattle.qo_requests.specs.declared.arguments.ArgumentType.TheVariants.{Object, Text, Texts, Truth, Number, RingBytes, Form, ResetType, Plain}
 use Rattle.qo_requests.specs.declared.fields.Field.TheVariants as field
 use Rattle.serde_json.specs.Data.{Data}
 use Rattle.qo_requests.specs.Fields.{part_of}
-use Rattle.qo_requests.specs.Values.{text_at, number_at, truth_at, form_at, texts_at, text_in, number_in, value_in, properties_beside}
+use Rattle.qo_requests.specs.Values.{text_at, number_at, truth_at, form_at, reset_type_at, texts_at, text_in, number_in, value_in, properties_beside}
 use Rattle.qo_requests.specs.declared.calls.Addition.{Addition}
 use Rattle.qo_requests.specs.declared.calls.Addition.TheVariants as addition
 use Rattle.qo_requests.specs.declared.calls.Alteration.{Alteration}
@@ -53,12 +53,14 @@ command_name XResetHold = codes "x-reset-hold"
 command_name XResetRelease = codes "x-reset-release"
 command_name XSever = codes "x-sever"
 command_name XStep = codes "x-step"
+command_name XWakeup = codes "x-wakeup"
 
 -- the commands, in byte order of their names
 abbrev pub commands : List Command
-commands = ChardevAdd ∷ ChardevRemove ∷ Cont ∷ DeviceListProperties ∷ DeviceAdd ∷ DeviceDel ∷ HumanMonitorCommand ∷ ObjectAdd ∷ ObjectDel ∷ QmpCapabilities ∷ QomGet ∷ QomList
+commands = ChardevAdd ∷ ChardevRemove ∷ Cont ∷ DeviceListProperties ∷ DeviceAdd ∷ DeviceDel ∷ HumanMonitorCommand ∷ ObjectAdd ∷ ObjectDel ∷ QmpCapabilities
+    ∷ QomGet ∷ QomList
     ∷ QomListTypes ∷ QomSet ∷ QueryCommands ∷ QueryStatus ∷ QueryVersion ∷ Quit ∷ RingbufRead ∷ RingbufWrite ∷ Stop ∷ SystemReset ∷ XGuest ∷ XMemmap
-    ∷ XQueryDetached ∷ XQueryNotes ∷ XResetHold ∷ XResetRelease ∷ XSever ∷ XStep ∷ []
+    ∷ XQueryDetached ∷ XQueryNotes ∷ XResetHold ∷ XResetRelease ∷ XSever ∷ XStep ∷ XWakeup ∷ []
 
 -- the command of a name
 abbrev pub command_of : List ℕ → Option Command
@@ -83,7 +85,7 @@ arguments RingbufRead = Needed field.Device Text ∷ Needed field.Size RingBytes
 arguments RingbufWrite = Needed field.Device Text ∷ Needed field.Payload Text ∷ Optional field.Format Form ∷ []
 arguments XGuest = Needed field.Line Text ∷ []
 arguments XQueryNotes = Needed field.From Number ∷ []
-arguments XResetHold = Needed field.Path Text ∷ []
+arguments XResetHold = Needed field.Path Text ∷ Optional field.Kind ResetType ∷ []
 arguments XResetRelease = Needed field.Path Text ∷ []
 arguments XSever = Needed field.Birth Number ∷ []
 arguments XStep = Needed field.Ns Number ∷ []
@@ -139,7 +141,8 @@ request_of XGuest args = alters (alteration.XGuest (text_in field.Line args))
 request_of XMemmap args = queries query.XMemmap
 request_of XQueryDetached args = queries query.XQueryDetached
 request_of XQueryNotes args = queries (query.XQueryNotes (number_in field.From args))
-request_of XResetHold args = alters (alteration.XResetHold (text_in field.Path args))
+request_of XResetHold args = alters (alteration.XResetHold (text_in field.Path args) (reset_type_at field.Kind args))
 request_of XResetRelease args = alters (alteration.XResetRelease (text_in field.Path args))
 request_of XSever args = alters (alteration.XSever (number_in field.Birth args))
 request_of XStep args = alters (alteration.XStep (number_in field.Ns args))
+request_of XWakeup args = alters alteration.XWakeup

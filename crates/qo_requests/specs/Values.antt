@@ -6,6 +6,8 @@ use Rattle.serde_json.specs.Find.{as_number, as_u64, as_bool, as_str, as_array, 
 use Rattle.qo_values.specs.PlainValues.{plain_of}
 use Rattle.qo_values.specs.declared.forms.Form.{Form}
 use Rattle.qo_values.specs.declared.forms.Form.TheVariants.{Utf8, Base64}
+use Rattle.qo_values.specs.declared.kinds.ResetKind.{ResetKind}
+use Rattle.qo_values.specs.declared.kinds.ResetKind.TheVariants.{Cold, Wakeup}
 use Rattle.qo_values.specs.declared.properties.Val.{Val}
 use Rattle.qo_values.specs.declared.properties.Val.TheVariants.{Nothing}
 use Rattle.qo_requests.specs.Arguments.{is_named}
@@ -30,6 +32,11 @@ abbrev pub form_named : List ℕ → Option Form
 form_named name =
     if bytes_eq name (codes "utf8") then Some Utf8 else (if bytes_eq name (codes "base64") then Some Base64 else None)
 
+-- one of the two types of resets by its name
+abbrev pub reset_type_named : List ℕ → Option ResetKind
+reset_type_named name =
+    if bytes_eq name (codes "cold") then Some Cold else (if bytes_eq name (codes "wakeup") then Some Wakeup else None)
+
 -- an argument by its kind, where it stands there
 abbrev pub text_at : Field → Data → Option (List ℕ)
 text_at field args = option_and_then as_str (argument field args)
@@ -42,6 +49,9 @@ truth_at field args = option_and_then as_bool (argument field args)
 
 abbrev pub form_at : Field → Data → Option Form
 form_at field args = option_and_then form_named (text_at field args)
+
+abbrev pub reset_type_at : Field → Data → Option ResetKind
+reset_type_at field args = option_and_then reset_type_named (text_at field args)
 
 abbrev pub texts_at : Field → Data → Option (List (List ℕ))
 texts_at field args = option_map texts_in (option_and_then as_array (argument field args))

@@ -3,7 +3,7 @@
 ghost use Rattle.std.specs.Prelude.{◌≡◌};
 ghost use Rattle.qo_json.specs.View.{view, items_view};
 ghost use Rattle.qo_requests.specs.declared.arguments.ArgumentType.TheVariants as kind;
-ghost use Rattle.qo_requests.specs.Arguments.{field_of, type_of, all_texts, is_form, fits, is_named};
+ghost use Rattle.qo_requests.specs.Arguments.{field_of, type_of, all_texts, is_form, is_reset_type, fits, is_named};
 
 use crate::fields::Field;
 use qo_json::Json;
@@ -28,6 +28,8 @@ pub enum ArgumentType {
     RingBytes,
     /// A form by its name.
     Form,
+    /// A type of a reset by its name.
+    ResetType,
     /// A truth value, a whole number of 64 bits or a text.
     Plain,
 }
@@ -80,6 +82,13 @@ fn is_form(name: &str) -> bool
     name == "utf8" || name == "base64"
 }
 
+/// Whether a text is the name of a type of a reset.
+fn is_reset_type(name: &str) -> bool
+    ensures { result ≡ is_reset_type name.now }
+{
+    name == "cold" || name == "wakeup"
+}
+
 /// Whether a value is a truth value, a whole number of 64 bits or a text.
 pub(crate) fn is_plain(value: &Json<'_>) -> bool
     ensures { result ≡ fits kind.Plain (view value.now) }
@@ -104,6 +113,7 @@ pub(crate) fn fits(kind: ArgumentType, value: &Json<'_>) -> bool
         ArgumentType::Number => value.as_u64().is_some(),
         ArgumentType::RingBytes => value.as_u64().is_some_and(|size| size <= RING_SIZE_MAX),
         ArgumentType::Form => value.as_str().is_some_and(is_form),
+        ArgumentType::ResetType => value.as_str().is_some_and(is_reset_type),
         ArgumentType::Plain => is_plain(value),
     }
 }

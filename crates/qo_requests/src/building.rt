@@ -13,8 +13,8 @@ use crate::commands::{Command, backend_members, payload_members};
 use crate::fields::Field;
 use crate::requests::Request;
 use crate::values::{
-    form_at, number_at, number_in, properties_beside, text_at, text_in, texts_at, truth_at,
-    value_in,
+    form_at, number_at, number_in, properties_beside, reset_type_at, text_at, text_in, texts_at,
+    truth_at, value_in,
 };
 use qo_json::Json;
 use std::alloc::{AllocError, Global};
@@ -156,6 +156,7 @@ pub(crate) fn request_of(
         }),
         Command::XResetHold => Request::alters(Alteration::XResetHold {
             path: text_in(alloc, args, Field::Path)?,
+            kind: reset_type_at(args, Field::Kind),
         }),
         Command::XResetRelease => Request::alters(Alteration::XResetRelease {
             path: text_in(alloc, args, Field::Path)?,
@@ -166,5 +167,6 @@ pub(crate) fn request_of(
         Command::XStep => Request::alters(Alteration::XStep {
             ns: number_in(args, Field::Ns),
         }),
+        Command::XWakeup => Request::alters(Alteration::XWakeup),
     })
 }

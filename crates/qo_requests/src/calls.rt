@@ -1,6 +1,6 @@
 //! The commands of a session that has negotiated, told apart by what they do to the board.
 
-use qo_values::{Form, PropList, Text, Val};
+use qo_values::{Form, PropList, ResetKind, Text, Val};
 
 /// A command with its arguments. An optional argument is `None` where it is absent.
 #[derive(Debug, Drop)]
@@ -160,6 +160,8 @@ pub enum Alteration {
     XResetHold {
         /// The object's path.
         path: Text,
+        /// The type of the reset, the argument `type`.
+        kind: Option<ResetKind>,
     },
     /// `x-reset-release`.
     XResetRelease {
@@ -181,4 +183,6 @@ pub enum Alteration {
         /// How far the virtual time goes on, in nanoseconds.
         ns: u64,
     },
+    /// `x-wakeup`.
+    XWakeup,
 }

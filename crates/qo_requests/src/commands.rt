@@ -6,7 +6,9 @@ ghost use Rattle.qo_requests.specs.Commands.{command_name, commands, command_of,
 ghost use Rattle.qo_requests.specs.Messages.{backend_members, payload_members};
 
 use crate::arguments::Argument::{self, Needed, Optional};
-use crate::arguments::ArgumentType::{Form, Number, Object, Plain, RingBytes, Text, Texts, Truth};
+use crate::arguments::ArgumentType::{
+    Form, Number, Object, Plain, ResetType, RingBytes, Text, Texts, Truth,
+};
 use crate::fields::Field;
 
 /// A command, in byte order of the names.
@@ -72,6 +74,8 @@ pub enum Command {
     XSever,
     /// `x-step`.
     XStep,
+    /// `x-wakeup`.
+    XWakeup,
 }
 
 impl Command {
@@ -110,6 +114,7 @@ impl Command {
             Command::XResetRelease => "x-reset-release",
             Command::XSever => "x-sever",
             Command::XStep => "x-step",
+            Command::XWakeup => "x-wakeup",
         }
     }
 
@@ -148,6 +153,7 @@ impl Command {
             Command::XResetRelease,
             Command::XSever,
             Command::XStep,
+            Command::XWakeup,
         ]
     }
 
@@ -196,10 +202,7 @@ impl Command {
             Command::ObjectAdd => &[Needed(Field::QomType, Text), Needed(Field::Id, Text)],
             Command::QmpCapabilities => &[Optional(Field::Enable, Texts)],
             Command::QomGet => &[Needed(Field::Path, Text), Needed(Field::Property, Text)],
-            Command::QomList | Command::XResetHold | Command::XResetRelease => &[Needed(
-                Field::Path,
-                Text,
-            )],
+            Command::QomList | Command::XResetRelease => &[Needed(Field::Path, Text)],
             Command::QomListTypes => &[
                 Optional(Field::Implements, Text),
                 Optional(Field::Abstract, Truth),
@@ -221,6 +224,7 @@ impl Command {
             ],
             Command::XGuest => &[Needed(Field::Line, Text)],
             Command::XQueryNotes => &[Needed(Field::From, Number)],
+            Command::XResetHold => &[Needed(Field::Path, Text), Optional(Field::Kind, ResetType)],
             Command::XSever => &[Needed(Field::Birth, Number)],
             Command::XStep => &[Needed(Field::Ns, Number)],
             _ => &[],

@@ -8,13 +8,13 @@ ghost use Rattle.qo_values.specs.PlainValues.{whole_of};
 ghost use Rattle.qo_values.specs.PropertyLists.{names_of, is_above};
 ghost use Rattle.qo_values.specs.declared.properties.Val.TheVariants as val;
 ghost use Rattle.qo_requests.specs.ArgumentMembers.{AreGiven};
-ghost use Rattle.qo_requests.specs.Values.{text_of, texts_in, plain_in, form_named, text_at, number_at, truth_at, form_at, texts_at, text_in, number_in, value_in, properties_in, properties_beside};
+ghost use Rattle.qo_requests.specs.Values.{text_of, texts_in, plain_in, form_named, reset_type_named, text_at, number_at, truth_at, form_at, reset_type_at, texts_at, text_in, number_in, value_in, properties_in, properties_beside};
 
 use crate::argument_values::ArgumentValues;
 use crate::arguments::{Argument, is_named};
 use crate::fields::Field;
 use qo_json::Json;
-use qo_values::{Form, PropList, PushError, Text, TextList, Val};
+use qo_values::{Form, PropList, PushError, ResetKind, Text, TextList, Val};
 use serde_json::Number;
 use std::alloc::{AllocError, Global};
 
@@ -77,6 +77,19 @@ fn form_named(name: &str) -> Option<Form>
     }
 }
 
+/// A type of a reset by its name.
+fn reset_type_named(name: &str) -> Option<ResetKind>
+    ensures { result ≡ reset_type_named name.now }
+{
+    if name == "cold" {
+        Some(ResetKind::Cold)
+    } else if name == "wakeup" {
+        Some(ResetKind::Wakeup)
+    } else {
+        None
+    }
+}
+
 /// An argument that is a text, where it stands.
 pub(crate) fn text_at(
     alloc: Global,
@@ -114,6 +127,16 @@ pub(crate) fn form_at(args: &ArgumentValues<'_, '_>, field: Field) -> Option<For
     ensures { result ≡ form_at field (view args.now.place.now) }
 {
     args.at(field).and_then(Json::as_str).and_then(form_named)
+}
+
+/// An argument that is a type of a reset, where it stands.
+pub(crate) fn reset_type_at(args: &ArgumentValues<'_, '_>, field: Field) -> Option<ResetKind>
+    requires { AreGiven args.now }
+    ensures { result ≡ reset_type_at field (view args.now.place.now) }
+{
+    args.at(field)
+        .and_then(Json::as_str)
+        .and_then(reset_type_named)
 }
 
 /// An argument that is a list of texts, where it stands.

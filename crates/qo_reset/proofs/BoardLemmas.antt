@@ -27,6 +27,8 @@ use Rattle.qo_heap.proofs.BoardActs.{shows-acted}
 use Rattle.qo_heap.proofs.BoardReads.{shows-of, shows-size, shows-slots}
 use Rattle.qo_reset.specs.Phases.{acted_on, walked, below_on, chosen, count_on, exceeds_depth_at, is_bus, kids_in, phase_on, picked, picks, post_by, turned_to}
 use Rattle.qo_reset.proofs.WalkLemmas.{acts-below, acts-chosen, walked-acts}
+use Rattle.qo_values.specs.declared.kinds.ResetKind.{ResetKind}
+use Rattle.qo_values.specs.Kinds.{entering}
 
 -- acts on objects in order
 
@@ -124,18 +126,20 @@ shows-holds : (b : Board) (v : Objects) (holds : List ℕ) → Shows b v → Sho
 shows-holds b v holds s = record { records = s.records; born = s.born; pins = s.pins; notes = s.notes; events = s.events; now = s.now }
 
 -- two phases
-shows-twice : (n : ℕ) (only : Bool) (b : Board) (v : Objects) → Shows b v
-    → Shows (phased Hold (all_picked only b n) (phased Enter (all_picked only b n) b)) (phase_on Hold only b.holds n (phase_on Enter only b.holds n v))
-shows-twice n only b v s =
-    let first : Objects = phase_on Enter only b.holds n v in
-    shows-next Hold only n b (phased Enter (all_picked only b n) b) v first s (phase-acts Enter only b.holds n v) (shows-phase Enter only n b v s)
+shows-twice : (act : Act) (n : ℕ) (only : Bool) (b : Board) (v : Objects) → Shows b v
+    → Shows (phased Hold (all_picked only b n) (phased act (all_picked only b n) b)) (phase_on Hold only b.holds n (phase_on act only b.holds n v))
+shows-twice act n only b v s =
+    let first : Objects = phase_on act only b.holds n v in
+    shows-next Hold only n b (phased act (all_picked only b n) b) v first s (phase-acts act only b.holds n v) (shows-phase act only n b v s)
 
 -- the calls
 
-pub shows-held : (n : ℕ) (b : Board) (v : Objects) → Shows b v → Shows (after_hold b n) (phase_on Hold true b.holds n (phase_on Enter true b.holds n v))
+pub shows-held : (n : ℕ) (kind : ResetKind) (b : Board) (v : Objects) → Shows b v
+    → Shows (after_hold b n kind) (phase_on Hold true b.holds n (phase_on (entering kind) true b.holds n v))
 unfolding after_hold
-shows-held n b v s =
-    shows-holds (phased Hold (all_picked true b n) (phased Enter (all_picked true b n) b)) _ (b.holds ++ n ∷ []) (shows-twice n true b v s)
+shows-held n kind b v s =
+    shows-holds (phased Hold (all_picked true b n) (phased (entering kind) (all_picked true b n) b)) _ (b.holds ++ n ∷ [])
+    (shows-twice (entering kind) n true b v s)
 
 pub shows-released : (n : ℕ) (b : Board) (v : Objects) → Shows b v → Shows (released b n) (phase_on Exit true (without_first n b.holds) n v)
 unfolding released
@@ -156,7 +160,7 @@ shows-plugged n b v s =
     let second : Objects = phase_on Hold false b.holds n first in
     let acts : Acts v second = acts-then v first second (phase-acts Enter false b.holds n v) (phase-acts Hold false b.holds n first) in
     let after : Board = phased Hold (all_picked false b n) (phased Enter (all_picked false b n) b) in
-    let last = shows-next Exit true n b after v second s acts (shows-twice n false b v s) in
+    let last = shows-next Exit true n b after v second s acts (shows-twice Enter n false b v s) in
     subst (λ (l : List ℕ). Shows (phased Exit (all_picked true b n) (phased Hold l (phased Enter l b))) (plugged_on b.holds n v)) (filter-all (post b n)) last
 
 -- phases leave the holds
@@ -169,9 +173,9 @@ phased-holds : (act : Act) (os : List ℕ) (b : Board) → (phased act os b).hol
 phased-holds act [] b = refl
 phased-holds act (o ∷ os) b = phased-holds act os (acted act o 0 b) ∙ acted-holds act o 0 b
 
-pub held-holds : (b : Board) (n : ℕ) → (after_hold b n).holds ≡ b.holds ++ n ∷ []
+pub held-holds : (b : Board) (n : ℕ) (kind : ResetKind) → (after_hold b n kind).holds ≡ b.holds ++ n ∷ []
 unfolding after_hold
-held-holds b n = refl
+held-holds b n kind = refl
 
 pub released-holds : (b : Board) (n : ℕ) → (released b n).holds ≡ without_first n b.holds
 unfolding released
@@ -186,9 +190,9 @@ plugged-holds b n =
     let h : Board = phased Hold (post b n) e in
     phased-holds Exit (filter (is_not_in_reset b) (post b n)) h ∙ phased-holds Hold (post b n) e ∙ phased-holds Enter (post b n) b
 
-pub pulse-is : (b : Board) (n : ℕ) → pulse b n ≡ released (after_hold b n) n
+pub pulse-is : (b : Board) (n : ℕ) (kind : ResetKind) → pulse b n kind ≡ released (after_hold b n kind) n
 unfolding pulse
-pulse-is b n = refl
+pulse-is b n kind = refl
 
 -- how many holds there are, and the limit
 

@@ -16,7 +16,7 @@ ghost use Rattle.qo_reset.specs.declared.turns.Turn.TheVariants.{Run, RunOut};
 
 use crate::turns::{Turn, walk};
 use qo_heap::{Heap, Oid, Steps};
-use qo_values::Act;
+use qo_values::{Act, ResetKind};
 use std::sync::ledger::Ledger;
 
 /// What is done to each object in a phase: it acts, or only where it is in no reset.
@@ -54,11 +54,17 @@ fn phase<L: Ledger>(
     walk(heap, holds, root, phase_turn(act, only_out), steps);
 }
 
-/// The phases of a hold, on those in no reset: all enter before one holds.
-pub fn held_phases<L: Ledger>(heap: &mut Heap, holds: &[Oid], root: Oid, steps: &mut Steps<L>)
+/// The phases of a hold, for a reset of a type, on those in no reset: all enter before one holds.
+pub fn held_phases<L: Ledger>(
+    heap: &mut Heap,
+    holds: &[Oid],
+    root: Oid,
+    kind: ResetKind,
+    steps: &mut Steps<L>,
+)
     requires live { IsLive heap.old.rows root }
     requires counts { CountsKept (births_of holds.now) heap.old }
-    ensures shown { (b : Board) → Holds b (births_of holds.now) heap.old → Shows (after_hold b root.birth) heap.new }
+    ensures shown { (b : Board) → Holds b (births_of holds.now) heap.old → Shows (after_hold b root.birth kind) heap.new }
     ensures acts { Acts heap.old heap.new }
     ensures timely { Timely heap.old → Timely heap.new }
     ensures still { KeepsCounts heap.old heap.new }
@@ -66,7 +72,7 @@ pub fn held_phases<L: Ledger>(heap: &mut Heap, holds: &[Oid], root: Oid, steps: 
     ensures periods { KeepsPeriods heap.old heap.new }
     ensures live { IsLive heap.new.rows root }
 {
-    phase(heap, holds, root, Act::Enter, true, steps);
+    phase(heap, holds, root, kind.entering(), true, steps);
     phase(heap, holds, root, Act::Hold, true, steps);
 }
 

@@ -8,6 +8,7 @@ use crate::phases::{held_phases, plugged_phases, released_phases};
 use crate::tallies::{lower, raise, recount_below};
 use crate::turns::{HOLDS_MAX, set_count};
 use qo_heap::{Heap, Oid, Steps};
+use qo_values::ResetKind;
 use std::alloc::{AllocError, Global};
 use std::marker::Model;
 use std::sync::ledger::Ledger;
@@ -105,7 +106,7 @@ impl Resets {
         exceeds_depth_below(heap, root, levels, steps)
     }
 
-    /// Holds an object: those of it and below it that were in no reset enter, all of them before one holds
+    /// Holds an object, for a reset of a type: those of it and below it that were in no reset enter, all of them before one holds
     /// (docs/devel/reset.rst, "Triggering reset", `resettable_assert_reset`). There must be room
     /// for the hold. Refused with `Depth` exactly where one of them has more holds on it and above
     /// it than `HOLD_COUNT_MAX`, which leaves all as it was. It takes no memory.
@@ -113,13 +114,14 @@ impl Resets {
         &mut self,
         heap: &mut Heap,
         root: Oid,
+        kind: ResetKind,
         steps: &mut Steps<L>,
     ) -> Result<(), HoldError>
         requires live { IsLive heap.old.rows root }
         requires room { 1 ≤ self.old.spare }
         requires counts { CountsKept self.old.births heap.old }
         ensures answer { (b : Board) → Holds b self.old.births heap.old → result ≡ (if exceeds_depth b root.birth then Err Depth else Ok tt) }
-        ensures shown { OnOk result ((b : Board) → Holds b self.old.births heap.old → Holds (after_hold b root.birth) self.new.births heap.new) }
+        ensures shown { OnOk result ((b : Board) → Holds b self.old.births heap.old → Holds (after_hold b root.birth kind) self.new.births heap.new) }
         ensures holds { OnOk result (self.new ≡ with_hold root.birth self.old) }
         ensures err { OnErr result ((heap.new ≡ heap.old) × (self.new ≡ self.old)) }
         ensures acts { Acts heap.old heap.new }
@@ -130,7 +132,7 @@ impl Resets {
         if self.exceeds_depth(heap, root, steps) {
             return Err(HoldError::Depth);
         }
-        held_phases(heap, &self.holds, root, steps);
+        held_phases(heap, &self.holds, root, kind, steps);
         raise(heap, root, steps);
         self.holds.push_reserved(root);
         Ok(())
@@ -181,10 +183,16 @@ impl Resets {
 
     /// Holds an object and releases it at once (docs/devel/reset.rst, "Triggering reset",
     /// `resettable_reset`). No count moves. It needs no room, and takes no memory.
-    pub fn pulse<L: Ledger>(&mut self, heap: &mut Heap, root: Oid, steps: &mut Steps<L>)
+    pub fn pulse<L: Ledger>(
+        &mut self,
+        heap: &mut Heap,
+        root: Oid,
+        kind: ResetKind,
+        steps: &mut Steps<L>,
+    )
         requires live { IsLive heap.old.rows root }
         requires counts { CountsKept self.old.births heap.old }
-        ensures shown { (b : Board) → Holds b self.old.births heap.old → Holds (pulse b root.birth) self.new.births heap.new }
+        ensures shown { (b : Board) → Holds b self.old.births heap.old → Holds (pulse b root.birth kind) self.new.births heap.new }
         ensures holds { self.new.births ≡ without_first root.birth (self.old.births ++ root.birth ∷ []) }
         ensures room { self.new.spare ≡ self.old.spare }
         ensures acts { Acts heap.old heap.new }
@@ -193,7 +201,7 @@ impl Resets {
         ensures counts { CountsKept self.new.births heap.new }
         ensures periods { KeepsPeriods heap.old heap.new }
     {
-        held_phases(heap, &self.holds, root, steps);
+        held_phases(heap, &self.holds, root, kind, steps);
         self.put_last(root.birth);
         released_phases(heap, &self.holds, root, steps);
     }

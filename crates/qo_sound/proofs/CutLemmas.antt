@@ -4,7 +4,7 @@ use Rattle.qo_model.proofs.Common.{AllByRecursion, IsDistinct, cons_option, byte
 use Rattle.qo_model.specs.declared.notes.Note.{Note}
 use Rattle.std.proofs.lemmas.Option.{same_Some}
 use Rattle.std.proofs.lemmas.List.Sums.{sum_by-cons}
-use Rattle.qo_model.specs.Board.{referent}
+use Rattle.qo_model.specs.Board.{referent, Removal}
 use Rattle.qo_model.proofs.EditLemmas.{StandsAt, stands-at}
 use Rattle.qo_model.proofs.StepLemmas.{live-among, one_of}
 use Rattle.qo_sound.proofs.RecordLemmas.{all-edited, sum-edited}
@@ -160,7 +160,7 @@ near-same_slots n change same_birth same_kind same_slots o b h = near-edit n cha
     more k = omega (arith, sum-same k b.records)
 
 -- the lists beside the tree, and notes
-pub near-beside : (o : Option ℕ) (b : Board) (holds pending : List ℕ) (notices : List Notice) (notes : List Note) → InvariantBut o b
+pub near-beside : (o : Option ℕ) (b : Board) (holds : List ℕ) (pending : List Removal) (notices : List Notice) (notes : List Note) → InvariantBut o b
     → InvariantBut o (record b { holds = holds; pending = pending; notices = notices; notes = notes })
 near-beside o b holds pending notices notes h =
     record {

@@ -2,13 +2,15 @@
 use Rattle.std.proofs.Common.{nat_eq, ◌≡◌, refl, ℕ, zero, suc, Bool, true, false, not, ◌==◌, List, [], ◌∷◌, filter, length, codes, Option, Some, None}
 use Rattle.qo_model.proofs.Common.{AllByRecursion, list_any, ANONYMOUS_BIRTH, PERIPHERAL_BIRTH, Unrealize, Board, Notice, Slot, slots_at, slot_at, cut, with_cut, device_period, by_depth, bus_of, buses_of, clock_of, kids_of, index_from, births, after, drop_slot, finalize, let_go, pin, put_in_order, unpin, with_dropped, without_first, detach, each, is_bus_child, is_child_slot, is_named, left_bus, left_parent, let_go_where, names_kid, take_slot, take_where, unheld, unnoticed, unrealize, unrealize_turn, unrealized_bus, unrealized_device, without_all}
 use Rattle.qo_values.specs.declared.properties.Val.TheVariants as val
-use Rattle.qo_model.specs.Board.{referent}
+use Rattle.qo_model.specs.Board.{referent, Removal}
+use Rattle.qo_model.specs.Unplug.{without_removal}
 use Rattle.qo_sound.proofs.AdditionStepsLemmas.{KeepsActs, KeepsEdits, step-set, step-disconnected}
 use Rattle.qo_sound.proofs.UnplugLemmas.{detached-keeps}
 
 -- other holds, pending removals and notices keep P
 abbrev pub KeepsLists : (Board → Type 0) → Type 0
-KeepsLists P = (holds pending : List ℕ) (notices : List Notice) (c : Board) → P c → P (record c { holds = holds; pending = pending; notices = notices })
+KeepsLists P = (holds : List ℕ) (pending : List Removal) (notices : List Notice) (c : Board) → P c
+    → P (record c { holds = holds; pending = pending; notices = notices })
 
 -- other pins, and what follows a slot or a pin that is let go, keep P
 abbrev pub KeepsPins : (Board → Type 0) → Type 0
@@ -23,7 +25,7 @@ module _ (P : Board → Type 0) (lists : KeepsLists P) where
   step-unheld n c h = lists (without_all n c.holds) c.pending c.notices c h
 
   pub step-unnoticed : (n : ℕ) (c : Board) → P c → P (unnoticed n c)
-  step-unnoticed n c h = lists c.holds (without_all n c.pending) (filter (λ (x : Notice). not (x.birth == n)) c.notices) c h
+  step-unnoticed n c h = lists c.holds (without_removal n c.pending) (filter (λ (x : Notice). not (x.birth == n)) c.notices) c h
 
 -- unrealizing: the device, its buses and their kids, and so on, pass
 module _ (On : ℕ → Type 0) (P : Board → Type 0) (edits : KeepsEdits P) (acts : KeepsActs On P) (lists : KeepsLists P) where

@@ -41,3 +41,4 @@ pub mod UnplugLemmas
 pub mod ViewLemmas
 pub mod WorkLemmas
 pub mod WriteLemmas
+pub mod PhaseActs

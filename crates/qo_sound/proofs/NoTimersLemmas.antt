@@ -1,10 +1,11 @@
 -- The law: without timers a board stays so after all commands but the adding of a timer.
-use Rattle.std.proofs.Common.{rules, ◌≡◌, refl, ap, sym, ◌∙◌, ℕ, zero, suc, ◌+◌, Bool, true, false, not, ◌==◌, List, ◌∷◌, filter, length, codes, Option, Some, None, is_some, []}
-use Rattle.qo_model.proofs.Common.{⊤, AllByRecursion, body_act, Registers, fresh_registers, MACHINE_BIRTH, OBJECTS_BIRTH, Code, Act, Realize, Enter, Hold, Exit, TypeId, Range, Board, Record, acted, with_act_on, among, buses_of, kids_of, Change, added, deleted, wrote, severed, after_changes, changed, all_completed, asked, asked_of, completed, device_at, reset_whole, Given, added_as, object_add, opening_board, attached, canonical, Resources, Wanted, acted_all, barred_early, barred_late, bus_births, bus_for, counted, drafted, notice_barred, plug, plug_as, plug_by, plug_late, resources_of, type_barred, with_body_of, with_device, with_path, with_plugged, drop_slot, edit, edited, finish, forgotten, pin, with_dropped, without_first, KeepsRelease, is_not_in_reset, phased, plugged, post, pulse, released, TypeInfo, is_a, type_named, slots_of, types, detach}
+use Rattle.std.proofs.Common.{rules, ◌≡◌, refl, ap, sym, ◌∙◌, ℕ, zero, suc, ◌+◌, Bool, true, false, not, ◌==◌, List, ◌∷◌, filter, length, codes, Option, Some, None, is_some, [], slice_get}
+use Rattle.qo_model.proofs.Common.{⊤, AllByRecursion, body_act, Registers, fresh_registers, MACHINE_BIRTH, OBJECTS_BIRTH, Code, Act, Realize, Hold, Exit, TypeId, Range, Board, Record, acted, with_act_on, buses_of, kids_of, Change, added, deleted, wrote, severed, after_changes, changed, all_completed, asked, asked_of, completed, device_at, reset_whole, Given, added_as, object_add, opening_board, attached, canonical, Resources, Wanted, acted_all, barred_early, barred_late, bus_births, bus_for, counted, drafted, notice_barred, plug, plug_as, plug_by, plug_late, resources_of, type_barred, with_body_of, with_device, with_path, with_plugged, drop_slot, edit, edited, finish, forgotten, pin, with_dropped, without_first, KeepsRelease, is_not_in_reset, phased, plugged, post, pulse, released, TypeInfo, is_a, type_named, slots_of, types, detach}
 use Rattle.std.proofs.lemmas.Option.{same_Some}
 use Rattle.qo_values.proofs.EachLemmas.{AllBodies, each, each_act, each_body}
 use Rattle.qo_model.specs.Reset.{after_hold}
-use Rattle.qo_model.specs.Unplug.{first_of}
+use Rattle.qo_model.specs.Board.{Removal}
+use Rattle.qo_model.specs.Hotplug.{is_early}
 use Rattle.qo_model.proofs.ComesToLemmas.{addition-comes}
 use Rattle.qo_model.proofs.ReleaseInductionLemmas.{after_keeps}
 use Rattle.qo_model.proofs.StepLemmas.{found_at}
@@ -14,6 +15,9 @@ use Rattle.qo_sound.proofs.AddLemmas.{creatable}
 use Rattle.qo_sound.proofs.AdditionStepsLemmas.{all-any, KeepsActs, KeepsEdits, KeepsNew, new_with, RowPasses, step-acted_all, step-drafted, step-plugged, step-stood}
 use Rattle.qo_sound.proofs.DetachmentStepsLemmas.{KeepsEnds, KeepsLists, KeepsPins, step-detach, step-pin, step-unrealize}
 use Rattle.qo_sound.proofs.ChangeStepsLemmas.{step-object_del, step-sever, step-write}
+use Rattle.qo_values.specs.declared.kinds.ResetKind.{ResetKind}
+use Rattle.qo_values.specs.declared.kinds.ResetKind.TheVariants.{Cold}
+use Rattle.qo_values.specs.Kinds.{entering}
 
 -- an object that is no timer
 abbrev NoTimer : Record → Type 0
@@ -179,9 +183,9 @@ detach-timerless b d h =
 -- removals that are asked for, and the reset of the whole board
 
 asked_of-timerless : (b : Board) (d : ℕ) → Timerless b → Timerless (asked_of b d).board
-asked_of-timerless b d h = go (attached b d) refl (among b.pending d) refl (is_some (notice_barred b)) refl
+asked_of-timerless b d h = go (attached b d) refl (is_early b d) refl (is_some (notice_barred b)) refl
   where
-    go : (u : Bool) → attached b d ≡ u → (v : Bool) → among b.pending d ≡ v → (w : Bool) → is_some (notice_barred b) ≡ w → Timerless (asked_of b d).board
+    go : (u : Bool) → attached b d ≡ u → (v : Bool) → is_early b d ≡ v → (w : Bool) → is_some (notice_barred b) ≡ w → Timerless (asked_of b d).board
     go false p v q w r = rw (asked_of, p) h
     go true p true q w r = rw (asked_of, p, q) h
     go true p false q true r = rw (asked_of, p, q, r) h
@@ -196,11 +200,12 @@ asked-timerless b id h = go (device_at b id) refl
 
 completed-timerless : (times : ℕ) (b : Board) → Timerless b → Timerless (all_completed times b)
 completed-timerless zero b h = h
-completed-timerless (suc times) b h = go (first_of b.pending) refl (completed-timerless times)
+completed-timerless (suc times) b h = go (slice_get b.pending 0) refl (completed-timerless times)
   where
-    go : (o : Option ℕ) → first_of b.pending ≡ o → ((c : Board) → Timerless c → Timerless (all_completed times c)) → Timerless (all_completed (suc times) b)
+    go : (o : Option Removal) → slice_get b.pending 0 ≡ o → ((c : Board) → Timerless c → Timerless (all_completed times c))
+        → Timerless (all_completed (suc times) b)
     go None p rest = rw (all_completed, p) h
-    go (Some d) p rest = rw (all_completed, p) (rest (completed b d) (detach-timerless b d h))
+    go (Some d) p rest = rw (all_completed, p) (rest (completed b d.birth) (detach-timerless b d.birth h))
 
 acted-timerless : (act : Act) (n period : ℕ) (c : Board) → Timerless c → Timerless (acted act n period c)
 unfolding acted
@@ -210,11 +215,11 @@ phased-timerless : (act : Act) (ns : List ℕ) (c : Board) → Timerless c → T
 phased-timerless act [] c h = h
 phased-timerless act (n ∷ ns) c h = phased-timerless act ns (acted act n 0 c) (acted-timerless act n 0 c h)
 
-held-timerless : (b : Board) (n : ℕ) → Timerless b → Timerless (after_hold b n)
+held-timerless : (b : Board) (n : ℕ) (kind : ResetKind) → Timerless b → Timerless (after_hold b n kind)
 unfolding after_hold
-held-timerless b n h =
+held-timerless b n kind h =
     let out : List ℕ = filter (is_not_in_reset b) (post b n) in
-    phased-timerless Hold out (phased Enter out b) (phased-timerless Enter out b h)
+    phased-timerless Hold out (phased (entering kind) out b) (phased-timerless (entering kind) out b h)
 
 released-timerless : (b : Board) (n : ℕ) → Timerless b → Timerless (released b n)
 unfolding released
@@ -222,13 +227,13 @@ released-timerless b n h =
     let c : Board = record b { holds = without_first n b.holds } in
     phased-timerless Exit (filter (is_not_in_reset c) (post c n)) c h
 
-pulse-timerless : (b : Board) (n : ℕ) → Timerless b → Timerless (pulse b n)
+pulse-timerless : (b : Board) (n : ℕ) (kind : ResetKind) → Timerless b → Timerless (pulse b n kind)
 unfolding pulse
-pulse-timerless b n h = released-timerless (after_hold b n) n (held-timerless b n h)
+pulse-timerless b n kind h = released-timerless (after_hold b n kind) n (held-timerless b n kind h)
 
 reset-timerless : (b : Board) → Timerless b → Timerless (reset_whole b)
 unfolding reset_whole
-reset-timerless b h = pulse-timerless (all_completed (length b.pending) b) MACHINE_BIRTH (completed-timerless (length b.pending) b h)
+reset-timerless b h = pulse-timerless (all_completed (length b.pending) b) MACHINE_BIRTH Cold (completed-timerless (length b.pending) b h)
 
 there-timerless : (n : ℕ) (rs : List Record) (r : Record) → found_at n rs ≡ Some r → AllByRecursion NoTimer rs → NoTimer r
 there-timerless n [] r e h = absurd (let clash : None ≡ Some r = e in cc)

@@ -1,8 +1,9 @@
 -- The law: what keeps the notes of a board in order where devices come and go.
 use Rattle.std.proofs.Common.{◌≡◌, refl, ap, sym, ◌∙◌, ℕ, ◌+◌, ◌<◌, ◌≤◌, Bool, true, false, ◌==◌, List, [], ◌∷◌, ◌++◌, filter, length, codes, Option, Some, None, is_some, option_map, append-nil, arith}
-use Rattle.qo_model.proofs.Common.{⊤, AllByRecursion, option_or, Code, Init, Realize, Enter, Hold, Exit, TypeId, Board, Record, Slot, kind_of, add, fresh, acted, with_act_on, among, beginning, NotesInOrder, with_act, asked, asked_of, device_at, refused, with_asked, init_notes, attached, canonical, Resources, Wanted, acted_all, aliased, barred_early, barred_late, bus_births, bus_for, clocked, counted, drafted, notice_barred, owned, plug, plug_as, plug_by, plug_late, property_made, properties_made, source_for, resources_of, stood, type_barred, types_in, with_body_of, with_device, with_new, with_path, with_plugged, edit, pin, without_first, notes_on, is_not_in_reset, phased, plugged, post, pulse, released, property_name, is_open, TypeInfo, inits, is_a, type_named, slots_of, detach, unrealize}
+use Rattle.qo_model.proofs.Common.{⊤, AllByRecursion, option_or, Code, Init, Realize, Hold, Exit, TypeId, Board, Record, Slot, kind_of, add, fresh, acted, with_act_on, beginning, NotesInOrder, with_act, asked, asked_of, device_at, refused, with_asked, init_notes, attached, canonical, Resources, Wanted, acted_all, aliased, barred_early, barred_late, bus_births, bus_for, clocked, counted, drafted, notice_barred, owned, plug, plug_as, plug_by, plug_late, property_made, properties_made, source_for, resources_of, stood, type_barred, types_in, with_body_of, with_device, with_new, with_path, with_plugged, edit, pin, without_first, notes_on, is_not_in_reset, phased, plugged, post, pulse, released, property_name, is_open, TypeInfo, inits, is_a, type_named, slots_of, detach, unrealize}
 use Rattle.qo_model.specs.declared.notes.Deed.TheVariants.{Did}
 use Rattle.qo_model.specs.declared.notes.Note.{Note}
+use Rattle.qo_model.specs.Hotplug.{is_early}
 use Rattle.qo_model.specs.declared.properties.Property.{Property}
 use Rattle.qo_model.specs.declared.properties.PropertyRole.{PropertyRole}
 use Rattle.std.proofs.lemmas.List.Elements.{filter-append}
@@ -26,6 +27,9 @@ use Rattle.qo_sound.proofs.RecordLemmas.{all-filter}
 use Rattle.qo_values.proofs.ListLemmas.{all-imply}
 use Rattle.qo_sound.proofs.UnplugLemmas.{HasPins}
 use Rattle.qo_sound.proofs.ViewLemmas.{PinsRootAlone, rest-from_sound}
+use Rattle.qo_values.specs.declared.kinds.ResetKind.{ResetKind}
+use Rattle.qo_values.specs.Kinds.{entering}
+use Rattle.qo_sound.proofs.PhaseActs.{entering-plain}
 
 -- small steps
 
@@ -271,14 +275,15 @@ detach-notes b d h there o = step-detach NotesInOrder notes-edits notes-pins not
 
 -- the phases of what is there
 
-held-notes : (b : Board) (n : ℕ) → PinsRootAlone b → IsThere b n → NotesInOrder b → Tells b (after_hold b n)
+held-notes : (b : Board) (n : ℕ) (kind : ResetKind) → PinsRootAlone b → IsThere b n → NotesInOrder b → Tells b (after_hold b n kind)
 unfolding after_hold
-held-notes b n rest there o =
+held-notes b n kind rest there o =
     let out : List ℕ = filter (is_not_in_reset b) (post b n) in
     let on : AllByRecursion (IsThere b) out = all-filter (IsThere b) (is_not_in_reset b) (post b n) (post-there b rest.used.firm.linked n there) in
-    let entered : Tells b (phased Enter out b) = step-phased (IsThere b) (Tells b) (tells-acts b) Enter refl out on b (tells-none b o) in
-    let c : Board = phased Hold out (phased Enter out b) in
-    let h : Tells b c = step-phased (IsThere b) (Tells b) (tells-acts b) Hold refl out on (phased Enter out b) entered in
+    let entered : Tells b (phased (entering kind) out b) =
+    step-phased (IsThere b) (Tells b) (tells-acts b) (entering kind) (entering-plain kind) out on b (tells-none b o) in
+    let c : Board = phased Hold out (phased (entering kind) out b) in
+    let h : Tells b c = step-phased (IsThere b) (Tells b) (tells-acts b) Hold refl out on (phased (entering kind) out b) entered in
     tells-lists b (b.holds ++ n ∷ []) c.pending c.notices c h
 
 released-notes : (b : Board) (n : ℕ) → AllLinked (kind_of b) b.records → IsThere b n → NotesInOrder b → NotesInOrder (released b n)
@@ -293,27 +298,28 @@ released-notes b n linked there o =
     in
     h.notes
 
-held-linked : (b : Board) (n : ℕ) → PinsRootAlone b → AllLinked (kind_of (after_hold b n)) (after_hold b n).records
+held-linked : (b : Board) (n : ℕ) (kind : ResetKind) → PinsRootAlone b → AllLinked (kind_of (after_hold b n kind)) (after_hold b n kind).records
 unfolding after_hold
-held-linked b n rest =
+held-linked b n kind rest =
     let out : List ℕ = filter (is_not_in_reset b) (post b n) in
-    let entered : HasPins (1 ∷ []) (phased Enter out b) = held-phased (1 ∷ []) Enter out b (record { near = rest.used; pins = rest.pinned }) in
-    let h : HasPins (1 ∷ []) (phased Hold out (phased Enter out b)) = held-phased (1 ∷ []) Hold out (phased Enter out b) entered in
+    let entered : HasPins (1 ∷ []) (phased (entering kind) out b) =
+    held-phased (1 ∷ []) (entering kind) out b (record { near = rest.used; pins = rest.pinned }) in
+    let h : HasPins (1 ∷ []) (phased Hold out (phased (entering kind) out b)) = held-phased (1 ∷ []) Hold out (phased (entering kind) out b) entered in
     h.near.firm.linked
 
-pulse-notes : (b : Board) (n : ℕ) → SoundTree b → IsThere b n → NotesInOrder b → NotesInOrder (pulse b n)
+pulse-notes : (b : Board) (n : ℕ) (kind : ResetKind) → SoundTree b → IsThere b n → NotesInOrder b → NotesInOrder (pulse b n kind)
 unfolding pulse
-pulse-notes b n h there o =
+pulse-notes b n kind h there o =
     let rest : PinsRootAlone b = rest-from_sound b h in
-    let k : Tells b (after_hold b n) = held-notes b n rest there o in
-    released-notes (after_hold b n) n (held-linked b n rest) (there-still b (after_hold b n) k.kinds n there) k.notes
+    let k : Tells b (after_hold b n kind) = held-notes b n kind rest there o in
+    released-notes (after_hold b n kind) n (held-linked b n kind rest) (there-still b (after_hold b n kind) k.kinds n there) k.notes
 
 -- removals that are asked for
 
 asked_of-notes : (b : Board) (d : ℕ) → NotesInOrder b → NotesInOrder (asked_of b d).board
-asked_of-notes b d o = go (attached b d) refl (among b.pending d) refl (is_some (notice_barred b)) refl
+asked_of-notes b d o = go (attached b d) refl (is_early b d) refl (is_some (notice_barred b)) refl
   where
-    go : (u : Bool) → attached b d ≡ u → (v : Bool) → among b.pending d ≡ v → (w : Bool) → is_some (notice_barred b) ≡ w → NotesInOrder (asked_of b d).board
+    go : (u : Bool) → attached b d ≡ u → (v : Bool) → is_early b d ≡ v → (w : Bool) → is_some (notice_barred b) ≡ w → NotesInOrder (asked_of b d).board
     go false p v q w r = rw (asked_of, p) o
     go true p true q w r = rw (asked_of, p, q) o
     go true p false q true r = rw (asked_of, p, q, r) o
@@ -335,7 +341,7 @@ notes_kept_lem =
       plugged = plug-notes;
       cut = cut_attempt-keeps;
       detached = detach-notes;
-      held_so = λ b n h there o. (held-notes b n (rest-from_sound b h) there o).notes;
+      held_so = λ b n kind h there o. (held-notes b n kind (rest-from_sound b h) there o).notes;
       released_so = λ b n h there o. released-notes b n (rest-from_sound b h).used.firm.linked there o;
       pulsed = pulse-notes;
       asked_for = asked-notes;

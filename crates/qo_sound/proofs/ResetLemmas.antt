@@ -1,14 +1,17 @@
 -- Holds of resets and the reset of the whole board keep the tree sound; what they leave of a board beside its objects.
-use Rattle.std.proofs.Common.{◌≡◌, refl, ◌∙◌, ℕ, zero, suc, List, [], ◌∷◌, ◌++◌, filter, length, Option, Some, None}
-use Rattle.qo_model.proofs.Common.{MACHINE_BIRTH, Act, Enter, Hold, Exit, Board, Record, acted, all_completed, completed, reset_whole, without_first, is_not_in_reset, phased, post, pulse, released}
+use Rattle.std.proofs.Common.{◌≡◌, refl, ◌∙◌, ℕ, zero, suc, List, [], ◌∷◌, ◌++◌, filter, length, Option, Some, None, slice_get}
+use Rattle.qo_model.proofs.Common.{MACHINE_BIRTH, Act, Hold, Exit, Board, Record, acted, all_completed, completed, reset_whole, without_first, is_not_in_reset, phased, post, pulse, released}
+use Rattle.qo_model.specs.Board.{Removal}
 use Rattle.qo_model.specs.declared.notes.Note.{Note}
 use Rattle.qo_model.specs.Reset.{after_hold}
-use Rattle.qo_model.specs.Unplug.{first_of}
 use Rattle.qo_sound.specs.DeviceScope.{ResetLeaves}
 use Rattle.qo_sound.proofs.CutLemmas.{near-beside}
 use Rattle.qo_sound.proofs.PlugLemmas.{held-phased}
 use Rattle.qo_sound.proofs.UnplugLemmas.{detach-rest, HasPins}
 use Rattle.qo_sound.proofs.ViewLemmas.{PinsRootAlone}
+use Rattle.qo_values.specs.declared.kinds.ResetKind.{ResetKind}
+use Rattle.qo_values.specs.declared.kinds.ResetKind.TheVariants.{Cold}
+use Rattle.qo_values.specs.Kinds.{entering}
 
 -- the tree
 
@@ -20,11 +23,12 @@ phased-rest act ns b h =
 holds-rest : (b : Board) (holds : List ℕ) → PinsRootAlone b → PinsRootAlone (record b { holds = holds })
 holds-rest b holds h = record { used = near-beside None b holds b.pending b.notices b.notes h.used; pinned = h.pinned }
 
-pub held-rest : (b : Board) (n : ℕ) → PinsRootAlone b → PinsRootAlone (after_hold b n)
+pub held-rest : (b : Board) (n : ℕ) (kind : ResetKind) → PinsRootAlone b → PinsRootAlone (after_hold b n kind)
 unfolding after_hold
-held-rest b n h =
+held-rest b n kind h =
     let out : List ℕ = filter (is_not_in_reset b) (post b n) in
-    holds-rest (phased Hold out (phased Enter out b)) (b.holds ++ n ∷ []) (phased-rest Hold out (phased Enter out b) (phased-rest Enter out b h))
+    holds-rest (phased Hold out (phased (entering kind) out b)) (b.holds ++ n ∷ [])
+    (phased-rest Hold out (phased (entering kind) out b) (phased-rest (entering kind) out b h))
 
 pub released-rest : (b : Board) (n : ℕ) → PinsRootAlone b → PinsRootAlone (released b n)
 unfolding released
@@ -32,22 +36,22 @@ released-rest b n h =
     let c : Board = record b { holds = without_first n b.holds } in
     phased-rest Exit (filter (is_not_in_reset c) (post c n)) c (holds-rest b (without_first n b.holds) h)
 
-pulse-rest : (b : Board) (n : ℕ) → PinsRootAlone b → PinsRootAlone (pulse b n)
+pulse-rest : (b : Board) (n : ℕ) (kind : ResetKind) → PinsRootAlone b → PinsRootAlone (pulse b n kind)
 unfolding pulse
-pulse-rest b n h = released-rest (after_hold b n) n (held-rest b n h)
+pulse-rest b n kind h = released-rest (after_hold b n kind) n (held-rest b n kind h)
 
 completed-rest : (times : ℕ) (b : Board) → PinsRootAlone b → PinsRootAlone (all_completed times b)
 completed-rest zero b h = h
-completed-rest (suc times) b h = go (first_of b.pending) refl (completed-rest times)
+completed-rest (suc times) b h = go (slice_get b.pending 0) refl (completed-rest times)
   where
-    go : (o : Option ℕ) → first_of b.pending ≡ o → ((c : Board) → PinsRootAlone c → PinsRootAlone (all_completed times c))
+    go : (o : Option Removal) → slice_get b.pending 0 ≡ o → ((c : Board) → PinsRootAlone c → PinsRootAlone (all_completed times c))
         → PinsRootAlone (all_completed (suc times) b)
     go None p rest = rw (all_completed, p) h
-    go (Some d) p rest = rw (all_completed, p) (rest (completed b d) (detach-rest b d h))
+    go (Some d) p rest = rw (all_completed, p) (rest (completed b d.birth) (detach-rest b d.birth h))
 
 pub reset-rest : (b : Board) → PinsRootAlone b → PinsRootAlone (reset_whole b)
 unfolding reset_whole
-reset-rest b h = pulse-rest (all_completed (length b.pending) b) MACHINE_BIRTH (completed-rest (length b.pending) b h)
+reset-rest b h = pulse-rest (all_completed (length b.pending) b) MACHINE_BIRTH Cold (completed-rest (length b.pending) b h)
 
 -- what is beside the objects
 
@@ -79,12 +83,12 @@ holds-leaves b c holds h = beside-leaves b c c.records c.notes holds h
 pub none-leaves : (b : Board) → ResetLeaves b b
 none-leaves b = record { anonymous = refl; now = refl; running = refl; pending = refl; notices = refl; rings = refl; events = refl }
 
-pub held-leaves : (b : Board) (n : ℕ) → ResetLeaves b (after_hold b n)
+pub held-leaves : (b : Board) (n : ℕ) (kind : ResetKind) → ResetLeaves b (after_hold b n kind)
 unfolding after_hold
-held-leaves b n =
+held-leaves b n kind =
     let out : List ℕ = filter (is_not_in_reset b) (post b n) in
-    holds-leaves b (phased Hold out (phased Enter out b)) (b.holds ++ n ∷ [])
-    (phased-leaves Hold out b (phased Enter out b) (phased-leaves Enter out b b (none-leaves b)))
+    holds-leaves b (phased Hold out (phased (entering kind) out b)) (b.holds ++ n ∷ [])
+    (phased-leaves Hold out b (phased (entering kind) out b) (phased-leaves (entering kind) out b b (none-leaves b)))
 
 pub released-leaves : (b : Board) (n : ℕ) → ResetLeaves b (released b n)
 unfolding released
@@ -104,6 +108,6 @@ leaves-then b c d h k =
       events = k.events ∙ h.events;
     }
 
-pub pulse-leaves : (b : Board) (n : ℕ) → ResetLeaves b (pulse b n)
+pub pulse-leaves : (b : Board) (n : ℕ) (kind : ResetKind) → ResetLeaves b (pulse b n kind)
 unfolding pulse
-pulse-leaves b n = leaves-then b (after_hold b n) (released (after_hold b n) n) (held-leaves b n) (released-leaves (after_hold b n) n)
+pulse-leaves b n kind = leaves-then b (after_hold b n kind) (released (after_hold b n kind) n) (held-leaves b n kind) (released-leaves (after_hold b n kind) n)

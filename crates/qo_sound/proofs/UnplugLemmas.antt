@@ -5,7 +5,7 @@ use Rattle.std.proofs.lemmas.Bool.{eqb-true}
 use Rattle.std.proofs.lemmas.Option.{same_Some}
 use Rattle.std.proofs.lemmas.Slice.Eq.{bytes_eq-Decides}
 use Rattle.qo_values.specs.declared.properties.Val.TheVariants as val
-use Rattle.qo_model.specs.Unplug.{first_of}
+use Rattle.qo_model.specs.Unplug.{first_of, without_removal}
 use Rattle.qo_model.proofs.FirstSlotLemmas.{Found, found-at}
 use Rattle.qo_model.proofs.PinLemmas.{IsUp, put-among, put-back, put-up, release-pins, unpin-pins}
 use Rattle.qo_model.proofs.ReleaseScopeLemmas.{let_go-leaves}
@@ -182,7 +182,10 @@ held-unheld ps n c h = record { near = near-beside None c (without_all n c.holds
 
 held-unnoticed : (ps : List ℕ) (n : ℕ) (c : Board) → HasPins ps c → HasPins ps (unnoticed n c)
 held-unnoticed ps n c h =
-    record { near = near-beside None c c.holds (without_all n c.pending) (filter (λ (x : Notice). not (x.birth == n)) c.notices) c.notes h.near; pins = h.pins }
+    record {
+      near = near-beside None c c.holds (without_removal n c.pending) (filter (λ (x : Notice). not (x.birth == n)) c.notices) c.notes h.near;
+      pins = h.pins;
+    }
 
 unseen-gentle : IsGentle unseen
 unseen-gentle = record { children = children; passes = passes }

@@ -7,6 +7,7 @@ use Rattle.qo_model.specs.Plug.{Resources, Wanted, cut_attempt, plug, with_plugg
 use Rattle.qo_model.specs.Reset.{after_hold, pulse, released}
 use Rattle.qo_model.specs.ChangeScope.{Stays}
 use Rattle.qo_model.specs.Unplug.{detach}
+use Rattle.qo_values.specs.declared.kinds.ResetKind.{ResetKind}
 
 -- what an add leaves, taken or refused
 pub record AddLeaves (b c : Board) : Type 0 where
@@ -59,6 +60,6 @@ pub record DevicesStayLaw : Type 0 where
   -- a device that is detached
   pub detached : (b : Board) (d : ℕ) → DetachLeaves b (detach b d)
   -- a hold, a hold less, and both
-  pub held_so : (b : Board) (n : ℕ) → ResetLeaves b (after_hold b n)
+  pub held_so : (b : Board) (n : ℕ) (kind : ResetKind) → ResetLeaves b (after_hold b n kind)
   pub released_so : (b : Board) (n : ℕ) → ResetLeaves b (released b n)
-  pub pulsed : (b : Board) (n : ℕ) → ResetLeaves b (pulse b n)
+  pub pulsed : (b : Board) (n : ℕ) (kind : ResetKind) → ResetLeaves b (pulse b n kind)

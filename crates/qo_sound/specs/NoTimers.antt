@@ -15,6 +15,7 @@ use Rattle.qo_model.specs.Plug.{Wanted, cut_attempt, plug}
 use Rattle.qo_model.specs.Reset.{after_hold, pulse, released}
 use Rattle.qo_model.specs.Types.{TypeInfo, type_named}
 use Rattle.qo_model.specs.Unplug.{detach}
+use Rattle.qo_values.specs.declared.kinds.ResetKind.{ResetKind}
 
 -- whether registers are those of a timer
 abbrev pub is_timer : Registers → Bool
@@ -48,7 +49,7 @@ pub record TimerlessKeptLaw : Type 0 where
   pub refused_by : (b : Board) (d : ℕ) → Timerless b → Timerless (refused b d)
   pub acts : (act : Act) (n period : ℕ) (b : Board) → Timerless b → Timerless (acted act n period b)
   -- a hold of a reset, a hold less, and both; and the reset of the whole board
-  pub held_so : (b : Board) (n : ℕ) → Timerless b → Timerless (after_hold b n)
+  pub held_so : (b : Board) (n : ℕ) (kind : ResetKind) → Timerless b → Timerless (after_hold b n kind)
   pub released_so : (b : Board) (n : ℕ) → Timerless b → Timerless (released b n)
-  pub pulsed : (b : Board) (n : ℕ) → Timerless b → Timerless (pulse b n)
+  pub pulsed : (b : Board) (n : ℕ) (kind : ResetKind) → Timerless b → Timerless (pulse b n kind)
   pub reset : (b : Board) → Timerless b → Timerless (reset_whole b)

@@ -11,6 +11,7 @@ use Rattle.qo_model.specs.Reset.{after_hold, released}
 use Rattle.qo_model.specs.SoundAliases.{SoundAliases}
 use Rattle.qo_model.specs.SoundGraph.{SoundGraph}
 use Rattle.qo_model.specs.Unplug.{detach}
+use Rattle.qo_values.specs.declared.kinds.ResetKind.{ResetKind}
 
 -- the tree is sound, and no alias outlasts what it passes on to
 abbrev pub SoundTree : Board → Type 0
@@ -28,7 +29,7 @@ pub record SoundKeptLaw : Type 0 where
   pub cut : (b : Board) (t : TypeId) (i : ℕ) (joined : Bool) → SoundTree b → SoundTree (cut_attempt b t i joined)
   pub detached : (b : Board) (d : ℕ) → SoundTree b → SoundTree (detach b d)
   -- a hold of a reset, and a hold less; and the reset of the whole board
-  pub held_so : (b : Board) (n : ℕ) → SoundTree b → SoundTree (after_hold b n)
+  pub held_so : (b : Board) (n : ℕ) (kind : ResetKind) → SoundTree b → SoundTree (after_hold b n kind)
   pub released_so : (b : Board) (n : ℕ) → SoundTree b → SoundTree (released b n)
   pub reset : (b : Board) → SoundTree b → SoundTree (reset_whole b)
   -- so the tree is sound after any changes of the opening board

@@ -1,11 +1,12 @@
 -- The law: what keeps the holds of a board sound.
-use Rattle.std.proofs.Common.{◌≡◌, ◌⊎◌, inl, inr, refl, ap, sym, subst, ◌∙◌, ℕ, zero, suc, ◌+◌, ◌≤◌, Bool, true, false, ◌==◌, eqb, List, [], ◌∷◌, ◌++◌, length, Option, Some, None, is_some, Ok, arith}
+use Rattle.std.proofs.Common.{◌≡◌, ◌⊎◌, inl, inr, refl, ap, sym, subst, ◌∙◌, ℕ, zero, suc, ◌+◌, ◌≤◌, Bool, true, false, ◌==◌, eqb, List, [], ◌∷◌, ◌++◌, length, Option, Some, None, is_some, Ok, arith, slice_get}
 use Rattle.qo_model.proofs.Common.{count_by, nat_lt, AllByRecursion, list_any, Registers, MACHINE_BIRTH, Act, TypeId, Board, is_live, clock_scaled, clock_set, acted, among, Change, changed, all_completed, asked, asked_of, completed, device_at, refused, reset_whole, with_attempt, opening_board, attached, births, Wanted, cut_attempt, notice_barred, plug, plug_attempt, resources_of, with_plugged, without_first, below, count, exceeds_depth, post, pulse, released, detach}
 use Rattle.std.proofs.lemmas.Bool.{eqb-true, eq-eqb}
 use Rattle.std.proofs.lemmas.Bool.Decides.{nat_tests}
 use Rattle.std.proofs.lemmas.List.Sums.{sum_by-cons}
 use Rattle.qo_model.specs.Reset.{after_hold}
-use Rattle.qo_model.specs.Unplug.{first_of}
+use Rattle.qo_model.specs.Board.{Removal}
+use Rattle.qo_model.specs.Hotplug.{is_early}
 use Rattle.qo_model.proofs.ChangeScopeLemmas.{changed-stays}
 use Rattle.qo_sound.proofs.DeviceScopeLemmas.{devices_stay_lem}
 use Rattle.qo_sound.proofs.RecordLemmas.{all-append}
@@ -39,6 +40,8 @@ use Rattle.qo_sound_bounds.specs.HoldsKept.{HoldsKeptLaw}
 use Rattle.qo_sound_bounds.specs.SoundHolds.{SoundHolds}
 use Rattle.qo_sound_bounds.proofs.FeedLemmas.{added-placed}
 use Rattle.qo_sound_bounds.proofs.ClockWriteLemmas.{Written, written-acts, written-none, written-numbers}
+use Rattle.qo_values.specs.declared.kinds.ResetKind.{ResetKind}
+use Rattle.qo_values.specs.declared.kinds.ResetKind.TheVariants.{Cold}
 
 -- holds on what is still reached
 
@@ -93,29 +96,29 @@ deep-none b n e o i = go (post b n) e i
         (λ q. subst (λ (y : ℕ). count b y ≤ 48) (sym (eqb-true o x q)) (grind (arith, nat_tests, p)))
         (λ q. go os (rw p at f) (rw q at j)))
 
-held-holds : (b : Board) (n : ℕ) → IsReached b n → exceeds_depth b n ≡ false → SoundHolds b → SoundHolds (after_hold b n)
-held-holds b n reached e h =
+held-holds : (b : Board) (n : ℕ) (kind : ResetKind) → IsReached b n → exceeds_depth b n ≡ false → SoundHolds b → SoundHolds (after_hold b n kind)
+held-holds b n kind reached e h =
     record {
       on =
-          subst (AllByRecursion (IsReached (after_hold b n))) (sym s.holds)
-          (all-append (IsReached (after_hold b n)) b.holds (n ∷ []) (all-imply (IsReached b) (IsReached (after_hold b n)) still b.holds h.on)
+          subst (AllByRecursion (IsReached (after_hold b n kind))) (sym s.holds)
+          (all-append (IsReached (after_hold b n kind)) b.holds (n ∷ []) (all-imply (IsReached b) (IsReached (after_hold b n kind)) still b.holds h.on)
           (still n reached, tt));
       few = few;
     }
   where
-    s : HeldSo b n (after_hold b n)
-    s = held-so b n
+    s : HeldSo b n kind (after_hold b n kind)
+    s = held-so b n kind
 
-    still : StaysReached b (after_hold b n)
-    still = shape-reached b (after_hold b n) s.shape
+    still : StaysReached b (after_hold b n kind)
+    still = shape-reached b (after_hold b n kind) s.shape
 
-    counted : (o : ℕ) → count (after_hold b n) o ≡ count b o + one_if (among (post b n) o)
+    counted : (o : ℕ) → count (after_hold b n kind) o ≡ count b o + one_if (among (post b n) o)
     counted o =
-        count-shape b (after_hold b n) s.shape o
+        count-shape b (after_hold b n kind) s.shape o
         ∙ ap (count_by (λ x. among (post b x) o)) s.holds
         ∙ count-more (λ x. among (post b x) o) n b.holds
 
-    few : (o : ℕ) → count (after_hold b n) o ≤ 49
+    few : (o : ℕ) → count (after_hold b n kind) o ≤ 49
     few o =
         decide (among (post b n) o)
         (λ p.
@@ -170,14 +173,14 @@ released-holds b n h =
     s = released-so b n
 
 -- both: as many holds as before
-pulse-count : (b : Board) (n o : ℕ) → count (pulse b n) o ≡ count b o
+pulse-count : (b : Board) (n : ℕ) (kind : ResetKind) (o : ℕ) → count (pulse b n kind) o ≡ count b o
 unfolding pulse
-pulse-count b n o =
-    let s : HeldSo b n (after_hold b n) = held-so b n in
+pulse-count b n kind o =
+    let s : HeldSo b n kind (after_hold b n kind) = held-so b n kind in
     let f : ℕ → Bool = λ x. among (post b x) o in
-    released-count (after_hold b n) n o
-    ∙ counted-same (λ x. among (post (after_hold b n) x) o) f (λ x. ap (λ (os : List ℕ). among os o) (shape-post b (after_hold b n) s.shape x))
-    (without_first n (after_hold b n).holds)
+    released-count (after_hold b n kind) n o
+    ∙ counted-same (λ x. among (post (after_hold b n kind) x) o) f (λ x. ap (λ (os : List ℕ). among os o) (shape-post b (after_hold b n kind) s.shape x))
+    (without_first n (after_hold b n kind).holds)
     ∙ ap (λ (hs : List ℕ). count_by f (without_first n hs)) s.holds
     ∙ (let less : count_by f (without_first n (b.holds ++ n ∷ [])) + one_if (f n) ≡ count_by f (b.holds ++ n ∷ []) =
     count-less f n (b.holds ++ n ∷ []) (among-right n b.holds (n ∷ []) (one-among n)) in
@@ -193,30 +196,30 @@ back-all P n (r ∷ rs) h = go (r == n) refl (back-all P n rs h.1)
     go true p rest = rw p (all-append P rs (n ∷ []) h.1 (subst P (eqb-true r n p) h.0, tt))
     go false p rest = rw p (h.0, rest)
 
-pulse-holds : (b : Board) (n : ℕ) → SoundHolds b → SoundHolds (pulse b n)
+pulse-holds : (b : Board) (n : ℕ) (kind : ResetKind) → SoundHolds b → SoundHolds (pulse b n kind)
 unfolding pulse
-pulse-holds b n h =
+pulse-holds b n kind h =
     record {
       on =
-          subst (AllByRecursion (IsReached (released (after_hold b n) n)))
-          (sym (s.holds ∙ s.fewer ∙ ap (without_first n) (held-so b n).holds))
-          (back-all (IsReached (released (after_hold b n) n)) n b.holds
-          (all-imply (IsReached b) (IsReached (released (after_hold b n) n)) (shape-reached b (released (after_hold b n) n) shape) b.holds h.on));
-      few = λ o. subst (λ (k : ℕ). k ≤ 49) (sym (pulse-count b n o)) (h.few o);
+          subst (AllByRecursion (IsReached (released (after_hold b n kind) n)))
+          (sym (s.holds ∙ s.fewer ∙ ap (without_first n) (held-so b n kind).holds))
+          (back-all (IsReached (released (after_hold b n kind) n)) n b.holds
+          (all-imply (IsReached b) (IsReached (released (after_hold b n kind) n)) (shape-reached b (released (after_hold b n kind) n) shape) b.holds h.on));
+      few = λ o. subst (λ (k : ℕ). k ≤ 49) (sym (pulse-count b n kind o)) (h.few o);
     }
   where
-    s : ReleasedSo (after_hold b n) n (released (after_hold b n) n)
-    s = released-so (after_hold b n) n
+    s : ReleasedSo (after_hold b n kind) n (released (after_hold b n kind) n)
+    s = released-so (after_hold b n kind) n
 
-    shape : SameShape b (released (after_hold b n) n)
-    shape = shape-then b (after_hold b n) (released (after_hold b n) n) (held-so b n).shape (released-shape (after_hold b n) n)
+    shape : SameShape b (released (after_hold b n kind) n)
+    shape = shape-then b (after_hold b n kind) (released (after_hold b n kind) n) (held-so b n kind).shape (released-shape (after_hold b n kind) n)
 
 -- removals that are asked for
 
 asked_of-holds : (b : Board) (d : ℕ) → SoundHolds b → SoundHolds (asked_of b d).board
 asked_of-holds b d h =
     decide (attached b d)
-    (λ e. decide (among b.pending d) (λ f. rw (asked_of, e, f) h)
+    (λ e. decide (is_early b d) (λ f. rw (asked_of, e, f) h)
     (λ f. decide (is_some (notice_barred b)) (λ g. rw (asked_of, e, f, g) h) (λ g. rw (asked_of, e, f, g) (beside-holds b _ refl refl h))))
     (λ e. rw (asked_of, e) h)
 
@@ -368,18 +371,18 @@ detach-holds b d s e h = record { on = on; few = all-few (detach b d) (placed (d
 
 completed-holds : (times : ℕ) (b : Board) → SoundDevices b → SoundHolds b → SoundHolds (all_completed times b)
 completed-holds zero b d h = h
-completed-holds (suc times) b d h = go (first_of b.pending) refl (completed-holds times)
+completed-holds (suc times) b d h = go (slice_get b.pending 0) refl (completed-holds times)
   where
-    go : (o : Option ℕ) → first_of b.pending ≡ o → ((c : Board) → SoundDevices c → SoundHolds c → SoundHolds (all_completed times c))
+    go : (o : Option Removal) → slice_get b.pending 0 ≡ o → ((c : Board) → SoundDevices c → SoundHolds c → SoundHolds (all_completed times c))
         → SoundHolds (all_completed (suc times) b)
     go None e rest = rw (all_completed, e) h
     go (Some n) e rest =
-        let on : IsOn b n = first-on (IsOn b) b.pending d.lists.pending n e in
-        rw (all_completed, e) (rest (completed b n) (detached-below b n d on.0) (detach-holds b n d on.0 h))
+        let on : IsOn b n.birth = first-on (IsOn b) b.pending d.lists.pending n e in
+        rw (all_completed, e) (rest (completed b n.birth) (detached-below b n.birth d on.0) (detach-holds b n.birth d on.0 h))
 
 reset-holds : (b : Board) → SoundDevices b → SoundHolds b → SoundHolds (reset_whole b)
 unfolding reset_whole
-reset-holds b d h = pulse-holds (all_completed (length b.pending) b) MACHINE_BIRTH (completed-holds (length b.pending) b d h)
+reset-holds b d h = pulse-holds (all_completed (length b.pending) b) MACHINE_BIRTH Cold (completed-holds (length b.pending) b d h)
 
 opening-holds : SoundHolds opening_board
 unfolding opening_board

@@ -1,11 +1,11 @@
 -- A device that is detached with all that is below it: the clocks of devices that are unrealized lose their sources, and those of the others keep them.
-use Rattle.std.proofs.Common.{◌≡◌, refl, ap, sym, subst, ◌∙◌, ℕ, zero, suc, true, false, ◌==◌, List, [], ◌∷◌, length, Option, Some, None, option_map, option_and_then, codes, arith}
+use Rattle.std.proofs.Common.{◌≡◌, refl, ap, sym, subst, ◌∙◌, ℕ, zero, suc, true, false, ◌==◌, List, [], ◌∷◌, length, Option, Some, None, option_map, option_and_then, codes, arith, slice_get}
 use Rattle.qo_model.proofs.Common.{option_map_or, MACHINE_BIRTH, Unrealize, Val, Board, Record, is_live, Slot, plain, child, strong, weak, alias, record_of, slots_at, with_changed, with_val, acted, device_period, source_of, bus_of, child_named, clock_of, is_realized, all_completed, completed, reset_whole, index_from, source_for, edit, pin, put_in_order, detach, disconnected, is_named, set_named, unrealize, unrealized_bus, unrealized_device, unseen, unseen_named}
 use Rattle.std.proofs.lemmas.Bool.{eqb-true, eq-eqb}
 use Rattle.std.proofs.lemmas.Option.{same_Some}
 use Rattle.qo_values.specs.declared.properties.Val.TheVariants as val
 use Rattle.qo_model.specs.Clocks.{weak_in}
-use Rattle.qo_model.specs.Unplug.{first_of}
+use Rattle.qo_model.specs.Board.{Removal}
 use Rattle.qo_model.proofs.FirstSlotLemmas.{named_in, first-changed, none-found, named-changed}
 use Rattle.qo_sound.proofs.TreeKeptLemmas.{sound_kept_lem}
 use Rattle.qo_sound.proofs.AdditionStepsLemmas.{set-by}
@@ -34,6 +34,7 @@ use Rattle.qo_sound_bounds.proofs.ClockLemmas.{clock-listed, frame-clock, frame-
 use Rattle.qo_sound_bounds.proofs.SightLemmas.{KeepsClockLinks, sight-detached, sight-none}
 use Rattle.qo_sound_bounds.proofs.SourceLemmas.{pulse-sources}
 use Rattle.qo_sound_bounds.proofs.ClockWriteLemmas.{set-source}
+use Rattle.qo_values.specs.declared.kinds.ResetKind.TheVariants.{Cold}
 
 -- a clock is disconnected
 
@@ -336,19 +337,19 @@ module _ (b : Board) (d : ℕ) (s : SoundDevices b) (stood : stands b d ≡ true
 -- the removals that are pending come to their end, and the machine is reset
 completed-sources : (times : ℕ) (b : Board) → SoundDevices b → SoundSources b → SoundDevices (all_completed times b) × SoundSources (all_completed times b)
 completed-sources zero b d h = (d, h)
-completed-sources (suc times) b d h = go (first_of b.pending) refl (completed-sources times)
+completed-sources (suc times) b d h = go (slice_get b.pending 0) refl (completed-sources times)
   where
-    go : (o : Option ℕ) → first_of b.pending ≡ o
+    go : (o : Option Removal) → slice_get b.pending 0 ≡ o
         → ((c : Board) → SoundDevices c → SoundSources c → SoundDevices (all_completed times c) × SoundSources (all_completed times c))
         → SoundDevices (all_completed (suc times) b) × SoundSources (all_completed (suc times) b)
     go None e rest = rw (all_completed, e) (d, h)
     go (Some n) e rest =
-        let on : IsOn b n = first-on (IsOn b) b.pending d.lists.pending n e in
-        rw (all_completed, e) (rest (completed b n) (detached-below b n d on.0) (detach-sources b n d on.0 h))
+        let on : IsOn b n.birth = first-on (IsOn b) b.pending d.lists.pending n e in
+        rw (all_completed, e) (rest (completed b n.birth) (detached-below b n.birth d on.0) (detach-sources b n.birth d on.0 h))
 
 pub reset-sources : (b : Board) → SoundDevices b → SoundSources b → SoundSources (reset_whole b)
 unfolding reset_whole
 reset-sources b d h =
     let k : SoundDevices (all_completed (length b.pending) b) × SoundSources (all_completed (length b.pending) b) =
     completed-sources (length b.pending) b d h in
-    pulse-sources (all_completed (length b.pending) b) MACHINE_BIRTH k.0 k.1
+    pulse-sources (all_completed (length b.pending) b) MACHINE_BIRTH Cold k.0 k.1

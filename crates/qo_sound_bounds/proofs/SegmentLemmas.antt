@@ -5,6 +5,7 @@ use Rattle.std.proofs.Math.Nat.{div-le_self}
 use Rattle.std.proofs.lemmas.Option.{same_Some}
 use Rattle.qo_values.proofs.EachLemmas.{AllBodies, each, each_act, each_body, each_write}
 use Rattle.qo_values.specs.Registers.{fresh_timer}
+use Rattle.qo_values.specs.Timer.{timer_wake}
 use Rattle.qo_sound_clocks.specs.SoundTimes.{IsTimely}
 use Rattle.qo_sound_bounds.specs.SoundSegments.{IsSegmented, SegmentsFit}
 
@@ -82,6 +83,10 @@ updated t now h = either-fits t.enabled (after_begin t now) t now (λ on. begun 
 entered : (t : TimerRegisters) (now : ℕ) → Fits now t → Fits now (timer_enter t)
 entered t now h = (h.0, record { running = refl; began = λ f q. cc; ticks = omega arith })
 
+-- so does Wake
+woken : (t : TimerRegisters) (now : ℕ) → Fits now t → Fits now (timer_wake t)
+woken t now h = (h.0, record { running = refl; began = λ f q. cc; ticks = omega arith })
+
 held_once : (t : TimerRegisters) (now : ℕ) → Fits now t → Fits now (timer_hold t)
 held_once t now h = (h.0, record { running = h.1.running; began = h.1.began; ticks = h.1.ticks })
 
@@ -93,7 +98,7 @@ abbrev StayTimed : Act → Type 0
 StayTimed act = AllBodies (StaysTimed act)
 
 pub act-timed : (act : Act) (now period : ℕ) (r : Registers) → act ≢ Pre → Timed now r → Timed now (body_act act now period r)
-act-timed act now period r = each_body (StaysTimed act) (each_act StayTimed (search (rules, halted, entered, held_once, updated)) act) r now period
+act-timed act now period r = each_body (StaysTimed act) (each_act StayTimed (search (rules, halted, entered, woken, held_once, updated)) act) r now period
 
 -- registers between Pre and Update
 abbrev pub Paused : ℕ → Registers → Type 0

@@ -68,11 +68,12 @@ segments_kept_lem =
       asked_for = asked-by SoundSegments (λ d c may h. h);
       refused_by = λ b d h. h;
       wrote = write-segments;
-      acts = λ act n period b other times h. alone (acted act n period b) (acted-kept Timed act n period b (λ r k. act-timed act b.now period r other k) (both b times h));
+      acts = λ act n period b other times h.
+          alone (acted act n period b) (acted-kept Timed act n period b (λ r k. act-timed act b.now period r other k) (both b times h));
       called_back = λ n old new b times h. alone (acted Update n new (acted Pre n old b)) (kept-calls Timed Paused segments_keep n old new b (both b times h));
-      held_so = λ b n. kept.held_so b n tt tt;
+      held_so = λ b n kind. kept.held_so b n kind tt tt;
       released_so = λ b n. kept.released_so b n tt tt;
-      pulsed = λ b n. kept.pulsed b n tt tt;
+      pulsed = λ b n kind. kept.pulsed b n kind tt tt;
       set = kept.set;
       scaled = kept.scaled;
       registers = λ b n registers one h. edit-kept Whenever n (with_registers registers) b (λ r k. one) h;

@@ -1,8 +1,9 @@
 -- What keeps the sources of clocks: changes that leave what stands, and commands on objects.
-use Rattle.std.proofs.Common.{◌≡◌, refl, ap, sym, subst, ◌∙◌, ℕ, true, false, List, [], ◌∷◌, ◌++◌, filter, filter_map, Option, Some, None, is_some, option_and_then, codes, Ok}
-use Rattle.qo_model.proofs.Common.{option_map_or, Registers, MACHINE_BIRTH, Act, Enter, Hold, Exit, Board, Record, Slot, is_live, clock_scaled, clock_set, acted, source_of, among, is_realized, is_true, plain_in, strong_in, Change, changed, asked, asked_of, device_at, attached, notice_barred, without_first, is_not_in_reset, phased, post, pulse, released}
+use Rattle.std.proofs.Common.{◌≡◌, refl, ap, sym, subst, ◌∙◌, ℕ, true, false, List, [], ◌∷◌, ◌++◌, filter, filter_map, Option, Some, None, is_some, option_and_then, codes, Ok, arith}
+use Rattle.qo_model.proofs.Common.{option_map_or, Registers, MACHINE_BIRTH, Act, Hold, Exit, Board, Record, Slot, is_live, clock_scaled, clock_set, acted, source_of, is_realized, is_true, plain_in, strong_in, Change, changed, asked, asked_of, device_at, attached, notice_barred, without_first, is_not_in_reset, phased, post, pulse, released}
 use Rattle.qo_model.specs.Clocks.{weak_in}
 use Rattle.qo_model.specs.Reset.{after_hold}
+use Rattle.qo_model.specs.Hotplug.{is_early}
 use Rattle.qo_model.proofs.FirstSlotLemmas.{named_in}
 use Rattle.qo_sound.proofs.TreeKeptLemmas.{sound_kept_lem}
 use Rattle.qo_sound.proofs.TestLemmas.{decide}
@@ -25,6 +26,8 @@ use Rattle.qo_sound_bounds.specs.SoundSources.{SoundSources}
 use Rattle.qo_sound_bounds.proofs.ClockLemmas.{frame-sources}
 use Rattle.qo_sound_bounds.proofs.SightLemmas.{changed-seen}
 use Rattle.qo_sound_bounds.proofs.ClockWriteLemmas.{Written, written-acts, written-none, written-numbers}
+use Rattle.qo_values.specs.declared.kinds.ResetKind.{ResetKind}
+use Rattle.qo_values.specs.Kinds.{entering}
 
 -- what changes no object
 pub beside-sources : (b c : Board) → c.records ≡ b.records → SoundSources b → SoundSources c
@@ -78,24 +81,25 @@ phased-sources act [] b d h = (d, h)
 phased-sources act (n ∷ ns) b d h =
     phased-sources act ns (acted act n 0 b) (devices_kept_lem.acts act n 0 b d) (acted-sources act n 0 b d h)
 
-pub held-sources : (b : Board) (n : ℕ) → SoundDevices b → SoundSources b → SoundSources (after_hold b n)
+pub held-sources : (b : Board) (n : ℕ) (kind : ResetKind) → SoundDevices b → SoundSources b → SoundSources (after_hold b n kind)
 unfolding after_hold
-held-sources b n d h =
+held-sources b n kind d h =
     let out : List ℕ = filter (is_not_in_reset b) (post b n) in
-    let first : SoundDevices (phased Enter out b) × SoundSources (phased Enter out b) = phased-sources Enter out b d h in
-    let c : Board = phased Hold out (phased Enter out b) in
-    let second : SoundDevices c × SoundSources c = phased-sources Hold out (phased Enter out b) first.0 first.1 in
+    let first : SoundDevices (phased (entering kind) out b) × SoundSources (phased (entering kind) out b) = phased-sources (entering kind) out b d h in
+    let c : Board = phased Hold out (phased (entering kind) out b) in
+    let second : SoundDevices c × SoundSources c = phased-sources Hold out (phased (entering kind) out b) first.0 first.1 in
     beside-sources c (record c { holds = b.holds ++ n ∷ [] }) refl second.1
 
 pub released-sources : (b : Board) (n : ℕ) → SoundDevices b → SoundSources b → SoundSources (released b n)
 unfolding released
 released-sources b n d h =
     let c : Board = record b { holds = without_first n b.holds } in
-    (phased-sources Exit (filter (is_not_in_reset c) (post c n)) c (devices_kept_lem.beside b c refl refl refl refl refl refl d) (beside-sources b c refl h)).1
+    (phased-sources Exit (filter (is_not_in_reset c) (post c n)) c (devices_kept_lem.beside b c refl refl refl refl refl refl (omega arith) d)
+    (beside-sources b c refl h)).1
 
-pub pulse-sources : (b : Board) (n : ℕ) → SoundDevices b → SoundSources b → SoundSources (pulse b n)
+pub pulse-sources : (b : Board) (n : ℕ) (kind : ResetKind) → SoundDevices b → SoundSources b → SoundSources (pulse b n kind)
 unfolding pulse
-pulse-sources b n d h = released-sources (after_hold b n) n (devices_kept_lem.held_so b n d) (held-sources b n d h)
+pulse-sources b n kind d h = released-sources (after_hold b n kind) n (devices_kept_lem.held_so b n kind d) (held-sources b n kind d h)
 
 -- other registers
 pub registers-sources : (b : Board) (n : ℕ) (registers : Registers) → SoundDevices b → SoundSources b → SoundSources (registers_set b n registers)
@@ -108,7 +112,7 @@ registers-sources b n registers d h =
 asked_of-sources : (b : Board) (d : ℕ) → SoundSources b → SoundSources (asked_of b d).board
 asked_of-sources b d h =
     decide (attached b d)
-    (λ e. decide (among b.pending d) (λ f. rw (asked_of, e, f) h)
+    (λ e. decide (is_early b d) (λ f. rw (asked_of, e, f) h)
     (λ f. decide (is_some (notice_barred b)) (λ g. rw (asked_of, e, f, g) h) (λ g. rw (asked_of, e, f, g) (beside-sources b _ refl h))))
     (λ e. rw (asked_of, e) h)
 

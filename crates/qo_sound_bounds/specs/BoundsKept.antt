@@ -16,6 +16,7 @@ use Rattle.qo_model.specs.Reset.{after_hold, pulse, released}
 use Rattle.qo_model.specs.Unplug.{detach}
 use Rattle.qo_sound_clocks.specs.RegisterWrites.{registers_set}
 use Rattle.qo_sound_bounds.specs.SoundBounds.{SoundBounds}
+use Rattle.qo_values.specs.declared.kinds.ResetKind.{ResetKind}
 
 -- on every board
 pub record BoundsKeptLaw : Type 0 where
@@ -32,9 +33,9 @@ pub record BoundsKeptLaw : Type 0 where
   pub refused_by : (b : Board) (d : ℕ) → SoundBounds b → SoundBounds (refused b d)
   -- an act; a hold, a hold less, and both
   pub acts : (act : Act) (n period : ℕ) (b : Board) → SoundBounds b → SoundBounds (acted act n period b)
-  pub held_so : (b : Board) (n : ℕ) → SoundBounds b → SoundBounds (after_hold b n)
+  pub held_so : (b : Board) (n : ℕ) (kind : ResetKind) → SoundBounds b → SoundBounds (after_hold b n kind)
   pub released_so : (b : Board) (n : ℕ) → SoundBounds b → SoundBounds (released b n)
-  pub pulsed : (b : Board) (n : ℕ) → SoundBounds b → SoundBounds (pulse b n)
+  pub pulsed : (b : Board) (n : ℕ) (kind : ResetKind) → SoundBounds b → SoundBounds (pulse b n kind)
   -- a write of a clock's period, and of its mul and div, that is not refused; other registers of an object, whatever they are
   pub set : (b d : Board) (c period : ℕ) → clock_set b c period ≡ Ok d → SoundBounds b → SoundBounds d
   pub scaled : (b d : Board) (c mul div : ℕ) → clock_scaled b c mul div ≡ Ok d → SoundBounds b → SoundBounds d

@@ -19,6 +19,7 @@ use Rattle.qo_sound_clocks.specs.RegisterWrites.{registers_set}
 use Rattle.qo_sound_phases.specs.PhasesKept.{may_reset}
 use Rattle.qo_sound_phases.specs.SoundPhases.{IsReached, LoneMachine}
 use Rattle.qo_sound_bounds.specs.SoundHolds.{SoundHolds}
+use Rattle.qo_values.specs.declared.kinds.ResetKind.{ResetKind}
 
 -- some of it where the board is sound as far as devices go
 pub record HoldsKeptLaw : Type 0 where
@@ -33,9 +34,9 @@ pub record HoldsKeptLaw : Type 0 where
   pub refused_by : (b : Board) (d : ℕ) → SoundHolds b → SoundHolds (refused b d)
   -- an act; a hold that is not one too many on what a reset reaches, a hold less, and both
   pub acts : (act : Act) (n period : ℕ) (b : Board) → SoundHolds b → SoundHolds (acted act n period b)
-  pub held_so : (b : Board) (n : ℕ) → IsReached b n → exceeds_depth b n ≡ false → SoundHolds b → SoundHolds (after_hold b n)
+  pub held_so : (b : Board) (n : ℕ) (kind : ResetKind) → IsReached b n → exceeds_depth b n ≡ false → SoundHolds b → SoundHolds (after_hold b n kind)
   pub released_so : (b : Board) (n : ℕ) → SoundHolds b → SoundHolds (released b n)
-  pub pulsed : (b : Board) (n : ℕ) → SoundHolds b → SoundHolds (pulse b n)
+  pub pulsed : (b : Board) (n : ℕ) (kind : ResetKind) → SoundHolds b → SoundHolds (pulse b n kind)
   -- a write of a clock's period, and of its mul and div, that is not refused; other registers of an object, whatever they are
   pub set : (b d : Board) (c period : ℕ) → clock_set b c period ≡ Ok d → SoundDevices b → SoundHolds b → SoundHolds d
   pub scaled : (b d : Board) (c mul div : ℕ) → clock_scaled b c mul div ≡ Ok d → SoundDevices b → SoundHolds b → SoundHolds d

@@ -17,6 +17,7 @@ use Rattle.qo_model.specs.Unplug.{detach}
 use Rattle.qo_sound_clocks.specs.RegisterWrites.{registers_set}
 use Rattle.qo_sound_clocks.specs.SoundTimes.{IsTimely, SoundTimes}
 use Rattle.qo_sound_bounds.specs.SoundSegments.{IsSegmented, SoundSegments}
+use Rattle.qo_values.specs.declared.kinds.ResetKind.{ResetKind}
 
 -- some of it where no timer is ahead of the virtual time
 pub record SegmentsKeptLaw : Type 0 where
@@ -36,9 +37,9 @@ pub record SegmentsKeptLaw : Type 0 where
   -- an act but Pre, which Update follows; these two; a hold, a hold less, and both
   pub acts : (act : Act) (n period : ℕ) (b : Board) → act ≢ Pre → SoundTimes b → SoundSegments b → SoundSegments (acted act n period b)
   pub called_back : (n old new : ℕ) (b : Board) → SoundTimes b → SoundSegments b → SoundSegments (acted Update n new (acted Pre n old b))
-  pub held_so : (b : Board) (n : ℕ) → SoundTimes b → SoundSegments b → SoundSegments (after_hold b n)
+  pub held_so : (b : Board) (n : ℕ) (kind : ResetKind) → SoundTimes b → SoundSegments b → SoundSegments (after_hold b n kind)
   pub released_so : (b : Board) (n : ℕ) → SoundTimes b → SoundSegments b → SoundSegments (released b n)
-  pub pulsed : (b : Board) (n : ℕ) → SoundTimes b → SoundSegments b → SoundSegments (pulse b n)
+  pub pulsed : (b : Board) (n : ℕ) (kind : ResetKind) → SoundTimes b → SoundSegments b → SoundSegments (pulse b n kind)
   -- a write of a clock's period, and of its mul and div, that is not refused; other registers of an object, whose segments are sound
   pub set : (b d : Board) (c period : ℕ) → clock_set b c period ≡ Ok d → SoundTimes b → SoundSegments b → SoundSegments d
   pub scaled : (b d : Board) (c mul div : ℕ) → clock_scaled b c mul div ≡ Ok d → SoundTimes b → SoundSegments b → SoundSegments d

@@ -17,6 +17,7 @@ use Rattle.qo_sound_devices.specs.SoundDevices.{SoundDevices}
 use Rattle.qo_sound_devices.specs.SoundPlaces.{stands}
 use Rattle.qo_sound_clocks.specs.RegisterWrites.{registers_set}
 use Rattle.qo_sound_bounds.specs.SoundSources.{SoundSources}
+use Rattle.qo_values.specs.declared.kinds.ResetKind.{ResetKind}
 
 -- some of it where the board is sound as far as devices go
 pub record SourcesKeptLaw : Type 0 where
@@ -31,9 +32,9 @@ pub record SourcesKeptLaw : Type 0 where
   pub refused_by : (b : Board) (d : ℕ) → SoundSources b → SoundSources (refused b d)
   -- an act; a hold, a hold less, and both
   pub acts : (act : Act) (n period : ℕ) (b : Board) → SoundDevices b → SoundSources b → SoundSources (acted act n period b)
-  pub held_so : (b : Board) (n : ℕ) → SoundDevices b → SoundSources b → SoundSources (after_hold b n)
+  pub held_so : (b : Board) (n : ℕ) (kind : ResetKind) → SoundDevices b → SoundSources b → SoundSources (after_hold b n kind)
   pub released_so : (b : Board) (n : ℕ) → SoundDevices b → SoundSources b → SoundSources (released b n)
-  pub pulsed : (b : Board) (n : ℕ) → SoundDevices b → SoundSources b → SoundSources (pulse b n)
+  pub pulsed : (b : Board) (n : ℕ) (kind : ResetKind) → SoundDevices b → SoundSources b → SoundSources (pulse b n kind)
   -- a write of a clock's period, and of its mul and div, that is not refused; other registers of an object, whatever they are
   pub set : (b d : Board) (c period : ℕ) → clock_set b c period ≡ Ok d → SoundDevices b → SoundSources b → SoundSources d
   pub scaled : (b d : Board) (c mul div : ℕ) → clock_scaled b c mul div ≡ Ok d → SoundDevices b → SoundSources b → SoundSources d

@@ -277,7 +277,8 @@ module _ (strict : Bool) (b : Board) where
   fewer-disconnected : (o : Option ℕ) (c : Board) → Fewer strict b c → Fewer strict b (disconnected o c)
   fewer-disconnected None c h = h
   fewer-disconnected (Some n) c h =
-      fewer-set n (codes "period") (val.Uint 0) (record { chardev = refl; addr = refl; size = refl; slot = refl }) (inl refl) _ (fewer-unseen n (codes "source") c h)
+      fewer-set n (codes "period") (val.Uint 0) (record { chardev = refl; addr = refl; size = refl; slot = refl }) (inl refl)
+      _ (fewer-unseen n (codes "source") c h)
 
   pub fewer-acted : (act : Act) (n period : ℕ) (c : Board) → Fewer strict b c → Fewer strict b (acted act n period c)
   unfolding acted

@@ -1,10 +1,14 @@
 -- The law: what changes leave of the claims of devices.
-use Rattle.std.proofs.Common.{◌≡◌, refl, ap, sym, subst, ◌∙◌, ℕ, ◌+◌, zero, suc, Bool, true, false, List, [], ◌∷◌, ◌++◌, filter, length, codes, Option, Some, None, is_some, option_map, Ok}
-use Rattle.qo_model.proofs.Common.{option_map_or, Effect, body_write, Registers, MACHINE_BIRTH, Code, Act, Enter, Hold, Exit, TypeId, Board, Record, record_of, clock_scaled, clock_set, acted, is_realized, Change, changed, all_completed, asked, asked_of, completed, device_at, reset_whole, attached, among, Wanted, barred_early, barred_late, bus_for, notice_barred, plug, plug_as, plug_by, plug_late, resources_of, type_barred, with_plugged, without_first, is_not_in_reset, phased, post, pulse, released, TypeInfo, is_a, type_named, detach, set_named}
+use Rattle.std.proofs.Common.{◌≡◌, refl, ap, sym, subst, ◌∙◌, ℕ, ◌+◌, zero, suc, Bool, true, false, List, [], ◌∷◌, ◌++◌, filter, length, codes, Option, Some, None, is_some, option_map, Ok, slice_get}
+use Rattle.qo_model.proofs.Common.{option_map_or, Effect, body_write, Registers, MACHINE_BIRTH, Code, Act, Hold, Exit, TypeId, Board, Record, record_of, clock_scaled, clock_set, acted, is_realized, Change, changed, all_completed, asked, asked_of, completed, device_at, reset_whole, attached, Wanted, barred_early, barred_late, bus_for, notice_barred, plug, plug_as, plug_by, plug_late, resources_of, type_barred, with_plugged, without_first, is_not_in_reset, phased, post, pulse, released, TypeInfo, is_a, type_named, detach, set_named}
 use Rattle.std.proofs.lemmas.Option.{same_Some}
 use Rattle.qo_values.specs.declared.properties.Val.TheVariants as val
 use Rattle.qo_model.specs.Reset.{after_hold}
-use Rattle.qo_model.specs.Unplug.{first_of}
+use Rattle.qo_values.specs.declared.kinds.ResetKind.{ResetKind}
+use Rattle.qo_values.specs.declared.kinds.ResetKind.TheVariants.{Cold}
+use Rattle.qo_values.specs.Kinds.{entering}
+use Rattle.qo_model.specs.Board.{Removal}
+use Rattle.qo_model.specs.Hotplug.{is_early}
 use Rattle.qo_model.proofs.FirstSlotLemmas.{slots_in}
 use Rattle.qo_model.proofs.StepLemmas.{found-edited, slots-edited}
 use Rattle.qo_sound.specs.PlugOutcomes.{Added, IsAttempted}
@@ -75,9 +79,9 @@ asked-records : (b : Board) (id : List ℕ) → (asked b id).board.records ≡ b
 asked-records b id = go (device_at b id) refl
   where
     of : (d : ℕ) → (asked_of b d).board.records ≡ b.records
-    of d = by (attached b d) refl (among b.pending d) refl (is_some (notice_barred b)) refl
+    of d = by (attached b d) refl (is_early b d) refl (is_some (notice_barred b)) refl
       where
-        by : (u : Bool) → attached b d ≡ u → (v : Bool) → among b.pending d ≡ v → (w : Bool) → is_some (notice_barred b) ≡ w
+        by : (u : Bool) → attached b d ≡ u → (v : Bool) → is_early b d ≡ v → (w : Bool) → is_some (notice_barred b) ≡ w
             → (asked_of b d).board.records ≡ b.records
         by false p v q w r = rw (asked_of, p) refl
         by true p true q w r = rw (asked_of, p, q) refl
@@ -99,11 +103,11 @@ dims-holds b c holds h =
     dims-then b c (record c { holds = holds }) h
     (dims-alike c (record c { holds = holds }) refl (λ x. alike-record c (record c { holds = holds }) x refl))
 
-dims-held : (b c : Board) (n : ℕ) → Dims b c → Dims b (after_hold c n)
+dims-held : (b c : Board) (n : ℕ) (kind : ResetKind) → Dims b c → Dims b (after_hold c n kind)
 unfolding after_hold
-dims-held b c n h =
+dims-held b c n kind h =
     dims-holds b _ (c.holds ++ n ∷ [])
-    (dims-phased Hold (filter (is_not_in_reset c) (post c n)) b _ (dims-phased Enter (filter (is_not_in_reset c) (post c n)) b c h))
+    (dims-phased Hold (filter (is_not_in_reset c) (post c n)) b _ (dims-phased (entering kind) (filter (is_not_in_reset c) (post c n)) b c h))
 
 dims-released : (b c : Board) (n : ℕ) → Dims b c → Dims b (released c n)
 unfolding released
@@ -111,26 +115,26 @@ dims-released b c n h =
     let x : Board = record c { holds = without_first n c.holds } in
     dims-phased Exit (filter (is_not_in_reset x) (post x n)) b x (dims-holds b c (without_first n c.holds) h)
 
-dims-pulse : (b c : Board) (n : ℕ) → Dims b c → Dims b (pulse c n)
+dims-pulse : (b c : Board) (n : ℕ) (kind : ResetKind) → Dims b c → Dims b (pulse c n kind)
 unfolding pulse
-dims-pulse b c n h = dims-released b (after_hold c n) n (dims-held b c n h)
+dims-pulse b c n kind h = dims-released b (after_hold c n kind) n (dims-held b c n kind h)
 
 keep-acted : (act : Act) (n period : ℕ) (b : Board) → SoundDevices b → ClaimsKeep b (acted act n period b)
 keep-acted act n period b h =
     keep-dims b (acted act n period b) h (devices_kept_lem.acts act n period b h) (fewer-acted false b act n period b (fewer-none false b))
     (dims-acted act n period b)
 
-keep-held : (b : Board) (n : ℕ) → SoundDevices b → ClaimsKeep b (after_hold b n)
-keep-held b n h =
-    keep-dims b (after_hold b n) h (devices_kept_lem.held_so b n h) (fewer-held b b n (fewer-none false b)) (dims-held b b n (dims-none b))
+keep-held : (b : Board) (n : ℕ) (kind : ResetKind) → SoundDevices b → ClaimsKeep b (after_hold b n kind)
+keep-held b n kind h =
+    keep-dims b (after_hold b n kind) h (devices_kept_lem.held_so b n kind h) (fewer-held b b n kind (fewer-none false b)) (dims-held b b n kind (dims-none b))
 
 keep-released : (b : Board) (n : ℕ) → SoundDevices b → ClaimsKeep b (released b n)
 keep-released b n h =
     keep-dims b (released b n) h (devices_kept_lem.released_so b n h) (fewer-released b b n (fewer-none false b)) (dims-released b b n (dims-none b))
 
-keep-pulsed : (b : Board) (n : ℕ) → SoundDevices b → ClaimsKeep b (pulse b n)
-keep-pulsed b n h =
-    keep-dims b (pulse b n) h (devices_kept_lem.pulsed b n h) (fewer-pulse b b n (fewer-none false b)) (dims-pulse b b n (dims-none b))
+keep-pulsed : (b : Board) (n : ℕ) (kind : ResetKind) → SoundDevices b → ClaimsKeep b (pulse b n kind)
+keep-pulsed b n kind h =
+    keep-dims b (pulse b n kind) h (devices_kept_lem.pulsed b n kind h) (fewer-pulse b b n kind (fewer-none false b)) (dims-pulse b b n kind (dims-none b))
 
 -- registers that a guest writes
 
@@ -264,17 +268,18 @@ record After (b c : Board) : Type 0 where
 
 completed-stay : (times : ℕ) (b c : Board) → After b c → After b (all_completed times c)
 completed-stay zero b c h = h
-completed-stay (suc times) b c h = go (first_of c.pending) refl (completed-stay times b)
+completed-stay (suc times) b c h = go (slice_get c.pending 0) refl (completed-stay times b)
   where
-    go : (o : Option ℕ) → first_of c.pending ≡ o → ((d : Board) → After b d → After b (all_completed times d)) → After b (all_completed (suc times) c)
+    go : (o : Option Removal) → slice_get c.pending 0 ≡ o → ((d : Board) → After b d → After b (all_completed times d))
+        → After b (all_completed (suc times) c)
     go None p rest = rw (all_completed, p) h
-    go (Some d) p rest =
-        let on : stands c d ≡ true = first-on c h.devices d p in
+    go (Some r) p rest =
+        let on : stands c r.birth ≡ true = first-on c h.devices r p in
         rw (all_completed, p)
-        (rest (completed c d) (record {
-          stay = stay-then b c (completed c d) h.stay (detach-stay c d h.devices on h.backends);
-          devices = devices_kept_lem.detached c d h.devices on;
-          backends = detach-backends c d h.devices on h.backends;
+        (rest (completed c r.birth) (record {
+          stay = stay-then b c (completed c r.birth) h.stay (detach-stay c r.birth h.devices on h.backends);
+          devices = devices_kept_lem.detached c r.birth h.devices on;
+          backends = detach-backends c r.birth h.devices on h.backends;
         }))
 
 reset-stay : (b : Board) → SoundDevices b → SoundBackends b → ClaimsStay b (reset_whole b)
@@ -282,7 +287,7 @@ unfolding reset_whole
 reset-stay b devices backends =
     let c : Board = all_completed (length b.pending) b in
     let h : After b c = completed-stay (length b.pending) b b (record { stay = stay-same b; devices = devices; backends = backends }) in
-    stay-then b c (pulse c MACHINE_BIRTH) h.stay (keep-pulsed c MACHINE_BIRTH h.devices).stay
+    stay-then b c (pulse c MACHINE_BIRTH Cold) h.stay (keep-pulsed c MACHINE_BIRTH Cold h.devices).stay
 
 pub claims_stay_lem : ClaimsStayLaw
 claims_stay_lem =

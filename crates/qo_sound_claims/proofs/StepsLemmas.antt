@@ -1,11 +1,12 @@
 -- Acts, holds, clocks that are written, registers that a guest writes, devices that go, and the reset of the whole board keep the backends sound.
-use Rattle.std.proofs.Common.{◌≡◌, inl, refl, ap, sym, subst, ◌∙◌, ℕ, zero, suc, Bool, true, false, eqb, List, [], ◌∷◌, filter, length, codes, Option, Some, None, is_some, Ok, Err, rules}
-use Rattle.qo_model.proofs.Common.{AllByRecursion, Effect, body_write, Registers, MACHINE_BIRTH, E45, E46, Act, Enter, Hold, Exit, Board, Record, record_of, slots_at, set, clock_scaled, clock_set, acted, source_of, among, Change, changed, all_completed, asked, asked_of, completed, device_at, reset_whole, index_from, attached, notice_barred, range_in, without_first, is_not_in_reset, phased, post, pulse, released, is_a, detach, is_named, set_named}
+use Rattle.std.proofs.Common.{◌≡◌, inl, refl, ap, sym, subst, ◌∙◌, ℕ, zero, suc, Bool, true, false, eqb, List, [], ◌∷◌, filter, length, codes, Option, Some, None, is_some, Ok, Err, rules, slice_get}
+use Rattle.qo_model.proofs.Common.{AllByRecursion, Effect, body_write, Registers, MACHINE_BIRTH, E45, E46, Act, Hold, Exit, Board, Record, record_of, slots_at, set, clock_scaled, clock_set, acted, source_of, Change, changed, all_completed, asked, asked_of, completed, device_at, reset_whole, index_from, attached, notice_barred, range_in, without_first, is_not_in_reset, phased, post, pulse, released, is_a, detach, is_named, set_named}
 use Rattle.std.proofs.lemmas.Option.{same_Some}
 use Rattle.qo_values.specs.declared.properties.Val.TheVariants as val
 use Rattle.qo_values.proofs.EachLemmas.{each_write}
 use Rattle.qo_model.specs.Reset.{after_hold}
-use Rattle.qo_model.specs.Unplug.{first_of}
+use Rattle.qo_model.specs.Board.{Removal}
+use Rattle.qo_model.specs.Hotplug.{is_early}
 use Rattle.qo_model.proofs.ChangeScopeLemmas.{stays_lem}
 use Rattle.qo_sound.proofs.DeviceScopeLemmas.{devices_stay_lem}
 use Rattle.qo_sound_devices.specs.SoundDevices.{SoundDevices}
@@ -24,6 +25,9 @@ use Rattle.qo_sound_claims.proofs.DetachmentLemmas.{detach-fewer}
 use Rattle.qo_sound_claims.proofs.DecreaseLemmas.{Fewer, fewer-acted, fewer-edit, fewer-loose, fewer-none, fewer-phased, fewer-set}
 use Rattle.qo_sound_claims.proofs.ClaimLemmas.{claims-fewer}
 use Rattle.qo_sound_claims.proofs.SlotLemmas.{less-none, OtherName}
+use Rattle.qo_values.specs.declared.kinds.ResetKind.{ResetKind}
+use Rattle.qo_values.specs.declared.kinds.ResetKind.TheVariants.{Cold}
+use Rattle.qo_values.specs.Kinds.{entering}
 
 -- neither objects nor rings change
 pub backends-beside : (b c : Board) → c.records ≡ b.records → c.rings ≡ b.rings → SoundBackends b → SoundBackends c
@@ -41,9 +45,9 @@ backends-fewer b c before after same fewer h =
 -- removals that are asked for
 
 asked_of-backends : (b : Board) (d : ℕ) → SoundBackends b → SoundBackends (asked_of b d).board
-asked_of-backends b d h = go (attached b d) refl (among b.pending d) refl (is_some (notice_barred b)) refl
+asked_of-backends b d h = go (attached b d) refl (is_early b d) refl (is_some (notice_barred b)) refl
   where
-    go : (u : Bool) → attached b d ≡ u → (v : Bool) → among b.pending d ≡ v → (w : Bool) → is_some (notice_barred b) ≡ w → SoundBackends (asked_of b d).board
+    go : (u : Bool) → attached b d ≡ u → (v : Bool) → is_early b d ≡ v → (w : Bool) → is_some (notice_barred b) ≡ w → SoundBackends (asked_of b d).board
     go false p v q w r = rw (asked_of, p) h
     go true p true q w r = rw (asked_of, p, q) h
     go true p false q true r = rw (asked_of, p, q, r) h
@@ -68,11 +72,11 @@ acted-backends act n period b d h =
     (fewer-acted false b act n period b (fewer-none false b)) h
 
 module _ (b : Board) where
-  pub fewer-held : (c : Board) (n : ℕ) → Fewer false b c → Fewer false b (after_hold c n)
+  pub fewer-held : (c : Board) (n : ℕ) (kind : ResetKind) → Fewer false b c → Fewer false b (after_hold c n kind)
   unfolding after_hold
-  fewer-held c n h =
-      fewer-phased false b Hold (filter (is_not_in_reset c) (post c n)) (phased Enter (filter (is_not_in_reset c) (post c n)) c)
-      (fewer-phased false b Enter (filter (is_not_in_reset c) (post c n)) c h)
+  fewer-held c n kind h =
+      fewer-phased false b Hold (filter (is_not_in_reset c) (post c n)) (phased (entering kind) (filter (is_not_in_reset c) (post c n)) c)
+      (fewer-phased false b (entering kind) (filter (is_not_in_reset c) (post c n)) c h)
 
   pub fewer-released : (c : Board) (n : ℕ) → Fewer false b c → Fewer false b (released c n)
   unfolding released
@@ -80,22 +84,24 @@ module _ (b : Board) where
       let x : Board = record c { holds = without_first n c.holds } in
       fewer-phased false b Exit (filter (is_not_in_reset x) (post x n)) x h
 
-  pub fewer-pulse : (c : Board) (n : ℕ) → Fewer false b c → Fewer false b (pulse c n)
+  pub fewer-pulse : (c : Board) (n : ℕ) (kind : ResetKind) → Fewer false b c → Fewer false b (pulse c n kind)
   unfolding pulse
-  fewer-pulse c n h = fewer-released (after_hold c n) n (fewer-held c n h)
+  fewer-pulse c n kind h = fewer-released (after_hold c n kind) n (fewer-held c n kind h)
 
-pub held-backends : (b : Board) (n : ℕ) → SoundDevices b → SoundBackends b → SoundBackends (after_hold b n)
-held-backends b n d h =
-    backends-fewer b (after_hold b n) d (devices_kept_lem.held_so b n d) (devices_stay_lem.held_so b n).rings (fewer-held b b n (fewer-none false b)) h
+pub held-backends : (b : Board) (n : ℕ) (kind : ResetKind) → SoundDevices b → SoundBackends b → SoundBackends (after_hold b n kind)
+held-backends b n kind d h =
+    backends-fewer b (after_hold b n kind) d (devices_kept_lem.held_so b n kind d) (devices_stay_lem.held_so b n kind).rings
+    (fewer-held b b n kind (fewer-none false b)) h
 
 pub released-backends : (b : Board) (n : ℕ) → SoundDevices b → SoundBackends b → SoundBackends (released b n)
 released-backends b n d h =
     backends-fewer b (released b n) d (devices_kept_lem.released_so b n d) (devices_stay_lem.released_so b n).rings
     (fewer-released b b n (fewer-none false b)) h
 
-pub pulse-backends : (b : Board) (n : ℕ) → SoundDevices b → SoundBackends b → SoundBackends (pulse b n)
-pulse-backends b n d h =
-    backends-fewer b (pulse b n) d (devices_kept_lem.pulsed b n d) (devices_stay_lem.pulsed b n).rings (fewer-pulse b b n (fewer-none false b)) h
+pub pulse-backends : (b : Board) (n : ℕ) (kind : ResetKind) → SoundDevices b → SoundBackends b → SoundBackends (pulse b n kind)
+pulse-backends b n kind d h =
+    backends-fewer b (pulse b n kind) d (devices_kept_lem.pulsed b n kind d) (devices_stay_lem.pulsed b n kind).rings
+    (fewer-pulse b b n kind (fewer-none false b)) h
 
 -- clocks that are written
 
@@ -195,26 +201,27 @@ record Both (b : Board) : Type 0 where
   devices : SoundDevices b
   backends : SoundBackends b
 
-pub first-on : (b : Board) → SoundDevices b → (d : ℕ) → first_of b.pending ≡ Some d → stands b d ≡ true
+pub first-on : (b : Board) → SoundDevices b → (d : Removal) → slice_get b.pending 0 ≡ Some d → stands b d.birth ≡ true
 first-on b h d e = go b.pending h.lists.pending e
   where
-    go : (ns : List ℕ) → AllByRecursion (IsOn b) ns → first_of ns ≡ Some d → stands b d ≡ true
+    go : (rs : List Removal) → AllByRecursion (λ (r : Removal). IsOn b r.birth) rs → slice_get rs 0 ≡ Some d → stands b d.birth ≡ true
     go [] on k = cc
-    go (n ∷ ns) on k = subst (λ (m : ℕ). stands b m ≡ true) (same_Some n d k) on.0.0
+    go (r ∷ rs) on k = subst (λ (m : Removal). stands b m.birth ≡ true) (same_Some r d k) on.0.0
 
 completed-both : (times : ℕ) (b : Board) → Both b → Both (all_completed times b)
 completed-both zero b h = h
-completed-both (suc times) b h = go (first_of b.pending) refl (completed-both times)
+completed-both (suc times) b h = go (slice_get b.pending 0) refl (completed-both times)
   where
-    go : (o : Option ℕ) → first_of b.pending ≡ o → ((c : Board) → Both c → Both (all_completed times c)) → Both (all_completed (suc times) b)
+    go : (o : Option Removal) → slice_get b.pending 0 ≡ o → ((c : Board) → Both c → Both (all_completed times c)) → Both (all_completed (suc times) b)
     go None p rest = rw (all_completed, p) h
     go (Some d) p rest =
-        let on : stands b d ≡ true = first-on b h.devices d p in
+        let on : stands b d.birth ≡ true = first-on b h.devices d p in
         rw (all_completed, p)
-        (rest (completed b d) (record { devices = devices_kept_lem.detached b d h.devices on; backends = detach-backends b d h.devices on h.backends }))
+        (rest (completed b d.birth)
+        (record { devices = devices_kept_lem.detached b d.birth h.devices on; backends = detach-backends b d.birth h.devices on h.backends }))
 
 pub reset-backends : (b : Board) → SoundDevices b → SoundBackends b → SoundBackends (reset_whole b)
 unfolding reset_whole
 reset-backends b d h =
     let k : Both (all_completed (length b.pending) b) = completed-both (length b.pending) b (record { devices = d; backends = h }) in
-    pulse-backends (all_completed (length b.pending) b) MACHINE_BIRTH k.devices k.backends
+    pulse-backends (all_completed (length b.pending) b) MACHINE_BIRTH Cold k.devices k.backends

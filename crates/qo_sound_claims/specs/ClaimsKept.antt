@@ -20,6 +20,7 @@ use Rattle.qo_sound_devices.specs.SoundDevices.{SoundDevices}
 use Rattle.qo_sound_devices.specs.SoundPlaces.{stands}
 use Rattle.qo_sound_claims.specs.SoundBackends.{SoundBackends}
 use Rattle.qo_sound_claims.specs.SoundRings.{IsGoodRing}
+use Rattle.qo_values.specs.declared.kinds.ResetKind.{ResetKind}
 
 -- a ring without its bytes
 abbrev pub ring_frame : Ring → List ℕ × ℕ
@@ -47,9 +48,9 @@ pub record ClaimsKeptLaw : Type 0 where
       → body_write r.registers reg value ring now period ≡ Some (s, effect) → SoundDevices b → SoundBackends b → SoundBackends (registers_set b n s)
   -- an act; a hold, a hold less, and both
   pub acts : (act : Act) (n period : ℕ) (b : Board) → SoundDevices b → SoundBackends b → SoundBackends (acted act n period b)
-  pub held_so : (b : Board) (n : ℕ) → SoundDevices b → SoundBackends b → SoundBackends (after_hold b n)
+  pub held_so : (b : Board) (n : ℕ) (kind : ResetKind) → SoundDevices b → SoundBackends b → SoundBackends (after_hold b n kind)
   pub released_so : (b : Board) (n : ℕ) → SoundDevices b → SoundBackends b → SoundBackends (released b n)
-  pub pulsed : (b : Board) (n : ℕ) → SoundDevices b → SoundBackends b → SoundBackends (pulse b n)
+  pub pulsed : (b : Board) (n : ℕ) (kind : ResetKind) → SoundDevices b → SoundBackends b → SoundBackends (pulse b n kind)
   -- a write of a clock's period, and of its mul and div, that is not refused
   pub set : (b d : Board) (c period : ℕ) → clock_set b c period ≡ Ok d → SoundDevices b → SoundBackends b → SoundBackends d
   pub scaled : (b d : Board) (c mul div : ℕ) → clock_scaled b c mul div ≡ Ok d → SoundDevices b → SoundBackends b → SoundBackends d

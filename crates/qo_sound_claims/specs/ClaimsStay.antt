@@ -6,6 +6,7 @@ use Rattle.qo_values.specs.declared.kinds.TypeId.{TypeId}
 use Rattle.qo_values.specs.declared.kinds.TypeId.TheVariants.{MemDimm, MemoryBackend, SlotUart}
 use Rattle.qo_values.specs.declared.codes.Code.{Code}
 use Rattle.qo_values.specs.declared.ranges.Range.{Range}
+use Rattle.qo_values.specs.declared.kinds.ResetKind.{ResetKind}
 use Rattle.qo_model.specs.Board.{Board, Record, kind_of, record_of}
 use Rattle.qo_model.specs.ClockChanges.{clock_scaled, clock_set}
 use Rattle.qo_model.specs.Clocks.{acted}
@@ -73,9 +74,9 @@ pub record ClaimsStayLaw : Type 0 where
       → body_write r.registers reg value ring now period ≡ Some (s, effect) → SoundDevices b → ClaimsKeep b (registers_set b n s)
   -- an act; a hold, a hold less, and both
   pub acts : (act : Act) (n period : ℕ) (b : Board) → SoundDevices b → ClaimsKeep b (acted act n period b)
-  pub held_so : (b : Board) (n : ℕ) → SoundDevices b → ClaimsKeep b (after_hold b n)
+  pub held_so : (b : Board) (n : ℕ) (kind : ResetKind) → SoundDevices b → ClaimsKeep b (after_hold b n kind)
   pub released_so : (b : Board) (n : ℕ) → SoundDevices b → ClaimsKeep b (released b n)
-  pub pulsed : (b : Board) (n : ℕ) → SoundDevices b → ClaimsKeep b (pulse b n)
+  pub pulsed : (b : Board) (n : ℕ) (kind : ResetKind) → SoundDevices b → ClaimsKeep b (pulse b n kind)
   -- a write of a clock's period, and of its mul and div, that is not refused
   pub set : (b d : Board) (c period : ℕ) → clock_set b c period ≡ Ok d → SoundDevices b → ClaimsKeep b d
   pub scaled : (b d : Board) (c mul div : ℕ) → clock_scaled b c mul div ≡ Ok d → SoundDevices b → ClaimsKeep b d

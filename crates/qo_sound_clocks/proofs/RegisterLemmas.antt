@@ -1,5 +1,5 @@
 -- The law: what other registers of an object keep. None of it speaks of registers but the moments of timers.
-use Rattle.std.proofs.Common.{◌≡◌, refl, ap, sym, ◌∙◌, ℕ, false, None, option_map}
+use Rattle.std.proofs.Common.{◌≡◌, refl, ap, sym, ◌∙◌, ℕ, false, None, option_map, arith}
 use Rattle.qo_model.proofs.Common.{Registers, Board, record_of, slots_at, edited}
 use Rattle.qo_model.proofs.FinalNotesLemmas.{edit-keeps}
 use Rattle.qo_model.proofs.FirstSlotLemmas.{slots_in}
@@ -63,7 +63,7 @@ module _ (b : Board) (n : ℕ) (registers : Registers) where
       record {
         tree = tree-set h.tree;
         places = (h.places.0, places-set h.places.0 near.firm h.places.1);
-        lists = lists-same b set refl refl (λ x on. (stands-dimmed b set d.dimmed x ∙ on.0, d.same x ∙ on.1)) h.lists;
+        lists = lists-same b set refl refl (omega arith) (λ x on. (stands-dimmed b set d.dimmed x ∙ on.0, d.same x ∙ on.1)) h.lists;
       }
 
 pub registers_kept_lem : RegistersKeptLaw

@@ -1,7 +1,8 @@
 -- The law: runs with writes of clocks and time that goes on stay sound.
 use Rattle.std.proofs.Common.{◌≡◌, refl, ℕ, ◌+◌, Bool, true, false, List, [], ◌∷◌, Result, Ok, Err, arith, ◌<◌, ◌^◌}
-use Rattle.qo_model.proofs.Common.{nat_lt, Code, Board, Notice, clock_scaled, clock_set, among, after_write, refused, opening_board, cut_attempt}
+use Rattle.qo_model.proofs.Common.{nat_lt, Code, Board, Notice, clock_scaled, clock_set, after_write, refused, opening_board, cut_attempt}
 use Rattle.std.proofs.lemmas.Bool.Decides.{nat_tests}
+use Rattle.qo_model.specs.Board.{is_pending}
 use Rattle.qo_sound_devices.specs.DeviceRuns.{DeviceStep, commands, adds, cuts, asks, refuses, lets_go, reads, acts, holds, releases, resets, sends, notice_read, stepped}
 use Rattle.qo_sound_devices.specs.SoundDevices.{SoundDevices}
 use Rattle.qo_sound_devices.proofs.DevicesLawLemmas.{devices_kept_lem, stepped-below}
@@ -20,9 +21,9 @@ clocks-step b (adds a) d h = clocks_kept_lem.plugged b a d.tree h
 clocks-step b (cuts t i joined) d h = clocks_kept_lem.cut b t i joined h
 clocks-step b (asks id) d h = clocks_kept_lem.asked_for b id h
 clocks-step b (refuses n) d h = clocks_kept_lem.refused_by b n h
-clocks-step b (lets_go n) d h = go (among b.pending n) refl
+clocks-step b (lets_go n) d h = go (is_pending b n) refl
   where
-    go : (t : Bool) → among b.pending n ≡ t → SoundClocks (stepped b (lets_go n))
+    go : (t : Bool) → is_pending b n ≡ t → SoundClocks (stepped b (lets_go n))
     go true e = rw (stepped, e) (clocks_kept_lem.detached b n d.tree h)
     go false e = rw (stepped, e) h
 clocks-step b reads d h = go b.notices refl
@@ -31,7 +32,7 @@ clocks-step b reads d h = go b.notices refl
     go [] e = rw (notice_read, e) h
     go (notice ∷ others) e = rw (notice_read, e) (clocks_kept_lem.beside b _ refl h)
 clocks-step b (acts act n period) d h = clocks_kept_lem.acts act n period b h
-clocks-step b (holds n) d h = clocks_kept_lem.held_so b n h
+clocks-step b (holds n kind) d h = clocks_kept_lem.held_so b n kind h
 clocks-step b (releases n) d h = clocks_kept_lem.released_so b n h
 clocks-step b resets d h = clocks_kept_lem.reset b d.tree h
 clocks-step b sends d h = clocks_kept_lem.beside b _ refl h
@@ -42,9 +43,9 @@ numbers-step b (adds a) d h = numbers_kept_lem.plugged b a d.tree h
 numbers-step b (cuts t i joined) d h = numbers_kept_lem.beside b (cut_attempt b t i joined) refl h
 numbers-step b (asks id) d h = numbers_kept_lem.asked_for b id h
 numbers-step b (refuses n) d h = numbers_kept_lem.beside b (refused b n) refl h
-numbers-step b (lets_go n) d h = go (among b.pending n) refl
+numbers-step b (lets_go n) d h = go (is_pending b n) refl
   where
-    go : (t : Bool) → among b.pending n ≡ t → SoundNumbers (stepped b (lets_go n))
+    go : (t : Bool) → is_pending b n ≡ t → SoundNumbers (stepped b (lets_go n))
     go true e = rw (stepped, e) (numbers_kept_lem.detached b n d.tree h)
     go false e = rw (stepped, e) h
 numbers-step b reads d h = go b.notices refl
@@ -53,7 +54,7 @@ numbers-step b reads d h = go b.notices refl
     go [] e = rw (notice_read, e) h
     go (notice ∷ others) e = rw (notice_read, e) (numbers_kept_lem.beside b _ refl h)
 numbers-step b (acts act n period) d h = numbers_kept_lem.acts act n period b h
-numbers-step b (holds n) d h = numbers_kept_lem.held_so b n h
+numbers-step b (holds n kind) d h = numbers_kept_lem.held_so b n kind h
 numbers-step b (releases n) d h = numbers_kept_lem.released_so b n h
 numbers-step b resets d h = numbers_kept_lem.reset b d.tree h
 numbers-step b sends d h = numbers_kept_lem.beside b (record b { events = [] }) refl h
@@ -64,9 +65,9 @@ times-step b (adds a) h = times_kept_lem.plugged b a h
 times-step b (cuts t i joined) h = times_kept_lem.cut b t i joined h
 times-step b (asks id) h = times_kept_lem.asked_for b id h
 times-step b (refuses n) h = times_kept_lem.refused_by b n h
-times-step b (lets_go n) h = go (among b.pending n) refl
+times-step b (lets_go n) h = go (is_pending b n) refl
   where
-    go : (t : Bool) → among b.pending n ≡ t → SoundTimes (stepped b (lets_go n))
+    go : (t : Bool) → is_pending b n ≡ t → SoundTimes (stepped b (lets_go n))
     go true e = rw (stepped, e) (times_kept_lem.detached b n h)
     go false e = rw (stepped, e) h
 times-step b reads h = go b.notices refl
@@ -75,7 +76,7 @@ times-step b reads h = go b.notices refl
     go [] e = rw (notice_read, e) h
     go (notice ∷ others) e = rw (notice_read, e) h
 times-step b (acts act n period) h = times_kept_lem.acts act n period b h
-times-step b (holds n) h = times_kept_lem.held_so b n h
+times-step b (holds n kind) h = times_kept_lem.held_so b n kind h
 times-step b (releases n) h = times_kept_lem.released_so b n h
 times-step b resets h = times_kept_lem.reset b h
 times-step b sends h = h
@@ -128,7 +129,7 @@ step-run b (scales c mul div) h = go (nat_lt mul (2 ^ 32)) refl (nat_lt div (2 ^
 step-run b (passes span) h =
     let later : Board = record b { now = b.now + span } in
     record {
-      devices = devices_kept_lem.beside b later refl refl refl refl refl refl h.devices;
+      devices = devices_kept_lem.beside b later refl refl refl refl refl refl (omega arith) h.devices;
       clocks = clocks_kept_lem.beside b later refl h.clocks;
       numbers = numbers_kept_lem.beside b later refl h.numbers;
       times = times_kept_lem.beside b later refl (omega arith) h.times;

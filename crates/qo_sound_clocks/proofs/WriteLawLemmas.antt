@@ -1,5 +1,5 @@
 -- The law: what writes of clocks keep beside the clocks.
-use Rattle.std.proofs.Common.{◌≡◌, refl, sym, ◌∙◌, ℕ, false, [], ◌∷◌, Option, Some, None}
+use Rattle.std.proofs.Common.{◌≡◌, refl, sym, ◌∙◌, ℕ, false, [], ◌∷◌, Option, Some, None, arith}
 use Rattle.qo_model.proofs.Common.{Act, Board, slots_at, set, acted, period, index_from, is_named, set_named}
 use Rattle.qo_values.specs.declared.properties.Val.TheVariants as val
 use Rattle.qo_sound.specs.TreeKept.{SoundTree}
@@ -66,8 +66,8 @@ devices-set name no_slot no_mark n v b h =
     lists = go (index_from (is_named name) 0 (slots_at b n)) refl
       where
         go : (o : Option ℕ) → index_from (is_named name) 0 (slots_at b n) ≡ o → SoundLists c
-        go None e = lists-same b c (rw (set_named, e) refl) (rw (set_named, e) refl) on h.lists
-        go (Some i) e = lists-same b c (rw (set_named, e) refl) (rw (set_named, e) refl) on h.lists
+        go None e = lists-same b c (rw (set_named, e) refl) (rw (set_named, e) refl) (rw (set_named, e) (omega arith)) on h.lists
+        go (Some i) e = lists-same b c (rw (set_named, e) refl) (rw (set_named, e) refl) (rw (set_named, e) (omega arith)) on h.lists
 
 pub writes_keep_lem : WritesKeepLaw
 writes_keep_lem =

@@ -14,6 +14,7 @@ use Rattle.qo_model.specs.Reset.{after_hold, pulse, released}
 use Rattle.qo_model.specs.Unplug.{detach}
 use Rattle.qo_sound.specs.TreeKept.{SoundTree}
 use Rattle.qo_sound_clocks.specs.SoundClocks.{SoundClocks}
+use Rattle.qo_values.specs.declared.kinds.ResetKind.{ResetKind}
 
 -- what keeps the clocks sound, some of it where the tree is sound
 pub record ClocksKeptLaw : Type 0 where
@@ -28,9 +29,9 @@ pub record ClocksKeptLaw : Type 0 where
   pub refused_by : (b : Board) (d : ℕ) → SoundClocks b → SoundClocks (refused b d)
   -- an act; a hold, a hold less, and both
   pub acts : (act : Act) (n period : ℕ) (b : Board) → SoundClocks b → SoundClocks (acted act n period b)
-  pub held_so : (b : Board) (n : ℕ) → SoundClocks b → SoundClocks (after_hold b n)
+  pub held_so : (b : Board) (n : ℕ) (kind : ResetKind) → SoundClocks b → SoundClocks (after_hold b n kind)
   pub released_so : (b : Board) (n : ℕ) → SoundClocks b → SoundClocks (released b n)
-  pub pulsed : (b : Board) (n : ℕ) → SoundClocks b → SoundClocks (pulse b n)
+  pub pulsed : (b : Board) (n : ℕ) (kind : ResetKind) → SoundClocks b → SoundClocks (pulse b n kind)
   -- a write of a clock's period, and of its mul and div, that is not refused
   pub set : (b d : Board) (c period : ℕ) → clock_set b c period ≡ Ok d → SoundClocks b → SoundClocks d
   pub scaled : (b d : Board) (c mul div : ℕ) → clock_scaled b c mul div ≡ Ok d → SoundClocks b → SoundClocks d

@@ -12,6 +12,7 @@ use Rattle.qo_model.specs.Reset.{after_hold, pulse, released}
 use Rattle.qo_model.specs.Unplug.{detach}
 use Rattle.qo_sound.specs.TreeKept.{SoundTree}
 use Rattle.qo_sound_clocks.specs.SoundNumbers.{SoundNumbers}
+use Rattle.qo_values.specs.declared.kinds.ResetKind.{ResetKind}
 
 -- some of it where the tree is sound
 pub record NumbersKeptLaw : Type 0 where
@@ -22,9 +23,9 @@ pub record NumbersKeptLaw : Type 0 where
   pub asked_for : (b : Board) (id : List ℕ) → SoundNumbers b → SoundNumbers (asked b id).board
   -- an act; a hold, a hold less, and both
   pub acts : (act : Act) (n period : ℕ) (b : Board) → SoundNumbers b → SoundNumbers (acted act n period b)
-  pub held_so : (b : Board) (n : ℕ) → SoundNumbers b → SoundNumbers (after_hold b n)
+  pub held_so : (b : Board) (n : ℕ) (kind : ResetKind) → SoundNumbers b → SoundNumbers (after_hold b n kind)
   pub released_so : (b : Board) (n : ℕ) → SoundNumbers b → SoundNumbers (released b n)
-  pub pulsed : (b : Board) (n : ℕ) → SoundNumbers b → SoundNumbers (pulse b n)
+  pub pulsed : (b : Board) (n : ℕ) (kind : ResetKind) → SoundNumbers b → SoundNumbers (pulse b n kind)
   -- a write of a clock's period, and of its mul and div, with numbers as wide
   pub set : (b d : Board) (c period : ℕ) → period < 2 ^ 64 → clock_set b c period ≡ Ok d → SoundNumbers b → SoundNumbers d
   pub scaled : (b d : Board) (c mul div : ℕ) → mul < 2 ^ 32 → div < 2 ^ 32 → clock_scaled b c mul div ≡ Ok d → SoundNumbers b → SoundNumbers d

@@ -14,6 +14,7 @@ use Rattle.qo_model.specs.Plug.{Wanted, cut_attempt, plug, plug_attempt}
 use Rattle.qo_model.specs.Reset.{after_hold, pulse, released}
 use Rattle.qo_model.specs.Unplug.{detach}
 use Rattle.qo_sound_clocks.specs.SoundTimes.{IsTimely, SoundTimes}
+use Rattle.qo_values.specs.declared.kinds.ResetKind.{ResetKind}
 
 -- on every board
 pub record TimesKeptLaw : Type 0 where
@@ -32,9 +33,9 @@ pub record TimesKeptLaw : Type 0 where
       → IsTimely now r → IsTimely now s
   -- an act; a hold, a hold less, and both
   pub acts : (act : Act) (n period : ℕ) (b : Board) → SoundTimes b → SoundTimes (acted act n period b)
-  pub held_so : (b : Board) (n : ℕ) → SoundTimes b → SoundTimes (after_hold b n)
+  pub held_so : (b : Board) (n : ℕ) (kind : ResetKind) → SoundTimes b → SoundTimes (after_hold b n kind)
   pub released_so : (b : Board) (n : ℕ) → SoundTimes b → SoundTimes (released b n)
-  pub pulsed : (b : Board) (n : ℕ) → SoundTimes b → SoundTimes (pulse b n)
+  pub pulsed : (b : Board) (n : ℕ) (kind : ResetKind) → SoundTimes b → SoundTimes (pulse b n kind)
   -- a write of a clock's period, and of its mul and div, that is not refused
   pub set : (b d : Board) (c period : ℕ) → clock_set b c period ≡ Ok d → SoundTimes b → SoundTimes d
   pub scaled : (b d : Board) (c mul div : ℕ) → clock_scaled b c mul div ≡ Ok d → SoundTimes b → SoundTimes d

@@ -1,6 +1,7 @@
 -- Places speak of objects and of the number of accepted adds alone; so what changes other things keeps them.
 use Rattle.std.proofs.Common.{◌≡◌, refl, ap, sym, subst, ◌∙◌, ℕ, ◌≤◌, Bool, true, false, ◌==◌, List, [], find, map, sum_by, option_map, Option, Some, None, is_some, arith}
-use Rattle.qo_model.proofs.Common.{AllByRecursion, option_map_or, MACHINE_BIRTH, TypeId, Board, Record, among, Leads, asked, asked_of, device_at, refused, with_asked, attached, births, children_in, notice_barred, Rises}
+use Rattle.qo_model.proofs.Common.{AllByRecursion, option_map_or, MACHINE_BIRTH, TypeId, Board, Record, Leads, asked, asked_of, device_at, refused, with_asked, attached, births, children_in, notice_barred, Rises}
+use Rattle.qo_model.specs.Hotplug.{is_early}
 use Rattle.qo_model.proofs.StepLemmas.{found_at}
 use Rattle.qo_sound.proofs.FirmBoardLemmas.{AllLinked, HasNames, WellFormed, parents_in}
 use Rattle.qo_values.proofs.ListLemmas.{all-imply}
@@ -47,9 +48,9 @@ beside-places depth left out b c firm same grows anonymous h =
 -- a removal that is asked for, and one that is refused
 module _ (depth : ℕ → ℕ) (b : Board) (firm : WellFormed b) (h : PlacesBut depth None (λ x. false) b) where
   asked_of-places : (d : ℕ) → PlacesBut depth None (λ x. false) (asked_of b d).board
-  asked_of-places d = go (attached b d) refl (among b.pending d) refl (is_some (notice_barred b)) refl
+  asked_of-places d = go (attached b d) refl (is_early b d) refl (is_some (notice_barred b)) refl
     where
-      go : (home : Bool) → attached b d ≡ home → (pending : Bool) → among b.pending d ≡ pending → (full : Bool) → is_some (notice_barred b) ≡ full
+      go : (home : Bool) → attached b d ≡ home → (pending : Bool) → is_early b d ≡ pending → (full : Bool) → is_some (notice_barred b) ≡ full
           → PlacesBut depth None (λ x. false) (asked_of b d).board
       go false p pending q full r = rw (asked_of, p) h
       go true p true q full r = rw (asked_of, p, q) h

@@ -1,6 +1,7 @@
 -- What changes no object keeps the tree, the places and the lists sound.
-use Rattle.std.proofs.Common.{◌≡◌, refl, ap, sym, subst, ◌∙◌, ℕ, Bool, true, false, ◌==◌, List, [], ◌∷◌, find, map, Option, Some, None, is_some, arith}
-use Rattle.qo_model.proofs.Common.{ANONYMOUS_BIRTH, PERIPHERAL_BIRTH, TypeId, Board, Notice, Record, among, asked, asked_of, device_at, refused, with_asked, with_attempt, attached, notice_barred, plug_attempt, GraphFacts, graph_of, without_values}
+use Rattle.std.proofs.Common.{◌≡◌, refl, ap, sym, subst, ◌∙◌, ℕ, Bool, true, false, ◌==◌, List, [], ◌∷◌, find, map, Option, Some, None, is_some, arith, ◌≤◌}
+use Rattle.qo_model.proofs.Common.{ANONYMOUS_BIRTH, PERIPHERAL_BIRTH, TypeId, Board, Notice, Record, asked, asked_of, device_at, refused, with_asked, with_attempt, attached, notice_barred, plug_attempt, GraphFacts, graph_of, without_values}
+use Rattle.qo_model.specs.Hotplug.{is_early}
 use Rattle.qo_model.proofs.TreeLemmas.{frame_lem}
 use Rattle.qo_sound.specs.TreeKept.{SoundTree}
 use Rattle.qo_sound.proofs.TreeKeptLemmas.{sound_kept_lem}
@@ -54,15 +55,15 @@ same-on b c same x on = (
     alike y = alike-record b c y (ap (find (λ (r : Record). r.birth == y)) same)
 
 pub same-below : (b c : Board) → c.records ≡ b.records → c.born ≡ b.born → c.anonymous ≡ b.anonymous → c.pins ≡ b.pins → c.pending ≡ b.pending
-    → c.notices ≡ b.notices → SoundDevices b → SoundDevices c
-same-below b c same born anonymous pins pending notices h =
+    → c.notices ≡ b.notices → b.now ≤ c.now → SoundDevices b → SoundDevices c
+same-below b c same born anonymous pins pending notices later h =
     record {
       tree = tree-same b c same born pins h.tree;
       places = (
         h.places.0,
         beside-places h.places.0 None (λ x. false) b c (rest-from_sound b h.tree).used.firm same (omega (arith, born)) anonymous h.places.1,
       );
-      lists = lists-same b c pending notices (same-on b c same) h.lists;
+      lists = lists-same b c pending notices later (same-on b c same) h.lists;
     }
 
 -- attempts that were given up
@@ -87,9 +88,9 @@ pub asked-tree : (b : Board) (id : List ℕ) → SoundTree b → SoundTree (aske
 asked-tree b id h = go (device_at b id) refl
   where
     of : (d : ℕ) → SoundTree (asked_of b d).board
-    of d = pick (attached b d) refl (among b.pending d) refl (is_some (notice_barred b)) refl
+    of d = pick (attached b d) refl (is_early b d) refl (is_some (notice_barred b)) refl
       where
-        pick : (home : Bool) → attached b d ≡ home → (pending : Bool) → among b.pending d ≡ pending → (full : Bool)
+        pick : (home : Bool) → attached b d ≡ home → (pending : Bool) → is_early b d ≡ pending → (full : Bool)
             → is_some (notice_barred b) ≡ full → SoundTree (asked_of b d).board
         pick false p pending q full r = rw (asked_of, p) h
         pick true p true q full r = rw (asked_of, p, q) h

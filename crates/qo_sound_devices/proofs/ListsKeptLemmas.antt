@@ -1,17 +1,20 @@
 -- What keeps the lists of pending removals and of notices: commands, attempts, removals that are asked for or refused, and adding a device.
-use Rattle.std.proofs.Common.{nat_eq, ◌≡◌, refl, ap, sym, subst, ◌∙◌, ℕ, ◌+◌, ◌<◌, ◌≤◌, Bool, true, false, not, ◌||◌, ◌==◌, eqb, List, [], ◌∷◌, ◌++◌, filter_map, find, length, Option, Some, None, option_map, option_and_then, codes, arith}
+use Rattle.std.proofs.Common.{nat_eq, ◌≡◌, refl, ap, sym, subst, ◌∙◌, ℕ, ◌+◌, ◌<◌, ◌≤◌, Bool, true, false, not, ◌||◌, ◌==◌, eqb, List, [], ◌∷◌, ◌++◌, filter_map, find, length, Option, Some, None, option_map, option_and_then, codes, arith, ap₂, map}
 use Rattle.qo_model.proofs.Common.{nat_le, AllByRecursion, IsDistinct, bytes_eq, PERIPHERAL_BIRTH, Code, E44, TypeId, NOTICES_MAX, Board, Notice, Slot, plain, child, strong, weak, alias, slots_at, among, Change, changed, asked, asked_of, device_at, refused, with_asked, with_attempt, opening_board, attached, child_of, components, is_absolute, is_of, only_of, resolve_absolute, walk, Wanted, cut_attempt, notice_barred, plug, plug_attempt, resources_of, with_plugged}
+use Rattle.std.specs.List.{list_any}
 use Rattle.std.proofs.lemmas.Bool.{eq-eqb}
 use Rattle.std.proofs.lemmas.List.{length-append}
 use Rattle.std.proofs.lemmas.Option.{same_Some}
 use Rattle.std.proofs.Math.Bool.{or-true}
+use Rattle.qo_model.specs.Board.{Removal, is_pending, is_of_device}
+use Rattle.qo_model.specs.Hotplug.{is_early, with_removal, asked_at}
 use Rattle.qo_model.proofs.ChangeScopeLemmas.{stays_lem}
 use Rattle.qo_sound.proofs.AddLemmas.{unbarred}
 use Rattle.qo_sound.proofs.DeviceScopeLemmas.{devices_stay_lem}
 use Rattle.qo_sound.proofs.RecordLemmas.{all-append}
 use Rattle.qo_values.proofs.ListLemmas.{all-imply}
 use Rattle.qo_sound.proofs.ViewLemmas.{PinsRootAlone, sound-from_rest}
-use Rattle.qo_sound_devices.specs.SoundLists.{IsOn, SoundLists}
+use Rattle.qo_sound_devices.specs.SoundLists.{IsOn, SoundLists, births_of}
 use Rattle.qo_sound_devices.specs.SoundPlaces.{child_entry, listed, PlacesBut, stands}
 use Rattle.qo_sound_devices.proofs.AcceptanceLemmas.{passes}
 use Rattle.qo_sound_devices.proofs.AdditionLemmas.{done, Joined, new-stands, old-stands}
@@ -24,39 +27,81 @@ use Rattle.qo_sound_devices.proofs.LocationLemmas.{attached-stands}
 
 pub opening-lists : SoundLists opening_board
 unfolding opening_board IsDistinct
-opening-lists = record { pending = tt; once = tt; notices = tt; few = omega arith }
+opening-lists = record { pending = tt; once = tt; asked = tt; notices = tt; few = omega arith }
 
 pub changed-lists : (depth : ℕ → ℕ) (b : Board) (change : Change) → PinsRootAlone b → PlacesBut depth None (λ x. false) b → SoundLists b
     → SoundLists (changed b change)
 changed-lists depth b change rest h lists =
     let k : Keeps depth b (changed b change) = changed-keeps depth b change rest h in
     lists-same b (changed b change) (stays_lem.change b change).pending (stays_lem.change b change).notices
+    (omega (arith, (stays_lem.change b change).now))
     (λ x on. on-stands depth (changed b change) k.places x (k.stood x ∙ on.0)) lists
 
 -- attempts
 pub attempt-lists : (b : Board) (t : TypeId) → SoundLists b → SoundLists (with_attempt b t)
-attempt-lists b t h = lists-same b (with_attempt b t) refl refl (λ x on. on) h
+attempt-lists b t h = lists-same b (with_attempt b t) refl refl (omega arith) (λ x on. on) h
 
 pub plug_attempt-lists : (b : Board) (t : TypeId) (bus stage : ℕ) → SoundLists b → SoundLists (plug_attempt b t bus stage)
-plug_attempt-lists b t bus stage h = lists-same b (plug_attempt b t bus stage) refl refl (λ x on. on) h
+plug_attempt-lists b t bus stage h = lists-same b (plug_attempt b t bus stage) refl refl (omega arith) (λ x on. on) h
 
 pub cut_attempt-lists : (b : Board) (t : TypeId) (i : ℕ) (joined : Bool) → SoundLists b → SoundLists (cut_attempt b t i joined)
-cut_attempt-lists b t i joined h = lists-same b (cut_attempt b t i joined) refl refl (λ x on. on) h
+cut_attempt-lists b t i joined h = lists-same b (cut_attempt b t i joined) refl refl (omega arith) (λ x on. on) h
 
 -- a removal that is refused, and a notice that is read
 pub refused-lists : (b : Board) (d : ℕ) → SoundLists b → SoundLists (refused b d)
 refused-lists b d h =
     lists-fewer b (refused b d)
-    (record { pending = within-filter (λ m. not (m == d)) b.pending; notices = within-filter (λ (x : Notice). x.plug || not (x.birth == d)) b.notices })
+    (record {
+      pending = within-filter (λ (r : Removal). not (r.birth == d)) b.pending;
+      notices = within-filter (λ (x : Notice). x.plug || not (x.birth == d)) b.notices;
+      later = omega arith;
+    })
     (λ x e on. on) h
 
 pub read-lists : (b : Board) (notice : Notice) (others : List Notice) → b.notices ≡ notice ∷ others → SoundLists b → SoundLists (record b { notices = others })
 read-lists b notice others e h =
     lists-fewer b (record b { notices = others })
-    (record { pending = within-all b.pending; notices = subst (Within others) (sym e) (more notice (within-all others)) })
+    (record { pending = within-all b.pending; notices = subst (Within others) (sym e) (more notice (within-all others)); later = omega arith })
     (λ x e on. on) h
 
--- one more
+-- one more, and one that is asked for again
+pub new-birth : (rs : List Removal) (d : ℕ) → list_any (is_of_device d) rs ≡ false → among (births_of rs) d ≡ false
+new-birth [] d e = refl
+new-birth (r ∷ rs) d e = go (r.birth == d) refl (new-birth rs d)
+  where
+    go : (t : Bool) → (r.birth == d) ≡ t → (list_any (is_of_device d) rs ≡ false → among (births_of rs) d ≡ false) → among (births_of (r ∷ rs)) d ≡ false
+    go true p rest = absurd (let clash : true ≡ false = rw p at e in cc)
+    go false p rest = let apart : eqb d r.birth ≡ false = grind (arith, p) in rw apart (rest (rw p at e))
+
+births-more : (rs : List Removal) (d now : ℕ) → births_of (rs ++ record { birth = d; asked = now } ∷ []) ≡ births_of rs ++ d ∷ []
+births-more [] d now = refl
+births-more (r ∷ rs) d now = ap (λ (ns : List ℕ). r.birth ∷ ns) (births-more rs d now)
+
+again-birth : (d now : ℕ) (r : Removal) → (asked_at d now r).birth ≡ r.birth
+again-birth d now r = go (r.birth == d) refl
+  where
+    go : (t : Bool) → (r.birth == d) ≡ t → (asked_at d now r).birth ≡ r.birth
+    go true p = rw p refl
+    go false p = rw p refl
+
+births-again : (rs : List Removal) (d now : ℕ) → births_of (map (asked_at d now) rs) ≡ births_of rs
+births-again [] d now = refl
+births-again (r ∷ rs) d now = ap₂ (λ (n : ℕ) (ns : List ℕ). n ∷ ns) (again-birth d now r) (births-again rs d now)
+
+on-again : (b : Board) (rs : List Removal) (d now : ℕ) → AllByRecursion (λ (r : Removal). IsOn b r.birth) rs
+    → AllByRecursion (λ (r : Removal). IsOn b r.birth) (map (asked_at d now) rs)
+on-again b [] d now h = tt
+on-again b (r ∷ rs) d now h = (subst (IsOn b) (sym (again-birth d now r)) h.0, on-again b rs d now h.1)
+
+asked-again : (rs : List Removal) (d now : ℕ) → AllByRecursion (λ (r : Removal). r.asked ≤ now) rs
+    → AllByRecursion (λ (r : Removal). r.asked ≤ now) (map (asked_at d now) rs)
+asked-again [] d now h = tt
+asked-again (r ∷ rs) d now h = (one (r.birth == d) refl, asked-again rs d now h.1)
+  where
+    one : (t : Bool) → (r.birth == d) ≡ t → (asked_at d now r).asked ≤ now
+    one true p = rw p (omega arith)
+    one false p = rw p h.0
+
 distinct-more : (xs : List ℕ) (d : ℕ) → among xs d ≡ false → IsDistinct nat_eq xs → IsDistinct nat_eq (xs ++ d ∷ [])
 unfolding IsDistinct
 distinct-more [] d e h = (tt, tt)
@@ -124,24 +169,43 @@ module _ (depth : ℕ → ℕ) (b : Board) (rest : PinsRootAlone b) (h : PlacesB
       go false p = rw (named-child d id (slots_at b PERIPHERAL_BIRTH) (rw (device_at, p) at e)) refl
 
   asked_of-lists : (d : ℕ) → (attached b d ≡ true → stands b d ≡ true) → SoundLists b → SoundLists (asked_of b d).board
-  asked_of-lists d home lists = go (attached b d) refl (among b.pending d) refl (notice_barred b) refl
+  asked_of-lists d home lists = go (attached b d) refl (is_early b d) refl (notice_barred b) refl
     where
-      more : stands b d ≡ true → among b.pending d ≡ false → notice_barred b ≡ None → SoundLists (with_asked b d)
-      more e new room =
+      new-on : (t : Bool) → is_pending b d ≡ t → IsOn b d → AllByRecursion (λ (r : Removal). IsOn b r.birth) (with_asked b d).pending
+      new-on true p on = rw (with_removal, p) (on-again b b.pending d b.now lists.pending)
+      new-on false p on =
+          rw (with_removal, p)
+          (all-append (λ (r : Removal). IsOn b r.birth) b.pending (record { birth = d; asked = b.now } ∷ []) lists.pending (on, tt))
+
+      new-once : (t : Bool) → is_pending b d ≡ t → IsDistinct nat_eq (births_of (with_asked b d).pending)
+      new-once true p = rw (with_removal, p) (subst (IsDistinct nat_eq) (sym (births-again b.pending d b.now)) lists.once)
+      new-once false p =
+          rw (with_removal, p)
+          (subst (IsDistinct nat_eq) (sym (births-more b.pending d b.now)) (distinct-more (births_of b.pending) d (new-birth b.pending d p) lists.once))
+
+      new-asked : (t : Bool) → is_pending b d ≡ t → AllByRecursion (λ (r : Removal). r.asked ≤ b.now) (with_asked b d).pending
+      new-asked true p = rw (with_removal, p) (asked-again b.pending d b.now lists.asked)
+      new-asked false p =
+          rw (with_removal, p)
+          (all-append (λ (r : Removal). r.asked ≤ b.now) b.pending (record { birth = d; asked = b.now } ∷ []) lists.asked (omega arith, tt))
+
+      more : stands b d ≡ true → notice_barred b ≡ None → SoundLists (with_asked b d)
+      more e room =
           let on : IsOn b d = on-stands depth b h d e in
           record {
-            pending = all-append (IsOn b) b.pending (d ∷ []) lists.pending (on, tt);
-            once = distinct-more b.pending d new lists.once;
+            pending = new-on (is_pending b d) refl on;
+            once = new-once (is_pending b d) refl;
+            asked = new-asked (is_pending b d) refl;
             notices = more-notices (λ (x : Notice). IsOn b x.birth) b (record { plug = false; birth = d }) on lists.notices;
             few = few-notices b (record { plug = false; birth = d }) room;
           }
 
-      go : (at_home : Bool) → attached b d ≡ at_home → (pending : Bool) → among b.pending d ≡ pending → (full : Option Code) → notice_barred b ≡ full
+      go : (at_home : Bool) → attached b d ≡ at_home → (early : Bool) → is_early b d ≡ early → (full : Option Code) → notice_barred b ≡ full
           → SoundLists (asked_of b d).board
       go false p pending q full r = rw (asked_of, p) lists
       go true p true q full r = rw (asked_of, p, q) lists
       go true p false q (Some code) r = rw (asked_of, p, q, r) lists
-      go true p false q None r = rw (asked_of, p, q, r) (more (home p) q r)
+      go true p false q None r = rw (asked_of, p, q, r) (more (home p) r)
 
   pub asked-lists : (id : List ℕ) → SoundLists b → SoundLists (asked b id).board
   asked-lists id lists = go (device_at b id) refl
@@ -155,8 +219,13 @@ module _ (depth : ℕ → ℕ) (b : Board) (rest : PinsRootAlone b) (h : PlacesB
     plugged-on : (t : TypeId) (bus : ℕ) → Accepted b t bus a → SoundLists (with_plugged b t a (resources_of b t bus a.props))
     plugged-on t bus k =
         record {
-          pending = subst (AllByRecursion (IsOn c)) (sym pending) (all-imply (IsOn b) (IsOn c) old b.pending lists.pending);
-          once = subst (IsDistinct nat_eq) (sym pending) lists.once;
+          pending =
+              subst (AllByRecursion (λ (r : Removal). IsOn c r.birth)) (sym pending)
+              (all-imply (λ (r : Removal). IsOn b r.birth) (λ (r : Removal). IsOn c r.birth) (λ r. old r.birth) b.pending lists.pending);
+          once = subst (λ (rs : List Removal). IsDistinct nat_eq (births_of rs)) (sym pending) lists.once;
+          asked =
+              subst (AllByRecursion (λ (r : Removal). r.asked ≤ c.now)) (sym pending)
+              (all-imply (λ (r : Removal). r.asked ≤ b.now) (λ (r : Removal). r.asked ≤ c.now) (λ r k. omega (arith, k, time)) b.pending lists.asked);
           notices =
               subst (AllByRecursion (λ (x : Notice). IsOn c x.birth)) (sym notices)
               (more-notices (λ (x : Notice). IsOn c x.birth) b (record { plug = true; birth = b.born + 1 }) new
@@ -171,6 +240,9 @@ module _ (depth : ℕ → ℕ) (b : Board) (rest : PinsRootAlone b) (h : PlacesB
 
         j : Joined depth b (b.born + 1) bus (resources_of b t bus a.props).slot a.id t (done b bus (resources_of b t bus a.props).slot a.id) c
         j = accepted-joined depth b a rest h t bus k
+
+        time : c.now ≡ b.now
+        time = (devices_stay_lem.added b t a (resources_of b t bus a.props)).now
 
         pending : c.pending ≡ b.pending
         pending = (devices_stay_lem.added b t a (resources_of b t bus a.props)).pending

@@ -1,9 +1,9 @@
 -- Acts, phases and the reset of the whole board keep the tree, the places and the lists sound.
-use Rattle.std.proofs.Common.{◌≡◌, refl, sym, ◌∙◌, ℕ, zero, suc, true, false, List, [], ◌∷◌, ◌++◌, filter, length, Option, Some, None, subst, arith}
-use Rattle.qo_model.proofs.Common.{AllByRecursion, MACHINE_BIRTH, Act, Enter, Hold, Exit, Board, acted, all_completed, completed, reset_whole, without_first, is_not_in_reset, phased, post, pulse, released, detach}
+use Rattle.std.proofs.Common.{◌≡◌, refl, sym, ◌∙◌, ℕ, zero, suc, true, false, List, [], ◌∷◌, ◌++◌, filter, length, Option, Some, None, subst, arith, slice_get}
+use Rattle.qo_model.proofs.Common.{AllByRecursion, MACHINE_BIRTH, Act, Hold, Exit, Board, acted, all_completed, completed, reset_whole, without_first, is_not_in_reset, phased, post, pulse, released, detach}
 use Rattle.std.proofs.lemmas.Option.{same_Some}
 use Rattle.qo_model.specs.Reset.{after_hold}
-use Rattle.qo_model.specs.Unplug.{first_of}
+use Rattle.qo_model.specs.Board.{Removal}
 use Rattle.qo_sound.proofs.CutLemmas.{near-beside}
 use Rattle.qo_sound.proofs.FirmBoardLemmas.{WellFormed}
 use Rattle.qo_sound.proofs.TreeKeptLemmas.{sound_kept_lem}
@@ -20,6 +20,9 @@ use Rattle.qo_sound_devices.proofs.DepthLemmas.{moved-dimmed, stands-dimmed}
 use Rattle.qo_sound_devices.proofs.RemovalLemmas.{places-moved}
 use Rattle.qo_sound_devices.proofs.UnlistingLemmas.{detach-lists}
 use Rattle.qo_sound_devices.proofs.UnrealizingLemmas.{Dims, dims-acted}
+use Rattle.qo_values.specs.declared.kinds.ResetKind.{ResetKind}
+use Rattle.qo_values.specs.declared.kinds.ResetKind.TheVariants.{Cold}
+use Rattle.qo_values.specs.Kinds.{entering}
 
 -- what changes nothing that places speak of keeps them
 dims-places : (depth : ℕ → ℕ) (b c : Board) → WellFormed c → Dims b c → PlacesBut depth None (λ x. false) b → PlacesBut depth None (λ x. false) c
@@ -34,7 +37,7 @@ dims-on b c d x on = (stands-dimmed b c d.dimmed x ∙ on.0, d.same x ∙ on.1)
 -- an act
 acted-lists : (act : Act) (n period : ℕ) (b : Board) → SoundLists b → SoundLists (acted act n period b)
 unfolding acted
-acted-lists act n period b h = lists-same b (acted act n period b) refl refl (dims-on b (acted act n period b) (dims-acted act n period b)) h
+acted-lists act n period b h = lists-same b (acted act n period b) refl refl (omega arith) (dims-on b (acted act n period b) (dims-acted act n period b)) h
 
 pub acted-below : (act : Act) (n period : ℕ) (b : Board) → SoundDevices b → SoundDevices (acted act n period b)
 acted-below act n period b h =
@@ -64,18 +67,18 @@ detached-below b d h e =
     }
 
 -- the removals that are pending come to their end
-pub first-on : (P : ℕ → Type 0) (ns : List ℕ) → AllByRecursion P ns → (d : ℕ) → first_of ns ≡ Some d → P d
+pub first-on : (P : ℕ → Type 0) (rs : List Removal) → AllByRecursion (λ (r : Removal). P r.birth) rs → (d : Removal) → slice_get rs 0 ≡ Some d → P d.birth
 first-on P [] h d e = cc
-first-on P (n ∷ ns) h d e = subst P (same_Some n d e) h.0
+first-on P (r ∷ rs) h d e = subst (λ (x : Removal). P x.birth) (same_Some r d e) h.0
 
 completed-below : (times : ℕ) (b : Board) → SoundDevices b → SoundDevices (all_completed times b)
 completed-below zero b h = h
-completed-below (suc times) b h = go (first_of b.pending) refl (completed-below times)
+completed-below (suc times) b h = go (slice_get b.pending 0) refl (completed-below times)
   where
-    go : (o : Option ℕ) → first_of b.pending ≡ o → ((c : Board) → SoundDevices c → SoundDevices (all_completed times c))
+    go : (o : Option Removal) → slice_get b.pending 0 ≡ o → ((c : Board) → SoundDevices c → SoundDevices (all_completed times c))
         → SoundDevices (all_completed (suc times) b)
     go None e rest = rw (all_completed, e) h
-    go (Some d) e rest = rw (all_completed, e) (rest (completed b d) (detached-below b d h (first-on (IsOn b) b.pending h.lists.pending d e).0))
+    go (Some d) e rest = rw (all_completed, e) (rest (completed b d.birth) (detached-below b d.birth h (first-on (IsOn b) b.pending h.lists.pending d e).0))
 
 -- holds
 holds-below : (b : Board) (holds : List ℕ) → SoundDevices b → SoundDevices (record b { holds = holds })
@@ -83,7 +86,7 @@ holds-below b holds h =
     record {
       tree = sound-from_rest (record b { holds = holds }) (record { used = near; pinned = rest.pinned });
       places = (h.places.0, beside-places h.places.0 None (λ x. false) b (record b { holds = holds }) rest.used.firm refl (omega arith) refl h.places.1);
-      lists = lists-same b (record b { holds = holds }) refl refl (λ x on. on) h.lists;
+      lists = lists-same b (record b { holds = holds }) refl refl (omega arith) (λ x on. on) h.lists;
     }
   where
     rest : PinsRootAlone b
@@ -92,11 +95,11 @@ holds-below b holds h =
     near : InvariantBut None (record b { holds = holds })
     near = near-beside None b holds b.pending b.notices b.notes rest.used
 
-pub held-below : (b : Board) (n : ℕ) → SoundDevices b → SoundDevices (after_hold b n)
+pub held-below : (b : Board) (n : ℕ) (kind : ResetKind) → SoundDevices b → SoundDevices (after_hold b n kind)
 unfolding after_hold
-held-below b n h =
+held-below b n kind h =
     holds-below _ (b.holds ++ n ∷ [])
-    (phased-below Hold (filter (is_not_in_reset b) (post b n)) _ (phased-below Enter (filter (is_not_in_reset b) (post b n)) b h))
+    (phased-below Hold (filter (is_not_in_reset b) (post b n)) _ (phased-below (entering kind) (filter (is_not_in_reset b) (post b n)) b h))
 
 pub released-below : (b : Board) (n : ℕ) → SoundDevices b → SoundDevices (released b n)
 unfolding released
@@ -104,10 +107,10 @@ released-below b n h =
     let c : Board = record b { holds = without_first n b.holds } in
     phased-below Exit (filter (is_not_in_reset c) (post c n)) c (holds-below b (without_first n b.holds) h)
 
-pub pulse-below : (b : Board) (n : ℕ) → SoundDevices b → SoundDevices (pulse b n)
+pub pulse-below : (b : Board) (n : ℕ) (kind : ResetKind) → SoundDevices b → SoundDevices (pulse b n kind)
 unfolding pulse
-pulse-below b n h = released-below (after_hold b n) n (held-below b n h)
+pulse-below b n kind h = released-below (after_hold b n kind) n (held-below b n kind h)
 
 pub reset-below : (b : Board) → SoundDevices b → SoundDevices (reset_whole b)
 unfolding reset_whole
-reset-below b h = pulse-below (all_completed (length b.pending) b) MACHINE_BIRTH (completed-below (length b.pending) b h)
+reset-below b h = pulse-below (all_completed (length b.pending) b) MACHINE_BIRTH Cold (completed-below (length b.pending) b h)

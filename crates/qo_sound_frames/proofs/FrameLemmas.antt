@@ -148,7 +148,9 @@ frames_lem =
     record {
       tree = tree-frame;
       places = places-frame;
-      lists = λ b c e h. lists-alike b c (alike-form b c (ap (λ x. x.0) e)) (sym (ap (λ x. x.1.0) e)) (sym (ap (λ x. x.1.1) e)) h;
+      lists = λ b c e h.
+          lists-alike b c (alike-form b c (ap (λ x. x.0) e)) (sym (ap (λ x. x.1.0) e)) (sym (ap (λ x. x.1.1.0) e))
+          (sym (ap (λ x. x.1.1.1) e)) h;
       clocks = λ b c e h. same-sound b c (slots-form b c e) h;
       numbers = λ b c e h. same-numbers b c (slots-form b c e) h;
       sources = sources-frame;

@@ -1,5 +1,5 @@
 -- Places speak of the objects without their registers, and of the accepted adds of devices without an id.
-use Rattle.std.proofs.Common.{◌≡◌, ap, sym, subst, ◌∙◌, ℕ, ◌<◌, true, false, List, [], ◌∷◌, None, codes}
+use Rattle.std.proofs.Common.{◌≡◌, ap, sym, subst, ◌∙◌, ℕ, ◌<◌, true, false, List, [], ◌∷◌, None, codes, arith}
 use Rattle.qo_model.proofs.Common.{AllByRecursion, list_any, ANONYMOUS_BIRTH, MACHINE_BIRTH, MEMORY_BUS_BIRTH, OBJECTS_BIRTH, PERIPHERAL_BIRTH, ROOT_BIRTH, ROOT_BUS_BIRTH, SYSTEM_CLOCK_BIRTH, Board, is_of}
 use Rattle.qo_values.proofs.ListLemmas.{all-imply}
 use Rattle.qo_sound_devices.specs.SoundLists.{SoundLists}
@@ -106,5 +106,6 @@ module _ (b c : Board) (alike : (x : ℕ) → Alike b c x) where
         once = λ d e id p q. h.once d e id (sym (id-alike b c d (alike d).body) ∙ p) (sym (id-alike b c e (alike e).body) ∙ q);
       }
 
-  pub lists-alike : c.pending ≡ b.pending → c.notices ≡ b.notices → SoundLists b → SoundLists c
-  lists-alike pending notices h = lists-same b c pending notices (λ x on. (stand-same x ∙ on.0, (alike x).realized ∙ on.1)) h
+  pub lists-alike : c.pending ≡ b.pending → c.notices ≡ b.notices → c.now ≡ b.now → SoundLists b → SoundLists c
+  lists-alike pending notices now h =
+      lists-same b c pending notices (omega (arith, now)) (λ x on. (stand-same x ∙ on.0, (alike x).realized ∙ on.1)) h

@@ -2,7 +2,7 @@
 use Rattle.std.specs.Prelude.{◌≡◌, ℕ, List, length, map}
 use Rattle.qo_values.specs.Registers.{Registers, bare}
 use Rattle.qo_model.specs.declared.notes.Note.{Note}
-use Rattle.qo_model.specs.Board.{Board, Notice, Record}
+use Rattle.qo_model.specs.Board.{Board, Notice, Record, Removal}
 use Rattle.qo_model.specs.SoundGraph.{graph_of}
 use Rattle.qo_sound.specs.TreeKept.{SoundTree}
 use Rattle.qo_sound_devices.specs.SoundLists.{SoundLists}
@@ -41,9 +41,9 @@ of_tree b = (graph_of b, forms b)
 abbrev pub of_places : Board → List Record × ℕ
 of_places b = (forms b, b.anonymous)
 
--- the lists that name devices: the objects without their registers, the pending removals and the notices
-abbrev pub of_lists : Board → List Record × (List ℕ × List Notice)
-of_lists b = (forms b, (b.pending, b.notices))
+-- the lists that name devices: the objects without their registers, the pending removals, the notices, and the virtual time
+abbrev pub of_lists : Board → List Record × (List Removal × (List Notice × ℕ))
+of_lists b = (forms b, (b.pending, (b.notices, b.now)))
 
 -- clocks, their numbers, what they go by, and owners: the objects without their registers
 abbrev pub of_clocks : Board → List Record

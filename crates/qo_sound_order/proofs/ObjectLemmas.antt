@@ -3,6 +3,8 @@ use Rattle.std.proofs.Common.{◌≡◌, refl, ap, sym, subst, ◌∙◌, ℕ, B
 use Rattle.qo_model.proofs.Common.{⊤, MACHINE_BIRTH, OBJECTS_BIRTH, E45, E46, Registers, Act, Pre, Unrealize, Update, Val, Board, Record, record_of, cut, set, with_changed, with_cut, with_val, acted, asked, clock_scaled, clock_set, clock_written, source_of, object_del, reset_whole, sever, with_act_on, drop_slot, edit, finish, forgotten, let_go, pin, pulse, released, unpin, with_dropped, detach, set_named, unseen}
 use Rattle.std.proofs.lemmas.Bool.{eqb-true}
 use Rattle.std.proofs.lemmas.Option.{same_Some}
+use Rattle.qo_values.specs.declared.kinds.ResetKind.{ResetKind}
+use Rattle.qo_values.specs.declared.kinds.ResetKind.TheVariants.{Cold}
 use Rattle.qo_values.specs.declared.properties.Val.TheVariants as val
 use Rattle.qo_model.specs.Reset.{after_hold}
 use Rattle.qo_model.proofs.ComesToLemmas.{deletion-comes}
@@ -97,13 +99,13 @@ module _ (May : Val → Type 0) (Q : Record → Type 0) (k : KeepsFact May Q) wh
   fact-unpin b n h = unpin-by (AllOf Q) (λ m c has w. w) fact-ends n b h
 
   -- holds, and removals that are asked for
-  pub fact-held : (b : Board) (n : ℕ) → AllOf Q b → AllOf Q (after_hold b n)
+  pub fact-held : (b : Board) (n : ℕ) (kind : ResetKind) → AllOf Q b → AllOf Q (after_hold b n kind)
   fact-held = quiet-held (AllOf Q) fact-same fact-acted
 
   pub fact-released : (b : Board) (n : ℕ) → AllOf Q b → AllOf Q (released b n)
   fact-released = quiet-released (AllOf Q) fact-same fact-acted
 
-  pub fact-pulse : (b : Board) (n : ℕ) → AllOf Q b → AllOf Q (pulse b n)
+  pub fact-pulse : (b : Board) (n : ℕ) (kind : ResetKind) → AllOf Q b → AllOf Q (pulse b n kind)
   fact-pulse = quiet-pulse (AllOf Q) fact-same fact-acted
 
   pub fact-asked : (b : Board) (id : List ℕ) → AllOf Q b → AllOf Q (asked b id).board
@@ -187,7 +189,7 @@ module _ (May : Val → Type 0) (Q : Record → Type 0) (k : KeepsFact May Q) wh
   fact-reset b h =
       reset-by (λ c. ⊤) (AllOf Q)
       (record {
-        detaches = λ c d e good w. fact-detach c d w;
-        stays = λ c d e good. tt;
-        pulses = λ c good w. fact-pulse c MACHINE_BIRTH w;
+        detaches = λ c r e good w. fact-detach c r.birth w;
+        stays = λ c r e good. tt;
+        pulses = λ c good w. fact-pulse c MACHINE_BIRTH Cold w;
       }) b tt h

@@ -131,9 +131,9 @@ order-changes =
       cut = λ b t i joined devices. along b _ (gains.cut b t i joined) (kinds.cut b t i joined) (λ k. k);
       asked_for = λ b id devices. along b _ (gains.asked_for b id) (kinds.asked_for b id) (fact-asked Any Ordered ordered-keeps b id);
       refused_by = λ b d devices. along b _ (gains.refused_by b d) (kinds.refused_by b d) (λ k. k);
-      held_so = λ b n good on devices. along b _ (gains.held_so b n tt tt) (kinds.held_so b n tt tt) (fact-held Any Ordered ordered-keeps b n);
+      held_so = λ b n kind good on devices. along b _ (gains.held_so b n kind tt tt) (kinds.held_so b n kind tt tt) (fact-held Any Ordered ordered-keeps b n kind);
       released_so = λ b n good on devices. along b _ (gains.released_so b n tt tt) (kinds.released_so b n tt tt) (fact-released Any Ordered ordered-keeps b n);
-      pulsed = λ b n good on devices. along b _ (gains.pulsed b n tt tt) (kinds.pulsed b n tt tt) (fact-pulse Any Ordered ordered-keeps b n);
+      pulsed = λ b n kind good on devices. along b _ (gains.pulsed b n kind tt tt) (kinds.pulsed b n kind tt tt) (fact-pulse Any Ordered ordered-keeps b n kind);
       set = λ b d c period e devices.
           along b d (gains.set b d c period e) (kinds.set b d c period e) (fact-clock_set Any Ordered ordered-keeps b d c period tt e);
       scaled = λ b d c mul div e devices.

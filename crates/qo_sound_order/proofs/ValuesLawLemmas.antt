@@ -227,9 +227,9 @@ values_kept_lem =
       asked_for = λ b id h. from-each (asked b id).board (fact-asked IsTold Told told-keeps b id (to-each b h));
       refused_by = λ b d h. h;
       acts = λ act n period b h. from-each (acted act n period b) (fact-acted IsTold Told told-keeps act n period b (to-each b h));
-      held_so = λ b n h. from-each (after_hold b n) (fact-held IsTold Told told-keeps b n (to-each b h));
+      held_so = λ b n kind h. from-each (after_hold b n kind) (fact-held IsTold Told told-keeps b n kind (to-each b h));
       released_so = λ b n h. from-each (released b n) (fact-released IsTold Told told-keeps b n (to-each b h));
-      pulsed = λ b n h. from-each (pulse b n) (fact-pulse IsTold Told told-keeps b n (to-each b h));
+      pulsed = λ b n kind h. from-each (pulse b n kind) (fact-pulse IsTold Told told-keeps b n kind (to-each b h));
       set = λ b d c period low e h. from-each d (fact-clock_set IsTold Told told-keeps b d c period low e (to-each b h));
       scaled = λ b d c mul div low few e h.
           from-each d (fact-clock_scaled IsTold Told told-keeps b d c mul div low few e (to-each b h));

@@ -2,6 +2,7 @@
 use Rattle.std.specs.Prelude.{◌≡◌, ℕ, ◌<◌, ◌^◌, Bool, List, Ok}
 use Rattle.qo_values.specs.Registers.{Registers}
 use Rattle.qo_values.specs.declared.kinds.Act.{Act}
+use Rattle.qo_values.specs.declared.kinds.ResetKind.{ResetKind}
 use Rattle.qo_values.specs.declared.kinds.TypeId.{TypeId}
 use Rattle.qo_model.specs.Board.{Board}
 use Rattle.qo_model.specs.ClockChanges.{clock_scaled, clock_set}
@@ -36,9 +37,9 @@ pub record ValuesKeptLaw : Type 0 where
   pub refused_by : (b : Board) (d : ℕ) → SoundValues b → SoundValues (refused b d)
   -- an act; a hold, a hold less, and both
   pub acts : (act : Act) (n period : ℕ) (b : Board) → SoundValues b → SoundValues (acted act n period b)
-  pub held_so : (b : Board) (n : ℕ) → SoundValues b → SoundValues (after_hold b n)
+  pub held_so : (b : Board) (n : ℕ) (kind : ResetKind) → SoundValues b → SoundValues (after_hold b n kind)
   pub released_so : (b : Board) (n : ℕ) → SoundValues b → SoundValues (released b n)
-  pub pulsed : (b : Board) (n : ℕ) → SoundValues b → SoundValues (pulse b n)
+  pub pulsed : (b : Board) (n : ℕ) (kind : ResetKind) → SoundValues b → SoundValues (pulse b n kind)
   -- a write of a clock's period, and of its mul and div, with numbers of 64 bits, that is not refused; other registers of an object, whatever they are
   pub set : (b d : Board) (c period : ℕ) → period < 2 ^ 64 → clock_set b c period ≡ Ok d → SoundValues b → SoundValues d
   pub scaled : (b d : Board) (c mul div : ℕ) → mul < 2 ^ 64 → div < 2 ^ 64 → clock_scaled b c mul div ≡ Ok d → SoundValues b → SoundValues d

@@ -1,6 +1,6 @@
 -- A hold, a hold less, and both keep phases sound.
 use Rattle.std.proofs.Common.{◌≡◌, refl, ap, sym, subst, ◌∙◌, ℕ, ◌+◌, ◌<◌, Bool, true, false, ◌&&◌, ◌==◌, eqb, cond, List, [], ◌∷◌, ◌++◌, filter, map, Some, is_some, arith}
-use Rattle.qo_model.proofs.Common.{count_by, if◌then◌else◌, AllByRecursion, IsDistinct, Enter, Hold, Exit, Board, among, did, without_first, count, is_not_in_reset, phased, post, pulse, released}
+use Rattle.qo_model.proofs.Common.{count_by, if◌then◌else◌, AllByRecursion, IsDistinct, Hold, Exit, Board, among, did, without_first, count, is_not_in_reset, phased, post, pulse, released}
 use Rattle.qo_model.specs.declared.notes.Note.{Note}
 use Rattle.std.proofs.lemmas.Bool.{and_parts, eqb-true, eq-eqb}
 use Rattle.std.proofs.lemmas.List.Sums.{sum_by-append, sum_by-cons}
@@ -18,7 +18,9 @@ use Rattle.qo_sound_phases.proofs.ResetTreeLemmas.{Placed, placed, post-once}
 use Rattle.qo_sound_phases.proofs.ListLemmas.{among-filter, among-right, distinct-filter, one-among}
 use Rattle.qo_sound_phases.proofs.ReachLemmas.{buses-stay, live-born, post-reached, reached-live, shape-reached}
 use Rattle.qo_sound_phases.proofs.ShapeLemmas.{counted-same, PhasedSo, phased-so, SameShape, shape-back, shape-post, shape-records, shape-then}
-use Rattle.qo_sound_phases.proofs.StageLemmas.{noted-in, noted-out}
+use Rattle.qo_sound_phases.proofs.StageLemmas.{entering-leads, entering-phase, noted-in, noted-out}
+use Rattle.qo_values.specs.declared.kinds.ResetKind.{ResetKind}
+use Rattle.qo_values.specs.Kinds.{entering}
 
 -- how many holds there are with one more, and with one less
 abbrev pub one_if : Bool → ℕ
@@ -80,22 +82,23 @@ pub count-shape : (b c : Board) → SameShape b c → (o : ℕ) → count c o �
 count-shape b c h o = counted-same (λ r. among (post c r) o) (λ r. among (post b r) o) (λ r. ap (λ (xs : List ℕ). among xs o) (shape-post b c h r)) c.holds
 
 -- a hold
-pub record HeldSo (b : Board) (r : ℕ) (c : Board) : Type 0 where
+pub record HeldSo (b : Board) (r : ℕ) (kind : ResetKind) (c : Board) : Type 0 where
   pub shape : SameShape b c
   pub holds : c.holds ≡ b.holds ++ r ∷ []
   born : c.born ≡ b.born
-  notes : c.notes ≡ (b.notes ++ map (did Enter) (filter (is_not_in_reset b) (post b r))) ++ map (did Hold) (filter (is_not_in_reset b) (post b r))
+  notes : c.notes ≡ (b.notes ++ map (did (entering kind)) (filter (is_not_in_reset b) (post b r))) ++ map (did Hold) (filter (is_not_in_reset b) (post b r))
 
-pub held-so : (b : Board) (r : ℕ) → HeldSo b r (after_hold b r)
+pub held-so : (b : Board) (r : ℕ) (kind : ResetKind) → HeldSo b r kind (after_hold b r kind)
 unfolding after_hold
-held-so b r =
+held-so b r kind =
     let os : List ℕ = filter (is_not_in_reset b) (post b r) in
-    let first : PhasedSo Enter os b (phased Enter os b) = phased-so Enter os b in
-    let second : PhasedSo Hold os (phased Enter os b) (phased Hold os (phased Enter os b)) = phased-so Hold os (phased Enter os b) in
+    let first : PhasedSo (entering kind) os b (phased (entering kind) os b) = phased-so (entering kind) os b in
+    let second : PhasedSo Hold os (phased (entering kind) os b) (phased Hold os (phased (entering kind) os b)) =
+    phased-so Hold os (phased (entering kind) os b) in
     record {
       shape =
-          shape-then b (phased Enter os b) (after_hold b r) first.shape
-          (shape-then (phased Enter os b) (phased Hold os (phased Enter os b)) (after_hold b r) second.shape (shape-records _ _ refl));
+          shape-then b (phased (entering kind) os b) (after_hold b r kind) first.shape
+          (shape-then (phased (entering kind) os b) (phased Hold os (phased (entering kind) os b)) (after_hold b r kind) second.shape (shape-records _ _ refl));
       holds = refl;
       born = second.born ∙ first.born;
       notes = second.notes ∙ ap (λ (xs : List Note). xs ++ map (did Hold) os) first.notes;
@@ -108,7 +111,7 @@ module _ (b : Board) (r : ℕ) (k : Placed b) (reached : IsReached b r) (h : Sou
   once : IsDistinct eqb (filter (is_not_in_reset b) (post b r))
   once = distinct-filter (is_not_in_reset b) (post b r) (post-once b k r)
 
-  module _ (c : Board) (s : HeldSo b r c) where
+  module _ (kind : ResetKind) (c : Board) (s : HeldSo b r kind c) where
     count-held : (o : ℕ) → count c o ≡ count b o + one_if (among (post b r) o)
     count-held o =
         count-shape b c s.shape o
@@ -121,15 +124,17 @@ module _ (b : Board) (r : ℕ) (k : Placed b) (reached : IsReached b r) (h : Sou
         let before : stage_of o b.notes ≡ Some stage.out =
         h.reached o (post-reached b k r o reached both.0) ∙ ap Some (now-out b o both.1) in
         ap (stage_of o) s.notes
-        ∙ noted-in Hold refl (filter (is_not_in_reset b) (post b r)) once (b.notes ++ map (did Enter) (filter (is_not_in_reset b) (post b r))) o e stage.entered
+        ∙ noted-in Hold refl (filter (is_not_in_reset b) (post b r)) once (b.notes ++ map (did (entering kind)) (filter (is_not_in_reset b) (post b r))) o e
+        stage.entered
         stage.held
-        (noted-in Enter refl (filter (is_not_in_reset b) (post b r)) once b.notes o e stage.out stage.entered before refl) refl
+        (noted-in (entering kind) (entering-phase kind) (filter (is_not_in_reset b) (post b r)) once b.notes o e stage.out stage.entered before
+        (entering-leads kind)) refl
 
     out-stage : (o : ℕ) → among (filter (is_not_in_reset b) (post b r)) o ≡ false → stage_of o c.notes ≡ stage_of o b.notes
     out-stage o e =
         ap (stage_of o) s.notes
-        ∙ noted-out Hold refl (filter (is_not_in_reset b) (post b r)) once (b.notes ++ map (did Enter) (filter (is_not_in_reset b) (post b r))) o e
-        ∙ noted-out Enter refl (filter (is_not_in_reset b) (post b r)) once b.notes o e
+        ∙ noted-out Hold refl (filter (is_not_in_reset b) (post b r)) once (b.notes ++ map (did (entering kind)) (filter (is_not_in_reset b) (post b r))) o e
+        ∙ noted-out (entering kind) (entering-phase kind) (filter (is_not_in_reset b) (post b r)) once b.notes o e
 
     held-phases : SoundPhases c
     held-phases =
@@ -171,8 +176,8 @@ module _ (b : Board) (r : ℕ) (k : Placed b) (reached : IsReached b r) (h : Sou
             let counts : count c o ≡ count b o = omega (arith, count-held o, none) in
             ap (λ (n : ℕ). if n == 0 then stage.out else stage.held) (sym counts))
 
-pub hold-phases : (b : Board) (r : ℕ) → SoundDevices b → IsReached b r → SoundPhases b → SoundPhases (after_hold b r)
-hold-phases b r d reached h = held-phases b r (placed b d) reached h (after_hold b r) (held-so b r)
+pub hold-phases : (b : Board) (r : ℕ) (kind : ResetKind) → SoundDevices b → IsReached b r → SoundPhases b → SoundPhases (after_hold b r kind)
+hold-phases b r kind d reached h = held-phases b r (placed b d) reached h kind (after_hold b r kind) (held-so b r kind)
 
 -- a hold less
 pub record ReleasedSo (b : Board) (r : ℕ) (c : Board) : Type 0 where
@@ -282,8 +287,8 @@ release-phases b r d on h = released-phases b r (placed b d) on h (released b r)
 last-among : (r : ℕ) (rs : List ℕ) → among (rs ++ r ∷ []) r ≡ true
 last-among r rs = among-right r rs (r ∷ []) (one-among r)
 
-pub pulse-phases : (b : Board) (r : ℕ) → SoundDevices b → IsReached b r → SoundPhases b → SoundPhases (pulse b r)
+pub pulse-phases : (b : Board) (r : ℕ) (kind : ResetKind) → SoundDevices b → IsReached b r → SoundPhases b → SoundPhases (pulse b r kind)
 unfolding pulse
-pulse-phases b r d reached h =
-    release-phases (after_hold b r) r (held-below b r d) (ap (λ (xs : List ℕ). among xs r) (held-so b r).holds ∙ last-among r b.holds)
-    (hold-phases b r d reached h)
+pulse-phases b r kind d reached h =
+    release-phases (after_hold b r kind) r (held-below b r kind d) (ap (λ (xs : List ℕ). among xs r) (held-so b r kind).holds ∙ last-among r b.holds)
+    (hold-phases b r kind d reached h)

@@ -1,10 +1,11 @@
 -- The laws: what keeps phases sound, and what that says.
-use Rattle.std.proofs.Common.{◌≡◌, refl, ap, sym, subst, ◌∙◌, ◌<◌, ◌==◌, not, option_map, rules, ℕ, zero, suc, Bool, true, false, ◌||◌, List, length, Option, Some, None, is_some, arith, codes, ◌⊎◌, inl, inr}
-use Rattle.qo_model.proofs.Common.{AllByRecursion, if◌then◌else◌, option_map_or, Registers, MACHINE_BIRTH, Act, TypeId, Machine, Board, Record, kind_of, record_of, acted, among, all_completed, asked, asked_of, completed, device_at, refused, reset_whole, with_attempt, opening_board, attached, is_of, notice_barred, is_a, types}
+use Rattle.std.proofs.Common.{◌≡◌, refl, ap, sym, subst, ◌∙◌, ◌<◌, ◌==◌, not, option_map, rules, ℕ, zero, suc, Bool, true, false, ◌||◌, List, length, Option, Some, None, is_some, arith, codes, ◌⊎◌, inl, inr, slice_get}
+use Rattle.qo_model.proofs.Common.{AllByRecursion, if◌then◌else◌, option_map_or, Registers, MACHINE_BIRTH, Act, TypeId, Machine, Board, Record, kind_of, record_of, acted, all_completed, asked, asked_of, completed, device_at, refused, reset_whole, with_attempt, opening_board, attached, is_of, notice_barred, is_a, types}
 use Rattle.qo_model.specs.declared.notes.Deed.TheVariants.{Did}
 use Rattle.std.proofs.lemmas.Bool.{and_parts, eqb-true}
 use Rattle.std.proofs.lemmas.Option.{same_Some}
-use Rattle.qo_model.specs.Unplug.{first_of}
+use Rattle.qo_model.specs.Board.{Removal}
+use Rattle.qo_model.specs.Hotplug.{is_early}
 use Rattle.qo_model.proofs.StepLemmas.{found-birth}
 use Rattle.qo_sound.proofs.SearchLemmas.{all-found}
 use Rattle.qo_values.proofs.ListLemmas.{all-imply}
@@ -33,6 +34,7 @@ use Rattle.qo_sound_phases.proofs.ReachLemmas.{buses-stay, same-stands, shape-re
 use Rattle.qo_sound_phases.proofs.ShapeLemmas.{SameShape, shape-acted, shape-back, shape-count, shape-edit, shape-records}
 use Rattle.qo_sound_phases.proofs.StageLemmas.{turns-some}
 use Rattle.qo_sound_phases.proofs.WriteLemmas.{scaled-phases, set-phases}
+use Rattle.qo_values.specs.declared.kinds.ResetKind.TheVariants.{Cold, Wakeup}
 
 -- a board of one shape, with the same births, holds and phases
 pub shape-phases : (b c : Board) → SameShape b c → c.born ≡ b.born → c.holds ≡ b.holds → Quiet b c → SoundPhases b → SoundPhases c
@@ -61,7 +63,7 @@ asked-phases b id h = go (device_at b id) refl
     of : (d : ℕ) → SoundPhases (asked_of b d).board
     of d =
         decide (attached b d)
-        (λ e. decide (among b.pending d) (λ f. rw (asked_of, e, f) h)
+        (λ e. decide (is_early b d) (λ f. rw (asked_of, e, f) h)
         (λ f. decide (is_some (notice_barred b)) (λ g. rw (asked_of, e, f, g) h) (λ g. rw (asked_of, e, f, g) (beside-phases b _ refl refl refl refl h))))
         (λ e. rw (asked_of, e) h)
 
@@ -139,22 +141,22 @@ may-reached b d lone n e = go (kind_of b n) refl both.1
 -- the removals that are pending come to their end, and the machine is reset
 completed-phases : (times : ℕ) (b : Board) → SoundDevices b → SoundPhases b → SoundDevices (all_completed times b) × SoundPhases (all_completed times b)
 completed-phases zero b d h = (d, h)
-completed-phases (suc times) b d h = go (first_of b.pending) refl (completed-phases times)
+completed-phases (suc times) b d h = go (slice_get b.pending 0) refl (completed-phases times)
   where
-    go : (o : Option ℕ) → first_of b.pending ≡ o
+    go : (o : Option Removal) → slice_get b.pending 0 ≡ o
         → ((c : Board) → SoundDevices c → SoundPhases c → SoundDevices (all_completed times c) × SoundPhases (all_completed times c))
         → SoundDevices (all_completed (suc times) b) × SoundPhases (all_completed (suc times) b)
     go None e rest = rw (all_completed, e) (d, h)
     go (Some n) e rest =
-        let on : IsOn b n = first-on (IsOn b) b.pending d.lists.pending n e in
-        rw (all_completed, e) (rest (completed b n) (detached-below b n d on.0) (detach-phases b n d on.0 h))
+        let on : IsOn b n.birth = first-on (IsOn b) b.pending d.lists.pending n e in
+        rw (all_completed, e) (rest (completed b n.birth) (detached-below b n.birth d on.0) (detach-phases b n.birth d on.0 h))
 
 reset-phases : (b : Board) → SoundDevices b → SoundPhases b → SoundPhases (reset_whole b)
 unfolding reset_whole
 reset-phases b d h =
     let k : SoundDevices (all_completed (length b.pending) b) × SoundPhases (all_completed (length b.pending) b) =
     completed-phases (length b.pending) b d h in
-    pulse-phases (all_completed (length b.pending) b) MACHINE_BIRTH k.0 (machine refl) k.1
+    pulse-phases (all_completed (length b.pending) b) MACHINE_BIRTH Cold k.0 (machine refl) k.1
 
 -- registers are in no slot
 shape-registers : (b : Board) (n : ℕ) (registers : Registers) → SameShape b (registers_set b n registers)
@@ -176,10 +178,11 @@ phases_kept_lem =
       refused_by = λ b d h. beside-phases b (refused b d) refl refl refl refl h;
       detached = λ b d s e h. detach-phases b d s e h;
       acts = acted-phases;
-      held_so = λ b n e d h. hold-phases b n d (may-reached b d h.lone n e) h;
+      held_so = λ b n kind e d h. hold-phases b n kind d (may-reached b d h.lone n e) h;
       released_so = λ b n e d h. release-phases b n d e h;
-      pulsed = λ b n e d h. pulse-phases b n d (may-reached b d h.lone n e) h;
+      pulsed = λ b n kind e d h. pulse-phases b n kind d (may-reached b d h.lone n e) h;
       reset = reset-phases;
+      wakes = λ b d h. pulse-phases b MACHINE_BIRTH Wakeup d (machine refl) h;
       set = set-phases;
       scaled = scaled-phases;
       registers = λ b n registers h. shape-phases b (registers_set b n registers) (shape-registers b n registers) refl refl (λ x. refl) h;

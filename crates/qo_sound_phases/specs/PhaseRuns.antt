@@ -9,23 +9,24 @@ use Rattle.qo_sound_devices.specs.SoundDevices.{SoundDevices}
 use Rattle.qo_sound_phases.specs.Phases.{IsInTurn, phases_of}
 use Rattle.qo_sound_phases.specs.PhasesKept.{may_reset}
 use Rattle.qo_sound_phases.specs.SoundPhases.{SoundPhases}
+use Rattle.qo_values.specs.declared.kinds.ResetKind.{ResetKind}
 
 -- a step: one as devices have it; or an object is held in reset and let go at once
 pub data PhaseStep : Type 0 where
   goes : DeviceStep → PhaseStep
-  pulses : ℕ → PhaseStep
+  pulses : ℕ → ResetKind → PhaseStep
 
 -- whether a machine makes a step of devices: it holds what may be held in reset, lets go where a hold is, and makes no act by itself
 abbrev pub is_made : Board → DeviceStep → Bool
 is_made b (acts act n period) = false
-is_made b (holds n) = may_reset b n
+is_made b (holds n kind) = may_reset b n
 is_made b (releases n) = among b.holds n
 is_made b step = true
 
 -- the board after a step; one that no machine makes leaves it
 abbrev pub phase_stepped : Board → PhaseStep → Board
 phase_stepped b (goes step) = if is_made b step then stepped b step else b
-phase_stepped b (pulses n) = if may_reset b n then pulse b n else b
+phase_stepped b (pulses n kind) = if may_reset b n then pulse b n kind else b
 
 -- and after some, in order
 abbrev pub after_phase_steps : Board → List PhaseStep → Board

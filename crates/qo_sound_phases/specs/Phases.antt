@@ -1,7 +1,9 @@
 -- The phases of a reset, as they are noted (docs/devel/reset.rst, "Multi-phase mechanism").
-use Rattle.std.specs.Prelude.{◌≡◌, ℕ, zero, suc, ◌==◌, if◌then◌else◌, List, [], ◌∷◌, ◌++◌, filter_map, Option, Some, None}
+use Rattle.std.specs.Prelude.{◌≡◌, ℕ, ◌==◌, if◌then◌else◌, List, [], ◌∷◌, ◌++◌, filter_map, Option, Some, None}
 use Rattle.qo_values.specs.declared.kinds.Act.{Act}
-use Rattle.qo_values.specs.declared.kinds.Act.TheVariants.{Enter, Hold, Exit}
+use Rattle.qo_values.specs.declared.kinds.Act.TheVariants.{Enter, Wake, Hold, Exit}
+use Rattle.qo_values.specs.declared.kinds.ResetKind.{ResetKind}
+use Rattle.qo_values.specs.Kinds.{entering}
 use Rattle.qo_model.specs.declared.notes.Deed.{Deed}
 use Rattle.qo_model.specs.declared.notes.Deed.TheVariants.{Did}
 use Rattle.qo_model.specs.declared.notes.Note.{Note}
@@ -9,6 +11,7 @@ use Rattle.qo_model.specs.declared.notes.Note.{Note}
 -- what was done, if it is a phase
 abbrev pub phase_of : Deed → Option Act
 phase_of (Did Enter) = Some Enter
+phase_of (Did Wake) = Some Wake
 phase_of (Did Hold) = Some Hold
 phase_of (Did Exit) = Some Exit
 phase_of deed = None
@@ -20,16 +23,16 @@ phase_in n x = if x.birth == n then phase_of x.deed else None
 abbrev pub phases_of : ℕ → List Note → List Act
 phases_of n notes = filter_map (phase_in n) notes
 
--- so many resets, one after another
-abbrev pub resets : ℕ → List Act
-resets zero = []
-resets (suc times) = Enter ∷ Hold ∷ Exit ∷ resets times
+-- resets of these types, one after another: a round each
+abbrev pub rounds : List ResetKind → List Act
+rounds [] = []
+rounds (kind ∷ kinds) = entering kind ∷ Hold ∷ Exit ∷ rounds kinds
 
 -- phases are in turn: they are the beginning of resets, one after another
 pub record IsInTurn (acts : List Act) : Type 0 where
-  pub times : ℕ
+  pub kinds : List ResetKind
   pub to_come : List Act
-  pub in_turn : acts ++ to_come ≡ resets times
+  pub in_turn : acts ++ to_come ≡ rounds kinds
 
 -- where an object is in its resets: in none, entered, or held
 pub data Stage : Type 0 where
@@ -40,6 +43,7 @@ pub data Stage : Type 0 where
 -- where a phase leads, if it is in turn
 abbrev pub passed : Stage → Act → Option Stage
 passed out Enter = Some entered
+passed out Wake = Some entered
 passed entered Hold = Some held
 passed held Exit = Some out
 passed stage act = None

@@ -9,7 +9,7 @@ use Rattle.qo_model.specs.ClockChanges.{clock_scaled, clock_set}
 use Rattle.qo_model.specs.Clocks.{acted}
 use Rattle.qo_model.specs.Depth.{among}
 use Rattle.qo_model.specs.FinalNotesRuns.{Change, changed}
-use Rattle.qo_model.specs.Hotplug.{asked, refused, reset_whole}
+use Rattle.qo_model.specs.Hotplug.{asked, refused, reset_whole, woken}
 use Rattle.qo_model.specs.Objects.{with_attempt}
 use Rattle.qo_model.specs.Opening.{opening_board}
 use Rattle.qo_model.specs.Paths.{attached, is_of}
@@ -22,6 +22,7 @@ use Rattle.qo_sound_devices.specs.SoundPlaces.{stands}
 use Rattle.qo_sound_clocks.specs.RegisterWrites.{registers_set}
 use Rattle.qo_sound_phases.specs.Phases.{phase_of}
 use Rattle.qo_sound_phases.specs.SoundPhases.{SoundPhases}
+use Rattle.qo_values.specs.declared.kinds.ResetKind.{ResetKind}
 
 -- whether an object may be held in reset: it is in the tree, and a machine, a bus or a device
 abbrev pub may_reset : Board → ℕ → Bool
@@ -46,11 +47,12 @@ pub record PhasesKeptLaw : Type 0 where
   pub detached : (b : Board) (d : ℕ) → SoundDevices b → stands b d ≡ true → SoundPhases b → SoundPhases (detach b d)
   -- an act that is no phase
   pub acts : (act : Act) (n period : ℕ) (b : Board) → phase_of (Did act) ≡ None → SoundPhases b → SoundPhases (acted act n period b)
-  -- a hold on an object that may be held, a hold less where one is, and both; and the reset of the whole board
-  pub held_so : (b : Board) (n : ℕ) → may_reset b n ≡ true → SoundDevices b → SoundPhases b → SoundPhases (after_hold b n)
+  -- a hold on an object that may be held, a hold less where one is, and both; the reset of the whole board; and the wakeup of the machine
+  pub held_so : (b : Board) (n : ℕ) (kind : ResetKind) → may_reset b n ≡ true → SoundDevices b → SoundPhases b → SoundPhases (after_hold b n kind)
   pub released_so : (b : Board) (n : ℕ) → among b.holds n ≡ true → SoundDevices b → SoundPhases b → SoundPhases (released b n)
-  pub pulsed : (b : Board) (n : ℕ) → may_reset b n ≡ true → SoundDevices b → SoundPhases b → SoundPhases (pulse b n)
+  pub pulsed : (b : Board) (n : ℕ) (kind : ResetKind) → may_reset b n ≡ true → SoundDevices b → SoundPhases b → SoundPhases (pulse b n kind)
   pub reset : (b : Board) → SoundDevices b → SoundPhases b → SoundPhases (reset_whole b)
+  pub wakes : (b : Board) → SoundDevices b → SoundPhases b → SoundPhases (woken b)
   -- a write of a clock's period, and of its mul and div, that is not refused
   pub set : (b d : Board) (c period : ℕ) → clock_set b c period ≡ Ok d → SoundDevices b → SoundPhases b → SoundPhases d
   pub scaled : (b d : Board) (c mul div : ℕ) → clock_scaled b c mul div ≡ Ok d → SoundDevices b → SoundPhases b → SoundPhases d

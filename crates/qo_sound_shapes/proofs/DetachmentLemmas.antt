@@ -15,7 +15,6 @@ use Rattle.qo_model.proofs.StepLemmas.{found-birth}
 use Rattle.qo_sound.proofs.FirmBoardLemmas.{FitsKind, left-linked, Linked, unseen-linked, val-linked}
 use Rattle.qo_sound.proofs.RecordLemmas.{all-both, all-map}
 use Rattle.qo_sound.proofs.SlotLemmas.{all-changed, all-dropped}
-use Rattle.qo_sound_devices.proofs.ResetLemmas.{first-on}
 use Rattle.qo_sound_shapes.specs.SoundShape.{is_child_role, HasRole, IsFurther, IsKidLink, IsOfProperty, may_miss}
 use Rattle.qo_sound_shapes.proofs.BoardLemmas.{all-after, all-becomes, all-edit, all-let_go, all-pin, all-unpin, AllOf}
 use Rattle.qo_sound_shapes.proofs.CommandLemmas.{child-row, container-kind, good-emptied}
@@ -23,6 +22,10 @@ use Rattle.qo_sound_shapes.proofs.ShapeLemmas.{Good, good-changed, good-forgotte
 use Rattle.qo_sound_shapes.proofs.QuietChangeLemmas.{good-act, slot-of, Takes, all-set, KeepsSet}
 use Rattle.qo_sound_shapes.proofs.RowLemmas.{bus-kid, bus-plain, has-all, has-removed, is_plain_role, IsRowOf, own-rows, plain-strong, Slots}
 use Rattle.qo_sound_phases.proofs.UnrealizingLemmas.{unrealize-walk}
+
+first-on : (P : ℕ → Type 0) (ns : List ℕ) → AllByRecursion P ns → (d : ℕ) → first_of ns ≡ Some d → P d
+first-on P [] h d e = cc
+first-on P (n ∷ ns) h d e = subst P (same_Some n d e) h.0
 
 -- an object whose links are to objects of their types, where `kinds` says the types before
 pub record Kinded (kinds : ℕ → Option TypeId) (r : Record) : Type 0 where

@@ -1,6 +1,6 @@
 -- What changes no slots, and values that are set by name, keep the shape.
 use Rattle.std.proofs.Common.{rules, ◌≡◌, inr, refl, ap, sym, subst, ◌∙◌, ℕ, ◌<◌, ◌≤◌, ◌-◌, ◌^◌, Bool, true, false, ◌==◌, eqb, List, ◌∷◌, ◌++◌, filter, slice_get, codes, Option, Some, None, is_some, option_map, Ok, Err, arith, []}
-use Rattle.qo_model.proofs.Common.{nat_le, ⊤, option_map_or, bytes_eq, Effect, body_act, body_write, admits, is_multiple, Registers, fresh_registers, E45, E46, Act, Enter, Hold, Exit, TypeId, Val, Board, Record, Slot, plain, child, strong, weak, alias, is_live, kind_of, record_of, slots_at, set, with_changed, with_val, clock_scaled, clock_set, acted, source_of, with_act_on, among, asked, asked_of, device_at, index_from, opening_board, attached, notice_barred, property_named, edit, edited, without_first, is_not_in_reset, phased, post, pulse, released, property_name, types, is_named, set_named}
+use Rattle.qo_model.proofs.Common.{nat_le, ⊤, option_map_or, bytes_eq, Effect, body_act, body_write, admits, is_multiple, Registers, fresh_registers, E45, E46, Act, Hold, Exit, TypeId, Val, Board, Record, Slot, plain, child, strong, weak, alias, is_live, kind_of, record_of, slots_at, set, with_changed, with_val, clock_scaled, clock_set, acted, source_of, with_act_on, asked, asked_of, device_at, index_from, opening_board, attached, notice_barred, property_named, edit, edited, without_first, is_not_in_reset, phased, post, pulse, released, property_name, types, is_named, set_named}
 use Rattle.qo_model.specs.declared.properties.Property.{Property}
 use Rattle.qo_model.specs.declared.properties.PropertyRole.{PropertyRole}
 use Rattle.std.proofs.lemmas.Bool.Decides.{nat_tests}
@@ -11,6 +11,7 @@ use Rattle.qo_values.specs.declared.properties.PropType.TheVariants as ty
 use Rattle.qo_values.specs.declared.properties.Val.TheVariants as val
 use Rattle.qo_values.proofs.EachLemmas.{AllBodies, each, each_act, each_body, each_write}
 use Rattle.qo_model.specs.Reset.{after_hold}
+use Rattle.qo_model.specs.Hotplug.{is_early}
 use Rattle.qo_model.specs.declared.properties.PropertyRole.TheVariants as row
 use Rattle.qo_model.proofs.FirstSlotLemmas.{Found, found-at}
 use Rattle.qo_model.proofs.StepLemmas.{found-edited, found_at, is_some-map}
@@ -27,6 +28,8 @@ use Rattle.qo_sound_shapes.proofs.ShapeLemmas.{Good, good-changed, mild-val}
 use Rattle.qo_sound_shapes.proofs.RowLemmas.{IsRowOf}
 use Rattle.qo_sound_shapes.proofs.ChildTypeLemmas.{typed-same}
 use Rattle.qo_sound_shapes.proofs.CompletenessLemmas.{edit-read, entries-changed, entries_in, whole-same}
+use Rattle.qo_values.specs.declared.kinds.ResetKind.{ResetKind}
+use Rattle.qo_values.specs.Kinds.{entering}
 
 -- the machine's objects stay there
 
@@ -89,13 +92,13 @@ pub phased-shape : (act : Act) (ns : List ℕ) (b : Board) → SoundShape b → 
 phased-shape act [] b h = h
 phased-shape act (n ∷ ns) b h = phased-shape act ns (acted act n 0 b) (acted-shape act n 0 b h)
 
-pub held-shape : (b : Board) (n : ℕ) → SoundShape b → SoundShape (after_hold b n)
+pub held-shape : (b : Board) (n : ℕ) (kind : ResetKind) → SoundShape b → SoundShape (after_hold b n kind)
 unfolding after_hold
-held-shape b n h =
-    let entered : Board = phased Enter (filter (is_not_in_reset b) (post b n)) b in
+held-shape b n kind h =
+    let entered : Board = phased (entering kind) (filter (is_not_in_reset b) (post b n)) b in
     let c : Board = phased Hold (filter (is_not_in_reset b) (post b n)) entered in
     same-shape c (record c { holds = b.holds ++ n ∷ [] }) refl
-    (phased-shape Hold (filter (is_not_in_reset b) (post b n)) entered (phased-shape Enter (filter (is_not_in_reset b) (post b n)) b h))
+    (phased-shape Hold (filter (is_not_in_reset b) (post b n)) entered (phased-shape (entering kind) (filter (is_not_in_reset b) (post b n)) b h))
 
 pub released-shape : (b : Board) (n : ℕ) → SoundShape b → SoundShape (released b n)
 unfolding released
@@ -103,16 +106,16 @@ released-shape b n h =
     let c : Board = record b { holds = without_first n b.holds } in
     phased-shape Exit (filter (is_not_in_reset c) (post c n)) c (same-shape b c refl h)
 
-pub pulse-shape : (b : Board) (n : ℕ) → SoundShape b → SoundShape (pulse b n)
+pub pulse-shape : (b : Board) (n : ℕ) (kind : ResetKind) → SoundShape b → SoundShape (pulse b n kind)
 unfolding pulse
-pulse-shape b n h = released-shape (after_hold b n) n (held-shape b n h)
+pulse-shape b n kind h = released-shape (after_hold b n kind) n (held-shape b n kind h)
 
 -- a removal that is asked for
 
 asked_of-shape : (b : Board) (d : ℕ) → SoundShape b → SoundShape (asked_of b d).board
-asked_of-shape b d h = go (attached b d) refl (among b.pending d) refl (is_some (notice_barred b)) refl
+asked_of-shape b d h = go (attached b d) refl (is_early b d) refl (is_some (notice_barred b)) refl
   where
-    go : (home : Bool) → attached b d ≡ home → (pending : Bool) → among b.pending d ≡ pending → (full : Bool) → is_some (notice_barred b) ≡ full
+    go : (home : Bool) → attached b d ≡ home → (pending : Bool) → is_early b d ≡ pending → (full : Bool) → is_some (notice_barred b) ≡ full
         → SoundShape (asked_of b d).board
     go false p pending q full r = rw (asked_of, p) h
     go true p true q full r = rw (asked_of, p, q) h

@@ -1,7 +1,7 @@
 -- A device that is detached, and the reset of the whole board, keep the shape.
-use Rattle.std.proofs.Common.{◌≡◌, inl, refl, ap, ◌∙◌, ℕ, zero, suc, true, false, List, length, codes, Option, Some, None, option_map}
+use Rattle.std.proofs.Common.{◌≡◌, inl, refl, ap, ◌∙◌, ℕ, zero, suc, true, false, List, length, codes, Option, Some, None, option_map, slice_get}
 use Rattle.qo_model.proofs.Common.{AllByRecursion, MACHINE_BIRTH, Board, Record, Slot, kind_of, all_completed, completed, reset_whole, is_of, detach}
-use Rattle.qo_model.specs.Unplug.{first_of}
+use Rattle.qo_model.specs.Board.{Removal}
 use Rattle.qo_model.proofs.StepLemmas.{found-birth}
 use Rattle.qo_sound.proofs.FirmBoardLemmas.{Linked}
 use Rattle.qo_sound.proofs.SearchLemmas.{all-found}
@@ -19,6 +19,7 @@ use Rattle.qo_sound_shapes.proofs.DetachmentLemmas.{Kinded, keeps-detach}
 use Rattle.qo_sound_shapes.proofs.ShapeLemmas.{Good}
 use Rattle.qo_sound_shapes.proofs.QuietChangeLemmas.{pulse-shape}
 use Rattle.qo_sound_shapes.proofs.ChildLemmas.{stays, whole-stays}
+use Rattle.qo_values.specs.declared.kinds.ResetKind.TheVariants.{Cold}
 
 -- on a board that is sound as far as devices go
 keeps-all : (b : Board) → SoundDevices b → SoundShape b → AllOf (Kinded (kind_of b)) b
@@ -47,15 +48,15 @@ detach-shape b d devices e h =
 
 completed-shape : (times : ℕ) (b : Board) → SoundDevices b → SoundShape b → SoundShape (all_completed times b)
 completed-shape zero b devices h = h
-completed-shape (suc times) b devices h = go (first_of b.pending) refl (completed-shape times)
+completed-shape (suc times) b devices h = go (slice_get b.pending 0) refl (completed-shape times)
   where
-    go : (o : Option ℕ) → first_of b.pending ≡ o → ((c : Board) → SoundDevices c → SoundShape c → SoundShape (all_completed times c))
+    go : (o : Option Removal) → slice_get b.pending 0 ≡ o → ((c : Board) → SoundDevices c → SoundShape c → SoundShape (all_completed times c))
         → SoundShape (all_completed (suc times) b)
     go None e rest = rw (all_completed, e) h
     go (Some d) e rest =
-        let there : stands b d ≡ true = (first-on (IsOn b) b.pending devices.lists.pending d e).0 in
-        rw (all_completed, e) (rest (completed b d) (detached-below b d devices there) (detach-shape b d devices there h))
+        let there : stands b d.birth ≡ true = (first-on (IsOn b) b.pending devices.lists.pending d e).0 in
+        rw (all_completed, e) (rest (completed b d.birth) (detached-below b d.birth devices there) (detach-shape b d.birth devices there h))
 
 pub reset-shape : (b : Board) → SoundDevices b → SoundShape b → SoundShape (reset_whole b)
 unfolding reset_whole
-reset-shape b devices h = pulse-shape (all_completed (length b.pending) b) MACHINE_BIRTH (completed-shape (length b.pending) b devices h)
+reset-shape b devices h = pulse-shape (all_completed (length b.pending) b) MACHINE_BIRTH Cold (completed-shape (length b.pending) b devices h)

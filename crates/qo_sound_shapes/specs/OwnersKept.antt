@@ -17,6 +17,7 @@ use Rattle.qo_sound_clocks.specs.RegisterWrites.{registers_set}
 use Rattle.qo_sound_devices.specs.SoundDevices.{SoundDevices}
 use Rattle.qo_sound_devices.specs.SoundPlaces.{stands}
 use Rattle.qo_sound_shapes.specs.SoundOwners.{SoundOwners}
+use Rattle.qo_values.specs.declared.kinds.ResetKind.{ResetKind}
 
 -- what keeps them so, some of it where the board is sound as far as devices go
 pub record OwnersKeptLaw : Type 0 where
@@ -31,9 +32,9 @@ pub record OwnersKeptLaw : Type 0 where
   pub refused_by : (b : Board) (d : ℕ) → SoundOwners b → SoundOwners (refused b d)
   -- an act; a hold, a hold less, and both
   pub acts : (act : Act) (n period : ℕ) (b : Board) → SoundOwners b → SoundOwners (acted act n period b)
-  pub held_so : (b : Board) (n : ℕ) → SoundOwners b → SoundOwners (after_hold b n)
+  pub held_so : (b : Board) (n : ℕ) (kind : ResetKind) → SoundOwners b → SoundOwners (after_hold b n kind)
   pub released_so : (b : Board) (n : ℕ) → SoundOwners b → SoundOwners (released b n)
-  pub pulsed : (b : Board) (n : ℕ) → SoundOwners b → SoundOwners (pulse b n)
+  pub pulsed : (b : Board) (n : ℕ) (kind : ResetKind) → SoundOwners b → SoundOwners (pulse b n kind)
   -- a write of a clock's period, and of its mul and div, that is not refused
   pub set : (b d : Board) (c period : ℕ) → clock_set b c period ≡ Ok d → SoundOwners b → SoundOwners d
   pub scaled : (b d : Board) (c mul div : ℕ) → clock_scaled b c mul div ≡ Ok d → SoundOwners b → SoundOwners d

@@ -17,6 +17,7 @@ use Rattle.qo_sound_clocks.specs.RegisterWrites.{registers_set}
 use Rattle.qo_sound_devices.specs.SoundDevices.{SoundDevices}
 use Rattle.qo_sound_devices.specs.SoundPlaces.{stands}
 use Rattle.qo_sound_shapes.specs.SoundShape.{SoundShape, is_like}
+use Rattle.qo_values.specs.declared.kinds.ResetKind.{ResetKind}
 
 -- what keeps them so, some of it where the board is sound as far as devices go
 pub record ShapesKeptLaw : Type 0 where
@@ -31,9 +32,9 @@ pub record ShapesKeptLaw : Type 0 where
   pub refused_by : (b : Board) (d : ℕ) → SoundShape b → SoundShape (refused b d)
   -- an act; a hold, a hold less, and both
   pub acts : (act : Act) (n period : ℕ) (b : Board) → SoundShape b → SoundShape (acted act n period b)
-  pub held_so : (b : Board) (n : ℕ) → SoundShape b → SoundShape (after_hold b n)
+  pub held_so : (b : Board) (n : ℕ) (kind : ResetKind) → SoundShape b → SoundShape (after_hold b n kind)
   pub released_so : (b : Board) (n : ℕ) → SoundShape b → SoundShape (released b n)
-  pub pulsed : (b : Board) (n : ℕ) → SoundShape b → SoundShape (pulse b n)
+  pub pulsed : (b : Board) (n : ℕ) (kind : ResetKind) → SoundShape b → SoundShape (pulse b n kind)
   -- a write of a clock's period, and of its mul and div, with numbers as wide as their properties, that is not refused
   pub set : (b d : Board) (c period : ℕ) → period < 2 ^ 64 → clock_set b c period ≡ Ok d → SoundShape b → SoundShape d
   pub scaled : (b d : Board) (c mul div : ℕ) → mul < 2 ^ 32 → div < 2 ^ 32 → clock_scaled b c mul div ≡ Ok d → SoundShape b → SoundShape d

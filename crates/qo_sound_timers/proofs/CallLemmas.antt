@@ -9,7 +9,7 @@ use Rattle.qo_values.specs.declared.kinds.Act.{Act}
 use Rattle.qo_values.specs.declared.kinds.Act.TheVariants.{Pre, Update}
 use Rattle.qo_values.specs.declared.kinds.TypeId.{TypeId}
 use Rattle.qo_values.proofs.EachLemmas.{AllBodies, each, each_act, each_body, each_write}
-use Rattle.qo_values.specs.Timer.{timer_enter, timer_halt, timer_hold, timer_pre, timer_update, timer_write}
+use Rattle.qo_values.specs.Timer.{timer_enter, timer_halt, timer_hold, timer_pre, timer_update, timer_wake, timer_write}
 use Rattle.qo_timer.specs.Calls.{TimerCall, enter, hold, pre, update, halt, write, after_call, after_calls, is_pre, is_update, updates_follow}
 use Rattle.qo_sound_timers.specs.TimerRuns.{IsLeftBy, RiseTo, moment_of}
 use Rattle.qo_steps.proofs.RegisterStepsLemmas.{KeepsRegisters}
@@ -105,6 +105,10 @@ left-halt now period t h = left-more now t (halt now period) refl refl h
 left-enter : (now : ℕ) (t : TimerRegisters) → IsLeft now (timer t) → IsLeft now (timer (timer_enter t))
 left-enter now t h = left-more now t enter refl tt h
 
+-- Wake is Enter, and then RELOAD is written as it was
+left-wake : (now : ℕ) (t : TimerRegisters) → IsLeft now (timer t) → IsLeft now (timer (timer_wake t))
+left-wake now t h = left-more now (timer_enter t) (write 1 t.reload now 0) refl refl (left-enter now t h)
+
 left-hold : (now : ℕ) (t : TimerRegisters) → IsLeft now (timer t) → IsLeft now (timer (timer_hold t))
 left-hold now t h = left-more now t hold refl tt h
 
@@ -115,7 +119,7 @@ abbrev StayLeft : Act → Type 0
 StayLeft act = AllBodies (StaysLeft act)
 
 pub left-act : (act : Act) (now period : ℕ) (r : Registers) → act ≢ Pre → act ≢ Update → IsLeft now r → IsLeft now (body_act act now period r)
-left-act act now period r = each_body (StaysLeft act) (each_act StayLeft (search (rules, left-halt, left-enter, left-hold)) act) r now period
+left-act act now period r = each_body (StaysLeft act) (each_act StayLeft (search (rules, left-halt, left-enter, left-wake, left-hold)) act) r now period
 
 -- a guest's write; no other body becomes a timer
 

@@ -1,6 +1,8 @@
 -- Over every run each timer is as its calls leave it.
 use Rattle.std.proofs.Common.{◌≡◌, refl, sym, subst, rules, ℕ, ◌≤◌, false, List, Option, Some, None, is_some}
 use Rattle.std.specs.Option.{option_map_or}
+use Rattle.qo_values.specs.declared.births.TheConstants.{MACHINE_BIRTH}
+use Rattle.qo_values.specs.declared.kinds.ResetKind.TheVariants.{Cold, Wakeup}
 use Rattle.qo_values.proofs.ListLemmas.{all-imply}
 use Rattle.qo_values.specs.Registers.{Effect, Registers, TimerRegisters, bare, timer}
 use Rattle.qo_values.specs.Timer.{timer_ticks}
@@ -73,13 +75,14 @@ timers_kept =
       polled = λ b h. h;
       written = λ b d reg value c there is h.
           written-all Left b d reg value (λ registers e so. written-left b d reg value registers e so h) (λ x n id q. q)
-          (λ x m on q. kept.pulsed x m tt tt q) c is;
+          (λ x m on q. kept.pulsed x m Cold tt tt q) c is;
       rings = any-rings Left (λ b rings h. h);
       timed = λ b now on low h. timed-left b now on h;
       switched = λ b on h. h;
-      held_so = λ b n is home deep. kept.held_so b n tt tt;
+      held_so = λ b n kind is home deep. kept.held_so b n kind tt tt;
       released_so = λ b n is held. kept.released_so b n tt tt;
       reset = λ b. kept.reset b tt;
+      wakes = λ b. kept.pulsed b MACHINE_BIRTH Wakeup tt tt;
     }
 
 left-run : (turns : List Turn) → Left (state_after opening turns).board

@@ -1,20 +1,29 @@
 -- Holds, removals that are asked for and refused, and the reset of the whole board: what their steps keep, they keep.
-use Rattle.std.proofs.Common.{◌≡◌, refl, subst, ◌∙◌, ℕ, zero, suc, Bool, true, false, List, [], ◌∷◌, ◌++◌, filter, length, Option, Some, None, is_some}
-use Rattle.qo_model.proofs.Common.{AllByRecursion, MACHINE_BIRTH, Code, Act, Enter, Hold, Exit, Board, DeviceEvent, record_of, acted, among, all_completed, asked, asked_of, device_at, refused, refused_event, reset_whole, with_asked, attached, notice_barred, is_not_in_reset, phased, post, pulse, released, detach}
+use Rattle.std.proofs.Common.{◌≡◌, refl, subst, ◌∙◌, ℕ, zero, suc, Bool, true, false, List, [], ◌∷◌, ◌++◌, filter, length, Option, Some, None, is_some, slice_get}
+use Rattle.qo_model.proofs.Common.{AllByRecursion, MACHINE_BIRTH, Code, Act, Hold, Exit, Board, DeviceEvent, record_of, acted, all_completed, asked, asked_of, device_at, refused, refused_event, reset_whole, with_asked, attached, notice_barred, is_not_in_reset, phased, post, pulse, released, detach}
 use Rattle.std.specs.Prelude.{option_and_then, option_to_list}
 use Rattle.qo_model.specs.Reset.{after_hold}
-use Rattle.qo_model.specs.Unplug.{first_of}
+use Rattle.qo_values.specs.declared.kinds.ResetKind.{ResetKind}
+use Rattle.qo_values.specs.declared.kinds.ResetKind.TheVariants.{Cold, Wakeup}
+use Rattle.qo_values.specs.Kinds.{entering}
+use Rattle.qo_model.specs.Board.{Removal}
+use Rattle.qo_model.specs.Hotplug.{is_early}
 use Rattle.qo_sound.proofs.RecordLemmas.{all-filter}
-use Rattle.qo_steps.specs.Steps.{HasNoticeRoom, MayAsk, declined, with_hold, with_release}
+use Rattle.qo_steps.specs.Steps.{HasNoticeRoom, MayAsk, declined, is_calm, with_hold, with_release}
 use Rattle.qo_steps.proofs.ActingLemmas.{IsSteady, KeepsCalm, SameThere, phased-by, phased-there, steady-all, there-both}
 use Rattle.qo_steps.proofs.AdditionLemmas.{notice-room}
 
+-- whoever enters a reset is at the beginning of no object and in no call back
+entering-calm : (kind : ResetKind) → is_calm (entering kind) ≡ true
+entering-calm Cold = refl
+entering-calm Wakeup = refl
+
 -- a hold leaves who is there
-pub held-there : (b : Board) (n : ℕ) → SameThere b (after_hold b n)
+pub held-there : (b : Board) (n : ℕ) (kind : ResetKind) → SameThere b (after_hold b n kind)
 unfolding after_hold
-held-there b n x =
+held-there b n kind x =
     let out : List ℕ = filter (is_not_in_reset b) (post b n) in
-    phased-there Hold out (phased Enter out b) x ∙ phased-there Enter out b x
+    phased-there Hold out (phased (entering kind) out b) x ∙ phased-there (entering kind) out b x
 
 -- a hold, and a hold less: whoever is below may act
 pub record HoldSteps (On : Board → ℕ → Type 0) (P : Board → Type 0) : Type 0 where
@@ -28,18 +37,19 @@ phased-holds act [] c = refl
 phased-holds act (n ∷ ns) c = phased-holds act ns (acted act n 0 c)
 
 module _ (On : Board → ℕ → Type 0) (steady : IsSteady On) (P : Board → Type 0) (k : HoldSteps On P) where
-  pub held-by : (b : Board) (n : ℕ) → On b n → AllByRecursion (On b) (post b n) → P b → P (after_hold b n)
+  pub held-by : (b : Board) (n : ℕ) (kind : ResetKind) → On b n → AllByRecursion (On b) (post b n) → P b → P (after_hold b n kind)
   unfolding after_hold
-  held-by b n own on h =
+  held-by b n kind own on h =
       let out : List ℕ = filter (is_not_in_reset b) (post b n) in
       let may : AllByRecursion (On b) out = all-filter (On b) (is_not_in_reset b) (post b n) on in
-      let entered : Board = phased Enter out b in
+      let entered : Board = phased (entering kind) out b in
       let c : Board = phased Hold out entered in
-      let one : SameThere b entered = phased-there Enter out b in
+      let one : SameThere b entered = phased-there (entering kind) out b in
       let two : SameThere b c = there-both b entered c one (phased-there Hold out entered) in
       let passed : P c =
-      phased-by On steady P k.acts Hold refl out entered (steady-all On steady b entered one out may) (phased-by On steady P k.acts Enter refl out b may h) in
-      subst (λ (holds : List ℕ). P (record c { holds = holds ++ n ∷ [] })) (phased-holds Hold out entered ∙ phased-holds Enter out b)
+      phased-by On steady P k.acts Hold refl out entered (steady-all On steady b entered one out may)
+      (phased-by On steady P k.acts (entering kind) (entering-calm kind) out b may h) in
+      subst (λ (holds : List ℕ). P (record c { holds = holds ++ n ∷ [] })) (phased-holds Hold out entered ∙ phased-holds (entering kind) out b)
       (k.holds n c (steady b c two n own) passed)
 
   pub released-by : (b : Board) (n : ℕ) → On b n → AllByRecursion (On b) (post b n) → P b → P (released b n)
@@ -50,11 +60,11 @@ module _ (On : Board → ℕ → Type 0) (steady : IsSteady On) (P : Board → T
       steady-all On steady b c (λ x. refl) (filter (is_not_in_reset c) (post c n)) (all-filter (On b) (is_not_in_reset c) (post c n) on) in
       phased-by On steady P k.acts Exit refl (filter (is_not_in_reset c) (post c n)) c may (k.releases n b own h)
 
-  pub pulse-by : (b : Board) (n : ℕ) → On b n → AllByRecursion (On b) (post b n) → AllByRecursion (On (after_hold b n)) (post (after_hold b n) n) → P b
-      → P (pulse b n)
+  pub pulse-by : (b : Board) (n : ℕ) (kind : ResetKind) → On b n → AllByRecursion (On b) (post b n)
+      → AllByRecursion (On (after_hold b n kind)) (post (after_hold b n kind) n) → P b → P (pulse b n kind)
   unfolding pulse
-  pulse-by b n own on still h =
-      released-by (after_hold b n) n (steady b (after_hold b n) (held-there b n) n own) still (held-by b n own on h)
+  pulse-by b n kind own on still h =
+      released-by (after_hold b n kind) n (steady b (after_hold b n kind) (held-there b n kind) n own) still (held-by b n kind own on h)
 
 -- a removal that is asked for
 pub asked-by : (P : Board → Type 0) → ((d : ℕ) (c : Board) → MayAsk c d → P c → P (with_asked c d)) → (b : Board) (id : List ℕ) → P b → P (asked b id).board
@@ -65,11 +75,11 @@ asked-by P asks b id h = go (device_at b id) refl
     free None e some = notice-room b e
 
     by : (d : ℕ) → P (asked_of b d).board
-    by d = test (attached b d) refl (among b.pending d) refl (is_some (notice_barred b)) refl
+    by d = test (attached b d) refl (is_early b d) refl (is_some (notice_barred b)) refl
       where
-        test : (home : Bool) → attached b d ≡ home → (pending : Bool) → among b.pending d ≡ pending → (full : Bool) → is_some (notice_barred b) ≡ full
+        test : (home : Bool) → attached b d ≡ home → (early : Bool) → is_early b d ≡ early → (full : Bool) → is_some (notice_barred b) ≡ full
             → P (asked_of b d).board
-        test false p pending q full r = rw (asked_of, p) h
+        test false p early q full r = rw (asked_of, p) h
         test true p true q full r = rw (asked_of, p, q) h
         test true p false q true r = rw (asked_of, p, q, r) h
         test true p false q false r =
@@ -86,19 +96,19 @@ refused-by P declines tells b d h = tells (option_to_list (option_and_then refus
 
 -- the whole board is reset, while it stays good: each device whose removal is pending is detached, and the machine goes through its phases
 pub record ResetSteps (Good P : Board → Type 0) : Type 0 where
-  pub detaches : (b : Board) (d : ℕ) → first_of b.pending ≡ Some d → Good b → P b → P (detach b d)
-  pub stays : (b : Board) (d : ℕ) → first_of b.pending ≡ Some d → Good b → Good (detach b d)
-  pub pulses : (b : Board) → Good b → P b → P (pulse b MACHINE_BIRTH)
+  pub detaches : (b : Board) (r : Removal) → slice_get b.pending 0 ≡ Some r → Good b → P b → P (detach b r.birth)
+  pub stays : (b : Board) (r : Removal) → slice_get b.pending 0 ≡ Some r → Good b → Good (detach b r.birth)
+  pub pulses : (b : Board) → Good b → P b → P (pulse b MACHINE_BIRTH Cold)
 
 module _ (Good P : Board → Type 0) (k : ResetSteps Good P) where
   by-completed : (times : ℕ) (b : Board) → Good b → P b → Good (all_completed times b) × P (all_completed times b)
   by-completed zero b good h = (good, h)
-  by-completed (suc times) b good h = go (first_of b.pending) refl (by-completed times)
+  by-completed (suc times) b good h = go (slice_get b.pending 0) refl (by-completed times)
     where
-      go : (o : Option ℕ) → first_of b.pending ≡ o → ((c : Board) → Good c → P c → Good (all_completed times c) × P (all_completed times c))
+      go : (o : Option Removal) → slice_get b.pending 0 ≡ o → ((c : Board) → Good c → P c → Good (all_completed times c) × P (all_completed times c))
           → Good (all_completed (suc times) b) × P (all_completed (suc times) b)
       go None p rest = rw (all_completed, p) (good, h)
-      go (Some d) p rest = rw (all_completed, p) (rest (detach b d) (k.stays b d p good) (k.detaches b d p good h))
+      go (Some r) p rest = rw (all_completed, p) (rest (detach b r.birth) (k.stays b r p good) (k.detaches b r p good h))
 
   pub reset-by : (b : Board) → Good b → P b → P (reset_whole b)
   unfolding reset_whole

@@ -1,6 +1,7 @@
 -- What is shown of a law for a theorem to give it: each step keeps it.
 use Rattle.std.proofs.Common.{nat_eq, ◌≡◌, refl, sym, append-nil, ℕ, suc, ◌+◌, ◌≤◌, true, List, [], ◌∷◌, ◌++◌, Option, arith}
 use Rattle.qo_model.proofs.Common.{⊤, AllByRecursion, list_any, Act, Pre, Update, TypeId, Val, Range, Board, DeviceEvent, Notice, Record, Slot, add, cut, point, set, with_changed, acted, with_asked, Given, fitted, with_body_of, with_given, with_new, with_path, drop_slot, edit, pin, put_in_order, without_first, without_pin, without_slots, unheld, unnoticed, unseen, without_all}
+use Rattle.qo_model.specs.Board.{Removal}
 use Rattle.qo_model.specs.declared.notes.Note.{Note}
 use Rattle.qo_steps.specs.Steps.{announced, declined, new_with, is_calm, with_hold, with_release, HasEmpty, HasNamed, HasNoticeRoom, HasRoom, HasSlot, IsOfNext, MayAsk, TakesTarget}
 use Rattle.qo_steps.proofs.ReleasesLemmas.{KeepsFinish, KeepsReleases, release-each}
@@ -81,7 +82,7 @@ pub record StaysBeside (c d : Board) : Type 0 where
   pub notes : d.notes ≡ c.notes
   pub events : (more : List DeviceEvent) × (d.events ≡ c.events ++ more)
 
-lists-stay : (pins holds pending : List ℕ) (notices : List Notice) (c : Board)
+lists-stay : (pins holds : List ℕ) (pending : List Removal) (notices : List Notice) (c : Board)
     → StaysBeside c (record c { pins = pins; holds = holds; pending = pending; notices = notices })
 lists-stay pins holds pending notices c =
     record {

@@ -6,6 +6,8 @@ use Rattle.qo_model.specs.declared.properties.PropertyRole.{PropertyRole}
 use Rattle.std.proofs.lemmas.List.{length-map}
 use Rattle.std.proofs.lemmas.List.Elements.{All-contains, All-from_recursion}
 use Rattle.qo_values.specs.declared.properties.Val.TheVariants as val
+use Rattle.qo_values.specs.declared.kinds.ResetKind.{ResetKind}
+use Rattle.qo_values.specs.declared.kinds.ResetKind.TheVariants.{Cold}
 use Rattle.qo_model.specs.Reset.{after_hold}
 use Rattle.qo_model.specs.declared.properties.PropertyRole.TheVariants as row
 use Rattle.qo_model.proofs.ComesToLemmas.{deletion-comes}
@@ -87,16 +89,17 @@ module _ (Good : Board → Type 0) (On : Board → ℕ → Type 0) (reach : Reac
   kept-hold : HoldSteps On P
   kept-hold = record { acts = k.objects.acts; holds = k.beside.holds; releases = k.beside.releases }
 
-  pub kept-held : (b : Board) (n : ℕ) → Good b → On b n → P b → P (after_hold b n)
-  kept-held b n good on h = held-by On reach.steady P kept-hold b n on (reach.post b n good on) h
+  pub kept-held : (b : Board) (n : ℕ) (kind : ResetKind) → Good b → On b n → P b → P (after_hold b n kind)
+  kept-held b n kind good on h = held-by On reach.steady P kept-hold b n kind on (reach.post b n good on) h
 
   pub kept-released : (b : Board) (n : ℕ) → Good b → On b n → P b → P (released b n)
   kept-released b n good on h = released-by On reach.steady P kept-hold b n on (reach.post b n good on) h
 
-  pub kept-pulse : (b : Board) (n : ℕ) → Good b → On b n → P b → P (pulse b n)
-  kept-pulse b n good on h =
-      let still : On (after_hold b n) n = reach.steady b (after_hold b n) (held-there b n) n on in
-      pulse-by On reach.steady P kept-hold b n on (reach.post b n good on) (reach.post (after_hold b n) n (reach.held_so b n good on) still) h
+  pub kept-pulse : (b : Board) (n : ℕ) (kind : ResetKind) → Good b → On b n → P b → P (pulse b n kind)
+  kept-pulse b n kind good on h =
+      let c : Board = after_hold b n kind in
+      let still : On c n = reach.steady b c (held-there b n kind) n on in
+      pulse-by On reach.steady P kept-hold b n kind on (reach.post b n good on) (reach.post c n (reach.held_so b n kind good on) still) h
 
   -- writes of clocks
   kept-number : (name : List ℕ) → IsNumber name → (n i v : ℕ) (c : Board) → Named c n i name → P c → P (set n i (val.Uint v) c)
@@ -272,7 +275,7 @@ module _ (Good : Board → Type 0) (On : Board → ℕ → Type 0) (reach : Reac
   kept-reset =
       reset-by Good P
       (record {
-        detaches = λ b d e good h. kept-detach b d good (reach.pending b d good e) h;
-        stays = λ b d e good. reach.completed b d good e;
-        pulses = λ b good h. kept-pulse b MACHINE_BIRTH good (reach.machine b good) h;
+        detaches = λ b r e good h. kept-detach b r.birth good (reach.pending b r good e) h;
+        stays = λ b r e good. reach.completed b r good e;
+        pulses = λ b good h. kept-pulse b MACHINE_BIRTH Cold good (reach.machine b good) h;
       })

@@ -1,5 +1,5 @@
 -- On a board that is sound as far as devices go whoever acts in a change is there.
-use Rattle.std.proofs.Common.{◌≡◌, refl, ap, sym, subst, ◌∙◌, ℕ, suc, ◌+◌, ◌<◌, ◌≤◌, Bool, true, false, ◌==◌, List, [], ◌∷◌, filter_map, find, length, Option, Some, None, is_some, arith}
+use Rattle.std.proofs.Common.{◌≡◌, refl, ap, sym, subst, ◌∙◌, ℕ, suc, ◌+◌, ◌<◌, ◌≤◌, Bool, true, false, ◌==◌, List, [], ◌∷◌, filter_map, find, length, Option, Some, None, is_some, slice_get, arith}
 use Rattle.qo_model.proofs.Common.{AllByRecursion, option_or, MACHINE_BIRTH, ROOT_BIRTH, Realize, TypeId, Board, Record, Slot, alias, child, plain, strong, weak, kind_of, add, fresh, with_added, first_value, fresh_record, is_child, place_of, Wanted, acted_all, aliased, barred_late, bus_births, drafted, further_in, further_of, owned, properties_made, property_made, resources_of, type_barred, types_in, with_device, with_kid, with_new, property_name, TypeInfo, slots_of}
 use Rattle.qo_model.specs.declared.properties.Property.{Property}
 use Rattle.qo_model.specs.declared.properties.PropertyRole.{PropertyRole}
@@ -9,7 +9,7 @@ use Rattle.std.proofs.lemmas.List.Folds.{find-append}
 use Rattle.std.proofs.lemmas.Option.{same_Some}
 use Rattle.qo_values.proofs.ListLemmas.{all-imply}
 use Rattle.qo_model.specs.Paths.{parent_of, place_in}
-use Rattle.qo_model.specs.Unplug.{first_of}
+use Rattle.qo_model.specs.Board.{Removal}
 use Rattle.qo_model.specs.declared.properties.PropertyRole.TheVariants as row
 use Rattle.qo_model.proofs.FinalNotesLemmas.{kind-live}
 use Rattle.qo_model.proofs.StepLemmas.{found_at}
@@ -193,9 +193,9 @@ starts-there b a row bus good tried late =
     device-starts b a row.id bus good (place-of b row.id bus a (device-of row (rw (type_barred, tried.named) at tried.fits)) tried.chosen tried.early late)
 
 -- the first device whose removal is pending stands in its place
-first-on : (b : Board) (ns : List ℕ) (d : ℕ) → AllByRecursion (IsOn b) ns → first_of ns ≡ Some d → IsOn b d
-first-on b [] d on e = absurd (let clash : None ≡ Some d = e in cc)
-first-on b (n ∷ ns) d on e = subst (IsOn b) (same_Some n d e) on.0
+first-on : (b : Board) (rs : List Removal) (r : Removal) → AllByRecursion (λ (x : Removal). IsOn b x.birth) rs → slice_get rs 0 ≡ Some r → IsOn b r.birth
+first-on b [] r on e = absurd (let clash : None ≡ Some r = e in cc)
+first-on b (x ∷ rs) r on e = subst (λ (y : Removal). IsOn b y.birth) (same_Some x r e) on.0
 
 linked : (b : Board) → SoundDevices b → AllLinked (kind_of b) b.records
 linked b good = (rest-from_sound b good.tree).used.firm.linked
@@ -207,10 +207,10 @@ reach-sound =
       parents = parent-there;
       post = λ b n good there. post-there b (linked b good) n there;
       below = λ b good. record { buses = buses-there b; kids = kids-there b (linked b good) };
-      held_so = λ b n good there. devices_kept_lem.held_so b n good;
+      held_so = λ b n kind good there. devices_kept_lem.held_so b n kind good;
       machine = λ b good. child-live b (rest-from_sound b good.tree).used.firm ROOT_BIRTH MACHINE_BIRTH good.places.1.machine;
-      pending = λ b d good e.
-          stands-live b (rest-from_sound b good.tree).used.firm d (first-on b b.pending d good.lists.pending e).0;
-      completed = λ b d good e. devices_kept_lem.detached b d good (first-on b b.pending d good.lists.pending e).0;
+      pending = λ b r good e.
+          stands-live b (rest-from_sound b good.tree).used.firm r.birth (first-on b b.pending r good.lists.pending e).0;
+      completed = λ b r good e. devices_kept_lem.detached b r.birth good (first-on b b.pending r good.lists.pending e).0;
       starts = starts-there;
     }

@@ -3,6 +3,7 @@ use Rattle.std.specs.Prelude.{◌≡◌, ℕ, Bool, List, [], ◌∷◌, Ok}
 use Rattle.std.specs.Bool.{⊤}
 use Rattle.std.specs.Option.{option_map_or}
 use Rattle.qo_values.specs.declared.kinds.TypeId.{TypeId}
+use Rattle.qo_values.specs.declared.kinds.ResetKind.{ResetKind}
 use Rattle.qo_model.specs.Board.{Board}
 use Rattle.qo_model.specs.ClockChanges.{clock_scaled, clock_set}
 use Rattle.qo_model.specs.FinalNotesRuns.{Change, added, changed}
@@ -39,9 +40,9 @@ pub record ChangesOf (Good : Board → Type 0) (On : Board → ℕ → Type 0) (
   pub asked_for : (b : Board) (id : List ℕ) → R [] b (asked b id).board
   pub refused_by : (b : Board) (d : ℕ) → R [] b (refused b d)
   -- a hold, a hold less, and both
-  pub held_so : (b : Board) (n : ℕ) → Good b → On b n → R [] b (after_hold b n)
+  pub held_so : (b : Board) (n : ℕ) (kind : ResetKind) → Good b → On b n → R [] b (after_hold b n kind)
   pub released_so : (b : Board) (n : ℕ) → Good b → On b n → R [] b (released b n)
-  pub pulsed : (b : Board) (n : ℕ) → Good b → On b n → R [] b (pulse b n)
+  pub pulsed : (b : Board) (n : ℕ) (kind : ResetKind) → Good b → On b n → R [] b (pulse b n kind)
   -- a write of a clock's period, and of its mul and div, that is not refused
   pub set : (b d : Board) (c period : ℕ) → clock_set b c period ≡ Ok d → R [] b d
   pub scaled : (b d : Board) (c mul div : ℕ) → clock_scaled b c mul div ≡ Ok d → R [] b d

@@ -13,14 +13,13 @@ use Rattle.qo_values.specs.declared.ranges.Range.{Range}
 use Rattle.qo_model.specs.Board.{Board, DeviceEvent, Notice, Record, Slot, strong, weak, is_live, slot_at, slots_at}
 use Rattle.qo_model.specs.Changes.{add, cut, fresh, point, set, with_changed}
 use Rattle.qo_model.specs.Clocks.{acted}
-use Rattle.qo_model.specs.Depth.{among}
-use Rattle.qo_model.specs.Hotplug.{with_asked}
+use Rattle.qo_model.specs.Hotplug.{is_early, with_asked}
 use Rattle.qo_model.specs.Objects.{Given}
 use Rattle.qo_model.specs.Paths.{attached, is_of}
 use Rattle.qo_model.specs.Plug.{fitted, with_body_of, with_given, with_new, with_path}
 use Rattle.qo_model.specs.References.{refs}
 use Rattle.qo_model.specs.Release.{drop_slot, edit, finish, pin, without_first, without_pin}
-use Rattle.qo_model.specs.Unplug.{unheld, unnoticed, unseen, without_all}
+use Rattle.qo_model.specs.Unplug.{unheld, unnoticed, unseen, without_removal}
 use Rattle.qo_model.specs.declared.notes.Note.{Note}
 
 -- a step, which mostly names the object that it changes
@@ -74,7 +73,7 @@ with_release n c = record c { holds = without_first n c.holds }
 -- the guest refuses the removal of d; it has a notice of a new device n
 abbrev pub declined : ℕ → Board → Board
 declined d c =
-    record c { pending = without_all d c.pending; notices = filter (λ (x : Notice). x.plug || not (x.birth == d)) c.notices }
+    record c { pending = without_removal d c.pending; notices = filter (λ (x : Notice). x.plug || not (x.birth == d)) c.notices }
 
 abbrev pub announced : ℕ → Board → Board
 announced n c = record c { notices = c.notices ++ record { plug = true; birth = n } ∷ [] }
@@ -140,10 +139,10 @@ HasEmpty c n i = (t : TypeId) × (slot_at c n i ≡ Some (strong t None))
 abbrev pub HasNoticeRoom : Board → Type 0
 HasNoticeRoom c = length c.notices < NOTICES_MAX
 
--- the removal of a device may be asked for: it is attached, its removal is not pending, and there is room for the notice
+-- the removal of a device may be asked for: it is attached, was not asked for a short while ago, and there is room for the notice
 pub record MayAsk (c : Board) (d : ℕ) : Type 0 where
   pub home : attached c d ≡ true
-  pub free : among c.pending d ≡ false
+  pub free : is_early c d ≡ false
   pub room : HasNoticeRoom c
 
 -- an act that is neither the beginning of an object nor part of a call back

@@ -75,6 +75,13 @@ fn span_ticks(span: u64, period: u64) -> u128
 }
 
 impl Timer {
+    /// The last moment at which a segment began or ended, in ns; 0 at birth.
+    pub fn last(&self) -> u64
+        ensures { result ≡ self.now.last }
+    {
+        self.last
+    }
+
     /// A timer at birth: disabled, RELOAD `RELOAD_AT_FIRST`, no segments.
     pub fn fresh() -> Timer
         ensures { result ≡ fresh_timer }

@@ -6,6 +6,7 @@ use Rattle.std.proofs.lemmas.Bool.{cases_lt, eqb-true, lt-leb, ne_eqb, or_parts}
 use Rattle.std.proofs.lemmas.List.Folds.{list_any-append}
 use Rattle.std.proofs.Math.Bool.{and-false, or-false}
 use Rattle.qo_model.proofs.Common.{if◌then◌else◌, list_any, nat_eq_equiv, TypeId, Container, Init, Realize, Unrealize, Enter, Hold, Exit, Pre, Update, Board, Record, is_live, kind_of, record_of, among, NotesInOrder, Story, beginning, ending, is_bound, is_final, deed_type, init_notes, notes_on, types}
+use Rattle.qo_values.specs.declared.kinds.Act.TheVariants.{Wake}
 use Rattle.qo_values.specs.declared.births.TheConstants.{OPENING_OBJECTS}
 use Rattle.qo_values.proofs.EachLemmas.{each}
 use Rattle.qo_model.specs.Types.{has_finalizer}
@@ -86,6 +87,7 @@ no-init x h = go x.deed refl h
     go (Did Realize) e h = rw e refl
     go (Did Unrealize) e h = rw e refl
     go (Did Enter) e h = rw e refl
+    go (Did Wake) e h = rw e refl
     go (Did Hold) e h = rw e refl
     go (Did Exit) e h = rw e refl
     go (Did Pre) e h = rw e refl

@@ -7,7 +7,7 @@ use Rattle.qo_slots.specs.declared.keys.Key.{Key}
 use Rattle.qo_heap.specs.Rows.{IsLive}
 use Rattle.qo_model.specs.Board.{Board, Notice}
 use Rattle.qo_model.specs.Depth.{among}
-use Rattle.qo_model.specs.Unplug.{unheld, unnoticed, without_all}
+use Rattle.qo_model.specs.Unplug.{unheld, unnoticed, without_all, without_removal}
 use Rattle.qo_hotplug.specs.Hotplug.{Asked, gone}
 use Rattle.qo_object.specs.Content.{Content}
 use Rattle.qo_heap.specs.Acts.{counted_in, counts_of, periods_of}
@@ -182,7 +182,7 @@ undoes-unnoticed n v held asked after is =
           record {
             shown = record { records = s.records; born = s.born; pins = s.pins; notes = s.notes; events = s.events; now = s.now };
             holds = beside.holds;
-            pending = ap (without_all n) beside.pending ∙ ap (λ (a : Asked). a.pending) (sym is);
+            pending = ap (without_removal n) beside.pending ∙ ap (λ (a : Asked). a.pending) (sym is);
             notices = ap (filter (λ (x : Notice). not (x.birth == n))) beside.notices ∙ ap (λ (a : Asked). a.notices) (sym is);
           };
       way = λ b c ticks needed way beside. unnoticed-way n v b c way;

@@ -8,7 +8,7 @@ use Rattle.qo_values.specs.Registers.{BridgeRegisters, DimmRegisters, Effect, Re
 use Rattle.qo_values.specs.Timer.{timer_write}
 use Rattle.qo_values.specs.Uart.{uart_write}
 use Rattle.qo_values.specs.declared.kinds.Act.{Act}
-use Rattle.qo_values.specs.declared.kinds.Act.TheVariants.{Init, Realize, Unrealize, Enter, Hold, Exit, Pre, Update}
+use Rattle.qo_values.specs.declared.kinds.Act.TheVariants.{Init, Realize, Unrealize, Enter, Wake, Hold, Exit, Pre, Update}
 use Rattle.qo_values.specs.declared.kinds.TypeId.{TypeId}
 use Rattle.qo_values.specs.declared.kinds.TypeId.TheVariants.{Object, Container, Machine, Device, SlotDevice, SlotUart, SlotTimer, SlotBridge, MemDimm, Bus, SlotBus, MemBus, Clock, MemoryBackend, MemoryBackendRam, Tag}
 
@@ -88,14 +88,15 @@ each_write P reg value ring now period h bare s effect e = cc
 
 -- acts
 abbrev pub AllActs : (Act → Type 0) → Type 0
-AllActs P = ((t : TypeId) → P (Init t)) × P Realize × P Unrealize × P Enter × P Hold × P Exit × P Pre × P Update
+AllActs P = ((t : TypeId) → P (Init t)) × P Realize × P Unrealize × P Enter × P Wake × P Hold × P Exit × P Pre × P Update
 
 pub each_act : (P : Act → Type 0) → AllActs P → (a : Act) → P a
 each_act P h (Init t) = h.0 t
 each_act P h Realize = h.1
 each_act P h Unrealize = h.2
 each_act P h Enter = h.3
-each_act P h Hold = h.4
-each_act P h Exit = h.5
-each_act P h Pre = h.6
-each_act P h Update = h.7
+each_act P h Wake = h.4
+each_act P h Hold = h.5
+each_act P h Exit = h.6
+each_act P h Pre = h.7
+each_act P h Update = h.8

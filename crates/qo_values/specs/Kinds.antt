@@ -1,5 +1,9 @@
 -- The names of the types.
 use Rattle.std.specs.Prelude.{ℕ, List, codes}
+use Rattle.qo_values.specs.declared.kinds.Act.{Act}
+use Rattle.qo_values.specs.declared.kinds.Act.TheVariants.{Enter, Wake}
+use Rattle.qo_values.specs.declared.kinds.ResetKind.{ResetKind}
+use Rattle.qo_values.specs.declared.kinds.ResetKind.TheVariants.{Cold, Wakeup}
 use Rattle.qo_values.specs.declared.kinds.TypeId.{TypeId}
 use Rattle.qo_values.specs.declared.kinds.TypeId.TheVariants.{Object, Container, Machine, Device, SlotDevice, SlotUart, SlotTimer, SlotBridge, MemDimm, Bus, SlotBus, MemBus, Clock, MemoryBackend, MemoryBackendRam, Tag}
 
@@ -21,3 +25,8 @@ type_name Clock = codes "clock"
 type_name MemoryBackend = codes "memory-backend"
 type_name MemoryBackendRam = codes "memory-backend-ram"
 type_name Tag = codes "tag"
+
+-- the act of the enter phase of a reset
+abbrev pub entering : ResetKind → Act
+entering Cold = Enter
+entering Wakeup = Wake

@@ -3,10 +3,10 @@
 use Rattle.std.specs.Prelude.{ℕ, ◌%◌, Bool, true, false, not, ◌&&◌, ◌==◌, if◌then◌else◌, Option, Some, None, option_map}
 use Rattle.qo_values.specs.Counts.{count_up}
 use Rattle.qo_values.specs.Dimm.{dimm_read}
-use Rattle.qo_values.specs.Timer.{timer_enter, timer_hold, timer_pre, timer_update, timer_halt, timer_read, timer_write}
-use Rattle.qo_values.specs.Uart.{uart_enter, uart_hold, uart_exit, uart_read, uart_write}
+use Rattle.qo_values.specs.Timer.{timer_enter, timer_wake, timer_hold, timer_pre, timer_update, timer_halt, timer_read, timer_write}
+use Rattle.qo_values.specs.Uart.{uart_enter, uart_wake, uart_hold, uart_exit, uart_read, uart_write}
 use Rattle.qo_values.specs.declared.kinds.Act.{Act}
-use Rattle.qo_values.specs.declared.kinds.Act.TheVariants.{Unrealize, Enter, Hold, Exit, Pre, Update}
+use Rattle.qo_values.specs.declared.kinds.Act.TheVariants.{Unrealize, Enter, Wake, Hold, Exit, Pre, Update}
 use Rattle.qo_values.specs.declared.kinds.TypeId.{TypeId}
 use Rattle.qo_values.specs.declared.kinds.TypeId.TheVariants.{SlotUart, SlotTimer, SlotBridge, MemDimm}
 pub use Rattle.qo_values.specs.Dimm.{DimmRegisters}
@@ -48,6 +48,9 @@ abbrev pub body_act : Act → ℕ → ℕ → Registers → Registers
 body_act Enter now period (uart u) = uart (uart_enter u)
 body_act Enter now period (timer t) = timer (timer_enter t)
 body_act Enter now period (bridge b) = bridge (record b { raised = false })
+body_act Wake now period (uart u) = uart (uart_wake u)
+body_act Wake now period (timer t) = timer (timer_wake t)
+body_act Wake now period (bridge b) = bridge (record b { raised = false })
 body_act Hold now period (uart u) = uart (uart_hold u)
 body_act Hold now period (timer t) = timer (timer_hold t)
 body_act Hold now period (bridge b) = bridge (record b { holds = count_up b.holds })

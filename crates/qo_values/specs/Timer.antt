@@ -45,6 +45,10 @@ after_begin t now = record t { began = Some now; last = now }
 abbrev pub timer_enter : TimerRegisters → TimerRegisters
 timer_enter t = record fresh_timer { last = t.last; holds = t.holds }
 
+-- Wake: Enter, but RELOAD stays
+abbrev pub timer_wake : TimerRegisters → TimerRegisters
+timer_wake t = record (timer_enter t) { reload = t.reload }
+
 -- Hold: HOLDS counts it
 abbrev pub timer_hold : TimerRegisters → TimerRegisters
 timer_hold t = record t { holds = count_up t.holds }

@@ -50,6 +50,10 @@ uart_write u reg value ring =
 abbrev pub uart_enter : UartRegisters → UartRegisters
 uart_enter u = record fresh_uart { holds = u.holds }
 
+-- Wake: Enter, but DIVISOR stays
+abbrev pub uart_wake : UartRegisters → UartRegisters
+uart_wake u = record (uart_enter u) { divisor = u.divisor }
+
 -- Hold: HOLDS counts it
 abbrev pub uart_hold : UartRegisters → UartRegisters
 uart_hold u = record u { holds = count_up u.holds }

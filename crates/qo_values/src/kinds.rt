@@ -1,7 +1,7 @@
 //! The types of the object model by name, and the acts that are done to an object's body.
 
 ghost use Rattle.std.specs.Prelude.{◌≡◌};
-ghost use Rattle.qo_values.specs.Kinds.{type_name};
+ghost use Rattle.qo_values.specs.Kinds.{entering, type_name};
 
 /// A row of the type table, in its order (QEMU's object model: docs/devel/qom.rst, "The QEMU Object
 /// Model"; the types themselves are the profile's).
@@ -41,6 +41,15 @@ pub enum TypeId {
     Tag,
 }
 
+/// The type of a reset (docs/devel/reset.rst, "Reset types"; which registers a wakeup keeps is the profile's).
+#[derive(Clone, Copy, Debug, PartialEq, Eq)]
+pub enum ResetKind {
+    /// All begins anew.
+    Cold,
+    /// What a device keeps while it sleeps stays.
+    Wakeup,
+}
+
 /// What is done to an object's body, and noted (phases: docs/devel/reset.rst, "Multi-phase
 /// mechanism"; clock callbacks: docs/devel/clocks.rst, "Clock callbacks").
 #[derive(Clone, Copy, Debug, PartialEq, Eq)]
@@ -51,8 +60,10 @@ pub enum Act {
     Realize,
     /// Unrealize.
     Unrealize,
-    /// The enter phase of a reset.
+    /// The enter phase of a cold reset.
     Enter,
+    /// The enter phase of a wakeup.
+    Wake,
     /// The hold phase of a reset.
     Hold,
     /// The exit phase of a reset.
@@ -61,6 +72,18 @@ pub enum Act {
     Pre,
     /// A clock's callback after its period changed.
     Update,
+}
+
+impl ResetKind {
+    /// The act of the enter phase.
+    pub fn entering(self) -> Act
+        ensures { result ≡ entering self }
+    {
+        match self {
+            ResetKind::Cold => Act::Enter,
+            ResetKind::Wakeup => Act::Wake,
+        }
+    }
 }
 
 impl TypeId {

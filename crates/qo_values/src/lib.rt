@@ -22,8 +22,9 @@ pub use births::{
 pub use codes::{Class, Code};
 pub use forms::Form;
 pub use ids::{Id, IdError};
-pub use kinds::{Act, TypeId};
+pub use kinds::{Act, ResetKind, TypeId};
 pub use limits::{
+    ASK_AGAIN_AFTER,
     BACKEND_SIZE_AT_FIRST, BACKEND_SIZE_MAX, BUS_DEPTH_MAX, BUS_SLOTS, COUNT_MAX, DIMM_ALIGN,
     GUEST_LINE_MAX, HOLD_COUNT_MAX, ID_MAX, INPUTS_MAX, LIVE_OBJECTS_MAX, MESSAGE_MAX, NAME_MAX,
     NESTING_MAX, NOTES_KEPT, NOTES_PER_REPLY, NOTICES_MAX, RELOAD_AT_FIRST, RING_SIZE_MAX,

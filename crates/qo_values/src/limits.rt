@@ -1,7 +1,7 @@
 //! The limits of the profile, as named numbers.
 
 /// Live objects at once; one more is refused as E43.
-pub const LIVE_OBJECTS_MAX: u64 = 4_096;
+pub const LIVE_OBJECTS_MAX: u64 = 65_536;
 
 /// Sessions at once, numbered from 0.
 pub const SESSIONS: u8 = 16;
@@ -25,7 +25,10 @@ pub const NOTICES_MAX: u64 = 64;
 pub const HOLD_COUNT_MAX: u64 = 48;
 
 /// Notes kept for `x-query-notes`; older ones are not given.
-pub const NOTES_KEPT: u64 = 65_536;
+pub const NOTES_KEPT: u64 = 1_048_576;
+
+/// How long after a removal was asked for it may be asked for again, in ns of the virtual time.
+pub const ASK_AGAIN_AFTER: u64 = 5_000_000_000;
 
 /// Notes in one reply to `x-query-notes`.
 pub const NOTES_PER_REPLY: u64 = 256;

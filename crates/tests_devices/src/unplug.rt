@@ -27,7 +27,7 @@ fn detached<L: Ledger>(alloc: Global, blank: Blank) -> Option<(usize, u64, usize
     let mut resets = Resets::new(alloc);
     let mut hotplug = Hotplug::new(alloc).ok()?;
     let bridge = heap.by_birth(bridge.birth)?;
-    hotplug.ask(bridge).ok()?;
+    hotplug.ask(bridge, heap.time()).ok()?;
     detach(&mut heap, &mut resets, &mut hotplug, bridge, &mut steps);
     Some((heap.live(), heap.notes_total(), hotplug.pending().len()))
 }

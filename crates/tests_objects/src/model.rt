@@ -9,6 +9,7 @@ fn texts(rt: HostRuntime) {
     let rows = [
         (9, Deed::Did(Act::Init(TypeId::Device)), "init 9 device"),
         (9, Deed::Did(Act::Enter), "enter 9"),
+        (9, Deed::Did(Act::Wake), "wake 9"),
         (9, Deed::Did(Act::Pre), "pre 9"),
         (9, Deed::Final(TypeId::Device), "final 9 device"),
         (145, Deed::Did(Act::Unrealize), "unrealize 145"),

@@ -3,7 +3,7 @@ ghost use Rattle.std.specs.Prelude.{◌≡◌, ◌<◌};
 
 use qo_heap::{Heap, Steps};
 use qo_reset::Resets;
-use qo_values::TypeId;
+use qo_values::{ResetKind, TypeId};
 use std::alloc::Global;
 use std::marker::Brand;
 use std::sync::ledger::{Blank, Ledger};
@@ -21,12 +21,14 @@ fn held_and_released<L: Ledger>(alloc: Global, blank: Blank) -> Option<(u32, u64
     let mut resets = Resets::new(alloc);
     resets.reserve().ok()?;
     let root = heap.by_birth(1)?;
-    resets.hold(&mut heap, root, &mut steps).ok()?;
+    resets
+        .hold(&mut heap, root, ResetKind::Cold, &mut steps)
+        .ok()?;
     let root = heap.by_birth(1)?;
     let count = resets.count(&heap, root, &mut steps);
     resets.release(&mut heap, root, &mut steps).ok()?;
     let root = heap.by_birth(1)?;
-    resets.pulse(&mut heap, root, &mut steps);
+    resets.pulse(&mut heap, root, ResetKind::Wakeup, &mut steps);
     Some((count, heap.notes_total()))
 }
 

@@ -9,7 +9,7 @@ fn tells_with_ample_memory(rt: HostRuntime) {
     let device = Oid { index: 3, birth: 9 };
     assert!(rt; hotplug.plug(device).is_ok());
     assert!(rt; hotplug.acked(device) == Err(NotPending));
-    assert!(rt; hotplug.ask(device).is_ok());
+    assert!(rt; hotplug.ask(device, 7).is_ok());
     assert!(rt; hotplug.acked(device).is_ok());
     assert_eq!(rt; hotplug.pending().len(), 1);
     assert_eq!(rt; hotplug.notices().len(), 2);

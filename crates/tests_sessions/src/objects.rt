@@ -656,16 +656,16 @@ fn add_tag(
 }
 
 #[test]
-fn objects_are_at_most_4096(rt: HostRuntime) -> Result<(), Fail> {
+fn objects_are_at_most_65536(rt: HostRuntime) -> Result<(), Fail> {
     let mut record = opening(rt.alloc())?;
     let mut want = greeted(rt.alloc())?;
-    for number in 0..4088u64 {
+    for number in 0..65_528u64 {
         add_tag(rt.alloc(), &mut record, &mut want, number, "R")?;
     }
-    add_tag(rt.alloc(), &mut record, &mut want, 5000, "E43")?;
+    add_tag(rt.alloc(), &mut record, &mut want, 70_000, "E43")?;
     let removal = "object-del {\"id\":\"t7\"}";
     add_row(rt.alloc(), &mut record, &mut want, removal, "R")?;
-    add_tag(rt.alloc(), &mut record, &mut want, 5000, "R")?;
+    add_tag(rt.alloc(), &mut record, &mut want, 70_000, "R")?;
     assert!(rt; gives(rt.alloc(), record.as_slice(), want.as_bytes())?);
     Ok(())
 }

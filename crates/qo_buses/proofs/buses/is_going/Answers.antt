@@ -1,8 +1,9 @@
 -- Each turn goes on to the bus above.
-use Rattle.std.proofs.Common.{◌≡◌, List, ℕ, false, true, ap, length, sym, ◌∙◌}
-use Rattle.qo_model.specs.Depth.{among}
+use Rattle.std.proofs.Common.{◌≡◌, List, false, true, ap, length, sym, ◌∙◌}
+use Rattle.std.specs.List.{list_any}
+use Rattle.qo_model.specs.Board.{Removal, is_of_device, is_pending}
 use Rattle.qo_paths.proofs.PlaceLemmas.{within}
-use Rattle.qo_buses.proofs.WayLemmas.{among-births, going-first, going-here, going-none, going-top, going-up}
+use Rattle.qo_buses.proofs.WayLemmas.{going-first, going-here, going-none, going-top, going-up}
 use Rattle.qo_buses.proofs.buses.is_going.Goals as goal
 
 pub loop-turn-init : goal.loop-turn-init
@@ -14,26 +15,26 @@ returns-in_default g c = λ b s p.
     sym (going-none b (length c.args.heap.now.rows) c.loop-turn._turn c.loop-turn.at.birth below (sym (c.in_default.ensures.bridge b s)))
     ∙ c.loop-turn.invariant b s p
 
-pub returns-then-is_among : goal.returns-then-is_among
-returns-then-is_among g c = λ b s p.
+pub returns-then-is_pending : goal.returns-then-is_pending
+returns-then-is_pending g c = λ b s p.
     let below = within c.loop-turn._turn c.live-turn-end.result (length c.args.heap.now.rows) c.loop-turn-test.true c.live-turn-end.ensures in
-    let is : among b.pending c.in-Some.bridge.birth ≡ true = ap (λ (xs : List ℕ). among xs c.in-Some.bridge.birth) p
-    ∙ among-births c.in-Some.bridge.birth c.args.pending.now ∙ sym c.is_among.ensures ∙ c.if-is_among.true in
+    let is : is_pending b c.in-Some.bridge.birth ≡ true = ap (λ (rs : List Removal). list_any (is_of_device c.in-Some.bridge.birth) rs) p
+    ∙ sym c.is_pending.ensures ∙ c.if-is_pending.true in
     sym (going-here b (length c.args.heap.now.rows) c.loop-turn._turn c.loop-turn.at.birth c.in-Some.bridge.birth below (sym (c.in-Some.ensures.bridge b s))
     is) ∙ c.loop-turn.invariant b s p
 
 pub returns-in-None : goal.returns-in-None
 returns-in-None g c = λ b s p.
     let below = within c.loop-turn._turn c.live-turn-end.result (length c.args.heap.now.rows) c.loop-turn-test.true c.live-turn-end.ensures in
-    let not : among b.pending c.in-Some.bridge.birth ≡ false = ap (λ (xs : List ℕ). among xs c.in-Some.bridge.birth) p
-    ∙ among-births c.in-Some.bridge.birth c.args.pending.now ∙ sym c.is_among.ensures ∙ c.if-is_among.false in
+    let not : is_pending b c.in-Some.bridge.birth ≡ false = ap (λ (rs : List Removal). list_any (is_of_device c.in-Some.bridge.birth) rs) p
+    ∙ sym c.is_pending.ensures ∙ c.if-is_pending.false in
     sym (going-top b (length c.args.heap.now.rows) c.loop-turn._turn c.loop-turn.at.birth c.in-Some.bridge.birth below (sym (c.in-Some.ensures.bridge b s))
     not (sym (c.in-None.ensures.bus b s))) ∙ c.loop-turn.invariant b s p
 
 pub loop-turn-preserved : goal.loop-turn-preserved
 loop-turn-preserved g c = λ b s p.
     let below = within c.loop-turn._turn c.live-turn-end.result (length c.args.heap.now.rows) c.loop-turn-test.true c.live-turn-end.ensures in
-    let not : among b.pending c.in-Some.bridge.birth ≡ false = ap (λ (xs : List ℕ). among xs c.in-Some.bridge.birth) p
-    ∙ among-births c.in-Some.bridge.birth c.args.pending.now ∙ sym c.is_among.ensures ∙ c.if-is_among.false in
+    let not : is_pending b c.in-Some.bridge.birth ≡ false = ap (λ (rs : List Removal). list_any (is_of_device c.in-Some.bridge.birth) rs) p
+    ∙ sym c.is_pending.ensures ∙ c.if-is_pending.false in
     sym (going-up b (length c.args.heap.now.rows) c.loop-turn._turn c.loop-turn.at.birth c.in-Some.bridge.birth c.in-Some-bus_of.above.birth below
     (sym (c.in-Some.ensures.bridge b s)) not (sym (c.in-Some-bus_of.ensures.bus b s))) ∙ c.loop-turn.invariant b s p

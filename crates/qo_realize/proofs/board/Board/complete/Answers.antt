@@ -1,7 +1,7 @@
 -- The device is let go.
-use Rattle.std.proofs.Common.{ℕ, List, ap, sym, subst, ◌∙◌}
-use Rattle.qo_model.specs.Depth.{among}
+use Rattle.std.proofs.Common.{ap, sym, subst, ◌∙◌}
 use Rattle.qo_realize.specs.Parts.{Parts, parts_of}
+use Rattle.qo_realize.specs.Removals.{is_listed}
 use Rattle.qo_realize.specs.Representation.{Stands}
 use Rattle.qo_unplug.proofs.DetachmentLemmas.{once-pinned}
 use Rattle.qo_realize.proofs.CompletionLemmas.{completed-counts, completed-claims, completed-periods, completed-sound, completed-stands, is_beside, may-detach, timely-heap}
@@ -19,7 +19,7 @@ detach-requires-clause-pins g c = once-pinned c.self.inside.heap c.self.invarian
 pub invariant_of-self : goal.invariant_of-self
 invariant_of-self g c =
     let inside = c.self.inside in
-    let pending = ap (λ (p : Parts). among p.pending c.args.dev.birth) c.self.view_is ∙ c.requires.pending in
+    let pending = ap (λ (p : Parts). is_listed c.args.dev.birth p.pending) c.self.view_is ∙ c.requires.pending in
     let stands =
     completed-sound c.args.dev.birth inside.rings inside.anonymous inside.running inside.resets c.detach.new.resets inside.hotplug
     c.detach.new.hotplug inside.heap c.detach.new.heap
@@ -41,7 +41,7 @@ returns g c = λ b s.
     let seen = subst (λ (p : Parts). Stands b p) (sym c.self.view_is) s in
     let good = good-of (parts_of inside.rings inside.anonymous inside.running inside.resets inside.hotplug inside.heap) c.self.invariant.1 b seen in
     let pending =
-    ap (λ (ns : List ℕ). among ns c.args.dev.birth) seen.pending ∙ ap (λ (p : Parts). among p.pending c.args.dev.birth) c.self.view_is ∙ c.requires.pending in
+    ap (is_listed c.args.dev.birth) seen.pending ∙ ap (λ (p : Parts). is_listed c.args.dev.birth p.pending) c.self.view_is ∙ c.requires.pending in
     completed-stands b c.args.dev.birth inside.rings inside.anonymous inside.running inside.resets c.detach.new.resets inside.hotplug
     c.detach.new.hotplug inside.heap c.detach.new.heap seen
     (c.detach.ensures.shown b (may-detach b c.args.dev.birth inside.heap good pending c.self.invariant.4)

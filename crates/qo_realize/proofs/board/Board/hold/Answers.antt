@@ -11,12 +11,13 @@ invariant_of-self g c =
     let inside = c.self.inside in
     let stands =
     hold-keeps inside.rings inside.anonymous inside.running inside.resets c.hold.new.resets inside.hotplug inside.heap c.hold.new.heap
-    (acts-keep inside.heap c.hold.new.heap c.hold.ensures.acts) c.args.path.now c.hold.result
+    (acts-keep inside.heap c.hold.new.heap c.hold.ensures.acts) c.args.path.now c.args.kind c.hold.result
     c.self.invariant.1 c.hold.ensures.held c.hold.ensures.err in (
       stands.0,
       stands.1,
       hold-claims inside.rings inside.anonymous inside.running inside.resets c.hold.new.resets inside.hotplug inside.heap c.hold.new.heap
-          (acts-keep inside.heap c.hold.new.heap c.hold.ensures.acts) c.args.path.now c.hold.result c.self.invariant.1 c.hold.ensures.acts c.hold.ensures.held
+          (acts-keep inside.heap c.hold.new.heap c.hold.ensures.acts) c.args.path.now c.args.kind c.hold.result c.self.invariant.1 c.hold.ensures.acts
+          c.hold.ensures.held
           c.hold.ensures.err c.self.invariant.2,
       c.hold.ensures.counts,
       acts-periods inside.heap c.hold.new.heap c.hold.ensures.acts c.hold.ensures.periods c.self.invariant.4,
@@ -27,5 +28,5 @@ returns-clause-held g c = λ b s.
     let inside = c.self.inside in
     let seen = subst (λ (p : Parts). Stands b p) (sym c.self.view_is) s in
     hold-changes inside.rings inside.anonymous inside.running inside.resets c.hold.new.resets inside.hotplug inside.heap c.hold.new.heap
-    (acts-keep inside.heap c.hold.new.heap c.hold.ensures.acts) b c.args.path.now c.hold.result seen
+    (acts-keep inside.heap c.hold.new.heap c.hold.ensures.acts) b c.args.path.now c.args.kind c.hold.result seen
     (c.hold.ensures.held b (seen.shows, seen.holds)) c.hold.ensures.err

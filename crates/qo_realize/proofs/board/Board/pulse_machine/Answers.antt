@@ -17,11 +17,11 @@ invariant_of-self g c =
     let (b, s, good) = c.self.invariant.1 in
     let stands =
     pulse-keeps inside.rings inside.anonymous inside.running inside.resets c.pulse.new.self inside.hotplug inside.heap c.pulse.new.heap
-    (acts-keep inside.heap c.pulse.new.heap c.pulse.ensures.acts) c.in-Some.machine.birth
+    (acts-keep inside.heap c.pulse.new.heap c.pulse.ensures.acts) c.in-Some.machine.birth c.args.kind
     c.self.invariant.1 c.pulse.ensures.shown in (
       stands.0,
       stands.1,
-      pulse-claims b c.in-Some.machine.birth inside.heap c.pulse.new.heap good.run.devices s.shows (c.pulse.ensures.shown b (s.shows, s.holds)).0
+      pulse-claims b c.in-Some.machine.birth c.args.kind inside.heap c.pulse.new.heap good.run.devices s.shows (c.pulse.ensures.shown b (s.shows, s.holds)).0
           (before-same inside.heap c.pulse.new.heap
           (acts-kept inside.heap c.pulse.new.heap c.pulse.ensures.acts c.pulse.ensures.still c.pulse.ensures.periods)) c.self.invariant.2,
       c.pulse.ensures.counts,
@@ -32,10 +32,10 @@ pub returns-in-Some : goal.returns-in-Some
 returns-in-Some g c = λ b s.
     let inside = c.self.inside in
     let seen = subst (λ (p : Parts). Stands b p) (sym c.self.view_is) s in
-    subst (λ (n : ℕ). Stands (pulse b n) (parts_of inside.rings inside.anonymous inside.running c.pulse.new.self inside.hotplug c.pulse.new.heap))
+    subst (λ (n : ℕ). Stands (pulse b n c.args.kind) (parts_of inside.rings inside.anonymous inside.running c.pulse.new.self inside.hotplug c.pulse.new.heap))
     c.in-Some.ensures.born
     (pulse-stands inside.rings inside.anonymous inside.running inside.resets c.pulse.new.self inside.hotplug inside.heap c.pulse.new.heap
-    (acts-keep inside.heap c.pulse.new.heap c.pulse.ensures.acts) b c.in-Some.machine.birth seen
+    (acts-keep inside.heap c.pulse.new.heap c.pulse.ensures.acts) b c.in-Some.machine.birth c.args.kind seen
     (c.pulse.ensures.shown b (seen.shows, seen.holds)))
 
 pub returns-in_default : goal.returns-in_default

@@ -13,15 +13,16 @@ pub returns-clause-shown : goal.returns-clause-shown
 returns-clause-shown g c = λ b s.
     let eq : c.args.self.now.births ≡ births_of c.deref.result.now = search rules in
     let left_eq : c.put_last.new.self.births ≡ births_of c.deref-2.result.now = search rules in
-    let mid : Shows (after_hold b c.args.root.birth) c.held_phases.new.heap = c.held_phases.ensures.shown b (s.0, s.1 ∙ eq) in
-    let more : (after_hold b c.args.root.birth).holds ≡ c.args.self.now.births ++ c.args.root.birth ∷ [] =
-    held-holds b c.args.root.birth ∙ ap (λ (l : List ℕ). l ++ c.args.root.birth ∷ []) s.1 in
-    let left : without_first c.args.root.birth (after_hold b c.args.root.birth).holds ≡ c.put_last.new.self.births =
+    let mid : Shows (after_hold b c.args.root.birth c.args.kind) c.held_phases.new.heap = c.held_phases.ensures.shown b (s.0, s.1 ∙ eq) in
+    let more : (after_hold b c.args.root.birth c.args.kind).holds ≡ c.args.self.now.births ++ c.args.root.birth ∷ [] =
+    held-holds b c.args.root.birth c.args.kind ∙ ap (λ (l : List ℕ). l ++ c.args.root.birth ∷ []) s.1 in
+    let left : without_first c.args.root.birth (after_hold b c.args.root.birth c.args.kind).holds ≡ c.put_last.new.self.births =
     ap (without_first c.args.root.birth) more ∙ sym c.put_last.ensures.holds in
-    let last : Shows (released (after_hold b c.args.root.birth) c.args.root.birth) c.released_phases.new.heap =
-    c.released_phases.ensures.shown (after_hold b c.args.root.birth) mid (left ∙ left_eq) in (
-      subst (λ (d : Board). Shows d c.released_phases.new.heap) (sym (pulse-is b c.args.root.birth)) last,
-      ap (λ (d : Board). d.holds) (pulse-is b c.args.root.birth) ∙ released-holds (after_hold b c.args.root.birth) c.args.root.birth ∙ left,
+    let last : Shows (released (after_hold b c.args.root.birth c.args.kind) c.args.root.birth) c.released_phases.new.heap =
+    c.released_phases.ensures.shown (after_hold b c.args.root.birth c.args.kind) mid (left ∙ left_eq) in (
+      subst (λ (d : Board). Shows d c.released_phases.new.heap) (sym (pulse-is b c.args.root.birth c.args.kind)) last,
+      ap (λ (d : Board). d.holds) (pulse-is b c.args.root.birth c.args.kind) ∙ released-holds (after_hold b c.args.root.birth c.args.kind) c.args.root.birth
+          ∙ left,
     )
 
 pub returns-clause-timely : goal.returns-clause-timely
