@@ -71,6 +71,17 @@ fn told(alloc: Global, outs: &Outs) -> Result<Vec<u8>, Fail> {
     Ok(text)
 }
 
+/// What a step of the machine sends.
+fn answer(alloc: Global, machine: &mut Machine, input: &Input) -> Result<Vec<u8>, Fail> {
+    let outs = machine.step(alloc, input)?;
+    told(alloc, &outs)
+}
+
+/// How a run of so many inputs ends.
+fn ending(alloc: Global, hub: &mut ScriptHub, limit: u64) -> Ending {
+    run(alloc, hub, limit)
+}
+
 /// Pieces, one after another.
 fn joined(alloc: Global, pieces: &[&[u8]]) -> Result<Vec<u8>, Fail> {
     let mut text = Vec::new(alloc);
@@ -80,31 +91,36 @@ fn joined(alloc: Global, pieces: &[&[u8]]) -> Result<Vec<u8>, Fail> {
     Ok(text)
 }
 
+/// A machine at its beginning.
+fn started(alloc: Global) -> Result<Machine, Fail> {
+    Ok(Machine::start(alloc)?)
+}
+
 #[test]
 fn a_session_is_served(rt: HostRuntime) -> Result<(), Fail> {
     let alloc = rt.alloc();
-    let mut machine = Machine::start(alloc)?;
-    let opened = machine.step(alloc, &input(What::Open(0)))?;
-    assert_eq!(rt; told(alloc, &opened)?, joined(alloc, &[b"0", GREETING])?);
+    let mut machine = started(alloc)?;
+    let opened = answer(alloc, &mut machine, &input(What::Open(0)))?;
+    assert_eq!(rt; opened, joined(alloc, &[b"0", GREETING])?);
     let commands = joined(alloc, &[NEGOTIATE, LIST_ROOT, QUIT])?;
-    let served = machine.step(alloc, &bytes(alloc, 0, &commands)?)?;
+    let served = answer(alloc, &mut machine, &bytes(alloc, 0, &commands)?)?;
     let replies = [b"0", EMPTY, b"0", ROOT, b"0", SHUTDOWN, b"0", EMPTY];
-    assert_eq!(rt; told(alloc, &served)?, joined(alloc, &replies)?);
+    assert_eq!(rt; served, joined(alloc, &replies)?);
     Ok(())
 }
 
 #[test]
 fn the_guest_is_answered_line_by_line(rt: HostRuntime) -> Result<(), Fail> {
     let alloc = rt.alloc();
-    let mut machine = Machine::start(alloc)?;
-    machine.step(alloc, &input(What::Open(0)))?;
-    machine.step(alloc, &bytes(alloc, 0, NEGOTIATE)?)?;
-    let unfinished = machine.step(alloc, &guest(alloc, b"po")?)?;
-    assert_eq!(rt; told(alloc, &unfinished)?, joined(alloc, &[])?);
+    let mut machine = started(alloc)?;
+    answer(alloc, &mut machine, &input(What::Open(0)))?;
+    answer(alloc, &mut machine, &bytes(alloc, 0, NEGOTIATE)?)?;
+    let unfinished = answer(alloc, &mut machine, &guest(alloc, b"po")?)?;
+    assert_eq!(rt; unfinished, joined(alloc, &[])?);
     let lines = guest(alloc, b"ll\r\nbark\nshutdown\npoll\n")?;
-    let served = machine.step(alloc, &lines)?;
+    let served = answer(alloc, &mut machine, &lines)?;
     let answers = [NONE_AND_NO_LINE, b"0", GUEST_SHUTDOWN, FINE];
-    assert_eq!(rt; told(alloc, &served)?, joined(alloc, &answers)?);
+    assert_eq!(rt; served, joined(alloc, &answers)?);
     assert!(rt; machine.ended());
     Ok(())
 }
@@ -129,7 +145,7 @@ fn listing_hub(alloc: Global, nexts: &[u64], sends: &[u64]) -> Result<ScriptHub,
 fn a_run_sends_each_message(rt: HostRuntime) -> Result<(), Fail> {
     let alloc = rt.alloc();
     let mut hub = listing_hub(alloc, &[], &[])?;
-    assert_eq!(rt; run(alloc, &mut hub, 4), Ending::Done);
+    assert_eq!(rt; ending(alloc, &mut hub, 4), Ending::Done);
     assert_eq!(rt;
         hub.lane(Lane::Session(0)),
         joined(alloc, &[GREETING, EMPTY, ROOT])?.as_slice()
@@ -141,10 +157,10 @@ fn a_run_sends_each_message(rt: HostRuntime) -> Result<(), Fail> {
 fn a_run_stops_at_its_limit_and_at_a_fault(rt: HostRuntime) -> Result<(), Fail> {
     let alloc = rt.alloc();
     let mut hub = listing_hub(alloc, &[], &[])?;
-    assert_eq!(rt; run(alloc, &mut hub, 3), Ending::Limit);
+    assert_eq!(rt; ending(alloc, &mut hub, 3), Ending::Limit);
     let mut hub = listing_hub(alloc, &[3], &[])?;
-    assert_eq!(rt; run(alloc, &mut hub, 4), Ending::NextFailed);
+    assert_eq!(rt; ending(alloc, &mut hub, 4), Ending::NextFailed);
     let mut hub = listing_hub(alloc, &[], &[3])?;
-    assert_eq!(rt; run(alloc, &mut hub, 4), Ending::SendFailed);
+    assert_eq!(rt; ending(alloc, &mut hub, 4), Ending::SendFailed);
     Ok(())
 }
