@@ -79,6 +79,7 @@ impl Outbox {
     }
 
     /// One message more, to a lane.
+    #[inline(always)]
     fn push(&mut self, lane: Lane, text: Chars) -> Result<(), AllocError>
         ensures moment { self.new.at ≡ self.old.at }
         ensures sent { OnOk result (self.new.outs ≡ self.old.outs ++ (lane, text) ∷ []) }
@@ -166,7 +167,6 @@ impl Outbox {
 
 /// Each session that commands is told of the events that wait on the board, which no longer wait then,
 /// and of those of a command or a line; its reply goes to its lane.
-#[inline(always)]
 #[inline(always)]
 fn send_reply(
     machine: &mut Core,

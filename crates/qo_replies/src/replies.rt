@@ -68,6 +68,7 @@ fn push_id(
 }
 
 /// Begins a reply to a command that was done, up to what it returns.
+#[inline(always)]
 fn push_opening(text: &mut String, id: Option<&Text>) -> Result<(), AllocError>
     ensures { OnOk result (string_bytes text.new ≡ string_bytes text.old ++ (codes "{" ++ id_member (option_map (λ id. id.now) id.entry) [] (codes ",") ++ codes "\"return\":")) }
 {
