@@ -1,1 +1,2 @@
+pub mod FewNotes
 pub mod MirrorSays
