@@ -1,13 +1,14 @@
 -- The law: each change of a board notes little.
 use Rattle.std.proofs.Common.{◌≡◌, refl, ap, ℕ, ◌+◌, ◌≤◌, Bool, true, false, List, length, Option, Some, None, Ok, is_some, arith}
 use Rattle.std.proofs.lemmas.List.{length-append, length-map}
-use Rattle.qo_model.proofs.Common.{Code, TypeId, Board, Record, clock_scaled, clock_set, births, Change, added, changed, deleted, severed, wrote, Given, added_as, init_notes, asked, asked_of, attached, device_at, notice_barred, Wanted, plug, refused, released, pulse, resources_of, finalize, let_go, unpin, post}
+use Rattle.qo_model.proofs.Common.{Code, TypeId, Board, Record, clock_scaled, clock_set, births, edited, Change, added, changed, deleted, severed, wrote, Given, added_as, init_notes, asked, asked_of, attached, device_at, notice_barred, Wanted, plug, refused, released, pulse, resources_of, finalize, let_go, unpin, post}
 use Rattle.qo_model.specs.Hotplug.{is_early}
 use Rattle.qo_values.specs.declared.kinds.ResetKind.{ResetKind}
 use Rattle.qo_model.specs.Reset.{after_hold}
 use Rattle.qo_model.specs.declared.notes.Note.{Note}
 use Rattle.qo_model.proofs.ComesToLemmas.{addition-comes}
 use Rattle.qo_sound.proofs.ChangeStepsLemmas.{step-object_del, step-sever, step-write}
+use Rattle.qo_sound_clocks.specs.RegisterWrites.{with_registers}
 use Rattle.qo_sound_clocks.specs.SoundClocks.{SoundClocks}
 use Rattle.qo_sound_devices.specs.SoundDevices.{SoundDevices}
 use Rattle.qo_sound_devices.proofs.DepthLemmas.{room}
@@ -131,6 +132,7 @@ few_notes_lem =
       changes = changes;
       beside = by-notes;
       after = λ b c d few e. let same : length d.notes ≡ length c.notes = ap (λ (xs : List Note). length xs) e in omega (arith, few, same);
+      registers = λ b n registers c few. omega (arith, few, length-map b.records (edited n (with_registers registers)));
       kept = λ b c most few.
           let objects : length b.records ≤ 65536 = most in
           let goal : length c.notes ≤ length b.notes + 1048576 = omega (arith, few, objects) in
