@@ -1,0 +1,5 @@
+pub mod DescriptionLemmas
+pub mod RowsLemmas
+pub mod StringLemmas
+pub mod TokenLemmas
+pub mod ValueLemmas
