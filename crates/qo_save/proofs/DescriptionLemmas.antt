@@ -1,13 +1,11 @@
 -- A description is read back from its text.
-use Rattle.std.proofs.Common.{◌≡◌, ◌≤◌, ◌<◌, ◌^◌, ℕ, suc, ℤ, negsuc, true, false, List, [], ◌∷◌, map, Option, Some, option_and_then, codes, refl, sym, ap, ap₂, ◌∙◌, subst, arith, IsUtf8}
+use Rattle.std.proofs.Common.{◌≡◌, ◌≤◌, ℕ, suc, ℤ, true, List, [], ◌∷◌, map, Option, Some, option_and_then, codes, refl, sym, ap, ap₂, ◌∙◌, subst, arith, IsUtf8}
 use Rattle.std.specs.Prelude.{max}
 use Rattle.std.specs.List.{AllByRecursion}
 use Rattle.std.specs.List.Sorted.{IsStrictlySortedBy}
-use Rattle.std.specs.Str.{bytes_eq}
 use Rattle.std.proofs.lemmas.Str.{IsUtf8-from_ascii}
 use Rattle.serde_json.specs.Data.{Data, depth, members_depth, object}
 use Rattle.serde_json.specs.Read.{max_depth}
-use Rattle.serde_json.specs.View.{items_of}
 use Rattle.qo_json.specs.Order.{names_of, NamesRise}
 use Rattle.qo_values.specs.PlainValues.{data_of, plain_of}
 use Rattle.qo_values.specs.declared.properties.Val.{Val}
@@ -15,8 +13,8 @@ use Rattle.qo_values.specs.declared.properties.Val.TheVariants as val
 use Rattle.qo_model.specs.Objects.{Given}
 use Rattle.qo_replies.proofs.QuoteLemmas.{small, small-ascii}
 use Rattle.qo_save.specs.Description.{clock_data, clock_item_data, clock_item_names, ClockItem, clock_names, ClockNumbers, Description, description_data, description_names, device_data, device_names, DeviceItem, link_data, link_names, LinkItem, listed, object_data, object_names, ObjectItem, props_members, ring_data, ring_names, RingItem}
-use Rattle.qo_save.specs.Shape.{all_of, clock_item_in, description_in, device_in, link_in, list_in, object_in, props_of, ring_in}
-use Rattle.qo_save.specs.Texts.{AreClockNumbers, AreExact, ArePropsBack, DescriptionsReadBack, HaveExact, IsClockItem, IsDeviceItem, IsExact, IsGivenBack, IsLinkItem, IsObjectItem, IsPropBack, IsRingItem, IsWritable}
+use Rattle.qo_save.specs.Shape.{clock_item_in, description_in, device_in, link_in, list_in, object_in, props_of, ring_in}
+use Rattle.qo_save.specs.Texts.{AreClockNumbers, ArePropsBack, DescriptionsReadBack, HaveExact, IsClockItem, IsDeviceItem, IsExact, IsGivenBack, IsLinkItem, IsObjectItem, IsPropBack, IsRingItem, IsWritable}
 use Rattle.qo_save.proofs.ValueLemmas.{values_lem}
 
 -- ---- of JSON as it is written

@@ -1,17 +1,17 @@
 -- A text that is sent in ASCII is read back: its escapes, character by character.
-use Rattle.std.proofs.Common.{◌≡◌, ◌≢◌, ◌≤◌, ◌<◌, ◌+◌, ◌-◌, ◌*◌, ◌/◌, ◌%◌, ◌==◌, ◌&&◌, ◌||◌, ℕ, zero, suc, Bool, true, false, cond, nat_lt, List, [], ◌∷◌, ◌++◌, length, get_or, Some, inl, inr, ◌⊎◌, refl, sym, ap, ap₂, ◌∙◌, subst, arith, append_assoc, append-nil, IsUtf8}
-use Rattle.std.specs.Char.{digit_char, digit_value, is_digit}
+use Rattle.std.proofs.Common.{◌≡◌, ◌≢◌, ◌≤◌, ◌<◌, ◌+◌, ◌-◌, ◌*◌, ◌/◌, ◌%◌, ◌&&◌, ℕ, zero, suc, Bool, true, false, cond, nat_lt, List, [], ◌∷◌, ◌++◌, length, get_or, Some, inl, inr, ◌⊎◌, refl, sym, ap, ap₂, ◌∙◌, subst, arith, append_assoc, append-nil, IsUtf8}
+use Rattle.std.specs.Char.{digit_char, digit_value}
 use Rattle.std.specs.List.{list_all}
 use Rattle.std.specs.Str.{IsAscii, chars}
 use lib.Utf8.{scalar, scalars, encode, encodes, scalar_cases}
 use Rattle.std.proofs.lemmas.Bool.{and_parts, cases_eq, cases_lt, le-leb, le-ltb, lt-leb, lt-ltb, ltb-true, ne_eqb}
-use Rattle.std.proofs.lemmas.Str.{IsUtf8-append, IsUtf8-encode, IsUtf8-from_ascii, IsUtf8-nil, chars-encodes, digit_value-digit_char, encode_ascii, encodes-chars, inside_one, scalars-chars}
-use Rattle.json.specs.Lex.{Lexeme, Mode, between, class, in_escape, in_string, lex, lex_byte, operator, other, space}
+use Rattle.std.proofs.lemmas.Str.{IsUtf8-append, IsUtf8-encode, IsUtf8-from_ascii, IsUtf8-nil, digit_value-digit_char, encode_ascii, encodes-chars, inside_one, scalars-chars}
+use Rattle.json.specs.Lex.{Lexeme, Mode, in_string, lex, lex_byte, operator, other, space}
 use Rattle.json.specs.Print.{escape, escape_byte}
 use Rattle.json.specs.Text.{code_unit, content, is_high_surrogate, is_low_surrogate, plain, prepend, short_escape, surrogate_pair}
 use Rattle.json.specs.Word.{is_operator, is_space}
 use Rattle.json.proofs.Printed.Strings.{escape_byte_plain}
-use Rattle.qo_replies.specs.Json.{ascii, character_text, pair_text, unit_text, units_text}
+use Rattle.qo_replies.specs.Json.{ascii, pair_text, unit_text, units_text}
 use Rattle.qo_replies.proofs.AsciiLemmas.{ascii-nil, ascii-plain, ascii-step}
 use Rattle.qo_replies.proofs.QuoteLemmas.{ascii-append}
 use Rattle.qo_save.specs.Texts.{IsReadBack, TextsReadBack}

@@ -6,7 +6,7 @@ use Rattle.std.specs.Str.{IsAscii}
 use Rattle.std.proofs.lemmas.Str.{IsUtf8-from_ascii}
 use Rattle.json.specs.Token.{Token, bad, begin_array, begin_object, boolean, end_array, end_object, key, null, number, string}
 use Rattle.json.specs.Lex.{between, colon, comma, lex, string_token, token}
-use Rattle.json.specs.Print.{ArePrintable, begins, ends, escape, IsPrintable, print_from, quoted, separator, token_text}
+use Rattle.json.specs.Print.{ArePrintable, begins, ends, escape, IsPrintable, print_from, quoted, token_text}
 use Rattle.json.specs.Word.{ends_word, word}
 use Rattle.json.proofs.Printed.Numbers.{in_word-ended, lex-number}
 use Rattle.json.proofs.Printed.Strings.{content-escape, lex-escape}

@@ -1,19 +1,18 @@
 -- A value that its text says is read back from what is sent for it.
-use Rattle.std.proofs.Common.{◌≡◌, ◌<◌, ◌≤◌, ◌^◌, ◌==◌, ℕ, zero, suc, ℤ, negsuc, Bool, true, false, cond, List, [], ◌∷◌, ◌++◌, drop, get_or, Option, Some, option_map, option_and_then, Ordering, Less, Greater, decimal, refl, sym, ap, ap₂, ◌∙◌, subst, arith, append_assoc, append-nil, IsUtf8}
-use Rattle.std.specs.Prelude.{max, ⊤}
+use Rattle.std.proofs.Common.{◌≡◌, ◌<◌, ◌^◌, ◌==◌, ℕ, suc, ℤ, negsuc, false, cond, List, [], ◌∷◌, ◌++◌, drop, get_or, Option, Some, option_map, option_and_then, Less, Greater, decimal, refl, sym, ap, ap₂, ◌∙◌, subst, arith, append-nil}
+use Rattle.std.specs.Prelude.{max}
 use Rattle.std.specs.Cmp.Lexicographic.{slice_cmp}
-use Rattle.std.specs.Fmt.{signed_decimal}
 use Rattle.std.specs.List.{AllByRecursion}
 use Rattle.std.specs.List.Sorted.{IsStrictlySortedBy}
-use Rattle.std.specs.Ordering.{match_ordering, nat_cmp, ordering_reverse}
+use Rattle.std.specs.Ordering.{nat_cmp, ordering_reverse}
 use Rattle.std.specs.Str.{IsAscii}
 use Rattle.std.proofs.lemmas.Bool.{ne_eqb}
 use Rattle.std.proofs.lemmas.Cmp.{nat_list_cmp_total}
 use Rattle.std.proofs.lemmas.Fmt.{first_decimal, IsAscii-decimal}
 use Rattle.std.proofs.lemmas.Str.{IsAscii-append}
 use Rattle.json.specs.Json as json
-use Rattle.json.specs.Lex.{between, fresh, lex, punctuate, tokens}
-use Rattle.json.specs.Print.{ArePrintable, IsNumber, print}
+use Rattle.json.specs.Lex.{fresh, punctuate, tokens}
+use Rattle.json.specs.Print.{ArePrintable, IsNumber}
 use Rattle.json.specs.Token.{Token}
 use Rattle.json.specs.Tree as tree
 use Rattle.json.specs.Word.{after_exponent, after_fraction, after_number, after_whole, head}
@@ -22,7 +21,7 @@ use Rattle.json.proofs.Printed.Tokens.{tokens-print}
 use Rattle.json.proofs.Printed.Trees.{ArePrintable-json_tokens, value-json_tokens}
 use Rattle.serde_json.specs.Data.{array, boolean, Data, depth, float, item, Items, items_depth, member, Members, members_depth, negative, no_items, no_members, null, Num, number, object, put, string, unsigned}
 use Rattle.serde_json.specs.Read.{max_depth, number_of, of_items, of_json, of_members, read}
-use Rattle.serde_json.specs.Written.{compact_text, items_outline, members_outline, number_text, outline}
+use Rattle.serde_json.specs.Written.{items_outline, members_outline, number_text, outline}
 use Rattle.serde_json.proofs.Numbers.{number_of-decimal, number_of-negative}
 use Rattle.serde_json.proofs.Texts.{print-outline}
 use Rattle.qo_json.specs.Order.{names_of, NamesRise}

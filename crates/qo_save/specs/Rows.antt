@@ -1,5 +1,5 @@
 -- For a law alone. The worked rows of descriptions.
-use Rattle.std.specs.Prelude.{◌≡◌, ℕ, List, [], ◌∷◌, ◌++◌, codes, Some, None, Ok, Err}
+use Rattle.std.specs.Prelude.{◌≡◌, List, [], ◌∷◌, ◌++◌, codes, Some, None, Ok, Err}
 use Rattle.qo_values.specs.declared.codes.Code.TheVariants.{E36}
 use Rattle.qo_values.specs.declared.properties.Val.TheVariants as val
 use Rattle.qo_model.specs.Board.{Board}

@@ -1,5 +1,5 @@
 -- For laws alone. What is sent is read back (RFC 8259, "Strings", "Numbers", "Objects").
-use Rattle.std.specs.Prelude.{◌≡◌, ℕ, ◌<◌, ◌≤◌, ◌^◌, negsuc, false, List, [], ◌∷◌, ◌++◌, map, codes, Some, IsUtf8, ⊤}
+use Rattle.std.specs.Prelude.{◌≡◌, ℕ, ◌<◌, ◌≤◌, ◌^◌, negsuc, false, List, ◌∷◌, ◌++◌, map, codes, Some, IsUtf8, ⊤}
 use Rattle.std.specs.List.{AllByRecursion}
 use Rattle.std.specs.Str.{bytes_eq}
 use Rattle.json.specs.Lex.{between, in_string, lex}
