@@ -1,4 +1,4 @@
--- Sound boards that differ in plain values and registers alone have the same devices below their buses.
+-- Sound boards that differ in plain values and registers alone have the same devices below their buses, and so the same lines.
 use Rattle.std.proofs.Common.{◌≡◌, refl, ap, ap₂, sym, ◌∙◌, ℕ, Bool, true, false, ◌==◌, ◌&&◌, not, if◌then◌else◌, List, [], ◌∷◌, ◌++◌, map, find, filter_map, codes, Option, None, Some, option_map, option_and_then}
 use Rattle.std.specs.List.{cons_option}
 use Rattle.std.specs.Option.{option_map_or}
@@ -17,13 +17,18 @@ use Rattle.qo_model.specs.Types.{is_a}
 use Rattle.qo_model.proofs.StepLemmas.{found_at}
 use Rattle.qo_layout.specs.Layout.{mapped}
 use Rattle.qo_layout.specs.LineLaws.{SameDevices}
+use Rattle.qo_layout.proofs.SameLemmas.{same_lem}
 use Rattle.qo_layout.specs.Registers.{registers_at}
 use Rattle.qo_layout.specs.Rows.{wiring}
 use Rattle.qo_layout.specs.declared.wiring.Wiring.{Wiring}
 use Rattle.qo_layout.specs.declared.wiring.Wiring.TheVariants.{Joined}
 use Rattle.qo_sound_phases.proofs.ForestLemmas.{turn}
 use Rattle.qo_sound_shapes.specs.SoundShape.{SoundShape, unvalued}
-use Rattle.qo_commands.specs.Touched.{frame_of}
+use Rattle.qo_commands.specs.Touched.{KeepsLines}
+
+-- the objects of a board without their plain values and registers
+abbrev pub frame_of : Board → List Record
+frame_of b = map without_values b.records
 
 -- a board without plain values and registers
 abbrev framed : Board → Board
@@ -141,7 +146,8 @@ like-driven bare (dimm v) e = cc
 like-driven bare (bridge v) e = cc
 like-driven bare bare e = refl
 
-driven-by : (b : Board) → SoundShape b → (n : ℕ) → wiring (registers_at b n) ≡ option_map_or (λ (t : TypeId). wiring (fresh_registers t)) (kind_of b n) Joined
+pub driven-by : (b : Board) → SoundShape b → (n : ℕ)
+    → wiring (registers_at b n) ≡ option_map_or (λ (t : TypeId). wiring (fresh_registers t)) (kind_of b n) Joined
 driven-by b shape n = go (record_of b n) refl
   where
     go : (o : Option Record) → record_of b n ≡ o → wiring (registers_at b n) ≡ option_map_or (λ (t : TypeId). wiring (fresh_registers t)) (kind_of b n) Joined
@@ -168,7 +174,7 @@ module _ (b c : Board) (same : frame_of b ≡ frame_of c) where
   post-same n =
       ap₂ (λ (next : ℕ → List ℕ) (all : List ℕ). by_objects (turn next) (λ _. []) all n) (fun_ext below-same) births-same
 
-  pub frame-devices : SoundShape b → SoundShape c → SameDevices b c
+  frame-devices : SoundShape b → SoundShape c → SameDevices b c
   frame-devices shape shape_after = record {
     objects = ap₂ (λ (xs ys : List ℕ). xs ++ ys) (post-same ROOT_BUS_BIRTH) (post-same MEMORY_BUS_BIRTH);
     below_it = below-same;
@@ -176,3 +182,6 @@ module _ (b c : Board) (same : frame_of b ≡ frame_of c) where
     bodies = λ n.
         driven-by b shape n ∙ ap (λ (o : Option TypeId). option_map_or (λ (t : TypeId). wiring (fresh_registers t)) o Joined) (kind-same n) ∙ sym (driven-by c shape_after n);
   }
+
+pub framed-lines : (b c : Board) → frame_of b ≡ frame_of c → KeepsLines b c
+framed-lines b c same sound after l are = same_lem.made b c (frame-devices b c same sound.shape after.shape) l are

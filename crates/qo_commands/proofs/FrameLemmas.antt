@@ -1,5 +1,5 @@
 -- What leaves the objects of a board but for their plain values and registers.
-use Rattle.std.proofs.Common.{◌≡◌, refl, ap, ap₂, sym, subst, ◌∙◌, ℕ, ◌+◌, ◌==◌, nat_lt, Bool, true, false, not, if◌then◌else◌, List, [], ◌∷◌, map, length, Option, None, Some, option_map, Result, Ok, Err}
+use Rattle.std.proofs.Common.{◌≡◌, refl, ap, ap₂, sym, subst, ◌∙◌, ℕ, zero, suc, ◌+◌, ◌==◌, nat_lt, Bool, true, false, not, if◌then◌else◌, List, [], ◌∷◌, map, length, Option, None, Some, option_map, Result, Ok, Err}
 use Rattle.std.specs.Option.{option_map_or}
 use Rattle.qo_values.specs.Registers.{Effect, Registers, byte, nothing, pulse as pulses}
 use Rattle.qo_values.specs.declared.births.TheConstants.{MACHINE_BIRTH}
@@ -8,23 +8,31 @@ use Rattle.qo_values.specs.declared.kinds.Act.{Act}
 use Rattle.qo_values.specs.declared.kinds.ResetKind.{ResetKind}
 use Rattle.qo_values.specs.declared.kinds.ResetKind.TheVariants.{Cold, Wakeup}
 use Rattle.qo_values.specs.declared.limits.TheConstants.{TIME_MAX}
+use Rattle.qo_values.specs.declared.properties.Val.{Val}
+use Rattle.qo_values.specs.declared.properties.Val.TheVariants as val
 use Rattle.qo_buses.specs.Rings.{claimed_ring}
-use Rattle.qo_model.specs.Board.{Board, Record, Removal}
+use Rattle.qo_model.specs.Board.{Board, Record, Removal, Slot, alias, child, plain, slots_at, strong, weak}
+use Rattle.qo_model.specs.Changes.{changed_at, set, with_changed, with_val}
+use Rattle.qo_model.specs.ClockChanges.{clock_scaled, clock_set}
 use Rattle.qo_model.specs.Clocks.{acted, with_act_on}
 use Rattle.qo_model.specs.Devices.{first_bus}
 use Rattle.qo_model.specs.Hotplug.{all_completed, reset_whole, woken}
-use Rattle.qo_model.specs.Objects.{Changed}
+use Rattle.qo_model.specs.Objects.{Changed, index_from}
 use Rattle.qo_model.specs.Paths.{attached}
 use Rattle.qo_model.specs.Release.{edit, edited}
 use Rattle.qo_model.specs.Reset.{after_hold, exceeds_depth, pulse, released}
-use Rattle.qo_model.specs.SoundGraph.{without_values}
+use Rattle.qo_model.specs.SoundGraph.{without_value, without_values}
+use Rattle.qo_model.specs.Unplug.{is_named, set_named}
 use Rattle.qo_realize.specs.Registers.{after_effect, guest_written, pushed, registers_written}
 use Rattle.qo_realize.specs.Resets.{at_path, held_at, held_of, released_at, released_of, resettable_at}
 use Rattle.qo_realize.specs.Time.{advanced}
 use Rattle.qo_sound.proofs.QuietStepsLemmas.{quiet-held, quiet-pulse, quiet-released}
 use Rattle.qo_sound_clocks.specs.RegisterWrites.{registers_set, with_registers}
+use Rattle.qo_sound_clocks.proofs.StepsLemmas.{KeepsNumbers, calls-kept, kept-scaled, kept-set}
+use Rattle.qo_sound_shapes.specs.SoundShape.{unvalued}
 use Rattle.qo_commands.specs.Hearing.{if_written, written_by}
-use Rattle.qo_commands.specs.Touched.{Touches, frame_of, touched_by_reset}
+use Rattle.qo_commands.specs.Touched.{Touches, touched_by_reset}
+use Rattle.qo_commands.proofs.DeviceFrameLemmas.{frame_of, framed-lines}
 
 -- an object that is changed in these alone
 framed-edited : (n : ℕ) (change : Record → Record) → ((r : Record) → without_values (change r) ≡ without_values r) → (rs : List Record)
@@ -40,6 +48,25 @@ framed-edited n change same (r ∷ rs) = go (r.birth == n) refl (framed-edited n
 pub frame-edit : (n : ℕ) (change : Record → Record) → ((r : Record) → without_values (change r) ≡ without_values r) → (b : Board)
     → frame_of b ≡ frame_of (edit n change b)
 frame-edit n change same b = framed-edited n change same b.records
+
+-- a plain slot that is set
+value-unseen : (v : Val) (s : Slot) → without_value (with_val v s) ≡ without_value s
+value-unseen v (plain old) = refl
+value-unseen v (child m) = refl
+value-unseen v (strong t target) = refl
+value-unseen v (weak t target) = refl
+value-unseen v (alias m property) = refl
+
+slots-set : (v : Val) (i : ℕ) (slots : List (List ℕ × Slot)) → unvalued (changed_at (with_val v) i slots) ≡ unvalued slots
+slots-set v i [] = refl
+slots-set v zero (s ∷ slots) = ap (λ (x : Slot). (s.0, x) ∷ unvalued slots) (value-unseen v s.1)
+slots-set v (suc i) (s ∷ slots) = ap (λ (xs : List (List ℕ × Slot)). (s.0, without_value s.1) ∷ xs) (slots-set v i slots)
+
+frame-set : (n i : ℕ) (v : Val) (b : Board) → frame_of b ≡ frame_of (set n i v b)
+unfolding set
+frame-set n i v b =
+    frame-edit n (with_changed (with_val v) i)
+    (λ r. ap (λ (slots : List (List ℕ × Slot)). record (without_values r) { slots = slots }) (slots-set v i r.slots)) b
 
 -- so it is after others
 module _ (b : Board) where
@@ -61,6 +88,21 @@ module _ (b : Board) where
 
   framed-pulse : (c : Board) (n : ℕ) (kind : ResetKind) → Framed c → Framed (pulse c n kind)
   framed-pulse c n kind h = quiet-pulse Framed framed-beside framed-acted c n kind h
+
+  -- numbers of clocks that are written
+
+  framed-number : KeepsNumbers Framed
+  framed-number name place mark n v c h = go (index_from (is_named name) 0 (slots_at c n)) refl
+    where
+      go : (o : Option ℕ) → index_from (is_named name) 0 (slots_at c n) ≡ o → Framed (set_named n name (val.Uint v) c)
+      go None e = rw (set_named, e) h
+      go (Some i) e = rw (set_named, e) (h ∙ frame-set n i (val.Uint v) c)
+
+  pub set-frame : (c : Board) (n period : ℕ) → clock_set b n period ≡ Ok c → frame_of b ≡ frame_of c
+  set-frame c n period e = kept-set Framed (calls-kept Framed framed-acted) framed-number b c n period e refl
+
+  pub scaled-frame : (c : Board) (n mul div : ℕ) → clock_scaled b n mul div ≡ Ok c → frame_of b ≡ frame_of c
+  scaled-frame c n mul div e = kept-scaled Framed (calls-kept Framed framed-acted) framed-number b c n mul div e refl
 
   -- what a write of the guest does beside
 
@@ -94,8 +136,9 @@ written-frame b reg value (Some d) = frame-written b d reg value
 pub reset-touches : (b : Board) (pending : List Removal) → b.pending ≡ pending → Touches (touched_by_reset pending) b (reset_whole b)
 unfolding reset_whole
 reset-touches b [] none =
-    subst (λ (c : Board). frame_of b ≡ frame_of (pulse c MACHINE_BIRTH Cold)) (sym (ap (λ (rs : List Removal). all_completed (length rs) b) none))
-    (framed-pulse b b MACHINE_BIRTH Cold refl)
+    framed-lines b (reset_whole b)
+    (subst (λ (c : Board). frame_of b ≡ frame_of (pulse c MACHINE_BIRTH Cold)) (sym (ap (λ (rs : List Removal). all_completed (length rs) b) none))
+    (framed-pulse b b MACHINE_BIRTH Cold refl))
 reset-touches b (r ∷ removals) some = tt
 
 -- a wakeup

@@ -4,7 +4,6 @@ use Rattle.qo_guest.specs.declared.answers.GuestAnswer.TheVariants.{Value}
 use Rattle.qo_heap.specs.Board.{Shows}
 use Rattle.qo_layout.specs.Rows.{AreShaped, LinesAre, Wired}
 use Rattle.qo_layout.proofs.LineRecordsLemmas.{irq-same, lines-same, shaped-same}
-use Rattle.qo_layout.proofs.SameLemmas.{same_lem}
 use Rattle.qo_model.specs.Board.{Board}
 use Rattle.qo_clocks.specs.Kept.{Clocked, PeriodsKept}
 use Rattle.qo_realize.proofs.PeriodLemmas.{clocked-sound}
@@ -28,7 +27,6 @@ use Rattle.qo_commands.specs.Touched.{HasShape, IsLeft, Touches}
 use Rattle.qo_commands.specs.declared.hearing.Heard.{Heard}
 use Rattle.qo_commands.specs.declared.touched.Touched.{Touched}
 use Rattle.qo_commands.specs.declared.touched.Touched.TheVariants.{Nothing, Registers, Devices}
-use Rattle.qo_commands.proofs.DeviceFrameLemmas.{frame-devices}
 
 -- two boards that stand at the same parts have the same records and the same time
 same-records : (b c : Board) (p : Parts) → Stands b p → Stands c p → b.records ≡ c.records
@@ -79,8 +77,7 @@ by-shape P p l h f = f h.board h.stands h.sound h.shaped
 
 left-of : (t : Touched) (b c : Board) (q : Parts) (l : Wired) → SoundBoard b → LinesAre b l → Touches t b c → Stands c q → SoundBoard c → IsLeft t q l
 left-of Nothing b c q l sound are touches stands after = has-lines q l c stands after (lines-same b c l touches.0 touches.1 are)
-left-of Registers b c q l sound are touches stands after =
-    has-shape q l c stands after (same_lem.made b c (frame-devices b c touches sound.shape after.shape) l are.shaped)
+left-of Registers b c q l sound are touches stands after = has-shape q l c stands after (touches sound after l are.shaped)
 left-of Devices b c q l sound are touches stands after = tt
 
 -- a board that came of one whose lines they are, where this was touched

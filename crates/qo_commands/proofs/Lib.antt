@@ -1,5 +1,7 @@
+mod BusKidLemmas
 mod ChangeLemmas
-mod DeviceFrameLemmas
+mod ChangedLinesLemmas
+pub mod DeviceFrameLemmas
 pub mod FrameLemmas
 mod ListingLemmas
 mod NoteLemmas

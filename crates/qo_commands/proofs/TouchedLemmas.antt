@@ -15,9 +15,11 @@ use Rattle.qo_chardev.specs.declared.rings.TheConstants.{RING_SIZE_DEFAULT}
 use Rattle.qo_guest.specs.declared.answers.GuestAnswer.{GuestAnswer}
 use Rattle.qo_guest.specs.declared.answers.GuestAnswer.TheVariants.{Fine}
 use Rattle.qo_layout.specs.declared.views.RegisterPlace.{RegisterPlace}
+use Rattle.qo_model.specs.Access.{write_at}
 use Rattle.qo_model.specs.Board.{Board, Removal, Ring, is_pending}
+use Rattle.qo_model.specs.FinalNotesRuns.{added as object_added, deleted, severed}
 use Rattle.qo_model.specs.Hotplug.{asked, asked_of, device_at, is_early, refused, woken}
-use Rattle.qo_model.specs.Objects.{Changed}
+use Rattle.qo_model.specs.Objects.{Changed, Given, object_add, sever}
 use Rattle.qo_model.specs.Paths.{attached}
 use Rattle.qo_model.specs.Plug.{notice_barred}
 use Rattle.qo_realize.specs.Chardevs.{Reading, by_code, chardev_added, chardev_barred, chardev_removed, removal_barred, ring_read, ring_written, ringbuf_read, ringbuf_written, taken_as, with_rings, written_as}
@@ -25,22 +27,26 @@ use Rattle.qo_realize.specs.Parts.{Parts}
 use Rattle.qo_realize.specs.Refusals.{AsItWas}
 use Rattle.qo_realize.specs.Resets.{held_at, released_at}
 use Rattle.qo_realize.specs.Time.{advanced}
+use Rattle.qo_realize.specs.Users.{is_used, object_removed}
+use Rattle.qo_requests.specs.declared.calls.Addition.TheVariants.{ObjectAdd}
 use Rattle.qo_requests.specs.declared.calls.Alteration.{Alteration}
 use Rattle.qo_requests.specs.declared.calls.Alteration.TheVariants.{ChardevAdd, ChardevRemove, Cont, DeviceDel, ObjectDel, QomSet, RingbufRead, RingbufWrite, Stop, SystemReset, XGuest, XResetHold, XResetRelease, XSever, XStep, XWakeup}
 use Rattle.qo_requests.specs.declared.calls.Call.TheVariants as call
 use Rattle.qo_requests.specs.declared.calls.Change.{Change}
-use Rattle.qo_requests.specs.declared.calls.Change.TheVariants.{Alter}
+use Rattle.qo_requests.specs.declared.calls.Change.TheVariants.{Add, Alter}
 use Rattle.qo_commands.specs.Changes.{Alters, Came, Changes}
-use Rattle.qo_commands.specs.Commands.{Done, altered, changed, made, ring_told, timed}
-use Rattle.qo_commands.specs.Hearing.{Outcome, answered, has_registers, heard, nacked, peeked, poked, read_by}
-use Rattle.qo_commands.specs.Touched.{Touches, frame_of, touched_by_reset, unless_refused}
+use Rattle.qo_commands.specs.Commands.{Done, added, altered, changed, made, ring_told, timed, wrote}
+use Rattle.qo_commands.specs.Hearing.{Outcome, answered, has_registers, heard, nacked, peeked, read_by}
+use Rattle.qo_commands.specs.Touched.{KeepsLines, Touches, touched_by_reset, unless_refused}
 use Rattle.qo_commands.specs.Views.{data_of}
 use Rattle.qo_commands.specs.declared.commands.Done as outcome
 use Rattle.qo_commands.specs.declared.commands.ReplyBody.{ReplyBody}
 use Rattle.qo_commands.specs.declared.hearing.Heard.{Heard}
 use Rattle.qo_commands.specs.declared.touched.Touched.{Touched}
-use Rattle.qo_commands.specs.declared.touched.Touched.TheVariants.{Nothing, Registers, Devices}
-use Rattle.qo_commands.proofs.FrameLemmas.{advanced-frame, held-frame, released-frame, reset-touches, woken-frame, written-frame}
+use Rattle.qo_commands.specs.declared.touched.Touched.TheVariants.{Nothing, Registers}
+use Rattle.qo_commands.proofs.ChangedLinesLemmas.{changed-lines, write-lines}
+use Rattle.qo_commands.proofs.DeviceFrameLemmas.{framed-lines}
+use Rattle.qo_commands.proofs.FrameLemmas.{advanced-frame, held-frame, released-frame, reset-touches, woken-frame}
 use Rattle.qo_commands.proofs.RefusedCommandLemmas.{refused_commands_lem}
 
 -- Lines of the guest.
@@ -90,11 +96,6 @@ pub peeked-touches : (b : Board) (o : Option RegisterPlace) → Touches Nothing 
 peeked-touches b None = (refl, refl)
 peeked-touches b (Some place) =
     either-touches b Nothing (has_registers b place.device) _ _ (read-touches b place.register (Some place.device)) (refl, refl)
-
-pub poked-frame : (b : Board) (value : ℕ) (o : Option RegisterPlace) → frame_of b ≡ frame_of (poked b value o).board
-poked-frame b value None = refl
-poked-frame b value (Some place) =
-    either-touches b Registers (has_registers b place.device) _ _ (written-frame b place.register value (Some place.device)) refl
 
 -- Commands.
 
@@ -177,14 +178,29 @@ touches-board t b c d same touches = subst (Touches t b) (sym same) touches
 changed-touches : (t : Touched) (b : Board) (c : Changed) → Touches t b c.board → Touches t b (changed c).board
 changed-touches t b c touches = touches-board t b (changed c).board c.board (changed-board c) touches
 
-pub set-touches : (b : Board) (path property : List ℕ) (value : Val) → Touches Devices b (altered b (QomSet path property value)).board
-set-touches b path property value = tt
+same-lines : (b : Board) → KeepsLines b b
+same-lines b sound after l are = are
 
-pub removed-touches : (b : Board) (id : List ℕ) → Touches Devices b (altered b (ObjectDel id)).board
-removed-touches b id = tt
+pub added-touches : (b : Board) (driver id : List ℕ) (props : List Given) → Touches Registers b (made b (Add (ObjectAdd driver id props))).board
+unfolding added
+added-touches b driver id props = changed-touches Registers b (object_add b driver id props) (changed-lines b (object_added driver id props))
 
-pub severed-touches : (b : Board) (n : ℕ) → Touches Devices b (altered b (XSever n)).board
-severed-touches b n = tt
+pub set-touches : (b : Board) (path property : List ℕ) (value : Val) → Touches Registers b (altered b (QomSet path property value)).board
+unfolding altered
+set-touches b path property value = go (write_at b path property value) refl
+  where
+    go : (r : Result Board Code) → write_at b path property value ≡ r → Touches Registers b (wrote b r).board
+    go (Ok c) is = write-lines b c path property value is
+    go (Err code) is = same-lines b
+
+pub removed-touches : (b : Board) (id : List ℕ) → Touches Registers b (altered b (ObjectDel id)).board
+unfolding altered
+removed-touches b id =
+    changed-touches Registers b (object_removed b id) (or-touches b Registers (is_used b id) _ _ (same-lines b) (changed-lines b (deleted id)))
+
+pub severed-touches : (b : Board) (n : ℕ) → Touches Registers b (altered b (XSever n)).board
+unfolding altered
+severed-touches b n = changed-touches Registers b (sever b n) (changed-lines b (severed n))
 
 pub unplugged-touches : (b : Board) (id : List ℕ) → Touches Nothing b (altered b (DeviceDel id)).board
 unfolding altered
@@ -219,19 +235,24 @@ continued-touches b = (refl, refl)
 
 pub stepped-touches : (b : Board) (ns : ℕ) → Touches Registers b (altered b (XStep ns)).board
 unfolding altered
-stepped-touches b ns = touches-board Registers b (timed (advanced b ns)).board (advanced b ns).board (timed-board (advanced b ns)) (advanced-frame b ns)
+stepped-touches b ns =
+    touches-board Registers b (timed (advanced b ns)).board (advanced b ns).board (timed-board (advanced b ns))
+    (framed-lines b (advanced b ns).board (advanced-frame b ns))
 
 pub held-touches : (b : Board) (path : List ℕ) (kind : Option ResetKind) → Touches Registers b (altered b (XResetHold path kind)).board
 unfolding altered
-held-touches b path kind = changed-touches Registers b (held_at b path (unwrap_or kind Cold)) (held-frame b path (unwrap_or kind Cold))
+held-touches b path kind =
+    let done : Changed = held_at b path (unwrap_or kind Cold) in
+    changed-touches Registers b done (framed-lines b done.board (held-frame b path (unwrap_or kind Cold)))
 
 pub released-touches : (b : Board) (path : List ℕ) → Touches Registers b (altered b (XResetRelease path)).board
 unfolding altered
-released-touches b path = changed-touches Registers b (released_at b path) (released-frame b path)
+released-touches b path =
+    changed-touches Registers b (released_at b path) (framed-lines b (released_at b path).board (released-frame b path))
 
 pub woken-touches : (b : Board) → Touches Registers b (altered b XWakeup).board
 unfolding altered
-woken-touches b = changed-touches Registers b (record { refusal = None; board = woken b }) (woken-frame b)
+woken-touches b = changed-touches Registers b (record { refusal = None; board = woken b }) (framed-lines b (woken b) (woken-frame b))
 
 pub reset-touched : (b : Board) (pending : List Removal) → b.pending ≡ pending → Touches (touched_by_reset pending) b (altered b SystemReset).board
 unfolding altered

@@ -1,8 +1,7 @@
 -- For proofs alone. What a command or a line of the guest touched of what interrupt lines hang on, and what is left then of the lines.
-use Rattle.std.specs.Prelude.{◌≡◌, List, [], ◌∷◌, map, Result, Ok, Err, ⊤}
+use Rattle.std.specs.Prelude.{◌≡◌, List, [], ◌∷◌, Result, Ok, Err, ⊤}
 use Rattle.qo_layout.specs.Rows.{AreShaped, Wired}
-use Rattle.qo_model.specs.Board.{Board, Record, Removal}
-use Rattle.qo_model.specs.SoundGraph.{without_values}
+use Rattle.qo_model.specs.Board.{Board, Removal}
 use Rattle.qo_realize.specs.Parts.{Parts}
 use Rattle.qo_realize.specs.Representation.{Stands}
 use Rattle.qo_realize.specs.SoundBoard.{SoundBoard}
@@ -10,15 +9,14 @@ use Rattle.qo_commands.specs.Interrupts.{HasLines}
 use Rattle.qo_commands.specs.declared.touched.Touched.{Touched}
 use Rattle.qo_commands.specs.declared.touched.Touched.TheVariants.{Nothing, Registers, Devices}
 
--- the objects of a board without their plain values and registers
-abbrev pub frame_of : Board → List Record
-frame_of b = map without_values b.records
+-- lines that are made for the objects of one board are made for those of another, where both are sound
+abbrev pub KeepsLines : Board → Board → Type 0
+KeepsLines b c = SoundBoard b → SoundBoard c → (l : Wired) → AreShaped b l → AreShaped c l
 
--- what a board has in common with the one before, where this was touched: its objects and the time; its objects without their values and registers; or it may
--- have nothing
+-- what a board has in common with the one before, where this was touched: its objects and the time; what lines are made of; or it may have nothing
 abbrev pub Touches : Touched → Board → Board → Type 0
 Touches Nothing b c = (b.records ≡ c.records) × (b.now ≡ c.now)
-Touches Registers b c = frame_of b ≡ frame_of c
+Touches Registers b c = KeepsLines b c
 Touches Devices b c = ⊤
 
 -- what is refused touches nothing

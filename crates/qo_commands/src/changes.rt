@@ -43,7 +43,7 @@ fn set<L: Ledger>(
     ensures touched { (b : Tree) → Stands b board.old → IfOk result (λ d. Touches d.touched b (altered b (alteration.QomSet path.now name.now val.now)).board) }
 {
     let answer = board.qom_set(path, name, val, alloc, steps);
-    outcome_of(answer, Touched::Devices)
+    outcome_of(answer, Touched::Registers)
 }
 
 /// Removes the object of an id.
@@ -51,7 +51,7 @@ fn remove<L: Ledger>(board: &mut Board, id: &str, steps: &mut Steps<L>) -> Done
     ensures came { (b : Tree) → Stands b board.old → Came (altered b (alteration.ObjectDel id.now)) result board.new }
     ensures touched { (b : Tree) → Stands b board.old → Touches result.touched b (altered b (alteration.ObjectDel id.now)).board }
 {
-    done_by(board.object_del(id, steps), Touched::Devices)
+    done_by(board.object_del(id, steps), Touched::Registers)
 }
 
 /// Adds an object of a type's name under an id, with properties.
@@ -67,7 +67,7 @@ fn add<L: Ledger>(
     ensures touched { (b : Tree) → Stands b board.old → IfOk result (λ d. Touches d.touched b (made b (change.Add (addition.ObjectAdd driver.now id.now props.now))).board) }
 {
     let answer = board.object_add(driver, id, props, alloc, steps);
-    outcome_of(answer, Touched::Devices)
+    outcome_of(answer, Touched::Registers)
 }
 
 /// Cuts the strong links of the detached object of a birth.
@@ -75,7 +75,7 @@ fn sever<L: Ledger>(board: &mut Board, birth: u64, steps: &mut Steps<L>) -> Done
     ensures came { (b : Tree) → Stands b board.old → Came (altered b (alteration.XSever birth)) result board.new }
     ensures touched { (b : Tree) → Stands b board.old → Touches result.touched b (altered b (alteration.XSever birth)).board }
 {
-    done_by(board.sever(birth, steps), Touched::Devices)
+    done_by(board.sever(birth, steps), Touched::Registers)
 }
 
 /// The words of a text, if there is one.

@@ -5,7 +5,7 @@
 pub enum Touched {
     /// No object, and not the time.
     Nothing,
-    /// Registers, or the time: the same objects stand below the buses.
+    /// Registers, the time, or objects that are no devices: the same devices stand below the buses.
     Registers,
     /// Devices, which may have come or gone.
     Devices,

@@ -7,6 +7,7 @@ use Rattle.qo_commands.specs.Interrupts.{HasLines}
 use Rattle.qo_commands.specs.Touched.{HasShape, IsLeft}
 use Rattle.qo_commands.specs.declared.touched.Touched.{Touched}
 use Rattle.qo_commands.specs.declared.touched.Touched.TheVariants.{Nothing, Registers}
+use Rattle.qo_commands.proofs.DeviceFrameLemmas.{framed-lines}
 use Rattle.qo_commands.proofs.FrameLemmas.{advanced-frame}
 use Rattle.qo_commands.proofs.InterruptLemmas.{by-lines, left-after, left-beside}
 use Rattle.qo_layout.specs.Rows.{Wired}
@@ -66,7 +67,7 @@ pub shaped_later : (p q : Parts) (l : Wired) (ns : ℕ) → ((b : Board) → Sta
     → HasShape q l
 shaped_later p q l ns goes good h =
     left-after Registers p q l h good
-    (λ b sound stands. record { board = (advanced b ns).board; touches = advanced-frame b ns; stands = goes b stands })
+    (λ b sound stands. record { board = (advanced b ns).board; touches = framed-lines b (advanced b ns).board (advanced-frame b ns); stands = goes b stands })
 
 -- The view.
 

@@ -1,8 +1,8 @@
 use Rattle.qo_commands.proofs.ChangeLemmas.{add-changes}
 use Rattle.qo_requests.specs.declared.calls.Addition.TheVariants.{ObjectAdd}
 use Rattle.qo_requests.specs.declared.calls.Change.TheVariants.{Add}
-use Rattle.qo_commands.specs.declared.touched.Touched.TheVariants.{Devices}
-use Rattle.qo_commands.proofs.TouchedLemmas.{if_made-touches}
+use Rattle.qo_commands.specs.declared.touched.Touched.TheVariants.{Registers}
+use Rattle.qo_commands.proofs.TouchedLemmas.{added-touches, if_made-touches}
 use Rattle.qo_commands.proofs.changes.add.Goals as goal
 
 pub returns-clause-came : goal.returns-clause-came
@@ -12,5 +12,5 @@ returns-clause-came g c = λ b s.
 
 pub returns-clause-touched : goal.returns-clause-touched
 returns-clause-touched g c = λ b s.
-    if_made-touches b (Add (ObjectAdd c.args.driver.now c.args.id.now c.args.props.now)) c.outcome_of.result c.object_add-answer.new.self Devices
-    (returns-clause-came g c b s) c.outcome_of.ensures.touched tt
+    if_made-touches b (Add (ObjectAdd c.args.driver.now c.args.id.now c.args.props.now)) c.outcome_of.result c.object_add-answer.new.self Registers
+    (returns-clause-came g c b s) c.outcome_of.ensures.touched (added-touches b c.args.driver.now c.args.id.now c.args.props.now)

@@ -4,7 +4,7 @@ use Rattle.qo_commands.specs.Commands.{altered}
 use Rattle.qo_commands.proofs.ChangeLemmas.{answered-came}
 use Rattle.qo_requests.specs.declared.calls.Alteration.TheVariants.{XSever}
 use Rattle.qo_requests.specs.declared.calls.Change.TheVariants.{Alter}
-use Rattle.qo_commands.specs.declared.touched.Touched.TheVariants.{Devices}
+use Rattle.qo_commands.specs.declared.touched.Touched.TheVariants.{Registers}
 use Rattle.qo_commands.proofs.TouchedLemmas.{done-touches, severed-touches}
 use Rattle.qo_commands.proofs.changes.sever.Goals as goal
 
@@ -15,4 +15,4 @@ returns-clause-came g c = λ b s.
 
 pub returns-clause-touched : goal.returns-clause-touched
 returns-clause-touched g c = λ b s.
-    done-touches b (Alter (XSever c.args.birth)) c.done_by.result c.sever.new.self Devices (returns-clause-came g c b s) c.done_by.ensures.touched (severed-touches b c.args.birth)
+    done-touches b (Alter (XSever c.args.birth)) c.done_by.result c.sever.new.self Registers (returns-clause-came g c b s) c.done_by.ensures.touched (severed-touches b c.args.birth)

@@ -3,6 +3,7 @@ use Rattle.std.proofs.Common.{ap, Some}
 use Rattle.qo_guest.specs.declared.answers.GuestAnswer.TheVariants.{NoRegister}
 use Rattle.qo_commands.specs.Hearing.{if_written, written_by}
 use Rattle.qo_commands.specs.declared.touched.Touched.TheVariants.{Registers}
+use Rattle.qo_commands.proofs.DeviceFrameLemmas.{framed-lines}
 use Rattle.qo_commands.proofs.FrameLemmas.{written-frame}
 use Rattle.qo_commands.proofs.TouchedLemmas.{touches-answered, touches-fine}
 use Rattle.qo_commands.proofs.hearing.write_register.Goals as goal
@@ -10,7 +11,7 @@ use Rattle.qo_commands.proofs.hearing.write_register.Goals as goal
 pub returns-in-Some-clause-touched : goal.returns-in-Some-clause-touched
 returns-in-Some-clause-touched g c = λ b s.
     touches-fine b (written_by b c.args.reg c.args.value (Some c.args.dev.birth)).board Registers c.fine.result c.fine.ensures
-    (written-frame b c.args.reg c.args.value (Some c.args.dev.birth))
+    (framed-lines b (written_by b c.args.reg c.args.value (Some c.args.dev.birth)).board (written-frame b c.args.reg c.args.value (Some c.args.dev.birth)))
 
 pub returns-in-None-clause-touched : goal.returns-in-None-clause-touched
 returns-in-None-clause-touched g c = λ b s.
