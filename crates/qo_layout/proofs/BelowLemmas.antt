@@ -4,18 +4,15 @@ use Rattle.std.specs.Prelude.{IfErr, IfSome}
 use Rattle.std.specs.List.{cons_option}
 use Rattle.std.specs.Option.{option_to_list}
 use Rattle.std.proofs.lemmas.Bool.{lt-ltb}
-use Rattle.std.proofs.lemmas.List.{length-map, take_all}
+use Rattle.std.proofs.lemmas.List.{take_all}
 use Rattle.qo_irq.specs.Wires.{Wire, names_below, or}
 use Rattle.qo_irq.specs.declared.errors.NetError.{NetError}
 use Rattle.qo_irq.specs.declared.errors.NetError.TheVariants.{Memory}
 use Rattle.qo_model.specs.Board.{Board, Slot, slots_at}
 use Rattle.qo_model.specs.Paths.{is_of}
 use Rattle.qo_model.specs.Reset.{below}
-use Rattle.qo_object.specs.BoardObject.{shown_slot}
-use Rattle.qo_object.specs.Slots.{Named}
 use Rattle.qo_heap.specs.Board.{Shows}
 use Rattle.qo_heap.specs.Objects.{Objects, slots_of}
-use Rattle.qo_heap.proofs.BoardReads.{shows-slots}
 use Rattle.qo_sound_shapes.specs.SoundShape.{SoundShape}
 use Rattle.qo_layout.specs.Numbering.{NoneBefore, below_at, below_in, first_below, is_leaf}
 use Rattle.qo_layout.specs.Growth.{HasAll, HasMore}
@@ -25,6 +22,7 @@ use Rattle.qo_layout.specs.declared.wiring.Row.{Row}
 use Rattle.qo_layout.specs.declared.wiring.Wiring.{Wiring}
 use Rattle.qo_layout.specs.declared.wiring.Wiring.TheVariants.{Joined, Masked, Own}
 use Rattle.qo_layout.proofs.LeafLemmas.{none-first}
+use Rattle.qo_layout.proofs.NumberingLemmas.{below-all, slots-shown}
 
 -- one line more
 lines-push : (rows : List Row) (os lines : List ℕ) (o line : ℕ) → AreLines rows os lines → HasRow rows o line
@@ -52,10 +50,6 @@ filter-next g (x ∷ xs) (suc i) low =
     apart None ms more = refl
     apart (Some m) ms more = refl
 
-slots-shown : (b : Board) (v : Objects) → Shows b v → (n : ℕ) → length (slots_at b n) ≡ length (slots_of v n)
-slots-shown b v s n =
-    ap (λ (xs : List (List ℕ × Slot)). length xs) (shows-slots b v s n) ∙ length-map (slots_of v n) (λ (t : Named). (t.0, shown_slot t.1))
-
 pub lines-first : (b : Board) (rows : List Row) (n at : ℕ) (bus : Bool) (lines : List ℕ) → bus ≡ is_of b (codes "bus") n → NoneBefore b n at → lines ≡ []
     → AreLines rows (filter_map (below_in b bus) (take at (slots_at b n))) lines
 lines-first b rows n at bus lines is none e = rw (is, none, e) tt
@@ -76,10 +70,6 @@ lines-next b v s rows n at count bus old new all low before more =
     go (Some m) (line, has, is) = rw is (lines-push rows os old m line before has)
 
 -- all slots
-below-all : (b : Board) (n : ℕ) (bus : Bool) → bus ≡ is_of b (codes "bus") n → filter_map (below_in b bus) (slots_at b n) ≡ below b n
-below-all b n true e = rw (← e) refl
-below-all b n false e = rw (← e) refl
-
 pub lines-all : (b : Board) (v : Objects) → Shows b v → (rows : List Row) (n at count : ℕ) (bus : Bool) (lines : List ℕ) → count ≡ length (slots_of v n)
     → count ≤ at
     → bus ≡ is_of b (codes "bus") n → AreLines rows (filter_map (below_in b bus) (take at (slots_at b n))) lines → AreLines rows (below b n) lines

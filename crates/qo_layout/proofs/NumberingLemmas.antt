@@ -59,7 +59,7 @@ listed-next b v s levels n at count bus first old new all low before more =
     (sym (mapped-next (post_within b levels) (below_in b bus) (slots_at b n) at (omega (arith, slots-shown b v s n, all, low))))
 
 -- all slots, and the object itself
-below-all : (b : Board) (n : ℕ) (bus : Bool) → bus ≡ is_of b (codes "bus") n → filter_map (below_in b bus) (slots_at b n) ≡ below b n
+pub below-all : (b : Board) (n : ℕ) (bus : Bool) → bus ≡ is_of b (codes "bus") n → filter_map (below_in b bus) (slots_at b n) ≡ below b n
 below-all b n true e = rw (← e) refl
 below-all b n false e = rw (← e) refl
 

@@ -60,11 +60,12 @@ any-kid p g q (x ∷ xs) m there fed found = go (eqb m x) refl there (λ e. any-
     go false e u next = later (q x) (next u)
 
 module _ (b : Board) where
-  abbrev below : ℕ → ℕ → List ℕ
+  -- the clocks below a clock, to a depth
+  abbrev pub below : ℕ → ℕ → List ℕ
   below d n = by_depth (fed_turn b) (λ _. []) d n
 
   -- a clock goes by another in so many steps at most
-  abbrev Goes : ℕ → ℕ → ℕ → Type 0
+  abbrev pub Goes : ℕ → ℕ → ℕ → Type 0
   Goes zero c n = ⊥
   Goes (suc d) c n = (m : ℕ) × ((source_of b m ≡ Some c) × ((n ≡ m) ⊎ Goes d m n))
 
@@ -76,7 +77,7 @@ module _ (b : Board) where
   is-source : (c n : ℕ) → source_of b n ≡ Some c → is_source b c n ≡ true
   is-source c n q = ap (λ (o : Option ℕ). option_map_or (λ (s : ℕ). eqb s c) o false) q ∙ eq-eqb c c refl
 
-  any-below : (p : ℕ → Bool) (d c n : ℕ) → Goes d c n → p n ≡ true → list_any p (below d c) ≡ true
+  pub any-below : (p : ℕ → Bool) (d c n : ℕ) → Goes d c n → p n ≡ true → list_any p (below d c) ≡ true
   any-below p zero c n goes e = absurd goes
   any-below p (suc d) c n (m, (q, inl is)) e =
       any-kid p (below d) (is_source b c) (births b) m (with-source b m c q) (is-source c m q)
@@ -88,13 +89,13 @@ module _ (b : Board) where
 -- the period of another clock is as it was, or the clock is below
 
 module _ (b new : Board) (c : ℕ) (w : IsWritten b new c) where
-  abbrev Either : ℕ → ℕ → Type 0
+  abbrev pub Either : ℕ → ℕ → Type 0
   Either d n = (to_depth new d n ≡ to_depth b d n) ⊎ Goes b d c n
 
   scaled-there : (s p : ℕ) → eqb s c ≡ false → scaled new s p ≡ scaled b s p
   scaled-there s p e = ap₂ (λ (mul div : ℕ). scaled_by mul div p) (w.mul s e) (w.div s e)
 
-  either : (d n : ℕ) → eqb n c ≡ false → Either d n
+  pub either : (d n : ℕ) → eqb n c ≡ false → Either d n
   either zero n e = inl refl
   either (suc d) n e = go (source_of b n) refl (either d)
     where

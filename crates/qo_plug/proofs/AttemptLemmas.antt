@@ -1,5 +1,5 @@
 -- A new device acts with its buses, though it stands nowhere, and is given up.
-use Rattle.std.proofs.Common.{◌≡◌, refl, ap, ap₂, sym, subst, ◌∙◌, ℕ, zero, suc, ◌+◌, ◌<◌, ◌≤◌, Bool, true, false, ◌&&◌, eqb, leb, nat_le, List, [], ◌∷◌, ◌++◌, append-nil, codes, filter, filter_map, length, map, min, option_to_list, slice_get, take, Option, Some, None, option_map, IfSome, arith}
+use Rattle.std.proofs.Common.{◌≡◌, refl, ap, ap₂, sym, subst, ◌∙◌, ℕ, zero, suc, ◌+◌, ◌<◌, ◌≤◌, Bool, true, false, ◌&&◌, eqb, leb, nat_le, List, [], ◌∷◌, ◌++◌, append-nil, codes, filter, filter_map, length, map, option_to_list, slice_get, take, Option, Some, None, option_map, IfSome, arith}
 use Rattle.std.specs.Prelude.{◌==◌, if◌then◌else◌, option_and_then}
 use Rattle.std.specs.List.{AllByRecursion, cons_option, position_or_len}
 use Rattle.std.proofs.lemmas.Bool.{eqb-true}
@@ -28,18 +28,17 @@ use Rattle.qo_sound.proofs.DraftLemmas.{with_pins}
 use Rattle.qo_sound.proofs.StepsLemmas.{passed-steps}
 use Rattle.qo_object.specs.Content.{Content, acted_at}
 use Rattle.qo_object.specs.BoardObject.{birth_of}
-use Rattle.qo_heap.specs.Acts.{Acts, KeepsCounts, KeepsPeriods, periods_of, stilled}
+use Rattle.qo_heap.specs.Acts.{Acts, KeepsCounts, KeepsPeriods, stilled}
 use Rattle.qo_heap.specs.Board.{Shows, record_of}
 use Rattle.qo_heap.specs.Objects.{IsHeap, Objects, content_of}
 use Rattle.qo_heap.proofs.ActsLemmas.{acts-act, acts-live, acts-none, acts-then}
 use Rattle.qo_heap.proofs.PlacesLemmas.{at-key, object-at-place}
 use Rattle.qo_heap.proofs.BoardObjects.{content-edited, content-other}
-use Rattle.qo_life.proofs.TreeLemmas.{read-content}
 use Rattle.qo_properties.proofs.NewSlotLemmas.{next-slot, past}
 use Rattle.qo_reset.specs.Phases.{acted_on, walked}
 use Rattle.qo_reset.proofs.BoardLemmas.{shows-walked}
 use Rattle.qo_reset.proofs.CountLemmas.{all-counts}
-use Rattle.qo_reset.proofs.WalkLemmas.{walked-acts, walked-append}
+use Rattle.qo_reset.proofs.WalkLemmas.{acted-periods, walked-acts, walked-append}
 use Rattle.qo_plug.specs.Attempts.{first_acted, last_acted, let_out, new_bus, new_buses, passed_on}
 use Rattle.qo_plug.specs.Drafts.{IsQuiet, given_draft, with_values}
 use Rattle.qo_plug.proofs.CutLemmas.{draft-made, given-is, held, held-is, rest}
@@ -211,9 +210,6 @@ leaves-then v u w l k =
       periods = λ m. k.periods m ∙ l.periods m;
       quiet = λ m q. k.quiet m (l.quiet m q);
     }
-
-acted-periods : (act : Act) (n : ℕ) (v : Objects) → KeepsPeriods v (acted_on act n v)
-acted-periods act n v m = read-content periods_of n (acted_at act v.time 0) (λ c. refl) v m
 
 all-periods : (act : Act) (ns : List ℕ) (v : Objects) → KeepsPeriods v (walked act ns v)
 unfolding walked

@@ -33,7 +33,7 @@ use Rattle.qo_sound_bounds.proofs.ClockLemmas.{system-live}
 use Rattle.qo_sound_phases.proofs.ResetTreeLemmas.{placed}
 use Rattle.qo_realize.specs.SoundBoard.{SoundBoard}
 use Rattle.qo_realize.proofs.ClockChangeLemmas.{beside-periods, changed-periods}
-use Rattle.qo_realize.proofs.CountedLemmas.{refused-same}
+use Rattle.qo_sound_claims.proofs.StayLawLemmas.{refused-same}
 use Rattle.qo_realize.proofs.PeriodLemmas.{clocked-sound, sources-there}
 
 -- what was kept before, or is new

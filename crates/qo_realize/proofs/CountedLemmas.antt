@@ -18,7 +18,7 @@ use Rattle.qo_model.specs.Clocks.{div_of, mul_of}
 use Rattle.qo_model.specs.Depth.{among, by_depth}
 use Rattle.qo_model.specs.FinalNotesRuns.{Change, added, after_write, changed, wrote}
 use Rattle.qo_model.specs.Objects.{Given, attempted_as, barred_by, object_add, with_attempt}
-use Rattle.qo_model.specs.Plug.{Wanted, barred_early, barred_late, bus_for, cut_attempt, plug, plug_as, plug_attempt, plug_by, plug_late, resources_of, type_barred, with_plugged}
+use Rattle.qo_model.specs.Plug.{Wanted, cut_attempt, plug, plug_attempt, resources_of, with_plugged}
 use Rattle.qo_model.specs.Paths.{births}
 use Rattle.qo_model.specs.Release.{pin}
 use Rattle.qo_model.specs.Reset.{below, count, post, post_turn}
@@ -61,6 +61,7 @@ use Rattle.qo_sound_bounds.proofs.FeedLemmas.{added-placed}
 use Rattle.qo_sound_bounds.specs.SoundSources.{SoundSources}
 use Rattle.qo_sound_bounds.proofs.HoldsLemmas.{holds_kept_lem}
 use Rattle.qo_sound_bounds.proofs.SourceLemmas.{beside-sources}
+use Rattle.qo_sound_claims.proofs.StayLawLemmas.{refused-same}
 use Rattle.qo_sound_clocks.specs.ClockRuns.{SoundRun}
 use Rattle.qo_sound_clocks.proofs.StepsLemmas.{calls-kept, kept-scaled, kept-set}
 use Rattle.qo_sound_clocks.proofs.WriteLawLemmas.{writes_keep_lem}
@@ -176,33 +177,8 @@ attempted-counts b driver id = by (barred_by b driver id) (type_named driver)
 
 -- a device that is refused
 module _ (b : Board) (a : Wanted) where
-  late-same : (t : TypeId) (bus : ℕ) (o : Option (ℕ × Code)) (r : ℕ × Code) → (plug_late b t bus a o).refusal ≡ Some r
-      → (plug_late b t bus a o).board.records ≡ b.records
-  late-same t bus (Some refusal) r e = refl
-  late-same t bus None r e = absurd (let clash : None ≡ Some r = e in cc)
-
-  as-same : (t : TypeId) (o : Option (ℕ × Code)) (r : ℕ × Code) → (plug_as b t a o).refusal ≡ Some r → (plug_as b t a o).board.records ≡ b.records
-  as-same t (Some refusal) r e = refl
-  as-same t None r e = go (bus_for b t a.bus) refl
-    where
-      go : (m : Option ℕ) → bus_for b t a.bus ≡ m → (plug_as b t a None).board.records ≡ b.records
-      go None p = rw (plug_as, p) refl
-      go (Some bus) p = rw (plug_as, p) (late-same t bus (barred_late b t bus a.props) r (rw (plug_as, p) at e))
-
-  by-same : (o : Option Code) (r : ℕ × Code) → (plug_by b a o).refusal ≡ Some r → (plug_by b a o).board.records ≡ b.records
-  by-same (Some code) r e = refl
-  by-same None r e = go (type_named a.driver) refl
-    where
-      go : (row : Option TypeInfo) → type_named a.driver ≡ row → (plug_by b a None).board.records ≡ b.records
-      go None p = rw (plug_by, p) refl
-      go (Some row) p = rw (plug_by, p) (as-same row.id (barred_early b row.id a) r (rw (plug_by, p) at e))
-
-  pub refused-same : (r : ℕ × Code) → (plug b a).refusal ≡ Some r → (plug b a).board.records ≡ b.records
-  unfolding plug
-  refused-same r e = by-same (type_barred a.driver) r e
-
   refused-counts : (r : ℕ × Code) → (plug b a).refusal ≡ Some r → SameCounts b (plug b a).board
-  refused-counts r e = records-counts b (plug b a).board (refused-same r e) (devices_stay_lem.refused b a r e).stays.holds
+  refused-counts r e = records-counts b (plug b a).board (refused-same b a r e) (devices_stay_lem.refused b a r e).stays.holds
 
 -- a device that is added: as many on each object that is neither it nor below it
 abbrev OthersSame : Board → Board → Type 0

@@ -163,7 +163,7 @@ tallied-periods Lower s = go (eqb s.marks 0)
     go false = (refl, refl)
 tallied-periods Unmark s = (refl, refl)
 
-acted-periods : (act : Act) (n : ℕ) (v : Objects) → KeepsPeriods v (acted_on act n v)
+pub acted-periods : (act : Act) (n : ℕ) (v : Objects) → KeepsPeriods v (acted_on act n v)
 acted-periods act n v m = read-after periods_of n (acted_at act v.time 0) (λ c. refl) v m
 
 done-periods : (turn : Turn) (holds : List ℕ) (n : ℕ) (v : Objects) → KeepsPeriods v (done turn holds n v)

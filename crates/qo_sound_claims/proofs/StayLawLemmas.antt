@@ -213,7 +213,7 @@ module _ (b : Board) (a : Wanted) where
       go None p = rw (plug_by, p) refl
       go (Some row) p = rw (plug_by, p) (as-same row.id (barred_early b row.id a) r (rw (plug_by, p) at e))
 
-  refused-same : (r : ℕ × Code) → (plug b a).refusal ≡ Some r → (plug b a).board.records ≡ b.records
+  pub refused-same : (r : ℕ × Code) → (plug b a).refusal ≡ Some r → (plug b a).board.records ≡ b.records
   unfolding plug
   refused-same r e = by-same (type_barred a.driver) r e
 
