@@ -1,0 +1,97 @@
+//! The properties of a device with its slot among them.
+
+ghost use Rattle.std.specs.Prelude.{◌≡◌, ◌≤◌, ◌++◌, [], ◌∷◌, codes, drop, length, true, IfOk, OnOk};
+ghost use Rattle.std.specs.List.{position_or_len};
+ghost use Rattle.qo_values.specs.PropertyLists.{NamesRise, is_above, names_of};
+ghost use Rattle.qo_values.specs.declared.properties.Val.TheVariants as val;
+ghost use Rattle.qo_save.specs.Rebuilding.{with_slot};
+ghost use Rattle.qo_rebuild.specs.Slots.{behind_slot, is_from_slot};
+
+use qo_properties::copy_of;
+use qo_values::{PropList, PushError, Text, Val};
+use std::alloc::{AllocError, Global};
+
+/// Puts a property after others, whose names come before its own.
+fn put(props: &mut PropList, name: Text, val: Val) -> Result<(), AllocError>
+    requires { is_above (names_of props.old) name ≡ true }
+    ensures { OnOk result (props.new ≡ props.old ++ (name, val) ∷ []) }
+{
+    match props.push(name, val) {
+        Ok(()) => Ok(()),
+        Err(PushError::Memory) => Err(AllocError),
+        Err(PushError::OutOfOrder) => unreachable!(),
+    }
+}
+
+/// Puts a property after others once more.
+fn put_copy(props: &mut PropList, prop: &(Text, Val), alloc: Global) -> Result<(), AllocError>
+    requires { is_above (names_of props.old) prop.now.0 ≡ true }
+    ensures { OnOk result (props.new ≡ props.old ++ prop.now ∷ []) }
+{
+    let name = Text::from_string(String::from_str(alloc, prop.0.as_str())?);
+    let val = copy_of(&prop.1, alloc)?;
+    put(props, name, val)
+}
+
+/// Puts properties after others once more.
+fn put_copies(
+    props: &mut PropList,
+    more: &[(Text, Val)],
+    alloc: Global,
+) -> Result<(), AllocError>
+    requires { NamesRise (names_of (props.old ++ more.now)) }
+    ensures { OnOk result (props.new ≡ props.old ++ more.now) }
+{
+    for prop in more {
+        put_copy(props, prop, alloc)?;
+    }
+    Ok(())
+}
+
+/// Puts the slot of a device after other properties.
+fn put_slot(props: &mut PropList, slot: u64, alloc: Global) -> Result<(), AllocError>
+    requires { is_above (names_of props.old) (codes "slot") ≡ true }
+    ensures { OnOk result (props.new ≡ props.old ++ (codes "slot", val.Uint slot) ∷ []) }
+{
+    let name = Text::from_string(String::from_str(alloc, "slot")?);
+    put(props, name, Val::Uint(slot))
+}
+
+/// Where the slot goes among properties in byte order: before the first whose name is no earlier.
+fn slot_place(props: &[(Text, Val)]) -> usize
+    ensures { result ≡ position_or_len is_from_slot props.now }
+{
+    match props.iter().position(|prop| "slot" <= prop.0.as_str()) {
+        Some(place) => place,
+        None => props.len(),
+    }
+}
+
+/// The properties from a place on, without a slot there.
+fn behind_slot(props: &[(Text, Val)], place: usize) -> &[(Text, Val)]
+    requires { place ≤ length props.now }
+    ensures { result.now ≡ behind_slot (drop place props.now) }
+{
+    let rest = &props[place..];
+    match rest.split_first() {
+        Some((first, others)) if first.0.as_str() == "slot" => others,
+        _ => rest,
+    }
+}
+
+/// Properties with a slot among them, in byte order of their names.
+pub(crate) fn with_slot(
+    slot: u64,
+    props: &PropList,
+    alloc: Global,
+) -> Result<PropList, AllocError>
+    ensures { IfOk result (λ all. all ≡ with_slot slot props.now) }
+{
+    let given = props.as_slice();
+    let place = slot_place(given);
+    let mut all = PropList::new(alloc);
+    put_copies(&mut all, &given[..place], alloc)?;
+    put_slot(&mut all, slot, alloc)?;
+    put_copies(&mut all, behind_slot(given, place), alloc)?;
+    Ok(all)
+}
