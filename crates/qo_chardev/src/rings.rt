@@ -4,7 +4,7 @@ use crate::errors::{RingAddError, RingTakeError};
 use crate::named_ring::NamedRing;
 use crate::ring::{Ring, RingError};
 use qo_values::{Form, Id, Text};
-use std::alloc::Global;
+use std::alloc::{AllocError, Global};
 use std::marker::Model;
 
 /// The size of a ring, in bytes, for which none is given.
@@ -29,7 +29,7 @@ impl Model for Rings {
 }
 
 impl Rings {
-    ghost use Rattle.std.specs.Prelude.{◌≡◌, [], ◌∷◌, ◌++◌, false, None, Some, IfOk, IsSome, OnOk, OnErr, option_map};
+    ghost use Rattle.std.specs.Prelude.{◌≡◌, [], ◌∷◌, ◌++◌, false, None, Some, IfOk, IsSome, OnOk, OnErr, map, option_map};
     ghost use Rattle.std.specs.List.{list_any, position};
     ghost use Rattle.qo_values.specs.Rings.{is_ring_size, ring_drop, ring_push};
     ghost use Rattle.qo_chardev.specs.declared.ring.RingError.TheVariants as bad;
@@ -60,6 +60,17 @@ impl Rings {
         ensures { result ≡ list_any (is_ring id.now) self.now }
     {
         self.list.iter().any(|kept| kept.is(id))
+    }
+
+    /// The rings, each its id and its size, in the order of adding. The error is want of memory.
+    pub fn rows(&self, alloc: Global) -> Result<Vec<(Text, u64)>, AllocError>
+        ensures { IfOk result (λ rows. rows.items ≡ map (λ r. (r.id, r.size)) self.now) }
+    {
+        let mut rows = Vec::new(alloc);
+        for kept in &self.list {
+            rows.push(kept.row(alloc)?)?;
+        }
+        Ok(rows)
     }
 
     /// The place of the ring of an id.
