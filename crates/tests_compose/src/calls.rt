@@ -182,7 +182,7 @@ fn each_failing_put_is_a_write_fault(rt: HostRuntime) -> Result<(), Fail> {
 }
 
 const USAGE: &[u8] =
-    b"usage: compose replay | serve --socket PATH --connections N | demo --seed N --steps K | types\n";
+    b"usage: compose replay | serve --socket PATH --connections N | demo --seed N --steps K | types | rebuild\n";
 
 /// These words are no order.
 fn is_usage(rt: &impl Abort, alloc: Global, words: &[&str]) -> Result<(), Fail> {

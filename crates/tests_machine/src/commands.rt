@@ -85,6 +85,13 @@ fn reads<L: Ledger>(alloc: Global, blank: Blank) -> Result<bool, AllocError>
             && tells(
                 alloc,
                 &board,
+                &Query::XDescribe,
+                "{\"clock\":{\"div\":1,\"mul\":1,\"period\":42949672960},\"clocks\":[],\"devices\":[],\"links\":[],\"objects\":[],\"rings\":[],\"version\":1}",
+                &mut steps,
+            )?
+            && tells(
+                alloc,
+                &board,
                 &Query::XMemmap,
                 "[{\"at\":0,\"name\":\"boot\",\"offset\":0,\"size\":65536}]",
                 &mut steps,
