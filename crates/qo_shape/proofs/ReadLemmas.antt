@@ -1,5 +1,5 @@
 -- What is read where a part is none, and the values of members in their order.
-use Rattle.std.proofs.Common.{◌≡◌, ℕ, zero, suc, ◌+◌, ◌<◌, ◌≤◌, Bool, true, false, cond, List, [], ◌∷◌, ◌++◌, length, map, drop, refl, sym, ap, ◌∙◌, subst, append_assoc, append-nil, arith}
+use Rattle.std.proofs.Common.{◌≡◌, ℕ, zero, suc, ◌+◌, ◌<◌, ◌≤◌, ◌==◌, Bool, true, false, cond, List, [], ◌∷◌, ◌++◌, length, map, drop, refl, sym, ap, ◌∙◌, subst, append_assoc, append-nil, arith}
 use Rattle.std.proofs.lemmas.List.{map-append}
 use Rattle.std.proofs.Common.{Option, None, Some, is_some, option_map, Result, Ok, Err}
 use Rattle.std.specs.Prelude.{option_and_then, slice_get}
@@ -56,6 +56,26 @@ pub named-other : (name : List ℕ) (names : List (List ℕ)) (m : Member) (ms :
     → is_some (values_of (name ∷ names) (members_view (m ∷ ms))) ≡ false
 named-other name names m ms other =
     ap (λ (t : Bool). is_some (cond t (option_map (λ (ds : List Data). view m.1 ∷ ds) (values_of names (members_view ms))) None)) other
+
+-- as many members as names
+pub many-same : (names : List (List ℕ)) (ms : List Member) → is_some (values_of names (members_view ms)) ≡ true → length ms ≡ length names
+many-same [] [] is = refl
+many-same [] (m ∷ ms) is = absurd (let clash : false ≡ true = is in cc)
+many-same (name ∷ names) [] is = absurd (let clash : false ≡ true = is in cc)
+many-same (name ∷ names) (m ∷ ms) is = go (bytes_eq name m.0.now) is
+  where
+    go : (t : Bool) → is_some (cond t (option_map (λ (ds : List Data). view m.1 ∷ ds) (values_of names (members_view ms))) None) ≡ true
+        → suc (length ms) ≡ suc (length names)
+    go true some = ap suc (many-same names ms (sym (some-map (λ (ds : List Data). view m.1 ∷ ds) (values_of names (members_view ms))) ∙ some))
+    go false clash = absurd (let no : false ≡ true = clash in cc)
+
+-- where there is no member, and where there is no name
+pub no-members : (names : List (List ℕ)) (t : Bool) → t ≡ (length names == 0) → t ≡ is_some (values_of names (members_view []))
+no-members [] t is = is
+no-members (name ∷ names) t is = is
+
+pub no-names : (m : Member) (ms : List Member) → false ≡ is_some (values_of [] (members_view (m ∷ ms)))
+no-names m ms = refl
 
 -- those of such members are their values
 pub values-are : (names : List (List ℕ)) (ms : List Member) → is_some (values_of names (members_view ms)) ≡ true → values_of names (members_view ms) ≡ Some (values ms)
