@@ -2,8 +2,8 @@
 use Rattle.std.specs.Prelude.{ℕ, ◌&&◌, if◌then◌else◌, List, [], ◌∷◌, filter_map, map, Option, None, option_map}
 use Rattle.serde_json.specs.Data.{Data}
 use Rattle.qo_model.specs.Board.{Board, Slot, target_of}
-use Rattle.qo_save.specs.Described.{clock_item, clock_item_of, device_item, is_link, is_set, link_item, link_items, object_item}
-use Rattle.qo_save.specs.Description.{clock_item_data, device_data, link_data, object_data}
+use Rattle.qo_save.specs.Described.{clock_item, clock_item_of, device_item, is_link, is_set, link_items, object_item}
+use Rattle.qo_save.specs.Description.{LinkItem, clock_item_data, device_data, link_data, object_data}
 use Rattle.qo_describe.specs.declared.parts.Part.{Part}
 use Rattle.qo_describe.specs.declared.parts.Part.TheVariants.{Clocks, Devices, Links, Objects}
 
@@ -14,12 +14,12 @@ entry_told Devices b e = map device_data (filter_map (device_item b) (e ∷ []))
 entry_told Links b e = map link_data (link_items b e)
 entry_told Objects b e = map object_data (filter_map (object_item b) (e ∷ []))
 
--- what is told of a clock, and of a slot of an object
+-- what is told of a clock, and of a link
 abbrev pub clock_told : Board → ℕ → List Data
 clock_told b c = map clock_item_data (filter_map (clock_item b) (c ∷ []))
 
-abbrev pub slot_told : Board → ℕ → List ℕ × Slot → List Data
-slot_told b n s = map link_data (filter_map (link_item b n) (s ∷ []))
+abbrev pub link_told : LinkItem → List Data
+link_told l = link_data l ∷ []
 
 -- the link in a slot that `qom-set` writes: its name and its target
 abbrev pub link_entry : Board → ℕ → List ℕ × Slot → Option (List ℕ × ℕ)

@@ -98,7 +98,7 @@ fn given_in<L: Ledger>(
             let path = target_text(heap, *target, alloc, steps)?;
             Ok(Val::Text(Text::from_string(path)))
         }
-        _ => Ok(Val::Nothing),
+        Slot::Link { strong: false, .. } | Slot::Child(_) | Slot::Alias(_, _) => Ok(Val::Nothing),
     }
 }
 

@@ -10,10 +10,10 @@ ghost use Rattle.qo_model.specs.Board.{Board, slots_at};
 ghost use Rattle.qo_model.specs.Properties.{may_set, property_named};
 ghost use Rattle.qo_object.specs.BoardObject.{birth_of, shown_slot};
 ghost use Rattle.qo_object.specs.Slots.{target_of};
-ghost use Rattle.qo_save.specs.Described.{is_link, is_set, link_to};
+ghost use Rattle.qo_save.specs.Described.{is_link, is_set, link_item, link_to};
 ghost use Rattle.qo_save.specs.Description.{link_data, link_names, named};
 ghost use Rattle.qo_model.specs.Board as tree;
-ghost use Rattle.qo_describe.specs.Told.{entry_told, link_entry, slot_told};
+ghost use Rattle.qo_describe.specs.Told.{entry_told, link_entry, link_told};
 ghost use Rattle.qo_describe.specs.declared.parts.Part.TheVariants.{Links};
 
 use qo_heap::{Heap, Oid, Slot, Steps};
@@ -118,7 +118,7 @@ fn push_link_at<L: Ledger>(
     steps: &mut Steps<L>,
 ) -> Result<(), AllocError>
     requires { IsLive heap.now.rows o }
-    ensures { OnOk result ((b : Board) → Shows b heap.now → map view values.new.items ≡ map view values.old.items ++ option_map_or (slot_told b o.birth) (slice_get (slots_at b o.birth) at) []) }
+    ensures { OnOk result ((b : Board) → Shows b heap.now → map view values.new.items ≡ map view values.old.items ++ option_map_or link_told (option_and_then (link_item b o.birth) (slice_get (slots_at b o.birth) at)) []) }
 {
     if let Some((name, target)) = link_at(heap, o, at, steps) {
         values.push(link_value(heap, o, name, target, alloc, steps)?)?;

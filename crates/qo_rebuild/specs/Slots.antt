@@ -12,4 +12,4 @@ is_from_slot p = is_le (slice_cmp nat_cmp (codes "slot") p.0)
 -- properties of which the first, where it is a slot, is left out
 abbrev pub behind_slot : List Given → List Given
 behind_slot [] = []
-behind_slot (p ∷ props) = if bytes_eq p.0 (codes "slot") then props else p ∷ props
+behind_slot (p ∷ props) = if bytes_eq (codes "slot") p.0 then props else p ∷ props

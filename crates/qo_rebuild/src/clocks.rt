@@ -53,9 +53,8 @@ fn scale_clock<L: Ledger>(
 ) -> Result<(), Refusal>
     ensures { (b : Tree) → Stands b board.old → Writes board.new result (all_done (factor_steps (clock_said clock.now)) b) }
 {
-    let path = clock.path.as_str();
-    set_number(board, path, "div", clock.div, alloc, steps)?;
-    set_number(board, path, "mul", clock.mul, alloc, steps)
+    set_number(board, clock.path.as_str(), "div", clock.div, alloc, steps)?;
+    set_number(board, clock.path.as_str(), "mul", clock.mul, alloc, steps)
 }
 
 /// Writes how clocks divide and multiply, one after another.

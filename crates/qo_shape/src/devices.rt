@@ -8,7 +8,7 @@ ghost use Rattle.qo_shape.specs.Said.{device_said};
 
 use crate::errors::ShapeError;
 use crate::items::DeviceItem;
-use crate::members::{members_in, number_in, text_in};
+use crate::members::{members_in, number_in, text_in, value_at};
 use crate::props::props_in;
 use qo_json::Json;
 use std::alloc::Global;
@@ -19,11 +19,15 @@ pub(crate) fn device_in(alloc: Global, value: &Json<'_>) -> Result<DeviceItem, S
     ensures { Reads device_said result (device_in (view value.now)) }
 {
     let members = members_in(value, &["bus", "driver", "id", "props", "slot"])?;
-    Ok(DeviceItem {
-        bus: text_in(alloc, &members[0].1)?,
-        driver: text_in(alloc, &members[1].1)?,
-        id: text_in(alloc, &members[2].1)?,
-        props: props_in(alloc, &members[3].1)?,
-        slot: number_in(&members[4].1)?,
-    })
+    let bus = value_at(members, 0);
+    let driver = value_at(members, 1);
+    let id = value_at(members, 2);
+    let props = value_at(members, 3);
+    let slot = value_at(members, 4);
+    let bus = text_in(alloc, bus)?;
+    let driver = text_in(alloc, driver)?;
+    let id = text_in(alloc, id)?;
+    let props = props_in(alloc, props)?;
+    let slot = number_in(slot)?;
+    Ok(DeviceItem { bus, driver, id, props, slot })
 }

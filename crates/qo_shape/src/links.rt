@@ -7,7 +7,7 @@ ghost use Rattle.qo_shape.specs.Said.{link_said};
 
 use crate::errors::ShapeError;
 use crate::items::LinkItem;
-use crate::members::{members_in, text_in};
+use crate::members::{members_in, text_in, value_at};
 use qo_json::Json;
 use std::alloc::Global;
 
@@ -16,9 +16,11 @@ pub(crate) fn link_in(alloc: Global, value: &Json<'_>) -> Result<LinkItem, Shape
     ensures { Reads link_said result (link_in (view value.now)) }
 {
     let members = members_in(value, &["path", "property", "value"])?;
-    Ok(LinkItem {
-        path: text_in(alloc, &members[0].1)?,
-        property: text_in(alloc, &members[1].1)?,
-        value: text_in(alloc, &members[2].1)?,
-    })
+    let path = value_at(members, 0);
+    let property = value_at(members, 1);
+    let target = value_at(members, 2);
+    let path = text_in(alloc, path)?;
+    let property = text_in(alloc, property)?;
+    let target = text_in(alloc, target)?;
+    Ok(LinkItem { path, property, value: target })
 }

@@ -1,10 +1,9 @@
 //! The members of objects that have certain names, and what they are.
 
-ghost use Rattle.std.specs.Prelude.{◌≡◌, length, map, IfOk};
+ghost use Rattle.std.specs.Prelude.{◌≡◌, ◌<◌, length, map, Some, IfOk, is_some, slice_get};
 ghost use Rattle.serde_json.specs.Find.{as_array, as_str};
 ghost use Rattle.qo_json.specs.View.{items_view, members_view, view};
 ghost use Rattle.qo_save.specs.Shape.{values_in, values_of, whole_in};
-ghost use Rattle.std.specs.Prelude.{is_some};
 ghost use Rattle.qo_shape.specs.Reads.{Reads};
 
 use crate::errors::ShapeError;
@@ -16,15 +15,16 @@ use std::alloc::Global;
 fn have_names(members: &[(&str, Json<'_>)], names: &[&str]) -> bool
     ensures { result ≡ is_some (values_of (map (λ n. n.now) names.now) (members_view members.now)) }
 {
-    if members.len() != names.len() {
+    let Some((member, members)) = members.split_first() else {
+        return names.is_empty();
+    };
+    let Some((name, names)) = names.split_first() else {
+        return false;
+    };
+    if member.0 != *name {
         return false;
     }
-    for at in 0..names.len() {
-        if members[at].0 != names[at] {
-            return false;
-        }
-    }
-    true
+    have_names(members, names)
 }
 
 /// The members of an object that has exactly these names, in their order.
@@ -39,6 +39,14 @@ pub(crate) fn members_in<'v, 'a>(
         Some(members) if have_names(members, names) => Ok(members),
         _ => Err(ShapeError::Shape),
     }
+}
+
+/// The value of the member at a place.
+pub(crate) fn value_at<'v, 'a>(members: &'v [(&'a str, Json<'a>)], at: usize) -> &'v Json<'a>
+    requires { at < length members.now }
+    ensures { slice_get (map (λ m. view m.1) members.now) at ≡ Some (view result.now) }
+{
+    &members[at].1
 }
 
 /// The items of a list.

@@ -8,7 +8,7 @@ ghost use Rattle.qo_shape.specs.Said.{object_said};
 
 use crate::errors::ShapeError;
 use crate::items::ObjectItem;
-use crate::members::{members_in, text_in};
+use crate::members::{members_in, text_in, value_at};
 use crate::props::props_in;
 use qo_json::Json;
 use std::alloc::Global;
@@ -19,9 +19,11 @@ pub(crate) fn object_in(alloc: Global, value: &Json<'_>) -> Result<ObjectItem, S
     ensures { Reads object_said result (object_in (view value.now)) }
 {
     let members = members_in(value, &["id", "props", "type"])?;
-    Ok(ObjectItem {
-        id: text_in(alloc, &members[0].1)?,
-        props: props_in(alloc, &members[1].1)?,
-        kind: text_in(alloc, &members[2].1)?,
-    })
+    let id = value_at(members, 0);
+    let props = value_at(members, 1);
+    let kind = value_at(members, 2);
+    let id = text_in(alloc, id)?;
+    let props = props_in(alloc, props)?;
+    let kind = text_in(alloc, kind)?;
+    Ok(ObjectItem { id, props, kind })
 }

@@ -12,7 +12,7 @@ use crate::clocks::clock_in;
 use crate::errors::ShapeError;
 use crate::items::Description;
 use crate::lists::{clocks_in, devices_in, links_in, objects_in, rings_in};
-use crate::members::members_in;
+use crate::members::{members_in, value_at};
 use qo_json::Json;
 use serde_json::Value;
 use std::alloc::Global;
@@ -36,17 +36,22 @@ pub fn description_in(alloc: Global, value: &Json<'_>) -> Result<Description, Sh
             "clock", "clocks", "devices", "links", "objects", "rings", "version",
         ],
     )?;
-    if !is_one(&members[6].1) {
+    let clock = value_at(members, 0);
+    let clocks = value_at(members, 1);
+    let devices = value_at(members, 2);
+    let links = value_at(members, 3);
+    let objects = value_at(members, 4);
+    let rings = value_at(members, 5);
+    if !is_one(value_at(members, 6)) {
         return Err(ShapeError::Shape);
     }
-    Ok(Description {
-        clock: clock_in(&members[0].1)?,
-        clocks: clocks_in(alloc, &members[1].1)?,
-        devices: devices_in(alloc, &members[2].1)?,
-        links: links_in(alloc, &members[3].1)?,
-        objects: objects_in(alloc, &members[4].1)?,
-        rings: rings_in(alloc, &members[5].1)?,
-    })
+    let clock = clock_in(clock)?;
+    let clocks = clocks_in(alloc, clocks)?;
+    let devices = devices_in(alloc, devices)?;
+    let links = links_in(alloc, links)?;
+    let objects = objects_in(alloc, objects)?;
+    let rings = rings_in(alloc, rings)?;
+    Ok(Description { clock, clocks, devices, links, objects, rings })
 }
 
 /// The description that a text is: JSON in UTF-8 whose value is one. Objects may have any number of
