@@ -1,4 +1,4 @@
--- What a description tells that is not of the objects.
+-- For proofs alone. What a description tells that is not of the objects.
 use Rattle.std.specs.Prelude.{◌≡◌, ℕ, ◌==◌, Bool, not, List, length, map}
 use Rattle.serde_json.specs.Data.{Data}
 use Rattle.qo_model.specs.Board.{Board, Ring}

@@ -1,4 +1,4 @@
--- Which properties a description tells of whom.
+-- For proofs alone. Which properties a description tells of whom.
 use Rattle.std.specs.Prelude.{ℕ, Bool, List, Option, Some, None}
 use Rattle.serde_json.specs.Data.{Members, put}
 use Rattle.qo_values.specs.PlainValues.{data_of}

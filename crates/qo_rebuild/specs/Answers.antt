@@ -1,4 +1,4 @@
--- What rebuilding answers and leaves.
+-- For proofs alone. What rebuilding answers and leaves.
 use Rattle.std.specs.Prelude.{◌≡◌, Option, Some, None, Result, Ok, Err, ⊤}
 use Rattle.qo_values.specs.declared.codes.Code.{Code}
 use Rattle.qo_model.specs.Board.{Board}

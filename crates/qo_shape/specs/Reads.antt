@@ -1,4 +1,4 @@
--- What reading a part of a description comes to.
+-- For proofs alone. What reading a part of a description comes to.
 use Rattle.std.specs.Prelude.{◌≡◌, Option, Some, None, Result, Ok, Err, ⊤}
 use Rattle.qo_shape.specs.declared.errors.ShapeError.{ShapeError}
 use Rattle.qo_shape.specs.declared.errors.ShapeError.TheVariants.{Memory, Shape}

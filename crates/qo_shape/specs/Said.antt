@@ -1,4 +1,4 @@
--- What a description in code says.
+-- For proofs alone. What a description in code says.
 use Rattle.std.specs.Prelude.{map}
 use Rattle.qo_shape.specs.declared.items.ClockItem.{ClockItem as ClockRead}
 use Rattle.qo_shape.specs.declared.items.ClockNumbers.{ClockNumbers as NumbersRead}
