@@ -1,5 +1,7 @@
 //! The rings.
 
+ghost use Rattle.std.specs.Prelude.{◌≡◌, IfOk, map};
+
 use crate::errors::{RingAddError, RingTakeError};
 use crate::named_ring::NamedRing;
 use crate::ring::{Ring, RingError};
@@ -26,6 +28,17 @@ impl Model for Rings {
     ghost view = { λ r. r.list.items };
 
     ghost invariant = { λ r. IdsDiffer r.list.items };
+}
+
+/// The ids and sizes of rings, one after another.
+fn rows_of(rings: &[NamedRing], alloc: Global) -> Result<Vec<(Text, u64)>, AllocError>
+    ensures { IfOk result (λ rows. rows.items ≡ map (λ r. (r.id, r.size)) rings.now) }
+{
+    let mut rows = Vec::new(alloc);
+    for ring in rings {
+        rows.push(ring.row(alloc)?)?;
+    }
+    Ok(rows)
 }
 
 impl Rings {
@@ -66,11 +79,7 @@ impl Rings {
     pub fn rows(&self, alloc: Global) -> Result<Vec<(Text, u64)>, AllocError>
         ensures { IfOk result (λ rows. rows.items ≡ map (λ r. (r.id, r.size)) self.now) }
     {
-        let mut rows = Vec::new(alloc);
-        for kept in &self.list {
-            rows.push(kept.row(alloc)?)?;
-        }
-        Ok(rows)
+        rows_of(self.list.as_slice(), alloc)
     }
 
     /// The place of the ring of an id.

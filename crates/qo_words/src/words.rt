@@ -232,10 +232,10 @@ fn demo_order(alloc: Global, seed: &str, steps: &str) -> Result<Option<Order>, A
 
 /// The order that the words are.
 ///
-/// They are `replay`, `rebuild`, `types`, `serve` with `--socket` and `--connections`, or `demo` with `--seed` and `--steps`. The
-/// two options stand in either order, each once; a value is the next word or follows `=`, is not empty and begins with
-/// no `-`. A number is in digits without a leading zero. The error is want of memory, which comes only where the words
-/// are an order that has values.
+/// They are `replay`, `rebuild`, `types`, `serve` with `--socket` and `--connections`, or `demo` with `--seed` and
+/// `--steps`. The two options stand in either order, each once; a value is the next word or follows `=`, is not empty
+/// and begins with no `-`. A number is in digits without a leading zero. The error is want of memory, which comes only
+/// where the words are an order that has values.
 pub fn order_in(alloc: Global, words: &[String]) -> Result<Option<Order>, AllocError>
     ensures ok { IfOk result (λ o. option_map order_of o ≡ order (map string_bytes words.now)) }
     ensures err { OnErr result (has_values (order (map string_bytes words.now)) ≡ true) }
