@@ -1,6 +1,7 @@
-pub mod CompletenessLemmas
 pub mod ComplaintLemmas
-pub mod MemoryLemmas
+pub mod CompletenessLemmas
 pub mod DemoLemmas
+pub mod MemoryLemmas
 pub mod ReplayLemmas
 pub mod TypeLemmas
+pub mod WholeLemmas

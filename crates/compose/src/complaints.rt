@@ -94,8 +94,11 @@ fn put_board_line<K: Sink>(sink: &mut K, status: Status, code: Option<Code>) -> 
     ensures cause { HasCause (K.faults sink.old) (K.faults sink.new) result }
     ensures quiet { OnOk result (K.faults sink.new ≡ K.faults sink.old) }
 {
-    match (status, code) {
-        (Status::BadBoard, Some(code)) => put_code(sink, code),
+    match status {
+        Status::BadBoard => match code {
+            Some(code) => put_code(sink, code),
+            None => put_line(sink, status, 0),
+        },
         _ => put_line(sink, status, 0),
     }
 }
