@@ -12,10 +12,10 @@ pub loop-bytes-preserved : goal.loop-bytes-preserved
 loop-bytes-preserved g c =
     let none : c.take_piece.result ≡ None = search rules in
     let took = c.take_piece.ensures.took in
-    let items : c.take_piece.new.bytes.items ≡ c.loop-bytes.bytes.items ++ took.0 = took.1.1 (goes-on c.take_piece.result Memory none) in
+    let items : c.take_piece.new.bytes.items ≡ c.loop-bytes.bytes.items ++ took.0 = took.2 (goes-on c.take_piece.result Memory none) in
     record {
       gave =
-          gave-more _ _ (g.S.Source.left c.take_piece.new.source) c.loop-bytes.bytes.items took.0 c.loop-bytes.invariant.gave took.1.0
+          gave-more _ _ (g.S.Source.left c.take_piece.new.source) c.loop-bytes.bytes.items took.0 c.loop-bytes.invariant.gave took.1
           ∙ ap (λ (l : List ℕ). prepend_known l (g.S.Source.left c.take_piece.new.source)) (sym items);
       quiet = c.take_piece.ensures.quiet (goes-on c.take_piece.result Fault none) ∙ c.loop-bytes.invariant.quiet;
     }
@@ -26,8 +26,8 @@ returns-in-Some g c =
     record {
       took = (
         c.loop-bytes.bytes.items ++ took.0,
-        gave-more _ _ (g.S.Source.left c.take_piece.new.source) c.loop-bytes.bytes.items took.0 c.loop-bytes.invariant.gave took.1.0,
-        λ other. sym (took.1.1 (stops-else c.take_piece.result c.in-Some.stop Memory c.in-Some.is other)),
+        gave-more _ _ (g.S.Source.left c.take_piece.new.source) c.loop-bytes.bytes.items took.0 c.loop-bytes.invariant.gave took.1,
+        λ other. sym (took.2 (stops-else c.take_piece.result c.in-Some.stop Memory c.in-Some.is other)),
       );
       few = λ is. omega (arith, ap (λ (l : List ℕ). length l) (c.take_piece.ensures.same (c.in-Some.is ∙ ap Some is)), c.loop-bytes-test.true);
       ended = λ is. c.take_piece.ensures.ended (c.in-Some.is ∙ ap Some is);
