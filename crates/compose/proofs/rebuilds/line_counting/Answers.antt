@@ -7,8 +7,8 @@ use Rattle.compose.proofs.rebuilds.line_counting.Goals as goal
 
 pub returns-in_err-board : goal.returns-in_err-board
 returns-in_err-board g c =
-    let is : c.from_residual.result ≡ Err c.in_err-board.field-0 = search rules in
-    rw is (tells-none (rebuilt_of_text c.args.text.now) c.in_err-board.field-0 c.in_err-board.ensures)
+    let is : c.from_residual.result ≡ Err c.in_err-board.field-0.0 = search rules in
+    rw is (tells-none (rebuilt_of_text c.args.text.now) c.in_err-board.field-0.0 c.in_err-board.ensures)
 
 pub returns : goal.returns
 returns g c =
