@@ -32,6 +32,10 @@ reads-err {X} {Y} {A} {B} said own r e o d is fails then = subst (λ (x : Result
 pub reads-memory : {X Y : Type 0} (said : X → Y) (r : Result X ShapeError) (d : Option Y) → r ≡ Err Memory → Reads said r d
 reads-memory {X} {Y} said r d is = subst (λ (x : Result X ShapeError). Reads said x d) (sym is) tt
 
+-- what is defined may be said in other words
+pub reads-as : {X Y : Type 0} (said : X → Y) (r : Result X ShapeError) (d e : Option Y) → d ≡ e → Reads said r e → Reads said r d
+reads-as said r d e same is = rw same is
+
 -- nothing is had of a part that is none
 pub also-none : {A B : Type 0} (f : Option (A → B)) → also f None ≡ None
 also-none None = refl
