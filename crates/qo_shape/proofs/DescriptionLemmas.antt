@@ -1,7 +1,7 @@
 -- The parts of a description, of which the version comes first.
-use Rattle.std.proofs.Common.{◌≡◌, refl, ℕ, Bool, true, false, cond, List, [], ◌∷◌, length, ap, ◌∙◌, Option, None, Some, option_map}
-use Rattle.std.proofs.lemmas.Utf8.{IsUtf8-from_is_utf8, is_utf8-from_IsUtf8}
-use Rattle.std.specs.Str.{IsUtf8, is_utf8}
+use Rattle.std.proofs.Common.{◌≡◌, refl, ℕ, IsUtf8, Bool, true, false, cond, List, [], ◌∷◌, length, ap, ◌∙◌, Option, None, Some, option_map}
+use Rattle.std.proofs.lemmas.Str.{IsUtf8-from_is_utf8, is_utf8-from_IsUtf8}
+use Rattle.std.specs.Str.{is_utf8}
 use Rattle.serde_json.specs.Read.{read}
 use Rattle.std.specs.Prelude.{option_and_then, slice_get}
 use Rattle.serde_json.specs.Data.{Data}
