@@ -1,3 +1,4 @@
+pub mod EntryLemmas
 pub mod GivenLemmas
 pub mod ItemLemmas
 pub mod WalkLemmas
