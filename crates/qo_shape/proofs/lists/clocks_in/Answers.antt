@@ -17,7 +17,7 @@ returns-in_err-items c =
     (unlisted clock_said clock_item_in (view c.args.value.now))
 
 pub loop-item-init : goal.loop-item-init
-loop-item-init c = rw c.new-found.ensures (left-first clock_said clock_item_in c.in_ok-items.items.now)
+loop-item-init c = rw c.new-found.ensures.items (left-first clock_said clock_item_in c.in_ok-items.items.now)
 
 pub returns-in_err-clock_item_in : goal.returns-in_err-clock_item_in
 returns-in_err-clock_item_in c =

@@ -17,7 +17,7 @@ returns-in_err-items c =
     (unlisted ring_said ring_in (view c.args.value.now))
 
 pub loop-item-init : goal.loop-item-init
-loop-item-init c = rw c.new-found.ensures (left-first ring_said ring_in c.in_ok-items.items.now)
+loop-item-init c = rw c.new-found.ensures.items (left-first ring_said ring_in c.in_ok-items.items.now)
 
 pub returns-in_err-ring_in : goal.returns-in_err-ring_in
 returns-in_err-ring_in c =
