@@ -21,7 +21,7 @@ use Rattle.qo_heap.proofs.BoardReads.{shows-slot_named}
 use Rattle.qo_model.specs.Board.{Board, Slot, slot_named}
 use Rattle.qo_model.specs.Objects.{Given}
 use Rattle.qo_model.specs.RowNames.{property_name}
-use Rattle.qo_model.specs.declared.names.PropertyName.{PropertyName}
+use Rattle.qo_model.specs.declared.properties.PropertyName.{PropertyName}
 use Rattle.qo_save.specs.Described.{given_in, prop_under, props_under}
 use Rattle.qo_save.specs.Description.{props_members}
 use Rattle.qo_describe.specs.Given.{given_names, left_out, with_prop}
