@@ -126,9 +126,10 @@ fn push_clock<L: Ledger>(
     requires { IsLive heap.now.rows clock }
     ensures { OnOk result ((b : Board) → Shows b heap.now → map view values.new.items ≡ map view values.old.items ++ clock_told b clock.birth) }
 {
-    if scales(heap, clock, steps) {
-        values.push(item_value(heap, clock, alloc, steps)?)?;
+    if !scales(heap, clock, steps) {
+        return Ok(());
     }
+    values.push(item_value(heap, clock, alloc, steps)?)?;
     Ok(())
 }
 
