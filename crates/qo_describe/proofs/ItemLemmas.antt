@@ -1,6 +1,6 @@
 -- What is told of clocks, devices, users' objects and links, one after another.
 use Rattle.std.proofs.Common.{◌≡◌, ℕ, zero, suc, ◌+◌, ◌==◌, ◌&&◌, Bool, true, false, not, cond, List, [], ◌∷◌, ◌++◌, length, map, take, refl, sym, ap, ◌∙◌, arith}
-use Rattle.std.proofs.Common.{Option, None, Some, option_map, unwrap_or}
+use Rattle.std.proofs.Common.{Option, None, Some, is_some, option_map, unwrap_or}
 use Rattle.std.proofs.lemmas.List.{length-map, map-append}
 use Rattle.std.specs.Prelude.{filter_map, find, flat_map, option_and_then, slice_get}
 use Rattle.std.specs.List.{cons_option}
@@ -42,19 +42,11 @@ number-gone b v s n other name gone =
     (option_map (λ (t : List ℕ × board.Slot). t.1) (find (λ (t : List ℕ × board.Slot). bytes_eq t.0 name) slots)))) other) (slots-gone b v s n gone))
 
 -- what is told of a clock
-pub clock-told : (b : board.Board) (c : ℕ) → not ((mul_of b c == 1) && (div_of b c == 1)) ≡ true → clock_told b c ≡ clock_item_data (factors_of b c) ∷ []
-clock-told b c scales = go ((mul_of b c == 1) && (div_of b c == 1)) scales
-  where
-    go : (t : Bool) → not t ≡ true → map clock_item_data (cons_option (cond t None (Some (factors_of b c))) []) ≡ clock_item_data (factors_of b c) ∷ []
-    go true is = absurd (let clash : false ≡ true = is in cc)
-    go false is = refl
+pub clock-told : (b : board.Board) (c : ℕ) → ((mul_of b c == 1) && (div_of b c == 1)) ≡ false → clock_told b c ≡ clock_item_data (factors_of b c) ∷ []
+clock-told b c scales = ap (λ (t : Bool). map clock_item_data (cons_option (cond t None (Some (factors_of b c))) [])) scales
 
-pub clock-quiet : (b : board.Board) (c : ℕ) → not ((mul_of b c == 1) && (div_of b c == 1)) ≡ false → clock_told b c ≡ []
-clock-quiet b c plain = go ((mul_of b c == 1) && (div_of b c == 1)) plain
-  where
-    go : (t : Bool) → not t ≡ false → map clock_item_data (cons_option (cond t None (Some (factors_of b c))) []) ≡ []
-    go true is = refl
-    go false is = absurd (let clash : true ≡ false = is in cc)
+pub clock-quiet : (b : board.Board) (c : ℕ) → ((mul_of b c == 1) && (div_of b c == 1)) ≡ true → clock_told b c ≡ []
+clock-quiet b c plain = ap (λ (t : Bool). map clock_item_data (cons_option (cond t None (Some (factors_of b c))) [])) plain
 
 -- that of a device
 pub clock-of-some : (b : board.Board) (name : List ℕ) (n c : ℕ) → Some c ≡ clock_of b n → clock_told b c ≡ entry_told Clocks b (name, n)
@@ -155,9 +147,10 @@ found-one (s ∷ slots) (suc i) e is = go (child_entry s) (found-one slots i e i
     go None rest = rest
     go (Some x) rest = refl
 
-pub some-child : (b : board.Board) (n i : ℕ) (e : Entry) → Some e ≡ option_and_then child_entry (slice_get (board.slots_at b n) i)
+pub child-there : (b : board.Board) (n i : ℕ) (found : Option Entry) → is_some found ≡ true → found ≡ option_and_then child_entry (slice_get (board.slots_at b n) i)
     → (length (children_of b n) == 0) ≡ false
-some-child b n i e is =
+child-there b n i None some is = absurd (let clash : false ≡ true = some in cc)
+child-there b n i (Some e) some is =
     ap (λ (l : List ℕ). length l == 0) (children-named (board.slots_at b n))
     ∙ ap (λ (k : ℕ). k == 0) (length-map (filter_map child_entry (board.slots_at b n)) (λ (x : Entry). x.1)) ∙ found-one (board.slots_at b n) i e is
 
