@@ -1,5 +1,5 @@
 -- What is told of clocks, devices, users' objects and links, one after another.
-use Rattle.std.proofs.Common.{◌≡◌, ℕ, zero, suc, ◌+◌, ◌==◌, ◌&&◌, Bool, true, false, not, cond, List, [], ◌∷◌, ◌++◌, length, map, take, refl, sym, ap, ◌∙◌, arith}
+use Rattle.std.proofs.Common.{◌≡◌, ℕ, zero, suc, ◌+◌, ◌==◌, ◌&&◌, Bool, true, false, not, cond, List, [], ◌∷◌, ◌++◌, codes, length, map, take, refl, sym, ap, ◌∙◌, arith}
 use Rattle.std.proofs.Common.{Option, None, Some, is_some, option_map, unwrap_or}
 use Rattle.std.proofs.lemmas.List.{length-map, map-append}
 use Rattle.std.specs.Prelude.{filter_map, find, flat_map, option_and_then, slice_get}
@@ -18,8 +18,9 @@ use Rattle.qo_model.specs.Devices.{clock_of, number_at, number_in, plain_in}
 use Rattle.qo_model.specs.Paths.{child_of, children_of}
 use Rattle.qo_values.specs.declared.kinds.TypeId.{TypeId}
 use Rattle.qo_sound_devices.specs.SoundPlaces.{child_entries, child_entry}
-use Rattle.qo_save.specs.Described.{clock_item, clock_item_of, device_item, device_of, factors_of, is_link, is_set, link_item, link_items, link_to, object_item, object_of}
-use Rattle.qo_save.specs.Description.{clock_item_data, device_data, link_data, object_data}
+use Rattle.qo_save.specs.Described.{clock_numbers, clock_item, clock_item_of, device_item, device_of, factors_of, is_link, is_set, link_item, link_items, link_to, object_item, object_of}
+use Rattle.qo_save.specs.Description.{clock_data, clock_item_data, clock_names, device_data, link_data, named, object_data, whole}
+use Rattle.qo_values.specs.declared.births.TheConstants.{SYSTEM_CLOCK_BIRTH}
 use Rattle.qo_describe.specs.Told.{clock_told, entry_told, link_entry, link_told}
 use Rattle.qo_describe.specs.declared.parts.Part.TheVariants.{Clocks, Devices, Links, Objects as Things}
 use Rattle.qo_describe.proofs.WalkLemmas.{each-given, one-by-one}
@@ -40,6 +41,15 @@ pub number-gone : (b : board.Board) (v : Objects) → Shows b v → (n other : �
 number-gone b v s n other name gone =
     sym (ap (λ (slots : List (List ℕ × board.Slot)). unwrap_or (option_and_then number_in (option_and_then plain_in
     (option_map (λ (t : List ℕ × board.Slot). t.1) (find (λ (t : List ℕ × board.Slot). bytes_eq t.0 name) slots)))) other) (slots-gone b v s n gone))
+
+-- so the system clock is told where it is not there
+pub clock-gone : (b : board.Board) (v : Objects) → Shows b v → content_of v SYSTEM_CLOCK_BIRTH ≡ None
+    → named clock_names (whole 1 ∷ whole 1 ∷ whole 0 ∷ []) ≡ clock_data (clock_numbers b)
+clock-gone b v s gone =
+    ap (λ (n : ℕ). named clock_names (whole n ∷ whole 1 ∷ whole 0 ∷ [])) (number-gone b v s SYSTEM_CLOCK_BIRTH 1 (codes "div") gone)
+    ∙ ap (λ (n : ℕ). named clock_names (whole (div_of b SYSTEM_CLOCK_BIRTH) ∷ whole n ∷ whole 0 ∷ [])) (number-gone b v s SYSTEM_CLOCK_BIRTH 1 (codes "mul") gone)
+    ∙ ap (λ (n : ℕ). named clock_names (whole (div_of b SYSTEM_CLOCK_BIRTH) ∷ whole (mul_of b SYSTEM_CLOCK_BIRTH) ∷ whole n ∷ []))
+    (number-gone b v s SYSTEM_CLOCK_BIRTH 0 (codes "period") gone)
 
 -- what is told of a clock
 pub clock-told : (b : board.Board) (c : ℕ) → ((mul_of b c == 1) && (div_of b c == 1)) ≡ false → clock_told b c ≡ clock_item_data (factors_of b c) ∷ []
