@@ -9,7 +9,7 @@ use Rattle.std.specs.Option.{option_map_or}
 use Rattle.std.specs.Ordering.{nat_cmp}
 use Rattle.std.specs.Str.{bytes_eq}
 use Rattle.std.proofs.Common.{Greater}
-use Rattle.serde_json.specs.Data.{Data, Members, member, no_members, put}
+use Rattle.serde_json.specs.Data.{Data, Members, member, put}
 use Rattle.qo_values.specs.PlainValues.{data_of}
 use Rattle.qo_values.specs.declared.properties.Val.{Val}
 use Rattle.qo_values.specs.declared.properties.Val.TheVariants as val

@@ -1,5 +1,5 @@
 -- A slot among properties in byte order.
-use Rattle.std.proofs.Common.{◌≡◌, refl, sym, ap, ◌∙◌, subst, ℕ, suc, ◌+◌, ◌≤◌, nat_lt, length, position, Option, Some, None, Bool, true, false, not, cond, List, [], ◌∷◌, ◌++◌, codes, map, take, drop, append_assoc, arith, Ordering, Less, Equal, Greater, is_eq, bytes_eq}
+use Rattle.std.proofs.Common.{◌≡◌, refl, sym, ap, ◌∙◌, subst, ℕ, suc, ◌+◌, ◌≤◌, nat_lt, length, position, Some, None, Bool, true, false, not, cond, List, [], ◌∷◌, ◌++◌, codes, take, drop, append_assoc, arith, Ordering, Less, Equal, Greater, is_eq, bytes_eq}
 use Rattle.std.proofs.lemmas.Bool.Decides.{nat_tests}
 use Rattle.std.proofs.lemmas.Cmp.{nat_list_cmp_total}
 use Rattle.std.proofs.lemmas.List.{map-append, take-append-drop}

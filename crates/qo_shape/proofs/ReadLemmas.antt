@@ -1,10 +1,10 @@
 -- What is read where a part is none, and the values of members in their order.
-use Rattle.std.proofs.Common.{◌≡◌, ℕ, zero, suc, ◌+◌, ◌<◌, ◌≤◌, ◌==◌, Bool, true, false, cond, List, [], ◌∷◌, ◌++◌, length, map, drop, refl, sym, ap, ◌∙◌, subst, append_assoc, append-nil, arith}
+use Rattle.std.proofs.Common.{◌≡◌, ℕ, zero, suc, ◌+◌, ◌<◌, ◌≤◌, ◌==◌, Bool, true, false, cond, List, [], ◌∷◌, ◌++◌, length, map, refl, sym, ap, ◌∙◌, subst, append_assoc, append-nil, arith}
 use Rattle.std.proofs.lemmas.List.{map-append}
-use Rattle.std.proofs.Common.{Option, None, Some, is_some, option_map, Result, Ok, Err}
+use Rattle.std.proofs.Common.{Option, None, Some, is_some, option_map, Result, Err}
 use Rattle.std.specs.Prelude.{option_and_then, slice_get}
 use Rattle.std.specs.Str.{bytes_eq}
-use Rattle.serde_json.specs.Data.{Data, Items, item, Members, no_items, no_members, member, array, object}
+use Rattle.serde_json.specs.Data.{Data, Items, Members, no_members, member, array, object}
 use Rattle.serde_json.specs.Find.{as_array, as_object}
 use Rattle.qo_json.proofs.MemberLemmas.{Member}
 use Rattle.qo_json.specs.Order.{AreOrdered, HaveOrder, IsOrdered, NamesRise, names_of}

@@ -1,6 +1,5 @@
 -- The description, where the board has one.
-use Rattle.std.proofs.Common.{◌≡◌, ◌==◌, ◌∙◌, Some, None, true, false, not, length, ap, sym, refl, rules}
-use Rattle.qo_save.specs.Described.{described, description}
+use Rattle.std.proofs.Common.{◌≡◌, ◌==◌, ◌∙◌, Some, true, false, not, ap, sym, rules}
 use Rattle.qo_describe.proofs.ValueLemmas.{told-not, told-odd, told-so}
 use Rattle.qo_describe.proofs.describing.describe.Goals as goal
 

@@ -1,5 +1,5 @@
 -- No device without an id, and no object without a parent.
-use Rattle.std.proofs.Common.{◌≡◌, ◌==◌, ◌&&◌, ◌∙◌, Bool, ℕ, List, true, false, not, ap, length, refl, sym, rules}
+use Rattle.std.proofs.Common.{◌≡◌, ◌==◌, ◌&&◌, ◌∙◌, ℕ, List, true, false, not, ap, length, rules}
 use Rattle.qo_model.specs.Objects.{detached}
 use Rattle.qo_model.specs.declared.detached.Detached.{Detached}
 use Rattle.qo_describe.proofs.ValueLemmas.{and-no, and-yes, as-many}

@@ -1,7 +1,7 @@
 -- A child stands in a slot, or in none.
-use Rattle.std.proofs.Common.{◌≡◌, ◌≤◌, ◌∙◌, List, ℕ, Option, true, false, is_some, length, refl, sym, ap, arith, rules}
+use Rattle.std.proofs.Common.{◌≡◌, ◌≤◌, ◌∙◌, ℕ, true, false, is_some, length, refl, sym, ap, arith, rules}
 use Rattle.std.proofs.lemmas.List.{take_all}
-use Rattle.std.specs.Prelude.{filter_map, option_and_then, slice_get}
+use Rattle.std.specs.Prelude.{filter_map}
 use Rattle.qo_model.specs.Board.{slots_at}
 use Rattle.qo_sound_devices.specs.SoundPlaces.{child_entry}
 use Rattle.qo_describe.proofs.EntryLemmas.{all-slots}

@@ -1,7 +1,6 @@
 -- The container, or none.
 use Rattle.std.proofs.Common.{◌≡◌, ◌++◌, ◌∙◌, List, ℕ, [], ap, map, sym, append-nil}
 use Rattle.std.specs.Prelude.{flat_map}
-use Rattle.serde_json.specs.Data.{Data}
 use Rattle.serde_json.specs.View.{view}
 use Rattle.qo_sound_devices.specs.SoundPlaces.{child_entries}
 use Rattle.qo_describe.specs.Told.{entry_told}

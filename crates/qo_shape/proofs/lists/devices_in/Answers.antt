@@ -1,5 +1,5 @@
 -- One item more, or one that is none.
-use Rattle.std.proofs.Common.{◌≡◌, Err, List, [], ◌∷◌, ◌+◌, ap, sym, ◌∙◌, drop, map, arith, rules}
+use Rattle.std.proofs.Common.{◌≡◌, Err, [], ◌∷◌, ◌+◌, ap, sym, ◌∙◌, drop, map, arith, rules}
 use Rattle.std.proofs.Math.ListN.{drop_of_length-le}
 use Rattle.std.proofs.lemmas.List.{drop_more}
 use Rattle.serde_json.specs.Data.{Items}

@@ -1,5 +1,5 @@
 -- An object with these names, or none.
-use Rattle.std.proofs.Common.{◌≡◌, ◌∙◌, List, ℕ, true, false, map, sym, rules}
+use Rattle.std.proofs.Common.{◌≡◌, ◌∙◌, ℕ, true, false, map, sym, rules}
 use Rattle.std.proofs.lemmas.List.{length-map}
 use Rattle.qo_json.specs.View.{view}
 use Rattle.qo_shape.proofs.ReadLemmas.{many-same, values-else, values-found, values-none}

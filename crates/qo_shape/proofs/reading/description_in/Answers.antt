@@ -1,5 +1,5 @@
 -- Each part is read, or one of them is none.
-use Rattle.std.proofs.Common.{◌≡◌, refl, ℕ, true, false, List, Err, ap, ◌∙◌, sym, length, map, arith, rules, Option, None, Some, option_map}
+use Rattle.std.proofs.Common.{◌≡◌, refl, ℕ, true, false, List, Err, ap, ◌∙◌, length, map, arith, rules}
 use Rattle.std.specs.Prelude.{option_and_then}
 use Rattle.std.proofs.lemmas.List.{length-map}
 use Rattle.serde_json.specs.Data.{Data}
