@@ -164,14 +164,14 @@ child-there b n i (Some e) some is =
     ap (λ (l : List ℕ). length l == 0) (children-named (board.slots_at b n))
     ∙ ap (λ (k : ℕ). k == 0) (length-map (filter_map child_entry (board.slots_at b n)) (λ (x : Entry). x.1)) ∙ found-one (board.slots_at b n) i e is
 
-take-nil : {X : Type 0} (i : ℕ) → take i ([] {X}) ≡ []
-take-nil zero = refl
-take-nil (suc i) = refl
-
 -- no child stands in the slots passed over
 pub none-more : (i : ℕ) (slots : List (List ℕ × board.Slot)) → filter_map child_entry (take i slots) ≡ [] → None ≡ option_and_then child_entry (slice_get slots i)
     → filter_map child_entry (take (i + 1) slots) ≡ []
-none-more i [] none is = ap (filter_map child_entry) (take-nil (i + 1))
+none-more i [] none is = go (i + 1)
+  where
+    go : (k : ℕ) → filter_map child_entry (take k []) ≡ []
+    go zero = refl
+    go (suc k) = refl
 none-more zero (s ∷ slots) none is = ap (λ (o : Option Entry). cons_option o []) (sym is)
 none-more (suc i) (s ∷ slots) none is =
     let one : suc i + 1 ≡ suc (i + 1) = omega arith in

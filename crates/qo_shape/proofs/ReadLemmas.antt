@@ -144,7 +144,7 @@ seven-are (x ∷ y ∷ ds) a b c d e f g len p q r s t u v =
 ordered-of : (names : List (List ℕ)) (ms : Members) (ds : List Data) (i : ℕ) (x : Data) → HaveOrder ms → values_of names ms ≡ Some ds → slice_get ds i ≡ Some x
     → IsOrdered x
 ordered-of [] no_members ds i x order is at =
-    absurd (let none : Some [] ≡ Some ds = is in let nothing : slice_get ([] {Data}) i ≡ Some x = subst (λ (l : List Data). slice_get l i ≡ Some x) (sym (some-is none)) at in cc)
+    absurd (let nothing : None ≡ Some x = subst (λ (l : List Data). slice_get l i ≡ Some x) (sym (some-is is)) at in cc)
 ordered-of [] (member k d ms) ds i x order is at = absurd (let clash : None ≡ Some ds = is in cc)
 ordered-of (name ∷ names) no_members ds i x order is at = absurd (let clash : None ≡ Some ds = is in cc)
 ordered-of (name ∷ names) (member k d ms) ds i x order is at = go (bytes_eq name k) (values_of names ms) refl is
