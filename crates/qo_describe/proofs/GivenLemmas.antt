@@ -1,5 +1,6 @@
 -- The properties of an object, put among members in byte order.
-use Rattle.std.proofs.Common.{◌≡◌, ℕ, zero, suc, ◌+◌, Bool, true, false, cond, List, [], ◌∷◌, ◌++◌, map, take, refl, sym, ap, ◌∙◌, append-nil, arith}
+use Rattle.std.proofs.Common.{◌≡◌, ℕ, zero, suc, ◌+◌, ◌<◌, ◌≤◌, Bool, true, false, cond, List, [], ◌∷◌, ◌++◌, get_or, length, map, take, refl, sym, ap, ◌∙◌, append-nil, arith}
+use Rattle.std.proofs.lemmas.List.{length-map, take_all}
 use Rattle.std.proofs.Common.{Option, None, Some, option_map, subst}
 use Rattle.std.specs.Prelude.{filter_map, find, option_and_then, slice_get}
 use Rattle.std.specs.Cmp.Lexicographic.{slice_cmp}
@@ -8,7 +9,7 @@ use Rattle.std.specs.Option.{option_map_or}
 use Rattle.std.specs.Ordering.{nat_cmp}
 use Rattle.std.specs.Str.{bytes_eq}
 use Rattle.std.proofs.Common.{Greater}
-use Rattle.serde_json.specs.Data.{Data, Members, member, no_members, put}
+use Rattle.serde_json.specs.Data.{Data, Members, member, put}
 use Rattle.qo_values.specs.PlainValues.{data_of}
 use Rattle.qo_values.specs.declared.properties.Val.{Val}
 use Rattle.qo_values.specs.declared.properties.Val.TheVariants as val
@@ -19,6 +20,8 @@ use Rattle.qo_heap.specs.Objects.{Objects, slots_of}
 use Rattle.qo_heap.proofs.BoardReads.{shows-slot_named}
 use Rattle.qo_model.specs.Board.{Board, Slot, slot_named}
 use Rattle.qo_model.specs.Objects.{Given}
+use Rattle.qo_model.specs.RowNames.{property_name}
+use Rattle.qo_model.specs.declared.properties.PropertyName.{PropertyName}
 use Rattle.qo_save.specs.Described.{given_in, prop_under, props_under}
 use Rattle.qo_save.specs.Description.{props_members}
 use Rattle.qo_describe.specs.Given.{given_names, left_out, with_prop}
@@ -153,3 +156,31 @@ pub next-prop : (b : Board) (o : Owner) (n i : ℕ) (name : List ℕ) (before no
 next-prop b o n i name before now is so more =
     more ∙ ap (with_prop (prop_under b (left_out o) n name)) so ∙ with-more b o n name (take i (given_names o)) (after-taken o i name is)
     ∙ ap (λ (names : List (List ℕ)). props_members (props_under b (left_out o) names n)) (sym (take-more i (given_names o) name is))
+
+-- the name at a place, of the names in code
+at-place : {X : Type 0} (xs : List X) (i : ℕ) (d : X) → i < length xs → slice_get xs i ≡ Some (get_or xs i d)
+at-place [] i d within = absurd (omega (arith, within))
+at-place (x ∷ xs) zero d within = refl
+at-place (x ∷ xs) (suc i) d within = at-place xs i d (omega (arith, within))
+
+mapped-at : {X Y : Type 0} (f : X → Y) (xs : List X) (i : ℕ) (x : X) → slice_get xs i ≡ Some x → slice_get (map f xs) i ≡ Some (f x)
+mapped-at f [] i x is = absurd (none-some is)
+mapped-at f (y ∷ xs) zero x is = ap (λ z. Some (f z)) (some-is is)
+mapped-at f (y ∷ xs) (suc i) x is = mapped-at f xs i x is
+
+pub name-at : (o : Owner) (names : List PropertyName) (i : ℕ) (name : PropertyName) → i < length names → map property_name names ≡ given_names o
+    → name ≡ get_or names i name → slice_get (given_names o) i ≡ Some (property_name name)
+name-at o names i name within same is =
+    ap (λ (l : List (List ℕ)). slice_get l i) (sym same) ∙ mapped-at property_name names i name (at-place names i name within ∙ ap Some (sym is))
+
+pub props-all : (b : Board) (o : Owner) (n : ℕ) (names : List PropertyName) (i : ℕ) → length names ≤ i → map property_name names ≡ given_names o
+    → props_members (props_under b (left_out o) (take i (given_names o)) n) ≡ props_members (props_under b (left_out o) (given_names o) n)
+props-all b o n names i last same =
+    let many : length (given_names o) ≤ i = omega (arith, sym (ap (λ (l : List (List ℕ)). length l) same) ∙ length-map names property_name, last) in
+    ap (λ (l : List (List ℕ)). props_members (props_under b (left_out o) l n)) (take_all i (given_names o) many)
+
+-- a property that is put, as it is told
+pub put-told : (b : Board) (o : Owner) (n : ℕ) (name : List ℕ) (given : Val) (ms next : Members) (key : List ℕ) (d : Data) → next ≡ put key d ms → key ≡ name
+    → d ≡ data_of given → given ≡ given_at b n name → left_out o given ≡ false → next ≡ with_prop (prop_under b (left_out o) n name) ms
+put-told b o n name given ms next key d is same told so stays =
+    is ∙ ap (λ (k : List ℕ). put k d ms) same ∙ ap (λ (x : Data). put name x ms) told ∙ put-given b o n name given ms so stays

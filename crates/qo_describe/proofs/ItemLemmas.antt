@@ -1,6 +1,6 @@
 -- What is told of clocks, devices, users' objects and links, one after another.
-use Rattle.std.proofs.Common.{◌≡◌, ℕ, zero, suc, ◌+◌, ◌==◌, ◌&&◌, Bool, true, false, not, cond, List, [], ◌∷◌, ◌++◌, length, map, take, refl, sym, ap, ◌∙◌, arith}
-use Rattle.std.proofs.Common.{Option, None, Some, option_map, unwrap_or}
+use Rattle.std.proofs.Common.{◌≡◌, ℕ, zero, suc, ◌+◌, ◌==◌, ◌&&◌, Bool, true, false, cond, List, [], ◌∷◌, ◌++◌, codes, length, map, take, refl, sym, ap, ◌∙◌, arith}
+use Rattle.std.proofs.Common.{Option, None, Some, is_some, option_map, unwrap_or}
 use Rattle.std.proofs.lemmas.List.{length-map, map-append}
 use Rattle.std.specs.Prelude.{filter_map, find, flat_map, option_and_then, slice_get}
 use Rattle.std.specs.List.{cons_option}
@@ -18,8 +18,9 @@ use Rattle.qo_model.specs.Devices.{clock_of, number_at, number_in, plain_in}
 use Rattle.qo_model.specs.Paths.{child_of, children_of}
 use Rattle.qo_values.specs.declared.kinds.TypeId.{TypeId}
 use Rattle.qo_sound_devices.specs.SoundPlaces.{child_entries, child_entry}
-use Rattle.qo_save.specs.Described.{clock_item, clock_item_of, device_item, device_of, factors_of, is_link, is_set, link_item, link_items, link_to, object_item, object_of}
-use Rattle.qo_save.specs.Description.{clock_item_data, device_data, link_data, object_data}
+use Rattle.qo_save.specs.Described.{clock_numbers, clock_item, clock_item_of, device_item, device_of, factors_of, is_link, is_set, link_item, link_items, link_to, object_item, object_of}
+use Rattle.qo_save.specs.Description.{clock_data, clock_item_data, clock_names, device_data, link_data, named, object_data, whole}
+use Rattle.qo_values.specs.declared.births.TheConstants.{SYSTEM_CLOCK_BIRTH}
 use Rattle.qo_describe.specs.Told.{clock_told, entry_told, link_entry, link_told}
 use Rattle.qo_describe.specs.declared.parts.Part.TheVariants.{Clocks, Devices, Links, Objects as Things}
 use Rattle.qo_describe.proofs.WalkLemmas.{each-given, one-by-one}
@@ -41,20 +42,21 @@ number-gone b v s n other name gone =
     sym (ap (λ (slots : List (List ℕ × board.Slot)). unwrap_or (option_and_then number_in (option_and_then plain_in
     (option_map (λ (t : List ℕ × board.Slot). t.1) (find (λ (t : List ℕ × board.Slot). bytes_eq t.0 name) slots)))) other) (slots-gone b v s n gone))
 
--- what is told of a clock
-pub clock-told : (b : board.Board) (c : ℕ) → not ((mul_of b c == 1) && (div_of b c == 1)) ≡ true → clock_told b c ≡ clock_item_data (factors_of b c) ∷ []
-clock-told b c scales = go ((mul_of b c == 1) && (div_of b c == 1)) scales
-  where
-    go : (t : Bool) → not t ≡ true → map clock_item_data (cons_option (cond t None (Some (factors_of b c))) []) ≡ clock_item_data (factors_of b c) ∷ []
-    go true is = absurd (let clash : false ≡ true = is in cc)
-    go false is = refl
+-- so the system clock is told where it is not there
+pub clock-gone : (b : board.Board) (v : Objects) → Shows b v → content_of v SYSTEM_CLOCK_BIRTH ≡ None
+    → named clock_names (whole 1 ∷ whole 1 ∷ whole 0 ∷ []) ≡ clock_data (clock_numbers b)
+clock-gone b v s gone =
+    ap (λ (n : ℕ). named clock_names (whole n ∷ whole 1 ∷ whole 0 ∷ [])) (number-gone b v s SYSTEM_CLOCK_BIRTH 1 (codes "div") gone)
+    ∙ ap (λ (n : ℕ). named clock_names (whole (div_of b SYSTEM_CLOCK_BIRTH) ∷ whole n ∷ whole 0 ∷ [])) (number-gone b v s SYSTEM_CLOCK_BIRTH 1 (codes "mul") gone)
+    ∙ ap (λ (n : ℕ). named clock_names (whole (div_of b SYSTEM_CLOCK_BIRTH) ∷ whole (mul_of b SYSTEM_CLOCK_BIRTH) ∷ whole n ∷ []))
+    (number-gone b v s SYSTEM_CLOCK_BIRTH 0 (codes "period") gone)
 
-pub clock-quiet : (b : board.Board) (c : ℕ) → not ((mul_of b c == 1) && (div_of b c == 1)) ≡ false → clock_told b c ≡ []
-clock-quiet b c plain = go ((mul_of b c == 1) && (div_of b c == 1)) plain
-  where
-    go : (t : Bool) → not t ≡ false → map clock_item_data (cons_option (cond t None (Some (factors_of b c))) []) ≡ []
-    go true is = refl
-    go false is = absurd (let clash : true ≡ false = is in cc)
+-- what is told of a clock
+pub clock-told : (b : board.Board) (c : ℕ) → ((mul_of b c == 1) && (div_of b c == 1)) ≡ false → clock_told b c ≡ clock_item_data (factors_of b c) ∷ []
+clock-told b c scales = ap (λ (t : Bool). map clock_item_data (cons_option (cond t None (Some (factors_of b c))) [])) scales
+
+pub clock-quiet : (b : board.Board) (c : ℕ) → ((mul_of b c == 1) && (div_of b c == 1)) ≡ true → clock_told b c ≡ []
+clock-quiet b c plain = ap (λ (t : Bool). map clock_item_data (cons_option (cond t None (Some (factors_of b c))) [])) plain
 
 -- that of a device
 pub clock-of-some : (b : board.Board) (name : List ℕ) (n c : ℕ) → Some c ≡ clock_of b n → clock_told b c ≡ entry_told Clocks b (name, n)
@@ -155,20 +157,21 @@ found-one (s ∷ slots) (suc i) e is = go (child_entry s) (found-one slots i e i
     go None rest = rest
     go (Some x) rest = refl
 
-pub some-child : (b : board.Board) (n i : ℕ) (e : Entry) → Some e ≡ option_and_then child_entry (slice_get (board.slots_at b n) i)
+pub child-there : (b : board.Board) (n i : ℕ) (found : Option Entry) → is_some found ≡ true → found ≡ option_and_then child_entry (slice_get (board.slots_at b n) i)
     → (length (children_of b n) == 0) ≡ false
-some-child b n i e is =
+child-there b n i None some is = absurd (let clash : false ≡ true = some in cc)
+child-there b n i (Some e) some is =
     ap (λ (l : List ℕ). length l == 0) (children-named (board.slots_at b n))
     ∙ ap (λ (k : ℕ). k == 0) (length-map (filter_map child_entry (board.slots_at b n)) (λ (x : Entry). x.1)) ∙ found-one (board.slots_at b n) i e is
-
-take-nil : {X : Type 0} (i : ℕ) → take i ([] {X}) ≡ []
-take-nil zero = refl
-take-nil (suc i) = refl
 
 -- no child stands in the slots passed over
 pub none-more : (i : ℕ) (slots : List (List ℕ × board.Slot)) → filter_map child_entry (take i slots) ≡ [] → None ≡ option_and_then child_entry (slice_get slots i)
     → filter_map child_entry (take (i + 1) slots) ≡ []
-none-more i [] none is = ap (filter_map child_entry) (take-nil (i + 1))
+none-more i [] none is = go (i + 1)
+  where
+    go : (k : ℕ) → filter_map child_entry (take k []) ≡ []
+    go zero = refl
+    go (suc k) = refl
 none-more zero (s ∷ slots) none is = ap (λ (o : Option Entry). cons_option o []) (sym is)
 none-more (suc i) (s ∷ slots) none is =
     let one : suc i + 1 ≡ suc (i + 1) = omega arith in

@@ -1,6 +1,6 @@
 -- What the slots of an object give, one after another, as a list.
 use Rattle.std.proofs.Common.{◌≡◌, ℕ, zero, suc, ◌+◌, ◌≤◌, List, [], ◌∷◌, ◌++◌, length, map, take, refl, sym, ap, ◌∙◌, append_assoc, append-nil, arith}
-use Rattle.std.proofs.Common.{Option, None, Some, subst}
+use Rattle.std.proofs.Common.{Option, None, Some, subst, Result, Ok, Err, IfOk, OnOk}
 use Rattle.std.specs.Prelude.{filter_map, flat_map, option_and_then, slice_get}
 use Rattle.std.specs.List.{cons_option}
 use Rattle.std.specs.Option.{option_map_or}
@@ -60,3 +60,12 @@ put-none {T} g o all is = subst (λ (x : Option T). all ≡ all ++ option_map_or
 
 pub put-some : {T Z : Type 0} (g : T → List Z) (y : T) (o : Option T) (all next : List Z) → next ≡ all ++ g y → Some y ≡ o → next ≡ all ++ option_map_or g o []
 put-some {T} g y o all next so is = subst (λ (x : Option T). next ≡ all ++ option_map_or g x []) is so
+
+-- what is so of a call is so of one that ends as it does
+pub then-ok : {T E P Q : Type 0} (r : Result T E) → OnOk r P → (P → Q) → OnOk r Q
+then-ok (Ok x) p then = then p
+then-ok (Err e) p then = tt
+
+pub ok-as : {T E X : Type 0} (f : T → X) (r : Result T E) (d e : X) → d ≡ e → IfOk r (λ v. f v ≡ d) → IfOk r (λ v. f v ≡ e)
+ok-as f (Ok v) d e same is = is ∙ same
+ok-as f (Err x) d e same is = tt

@@ -68,6 +68,22 @@ fn numbers_value(alloc: Global, div: u64, mul: u64, period: u64) -> Result<Value
     json!(in alloc; {"div": div, "mul": mul, "period": period})
 }
 
+/// The numbers of a clock.
+fn clock_numbers<L: Ledger>(
+    heap: &Heap,
+    clock: Oid,
+    alloc: Global,
+    steps: &mut Steps<L>,
+) -> Result<Value, AllocError>
+    requires { IsLive heap.now.rows clock }
+    ensures { (b : Board) → Shows b heap.now → IfOk result (λ v. view v ≡ named clock_names (whole (div_of b clock.birth) ∷ whole (mul_of b clock.birth) ∷ whole (own_period b clock.birth) ∷ [])) }
+{
+    let div = div(heap, clock, steps);
+    let mul = mul(heap, clock, steps);
+    let period = own_period(heap, clock, steps);
+    numbers_value(alloc, div, mul, period)
+}
+
 /// The numbers of the system clock.
 pub(crate) fn clock_value<L: Ledger>(
     heap: &Heap,
@@ -76,12 +92,10 @@ pub(crate) fn clock_value<L: Ledger>(
 ) -> Result<Value, AllocError>
     ensures { (b : Board) → Shows b heap.now → IfOk result (λ v. view v ≡ clock_data (clock_numbers b)) }
 {
-    let Some(clock) = heap.by_birth(SYSTEM_CLOCK_BIRTH) else {
-        return numbers_value(alloc, 1, 1, 0);
-    };
-    let div = div(heap, clock, steps);
-    let mul = mul(heap, clock, steps);
-    numbers_value(alloc, div, mul, own_period(heap, clock, steps))
+    match heap.by_birth(SYSTEM_CLOCK_BIRTH) {
+        Some(clock) => clock_numbers(heap, clock, alloc, steps),
+        None => numbers_value(alloc, 1, 1, 0),
+    }
 }
 
 /// How a clock at a path divides and multiplies, as a JSON object.
@@ -126,9 +140,10 @@ fn push_clock<L: Ledger>(
     requires { IsLive heap.now.rows clock }
     ensures { OnOk result ((b : Board) → Shows b heap.now → map view values.new.items ≡ map view values.old.items ++ clock_told b clock.birth) }
 {
-    if scales(heap, clock, steps) {
-        values.push(item_value(heap, clock, alloc, steps)?)?;
+    if !scales(heap, clock, steps) {
+        return Ok(());
     }
+    values.push(item_value(heap, clock, alloc, steps)?)?;
     Ok(())
 }
 

@@ -84,7 +84,8 @@ fn is_plain<L: Ledger>(
     if has_anonymous(heap, steps) {
         return Ok(false);
     }
-    Ok(detached_list(heap, alloc, steps)?.is_empty())
+    let list = detached_list(heap, alloc, steps)?;
+    Ok(list.is_empty())
 }
 
 /// The description of a board with these objects, these rings, each an id and a size, and with pending
@@ -100,8 +101,12 @@ pub fn describe<L: Ledger>(
 ) -> Result<Option<Value>, AllocError>
     ensures { (b : Board) → Shows b heap.now → HasBeside b rings.now pending → IfOk result (λ told. option_map view told ≡ option_map description_data (described b)) }
 {
-    if pending || !is_plain(heap, alloc, steps)? {
+    if pending {
         return Ok(None);
     }
-    Ok(Some(description(heap, rings, alloc, steps)?))
+    if !is_plain(heap, alloc, steps)? {
+        return Ok(None);
+    }
+    let told = description(heap, rings, alloc, steps)?;
+    Ok(Some(told))
 }

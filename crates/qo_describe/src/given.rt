@@ -1,13 +1,14 @@
 //! What was given for the properties of devices and of users' objects.
 
-ghost use Rattle.std.specs.Prelude.{◌≡◌, IfOk, OnOk, map};
+ghost use Rattle.std.specs.Prelude.{◌≡◌, if◌then◌else◌, IfOk, OnOk, map};
 ghost use Rattle.std.specs.Option.{option_map_or};
 ghost use Rattle.serde_json.specs.Data.{object};
 ghost use Rattle.serde_json.specs.View.{members_view, view};
 ghost use Rattle.qo_values.specs.declared.properties.Val.TheVariants as val;
 ghost use Rattle.qo_model.specs.Board.{Board, slot_named};
 ghost use Rattle.qo_model.specs.RowNames.{property_name};
-ghost use Rattle.qo_object.specs.BoardObject.{shown_slot};
+ghost use Rattle.qo_model.specs.Properties.{target_text};
+ghost use Rattle.qo_object.specs.BoardObject.{birth_of, shown_slot};
 ghost use Rattle.qo_heap.specs.Board.{Shows};
 ghost use Rattle.qo_heap.specs.Rows.{IsLive};
 ghost use Rattle.qo_save.specs.Described.{given_in, is_nothing, is_unset, prop_under, props_under};
@@ -79,6 +80,23 @@ impl Owner {
     }
 }
 
+/// What a link has of it: the path of the target, where it is strong.
+fn target_given<L: Ledger>(
+    heap: &Heap,
+    strong: bool,
+    target: Option<Oid>,
+    alloc: Global,
+    steps: &mut Steps<L>,
+) -> Result<Val, AllocError>
+    ensures { (b : Board) → Shows b heap.now → IfOk result (λ given. given ≡ (if strong then val.Text (target_text b (birth_of target)) else val.Nothing)) }
+{
+    if !strong {
+        return Ok(Val::Nothing);
+    }
+    let path = target_text(heap, target, alloc, steps)?;
+    Ok(Val::Text(Text::from_string(path)))
+}
+
 /// What a slot has of what was given: a value, or the path of a target.
 fn given_in<L: Ledger>(
     heap: &Heap,
@@ -90,15 +108,8 @@ fn given_in<L: Ledger>(
 {
     match what {
         Slot::Plain(val) => copy_of(val, alloc),
-        Slot::Link {
-            strong: true,
-            target,
-            ..
-        } => {
-            let path = target_text(heap, *target, alloc, steps)?;
-            Ok(Val::Text(Text::from_string(path)))
-        }
-        Slot::Link { strong: false, .. } | Slot::Child(_) | Slot::Alias(_, _) => Ok(Val::Nothing),
+        Slot::Link { strong, target, .. } => target_given(heap, *strong, *target, alloc, steps),
+        Slot::Child(_) | Slot::Alias(_, _) => Ok(Val::Nothing),
     }
 }
 

@@ -120,9 +120,10 @@ fn push_link_at<L: Ledger>(
     requires { IsLive heap.now.rows o }
     ensures { OnOk result ((b : Board) → Shows b heap.now → map view values.new.items ≡ map view values.old.items ++ option_map_or link_told (option_and_then (link_item b o.birth) (slice_get (slots_at b o.birth) at)) []) }
 {
-    if let Some((name, target)) = link_at(heap, o, at, steps) {
-        values.push(link_value(heap, o, name, target, alloc, steps)?)?;
-    }
+    let Some((name, target)) = link_at(heap, o, at, steps) else {
+        return Ok(());
+    };
+    values.push(link_value(heap, o, name, target, alloc, steps)?)?;
     Ok(())
 }
 

@@ -1,5 +1,6 @@
 -- A slot among properties in byte order.
-use Rattle.std.proofs.Common.{◌≡◌, refl, sym, ap, ◌∙◌, subst, ℕ, suc, ◌+◌, Bool, true, false, not, cond, List, [], ◌∷◌, ◌++◌, codes, map, take, drop, append_assoc, arith, Ordering, Less, Equal, Greater, is_eq, bytes_eq}
+use Rattle.std.proofs.Common.{◌≡◌, refl, sym, ap, ◌∙◌, subst, ℕ, suc, ◌+◌, ◌≤◌, nat_lt, length, position, Some, None, Bool, true, false, not, cond, List, [], ◌∷◌, ◌++◌, codes, take, drop, append_assoc, arith, Ordering, Less, Equal, Greater, is_eq, bytes_eq}
+use Rattle.std.proofs.lemmas.Bool.Decides.{nat_tests}
 use Rattle.std.proofs.lemmas.Cmp.{nat_list_cmp_total}
 use Rattle.std.proofs.lemmas.List.{map-append, take-append-drop}
 use Rattle.std.proofs.lemmas.Map.Text.{is_eq-slice_cmp}
@@ -110,3 +111,34 @@ all-rise slot props rise =
 
 pub all-are : (slot : ℕ) (props : List Given) → (front props ++ its_slot slot ∷ []) ++ back props ≡ with_slot slot props
 all-are slot props = append_assoc (front props) (its_slot slot ∷ []) (back props) ∙ sym (split slot props)
+
+-- a property more
+pub next-above : (props all : List Given) (p : Given) (rest left : List Given) → left ≡ p ∷ rest → props ++ left ≡ all → NamesRise (names_of all)
+    → is_above (names_of props) p.0 ≡ true
+next-above props all p rest left here so rise =
+    above_those_before (names_of props) (names_of rest) p.0
+    (subst NamesRise (ap names_of (sym so ∙ ap (λ (l : List Given). props ++ l) here) ∙ map-append props (p ∷ rest) name_of) rise)
+
+pub next-put : (props all next : List Given) (p : Given) (rest left : List Given) → left ≡ p ∷ rest → props ++ left ≡ all → next ≡ props ++ p ∷ [] → next ++ rest ≡ all
+next-put props all next p rest left here so is =
+    ap (λ (l : List Given). l ++ rest) is ∙ append_assoc props (p ∷ []) rest ∙ sym (ap (λ (l : List Given). props ++ l) here) ∙ so
+
+-- the first place is no later than the last
+past : (m n : ℕ) → nat_lt m n ≡ false → m ≤ n → n ≡ m
+past m n e le = grind (arith, nat_tests)
+
+module _ {X : Type 0} (p : X → Bool) where
+  pub place-le : (xs : List X) → position_or_len p xs ≤ length xs
+  place-le [] = omega arith
+  place-le (x ∷ xs) = go (p x) refl (place-le xs)
+    where
+      go : (t : Bool) → p x ≡ t → position_or_len p xs ≤ length xs → position_or_len p (x ∷ xs) ≤ length (x ∷ xs)
+      go true e le = rw e (omega arith)
+      go false e le = rw e (omega (arith, le))
+
+  pub place-none : (xs : List X) → None ≡ position p xs → length xs ≡ position_or_len p xs
+  place-none xs h = go (nat_lt (position_or_len p xs) (length xs)) refl h
+    where
+      go : (t : Bool) → nat_lt (position_or_len p xs) (length xs) ≡ t → None ≡ cond t (Some (position_or_len p xs)) None → length xs ≡ position_or_len p xs
+      go true e h = cc
+      go false e h = past (position_or_len p xs) (length xs) e (place-le xs)

@@ -1,6 +1,6 @@
 //! The properties of a device with its slot among them.
 
-ghost use Rattle.std.specs.Prelude.{◌≡◌, ◌≤◌, ◌++◌, [], ◌∷◌, codes, drop, length, true, IfOk, OnOk};
+ghost use Rattle.std.specs.Prelude.{◌≡◌, ◌++◌, [], ◌∷◌, codes, true, IfOk, OnOk};
 ghost use Rattle.std.specs.List.{position_or_len};
 ghost use Rattle.qo_values.specs.PropertyLists.{NamesRise, is_above, names_of};
 ghost use Rattle.qo_values.specs.declared.properties.Val.TheVariants as val;
@@ -67,15 +67,17 @@ fn slot_place(props: &[(Text, Val)]) -> usize
     }
 }
 
-/// The properties from a place on, without a slot there.
-fn behind_slot(props: &[(Text, Val)], place: usize) -> &[(Text, Val)]
-    requires { place ≤ length props.now }
-    ensures { result.now ≡ behind_slot (drop place props.now) }
+/// Properties without a slot at their front.
+fn behind_slot(props: &[(Text, Val)]) -> &[(Text, Val)]
+    ensures { result.now ≡ behind_slot props.now }
 {
-    let rest = &props[place..];
-    match rest.split_first() {
-        Some((first, others)) if first.0.as_str() == "slot" => others,
-        _ => rest,
+    let Some((first, others)) = props.split_first() else {
+        return props;
+    };
+    if "slot" == first.0.as_str() {
+        others
+    } else {
+        props
     }
 }
 
@@ -92,6 +94,6 @@ pub(crate) fn with_slot(
     let mut all = PropList::new(alloc);
     put_copies(&mut all, &given[..place], alloc)?;
     put_slot(&mut all, slot, alloc)?;
-    put_copies(&mut all, behind_slot(given, place), alloc)?;
+    put_copies(&mut all, behind_slot(&given[place..]), alloc)?;
     Ok(all)
 }

@@ -1,5 +1,5 @@
 -- A part of several is none where one of them is.
-use Rattle.std.proofs.Common.{◌≡◌, refl, ap, ◌∙◌, Option, None, Some, option_map}
+use Rattle.std.proofs.Common.{◌≡◌, ap, ◌∙◌, Option, None, option_map}
 use Rattle.qo_save.specs.Shape.{also}
 use Rattle.qo_shape.proofs.ReadLemmas.{also-none}
 

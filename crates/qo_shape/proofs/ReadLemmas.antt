@@ -1,10 +1,10 @@
 -- What is read where a part is none, and the values of members in their order.
-use Rattle.std.proofs.Common.{◌≡◌, ℕ, zero, suc, ◌+◌, ◌<◌, ◌≤◌, ◌==◌, Bool, true, false, cond, List, [], ◌∷◌, ◌++◌, length, map, drop, refl, sym, ap, ◌∙◌, subst, append_assoc, append-nil, arith}
+use Rattle.std.proofs.Common.{◌≡◌, ℕ, zero, suc, ◌+◌, ◌<◌, ◌≤◌, ◌==◌, Bool, true, false, cond, List, [], ◌∷◌, ◌++◌, length, map, refl, sym, ap, ◌∙◌, subst, append_assoc, append-nil, arith}
 use Rattle.std.proofs.lemmas.List.{map-append}
-use Rattle.std.proofs.Common.{Option, None, Some, is_some, option_map, Result, Ok, Err}
+use Rattle.std.proofs.Common.{Option, None, Some, is_some, option_map, Result, Err}
 use Rattle.std.specs.Prelude.{option_and_then, slice_get}
 use Rattle.std.specs.Str.{bytes_eq}
-use Rattle.serde_json.specs.Data.{Data, Items, item, Members, no_items, no_members, member, array, object}
+use Rattle.serde_json.specs.Data.{Data, Items, Members, no_members, member, array, object}
 use Rattle.serde_json.specs.Find.{as_array, as_object}
 use Rattle.qo_json.proofs.MemberLemmas.{Member}
 use Rattle.qo_json.specs.Order.{AreOrdered, HaveOrder, IsOrdered, NamesRise, names_of}
@@ -31,6 +31,10 @@ reads-err {X} {Y} {A} {B} said own r e o d is fails then = subst (λ (x : Result
 -- where memory ran out nothing is said
 pub reads-memory : {X Y : Type 0} (said : X → Y) (r : Result X ShapeError) (d : Option Y) → r ≡ Err Memory → Reads said r d
 reads-memory {X} {Y} said r d is = subst (λ (x : Result X ShapeError). Reads said x d) (sym is) tt
+
+-- what is defined may be said in other words
+pub reads-as : {X Y : Type 0} (said : X → Y) (r : Result X ShapeError) (d e : Option Y) → d ≡ e → Reads said r e → Reads said r d
+reads-as said r d e same is = rw same is
 
 -- nothing is had of a part that is none
 pub also-none : {A B : Type 0} (f : Option (A → B)) → also f None ≡ None
@@ -140,7 +144,7 @@ seven-are (x ∷ y ∷ ds) a b c d e f g len p q r s t u v =
 ordered-of : (names : List (List ℕ)) (ms : Members) (ds : List Data) (i : ℕ) (x : Data) → HaveOrder ms → values_of names ms ≡ Some ds → slice_get ds i ≡ Some x
     → IsOrdered x
 ordered-of [] no_members ds i x order is at =
-    absurd (let none : Some [] ≡ Some ds = is in let nothing : slice_get ([] {Data}) i ≡ Some x = subst (λ (l : List Data). slice_get l i ≡ Some x) (sym (some-is none)) at in cc)
+    absurd (let nothing : None ≡ Some x = subst (λ (l : List Data). slice_get l i ≡ Some x) (sym (some-is is)) at in cc)
 ordered-of [] (member k d ms) ds i x order is at = absurd (let clash : None ≡ Some ds = is in cc)
 ordered-of (name ∷ names) no_members ds i x order is at = absurd (let clash : None ≡ Some ds = is in cc)
 ordered-of (name ∷ names) (member k d ms) ds i x order is at = go (bytes_eq name k) (values_of names ms) refl is

@@ -35,10 +35,13 @@ pub(crate) fn members_in<'v, 'a>(
     ensures values { Reads (λ members. map (λ m. view m.1) members.now) result (values_in (map (λ n. n.now) names.now) (view value.now)) }
     ensures many { IfOk result (λ members. length members.now ≡ length names.now) }
 {
-    match value.as_object() {
-        Some(members) if have_names(members, names) => Ok(members),
-        _ => Err(ShapeError::Shape),
+    let Some(members) = value.as_object() else {
+        return Err(ShapeError::Shape);
+    };
+    if !have_names(members, names) {
+        return Err(ShapeError::Shape);
     }
+    Ok(members)
 }
 
 /// The value of the member at a place.

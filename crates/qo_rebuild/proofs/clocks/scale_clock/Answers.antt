@@ -1,6 +1,6 @@
 -- Two writes, one after the other.
-use Rattle.std.proofs.Common.{◌≡◌, ℕ, Err, ◌∙◌, rules, List, ◌∷◌, [], codes, sym}
-use Rattle.qo_save.specs.Rebuilding.{Step, set_number}
+use Rattle.std.proofs.Common.{◌≡◌, ℕ, Err, ◌∙◌, rules, ◌∷◌, [], codes}
+use Rattle.qo_save.specs.Rebuilding.{set_number}
 use Rattle.qo_rebuild.proofs.StepLemmas.{one-done, step-goes, step-stops, then-writes}
 use Rattle.qo_rebuild.proofs.clocks.scale_clock.Goals as goal
 

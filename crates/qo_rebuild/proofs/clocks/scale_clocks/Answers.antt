@@ -1,6 +1,5 @@
 -- One more, or the first that is refused.
-use Rattle.std.proofs.Common.{◌≡◌, ◌≤◌, ◌<◌, Err, length, map, sym, ap, ◌∙◌, arith, rules}
-use Rattle.qo_model.specs.Board.{Board}
+use Rattle.std.proofs.Common.{◌≡◌, ◌≤◌, ◌<◌, Err, ◌∙◌, arith, rules}
 use Rattle.qo_save.specs.Rebuilding.{factor_steps}
 use Rattle.qo_shape.specs.Said.{clock_said}
 use Rattle.qo_rebuild.proofs.StepLemmas.{went-none}

@@ -1,17 +1,15 @@
 -- Each member is read, or one of them is none.
-use Rattle.std.proofs.Common.{◌≡◌, refl, ℕ, List, Err, ap, ◌∙◌, length, map, arith, rules, Option, None, Some, option_map}
+use Rattle.std.proofs.Common.{◌≡◌, refl, ℕ, List, Err, ap, ◌∙◌, length, arith, rules, option_map}
 use Rattle.std.specs.Prelude.{option_and_then}
 use Rattle.std.proofs.lemmas.List.{length-map}
 use Rattle.serde_json.specs.Data.{Data}
-use Rattle.serde_json.specs.Find.{as_str}
 use Rattle.qo_json.proofs.MemberLemmas.{Member}
 use Rattle.qo_json.specs.View.{view}
-use Rattle.qo_model.specs.Objects.{Given}
 use Rattle.qo_save.specs.Shape as shape
-use Rattle.qo_save.specs.Shape.{also, props_in, whole_in}
+use Rattle.qo_save.specs.Shape.{also, whole_in}
 use Rattle.qo_shape.specs.Said.{numbers_said}
 use Rattle.qo_shape.proofs.ItemLemmas.{three-first, three-second, three-third}
-use Rattle.qo_shape.proofs.ReadLemmas.{ordered-at, reads-err, three-are, values}
+use Rattle.qo_shape.proofs.ReadLemmas.{reads-err, three-are, values}
 use Rattle.qo_shape.proofs.clocks.clock_in.Goals as goal
 
 pub returns-in_err-members : goal.returns-in_err-members

@@ -1,5 +1,5 @@
 -- One item more, or one that is none.
-use Rattle.std.proofs.Common.{◌≡◌, Err, List, [], ◌∷◌, ◌+◌, ap, sym, ◌∙◌, drop, map, arith, rules}
+use Rattle.std.proofs.Common.{◌≡◌, Err, [], ◌∷◌, ◌+◌, ap, sym, ◌∙◌, drop, map, arith, rules}
 use Rattle.std.proofs.Math.ListN.{drop_of_length-le}
 use Rattle.std.proofs.lemmas.List.{drop_more}
 use Rattle.serde_json.specs.Data.{Items}
@@ -7,7 +7,7 @@ use Rattle.qo_json.specs.View.{items_view, view}
 use Rattle.qo_json.specs.declared.values.Json.{Json}
 use Rattle.qo_save.specs.Shape.{clock_item_in}
 use Rattle.qo_shape.specs.Said.{clock_said}
-use Rattle.qo_shape.proofs.ReadLemmas.{Left, item-ordered, left-first, left-last, left-next, left-none, listed, reads-err, unlisted}
+use Rattle.qo_shape.proofs.ReadLemmas.{Left, left-first, left-last, left-next, left-none, listed, reads-err, unlisted}
 use Rattle.qo_shape.proofs.lists.clocks_in.Goals as goal
 
 pub returns-in_err-items : goal.returns-in_err-items
@@ -17,7 +17,7 @@ returns-in_err-items c =
     (unlisted clock_said clock_item_in (view c.args.value.now))
 
 pub loop-item-init : goal.loop-item-init
-loop-item-init c = rw c.new-found.ensures (left-first clock_said clock_item_in c.in_ok-items.items.now)
+loop-item-init c = rw c.new-found.ensures.items (left-first clock_said clock_item_in c.in_ok-items.items.now)
 
 pub returns-in_err-clock_item_in : goal.returns-in_err-clock_item_in
 returns-in_err-clock_item_in c =

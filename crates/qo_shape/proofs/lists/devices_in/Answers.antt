@@ -1,5 +1,5 @@
 -- One item more, or one that is none.
-use Rattle.std.proofs.Common.{◌≡◌, Err, List, [], ◌∷◌, ◌+◌, ap, sym, ◌∙◌, drop, map, arith, rules}
+use Rattle.std.proofs.Common.{◌≡◌, Err, [], ◌∷◌, ◌+◌, ap, sym, ◌∙◌, drop, map, arith, rules}
 use Rattle.std.proofs.Math.ListN.{drop_of_length-le}
 use Rattle.std.proofs.lemmas.List.{drop_more}
 use Rattle.serde_json.specs.Data.{Items}
@@ -17,7 +17,7 @@ returns-in_err-items c =
     (unlisted device_said device_in (view c.args.value.now))
 
 pub loop-item-init : goal.loop-item-init
-loop-item-init c = rw c.new-found.ensures (left-first device_said device_in c.in_ok-items.items.now)
+loop-item-init c = rw c.new-found.ensures.items (left-first device_said device_in c.in_ok-items.items.now)
 
 pub device_in-requires : goal.device_in-requires
 device_in-requires c = item-ordered (view c.args.value.now) c.in_ok-items.items.now c.loop-item.item-index c.item-item.result c.requires c.in_ok-items.ensures (search rules)

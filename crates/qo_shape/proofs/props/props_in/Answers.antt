@@ -1,9 +1,7 @@
 -- The members of an object rise.
-use Rattle.std.proofs.Common.{◌≡◌, Some, None, sym, ap, ◌∙◌, subst}
-use Rattle.serde_json.specs.Data.{Data}
-use Rattle.serde_json.specs.Find.{as_object}
-use Rattle.qo_json.specs.View.{members_view, view}
-use Rattle.qo_save.specs.Shape.{props_in, props_of}
+use Rattle.std.proofs.Common.{◌≡◌, ◌∙◌}
+use Rattle.qo_json.specs.View.{view}
+use Rattle.qo_save.specs.Shape.{props_of}
 use Rattle.qo_shape.proofs.ReadLemmas.{members-rise, props-within, props-without}
 use Rattle.qo_shape.proofs.props.props_in.Goals as goal
 

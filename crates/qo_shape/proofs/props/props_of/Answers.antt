@@ -1,15 +1,12 @@
 -- One property more, or none.
-use Rattle.std.proofs.Common.{◌≡◌, ℕ, List, Err, ◌∙◌, ap, sym, ◌+◌, ◌∷◌, ◌++◌, [], drop, false, true, codes, arith, rules}
+use Rattle.std.proofs.Common.{◌≡◌, ℕ, List, Err, ◌∙◌, ap, sym, ◌+◌, ◌∷◌, ◌++◌, [], drop, arith, rules}
 use Rattle.std.proofs.Math.ListN.{drop_of_length-le}
 use Rattle.std.proofs.lemmas.List.{drop_more}
-use Rattle.std.specs.Str.{bytes_eq}
 use Rattle.qo_json.proofs.MemberLemmas.{Member}
-use Rattle.qo_json.specs.View.{members_view}
 use Rattle.qo_values.proofs.NameOrder.{above_those_before}
 use Rattle.qo_values.specs.PropertyLists.{NamesRise, names_of}
 use Rattle.qo_model.specs.Objects.{Given}
-use Rattle.qo_save.specs.Shape.{props_of}
-use Rattle.qo_shape.proofs.PropLemmas.{LeftProps, names_left, names-rise, props-first, props-last, props-next, props-none, props-slot}
+use Rattle.qo_shape.proofs.PropLemmas.{LeftProps, names_left, names-rise, props-first, props-last, props-none, props-slot}
 use Rattle.qo_shape.proofs.ReadLemmas.{reads-err}
 use Rattle.qo_shape.proofs.props.props_of.Goals as goal
 
