@@ -47,7 +47,8 @@ pub clock-gone : (b : board.Board) (v : Objects) → Shows b v → content_of v 
     → named clock_names (whole 1 ∷ whole 1 ∷ whole 0 ∷ []) ≡ clock_data (clock_numbers b)
 clock-gone b v s gone =
     ap (λ (n : ℕ). named clock_names (whole n ∷ whole 1 ∷ whole 0 ∷ [])) (number-gone b v s SYSTEM_CLOCK_BIRTH 1 (codes "div") gone)
-    ∙ ap (λ (n : ℕ). named clock_names (whole (div_of b SYSTEM_CLOCK_BIRTH) ∷ whole n ∷ whole 0 ∷ [])) (number-gone b v s SYSTEM_CLOCK_BIRTH 1 (codes "mul") gone)
+    ∙ ap (λ (n : ℕ). named clock_names (whole (div_of b SYSTEM_CLOCK_BIRTH) ∷ whole n ∷ whole 0 ∷ []))
+    (number-gone b v s SYSTEM_CLOCK_BIRTH 1 (codes "mul") gone)
     ∙ ap (λ (n : ℕ). named clock_names (whole (div_of b SYSTEM_CLOCK_BIRTH) ∷ whole (mul_of b SYSTEM_CLOCK_BIRTH) ∷ whole n ∷ []))
     (number-gone b v s SYSTEM_CLOCK_BIRTH 0 (codes "period") gone)
 
@@ -76,12 +77,14 @@ device-told b e d is = told-one device_data (device_item b e) d is
 pub object-told : (b : board.Board) (e : Entry) (d : Data) → option_map object_data (object_item b e) ≡ Some d → d ∷ [] ≡ entry_told Things b e
 object-told b e d is = told-one object_data (object_item b e) d is
 
-pub device-by : (b : board.Board) (v : Objects) → Shows b v → (e : Entry) (t : TypeId) (d : Data) → option_map (λ (c : Content). c.kind) (content_of v e.1) ≡ Some t
+pub device-by : (b : board.Board) (v : Objects) → Shows b v → (e : Entry) (t : TypeId) (d : Data)
+    → option_map (λ (c : Content). c.kind) (content_of v e.1) ≡ Some t
     → d ≡ device_data (device_of b e t) → option_map device_data (device_item b e) ≡ Some d
 device-by b v s e t d kind is =
     ap (λ (o : Option TypeId). option_map device_data (option_map (device_of b e) o)) (shows-kind b v s e.1 ∙ kind) ∙ ap Some (sym is)
 
-pub object-by : (b : board.Board) (v : Objects) → Shows b v → (e : Entry) (t : TypeId) (d : Data) → option_map (λ (c : Content). c.kind) (content_of v e.1) ≡ Some t
+pub object-by : (b : board.Board) (v : Objects) → Shows b v → (e : Entry) (t : TypeId) (d : Data)
+    → option_map (λ (c : Content). c.kind) (content_of v e.1) ≡ Some t
     → d ≡ object_data (object_of b e t) → option_map object_data (object_item b e) ≡ Some d
 object-by b v s e t d kind is =
     ap (λ (o : Option TypeId). option_map object_data (option_map (object_of b e) o)) (shows-kind b v s e.1 ∙ kind) ∙ ap Some (sym is)
@@ -157,7 +160,8 @@ found-one (s ∷ slots) (suc i) e is = go (child_entry s) (found-one slots i e i
     go None rest = rest
     go (Some x) rest = refl
 
-pub child-there : (b : board.Board) (n i : ℕ) (found : Option Entry) → is_some found ≡ true → found ≡ option_and_then child_entry (slice_get (board.slots_at b n) i)
+pub child-there : (b : board.Board) (n i : ℕ) (found : Option Entry) → is_some found ≡ true
+    → found ≡ option_and_then child_entry (slice_get (board.slots_at b n) i)
     → (length (children_of b n) == 0) ≡ false
 child-there b n i None some is = absurd (let clash : false ≡ true = some in cc)
 child-there b n i (Some e) some is =
@@ -165,7 +169,8 @@ child-there b n i (Some e) some is =
     ∙ ap (λ (k : ℕ). k == 0) (length-map (filter_map child_entry (board.slots_at b n)) (λ (x : Entry). x.1)) ∙ found-one (board.slots_at b n) i e is
 
 -- no child stands in the slots passed over
-pub none-more : (i : ℕ) (slots : List (List ℕ × board.Slot)) → filter_map child_entry (take i slots) ≡ [] → None ≡ option_and_then child_entry (slice_get slots i)
+pub none-more : (i : ℕ) (slots : List (List ℕ × board.Slot)) → filter_map child_entry (take i slots) ≡ []
+    → None ≡ option_and_then child_entry (slice_get slots i)
     → filter_map child_entry (take (i + 1) slots) ≡ []
 none-more i [] none is = go (i + 1)
   where

@@ -45,7 +45,8 @@ not-there f (Some x) p none is = absurd (let clash : true ≡ false = none in cc
 -- what a link has of what was given
 pub given-link : (b : board.Board) (what : Slot) (ty : TypeId) (strong : Bool) (target : Option Key) → what ≡ Link ty strong target
     → cond strong (val.Text (target_text b (birth_of target))) val.Nothing ≡ given_in b (shown_slot what)
-given-link b what ty strong target is = subst (λ (w : Slot). cond strong (val.Text (target_text b (birth_of target))) val.Nothing ≡ given_in b (shown_slot w)) (sym is) (go strong)
+given-link b what ty strong target is =
+    subst (λ (w : Slot). cond strong (val.Text (target_text b (birth_of target))) val.Nothing ≡ given_in b (shown_slot w)) (sym is) (go strong)
   where
     go : (s : Bool) → cond s (val.Text (target_text b (birth_of target))) val.Nothing ≡ given_in b (shown_slot (Link ty s target))
     go true = refl
@@ -68,7 +69,8 @@ linked-not (Child key) other = refl
 linked-not (Link ty strong target) other = absurd (other ty strong target refl)
 linked-not (Alias key name) other = refl
 
-pub named-is : (what : Slot) (ty : TypeId) (strong : Bool) (target : Option Key) → what ≡ Link ty strong target → IfSome target (λ (key : Key). target_of what ≡ Some key)
+pub named-is : (what : Slot) (ty : TypeId) (strong : Bool) (target : Option Key) → what ≡ Link ty strong target
+    → IfSome target (λ (key : Key). target_of what ≡ Some key)
 named-is what ty strong None is = tt
 named-is what ty strong (Some key) is = ap target_of is
 
@@ -90,7 +92,8 @@ not-set b n name s unset = ap (λ (set : Bool). cond (is_link s && set) (option_
 
 pub its-link : (b : board.Board) (n : ℕ) (name : List ℕ) (s : board.Slot) (m : ℕ) → Some m ≡ target_if s → is_set b n name ≡ true
     → link_entry b n (name, s) ≡ Some (name, m)
-its-link b n name s m is set = ap (λ (t : Bool). cond (is_link s && t) (option_map (λ (k : ℕ). (name, k)) (board.target_of s)) None) set ∙ go (is_link s) (board.target_of s) is
+its-link b n name s m is set = ap (λ (t : Bool). cond (is_link s && t) (option_map (λ (k : ℕ). (name, k)) (board.target_of s)) None) set
+    ∙ go (is_link s) (board.target_of s) is
   where
     go : (t : Bool) (target : Option ℕ) → Some m ≡ cond t target None → cond (t && true) (option_map (λ (k : ℕ). (name, k)) target) None ≡ Some (name, m)
     go true target so = ap (option_map (λ (k : ℕ). (name, k))) (sym so)

@@ -45,7 +45,8 @@ one-by-one f [] = refl
 one-by-one f (x ∷ xs) = ap (λ l. f x ∷ l) (one-by-one f xs)
 
 -- what those give that give something
-pub each-given : {X Y Z : Type 0} (g : Y → Z) (f : X → Option Y) (xs : List X) → flat_map (λ (x : X). map g (filter_map f (x ∷ []))) xs ≡ map g (filter_map f xs)
+pub each-given : {X Y Z : Type 0} (g : Y → Z) (f : X → Option Y) (xs : List X)
+    → flat_map (λ (x : X). map g (filter_map f (x ∷ []))) xs ≡ map g (filter_map f xs)
 each-given g f [] = refl
 each-given {X} {Y} {Z} g f (x ∷ xs) = go (f x) (each-given g f xs)
   where

@@ -74,11 +74,7 @@ fn has_anonymous<L: Ledger>(heap: &Heap, steps: &mut Steps<L>) -> bool
 }
 
 /// Whether each object but `/` has a parent, and each device was added with an id.
-fn is_plain<L: Ledger>(
-    heap: &Heap,
-    alloc: Global,
-    steps: &mut Steps<L>,
-) -> Result<bool, AllocError>
+fn is_plain<L: Ledger>(heap: &Heap, alloc: Global, steps: &mut Steps<L>) -> Result<bool, AllocError>
     ensures { (b : Board) → Shows b heap.now → IfOk result (λ plain. plain ≡ ((length (detached b) == 0) && (length (children_of b ANONYMOUS_BIRTH) == 0))) }
 {
     if has_anonymous(heap, steps) {

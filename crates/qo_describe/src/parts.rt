@@ -137,6 +137,13 @@ pub(crate) fn link_list<L: Ledger>(
 {
     let mut values = Vec::new(alloc);
     push_all(heap, Part::Links, OBJECTS_BIRTH, &mut values, alloc, steps)?;
-    push_all(heap, Part::Links, PERIPHERAL_BIRTH, &mut values, alloc, steps)?;
+    push_all(
+        heap,
+        Part::Links,
+        PERIPHERAL_BIRTH,
+        &mut values,
+        alloc,
+        steps,
+    )?;
     Ok(Value::Array(values))
 }

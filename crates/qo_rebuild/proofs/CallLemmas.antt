@@ -29,7 +29,10 @@ ring-change : (b : Board) (r : RingItem) → by_changed (chardev_added b r.id (c
 ring-change b r = go (ring_barred b r)
   where
     go : (o : Option Code) → by_changed (by_code b (record b { rings = b.rings ++ record { id = r.id; size = r.size; bytes = [] } ∷ [] }) o)
-        ≡ elim o as (λ _. Result Board Code) [ Some code ↦ Err code | None ↦ Ok (record b { rings = b.rings ++ record { id = r.id; size = r.size; bytes = [] } ∷ [] }) ]
+        ≡ elim o as (λ _. Result Board Code) [
+          | Some code ↦ Err code
+          | None ↦ Ok (record b { rings = b.rings ++ record { id = r.id; size = r.size; bytes = [] } ∷ [] })
+        ]
     go None = refl
     go (Some code) = refl
 
@@ -54,7 +57,8 @@ object-writes b o p (Err Memory) came = tt
 -- a device, whose notice is taken
 plugged-done : (add : Plugged) → add.refusal ≡ None → by_plugged add ≡ Ok (polled add.board)
 plugged-done add none =
-    ap (λ (o : Option (ℕ × Code)). elim o as (λ _. Result Board Code) [ Some refusal ↦ Err refusal.1 | None ↦ Ok (record add.board { notices = drop 1 add.board.notices }) ]) none
+    ap (λ (o : Option (ℕ × Code)).
+    elim o as (λ _. Result Board Code) [ Some refusal ↦ Err refusal.1 | None ↦ Ok (record add.board { notices = drop 1 add.board.notices }) ]) none
 
 pub device-done : (b : Board) (d : DeviceItem) (p : Parts) → (plug b (wanted_by d)).refusal ≡ None → Stands (polled (plug b (wanted_by d)).board) p
     → Writes p (Ok tt) (add_device d b)
@@ -62,5 +66,7 @@ device-done b d p none stands = (polled (plug b (wanted_by d)).board, plugged-do
 
 pub device-refused : (b : Board) (d : DeviceItem) (stage : ℕ) (code : Code) → (plug b (wanted_by d)).refusal ≡ Some (stage, code) → add_device d b ≡ Err code
 device-refused b d stage code is =
-    ap (λ (o : Option (ℕ × Code)). elim o as (λ _. Result Board Code) [ Some refusal ↦ Err refusal.1
-    | None ↦ Ok (record (plug b (wanted_by d)).board { notices = drop 1 (plug b (wanted_by d)).board.notices }) ]) is
+    ap (λ (o : Option (ℕ × Code)). elim o as (λ _. Result Board Code) [
+      | Some refusal ↦ Err refusal.1
+      | None ↦ Ok (record (plug b (wanted_by d)).board { notices = drop 1 (plug b (wanted_by d)).board.notices })
+    ]) is

@@ -59,7 +59,8 @@ all-with P slot (p ∷ props) all here = go (order (codes "slot") p.0) (all-with
     go Equal rest = (here, all.1)
     go Greater rest = (all.0, rest)
 
-all-after : (x y : List ℕ) (names : List (List ℕ)) → order x y ≡ Less → AllByRecursion (λ z. order y z ≡ Less) names → AllByRecursion (λ z. order x z ≡ Less) names
+all-after : (x y : List ℕ) (names : List (List ℕ)) → order x y ≡ Less → AllByRecursion (λ z. order y z ≡ Less) names
+    → AllByRecursion (λ z. order x z ≡ Less) names
 all-after x y [] before all = tt
 all-after x y (z ∷ names) before all = (nat_list_cmp_total.trans x y z before all.0, all-after x y names before all.1)
 
@@ -119,7 +120,8 @@ next-above props all p rest left here so rise =
     above_those_before (names_of props) (names_of rest) p.0
     (subst NamesRise (ap names_of (sym so ∙ ap (λ (l : List Given). props ++ l) here) ∙ map-append props (p ∷ rest) name_of) rise)
 
-pub next-put : (props all next : List Given) (p : Given) (rest left : List Given) → left ≡ p ∷ rest → props ++ left ≡ all → next ≡ props ++ p ∷ [] → next ++ rest ≡ all
+pub next-put : (props all next : List Given) (p : Given) (rest left : List Given) → left ≡ p ∷ rest → props ++ left ≡ all → next ≡ props ++ p ∷ []
+    → next ++ rest ≡ all
 next-put props all next p rest left here so is =
     ap (λ (l : List Given). l ++ rest) is ∙ append_assoc props (p ∷ []) rest ∙ sym (ap (λ (l : List Given). props ++ l) here) ∙ so
 

@@ -101,7 +101,8 @@ by-error q r e given is was = subst (λ (x : Answer). Writes q x given) (sym is)
 
 pub went-ends : (xs ys : List Step) (b : Board) (p q : Parts) (r : Answer) → Went xs b p → ((c : Board) → Stands c p → Writes q r (all_done ys c))
     → Writes q r (all_done (xs ++ ys) b)
-went-ends xs ys b p q r went more = then-writes q r (all_done ys went.board) (all_done (xs ++ ys) b) (done-on xs ys b went.board went.done) (more went.board went.stands)
+went-ends xs ys b p q r went more =
+    then-writes q r (all_done ys went.board) (all_done (xs ++ ys) b) (done-on xs ys b went.board went.done) (more went.board went.stands)
 
 pub went-stops : (xs ys : List Step) (b : Board) (p q : Parts) (r : Answer) (e : Refusal) → Went xs b p → r ≡ Err e
     → ((c : Board) → Stands c p → Writes q (Err e) (all_done ys c)) → (zs : List Step) → Writes q r (all_done ((xs ++ ys) ++ zs) b)

@@ -34,11 +34,7 @@ fn put_copy(props: &mut PropList, prop: &(Text, Val), alloc: Global) -> Result<(
 }
 
 /// Puts properties after others once more.
-fn put_copies(
-    props: &mut PropList,
-    more: &[(Text, Val)],
-    alloc: Global,
-) -> Result<(), AllocError>
+fn put_copies(props: &mut PropList, more: &[(Text, Val)], alloc: Global) -> Result<(), AllocError>
     requires { NamesRise (names_of (props.old ++ more.now)) }
     ensures { OnOk result (props.new ≡ props.old ++ more.now) }
 {
@@ -82,11 +78,7 @@ fn behind_slot(props: &[(Text, Val)]) -> &[(Text, Val)]
 }
 
 /// Properties with a slot among them, in byte order of their names.
-pub(crate) fn with_slot(
-    slot: u64,
-    props: &PropList,
-    alloc: Global,
-) -> Result<PropList, AllocError>
+pub(crate) fn with_slot(slot: u64, props: &PropList, alloc: Global) -> Result<PropList, AllocError>
     ensures { IfOk result (λ all. all ≡ with_slot slot props.now) }
 {
     let given = props.as_slice();

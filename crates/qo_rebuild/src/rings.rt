@@ -20,11 +20,7 @@ fn add_ring(board: &mut Board, ring: &RingItem, alloc: Global) -> Result<(), Ref
 }
 
 /// Adds rings, one after another.
-pub(crate) fn add_rings(
-    board: &mut Board,
-    rings: &[RingItem],
-    alloc: Global,
-) -> Result<(), Refusal>
+pub(crate) fn add_rings(board: &mut Board, rings: &[RingItem], alloc: Global) -> Result<(), Refusal>
     ensures { (b : Tree) → Stands b board.old → Writes board.new result (all_done (map add_ring (map ring_said rings.now)) b) }
 {
     for ring in rings {

@@ -13,10 +13,13 @@ use Rattle.qo_shape.specs.Texts.{description_of_text}
 -- what is made of the parts
 abbrev pub parts_said : Data → Data → Data → Data → Data → Data → Option Description
 parts_said clock clocks devices links objects rings =
-    also (also (also (also (also (option_map description (clock_in clock)) (list_in clock_item_in clocks)) (list_in device_in devices)) (list_in link_in links)) (list_in object_in objects)) (list_in ring_in rings)
+    also (also (also (also (also (option_map description (clock_in clock)) (list_in clock_item_in clocks)) (list_in device_in devices)) (list_in link_in links))
+    (list_in object_in objects)) (list_in ring_in rings)
 
-module _ (d : Data) (ds : List Data) (clock clocks devices links objects rings version : Data) (is : values_in description_names d ≡ Some ds) (many : length ds ≡ 7)
-    (at0 : slice_get ds 0 ≡ Some clock) (at1 : slice_get ds 1 ≡ Some clocks) (at2 : slice_get ds 2 ≡ Some devices) (at3 : slice_get ds 3 ≡ Some links) (at4 : slice_get ds 4 ≡ Some objects) (at5 : slice_get ds 5 ≡ Some rings) (at6 : slice_get ds 6 ≡ Some version) where
+module _ (d : Data) (ds : List Data) (clock clocks devices links objects rings version : Data) (is : values_in description_names d ≡ Some ds)
+    (many : length ds ≡ 7)
+    (at0 : slice_get ds 0 ≡ Some clock) (at1 : slice_get ds 1 ≡ Some clocks) (at2 : slice_get ds 2 ≡ Some devices) (at3 : slice_get ds 3 ≡ Some links)
+    (at4 : slice_get ds 4 ≡ Some objects) (at5 : slice_get ds 5 ≡ Some rings) (at6 : slice_get ds 6 ≡ Some version) where
   by-version : description_in d ≡ cond (is_one version) (parts_said clock clocks devices links objects rings) None
   by-version =
       ap (option_and_then description_of) is

@@ -36,7 +36,8 @@ props-first ms = go (props_of (members_view ms))
 one-more : (m : Member) (ms : List Member) → bytes_eq m.0.now (codes "slot") ≡ false
     → props_of (members_view (m ∷ ms)) ≡ also (option_map (λ (v : Val) (ps : List Given). (m.0.now, v) ∷ ps) (plain_of (view m.1))) (props_of (members_view ms))
 one-more m ms other =
-    ap (λ (t : Bool). cond t None (also (option_map (λ (v : Val) (ps : List Given). (m.0.now, v) ∷ ps) (plain_of (view m.1))) (props_of (members_view ms)))) other
+    ap (λ (t : Bool). cond t None (also (option_map (λ (v : Val) (ps : List Given). (m.0.now, v) ∷ ps) (plain_of (view m.1))) (props_of (members_view ms))))
+    other
 
 pub props-next : (all : List Member) (props : List Given) (m : Member) (ms : List Member) (v : Val) → LeftProps all props (m ∷ ms)
     → bytes_eq m.0.now (codes "slot") ≡ false → plain_of (view m.1) ≡ Some v → LeftProps all (props ++ (m.0.now, v) ∷ []) ms

@@ -82,7 +82,8 @@ pub no-names : (m : Member) (ms : List Member) → false ≡ is_some (values_of 
 no-names m ms = refl
 
 -- those of such members are their values
-pub values-are : (names : List (List ℕ)) (ms : List Member) → is_some (values_of names (members_view ms)) ≡ true → values_of names (members_view ms) ≡ Some (values ms)
+pub values-are : (names : List (List ℕ)) (ms : List Member) → is_some (values_of names (members_view ms)) ≡ true
+    → values_of names (members_view ms) ≡ Some (values ms)
 values-are [] [] is = refl
 values-are [] (m ∷ ms) is = absurd (let clash : false ≡ true = is in cc)
 values-are (name ∷ names) [] is = absurd (let clash : false ≡ true = is in cc)
@@ -204,7 +205,8 @@ module _ {X Y : Type 0} (said : X → Y) (f : Data → Option Y) where
   unlisted d is = ap (option_and_then (all_of f)) is
 
 -- an item of what stands in order stands in order
-pub item-ordered : (d : Data) (js : List Json) (i : ℕ) (j : Json) → IsOrdered d → as_array d ≡ Some (items_view js) → slice_get js i ≡ Some j → IsOrdered (view j)
+pub item-ordered : (d : Data) (js : List Json) (i : ℕ) (j : Json) → IsOrdered d → as_array d ≡ Some (items_view js) → slice_get js i ≡ Some j
+    → IsOrdered (view j)
 item-ordered d js i j order is at = go d order is
   where
     each : (ks : List Json) (k : ℕ) → AreOrdered (items_view ks) → slice_get ks k ≡ Some j → IsOrdered (view j)

@@ -29,5 +29,11 @@ pub(crate) fn device_in(alloc: Global, value: &Json<'_>) -> Result<DeviceItem, S
     let id = text_in(alloc, id)?;
     let props = props_in(alloc, props)?;
     let slot = number_in(slot)?;
-    Ok(DeviceItem { bus, driver, id, props, slot })
+    Ok(DeviceItem {
+        bus,
+        driver,
+        id,
+        props,
+        slot,
+    })
 }

@@ -15,7 +15,5 @@ mod reading;
 mod rings;
 
 pub use errors::ShapeError;
-pub use items::{
-    ClockItem, ClockNumbers, Description, DeviceItem, LinkItem, ObjectItem, RingItem,
-};
+pub use items::{ClockItem, ClockNumbers, Description, DeviceItem, LinkItem, ObjectItem, RingItem};
 pub use reading::{description_in, read_description};

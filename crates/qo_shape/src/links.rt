@@ -22,5 +22,9 @@ pub(crate) fn link_in(alloc: Global, value: &Json<'_>) -> Result<LinkItem, Shape
     let path = text_in(alloc, path)?;
     let property = text_in(alloc, property)?;
     let target = text_in(alloc, target)?;
-    Ok(LinkItem { path, property, value: target })
+    Ok(LinkItem {
+        path,
+        property,
+        value: target,
+    })
 }

@@ -51,7 +51,14 @@ pub fn description_in(alloc: Global, value: &Json<'_>) -> Result<Description, Sh
     let links = links_in(alloc, links)?;
     let objects = objects_in(alloc, objects)?;
     let rings = rings_in(alloc, rings)?;
-    Ok(Description { clock, clocks, devices, links, objects, rings })
+    Ok(Description {
+        clock,
+        clocks,
+        devices,
+        links,
+        objects,
+        rings,
+    })
 }
 
 /// The description that a text is: JSON in UTF-8 whose value is one. Objects may have any number of

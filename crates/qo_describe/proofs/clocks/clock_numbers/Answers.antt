@@ -11,5 +11,6 @@ returns g c = λ b s.
     (λ v is. is
     ∙ ap (λ (div : ℕ). named clock_names (whole div ∷ whole c.mul-mul.result ∷ whole c.own_period-period.result ∷ [])) (c.div-div.ensures b s)
     ∙ ap (λ (mul : ℕ). named clock_names (whole (div_of b c.args.clock.birth) ∷ whole mul ∷ whole c.own_period-period.result ∷ [])) (c.mul-mul.ensures b s)
-    ∙ ap (λ (period : ℕ). named clock_names (whole (div_of b c.args.clock.birth) ∷ whole (mul_of b c.args.clock.birth) ∷ whole period ∷ [])) (c.own_period-period.ensures b s))
+    ∙ ap (λ (period : ℕ). named clock_names (whole (div_of b c.args.clock.birth) ∷ whole (mul_of b c.args.clock.birth) ∷ whole period ∷ []))
+    (c.own_period-period.ensures b s))
     c.numbers_value.ensures

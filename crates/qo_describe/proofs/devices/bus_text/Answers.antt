@@ -6,4 +6,5 @@ use Rattle.qo_describe.proofs.devices.bus_text.Goals as goal
 
 pub returns : goal.returns
 returns g c = λ b s.
-    IfOk-weaker c.target_text.result _ _ (λ text is. is ∙ ap (λ (target : Option ℕ). target_text b target) (c.bus_of-bus.ensures.bus b s)) (c.target_text.ensures b s)
+    IfOk-weaker c.target_text.result _ _ (λ text is. is ∙ ap (λ (target : Option ℕ). target_text b target) (c.bus_of-bus.ensures.bus b s))
+    (c.target_text.ensures b s)

@@ -19,7 +19,8 @@ returns-in-Child-clause-child g c = λ b s.
 
 pub returns-in-Child-clause-live : goal.returns-in-Child-clause-live
 returns-in-Child-clause-live g c =
-    let there = slot-live c.args.heap.now c.reveal_invariant.ensures c.args.o.birth c.args.at (c.in_ok-slot.slot.name.now, c.in_ok-slot.slot.what.now) c.in_ok-slot.ensures.slot in
+    let there = slot-live c.args.heap.now c.reveal_invariant.ensures c.args.o.birth c.args.at (c.in_ok-slot.slot.name.now, c.in_ok-slot.slot.what.now)
+    c.in_ok-slot.ensures.slot in
     rw c.in-Child.is at there
 
 pub returns-in_default : goal.returns-in_default

@@ -15,16 +15,19 @@ returns-in_err-slot-clause-link g c = λ b s.
 pub returns-in_err-target-clause-link : goal.returns-in_err-target-clause-link
 returns-in_err-target-clause-link g c = λ b s.
     let none : c.from_residual-in_err-target.result ≡ None = search rules in
-    rw none (sym (read-at (link_entry b c.args.o.birth) b c.args.heap.now s c.args.o.birth c.args.at (Some (c.in_ok-slot.slot.name.now, c.in_ok-slot.slot.what.now))
+    rw none
+    (sym (read-at (link_entry b c.args.o.birth) b c.args.heap.now s c.args.o.birth c.args.at (Some (c.in_ok-slot.slot.name.now, c.in_ok-slot.slot.what.now))
     c.in_ok-slot.ensures.slot ∙ no-target b c.args.o.birth c.in_ok-slot.slot.name.now (shown_slot c.in_ok-slot.slot.what.now) c.in_err-target.ensures.linked))
 
 pub returns-then-is_set : goal.returns-then-is_set
 returns-then-is_set g c =
-    let there = slot-live c.args.heap.now c.reveal_invariant.ensures c.args.o.birth c.args.at (c.in_ok-slot.slot.name.now, c.in_ok-slot.slot.what.now) c.in_ok-slot.ensures.slot in
+    let there = slot-live c.args.heap.now c.reveal_invariant.ensures c.args.o.birth c.args.at (c.in_ok-slot.slot.name.now, c.in_ok-slot.slot.what.now)
+    c.in_ok-slot.ensures.slot in
     record {
       link = λ b s.
           let set : c.is_set.result ≡ true = search rules in
-          sym (read-at (link_entry b c.args.o.birth) b c.args.heap.now s c.args.o.birth c.args.at (Some (c.in_ok-slot.slot.name.now, c.in_ok-slot.slot.what.now))
+          sym (read-at (link_entry b c.args.o.birth) b c.args.heap.now s c.args.o.birth c.args.at
+          (Some (c.in_ok-slot.slot.name.now, c.in_ok-slot.slot.what.now))
           c.in_ok-slot.ensures.slot ∙ its-link b c.args.o.birth c.in_ok-slot.slot.name.now (shown_slot c.in_ok-slot.slot.what.now) c.in_ok-target.target.birth
           c.in_ok-target.ensures.linked (sym (c.is_set.ensures b s) ∙ set));
       live = rw c.in_ok-target.ensures.named at there;
@@ -34,4 +37,5 @@ pub returns-clause-link : goal.returns-clause-link
 returns-clause-link g c = λ b s.
     let unset : c.is_set.result ≡ false = search rules in
     sym (read-at (link_entry b c.args.o.birth) b c.args.heap.now s c.args.o.birth c.args.at (Some (c.in_ok-slot.slot.name.now, c.in_ok-slot.slot.what.now))
-    c.in_ok-slot.ensures.slot ∙ not-set b c.args.o.birth c.in_ok-slot.slot.name.now (shown_slot c.in_ok-slot.slot.what.now) (sym (c.is_set.ensures b s) ∙ unset))
+    c.in_ok-slot.ensures.slot
+    ∙ not-set b c.args.o.birth c.in_ok-slot.slot.name.now (shown_slot c.in_ok-slot.slot.what.now) (sym (c.is_set.ensures b s) ∙ unset))

@@ -15,7 +15,8 @@ pub returns : goal.returns
 returns g c = λ b s.
     let objects = child_entries b OBJECTS_BIRTH in
     let devices = child_entries b PERIPHERAL_BIRTH in
-    let first : map view c.push_all.new.values.items ≡ flat_map (entry_told Links b) objects = rw c.new-values.ensures.items at (c.in_ok-push_all.ensures b s) in
+    let first : map view c.push_all.new.values.items ≡ flat_map (entry_told Links b) objects =
+    rw c.new-values.ensures.items at (c.in_ok-push_all.ensures b s) in
     view-Array c.push_all-2.new.values
     ∙ ap (λ (l : List Data). array (items_of l))
     (c.in_ok-push_all-2.ensures b s ∙ ap (λ (l : List Data). l ++ flat_map (entry_told Links b) devices) first

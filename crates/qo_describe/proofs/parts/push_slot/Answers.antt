@@ -11,7 +11,8 @@ use Rattle.qo_describe.proofs.parts.push_slot.Goals as goal
 pub returns-in-Some : goal.returns-in-Some
 returns-in-Some g c =
     then-ok c.push_entry.result c.push_entry.ensures (λ told. λ b s.
-    put-some (entry_told c.args.part b) (c.in-Some.name.now, c.in-Some.o.birth) (option_and_then child_entry (slice_get (slots_at b c.args.container.birth) c.args.at))
+    put-some (entry_told c.args.part b) (c.in-Some.name.now, c.in-Some.o.birth)
+    (option_and_then child_entry (slice_get (slots_at b c.args.container.birth) c.args.at))
     (map view c.args.values.now.items) (map view c.push_entry.new.values.items) (told b s) (c.in-Some.ensures.child b s))
 
 pub returns-in-None : goal.returns-in-None

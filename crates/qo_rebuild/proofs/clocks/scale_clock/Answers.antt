@@ -7,7 +7,8 @@ use Rattle.qo_rebuild.proofs.clocks.scale_clock.Goals as goal
 pub returns-in_err-set_number : goal.returns-in_err-set_number
 returns-in_err-set_number g c = λ b s.
     let is : c.from_residual.result ≡ Err c.in_err-set_number.field-0.0 = search rules in
-    step-stops (set_number c.args.clock.now.path (codes "div") c.args.clock.now.div) (set_number c.args.clock.now.path (codes "mul") c.args.clock.now.mul ∷ []) b
+    step-stops (set_number c.args.clock.now.path (codes "div") c.args.clock.now.div) (set_number c.args.clock.now.path (codes "mul") c.args.clock.now.mul ∷ [])
+    b
     c.set_number.new.board c.set_number.new.board c.from_residual.result c.in_err-set_number.field-0.0 is
     (rw (← c.as_str.ensures) (c.in_err-set_number.ensures b s))
 

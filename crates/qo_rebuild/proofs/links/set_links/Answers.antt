@@ -12,12 +12,14 @@ loop-link-init g c = λ b s. went-none b c.args.board.now s
 pub returns-in_err-set_link : goal.returns-in_err-set_link
 returns-in_err-set_link g c = λ b s.
     let is : c.from_residual.result ≡ Err c.in_err-set_link.field-0.0 = search rules in
-    list-stops set_link link_said c.args.links.now c.loop-link.link-index c.link-item.result (omega arith) c.link-item.is b c.loop-link.board c.set_link.new.board
+    list-stops set_link link_said c.args.links.now c.loop-link.link-index c.link-item.result (omega arith) c.link-item.is b c.loop-link.board
+    c.set_link.new.board
     c.from_residual.result c.in_err-set_link.field-0.0 (c.loop-link.invariant b s) is c.in_err-set_link.ensures
 
 pub loop-link-preserved : goal.loop-link-preserved
 loop-link-preserved g c = λ b s.
-    list-next set_link link_said c.args.links.now c.loop-link.link-index c.link-item.result (omega arith) c.link-item.is b c.loop-link.board c.set_link.new.board
+    list-next set_link link_said c.args.links.now c.loop-link.link-index c.link-item.result (omega arith) c.link-item.is b c.loop-link.board
+    c.set_link.new.board
     (c.loop-link.invariant b s) c.in_ok-set_link.ensures
 
 pub returns : goal.returns

@@ -12,4 +12,5 @@ returns-in_err-description g c =
     unread-rebuilds c.in_err-description.field-0.0 c.from_residual.result (description_of_text c.args.text.now) (p.1 ∙ ap Err p.2) c.in_err-description.ensures
 
 pub returns : goal.returns
-returns g c = read-rebuilds (said c.in_ok-description.description) (description_of_text c.args.text.now) c.rebuild.result c.in_ok-description.ensures c.rebuild.ensures
+returns g c =
+    read-rebuilds (said c.in_ok-description.description) (description_of_text c.args.text.now) c.rebuild.result c.in_ok-description.ensures c.rebuild.ensures

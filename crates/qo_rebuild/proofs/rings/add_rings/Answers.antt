@@ -12,12 +12,14 @@ loop-ring-init c = λ b s. went-none b c.args.board.now s
 pub returns-in_err-add_ring : goal.returns-in_err-add_ring
 returns-in_err-add_ring c = λ b s.
     let is : c.from_residual.result ≡ Err c.in_err-add_ring.field-0.0 = search rules in
-    list-stops add_ring ring_said c.args.rings.now c.loop-ring.ring-index c.ring-item.result (omega arith) c.ring-item.is b c.loop-ring.board c.add_ring.new.board
+    list-stops add_ring ring_said c.args.rings.now c.loop-ring.ring-index c.ring-item.result (omega arith) c.ring-item.is b c.loop-ring.board
+    c.add_ring.new.board
     c.from_residual.result c.in_err-add_ring.field-0.0 (c.loop-ring.invariant b s) is c.in_err-add_ring.ensures
 
 pub loop-ring-preserved : goal.loop-ring-preserved
 loop-ring-preserved c = λ b s.
-    list-next add_ring ring_said c.args.rings.now c.loop-ring.ring-index c.ring-item.result (omega arith) c.ring-item.is b c.loop-ring.board c.add_ring.new.board
+    list-next add_ring ring_said c.args.rings.now c.loop-ring.ring-index c.ring-item.result (omega arith) c.ring-item.is b c.loop-ring.board
+    c.add_ring.new.board
     (c.loop-ring.invariant b s) c.in_ok-add_ring.ensures
 
 pub returns : goal.returns

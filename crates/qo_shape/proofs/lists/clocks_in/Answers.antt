@@ -27,7 +27,8 @@ returns-in_err-clock_item_in c =
     let here : drop i all ≡ j ∷ drop (i + 1) all = drop_more all i j (omega arith) ∙ ap (λ (y : Json). y ∷ drop (i + 1) all) (sym c.item-item.is) in
     let was : Left clock_said clock_item_in (items_view all) c.loop-item.found.items (j ∷ drop (i + 1) all) = rw here at c.loop-item.invariant in
     let is : c.from_residual-in_err-clock_item_in.result ≡ Err c.in_err-clock_item_in.field-0.0 = search rules in
-    reads-err (λ found. map clock_said found.items) clock_said c.from_residual-in_err-clock_item_in.result c.in_err-clock_item_in.field-0.0 _ _ is c.in_err-clock_item_in.ensures
+    reads-err (λ found. map clock_said found.items) clock_said c.from_residual-in_err-clock_item_in.result c.in_err-clock_item_in.field-0.0 _ _ is
+    c.in_err-clock_item_in.ensures
     (λ none. listed clock_said clock_item_in (view c.args.value.now) (items_view all) _ c.in_ok-items.ensures
     (left-none clock_said clock_item_in (items_view all) c.loop-item.found.items j (drop (i + 1) all) was none))
 
@@ -38,7 +39,8 @@ loop-item-preserved c =
     let j : Json = c.item-item.result in
     let here : drop i all ≡ j ∷ drop (i + 1) all = drop_more all i j (omega arith) ∙ ap (λ (y : Json). y ∷ drop (i + 1) all) (sym c.item-item.is) in
     let was : Left clock_said clock_item_in (items_view all) c.loop-item.found.items (j ∷ drop (i + 1) all) = rw here at c.loop-item.invariant in
-    rw c.in_ok-push.ensures.items (left-next clock_said clock_item_in (items_view all) c.loop-item.found.items j (drop (i + 1) all) c.in_ok-clock_item_in.field-0 was c.in_ok-clock_item_in.ensures)
+    rw c.in_ok-push.ensures.items (left-next clock_said clock_item_in (items_view all) c.loop-item.found.items j (drop (i + 1) all)
+    c.in_ok-clock_item_in.field-0 was c.in_ok-clock_item_in.ensures)
 
 pub returns : goal.returns
 returns c =

@@ -20,7 +20,8 @@ pub loop-item-init : goal.loop-item-init
 loop-item-init c = rw c.new-found.ensures.items (left-first device_said device_in c.in_ok-items.items.now)
 
 pub device_in-requires : goal.device_in-requires
-device_in-requires c = item-ordered (view c.args.value.now) c.in_ok-items.items.now c.loop-item.item-index c.item-item.result c.requires c.in_ok-items.ensures (search rules)
+device_in-requires c =
+    item-ordered (view c.args.value.now) c.in_ok-items.items.now c.loop-item.item-index c.item-item.result c.requires c.in_ok-items.ensures (search rules)
 
 pub returns-in_err-device_in : goal.returns-in_err-device_in
 returns-in_err-device_in c =
@@ -30,7 +31,8 @@ returns-in_err-device_in c =
     let here : drop i all ≡ j ∷ drop (i + 1) all = drop_more all i j (omega arith) ∙ ap (λ (y : Json). y ∷ drop (i + 1) all) (sym c.item-item.is) in
     let was : Left device_said device_in (items_view all) c.loop-item.found.items (j ∷ drop (i + 1) all) = rw here at c.loop-item.invariant in
     let is : c.from_residual-in_err-device_in.result ≡ Err c.in_err-device_in.field-0.0 = search rules in
-    reads-err (λ found. map device_said found.items) device_said c.from_residual-in_err-device_in.result c.in_err-device_in.field-0.0 _ _ is c.in_err-device_in.ensures
+    reads-err (λ found. map device_said found.items) device_said c.from_residual-in_err-device_in.result c.in_err-device_in.field-0.0 _ _ is
+    c.in_err-device_in.ensures
     (λ none. listed device_said device_in (view c.args.value.now) (items_view all) _ c.in_ok-items.ensures
     (left-none device_said device_in (items_view all) c.loop-item.found.items j (drop (i + 1) all) was none))
 
@@ -41,7 +43,8 @@ loop-item-preserved c =
     let j : Json = c.item-item.result in
     let here : drop i all ≡ j ∷ drop (i + 1) all = drop_more all i j (omega arith) ∙ ap (λ (y : Json). y ∷ drop (i + 1) all) (sym c.item-item.is) in
     let was : Left device_said device_in (items_view all) c.loop-item.found.items (j ∷ drop (i + 1) all) = rw here at c.loop-item.invariant in
-    rw c.in_ok-push.ensures.items (left-next device_said device_in (items_view all) c.loop-item.found.items j (drop (i + 1) all) c.in_ok-device_in.field-0 was c.in_ok-device_in.ensures)
+    rw c.in_ok-push.ensures.items
+    (left-next device_said device_in (items_view all) c.loop-item.found.items j (drop (i + 1) all) c.in_ok-device_in.field-0 was c.in_ok-device_in.ensures)
 
 pub returns : goal.returns
 returns c =

@@ -20,7 +20,8 @@ pub loop-item-init : goal.loop-item-init
 loop-item-init c = rw c.new-found.ensures.items (left-first object_said object_in c.in_ok-items.items.now)
 
 pub object_in-requires : goal.object_in-requires
-object_in-requires c = item-ordered (view c.args.value.now) c.in_ok-items.items.now c.loop-item.item-index c.item-item.result c.requires c.in_ok-items.ensures (search rules)
+object_in-requires c =
+    item-ordered (view c.args.value.now) c.in_ok-items.items.now c.loop-item.item-index c.item-item.result c.requires c.in_ok-items.ensures (search rules)
 
 pub returns-in_err-object_in : goal.returns-in_err-object_in
 returns-in_err-object_in c =
@@ -30,7 +31,8 @@ returns-in_err-object_in c =
     let here : drop i all ≡ j ∷ drop (i + 1) all = drop_more all i j (omega arith) ∙ ap (λ (y : Json). y ∷ drop (i + 1) all) (sym c.item-item.is) in
     let was : Left object_said object_in (items_view all) c.loop-item.found.items (j ∷ drop (i + 1) all) = rw here at c.loop-item.invariant in
     let is : c.from_residual-in_err-object_in.result ≡ Err c.in_err-object_in.field-0.0 = search rules in
-    reads-err (λ found. map object_said found.items) object_said c.from_residual-in_err-object_in.result c.in_err-object_in.field-0.0 _ _ is c.in_err-object_in.ensures
+    reads-err (λ found. map object_said found.items) object_said c.from_residual-in_err-object_in.result c.in_err-object_in.field-0.0 _ _ is
+    c.in_err-object_in.ensures
     (λ none. listed object_said object_in (view c.args.value.now) (items_view all) _ c.in_ok-items.ensures
     (left-none object_said object_in (items_view all) c.loop-item.found.items j (drop (i + 1) all) was none))
 
@@ -41,7 +43,8 @@ loop-item-preserved c =
     let j : Json = c.item-item.result in
     let here : drop i all ≡ j ∷ drop (i + 1) all = drop_more all i j (omega arith) ∙ ap (λ (y : Json). y ∷ drop (i + 1) all) (sym c.item-item.is) in
     let was : Left object_said object_in (items_view all) c.loop-item.found.items (j ∷ drop (i + 1) all) = rw here at c.loop-item.invariant in
-    rw c.in_ok-push.ensures.items (left-next object_said object_in (items_view all) c.loop-item.found.items j (drop (i + 1) all) c.in_ok-object_in.field-0 was c.in_ok-object_in.ensures)
+    rw c.in_ok-push.ensures.items
+    (left-next object_said object_in (items_view all) c.loop-item.found.items j (drop (i + 1) all) c.in_ok-object_in.field-0 was c.in_ok-object_in.ensures)
 
 pub returns : goal.returns
 returns c =

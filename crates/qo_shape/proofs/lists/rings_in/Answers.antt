@@ -38,7 +38,8 @@ loop-item-preserved c =
     let j : Json = c.item-item.result in
     let here : drop i all ≡ j ∷ drop (i + 1) all = drop_more all i j (omega arith) ∙ ap (λ (y : Json). y ∷ drop (i + 1) all) (sym c.item-item.is) in
     let was : Left ring_said ring_in (items_view all) c.loop-item.found.items (j ∷ drop (i + 1) all) = rw here at c.loop-item.invariant in
-    rw c.in_ok-push.ensures.items (left-next ring_said ring_in (items_view all) c.loop-item.found.items j (drop (i + 1) all) c.in_ok-ring_in.field-0 was c.in_ok-ring_in.ensures)
+    rw c.in_ok-push.ensures.items
+    (left-next ring_said ring_in (items_view all) c.loop-item.found.items j (drop (i + 1) all) c.in_ok-ring_in.field-0 was c.in_ok-ring_in.ensures)
 
 pub returns : goal.returns
 returns c =

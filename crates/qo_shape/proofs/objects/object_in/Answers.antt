@@ -24,31 +24,43 @@ pub returns-in_err-id : goal.returns-in_err-id
 returns-in_err-id c =
     let many : length (values c.in_ok-members.members.now) ≡ 3 =
     length-map c.in_ok-members.members.now (λ (m : Member). view m.1) ∙ c.in_ok-members.ensures.many in
-    let all : shape.object_in (view c.args.value.now) ≡ also (also (option_map shape.object_item (as_str (view c.value_at-id.result.now))) (props_in (view c.value_at-props.result.now))) (as_str (view c.value_at-kind.result.now)) =
-    ap (option_and_then shape.object_of) c.in_ok-members.ensures.values ∙ ap shape.object_of (three-are (values c.in_ok-members.members.now) (view c.value_at-id.result.now) (view c.value_at-props.result.now) (view c.value_at-kind.result.now) many c.value_at-id.ensures c.value_at-props.ensures c.value_at-kind.ensures) in
+    let all : shape.object_in (view c.args.value.now) ≡ also (also (option_map shape.object_item (as_str (view c.value_at-id.result.now)))
+    (props_in (view c.value_at-props.result.now))) (as_str (view c.value_at-kind.result.now)) =
+    ap (option_and_then shape.object_of) c.in_ok-members.ensures.values
+    ∙ ap shape.object_of (three-are (values c.in_ok-members.members.now) (view c.value_at-id.result.now) (view c.value_at-props.result.now)
+    (view c.value_at-kind.result.now) many c.value_at-id.ensures c.value_at-props.ensures c.value_at-kind.ensures) in
     let is : c.from_residual-in_err-id.result ≡ Err c.in_err-id.field-0.0 = search rules in
     reads-err object_said (λ (t : List ℕ). t) c.from_residual-in_err-id.result c.in_err-id.field-0.0 _ _ is c.in_err-id.ensures
-    (λ none. all ∙ three-first shape.object_item (as_str (view c.value_at-id.result.now)) (props_in (view c.value_at-props.result.now)) (as_str (view c.value_at-kind.result.now)) none)
+    (λ none. all ∙ three-first shape.object_item (as_str (view c.value_at-id.result.now)) (props_in (view c.value_at-props.result.now))
+    (as_str (view c.value_at-kind.result.now)) none)
 
 pub returns-in_err-props : goal.returns-in_err-props
 returns-in_err-props c =
     let many : length (values c.in_ok-members.members.now) ≡ 3 =
     length-map c.in_ok-members.members.now (λ (m : Member). view m.1) ∙ c.in_ok-members.ensures.many in
-    let all : shape.object_in (view c.args.value.now) ≡ also (also (option_map shape.object_item (as_str (view c.value_at-id.result.now))) (props_in (view c.value_at-props.result.now))) (as_str (view c.value_at-kind.result.now)) =
-    ap (option_and_then shape.object_of) c.in_ok-members.ensures.values ∙ ap shape.object_of (three-are (values c.in_ok-members.members.now) (view c.value_at-id.result.now) (view c.value_at-props.result.now) (view c.value_at-kind.result.now) many c.value_at-id.ensures c.value_at-props.ensures c.value_at-kind.ensures) in
+    let all : shape.object_in (view c.args.value.now) ≡ also (also (option_map shape.object_item (as_str (view c.value_at-id.result.now)))
+    (props_in (view c.value_at-props.result.now))) (as_str (view c.value_at-kind.result.now)) =
+    ap (option_and_then shape.object_of) c.in_ok-members.ensures.values
+    ∙ ap shape.object_of (three-are (values c.in_ok-members.members.now) (view c.value_at-id.result.now) (view c.value_at-props.result.now)
+    (view c.value_at-kind.result.now) many c.value_at-id.ensures c.value_at-props.ensures c.value_at-kind.ensures) in
     let is : c.from_residual-in_err-props.result ≡ Err c.in_err-props.field-0.0 = search rules in
     reads-err object_said (λ (ps : List Given). ps) c.from_residual-in_err-props.result c.in_err-props.field-0.0 _ _ is c.in_err-props.ensures
-    (λ none. all ∙ three-second shape.object_item (as_str (view c.value_at-id.result.now)) (props_in (view c.value_at-props.result.now)) (as_str (view c.value_at-kind.result.now)) none)
+    (λ none. all ∙ three-second shape.object_item (as_str (view c.value_at-id.result.now)) (props_in (view c.value_at-props.result.now))
+    (as_str (view c.value_at-kind.result.now)) none)
 
 pub returns-in_err-kind : goal.returns-in_err-kind
 returns-in_err-kind c =
     let many : length (values c.in_ok-members.members.now) ≡ 3 =
     length-map c.in_ok-members.members.now (λ (m : Member). view m.1) ∙ c.in_ok-members.ensures.many in
-    let all : shape.object_in (view c.args.value.now) ≡ also (also (option_map shape.object_item (as_str (view c.value_at-id.result.now))) (props_in (view c.value_at-props.result.now))) (as_str (view c.value_at-kind.result.now)) =
-    ap (option_and_then shape.object_of) c.in_ok-members.ensures.values ∙ ap shape.object_of (three-are (values c.in_ok-members.members.now) (view c.value_at-id.result.now) (view c.value_at-props.result.now) (view c.value_at-kind.result.now) many c.value_at-id.ensures c.value_at-props.ensures c.value_at-kind.ensures) in
+    let all : shape.object_in (view c.args.value.now) ≡ also (also (option_map shape.object_item (as_str (view c.value_at-id.result.now)))
+    (props_in (view c.value_at-props.result.now))) (as_str (view c.value_at-kind.result.now)) =
+    ap (option_and_then shape.object_of) c.in_ok-members.ensures.values
+    ∙ ap shape.object_of (three-are (values c.in_ok-members.members.now) (view c.value_at-id.result.now) (view c.value_at-props.result.now)
+    (view c.value_at-kind.result.now) many c.value_at-id.ensures c.value_at-props.ensures c.value_at-kind.ensures) in
     let is : c.from_residual-in_err-kind.result ≡ Err c.in_err-kind.field-0.0 = search rules in
     reads-err object_said (λ (t : List ℕ). t) c.from_residual-in_err-kind.result c.in_err-kind.field-0.0 _ _ is c.in_err-kind.ensures
-    (λ none. all ∙ three-third shape.object_item (as_str (view c.value_at-id.result.now)) (props_in (view c.value_at-props.result.now)) (as_str (view c.value_at-kind.result.now)) none)
+    (λ none. all ∙ three-third shape.object_item (as_str (view c.value_at-id.result.now)) (props_in (view c.value_at-props.result.now))
+    (as_str (view c.value_at-kind.result.now)) none)
 
 pub props_in-requires : goal.props_in-requires
 props_in-requires c =
@@ -59,6 +71,9 @@ pub returns : goal.returns
 returns c =
     let many : length (values c.in_ok-members.members.now) ≡ 3 =
     length-map c.in_ok-members.members.now (λ (m : Member). view m.1) ∙ c.in_ok-members.ensures.many in
-    let all : shape.object_in (view c.args.value.now) ≡ also (also (option_map shape.object_item (as_str (view c.value_at-id.result.now))) (props_in (view c.value_at-props.result.now))) (as_str (view c.value_at-kind.result.now)) =
-    ap (option_and_then shape.object_of) c.in_ok-members.ensures.values ∙ ap shape.object_of (three-are (values c.in_ok-members.members.now) (view c.value_at-id.result.now) (view c.value_at-props.result.now) (view c.value_at-kind.result.now) many c.value_at-id.ensures c.value_at-props.ensures c.value_at-kind.ensures) in
+    let all : shape.object_in (view c.args.value.now) ≡ also (also (option_map shape.object_item (as_str (view c.value_at-id.result.now)))
+    (props_in (view c.value_at-props.result.now))) (as_str (view c.value_at-kind.result.now)) =
+    ap (option_and_then shape.object_of) c.in_ok-members.ensures.values
+    ∙ ap shape.object_of (three-are (values c.in_ok-members.members.now) (view c.value_at-id.result.now) (view c.value_at-props.result.now)
+    (view c.value_at-kind.result.now) many c.value_at-id.ensures c.value_at-props.ensures c.value_at-kind.ensures) in
     all ∙ rw (c.in_ok-id.ensures, c.in_ok-props.ensures, c.in_ok-kind.ensures) refl

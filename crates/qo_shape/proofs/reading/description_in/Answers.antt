@@ -24,7 +24,10 @@ returns-then-not-is_one c =
     let many : length (values c.in_ok-members.members.now) ≡ 7 =
     length-map c.in_ok-members.members.now (λ (m : Member). view m.1) ∙ c.in_ok-members.ensures.many in
     let other : is_one (view c.value_at.result.now) ≡ false = search rules in
-    of-version (view c.args.value.now) (values c.in_ok-members.members.now) (view c.value_at-clock.result.now) (view c.value_at-clocks.result.now) (view c.value_at-devices.result.now) (view c.value_at-links.result.now) (view c.value_at-objects.result.now) (view c.value_at-rings.result.now) (view c.value_at.result.now) c.in_ok-members.ensures.values many c.value_at-clock.ensures c.value_at-clocks.ensures c.value_at-devices.ensures c.value_at-links.ensures c.value_at-objects.ensures c.value_at-rings.ensures c.value_at.ensures other
+    of-version (view c.args.value.now) (values c.in_ok-members.members.now) (view c.value_at-clock.result.now) (view c.value_at-clocks.result.now)
+    (view c.value_at-devices.result.now) (view c.value_at-links.result.now) (view c.value_at-objects.result.now) (view c.value_at-rings.result.now)
+    (view c.value_at.result.now) c.in_ok-members.ensures.values many c.value_at-clock.ensures c.value_at-clocks.ensures c.value_at-devices.ensures
+    c.value_at-links.ensures c.value_at-objects.ensures c.value_at-rings.ensures c.value_at.ensures other
 
 pub returns-in_err-clock : goal.returns-in_err-clock
 returns-in_err-clock c =
@@ -33,7 +36,13 @@ returns-in_err-clock c =
     let one : is_one (view c.value_at.result.now) ≡ true = search rules in
     let is : c.from_residual-in_err-clock.result ≡ Err c.in_err-clock.field-0.0 = search rules in
     reads-err said numbers_said c.from_residual-in_err-clock.result c.in_err-clock.field-0.0 _ _ is c.in_err-clock.ensures
-    (λ none. of-parts (view c.args.value.now) (values c.in_ok-members.members.now) (view c.value_at-clock.result.now) (view c.value_at-clocks.result.now) (view c.value_at-devices.result.now) (view c.value_at-links.result.now) (view c.value_at-objects.result.now) (view c.value_at-rings.result.now) (view c.value_at.result.now) c.in_ok-members.ensures.values many c.value_at-clock.ensures c.value_at-clocks.ensures c.value_at-devices.ensures c.value_at-links.ensures c.value_at-objects.ensures c.value_at-rings.ensures c.value_at.ensures one ∙ six-first shape.description (clock_in (view c.value_at-clock.result.now)) (list_in clock_item_in (view c.value_at-clocks.result.now)) (list_in device_in (view c.value_at-devices.result.now)) (list_in link_in (view c.value_at-links.result.now)) (list_in object_in (view c.value_at-objects.result.now)) (list_in ring_in (view c.value_at-rings.result.now)) none)
+    (λ none. of-parts (view c.args.value.now) (values c.in_ok-members.members.now) (view c.value_at-clock.result.now) (view c.value_at-clocks.result.now)
+    (view c.value_at-devices.result.now) (view c.value_at-links.result.now) (view c.value_at-objects.result.now) (view c.value_at-rings.result.now)
+    (view c.value_at.result.now) c.in_ok-members.ensures.values many c.value_at-clock.ensures c.value_at-clocks.ensures c.value_at-devices.ensures
+    c.value_at-links.ensures c.value_at-objects.ensures c.value_at-rings.ensures c.value_at.ensures one
+    ∙ six-first shape.description (clock_in (view c.value_at-clock.result.now)) (list_in clock_item_in (view c.value_at-clocks.result.now))
+    (list_in device_in (view c.value_at-devices.result.now)) (list_in link_in (view c.value_at-links.result.now))
+    (list_in object_in (view c.value_at-objects.result.now)) (list_in ring_in (view c.value_at-rings.result.now)) none)
 
 pub returns-in_err-clocks : goal.returns-in_err-clocks
 returns-in_err-clocks c =
@@ -42,7 +51,13 @@ returns-in_err-clocks c =
     let one : is_one (view c.value_at.result.now) ≡ true = search rules in
     let is : c.from_residual-in_err-clocks.result ≡ Err c.in_err-clocks.field-0.0 = search rules in
     reads-err said (λ found. map clock_said found.items) c.from_residual-in_err-clocks.result c.in_err-clocks.field-0.0 _ _ is c.in_err-clocks.ensures
-    (λ none. of-parts (view c.args.value.now) (values c.in_ok-members.members.now) (view c.value_at-clock.result.now) (view c.value_at-clocks.result.now) (view c.value_at-devices.result.now) (view c.value_at-links.result.now) (view c.value_at-objects.result.now) (view c.value_at-rings.result.now) (view c.value_at.result.now) c.in_ok-members.ensures.values many c.value_at-clock.ensures c.value_at-clocks.ensures c.value_at-devices.ensures c.value_at-links.ensures c.value_at-objects.ensures c.value_at-rings.ensures c.value_at.ensures one ∙ six-second shape.description (clock_in (view c.value_at-clock.result.now)) (list_in clock_item_in (view c.value_at-clocks.result.now)) (list_in device_in (view c.value_at-devices.result.now)) (list_in link_in (view c.value_at-links.result.now)) (list_in object_in (view c.value_at-objects.result.now)) (list_in ring_in (view c.value_at-rings.result.now)) none)
+    (λ none. of-parts (view c.args.value.now) (values c.in_ok-members.members.now) (view c.value_at-clock.result.now) (view c.value_at-clocks.result.now)
+    (view c.value_at-devices.result.now) (view c.value_at-links.result.now) (view c.value_at-objects.result.now) (view c.value_at-rings.result.now)
+    (view c.value_at.result.now) c.in_ok-members.ensures.values many c.value_at-clock.ensures c.value_at-clocks.ensures c.value_at-devices.ensures
+    c.value_at-links.ensures c.value_at-objects.ensures c.value_at-rings.ensures c.value_at.ensures one
+    ∙ six-second shape.description (clock_in (view c.value_at-clock.result.now)) (list_in clock_item_in (view c.value_at-clocks.result.now))
+    (list_in device_in (view c.value_at-devices.result.now)) (list_in link_in (view c.value_at-links.result.now))
+    (list_in object_in (view c.value_at-objects.result.now)) (list_in ring_in (view c.value_at-rings.result.now)) none)
 
 pub returns-in_err-devices : goal.returns-in_err-devices
 returns-in_err-devices c =
@@ -51,7 +66,13 @@ returns-in_err-devices c =
     let one : is_one (view c.value_at.result.now) ≡ true = search rules in
     let is : c.from_residual-in_err-devices.result ≡ Err c.in_err-devices.field-0.0 = search rules in
     reads-err said (λ found. map device_said found.items) c.from_residual-in_err-devices.result c.in_err-devices.field-0.0 _ _ is c.in_err-devices.ensures
-    (λ none. of-parts (view c.args.value.now) (values c.in_ok-members.members.now) (view c.value_at-clock.result.now) (view c.value_at-clocks.result.now) (view c.value_at-devices.result.now) (view c.value_at-links.result.now) (view c.value_at-objects.result.now) (view c.value_at-rings.result.now) (view c.value_at.result.now) c.in_ok-members.ensures.values many c.value_at-clock.ensures c.value_at-clocks.ensures c.value_at-devices.ensures c.value_at-links.ensures c.value_at-objects.ensures c.value_at-rings.ensures c.value_at.ensures one ∙ six-third shape.description (clock_in (view c.value_at-clock.result.now)) (list_in clock_item_in (view c.value_at-clocks.result.now)) (list_in device_in (view c.value_at-devices.result.now)) (list_in link_in (view c.value_at-links.result.now)) (list_in object_in (view c.value_at-objects.result.now)) (list_in ring_in (view c.value_at-rings.result.now)) none)
+    (λ none. of-parts (view c.args.value.now) (values c.in_ok-members.members.now) (view c.value_at-clock.result.now) (view c.value_at-clocks.result.now)
+    (view c.value_at-devices.result.now) (view c.value_at-links.result.now) (view c.value_at-objects.result.now) (view c.value_at-rings.result.now)
+    (view c.value_at.result.now) c.in_ok-members.ensures.values many c.value_at-clock.ensures c.value_at-clocks.ensures c.value_at-devices.ensures
+    c.value_at-links.ensures c.value_at-objects.ensures c.value_at-rings.ensures c.value_at.ensures one
+    ∙ six-third shape.description (clock_in (view c.value_at-clock.result.now)) (list_in clock_item_in (view c.value_at-clocks.result.now))
+    (list_in device_in (view c.value_at-devices.result.now)) (list_in link_in (view c.value_at-links.result.now))
+    (list_in object_in (view c.value_at-objects.result.now)) (list_in ring_in (view c.value_at-rings.result.now)) none)
 
 pub returns-in_err-links : goal.returns-in_err-links
 returns-in_err-links c =
@@ -60,7 +81,13 @@ returns-in_err-links c =
     let one : is_one (view c.value_at.result.now) ≡ true = search rules in
     let is : c.from_residual-in_err-links.result ≡ Err c.in_err-links.field-0.0 = search rules in
     reads-err said (λ found. map link_said found.items) c.from_residual-in_err-links.result c.in_err-links.field-0.0 _ _ is c.in_err-links.ensures
-    (λ none. of-parts (view c.args.value.now) (values c.in_ok-members.members.now) (view c.value_at-clock.result.now) (view c.value_at-clocks.result.now) (view c.value_at-devices.result.now) (view c.value_at-links.result.now) (view c.value_at-objects.result.now) (view c.value_at-rings.result.now) (view c.value_at.result.now) c.in_ok-members.ensures.values many c.value_at-clock.ensures c.value_at-clocks.ensures c.value_at-devices.ensures c.value_at-links.ensures c.value_at-objects.ensures c.value_at-rings.ensures c.value_at.ensures one ∙ six-fourth shape.description (clock_in (view c.value_at-clock.result.now)) (list_in clock_item_in (view c.value_at-clocks.result.now)) (list_in device_in (view c.value_at-devices.result.now)) (list_in link_in (view c.value_at-links.result.now)) (list_in object_in (view c.value_at-objects.result.now)) (list_in ring_in (view c.value_at-rings.result.now)) none)
+    (λ none. of-parts (view c.args.value.now) (values c.in_ok-members.members.now) (view c.value_at-clock.result.now) (view c.value_at-clocks.result.now)
+    (view c.value_at-devices.result.now) (view c.value_at-links.result.now) (view c.value_at-objects.result.now) (view c.value_at-rings.result.now)
+    (view c.value_at.result.now) c.in_ok-members.ensures.values many c.value_at-clock.ensures c.value_at-clocks.ensures c.value_at-devices.ensures
+    c.value_at-links.ensures c.value_at-objects.ensures c.value_at-rings.ensures c.value_at.ensures one
+    ∙ six-fourth shape.description (clock_in (view c.value_at-clock.result.now)) (list_in clock_item_in (view c.value_at-clocks.result.now))
+    (list_in device_in (view c.value_at-devices.result.now)) (list_in link_in (view c.value_at-links.result.now))
+    (list_in object_in (view c.value_at-objects.result.now)) (list_in ring_in (view c.value_at-rings.result.now)) none)
 
 pub returns-in_err-objects : goal.returns-in_err-objects
 returns-in_err-objects c =
@@ -69,7 +96,13 @@ returns-in_err-objects c =
     let one : is_one (view c.value_at.result.now) ≡ true = search rules in
     let is : c.from_residual-in_err-objects.result ≡ Err c.in_err-objects.field-0.0 = search rules in
     reads-err said (λ found. map object_said found.items) c.from_residual-in_err-objects.result c.in_err-objects.field-0.0 _ _ is c.in_err-objects.ensures
-    (λ none. of-parts (view c.args.value.now) (values c.in_ok-members.members.now) (view c.value_at-clock.result.now) (view c.value_at-clocks.result.now) (view c.value_at-devices.result.now) (view c.value_at-links.result.now) (view c.value_at-objects.result.now) (view c.value_at-rings.result.now) (view c.value_at.result.now) c.in_ok-members.ensures.values many c.value_at-clock.ensures c.value_at-clocks.ensures c.value_at-devices.ensures c.value_at-links.ensures c.value_at-objects.ensures c.value_at-rings.ensures c.value_at.ensures one ∙ six-fifth shape.description (clock_in (view c.value_at-clock.result.now)) (list_in clock_item_in (view c.value_at-clocks.result.now)) (list_in device_in (view c.value_at-devices.result.now)) (list_in link_in (view c.value_at-links.result.now)) (list_in object_in (view c.value_at-objects.result.now)) (list_in ring_in (view c.value_at-rings.result.now)) none)
+    (λ none. of-parts (view c.args.value.now) (values c.in_ok-members.members.now) (view c.value_at-clock.result.now) (view c.value_at-clocks.result.now)
+    (view c.value_at-devices.result.now) (view c.value_at-links.result.now) (view c.value_at-objects.result.now) (view c.value_at-rings.result.now)
+    (view c.value_at.result.now) c.in_ok-members.ensures.values many c.value_at-clock.ensures c.value_at-clocks.ensures c.value_at-devices.ensures
+    c.value_at-links.ensures c.value_at-objects.ensures c.value_at-rings.ensures c.value_at.ensures one
+    ∙ six-fifth shape.description (clock_in (view c.value_at-clock.result.now)) (list_in clock_item_in (view c.value_at-clocks.result.now))
+    (list_in device_in (view c.value_at-devices.result.now)) (list_in link_in (view c.value_at-links.result.now))
+    (list_in object_in (view c.value_at-objects.result.now)) (list_in ring_in (view c.value_at-rings.result.now)) none)
 
 pub returns-in_err-rings : goal.returns-in_err-rings
 returns-in_err-rings c =
@@ -78,7 +111,13 @@ returns-in_err-rings c =
     let one : is_one (view c.value_at.result.now) ≡ true = search rules in
     let is : c.from_residual-in_err-rings.result ≡ Err c.in_err-rings.field-0.0 = search rules in
     reads-err said (λ found. map ring_said found.items) c.from_residual-in_err-rings.result c.in_err-rings.field-0.0 _ _ is c.in_err-rings.ensures
-    (λ none. of-parts (view c.args.value.now) (values c.in_ok-members.members.now) (view c.value_at-clock.result.now) (view c.value_at-clocks.result.now) (view c.value_at-devices.result.now) (view c.value_at-links.result.now) (view c.value_at-objects.result.now) (view c.value_at-rings.result.now) (view c.value_at.result.now) c.in_ok-members.ensures.values many c.value_at-clock.ensures c.value_at-clocks.ensures c.value_at-devices.ensures c.value_at-links.ensures c.value_at-objects.ensures c.value_at-rings.ensures c.value_at.ensures one ∙ six-sixth shape.description (clock_in (view c.value_at-clock.result.now)) (list_in clock_item_in (view c.value_at-clocks.result.now)) (list_in device_in (view c.value_at-devices.result.now)) (list_in link_in (view c.value_at-links.result.now)) (list_in object_in (view c.value_at-objects.result.now)) (list_in ring_in (view c.value_at-rings.result.now)) none)
+    (λ none. of-parts (view c.args.value.now) (values c.in_ok-members.members.now) (view c.value_at-clock.result.now) (view c.value_at-clocks.result.now)
+    (view c.value_at-devices.result.now) (view c.value_at-links.result.now) (view c.value_at-objects.result.now) (view c.value_at-rings.result.now)
+    (view c.value_at.result.now) c.in_ok-members.ensures.values many c.value_at-clock.ensures c.value_at-clocks.ensures c.value_at-devices.ensures
+    c.value_at-links.ensures c.value_at-objects.ensures c.value_at-rings.ensures c.value_at.ensures one
+    ∙ six-sixth shape.description (clock_in (view c.value_at-clock.result.now)) (list_in clock_item_in (view c.value_at-clocks.result.now))
+    (list_in device_in (view c.value_at-devices.result.now)) (list_in link_in (view c.value_at-links.result.now))
+    (list_in object_in (view c.value_at-objects.result.now)) (list_in ring_in (view c.value_at-rings.result.now)) none)
 
 pub devices_in-requires : goal.devices_in-requires
 devices_in-requires c =
@@ -95,5 +134,8 @@ returns c =
     let many : length (values c.in_ok-members.members.now) ≡ 7 =
     length-map c.in_ok-members.members.now (λ (m : Member). view m.1) ∙ c.in_ok-members.ensures.many in
     let one : is_one (view c.value_at.result.now) ≡ true = search rules in
-    of-parts (view c.args.value.now) (values c.in_ok-members.members.now) (view c.value_at-clock.result.now) (view c.value_at-clocks.result.now) (view c.value_at-devices.result.now) (view c.value_at-links.result.now) (view c.value_at-objects.result.now) (view c.value_at-rings.result.now) (view c.value_at.result.now) c.in_ok-members.ensures.values many c.value_at-clock.ensures c.value_at-clocks.ensures c.value_at-devices.ensures c.value_at-links.ensures c.value_at-objects.ensures c.value_at-rings.ensures c.value_at.ensures one
+    of-parts (view c.args.value.now) (values c.in_ok-members.members.now) (view c.value_at-clock.result.now) (view c.value_at-clocks.result.now)
+    (view c.value_at-devices.result.now) (view c.value_at-links.result.now) (view c.value_at-objects.result.now) (view c.value_at-rings.result.now)
+    (view c.value_at.result.now) c.in_ok-members.ensures.values many c.value_at-clock.ensures c.value_at-clocks.ensures c.value_at-devices.ensures
+    c.value_at-links.ensures c.value_at-objects.ensures c.value_at-rings.ensures c.value_at.ensures one
     ∙ rw (c.in_ok-clock.ensures, c.in_ok-clocks.ensures, c.in_ok-devices.ensures, c.in_ok-links.ensures, c.in_ok-objects.ensures, c.in_ok-rings.ensures) refl

@@ -12,7 +12,8 @@ description_in-requires c = rw c.in_ok-of-in-Ok.ensures (read_ordered c.args.tex
 
 pub returns-in_ok-of-in-Ok : goal.returns-in_ok-of-in-Ok
 returns-in_ok-of-in-Ok c =
-    reads-as said c.description_in.result _ _ (text-read _ _ c.in-Ok.ensures.ok.0 c.in-Ok.ensures.ok.1) (rw c.in_ok-of-in-Ok.ensures at c.description_in.ensures)
+    reads-as said c.description_in.result _ _ (text-read _ _ c.in-Ok.ensures.ok.0 c.in-Ok.ensures.ok.1)
+    (rw c.in_ok-of-in-Ok.ensures at c.description_in.ensures)
 
 pub returns-in-Err-2 : goal.returns-in-Err-2
 returns-in-Err-2 c =
