@@ -76,9 +76,13 @@ ring_no_float r = refl
 pub described_no_float : (o : Option Description) → has_float (told_as o) ≡ false
 described_no_float None = refl
 described_no_float (Some d) =
-    rw (listed_no_float clock_item_data clock_no_float d.clocks, listed_no_float device_data device_no_float d.devices,
-    listed_no_float link_data link_no_float d.links, listed_no_float object_data object_no_float d.objects,
-    listed_no_float ring_data ring_no_float d.rings) refl
+    rw (
+      listed_no_float clock_item_data clock_no_float d.clocks,
+      listed_no_float device_data device_no_float d.devices,
+      listed_no_float link_data link_no_float d.links,
+      listed_no_float object_data object_no_float d.objects,
+      listed_no_float ring_data ring_no_float d.rings,
+    ) refl
 
 pub types_no_float : (rows : List TypeInfo) → items_have_float (items_of (map type_data rows)) ≡ false
 types_no_float [] = refl

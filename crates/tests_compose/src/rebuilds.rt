@@ -24,7 +24,10 @@ fn descriptions_come_back(rt: HostRuntime) -> Result<(), Fail> {
     for text in [OPENING, LINKED] {
         let left = rebuild(rt.alloc(), text)?;
         assert_eq!(rt; left.status, Status::Done);
-        assert_eq!(rt; left.held.as_slice(), joined(rt.alloc(), &[text, "\n"])?.as_bytes());
+        assert_eq!(rt;
+            left.held.as_slice(),
+            joined(rt.alloc(), &[text, "\n"])?.as_bytes()
+        );
         assert!(rt; left.told.is_empty());
     }
     Ok(())
@@ -58,7 +61,11 @@ fn other_texts_are_no_description(rt: HostRuntime) -> Result<(), Fail> {
         let left = rebuild(rt.alloc(), text)?;
         assert_eq!(rt; left.status, Status::BadBoard, "at {text}");
         assert!(rt; left.held.is_empty(), "at {text}");
-        assert_eq!(rt; left.told.as_slice(), b"compose: bad board: not a description\n".as_slice(), "at {text}");
+        assert_eq!(rt;
+            left.told.as_slice(),
+            b"compose: bad board: not a description\n".as_slice(),
+            "at {text}"
+        );
     }
     let left = call(rt.alloc(), &["rebuild"], b"\"\xff\"", &[], &[])?;
     assert_eq!(rt; left.status, Status::BadBoard);
@@ -67,19 +74,58 @@ fn other_texts_are_no_description(rt: HostRuntime) -> Result<(), Fail> {
 
 /// Descriptions that a call of the board refuses, and what is said of the code.
 const REFUSED: &[(&str, &str)] = &[
-    ("{\"clock\":{\"div\":1,\"mul\":1,\"period\":42949672960},\"clocks\":[],\"devices\":[{\"bus\":\"/machine/root.0\",\"driver\":\"slot-uart\",\"id\":\"u0\",\"props\":{\"chardev\":\"r0\"},\"slot\":0}],\"links\":[{\"path\":\"/machine/peripheral/u0\",\"property\":\"peer\",\"value\":\"/machine/peripheral/u0\"}],\"objects\":[],\"rings\":[],\"version\":1}", "E36 ring not found"),
-    ("{\"clock\":{\"div\":1,\"mul\":1,\"period\":42949672960},\"clocks\":[],\"devices\":[{\"bus\":\"/machine/root.0\",\"driver\":\"slot-uart\",\"id\":\"u0\",\"props\":{\"chardev\":\"r0\"},\"slot\":8}],\"links\":[{\"path\":\"/machine/peripheral/u0\",\"property\":\"peer\",\"value\":\"/machine/peripheral/u0\"}],\"objects\":[],\"rings\":[{\"id\":\"r0\",\"size\":16}],\"version\":1}", "E28 slot out of range"),
-    ("{\"clock\":{\"div\":1,\"mul\":1,\"period\":42949672960},\"clocks\":[],\"devices\":[{\"bus\":\"/machine/root.0\",\"driver\":\"slot-uart\",\"id\":\"u0\",\"props\":{\"chardev\":\"r0\"},\"slot\":0}],\"links\":[{\"path\":\"/machine/peripheral/u0\",\"property\":\"peer\",\"value\":\"/machine/peripheral/u0\"}],\"objects\":[],\"rings\":[{\"id\":\"r0\",\"size\":15}],\"version\":1}", "E51 ring size not a power of two"),
-    ("{\"clock\":{\"div\":1,\"mul\":1,\"period\":42949672960},\"clocks\":[],\"devices\":[{\"bus\":\"/machine/root.0\",\"driver\":\"slot-uart\",\"id\":\"u0\",\"props\":{\"chardev\":\"r0\"},\"slot\":0}],\"links\":[{\"path\":\"/machine/peripheral/u0\",\"property\":\"peer\",\"value\":\"/machine/peripheral/u0\"}],\"objects\":[],\"rings\":[{\"id\":\"0r\",\"size\":16}],\"version\":1}", "E23 id malformed"),
-    ("{\"clock\":{\"div\":1,\"mul\":1,\"period\":42949672960},\"clocks\":[],\"devices\":[{\"bus\":\"/machine/root.0\",\"driver\":\"slot-uart\",\"id\":\"u0\",\"props\":{\"chardev\":\"r0\"},\"slot\":0}],\"links\":[{\"path\":\"/machine/peripheral/u0\",\"property\":\"peer\",\"value\":\"/machine/peripheral/u0\"}],\"objects\":[],\"rings\":[{\"id\":\"r0\",\"size\":16},{\"id\":\"r0\",\"size\":16}],\"version\":1}", "E24 id taken"),
-    ("{\"clock\":{\"div\":1,\"mul\":1,\"period\":42949672960},\"clocks\":[],\"devices\":[{\"bus\":\"/machine/root.0\",\"driver\":\"slot\",\"id\":\"u0\",\"props\":{\"chardev\":\"r0\"},\"slot\":0}],\"links\":[{\"path\":\"/machine/peripheral/u0\",\"property\":\"peer\",\"value\":\"/machine/peripheral/u0\"}],\"objects\":[],\"rings\":[{\"id\":\"r0\",\"size\":16}],\"version\":1}", "E20 type unknown"),
-    ("{\"clock\":{\"div\":1,\"mul\":1,\"period\":42949672960},\"clocks\":[],\"devices\":[{\"bus\":\"/machine/root.1\",\"driver\":\"slot-uart\",\"id\":\"u0\",\"props\":{\"chardev\":\"r0\"},\"slot\":0}],\"links\":[{\"path\":\"/machine/peripheral/u0\",\"property\":\"peer\",\"value\":\"/machine/peripheral/u0\"}],\"objects\":[],\"rings\":[{\"id\":\"r0\",\"size\":16}],\"version\":1}", "E25 bus not found"),
-    ("{\"clock\":{\"div\":1,\"mul\":1,\"period\":42949672960},\"clocks\":[],\"devices\":[{\"bus\":\"/machine/mem.0\",\"driver\":\"slot-uart\",\"id\":\"u0\",\"props\":{\"chardev\":\"r0\"},\"slot\":0}],\"links\":[{\"path\":\"/machine/peripheral/u0\",\"property\":\"peer\",\"value\":\"/machine/peripheral/u0\"}],\"objects\":[],\"rings\":[{\"id\":\"r0\",\"size\":16}],\"version\":1}", "E26 bus of another kind"),
-    ("{\"clock\":{\"div\":1,\"mul\":1,\"period\":42949672960},\"clocks\":[],\"devices\":[{\"bus\":\"/machine/root.0\",\"driver\":\"slot-uart\",\"id\":\"u0\",\"props\":{\"chardev\":\"r0\"},\"slot\":0}],\"links\":[{\"path\":\"/machine/peripheral/u0\",\"property\":\"pear\",\"value\":\"/machine/peripheral/u0\"}],\"objects\":[],\"rings\":[{\"id\":\"r0\",\"size\":16}],\"version\":1}", "E17 property not found"),
-    ("{\"clock\":{\"div\":1,\"mul\":1,\"period\":42949672960},\"clocks\":[],\"devices\":[{\"bus\":\"/machine/root.0\",\"driver\":\"slot-uart\",\"id\":\"u0\",\"props\":{\"chardev\":\"r0\"},\"slot\":0}],\"links\":[{\"path\":\"/machine/peripheral/u0\",\"property\":\"peer\",\"value\":\"/machine/peripheral/u1\"}],\"objects\":[],\"rings\":[{\"id\":\"r0\",\"size\":16}],\"version\":1}", "E15 path not found"),
-    ("{\"clock\":{\"div\":1,\"mul\":1,\"period\":42949672960},\"clocks\":[],\"devices\":[{\"bus\":\"/machine/root.0\",\"driver\":\"slot-uart\",\"id\":\"u0\",\"props\":{\"chardev\":\"r0\"},\"slot\":0}],\"links\":[{\"path\":\"/machine/peripheral/u0\",\"property\":\"peer\",\"value\":\"/machine\"}],\"objects\":[],\"rings\":[{\"id\":\"r0\",\"size\":16}],\"version\":1}", "E31 link target of wrong type"),
-    ("{\"clock\":{\"div\":0,\"mul\":1,\"period\":42949672960},\"clocks\":[],\"devices\":[],\"links\":[],\"objects\":[],\"rings\":[],\"version\":1}", "E46 divider is 0"),
-    ("{\"clock\":{\"div\":1,\"mul\":4294967295,\"period\":18446744073709551615},\"clocks\":[],\"devices\":[],\"links\":[],\"objects\":[],\"rings\":[],\"version\":1}", "E47 period overflow"),
+    (
+        "{\"clock\":{\"div\":1,\"mul\":1,\"period\":42949672960},\"clocks\":[],\"devices\":[{\"bus\":\"/machine/root.0\",\"driver\":\"slot-uart\",\"id\":\"u0\",\"props\":{\"chardev\":\"r0\"},\"slot\":0}],\"links\":[{\"path\":\"/machine/peripheral/u0\",\"property\":\"peer\",\"value\":\"/machine/peripheral/u0\"}],\"objects\":[],\"rings\":[],\"version\":1}",
+        "E36 ring not found",
+    ),
+    (
+        "{\"clock\":{\"div\":1,\"mul\":1,\"period\":42949672960},\"clocks\":[],\"devices\":[{\"bus\":\"/machine/root.0\",\"driver\":\"slot-uart\",\"id\":\"u0\",\"props\":{\"chardev\":\"r0\"},\"slot\":8}],\"links\":[{\"path\":\"/machine/peripheral/u0\",\"property\":\"peer\",\"value\":\"/machine/peripheral/u0\"}],\"objects\":[],\"rings\":[{\"id\":\"r0\",\"size\":16}],\"version\":1}",
+        "E28 slot out of range",
+    ),
+    (
+        "{\"clock\":{\"div\":1,\"mul\":1,\"period\":42949672960},\"clocks\":[],\"devices\":[{\"bus\":\"/machine/root.0\",\"driver\":\"slot-uart\",\"id\":\"u0\",\"props\":{\"chardev\":\"r0\"},\"slot\":0}],\"links\":[{\"path\":\"/machine/peripheral/u0\",\"property\":\"peer\",\"value\":\"/machine/peripheral/u0\"}],\"objects\":[],\"rings\":[{\"id\":\"r0\",\"size\":15}],\"version\":1}",
+        "E51 ring size not a power of two",
+    ),
+    (
+        "{\"clock\":{\"div\":1,\"mul\":1,\"period\":42949672960},\"clocks\":[],\"devices\":[{\"bus\":\"/machine/root.0\",\"driver\":\"slot-uart\",\"id\":\"u0\",\"props\":{\"chardev\":\"r0\"},\"slot\":0}],\"links\":[{\"path\":\"/machine/peripheral/u0\",\"property\":\"peer\",\"value\":\"/machine/peripheral/u0\"}],\"objects\":[],\"rings\":[{\"id\":\"0r\",\"size\":16}],\"version\":1}",
+        "E23 id malformed",
+    ),
+    (
+        "{\"clock\":{\"div\":1,\"mul\":1,\"period\":42949672960},\"clocks\":[],\"devices\":[{\"bus\":\"/machine/root.0\",\"driver\":\"slot-uart\",\"id\":\"u0\",\"props\":{\"chardev\":\"r0\"},\"slot\":0}],\"links\":[{\"path\":\"/machine/peripheral/u0\",\"property\":\"peer\",\"value\":\"/machine/peripheral/u0\"}],\"objects\":[],\"rings\":[{\"id\":\"r0\",\"size\":16},{\"id\":\"r0\",\"size\":16}],\"version\":1}",
+        "E24 id taken",
+    ),
+    (
+        "{\"clock\":{\"div\":1,\"mul\":1,\"period\":42949672960},\"clocks\":[],\"devices\":[{\"bus\":\"/machine/root.0\",\"driver\":\"slot\",\"id\":\"u0\",\"props\":{\"chardev\":\"r0\"},\"slot\":0}],\"links\":[{\"path\":\"/machine/peripheral/u0\",\"property\":\"peer\",\"value\":\"/machine/peripheral/u0\"}],\"objects\":[],\"rings\":[{\"id\":\"r0\",\"size\":16}],\"version\":1}",
+        "E20 type unknown",
+    ),
+    (
+        "{\"clock\":{\"div\":1,\"mul\":1,\"period\":42949672960},\"clocks\":[],\"devices\":[{\"bus\":\"/machine/root.1\",\"driver\":\"slot-uart\",\"id\":\"u0\",\"props\":{\"chardev\":\"r0\"},\"slot\":0}],\"links\":[{\"path\":\"/machine/peripheral/u0\",\"property\":\"peer\",\"value\":\"/machine/peripheral/u0\"}],\"objects\":[],\"rings\":[{\"id\":\"r0\",\"size\":16}],\"version\":1}",
+        "E25 bus not found",
+    ),
+    (
+        "{\"clock\":{\"div\":1,\"mul\":1,\"period\":42949672960},\"clocks\":[],\"devices\":[{\"bus\":\"/machine/mem.0\",\"driver\":\"slot-uart\",\"id\":\"u0\",\"props\":{\"chardev\":\"r0\"},\"slot\":0}],\"links\":[{\"path\":\"/machine/peripheral/u0\",\"property\":\"peer\",\"value\":\"/machine/peripheral/u0\"}],\"objects\":[],\"rings\":[{\"id\":\"r0\",\"size\":16}],\"version\":1}",
+        "E26 bus of another kind",
+    ),
+    (
+        "{\"clock\":{\"div\":1,\"mul\":1,\"period\":42949672960},\"clocks\":[],\"devices\":[{\"bus\":\"/machine/root.0\",\"driver\":\"slot-uart\",\"id\":\"u0\",\"props\":{\"chardev\":\"r0\"},\"slot\":0}],\"links\":[{\"path\":\"/machine/peripheral/u0\",\"property\":\"pear\",\"value\":\"/machine/peripheral/u0\"}],\"objects\":[],\"rings\":[{\"id\":\"r0\",\"size\":16}],\"version\":1}",
+        "E17 property not found",
+    ),
+    (
+        "{\"clock\":{\"div\":1,\"mul\":1,\"period\":42949672960},\"clocks\":[],\"devices\":[{\"bus\":\"/machine/root.0\",\"driver\":\"slot-uart\",\"id\":\"u0\",\"props\":{\"chardev\":\"r0\"},\"slot\":0}],\"links\":[{\"path\":\"/machine/peripheral/u0\",\"property\":\"peer\",\"value\":\"/machine/peripheral/u1\"}],\"objects\":[],\"rings\":[{\"id\":\"r0\",\"size\":16}],\"version\":1}",
+        "E15 path not found",
+    ),
+    (
+        "{\"clock\":{\"div\":1,\"mul\":1,\"period\":42949672960},\"clocks\":[],\"devices\":[{\"bus\":\"/machine/root.0\",\"driver\":\"slot-uart\",\"id\":\"u0\",\"props\":{\"chardev\":\"r0\"},\"slot\":0}],\"links\":[{\"path\":\"/machine/peripheral/u0\",\"property\":\"peer\",\"value\":\"/machine\"}],\"objects\":[],\"rings\":[{\"id\":\"r0\",\"size\":16}],\"version\":1}",
+        "E31 link target of wrong type",
+    ),
+    (
+        "{\"clock\":{\"div\":0,\"mul\":1,\"period\":42949672960},\"clocks\":[],\"devices\":[],\"links\":[],\"objects\":[],\"rings\":[],\"version\":1}",
+        "E46 divider is 0",
+    ),
+    (
+        "{\"clock\":{\"div\":1,\"mul\":4294967295,\"period\":18446744073709551615},\"clocks\":[],\"devices\":[],\"links\":[],\"objects\":[],\"rings\":[],\"version\":1}",
+        "E47 period overflow",
+    ),
 ];
 
 #[test]
@@ -108,7 +154,10 @@ fn parts_are_rebuilt_in_order(rt: HostRuntime) -> Result<(), Fail> {
     for text in IN_ORDER {
         let left = rebuild(rt.alloc(), text)?;
         assert_eq!(rt; left.status, Status::Done, "at {text}");
-        assert_eq!(rt; left.held.as_slice(), joined(rt.alloc(), &[text, "\n"])?.as_bytes());
+        assert_eq!(rt;
+            left.held.as_slice(),
+            joined(rt.alloc(), &[text, "\n"])?.as_bytes()
+        );
     }
     Ok(())
 }

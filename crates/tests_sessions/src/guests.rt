@@ -178,7 +178,10 @@ const DESCRIBED: [(&str, &str); 7] = [
         "chardev-add {\"id\":\"r0\",\"backend\":{\"type\":\"ringbuf\",\"data\":{\"size\":16}}}",
         "R",
     ),
-    ("device_add {\"driver\":\"slot-uart\",\"id\":\"u0\",\"chardev\":\"r0\"}", "R"),
+    (
+        "device_add {\"driver\":\"slot-uart\",\"id\":\"u0\",\"chardev\":\"r0\"}",
+        "R",
+    ),
     (
         "qom-set {\"path\":\"/machine/peripheral/u0\",\"property\":\"peer\",\"value\":\"/machine/peripheral/u0\"}",
         "R",
@@ -200,7 +203,10 @@ fn boards_are_described(rt: HostRuntime) -> Result<(), Fail> {
 /// A bridge whose clock divides, a DIMM with its memory, a tag that names both, and what has no description: a
 /// device without an id, and an object that a link alone holds.
 const DESCRIBED_PARTS: [(&str, &str); 12] = [
-    ("device_add {\"driver\":\"slot-bridge\",\"id\":\"br\",\"slot\":5}", "R"),
+    (
+        "device_add {\"driver\":\"slot-bridge\",\"id\":\"br\",\"slot\":5}",
+        "R",
+    ),
     (
         "object-add {\"qom-type\":\"memory-backend-ram\",\"id\":\"m\",\"size\":8192}",
         "R",
