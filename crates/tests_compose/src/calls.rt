@@ -240,6 +240,7 @@ fn statuses_have_their_codes(rt: HostRuntime) {
         (Status::WriteFault, 6),
         (Status::HubFault, 7),
         (Status::InputLimit, 8),
+        (Status::BadBoard, 9),
     ] {
         assert_eq!(rt; status.code(), code);
     }
