@@ -29,9 +29,10 @@ use std::alloc::{AllocError, Global};
 /// `replay` runs the recorded stream of `source` on a new machine, entry by entry as it comes, and puts each message
 /// into `sink` at once. `serve` lets the hub begin at a path with so many connections, and runs a new machine over it.
 /// `demo` makes the record of a seed and a number of steps, runs it in memory, and puts five lines into `sink` that count
-/// what was sent. `types` puts the line of each type into `sink`. `rebuild` reads the description of a board from `source`, to
-/// its end, rebuilds the board by the calls of the board, and puts the description of that into `sink`. One line goes to `complaints` for each status but
-/// `Done`; a fault there changes no status. What an order does not use is left as it was.
+/// what was sent. `types` puts the line of each type into `sink`. `rebuild` reads the description of a board from
+/// `source`, to its end, rebuilds the board by the calls of the board, and puts the description of that into `sink`. One
+/// line goes to `complaints` for each status but `Done`; a fault there changes no status. What an order does not use is
+/// left as it was.
 ///
 /// - `Done`: the run has ended, at the end of its inputs or by a command before; its whole transcript was put or sent.
 /// - `Usage`: exactly where the words are no order; nothing was read.
