@@ -5,9 +5,8 @@ use Rattle.std.proofs.lemmas.List.{drop_more}
 use Rattle.qo_json.proofs.MemberLemmas.{Member}
 use Rattle.qo_values.proofs.NameOrder.{above_those_before}
 use Rattle.qo_values.specs.PropertyLists.{NamesRise, names_of}
-use Rattle.qo_model.specs.Objects.{Given}
 use Rattle.qo_shape.proofs.PropLemmas.{LeftProps, names_left, names-rise, props-first, props-last, props-none, props-slot}
-use Rattle.qo_shape.proofs.ReadLemmas.{reads-err}
+use Rattle.qo_shape.proofs.ReadLemmas.{Given, reads-err}
 use Rattle.qo_shape.proofs.props.props_of.Goals as goal
 
 pub loop-member-init : goal.loop-member-init
