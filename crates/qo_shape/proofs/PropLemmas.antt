@@ -8,7 +8,7 @@ use Rattle.qo_json.specs.View.{members_view, view}
 use Rattle.qo_values.specs.PlainValues.{plain_of}
 use Rattle.qo_values.specs.PropertyLists.{NamesRise}
 use Rattle.qo_values.specs.declared.properties.Val.{Val}
-use Rattle.qo_model.specs.Objects.{Given}
+use Rattle.qo_shape.proofs.ReadLemmas.{Given}
 use Rattle.qo_save.specs.Shape.{also, props_of}
 
 -- the names of members, which rise as those of what they stand for do

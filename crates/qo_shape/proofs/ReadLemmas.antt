@@ -10,11 +10,15 @@ use Rattle.qo_json.proofs.MemberLemmas.{Member}
 use Rattle.qo_json.specs.Order.{AreOrdered, HaveOrder, IsOrdered, NamesRise, names_of}
 use Rattle.qo_json.specs.View.{items_view, members_view, view}
 use Rattle.qo_json.specs.declared.values.Json.{Json}
-use Rattle.qo_model.specs.Objects.{Given}
+use Rattle.qo_values.specs.declared.properties.Val.{Val}
 use Rattle.qo_save.specs.Shape.{all_of, also, list_in, props_in, props_of, values_in, values_of}
 use Rattle.qo_shape.specs.Reads.{Reads}
 use Rattle.qo_shape.specs.declared.errors.ShapeError.{ShapeError}
 use Rattle.qo_shape.specs.declared.errors.ShapeError.TheVariants.{Memory, Shape}
+
+-- a property with its value
+abbrev pub Given : Type 0
+Given = List ℕ × Val
 
 pub some-is : {A : Type 0} {x y : A} → Some x ≡ Some y → x ≡ y
 some-is h = cc
@@ -77,6 +81,10 @@ many-same (name ∷ names) (m ∷ ms) is = go (bytes_eq name m.0.now) is
 pub no-members : (names : List (List ℕ)) (t : Bool) → t ≡ (length names == 0) → t ≡ is_some (values_of names (members_view []))
 no-members [] t is = is
 no-members (name ∷ names) t is = is
+
+pub none-left : (names : List (List ℕ)) (ms : List Member) (t : Bool) → length ms ≡ 0 → t ≡ (length names == 0) → t ≡ is_some (values_of names (members_view ms))
+none-left names [] t none is = no-members names t is
+none-left names (m ∷ ms) t none is = absurd (omega (arith, none))
 
 pub no-names : (m : Member) (ms : List Member) → false ≡ is_some (values_of [] (members_view (m ∷ ms)))
 no-names m ms = refl

@@ -5,9 +5,8 @@ use Rattle.std.proofs.lemmas.List.{drop_more}
 use Rattle.qo_json.proofs.MemberLemmas.{Member}
 use Rattle.qo_values.proofs.NameOrder.{above_those_before}
 use Rattle.qo_values.specs.PropertyLists.{NamesRise, names_of}
-use Rattle.qo_model.specs.Objects.{Given}
 use Rattle.qo_shape.proofs.PropLemmas.{LeftProps, names_left, names-rise, props-first, props-last, props-none, props-slot}
-use Rattle.qo_shape.proofs.ReadLemmas.{reads-err}
+use Rattle.qo_shape.proofs.ReadLemmas.{Given, reads-err}
 use Rattle.qo_shape.proofs.props.props_of.Goals as goal
 
 pub loop-member-init : goal.loop-member-init
@@ -31,7 +30,7 @@ returns-in_err-val c =
     let here : drop i all ≡ m ∷ drop (i + 1) all = drop_more all i m (omega arith) ∙ ap (λ (n : Member). n ∷ drop (i + 1) all) (sym c.member-item.is) in
     let was : LeftProps all c.loop-member.props (m ∷ drop (i + 1) all) = rw here at c.loop-member.invariant.read in
     let is : c.from_residual-in_err-val.result ≡ Err c.in_err-val.field-0.0 = search rules in
-    reads-err (λ (ps : List Given). ps) (λ v. v) c.from_residual-in_err-val.result c.in_err-val.field-0.0 _ _ is c.in_err-val.ensures
+    reads-err (λ (ps : List Given). ps) _ c.from_residual-in_err-val.result c.in_err-val.field-0.0 _ _ is c.in_err-val.ensures
     (λ none. props-none all c.loop-member.props m (drop (i + 1) all) was (grind arith) none)
 
 pub put-requires : goal.put-requires
