@@ -1,12 +1,13 @@
 -- Each part is read, or one of them is none.
-use Rattle.std.proofs.Common.{◌≡◌, refl, ℕ, true, false, Err, ap, ◌∙◌, length, arith, rules}
+use Rattle.std.proofs.Common.{◌≡◌, refl, ℕ, true, false, List, Err, ap, ◌∙◌, length, map, arith, rules}
 use Rattle.std.specs.Prelude.{option_and_then}
 use Rattle.std.proofs.lemmas.List.{length-map}
+use Rattle.serde_json.specs.Data.{Data}
 use Rattle.qo_json.proofs.MemberLemmas.{Member}
 use Rattle.qo_json.specs.View.{view}
 use Rattle.qo_save.specs.Shape as shape
 use Rattle.qo_save.specs.Shape.{clock_in, clock_item_in, device_in, is_one, link_in, list_in, object_in, ring_in}
-use Rattle.qo_shape.specs.Said.{said}
+use Rattle.qo_shape.specs.Said.{clock_said, device_said, link_said, numbers_said, object_said, ring_said, said}
 use Rattle.qo_shape.proofs.DescriptionLemmas.{of-parts, of-version}
 use Rattle.qo_shape.proofs.ItemLemmas.{six-fifth, six-first, six-fourth, six-second, six-sixth, six-third}
 use Rattle.qo_shape.proofs.ReadLemmas.{ordered-at, reads-err, values}
@@ -15,7 +16,7 @@ use Rattle.qo_shape.proofs.reading.description_in.Goals as goal
 pub returns-in_err-members : goal.returns-in_err-members
 returns-in_err-members c =
     let is : c.from_residual.result ≡ Err c.in_err-members.field-0.0 = search rules in
-    reads-err said _ c.from_residual.result c.in_err-members.field-0.0 _ _ is c.in_err-members.ensures.values
+    reads-err said (λ (ms : List Data). ms) c.from_residual.result c.in_err-members.field-0.0 _ _ is c.in_err-members.ensures.values
     (λ none. ap (option_and_then shape.description_of) none)
 
 pub returns-then-not-is_one : goal.returns-then-not-is_one
@@ -34,7 +35,7 @@ returns-in_err-clock c =
     length-map c.in_ok-members.members.now (λ (m : Member). view m.1) ∙ c.in_ok-members.ensures.many in
     let one : is_one (view c.value_at.result.now) ≡ true = search rules in
     let is : c.from_residual-in_err-clock.result ≡ Err c.in_err-clock.field-0.0 = search rules in
-    reads-err said _ c.from_residual-in_err-clock.result c.in_err-clock.field-0.0 _ _ is c.in_err-clock.ensures
+    reads-err said numbers_said c.from_residual-in_err-clock.result c.in_err-clock.field-0.0 _ _ is c.in_err-clock.ensures
     (λ none. of-parts (view c.args.value.now) (values c.in_ok-members.members.now) (view c.value_at-clock.result.now) (view c.value_at-clocks.result.now)
     (view c.value_at-devices.result.now) (view c.value_at-links.result.now) (view c.value_at-objects.result.now) (view c.value_at-rings.result.now)
     (view c.value_at.result.now) c.in_ok-members.ensures.values many c.value_at-clock.ensures c.value_at-clocks.ensures c.value_at-devices.ensures
@@ -49,7 +50,7 @@ returns-in_err-clocks c =
     length-map c.in_ok-members.members.now (λ (m : Member). view m.1) ∙ c.in_ok-members.ensures.many in
     let one : is_one (view c.value_at.result.now) ≡ true = search rules in
     let is : c.from_residual-in_err-clocks.result ≡ Err c.in_err-clocks.field-0.0 = search rules in
-    reads-err said _ c.from_residual-in_err-clocks.result c.in_err-clocks.field-0.0 _ _ is c.in_err-clocks.ensures
+    reads-err said (λ found. map clock_said found.items) c.from_residual-in_err-clocks.result c.in_err-clocks.field-0.0 _ _ is c.in_err-clocks.ensures
     (λ none. of-parts (view c.args.value.now) (values c.in_ok-members.members.now) (view c.value_at-clock.result.now) (view c.value_at-clocks.result.now)
     (view c.value_at-devices.result.now) (view c.value_at-links.result.now) (view c.value_at-objects.result.now) (view c.value_at-rings.result.now)
     (view c.value_at.result.now) c.in_ok-members.ensures.values many c.value_at-clock.ensures c.value_at-clocks.ensures c.value_at-devices.ensures
@@ -64,7 +65,7 @@ returns-in_err-devices c =
     length-map c.in_ok-members.members.now (λ (m : Member). view m.1) ∙ c.in_ok-members.ensures.many in
     let one : is_one (view c.value_at.result.now) ≡ true = search rules in
     let is : c.from_residual-in_err-devices.result ≡ Err c.in_err-devices.field-0.0 = search rules in
-    reads-err said _ c.from_residual-in_err-devices.result c.in_err-devices.field-0.0 _ _ is c.in_err-devices.ensures
+    reads-err said (λ found. map device_said found.items) c.from_residual-in_err-devices.result c.in_err-devices.field-0.0 _ _ is c.in_err-devices.ensures
     (λ none. of-parts (view c.args.value.now) (values c.in_ok-members.members.now) (view c.value_at-clock.result.now) (view c.value_at-clocks.result.now)
     (view c.value_at-devices.result.now) (view c.value_at-links.result.now) (view c.value_at-objects.result.now) (view c.value_at-rings.result.now)
     (view c.value_at.result.now) c.in_ok-members.ensures.values many c.value_at-clock.ensures c.value_at-clocks.ensures c.value_at-devices.ensures
@@ -79,7 +80,7 @@ returns-in_err-links c =
     length-map c.in_ok-members.members.now (λ (m : Member). view m.1) ∙ c.in_ok-members.ensures.many in
     let one : is_one (view c.value_at.result.now) ≡ true = search rules in
     let is : c.from_residual-in_err-links.result ≡ Err c.in_err-links.field-0.0 = search rules in
-    reads-err said _ c.from_residual-in_err-links.result c.in_err-links.field-0.0 _ _ is c.in_err-links.ensures
+    reads-err said (λ found. map link_said found.items) c.from_residual-in_err-links.result c.in_err-links.field-0.0 _ _ is c.in_err-links.ensures
     (λ none. of-parts (view c.args.value.now) (values c.in_ok-members.members.now) (view c.value_at-clock.result.now) (view c.value_at-clocks.result.now)
     (view c.value_at-devices.result.now) (view c.value_at-links.result.now) (view c.value_at-objects.result.now) (view c.value_at-rings.result.now)
     (view c.value_at.result.now) c.in_ok-members.ensures.values many c.value_at-clock.ensures c.value_at-clocks.ensures c.value_at-devices.ensures
@@ -94,7 +95,7 @@ returns-in_err-objects c =
     length-map c.in_ok-members.members.now (λ (m : Member). view m.1) ∙ c.in_ok-members.ensures.many in
     let one : is_one (view c.value_at.result.now) ≡ true = search rules in
     let is : c.from_residual-in_err-objects.result ≡ Err c.in_err-objects.field-0.0 = search rules in
-    reads-err said _ c.from_residual-in_err-objects.result c.in_err-objects.field-0.0 _ _ is c.in_err-objects.ensures
+    reads-err said (λ found. map object_said found.items) c.from_residual-in_err-objects.result c.in_err-objects.field-0.0 _ _ is c.in_err-objects.ensures
     (λ none. of-parts (view c.args.value.now) (values c.in_ok-members.members.now) (view c.value_at-clock.result.now) (view c.value_at-clocks.result.now)
     (view c.value_at-devices.result.now) (view c.value_at-links.result.now) (view c.value_at-objects.result.now) (view c.value_at-rings.result.now)
     (view c.value_at.result.now) c.in_ok-members.ensures.values many c.value_at-clock.ensures c.value_at-clocks.ensures c.value_at-devices.ensures
@@ -109,7 +110,7 @@ returns-in_err-rings c =
     length-map c.in_ok-members.members.now (λ (m : Member). view m.1) ∙ c.in_ok-members.ensures.many in
     let one : is_one (view c.value_at.result.now) ≡ true = search rules in
     let is : c.from_residual-in_err-rings.result ≡ Err c.in_err-rings.field-0.0 = search rules in
-    reads-err said _ c.from_residual-in_err-rings.result c.in_err-rings.field-0.0 _ _ is c.in_err-rings.ensures
+    reads-err said (λ found. map ring_said found.items) c.from_residual-in_err-rings.result c.in_err-rings.field-0.0 _ _ is c.in_err-rings.ensures
     (λ none. of-parts (view c.args.value.now) (values c.in_ok-members.members.now) (view c.value_at-clock.result.now) (view c.value_at-clocks.result.now)
     (view c.value_at-devices.result.now) (view c.value_at-links.result.now) (view c.value_at-objects.result.now) (view c.value_at-rings.result.now)
     (view c.value_at.result.now) c.in_ok-members.ensures.values many c.value_at-clock.ensures c.value_at-clocks.ensures c.value_at-devices.ensures
