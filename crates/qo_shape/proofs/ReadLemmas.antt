@@ -28,7 +28,7 @@ pub reads-err : {X Y A B : Type 0} (said : X → Y) (own : A → B) (r : Result 
     → r ≡ Err e → Reads own (Err e) o → (o ≡ None → d ≡ None) → Reads said r d
 reads-err {X} {Y} {A} {B} said own r e o d is fails then = subst (λ (x : Result X ShapeError). Reads said x d) (sym is) (go e fails)
   where
-    go : (w : ShapeError) → Reads {A} {B} own (Err w) o → Reads {X} {Y} said (Err w) d
+    go : (w : ShapeError) → Reads own (Err w) o → Reads said (Err w) d
     go Shape none = then none
     go Memory t = tt
 
@@ -197,7 +197,7 @@ module _ {X Y : Type 0} (said : X → Y) (f : Data → Option Y) where
       go : (o : Option (List Y)) → option_map (λ (ys : List Y). map said found ++ ys) (option_map (λ (ys : List Y). said x ∷ ys) o)
           ≡ option_map (λ (ys : List Y). map said (found ++ x ∷ []) ++ ys) o
       go None = refl
-      go (Some ys) = ap Some (sym (append_assoc (map said found) (said x ∷ []) ys) ∙ ap (λ l. l ++ ys) (sym (map-append found (x ∷ []) said)))
+      go (Some ys) = ap Some (sym (append_assoc (map said found) (said x ∷ []) ys) ∙ ap (λ l. l ++ ys) (sym (map-append said found (x ∷ []))))
 
   pub left-none : (all : Items) (found : List X) (j : Json) (js : List Json) → Left all found (j ∷ js) → f (view j) ≡ None → all_of f all ≡ None
   left-none all found j js was none =
