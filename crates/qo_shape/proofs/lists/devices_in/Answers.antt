@@ -7,7 +7,7 @@ use Rattle.qo_json.specs.View.{items_view, view}
 use Rattle.qo_json.specs.declared.values.Json.{Json}
 use Rattle.qo_save.specs.Shape.{device_in}
 use Rattle.qo_shape.specs.Said.{device_said}
-use Rattle.qo_shape.proofs.ReadLemmas.{Left, item-ordered, left-first, left-last, left-next, left-none, listed, reads-err, unlisted}
+use Rattle.qo_shape.proofs.ReadLemmas.{Left, item-at, item-ordered, left-first, left-last, left-next, left-none, listed, reads-err, unlisted}
 use Rattle.qo_shape.proofs.lists.devices_in.Goals as goal
 
 pub returns-in_err-items : goal.returns-in_err-items
@@ -21,7 +21,8 @@ loop-item-init c = rw c.new-found.ensures.items (left-first device_said device_i
 
 pub device_in-requires : goal.device_in-requires
 device_in-requires c =
-    item-ordered (view c.args.value.now) c.in_ok-items.items.now c.loop-item.item-index c.item-item.result c.requires c.in_ok-items.ensures (search rules)
+    item-ordered (view c.args.value.now) c.in_ok-items.items.now c.loop-item.item-index c.item-item.result c.requires c.in_ok-items.ensures 
+    (item-at c.in_ok-items.items.now c.loop-item.item-index c.item-item.result (omega arith) c.item-item.is)
 
 pub returns-in_err-device_in : goal.returns-in_err-device_in
 returns-in_err-device_in c =
