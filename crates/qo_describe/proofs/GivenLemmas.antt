@@ -61,7 +61,7 @@ prop-by : (b : Board) (o : Owner) (n : ℕ) (name : List ℕ)
 prop-by b o n name = go (slot_named b n name)
   where
     go : (found : Option Slot)
-        → option_and_then (λ (s : Slot). cond (left_out o (given_in b s)) None (Some (name, given_in b s))) found
+        → option_and_then {U = Given} (λ (s : Slot). cond (left_out o (given_in b s)) None (Some (name, given_in b s))) found
         ≡ cond (left_out o (option_map_or (given_in b) found val.Nothing)) None (Some (name, option_map_or (given_in b) found val.Nothing))
     go None = rw (nothing-left o) refl
     go (Some s) = refl
@@ -95,11 +95,12 @@ below-after : (b : Board) (o : Owner) (n : ℕ) (name : List ℕ) (names : List 
 below-after b o n name [] after = tt
 below-after b o n name (other ∷ names) after =
     subst (λ (p : Option Given). Below name (cons_option p (props_under b (left_out o) names n))) (sym (prop-by b o n other))
-    (go (left_out o (given_at b n other)))
+    (go (left_out o (given_at b n other)) (below-after b o n name names after.1))
   where
-    go : (t : Bool) → Below name (cons_option (cond t None (Some (other, given_at b n other))) (props_under b (left_out o) names n))
-    go true = below-after b o n name names after.1
-    go false = (after.0, below-after b o n name names after.1)
+    go : (t : Bool) → Below name (props_under b (left_out o) names n)
+        → Below name (cons_option (cond t None (Some (other, given_at b n other))) (props_under b (left_out o) names n))
+    go true rest = rest
+    go false rest = (after.0, rest)
 
 filtered : {X Y : Type 0} (f : X → Option Y) (xs : List X) (x : X) → filter_map f (xs ++ x ∷ []) ≡ filter_map f xs ++ filter_map f (x ∷ [])
 filtered f [] x = refl

@@ -100,7 +100,8 @@ pub fn describe<L: Ledger>(
     if pending {
         return Ok(None);
     }
-    if !is_plain(heap, alloc, steps)? {
+    let plain = is_plain(heap, alloc, steps)?;
+    if !plain {
         return Ok(None);
     }
     let told = description(heap, rings, alloc, steps)?;

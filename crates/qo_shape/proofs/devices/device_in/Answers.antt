@@ -6,12 +6,11 @@ use Rattle.serde_json.specs.Data.{Data}
 use Rattle.serde_json.specs.Find.{as_str}
 use Rattle.qo_json.proofs.MemberLemmas.{Member}
 use Rattle.qo_json.specs.View.{view}
-use Rattle.qo_model.specs.Objects.{Given}
 use Rattle.qo_save.specs.Shape as shape
 use Rattle.qo_save.specs.Shape.{also, props_in, whole_in}
 use Rattle.qo_shape.specs.Said.{device_said}
 use Rattle.qo_shape.proofs.ItemLemmas.{five-fifth, five-first, five-fourth, five-second, five-third}
-use Rattle.qo_shape.proofs.ReadLemmas.{ordered-at, reads-err, five-are, values}
+use Rattle.qo_shape.proofs.ReadLemmas.{Given, ordered-at, reads-err, five-are, values}
 use Rattle.qo_shape.proofs.devices.device_in.Goals as goal
 
 pub returns-in_err-members : goal.returns-in_err-members

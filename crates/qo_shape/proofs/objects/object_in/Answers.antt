@@ -6,12 +6,11 @@ use Rattle.serde_json.specs.Data.{Data}
 use Rattle.serde_json.specs.Find.{as_str}
 use Rattle.qo_json.proofs.MemberLemmas.{Member}
 use Rattle.qo_json.specs.View.{view}
-use Rattle.qo_model.specs.Objects.{Given}
 use Rattle.qo_save.specs.Shape as shape
 use Rattle.qo_save.specs.Shape.{also, props_in}
 use Rattle.qo_shape.specs.Said.{object_said}
 use Rattle.qo_shape.proofs.ItemLemmas.{three-first, three-second, three-third}
-use Rattle.qo_shape.proofs.ReadLemmas.{ordered-at, reads-err, three-are, values}
+use Rattle.qo_shape.proofs.ReadLemmas.{Given, ordered-at, reads-err, three-are, values}
 use Rattle.qo_shape.proofs.objects.object_in.Goals as goal
 
 pub returns-in_err-members : goal.returns-in_err-members
