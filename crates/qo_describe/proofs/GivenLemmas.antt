@@ -169,10 +169,10 @@ mapped-at f [] i x is = absurd (none-some is)
 mapped-at f (y ∷ xs) zero x is = ap (λ z. Some (f z)) (some-is is)
 mapped-at f (y ∷ xs) (suc i) x is = mapped-at f xs i x is
 
-pub name-at : (o : Owner) (names : List PropertyName) (i : ℕ) (name : PropertyName) → i < length names → map property_name names ≡ given_names o
-    → name ≡ get_or names i name → slice_get (given_names o) i ≡ Some (property_name name)
-name-at o names i name within same is =
-    ap (λ (l : List (List ℕ)). slice_get l i) (sym same) ∙ mapped-at property_name names i name (at-place names i name within ∙ ap Some (sym is))
+pub name-at : (o : Owner) (names : List PropertyName) (i : ℕ) (d : PropertyName) → i < length names → map property_name names ≡ given_names o
+    → slice_get (given_names o) i ≡ Some (property_name (get_or names i d))
+name-at o names i d within same =
+    ap (λ (l : List (List ℕ)). slice_get l i) (sym same) ∙ mapped-at property_name names i (get_or names i d) (at-place names i d within)
 
 pub props-all : (b : Board) (o : Owner) (n : ℕ) (names : List PropertyName) (i : ℕ) → length names ≤ i → map property_name names ≡ given_names o
     → props_members (props_under b (left_out o) (take i (given_names o)) n) ≡ props_members (props_under b (left_out o) (given_names o) n)

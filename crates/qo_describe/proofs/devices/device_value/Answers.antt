@@ -13,7 +13,7 @@ returns g c = λ b s.
     (λ v is. device-by b c.args.heap.now s (c.args.id.now, c.args.dev.birth) c.kind.result (view v) c.kind.ensures.kind (is
     ∙ ap (λ (bus : List ℕ).
     named device_names (string bus ∷ string c.name-driver.result.now ∷ string c.args.id.now ∷ view c.in_ok-props.props ∷ whole c.slot_of-slot.result ∷ []))
-    (c.as_str.ensures ∙ c.in_ok-bus.ensures b s)
+    (c.as_str.ensures.value ∙ c.in_ok-bus.ensures b s)
     ∙ ap (λ (driver : List ℕ). named device_names
     (string _ ∷ string driver ∷ string c.args.id.now ∷ view c.in_ok-props.props ∷ whole c.slot_of-slot.result ∷ [])) c.name-driver.ensures
     ∙ ap (λ (props : Data). named device_names (string _ ∷ string _ ∷ string c.args.id.now ∷ props ∷ whole c.slot_of-slot.result ∷ []))

@@ -10,6 +10,6 @@ returns g c = λ b s.
     IfOk-weaker c.link_json.result _ _
     (λ v is. is
     ∙ ap (λ (path : List ℕ). named link_names (string path ∷ string c.args.name.now ∷ string c.as_str-2.result.now ∷ []))
-    (c.as_str.ensures ∙ c.in_ok-path.ensures b s)
-    ∙ ap (λ (value : List ℕ). named link_names (string _ ∷ string c.args.name.now ∷ string value ∷ [])) (c.as_str-2.ensures ∙ c.in_ok-value.ensures b s))
+    (c.as_str.ensures.value ∙ c.in_ok-path.ensures b s)
+    ∙ ap (λ (value : List ℕ). named link_names (string _ ∷ string c.args.name.now ∷ string value ∷ [])) (c.as_str-2.ensures.value ∙ c.in_ok-value.ensures b s))
     c.link_json.ensures
