@@ -20,10 +20,10 @@ taken-more : {A : Type 0} (xs : List A) (i : ℕ) (x : A) → i < length xs → 
 taken-more xs i x low is = take_more xs i x low ∙ ap (λ y. take i xs ++ y ∷ []) (sym is)
 
 ok-is : (b c : Board) → all_done [] b ≡ Ok c → b ≡ c
-ok-is b c is = cc
+ok-is b c is = let same : Ok b ≡ Ok c = is in cc
 
 ok-err : (b : Board) (code : Code) → all_done [] b ≡ Err code → ⊥
-ok-err b code is = cc
+ok-err b code is = let clash : Ok b ≡ Err code = is in cc
 
 -- further steps on what the first ones made
 pub done-on : (xs ys : List Step) (b c : Board) → all_done xs b ≡ Ok c → all_done (xs ++ ys) b ≡ all_done ys c

@@ -90,9 +90,11 @@ pub(crate) fn with_slot(slot: u64, props: &PropList, alloc: Global) -> Result<Pr
 {
     let given = props.as_slice();
     let place = slot_place(given);
+    let (before, after) = given.split_at(place);
     let mut all = PropList::new(alloc);
-    put_copies(&mut all, &given[..place], alloc)?;
+    put_copies(&mut all, before, alloc)?;
     put_slot(&mut all, slot, alloc)?;
-    put_copies(&mut all, behind_slot(&given[place..]), alloc)?;
+    let behind = behind_slot(after);
+    put_copies(&mut all, behind, alloc)?;
     Ok(all)
 }
