@@ -6,6 +6,7 @@ use Rattle.serde_json.specs.Data.{Data}
 use Rattle.serde_json.specs.Find.{as_str}
 use Rattle.qo_json.proofs.MemberLemmas.{Member}
 use Rattle.qo_json.specs.View.{view}
+use Rattle.qo_save.specs.Description.{object_names}
 use Rattle.qo_save.specs.Shape as shape
 use Rattle.qo_save.specs.Shape.{also, props_in}
 use Rattle.qo_shape.specs.Said.{object_said}
@@ -63,7 +64,7 @@ returns-in_err-kind c =
 
 pub props_in-requires : goal.props_in-requires
 props_in-requires c =
-    ordered-at _ (view c.args.value.now) (values c.in_ok-members.members.now) 1 (view c.value_at-props.result.now) c.requires c.in_ok-members.ensures.values
+    ordered-at object_names (view c.args.value.now) (values c.in_ok-members.members.now) 1 (view c.value_at-props.result.now) c.requires c.in_ok-members.ensures.values
     c.value_at-props.ensures
 
 pub returns : goal.returns
