@@ -61,7 +61,7 @@ prop-by : (b : Board) (o : Owner) (n : ℕ) (name : List ℕ)
 prop-by b o n name = go (slot_named b n name)
   where
     go : (found : Option Slot)
-        → option_and_then (λ (s : Slot). cond (left_out o (given_in b s)) None (Some (name, given_in b s))) found
+        → option_and_then {U = Given} (λ (s : Slot). cond (left_out o (given_in b s)) None (Some (name, given_in b s))) found
         ≡ cond (left_out o (option_map_or (given_in b) found val.Nothing)) None (Some (name, option_map_or (given_in b) found val.Nothing))
     go None = rw (nothing-left o) refl
     go (Some s) = refl
@@ -95,11 +95,12 @@ below-after : (b : Board) (o : Owner) (n : ℕ) (name : List ℕ) (names : List 
 below-after b o n name [] after = tt
 below-after b o n name (other ∷ names) after =
     subst (λ (p : Option Given). Below name (cons_option p (props_under b (left_out o) names n))) (sym (prop-by b o n other))
-    (go (left_out o (given_at b n other)))
+    (go (left_out o (given_at b n other)) (below-after b o n name names after.1))
   where
-    go : (t : Bool) → Below name (cons_option (cond t None (Some (other, given_at b n other))) (props_under b (left_out o) names n))
-    go true = below-after b o n name names after.1
-    go false = (after.0, below-after b o n name names after.1)
+    go : (t : Bool) → Below name (props_under b (left_out o) names n)
+        → Below name (cons_option (cond t None (Some (other, given_at b n other))) (props_under b (left_out o) names n))
+    go true rest = rest
+    go false rest = (after.0, rest)
 
 filtered : {X Y : Type 0} (f : X → Option Y) (xs : List X) (x : X) → filter_map f (xs ++ x ∷ []) ≡ filter_map f xs ++ filter_map f (x ∷ [])
 filtered f [] x = refl
@@ -168,10 +169,10 @@ mapped-at f [] i x is = absurd (none-some is)
 mapped-at f (y ∷ xs) zero x is = ap (λ z. Some (f z)) (some-is is)
 mapped-at f (y ∷ xs) (suc i) x is = mapped-at f xs i x is
 
-pub name-at : (o : Owner) (names : List PropertyName) (i : ℕ) (name : PropertyName) → i < length names → map property_name names ≡ given_names o
-    → name ≡ get_or names i name → slice_get (given_names o) i ≡ Some (property_name name)
-name-at o names i name within same is =
-    ap (λ (l : List (List ℕ)). slice_get l i) (sym same) ∙ mapped-at property_name names i name (at-place names i name within ∙ ap Some (sym is))
+pub name-at : (o : Owner) (names : List PropertyName) (i : ℕ) (d : PropertyName) → i < length names → map property_name names ≡ given_names o
+    → slice_get (given_names o) i ≡ Some (property_name (get_or names i d))
+name-at o names i d within same =
+    ap (λ (l : List (List ℕ)). slice_get l i) (sym same) ∙ mapped-at property_name names i (get_or names i d) (at-place names i d within)
 
 pub props-all : (b : Board) (o : Owner) (n : ℕ) (names : List PropertyName) (i : ℕ) → length names ≤ i → map property_name names ≡ given_names o
     → props_members (props_under b (left_out o) (take i (given_names o)) n) ≡ props_members (props_under b (left_out o) (given_names o) n)

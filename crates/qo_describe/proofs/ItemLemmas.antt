@@ -1,6 +1,7 @@
 -- What is told of clocks, devices, users' objects and links, one after another.
 use Rattle.std.proofs.Common.{◌≡◌, ℕ, zero, suc, ◌+◌, ◌==◌, ◌&&◌, Bool, true, false, cond, List, [], ◌∷◌, ◌++◌, codes, length, map, take, refl, sym, ap, ◌∙◌, arith}
 use Rattle.std.proofs.Common.{Option, None, Some, is_some, option_map, unwrap_or}
+use Rattle.std.proofs.Math.Dec.{eqb-suc-zero}
 use Rattle.std.proofs.lemmas.List.{length-map, map-append}
 use Rattle.std.specs.Prelude.{filter_map, find, flat_map, option_and_then, slice_get}
 use Rattle.std.specs.List.{cons_option}
@@ -127,7 +128,7 @@ objects-all b es = each-given object_data (object_item b) es
 
 mapped : {X Y Z : Type 0} (g : Y → Z) (f : X → List Y) (xs : List X) → flat_map (λ (x : X). map g (f x)) xs ≡ map g (flat_map f xs)
 mapped g f [] = refl
-mapped g f (x ∷ xs) = ap (λ l. map g (f x) ++ l) (mapped g f xs) ∙ sym (map-append (f x) (flat_map f xs) g)
+mapped g f (x ∷ xs) = ap (λ l. map g (f x) ++ l) (mapped g f xs) ∙ sym (map-append g (f x) (flat_map f xs))
 
 pub links-all : (b : board.Board) (es : List Entry) → flat_map (entry_told Links b) es ≡ map link_data (flat_map (link_items b) es)
 links-all b es = mapped link_data (link_items b) es
@@ -153,12 +154,12 @@ found-one (s ∷ slots) zero e is = go (child_entry s) is
   where
     go : (o : Option Entry) → Some e ≡ o → (length (cons_option o (filter_map child_entry slots)) == 0) ≡ false
     go None clash = absurd (let no : Some e ≡ None = clash in cc)
-    go (Some x) same = refl
+    go (Some x) same = eqb-suc-zero (length (filter_map child_entry slots))
 found-one (s ∷ slots) (suc i) e is = go (child_entry s) (found-one slots i e is)
   where
     go : (o : Option Entry) → (length (filter_map child_entry slots) == 0) ≡ false → (length (cons_option o (filter_map child_entry slots)) == 0) ≡ false
     go None rest = rest
-    go (Some x) rest = refl
+    go (Some x) rest = eqb-suc-zero (length (filter_map child_entry slots))
 
 pub child-there : (b : board.Board) (n i : ℕ) (found : Option Entry) → is_some found ≡ true
     → found ≡ option_and_then child_entry (slice_get (board.slots_at b n) i)
@@ -180,8 +181,9 @@ none-more i [] none is = go (i + 1)
 none-more zero (s ∷ slots) none is = ap (λ (o : Option Entry). cons_option o []) (sym is)
 none-more (suc i) (s ∷ slots) none is =
     let one : suc i + 1 ≡ suc (i + 1) = omega arith in
-    ap (λ k. filter_map child_entry (take k (s ∷ slots))) one ∙ go (child_entry s) none
+    ap (λ k. filter_map child_entry (take k (s ∷ slots))) one ∙ go (child_entry s) (λ rest. none-more i slots rest is) none
   where
-    go : (o : Option Entry) → cons_option o (filter_map child_entry (take i slots)) ≡ [] → cons_option o (filter_map child_entry (take (i + 1) slots)) ≡ []
-    go None rest = none-more i slots rest is
-    go (Some x) clash = absurd (let no : x ∷ filter_map child_entry (take i slots) ≡ [] = clash in cc)
+    go : (o : Option Entry) → (filter_map child_entry (take i slots) ≡ [] → filter_map child_entry (take (i + 1) slots) ≡ [])
+        → cons_option o (filter_map child_entry (take i slots)) ≡ [] → cons_option o (filter_map child_entry (take (i + 1) slots)) ≡ []
+    go None more rest = more rest
+    go (Some x) more clash = absurd (let no : x ∷ filter_map child_entry (take i slots) ≡ [] = clash in cc)

@@ -11,6 +11,7 @@ use Rattle.qo_save.specs.Description.{clock_data, description_data, description_
 use Rattle.qo_describe.specs.Beside.{pair_data}
 use Rattle.qo_describe.specs.Told.{entry_told}
 use Rattle.qo_describe.specs.declared.parts.Part.TheVariants.{Clocks, Devices, Links, Objects}
+use Rattle.qo_describe.proofs.WalkLemmas.{same-six}
 use Rattle.qo_describe.proofs.ItemLemmas.{clocks-all, devices-all, links-all, objects-all}
 
 abbrev Entry : Type 0
@@ -39,14 +40,7 @@ pub whole-said : (b : Board) (pairs : List (List ℕ × ℕ)) (clock clocks devi
     → rings ≡ list (map pair_data pairs) → map (λ (r : Ring). (r.id, r.size)) b.rings ≡ pairs
     → named description_names (clock ∷ clocks ∷ devices ∷ links ∷ objects ∷ rings ∷ whole 1 ∷ []) ≡ description_data (description b)
 whole-said b pairs clock clocks devices links objects rings is-clock are-clocks are-devices are-links are-objects are-rings same =
-    ap (λ (d : Data). named description_names (d ∷ clocks ∷ devices ∷ links ∷ objects ∷ rings ∷ whole 1 ∷ [])) is-clock
-    ∙ ap (λ (d : Data). named description_names (clock_data (clock_numbers b) ∷ d ∷ devices ∷ links ∷ objects ∷ rings ∷ whole 1 ∷ []))
-    (are-clocks ∙ ap list (clocks-all b (devices_of b)))
-    ∙ ap (λ (d : Data). named description_names (clock_data (clock_numbers b) ∷ _ ∷ d ∷ links ∷ objects ∷ rings ∷ whole 1 ∷ []))
-    (are-devices ∙ ap list (devices-all b (devices_of b)))
-    ∙ ap (λ (d : Data). named description_names (clock_data (clock_numbers b) ∷ _ ∷ _ ∷ d ∷ objects ∷ rings ∷ whole 1 ∷ []))
-    (are-links ∙ ap list (links-all b (objects_of b ++ devices_of b)))
-    ∙ ap (λ (d : Data). named description_names (clock_data (clock_numbers b) ∷ _ ∷ _ ∷ _ ∷ d ∷ rings ∷ whole 1 ∷ []))
-    (are-objects ∙ ap list (objects-all b (objects_of b)))
-    ∙ ap (λ (d : Data). named description_names (clock_data (clock_numbers b) ∷ _ ∷ _ ∷ _ ∷ _ ∷ d ∷ whole 1 ∷ []))
+    same-six (λ (c cs ds ls os rs : Data). named description_names (c ∷ cs ∷ ds ∷ ls ∷ os ∷ rs ∷ whole 1 ∷ [])) _ _ _ _ _ _ _ _ _ _ _ _ is-clock
+    (are-clocks ∙ ap list (clocks-all b (devices_of b))) (are-devices ∙ ap list (devices-all b (devices_of b)))
+    (are-links ∙ ap list (links-all b (objects_of b ++ devices_of b))) (are-objects ∙ ap list (objects-all b (objects_of b)))
     (are-rings ∙ ap (λ (l : List (List ℕ × ℕ)). list (map pair_data l)) (sym same) ∙ ap list (pairs-said b.rings))

@@ -31,7 +31,7 @@ use Rattle.qo_describe.specs.Told.{link_entry}
 
 -- a value at the end
 pub pushed : (old new : List Value) (v : Value) (d : Data) → new ≡ old ++ v ∷ [] → view v ≡ d → map view new ≡ map view old ++ d ∷ []
-pushed old new v d is told = ap (map view) is ∙ map-append old (v ∷ []) view ∙ ap (λ (x : Data). map view old ++ x ∷ []) told
+pushed old new v d is told = ap (map view) is ∙ map-append view old (v ∷ []) ∙ ap (λ (x : Data). map view old ++ x ∷ []) told
 
 -- whether something is there
 pub is-there : {X Y : Type 0} (f : X → Y) (o : Option X) → is_some (option_map f o) ≡ is_some o
@@ -78,25 +78,25 @@ named-is what ty strong (Some key) is = ap target_of is
 pub no-target : (b : board.Board) (n : ℕ) (name : List ℕ) (s : board.Slot) → None ≡ target_if s → link_entry b n (name, s) ≡ None
 no-target b n name s none = go (is_link s) (is_set b n name) (board.target_of s) none
   where
-    go : (t set : Bool) (target : Option ℕ) → None ≡ cond t target None → cond (t && set) (option_map (λ (m : ℕ). (name, m)) target) None ≡ None
-    go true true target is = ap (option_map (λ (m : ℕ). (name, m))) (sym is)
+    go : (t set : Bool) (target : Option ℕ) → None ≡ cond t target None → cond (t && set) (option_map {U = List ℕ × ℕ} (λ (m : ℕ). (name, m)) target) None ≡ None
+    go true true target is = ap (option_map {U = List ℕ × ℕ} (λ (m : ℕ). (name, m))) (sym is)
     go true false target is = refl
     go false set target is = refl
 
 pub not-set : (b : board.Board) (n : ℕ) (name : List ℕ) (s : board.Slot) → is_set b n name ≡ false → link_entry b n (name, s) ≡ None
-not-set b n name s unset = ap (λ (set : Bool). cond (is_link s && set) (option_map (λ (m : ℕ). (name, m)) (board.target_of s)) None) unset ∙ go (is_link s)
+not-set b n name s unset = ap (λ (set : Bool). cond (is_link s && set) (option_map {U = List ℕ × ℕ} (λ (m : ℕ). (name, m)) (board.target_of s)) None) unset ∙ go (is_link s)
   where
-    go : (t : Bool) → cond (t && false) (option_map (λ (m : ℕ). (name, m)) (board.target_of s)) None ≡ None
+    go : (t : Bool) → cond (t && false) (option_map {U = List ℕ × ℕ} (λ (m : ℕ). (name, m)) (board.target_of s)) None ≡ None
     go true = refl
     go false = refl
 
 pub its-link : (b : board.Board) (n : ℕ) (name : List ℕ) (s : board.Slot) (m : ℕ) → Some m ≡ target_if s → is_set b n name ≡ true
     → link_entry b n (name, s) ≡ Some (name, m)
-its-link b n name s m is set = ap (λ (t : Bool). cond (is_link s && t) (option_map (λ (k : ℕ). (name, k)) (board.target_of s)) None) set
+its-link b n name s m is set = ap (λ (t : Bool). cond (is_link s && t) (option_map {U = List ℕ × ℕ} (λ (k : ℕ). (name, k)) (board.target_of s)) None) set
     ∙ go (is_link s) (board.target_of s) is
   where
-    go : (t : Bool) (target : Option ℕ) → Some m ≡ cond t target None → cond (t && true) (option_map (λ (k : ℕ). (name, k)) target) None ≡ Some (name, m)
-    go true target so = ap (option_map (λ (k : ℕ). (name, k))) (sym so)
+    go : (t : Bool) (target : Option ℕ) → Some m ≡ cond t target None → cond (t && true) (option_map {U = List ℕ × ℕ} (λ (k : ℕ). (name, k)) target) None ≡ Some (name, m)
+    go true target so = ap (option_map {U = List ℕ × ℕ} (λ (k : ℕ). (name, k))) (sym so)
     go false target so = absurd (let clash : Some m ≡ None = so in cc)
 
 -- whether it is written, by the type of the object

@@ -70,3 +70,16 @@ then-ok (Err e) p then = tt
 pub ok-as : {T E X : Type 0} (f : T → X) (r : Result T E) (d e : X) → d ≡ e → IfOk r (λ v. f v ≡ d) → IfOk r (λ v. f v ≡ e)
 ok-as f (Ok v) d e same is = is ∙ same
 ok-as f (Err x) d e same is = tt
+
+-- what is made of equals is equal
+pub same-two : {A B C : Type 0} (f : A → B → C) (a x : A) (b y : B) → a ≡ x → b ≡ y → f a b ≡ f x y
+same-two {A} {B} f a x b y p q = ap (λ (z : A). f z b) p ∙ ap (λ (z : B). f x z) q
+
+pub same-four : {A B C D E : Type 0} (f : A → B → C → D → E) (a k : A) (b l : B) (c m : C) (d n : D) → a ≡ k → b ≡ l → c ≡ m → d ≡ n → f a b c d ≡ f k l m n
+same-four {A} {B} {C} {D} {E} f a k b l c m d n p q r s =
+    same-two (λ (z : A) (w : B). f z w c d) a k b l p q ∙ same-two (λ (z : C) (w : D). f k l z w) c m d n r s
+
+pub same-six : {A B : Type 0} (f : A → A → A → A → A → A → B) (a k b l c m d n e o g h : A) → a ≡ k → b ≡ l → c ≡ m → d ≡ n → e ≡ o → g ≡ h
+    → f a b c d e g ≡ f k l m n o h
+same-six {A} f a k b l c m d n e o g h p q r s t u =
+    same-four (λ (z w x y : A). f z w x y e g) a k b l c m d n p q r s ∙ same-two (λ (z w : A). f k l m n z w) e o g h t u

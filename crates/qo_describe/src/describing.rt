@@ -81,7 +81,7 @@ fn is_plain<L: Ledger>(heap: &Heap, alloc: Global, steps: &mut Steps<L>) -> Resu
         return Ok(false);
     }
     let list = detached_list(heap, alloc, steps)?;
-    Ok(list.is_empty())
+    Ok(list.as_slice().is_empty())
 }
 
 /// The description of a board with these objects, these rings, each an id and a size, and with pending
@@ -100,7 +100,8 @@ pub fn describe<L: Ledger>(
     if pending {
         return Ok(None);
     }
-    if !is_plain(heap, alloc, steps)? {
+    let plain = is_plain(heap, alloc, steps)?;
+    if !plain {
         return Ok(None);
     }
     let told = description(heap, rings, alloc, steps)?;

@@ -164,7 +164,8 @@ pub(crate) fn props_value<L: Ledger>(
     ensures { (b : Board) → Shows b heap.now → IfOk result (λ v. view v ≡ object (props_members (props_under b (left_out owner) (given_names owner) o.birth))) }
 {
     let mut members = Map::new(alloc);
-    for name in owner.names() {
+    let names = owner.names();
+    for name in names {
         put_given(heap, o, owner, *name, &mut members, alloc, steps)?;
     }
     Ok(Value::Object(members))

@@ -24,11 +24,11 @@ refused-rebuilds p e r given is was = subst (λ (x : Result Parts SaveError). Re
     go (refusal.Refused code) so = ap Some so
     go refusal.Memory so = tt
 
-pub unread-rebuilds : (e : ShapeError) (r : Result Parts SaveError) (o : Option Description) → r ≡ Err (unread_as e) → Reads {Read} said (Err e) o
+pub unread-rebuilds : (e : ShapeError) (r : Result Parts SaveError) (o : Option Description) → r ≡ Err (unread_as e) → Reads {X = Read} said (Err e) o
     → Rebuilds (option_map rebuilt o) r
 unread-rebuilds e r o is was = subst (λ (x : Result Parts SaveError). Rebuilds (option_map rebuilt o) x) (sym is) (go e was)
   where
-    go : (w : ShapeError) → Reads {Read} said (Err w) o → Rebuilds (option_map rebuilt o) (Err (unread_as w))
+    go : (w : ShapeError) → Reads {X = Read} said (Err w) o → Rebuilds (option_map rebuilt o) (Err (unread_as w))
     go shape.Shape so = ap (option_map rebuilt) so
     go shape.Memory so = tt
 

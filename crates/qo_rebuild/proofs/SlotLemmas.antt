@@ -96,11 +96,11 @@ name_of p = p.0
 pub before-rise : (props : List Given) → NamesRise (names_of props) → NamesRise (names_of (front props))
 before-rise props rise =
     front-rises (names_of (front props)) (names_of (drop (place props) props))
-    (subst NamesRise (sym (ap names_of (take-append-drop (place props) props)) ∙ map-append (front props) (drop (place props) props) name_of) rise)
+    (subst NamesRise (sym (ap names_of (take-append-drop (place props) props)) ∙ map-append name_of (front props) (drop (place props) props)) rise)
 
 whole-rise : (slot : ℕ) (props : List Given) → NamesRise (names_of props) → NamesRise (names_of (front props) ++ codes "slot" ∷ names_of (back props))
 whole-rise slot props rise =
-    subst NamesRise (ap names_of (split slot props) ∙ map-append (front props) (its_slot slot ∷ back props) name_of) (with-rises slot props rise)
+    subst NamesRise (ap names_of (split slot props) ∙ map-append name_of (front props) (its_slot slot ∷ back props)) (with-rises slot props rise)
 
 -- its name comes after theirs, and those behind it after these
 pub slot-above : (slot : ℕ) (props : List Given) → NamesRise (names_of props) → is_above (names_of (front props)) (codes "slot") ≡ true
@@ -118,7 +118,7 @@ pub next-above : (props all : List Given) (p : Given) (rest left : List Given) �
     → is_above (names_of props) p.0 ≡ true
 next-above props all p rest left here so rise =
     above_those_before (names_of props) (names_of rest) p.0
-    (subst NamesRise (ap names_of (sym so ∙ ap (λ (l : List Given). props ++ l) here) ∙ map-append props (p ∷ rest) name_of) rise)
+    (subst NamesRise (ap names_of (sym so ∙ ap (λ (l : List Given). props ++ l) here) ∙ map-append name_of props (p ∷ rest)) rise)
 
 pub next-put : (props all next : List Given) (p : Given) (rest left : List Given) → left ≡ p ∷ rest → props ++ left ≡ all → next ≡ props ++ p ∷ []
     → next ++ rest ≡ all

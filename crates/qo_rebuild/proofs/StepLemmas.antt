@@ -19,25 +19,33 @@ Answer = Result (Unit {0}) Refusal
 taken-more : {A : Type 0} (xs : List A) (i : ℕ) (x : A) → i < length xs → x ≡ get_or xs i x → take (i + 1) xs ≡ take i xs ++ x ∷ []
 taken-more xs i x low is = take_more xs i x low ∙ ap (λ y. take i xs ++ y ∷ []) (sym is)
 
+ok-is : (b c : Board) → all_done [] b ≡ Ok c → b ≡ c
+ok-is b c is = let same : Ok b ≡ Ok c = is in cc
+
+ok-err : (b : Board) (code : Code) → all_done [] b ≡ Err code → ⊥
+ok-err b code is = let clash : Ok b ≡ Err code = is in cc
+
 -- further steps on what the first ones made
 pub done-on : (xs ys : List Step) (b c : Board) → all_done xs b ≡ Ok c → all_done (xs ++ ys) b ≡ all_done ys c
-done-on [] ys b c is = ap (all_done ys) (let same : Ok {Board} {Code} b ≡ Ok c = is in cc)
-done-on (x ∷ xs) ys b c is = go (x b) is
+done-on [] ys b c is = ap (all_done ys) (ok-is b c is)
+done-on (x ∷ xs) ys b c is = go (x b) (λ d so. done-on xs ys d c so) is
   where
-    go : (r : Result Board Code) → elim r as (λ _. Result Board Code) [ Ok d ↦ all_done xs d | Err code ↦ Err code ] ≡ Ok c
+    go : (r : Result Board Code) → ((d : Board) → all_done xs d ≡ Ok c → all_done (xs ++ ys) d ≡ all_done ys c)
+        → elim r as (λ _. Result Board Code) [ Ok d ↦ all_done xs d | Err code ↦ Err code ] ≡ Ok c
         → elim r as (λ _. Result Board Code) [ Ok d ↦ all_done (xs ++ ys) d | Err code ↦ Err code ] ≡ all_done ys c
-    go (Ok d) so = done-on xs ys d c so
-    go (Err code) clash = absurd (let no : Err code ≡ Ok c = clash in cc)
+    go (Ok d) rest so = rest d so
+    go (Err code) rest clash = absurd (let no : Err code ≡ Ok c = clash in cc)
 
 -- and none where one of the first ones is refused
 pub done-stops : (xs ys : List Step) (b : Board) (code : Code) → all_done xs b ≡ Err code → all_done (xs ++ ys) b ≡ Err code
-done-stops [] ys b code is = absurd (let no : Ok {Board} {Code} b ≡ Err code = is in cc)
-done-stops (x ∷ xs) ys b code is = go (x b) is
+done-stops [] ys b code is = absurd (ok-err b code is)
+done-stops (x ∷ xs) ys b code is = go (x b) (λ d so. done-stops xs ys d code so) is
   where
-    go : (r : Result Board Code) → elim r as (λ _. Result Board Code) [ Ok d ↦ all_done xs d | Err why ↦ Err why ] ≡ Err code
+    go : (r : Result Board Code) → ((d : Board) → all_done xs d ≡ Err code → all_done (xs ++ ys) d ≡ Err code)
+        → elim r as (λ _. Result Board Code) [ Ok d ↦ all_done xs d | Err why ↦ Err why ] ≡ Err code
         → elim r as (λ _. Result Board Code) [ Ok d ↦ all_done (xs ++ ys) d | Err why ↦ Err why ] ≡ Err code
-    go (Ok d) so = done-stops xs ys d code so
-    go (Err why) so = so
+    go (Ok d) rest so = rest d so
+    go (Err why) rest so = so
 
 -- a step alone
 pub one-done : (x : Step) (b : Board) → all_done (x ∷ []) b ≡ x b
@@ -119,7 +127,7 @@ module _ {A B : Type 0} (step : B → Step) (said : A → B) where
       → map step (map said (take (i + 1) xs)) ≡ map step (map said (take i xs)) ++ step (said x) ∷ []
   each-next xs i x low is =
       ap (λ (l : List A). map step (map said l)) (taken-more xs i x low is)
-      ∙ ap (map step) (map-append (take i xs) (x ∷ []) said) ∙ map-append (map said (take i xs)) (said x ∷ []) step
+      ∙ ap (map step) (map-append said (take i xs) (x ∷ [])) ∙ map-append step (map said (take i xs)) (said x ∷ [])
 
   pub list-next : (xs : List A) (i : ℕ) (x : A) → i < length xs → x ≡ get_or xs i x → (b : Board) (p q : Parts)
       → Went (map step (map said (take i xs))) b p → ((c : Board) → Stands c p → Writes q (Ok tt) (step (said x) c))
@@ -142,8 +150,8 @@ module _ {A B : Type 0} (step : B → Step) (said : A → B) where
           → map step (map said xs) ≡ (map step (map said (take k xs)) ++ step (said x) ∷ []) ++ map step (map said (drop (k + 1) xs))
       whole k less same =
           ap (λ (l : List A). map step (map said l)) (sym (take-append-drop (k + 1) xs))
-          ∙ ap (map step) (map-append (take (k + 1) xs) (drop (k + 1) xs) said)
-          ∙ map-append (map said (take (k + 1) xs)) (map said (drop (k + 1) xs)) step
+          ∙ ap (map step) (map-append said (take (k + 1) xs) (drop (k + 1) xs))
+          ∙ map-append step (map said (take (k + 1) xs)) (map said (drop (k + 1) xs))
           ∙ ap (λ (l : List Step). l ++ map step (map said (drop (k + 1) xs))) (each-next xs k x less same)
 
   pub list-all : (xs : List A) (i : ℕ) → length xs ≤ i → (b : Board) (p : Parts) → Went (map step (map said (take i xs))) b p
@@ -156,7 +164,7 @@ module _ {A B : Type 0} (steps : B → List Step) (said : A → B) where
       → flat_map steps (map said (take (i + 1) xs)) ≡ flat_map steps (map said (take i xs)) ++ steps (said x)
   many-next xs i x low is =
       ap (λ (l : List A). flat_map steps (map said l)) (taken-more xs i x low is)
-      ∙ ap (flat_map steps) (map-append (take i xs) (x ∷ []) said) ∙ flat_map-append steps (map said (take i xs)) (said x ∷ [])
+      ∙ ap (flat_map steps) (map-append said (take i xs) (x ∷ [])) ∙ flat_map-append steps (map said (take i xs)) (said x ∷ [])
       ∙ ap (λ (l : List Step). flat_map steps (map said (take i xs)) ++ l) (append-nil (steps (said x)))
 
   pub flat-next : (xs : List A) (i : ℕ) (x : A) → i < length xs → x ≡ get_or xs i x → (b : Board) (p q : Parts)
@@ -176,7 +184,7 @@ module _ {A B : Type 0} (steps : B → List Step) (said : A → B) where
           → flat_map steps (map said xs) ≡ (flat_map steps (map said (take k xs)) ++ steps (said x)) ++ flat_map steps (map said (drop (k + 1) xs))
       whole k less same =
           ap (λ (l : List A). flat_map steps (map said l)) (sym (take-append-drop (k + 1) xs))
-          ∙ ap (flat_map steps) (map-append (take (k + 1) xs) (drop (k + 1) xs) said)
+          ∙ ap (flat_map steps) (map-append said (take (k + 1) xs) (drop (k + 1) xs))
           ∙ flat_map-append steps (map said (take (k + 1) xs)) (map said (drop (k + 1) xs))
           ∙ ap (λ (l : List Step). l ++ flat_map steps (map said (drop (k + 1) xs))) (many-next xs k x less same)
 

@@ -1,7 +1,7 @@
 //! The properties of a device with its slot among them.
 
 ghost use Rattle.std.specs.Prelude.{◌≡◌, ◌++◌, [], ◌∷◌, codes, true, IfOk, OnOk};
-ghost use Rattle.std.specs.List.{position_or_len};
+ghost use Rattle.std.specs.List.{position, position_or_len};
 ghost use Rattle.qo_values.specs.PropertyLists.{NamesRise, is_above, names_of};
 ghost use Rattle.qo_values.specs.declared.properties.Val.TheVariants as val;
 ghost use Rattle.qo_save.specs.Rebuilding.{with_slot};
@@ -53,11 +53,18 @@ fn put_slot(props: &mut PropList, slot: u64, alloc: Global) -> Result<(), AllocE
     put(props, name, Val::Uint(slot))
 }
 
-/// Where the slot goes among properties in byte order: before the first whose name is no earlier.
+/// The place of the first property whose name is no earlier than that of the slot.
+fn first_from_slot(props: &[(Text, Val)]) -> Option<usize>
+    ensures { result ≡ position is_from_slot props.now }
+{
+    props.iter().position(|prop| "slot" <= prop.0.as_str())
+}
+
+/// Where the slot goes among properties in byte order: before that.
 fn slot_place(props: &[(Text, Val)]) -> usize
     ensures { result ≡ position_or_len is_from_slot props.now }
 {
-    match props.iter().position(|prop| "slot" <= prop.0.as_str()) {
+    match first_from_slot(props) {
         Some(place) => place,
         None => props.len(),
     }
@@ -83,9 +90,11 @@ pub(crate) fn with_slot(slot: u64, props: &PropList, alloc: Global) -> Result<Pr
 {
     let given = props.as_slice();
     let place = slot_place(given);
+    let (before, after) = given.split_at(place);
     let mut all = PropList::new(alloc);
-    put_copies(&mut all, &given[..place], alloc)?;
+    put_copies(&mut all, before, alloc)?;
     put_slot(&mut all, slot, alloc)?;
-    put_copies(&mut all, behind_slot(&given[place..]), alloc)?;
+    let behind = behind_slot(after);
+    put_copies(&mut all, behind, alloc)?;
     Ok(all)
 }

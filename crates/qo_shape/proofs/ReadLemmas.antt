@@ -1,5 +1,6 @@
 -- What is read where a part is none, and the values of members in their order.
-use Rattle.std.proofs.Common.{◌≡◌, ℕ, zero, suc, ◌+◌, ◌<◌, ◌≤◌, ◌==◌, Bool, true, false, cond, List, [], ◌∷◌, ◌++◌, length, map, refl, sym, ap, ◌∙◌, subst, append_assoc, append-nil, arith}
+use Rattle.std.proofs.Common.{◌≡◌, ℕ, zero, suc, ◌+◌, ◌<◌, ◌≤◌, ◌==◌, Bool, true, false, cond, List, [], ◌∷◌, ◌++◌, get_or, length, map, refl, sym, ap, ◌∙◌, subst, append_assoc, append-nil, arith}
+use Rattle.std.proofs.Math.Dec.{eqb-suc-zero}
 use Rattle.std.proofs.lemmas.List.{map-append}
 use Rattle.std.proofs.Common.{Option, None, Some, is_some, option_map, Result, Err}
 use Rattle.std.specs.Prelude.{option_and_then, slice_get}
@@ -28,7 +29,7 @@ pub reads-err : {X Y A B : Type 0} (said : X → Y) (own : A → B) (r : Result 
     → r ≡ Err e → Reads own (Err e) o → (o ≡ None → d ≡ None) → Reads said r d
 reads-err {X} {Y} {A} {B} said own r e o d is fails then = subst (λ (x : Result X ShapeError). Reads said x d) (sym is) (go e fails)
   where
-    go : (w : ShapeError) → Reads {A} {B} own (Err w) o → Reads {X} {Y} said (Err w) d
+    go : (w : ShapeError) → Reads own (Err w) o → Reads said (Err w) d
     go Shape none = then none
     go Memory t = tt
 
@@ -70,17 +71,18 @@ pub many-same : (names : List (List ℕ)) (ms : List Member) → is_some (values
 many-same [] [] is = refl
 many-same [] (m ∷ ms) is = absurd (let clash : false ≡ true = is in cc)
 many-same (name ∷ names) [] is = absurd (let clash : false ≡ true = is in cc)
-many-same (name ∷ names) (m ∷ ms) is = go (bytes_eq name m.0.now) is
+many-same (name ∷ names) (m ∷ ms) is = go (bytes_eq name m.0.now) (λ some. many-same names ms some) is
   where
-    go : (t : Bool) → is_some (cond t (option_map (λ (ds : List Data). view m.1 ∷ ds) (values_of names (members_view ms))) None) ≡ true
+    go : (t : Bool) → (is_some (values_of names (members_view ms)) ≡ true → length ms ≡ length names)
+        → is_some (cond t (option_map (λ (ds : List Data). view m.1 ∷ ds) (values_of names (members_view ms))) None) ≡ true
         → suc (length ms) ≡ suc (length names)
-    go true some = ap suc (many-same names ms (sym (some-map (λ (ds : List Data). view m.1 ∷ ds) (values_of names (members_view ms))) ∙ some))
-    go false clash = absurd (let no : false ≡ true = clash in cc)
+    go true rest some = ap suc (rest (sym (some-map (λ (ds : List Data). view m.1 ∷ ds) (values_of names (members_view ms))) ∙ some))
+    go false rest clash = absurd (let no : false ≡ true = clash in cc)
 
 -- where there is no member, and where there is no name
 pub no-members : (names : List (List ℕ)) (t : Bool) → t ≡ (length names == 0) → t ≡ is_some (values_of names (members_view []))
 no-members [] t is = is
-no-members (name ∷ names) t is = is
+no-members (name ∷ names) t is = is ∙ eqb-suc-zero (length names)
 
 pub none-left : (names : List (List ℕ)) (ms : List Member) (t : Bool) → length ms ≡ 0 → t ≡ (length names == 0) → t ≡ is_some (values_of names (members_view ms))
 none-left names [] t none is = no-members names t is
@@ -95,14 +97,15 @@ pub values-are : (names : List (List ℕ)) (ms : List Member) → is_some (value
 values-are [] [] is = refl
 values-are [] (m ∷ ms) is = absurd (let clash : false ≡ true = is in cc)
 values-are (name ∷ names) [] is = absurd (let clash : false ≡ true = is in cc)
-values-are (name ∷ names) (m ∷ ms) is = go (bytes_eq name m.0.now) is
+values-are (name ∷ names) (m ∷ ms) is = go (bytes_eq name m.0.now) (λ some. values-are names ms some) is
   where
-    go : (t : Bool) → is_some (cond t (option_map (λ (ds : List Data). view m.1 ∷ ds) (values_of names (members_view ms))) None) ≡ true
+    go : (t : Bool) → (is_some (values_of names (members_view ms)) ≡ true → values_of names (members_view ms) ≡ Some (values ms))
+        → is_some (cond t (option_map (λ (ds : List Data). view m.1 ∷ ds) (values_of names (members_view ms))) None) ≡ true
         → cond t (option_map (λ (ds : List Data). view m.1 ∷ ds) (values_of names (members_view ms))) None ≡ Some (values (m ∷ ms))
-    go true some =
+    go true rest some =
         ap (option_map (λ (ds : List Data). view m.1 ∷ ds))
-        (values-are names ms (sym (some-map (λ (ds : List Data). view m.1 ∷ ds) (values_of names (members_view ms))) ∙ some))
-    go false clash = absurd (let no : false ≡ true = clash in cc)
+        (rest (sym (some-map (λ (ds : List Data). view m.1 ∷ ds) (values_of names (members_view ms))) ∙ some))
+    go false rest clash = absurd (let no : false ≡ true = clash in cc)
 
 none-of : {A : Type 0} (o : Option A) → is_some o ≡ false → o ≡ None
 none-of None is = refl
@@ -156,16 +159,20 @@ ordered-of [] no_members ds i x order is at =
     absurd (let nothing : None ≡ Some x = subst (λ (l : List Data). slice_get l i ≡ Some x) (sym (some-is is)) at in cc)
 ordered-of [] (member k d ms) ds i x order is at = absurd (let clash : None ≡ Some ds = is in cc)
 ordered-of (name ∷ names) no_members ds i x order is at = absurd (let clash : None ≡ Some ds = is in cc)
-ordered-of (name ∷ names) (member k d ms) ds i x order is at = go (bytes_eq name k) (values_of names ms) refl is
+ordered-of (name ∷ names) (member k d ms) ds i x order is at =
+    go (bytes_eq name k) (values_of names ms) refl (λ rest j so later. ordered-of names ms rest j x order.1 so later) is
   where
-    at-place : (rest : List Data) → values_of names ms ≡ Some rest → (j : ℕ) → slice_get (d ∷ rest) j ≡ Some x → IsOrdered x
-    at-place rest so zero here = subst IsOrdered (some-is here) order.0
-    at-place rest so (suc j) later = ordered-of names ms rest j x order.1 so later
+    at-place : ((rest : List Data) (j : ℕ) → values_of names ms ≡ Some rest → slice_get rest j ≡ Some x → IsOrdered x) → (rest : List Data)
+        → values_of names ms ≡ Some rest → (j : ℕ) → slice_get (d ∷ rest) j ≡ Some x → IsOrdered x
+    at-place others rest so zero here = subst IsOrdered (some-is here) order.0
+    at-place others rest so (suc j) later = others rest j so later
 
-    go : (t : Bool) (o : Option (List Data)) → values_of names ms ≡ o → cond t (option_map (λ (l : List Data). d ∷ l) o) None ≡ Some ds → IsOrdered x
-    go true (Some rest) so this = at-place rest so i (subst (λ (l : List Data). slice_get l i ≡ Some x) (sym (some-is this)) at)
-    go true None so clash = absurd (let no : None ≡ Some ds = clash in cc)
-    go false o so clash = absurd (let no : None ≡ Some ds = clash in cc)
+    go : (t : Bool) (o : Option (List Data)) → values_of names ms ≡ o
+        → ((rest : List Data) (j : ℕ) → values_of names ms ≡ Some rest → slice_get rest j ≡ Some x → IsOrdered x)
+        → cond t (option_map (λ (l : List Data). d ∷ l) o) None ≡ Some ds → IsOrdered x
+    go true (Some rest) so others this = at-place others rest so i (subst (λ (l : List Data). slice_get l i ≡ Some x) (sym (some-is this)) at)
+    go true None so others clash = absurd (let no : None ≡ Some ds = clash in cc)
+    go false o so others clash = absurd (let no : None ≡ Some ds = clash in cc)
 
 pub ordered-at : (names : List (List ℕ)) (d : Data) (ds : List Data) (i : ℕ) (x : Data) → IsOrdered d → values_in names d ≡ Some ds → slice_get ds i ≡ Some x
     → IsOrdered x
@@ -197,7 +204,7 @@ module _ {X Y : Type 0} (said : X → Y) (f : Data → Option Y) where
       go : (o : Option (List Y)) → option_map (λ (ys : List Y). map said found ++ ys) (option_map (λ (ys : List Y). said x ∷ ys) o)
           ≡ option_map (λ (ys : List Y). map said (found ++ x ∷ []) ++ ys) o
       go None = refl
-      go (Some ys) = ap Some (sym (append_assoc (map said found) (said x ∷ []) ys) ∙ ap (λ l. l ++ ys) (sym (map-append found (x ∷ []) said)))
+      go (Some ys) = ap Some (sym (append_assoc (map said found) (said x ∷ []) ys) ∙ ap (λ l. l ++ ys) (sym (map-append said found (x ∷ []))))
 
   pub left-none : (all : Items) (found : List X) (j : Json) (js : List Json) → Left all found (j ∷ js) → f (view j) ≡ None → all_of f all ≡ None
   left-none all found j js was none =
@@ -242,3 +249,9 @@ props-within d ms r is reads =
 
 pub props-without : (d : Data) → None ≡ as_object d → props_in d ≡ None
 props-without d is = sym (ap (option_and_then props_of) is)
+
+-- an item at its place
+pub item-at : {X : Type 0} (xs : List X) (i : ℕ) (x : X) → i < length xs → x ≡ get_or xs i x → slice_get xs i ≡ Some x
+item-at [] i x within is = absurd (omega (arith, within))
+item-at (y ∷ xs) zero x within is = ap Some (sym is)
+item-at (y ∷ xs) (suc i) x within is = item-at xs i x (omega (arith, within)) is

@@ -13,5 +13,5 @@ returns g c = λ b s.
     ∙ ap (λ (div : ℕ). named clock_item_names (whole div ∷ whole c.mul-mul.result ∷ string c.as_str.result.now ∷ [])) (c.div-div.ensures b s)
     ∙ ap (λ (mul : ℕ). named clock_item_names (whole (div_of b c.args.clock.birth) ∷ whole mul ∷ string c.as_str.result.now ∷ [])) (c.mul-mul.ensures b s)
     ∙ ap (λ (path : List ℕ). named clock_item_names (whole (div_of b c.args.clock.birth) ∷ whole (mul_of b c.args.clock.birth) ∷ string path ∷ []))
-    (c.as_str.ensures ∙ c.in_ok-path.ensures b s))
+    (c.as_str.ensures.value ∙ c.in_ok-path.ensures b s))
     c.factors_value.ensures

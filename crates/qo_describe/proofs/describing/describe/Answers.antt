@@ -8,14 +8,14 @@ returns-then-pending g c = λ b s beside.
     let goes : c.args.pending ≡ true = search rules in
     told-not b (beside.pending ∙ ap not goes)
 
-pub returns-then-not-is_plain : goal.returns-then-not-is_plain
-returns-then-not-is_plain g c = λ b s beside.
-    let other : c.in_ok-is_plain.field-0 ≡ false = search rules in
+pub returns-then-not-plain : goal.returns-then-not-plain
+returns-then-not-plain g c = λ b s beside.
+    let other : c.in_ok-plain.plain ≡ false = search rules in
     let stays : c.args.pending ≡ false = search rules in
-    told-odd b (beside.pending ∙ ap not stays) (sym (c.in_ok-is_plain.ensures b s) ∙ other)
+    told-odd b (beside.pending ∙ ap not stays) (sym (c.in_ok-plain.ensures b s) ∙ other)
 
 pub returns : goal.returns
 returns g c = λ b s beside.
-    let plain : c.in_ok-is_plain.field-0 ≡ true = search rules in
+    let plain : c.in_ok-plain.plain ≡ true = search rules in
     let stays : c.args.pending ≡ false = search rules in
-    ap Some (c.in_ok-told.ensures b s beside.rings) ∙ told-so b (beside.pending ∙ ap not stays) (sym (c.in_ok-is_plain.ensures b s) ∙ plain)
+    ap Some (c.in_ok-told.ensures b s beside.rings) ∙ told-so b (beside.pending ∙ ap not stays) (sym (c.in_ok-plain.ensures b s) ∙ plain)

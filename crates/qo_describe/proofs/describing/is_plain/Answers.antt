@@ -13,5 +13,5 @@ returns-then-has_anonymous g c = λ b s.
 pub returns : goal.returns
 returns g c = λ b s.
     let none : c.has_anonymous.result ≡ false = search rules in
-    c.is_empty.ensures ∙ ap (λ (l : List Detached). length l == 0) (c.in_ok-list.ensures b s) ∙ as-many b
+    c.is_empty.ensures ∙ ap (λ (l : List Detached). length l == 0) (c.as_slice.ensures.value ∙ c.in_ok-list.ensures b s) ∙ as-many b
     ∙ and-yes (length (detached b) == 0) _ (c.has_anonymous.ensures b s ∙ ap not none)

@@ -1,5 +1,6 @@
 -- Two writes, one after the other.
-use Rattle.std.proofs.Common.{◌≡◌, ℕ, Err, ◌∙◌, rules, ◌∷◌, [], codes}
+use Rattle.std.proofs.Common.{◌≡◌, ℕ, Err, List, ◌∙◌, ap, sym, subst, rules, ◌∷◌, [], codes}
+use Rattle.qo_realize.specs.Answers.{Writes}
 use Rattle.qo_save.specs.Rebuilding.{set_number}
 use Rattle.qo_rebuild.proofs.StepLemmas.{one-done, step-goes, step-stops, then-writes}
 use Rattle.qo_rebuild.proofs.clocks.scale_clock.Goals as goal
@@ -14,8 +15,10 @@ returns-in_err-set_number g c = λ b s.
 
 pub returns : goal.returns
 returns g c = λ b s.
-    let first = rw c.as_str.ensures at (c.in_ok-set_number.ensures b s) in
+    let first = c.in_ok-set_number.ensures b s in
     then-writes c.set_number-2.new.board c.set_number-2.result _ _
     (step-goes (set_number c.args.clock.now.path (codes "div") c.args.clock.now.div) (set_number c.args.clock.now.path (codes "mul") c.args.clock.now.mul ∷ [])
-    b first.0 first.1 ∙ one-done (set_number c.args.clock.now.path (codes "mul") c.args.clock.now.mul) first.0)
-    (rw c.as_str-2.ensures at (c.set_number-2.ensures first.0 first.2))
+    b first.0 (ap (λ (path : List ℕ). set_number path (codes "div") c.args.clock.now.div b) (sym c.as_str.ensures) ∙ first.1)
+    ∙ one-done (set_number c.args.clock.now.path (codes "mul") c.args.clock.now.mul) first.0)
+    (subst (λ (path : List ℕ). Writes c.set_number-2.new.board c.set_number-2.result (set_number path (codes "mul") c.args.clock.now.mul first.0))
+    c.as_str-2.ensures (c.set_number-2.ensures first.0 first.2))

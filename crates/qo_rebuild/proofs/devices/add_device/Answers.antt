@@ -11,7 +11,7 @@ use Rattle.qo_rebuild.proofs.devices.add_device.Goals as goal
 pub returns-in-Ok : goal.returns-in-Ok
 returns-in-Ok g c = λ b s.
     let did = c.in-Ok.ensures b s in
-    device-done b (device_said c.args.device.now) c.poll.new.self did.0 (c.poll.ensures.polled (plug b (wanted_by (device_said c.args.device.now))).board did.1)
+    device-done b (device_said c.args.device.now) c.poll-notice.new.self did.0 (c.poll-notice.ensures.polled (plug b (wanted_by (device_said c.args.device.now))).board did.1)
 
 pub returns-in-Err-Refused : goal.returns-in-Err-Refused
 returns-in-Err-Refused g c = λ b s.

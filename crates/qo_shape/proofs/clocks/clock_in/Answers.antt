@@ -1,7 +1,8 @@
 -- Each member is read, or one of them is none.
-use Rattle.std.proofs.Common.{◌≡◌, refl, ℕ, Err, ap, ◌∙◌, length, arith, rules, option_map}
+use Rattle.std.proofs.Common.{◌≡◌, refl, ℕ, List, Err, ap, ◌∙◌, length, arith, rules, option_map}
 use Rattle.std.specs.Prelude.{option_and_then}
 use Rattle.std.proofs.lemmas.List.{length-map}
+use Rattle.serde_json.specs.Data.{Data}
 use Rattle.qo_json.proofs.MemberLemmas.{Member}
 use Rattle.qo_json.specs.View.{view}
 use Rattle.qo_save.specs.Shape as shape
@@ -14,7 +15,7 @@ use Rattle.qo_shape.proofs.clocks.clock_in.Goals as goal
 pub returns-in_err-members : goal.returns-in_err-members
 returns-in_err-members c =
     let is : c.from_residual.result ≡ Err c.in_err-members.field-0.0 = search rules in
-    reads-err numbers_said _ c.from_residual.result c.in_err-members.field-0.0 _ _ is c.in_err-members.ensures.values
+    reads-err numbers_said (λ (ms : List Data). ms) c.from_residual.result c.in_err-members.field-0.0 _ _ is c.in_err-members.ensures.values
     (λ none. ap (option_and_then shape.clock_of) none)
 
 pub returns-in_err-div : goal.returns-in_err-div
@@ -27,7 +28,7 @@ returns-in_err-div c =
     ∙ ap shape.clock_of (three-are (values c.in_ok-members.members.now) (view c.value_at-div.result.now) (view c.value_at-mul.result.now)
     (view c.value_at-period.result.now) many c.value_at-div.ensures c.value_at-mul.ensures c.value_at-period.ensures) in
     let is : c.from_residual-in_err-div.result ≡ Err c.in_err-div.field-0.0 = search rules in
-    reads-err numbers_said _ c.from_residual-in_err-div.result c.in_err-div.field-0.0 _ _ is c.in_err-div.ensures
+    reads-err numbers_said (λ (n : ℕ). n) c.from_residual-in_err-div.result c.in_err-div.field-0.0 _ _ is c.in_err-div.ensures
     (λ none. all ∙ three-first shape.clock_numbers (whole_in (view c.value_at-div.result.now)) (whole_in (view c.value_at-mul.result.now))
     (whole_in (view c.value_at-period.result.now)) none)
 
@@ -41,7 +42,7 @@ returns-in_err-mul c =
     ∙ ap shape.clock_of (three-are (values c.in_ok-members.members.now) (view c.value_at-div.result.now) (view c.value_at-mul.result.now)
     (view c.value_at-period.result.now) many c.value_at-div.ensures c.value_at-mul.ensures c.value_at-period.ensures) in
     let is : c.from_residual-in_err-mul.result ≡ Err c.in_err-mul.field-0.0 = search rules in
-    reads-err numbers_said _ c.from_residual-in_err-mul.result c.in_err-mul.field-0.0 _ _ is c.in_err-mul.ensures
+    reads-err numbers_said (λ (n : ℕ). n) c.from_residual-in_err-mul.result c.in_err-mul.field-0.0 _ _ is c.in_err-mul.ensures
     (λ none. all ∙ three-second shape.clock_numbers (whole_in (view c.value_at-div.result.now)) (whole_in (view c.value_at-mul.result.now))
     (whole_in (view c.value_at-period.result.now)) none)
 
@@ -55,7 +56,7 @@ returns-in_err-period c =
     ∙ ap shape.clock_of (three-are (values c.in_ok-members.members.now) (view c.value_at-div.result.now) (view c.value_at-mul.result.now)
     (view c.value_at-period.result.now) many c.value_at-div.ensures c.value_at-mul.ensures c.value_at-period.ensures) in
     let is : c.from_residual-in_err-period.result ≡ Err c.in_err-period.field-0.0 = search rules in
-    reads-err numbers_said _ c.from_residual-in_err-period.result c.in_err-period.field-0.0 _ _ is c.in_err-period.ensures
+    reads-err numbers_said (λ (n : ℕ). n) c.from_residual-in_err-period.result c.in_err-period.field-0.0 _ _ is c.in_err-period.ensures
     (λ none. all ∙ three-third shape.clock_numbers (whole_in (view c.value_at-div.result.now)) (whole_in (view c.value_at-mul.result.now))
     (whole_in (view c.value_at-period.result.now)) none)
 

@@ -29,8 +29,8 @@ returns-in_err-val c =
     let m : Member = c.member-item.result in
     let here : drop i all ≡ m ∷ drop (i + 1) all = drop_more all i m (omega arith) ∙ ap (λ (n : Member). n ∷ drop (i + 1) all) (sym c.member-item.is) in
     let was : LeftProps all c.loop-member.props (m ∷ drop (i + 1) all) = rw here at c.loop-member.invariant.read in
-    let is : c.from_residual-in_err-val.result ≡ Err c.in_err-val.field-0.0 = search rules in
-    reads-err (λ (ps : List Given). ps) _ c.from_residual-in_err-val.result c.in_err-val.field-0.0 _ _ is c.in_err-val.ensures
+    let is : c.from_residual.result ≡ Err c.in_err-val.field-0.0 = search rules in
+    reads-err (λ (ps : List Given). ps) (λ v. v) c.from_residual.result c.in_err-val.field-0.0 _ _ is c.in_err-val.ensures
     (λ none. props-none all c.loop-member.props m (drop (i + 1) all) was (grind arith) none)
 
 pub put-requires : goal.put-requires
