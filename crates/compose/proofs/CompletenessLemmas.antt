@@ -17,7 +17,7 @@ use Rattle.compose.specs.Completeness.{CompletesReplay, CompletesServe, IsWholeH
 use Rattle.compose.specs.Replay.{Replayed, DidReplay, TakeToBad, TakeToLimit}
 use Rattle.compose.specs.Service.{Served, serve_status}
 use Rattle.compose.specs.declared.statuses.Status.{Status}
-use Rattle.compose.specs.declared.statuses.Status.TheVariants.{Done, Usage, BadRecord, Memory, ReadFault, WriteFault, HubFault, InputLimit}
+use Rattle.compose.specs.declared.statuses.Status.TheVariants.{Done, Usage, BadRecord, Memory, ReadFault, WriteFault, HubFault, InputLimit, BadBoard}
 
 -- A record.
 
@@ -42,6 +42,7 @@ did_whole ReadFault bytes taken held_old held_new place did read put whole = abs
 did_whole WriteFault bytes taken held_old held_new place did read put whole = absurd (put refl)
 did_whole Usage bytes taken held_old held_new place did read put whole = absurd did
 did_whole HubFault bytes taken held_old held_new place did read put whole = absurd did
+did_whole BadBoard bytes taken held_old held_new place did read put whole = absurd did
 
 -- whether the source tells its bytes or not
 pub completes_replay : (status : Status) (left left_new held_old held_new : Option (List ℕ)) (taken : List ℕ) (place : ℕ)

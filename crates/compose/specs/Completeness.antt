@@ -11,7 +11,7 @@ use Rattle.qo_values.specs.declared.limits.TheConstants.{INPUTS_MAX}
 use Rattle.qo_words.specs.Words.{Order, demo, types}
 use Rattle.compose.specs.Replay.{EndedReplay, TakeToEnd}
 use Rattle.compose.specs.declared.statuses.Status.{Status}
-use Rattle.compose.specs.declared.statuses.Status.TheVariants.{Done, Usage, BadRecord, Memory, ReadFault, WriteFault, HubFault, InputLimit}
+use Rattle.compose.specs.declared.statuses.Status.TheVariants.{Done, Usage, BadRecord, Memory, ReadFault, WriteFault, HubFault, InputLimit, BadBoard}
 
 -- no fault was counted
 abbrev pub NoFault : ℕ → ℕ → Type 0
@@ -54,6 +54,7 @@ ServedWhole Usage old new bad = ⊥
 ServedWhole ReadFault old new bad = ⊥
 ServedWhole WriteFault old new bad = ⊥
 ServedWhole HubFault old new bad = ⊥
+ServedWhole BadBoard old new bad = ⊥
 
 -- of these a hub whose inputs come to their end in time has the first two
 abbrev pub CompletesServe : Status → Told → Told → Option (Option ℕ) → Type 0

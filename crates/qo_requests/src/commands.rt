@@ -58,6 +58,8 @@ pub enum Command {
     Stop,
     /// `system_reset`.
     SystemReset,
+    /// `x-describe`.
+    XDescribe,
     /// `x-guest`.
     XGuest,
     /// `x-memmap`.
@@ -106,6 +108,7 @@ impl Command {
             Command::RingbufWrite => "ringbuf-write",
             Command::Stop => "stop",
             Command::SystemReset => "system_reset",
+            Command::XDescribe => "x-describe",
             Command::XGuest => "x-guest",
             Command::XMemmap => "x-memmap",
             Command::XQueryDetached => "x-query-detached",
@@ -145,6 +148,7 @@ impl Command {
             Command::RingbufWrite,
             Command::Stop,
             Command::SystemReset,
+            Command::XDescribe,
             Command::XGuest,
             Command::XMemmap,
             Command::XQueryDetached,
