@@ -846,6 +846,7 @@ impl Core {
     }
 
     /// How many notes there were. It takes no memory.
+    #[inline(always)]
     pub(crate) fn notes_total(&self) -> u64
         ensures good { StandsForGood self.now.board }
         ensures total { (b : Tree) → Stands b self.now.board → result ≡ total_of b.notes }
@@ -856,6 +857,7 @@ impl Core {
 
     /// Each listener is told the notes from a number on, in order. The error is want of memory: each has then
     /// heard a front of them.
+    #[inline(always)]
     pub(crate) fn tell_new(
         &self,
         alloc: Global,

@@ -253,6 +253,7 @@ impl Board {
     }
 
     /// How many notes there were; it stays at 2^64 - 1 once there.
+    #[inline(always)]
     pub fn notes_total(&self) -> u64
         ensures logged { result ≡ self.now.objects.log.total }
         ensures told { (b : model.Board) → Stands b self.now → result ≡ total_of b.notes }

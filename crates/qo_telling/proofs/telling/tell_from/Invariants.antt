@@ -6,7 +6,7 @@ use Rattle.qo_listen.specs.Ears.{AllHeard, AllOpen, ears}
 use Rattle.qo_listen.specs.contracts.listeners.BoxDynListenerListener.TheImpl.{ghosts}
 use Rattle.qo_realize.specs.Representation.{Stands}
 use Rattle.qo_telling.specs.Telling.{IsNew}
-use Rattle.qo_telling.proofs.telling.tell_new.Given as goal
+use Rattle.qo_telling.proofs.telling.tell_from.Given as goal
 
 abbrev pub decreases-loop-at : goal.decreases-loop-at
 decreases-loop-at g l = l.total - l.at

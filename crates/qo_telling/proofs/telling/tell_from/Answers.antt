@@ -5,7 +5,7 @@ use Rattle.qo_listen.specs.Ears.{ears}
 use Rattle.qo_listen.specs.contracts.listeners.BoxDynListenerListener.TheImpl.{ghosts}
 use Rattle.qo_telling.proofs.EarsLemmas.{fronts-at}
 use Rattle.qo_telling.proofs.NotesLemmas.{all-told, more-front, more-told, none-yet}
-use Rattle.qo_telling.proofs.telling.tell_new.Goals as goal
+use Rattle.qo_telling.proofs.telling.tell_from.Goals as goal
 
 pub loop-at-init : goal.loop-at-init
 loop-at-init g c =
