@@ -93,13 +93,13 @@ record IsFound {X : Type 0} (P : X → Type 0) (test : X → Bool) (x : X) : Typ
 
 find-found : {X : Type 0} (P : X → Type 0) (test : X → Bool) (xs : List X) (x : X) → AllByRecursion P xs → find test xs ≡ Some x → IsFound P test x
 find-found P test [] x h e = absurd (cc)
-find-found {X = X} P test (y ∷ ys) x h e = go (test y) refl
+find-found {X = X} P test (y ∷ ys) x h e = go (test y) refl (find-found P test ys x h.1)
   where
-    go : (t : Bool) → test y ≡ t → IsFound P test x
-    go true q =
+    go : (t : Bool) → test y ≡ t → (find test ys ≡ Some x → IsFound P test x) → IsFound P test x
+    go true q rest =
         let is : y ≡ x = same_Some y x (rw q at e) in
         subst (λ (z : X). IsFound P test z) is (record { holds = h.0; passes = q })
-    go false q = find-found P test ys x h.1 (rw q at e)
+    go false q rest = rest (rw q at e)
 
 -- ---- what is read of an object
 
