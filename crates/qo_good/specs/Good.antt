@@ -121,11 +121,11 @@ pub data NamesRing (d : Description) (before : List DeviceItem) (x : DeviceItem)
   ring : (id : List ℕ) → x.props ≡ (codes "chardev", val.Text id) ∷ [] → OneOf (λ (r : RingItem). r.id ≡ id) d.rings
       → AllByRecursion (λ (y : DeviceItem). text_for y.props (codes "chardev") ≢ id) before → NamesRing d before x
 
--- a memory backend of an id and a size
-pub record IsMemory (id : List ℕ) (size : ℕ) (o : ObjectItem) : Type 0 where
-  pub id : o.id ≡ id
+-- a memory backend of an id and so long
+pub record IsMemory (named : List ℕ) (long : ℕ) (o : ObjectItem) : Type 0 where
+  pub id : o.id ≡ named
   pub kind : o.kind ≡ type_name MemoryBackendRam
-  pub size : number_for o.props (codes "size") ≡ Some size
+  pub size : number_for o.props (codes "size") ≡ Some long
 
 -- a DIMM is as long as a memory backend that none before is on, and its range lies in the window, apart from those before
 pub record HasRange (d : Description) (l : Layout) (before : List DeviceItem) (x : DeviceItem) : Type 0 where

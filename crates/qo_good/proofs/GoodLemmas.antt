@@ -1,0 +1,7 @@
+-- The law: the description of a sound board in order is good.
+use Rattle.std.proofs.Common.{◌≡◌}
+use Rattle.qo_good.specs.GoodBoards.{GoodLaw}
+use Rattle.qo_good.proofs.ItemLemmas.{one-append}
+
+pub good_lem : GoodLaw
+good_lem b d h e = ?

@@ -1,0 +1,4 @@
+pub mod ItemLemmas
+pub mod PlaceLemmas
+pub mod PartLemmas
+pub mod GoodLemmas
