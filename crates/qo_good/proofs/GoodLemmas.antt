@@ -3,6 +3,7 @@ use Rattle.std.proofs.Common.{◌≡◌}
 use Rattle.qo_good.specs.GoodBoards.{GoodLaw}
 use Rattle.qo_good.proofs.ItemLemmas.{one-append}
 use Rattle.qo_good.proofs.PlaceLemmas.{all-entry}
+use Rattle.qo_good.proofs.PartLemmas.{parts_of}
 
 pub good_lem : GoodLaw
 good_lem b d h e = ?
