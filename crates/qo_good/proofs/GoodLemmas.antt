@@ -4,6 +4,7 @@ use Rattle.qo_good.specs.GoodBoards.{GoodLaw}
 use Rattle.qo_good.proofs.ItemLemmas.{one-append}
 use Rattle.qo_good.proofs.PlaceLemmas.{all-entry}
 use Rattle.qo_good.proofs.PartLemmas.{parts_of}
+use Rattle.qo_good.proofs.ObjectLemmas.{objects-good}
 
 pub good_lem : GoodLaw
 good_lem b d h e = ?

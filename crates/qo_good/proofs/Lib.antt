@@ -1,4 +1,6 @@
 pub mod ItemLemmas
 pub mod PlaceLemmas
 pub mod PartLemmas
+pub mod ValueLemmas
+pub mod ObjectLemmas
 pub mod GoodLemmas
