@@ -183,14 +183,14 @@ unfolding types
 memory-size b shape n kind =
     let gone = unnamed b shape n MemoryBackendRam kind in
     let (v, at) = (shapes_say_lem.memory b shape n (ap (λ (o : Option TypeId). option_map_or (λ (t : TypeId). is_a t (codes "memory-backend")) o false) kind)) in
-    let first : prop_under b is_nothing n (codes "flag") ≡ None = prop-none b is_nothing n (codes "flag") (gone (codes "flag") (λ s k. k) memory-bare.0) in
-    let second : prop_under b is_nothing n (codes "number") ≡ None =
+    let no_flag : prop_under b is_nothing n (codes "flag") ≡ None = prop-none b is_nothing n (codes "flag") (gone (codes "flag") (λ s k. k) memory-bare.0) in
+    let no_number : prop_under b is_nothing n (codes "number") ≡ None =
     prop-none b is_nothing n (codes "number") (gone (codes "number") (λ s k. k) memory-bare.1.0) in
-    let third : prop_under b is_nothing n (codes "size") ≡ Some (codes "size", val.Uint v) =
+    let its_size : prop_under b is_nothing n (codes "size") ≡ Some (codes "size", val.Uint v) =
     prop-some b is_nothing n (codes "size") (plain (val.Uint v)) at refl in
-    let fourth : prop_under b is_nothing n (codes "text") ≡ None =
+    let no_text : prop_under b is_nothing n (codes "text") ≡ None =
     prop-none b is_nothing n (codes "text") (gone (codes "text") (λ s k. k) memory-bare.1.1.0) in
-    let props : props_under b is_nothing object_given n ≡ (codes "size", val.Uint v) ∷ [] = rw (first, second, third, fourth) refl in
+    let props : props_under b is_nothing object_given n ≡ (codes "size", val.Uint v) ∷ [] = rw (no_flag, no_number, its_size, no_text) refl in
     let long : size_of b n ≡ v = ap (λ (o : Option Slot). unwrap_or (option_and_then number_in (option_and_then plain_in o)) 0) at in
     ap (λ (ps : List Given). number_for ps (codes "size")) props ∙ ap Some (sym long)
 

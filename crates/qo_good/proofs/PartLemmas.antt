@@ -43,9 +43,9 @@ IsPartOf fs p = (k : TypeId) → p.role ≡ row.Child k → OneOf (λ (f : List 
 
 part-passed : (p : Property) (ps : List Property) → further_in p ≡ None → ((k : TypeId) → p.role ≡ row.Child k → ⊥)
     → AllByRecursion (IsPartOf (filter_map further_in ps)) ps → AllByRecursion (IsPartOf (filter_map further_in (p ∷ ps))) (p ∷ ps)
-part-passed p ps leaves no rest =
+part-passed p ps leaves never rest =
     let is : filter_map further_in (p ∷ ps) ≡ filter_map further_in ps = rw leaves refl in
-    subst (λ (fs : List (List ℕ × TypeId)). AllByRecursion (IsPartOf fs) (p ∷ ps)) (sym is) ((λ k e. absurd (no k e)), rest)
+    subst (λ (fs : List (List ℕ × TypeId)). AllByRecursion (IsPartOf fs) (p ∷ ps)) (sym is) ((λ k e. absurd (never k e)), rest)
 
 part-first : (p : Property) (ps : List Property) (t : TypeId) → p.role ≡ row.Child t → further_in p ≡ Some (property_name p.name, t)
     → AllByRecursion (IsPartOf (filter_map further_in ps)) ps → AllByRecursion (IsPartOf (filter_map further_in (p ∷ ps))) (p ∷ ps)
