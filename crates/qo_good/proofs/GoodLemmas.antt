@@ -5,6 +5,7 @@ use Rattle.qo_good.proofs.ItemLemmas.{one-append}
 use Rattle.qo_good.proofs.PlaceLemmas.{all-entry}
 use Rattle.qo_good.proofs.PartLemmas.{parts_of}
 use Rattle.qo_good.proofs.ObjectLemmas.{objects-good}
+use Rattle.qo_good.proofs.BusLemmas.{clock-at}
 
 pub good_lem : GoodLaw
 good_lem b d h e = ?

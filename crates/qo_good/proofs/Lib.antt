@@ -3,4 +3,5 @@ pub mod PlaceLemmas
 pub mod PartLemmas
 pub mod ValueLemmas
 pub mod ObjectLemmas
+pub mod BusLemmas
 pub mod GoodLemmas
