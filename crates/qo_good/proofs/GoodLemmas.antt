@@ -6,6 +6,7 @@ use Rattle.qo_good.proofs.PlaceLemmas.{all-entry}
 use Rattle.qo_good.proofs.PartLemmas.{parts_of}
 use Rattle.qo_good.proofs.ObjectLemmas.{objects-good}
 use Rattle.qo_good.proofs.BusLemmas.{clock-at}
+use Rattle.qo_good.proofs.LayoutLemmas.{clocks-laid}
 
 pub good_lem : GoodLaw
 good_lem b d h e = ?

@@ -150,3 +150,31 @@ one-before m [] x more h low (inr one) = absurd (not_after more (rises-after [] 
     not_after (e ∷ es) k (inr one) = not_after es k.1 one
 one-before m (e ∷ done) x more h low (inl is) = inl is
 one-before m (e ∷ done) x more h low (inr one) = inr (one-before m done x more h.1 low one)
+
+-- ---- what each makes
+
+pub all-map : {X Y : Type 0} (P : X → Type 0) (Q : Y → Type 0) (f : X → Y) → ((x : X) → P x → Q (f x)) → (xs : List X) → AllByRecursion P xs
+    → AllByRecursion Q (map f xs)
+all-map P Q f from [] h = tt
+all-map P Q f from (x ∷ xs) h = (from x h.0, all-map P Q f from xs h.1)
+
+pub all-front : {X : Type 0} (P : X → Type 0) (xs ys : List X) → AllByRecursion P (xs ++ ys) → AllByRecursion P xs
+all-front P [] ys h = tt
+all-front P (x ∷ xs) ys h = (h.0, all-front P xs ys h.1)
+
+pub one-unmap : {X Y : Type 0} (Q : Y → Type 0) (f : X → Y) (xs : List X) → OneOf Q (map f xs) → OneOf (λ (x : X). Q (f x)) xs
+one-unmap Q f [] h = h
+one-unmap Q f (x ∷ xs) (inl h) = inl h
+one-unmap Q f (x ∷ xs) (inr h) = inr (one-unmap Q f xs h)
+
+-- where none is such, that one is says anything
+pub one-none : {X : Type 0} (P Q : X → Type 0) → ((x : X) → P x → Q x → ⊥) → (xs : List X) → AllByRecursion P xs → OneOf Q xs → ⊥
+one-none P Q clash [] h one = one
+one-none P Q clash (x ∷ xs) h (inl k) = clash x h.0 k
+one-none P Q clash (x ∷ xs) h (inr one) = one-none P Q clash xs h.1 one
+
+-- the one of which something is said
+pub one-of : {X : Type 0} (P : X → Type 0) (xs : List X) → OneOf P xs → (x : X) × P x
+one-of P [] one = absurd one
+one-of P (x ∷ xs) (inl h) = (x, h)
+one-of P (x ∷ xs) (inr one) = one-of P xs one

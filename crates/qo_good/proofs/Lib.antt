@@ -4,4 +4,5 @@ pub mod PartLemmas
 pub mod ValueLemmas
 pub mod ObjectLemmas
 pub mod BusLemmas
+pub mod LayoutLemmas
 pub mod GoodLemmas
