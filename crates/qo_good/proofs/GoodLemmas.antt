@@ -7,6 +7,7 @@ use Rattle.qo_good.proofs.PartLemmas.{parts_of}
 use Rattle.qo_good.proofs.ObjectLemmas.{objects-good}
 use Rattle.qo_good.proofs.BusLemmas.{clock-at}
 use Rattle.qo_good.proofs.LayoutLemmas.{clocks-laid}
+use Rattle.qo_good.proofs.DeviceLemmas.{laid-out}
 
 pub good_lem : GoodLaw
 good_lem b d h e = ?

@@ -5,4 +5,6 @@ pub mod ValueLemmas
 pub mod ObjectLemmas
 pub mod BusLemmas
 pub mod LayoutLemmas
+pub mod ClaimLemmas
+pub mod DeviceLemmas
 pub mod GoodLemmas
