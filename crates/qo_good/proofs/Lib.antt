@@ -7,4 +7,5 @@ pub mod BusLemmas
 pub mod LayoutLemmas
 pub mod ClaimLemmas
 pub mod DeviceLemmas
+pub mod LinkLemmas
 pub mod GoodLemmas
