@@ -7,7 +7,6 @@ use Rattle.std.proofs.lemmas.Slice.Eq.{bytes_eq-Decides}
 use Rattle.std.proofs.Math.Bool.{or-true}
 use Rattle.qo_values.proofs.EachLemmas.{each}
 use Rattle.qo_values.proofs.ListLemmas.{all-imply}
-use Rattle.qo_model.proofs.PeriodLemmas.{period-fed}
 use Rattle.qo_model.specs.Plug.{bus_type}
 use Rattle.qo_model.specs.Properties.{path_text, target_text}
 use Rattle.qo_model.specs.Types.{property}
@@ -35,7 +34,7 @@ use Rattle.qo_good.proofs.PlaceLemmas.{all-entry, apart, at, device-way, inner-w
 
 -- ---- entries
 
-listed-entry : (e : List ℕ × ℕ) (es : List (List ℕ × ℕ)) → has_entry e es ≡ true → listed e.1 es ≡ true
+pub listed-entry : (e : List ℕ × ℕ) (es : List (List ℕ × ℕ)) → has_entry e es ≡ true → listed e.1 es ≡ true
 listed-entry e [] there = clash-back there
 listed-entry e (x ∷ es) there =
     decide (x.1 == e.1 && bytes_eq x.0 e.0) (λ q. rw ((and_parts (x.1 == e.1) (bytes_eq x.0 e.0) q).0) refl)
@@ -83,11 +82,6 @@ owns-entry name m (x ∷ es) other there = decide (x.1 == m && bytes_eq x.0 name
         let two = and_parts (x.1 == m) (bytes_eq x.0 name) q in
         let apart : bytes_eq x.0 clock_name ≡ false = ap (λ (n : List ℕ). bytes_eq n clock_name) ((bytes_eq-Decides x.0 name).0 two.1) ∙ other in
         rw (two.0, apart) refl
-
-pub among-all : (P : ℕ → Type 0) (xs : List ℕ) → AllByRecursion P xs → (n : ℕ) → among xs n ≡ true → P n
-among-all P [] h n e = clash-back e
-among-all P (x ∷ xs) h n e =
-    decide (eqb n x) (λ q. subst P (sym (eqb-true n x q)) h.0) (λ q. among-all P xs h.1 n (rw q at e))
 
 -- ---- rows of devices
 
@@ -262,6 +256,7 @@ module _ (b : Board) (h : IsInOrder b) (says : is_describable b ≡ true) where
 pub record ClockAt (b : Board) (e : List ℕ × ℕ) : Type 0 where
   pub clock : ℕ
   pub its : clock_of b e.1 ≡ Some clock
+  pub there : has_entry (codes "clk", clock) (child_entries b e.1) ≡ true
   pub found : at b (clock_path e.0) ≡ Some clock
   pub told : path_text b clock ≡ clock_path e.0
 
@@ -279,6 +274,7 @@ module _ (b : Board) (h : IsInOrder b) (says : is_describable b ≡ true) where
       record {
         clock = c;
         its = ap (option_and_then child_named) slot;
+        there = there;
         found = leads b h c (clock_path e.0) way;
         told = told b h c (clock_path e.0) (apart b h e.1 (codes "clk", c) (omega arith) there) way;
       }

@@ -9,6 +9,7 @@ use Rattle.qo_good.specs.GoodBoards.{GoodLaw, IsWhole}
 use Rattle.qo_good.proofs.DeviceLemmas.{laid-out}
 use Rattle.qo_good.proofs.LayoutLemmas.{l}
 use Rattle.qo_good.proofs.LinkLemmas.{device_ids-good, links-good, object_ids-good}
+use Rattle.qo_good.proofs.RoomLemmas.{room-good}
 use Rattle.qo_good.proofs.ObjectLemmas.{clock-good, objects-good, ring_ids-good, rings-good}
 
 good : (b : Board) → IsWhole b → is_describable b ≡ true → Good (description b)
@@ -23,7 +24,7 @@ good b h says =
       layout = l b h says;
       laid = laid-out b h says;
       links = links-good b h.order says;
-      room = ?;
+      room = room-good b h says;
     }
 
 pub good_lem : GoodLaw

@@ -53,6 +53,10 @@ pub all-some : {X : Type 0} (P : X → Type 0) → ((x : X) → P x) → (xs : L
 all-some P h [] = tt
 all-some P h (x ∷ xs) = (h x, all-some P h xs)
 
+pub all-append : {X : Type 0} (P : X → Type 0) (xs ys : List X) → AllByRecursion P xs → AllByRecursion P ys → AllByRecursion P (xs ++ ys)
+all-append P [] ys h k = k
+all-append P (x ∷ xs) ys h k = (h.0, all-append P xs ys h.1 k)
+
 pub all-after : {X : Type 0} (P : X → Type 0) (xs ys : List X) → AllByRecursion P (xs ++ ys) → AllByRecursion P ys
 all-after P [] ys h = h
 all-after P (x ∷ xs) ys h = all-after P xs ys h.1

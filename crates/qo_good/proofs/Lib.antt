@@ -8,4 +8,5 @@ pub mod LayoutLemmas
 pub mod ClaimLemmas
 pub mod DeviceLemmas
 pub mod LinkLemmas
+pub mod RoomLemmas
 pub mod GoodLemmas
