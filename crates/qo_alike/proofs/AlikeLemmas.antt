@@ -1,0 +1,7 @@
+-- The law: what shows of a board is what its description says.
+use Rattle.std.proofs.Common.{◌≡◌}
+use Rattle.qo_alike.specs.AlikeBoards.{AlikeLaw}
+use Rattle.qo_alike.proofs.RowsLemmas.{bare-show}
+
+pub alike_lem : AlikeLaw
+alike_lem = ?
