@@ -3,6 +3,7 @@ use Rattle.std.proofs.Common.{◌≡◌}
 use Rattle.qo_alike.specs.AlikeBoards.{AlikeLaw}
 use Rattle.qo_alike.proofs.RowsLemmas.{bare-show}
 use Rattle.qo_alike.proofs.LinkSaidLemmas.{link-leads}
+use Rattle.qo_alike.proofs.SightLemmas.{sight-clock}
 
 pub alike_lem : AlikeLaw
 alike_lem = ?

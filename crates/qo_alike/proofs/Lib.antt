@@ -1,3 +1,4 @@
 pub mod RowsLemmas
 pub mod LinkSaidLemmas
+pub mod SightLemmas
 pub mod AlikeLemmas
