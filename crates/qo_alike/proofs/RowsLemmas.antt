@@ -90,11 +90,24 @@ pub record RowSeen (b : Board) (n : ℕ) (shows : PropertyName → Shown) (p : P
   pub found : slot_named b n (property_name p.name) ≡ Some slot
   pub so : shown b slot ≡ shows p.name
 
--- slots that show as the rows do, and further ones behind
-pub record Rowed (b : Board) (t : TypeId) (shows : PropertyName → Shown) (ps : List Property) (slots : List (List ℕ × Slot)) : Type 0 where
+-- the slots of rows, each under its row's name
+abbrev pub rows_slots : (b : Board) (n : ℕ) (shows : PropertyName → Shown) (ps : List Property) → AllByRecursion (RowSeen b n shows) ps → List (List ℕ × Slot)
+rows_slots b n shows [] rows = []
+rows_slots b n shows (p ∷ ps) rows = (property_name p.name, rows.0.slot) ∷ rows_slots b n shows ps rows.1
+
+-- they show as the rows do
+pub rows-show : (b : Board) (n : ℕ) (shows : PropertyName → Shown) (ps : List Property) (rows : AllByRecursion (RowSeen b n shows) ps)
+    → map (show b) (rows_slots b n shows ps rows) ≡ map (λ (p : Property). (property_name p.name, shows p.name)) ps
+rows-show b n shows [] rows = refl
+rows-show b n shows (p ∷ ps) rows =
+    ap₂ (λ (x : Shown) (xs : List (List ℕ × Shown)). (property_name p.name, x) ∷ xs) rows.0.so (rows-show b n shows ps rows.1)
+
+-- slots are those of the rows, and further ones behind
+pub record Rowed (b : Board) (n : ℕ) (t : TypeId) (shows : PropertyName → Shown) (ps : List Property) (rows : AllByRecursion (RowSeen b n shows) ps)
+    (slots : List (List ℕ × Slot)) : Type 0 where
   pub behind : List (List ℕ × Slot)
   pub extra : AllByRecursion (IsFurther t) behind
-  pub so : map (show b) slots ≡ map (λ (p : Property). (property_name p.name, shows p.name)) ps ++ map (show b) behind
+  pub so : slots ≡ rows_slots b n shows ps rows ++ behind
 
 module _ (b : Board) (n : ℕ) (t : TypeId) (shows : PropertyName → Shown) (whole : List (List ℕ × Slot)) (at : slots_at b n ≡ whole)
     (once : IsDistinct bytes_eq (names_in whole)) where
@@ -102,14 +115,14 @@ module _ (b : Board) (n : ℕ) (t : TypeId) (shows : PropertyName → Shown) (wh
   in-whole name = ap (named_among name) at
 
   rows-seen : (ps : List Property) (done : List (List ℕ × Slot)) {slots : List (List ℕ × Slot)} → whole ≡ done ++ slots → Away ps done
-      → IsDistinct bytes_eq (row_names ps) → Stays t ps → AllByRecursion (RowSeen b n shows) ps → HasSlots t ps slots → Rowed b t shows ps slots
+      → IsDistinct bytes_eq (row_names ps) → Stays t ps → (rows : AllByRecursion (RowSeen b n shows) ps) → HasSlots t ps slots → Rowed b n t shows ps rows slots
   unfolding IsDistinct
   rows-seen [] done {slots} split away apart stays rows (further all) = record { behind = slots; extra = all; so = refl }
   rows-seen (p ∷ ps) done split away apart stays rows (next {s = s} {slots = slots} is rest) =
       let split_on : whole ≡ (done ++ s ∷ []) ++ slots = split ∙ sym (append_assoc done (s ∷ []) slots) in
       let mine : AllByRecursion (λ (x : List ℕ). bytes_eq s.0 x ≡ false) (row_names ps) =
       subst (λ (y : List ℕ). AllByRecursion (λ (x : List ℕ). bytes_eq y x ≡ false) (row_names ps)) (sym is.name) apart.0 in
-      let more : Rowed b t shows ps slots =
+      let more : Rowed b n t shows ps rows.1 slots =
       rows-seen ps (done ++ s ∷ []) split_on
       (all-append (λ (x : List ℕ × Slot). AllByRecursion (λ (y : List ℕ). bytes_eq x.0 y ≡ false) (row_names ps)) done (s ∷ []) (away-later p ps done away)
       (mine, tt)) apart.1 (later t p ps stays) rows.1 rest in
@@ -117,9 +130,11 @@ module _ (b : Board) (n : ℕ) (t : TypeId) (shows : PropertyName → Shown) (wh
       ap (named_among s.0) split ∙ own-found done s slots (subst (λ (xs : List (List ℕ × Slot)). IsDistinct bytes_eq (names_in xs)) split once) in
       let same : rows.0.slot ≡ s.1 =
       same_Some rows.0.slot s.1 (sym rows.0.found ∙ in-whole (property_name p.name) ∙ ap (λ (x : List ℕ). named_among x whole) (sym is.name) ∙ found) in
-      let own : show b s ≡ (property_name p.name, shows p.name) =
-      ap₂ (λ (x : List ℕ) (y : Shown). (x, y)) is.name (ap (shown b) (sym same) ∙ rows.0.so) in
-      record { behind = more.behind; extra = more.extra; so = ap₂ (λ (x : List ℕ × Shown) (xs : List (List ℕ × Shown)). x ∷ xs) own more.so }
+      record {
+        behind = more.behind;
+        extra = more.extra;
+        so = ap₂ (λ (x : List ℕ × Slot) (xs : List (List ℕ × Slot)). x ∷ xs) (ap₂ (λ (x : List ℕ) (y : Slot). (x, y)) is.name (sym same)) more.so;
+      }
   rows-seen (p ∷ ps) done {slots} split away apart (inl stays) rows (missing may rest) = clash (sym may ∙ stays.0)
   rows-seen (p ∷ ps) done {slots} split away apart (inr bare) rows (missing may rest) =
       let behind : AllByRecursion (λ (s : List ℕ × Slot). bytes_eq s.0 (property_name p.name) ≡ false) slots =

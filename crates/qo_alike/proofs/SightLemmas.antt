@@ -27,7 +27,7 @@ use Rattle.qo_good.proofs.PlaceLemmas.{firm}
 use Rattle.qo_good.proofs.ValueLemmas.{Its, its-record}
 use Rattle.qo_alike.specs.AlikeBoards.{TellsTypes}
 use Rattle.qo_alike.specs.Seen.{clock_shows, plain_shows, seen_as, shelf_seen}
-use Rattle.qo_alike.proofs.RowsLemmas.{bare-show, children-show, kids-show, Rowed, RowSeen, rows-apart, rows-seen, show, whole-or-bare}
+use Rattle.qo_alike.proofs.RowsLemmas.{bare-show, children-show, kids-show, Rowed, RowSeen, rows-apart, rows-seen, rows-show, rows_slots, show, whole-or-bare}
 
 -- ---- slots by what is read of them
 
@@ -53,23 +53,30 @@ abbrev made : List ℕ → Option TypeId → List (List ℕ × Shown) → Sight
 made path kind slots = record { path = path; kind = kind; slots = slots }
 
 module _ (b : Board) (h : IsInOrder b) where
-  pub rowed : (n : ℕ) (t : TypeId) → kind_of b n ≡ Some t → (shows : PropertyName → Shown) → AllByRecursion (RowSeen b n shows) (slots_of t)
-      → Rowed b t shows (slots_of t) (slots_at b n)
+  pub rowed : (n : ℕ) (t : TypeId) → kind_of b n ≡ Some t → (shows : PropertyName → Shown) (rows : AllByRecursion (RowSeen b n shows) (slots_of t))
+      → Rowed b n t shows (slots_of t) rows (slots_at b n)
   rowed n t kind shows rows =
       let its : Its b n t = its-record b h.shape n t kind in
       let at : slots_at b n ≡ its.of.slots = ap (λ (o : Option Record). option_map_or (λ (r : Record). r.slots) o []) its.there in
-      subst (Rowed b t shows (slots_of t)) (sym at)
+      subst (Rowed b n t shows (slots_of t) rows) (sym at)
       (rows-seen b n t shows its.of.slots at (names-at b (firm b h) n its.of its.there) (slots_of t) [] refl tt (rows-apart t) (whole-or-bare t) rows its.slots)
 
   -- without further slots
+  pub bare-slots : (n : ℕ) (t : TypeId) → kind_of b n ≡ Some t → ((s : List ℕ × Slot) → IsFurther t s → ⊥) → (shows : PropertyName → Shown)
+      (rows : AllByRecursion (RowSeen b n shows) (slots_of t)) → slots_at b n ≡ rows_slots b n shows (slots_of t) rows
+  bare-slots n t kind bare shows rows =
+      let k : Rowed b n t shows (slots_of t) rows (slots_at b n) = rowed n t kind shows rows in
+      k.so ∙ ap (λ (xs : List (List ℕ × Slot)). rows_slots b n shows (slots_of t) rows ++ xs) (bare-show b t bare k.behind k.extra)
+      ∙ append-nil (rows_slots b n shows (slots_of t) rows)
+
   pub sight-bare : (n : ℕ) (t : TypeId) → kind_of b n ≡ Some t → (path : List ℕ) → path_text b n ≡ path → ((s : List ℕ × Slot) → IsFurther t s → ⊥)
       → (shows : PropertyName → Shown) → AllByRecursion (RowSeen b n shows) (slots_of t) → sight b n ≡ seen_as path t shows []
   sight-bare n t kind path told bare shows rows =
-      let k : Rowed b t shows (slots_of t) (slots_at b n) = rowed n t kind shows rows in
-      let none : map (show b) k.behind ≡ [] = ap (map (show b)) (bare-show b t bare k.behind k.extra) in
       ap (λ (p : List ℕ). made p (kind_of b n) (map (show b) (slots_at b n))) told
       ∙ ap (λ (o : Option TypeId). made path o (map (show b) (slots_at b n))) kind
-      ∙ ap (made path (Some t)) (k.so ∙ ap (λ (xs : List (List ℕ × Shown)). map (λ (p : Property). (property_name p.name, shows p.name)) (slots_of t) ++ xs) none)
+      ∙ ap (made path (Some t))
+      (ap (map (show b)) (bare-slots n t kind bare shows rows) ∙ rows-show b n shows (slots_of t) rows
+      ∙ sym (append-nil (map (λ (p : Property). (property_name p.name, shows p.name)) (slots_of t))))
 
 -- ---- an object whose one row tells its type
 
