@@ -4,6 +4,7 @@ use Rattle.qo_alike.specs.AlikeBoards.{AlikeLaw}
 use Rattle.qo_alike.proofs.RowsLemmas.{bare-show}
 use Rattle.qo_alike.proofs.LinkSaidLemmas.{link-leads}
 use Rattle.qo_alike.proofs.SightLemmas.{sight-clock}
+use Rattle.qo_alike.proofs.KidsLemmas.{kids-shown}
 
 pub alike_lem : AlikeLaw
 alike_lem = ?

@@ -1,4 +1,5 @@
 pub mod RowsLemmas
 pub mod LinkSaidLemmas
 pub mod SightLemmas
+pub mod KidsLemmas
 pub mod AlikeLemmas
