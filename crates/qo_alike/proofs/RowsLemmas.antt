@@ -85,10 +85,13 @@ away-first p ps [] h = tt
 away-first p ps (s ∷ slots) h = (h.0.0, away-first p ps slots h.1)
 
 -- an object's property shows so
-pub record RowSeen (b : Board) (n : ℕ) (shows : PropertyName → Shown) (p : Property) : Type 0 where
+pub record RowAt (b : Board) (n : ℕ) (shows : PropertyName → Shown) (name : PropertyName) : Type 0 where
   pub slot : Slot
-  pub found : slot_named b n (property_name p.name) ≡ Some slot
-  pub so : shown b slot ≡ shows p.name
+  pub found : slot_named b n (property_name name) ≡ Some slot
+  pub so : shown b slot ≡ shows name
+
+abbrev pub RowSeen : Board → ℕ → (PropertyName → Shown) → Property → Type 0
+RowSeen b n shows p = RowAt b n shows p.name
 
 -- the slots of rows, each under its row's name
 abbrev pub rows_slots : (b : Board) (n : ℕ) (shows : PropertyName → Shown) (ps : List Property) → AllByRecursion (RowSeen b n shows) ps → List (List ℕ × Slot)
