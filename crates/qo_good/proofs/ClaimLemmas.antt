@@ -27,7 +27,7 @@ use Rattle.qo_good.proofs.ValueLemmas.{prop-left, prop-none, prop-some, unnamed}
 
 -- ---- slots by what is read of them
 
-text-slot : (id : List ℕ) (o : Option Slot) → option_and_then text_in (option_and_then plain_in o) ≡ Some id → o ≡ Some (plain (val.Text id))
+pub text-slot : (id : List ℕ) (o : Option Slot) → option_and_then text_in (option_and_then plain_in o) ≡ Some id → o ≡ Some (plain (val.Text id))
 text-slot id None e = absurd (cc)
 text-slot id (Some (plain (val.Text t))) e = ap (λ (x : List ℕ). Some (plain (val.Text x))) (same_Some t id e)
 text-slot id (Some (plain (val.Bool u))) e = absurd (cc)
@@ -39,7 +39,7 @@ text-slot id (Some (strong t target)) e = absurd (cc)
 text-slot id (Some (weak t target)) e = absurd (cc)
 text-slot id (Some (alias m of)) e = absurd (cc)
 
-number-slot : (n : ℕ) (o : Option Slot) → option_and_then number_in (option_and_then plain_in o) ≡ Some n → o ≡ Some (plain (val.Uint n))
+pub number-slot : (n : ℕ) (o : Option Slot) → option_and_then number_in (option_and_then plain_in o) ≡ Some n → o ≡ Some (plain (val.Uint n))
 number-slot n None e = absurd (cc)
 number-slot n (Some (plain (val.Uint m))) e = ap (λ (x : ℕ). Some (plain (val.Uint x))) (same_Some m n e)
 number-slot n (Some (plain (val.Bool u))) e = absurd (cc)
@@ -51,7 +51,7 @@ number-slot n (Some (strong t target)) e = absurd (cc)
 number-slot n (Some (weak t target)) e = absurd (cc)
 number-slot n (Some (alias m of)) e = absurd (cc)
 
-strong-slot : (n : ℕ) (o : Option Slot) → option_and_then strong_in o ≡ Some n → (t : TypeId) × (o ≡ Some (strong t (Some n)))
+pub strong-slot : (n : ℕ) (o : Option Slot) → option_and_then strong_in o ≡ Some n → (t : TypeId) × (o ≡ Some (strong t (Some n)))
 strong-slot n None e = absurd (cc)
 strong-slot n (Some (plain v)) e = absurd (cc)
 strong-slot n (Some (child m)) e = absurd (cc)
@@ -61,24 +61,24 @@ strong-slot n (Some (alias m of)) e = absurd (cc)
 
 -- ---- types
 
-device-four : (t : TypeId) → is_abstract t ≡ false → is_a t (codes "device") ≡ true → (t ≡ SlotUart) ⊎ ((t ≡ MemDimm) ⊎ ((t ≡ SlotTimer) ⊎ (t ≡ SlotBridge)))
+pub device-four : (t : TypeId) → is_abstract t ≡ false → is_a t (codes "device") ≡ true → (t ≡ SlotUart) ⊎ ((t ≡ MemDimm) ⊎ ((t ≡ SlotTimer) ⊎ (t ≡ SlotBridge)))
 unfolding types
 device-four =
     each (λ (t : TypeId). is_abstract t ≡ false → is_a t (codes "device") ≡ true → (t ≡ SlotUart) ⊎ ((t ≡ MemDimm) ⊎ ((t ≡ SlotTimer) ⊎ (t ≡ SlotBridge))))
     (search rules)
 
-memory-one : (t : TypeId) → is_abstract t ≡ false → is_a t (codes "memory-backend") ≡ true → t ≡ MemoryBackendRam
+pub memory-one : (t : TypeId) → is_abstract t ≡ false → is_a t (codes "memory-backend") ≡ true → t ≡ MemoryBackendRam
 unfolding types
 memory-one = each (λ (t : TypeId). is_abstract t ≡ false → is_a t (codes "memory-backend") ≡ true → t ≡ MemoryBackendRam) (search rules)
 
-device-no_memory : (t : TypeId) → is_a t (codes "device") ≡ true → bytes_eq (type_name t) (type_name MemoryBackendRam) ≡ false
+pub device-no_memory : (t : TypeId) → is_a t (codes "device") ≡ true → bytes_eq (type_name t) (type_name MemoryBackendRam) ≡ false
 unfolding types
 device-no_memory = each (λ (t : TypeId). is_a t (codes "device") ≡ true → bytes_eq (type_name t) (type_name MemoryBackendRam) ≡ false) (search rules)
 
 named-memory : (t : TypeId) → bytes_eq (type_name t) (type_name MemoryBackendRam) ≡ true → t ≡ MemoryBackendRam
 named-memory = each (λ (t : TypeId). bytes_eq (type_name t) (type_name MemoryBackendRam) ≡ true → t ≡ MemoryBackendRam) (search rules)
 
-named-dimm : (t : TypeId) → bytes_eq (type_name t) (type_name MemDimm) ≡ true → t ≡ MemDimm
+pub named-dimm : (t : TypeId) → bytes_eq (type_name t) (type_name MemDimm) ≡ true → t ≡ MemDimm
 named-dimm = each (λ (t : TypeId). bytes_eq (type_name t) (type_name MemDimm) ≡ true → t ≡ MemDimm) (search rules)
 
 rowless : AllByRecursion (λ (r : TypeId × List ℕ). property_named r.0 r.1 ≡ None)

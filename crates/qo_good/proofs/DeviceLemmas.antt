@@ -43,7 +43,7 @@ none-first path (inr (inr (inr (inr (inr (inr (inl e))))))) = let clash : Memory
 none-first path (inr (inr (inr (inr (inr (inr (inr (inl e)))))))) = let clash : MemoryBackendRam ≡ Container = e.1 in cc
 none-first path (inr (inr (inr (inr (inr (inr (inr (inr e)))))))) = e
 
-ring-text : (id : List ℕ) → text_for (ring_given id) (codes "chardev") ≡ id
+pub ring-text : (id : List ℕ) → text_for (ring_given id) (codes "chardev") ≡ id
 ring-text [] = refl
 ring-text (c ∷ cs) = refl
 
