@@ -46,7 +46,7 @@ peer_row = property prop.Peer (row.Link Device true) Both
 abbrev watch_row : Property
 watch_row = property prop.Watch (row.Link Device false) Both
 
-peer-named : (t : TypeId) → is_a t (codes "device") ≡ true → property_named t (codes "peer") ≡ Some peer_row
+pub peer-named : (t : TypeId) → is_a t (codes "device") ≡ true → property_named t (codes "peer") ≡ Some peer_row
 unfolding types
 peer-named = each (λ (t : TypeId). is_a t (codes "device") ≡ true → property_named t (codes "peer") ≡ Some peer_row) (search rules)
 

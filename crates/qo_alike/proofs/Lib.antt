@@ -2,4 +2,8 @@ pub mod RowsLemmas
 pub mod LinkSaidLemmas
 pub mod SightLemmas
 pub mod KidsLemmas
+pub mod PreorderLemmas
+pub mod OwnerLemmas
+pub mod ClockSightLemmas
+pub mod DeviceSightLemmas
 pub mod AlikeLemmas

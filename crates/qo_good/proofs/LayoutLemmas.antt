@@ -65,6 +65,10 @@ dimm-no_clock : property_named MemDimm (codes "clk") ≡ None
 unfolding types
 dimm-no_clock = refl
 
+pub bridge-slot : is_a SlotBridge (codes "slot-device") ≡ true
+unfolding types
+bridge-slot = refl
+
 -- what is said of a clock, one way and the other
 abbrev say : Bool → ℕ → ℕ → List ℕ → Option ClockItem
 say has mul div path = if has && not ((mul == 1) && (div == 1)) then Some (record { div = div; mul = mul; path = path }) else None
@@ -122,10 +126,6 @@ module _ (b : Board) (h : IsWhole b) (says : is_describable b ≡ true) where
 
   -- ---- bridges
 
-  bridge-slot : is_a SlotBridge (codes "slot-device") ≡ true
-  unfolding types
-  bridge-slot = refl
-
   bridge-laid : (e : List ℕ × ℕ) (k : Stood b e) → k.here.kind ≡ SlotBridge → IsBridgeLaid l (device_as b e)
   bridge-laid e k is =
       let (m, on) = own-bus b h.order says e k is in
@@ -167,6 +167,14 @@ module _ (b : Board) (h : IsWhole b) (says : is_describable b ≡ true) where
 
   -- ---- what is said of clocks
 
+  -- a DIMM has none
+  pub no-clock : (e : List ℕ × ℕ) (k : Stood b e) → is_a k.here.kind (codes "slot-device") ≡ false → clock_item_of b e ≡ None
+  no-clock e k is =
+      let kind : k.here.kind ≡ MemDimm = other-dimm k.here.kind k.here.concrete k.here.wants is in
+      let slot : slot_named b e.1 (codes "clk") ≡ None =
+      unnamed b h.order.shape e.1 MemDimm (k.here.its ∙ ap Some kind) (codes "clk") (λ s x. x) dimm-no_clock in
+      ap (λ (o : Option Slot). option_and_then (clock_item b) (option_and_then child_named o)) slot
+
   clock-same : (e : List ℕ × ℕ) (k : Stood b e) → clock_item_of b e ≡ clock_said l (device_as b e)
   clock-same e k = decide (is_a k.here.kind (codes "slot-device")) has none
     where
@@ -185,12 +193,7 @@ module _ (b : Board) (h : IsWhole b) (says : is_describable b ≡ true) where
           ∙ ap (λ (u : Bool). say u (l.mul e.0) (l.div e.0) (clock_path e.0)) (sym (own ∙ is))
 
       none : is_a k.here.kind (codes "slot-device") ≡ false → clock_item_of b e ≡ clock_said l (device_as b e)
-      none is =
-          let kind : k.here.kind ≡ MemDimm = other-dimm k.here.kind k.here.concrete k.here.wants is in
-          let slot : slot_named b e.1 (codes "clk") ≡ None =
-          unnamed b h.order.shape e.1 MemDimm (k.here.its ∙ ap Some kind) (codes "clk") (λ s x. x) dimm-no_clock in
-          ap (λ (o : Option Slot). option_and_then (clock_item b) (option_and_then child_named o)) slot
-          ∙ ap (λ (u : Bool). say u (l.mul e.0) (l.div e.0) (clock_path e.0)) (sym (own ∙ is))
+      none is = no-clock e k is ∙ ap (λ (u : Bool). say u (l.mul e.0) (l.div e.0) (clock_path e.0)) (sym (own ∙ is))
 
   pub clocks-laid : (description b).clocks ≡ filter_map (clock_said l) (description b).devices
   clocks-laid =
