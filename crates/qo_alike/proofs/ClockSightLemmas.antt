@@ -172,9 +172,9 @@ module _ (b : Board) (h : IsWhole b) (tells : TellsTypes b) (says : is_describab
                 let path : y.path ≡ clock_path x.0 = own-item on.clock x.0 on.told y (sym (item-of x on) ∙ r) in
                 decide (test y)
                 (λ t.
-                  let paths : clock_path x.0 ≡ clock_path e.0 = sym path ∙ (bytes_eq-Decides y.path (clock_path e.0)).0 t in
-                  let clocks : on.clock ≡ c.clock = same_Some on.clock c.clock (sym on.found ∙ ap (at b) paths ∙ c.found) in
-                  inr (ap (λ (o : Option ClockItem). find test (listed_of o)) r ∙ rw t refl ∙ sym r ∙ item-of x on ∙ ap (clock_item b) clocks ∙ sym (item-of e c)))
+                let paths : clock_path x.0 ≡ clock_path e.0 = sym path ∙ (bytes_eq-Decides y.path (clock_path e.0)).0 t in
+                let clocks : on.clock ≡ c.clock = same_Some on.clock c.clock (sym on.found ∙ ap (at b) paths ∙ c.found) in
+                inr (ap (λ (o : Option ClockItem). find test (listed_of o)) r ∙ rw t refl ∙ sym r ∙ item-of x on ∙ ap (clock_item b) clocks ∙ sym (item-of e c)))
                 (λ t. inl (ap (λ (o : Option ClockItem). find test (listed_of o)) r ∙ rw t refl))
 
         none : is_a j.here.kind (codes "slot-device") ≡ false → find test (listed_of (clock_item_of b x)) ≡ None

@@ -88,8 +88,8 @@ module _ (b : Board) (n : ℕ) where
   other-path path name differ [] = refl
   other-path path name differ (s ∷ slots) =
       skipped path name s slots (λ l e.
-        let k : IsFrom s l = link-from s l e in
-        decide (bytes_eq l.path path) (λ q. absurd (differ (sym k.path ∙ (bytes_eq-Decides l.path path).0 q))) (λ q. rw q refl))
+      let k : IsFrom s l = link-from s l e in
+      decide (bytes_eq l.path path) (λ q. absurd (differ (sym k.path ∙ (bytes_eq-Decides l.path path).0 q))) (λ q. rw q refl))
       ∙ other-path path name differ slots
 
   and-false : (t u : Bool) → u ≡ false → (t && u) ≡ false

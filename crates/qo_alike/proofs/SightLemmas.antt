@@ -203,9 +203,13 @@ module _ (b : Board) (h : IsInOrder b) (tells : TellsTypes b) where
   unfolding types
   clock-rows n kind period mul div source at_period at_mul at_div s at_source leads = (
     record { slot = plain (val.Text (type_name Clock)); found = type-slot n Clock kind; so = refl },
-    (record { slot = plain (val.Uint period); found = at_period; so = refl },
-    (record { slot = plain (val.Uint mul); found = at_mul; so = refl },
-    (record { slot = plain (val.Uint div); found = at_div; so = refl }, (record { slot = s; found = at_source; so = leads }, tt)))),
+    (
+      record { slot = plain (val.Uint period); found = at_period; so = refl },
+      (
+        record { slot = plain (val.Uint mul); found = at_mul; so = refl },
+        (record { slot = plain (val.Uint div); found = at_div; so = refl }, (record { slot = s; found = at_source; so = leads }, tt)),
+      ),
+    ),
   )
 
   pub sight-clock : (n : ℕ) → kind_of b n ≡ Some Clock → (path : List ℕ) → path_text b n ≡ path → (period mul div : ℕ) (source : List ℕ)

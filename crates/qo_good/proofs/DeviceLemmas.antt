@@ -269,9 +269,10 @@ module _ (b : Board) (h : IsWhole b) (says : is_describable b ≡ true) where
             (one-entry p (child_entries b PERIPHERAL_BIRTH) there_is)) in
             let first_of : OneOf (λ (x : List ℕ × ℕ). x.1 ≡ p.1) done = one-before p.1 done e more rising (omega arith) one in
             bridges (one-map (λ (y : List ℕ × ℕ). Before e y × (y.1 ≡ p.1))
-            (λ (y : DeviceItem). (y.driver ≡ type_name SlotBridge) × ((device_as b e).bus ≡ bus_path y.id)) (device_as b) (λ y q.
-            (ap (λ (o : Option TypeId). type_name (unwrap_or o Object)) (ap (kind_of b) q.1 ∙ kind),
-            bus-said b h says e k ∙ bus-path y q.0.0 (subst (λ (m : ℕ). has_entry (codes "bus.0", k.on.bus) (child_entries b m) ≡ true) (sym q.1) on)))
+            (λ (y : DeviceItem). (y.driver ≡ type_name SlotBridge) × ((device_as b e).bus ≡ bus_path y.id)) (device_as b) (λ y q. (
+              ap (λ (o : Option TypeId). type_name (unwrap_or o Object)) (ap (kind_of b) q.1 ∙ kind),
+              bus-said b h says e k ∙ bus-path y q.0.0 (subst (λ (m : ℕ). has_entry (codes "bus.0", k.on.bus) (child_entries b m) ≡ true) (sym q.1) on),
+            ))
             done (one-both (Before e) (λ (y : List ℕ × ℕ). y.1 ≡ p.1) done before first_of))
             (slot-only k.here.kind (suits-bus SlotBus its))
           where

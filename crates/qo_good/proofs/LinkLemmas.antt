@@ -261,9 +261,11 @@ typed-distinct : (slots : List (List ℕ × Slot)) → HasSlots Container (type_
     → IsDistinct bytes_eq (codes "type" ∷ ids_in (filter_map child_entry slots))
 unfolding IsDistinct
 typed-distinct slots (missing may rest) h = clash-back may
-typed-distinct ((name, plain v) ∷ slots) (next is rest) h =
-    (subst (λ (x : List ℕ). AllByRecursion (λ (y : List ℕ). bytes_eq x y ≡ false) (ids_in (filter_map child_entry slots))) is.name
-    (entries-all (λ (y : List ℕ). bytes_eq name y ≡ false) slots h.0), entries-distinct slots h.1)
+typed-distinct ((name, plain v) ∷ slots) (next is rest) h = (
+  subst (λ (x : List ℕ). AllByRecursion (λ (y : List ℕ). bytes_eq x y ≡ false) (ids_in (filter_map child_entry slots))) is.name
+      (entries-all (λ (y : List ℕ). bytes_eq name y ≡ false) slots h.0),
+  entries-distinct slots h.1,
+)
 typed-distinct ((name, child m) ∷ slots) (next is rest) h = absurd is.fits
 typed-distinct ((name, strong t target) ∷ slots) (next is rest) h = absurd is.fits
 typed-distinct ((name, weak t target) ∷ slots) (next is rest) h = absurd is.fits

@@ -51,9 +51,10 @@ part-first : (p : Property) (ps : List Property) (t : TypeId) → p.role ≡ row
     → AllByRecursion (IsPartOf (filter_map further_in ps)) ps → AllByRecursion (IsPartOf (filter_map further_in (p ∷ ps))) (p ∷ ps)
 part-first p ps t q leaves rest =
     let is : filter_map further_in (p ∷ ps) ≡ (property_name p.name, t) ∷ filter_map further_in ps = rw leaves refl in
-    subst (λ (fs : List (List ℕ × TypeId)). AllByRecursion (IsPartOf fs) (p ∷ ps)) (sym is)
-    ((λ k e. inl (refl, (let same : row.Child t ≡ row.Child k = sym q ∙ e in cc))),
-    all-imply (IsPartOf (filter_map further_in ps)) (IsPartOf ((property_name p.name, t) ∷ filter_map further_in ps)) (λ x h k e. inr (h k e)) ps rest)
+    subst (λ (fs : List (List ℕ × TypeId)). AllByRecursion (IsPartOf fs) (p ∷ ps)) (sym is) (
+      (λ k e. inl (refl, (let same : row.Child t ≡ row.Child k = sym q ∙ e in cc))),
+      all-imply (IsPartOf (filter_map further_in ps)) (IsPartOf ((property_name p.name, t) ∷ filter_map further_in ps)) (λ x h k e. inr (h k e)) ps rest,
+    )
 
 rows-parts : (ps : List Property) → AllByRecursion (IsPartOf (filter_map further_in ps)) ps
 rows-parts [] = tt
@@ -265,8 +266,8 @@ module _ (b : Board) (h : IsInOrder b) (says : is_describable b ≡ true) where
   not_root n t its e =
       decide (n == ROOT_BIRTH)
       (λ q.
-        let same : t ≡ Container = same_Some t Container (sym its ∙ ap (kind_of b) (eqb-true n ROOT_BIRTH q) ∙ root-kind b h) in
-        clash (sym (ap is_shelf same) ∙ e))
+      let same : t ≡ Container = same_Some t Container (sym its ∙ ap (kind_of b) (eqb-true n ROOT_BIRTH q) ∙ root-kind b h) in
+      clash (sym (ap is_shelf same) ∙ e))
       (λ q. q)
 
   -- each device has an id
@@ -285,9 +286,9 @@ module _ (b : Board) (h : IsInOrder b) (says : is_describable b ≡ true) where
           (λ q. (u.1, subst (λ (p : ℕ). has_entry (u.1, n) (child_entries b p) ≡ true) (eqb-true u.0 PERIPHERAL_BIRTH q) there))
           (λ q. decide (eqb u.0 ANONYMOUS_BIRTH)
           (λ r.
-            let on : has_entry (u.1, n) (child_entries b ANONYMOUS_BIRTH) ≡ true =
-            subst (λ (p : ℕ). has_entry (u.1, n) (child_entries b p) ≡ true) (eqb-true u.0 ANONYMOUS_BIRTH r) there in
-            clash-back (sym (ap (has_entry (u.1, n)) (none-anonymous b h says)) ∙ on))
+          let on : has_entry (u.1, n) (child_entries b ANONYMOUS_BIRTH) ≡ true =
+          subst (λ (p : ℕ). has_entry (u.1, n) (child_entries b p) ≡ true) (eqb-true u.0 ANONYMOUS_BIRTH r) there in
+          clash-back (sym (ap (has_entry (u.1, n)) (none-anonymous b h says)) ∙ on))
           (λ r. clash-back (rw (q, r) at k)))
 
   -- an object that every machine begins with

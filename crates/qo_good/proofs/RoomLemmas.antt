@@ -46,9 +46,10 @@ distinct-append [] ys d e apart = e
 distinct-append (x ∷ xs) ys d e apart =
     let own : eqb x x ≡ true = (nat_eq_equiv).refl x in
     let here : among (x ∷ xs) x ≡ true = rw own refl in
-    let away : among ys x ≡ false = decide (among ys x) (λ q. absurd (apart x here q)) (λ q. q) in
-    (all-append (λ y. nat_eq x y ≡ false) xs ys d.0 (among-apart x ys away),
-    distinct-append xs ys d.1 e (λ n p q. apart n (later (eqb n x) (among xs n) p) q))
+    let away : among ys x ≡ false = decide (among ys x) (λ q. absurd (apart x here q)) (λ q. q) in (
+      all-append (λ y. nat_eq x y ≡ false) xs ys d.0 (among-apart x ys away),
+      distinct-append xs ys d.1 e (λ n p q. apart n (later (eqb n x) (among xs n) p) q),
+    )
   where
     later : (t u : Bool) → u ≡ true → (t || u) ≡ true
     later true u e = refl
@@ -211,12 +212,22 @@ module _ (b : Board) (h : IsWhole b) (says : is_describable b ≡ true) where
   firsts-live : AllByRecursion (λ n. is_live b n ≡ true) firsts
   firsts-live = (
     kind-live ROOT_BIRTH _ (root-kind b h.order),
-    (kind-live MACHINE_BIRTH _ (machine-kind b h.order),
-    (kind-live PERIPHERAL_BIRTH _ (peripheral-kind b h.order),
-    (kind-live ANONYMOUS_BIRTH _ (anonymous-kind b h.order),
-    (kind-live SYSTEM_CLOCK_BIRTH _ (system-kind b h.order),
-    (kind-live ROOT_BUS_BIRTH _ (root_bus-kind b h.order),
-    (kind-live MEMORY_BUS_BIRTH _ (memory_bus-kind b h.order), (kind-live OBJECTS_BIRTH _ (objects-kind b h.order), tt))))))),
+    (
+      kind-live MACHINE_BIRTH _ (machine-kind b h.order),
+      (
+        kind-live PERIPHERAL_BIRTH _ (peripheral-kind b h.order),
+        (
+          kind-live ANONYMOUS_BIRTH _ (anonymous-kind b h.order),
+          (
+            kind-live SYSTEM_CLOCK_BIRTH _ (system-kind b h.order),
+            (
+              kind-live ROOT_BUS_BIRTH _ (root_bus-kind b h.order),
+              (kind-live MEMORY_BUS_BIRTH _ (memory_bus-kind b h.order), (kind-live OBJECTS_BIRTH _ (objects-kind b h.order), tt)),
+            ),
+          ),
+        ),
+      ),
+    ),
   )
 
   -- they stand at the root or below it or the machine
@@ -235,10 +246,16 @@ module _ (b : Board) (h : IsWhole b) (says : is_describable b ≡ true) where
   firsts-above : AllByRecursion IsFirst firsts
   firsts-above = (
     inl refl,
-    (inr (inl at-root.0),
-    (inr (inr at-machine.0),
-    (inr (inr at-machine.1.0),
-    (inr (inr at-machine.1.1.0), (inr (inr at-machine.1.1.1.0), (inr (inr at-machine.1.1.1.1.0), (inr (inl at-root.1.0), tt))))))),
+    (
+      inr (inl at-root.0),
+      (
+        inr (inr at-machine.0),
+        (
+          inr (inr at-machine.1.0),
+          (inr (inr at-machine.1.1.0), (inr (inr at-machine.1.1.1.0), (inr (inr at-machine.1.1.1.1.0), (inr (inl at-root.1.0), tt)))),
+        ),
+      ),
+    ),
   )
 
   -- others stand below another object
@@ -260,9 +277,10 @@ module _ (b : Board) (h : IsWhole b) (says : is_describable b ≡ true) where
   others-in p high =
       map-all IsOther (λ (e : List ℕ × ℕ). e.1) (child_entries b p)
       (all-imply (λ e. has_entry e (child_entries b p) ≡ true) (λ (e : List ℕ × ℕ). IsOther e.1)
-      (λ e there.
-        (apart b h.order p e (omega arith) there,
-        (p, (high, parent-is b (firm b h.order) p e.1 (listed-entry e (child_entries b p) there)))))
+      (λ e there. (
+        apart b h.order p e (omega arith) there,
+        (p, (high, parent-is b (firm b h.order) p e.1 (listed-entry e (child_entries b p) there))),
+      ))
       (child_entries b p) (all-here (child_entries b p)))
 
   others-below : (p : ℕ) → MACHINE_BIRTH < p → AllByRecursion IsOther (children_of b p)
@@ -319,6 +337,10 @@ module _ (b : Board) (h : IsWhole b) (says : is_describable b ≡ true) where
       let (c, (device, is)) = among-all (IsBelow (λ c. among devices_born c ≡ true)) (parts_below devices_born) parts-inner n f in
       device-no_place c device p at (same_Some c p (sym is ∙ among-all (λ x. above x ≡ Some p) xs all n e))
 
+  firsts-distinct : IsDistinct nat_eq firsts
+  unfolding IsDistinct
+  firsts-distinct = search rules
+
   born-distinct : IsDistinct nat_eq (firsts ++ (users_born ++ (devices_born ++ parts_below devices_born)))
   born-distinct =
       distinct-append firsts (users_born ++ (devices_born ++ parts_below devices_born)) firsts-distinct
@@ -329,10 +351,6 @@ module _ (b : Board) (h : IsWhole b) (says : is_describable b ≡ true) where
       (λ n e f. two n e (either devices_born (parts_below devices_born) n f)))
       (λ n e f. first-other n (among-all IsFirst firsts firsts-above n e) (among-all IsOther (users_born ++ (devices_born ++ parts_below devices_born)) others-all n f))
     where
-      firsts-distinct : IsDistinct nat_eq firsts
-      unfolding IsDistinct
-      firsts-distinct = search rules
-
       either : (xs ys : List ℕ) (n : ℕ) → among (xs ++ ys) n ≡ true → (among xs n ≡ true) ⊎ (among ys n ≡ true)
       either [] ys n e = inr e
       either (x ∷ xs) ys n e =
