@@ -88,14 +88,14 @@ owns-entry name m (x ∷ es) other there = decide (x.1 == m && bytes_eq x.0 name
 abbrev clk_row : Property
 clk_row = property prop.Clk (row.Child Clock) Never
 
-abbrev bus_row : Property
+abbrev pub bus_row : Property
 bus_row = property prop.Bus0 (row.Child SlotBus) Never
 
 clk-named : (t : TypeId) → is_a t (codes "slot-device") ≡ true → property_named t (codes "clk") ≡ Some clk_row
 unfolding types
 clk-named = each (λ (t : TypeId). is_a t (codes "slot-device") ≡ true → property_named t (codes "clk") ≡ Some clk_row) (search rules)
 
-bus-named : property_named SlotBridge (codes "bus.0") ≡ Some bus_row
+pub bus-named : property_named SlotBridge (codes "bus.0") ≡ Some bus_row
 unfolding types
 bus-named = refl
 
@@ -106,7 +106,7 @@ clk-fits (strong t target) h = absurd h
 clk-fits (weak t target) h = absurd h
 clk-fits (alias m of) h = absurd h
 
-bus-fits : (s : Slot) → HasRole bus_row.role s → (c : ℕ) × (s ≡ child c)
+pub bus-fits : (s : Slot) → HasRole bus_row.role s → (c : ℕ) × (s ≡ child c)
 bus-fits (plain v) h = absurd h
 bus-fits (child m) h = (m, refl)
 bus-fits (strong t target) h = absurd h
