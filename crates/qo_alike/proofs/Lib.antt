@@ -6,4 +6,5 @@ pub mod PreorderLemmas
 pub mod OwnerLemmas
 pub mod ClockSightLemmas
 pub mod DeviceSightLemmas
+pub mod ObjectSightLemmas
 pub mod AlikeLemmas

@@ -76,7 +76,7 @@ ring_ids-good b h = subst (IsDistinct bytes_eq) (sym (rings-named b.rings)) h.ba
 
 -- ---- users' objects
 
-creatable-two : (t : TypeId) → is_abstract t ≡ false → is_a t (codes "user-creatable") ≡ true → (t ≡ MemoryBackendRam) ⊎ (t ≡ Tag)
+pub creatable-two : (t : TypeId) → is_abstract t ≡ false → is_a t (codes "user-creatable") ≡ true → (t ≡ MemoryBackendRam) ⊎ (t ≡ Tag)
 unfolding types
 creatable-two = each (λ (t : TypeId). is_abstract t ≡ false → is_a t (codes "user-creatable") ≡ true → (t ≡ MemoryBackendRam) ⊎ (t ≡ Tag)) (search rules)
 
@@ -176,23 +176,69 @@ tag-given b shape n kind =
     (one-other b shape n Tag kind (codes "size") (codes "text" ∷ []) (unnamed b shape n Tag kind (codes "size") (λ s k. k) tag-bare) tag-bare
     (one-given b shape n Tag kind (codes "text") [] text-value nothing)))
 
+-- what is given to a memory backend and to a tag
+pub record MemoryProps (b : Board) (n : ℕ) : Type 0 where
+  pub size : ℕ
+  pub at : slot_named b n (codes "size") ≡ Some (plain (val.Uint size))
+  pub props : props_under b is_nothing object_given n ≡ (codes "size", val.Uint size) ∷ []
+
+pub record TagProps (b : Board) (n : ℕ) : Type 0 where
+  pub flag : Val
+  pub number : Val
+  pub text : Val
+  pub flag_at : slot_named b n (codes "flag") ≡ Some (plain flag)
+  pub number_at : slot_named b n (codes "number") ≡ Some (plain number)
+  pub text_at : slot_named b n (codes "text") ≡ Some (plain text)
+  pub props : props_under b is_nothing object_given n ≡ (codes "flag", flag) ∷ (codes "number", number) ∷ (codes "text", text) ∷ []
+
+module _ (b : Board) (shape : SoundShape b) (n : ℕ) where
+  four : (w x y z : Option Given) → prop_under b is_nothing n (codes "flag") ≡ w → prop_under b is_nothing n (codes "number") ≡ x
+      → prop_under b is_nothing n (codes "size") ≡ y → prop_under b is_nothing n (codes "text") ≡ z
+      → props_under b is_nothing object_given n ≡ filter_map (λ (o : Option Given). o) (w ∷ x ∷ y ∷ z ∷ [])
+  four w x y z e f g k = rw (e, f, g, k) refl
+
+  pub memory-props : kind_of b n ≡ Some MemoryBackendRam → MemoryProps b n
+  unfolding types
+  memory-props kind =
+      let gone = unnamed b shape n MemoryBackendRam kind in
+      let (v, at) =
+      shapes_say_lem.memory b shape n (ap (λ (o : Option TypeId). option_map_or (λ (t : TypeId). is_a t (codes "memory-backend")) o false) kind) in
+      record {
+        size = v;
+        at = at;
+        props = four None None (Some (codes "size", val.Uint v)) None
+            (prop-none b is_nothing n (codes "flag") (gone (codes "flag") (λ s k. k) memory-bare.0))
+            (prop-none b is_nothing n (codes "number") (gone (codes "number") (λ s k. k) memory-bare.1.0))
+            (prop-some b is_nothing n (codes "size") (plain (val.Uint v)) at refl)
+            (prop-none b is_nothing n (codes "text") (gone (codes "text") (λ s k. k) memory-bare.1.1.0));
+      }
+
+  pub tag-props : kind_of b n ≡ Some Tag → TagProps b n
+  tag-props kind =
+      let (f, (flag_at, flag_takes)) = value-given b shape n Tag kind (codes "flag") flag-value in
+      let (m, (number_at, number_takes)) = value-given b shape n Tag kind (codes "number") number-value in
+      let (t, (text_at, text_takes)) = value-given b shape n Tag kind (codes "text") text-value in
+      record {
+        flag = f;
+        number = m;
+        text = t;
+        flag_at = flag_at;
+        number_at = number_at;
+        text_at = text_at;
+        props = four (Some (codes "flag", f)) (Some (codes "number", m)) None (Some (codes "text", t))
+            (prop-some b is_nothing n (codes "flag") (plain f) flag_at (some-admitted flag-value.takes f flag_takes))
+            (prop-some b is_nothing n (codes "number") (plain m) number_at (some-admitted number-value.takes m number_takes))
+            (prop-none b is_nothing n (codes "size") (unnamed b shape n Tag kind (codes "size") (λ s k. k) tag-bare))
+            (prop-some b is_nothing n (codes "text") (plain t) text_at (some-admitted text-value.takes t text_takes));
+      }
+
 -- the size of a memory backend, as it is said
 pub memory-size : (b : Board) → SoundShape b → (n : ℕ) → kind_of b n ≡ Some MemoryBackendRam
     → number_for (props_under b is_nothing object_given n) (codes "size") ≡ Some (size_of b n)
-unfolding types
 memory-size b shape n kind =
-    let gone = unnamed b shape n MemoryBackendRam kind in
-    let (v, at) = (shapes_say_lem.memory b shape n (ap (λ (o : Option TypeId). option_map_or (λ (t : TypeId). is_a t (codes "memory-backend")) o false) kind)) in
-    let no_flag : prop_under b is_nothing n (codes "flag") ≡ None = prop-none b is_nothing n (codes "flag") (gone (codes "flag") (λ s k. k) memory-bare.0) in
-    let no_number : prop_under b is_nothing n (codes "number") ≡ None =
-    prop-none b is_nothing n (codes "number") (gone (codes "number") (λ s k. k) memory-bare.1.0) in
-    let its_size : prop_under b is_nothing n (codes "size") ≡ Some (codes "size", val.Uint v) =
-    prop-some b is_nothing n (codes "size") (plain (val.Uint v)) at refl in
-    let no_text : prop_under b is_nothing n (codes "text") ≡ None =
-    prop-none b is_nothing n (codes "text") (gone (codes "text") (λ s k. k) memory-bare.1.1.0) in
-    let props : props_under b is_nothing object_given n ≡ (codes "size", val.Uint v) ∷ [] = rw (no_flag, no_number, its_size, no_text) refl in
-    let long : size_of b n ≡ v = ap (λ (o : Option Slot). unwrap_or (option_and_then number_in (option_and_then plain_in o)) 0) at in
-    ap (λ (ps : List Given). number_for ps (codes "size")) props ∙ ap Some (sym long)
+    let k : MemoryProps b n = memory-props b shape n kind in
+    let long : size_of b n ≡ k.size = ap (λ (o : Option Slot). unwrap_or (option_and_then number_in (option_and_then plain_in o)) 0) k.at in
+    ap (λ (ps : List Given). number_for ps (codes "size")) k.props ∙ ap Some (sym long)
 
 object-good : (b : Board) → SoundShape b → (e : List ℕ × ℕ) → Here b OBJECTS_BIRTH (codes "user-creatable") e → IsGoodObject (object_as b e)
 object-good b shape e k =
