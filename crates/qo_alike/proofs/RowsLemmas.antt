@@ -117,7 +117,7 @@ module _ (b : Board) (n : ℕ) (t : TypeId) (shows : PropertyName → Shown) (wh
   in-whole : (name : List ℕ) → slot_named b n name ≡ named_among name whole
   in-whole name = ap (named_among name) at
 
-  rows-seen : (ps : List Property) (done : List (List ℕ × Slot)) {slots : List (List ℕ × Slot)} → whole ≡ done ++ slots → Away ps done
+  pub rows-seen : (ps : List Property) (done : List (List ℕ × Slot)) {slots : List (List ℕ × Slot)} → whole ≡ done ++ slots → Away ps done
       → IsDistinct bytes_eq (row_names ps) → Stays t ps → (rows : AllByRecursion (RowSeen b n shows) ps) → HasSlots t ps slots → Rowed b n t shows ps rows slots
   unfolding IsDistinct
   rows-seen [] done {slots} split away apart stays rows (further all) = record { behind = slots; extra = all; so = refl }

@@ -117,11 +117,11 @@ clock-no_bus : is_a Clock (codes "bus") ≡ false
 unfolding types
 clock-no_bus = refl
 
-slot-only : (t : TypeId) → is_a SlotBus (bus_type t) ≡ true → bus_type t ≡ codes "slot-bus"
+pub slot-only : (t : TypeId) → is_a SlotBus (bus_type t) ≡ true → bus_type t ≡ codes "slot-bus"
 unfolding types
 slot-only = each (λ (t : TypeId). is_a SlotBus (bus_type t) ≡ true → bus_type t ≡ codes "slot-bus") (search rules)
 
-memory-only : (t : TypeId) → is_a MemBus (bus_type t) ≡ true → bus_type t ≡ codes "mem-bus"
+pub memory-only : (t : TypeId) → is_a MemBus (bus_type t) ≡ true → bus_type t ≡ codes "mem-bus"
 unfolding types
 memory-only = each (λ (t : TypeId). is_a MemBus (bus_type t) ≡ true → bus_type t ≡ codes "mem-bus") (search rules)
 
