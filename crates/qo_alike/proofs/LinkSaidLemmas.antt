@@ -22,7 +22,7 @@ find-append test (x ∷ xs) ys = go (test x) refl (find-append test xs ys)
     go true q rest = rw q refl
     go false q rest = rw q rest
 
-find-flat : {E X : Type 0} (test : X → Bool) (f : E → List X) (o : Option X) (es : List E)
+pub find-flat : {E X : Type 0} (test : X → Bool) (f : E → List X) (o : Option X) (es : List E)
     → AllByRecursion (λ (e : E). (find test (f e) ≡ None) ⊎ (find test (f e) ≡ o)) es → OneOf (λ (e : E). find test (f e) ≡ o) es
     → find test (flat_map f es) ≡ o
 find-flat test f o [] all one = absurd one

@@ -1,6 +1,6 @@
 -- The system clock, the rings and users' objects of a description are good.
 use Rattle.std.proofs.Common.{◌≡◌, ◌≢◌, ◌⊎◌, inl, inr, refl, ap, sym, subst, ◌∙◌, rules, ℕ, ◌<◌, ◌^◌, Bool, true, false, List, [], ◌∷◌, filter_map, map, Option, Some, None, option_map, option_and_then, unwrap_or, codes}
-use Rattle.qo_model.proofs.Common.{AllByRecursion, IsDistinct, option_map_or, bytes_eq, is_id, type_name, MACHINE_BIRTH, OBJECTS_BIRTH, SYSTEM_CLOCK_BIRTH, TypeId, MemoryBackendRam, Object, Tag, BACKEND_SIZE_AT_FIRST, BACKEND_SIZE_MAX, DIMM_ALIGN, Board, Ring, Slot, plain, kind_of, slot_named, Given, period, own_period, scaled, source_of, clock_of, number_at, number_in, plain_in, place_of, property_named, is_of, is_a, types}
+use Rattle.qo_model.proofs.Common.{AllByRecursion, IsDistinct, option_map_or, bytes_eq, is_id, type_name, MACHINE_BIRTH, OBJECTS_BIRTH, SYSTEM_CLOCK_BIRTH, TypeId, MemoryBackendRam, Object, Tag, BACKEND_SIZE_AT_FIRST, BACKEND_SIZE_MAX, DIMM_ALIGN, Board, Ring, Slot, plain, kind_of, slot_named, Given, period, own_period, scaled, source_of, clock_of, number_in, plain_in, place_of, property_named, is_of, is_a, types}
 use Rattle.std.proofs.lemmas.Option.{same_Some}
 use Rattle.qo_values.proofs.EachLemmas.{each}
 use Rattle.qo_values.proofs.ListLemmas.{all-imply}
