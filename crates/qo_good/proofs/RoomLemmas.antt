@@ -118,7 +118,7 @@ module _ (b : Board) (h : IsWhole b) (says : is_describable b ≡ true) where
   objects-few : (e : List ℕ × ℕ) (k : Stood b e) → objects_of (device_as b e) ≤ suc (length (children_of b e.1))
   objects-few e k =
       let long : length (child_entries b e.1) ≡ length (children_of b e.1) =
-      sym (length-map (λ (x : List ℕ × ℕ). x.1) (child_entries b e.1)) ∙ ap length (entries-children (slots_at b e.1)) in
+      sym (length-map (child_entries b e.1) (λ (x : List ℕ × ℕ). x.1)) ∙ ap length (entries-children (slots_at b e.1)) in
       let is : objects_of (device_as b e) ≡ suc (length (parts_of k.here.kind)) =
       ap (λ (n : List ℕ). option_map_or (λ (r : TypeInfo). objects_in r.id) (type_named n) 0) (driver-said b h says e k) ∙ objects-by_type k.here.kind in
       omega (arith, is, long, parts-long e k)
@@ -380,12 +380,12 @@ module _ (b : Board) (h : IsWhole b) (says : is_describable b ≡ true) where
       sym (live-among b n)
       ∙ among-all (λ m. is_live b m ≡ true) (firsts ++ (users_born ++ (devices_born ++ parts_below devices_born))) born-live n e) in
       let room : length b.records ≤ LIVE_OBJECTS_MAX = h.bounds.room in
-      let records : length (births b) ≡ length b.records = length-map (λ (r : Record). r.birth) b.records in
-      let users_long : length users_born ≡ length (child_entries b OBJECTS_BIRTH) = length-map (λ (e : List ℕ × ℕ). e.1) (child_entries b OBJECTS_BIRTH) in
+      let records : length (births b) ≡ length b.records = length-map b.records (λ (r : Record). r.birth) in
+      let users_long : length users_born ≡ length (child_entries b OBJECTS_BIRTH) = length-map (child_entries b OBJECTS_BIRTH) (λ (e : List ℕ × ℕ). e.1) in
       let devices_long : length devices_born ≡ length (child_entries b PERIPHERAL_BIRTH) =
-      length-map (λ (e : List ℕ × ℕ). e.1) (child_entries b PERIPHERAL_BIRTH) in
+      length-map (child_entries b PERIPHERAL_BIRTH) (λ (e : List ℕ × ℕ). e.1) in
       let objects_long : length (description b).objects ≡ length (child_entries b OBJECTS_BIRTH) =
-      ap length (objects-said b h.order) ∙ length-map (object_as b) (child_entries b OBJECTS_BIRTH) in
+      ap length (objects-said b h.order) ∙ length-map (child_entries b OBJECTS_BIRTH) (object_as b) in
       let devices_sum : sum_by objects_of (description b).devices ≡ sum_by objects_of (map (device_as b) (child_entries b PERIPHERAL_BIRTH)) =
       ap (sum_by objects_of) (devices-said b h.order) in
       let few = devices-few (child_entries b PERIPHERAL_BIRTH) (stood-all b h.order says) in
