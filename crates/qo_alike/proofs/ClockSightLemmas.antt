@@ -174,7 +174,8 @@ module _ (b : Board) (h : IsWhole b) (tells : TellsTypes b) (says : is_describab
                 (λ t.
                 let paths : clock_path x.0 ≡ clock_path e.0 = sym path ∙ (bytes_eq-Decides y.path (clock_path e.0)).0 t in
                 let clocks : on.clock ≡ c.clock = same_Some on.clock c.clock (sym on.found ∙ ap (at b) paths ∙ c.found) in
-                inr (ap (λ (o : Option ClockItem). find test (listed_of o)) r ∙ rw t refl ∙ sym r ∙ item-of x on ∙ ap (clock_item b) clocks ∙ sym (item-of e c)))
+                let here : find test (listed_of (Some y)) ≡ Some y = rw t refl in
+                inr (ap (λ (o : Option ClockItem). find test (listed_of o)) r ∙ here ∙ sym r ∙ item-of x on ∙ ap (clock_item b) clocks ∙ sym (item-of e c)))
                 (λ t. inl (ap (λ (o : Option ClockItem). find test (listed_of o)) r ∙ rw t refl))
 
         none : is_a j.here.kind (codes "slot-device") ≡ false → find test (listed_of (clock_item_of b x)) ≡ None
@@ -188,7 +189,8 @@ module _ (b : Board) (h : IsWhole b) (tells : TellsTypes b) (says : is_describab
         by (Some y) r =
             let path : y.path ≡ clock_path e.0 = own-item c.clock e.0 c.told y (sym (item-of e c) ∙ r) in
             let passes : test y ≡ true = (bytes_eq-Decides y.path (clock_path e.0)).1 path in
-            ap (λ (o : Option ClockItem). find test (listed_of o)) r ∙ rw passes refl ∙ sym r
+            let here : find test (listed_of (Some y)) ≡ Some y = rw passes refl in
+            ap (λ (o : Option ClockItem). find test (listed_of o)) r ∙ here ∙ sym r
 
     found-item : find test d.clocks ≡ clock_item b c.clock
     found-item =
@@ -237,17 +239,6 @@ module _ (b : Board) (h : IsWhole b) (tells : TellsTypes b) (says : is_describab
         bus_text : (path : List ℕ) → path_text b k.on.bus ≡ path → source_said d (device_as b e).bus ≡ source_said d path
         bus_text path text = ap (source_said d) (bus-said b h says e k ∙ text)
 
-        by : WhichBus b k.on.bus → path_text b (source_for b k.on.bus) ≡ source_said d (device_as b e).bus
-        by (root_bus is) =
-            ap (path_text b) (source-machines b (placed b h.order.devices) k.on.bus (ap (λ (m : ℕ). among (ROOT_BUS_BIRTH ∷ MEMORY_BUS_BIRTH ∷ []) m) is)) ∙ system-text
-            ∙ sym (bus_text (codes "/machine/root.0") (ap (path_text b) is ∙ told b h.order ROOT_BUS_BIRTH (codes "/machine/root.0") refl (root_bus-way b h.order))
-            ∙ none-bridge (codes "/machine/root.0") (λ id. refl))
-        by (memory_bus is) =
-            ap (path_text b) (source-machines b (placed b h.order.devices) k.on.bus (ap (λ (m : ℕ). among (ROOT_BUS_BIRTH ∷ MEMORY_BUS_BIRTH ∷ []) m) is)) ∙ system-text
-            ∙ sym (bus_text (codes "/machine/mem.0") (ap (path_text b) is ∙ told b h.order MEMORY_BUS_BIRTH (codes "/machine/mem.0") refl (memory_bus-way b h.order))
-            ∙ none-bridge (codes "/machine/mem.0") (λ id. refl))
-        by (bridge_bus p there_is kind on its) = bridge p there_is kind on
-
         bridge : (p : List ℕ × ℕ) → has_entry p (child_entries b PERIPHERAL_BIRTH) ≡ true → kind_of b p.1 ≡ Some SlotBridge
             → has_entry (codes "bus.0", k.on.bus) (child_entries b p.1) ≡ true → path_text b (source_for b k.on.bus) ≡ source_said d (device_as b e).bus
         bridge p there_is kind on =
@@ -283,6 +274,17 @@ module _ (b : Board) (h : IsWhole b) (tells : TellsTypes b) (says : is_describab
                 all-alike [] = tt
                 all-alike (y ∷ ys) =
                     ((λ q. ap (λ (way : List ℕ). way ++ codes "/clk") (same-id y.id x.0 (sym ((bytes_eq-Decides (bus_path x.0) (bus_path y.id)).0 q)))), all-alike ys)
+
+        by : WhichBus b k.on.bus → path_text b (source_for b k.on.bus) ≡ source_said d (device_as b e).bus
+        by (root_bus is) =
+            ap (path_text b) (source-machines b (placed b h.order.devices) k.on.bus (ap (λ (m : ℕ). among (ROOT_BUS_BIRTH ∷ MEMORY_BUS_BIRTH ∷ []) m) is)) ∙ system-text
+            ∙ sym (bus_text (codes "/machine/root.0") (ap (path_text b) is ∙ told b h.order ROOT_BUS_BIRTH (codes "/machine/root.0") refl (root_bus-way b h.order))
+            ∙ none-bridge (codes "/machine/root.0") (λ id. refl))
+        by (memory_bus is) =
+            ap (path_text b) (source-machines b (placed b h.order.devices) k.on.bus (ap (λ (m : ℕ). among (ROOT_BUS_BIRTH ∷ MEMORY_BUS_BIRTH ∷ []) m) is)) ∙ system-text
+            ∙ sym (bus_text (codes "/machine/mem.0") (ap (path_text b) is ∙ told b h.order MEMORY_BUS_BIRTH (codes "/machine/mem.0") refl (memory_bus-way b h.order))
+            ∙ none-bridge (codes "/machine/mem.0") (λ id. refl))
+        by (bridge_bus p there_is kind on its) = bridge p there_is kind on
 
     pub clock-sight : sight b c.clock
         ≡ seen_as (clock_path e.0) Clock

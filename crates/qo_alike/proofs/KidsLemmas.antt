@@ -154,11 +154,14 @@ module _ (b : Board) (h : IsWhole b) (says : is_describable b ≡ true) where
             let on : kid_said path (device_as b e) ≡ Some (kid_shown e.1) =
             rw q (ap (λ (x : List ℕ). Some (kid_name (unwrap_or (bus_slot_of b e.1) 0), names x)) (sym way)) in
             let first : kept test (e ∷ xs) ≡ e.1 ∷ kept test xs = rw q refl in
-            rw on (ap (λ (ys : List (List ℕ × Shown)). kid_shown e.1 ∷ ys) rest) ∙ sym (ap (map kid_shown) first)
+            let left : filter_map (λ (x : List ℕ × ℕ). kid_said path (device_as b x)) (e ∷ xs) ≡ kid_shown e.1 ∷ map kid_shown (kept test xs) =
+            rw on (ap (λ (ys : List (List ℕ × Shown)). kid_shown e.1 ∷ ys) rest) in
+            left ∙ sym (ap (map kid_shown) first)
         go false q rest =
             let off : kid_said path (device_as b e) ≡ None = rw q refl in
             let first : kept test (e ∷ xs) ≡ kept test xs = rw q refl in
-            rw off rest ∙ sym (ap (map kid_shown) first)
+            let left : filter_map (λ (x : List ℕ × ℕ). kid_said path (device_as b x)) (e ∷ xs) ≡ map kid_shown (kept test xs) = rw off rest in
+            left ∙ sym (ap (map kid_shown) first)
 
     on-bus : (e : List ℕ × ℕ) (k : Stood b e) → k.on.bus ≡ q → test e ≡ true
     on-bus e k is = (bytes_eq-Decides (device_as b e).bus path).1 (bus-said b h says e k ∙ ap (path_text b) is ∙ bus_told)

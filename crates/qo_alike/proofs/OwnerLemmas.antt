@@ -71,11 +71,11 @@ module _ (b : Board) (h : IsInOrder b) where
         → p.role ≡ row.Link to holds → may_set p.access ≡ true → (s : Slot) → slot_named b n name ≡ Some s → HasRole p.role s
         → OneOf (λ (e : List ℕ × ℕ). e.1 ≡ n) (child_entries b OBJECTS_BIRTH ++ child_entries b PERIPHERAL_BIRTH)
         → shown b s ≡ names (link_said (description b) path name)
-    link-seen t kind name p to holds row role set s found fits one =
+    link-seen t kind name p to holds its_row role set s found fits one =
         let shape = link-shape b holds to s (subst (λ (r : PropertyRole). HasRole r s) role fits) in
         let settable : is_set b n name ≡ true =
         ap (λ (o : Option TypeId). option_map_or (λ (x : Property). may_set x.access) (option_and_then (λ (k : TypeId). property_named k name) o) false) kind
-        ∙ ap (λ (o : Option Property). option_map_or (λ (x : Property). may_set x.access) o false) row
+        ∙ ap (λ (o : Option Property). option_map_or (λ (x : Property). may_set x.access) o false) its_row
         ∙ set in
         let its : Its b n t = its-record b h.shape n t kind in
         let once : IsDistinct bytes_eq (names_in (slots_at b n)) =
