@@ -1,8 +1,9 @@
 -- How the clocks of devices show, and the system's.
-use Rattle.std.proofs.Common.{◌≡◌, ◌≢◌, ◌⊎◌, inl, inr, refl, ap, ap₂, sym, subst, ◌∙◌, ℕ, suc, ◌+◌, ◌<◌, Bool, true, false, ◌==◌, ◌&&◌, List, [], ◌∷◌, ◌++◌, filter_map, find, length, map, Option, Some, None, option_map, option_and_then, unwrap_or, codes, length-append, arith}
+use Rattle.std.proofs.Common.{◌≡◌, ◌≢◌, ◌⊎◌, inl, inr, refl, ap, ap₂, sym, subst, ◌∙◌, ℕ, suc, ◌+◌, ◌<◌, Bool, true, false, ◌==◌, ◌&&◌, List, [], ◌∷◌, ◌++◌, filter_map, find, map, Option, Some, None, option_map, option_and_then, unwrap_or, codes, arith}
 use Rattle.qo_model.proofs.Common.{⊤, AllByRecursion, if◌then◌else◌, option_map_or, option_or, bytes_eq, PERIPHERAL_BIRTH, ROOT_BIRTH, ROOT_BUS_BIRTH, MEMORY_BUS_BIRTH, SYSTEM_CLOCK_BIRTH, TypeId, Clock, SlotBridge, Board, Record, Slot, plain, child, strong, weak, alias, kind_of, slot_named, number_in, plain_in, own_period, mul_of, div_of, source_of, clock_of, among, path_down_to, property_named, source_for, is_a, types}
 use Rattle.std.specs.List.{flat_map}
 use Rattle.std.proofs.lemmas.Bool.{and_parts, eqb-true}
+use Rattle.std.proofs.lemmas.List.{append_cancel_right}
 use Rattle.std.proofs.lemmas.Option.{same_Some}
 use Rattle.std.proofs.lemmas.Slice.Eq.{bytes_eq-Decides}
 use Rattle.qo_values.proofs.ListLemmas.{all-imply}
@@ -51,22 +52,8 @@ some-flat {X = X} f (e ∷ es) = go (f e) refl (some-flat f es)
     go None q rest = rw q rest
     go (Some x) q rest = rw q (ap (λ (xs : List X). x ∷ xs) rest)
 
-same-front : (xs ys zs : List ℕ) → length xs ≡ length ys → xs ++ zs ≡ ys ++ zs → xs ≡ ys
-same-front [] [] zs long e = refl
-same-front [] (y ∷ ys) zs long e = absurd (omega arith)
-same-front (x ∷ xs) [] zs long e = absurd (omega arith)
-same-front (x ∷ xs) (y ∷ ys) zs long e =
-    let head : x ≡ y = cc in
-    let tail : xs ++ zs ≡ ys ++ zs = cc in
-    let short : length xs ≡ length ys = omega arith in
-    ap₂ (λ (n : ℕ) (ns : List ℕ). n ∷ ns) head (same-front xs ys zs short tail)
-
 same-id : (id other : List ℕ) → bus_path id ≡ bus_path other → device_path id ≡ device_path other
-same-id id other e =
-    let long = ap length e in
-    let first = length-append (device_path id) (codes "/bus.0") in
-    let second = length-append (device_path other) (codes "/bus.0") in
-    same-front (device_path id) (device_path other) (codes "/bus.0") (omega (arith, long, first, second)) e
+same-id id other e = append_cancel_right (device_path id) (device_path other) (codes "/bus.0") e
 
 find-none : {X : Type 0} (test : X → Bool) (xs : List X) → AllByRecursion (λ (x : X). test x ≡ false) xs → find test xs ≡ None
 find-none test [] h = refl
