@@ -1,13 +1,13 @@
 -- The law: what shows of a board is what its description says.
-use Rattle.std.proofs.Common.{◌≡◌, refl, ap, ap₂, sym, subst, ◌∙◌, ℕ, Bool, true, false, ◌==◌, List, [], ◌∷◌, ◌++◌, map, Option, Some, None, append_assoc, append-nil, codes, arith}
+use Rattle.std.proofs.Common.{◌≡◌, refl, ap, ap₂, sym, ◌∙◌, ℕ, Bool, true, false, ◌==◌, List, [], ◌∷◌, ◌++◌, map, Option, Some, None, append_assoc, append-nil, codes, arith}
 use Rattle.std.proofs.lemmas.Option.{same_Some}
 use Rattle.std.specs.List.{flat_map}
 use Rattle.qo_values.proofs.ListLemmas.{all-imply}
-use Rattle.qo_model.proofs.Common.{⊤, AllByRecursion, if◌then◌else◌, option_map_or, ANONYMOUS_BIRTH, MACHINE_BIRTH, MEMORY_BUS_BIRTH, OBJECTS_BIRTH, PERIPHERAL_BIRTH, ROOT_BIRTH, ROOT_BUS_BIRTH, SYSTEM_CLOCK_BIRTH, TypeId, Clock, Container, Machine, MemBus, SlotBus, Board, kind_of, births, by_objects, is_of, is_a, path_down_to, types}
+use Rattle.qo_model.proofs.Common.{AllByRecursion, option_map_or, ANONYMOUS_BIRTH, MACHINE_BIRTH, MEMORY_BUS_BIRTH, OBJECTS_BIRTH, PERIPHERAL_BIRTH, ROOT_BIRTH, ROOT_BUS_BIRTH, SYSTEM_CLOCK_BIRTH, TypeId, Clock, Container, Machine, MemBus, SlotBus, Board, kind_of, is_of, is_a, types}
 use Rattle.qo_model.specs.Properties.{path_text}
-use Rattle.qo_save.specs.Described.{described, description, is_describable, ring_item}
+use Rattle.qo_save.specs.Described.{described, description, is_describable}
 use Rattle.qo_save.specs.Description.{Description, DeviceItem, ObjectItem}
-use Rattle.qo_save.specs.Like.{Like, names, pre_turn, preorder, Shown, Sight, sight}
+use Rattle.qo_save.specs.Like.{preorder, Sight, sight}
 use Rattle.qo_sound_devices.specs.SoundPlaces.{child_entries, has_entry}
 use Rattle.qo_good.specs.Good.{device_path, object_path}
 use Rattle.qo_good.specs.GoodBoards.{IsWhole}

@@ -1,6 +1,6 @@
 -- How the clocks of devices show, and the system's.
-use Rattle.std.proofs.Common.{◌≡◌, ◌≢◌, ◌⊎◌, inl, inr, refl, ap, ap₂, sym, subst, ◌∙◌, ℕ, suc, ◌+◌, ◌<◌, Bool, true, false, ◌==◌, ◌&&◌, List, [], ◌∷◌, ◌++◌, filter_map, find, map, Option, Some, None, option_map, option_and_then, unwrap_or, codes, arith}
-use Rattle.qo_model.proofs.Common.{⊤, AllByRecursion, if◌then◌else◌, option_map_or, option_or, bytes_eq, PERIPHERAL_BIRTH, ROOT_BIRTH, ROOT_BUS_BIRTH, MEMORY_BUS_BIRTH, SYSTEM_CLOCK_BIRTH, TypeId, Clock, SlotBridge, Board, Record, Slot, plain, child, strong, weak, alias, kind_of, slot_named, number_in, plain_in, own_period, mul_of, div_of, source_of, clock_of, among, path_down_to, property_named, source_for, is_a, types}
+use Rattle.std.proofs.Common.{◌≡◌, ◌⊎◌, inl, inr, refl, ap, ap₂, sym, subst, ◌∙◌, ℕ, ◌<◌, Bool, true, false, ◌==◌, ◌&&◌, List, [], ◌∷◌, ◌++◌, filter_map, find, Option, Some, None, option_map, option_and_then, unwrap_or, codes, arith}
+use Rattle.qo_model.proofs.Common.{AllByRecursion, option_map_or, bytes_eq, PERIPHERAL_BIRTH, ROOT_BIRTH, ROOT_BUS_BIRTH, MEMORY_BUS_BIRTH, SYSTEM_CLOCK_BIRTH, TypeId, Clock, SlotBridge, Board, Slot, plain, child, strong, weak, alias, kind_of, slot_named, number_in, plain_in, own_period, mul_of, div_of, source_of, among, property_named, source_for, is_a, types}
 use Rattle.std.specs.List.{flat_map}
 use Rattle.std.proofs.lemmas.Bool.{and_parts, eqb-true}
 use Rattle.std.proofs.lemmas.List.{append_cancel_right}
@@ -17,10 +17,10 @@ use Rattle.qo_model.specs.declared.properties.PropertyName.TheVariants as prop
 use Rattle.qo_model.specs.declared.properties.PropertyRole.TheVariants as row
 use Rattle.qo_save.specs.Described.{clock_item, clock_item_of, description, factors_of, is_describable}
 use Rattle.qo_save.specs.Description.{ClockItem, Description, DeviceItem}
-use Rattle.qo_save.specs.Like.{names, Sight, sight}
-use Rattle.qo_sound.proofs.TestLemmas.{clash, clash-back, decide}
+use Rattle.qo_save.specs.Like.{names, sight}
+use Rattle.qo_sound.proofs.TestLemmas.{clash, decide}
 use Rattle.qo_sound_bounds.proofs.ClockLemmas.{source-bridge, source-machines}
-use Rattle.qo_sound_devices.specs.SoundPlaces.{child_entries, has_entry, stands}
+use Rattle.qo_sound_devices.specs.SoundPlaces.{child_entries, has_entry}
 use Rattle.qo_sound_phases.proofs.ResetTreeLemmas.{placed}
 use Rattle.qo_sound_shapes.specs.SoundShape.{HasRole}
 use Rattle.qo_sound_shapes.proofs.FactLemmas.{shapes_say_lem}

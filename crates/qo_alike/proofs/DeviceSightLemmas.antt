@@ -1,15 +1,10 @@
 -- How a device shows, with its parts.
-use Rattle.std.proofs.Common.{◌≡◌, ◌⊎◌, inl, inr, refl, ap, ap₂, sym, subst, ◌∙◌, rules, ℕ, suc, ◌<◌, Bool, true, false, ◌==◌, ◌&&◌, not, List, [], ◌∷◌, ◌++◌, filter_map, find, map, Option, Some, None, option_map, option_and_then, unwrap_or, codes, append-nil, arith}
-use Rattle.qo_model.proofs.Common.{⊤, AllByRecursion, if◌then◌else◌, option_map_or, bytes_eq, type_name, OBJECTS_BIRTH, PERIPHERAL_BIRTH, ROOT_BIRTH, SYSTEM_CLOCK_BIRTH, TypeId, Clock, Device, MemBus, MemDimm, MemoryBackendRam, Object, SlotBridge, SlotBus, SlotTimer, SlotUart, Tag, Given, Board, Record, Slot, plain, child, strong, weak, alias, kind_of, slot_named, slots_at, number_at, number_in, own_period, mul_of, div_of, source_of, clock_of, is_realized, is_true, plain_in, strong_in, is_of, path_down_to, property_named, source_for, is_a, slots_of, text_for, types}
+use Rattle.std.proofs.Common.{◌≡◌, ◌⊎◌, inl, inr, refl, ap, sym, ◌∙◌, rules, ℕ, ◌<◌, Bool, true, false, List, [], ◌∷◌, ◌++◌, filter_map, Option, Some, None, option_and_then, unwrap_or, codes, arith}
+use Rattle.qo_model.proofs.Common.{AllByRecursion, option_map_or, type_name, OBJECTS_BIRTH, PERIPHERAL_BIRTH, TypeId, Clock, Device, MemBus, MemDimm, MemoryBackendRam, SlotBridge, SlotBus, SlotTimer, SlotUart, Tag, Given, Board, Slot, plain, child, strong, weak, alias, kind_of, slot_named, is_true, plain_in, is_of, path_down_to, property_named, is_a, slots_of, text_for, types}
 use Rattle.std.specs.List.{flat_map}
-use Rattle.std.proofs.lemmas.Option.{same_Some}
-use Rattle.std.proofs.lemmas.Slice.Eq.{bytes_eq-Decides}
 use Rattle.qo_values.proofs.EachLemmas.{each}
-use Rattle.qo_values.specs.declared.properties.Val.{Val}
 use Rattle.qo_values.specs.declared.properties.Val.TheVariants as val
-use Rattle.qo_model.specs.Clocks.{weak_in}
 use Rattle.qo_model.specs.Properties.{path_text, target_text}
-use Rattle.qo_model.specs.RowNames.{property_name}
 use Rattle.qo_model.specs.Types.{property, TypeInfo, type_named}
 use Rattle.qo_model.specs.declared.properties.Access.TheVariants.{Both, Set}
 use Rattle.qo_model.specs.declared.properties.Property.{Property}
@@ -18,8 +13,8 @@ use Rattle.qo_model.specs.declared.properties.PropertyName.TheVariants as prop
 use Rattle.qo_model.specs.declared.properties.PropertyRole.TheVariants as row
 use Rattle.qo_save.specs.Described.{description, is_describable}
 use Rattle.qo_save.specs.Description.{Description, DeviceItem}
-use Rattle.qo_save.specs.Like.{names, other, Shown, shown, Sight, sight, value}
-use Rattle.qo_sound.proofs.TestLemmas.{clash, clash-back, decide}
+use Rattle.qo_save.specs.Like.{names, Shown, shown, Sight, sight, value}
+use Rattle.qo_sound.proofs.TestLemmas.{clash, clash-back}
 use Rattle.qo_sound_claims.specs.SoundClaims.{HasRange as RangeKept}
 use Rattle.qo_sound_devices.specs.SoundPlaces.{child_entries, child_entry, has_entry}
 use Rattle.qo_sound_shapes.specs.SoundShape.{HasRole}
@@ -27,7 +22,7 @@ use Rattle.qo_sound_shapes.proofs.FactLemmas.{shapes_say_lem}
 use Rattle.qo_good.specs.Good.{bus_path, clock_path, device_path, OneOf}
 use Rattle.qo_good.specs.GoodBoards.{IsWhole}
 use Rattle.qo_good.proofs.BusLemmas.{bus-fits, bus-named, bus_row, ClockAt, clock-at, own-bus, part-of, Stood}
-use Rattle.qo_good.proofs.ClaimLemmas.{as_dimm, as_other, as_uart, device-four, number-slot, range_given, ring_given, Says, says-of, strong-slot, text-slot}
+use Rattle.qo_good.proofs.ClaimLemmas.{as_dimm, as_other, as_uart, device-four, number-slot, range_given, Says, says-of, strong-slot, text-slot}
 use Rattle.qo_good.proofs.DeviceLemmas.{ring-text}
 use Rattle.qo_good.proofs.ItemLemmas.{births_in, one-append, one-imply}
 use Rattle.qo_good.proofs.LayoutLemmas.{bus-said, driver-said}
@@ -36,7 +31,7 @@ use Rattle.qo_good.proofs.PlaceLemmas.{apart, device-way, inner-way, leads, olde
 use Rattle.qo_alike.specs.AlikeBoards.{TellsTypes}
 use Rattle.qo_alike.specs.Seen.{clock_said, clock_shows, device_seen, device_shows, kids_said, link_said, part_seen, plain_shows, seen_as, source_said, value_said}
 use Rattle.qo_alike.proofs.OwnerLemmas.{link-seen}
-use Rattle.qo_alike.proofs.RowsLemmas.{RowAt, RowSeen, rows_slots}
+use Rattle.qo_alike.proofs.RowsLemmas.{RowAt, RowSeen}
 use Rattle.qo_alike.proofs.SightLemmas.{bare-slots, child-slot, sight-bare, sight-slot_bus, type-slot}
 use Rattle.qo_alike.proofs.ClockSightLemmas.{clock-sight}
 use Rattle.qo_alike.proofs.KidsLemmas.{kids-shown}

@@ -1,16 +1,14 @@
 -- The kids on a bus, as a description says them.
-use Rattle.std.proofs.Common.{◌≡◌, ◌⊎◌, inl, inr, refl, ap, ap₂, sym, subst, ◌∙◌, ℕ, ◌<◌, Bool, true, false, ◌==◌, ◌||◌, eqb, List, [], ◌∷◌, ◌++◌, filter, filter_map, map, Option, Some, None, option_map, unwrap_or, codes, arith}
-use Rattle.qo_model.proofs.Common.{⊤, AllByRecursion, if◌then◌else◌, bytes_eq, PERIPHERAL_BIRTH, Board, Slot, plain, child, strong, weak, alias, slots_at, among, bus_of, bus_slot_of, kid_name, kids_of, strong_in, is_of}
-use Rattle.std.proofs.lemmas.Bool.{and_parts, eqb-true, eq-eqb}
+use Rattle.std.proofs.Common.{◌≡◌, ◌⊎◌, inl, inr, refl, ap, ap₂, sym, subst, ◌∙◌, ℕ, ◌<◌, Bool, true, false, eqb, List, [], ◌∷◌, filter, filter_map, map, Option, Some, None, unwrap_or, codes, arith}
+use Rattle.qo_model.proofs.Common.{AllByRecursion, bytes_eq, PERIPHERAL_BIRTH, Board, Slot, plain, child, strong, weak, alias, slots_at, among, bus_of, bus_slot_of, kid_name, kids_of, strong_in, is_of}
+use Rattle.std.proofs.lemmas.Bool.{eqb-true, eq-eqb}
 use Rattle.std.proofs.lemmas.Option.{same_Some}
 use Rattle.std.proofs.lemmas.Slice.Eq.{bytes_eq-Decides}
 use Rattle.std.proofs.Math.Bool.{or-true}
-use Rattle.qo_values.proofs.ListLemmas.{all-imply}
 use Rattle.qo_model.proofs.AmongLemmas.{among-all}
 use Rattle.qo_model.specs.Properties.{path_text}
 use Rattle.qo_model.specs.SoundGraph.{Rises}
 use Rattle.qo_save.specs.Described.{description, is_describable}
-use Rattle.qo_save.specs.Description.{DeviceItem}
 use Rattle.qo_save.specs.Like.{names, Shown}
 use Rattle.qo_sound.proofs.TestLemmas.{clash, clash-back, decide}
 use Rattle.qo_sound_devices.specs.SoundPlaces.{child_entries, IsKid, kid_entries, kid_entry, listed}

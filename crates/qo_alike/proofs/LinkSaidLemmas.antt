@@ -1,6 +1,6 @@
 -- Where links lead, as a description says it.
-use Rattle.std.proofs.Common.{◌≡◌, ◌≢◌, ◌⊎◌, inl, inr, refl, ap, sym, subst, ◌∙◌, ℕ, Bool, true, false, ◌&&◌, List, [], ◌∷◌, ◌++◌, filter_map, find, map, Option, Some, None, option_map, option_and_then}
-use Rattle.qo_model.proofs.Common.{AllByRecursion, IsDistinct, if◌then◌else◌, option_map_or, option_or, bytes_eq, Board, Record, Slot, record_of, slot_named, slots_at, target_of}
+use Rattle.std.proofs.Common.{◌≡◌, ◌≢◌, ◌⊎◌, inl, inr, refl, ap, sym, subst, ◌∙◌, ℕ, Bool, true, false, ◌&&◌, List, [], ◌∷◌, ◌++◌, filter_map, find, Option, Some, None, option_map}
+use Rattle.qo_model.proofs.Common.{AllByRecursion, IsDistinct, option_map_or, option_or, bytes_eq, Board, Slot, slot_named, slots_at, target_of}
 use Rattle.std.specs.List.{flat_map}
 use Rattle.std.proofs.lemmas.Option.{same_Some}
 use Rattle.std.proofs.lemmas.Slice.Eq.{bytes_eq-Decides}

@@ -1,6 +1,6 @@
 -- How users' objects show.
-use Rattle.std.proofs.Common.{◌≡◌, ◌⊎◌, inl, inr, refl, ap, sym, subst, ◌∙◌, rules, ℕ, Bool, true, false, ◌==◌, List, [], ◌∷◌, ◌++◌, Option, Some, None, option_map, option_and_then, unwrap_or, codes, arith}
-use Rattle.qo_model.proofs.Common.{⊤, AllByRecursion, option_map_or, bytes_eq, type_name, OBJECTS_BIRTH, PERIPHERAL_BIRTH, ROOT_BIRTH, TypeId, MemoryBackendRam, Object, Tag, Given, Board, Slot, plain, child, strong, weak, alias, kind_of, slot_named, path_down_to, property_named, slots_of, types}
+use Rattle.std.proofs.Common.{◌≡◌, ◌⊎◌, inl, inr, refl, ap, sym, ◌∙◌, ℕ, true, false, List, [], ◌∷◌, ◌++◌, Option, Some, unwrap_or, codes, arith}
+use Rattle.qo_model.proofs.Common.{AllByRecursion, option_map_or, type_name, OBJECTS_BIRTH, PERIPHERAL_BIRTH, TypeId, MemoryBackendRam, Object, Tag, Given, Board, plain, kind_of, path_down_to, property_named, slots_of, types}
 use Rattle.qo_values.specs.declared.properties.Val.TheVariants as val
 use Rattle.qo_model.specs.Properties.{path_text}
 use Rattle.qo_model.specs.Types.{property, TypeInfo, type_named}
@@ -11,7 +11,7 @@ use Rattle.qo_model.specs.declared.properties.PropertyName.TheVariants as prop
 use Rattle.qo_model.specs.declared.properties.PropertyRole.TheVariants as row
 use Rattle.qo_save.specs.Described.{description, is_describable}
 use Rattle.qo_save.specs.Description.{Description, ObjectItem}
-use Rattle.qo_save.specs.Like.{names, Shown, shown, Sight, sight, value}
+use Rattle.qo_save.specs.Like.{Shown, Sight, value}
 use Rattle.qo_sound_devices.specs.SoundPlaces.{child_entries}
 use Rattle.qo_good.specs.Good.{object_path, OneOf}
 use Rattle.qo_good.specs.GoodBoards.{IsWhole}

@@ -1,16 +1,13 @@
 -- The links of users' objects and devices show as they are said.
-use Rattle.std.proofs.Common.{◌≡◌, ◌≢◌, ◌⊎◌, inl, inr, refl, ap, sym, subst, ◌∙◌, ℕ, Bool, true, false, ◌==◌, List, [], ◌∷◌, ◌++◌, find, Option, Some, None, option_map, option_and_then, codes, arith}
-use Rattle.qo_model.proofs.Common.{⊤, AllByRecursion, IsDistinct, option_map_or, bytes_eq, OBJECTS_BIRTH, PERIPHERAL_BIRTH, ROOT_BIRTH, TypeId, Board, Record, Slot, plain, child, strong, weak, alias, kind_of, record_of, slot_named, slots_at, target_of, may_set, path_down_to, property_named}
-use Rattle.std.specs.List.{flat_map}
+use Rattle.std.proofs.Common.{◌≡◌, ◌≢◌, ◌⊎◌, inl, inr, refl, ap, sym, subst, ◌∙◌, ℕ, Bool, true, false, ◌==◌, List, [], ◌++◌, Option, Some, option_and_then, codes, arith}
+use Rattle.qo_model.proofs.Common.{AllByRecursion, IsDistinct, option_map_or, bytes_eq, OBJECTS_BIRTH, PERIPHERAL_BIRTH, TypeId, Board, Record, Slot, plain, child, strong, weak, alias, kind_of, slot_named, slots_at, target_of, may_set, path_down_to, property_named}
 use Rattle.std.proofs.lemmas.Bool.{eq-eqb, eqb-true}
-use Rattle.std.proofs.lemmas.Option.{same_Some}
 use Rattle.qo_values.proofs.ListLemmas.{all-imply}
 use Rattle.qo_model.specs.Properties.{path_text, target_text}
 use Rattle.qo_model.specs.declared.properties.Property.{Property}
 use Rattle.qo_model.specs.declared.properties.PropertyRole.{PropertyRole}
 use Rattle.qo_model.specs.declared.properties.PropertyRole.TheVariants as row
-use Rattle.qo_save.specs.Described.{description, is_describable, is_link, is_set, link_items}
-use Rattle.qo_save.specs.Description.{LinkItem}
+use Rattle.qo_save.specs.Described.{description, is_link, is_set}
 use Rattle.qo_save.specs.Like.{names, shown}
 use Rattle.qo_sound.proofs.SlotLemmas.{names_in}
 use Rattle.qo_sound.proofs.TestLemmas.{clash, decide}
@@ -24,7 +21,7 @@ use Rattle.qo_good.proofs.PartLemmas.{devices, Here, users}
 use Rattle.qo_good.proofs.PlaceLemmas.{apart, device-way, firm, object-way, one-at, told}
 use Rattle.qo_good.proofs.ValueLemmas.{Its, its-record}
 use Rattle.qo_alike.specs.Seen.{link_said}
-use Rattle.qo_alike.proofs.LinkSaidLemmas.{is_said, link-leads}
+use Rattle.qo_alike.proofs.LinkSaidLemmas.{link-leads}
 
 -- a slot as a row of a link says
 pub link-shape : (b : Board) (holds : Bool) (to : TypeId) (s : Slot) → HasRole (row.Link to holds) s

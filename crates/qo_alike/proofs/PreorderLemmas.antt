@@ -1,6 +1,6 @@
 -- The objects of a board in order, each before those below it.
-use Rattle.std.proofs.Common.{◌≡◌, refl, ap, sym, subst, ◌∙◌, ℕ, Bool, true, false, ◌==◌, eqb, List, [], ◌∷◌, ◌++◌, filter_map, map, Option, Some, None}
-use Rattle.qo_model.proofs.Common.{⊤, AllByRecursion, TypeId, Board, Slot, kind_of, slots_at, among, births, by_objects, children_of, IsLocal, IsTree, leads}
+use Rattle.std.proofs.Common.{◌≡◌, refl, ap, sym, subst, ◌∙◌, ℕ, true, false, ◌==◌, eqb, List, [], ◌∷◌, ◌++◌, map, Some}
+use Rattle.qo_model.proofs.Common.{AllByRecursion, TypeId, Board, kind_of, slots_at, among, births, by_objects, children_of, IsLocal, IsTree}
 use Rattle.std.specs.List.{flat_map}
 use Rattle.std.proofs.lemmas.Bool.{eqb-true, eq-eqb}
 use Rattle.std.proofs.lemmas.List.{map-append}

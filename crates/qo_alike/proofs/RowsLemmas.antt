@@ -1,19 +1,18 @@
 -- How the slots of an object show, row by row.
-use Rattle.std.proofs.Common.{◌≡◌, ◌⊎◌, inl, inr, refl, ap, ap₂, sym, subst, ◌∙◌, rules, ℕ, Bool, true, false, List, [], ◌∷◌, ◌++◌, filter_map, find, map, Option, Some, None, option_map, option_and_then, append_assoc, codes}
-use Rattle.qo_model.proofs.Common.{⊤, AllByRecursion, IsDistinct, option_map_or, bytes_eq, TypeId, Board, Record, Slot, plain, child, strong, weak, alias, slot_named, slots_at, slots_of, types}
+use Rattle.std.proofs.Common.{◌≡◌, ◌⊎◌, inl, inr, refl, ap, ap₂, sym, subst, ◌∙◌, rules, ℕ, Bool, true, false, List, [], ◌∷◌, ◌++◌, filter_map, find, map, Option, Some, None, option_map, append_assoc}
+use Rattle.qo_model.proofs.Common.{AllByRecursion, IsDistinct, bytes_eq, TypeId, Board, Slot, plain, child, strong, weak, alias, slot_named, slots_at, slots_of, types}
 use Rattle.std.proofs.lemmas.Option.{same_Some}
 use Rattle.std.proofs.lemmas.Slice.Eq.{bytes_eq-Decides}
 use Rattle.qo_values.proofs.EachLemmas.{each}
-use Rattle.qo_values.proofs.ListLemmas.{all-imply}
 use Rattle.qo_model.specs.Properties.{path_text}
 use Rattle.qo_model.specs.RowNames.{property_name}
 use Rattle.qo_model.specs.declared.properties.Property.{Property}
 use Rattle.qo_model.specs.declared.properties.PropertyName.{PropertyName}
 use Rattle.qo_save.specs.Like.{names, Shown, shown}
 use Rattle.qo_sound.proofs.SlotLemmas.{names_in}
-use Rattle.qo_sound.proofs.TestLemmas.{clash, clash-back}
+use Rattle.qo_sound.proofs.TestLemmas.{clash}
 use Rattle.qo_sound_devices.specs.SoundPlaces.{child_entry, kid_entry}
-use Rattle.qo_sound_shapes.specs.SoundShape.{further, HasSlots, IsChildSlot, IsFurther, IsKidLink, IsOfProperty, may_miss, missing, next}
+use Rattle.qo_sound_shapes.specs.SoundShape.{further, HasSlots, IsChildSlot, IsFurther, IsKidLink, may_miss, missing, next}
 use Rattle.qo_sound_shapes.proofs.RowLemmas.{has-all}
 use Rattle.qo_good.proofs.ItemLemmas.{all-append}
 

@@ -1,13 +1,12 @@
 -- How an object shows whose rows show so; containers, the machine, clocks and buses.
-use Rattle.std.proofs.Common.{◌≡◌, ◌≢◌, ◌⊎◌, inl, inr, refl, ap, ap₂, sym, subst, ◌∙◌, rules, ℕ, ◌<◌, Bool, true, false, ◌==◌, eqb, List, [], ◌∷◌, ◌++◌, filter_map, find, map, Option, Some, None, option_map, option_and_then, unwrap_or, codes, append-nil, arith}
-use Rattle.qo_model.proofs.Common.{⊤, AllByRecursion, IsDistinct, if◌then◌else◌, option_map_or, bytes_eq, type_name, ANONYMOUS_BIRTH, MACHINE_BIRTH, MEMORY_BUS_BIRTH, OBJECTS_BIRTH, PERIPHERAL_BIRTH, ROOT_BIRTH, ROOT_BUS_BIRTH, SYSTEM_CLOCK_BIRTH, TypeId, Clock, Container, Machine, MemBus, SlotBus, Board, Record, Slot, plain, child, strong, weak, alias, kind_of, record_of, slot_named, slots_at, number_at, number_in, own_period, mul_of, div_of, source_of, plain_at, plain_in, child_named, strong_in, is_true, slots_of, types}
+use Rattle.std.proofs.Common.{◌≡◌, refl, ap, ap₂, sym, subst, ◌∙◌, ℕ, true, List, [], ◌∷◌, ◌++◌, filter_map, find, map, Option, Some, None, option_map, option_and_then, codes, append-nil}
+use Rattle.qo_model.proofs.Common.{AllByRecursion, option_map_or, bytes_eq, type_name, TypeId, Clock, Container, Machine, MemBus, SlotBus, Board, Record, Slot, plain, child, strong, weak, alias, kind_of, slot_named, slots_at, plain_in, child_named, slots_of, types}
 use Rattle.std.proofs.lemmas.Option.{same_Some}
 use Rattle.std.proofs.lemmas.Slice.Eq.{bytes_eq-Decides}
 use Rattle.qo_values.specs.declared.properties.PropType.TheVariants as ty
 use Rattle.qo_values.specs.declared.properties.Val.{Val}
 use Rattle.qo_values.specs.declared.properties.Val.TheVariants as val
-use Rattle.qo_model.specs.Clocks.{weak_in}
-use Rattle.qo_model.specs.Properties.{path_text, target_text}
+use Rattle.qo_model.specs.Properties.{path_text}
 use Rattle.qo_model.specs.RowNames.{property_name}
 use Rattle.qo_model.specs.Types.{property}
 use Rattle.qo_model.specs.declared.properties.Access.TheVariants.{Never}
@@ -16,12 +15,11 @@ use Rattle.qo_model.specs.declared.properties.Property.{Property}
 use Rattle.qo_model.specs.declared.properties.PropertyName.{PropertyName}
 use Rattle.qo_model.specs.declared.properties.PropertyName.TheVariants as prop
 use Rattle.qo_model.specs.declared.properties.PropertyRole.TheVariants as row
-use Rattle.qo_save.specs.Like.{names, other, Shown, shown, Sight, sight, value}
-use Rattle.qo_sound.proofs.SlotLemmas.{names_in}
-use Rattle.qo_sound.proofs.TestLemmas.{clash, clash-back}
+use Rattle.qo_save.specs.Like.{names, Shown, shown, Sight, sight, value}
+use Rattle.qo_sound.proofs.TestLemmas.{clash-back}
 use Rattle.qo_sound_devices.specs.SoundPlaces.{child_entries, child_entry, kid_entries, kid_entry}
 use Rattle.qo_sound_devices.proofs.DropLemmas.{names-at}
-use Rattle.qo_sound_shapes.specs.SoundShape.{further, HasRole, HasSlots, IsChildSlot, IsFurther, IsKidLink, missing, next}
+use Rattle.qo_sound_shapes.specs.SoundShape.{further, HasSlots, IsFurther, missing, next}
 use Rattle.qo_ways.specs.Ways.{IsInOrder}
 use Rattle.qo_good.proofs.PlaceLemmas.{firm}
 use Rattle.qo_good.proofs.ValueLemmas.{Its, its-record}

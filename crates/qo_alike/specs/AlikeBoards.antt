@@ -1,5 +1,5 @@
 -- For a law alone. What shows of a board is what its description says.
-use Rattle.std.specs.Prelude.{◌≡◌, ℕ, true, codes, map, Some}
+use Rattle.std.specs.Prelude.{◌≡◌, ℕ, codes, map, Some}
 use Rattle.qo_values.specs.Kinds.{type_name}
 use Rattle.qo_values.specs.declared.kinds.TypeId.{TypeId}
 use Rattle.qo_values.specs.declared.properties.Val.TheVariants as val

@@ -1,14 +1,14 @@
 -- Devices of a describable board, the buses that they are on, and their clocks.
-use Rattle.std.proofs.Common.{◌≡◌, ◌≢◌, ◌⊎◌, inl, inr, refl, ap, sym, subst, ◌∙◌, rules, ℕ, suc, ◌<◌, ◌≤◌, Bool, true, false, ◌==◌, ◌&&◌, eqb, List, [], ◌∷◌, ◌++◌, filter_map, find, map, Option, Some, None, is_some, option_map, option_and_then, unwrap_or, codes, arith}
-use Rattle.qo_model.proofs.Common.{⊤, AllByRecursion, list_any, option_map_or, bytes_eq, type_name, ANONYMOUS_BIRTH, MEMORY_BUS_BIRTH, PERIPHERAL_BIRTH, ROOT_BIRTH, ROOT_BUS_BIRTH, SYSTEM_CLOCK_BIRTH, TypeId, Clock, MemBus, MemDimm, Object, SlotBridge, SlotBus, SlotDevice, SlotTimer, SlotUart, Board, Record, Slot, plain, child, strong, weak, alias, kind_of, record_of, slot_named, slots_at, among, child_period, period, source_of, mul_of, div_of, clock_of, clock_name, child_named, kid_at, kids_of, is_realized, strong_in, bus_of, is_of, path_down_to, property_named, source_for, is_a, types}
-use Rattle.std.proofs.lemmas.Bool.{and_parts, eqb-true, eq-eqb}
+use Rattle.std.proofs.Common.{◌≡◌, inl, inr, refl, ap, sym, subst, ◌∙◌, rules, ℕ, ◌<◌, Bool, true, false, ◌==◌, ◌&&◌, List, [], ◌∷◌, filter_map, find, Option, Some, None, option_map, option_and_then, codes, arith}
+use Rattle.qo_model.proofs.Common.{⊤, AllByRecursion, list_any, option_map_or, bytes_eq, MEMORY_BUS_BIRTH, PERIPHERAL_BIRTH, ROOT_BUS_BIRTH, TypeId, Clock, MemBus, SlotBridge, SlotBus, SlotDevice, SlotTimer, SlotUart, Board, Slot, plain, child, strong, weak, alias, kind_of, slot_named, slots_at, clock_of, clock_name, child_named, is_realized, is_of, path_down_to, property_named, is_a, types}
+use Rattle.std.proofs.lemmas.Bool.{and_parts, eq-eqb}
 use Rattle.std.proofs.lemmas.Option.{same_Some}
 use Rattle.std.proofs.lemmas.Slice.Eq.{bytes_eq-Decides}
 use Rattle.std.proofs.Math.Bool.{or-true}
 use Rattle.qo_values.proofs.EachLemmas.{each}
 use Rattle.qo_values.proofs.ListLemmas.{all-imply}
 use Rattle.qo_model.specs.Plug.{bus_type}
-use Rattle.qo_model.specs.Properties.{path_text, target_text}
+use Rattle.qo_model.specs.Properties.{path_text}
 use Rattle.qo_model.specs.Types.{property}
 use Rattle.qo_model.specs.declared.properties.Access.TheVariants.{Never}
 use Rattle.qo_model.specs.declared.properties.Property.{Property}
@@ -17,9 +17,8 @@ use Rattle.qo_model.specs.declared.properties.PropertyRole.TheVariants as row
 use Rattle.qo_save.specs.Described.{is_describable}
 use Rattle.qo_sound.proofs.TestLemmas.{clash, clash-back, decide}
 use Rattle.qo_sound_devices.specs.DeviceFacts.{IsOnBus}
-use Rattle.qo_sound_devices.specs.SoundPlaces.{bridges, child_entries, child_entry, has_entry, HasOwner, IsHome, kid_entries, kid_entry, listed, machines, owns, owns_it, stands, suits}
+use Rattle.qo_sound_devices.specs.SoundPlaces.{bridges, child_entries, child_entry, has_entry, HasOwner, IsHome, kid_entries, listed, machines, owns, owns_it, stands}
 use Rattle.qo_sound_devices.proofs.AttachmentLemmas.{owns-listed}
-use Rattle.qo_sound_devices.proofs.DetachmentLemmas.{listed-kid}
 use Rattle.qo_sound_devices.proofs.FactLemmas.{devices_say_lem}
 use Rattle.qo_sound_devices.proofs.LocationLemmas.{Entry, entry-of}
 use Rattle.qo_sound_devices.proofs.PlugLemmas.{stands-device}
@@ -27,10 +26,10 @@ use Rattle.qo_sound_phases.proofs.ReachLemmas.{two-cases}
 use Rattle.qo_sound_shapes.specs.SoundShape.{HasRole}
 use Rattle.qo_sound_shapes.proofs.FactLemmas.{shapes_say_lem}
 use Rattle.qo_ways.specs.Ways.{IsInOrder}
-use Rattle.qo_good.specs.Good.{bus_path, clock_path, device_path, OneOf}
+use Rattle.qo_good.specs.Good.{bus_path, clock_path, OneOf}
 use Rattle.qo_good.proofs.ItemLemmas.{all-some}
-use Rattle.qo_good.proofs.PartLemmas.{device_as, devices, Here, inner, is_shelf, IsInner, memory_bus-kind, parts_of, root_bus-kind}
-use Rattle.qo_good.proofs.PlaceLemmas.{all-entry, apart, at, device-way, inner-way, leads, memory_bus-way, OfKind, of-kind, older, root_bus-way, stands-named, told}
+use Rattle.qo_good.proofs.PartLemmas.{devices, Here, inner, is_shelf, IsInner, parts_of}
+use Rattle.qo_good.proofs.PlaceLemmas.{all-entry, apart, at, inner-way, leads, memory_bus-way, OfKind, of-kind, older, root_bus-way, stands-named, told}
 
 -- ---- entries
 

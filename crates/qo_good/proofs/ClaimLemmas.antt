@@ -1,28 +1,20 @@
 -- What is given to the devices of a description, by what they claim.
-use Rattle.std.proofs.Common.{◌≡◌, ◌≢◌, ◌⊎◌, inl, inr, refl, ap, sym, subst, ◌∙◌, rules, ℕ, ◌<◌, Bool, true, false, ◌==◌, ◌&&◌, List, [], ◌∷◌, ◌++◌, filter_map, map, Option, Some, None, option_map, option_and_then, unwrap_or, codes, decimal, arith}
-use Rattle.qo_model.proofs.Common.{⊤, AllByRecursion, list_any, option_map_or, bytes_eq, type_name, OBJECTS_BIRTH, PERIPHERAL_BIRTH, ROOT_BIRTH, TypeId, Clock, Container, Machine, MemBus, MemDimm, MemoryBackendRam, Object, SlotBridge, SlotBus, SlotTimer, SlotUart, Range, Registers, overlap, Board, Record, Ring, Slot, plain, child, strong, weak, alias, kind_of, record_of, slot_named, Given, is_realized, number_at, number_in, plain_in, strong_in, text_at, text_in, is_of, canonical, is_absolute, path_down_to, property_named, backend_of, has_ring, size_of, text_for, is_a, types}
+use Rattle.std.proofs.Common.{◌≡◌, ◌≢◌, ◌⊎◌, inl, inr, refl, ap, sym, subst, ◌∙◌, rules, ℕ, Bool, true, false, ◌==◌, List, [], ◌∷◌, ◌++◌, filter_map, Option, Some, None, option_and_then, unwrap_or, codes, decimal}
+use Rattle.qo_model.proofs.Common.{AllByRecursion, option_map_or, bytes_eq, type_name, ROOT_BIRTH, TypeId, MemDimm, MemoryBackendRam, SlotBridge, SlotTimer, SlotUart, Board, Slot, plain, child, strong, weak, alias, kind_of, slot_named, Given, is_realized, number_in, plain_in, strong_in, text_at, text_in, is_of, canonical, is_absolute, path_down_to, property_named, is_a, types}
 use Rattle.std.proofs.lemmas.Option.{same_Some}
-use Rattle.std.proofs.lemmas.Slice.Eq.{bytes_eq-Decides}
 use Rattle.qo_values.proofs.EachLemmas.{each}
-use Rattle.qo_values.specs.declared.properties.Val.{Val}
 use Rattle.qo_values.specs.declared.properties.Val.TheVariants as val
-use Rattle.qo_model.specs.Properties.{path_text, target_text}
-use Rattle.qo_save.specs.Described.{description, device_given, is_describable, is_unset, prop_under, props_under, ring_item}
-use Rattle.qo_save.specs.Description.{Description, DeviceItem, ObjectItem, RingItem}
-use Rattle.qo_sound.proofs.TestLemmas.{clash, clash-back, decide}
-use Rattle.qo_sound_claims.specs.SoundClaims.{HasRange as RangeKept, is_dimm_on, is_uart_on, NamesRing as RingNamed, StandsOn}
-use Rattle.qo_sound_devices.specs.SoundPlaces.{child_entries, has_entry}
+use Rattle.qo_model.specs.Properties.{path_text}
+use Rattle.qo_save.specs.Described.{device_given, is_describable, is_unset, prop_under, props_under}
+use Rattle.qo_sound.proofs.TestLemmas.{clash, decide}
+use Rattle.qo_sound_claims.specs.SoundClaims.{HasRange as RangeKept, is_dimm_on, is_uart_on, NamesRing as RingNamed}
 use Rattle.qo_sound_order.specs.SoundOrder.{is_abstract}
 use Rattle.qo_sound_shapes.specs.SoundShape.{IsFurther}
 use Rattle.qo_ways.proofs.WayLemmas.{Below, below-root}
-use Rattle.qo_good.specs.Good.{bus, clock, device, device_path, first, first_objects, HasRange, IsGiven, IsMemory, IsThere, NamesRing, no_ring, object, object_path, OneOf, ring}
 use Rattle.qo_good.specs.GoodBoards.{IsWhole}
 use Rattle.qo_good.proofs.BusLemmas.{Stood}
-use Rattle.qo_good.proofs.ItemLemmas.{all-map, one-both, one-imply, one-map, one-none, one-of, one-unmap}
-use Rattle.qo_good.proofs.LayoutLemmas.{driver-said, l, range_kept, range_on}
-use Rattle.qo_good.proofs.ObjectLemmas.{memory-size}
-use Rattle.qo_good.proofs.PartLemmas.{device_as, devices, devices-said, Here, object_as, objects-said, there, users}
-use Rattle.qo_good.proofs.PlaceLemmas.{at, device-way, leads, object-way, OfKind, of-kind, one-at, told}
+use Rattle.qo_good.proofs.PartLemmas.{device_as}
+use Rattle.qo_good.proofs.PlaceLemmas.{at}
 use Rattle.qo_good.proofs.ValueLemmas.{prop-left, prop-none, prop-some, unnamed}
 
 -- ---- slots by what is read of them

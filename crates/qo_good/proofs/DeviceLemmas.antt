@@ -1,22 +1,21 @@
 -- The devices of a description are good.
-use Rattle.std.proofs.Common.{◌≡◌, ◌≢◌, ◌⊎◌, inl, inr, refl, ap, ap₂, sym, subst, ◌∙◌, rules, ℕ, suc, ◌+◌, ◌%◌, ◌<◌, ◌≤◌, Bool, true, false, ◌==◌, List, [], ◌∷◌, ◌++◌, map, Option, Some, None, option_map, option_and_then, unwrap_or, codes, arith}
-use Rattle.qo_model.proofs.Common.{⊤, AllByRecursion, IsDistinct, list_any, option_map_or, bytes_eq, type_name, BUS_DEPTH_MAX, BUS_SLOTS, DIMM_ALIGN, MEMORY_BUS_BIRTH, OBJECTS_BIRTH, PERIPHERAL_BIRTH, ROOT_BIRTH, ROOT_BUS_BIRTH, TypeId, Clock, Container, Machine, MemBus, MemDimm, MemoryBackendRam, Object, SlotBridge, SlotBus, SlotTimer, SlotUart, Range, range_at, Registers, is_in_window, overlap, Board, Record, Ring, Slot, kind_of, record_of, slots_at, Given, among, kid_at, kids_of, strong_in, text_at, is_absolute, is_of, canonical, path_down_to, size_of, has_ring, text_for, is_a}
+use Rattle.std.proofs.Common.{◌≡◌, ◌≢◌, inl, inr, refl, ap, ap₂, sym, subst, ◌∙◌, ℕ, suc, ◌%◌, ◌<◌, ◌≤◌, true, false, ◌==◌, List, [], ◌∷◌, ◌++◌, map, Option, Some, None, unwrap_or, codes, arith}
+use Rattle.qo_model.proofs.Common.{AllByRecursion, list_any, option_map_or, bytes_eq, type_name, BUS_DEPTH_MAX, BUS_SLOTS, DIMM_ALIGN, MEMORY_BUS_BIRTH, OBJECTS_BIRTH, PERIPHERAL_BIRTH, ROOT_BIRTH, ROOT_BUS_BIRTH, TypeId, Clock, Container, Machine, MemBus, MemDimm, MemoryBackendRam, Object, SlotBridge, SlotBus, SlotTimer, SlotUart, Range, range_at, Registers, is_in_window, overlap, Board, Ring, kind_of, slots_at, Given, kid_at, kids_of, text_at, is_absolute, is_of, path_down_to, size_of, has_ring, text_for, is_a}
 use Rattle.std.proofs.lemmas.Option.{same_Some}
 use Rattle.std.proofs.lemmas.Slice.Eq.{bytes_eq-Decides}
 use Rattle.qo_model.proofs.AmongLemmas.{among-all}
-use Rattle.qo_model.specs.Plug.{bus_type, number_for}
-use Rattle.qo_model.specs.Properties.{path_text, target_text}
+use Rattle.qo_model.specs.Plug.{bus_type}
+use Rattle.qo_model.specs.Properties.{path_text}
 use Rattle.qo_model.specs.SoundGraph.{Rises}
 use Rattle.qo_save.specs.Described.{description, is_describable, ring_item}
 use Rattle.qo_save.specs.Description.{Description, DeviceItem, ObjectItem, RingItem}
 use Rattle.qo_sound.proofs.TestLemmas.{clash, clash-back, decide}
 use Rattle.qo_sound_claims.specs.SoundClaims.{HasRange as RangeKept, is_dimm_on, is_uart_on, NamesRing as RingNamed}
-use Rattle.qo_sound_devices.specs.SoundPlaces.{bridges as owned_by, child_entries, has_entry, kid_entries, listed, suits}
+use Rattle.qo_sound_devices.specs.SoundPlaces.{bridges as owned_by, child_entries, has_entry}
 use Rattle.qo_sound_devices.proofs.DetachmentLemmas.{listed-kid}
-use Rattle.qo_sound_order.specs.SoundOrder.{is_abstract}
 use Rattle.qo_good.specs.Good.{bridges, bus, bus_path, clock, device, device_path, EachAfter, first, first_objects, HasBus, HasRange, IsGiven, IsGoodDevice, IsLaidOut, IsMemory, IsThere, Layout, memory, NamesRing, no_ring, object, object_path, OneOf, ring, root}
 use Rattle.qo_good.specs.GoodBoards.{IsWhole}
-use Rattle.qo_good.proofs.BusLemmas.{bridge_bus, bus-at, bus-told, BusAt, device-no_shelf, its-bus, memory_bus, memory-only, own-bus, owns-bus, root_bus, slot-only, Stood, stood-all, WhichBus}
+use Rattle.qo_good.proofs.BusLemmas.{bridge_bus, bus-told, its-bus, memory_bus, memory-only, own-bus, owns-bus, root_bus, slot-only, Stood, stood-all, WhichBus}
 use Rattle.qo_good.proofs.ClaimLemmas.{as_dimm, as_other, as_uart, device-no_memory, memory-one, named-dimm, range_given, ring_given, Says, says-of}
 use Rattle.qo_good.proofs.ItemLemmas.{all-after, all-both, all-front, all-map, births_in, each-mapped, one-before, one-both, one-imply, one-map, one-none, one-of, one-unmap, rises-before}
 use Rattle.qo_good.proofs.LayoutLemmas.{bridges-laid, bus-said, clock-fits, clocks-laid, depth-said, driver-said, l, range_kept, range_on, root_depth-laid, root_period-laid}

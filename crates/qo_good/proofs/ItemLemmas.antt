@@ -1,14 +1,12 @@
 -- What is made of some of a list's members, in order.
-use Rattle.std.proofs.Common.{◌≡◌, ◌⊎◌, inl, inr, refl, ap, sym, subst, ◌∙◌, ℕ, ◌<◌, Bool, true, false, ◌==◌, ◌&&◌, ◌||◌, List, [], ◌∷◌, ◌++◌, filter_map, map, Option, Some, None, option_map, append_assoc, arith}
-use Rattle.qo_model.proofs.Common.{⊤, AllByRecursion, IsDistinct, list_any, bytes_eq}
-use Rattle.std.specs.List.{flat_map}
+use Rattle.std.proofs.Common.{◌≡◌, ◌⊎◌, inl, inr, refl, ap, sym, subst, ◌∙◌, ℕ, ◌<◌, true, ◌==◌, ◌&&◌, List, [], ◌∷◌, ◌++◌, filter_map, map, Option, Some, None, append_assoc, arith}
+use Rattle.qo_model.proofs.Common.{AllByRecursion, bytes_eq}
 use Rattle.std.proofs.lemmas.Bool.{eq-eqb}
-use Rattle.std.proofs.lemmas.Option.{same_Some}
 use Rattle.std.proofs.lemmas.Slice.Eq.{bytes_eq-Decides}
 use Rattle.std.proofs.Math.Bool.{or-true}
 use Rattle.qo_model.specs.SoundGraph.{Rises}
 use Rattle.qo_values.proofs.ListLemmas.{all-imply}
-use Rattle.qo_sound_devices.specs.SoundPlaces.{has_entry, listed, names_it}
+use Rattle.qo_sound_devices.specs.SoundPlaces.{has_entry}
 use Rattle.qo_good.specs.Good.{EachAfter, Give, gives, none, OneOf, passed}
 
 pub one-append : {X : Type 0} (P : X → Type 0) (xs ys : List X) → OneOf P xs ⊎ OneOf P ys → OneOf P (xs ++ ys)

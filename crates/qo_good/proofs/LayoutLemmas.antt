@@ -1,17 +1,16 @@
 -- What a description leaves unsaid of a describable board, and the clocks of its devices.
-use Rattle.std.proofs.Common.{◌≡◌, ◌≢◌, ◌⊎◌, inl, inr, refl, ap, sym, subst, ◌∙◌, rules, ℕ, suc, ◌<◌, ◌^◌, Bool, true, false, not, ◌==◌, ◌&&◌, List, [], ◌∷◌, ◌++◌, filter_map, map, Option, Some, None, option_map, option_and_then, unwrap_or, codes, arith}
-use Rattle.qo_model.proofs.Common.{⊤, AllByRecursion, if◌then◌else◌, option_map_or, bytes_eq, type_name, PERIPHERAL_BIRTH, ROOT_BIRTH, ROOT_BUS_BIRTH, SYSTEM_CLOCK_BIRTH, TypeId, MemDimm, Object, SlotBridge, Range, range_at, Registers, bare, bridge, dimm, timer, uart, Board, Record, Slot, kind_of, record_of, slot_named, child_period, period, own_period, scaled, scaled_by, source_of, mul_of, div_of, clock_of, child_named, path_down_to, property_named, source_for, is_a, types}
-use Rattle.std.proofs.lemmas.Option.{same_Some}
+use Rattle.std.proofs.Common.{◌≡◌, ◌≢◌, refl, ap, sym, subst, ◌∙◌, rules, ℕ, suc, ◌<◌, ◌^◌, Bool, true, false, not, ◌==◌, ◌&&◌, List, filter_map, Option, Some, None, option_map, option_and_then, unwrap_or, codes}
+use Rattle.qo_model.proofs.Common.{AllByRecursion, if◌then◌else◌, option_map_or, bytes_eq, type_name, PERIPHERAL_BIRTH, ROOT_BUS_BIRTH, SYSTEM_CLOCK_BIRTH, TypeId, MemDimm, Object, SlotBridge, Range, range_at, Registers, bare, bridge, dimm, timer, uart, Board, Record, Slot, record_of, slot_named, child_period, period, scaled, scaled_by, mul_of, div_of, child_named, path_down_to, property_named, source_for, is_a, types}
 use Rattle.std.proofs.lemmas.Slice.Eq.{bytes_eq-Decides}
 use Rattle.qo_values.proofs.EachLemmas.{each}
 use Rattle.qo_values.proofs.ListLemmas.{all-imply}
 use Rattle.qo_model.proofs.PeriodLemmas.{period-fed, period-own}
 use Rattle.qo_model.specs.Properties.{path_text, target_text}
 use Rattle.qo_save.specs.Described.{clock_item, clock_item_of, description, is_describable}
-use Rattle.qo_save.specs.Description.{ClockItem, Description, DeviceItem}
-use Rattle.qo_sound.proofs.TestLemmas.{clash, decide}
+use Rattle.qo_save.specs.Description.{ClockItem, DeviceItem}
+use Rattle.qo_sound.proofs.TestLemmas.{decide}
 use Rattle.qo_sound_bounds.proofs.ClockLemmas.{source-bridge, source-machines}
-use Rattle.qo_sound_devices.specs.SoundPlaces.{child_entries, has_entry}
+use Rattle.qo_sound_devices.specs.SoundPlaces.{child_entries}
 use Rattle.qo_sound_phases.proofs.ResetTreeLemmas.{placed}
 use Rattle.qo_sound_order.specs.SoundOrder.{is_abstract}
 use Rattle.qo_good.specs.Good.{bus_path, clock_path, clock_said, device_path, has_clock, HasClock, IsBridgeLaid, Layout}
@@ -19,8 +18,8 @@ use Rattle.qo_good.specs.GoodBoards.{IsWhole}
 use Rattle.qo_good.proofs.BusLemmas.{bus-told, ClockAt, clock-at, own-bus, owns-bus, Stood, stood-all}
 use Rattle.qo_good.proofs.ItemLemmas.{all-map, filter_map-map, filter_map-same}
 use Rattle.qo_good.proofs.ObjectLemmas.{system-free}
-use Rattle.qo_good.proofs.PartLemmas.{device_as, devices-said, Here}
-use Rattle.qo_good.proofs.PlaceLemmas.{apart, at, inner-way, leads, older, root_bus-way, told}
+use Rattle.qo_good.proofs.PartLemmas.{device_as, devices-said}
+use Rattle.qo_good.proofs.PlaceLemmas.{at, inner-way, leads, root_bus-way, told}
 use Rattle.qo_good.proofs.ValueLemmas.{unnamed}
 
 -- the range in registers

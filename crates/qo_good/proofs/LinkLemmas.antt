@@ -1,16 +1,14 @@
 -- The links of a description are good, and its ids are of one thing each.
-use Rattle.std.proofs.Common.{◌≡◌, ◌⊎◌, inl, inr, refl, ap, ap₂, sym, subst, ◌∙◌, rules, ℕ, Bool, true, false, ◌&&◌, List, [], ◌∷◌, ◌++◌, filter_map, map, Option, Some, None, option_map, option_and_then, unwrap_or, codes, arith}
-use Rattle.qo_model.proofs.Common.{⊤, AllByRecursion, IsDistinct, if◌then◌else◌, option_map_or, bytes_eq, type_name, OBJECTS_BIRTH, PERIPHERAL_BIRTH, TypeId, Container, MemDimm, MemoryBackendRam, Object, SlotBridge, SlotTimer, SlotUart, Tag, Board, Record, Slot, plain, child, strong, weak, alias, kind_of, record_of, slots_at, target_of, may_set, property_named, is_a, slots_of, types}
+use Rattle.std.proofs.Common.{◌≡◌, refl, ap, ap₂, sym, subst, ◌∙◌, rules, ℕ, Bool, true, false, ◌&&◌, List, [], ◌∷◌, ◌++◌, filter_map, map, Option, Some, None, option_map, option_and_then, unwrap_or, codes, arith}
+use Rattle.qo_model.proofs.Common.{AllByRecursion, IsDistinct, if◌then◌else◌, option_map_or, bytes_eq, type_name, OBJECTS_BIRTH, PERIPHERAL_BIRTH, TypeId, Container, Object, Board, Record, Slot, plain, child, strong, weak, alias, kind_of, slots_at, target_of, may_set, property_named, is_a, slots_of, types}
 use Rattle.std.proofs.lemmas.Bool.{and_parts}
 use Rattle.std.proofs.lemmas.List.Concat.{flat_map-append}
-use Rattle.std.proofs.lemmas.List.Folds.{flat_map-map}
 use Rattle.std.proofs.lemmas.Option.{same_Some}
 use Rattle.std.specs.List.{flat_map}
 use Rattle.qo_values.proofs.EachLemmas.{each}
 use Rattle.qo_values.proofs.ListLemmas.{all-imply}
 use Rattle.qo_values.specs.declared.properties.PropType.TheVariants as ty
 use Rattle.qo_model.specs.Properties.{path_text}
-use Rattle.qo_model.specs.RowNames.{property_name}
 use Rattle.qo_model.specs.Types.{property, TypeInfo, type_named}
 use Rattle.qo_model.specs.declared.properties.Access.TheVariants.{Never}
 use Rattle.qo_model.specs.declared.properties.First.TheVariants as begins
@@ -22,15 +20,14 @@ use Rattle.qo_save.specs.Described.{description, is_describable, is_link, is_set
 use Rattle.qo_save.specs.Description.{Description, DeviceItem, LinkItem, ObjectItem}
 use Rattle.qo_sound.proofs.FirmBoardLemmas.{FitsKind, Linked}
 use Rattle.qo_sound.proofs.SlotLemmas.{names_in}
-use Rattle.qo_sound.proofs.TestLemmas.{clash, clash-back}
+use Rattle.qo_sound.proofs.TestLemmas.{clash-back}
 use Rattle.qo_sound_devices.specs.SoundPlaces.{child_entries, child_entry}
 use Rattle.qo_sound_devices.proofs.DropLemmas.{names-at}
 use Rattle.qo_sound_devices.proofs.PlacesLemmas.{linked-at}
-use Rattle.qo_sound_order.specs.SoundOrder.{is_abstract}
 use Rattle.qo_sound_shapes.specs.SoundShape.{further, HasRole, HasSlots, IsFurther, IsOfProperty, missing, next}
 use Rattle.qo_sound_shapes.proofs.RowLemmas.{IsRowOf, own-rows}
 use Rattle.qo_ways.specs.Ways.{IsInOrder}
-use Rattle.qo_good.specs.Good.{AreIds, device_path, Give, gives, IsLinkOf, IsThere, none, object_path, owners, passed, rows, rows_of}
+use Rattle.qo_good.specs.Good.{AreIds, device_path, Give, gives, IsLinkOf, none, object_path, passed, rows, rows_of}
 use Rattle.qo_good.proofs.ItemLemmas.{give-append}
 use Rattle.qo_good.proofs.PartLemmas.{device_as, devices, devices-said, Here, object_as, objects-kind, objects-said, peripheral-kind, there, users}
 use Rattle.qo_good.proofs.PlaceLemmas.{apart, device-way, firm, object-way, told}

@@ -1,9 +1,8 @@
 -- The system clock, the rings and users' objects of a description are good.
-use Rattle.std.proofs.Common.{◌≡◌, ◌≢◌, ◌⊎◌, inl, inr, refl, ap, sym, subst, ◌∙◌, rules, ℕ, ◌<◌, ◌^◌, Bool, true, false, List, [], ◌∷◌, filter_map, map, Option, Some, None, option_map, option_and_then, unwrap_or, codes}
-use Rattle.qo_model.proofs.Common.{AllByRecursion, IsDistinct, option_map_or, bytes_eq, is_id, type_name, MACHINE_BIRTH, OBJECTS_BIRTH, SYSTEM_CLOCK_BIRTH, TypeId, MemoryBackendRam, Object, Tag, BACKEND_SIZE_AT_FIRST, BACKEND_SIZE_MAX, DIMM_ALIGN, Board, Ring, Slot, plain, kind_of, slot_named, Given, period, own_period, scaled, source_of, clock_of, number_in, plain_in, place_of, property_named, is_of, is_a, types}
+use Rattle.std.proofs.Common.{◌≡◌, ◌⊎◌, inl, inr, refl, ap, sym, subst, ◌∙◌, rules, ℕ, ◌<◌, ◌^◌, Bool, true, false, List, [], ◌∷◌, filter_map, map, Option, Some, None, option_and_then, unwrap_or, codes}
+use Rattle.qo_model.proofs.Common.{AllByRecursion, IsDistinct, option_map_or, bytes_eq, is_id, MACHINE_BIRTH, OBJECTS_BIRTH, SYSTEM_CLOCK_BIRTH, TypeId, MemoryBackendRam, Object, Tag, BACKEND_SIZE_AT_FIRST, BACKEND_SIZE_MAX, DIMM_ALIGN, Board, Ring, Slot, plain, kind_of, slot_named, Given, period, scaled, source_of, number_in, plain_in, property_named, is_a, types}
 use Rattle.std.proofs.lemmas.Option.{same_Some}
 use Rattle.qo_values.proofs.EachLemmas.{each}
-use Rattle.qo_values.proofs.ListLemmas.{all-imply}
 use Rattle.qo_values.specs.declared.properties.PropType.TheVariants as ty
 use Rattle.qo_values.specs.declared.properties.Val.{Val}
 use Rattle.qo_values.specs.declared.properties.Val.TheVariants as val
@@ -15,8 +14,8 @@ use Rattle.qo_model.specs.declared.properties.First.TheVariants as first
 use Rattle.qo_model.specs.declared.properties.PropertyName.TheVariants as prop
 use Rattle.qo_model.specs.declared.properties.PropertyRole.{PropertyRole}
 use Rattle.qo_model.specs.declared.properties.PropertyRole.TheVariants as row
-use Rattle.qo_save.specs.Described.{description, given_in, is_nothing, object_given, object_of, prop_under, props_under, ring_item}
-use Rattle.qo_save.specs.Description.{ObjectItem, RingItem}
+use Rattle.qo_save.specs.Described.{description, is_nothing, object_given, object_of, prop_under, props_under, ring_item}
+use Rattle.qo_save.specs.Description.{RingItem}
 use Rattle.qo_sound.proofs.TestLemmas.{clash}
 use Rattle.qo_sound_bounds.specs.SoundSources.{IsDeviceClock}
 use Rattle.qo_sound_bounds.proofs.ClockLemmas.{clock-listed}

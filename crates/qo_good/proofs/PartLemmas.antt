@@ -1,6 +1,6 @@
 -- The parts of devices, and what a describable board has at which path.
 use Rattle.std.proofs.Common.{◌≡◌, ◌⊎◌, inl, inr, refl, ap, sym, subst, ◌∙◌, rules, ℕ, Bool, true, false, ◌==◌, eqb, List, [], ◌∷◌, ◌++◌, filter_map, map, Option, Some, None, is_some, option_map, option_and_then, unwrap_or, codes}
-use Rattle.qo_model.proofs.Common.{⊤, AllByRecursion, option_map_or, bytes_eq, is_id, type_name, ANONYMOUS_BIRTH, MACHINE_BIRTH, MEMORY_BUS_BIRTH, OBJECTS_BIRTH, PERIPHERAL_BIRTH, ROOT_BIRTH, ROOT_BUS_BIRTH, SYSTEM_CLOCK_BIRTH, TypeId, Bus, Clock, Container, Device, Machine, MemBus, MemDimm, MemoryBackend, MemoryBackendRam, Object, SlotBridge, SlotBus, SlotDevice, SlotTimer, SlotUart, Tag, Board, Record, Slot, plain, child, strong, weak, alias, is_live, kind_of, record_of, among, further_in, further_of, is_of, opening_board, path_down_to, place_of, property_named, is_a, slots_of, types}
+use Rattle.qo_model.proofs.Common.{⊤, AllByRecursion, option_map_or, is_id, type_name, ANONYMOUS_BIRTH, MACHINE_BIRTH, MEMORY_BUS_BIRTH, OBJECTS_BIRTH, PERIPHERAL_BIRTH, ROOT_BIRTH, ROOT_BUS_BIRTH, SYSTEM_CLOCK_BIRTH, TypeId, Clock, Container, Machine, MemBus, Object, SlotBridge, SlotBus, SlotDevice, SlotTimer, SlotUart, Board, Record, Slot, plain, child, strong, weak, alias, is_live, kind_of, record_of, among, further_in, further_of, is_of, opening_board, is_a, slots_of, types}
 use Rattle.std.proofs.lemmas.Bool.{eqb-true}
 use Rattle.std.proofs.lemmas.Option.{same_Some}
 use Rattle.qo_values.proofs.EachLemmas.{each}
@@ -14,7 +14,6 @@ use Rattle.qo_save.specs.Described.{description, device_item, device_of, is_desc
 use Rattle.qo_save.specs.Description.{Description, DeviceItem, ObjectItem}
 use Rattle.qo_sound.proofs.TestLemmas.{clash, clash-back, decide}
 use Rattle.qo_sound_devices.specs.SoundPlaces.{child_entries, child_entry, has_entry, IsAtHome, IsPeripheral}
-use Rattle.qo_sound_devices.proofs.PlacesLemmas.{owner-live}
 use Rattle.qo_sound_order.specs.SoundOrder.{HasId, is_abstract}
 use Rattle.qo_sound_shapes.specs.SoundOwners.{containers}
 use Rattle.qo_sound_shapes.specs.SoundShape.{child_type, HasChildType, HasRole, HasSlots, IsFurther, IsOfProperty, type_of_child}
@@ -22,7 +21,7 @@ use Rattle.qo_sound_shapes.proofs.RowLemmas.{has-all, IsRowOf, own-rows}
 use Rattle.qo_ways.specs.Ways.{IsInOrder}
 use Rattle.qo_good.specs.Good.{bus, bus_path, clock, clock_path, device, device_path, first, first_objects, has_clock, IsThere, object, object_path, OneOf}
 use Rattle.qo_good.proofs.ItemLemmas.{all-both, all-here, filter_map-all, one-imply, one-map}
-use Rattle.qo_good.proofs.PlaceLemmas.{all-entry, device-way, inner-way, none-anonymous, object-way, one-entry, OfKind, of-kind, part-way, machine-entries, machine-way, objects-way, place-there, placed-at, root-entries, settled, told, memory_bus-way, root_bus-way}
+use Rattle.qo_good.proofs.PlaceLemmas.{all-entry, device-way, inner-way, none-anonymous, object-way, one-entry, OfKind, of-kind, part-way, machine-entries, machine-way, objects-way, place-there, placed-at, root-entries, settled, told}
 
 -- ---- the further objects of a type
 

@@ -1,25 +1,25 @@
 -- Where the objects of a board in order stand, and their paths.
-use Rattle.std.proofs.Common.{◌≡◌, ◌⊎◌, inl, inr, refl, ap, sym, subst, ◌∙◌, ℕ, ◌<◌, ◌≤◌, suc, Bool, true, false, not, ◌==◌, ◌&&◌, List, [], ◌∷◌, ◌++◌, filter, filter_map, length, map, Option, Some, None, is_some, is_none, option_map, option_and_then, unwrap_or, codes, arith}
-use Rattle.qo_model.proofs.Common.{⊤, AllByRecursion, IsDistinct, list_any, option_map_or, bytes_eq, ANONYMOUS_BIRTH, MACHINE_BIRTH, MEMORY_BUS_BIRTH, OBJECTS_BIRTH, PERIPHERAL_BIRTH, ROOT_BIRTH, ROOT_BUS_BIRTH, SYSTEM_CLOCK_BIRTH, TypeId, Board, Record, Slot, plain, child, strong, weak, alias, is_live, kind_of, record_of, slots_at, detached, child_of, children_of, canonical, components, is_of, opening_board, path_down_to, path_turn, place_of, walk, SoundGraph, is_a, types}
+use Rattle.std.proofs.Common.{◌≡◌, inl, inr, refl, ap, sym, subst, ◌∙◌, ℕ, ◌<◌, ◌≤◌, suc, Bool, true, false, not, ◌==◌, ◌&&◌, List, [], ◌∷◌, ◌++◌, filter, filter_map, length, map, Option, Some, None, is_some, is_none, option_map, codes, arith}
+use Rattle.qo_model.proofs.Common.{⊤, AllByRecursion, bytes_eq, ANONYMOUS_BIRTH, MACHINE_BIRTH, MEMORY_BUS_BIRTH, OBJECTS_BIRTH, PERIPHERAL_BIRTH, ROOT_BIRTH, ROOT_BUS_BIRTH, SYSTEM_CLOCK_BIRTH, TypeId, Board, Record, Slot, plain, child, strong, weak, alias, is_live, kind_of, record_of, slots_at, detached, child_of, children_of, components, is_of, opening_board, path_down_to, path_turn, place_of, walk, SoundGraph, is_a, types}
 use Rattle.std.proofs.lemmas.Bool.{and_parts, eqb-true, ne_eqb}
 use Rattle.std.proofs.lemmas.Option.{same_Some}
 use Rattle.std.proofs.lemmas.Slice.Eq.{bytes_eq-Decides}
 use Rattle.qo_values.proofs.ListLemmas.{found-has, found-passes}
 use Rattle.qo_model.proofs.TreeLemmas.{paths_lem}
 use Rattle.qo_model.specs.Properties.{path_text}
-use Rattle.qo_model.specs.SoundGraph.{Rises, without_value}
+use Rattle.qo_model.specs.SoundGraph.{Rises}
 use Rattle.qo_save.specs.Described.{is_describable}
 use Rattle.qo_sound.proofs.FirmBoardLemmas.{WellFormed}
 use Rattle.qo_sound.proofs.TestLemmas.{clash, clash-back, decide}
 use Rattle.qo_sound.proofs.ViewLemmas.{rest-from_sound}
-use Rattle.qo_sound_devices.specs.SoundPlaces.{child_entries, child_entry, has_entry, listed, PlacesBut, stands}
+use Rattle.qo_sound_devices.specs.SoundPlaces.{child_entries, child_entry, has_entry, listed, stands}
 use Rattle.qo_sound_devices.proofs.LocationLemmas.{place-named}
 use Rattle.qo_sound_devices.proofs.PathLemmas.{peripheral-steps}
 use Rattle.qo_sound_shapes.specs.SoundShape.{unvalued}
 use Rattle.qo_ways.specs.Ways.{IsInOrder}
-use Rattle.qo_ways.proofs.WayLemmas.{Placed, placed}
+use Rattle.qo_ways.proofs.WayLemmas.{placed}
 use Rattle.qo_ways.proofs.WaysLawLemmas.{ways_lem}
-use Rattle.qo_good.specs.Good.{bus_path, clock_path, device_path, object_path, OneOf}
+use Rattle.qo_good.specs.Good.{device_path, object_path, OneOf}
 use Rattle.qo_good.proofs.ItemLemmas.{births_in, all-some}
 
 -- ---- entries

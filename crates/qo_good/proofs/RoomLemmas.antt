@@ -1,8 +1,8 @@
 -- The objects of a description are no more than those of the board.
-use Rattle.std.proofs.Common.{◌≡◌, ◌⊎◌, inl, inr, refl, ap, sym, subst, ◌∙◌, rules, ℕ, suc, ◌+◌, ◌<◌, ◌≤◌, Bool, true, false, ◌==◌, ◌&&◌, ◌||◌, eqb, List, [], ◌∷◌, ◌++◌, length, map, sum_by, Option, Some, None, is_some, option_map, unwrap_or, codes, arith}
-use Rattle.qo_model.proofs.Common.{⊤, AllByRecursion, IsDistinct, nat_eq, nat_eq_equiv, option_map_or, bytes_eq, type_name, ANONYMOUS_BIRTH, MACHINE_BIRTH, MEMORY_BUS_BIRTH, OBJECTS_BIRTH, PERIPHERAL_BIRTH, ROOT_BIRTH, ROOT_BUS_BIRTH, SYSTEM_CLOCK_BIRTH, TypeId, MemDimm, Object, SlotBridge, SlotTimer, SlotUart, Board, Record, is_live, kind_of, record_of, slots_at, among, births, children_of, objects_in, place_of, is_a, types}
+use Rattle.std.proofs.Common.{◌≡◌, ◌⊎◌, inl, inr, refl, ap, sym, subst, ◌∙◌, rules, ℕ, suc, ◌+◌, ◌<◌, ◌≤◌, Bool, true, false, ◌==◌, ◌&&◌, ◌||◌, eqb, List, [], ◌∷◌, ◌++◌, length, map, sum_by, Option, Some, None, is_some, option_map, codes, arith}
+use Rattle.qo_model.proofs.Common.{AllByRecursion, IsDistinct, nat_eq, nat_eq_equiv, option_map_or, bytes_eq, type_name, ANONYMOUS_BIRTH, MACHINE_BIRTH, MEMORY_BUS_BIRTH, OBJECTS_BIRTH, PERIPHERAL_BIRTH, ROOT_BIRTH, ROOT_BUS_BIRTH, SYSTEM_CLOCK_BIRTH, TypeId, MemDimm, SlotBridge, SlotTimer, SlotUart, Board, Record, is_live, kind_of, record_of, slots_at, among, births, children_of, objects_in, place_of, is_a, types}
 use Rattle.std.specs.List.{flat_map}
-use Rattle.std.proofs.lemmas.Bool.{and_parts, eqb-true, ne_eqb}
+use Rattle.std.proofs.lemmas.Bool.{and_parts, ne_eqb}
 use Rattle.std.proofs.lemmas.List.{length-append, length-map}
 use Rattle.std.proofs.lemmas.List.Sums.{sum_by-cons}
 use Rattle.std.proofs.lemmas.Map.Made.{length-le_from_is_member}
@@ -17,20 +17,18 @@ use Rattle.qo_model.proofs.StepLemmas.{live-among}
 use Rattle.qo_model.specs.SoundGraph.{Rises}
 use Rattle.qo_model.specs.Types.{TypeInfo, type_named}
 use Rattle.qo_save.specs.Described.{description, is_describable}
-use Rattle.qo_save.specs.Description.{Description, DeviceItem, ObjectItem}
 use Rattle.qo_sound.proofs.TestLemmas.{clash, clash-back, decide}
-use Rattle.qo_sound_devices.specs.SoundPlaces.{child_entries, has_entry, listed}
+use Rattle.qo_sound_devices.specs.SoundPlaces.{child_entries, has_entry}
 use Rattle.qo_sound_devices.proofs.AttachmentLemmas.{parent-is}
 use Rattle.qo_sound_devices.proofs.PlacesLemmas.{child-live}
-use Rattle.qo_ways.specs.Ways.{IsInOrder}
 use Rattle.qo_good.specs.Good.{objects_of}
 use Rattle.qo_good.specs.GoodBoards.{IsWhole}
 use Rattle.qo_good.proofs.BusLemmas.{ClockAt, clock-at, listed-entry, own-bus, Stood, stood-all}
 use Rattle.qo_good.proofs.ClaimLemmas.{device-four}
 use Rattle.qo_good.proofs.ItemLemmas.{all-append, all-here, births_in}
 use Rattle.qo_good.proofs.LayoutLemmas.{driver-said}
-use Rattle.qo_good.proofs.PartLemmas.{anonymous-kind, device_as, devices-said, Here, machine-kind, memory_bus-kind, object_as, objects-kind, objects-said, parts_of, peripheral-kind, root_bus-kind, root-kind, system-kind, users}
-use Rattle.qo_good.proofs.PlaceLemmas.{apart, entries-children, firm, machine-entries, older, rises, root-entries}
+use Rattle.qo_good.proofs.PartLemmas.{anonymous-kind, device_as, devices-said, machine-kind, memory_bus-kind, object_as, objects-kind, objects-said, parts_of, peripheral-kind, root_bus-kind, root-kind, system-kind}
+use Rattle.qo_good.proofs.PlaceLemmas.{apart, entries-children, firm, machine-entries, rises, root-entries}
 
 -- ---- lists
 

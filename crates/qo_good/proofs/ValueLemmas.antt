@@ -1,6 +1,6 @@
 -- What objects have under the names of properties that a description gives.
-use Rattle.std.proofs.Common.{◌≡◌, ◌≢◌, ◌⊎◌, inl, inr, refl, ap, sym, subst, ◌∙◌, ℕ, Bool, true, false, List, [], ◌∷◌, find, Option, Some, None, option_map, option_and_then, codes}
-use Rattle.qo_model.proofs.Common.{⊤, AllByRecursion, list_any, option_map_or, if◌then◌else◌, bytes_eq, admits, TypeId, PropType, Val, Board, Record, Slot, plain, child, strong, weak, alias, kind_of, record_of, slot_named, slots_at, Given, property_named, slots_of}
+use Rattle.std.proofs.Common.{◌≡◌, ◌≢◌, inl, inr, refl, ap, sym, subst, ◌∙◌, ℕ, Bool, true, false, List, [], ◌∷◌, find, Option, Some, None, option_map, option_and_then}
+use Rattle.qo_model.proofs.Common.{AllByRecursion, list_any, option_map_or, if◌then◌else◌, bytes_eq, admits, TypeId, PropType, Val, Board, Record, Slot, plain, child, strong, weak, alias, kind_of, record_of, slot_named, Given, property_named, slots_of}
 use Rattle.std.proofs.lemmas.Option.{same_Some}
 use Rattle.std.proofs.Math.Bool.{or-true}
 use Rattle.qo_values.specs.declared.properties.PropType.TheVariants as ty
@@ -13,7 +13,7 @@ use Rattle.qo_model.specs.declared.properties.PropertyRole.{PropertyRole}
 use Rattle.qo_model.specs.declared.properties.PropertyRole.TheVariants as row
 use Rattle.qo_save.specs.Described.{given_in, is_nothing, prop_under}
 use Rattle.qo_sound.proofs.TestLemmas.{clash, clash-back}
-use Rattle.qo_sound_shapes.specs.SoundShape.{further, HasRole, HasSlots, IsFurther, IsOfProperty, may_miss, missing, next, SoundShape}
+use Rattle.qo_sound_shapes.specs.SoundShape.{HasRole, HasSlots, IsFurther, may_miss, missing, next, SoundShape}
 use Rattle.qo_sound_shapes.proofs.FactLemmas.{shapes_say_lem}
 use Rattle.qo_sound_shapes.proofs.RowLemmas.{has-all, Slots}
 
