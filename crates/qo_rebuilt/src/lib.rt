@@ -1,0 +1,19 @@
+//! How a board is rebuilt of its description, step by step. Functions without effect, whose contracts say
+//! so. The definitions stand in `specs/`.
+#![tactic(auto)]
+
+ghost use Rattle.qo_rebuilt.specs.Made.{RingsMadeLaw};
+ghost use Rattle.qo_rebuilt.specs.WholeKept.{WholeKeptLaw};
+
+/// Each change that rebuilds a board keeps it in order, and sound in all that its description is of.
+#[tactic(auto, using(crate::proofs::WholeLemmas::whole_kept_lem))]
+pub fn law_whole()
+    ensures { WholeKeptLaw }
+{}
+
+/// Good rings, whose ids differ and are free, are added to a board, and then its description tells them
+/// after those that it told before.
+#[tactic(auto, using(crate::proofs::RingLemmas::rings_made_lem))]
+pub fn law_rings()
+    ensures { RingsMadeLaw }
+{}
