@@ -98,9 +98,15 @@ rings-made b d (r ∷ rs) h good free once =
       tells = subst (λ (rings : List RingItem). Tells more.board (record d { rings = rings })) (append_assoc d.rings (r ∷ []) rs) more.tells;
     }
 
+opening-says : described opening_board ≡ Some opening_row
+opening-says =
+    let board : Result Board Code → Board = λ (o : Result Board Code). elim o [ Ok x ↦ x | Err code ↦ opening_board ] in
+    let same : opening_board ≡ rows_lem.opening.board = ap board rows_lem.opening.made in
+    subst (λ (x : Board). described x ≡ Some opening_row) (sym same) rows_lem.opening.says
+
 opening-tells : Tells opening_board opening_row
 unfolding opening_board
-opening-tells = record { whole = whole_kept_lem.opening; says = rows_lem.opening.says; quiet = refl }
+opening-tells = record { whole = whole_kept_lem.opening; says = opening-says; quiet = refl }
 
 pub rings_made_lem : RingsMadeLaw
 rings_made_lem = record { opening = opening-tells; rings = rings-made }
