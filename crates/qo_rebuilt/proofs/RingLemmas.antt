@@ -13,6 +13,7 @@ use Rattle.qo_save.proofs.RowsLemmas.{rows_lem}
 use Rattle.qo_good.specs.Good.{IsGoodRing}
 use Rattle.qo_good.proofs.ItemLemmas.{all-append}
 use Rattle.qo_rebuilt.specs.Made.{IsFree, Makes, RingsMadeLaw, Tells}
+use Rattle.qo_rebuilt.proofs.FrameLemmas.{description-same}
 use Rattle.qo_rebuilt.proofs.WholeLemmas.{whole_kept_lem}
 
 -- a ring without bytes
