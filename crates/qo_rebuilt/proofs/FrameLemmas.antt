@@ -8,6 +8,7 @@ use Rattle.qo_model.specs.declared.properties.Property.{Property}
 use Rattle.qo_save.specs.Described.{clock_item, clock_item_of, description, device_given, device_item, device_of, given_in, is_link, is_nothing, is_set, is_unset, link_item, link_items, link_to, object_given, object_item, object_of, prop_under, props_under, ring_item}
 use Rattle.qo_save.specs.Description.{ClockItem, ClockNumbers, Description, DeviceItem, LinkItem, ObjectItem, RingItem}
 use Rattle.qo_sound_devices.specs.SoundPlaces.{child_entries, child_entry}
+use Rattle.qo_ways.proofs.WayLemmas.{steps_to}
 use Rattle.qo_good.proofs.ItemLemmas.{all-some, filter_map-same}
 
 -- what a description sees of an object
@@ -61,6 +62,17 @@ births-frame : (rs : List Record) → map (λ (r : Record). r.birth) rs ≡ map 
 births-frame [] = refl
 births-frame (r ∷ rs) = ap (λ (ns : List ℕ). r.birth ∷ ns) (births-frame rs)
 
+-- the steps down to an object, by one more of them
+turn-root : (b : Board) (f : ℕ → Option (List ℕ)) (n : ℕ) → (n == ROOT_BIRTH) ≡ true → path_turn b f n ≡ Some []
+turn-root b f n q = rw (path_turn, q) refl
+
+turn-none : (b : Board) (f : ℕ → Option (List ℕ)) (n : ℕ) → (n == ROOT_BIRTH) ≡ false → place_of b n ≡ None → path_turn b f n ≡ None
+turn-none b f n q r = rw (path_turn, q, r) refl
+
+turn-some : (b : Board) (f : ℕ → Option (List ℕ)) (n : ℕ) (u : ℕ × List ℕ) → (n == ROOT_BIRTH) ≡ false → place_of b n ≡ Some u
+    → path_turn b f n ≡ option_map (λ (way : List ℕ). way ++ 47 ∷ u.1) (f u.0)
+turn-some b f n u q r = rw (path_turn, q, r) refl
+
 module _ (b c : Board) (same : map frame b.records ≡ map frame c.records) where
   pub slots-same : (n : ℕ) → slots_at b n ≡ slots_at c n
   slots-same n =
@@ -91,11 +103,11 @@ module _ (b c : Board) (same : map frame b.records ≡ map frame c.records) wher
       go : (t : Bool) → (n == ROOT_BIRTH) ≡ t → (o : Option (ℕ × List ℕ)) → place_of c n ≡ o
           → ((m : ℕ) → by_depth (path_turn b) (λ _. None) depth m ≡ by_depth (path_turn c) (λ _. None) depth m)
           → by_depth (path_turn b) (λ _. None) (suc depth) n ≡ by_depth (path_turn c) (λ _. None) (suc depth) n
-      go true q o r rest = rw (by_depth, path_turn, q) refl
-      go false q None r rest = let own : place_of b n ≡ None = places-same n ∙ r in rw (by_depth, path_turn, q, own, r) refl
+      go true q o r rest = turn-root b (steps_to b depth) n q ∙ sym (turn-root c (steps_to c depth) n q)
+      go false q None r rest = turn-none b (steps_to b depth) n q (places-same n ∙ r) ∙ sym (turn-none c (steps_to c depth) n q r)
       go false q (Some u) r rest =
-          let own : place_of b n ≡ Some u = places-same n ∙ r in
-          rw (by_depth, path_turn, q, own, r) (ap (option_map (λ (way : List ℕ). way ++ 47 ∷ u.1)) (rest u.0))
+          turn-some b (steps_to b depth) n u q (places-same n ∙ r) ∙ ap (option_map (λ (way : List ℕ). way ++ 47 ∷ u.1)) (rest u.0)
+          ∙ sym (turn-some c (steps_to c depth) n u q r)
 
   ways-same : (n : ℕ) → path_down_to b n ≡ path_down_to c n
   unfolding path_down_to
