@@ -1,3 +1,4 @@
 pub mod WholeLemmas
 pub mod FrameLemmas
+pub mod NumberLemmas
 pub mod RingLemmas

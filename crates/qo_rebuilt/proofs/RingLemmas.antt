@@ -14,6 +14,7 @@ use Rattle.qo_good.specs.Good.{IsGoodRing}
 use Rattle.qo_good.proofs.ItemLemmas.{all-append}
 use Rattle.qo_rebuilt.specs.Made.{IsFree, Makes, RingsMadeLaw, Tells}
 use Rattle.qo_rebuilt.proofs.FrameLemmas.{description-same}
+use Rattle.qo_rebuilt.proofs.NumberLemmas.{numbers_taken_lem}
 use Rattle.qo_rebuilt.proofs.WholeLemmas.{whole_kept_lem}
 
 -- a ring without bytes

@@ -3,6 +3,7 @@
 #![tactic(auto)]
 
 ghost use Rattle.qo_rebuilt.specs.Made.{RingsMadeLaw};
+ghost use Rattle.qo_rebuilt.specs.NumbersTaken.{NumbersTakenLaw};
 ghost use Rattle.qo_rebuilt.specs.WholeKept.{WholeKeptLaw};
 
 /// Each change that rebuilds a board keeps it in order, and sound in all that its description is of.
@@ -16,4 +17,11 @@ pub fn law_whole()
 #[tactic(auto, using(crate::proofs::RingLemmas::rings_made_lem))]
 pub fn law_rings()
     ensures { RingsMadeLaw }
+{}
+
+/// A number that is written at the canonical path of a clock, as wide as its property, goes to the clock:
+/// its period, or what it multiplies and divides by.
+#[tactic(auto, using(crate::proofs::NumberLemmas::numbers_taken_lem))]
+pub fn law_numbers()
+    ensures { NumbersTakenLaw }
 {}
