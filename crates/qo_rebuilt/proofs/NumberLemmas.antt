@@ -45,10 +45,27 @@ takes most n low =
 
 -- ---- a write at the path of a clock
 
+abbrev at_of : Resolution → Result ℕ Code
+at_of (found n) = Ok n
+at_of missing = Err E15
+at_of several = Err E16
+
+abbrev set_at : Board → List ℕ → Val → Result ℕ Code → Result Board Code
+set_at b name v (Ok n) = set_property b n name v
+set_at b name v (Err code) = Err code
+
+abbrev row_at : Board → ℕ → List ℕ → Option Slot → Result (ℕ × Property) Code
+row_at b c name None = Err E17
+row_at b c name (Some s) = in_slot c s (set_row b c name)
+
+abbrev led_at : Board → ℕ → List ℕ → Option Slot → Result (ℕ × Property) Code
+led_at b c name None = Err E17
+led_at b c name (Some s) = led_by b c name s
+
 module _ (b : Board) (c : ℕ) (path : List ℕ) (h : IsWhole b) (canon : canonical b c ≡ Some path) (kind : kind_of b c ≡ Some Clock) where
   at-path : object_at b path ≡ Ok c
   at-path =
-      ap (λ (r : Resolution). elim r [ found n ↦ Ok n | missing ↦ Err E15 | several ↦ Err E16 ]) (ways_lem.canonical_leads b h.order c path canon)
+      ap at_of (ways_lem.canonical_leads b h.order c path canon)
 
   module _ (name : List ℕ) (p : PropertyName) (type : PropType) (at_first : ℕ) (its : property_named Clock name ≡ Some (number_row p type at_first))
       (old : Val) (slot : slot_named b c name ≡ Some (plain old)) (n : ℕ) (fits : admits type (val.Uint n) ≡ true) where
@@ -58,14 +75,14 @@ module _ (b : Board) (c : ℕ) (path : List ℕ) (h : IsWhole b) (canon : canoni
 
     own-row : own_property b c name ≡ Ok (c, number_row p type at_first)
     own-row =
-        ap (λ (o : Option Slot). elim o [ None ↦ Err E17 | Some s ↦ in_slot c s (set_row b c name) ]) slot ∙ ap (in_slot c (plain old)) its-row
+        ap (row_at b c name) slot ∙ ap (in_slot c (plain old)) its-row
 
     leads : led_to b c name ≡ Ok (c, number_row p type at_first)
-    leads = ap (λ (o : Option Slot). elim o [ None ↦ Err E17 | Some s ↦ led_by b c name s ]) slot ∙ own-row
+    leads = ap (led_at b c name) slot ∙ own-row
 
     taken : set_number path name n b ≡ number_written b c p n
     taken =
-        ap (λ (o : Result ℕ Code). elim o [ Ok m ↦ set_property b m name (val.Uint n) | Err code ↦ Err code ]) at-path
+        ap (set_at b name (val.Uint n)) at-path
         ∙ ap
         (λ (o : Option Property). if is_some o then clock_property_written b (val.Uint n) (led_to b c name) else write b c name (val.Uint n)) its-row
         ∙ ap (clock_property_written b (val.Uint n)) leads

@@ -7,7 +7,7 @@ use Rattle.qo_model.proofs.Common.{AllByRecursion, IsDistinct, list_any, bytes_e
 use Rattle.qo_values.specs.declared.codes.Code.{Code}
 use Rattle.qo_save.specs.Described.{described, description, is_describable, ring_item}
 use Rattle.qo_save.specs.Description.{Description, RingItem}
-use Rattle.qo_save.specs.Rebuilding.{add_ring, all_done}
+use Rattle.qo_save.specs.Rebuilding.{add_ring, all_done, Step}
 use Rattle.qo_save.specs.Rows.{opening_row}
 use Rattle.qo_save.proofs.RowsLemmas.{rows_lem}
 use Rattle.qo_good.specs.Good.{IsGoodRing}
@@ -84,6 +84,11 @@ free-more d r [] free differ = tt
 free-more d r (x ∷ rs) free differ =
     (all-append (λ (y : RingItem). bytes_eq y.id x.id ≡ false) d.rings (r ∷ []) free.0 (differ.0, tt), free-more d r rs free.1 differ.1)
 
+-- further commands, if those before were taken
+abbrev then_all : List Step → Result Board Code → Result Board Code
+then_all steps (Ok b) = all_done steps b
+then_all steps (Err code) = Err code
+
 rings-made : (b : Board) (d : Description) (rs : List RingItem) → Tells b d → AllByRecursion IsGoodRing rs → AllByRecursion (IsFree d) rs
     → IsDistinct bytes_eq (map (λ (r : RingItem). r.id) rs) → Makes (map add_ring rs) b (record d { rings = d.rings ++ rs })
 unfolding IsDistinct
@@ -96,14 +101,17 @@ rings-made b d (r ∷ rs) h good free once =
     let first : add_ring r b ≡ Ok c = ring-taken b d r h good.0 free.0 in
     record {
       board = more.board;
-      taken = ap (λ (o : Result Board Code). elim o [ Ok x ↦ all_done (map add_ring rs) x | Err code ↦ Err code ]) first ∙ more.taken;
+      taken = ap (then_all (map add_ring rs)) first ∙ more.taken;
       tells = subst (λ (rings : List RingItem). Tells more.board (record d { rings = rings })) (append_assoc d.rings (r ∷ []) rs) more.tells;
     }
 
+abbrev board_of : Result Board Code → Board
+board_of (Ok b) = b
+board_of (Err code) = opening_board
+
 opening-says : described opening_board ≡ Some opening_row
 opening-says =
-    let board : Result Board Code → Board = λ (o : Result Board Code). elim o [ Ok x ↦ x | Err code ↦ opening_board ] in
-    let same : opening_board ≡ rows_lem.opening.board = ap board rows_lem.opening.made in
+    let same : opening_board ≡ rows_lem.opening.board = ap board_of rows_lem.opening.made in
     subst (λ (x : Board). described x ≡ Some opening_row) (sym same) rows_lem.opening.says
 
 opening-tells : Tells opening_board opening_row
