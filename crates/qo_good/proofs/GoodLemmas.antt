@@ -26,10 +26,13 @@ good b h says =
       room = room-good b h says;
     }
 
-pub good_lem : GoodLaw
+good-so : (b : Board) (d : Description) → IsWhole b → described b ≡ Some d → Good d
 unfolding described
-good_lem b d h e = go (is_describable b) refl
+good-so b d h e = go (is_describable b) refl
   where
     go : (t : Bool) → is_describable b ≡ t → Good d
     go true q = subst Good (same_Some (description b) d (rw q at e)) (good b h q)
     go false q = absurd (let clash : None ≡ Some d = rw q at e in cc)
+
+pub good_lem : GoodLaw
+good_lem = record { good = good-so }

@@ -21,5 +21,5 @@ pub record IsWhole (b : Board) : Type 0 where
   pub bounds : SoundBounds b
 
 -- the description of such a board, where it has one, is good
-abbrev pub GoodLaw : Type 0
-GoodLaw = (b : Board) (d : Description) → IsWhole b → described b ≡ Some d → Good d
+pub record GoodLaw : Type 0 where
+  pub good : (b : Board) (d : Description) → IsWhole b → described b ≡ Some d → Good d
