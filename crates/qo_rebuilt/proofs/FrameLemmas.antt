@@ -18,6 +18,13 @@ Frame = ℕ × (TypeId × List (List ℕ × Slot))
 abbrev pub frame : Record → Frame
 frame r = (r.birth, (r.kind, r.slots))
 
+-- a value under a name, where it is not left out
+abbrev said_of : (Val → Bool) → List ℕ → Val → Option Given
+said_of left_out name v = if left_out v then None else Some (name, v)
+
+abbrev said_in : Board → (Val → Bool) → List ℕ → Slot → Option Given
+said_in b left_out name s = said_of left_out name (given_in b s)
+
 -- a clock by its numbers, as it is told
 abbrev item_of : ℕ → ℕ → List ℕ → Option ClockItem
 item_of mul div path = if (mul == 1) && (div == 1) then None else Some (record { div = div; mul = mul; path = path })
@@ -150,12 +157,11 @@ module _ (b c : Board) (same : map frame b.records ≡ map frame c.records) wher
       (all-some (λ (name : List ℕ). prop_under b left_out n name ≡ prop_under c left_out n name) one names)
     where
       one : (name : List ℕ) → prop_under b left_out n name ≡ prop_under c left_out n name
-      one name = by (slot_named b n name) ∙ ap (option_and_then (λ (s : Slot). if left_out (given_in c s) then None else Some (name, given_in c s))) (named-same n name)
+      one name = by (slot_named b n name) ∙ ap (option_and_then (said_in c left_out name)) (named-same n name)
         where
-          by : (o : Option Slot) → option_and_then (λ (s : Slot). if left_out (given_in b s) then None else Some (name, given_in b s)) o
-              ≡ option_and_then (λ (s : Slot). if left_out (given_in c s) then None else Some (name, given_in c s)) o
+          by : (o : Option Slot) → option_and_then (said_in b left_out name) o ≡ option_and_then (said_in c left_out name) o
           by None = refl
-          by (Some s) = ap (λ (v : Val). if left_out v then None else Some (name, v)) (given-same s)
+          by (Some s) = ap (said_of left_out name) (given-same s)
 
   clocks-same : (e : List ℕ × ℕ) → clock_item_of b e ≡ clock_item_of c e
   clocks-same e = ap (λ (o : Option Slot). option_and_then (clock_item b) (option_and_then child_named o)) (named-same e.1 (codes "clk")) ∙ by (clock_of c e.1)

@@ -1,20 +1,20 @@
 -- The law: rings that are added are told.
-use Rattle.std.proofs.Common.{◌≡◌, refl, ap, sym, subst, ◌∙◌, ℕ, Bool, true, false, List, [], ◌∷◌, ◌++◌, map, Some, None, Ok, Err, append_assoc, append-nil, arith}
+use Rattle.std.proofs.Common.{◌≡◌, refl, ap, sym, subst, ◌∙◌, Bool, true, false, not, List, [], ◌∷◌, ◌++◌, map, Option, Some, None, Ok, Err, append_assoc, append-nil, arith}
 use Rattle.std.specs.Prelude.{Result}
 use Rattle.std.proofs.lemmas.List.{map-append}
 use Rattle.std.proofs.lemmas.Option.{same_Some}
-use Rattle.qo_model.proofs.Common.{AllByRecursion, IsDistinct, list_any, bytes_eq, Board, Ring, has_ring, opening_board, path_down_to}
+use Rattle.qo_model.proofs.Common.{AllByRecursion, if◌then◌else◌, IsDistinct, list_any, bytes_eq, Board, Ring, has_ring, opening_board, path_down_to}
+use Rattle.qo_values.specs.Rings.{is_ring_size}
 use Rattle.qo_values.specs.declared.codes.Code.{Code}
+use Rattle.qo_values.specs.declared.codes.Code.TheVariants.{E23, E24, E51}
 use Rattle.qo_save.specs.Described.{described, description, is_describable, ring_item}
 use Rattle.qo_save.specs.Description.{Description, RingItem}
-use Rattle.qo_save.specs.Rebuilding.{add_ring, all_done, Step}
+use Rattle.qo_save.specs.Rebuilding.{add_ring, all_done, ring_barred, Step}
 use Rattle.qo_save.specs.Rows.{opening_row}
 use Rattle.qo_save.proofs.RowsLemmas.{rows_lem}
 use Rattle.qo_good.specs.Good.{IsGoodRing}
 use Rattle.qo_good.proofs.ItemLemmas.{all-append}
 use Rattle.qo_rebuilt.specs.Made.{IsFree, Makes, RingsMadeLaw, Tells}
-use Rattle.qo_rebuilt.proofs.FrameLemmas.{description-same}
-use Rattle.qo_rebuilt.proofs.NumberLemmas.{numbers_taken_lem}
 use Rattle.qo_rebuilt.proofs.WholeLemmas.{whole_kept_lem}
 
 -- a ring without bytes
@@ -69,13 +69,21 @@ ring-made b d r h good free =
       quiet = h.quiet;
     }
 
+abbrev ring_by : Board → RingItem → Option Code → Result Board Code
+ring_by b r None = Ok (record b { rings = b.rings ++ made r ∷ [] })
+ring_by b r (Some code) = Err code
+
 ring-taken : (b : Board) (d : Description) (r : RingItem) → Tells b d → IsGoodRing r → IsFree d r
     → add_ring r b ≡ Ok (record b { rings = b.rings ++ made r ∷ [] })
 ring-taken b d r h good free =
     let k : Has b d = has b d h.says in
     let absent : has_ring b r.id ≡ false =
     none-named r.id b.rings (subst (λ (x : Description). AllByRecursion (λ (y : RingItem). bytes_eq y.id r.id ≡ false) x.rings) (sym k.is) free) in
-    rw (good.id, absent, good.size) refl
+    let barred : ring_barred b r ≡ None =
+    ap (λ (t : Bool). if not t then Some E23 else if has_ring b r.id then Some E24 else if not (is_ring_size r.size) then Some E51 else None) good.id
+    ∙ ap (λ (t : Bool). if t then Some E24 else if not (is_ring_size r.size) then Some E51 else None) absent
+    ∙ ap (λ (t : Bool). if not t then Some E51 else None) good.size in
+    ap (ring_by b r) barred
 
 free-more : (d : Description) (r : RingItem) (rs : List RingItem) → AllByRecursion (IsFree d) rs
     → AllByRecursion (λ (y : List ℕ). bytes_eq r.id y ≡ false) (map (λ (x : RingItem). x.id) rs)
