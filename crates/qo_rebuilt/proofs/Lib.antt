@@ -2,3 +2,4 @@ pub mod WholeLemmas
 pub mod FrameLemmas
 pub mod NumberLemmas
 pub mod RingLemmas
+pub mod ClockLemmas

@@ -93,7 +93,7 @@ free-more d r (x ∷ rs) free differ =
     (all-append (λ (y : RingItem). bytes_eq y.id x.id ≡ false) d.rings (r ∷ []) free.0 (differ.0, tt), free-more d r rs free.1 differ.1)
 
 -- further commands, if those before were taken
-abbrev then_all : List Step → Result Board Code → Result Board Code
+abbrev pub then_all : List Step → Result Board Code → Result Board Code
 then_all steps (Ok b) = all_done steps b
 then_all steps (Err code) = Err code
 

@@ -2,7 +2,7 @@
 //! so. The definitions stand in `specs/`.
 #![tactic(auto)]
 
-ghost use Rattle.qo_rebuilt.specs.Made.{RingsMadeLaw};
+ghost use Rattle.qo_rebuilt.specs.Made.{ClockMadeLaw, RingsMadeLaw};
 ghost use Rattle.qo_rebuilt.specs.NumbersTaken.{NumbersTakenLaw};
 ghost use Rattle.qo_rebuilt.specs.WholeKept.{WholeKeptLaw};
 
@@ -24,4 +24,11 @@ pub fn law_rings()
 #[tactic(auto, using(crate::proofs::NumberLemmas::numbers_taken_lem))]
 pub fn law_numbers()
     ensures { NumbersTakenLaw }
+{}
+
+/// Good numbers of the system clock are written to the opening board, and then its description tells them.
+/// So do the rings of a good description that are added after them.
+#[tactic(auto, using(crate::proofs::ClockLemmas::clock_made_lem))]
+pub fn law_clock()
+    ensures { ClockMadeLaw }
 {}
