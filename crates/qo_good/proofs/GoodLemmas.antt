@@ -3,6 +3,7 @@ use Rattle.std.proofs.Common.{◌≡◌, refl, subst, Bool, true, false, Some, N
 use Rattle.std.proofs.lemmas.Option.{same_Some}
 use Rattle.qo_model.proofs.Common.{Board}
 use Rattle.qo_save.specs.Described.{described, description, is_describable}
+use Rattle.qo_save.specs.Description.{Description}
 use Rattle.qo_good.specs.Good.{Good}
 use Rattle.qo_good.specs.GoodBoards.{GoodLaw, IsWhole}
 use Rattle.qo_good.proofs.DeviceLemmas.{laid-out}

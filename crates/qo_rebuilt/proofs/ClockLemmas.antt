@@ -1,5 +1,5 @@
 -- The law: good numbers of the system clock are told, and after them good rings.
-use Rattle.std.proofs.Common.{◌≡◌, ◌≢◌, refl, ap, sym, subst, ◌∙◌, ℕ, ◌*◌, ◌/◌, ◌<◌, ◌≤◌, ◌^◌, ◌==◌, nat_le, Bool, true, false, cond, eqb, ◌||◌, List, [], ◌∷◌, ◌++◌, map, Option, Some, None, Ok, Err, codes, arith}
+use Rattle.std.proofs.Common.{◌≡◌, ◌≢◌, refl, ap, sym, subst, ◌∙◌, ℕ, ◌*◌, ◌/◌, ◌<◌, ◌≤◌, ◌^◌, ◌==◌, nat_le, Bool, true, false, cond, eqb, ◌||◌, List, [], ◌∷◌, ◌++◌, map, Option, Some, None, is_some, Ok, Err, codes, arith}
 use Rattle.std.specs.Prelude.{Result}
 use Rattle.std.specs.List.{list_any}
 use Rattle.std.proofs.Math.Nat.{div-le_self}
@@ -119,14 +119,14 @@ scaled-taken mul div per by over some fits =
     ∙ ap (λ (new : Board). clock_written (clocked mul div per) new SYSTEM_CLOCK_BIRTH) (scaled-again mul div per by over)
     ∙ written-taken (clocked mul div per) (below-none mul div per) by over per fits
 
-abbrev set_where : Board → ℕ → Option ℕ → Result Board Code
-set_where b new None = clock_written b (set_named SYSTEM_CLOCK_BIRTH (codes "period") (val.Uint new) b) SYSTEM_CLOCK_BIRTH
-set_where b new (Some s) = Err E45
-
 set-taken : (mul div per new : ℕ) → scaled_by mul div new < 2 ^ 64
     → clock_set (clocked mul div per) SYSTEM_CLOCK_BIRTH new ≡ Ok (clocked mul div new)
 set-taken mul div per new fits =
-    ap (set_where (clocked mul div per) new) (source-none mul div per)
+    ap
+    (λ (o : Option ℕ).
+    if is_some o then Err E45
+    else clock_written (clocked mul div per) (set_named SYSTEM_CLOCK_BIRTH (codes "period") (val.Uint new) (clocked mul div per)) SYSTEM_CLOCK_BIRTH)
+    (source-none mul div per)
     ∙ ap (λ (b : Board). clock_written (clocked mul div per) b SYSTEM_CLOCK_BIRTH) (set-again mul div per new)
     ∙ written-taken (clocked mul div per) (below-none mul div per) mul div new fits
 
@@ -201,11 +201,12 @@ clock-made c good =
 
 then-done : (first_steps more : List Step) (b : Board) → all_done (first_steps ++ more) b ≡ then_all more (all_done first_steps b)
 then-done [] more b = refl
-then-done (step ∷ steps) more b = go (step b)
+then-done (step ∷ steps) more b = go (step b) (λ c. then-done steps more c)
   where
-    go : (r : Result Board Code) → then_all (steps ++ more) r ≡ then_all more (then_all steps r)
-    go (Ok c) = then-done steps more c
-    go (Err code) = refl
+    go : (r : Result Board Code) → ((c : Board) → all_done (steps ++ more) c ≡ then_all more (all_done steps c))
+        → then_all (steps ++ more) r ≡ then_all more (then_all steps r)
+    go (Ok c) rest = rest c
+    go (Err code) rest = refl
 
 rings-after : (d : Description) → Good d
     → Makes (clock_steps d.clock ++ map add_ring d.rings) opening_board (record opening_row { clock = d.clock; rings = d.rings })
