@@ -146,7 +146,7 @@ module _ (b : Board) (h : IsInOrder b) where
 
   -- ---- paths
 
-  below : (p x : ℕ) (name above : List ℕ) → (x == ROOT_BIRTH) ≡ false → has_entry (name, x) (child_entries b p) ≡ true → path_down_to b p ≡ Some above
+  pub below : (p x : ℕ) (name above : List ℕ) → (x == ROOT_BIRTH) ≡ false → has_entry (name, x) (child_entries b p) ≡ true → path_down_to b p ≡ Some above
       → path_down_to b x ≡ Some (above ++ 47 ∷ name)
   below p x name above other there is =
       let place : place_of b x ≡ Some (p, name) = place-named b firm p x name there in
@@ -216,7 +216,7 @@ module _ (b : Board) (h : IsInOrder b) where
   -- ---- describable boards
 
   module _ (says : is_describable b ≡ true) where
-    parts : ((length (detached b) == 0) ≡ true) × ((length b.pending == 0) ≡ true) × ((length (children_of b ANONYMOUS_BIRTH) == 0) ≡ true)
+    pub parts : ((length (detached b) == 0) ≡ true) × ((length b.pending == 0) ≡ true) × ((length (children_of b ANONYMOUS_BIRTH) == 0) ≡ true)
     parts =
         let two = and_parts ((length (detached b) == 0) && (length b.pending == 0)) (length (children_of b ANONYMOUS_BIRTH) == 0) says in
         let first = and_parts (length (detached b) == 0) (length b.pending == 0) two.0 in
