@@ -3,3 +3,4 @@ pub mod FrameLemmas
 pub mod NumberLemmas
 pub mod RingLemmas
 pub mod ClockLemmas
+pub mod GrowthLemmas
