@@ -1,6 +1,0 @@
-pub mod WholeLemmas
-pub mod FrameLemmas
-pub mod NumberLemmas
-pub mod RingLemmas
-pub mod ClockLemmas
-pub mod GrowthLemmas
