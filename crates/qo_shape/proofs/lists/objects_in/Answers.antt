@@ -21,7 +21,7 @@ loop-item-init c = rw c.new-found.ensures.items (left-first object_said object_i
 
 pub object_in-requires : goal.object_in-requires
 object_in-requires c =
-    item-ordered (view c.args.value.now) c.in_ok-items.items.now c.loop-item.item-index c.item-item.result c.requires c.in_ok-items.ensures 
+    item-ordered (view c.args.value.now) c.in_ok-items.items.now c.loop-item.item-index c.item-item.result c.requires c.in_ok-items.ensures
     (item-at c.in_ok-items.items.now c.loop-item.item-index c.item-item.result (omega arith) c.item-item.is)
 
 pub returns-in_err-object_in : goal.returns-in_err-object_in
