@@ -1,4 +1,4 @@
--- What shows of a board of a description: the sights of its objects, from the lists of the description alone (docs/devel/qom.rst, "The QEMU Object Model":
+-- For a law alone. What shows of a board of a description: the sights of its objects, from the lists of the description alone (docs/devel/qom.rst, "The QEMU Object Model":
 -- canonical paths, child and link; which objects and slots there are is the profile's).
 use Rattle.std.specs.Prelude.{ℕ, ◌&&◌, true, if◌then◌else◌, List, [], ◌∷◌, ◌++◌, find, filter_map, map, codes, Option, Some, None}
 use Rattle.std.specs.List.{flat_map}

@@ -1,4 +1,4 @@
--- Which descriptions are good: those of which a board is rebuilt without a refusal. By their lists alone (types, ids, buses, what devices claim, clocks and
+-- For a law alone. Which descriptions are good: those of which a board is rebuilt without a refusal. By their lists alone (types, ids, buses, what devices claim, clocks and
 -- limits are the profile's; docs/devel/clocks.rst, "Clock multiplier and divider settings").
 use Rattle.std.specs.Prelude.{◌≡◌, ◌≢◌, ◌⊎◌, ℕ, ◌+◌, ◌%◌, ◌<◌, ◌≤◌, ◌^◌, suc, ◌==◌, ◌&&◌, Bool, true, false, not, if◌then◌else◌, List, [], ◌∷◌, ◌++◌, filter_map, length, map, codes, Option, Some, None, ⊤}
 use Rattle.std.specs.List.{AllByRecursion, IsDistinct, flat_map, sum_by}
