@@ -1,5 +1,5 @@
 -- What has no description is told as an object without members.
-use Rattle.std.proofs.Common.{◌≡◌, List, [], Option, Some, None, refl, sym, ap, ◌∙◌}
+use Rattle.std.proofs.Common.{◌≡◌, Option, Some, None, refl, sym, ap, ◌∙◌}
 use Rattle.std.specs.Prelude.{option_map}
 use Rattle.serde_json.specs.Data.{Data}
 use Rattle.serde_json.specs.View.{view}
@@ -22,9 +22,9 @@ told-none (Some d) e = absurd (let clash : None ≡ Some (description_data d) = 
 
 pub returns-in-Some : goal.returns-in-Some
 returns-in-Some g c = λ b s.
-    told-some (view c.in-Some.value) (described b) (ap (option_map view) (sym c.in-Some.is) ∙ c.in_ok-description.ensures b s)
+    told-some (view c.in-Some.value) (described b) (ap (option_map view) (sym c.in-Some.is) ∙ c.in_ok-value.ensures b s)
 
 pub returns-in-None : goal.returns-in-None
 returns-in-None g c = λ b s.
-    view-Object c.new.result ∙ ap (λ es. object (members_view es)) c.new.ensures
-    ∙ told-none (described b) (ap (option_map view) (sym c.in-None.is) ∙ c.in_ok-description.ensures b s)
+    view-Object c.new.result ∙ ap (λ es. object (members_view es)) c.new.ensures.empty
+    ∙ told-none (described b) (ap (option_map view) (sym c.in-None.is) ∙ c.in_ok-value.ensures b s)
