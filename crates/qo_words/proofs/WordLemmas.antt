@@ -38,5 +38,11 @@ apart w text other = by (bytes_eq w text) (bytes_eq-Decides w text)
 pub begins-none : (w : List ℕ) (words : List (List ℕ)) → w ≢ codes "replay" → w ≢ codes "rebuild" → w ≢ codes "types" → w ≢ codes "watch"
     → w ≢ codes "serve" → w ≢ codes "demo" → order (w ∷ words) ≡ None
 begins-none w words replay rebuild types watch serve demo =
-    rw (apart w (codes "replay") replay, apart w (codes "rebuild") rebuild, apart w (codes "types") types, apart w (codes "watch") watch,
-    apart w (codes "serve") serve, apart w (codes "demo") demo) refl
+    rw (
+      apart w (codes "replay") replay,
+      apart w (codes "rebuild") rebuild,
+      apart w (codes "types") types,
+      apart w (codes "watch") watch,
+      apart w (codes "serve") serve,
+      apart w (codes "demo") demo,
+    ) refl
