@@ -1,13 +1,8 @@
 -- Bytes that a source gave in pieces.
 use Rattle.std.proofs.Common.{◌≡◌, ◌≢◌, ℕ, ◌++◌, List, [], ◌∷◌, length, refl, ap, sym, ◌∙◌, append_assoc, arith, Option, None, Some}
 use Rattle.std.specs.Io.KnownBytes.{prepend_known}
+use Rattle.qo_record.proofs.ReadingLemmas.{none_some, some_is}
 use Rattle.compose.specs.declared.whole_sources.Stop.{Stop}
-
-pub some-is : {A : Type 0} {x y : A} → Some x ≡ Some y → x ≡ y
-some-is h = cc
-
-pub none-some : {A : Type 0} {y : A} → None ≡ Some y → ⊥
-none-some h = cc
 
 -- nothing was given yet
 empty : (xs : List ℕ) → length xs ≡ 0 → xs ≡ []
@@ -32,7 +27,7 @@ gave-more old mid new held taken first more = first ∙ ap (prepend_known held) 
 
 -- the reading goes on, or stops by another end
 pub goes-on : (r : Option Stop) (s : Stop) → r ≡ None → r ≢ Some s
-goes-on r s none is = none-some (sym none ∙ is)
+goes-on r s none is = none_some (sym none ∙ is)
 
 pub stops-else : (r : Option Stop) (s t : Stop) → r ≡ Some s → s ≢ t → r ≢ Some t
-stops-else r s t is other same = other (some-is (sym is ∙ same))
+stops-else r s t is other same = other (some_is (sym is ∙ same))

@@ -36,6 +36,10 @@ abbrev pub CompletesReplay : Status → Option (List ℕ) → Option (List ℕ) 
 CompletesReplay status left held_old held_new =
     IfSome left (λ bytes. IsWhole bytes → ((status ≡ Done) × RanWhole bytes held_old held_new) ⊎ (status ≡ Memory))
 
+-- `watch` over a source, if it tells its bytes
+abbrev pub CompletesWatch : Status → Option (List ℕ) → Type 0
+CompletesWatch status left = IfSome left (λ bytes. IsWhole bytes → EndsWell status)
+
 -- a hub that tells its inputs, of which there are fewer than a run may take, and that there is no bad place
 pub record IsWholeHub (inputs : Option (List Given)) (bad : Option (Option ℕ)) : Type 0 where
   pub all : List Given

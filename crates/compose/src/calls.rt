@@ -4,7 +4,7 @@ ghost use Rattle.std.specs.Prelude.{◌≡◌, ◌≢◌, ◌↔◌, ◌⊎◌, 
 ghost use Rattle.qo_causes.specs.Cause.{Rose};
 ghost use Rattle.qo_listen.specs.Ears.{AllOpen, ears};
 ghost use Rattle.qo_machine.specs.Runs.{known};
-ghost use Rattle.compose.specs.Completeness.{CompletesReplay, CompletesServe, EndsWell, NoFault, puts_lines};
+ghost use Rattle.compose.specs.Completeness.{CompletesReplay, CompletesServe, CompletesWatch, EndsWell, NoFault, puts_lines};
 ghost use Rattle.compose.specs.Demo.{ToldDemo};
 ghost use Rattle.compose.specs.Exits.{exit_code};
 ghost use Rattle.compose.specs.Rebuild.{RebuiltBy, board_line};
@@ -27,6 +27,16 @@ use qo_causes::{Hub, Sink, Source};
 use qo_listen::{Listener, Listeners};
 use qo_words::{Order, order_in};
 use std::alloc::{AllocError, Global};
+
+/// Tells the status of a call that ended so, with the bad place that is shown, or 0, and gives the call.
+fn told<S, K, E: Sink>(complaints: &mut E, ended: (Ran<S, K>, u64)) -> Ran<S, K>
+    ensures ran { result ≡ ended.0 }
+    ensures told { Complained (E.held complaints.old) (E.held complaints.new) (E.faults complaints.old) (E.faults complaints.new) (line_of ended.0.status ended.1) }
+{
+    let (ran, place) = ended;
+    complain(complaints, ran.status, place);
+    ran
+}
 
 /// Runs `compose` on its words, the words after the program's name.
 ///
@@ -56,9 +66,9 @@ use std::alloc::{AllocError, Global};
 ///   are those of the run in which each command has its memory. Where there was none for the words of `serve`, the hub
 ///   did not begin.
 ///
-/// Where no fault was counted, `types` and `demo` end with `Done` or `Memory`. So does `replay` of a record without a bad
-/// place, of fewer than 1,000,000,000 inputs, and `serve` where its hub tells as few and no bad place. With `Done` of
-/// these two each item of an open session before the end of the run was answered by exactly one reply, and each line of
+/// Where no fault was counted, `types` and `demo` end with `Done` or `Memory`. So do `replay` and `watch` of a record without
+/// a bad place, of fewer than 1,000,000,000 inputs, and `serve` where its hub tells as few and no bad place. With `Done` of
+/// `replay` and `serve` each item of an open session before the end of the run was answered by exactly one reply, and each line of
 /// the guest by exactly one answer.
 ///
 /// With `ReadFault`, `WriteFault` and `Memory` of `replay` the run is over a front of the stream, which has at least each
@@ -90,28 +100,23 @@ pub fn compose<S: Source, K: Sink, E: Sink, H: Hub>(
     ensures hub_cause { result.status ≡ Status.HubFault → Rose (H.next_faults hub.old) (H.next_faults hub.new) ⊎ Rose (H.send_faults hub.old) (H.send_faults hub.new) }
     ensures hub_quiet { result.status ≢ Status.HubFault → (H.next_faults hub.new ≡ H.next_faults hub.old) × (H.send_faults hub.new ≡ H.send_faults hub.old) }
     ensures complete_replay { order (map string_bytes words.now) ≡ Some a_replay → NoFault (S.faults source) (S.faults result.source) → NoFault (K.faults sink) (K.faults result.sink) → CompletesReplay result.status (S.left source) (K.held sink) (K.held result.sink) }
+    ensures complete_watch { order (map string_bytes words.now) ≡ Some a_watch → NoFault (S.faults source) (S.faults result.source) → NoFault (K.faults sink) (K.faults result.sink) → CompletesWatch result.status (S.left source) }
     ensures complete_serve { asks_hub (order (map string_bytes words.now)) ≡ true → NoFault (H.next_faults hub.old) (H.next_faults hub.new) → NoFault (H.send_faults hub.old) (H.send_faults hub.new) → CompletesServe result.status (known (H.inputs hub.old) (H.sent hub.old) (H.got hub.old) (H.losses hub.old)) (known (H.inputs hub.new) (H.sent hub.new) (H.got hub.new) (H.losses hub.new)) (H.bad hub.old) }
     ensures complete_rest { puts_lines (order (map string_bytes words.now)) ≡ true → NoFault (K.faults sink) (K.faults result.sink) → EndsWell result.status }
     ensures hub_later { H.later hub.old hub.new }
     ensures hub_kept { asks_hub (order (map string_bytes words.now)) ≡ false → (hub.new ≡ hub.old) × (result.status ≢ Status.HubFault) }
 {
     match order_in(alloc, words) {
-        Ok(Some(Order::Watch)) => {
-            let (ran, place) = watch(alloc, source, sink, listeners);
-            complain(complaints, ran.status, place);
-            ran
-        }
+        Ok(Some(Order::Watch)) => told(complaints, watch(alloc, source, sink, listeners)),
         Ok(Some(Order::Replay)) => {
             listeners.end();
-            let (ran, place) = replay(alloc, source, sink);
-            complain(complaints, ran.status, place);
-            ran
+            let ran = replay(alloc, source, sink);
+            told(complaints, ran)
         }
         Ok(Some(Order::Serve { path, connections })) => {
             listeners.end();
             let (status, place) = serve(alloc, path.as_str(), connections, hub);
-            complain(complaints, status, place);
-            Ran::ended(status, source, sink)
+            told(complaints, (Ran::ended(status, source, sink), place))
         }
         Ok(Some(Order::Rebuild)) => {
             listeners.end();
@@ -122,24 +127,20 @@ pub fn compose<S: Source, K: Sink, E: Sink, H: Hub>(
         Ok(Some(Order::Types)) => {
             listeners.end();
             let status = tell_types(alloc, &mut sink);
-            complain(complaints, status, 0);
-            Ran::ended(status, source, sink)
+            told(complaints, (Ran::ended(status, source, sink), 0))
         }
         Ok(Some(Order::Demo { seed, steps })) => {
             listeners.end();
             let status = tell_demo(alloc, seed, steps, &mut sink);
-            complain(complaints, status, 0);
-            Ran::ended(status, source, sink)
+            told(complaints, (Ran::ended(status, source, sink), 0))
         }
         Ok(None) => {
             listeners.end();
-            complain(complaints, Status::Usage, 0);
-            Ran::ended(Status::Usage, source, sink)
+            told(complaints, (Ran::ended(Status::Usage, source, sink), 0))
         }
         Err(AllocError) => {
             listeners.end();
-            complain(complaints, Status::Memory, 0);
-            Ran::ended(Status::Memory, source, sink)
+            told(complaints, (Ran::ended(Status::Memory, source, sink), 0))
         }
     }
 }

@@ -14,4 +14,4 @@ returns g c = λ b s.
     let told = c.in_ok-of.ensures ∙ c.in_ok-value.ensures b s in
     let plain : has_float (view c.in_ok-of.field-0) ≡ false = ap has_float told ∙ described_no_float (described b) in
     let text : c.in_ok-text.text ≡ json (told_as (described b)) = c.in_ok-text.ensures plain ∙ ap json told in
-    c.from_string.ensures ∙ c.in_ok-push.ensures.bytes ∙ ap (λ (l : List ℕ). l ++ 10 ∷ []) (c.in_ok-line.ensures ∙ c.as_str.ensures ∙ text)
+    c.from_string.ensures ∙ c.in_ok-push.ensures.bytes ∙ ap (λ (l : List ℕ). l ++ 10 ∷ []) (c.in_ok-line.ensures.ok ∙ c.as_str.ensures ∙ text)
