@@ -1,8 +1,7 @@
 -- What rebuild tells, by what rebuilding answers.
-use Rattle.std.proofs.Common.{◌≡◌, ◌≢◌, Option, Some, None, Result, Ok, Err, subst}
+use Rattle.std.proofs.Common.{Option, Result, Err}
 use Rattle.qo_values.specs.declared.codes.Code.{Code}
 use Rattle.qo_model.specs.Board.{Board}
-use Rattle.qo_realize.specs.Parts.{Parts}
 use Rattle.qo_rebuild.specs.Answers.{Rebuilds}
 use Rattle.qo_rebuild.specs.declared.errors.SaveError.{SaveError}
 use Rattle.qo_rebuild.specs.declared.errors.SaveError.TheVariants.{Memory, Refused, Shape}

@@ -47,8 +47,8 @@ pub record IsWholeHub (inputs : Option (List Given)) (bad : Option (Option ℕ))
   pub few : length all < INPUTS_MAX
   pub good : bad ≡ Some None
 
--- `serve`, by its status. Its run has ended, and in it each item and each line was answered exactly once; or memory ran out. Or the run had not ended when it had
--- taken as many inputs as it may, or when the bad place of its hub came.
+-- `serve`, by its status. Its run has ended, and in it each item and each line was answered exactly once; or memory ran out. Or the run had not ended when
+-- it had taken as many inputs as it may, or when the bad place of its hub came.
 abbrev pub ServedWhole : Status → Told → Told → Option (Option ℕ) → Type 0
 ServedWhole Done old new bad = (turns : List Turn) × Turns opening old new turns × EndsAtLast turns × AreAnswered opening turns
 ServedWhole Memory old new bad = ⊤

@@ -1,5 +1,5 @@
 -- Where memory ran out for the words, no order was begun. What replay, watch and serve come to where no fault was counted.
-use Rattle.std.proofs.Common.{rules, ◌≡◌, ◌∙◌, refl, ap, inl, inr}
+use Rattle.std.proofs.Common.{◌≡◌, ◌∙◌, refl, ap, inl, inr}
 use Rattle.qo_machine.specs.Runs.{known}
 use Rattle.compose.proofs.CompletenessLemmas.{completes_replay, completes_serve, completes_watch, no_cause}
 use Rattle.compose.specs.declared.statuses.Status.TheVariants.{Memory}
@@ -50,6 +50,7 @@ returns-in-Ok-Some-Serve-clause-complete_serve g c asks no_next no_send =
     let new = c.serve-status.new.hub in
     let told = c.told-in-Ok-Some-Serve in
     let status : told.result.status ≡ c.serve-status.result.0 = ap (λ r. r.status) (told.ensures.ran ∙ c.ended.ensures) in
-    rw status (completes_serve c.as_str.result.now c.in-Ok-Some-Serve.connections c.serve-status.result.0 c.serve-status.result.1 (hub.asked old) (hub.asked new)
+    rw status
+    (completes_serve c.as_str.result.now c.in-Ok-Some-Serve.connections c.serve-status.result.0 c.serve-status.result.1 (hub.asked old) (hub.asked new)
     (known (hub.inputs old) (hub.sent old) (hub.got old) (hub.losses old)) (known (hub.inputs new) (hub.sent new) (hub.got new) (hub.losses new)) (hub.bad old)
     c.serve-status.ensures.served (λ fault. no_cause no_next no_send (c.serve-status.ensures.cause fault)))

@@ -1,7 +1,6 @@
 -- The board is rebuilt, and its text is made.
 use Rattle.std.proofs.Common.{◌≡◌, Err, rules}
 use Rattle.qo_rebuild.specs.Texts.{rebuilt_of_text}
-use Rattle.qo_rebuild.specs.declared.errors.SaveError.TheVariants.{Memory}
 use Rattle.compose.proofs.RebuildLemmas.{tells-none}
 use Rattle.compose.proofs.rebuilds.line_counting.Goals as goal
 
