@@ -1260,6 +1260,16 @@ class Board(DeviceTree):
         made.accept(values)
         self.objects[USERS_OBJECTS].add_child(name, made)
 
+    def add_ring(self, name, size):
+        """Makes a ring."""
+        if not is_id(name):
+            raise Refused(Code.ID_MALFORMED)
+        if self.ring(name):
+            raise Refused(Code.ID_TAKEN)
+        if not 1 <= size <= MOST_RING or size.bit_count() != 1:
+            raise Refused(Code.RING_SIZE)
+        self.rings.append(Ring(name, size))
+
     def remove_object(self, name):
         """Removes a user's object."""
         container = self.objects[USERS_OBJECTS]
@@ -1341,6 +1351,88 @@ class Board(DeviceTree):
             slot.value = value
 
 
+# --- descriptions
+
+TOLD_OF_DEVICES = ("addr", "chardev", "memdev")
+TOLD_OF_OBJECTS = ("flag", "number", "size", "text")
+
+
+def children(board, birth):
+    """The children of an object, each with its name, in the order of its slots."""
+    return [(it.name, board.objects[it.target]) for it in board.objects[birth].slots if it.kind is Kind.CHILD]
+
+
+def given(board, thing, names):
+    """What was given for the properties of these names; a value that is none, and a device's empty text, say nothing."""
+    slots = {name: thing.slot(name) for name in names if thing.slot(name)}
+    values = {name: it.value if it.kind is Kind.PLAIN else board.canonical_path(it.target) for name, it in slots.items()}
+    return {name: it for name, it in values.items() if it is not None and not (it == "" and thing.is_a("device"))}
+
+
+def is_describable(board):
+    """Whether a board has a description."""
+    detached = any(it != ROOT and board.owner(it) is None for it in board.objects)
+    return not detached and not board.pending and not children(board, ANONYMOUS)
+
+
+def scaled_clocks(board, devices):
+    """How the clocks of devices divide and multiply, where they do."""
+    clocks = [clock for _, it in devices if (clock := board.clock_of(it))]
+    scaled = [it for it in clocks if (it.value("mul"), it.value("div")) != (1, 1)]
+    return [{"div": it.value("div"), "mul": it.value("mul"), "path": board.canonical_path(it.birth)} for it in scaled]
+
+
+def told_links(board, holder):
+    """The links of an object that `qom-set` writes, where they are not empty."""
+    links = [it for it in holder.slots if it.kind in (Kind.STRONG, Kind.WEAK) and it.access is Access.ALWAYS and it.target]
+    path = board.canonical_path(holder.birth)
+    return [{"path": path, "property": it.name, "value": board.canonical_path(it.target)} for it in links]
+
+
+def told_device(board, name, device):
+    """What is told of a device."""
+    bus = board.canonical_path(device.slot("parent_bus").target)
+    told = {"bus": bus, "driver": device.type, "id": name, "slot": device.value("slot")}
+    return told | {"props": given(board, device, TOLD_OF_DEVICES)}
+
+
+def described(board):
+    """The description of a board; None where it has none."""
+    if not is_describable(board):
+        return None
+    devices, things = children(board, PERIPHERAL), children(board, USERS_OBJECTS)
+    clock = board.objects[SYSTEM_CLOCK]
+    return {
+        "clock": {name: clock.value(name) for name in ("div", "mul", "period")},
+        "clocks": scaled_clocks(board, devices),
+        "devices": [told_device(board, name, it) for name, it in devices],
+        "links": [link for _, it in things + devices for link in told_links(board, it)],
+        "objects": [{"id": name, "props": given(board, it, TOLD_OF_OBJECTS), "type": it.type} for name, it in things],
+        "rings": [{"id": it.name, "size": it.size} for it in board.rings],
+        "version": 1,
+    }
+
+
+def rebuilt(description):
+    """The board that is rebuilt of a description, call by call; the first that is refused refuses it."""
+    board = Board()
+    for name in ("div", "period", "mul"):
+        board.write("/machine/sysclk", name, description["clock"][name])
+    for it in description["rings"]:
+        board.add_ring(it["id"], it["size"])
+    for it in description["objects"]:
+        board.add_object(it["type"], it["id"], it["props"])
+    for it in description["devices"]:
+        board.add_device(it["driver"], it["id"], it["bus"], it["props"] | {"slot": it["slot"]})
+        del board.notices[0]
+    for it in description["clocks"]:
+        board.write(it["path"], "div", it["div"])
+        board.write(it["path"], "mul", it["mul"])
+    for it in description["links"]:
+        board.write(it["path"], it["property"], it["value"])
+    return board
+
+
 # --- the guest
 
 SMALL = r"(?:0|[1-9][0-9]{0,2})"
@@ -1417,6 +1509,7 @@ COMMANDS = {
     "x-sever": {"birth": "number"},
     "x-query-notes": {"from": "number"},
     "x-query-detached": {},
+    "x-describe": {},
     "x-memmap": {},
     "x-guest": {"line": "text"},
     "x-step": {"ns": "number"},
@@ -1765,14 +1858,7 @@ class Machine:
         backend = arguments["backend"]
         if backend["type"] != "ringbuf":
             raise Refused(Code.TYPE_UNKNOWN)
-        if not is_id(arguments["id"]):
-            raise Refused(Code.ID_MALFORMED)
-        if self.board.ring(arguments["id"]):
-            raise Refused(Code.ID_TAKEN)
-        size = backend["data"].get("size", USUAL_RING)
-        if not 1 <= size <= MOST_RING or size.bit_count() != 1:
-            raise Refused(Code.RING_SIZE)
-        self.board.rings.append(Ring(arguments["id"], size))
+        self.board.add_ring(arguments["id"], backend["data"].get("size", USUAL_RING))
 
     def ring(self, name):
         """The ring of an id."""
@@ -1852,6 +1938,10 @@ class Machine:
         board = self.board
         births = [it for it in sorted(board.objects) if it != ROOT and board.owner(it) is None]
         return [{"birth": it, "refs": board.references(it), "type": board.objects[it].type} for it in births]
+
+    def do_x_describe(self, _):
+        """Tells the description of the board; an object without members where it has none."""
+        return described(self.board) or {}
 
     def do_x_memmap(self, _):
         """Tells what shows at all addresses."""

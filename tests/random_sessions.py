@@ -632,6 +632,7 @@ class Maker:
                 self.command("qom-get", {"path": path, "property": slot.name}, session)
         self.command("x-query-detached", session=session)
         self.command("x-memmap", session=session)
+        self.command("x-describe", session=session)
         for ring in self.board.rings:
             self.command("ringbuf-read", {"device": ring.name, "size": 4096, "format": "base64"}, session)
         for device in self.devices():

@@ -343,6 +343,7 @@ COMMANDS = (
     ("import pathlib, socket", test_fixture),
     ("[Unit]", test_unit),
     ("tools/qrec tap ", test_tap),
+    ("tools/setup < board.json", "tests/test_setup.py sets a served board up so"),
     ("tools/qrec read < session.qrec", "it is run where the record is made"),
     ("tools/draw --steps < mine.session", "it is run where the record is made"),
     ("slot 0     u0 ", "it is a picture of the board of the session before it"),

@@ -7,17 +7,20 @@ Each session is made from a seed of its own, on a small board with few names: de
 links, rings, clocks, holds, removals, lines of the guest, interrupt lines, time and sessions, and much that is refused.
 It ends with all that can be read: each property of each object that can be reached, registers, interrupt lines, rings,
 and all notes; half of them then take away all that was added, and read once more. What `watch` puts of the same record is
-compared too. It prints nothing where all agree, and else the first seed that does not, with the first message that differs;
-exit status 1 then, and 2 where the program is not built (./build makes it). `tests/test_plain_machine.py 1 SEED` makes that
-session alone.
+compared too. Where the last board has a description, the program rebuilds it, and that description without one of its
+items, and with one of them twice. It prints nothing where all agree, and else the first seed that does not, with the first
+message that differs; exit status 1 then, and 2 where the program is not built (./build makes it).
+`tests/test_plain_machine.py 1 SEED` makes that session alone.
 """
 
+import copy
 import pathlib
 import subprocess
 import sys
 
 sys.dont_write_bytecode = True
-from random_sessions import QREC, Maker  # after the line above, so that nothing is left in tests/
+from plain_machine import Refused, described, json_text, rebuilt  # after the line above, so that nothing is left in tests/
+from random_sessions import QREC, Maker
 
 TOP = pathlib.Path(__file__).resolve().parent.parent
 PROGRAM = TOP / "crates" / "compose_program" / "out" / "compose_program"
@@ -58,6 +61,43 @@ def unlike_reports(maker, record):
     return None if len(wanted) == len(got) else f"plain {len(wanted)} lines of reports, program {len(got)}"
 
 
+def spoiled(description, draw):
+    """The same description without an item, and with an item twice, where it has any."""
+    lists = [name for name, it in description.items() if isinstance(it, list) and it]
+    if not lists:
+        return []
+    fewer, more = copy.deepcopy(description), copy.deepcopy(description)
+    name = draw.choice(lists)
+    del fewer[name][draw.randrange(len(fewer[name]))]
+    more[name].append(draw.choice(more[name]))
+    return [fewer, more]
+
+
+def wanted_of(description):
+    """What a description is to be rebuilt to: an exit status, what is put, and what is complained."""
+    try:
+        board = rebuilt(description)
+    except Refused as why:
+        number, said = why.code.value
+        return 9, b"", f"compose: bad board: E{number} {said}\n".encode()
+    return 0, f"{json_text(described(board) or {})}\n".encode(), b""
+
+
+def rebuilds_otherwise(description):
+    """How the program rebuilds a description otherwise than it is to, or None."""
+    done = subprocess.run([PROGRAM, "rebuild"], input=json_text(description).encode(), capture_output=True, check=False)
+    got, wanted = (done.returncode, done.stdout, done.stderr), wanted_of(description)
+    return None if got == wanted else f"rebuild: plain {wanted!r}, program {got!r}"
+
+
+def board_difference(maker):
+    """In what the program rebuilds the last board of a session otherwise, or None."""
+    description = described(maker.board)
+    if description is None:
+        return None
+    return next(filter(None, map(rebuilds_otherwise, [description, *spoiled(description, maker.draw)])), None)
+
+
 def main(words):
     """Compares the sessions of these words, and returns the exit status."""
     if len(words) > 2 or not all(it.isdecimal() for it in words):
@@ -75,7 +115,7 @@ def main(words):
         except Exception:
             print(f"test_plain_machine: seed {seed}: the plain machine itself fails", file=sys.stderr)
             raise
-        found = difference(maker)
+        found = difference(maker) or board_difference(maker)
         if found:
             print(f"test_plain_machine: seed {seed}: {found}", file=sys.stderr)
             return 1

@@ -29,8 +29,11 @@ memory-backend object abstract user-creatable
 memory-backend-ram memory-backend plain -
 tag object plain user-creatable
 """
+OPENING = (
+    b'{"clock":{"div":1,"mul":1,"period":42949672960},"clocks":[],"devices":[],"links":[],"objects":[],"rings":[],"version":1}'
+)
 NEGOTIATED = b"replies 1\nerrors 0\nevents 0\nanswers 0\nbytes 119\n"
-USAGE = b"usage: compose replay | serve --socket PATH --connections N | demo --seed N --steps K | types | watch\n"
+USAGE = b"usage: compose replay | serve --socket PATH --connections N | demo --seed N --steps K | types | rebuild | watch\n"
 
 
 def differs(name, words, given, status, printed, complained):
@@ -143,6 +146,10 @@ def main():
         ("types and a word too many", ["types", "--help"], b"", 2, b"", USAGE),
         ("no connections", ["serve", "--connections", "0", "--socket", "s"], b"", 2, b"", USAGE),
         ("no path", ["serve", "--socket=", "--connections", "1"], b"", 2, b"", USAGE),
+        ("a board", ["rebuild"], OPENING, 0, OPENING + b"\n", b""),
+        ("no board", ["rebuild"], b"{}", 9, b"", b"compose: bad board: not a description\n"),
+        ("a board that is refused", ["rebuild"], OPENING.replace(b'"div":1', b'"div":0'), 9, b"", b"compose: bad board: E46 divider is 0\n"),
+        ("a board and a word too many", ["rebuild", "x"], OPENING, 2, b"", USAGE),
         ("a demo without steps", ["demo", "--seed", "1", "--steps", "0"], b"", 0, NEGOTIATED, b""),
         ("a demo of one step that is time", ["demo", "--steps=1", "--seed=1"], cycle, 0, NEGOTIATED, b""),
         ("a demo with a step too many", ["demo", "--seed", "1", "--steps", "1000001"], b"", 2, b"", USAGE),

@@ -4,6 +4,7 @@ use Rattle.std.proofs.lemmas.List.{length-take}
 use Rattle.std.specs.Prelude.{◌⊎◌}
 use Rattle.qo_causes.specs.Hub.{AtEnd}
 use Rattle.qo_causes.specs.Names.{Given}
+use Rattle.qo_listen.specs.Ears.{Ear}
 use Rattle.qo_machine.proofs.AnsweringLemmas.{answered_runs}
 use Rattle.qo_machine.specs.Machine.{opening}
 use Rattle.qo_machine.specs.Runs.{OpenRun, RunMeets, Told, Turn, turn_inputs}
@@ -13,11 +14,12 @@ use Rattle.qo_record.proofs.ReadingLemmas.{none_some, some_is}
 use Rattle.qo_record.specs.Record.{bad_place, stream_given}
 use Rattle.qo_record.specs.Replays.{capped_offset}
 use Rattle.compose.proofs.ReplayLemmas.{each_taken, going_on}
-use Rattle.compose.specs.Completeness.{CompletesReplay, CompletesServe, IsWholeHub}
+use Rattle.compose.specs.Completeness.{CompletesReplay, CompletesServe, CompletesWatch, IsWholeHub}
 use Rattle.compose.specs.Replay.{Replayed, DidReplay, TakeToBad, TakeToLimit}
 use Rattle.compose.specs.Service.{Served, serve_status}
+use Rattle.compose.specs.Watch.{DidWatch, Watched}
 use Rattle.compose.specs.declared.statuses.Status.{Status}
-use Rattle.compose.specs.declared.statuses.Status.TheVariants.{Done, Usage, BadRecord, Memory, ReadFault, WriteFault, HubFault, InputLimit}
+use Rattle.compose.specs.declared.statuses.Status.TheVariants.{Done, Usage, BadRecord, Memory, ReadFault, WriteFault, HubFault, InputLimit, BadBoard}
 
 -- A record.
 
@@ -42,6 +44,7 @@ did_whole ReadFault bytes taken held_old held_new place did read put whole = abs
 did_whole WriteFault bytes taken held_old held_new place did read put whole = absurd (put refl)
 did_whole Usage bytes taken held_old held_new place did read put whole = absurd did
 did_whole HubFault bytes taken held_old held_new place did read put whole = absurd did
+did_whole BadBoard bytes taken held_old held_new place did read put whole = absurd did
 
 -- whether the source tells its bytes or not
 pub completes_replay : (status : Status) (left left_new held_old held_new : Option (List ℕ)) (taken : List ℕ) (place : ℕ)
@@ -50,6 +53,29 @@ pub completes_replay : (status : Status) (left left_new held_old held_new : Opti
 completes_replay status None left_new held_old held_new taken place done read put = tt
 completes_replay status (Some bytes) left_new held_old held_new taken place done read put =
     did_whole status bytes taken held_old held_new place done.did read put
+
+-- A record that listeners hear.
+
+heard_whole : (status : Status) (bytes taken : List ℕ) (held_old held_new : Option (List ℕ)) (place : ℕ) (ears : List Ear)
+    → DidWatch status (Some bytes) taken held_old held_new place ears → (status ≡ ReadFault → ⊥) → (status ≡ WriteFault → ⊥)
+    → CompletesWatch status (Some bytes)
+heard_whole Done bytes taken held_old held_new place ears did read put whole = inl refl
+heard_whole Memory bytes taken held_old held_new place ears did read put whole = inr refl
+heard_whole BadRecord bytes taken held_old held_new place ears (same, did) read put whole = absurd (not_bad did.0 place bytes whole.good did.3)
+heard_whole InputLimit bytes taken held_old held_new place ears (same, did) read put whole = absurd (not_limit did.0 bytes whole.few did.3)
+heard_whole ReadFault bytes taken held_old held_new place ears did read put whole = absurd (read refl)
+heard_whole WriteFault bytes taken held_old held_new place ears did read put whole = absurd (put refl)
+heard_whole Usage bytes taken held_old held_new place ears did read put whole = absurd did
+heard_whole HubFault bytes taken held_old held_new place ears did read put whole = absurd did
+heard_whole BadBoard bytes taken held_old held_new place ears did read put whole = absurd did
+
+-- whether the source tells its bytes or not
+pub completes_watch : (status : Status) (left left_new held_old held_new : Option (List ℕ)) (taken : List ℕ) (place : ℕ) (ears : List Ear)
+    → Watched status left left_new held_old held_new taken place ears → (status ≡ ReadFault → ⊥) → (status ≡ WriteFault → ⊥)
+    → CompletesWatch status left
+completes_watch status None left_new held_old held_new taken place ears done read put = tt
+completes_watch status (Some bytes) left_new held_old held_new taken place ears done read put =
+    heard_whole status bytes taken held_old held_new place ears done.did read put
 
 -- A hub.
 

@@ -1,7 +1,9 @@
-pub mod CompletenessLemmas
 pub mod ComplaintLemmas
-pub mod MemoryLemmas
+pub mod CompletenessLemmas
 pub mod DemoLemmas
+pub mod MemoryLemmas
+pub mod RebuildLemmas
 pub mod ReplayLemmas
 pub mod TypeLemmas
 pub mod WatchLemmas
+pub mod WholeLemmas

@@ -18,7 +18,7 @@ use Rattle.qo_record.specs.Spelling.{Recorded}
 use Rattle.compose.specs.Replay.{offset_of}
 use Rattle.compose.specs.Watch.{AllTell, AreReports, DidWatch, EndedWatch, EndedWith, PutReports, Watched, told_texts}
 use Rattle.compose.specs.declared.statuses.Status.{Status}
-use Rattle.compose.specs.declared.statuses.Status.TheVariants.{Done, Usage, BadRecord, Memory, ReadFault, WriteFault, HubFault, InputLimit}
+use Rattle.compose.specs.declared.statuses.Status.TheVariants.{Done, Usage, BadRecord, Memory, ReadFault, WriteFault, HubFault, InputLimit, BadBoard}
 use Rattle.compose.proofs.ReplayLemmas.{Read, did, none_lost, not_made, to_end}
 
 -- each listener tells in the form that it says
@@ -73,6 +73,7 @@ did_watch ending.Done status p lo ln ho hn bytes given og ng xs ys few starved r
     by ReadFault put = absurd put
     by HubFault put = absurd put
     by InputLimit put = absurd put
+    by BadBoard put = absurd put
 did_watch (ending.Bad n) status p lo ln ho hn bytes given og ng xs ys few starved read h tells sends put =
     let d =
     did (ending.Bad n) p lo ln None None bytes given og ng few starved read

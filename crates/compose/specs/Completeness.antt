@@ -11,7 +11,7 @@ use Rattle.qo_values.specs.declared.limits.TheConstants.{INPUTS_MAX}
 use Rattle.qo_words.specs.Words.{Order, demo, types}
 use Rattle.compose.specs.Replay.{EndedReplay, TakeToEnd}
 use Rattle.compose.specs.declared.statuses.Status.{Status}
-use Rattle.compose.specs.declared.statuses.Status.TheVariants.{Done, Usage, BadRecord, Memory, ReadFault, WriteFault, HubFault, InputLimit}
+use Rattle.compose.specs.declared.statuses.Status.TheVariants.{Done, Usage, BadRecord, Memory, ReadFault, WriteFault, HubFault, InputLimit, BadBoard}
 
 -- no fault was counted
 abbrev pub NoFault : ℕ → ℕ → Type 0
@@ -36,6 +36,10 @@ abbrev pub CompletesReplay : Status → Option (List ℕ) → Option (List ℕ) 
 CompletesReplay status left held_old held_new =
     IfSome left (λ bytes. IsWhole bytes → ((status ≡ Done) × RanWhole bytes held_old held_new) ⊎ (status ≡ Memory))
 
+-- `watch` over a source, if it tells its bytes
+abbrev pub CompletesWatch : Status → Option (List ℕ) → Type 0
+CompletesWatch status left = IfSome left (λ bytes. IsWhole bytes → EndsWell status)
+
 -- a hub that tells its inputs, of which there are fewer than a run may take, and that there is no bad place
 pub record IsWholeHub (inputs : Option (List Given)) (bad : Option (Option ℕ)) : Type 0 where
   pub all : List Given
@@ -43,8 +47,8 @@ pub record IsWholeHub (inputs : Option (List Given)) (bad : Option (Option ℕ))
   pub few : length all < INPUTS_MAX
   pub good : bad ≡ Some None
 
--- `serve`, by its status. Its run has ended, and in it each item and each line was answered exactly once; or memory ran out. Or the run had not ended when it had
--- taken as many inputs as it may, or when the bad place of its hub came.
+-- `serve`, by its status. Its run has ended, and in it each item and each line was answered exactly once; or memory ran out. Or the run had not ended when
+-- it had taken as many inputs as it may, or when the bad place of its hub came.
 abbrev pub ServedWhole : Status → Told → Told → Option (Option ℕ) → Type 0
 ServedWhole Done old new bad = (turns : List Turn) × Turns opening old new turns × EndsAtLast turns × AreAnswered opening turns
 ServedWhole Memory old new bad = ⊤
@@ -54,6 +58,7 @@ ServedWhole Usage old new bad = ⊥
 ServedWhole ReadFault old new bad = ⊥
 ServedWhole WriteFault old new bad = ⊥
 ServedWhole HubFault old new bad = ⊥
+ServedWhole BadBoard old new bad = ⊥
 
 -- of these a hub whose inputs come to their end in time has the first two
 abbrev pub CompletesServe : Status → Told → Told → Option (Option ℕ) → Type 0

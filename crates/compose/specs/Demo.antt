@@ -15,7 +15,7 @@ use Rattle.qo_requests.specs.Messages.{value_of}
 use Rattle.compose.specs.declared.counts.Kind.{Kind}
 use Rattle.compose.specs.declared.counts.Kind.TheVariants.{Reply, Error, Event, Answer, Other}
 use Rattle.compose.specs.declared.statuses.Status.{Status}
-use Rattle.compose.specs.declared.statuses.Status.TheVariants.{Done, Usage, BadRecord, Memory, ReadFault, WriteFault, HubFault, InputLimit}
+use Rattle.compose.specs.declared.statuses.Status.TheVariants.{Done, Usage, BadRecord, Memory, ReadFault, WriteFault, HubFault, InputLimit, BadBoard}
 
 -- an input that is done as it is defined: each command and each line has its memory, and no session is lost
 abbrev pub as_defined : Given → Turn
@@ -87,6 +87,7 @@ ToldDemo BadRecord seed steps held_old held_new = ⊥
 ToldDemo ReadFault seed steps held_old held_new = ⊥
 ToldDemo HubFault seed steps held_old held_new = ⊥
 ToldDemo InputLimit seed steps held_old held_new = ⊥
+ToldDemo BadBoard seed steps held_old held_new = ⊥
 
 -- some bytes stand nowhere among others (for proofs alone)
 abbrev pub Lacks : List ℕ → List ℕ → Type 0

@@ -14,7 +14,7 @@ use Rattle.qo_record.specs.Replays.{told_bad}
 use Rattle.qo_record.specs.declared.windows.TheConstants.{AHEAD_BYTES}
 use Rattle.qo_values.specs.declared.limits.TheConstants.{INPUTS_MAX}
 use Rattle.compose.specs.declared.statuses.Status.{Status}
-use Rattle.compose.specs.declared.statuses.Status.TheVariants.{Done, Usage, BadRecord, Memory, ReadFault, WriteFault, HubFault, InputLimit}
+use Rattle.compose.specs.declared.statuses.Status.TheVariants.{Done, Usage, BadRecord, Memory, ReadFault, WriteFault, HubFault, InputLimit, BadBoard}
 
 -- no session is lost in these turns
 abbrev pub NoneLost : List Turn → Type 0
@@ -106,18 +106,20 @@ DidReplay WriteFault bytes taken held_old held_new place = IsCut bytes taken hel
 DidReplay Memory bytes taken held_old held_new place = IsCut bytes taken held_old held_new
 DidReplay Usage bytes taken held_old held_new place = ⊥
 DidReplay HubFault bytes taken held_old held_new place = ⊥
+DidReplay BadBoard bytes taken held_old held_new place = ⊥
 
--- the line that tells a status, where the bad place is this one; none for Done
+-- the line that tells a status, where the bad place is this one, and where a bad board is told by no code; none for Done
 abbrev pub line_of : Status → ℕ → List ℕ
 line_of Done place = []
 line_of Usage place =
-    codes "usage: compose replay | serve --socket PATH --connections N | demo --seed N --steps K | types | watch" ++ 10 ∷ []
+    codes "usage: compose replay | serve --socket PATH --connections N | demo --seed N --steps K | types | rebuild | watch" ++ 10 ∷ []
 line_of BadRecord place = codes "compose: bad record at byte " ++ decimal place ++ 10 ∷ []
 line_of Memory place = codes "compose: out of memory" ++ 10 ∷ []
 line_of ReadFault place = codes "compose: read fault" ++ 10 ∷ []
 line_of WriteFault place = codes "compose: write fault" ++ 10 ∷ []
 line_of HubFault place = codes "compose: hub fault" ++ 10 ∷ []
 line_of InputLimit place = codes "compose: input limit" ++ 10 ∷ []
+line_of BadBoard place = codes "compose: bad board: not a description" ++ 10 ∷ []
 
 -- the line went to the complaints, whose count of faults is as before, or where the count rose a front of it
 abbrev pub Complained : Option (List ℕ) → Option (List ℕ) → ℕ → ℕ → List ℕ → Type 0

@@ -10,7 +10,7 @@ use Rattle.qo_model.specs.RowNames.{interface_name}
 use Rattle.qo_model.specs.Types.{interfaces_of, names_text, parent_of, type_line, types}
 use Rattle.qo_types.specs.Rows.{is_abstract}
 use Rattle.compose.specs.declared.statuses.Status.{Status}
-use Rattle.compose.specs.declared.statuses.Status.TheVariants.{Done, Usage, BadRecord, Memory, ReadFault, WriteFault, HubFault, InputLimit}
+use Rattle.compose.specs.declared.statuses.Status.TheVariants.{Done, Usage, BadRecord, Memory, ReadFault, WriteFault, HubFault, InputLimit, BadBoard}
 
 -- the line of each type, in row order
 abbrev pub type_lines : List ℕ
@@ -34,3 +34,4 @@ ToldTypes BadRecord held_old held_new = ⊥
 ToldTypes ReadFault held_old held_new = ⊥
 ToldTypes HubFault held_old held_new = ⊥
 ToldTypes InputLimit held_old held_new = ⊥
+ToldTypes BadBoard held_old held_new = ⊥

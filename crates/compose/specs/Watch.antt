@@ -14,7 +14,7 @@ use Rattle.qo_machine.specs.declared.running.Ending.{Ending}
 use Rattle.qo_machine.specs.declared.running.Ending.TheVariants as ending
 use Rattle.compose.specs.Replay.{DidReplay, EndedReplay, IsCut, TakeToEnd, status_of}
 use Rattle.compose.specs.declared.statuses.Status.{Status}
-use Rattle.compose.specs.declared.statuses.Status.TheVariants.{Done, Usage, BadRecord, Memory, ReadFault, WriteFault, HubFault, InputLimit}
+use Rattle.compose.specs.declared.statuses.Status.TheVariants.{Done, Usage, BadRecord, Memory, ReadFault, WriteFault, HubFault, InputLimit, BadBoard}
 
 -- what a listener tells that hears some notes more, where it tells its form; and some of them, one after another, where each does
 abbrev pub told_text : List Note → Ear → Option (List ℕ)
@@ -49,6 +49,7 @@ DidWatch InputLimit bytes taken held_old held_new place ears = (held_new ≡ hel
 DidWatch ReadFault bytes taken held_old held_new place ears = (held_new ≡ held_old) × DidReplay ReadFault bytes taken None None place
 DidWatch Usage bytes taken held_old held_new place ears = ⊥
 DidWatch HubFault bytes taken held_old held_new place ears = ⊥
+DidWatch BadBoard bytes taken held_old held_new place ears = ⊥
 
 -- `watch`: these bytes were taken from the source, and this was done with the record that it had ahead; this is the place that is told
 pub record Watched (status : Status) (left_old left_new held_old held_new : Option (List ℕ)) (taken : List ℕ) (place : ℕ) (ears : List Ear) : Type 0 where

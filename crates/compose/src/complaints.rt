@@ -1,13 +1,15 @@
 //! The lines that tell how a call ended.
 
-ghost use Rattle.std.specs.Prelude.{◌≡◌, ◌∷◌, [], ◌++◌, OnOk, decimal};
+ghost use Rattle.std.specs.Prelude.{◌≡◌, ◌∷◌, [], ◌++◌, OnOk, Some, decimal};
 ghost use Rattle.qo_causes.specs.Bytes.{PutsAll};
 ghost use Rattle.qo_causes.specs.Cause.{HasCause};
+ghost use Rattle.compose.specs.Rebuild.{board_line};
 ghost use Rattle.compose.specs.Replay.{Complained, line_of};
 
 use crate::statuses::Status;
 use itoa::Buffer;
 use qo_causes::{Failed, Sink, put_all};
+use qo_values::Code;
 
 /// Puts the line of a bad record.
 fn put_place<K: Sink>(sink: &mut K, place: u64) -> Result<(), Failed>
@@ -47,7 +49,7 @@ fn put_line<K: Sink>(sink: &mut K, status: Status, place: u64) -> Result<(), Fai
         Status::Done => put_all(sink, b""),
         Status::Usage => put_all(
             sink,
-            b"usage: compose replay | serve --socket PATH --connections N | demo --seed N --steps K | types | watch\n",
+            b"usage: compose replay | serve --socket PATH --connections N | demo --seed N --steps K | types | rebuild | watch\n",
         ),
         Status::BadRecord => put_place(sink, place),
         Status::Memory => put_all(sink, b"compose: out of memory\n"),
@@ -55,6 +57,59 @@ fn put_line<K: Sink>(sink: &mut K, status: Status, place: u64) -> Result<(), Fai
         Status::WriteFault => put_all(sink, b"compose: write fault\n"),
         Status::HubFault => put_all(sink, b"compose: hub fault\n"),
         Status::InputLimit => put_all(sink, b"compose: input limit\n"),
+        Status::BadBoard => put_all(sink, b"compose: bad board: not a description\n"),
+    }
+}
+
+/// Puts the line of a bad board that a code refuses.
+fn put_code<K: Sink>(sink: &mut K, code: Code) -> Result<(), Failed>
+    ensures bytes { PutsAll (K.held sink.old) (K.held sink.new) result (board_line Status.BadBoard (Some code)) }
+    ensures cause { HasCause (K.faults sink.old) (K.faults sink.new) result }
+    ensures quiet { OnOk result (K.faults sink.new ≡ K.faults sink.old) }
+{
+    if let Err(Failed) = put_all(sink, b"compose: bad board: ") {
+        return Err(Failed);
+    }
+    put_text_line(sink, code.description())
+}
+
+/// Puts a text and the end of the line.
+fn put_text_line<K: Sink>(sink: &mut K, text: &str) -> Result<(), Failed>
+    ensures bytes { PutsAll (K.held sink.old) (K.held sink.new) result (text.now ++ 10 ∷ []) }
+    ensures cause { HasCause (K.faults sink.old) (K.faults sink.new) result }
+    ensures quiet { OnOk result (K.faults sink.new ≡ K.faults sink.old) }
+{
+    if let Err(Failed) = put_all(sink, text.as_bytes()) {
+        return Err(Failed);
+    }
+    match put_all(sink, b"\n") {
+        Ok(()) => Ok(()),
+        Err(Failed) => Err(Failed),
+    }
+}
+
+/// Puts the line of a status of `rebuild`; of a bad board with the code that refuses it, if one does.
+fn put_board_line<K: Sink>(sink: &mut K, status: Status, code: Option<Code>) -> Result<(), Failed>
+    ensures bytes { PutsAll (K.held sink.old) (K.held sink.new) result (board_line status code) }
+    ensures cause { HasCause (K.faults sink.old) (K.faults sink.new) result }
+    ensures quiet { OnOk result (K.faults sink.new ≡ K.faults sink.old) }
+{
+    match status {
+        Status::BadBoard => match code {
+            Some(code) => put_code(sink, code),
+            None => put_line(sink, status, 0),
+        },
+        _ => put_line(sink, status, 0),
+    }
+}
+
+/// Tells a status of `rebuild`, as far as the sink takes the line.
+pub(crate) fn complain_board<K: Sink>(sink: &mut K, status: Status, code: Option<Code>)
+    ensures { Complained (K.held sink.old) (K.held sink.new) (K.faults sink.old) (K.faults sink.new) (board_line status code) }
+{
+    match put_board_line(sink, status, code) {
+        Ok(()) => {}
+        Err(Failed) => {}
     }
 }
 

@@ -22,6 +22,8 @@ pub enum Status {
     HubFault,
     /// There is more input than one call takes.
     InputLimit,
+    /// What is to be rebuilt is no description, or a call of the board refuses it.
+    BadBoard,
 }
 
 impl Status {
@@ -38,6 +40,7 @@ impl Status {
             Status::WriteFault => 6,
             Status::HubFault => 7,
             Status::InputLimit => 8,
+            Status::BadBoard => 9,
         }
     }
 }

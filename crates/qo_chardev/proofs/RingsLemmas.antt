@@ -13,6 +13,10 @@ use Rattle.qo_chardev.specs.Texts.{encoded}
 use Rattle.qo_model.specs.Board.{Ring}
 use Rattle.qo_chardev.specs.Rings.{IdsDiffer, bytes_in, is_ring, new_ring, ring_changed, ring_text, with_bytes, without_ring}
 
+-- a ring as a description tells it
+abbrev pub row : Ring → List ℕ × ℕ
+row r = (r.id, r.size)
+
 -- texts are compared either way round
 bytes_eq-sym : (a b : List ℕ) → bytes_eq a b ≡ bytes_eq b a
 bytes_eq-sym a b =

@@ -3,6 +3,7 @@
 use crate::errors::{RingAddError, RingTakeError};
 use crate::ring::Ring;
 use qo_values::{Form, Id, Text};
+use std::alloc::{AllocError, Global};
 use std::marker::Model;
 
 /// A ring under its id.
@@ -41,6 +42,14 @@ impl NamedRing {
         ensures { result.now ≡ self.now.id }
     {
         &self.id
+    }
+
+    /// The id and the size. The error is want of memory.
+    pub fn row(&self, alloc: Global) -> Result<(Text, u64), AllocError>
+        ensures { IfOk result (λ row. row ≡ (self.now.id, self.now.size)) }
+    {
+        let id = String::from_str(alloc, self.id.as_str())?;
+        Ok((Text::from_string(id), self.ring.size()))
     }
 
     /// Whether the id is a text.

@@ -84,6 +84,13 @@ impl Ring {
         }
     }
 
+    /// How many bytes it keeps. It takes no memory.
+    pub fn size(&self) -> u64
+        ensures { result ≡ self.now.size }
+    {
+        self.buffer.capacity() as u64
+    }
+
     /// Adds a byte; of a full ring the oldest goes. It takes no memory.
     pub fn push(&mut self, byte: u8)
         ensures { self.new ≡ ring_push self.old byte }

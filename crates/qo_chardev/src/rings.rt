@@ -1,10 +1,12 @@
 //! The rings.
 
+ghost use Rattle.std.specs.Prelude.{◌≡◌, IfOk, map};
+
 use crate::errors::{RingAddError, RingTakeError};
 use crate::named_ring::NamedRing;
 use crate::ring::{Ring, RingError};
 use qo_values::{Form, Id, Text};
-use std::alloc::Global;
+use std::alloc::{AllocError, Global};
 use std::marker::Model;
 
 /// The size of a ring, in bytes, for which none is given.
@@ -28,8 +30,19 @@ impl Model for Rings {
     ghost invariant = { λ r. IdsDiffer r.list.items };
 }
 
+/// The ids and sizes of rings, one after another.
+fn rows_of(rings: &[NamedRing], alloc: Global) -> Result<Vec<(Text, u64)>, AllocError>
+    ensures { IfOk result (λ rows. rows.items ≡ map (λ r. (r.id, r.size)) rings.now) }
+{
+    let mut rows = Vec::new(alloc);
+    for ring in rings {
+        rows.push(ring.row(alloc)?)?;
+    }
+    Ok(rows)
+}
+
 impl Rings {
-    ghost use Rattle.std.specs.Prelude.{◌≡◌, [], ◌∷◌, ◌++◌, false, None, Some, IfOk, IsSome, OnOk, OnErr, option_map};
+    ghost use Rattle.std.specs.Prelude.{◌≡◌, [], ◌∷◌, ◌++◌, false, None, Some, IfOk, IsSome, OnOk, OnErr, map, option_map};
     ghost use Rattle.std.specs.List.{list_any, position};
     ghost use Rattle.qo_values.specs.Rings.{is_ring_size, ring_drop, ring_push};
     ghost use Rattle.qo_chardev.specs.declared.ring.RingError.TheVariants as bad;
@@ -60,6 +73,13 @@ impl Rings {
         ensures { result ≡ list_any (is_ring id.now) self.now }
     {
         self.list.iter().any(|kept| kept.is(id))
+    }
+
+    /// The rings, each its id and its size, in the order of adding. The error is want of memory.
+    pub fn rows(&self, alloc: Global) -> Result<Vec<(Text, u64)>, AllocError>
+        ensures { IfOk result (λ rows. rows.items ≡ map (λ r. (r.id, r.size)) self.now) }
+    {
+        rows_of(self.list.as_slice(), alloc)
     }
 
     /// The place of the ring of an id.

@@ -44,7 +44,7 @@ use Rattle.qo_requests.specs.declared.calls.Call.TheVariants as call
 use Rattle.qo_requests.specs.declared.calls.Change.{Change}
 use Rattle.qo_requests.specs.declared.calls.Change.TheVariants.{Add, Alter}
 use Rattle.qo_requests.specs.declared.calls.Query.{Query}
-use Rattle.qo_requests.specs.declared.calls.Query.TheVariants.{DeviceListProperties, QomGet, QomList, QomListTypes, QueryCommands, QueryStatus, QueryVersion, Quit, XMemmap, XQueryDetached, XQueryNotes}
+use Rattle.qo_requests.specs.declared.calls.Query.TheVariants.{DeviceListProperties, QomGet, QomList, QomListTypes, QueryCommands, QueryStatus, QueryVersion, Quit, XDescribe, XMemmap, XQueryDetached, XQueryNotes}
 use Rattle.qo_text.specs.Lines.{line_of}
 use Rattle.qo_text.specs.declared.lines.Line.{Line}
 use Rattle.qo_text.specs.declared.lines.Line.TheVariants.{Bus, Do, Tree}
@@ -235,6 +235,7 @@ queried-leaves b (DeviceListProperties typename) = device-leaves b (type_named t
 queried-leaves b (QomListTypes implements with_abstract) = returned-leaves b b _
 queried-leaves b (XQueryNotes from) = returned-leaves b b _
 queried-leaves b XQueryDetached = returned-leaves b b _
+queried-leaves b XDescribe = returned-leaves b b _
 queried-leaves b XMemmap = returned-leaves b b _
 queried-leaves b QueryVersion = returned-leaves b b _
 queried-leaves b QueryCommands = returned-leaves b b _

@@ -53,7 +53,9 @@ use Rattle.qo_requests.specs.declared.calls.Call.TheVariants as call
 use Rattle.qo_requests.specs.declared.calls.Change.{Change}
 use Rattle.qo_requests.specs.declared.calls.Change.TheVariants.{Add, Alter}
 use Rattle.qo_requests.specs.declared.calls.Query.{Query}
-use Rattle.qo_requests.specs.declared.calls.Query.TheVariants.{DeviceListProperties, QomGet, QomList, QomListTypes, QueryCommands, QueryStatus, QueryVersion, Quit, XMemmap, XQueryDetached, XQueryNotes}
+use Rattle.qo_requests.specs.declared.calls.Query.TheVariants.{DeviceListProperties, QomGet, QomList, QomListTypes, QueryCommands, QueryStatus, QueryVersion, Quit, XDescribe, XMemmap, XQueryDetached, XQueryNotes}
+use Rattle.qo_save.specs.Described.{described}
+use Rattle.qo_save.specs.Description.{Description, description_data}
 use Rattle.qo_text.specs.Buses.{buses_text}
 use Rattle.qo_text.specs.Lines.{line_of}
 use Rattle.qo_text.specs.Trees.{tree_text}
@@ -165,6 +167,11 @@ span_data name span =
 abbrev pub shown_data : Board → Span → Data
 shown_data b span = span_data (shown_name b span.leaf) span
 
+-- the description of a board, as it is told; an object without members where it has none
+abbrev pub told_as : Option Description → Data
+told_as None = empty
+told_as (Some d) = description_data d
+
 -- a command by its name
 abbrev pub command_data : Command → Data
 command_data command = object (member (codes "name") (string (command_name command)) no_members)
@@ -233,6 +240,7 @@ queried b (QomListTypes implements with_abstract) =
 queried b (DeviceListProperties typename) = device_properties b (type_named typename)
 queried b (XQueryNotes from) = returned b (notes_data from b.notes)
 queried b XQueryDetached = returned b (array (items_of (map detached_data (detached_listed b))))
+queried b XDescribe = returned b (told_as (described b))
 queried b XMemmap = returned b (array (items_of (map (shown_data b) (flat_view b))))
 queried b QueryVersion = returned b version_data
 queried b QueryCommands = returned b (array (items_of (map command_data commands)))

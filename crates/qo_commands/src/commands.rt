@@ -13,6 +13,7 @@ ghost use Rattle.qo_commands.specs.Touched.{unless_refused};
 ghost use Rattle.qo_commands.specs.declared.touched.Touched.TheVariants.{Nothing};
 ghost use Rattle.qo_commands.specs.Views.{body_data, done_of};
 
+use crate::descriptions::query_description;
 use crate::detached::query_detached;
 use crate::integer_json::IntegerJson;
 use crate::listings::list;
@@ -174,6 +175,7 @@ pub fn ask<L: Ledger>(
         Query::DeviceListProperties { typename } => list_properties(alloc, typename.as_str()),
         Query::XQueryNotes { from } => query_notes(alloc, board, *from),
         Query::XQueryDetached => query_detached(alloc, board, steps),
+        Query::XDescribe => query_description(alloc, board, steps),
         Query::XMemmap => query_memmap(alloc, board, steps),
         Query::QueryVersion => Ok(returned_value(version(alloc)?)),
         Query::QueryCommands => Ok(returned_value(commands(alloc)?)),

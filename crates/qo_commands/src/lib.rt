@@ -6,6 +6,7 @@
 mod answers;
 mod changes;
 mod commands;
+mod descriptions;
 mod detached;
 mod hearing;
 mod integer_json;
@@ -27,6 +28,7 @@ mod values;
 pub use answers::{answer_written, time_written};
 pub use changes::change;
 pub use commands::{Done, ReplyBody, ask};
+pub use descriptions::board_value;
 pub use hearing::{Heard, hear};
 pub use integer_json::IntegerJson;
 pub use interrupts::{interrupt_lines, refresh_lines, settle_lines};

@@ -1,5 +1,7 @@
 //! The framer: what a stream's state is, and what more bytes give.
 
+ghost use Rattle.std.specs.Prelude.{◌≡◌, []};
+
 use crate::items::Item;
 use crate::parts::{Gap, Stop, add_items, item_of, push_some, rest_of};
 use crate::scanner::{Scanned, Scanner, scan};
@@ -37,6 +39,18 @@ impl Model for Framer {
     ghost invariant = { λ f. IsFramer f.mode f.partial.items };
 }
 
+/// Lets items go, and answers the memory of the last of them, with any bytes.
+fn byte_room(alloc: Global, items: &mut Vec<Item>) -> Vec<u8>
+    ensures { items.new.items ≡ [] }
+{
+    let last = items.pop();
+    items.clear();
+    match last {
+        Some(item) => item.into_room(alloc),
+        None => Vec::new(alloc),
+    }
+}
+
 impl Framer {
     ghost use Rattle.std.specs.Prelude.{◌≡◌, IfOk, IsOkAnd, OnErr};
     ghost use Rattle.qo_framing.specs.Cut.{between, cut, followed};
@@ -60,8 +74,9 @@ impl Framer {
         self.partial.clear();
     }
 
-    /// The items that more bytes complete, in order. They are put into `room`, whose own items go first, so
-    /// that no memory is asked for where it has room. An error leaves the framer as it was.
+    /// The items that more bytes complete, in order. They are put into `room`, whose own items go first, and
+    /// the bytes of the first object into the memory of the last of these, so that no memory is asked for where
+    /// there is room. An error leaves the framer as it was.
     pub fn feed(
         &mut self,
         alloc: Global,
@@ -73,40 +88,61 @@ impl Framer {
         ensures kept { OnErr result (self.new ≡ self.old) }
     {
         let mut items = room;
-        items.clear();
         match self.mode {
-            Mode::Between => self.go_on(alloc, Gap::Between, bytes, items),
-            Mode::Skipping => self.go_on(alloc, Gap::Skipping, bytes, items),
+            Mode::Between => self.begin(alloc, Gap::Between, bytes, items),
+            Mode::Skipping => self.begin(alloc, Gap::Skipping, bytes, items),
             Mode::Inside(scanner) => match scan(scanner, self.partial.len(), bytes) {
                 Scanned::Open(scanner) => {
+                    items.clear();
                     self.partial.extend_from_slice(bytes)?;
                     self.mode = Mode::Inside(scanner);
                     Ok(items)
                 }
                 Scanned::Ended(ending, count) => {
-                    let item = item_of(alloc, ending, &self.partial, &bytes[..count])?;
+                    let room = byte_room(alloc, &mut items);
+                    let item = item_of(ending, &self.partial, &bytes[..count], room)?;
                     push_some(&mut items, Some(item))?;
                     let (gap, rest) = rest_of(ending, count, bytes);
-                    self.go_on(alloc, gap, rest, items)
+                    self.go_on(alloc, gap, rest, items, Vec::new(alloc))
                 }
             },
         }
     }
 
-    /// Goes on where nothing is unfinished, with the items so far.
+    /// Begins where nothing is unfinished, in the room of items, which go first.
+    fn begin(
+        &mut self,
+        alloc: Global,
+        gap: Gap,
+        bytes: &[u8],
+        room: Vec<Item>,
+    ) -> Result<Vec<Item>, AllocError>
+        ensures items { IfOk result (λ items. cut (state_of gap) bytes.now
+            ≡ record { items = items.items; state = self.new }) }
+        ensures kept { OnErr result (self.new ≡ self.old) }
+    {
+        let mut items = room;
+        let room = byte_room(alloc, &mut items);
+        self.go_on(alloc, gap, bytes, items, room)
+    }
+
+    /// Goes on where nothing is unfinished, with the items so far. The bytes of the next object are put into
+    /// `room`.
     fn go_on(
         &mut self,
         alloc: Global,
         gap: Gap,
         bytes: &[u8],
         items: Vec<Item>,
+        room: Vec<u8>,
     ) -> Result<Vec<Item>, AllocError>
         ensures items { IfOk result (λ all. followed items.items (cut (state_of gap) bytes.now)
             ≡ record { items = all.items; state = self.new }) }
         ensures kept { OnErr result (self.new ≡ self.old) }
     {
         let mut items = items;
-        match add_items(alloc, gap, bytes, &mut items)? {
+        let mut room = room;
+        match add_items(alloc, gap, bytes, &mut items, &mut room)? {
             Stop::In(gap) => self.stand(gap),
             Stop::Inside(front, scanner) => {
                 self.partial = Vec::from_slice(alloc, front)?;

@@ -12,4 +12,4 @@ mod parts;
 mod scanner;
 
 pub use framer::Framer;
-pub use items::Item;
+pub use items::{Item, ObjectBytes};

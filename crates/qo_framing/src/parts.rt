@@ -7,10 +7,10 @@ ghost use Rattle.qo_framing.specs.Fronts.{end_after};
 ghost use Rattle.qo_framing.specs.Parts.{cut_to, part_view, state_of, ScansPart, ScansStop};
 
 use crate::bytes::{ends_skipping, trimmed};
-use crate::items::Item;
+use crate::items::{Item, ObjectBytes};
 use crate::scanner::{Ending, Scanned, Scanner, scan};
-use qo_values::Chars;
 use std::alloc::{AllocError, Global};
+use std::mem::replace;
 
 /// Where a stream stands without an unfinished object.
 #[derive(Clone, Copy)]
@@ -53,31 +53,31 @@ fn after_skipping(bytes: &[u8]) -> Option<&[u8]>
     None
 }
 
-/// The bytes of two slices.
-fn joined(alloc: Global, front: &[u8], back: &[u8]) -> Result<Chars, AllocError>
-    ensures { IfOk result (λ chars. chars ≡ front.now ++ back.now) }
+/// The bytes of two slices, in some room.
+#[inline(always)]
+fn joined(room: Vec<u8>, front: &[u8], back: &[u8]) -> Result<ObjectBytes, AllocError>
+    ensures { IfOk result (λ object. object ≡ front.now ++ back.now) }
 {
-    if front.is_empty() {
-        return Ok(Chars::from_vec(Vec::from_slice(alloc, back)?));
-    }
-    let mut bytes = Vec::with_capacity(alloc, front.len() + back.len())?;
+    let mut bytes = room;
+    bytes.clear();
     bytes.extend_from_slice(front)?;
     bytes.extend_from_slice(back)?;
-    Ok(Chars::from_vec(bytes))
+    Ok(ObjectBytes::from_vec(bytes))
 }
 
-/// The item of an object that ended, whose bytes are those of two slices.
+/// The item of an object that ended, whose bytes are those of two slices. They are put into `room`.
+#[inline(always)]
 pub(crate) fn item_of(
-    alloc: Global,
     ending: Ending,
     front: &[u8],
     back: &[u8],
+    room: Vec<u8>,
 ) -> Result<Item, AllocError>
     requires { length front.now ≤ MESSAGE_MAX }
     ensures { IfOk result (λ item. item ≡ item_of ending (front.now ++ back.now)) }
 {
     Ok(match ending {
-        Ending::Whole => Item::Object(joined(alloc, front, back)?),
+        Ending::Whole => Item::Object(joined(room, front, back)?),
         Ending::Broken => Item::Broken,
         Ending::TooLong => Item::TooLong,
         Ending::TooDeep => Item::TooDeep,
@@ -109,7 +109,12 @@ fn skipping_part(bytes: &[u8]) -> Part<'_>
 }
 
 /// The first part of bytes that begin an object, whose bytes after the brace are `inner`.
-fn object_part<'a>(alloc: Global, bytes: &'a [u8], inner: &[u8]) -> Result<Part<'a>, AllocError>
+fn object_part<'a>(
+    alloc: Global,
+    bytes: &'a [u8],
+    inner: &[u8],
+    room: &mut Vec<u8>,
+) -> Result<Part<'a>, AllocError>
     requires { bytes.now ≡ 123 ∷ inner.now }
     ensures part { IfOk result (λ p. part_view p ≡ object_part bytes.now (end_after [] bytes.now)) }
     ensures scanned { IfOk result ScansPart }
@@ -118,7 +123,8 @@ fn object_part<'a>(alloc: Global, bytes: &'a [u8], inner: &[u8]) -> Result<Part<
         Scanned::Open(scanner) => Ok(Part::Stops(Stop::Inside(bytes, scanner))),
         Scanned::Ended(ending, used) => {
             let count = used + 1;
-            let item = item_of(alloc, ending, &[], &bytes[..count])?;
+            let room = replace(room, Vec::new(alloc));
+            let item = item_of(ending, &[], &bytes[..count], room)?;
             let (gap, rest) = rest_of(ending, count, bytes);
             Ok(Part::GoesOn(Some(item), gap, rest))
         }
@@ -126,24 +132,33 @@ fn object_part<'a>(alloc: Global, bytes: &'a [u8], inner: &[u8]) -> Result<Part<
 }
 
 /// The first part of bytes of which none in front is passed over.
-fn between_part(alloc: Global, bytes: &[u8]) -> Result<Part<'_>, AllocError>
+fn between_part<'a>(
+    alloc: Global,
+    bytes: &'a [u8],
+    room: &mut Vec<u8>,
+) -> Result<Part<'a>, AllocError>
     ensures part { IfOk result (λ p. part_view p ≡ between_part bytes.now) }
     ensures scanned { IfOk result ScansPart }
 {
     match bytes.split_first() {
         None => Ok(Part::Stops(Stop::In(Gap::Between))),
-        Some((b'{', inner)) => object_part(alloc, bytes, inner),
+        Some((b'{', inner)) => object_part(alloc, bytes, inner, room),
         Some(_) => Ok(Part::GoesOn(Some(Item::Junk), Gap::Skipping, bytes)),
     }
 }
 
 /// The first part of a stream.
-fn first_part(alloc: Global, gap: Gap, bytes: &[u8]) -> Result<Part<'_>, AllocError>
+fn first_part<'a>(
+    alloc: Global,
+    gap: Gap,
+    bytes: &'a [u8],
+    room: &mut Vec<u8>,
+) -> Result<Part<'a>, AllocError>
     ensures part { IfOk result (λ p. part_view p ≡ first_part (state_of gap) bytes.now) }
     ensures scanned { IfOk result ScansPart }
 {
     match gap {
-        Gap::Between => between_part(alloc, trimmed(bytes)),
+        Gap::Between => between_part(alloc, trimmed(bytes), room),
         Gap::Skipping => Ok(skipping_part(bytes)),
     }
 }
@@ -158,12 +173,14 @@ pub(crate) fn push_some(items: &mut Vec<Item>, item: Option<Item>) -> Result<(),
     }
 }
 
-/// Adds the items of bytes, and answers where the stream stops after them.
+/// Adds the items of bytes, and answers where the stream stops after them. The bytes of the first object are
+/// put into `room`.
 pub(crate) fn add_items<'a>(
     alloc: Global,
     gap: Gap,
     bytes: &'a [u8],
     items: &mut Vec<Item>,
+    room: &mut Vec<u8>,
 ) -> Result<Stop<'a>, AllocError>
     ensures cut { IfOk result (λ stop. followed items.old.items (cut (state_of gap) bytes.now)
         ≡ cut_to items.new.items stop) }
@@ -172,7 +189,7 @@ pub(crate) fn add_items<'a>(
     let mut gap = gap;
     let mut left = bytes;
     loop {
-        match first_part(alloc, gap, left)? {
+        match first_part(alloc, gap, left, room)? {
             Part::Stops(stop) => return Ok(stop),
             Part::GoesOn(item, next, rest) => {
                 push_some(items, item)?;

@@ -102,8 +102,20 @@ impl Scanner {
         })
     }
 
-    /// What a byte does that is not one too many.
+    /// What a byte does that is not one too many. Most of those that mean something are quotes, which are told
+    /// first.
     fn step(self, byte: u8) -> Step
+        ensures { result ≡ step_of self byte }
+    {
+        match (self.place, byte) {
+            (StringState::Outside, b'"') => self.moved(StringState::InString),
+            (StringState::InString, b'"') => self.moved(StringState::Outside),
+            _ => self.any_step(byte),
+        }
+    }
+
+    /// The same, of whichever byte.
+    fn any_step(self, byte: u8) -> Step
         ensures { result ≡ step_of self byte }
     {
         if is_reset(byte) {

@@ -1,5 +1,5 @@
 -- Slots for an object that has none yet: what they are without the targets of their weak links, and with each target that is given back.
-use Rattle.std.proofs.Common.{◌≡◌, refl, ap, sym, subst, ◌∙◌, ℕ, zero, suc, ◌+◌, ◌≤◌, Bool, true, false, eqb, List, [], ◌∷◌, ◌++◌, length, filter_map, slice_get, take, option_to_list, Option, Some, None, option_map, is_some, IfSome, arith}
+use Rattle.std.proofs.Common.{◌≡◌, refl, ap, sym, subst, ◌∙◌, ℕ, zero, suc, ◌+◌, ◌≤◌, ◌<◌, Bool, true, false, eqb, List, [], ◌∷◌, ◌++◌, length, filter_map, slice_get, take, option_to_list, Option, Some, None, option_map, is_some, IfSome, arith}
 use Rattle.std.specs.List.{AllByRecursion}
 use Rattle.std.specs.Option.{option_and_then, option_map_or}
 use Rattle.qo_slots.specs.declared.keys.Key.{Key}
@@ -32,19 +32,59 @@ filled-one (Link ty false None) = refl
 filled-one (Link ty false (Some key)) = refl
 filled-one (Alias key of) = refl
 
-pub split-more : (ts : List (Option Key)) (slots : List Named) (name : List ℕ) (s : Slot) → IsSplit ts slots
-    → IsSplit (ts ++ weak_target s ∷ []) (slots ++ (name, unnamed s) ∷ [])
-split-more [] [] name s is = (split-one s, tt)
-split-more [] (x ∷ slots) name s is = absurd is
-split-more (t ∷ ts) [] name s is = absurd is
-split-more (t ∷ ts) (x ∷ slots) name s is = (is.0, split-more ts slots name s is.1)
+-- as many targets as slots
 
-pub filled-more : (ts : List (Option Key)) (slots : List Named) (name : List ℕ) (s : Slot) → IsSplit ts slots
+pub split-more : (ts : List (Option Key)) (slots : List Named) (name : List ℕ) (s : Slot) → IsSplit ts slots → length slots ≤ length ts
+    → IsSplit (ts ++ weak_target s ∷ []) (slots ++ (name, unnamed s) ∷ [])
+split-more [] [] name s is long = (split-one s, tt)
+split-more [] (x ∷ slots) name s is long = absurd (omega (arith, long))
+split-more (t ∷ ts) [] name s is long = absurd is
+split-more (t ∷ ts) (x ∷ slots) name s is long = (is.0, split-more ts slots name s is.1 (omega (arith, long)))
+
+pub filled-more : (ts : List (Option Key)) (slots : List Named) (name : List ℕ) (s : Slot) → IsSplit ts slots → length slots ≤ length ts
     → refilled (ts ++ weak_target s ∷ []) (slots ++ (name, unnamed s) ∷ []) ≡ refilled ts slots ++ (name, s) ∷ []
-filled-more [] [] name s is = ap (λ (x : Slot). (name, x) ∷ []) (filled-one s)
-filled-more [] (x ∷ slots) name s is = absurd is
-filled-more (t ∷ ts) [] name s is = absurd is
-filled-more (t ∷ ts) (x ∷ slots) name s is = ap (λ (l : List Named). (x.0, pointed_if t x.1) ∷ l) (filled-more ts slots name s is.1)
+filled-more [] [] name s is long = ap (λ (x : Slot). (name, x) ∷ []) (filled-one s)
+filled-more [] (x ∷ slots) name s is long = absurd (omega (arith, long))
+filled-more (t ∷ ts) [] name s is long = absurd is
+filled-more (t ∷ ts) (x ∷ slots) name s is long =
+    ap (λ (l : List Named). (x.0, pointed_if t x.1) ∷ l) (filled-more ts slots name s is.1 (omega (arith, long)))
+
+-- a slot more that names nothing, for which no target is given
+
+pub split-kept : (ts : List (Option Key)) (slots : List Named) (name : List ℕ) (s : Slot) → IsSplit ts slots → weak_target s ≡ None
+    → IsSplit ts (slots ++ (name, s) ∷ [])
+split-kept [] [] name s is none = (none, tt)
+split-kept [] (x ∷ slots) name s is none = (is.0, split-kept [] slots name s is.1 none)
+split-kept (t ∷ ts) [] name s is none = absurd is
+split-kept (t ∷ ts) (x ∷ slots) name s is none = (is.0, split-kept ts slots name s is.1 none)
+
+pub filled-kept : (ts : List (Option Key)) (slots : List Named) (name : List ℕ) (s : Slot) → IsSplit ts slots
+    → refilled ts (slots ++ (name, s) ∷ []) ≡ refilled ts slots ++ (name, s) ∷ []
+filled-kept [] slots name s is = refl
+filled-kept (t ∷ ts) [] name s is = absurd is
+filled-kept (t ∷ ts) (x ∷ slots) name s is = ap (λ (l : List Named). (x.0, pointed_if t x.1) ∷ l) (filled-kept ts slots name s is.1)
+
+-- no target more
+
+pub split-padded : (ts : List (Option Key)) (slots : List Named) → IsSplit ts slots → length ts < length slots → IsSplit (ts ++ None ∷ []) slots
+split-padded [] [] is few = absurd (omega (arith, few))
+split-padded [] (s ∷ slots) is few = ((is.0, λ there. cc), is.1)
+split-padded (t ∷ ts) [] is few = absurd is
+split-padded (t ∷ ts) (s ∷ slots) is few = (is.0, split-padded ts slots is.1 (omega (arith, few)))
+
+pub filled-padded : (ts : List (Option Key)) (slots : List Named) → IsSplit ts slots → refilled (ts ++ None ∷ []) slots ≡ refilled ts slots
+filled-padded [] [] is = refl
+filled-padded [] (s ∷ slots) is = refl
+filled-padded (t ∷ ts) [] is = absurd is
+filled-padded (t ∷ ts) (s ∷ slots) is = ap (λ (l : List Named). (s.0, pointed_if t s.1) ∷ l) (filled-padded ts slots is.1)
+
+pub unnamed-same : (s : Slot) → weak_target s ≡ None → unnamed s ≡ s
+unnamed-same (Plain val) none = refl
+unnamed-same (Child key) none = refl
+unnamed-same (Link ty true target) none = refl
+unnamed-same (Link ty false None) none = refl
+unnamed-same (Link ty false (Some key)) none = cc
+unnamed-same (Alias key of) none = refl
 
 weak-one : (name : List ℕ) (s : Slot) → length (weak_names ((name, unnamed s) ∷ [])) ≡ length (option_to_list (weak_name s))
 weak-one name (Plain val) = refl
@@ -74,15 +114,9 @@ split-counted now was slots name s size more =
 
 pub split-empty : (ts : List (Option Key)) (slots : List Named) → IsSplit ts slots → AllByRecursion (λ (s : Named). weak_target s.1 ≡ None) slots
 split-empty [] [] is = tt
-split-empty [] (s ∷ slots) is = absurd is
+split-empty [] (s ∷ slots) is = (is.0, split-empty [] slots is.1)
 split-empty (t ∷ ts) [] is = absurd is
 split-empty (t ∷ ts) (s ∷ slots) is = (is.0.0, split-empty ts slots is.1)
-
-pub split-length : (ts : List (Option Key)) (slots : List Named) → IsSplit ts slots → length ts ≡ length slots
-split-length [] [] is = refl
-split-length [] (s ∷ slots) is = absurd is
-split-length (t ∷ ts) [] is = absurd is
-split-length (t ∷ ts) (s ∷ slots) is = ap suc (split-length ts slots is.1)
 
 pub split-names : (ts : List (Option Key)) (slots : List Named) → IsSplit ts slots → names_of (refilled ts slots) ≡ names_of slots
 split-names [] slots is = refl

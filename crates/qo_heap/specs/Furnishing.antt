@@ -21,9 +21,9 @@ refilled [] slots = slots
 refilled (t ∷ ts) [] = []
 refilled (t ∷ ts) (s ∷ slots) = (s.0, pointed_if t s.1) ∷ refilled ts slots
 
--- no slot is a weak link with a target, and each for which a target is given is a link without one
+-- no slot is a weak link with a target, and each for which a target is given is a link without one; for the last ones none may be given
 abbrev pub IsSplit : List (Option Key) → List Named → Type 0
 IsSplit [] [] = ⊤
-IsSplit [] (s ∷ slots) = ⊥
+IsSplit [] (s ∷ slots) = (weak_target s.1 ≡ None) × IsSplit [] slots
 IsSplit (t ∷ ts) [] = ⊥
 IsSplit (t ∷ ts) (s ∷ slots) = ((weak_target s.1 ≡ None) × (is_some t ≡ true → is_empty_link s.1 ≡ true)) × IsSplit ts slots

@@ -47,6 +47,7 @@ impl Heap {
     }
 
     /// How many notes there were; it stays at 2^64 - 1 once there.
+    #[inline(always)]
     pub fn notes_total(&self) -> u64
         ensures { result ≡ self.now.log.total }
     {

@@ -18,6 +18,9 @@ use std::alloc::Global;
 /// Arrays and objects nest so deep at most.
 const DEPTH_MAX: usize = 127;
 
+/// An object has about so many members, so that room is made for as many at once.
+const MEMBERS_AT_FIRST: usize = 4;
+
 impl<'a> Json<'a> {
     /// Reads a text in UTF-8 in one pass. `Invalid`: it is no JSON, it nests deeper than 127, or a
     /// number in it is too large for a float. `Wide`: an object in it has more names than are looked
@@ -126,7 +129,7 @@ fn read_members<'a>(
     ensures invalid { result ≡ Err JsonError.Invalid → converted (λ ms. of_members ms no_members) (members (value depth) (length reader.old) reader.old) ≡ None }
     ensures wide { result ≡ Err JsonError.Wide → NAMES_MAX < length reader.old }
 {
-    let mut found = Vec::new(alloc);
+    let mut found = Vec::with_capacity(alloc, MEMBERS_AT_FIRST)?;
     'members: while let Some(name) = reader.next_key()? {
         let member = read(alloc, reader, depth)?;
         put(&mut found, name, member)?;

@@ -30,7 +30,7 @@ use Rattle.qo_layout.specs.SameViews.{SameObjects, SameViewLaw}
 use Rattle.qo_layout.specs.declared.addresses.TheConstants.{DEVICE_SIZE, LOW_SIZE, ROOT_SIZE, SLOTS_AT}
 
 -- a board without plain values and registers
-abbrev framed : Board → Board
+abbrev pub framed : Board → Board
 framed b = record b { records = map without_values b.records }
 
 found-framed : (n : ℕ) (rs : List Record) → found_at n (map without_values rs) ≡ option_map without_values (found_at n rs)
@@ -42,18 +42,18 @@ found-framed n (r ∷ rs) = go (r.birth == n) refl (found-framed n rs)
     go true p rest = rw p refl
     go false p rest = rw p rest
 
-births-framed : (rs : List Record) → map (λ (r : Record). r.birth) (map without_values rs) ≡ map (λ (r : Record). r.birth) rs
+pub births-framed : (rs : List Record) → map (λ (r : Record). r.birth) (map without_values rs) ≡ map (λ (r : Record). r.birth) rs
 births-framed [] = refl
 births-framed (r ∷ rs) = ap (λ (ns : List ℕ). r.birth ∷ ns) (births-framed rs)
 
-kind-framed : (b : Board) (n : ℕ) → kind_of (framed b) n ≡ kind_of b n
+pub kind-framed : (b : Board) (n : ℕ) → kind_of (framed b) n ≡ kind_of b n
 kind-framed b n = ap (option_map (λ (r : Record). r.kind)) (found-framed n b.records) ∙ go (record_of b n)
   where
     go : (o : Option Record) → option_map (λ (r : Record). r.kind) (option_map without_values o) ≡ option_map (λ (r : Record). r.kind) o
     go None = refl
     go (Some r) = refl
 
-slots-framed : (b : Board) (n : ℕ) → slots_at (framed b) n ≡ unvalued (slots_at b n)
+pub slots-framed : (b : Board) (n : ℕ) → slots_at (framed b) n ≡ unvalued (slots_at b n)
 slots-framed b n = ap (λ (o : Option Record). option_map_or (λ (r : Record). r.slots) o []) (found-framed n b.records) ∙ go (record_of b n)
   where
     go : (o : Option Record)
@@ -61,7 +61,7 @@ slots-framed b n = ap (λ (o : Option Record). option_map_or (λ (r : Record). r
     go None = refl
     go (Some r) = refl
 
-of-framed : (b : Board) (wanted : List ℕ) (n : ℕ) → is_of (framed b) wanted n ≡ is_of b wanted n
+pub of-framed : (b : Board) (wanted : List ℕ) (n : ℕ) → is_of (framed b) wanted n ≡ is_of b wanted n
 of-framed b wanted n = ap (λ (o : Option TypeId). option_map_or (λ (t : TypeId). is_a t wanted) o false) (kind-framed b n)
 
 strong-framed : (s : Slot) → strong_in (without_value s) ≡ strong_in s
@@ -77,13 +77,13 @@ kids-in : (xs : List (List ℕ × Slot)) → filter_map (λ (s : List ℕ × Slo
 kids-in [] = refl
 kids-in (s ∷ xs) = ap₂ cons_option (strong-framed s.1) (kids-in xs)
 
-kids-framed : (b : Board) (n : ℕ) → kids_of (framed b) n ≡ kids_of b n
+pub kids-framed : (b : Board) (n : ℕ) → kids_of (framed b) n ≡ kids_of b n
 kids-framed b n = ap (λ (xs : List (List ℕ × Slot)). filter_map (λ (s : List ℕ × Slot). strong_in s.1) xs) (slots-framed b n) ∙ kids-in (slots_at b n)
 
-abbrev strong_named : List ℕ → List (List ℕ × Slot) → Option ℕ
+abbrev pub strong_named : List ℕ → List (List ℕ × Slot) → Option ℕ
 strong_named name xs = option_and_then strong_in (option_map (λ (s : List ℕ × Slot). s.1) (find (λ (s : List ℕ × Slot). bytes_eq s.0 name) xs))
 
-named-framed : (name : List ℕ) (xs : List (List ℕ × Slot)) → strong_named name (unvalued xs) ≡ strong_named name xs
+pub named-framed : (name : List ℕ) (xs : List (List ℕ × Slot)) → strong_named name (unvalued xs) ≡ strong_named name xs
 named-framed name [] = refl
 named-framed name (s ∷ xs) = go (bytes_eq s.0 name) refl (named-framed name xs)
   where
@@ -108,7 +108,7 @@ buses-in : (b : Board) (xs : List (List ℕ × Slot)) → filter_map (bus_in (fr
 buses-in b [] = refl
 buses-in b (s ∷ xs) = ap₂ cons_option (bus-framed b s.0 s.1) (buses-in b xs)
 
-buses-framed : (b : Board) (n : ℕ) → buses_of (framed b) n ≡ buses_of b n
+pub buses-framed : (b : Board) (n : ℕ) → buses_of (framed b) n ≡ buses_of b n
 buses-framed b n = ap (filter_map (bus_in (framed b))) (slots-framed b n) ∙ buses-in b (slots_at b n)
 
 -- the parent of an object

@@ -1,5 +1,5 @@
 -- The lines of the slots of the root bus.
-use Rattle.std.proofs.Common.{◌≡◌, refl, ap, sym, subst, ◌∙◌, ℕ, zero, suc, ◌+◌, ◌^◌, ◌<◌, ◌≤◌, Bool, false, cond, List, [], ◌∷◌, ◌++◌, find, length, Option, Some, None, option_map, ⊎_elim, arith}
+use Rattle.std.proofs.Common.{◌≡◌, refl, ap, sym, subst, ◌∙◌, ℕ, zero, suc, ◌+◌, ◌^◌, ◌<◌, ◌≤◌, Bool, true, false, cond, List, [], ◌∷◌, ◌++◌, filter_map, find, length, Option, Some, None, option_map, ⊎_elim, arith}
 use Rattle.std.specs.Prelude.{IfSome, option_and_then}
 use Rattle.std.specs.List.{range_with_len, sum_by}
 use Rattle.std.specs.Option.{option_map_or}
@@ -11,8 +11,9 @@ use Rattle.std.proofs.lemmas.List.Sums.{sum_by-cons}
 use Rattle.std.proofs.Math.ListN.{length-append}
 use Rattle.qo_values.specs.declared.births.TheConstants.{ROOT_BUS_BIRTH}
 use Rattle.qo_irq.specs.Wires.{line_level}
-use Rattle.qo_model.specs.Board.{Board, Slot}
-use Rattle.qo_model.specs.Devices.{kid_at, kid_name, strong_in}
+use Rattle.qo_model.specs.Board.{Board, Slot, slots_at}
+use Rattle.qo_model.specs.Devices.{kid_at, kid_name, kids_of, strong_in}
+use Rattle.qo_model.specs.Unplug.{first_of}
 use Rattle.qo_object.specs.BoardObject.{shown_slots}
 use Rattle.qo_object.specs.Content.{Content}
 use Rattle.qo_heap.specs.Board.{Shows}
@@ -34,6 +35,32 @@ kid-none b v s bus n none =
 
 pub slots-none : (b : Board) (v : Objects) → Shows b v → (rows : List Row) → slots_of v ROOT_BUS_BIRTH ≡ [] → AreSlots b rows 8 []
 slots-none b v s rows none n below = rw (kid-none b v s ROOT_BUS_BIRTH n none) tt
+
+-- and where a bus has no kids
+kid-behind : (t : List ℕ × Slot) (slots : List (List ℕ × Slot)) (name : List ℕ) → strong_in t.1 ≡ None
+    → option_and_then strong_in (option_map (λ (u : List ℕ × Slot). u.1) (find (λ (u : List ℕ × Slot). bytes_eq u.0 name) slots)) ≡ None
+    → option_and_then strong_in (option_map (λ (u : List ℕ × Slot). u.1) (find (λ (u : List ℕ × Slot). bytes_eq u.0 name) (t ∷ slots))) ≡ None
+kid-behind t slots name is rest = by (bytes_eq t.0 name) refl
+  where
+    by : (e : Bool) → bytes_eq t.0 name ≡ e
+        → option_and_then strong_in (option_map (λ (u : List ℕ × Slot). u.1) (find (λ (u : List ℕ × Slot). bytes_eq u.0 name) (t ∷ slots))) ≡ None
+    by true same = rw same is
+    by false same = rw same rest
+
+kid-missing : (slots : List (List ℕ × Slot)) (name : List ℕ) → None ≡ first_of (filter_map (λ (t : List ℕ × Slot). strong_in t.1) slots)
+    → option_and_then strong_in (option_map (λ (t : List ℕ × Slot). t.1) (find (λ (t : List ℕ × Slot). bytes_eq t.0 name) slots)) ≡ None
+kid-missing [] name none = refl
+kid-missing (t ∷ slots) name none = by (strong_in t.1) refl none (λ rest. kid-missing slots name rest)
+  where
+    by : (o : Option ℕ) → strong_in t.1 ≡ o → None ≡ first_of (filter_map (λ (u : List ℕ × Slot). strong_in u.1) (t ∷ slots))
+        → (None ≡ first_of (filter_map (λ (u : List ℕ × Slot). strong_in u.1) slots)
+        → option_and_then strong_in (option_map (λ (u : List ℕ × Slot). u.1) (find (λ (u : List ℕ × Slot). bytes_eq u.0 name) slots)) ≡ None)
+        → option_and_then strong_in (option_map (λ (u : List ℕ × Slot). u.1) (find (λ (u : List ℕ × Slot). bytes_eq u.0 name) (t ∷ slots))) ≡ None
+    by (Some kid) is first later = absurd (let clash : None ≡ Some kid = rw is at first in cc)
+    by None is first later = kid-behind t slots name is (later (rw is at first))
+
+pub slots-free : (b : Board) (rows : List Row) → None ≡ first_of (kids_of b ROOT_BUS_BIRTH) → AreSlots b rows 8 []
+slots-free b rows none n below = rw (kid-missing (slots_at b ROOT_BUS_BIRTH) (kid_name n) none) tt
 
 -- so it is where there is no bus
 pub slots-gone : (b : Board) (v : Objects) → Shows b v → (rows : List Row) → content_of v ROOT_BUS_BIRTH ≡ None → AreSlots b rows 8 []

@@ -13,7 +13,7 @@ ghost use Rattle.qo_values.specs.declared.births.TheConstants.{ROOT_BUS_BIRTH as
 
 use crate::rows::line_of;
 use crate::wiring::Row;
-use qo_buses::kid_at;
+use qo_buses::{first_kid, kid_at};
 use qo_heap::{Heap, Oid, Steps};
 use qo_irq::{Net, NetError};
 use qo_values::{BUS_SLOTS, ROOT_BUS_BIRTH};
@@ -43,8 +43,8 @@ fn slot_line<L: Ledger>(
     }
 }
 
-/// Lists the line of the device in each slot of the root bus, in place of what was listed. A bus with no slots
-/// is not asked for each of them. `BadRef` where a device has no line.
+/// Lists the line of the device in each slot of the root bus, in place of what was listed. A bus without devices
+/// is not asked for each slot. `BadRef` where a device has no line.
 pub(crate) fn list_slots<L: Ledger>(
     heap: &Heap,
     rows: &[Row],
@@ -60,8 +60,7 @@ pub(crate) fn list_slots<L: Ledger>(
     let Some(bus) = heap.by_birth(ROOT_BUS_BIRTH) else {
         return Ok(());
     };
-    let count = heap.slot_count(bus, steps);
-    if count == 0 {
+    if first_kid(heap, bus, steps).is_none() {
         return Ok(());
     }
     for slot in 0..BUS_SLOTS {

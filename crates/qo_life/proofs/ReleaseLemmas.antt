@@ -1,6 +1,6 @@
 -- The steps of a release over a heap.
 use Rattle.std.proofs.lemmas.Bool.Decides.{nat_tests}
-use Rattle.std.proofs.Common.{◌≡◌, refl, ap, sym, subst, ◌∙◌, ℕ, suc, ◌+◌, ◌-◌, ◌*◌, ◌<◌, ◌≤◌, Bool, true, false, not, ◌==◌, eqb, nat_eq, nat_lt, slice_get, List, [], count_by, Option, Some, None, is_some, option_map, IfSome, arith}
+use Rattle.std.proofs.Common.{◌≡◌, refl, ap, sym, subst, ◌∙◌, ℕ, zero, suc, ◌+◌, ◌-◌, ◌*◌, ◌<◌, ◌≤◌, Bool, true, false, not, ◌==◌, eqb, nat_eq, nat_lt, slice_get, List, [], ◌∷◌, count_by, Option, Some, None, is_some, option_map, IfSome, arith}
 use Rattle.std.specs.List.{list_any}
 use Rattle.std.specs.Option.{option_map_or}
 use Rattle.std.proofs.lemmas.Bool.{eqb-true, eq-eqb}
@@ -16,14 +16,14 @@ use Rattle.qo_model.proofs.ReleaseLemmas.{after-holding, drop-holding, drop-fall
 use Rattle.qo_heap.specs.Log.{Log, empty_log, noted_all}
 use Rattle.qo_object.specs.declared.slots.Slot.{Slot}
 use Rattle.qo_object.specs.declared.slots.Slot.TheVariants.{Plain, Child, Link, Alias}
-use Rattle.qo_object.specs.Slots.{Named, referent, slot_in, target_of}
+use Rattle.qo_object.specs.Slots.{Named, left_of, let_go_at, referent, slot_in, target_of}
 use Rattle.qo_object.specs.Content.{Content, dropped_at, reference_count}
 use Rattle.qo_object.specs.Content as content
 use Rattle.qo_object.specs.BoardObject.{birth_of, shown, shown_slot}
 use Rattle.qo_object.proofs.BoardObjectLemmas.{shown-held, reference_count-shown}
 use Rattle.qo_heap.specs.Board.{Shows}
 use Rattle.qo_heap.specs.Objects.{IsHeap, Objects, content_of, ended, pins_of, refs_of, slots_of, with_edit}
-use Rattle.qo_heap.proofs.HeapLemmas.{live-edit, slot-live}
+use Rattle.qo_heap.proofs.HeapLemmas.{edit-is, edit-same, live-edit, slot-live}
 use Rattle.qo_heap.proofs.BoardReads.{shows-live, shows-live_key, shows-pinned, shows-record, shows-refs, shows-slot_at}
 use Rattle.qo_life.specs.Life.{Goes, next_at, with_log}
 use Rattle.qo_life.proofs.BoardLemmas.{Stays, let_go-stays, none-held}
@@ -71,6 +71,34 @@ given f (Some x) y e = (x, (refl, sym (same_Some y (f x) e)))
 pub none-given : {X Y : Type 0} (f : X → Y) (o : Option X) → None ≡ option_map f o → o ≡ None
 none-given f None e = refl
 none-given f (Some x) e = cc
+
+-- a slot that names nothing stays as it is where it is let go
+left-unnamed : (name : List ℕ) (s : Slot) (slots : List Named) → is_some (target_of s) ≡ false
+    → elim (left_of s) [ None ↦ slots | Some left ↦ (name, left) ∷ slots ] ≡ (name, s) ∷ slots
+left-unnamed name (Plain val) slots none = refl
+left-unnamed name (Child key) slots none = cc
+left-unnamed name (Link ty strong None) slots none = refl
+left-unnamed name (Link ty strong (Some key)) slots none = cc
+left-unnamed name (Alias key of) slots none = refl
+
+let_go-unnamed : (slots : List Named) (i : ℕ) (s : Slot) → slot_in slots i ≡ Some s → is_some (target_of s) ≡ false → let_go_at i slots ≡ slots
+let_go-unnamed [] i s there none = refl
+let_go-unnamed (t ∷ slots) zero s there none =
+    left-unnamed t.0 t.1 slots (subst (λ (x : Slot). is_some (target_of x) ≡ false) (sym (same_Some t.1 s there)) none)
+let_go-unnamed (t ∷ slots) (suc i) s there none = ap (λ (l : List Named). t ∷ l) (let_go-unnamed slots i s there none)
+
+pub unnamed-stays : (v : Objects) → IsHeap v → (n i : ℕ) (names : Bool) → names ≡ false
+    → Some names ≡ option_map (λ (s : Slot). is_some (target_of s)) (slot_in (slots_of v n) i) → v ≡ with_edit n (dropped_at i) v
+unnamed-stays v good n i names off e =
+    let (s, (there, same)) = given (λ (s : Slot). is_some (target_of s)) (slot_in (slots_of v n) i) names e in
+    go (content_of v n) refl s there (same ∙ off)
+  where
+    go : (o : Option Content) → content_of v n ≡ o → (s : Slot) → slot_in (option_map_or (λ (c : Content). c.slots) o []) i ≡ Some s
+        → is_some (target_of s) ≡ false → v ≡ with_edit n (dropped_at i) v
+    go None p s there none = cc
+    go (Some c) p s there none =
+        let stays : c ≡ dropped_at i c = ap (λ (l : List Named). record c { slots = l }) (sym (let_go-unnamed c.slots i s there none)) in
+        sym (edit-same n v) ∙ sym (edit-is v good n (λ (x : Content). x) c c p refl) ∙ edit-is v good n (dropped_at i) c c p stays
 
 -- as the code has it: what was held, and the heap after the slot let go
 pub goes-turn : (v u w : Objects) (n i : ℕ) (was : Option Key) → Some was ≡ option_map referent (slot_in (slots_of v n) i) → u ≡ with_edit n (dropped_at i) v

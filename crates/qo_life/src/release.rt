@@ -1,14 +1,15 @@
 //! Releasing objects. None of these calls takes memory, and none fails.
 
-ghost use Rattle.std.specs.Prelude.{◌≡◌, ◌+◌, ◌*◌, ◌<◌, ◌≤◌, IfSome, None, Some, option_map};
+ghost use Rattle.std.specs.Prelude.{◌≡◌, ◌+◌, ◌*◌, ◌<◌, ◌≤◌, IfSome, None, Some, is_some, option_map};
 ghost use Rattle.qo_model.specs.Board.{Board};
 ghost use Rattle.qo_model.specs.Release.{after, finalize, let_go, unpin};
 ghost use Rattle.qo_model.specs.ReleaseBound.{release_bound};
 ghost use Rattle.qo_object.specs.BoardObject.{birth_of};
-ghost use Rattle.qo_object.specs.Slots.{referent, slot_in};
+ghost use Rattle.qo_object.specs.Content.{dropped_at};
+ghost use Rattle.qo_object.specs.Slots.{referent, slot_in, target_of};
 ghost use Rattle.qo_heap.specs.Rows.{IsLive};
 ghost use Rattle.qo_heap.specs.Board.{Shows};
-ghost use Rattle.qo_heap.specs.Objects.{pins_of, refs_of, slots_of};
+ghost use Rattle.qo_heap.specs.Objects.{pins_of, refs_of, slots_of, with_edit};
 ghost use Rattle.qo_life.specs.Life.{Goes, KeepsNames, next_at};
 ghost use Rattle.qo_life.specs.Work.{GoesOn, front_at, worth};
 
@@ -22,6 +23,8 @@ struct Turn {
     held: Option<Oid>,
     /// The place of the slot after it, once it was let go.
     next: usize,
+    /// Whether the slot names an object; any other stays as it is.
+    names: bool,
 }
 
 /// The front of the work of a release.
@@ -40,9 +43,11 @@ fn turn_at<L: Ledger>(heap: &Heap, o: Oid, at: usize, steps: &mut Steps<L>) -> O
     requires { IsLive heap.now.rows o }
     ensures held { option_map (λ t. t.held) result ≡ option_map referent (slot_in (slots_of heap.now o.birth) at) }
     ensures next { option_map (λ t. t.next) result ≡ option_map (next_at at) (slot_in (slots_of heap.now o.birth) at) }
+    ensures names { option_map (λ t. t.names) result ≡ option_map (λ s. is_some (target_of s)) (slot_in (slots_of heap.now o.birth) at) }
     ensures cost { steps.new ≡ steps.old + 1 }
 {
     let slot = heap.slot_at(o, at, steps)?;
+    let names = slot.what.target().is_some();
     let (held, next) = match slot.what {
         Slot::Child(child) => (Some(*child), at),
         Slot::Link {
@@ -52,7 +57,20 @@ fn turn_at<L: Ledger>(heap: &Heap, o: Oid, at: usize, steps: &mut Steps<L>) -> O
         } => (*target, at + 1),
         _ => (None, at + 1),
     };
-    Some(Turn { held, next })
+    Some(Turn { held, next, names })
+}
+
+/// Lets the slot of an object at a place go, where it names an object; any other stays as it is.
+fn empty_named<L: Ledger>(heap: &mut Heap, o: Oid, at: usize, names: bool, steps: &mut Steps<L>)
+    requires live { IsLive heap.old.rows o }
+    requires names { Some names ≡ option_map (λ s. is_some (target_of s)) (slot_in (slots_of heap.old o.birth) at) }
+    ensures now { heap.new ≡ with_edit o.birth (dropped_at at) heap.old }
+    ensures cost { steps.new ≤ steps.old + 4 }
+{
+    heap.reveal_invariant();
+    if names {
+        heap.empty(o, at, steps);
+    }
 }
 
 /// How the work goes on where a slot of the front was let go: with what it held, where nothing
@@ -119,7 +137,7 @@ fn finalize<L: Ledger>(heap: &mut Heap, o: Oid, steps: &mut Steps<L>)
         heap.reveal_invariant();
         match turn_at(heap, now.o, now.at, steps) {
             Some(turn) => {
-                heap.empty(now.o, now.at, steps);
+                empty_named(heap, now.o, now.at, turn.names, steps);
                 heap.reveal_invariant();
                 front = Some(go_on(heap, now, turn, steps));
             }

@@ -496,12 +496,13 @@ impl Core {
         replace(&mut self.items, Vec::new(alloc))
     }
 
-    /// Keeps the room of items that were served, and lets them go. It takes no memory.
+    /// Keeps the room of items that were served, with that of the first of them, and lets the others go. It
+    /// takes no memory.
     fn keep_items(&mut self, items: Vec<Item>)
         ensures { self.new ≡ self.old }
     {
         let mut room = items;
-        room.clear();
+        room.truncate(1);
         self.items = room;
     }
 
@@ -845,6 +846,7 @@ impl Core {
     }
 
     /// How many notes there were. It takes no memory.
+    #[inline(always)]
     pub(crate) fn notes_total(&self) -> u64
         ensures good { StandsForGood self.now.board }
         ensures total { (b : Tree) → Stands b self.now.board → result ≡ total_of b.notes }
@@ -855,6 +857,7 @@ impl Core {
 
     /// Each listener is told the notes from a number on, in order. The error is want of memory: each has then
     /// heard a front of them.
+    #[inline(always)]
     pub(crate) fn tell_new(
         &self,
         alloc: Global,

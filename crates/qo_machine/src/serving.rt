@@ -284,6 +284,7 @@ fn serve_item<L: Ledger>(
 }
 
 /// An item of a session is served, unless the run has ended, and each listener is told what was noted.
+#[inline(always)]
 fn serve_item_told<L: Ledger>(
     machine: &mut Core,
     session: u8,
@@ -389,6 +390,7 @@ fn serve_line<L: Ledger>(
 }
 
 /// A line of the guest is served, and each listener is told what was noted.
+#[inline(always)]
 fn serve_line_told<L: Ledger>(
     machine: &mut Core,
     line: &Chars,

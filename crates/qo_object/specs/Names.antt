@@ -1,5 +1,5 @@
 -- For proofs alone. What stands for the name of a slot.
-use Rattle.std.specs.Prelude.{ℕ, ◌<◌, ⊤, List, length, slice_index}
+use Rattle.std.specs.Prelude.{ℕ, ◌%◌, ◌<◌, ⊤, List, length, slice_index}
 use Rattle.qo_values.specs.declared.limits.TheConstants.{BUS_SLOTS}
 use Rattle.qo_model.specs.Devices.{kid_name}
 use Rattle.qo_model.specs.RowNames.{property_name}
@@ -18,6 +18,6 @@ abbrev pub IsGiven : NameKind → Type 0
 IsGiven (Kid slot) = slot < BUS_SLOTS
 IsGiven _ = ⊤
 
--- what is compared of two texts first
+-- what is compared of two texts first: their lengths, modulo 2^32, and their first bytes
 abbrev pub fingerprint_of : List ℕ → Fingerprint
-fingerprint_of text = record { length = length text; first = slice_index text 0 }
+fingerprint_of text = record { length = length text % 4294967296; first = slice_index text 0 }

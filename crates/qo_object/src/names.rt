@@ -21,11 +21,14 @@ enum NameKind {
     Own(Name),
 }
 
+/// So many lengths of texts are told apart.
+const LENGTHS: usize = 0x1_0000_0000;
+
 /// What is compared of two names before their texts: how many bytes they have, and the first.
 #[derive(Clone, Copy, Debug)]
 pub(crate) struct Fingerprint {
-    /// How many bytes the text has.
-    length: usize,
+    /// How many bytes the text has, modulo 2^32.
+    length: u32,
     /// The first of them; 0 of an empty text.
     first: u8,
 }
@@ -39,7 +42,7 @@ impl Fingerprint {
         ensures { result ≡ fingerprint_of text.now }
     {
         Fingerprint {
-            length: text.len(),
+            length: (text.len() % LENGTHS) as u32,
             first: text.as_bytes().first().copied().unwrap_or(0),
         }
     }

@@ -10,7 +10,7 @@ use std::alloc::{AllocError, Global};
 use std::marker::Model;
 
 /// An object has about so many slots, so that the first one makes room for as many.
-const SLOTS_AT_FIRST: usize = 8;
+const SLOTS_AT_FIRST: usize = 9;
 
 /// Among up to so many slots a name is looked for by comparing it with each, which takes less than
 /// its hash.
@@ -40,7 +40,7 @@ impl Model for SlotMap {
 }
 
 impl SlotMap {
-    ghost use Rattle.std.specs.Prelude.{◌≡◌, ◌<◌, ℕ, List, [], ◌∷◌, ◌++◌, None, Ok, true, false, IfSome, IsSomeAnd, OnErr, remove, length, count_by, position, slice_get, option_map, is_some};
+    ghost use Rattle.std.specs.Prelude.{◌≡◌, ◌<◌, ℕ, List, [], ◌∷◌, ◌++◌, None, Ok, true, false, IfSome, IsSomeAnd, OnOk, OnErr, remove, length, count_by, position, slice_get, option_map, is_some};
     ghost use Rattle.std.specs.List.{list_any, IsDistinct};
     ghost use Rattle.std.specs.Option.{option_and_then};
     ghost use Rattle.std.specs.Str.{bytes_eq};
@@ -161,19 +161,41 @@ impl SlotMap {
         }
     }
 
-    /// The names with one more, where there are then more than `COMPARED_MAX`, and there is memory.
-    #[inline(always)]
+    /// The names with one more, where there is memory.
     fn names_with(&mut self, name: &str) -> Option<Names>
         requires { has_name name.now self.old ≡ false }
         ensures same { self.new ≡ self.old }
         ensures names { IfSome result (λ names. names ≡ names_of self.old ++ name.now ∷ []) }
     {
-        if self.slots.len() < COMPARED_MAX {
-            return None;
-        }
         let mut names = self.take_names()?;
         names.add(name).ok()?;
         Some(names)
+    }
+
+    /// Adds a slot under a name that no other has, after the others, and keeps no names. An error adds
+    /// nothing.
+    #[inline(always)]
+    fn add_unindexed(&mut self, name: SlotName, slot: Slot) -> Result<(), AllocError>
+        requires { has_name name self.old ≡ false }
+        ensures added { OnOk result (self.new ≡ self.old ++ (name, slot) ∷ []) }
+        ensures err { OnErr result (self.new ≡ self.old) }
+    {
+        self.index = None;
+        self.slots.push((name, slot))?;
+        Ok(())
+    }
+
+    /// Adds a slot under a name that no other has, after the others, with its name to those that are kept.
+    /// An error adds nothing.
+    fn add_indexed(&mut self, name: SlotName, slot: Slot) -> Result<(), AllocError>
+        requires { has_name name self.old ≡ false }
+        ensures added { OnOk result (self.new ≡ self.old ++ (name, slot) ∷ []) }
+        ensures err { OnErr result (self.new ≡ self.old) }
+    {
+        let index = self.names_with(name.as_str());
+        self.slots.push((name, slot))?;
+        self.index = index;
+        Ok(())
     }
 
     /// Adds a slot under a name, after the others, unless there is one of that name, which then stays.
@@ -189,9 +211,11 @@ impl SlotMap {
             return Ok(false);
         }
         self.make_room()?;
-        let index = self.names_with(name.as_str());
-        self.slots.push((name, slot))?;
-        self.index = index;
+        if self.slots.len() < COMPARED_MAX {
+            self.add_unindexed(name, slot)?;
+        } else {
+            self.add_indexed(name, slot)?;
+        }
         Ok(true)
     }
 

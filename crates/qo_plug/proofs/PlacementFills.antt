@@ -1,6 +1,6 @@
 -- The own slots of an object, filled from the last on.
 use Rattle.std.proofs.Common.{◌≡◌, refl, ap, sym, subst, ◌∙◌, ℕ, zero, suc, ◌≤◌, ◌<◌, Bool, true, false, cond, List, [], ◌∷◌, ◌++◌, map, length, find, take, slice_get, Option, Some, None, IfSome, option_map, append_assoc, append-nil, arith}
-use Rattle.std.specs.List.{AllByRecursion, AllZip}
+use Rattle.std.specs.List.{AllByRecursion, AllZip, list_all}
 use Rattle.std.specs.Option.{option_map_or}
 use Rattle.std.specs.Str.{bytes_eq}
 use Rattle.std.proofs.lemmas.List.{take_all}
@@ -24,7 +24,7 @@ use Rattle.qo_heap.proofs.HeapLemmas.{edit-nothing}
 use Rattle.qo_heap.proofs.PlacesLemmas.{slice_get-some}
 use Rattle.qo_properties.proofs.FillingLemmas.{edit-twice}
 use Rattle.qo_plug.specs.OwnSlots.{is_own, own_slots, own_slots_of}
-use Rattle.qo_plug.specs.Placement.{own_filled, with_own}
+use Rattle.qo_plug.specs.Placement.{is_default, own_filled, with_own}
 
 -- edits that agree on the object that is there
 pub edit-on : (v : Objects) → IsHeap v → (n : ℕ) (f g : Content → Content) (c : Content) → content_of v n ≡ Some c → f c ≡ g c
@@ -49,6 +49,23 @@ from-none : (k : ℕ) (slots : List Named) → own_from k [] slots ≡ slots
 from-none zero slots = own-none slots
 from-none (suc k) [] = refl
 from-none (suc k) (s ∷ slots) = ap (λ (ss : List Named). s ∷ ss) (from-none k slots)
+
+-- where nothing is planned
+own-default : (fs : List InitialValue) (slots : List Named) → list_all is_default fs ≡ true → own_filled fs slots ≡ slots
+own-default [] slots blank = own-none slots
+own-default (f ∷ fs) [] blank = refl
+own-default (fill.Value val ∷ fs) (s ∷ slots) blank = cc
+own-default (fill.Target key ∷ fs) (s ∷ slots) blank = cc
+own-default (fill.Default ∷ fs) (s ∷ slots) blank = by (is_own s.1) (own-default fs slots blank) (own-default (fill.Default ∷ fs) slots blank)
+  where
+    by : (own : Bool) → own_filled fs slots ≡ slots → own_filled (fill.Default ∷ fs) slots ≡ slots
+        → cond own (s ∷ own_filled fs slots) (s ∷ own_filled (fill.Default ∷ fs) slots) ≡ s ∷ slots
+    by true here later = ap (λ (ss : List Named). s ∷ ss) here
+    by false here later = ap (λ (ss : List Named). s ∷ ss) later
+
+pub settled-blank : (fs : List InitialValue) (o : Key) (v : Objects) → list_all is_default fs ≡ true → v ≡ with_edit o.birth (with_own fs) v
+settled-blank fs o v blank =
+    sym (edit-nothing o.birth (with_own fs) (λ c. ap (λ (ss : List Named). record c { slots = ss }) (own-default fs c.slots blank)) v)
 
 own-next : (f : InitialValue) (fs : List InitialValue) (k : ℕ) (slots : List Named) (s : Named) → slice_get slots k ≡ Some s → is_own s.1 ≡ true
     → changed_at (filled_with f) k (own_from (suc k) fs slots) ≡ own_from k (f ∷ fs) slots

@@ -1,6 +1,6 @@
 -- For proofs alone. A device takes its place: its container and its bus have it, its own slots have what was given, and it keeps its claims
 -- (include/hw/qdev-core.h; docs/devel/qom.rst).
-use Rattle.std.specs.Prelude.{◌≡◌, ℕ, true, if◌then◌else◌, List, [], ◌∷◌, Option, Some, option_map, ⊤}
+use Rattle.std.specs.Prelude.{◌≡◌, ℕ, Bool, true, false, if◌then◌else◌, List, [], ◌∷◌, Option, Some, option_map, ⊤}
 use Rattle.qo_claims.specs.Book.{ClaimsTaken}
 use Rattle.qo_values.specs.declared.kinds.TypeId.TheVariants.{Device}
 use Rattle.qo_slots.specs.declared.keys.Key.{Key}
@@ -25,6 +25,7 @@ use Rattle.qo_properties.specs.KeptClaims.{SameClaims}
 use Rattle.qo_properties.specs.Filling.{filled_with}
 use Rattle.qo_properties.specs.OpeningSteps.{KeepsNames}
 use Rattle.qo_properties.specs.declared.adding.filling.InitialValue.{InitialValue}
+use Rattle.qo_properties.specs.declared.adding.filling.InitialValue.TheVariants.{Default}
 use Rattle.qo_plug.specs.declared.resources.Memory.{Memory}
 use Rattle.qo_plug.specs.declared.resources.Resources.{Resources as Chosen}
 use Rattle.qo_plug.specs.OwnSlots.{is_own}
@@ -34,6 +35,11 @@ abbrev pub own_filled : List InitialValue → List Named → List Named
 own_filled fs [] = []
 own_filled [] (s ∷ slots) = s ∷ slots
 own_filled (f ∷ fs) (s ∷ slots) = if is_own s.1 then (s.0, filled_with f s.1) ∷ own_filled fs slots else s ∷ own_filled (f ∷ fs) slots
+
+-- a slot that stays as it begins
+abbrev pub is_default : InitialValue → Bool
+is_default Default = true
+is_default f = false
 
 abbrev pub with_own : List InitialValue → Content → Content
 with_own fs c = record c { slots = own_filled fs c.slots }

@@ -4,7 +4,7 @@
 //! first, and is taken back where it fails.
 
 ghost use Rattle.std.specs.Prelude.{◌≡◌, ◌==◌, ◌≤◌, ◌<◌, ◌++◌, ℕ, List, true, false, Some, None, IfOk, IfSome, IfNone, OnOk, OnErr, codes, option_map, option_and_then, slice_get};
-ghost use Rattle.std.specs.List.{AllByRecursion, AllZip};
+ghost use Rattle.std.specs.List.{AllByRecursion, AllZip, list_all};
 ghost use Rattle.std.specs.Option.{option_map_or};
 ghost use Rattle.qo_claims.specs.declared.claims.Claimed.{Claimed};
 ghost use Rattle.qo_claims.specs.declared.claims.Claimed.TheVariants as on;
@@ -31,7 +31,7 @@ ghost use Rattle.qo_properties.specs.Claims.{KeepsBook};
 ghost use Rattle.qo_properties.specs.Filling.{Fits, IsGiven, filled_at, fits_at, target_in};
 ghost use Rattle.qo_properties.specs.OpeningSteps.{KeepsNames};
 ghost use Rattle.qo_plug.specs.OwnSlots.{is_own, own_slots_of};
-ghost use Rattle.qo_plug.specs.Placement.{Alike, IsAttachment, IsDimm, Stays, Stood, joined_on, kept_in, range_in, ranged, resources_in, with_own, Connected};
+ghost use Rattle.qo_plug.specs.Placement.{Alike, IsAttachment, IsDimm, Stays, Stood, is_default, joined_on, kept_in, range_in, ranged, resources_in, with_own, Connected};
 ghost use Rattle.qo_properties.specs.KeptClaims.{SameClaims, SameKept};
 ghost use Rattle.qo_plug.specs.KeptPeriods.{ClockFed};
 ghost use Rattle.qo_heap.specs.Acts.{KeepsCounts, KeepsPeriods};
@@ -102,14 +102,31 @@ fn fill_at<L: Ledger>(heap: &mut Heap, o: Oid, at: usize, fill: InitialValue, st
     }
 }
 
-/// Fills the own slots of an object in order as they are planned; its children and aliases stay. It
-/// takes no memory.
+/// Whether a slot stays as it begins.
+fn is_default(fill: &InitialValue) -> bool
+    ensures { result ≡ is_default fill.now }
+{
+    matches!(fill, InitialValue::Default)
+}
+
+/// Whether each slot stays as it begins.
+fn is_blank(plan: &[InitialValue]) -> bool
+    ensures { result ≡ list_all is_default plan.now }
+{
+    plan.iter().all(is_default)
+}
+
+/// Fills the own slots of an object in order as they are planned; its children and aliases stay. Where
+/// nothing is planned no slot is looked at. It takes no memory.
 fn settle_own<L: Ledger>(heap: &mut Heap, o: Oid, mut plan: Vec<InitialValue>, steps: &mut Steps<L>)
     requires live { IsLive heap.old.rows o }
     requires targets { AllByRecursion (λ f. IfSome (target_in f) (IsLive heap.old.rows)) plan.items }
     requires fits { AllZip Fits plan.items (own_slots_of heap.old o.birth) }
     ensures { heap.new ≡ with_edit o.birth (with_own plan.items) heap.old }
 {
+    if is_blank(&plan) {
+        return;
+    }
     heap.reveal_invariant();
     let mut at = heap.slot_count(o, steps);
     while at > 0 {

@@ -80,7 +80,7 @@ fn later(now: u64, ns: u64) -> Option<u64>
 }
 
 impl Board {
-    ghost use Rattle.std.specs.Prelude.{◌≡◌, ◌<◌, ◌^◌, [], true, Some, IfNone, IfOk, IfSome, OnErr, OnOk, length, option_map, slice_get};
+    ghost use Rattle.std.specs.Prelude.{◌≡◌, ◌==◌, ◌<◌, ◌^◌, [], true, Some, IfNone, IfOk, IfSome, OnErr, OnOk, length, not, option_map, slice_get};
     ghost use Rattle.qo_model.specs.Access.{read, write_at};
     ghost use Rattle.qo_model.specs.Listing.{listing};
     ghost use Rattle.qo_model.specs.Properties.{object_at};
@@ -253,6 +253,7 @@ impl Board {
     }
 
     /// How many notes there were; it stays at 2^64 - 1 once there.
+    #[inline(always)]
     pub fn notes_total(&self) -> u64
         ensures logged { result ≡ self.now.objects.log.total }
         ensures told { (b : model.Board) → Stands b self.now → result ≡ total_of b.notes }
@@ -423,6 +424,13 @@ impl Board {
         ensures { result ≡ is_listed dev.birth self.now.pending }
     {
         self.hotplug.is_pending(dev)
+    }
+
+    /// Whether a removal is pending. It takes no memory.
+    pub fn any_pending(&self) -> bool
+        ensures { (b : model.Board) → Stands b self.now → (length b.pending == 0) ≡ not result }
+    {
+        !self.hotplug.pending().is_empty()
     }
 
     /// The guest refuses the removal of a device, which is pending (include/hw/hotplug.h): it is

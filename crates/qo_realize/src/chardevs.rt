@@ -1,7 +1,7 @@
 //! Rings by command (QEMU's QAPI, `chardev-add`, `chardev-remove`, `ringbuf-read` and `ringbuf-write`;
 //! the refusals and their order are the profile's).
 
-ghost use Rattle.std.specs.Prelude.{◌≡◌, OnErr};
+ghost use Rattle.std.specs.Prelude.{◌≡◌, IfOk, OnErr, map};
 ghost use Rattle.qo_buses.specs.Recount.{IsRecounted};
 ghost use Rattle.qo_model.specs.Board.{Board as Tree};
 ghost use Rattle.qo_realize.specs.Answers.{Changes, IsAnswered};
@@ -13,7 +13,7 @@ use qo_chardev::{RING_SIZE_DEFAULT, RingAddError, RingError, RingTakeError, Ring
 use qo_heap::Heap;
 use qo_properties::Refusal;
 use qo_values::{Code, Form, Id, IdError, Text};
-use std::alloc::Global;
+use std::alloc::{AllocError, Global};
 
 /// Adds a ring of a type's name and a size under an id. Refused, in this order, with `E20` where the type
 /// is no ring, `E23` where the id is malformed, `E24` where a ring has it, and `E51` where the size is that
@@ -85,6 +85,13 @@ fn write(rings: &mut Rings, id: &str, text: &str, form: Form) -> Result<(), Code
 }
 
 impl Board {
+    /// The rings, each its id and its size, in the order of adding. The error is want of memory.
+    pub fn ring_rows(&self, alloc: Global) -> Result<Vec<(Text, u64)>, AllocError>
+        ensures { (b : Tree) → Stands b self.now → IfOk result (λ rows. map (λ r. (r.id, r.size)) b.rings ≡ rows.items) }
+    {
+        self.rings.rows(alloc)
+    }
+
     /// Adds a ring of a size, or of `RING_SIZE_DEFAULT` bytes, under an id (QEMU's QAPI, `chardev-add`).
     /// Refused, in this order, with `E20` where the type's name is not `ringbuf`, `E23` where the id is
     /// malformed, `E24` where a ring has it, and `E51` where the size is no power of two from 1 to

@@ -2,7 +2,7 @@
 use Rattle.std.specs.Prelude.{ℕ, Bool, true, false, List, [], ◌∷◌, codes, Option, find}
 use Rattle.std.specs.Str.{bytes_eq}
 use Rattle.qo_requests.specs.declared.commands.Command.{Command}
-use Rattle.qo_requests.specs.declared.commands.Command.TheVariants.{ChardevAdd, ChardevRemove, Cont, DeviceListProperties, DeviceAdd, DeviceDel, HumanMonitorCommand, ObjectAdd, ObjectDel, QmpCapabilities, QomGet, QomList, QomListTypes, QomSet, QueryCommands, QueryStatus, QueryVersion, Quit, RingbufRead, RingbufWrite, Stop, SystemReset, XGuest, XMemmap, XQueryDetached, XQueryNotes, XResetHold, XResetRelease, XSever, XStep, XWakeup}
+use Rattle.qo_requests.specs.declared.commands.Command.TheVariants.{ChardevAdd, ChardevRemove, Cont, DeviceListProperties, DeviceAdd, DeviceDel, HumanMonitorCommand, ObjectAdd, ObjectDel, QmpCapabilities, QomGet, QomList, QomListTypes, QomSet, QueryCommands, QueryStatus, QueryVersion, Quit, RingbufRead, RingbufWrite, Stop, SystemReset, XDescribe, XGuest, XMemmap, XQueryDetached, XQueryNotes, XResetHold, XResetRelease, XSever, XStep, XWakeup}
 use Rattle.qo_requests.specs.declared.arguments.Argument.{Argument}
 use Rattle.qo_requests.specs.declared.arguments.Argument.TheVariants.{Needed, Optional}
 use Rattle.qo_requests.specs.declared.arguments.ArgumentType.TheVariants.{Object, Text, Texts, Truth, Number, RingBytes, Form, ResetType, Plain}
@@ -45,6 +45,7 @@ command_name RingbufRead = codes "ringbuf-read"
 command_name RingbufWrite = codes "ringbuf-write"
 command_name Stop = codes "stop"
 command_name SystemReset = codes "system_reset"
+command_name XDescribe = codes "x-describe"
 command_name XGuest = codes "x-guest"
 command_name XMemmap = codes "x-memmap"
 command_name XQueryDetached = codes "x-query-detached"
@@ -59,8 +60,8 @@ command_name XWakeup = codes "x-wakeup"
 abbrev pub commands : List Command
 commands = ChardevAdd ∷ ChardevRemove ∷ Cont ∷ DeviceListProperties ∷ DeviceAdd ∷ DeviceDel ∷ HumanMonitorCommand ∷ ObjectAdd ∷ ObjectDel ∷ QmpCapabilities
     ∷ QomGet ∷ QomList
-    ∷ QomListTypes ∷ QomSet ∷ QueryCommands ∷ QueryStatus ∷ QueryVersion ∷ Quit ∷ RingbufRead ∷ RingbufWrite ∷ Stop ∷ SystemReset ∷ XGuest ∷ XMemmap
-    ∷ XQueryDetached ∷ XQueryNotes ∷ XResetHold ∷ XResetRelease ∷ XSever ∷ XStep ∷ XWakeup ∷ []
+    ∷ QomListTypes ∷ QomSet ∷ QueryCommands ∷ QueryStatus ∷ QueryVersion ∷ Quit ∷ RingbufRead ∷ RingbufWrite ∷ Stop ∷ SystemReset ∷ XDescribe ∷ XGuest
+    ∷ XMemmap ∷ XQueryDetached ∷ XQueryNotes ∷ XResetHold ∷ XResetRelease ∷ XSever ∷ XStep ∷ XWakeup ∷ []
 
 -- the command of a name
 abbrev pub command_of : List ℕ → Option Command
@@ -137,6 +138,7 @@ request_of RingbufRead args = alters (alteration.RingbufRead (text_in field.Devi
 request_of RingbufWrite args = alters (alteration.RingbufWrite (text_in field.Device args) (text_in field.Payload args) (form_at field.Format args))
 request_of Stop args = alters alteration.Stop
 request_of SystemReset args = alters alteration.SystemReset
+request_of XDescribe args = queries query.XDescribe
 request_of XGuest args = alters (alteration.XGuest (text_in field.Line args))
 request_of XMemmap args = queries query.XMemmap
 request_of XQueryDetached args = queries query.XQueryDetached

@@ -146,6 +146,7 @@ pub(crate) fn request_of(
         }),
         Command::Stop => Request::alters(Alteration::Stop),
         Command::SystemReset => Request::alters(Alteration::SystemReset),
+        Command::XDescribe => Request::queries(Query::XDescribe),
         Command::XGuest => Request::alters(Alteration::XGuest {
             line: text_in(alloc, args, Field::Line)?,
         }),

@@ -58,6 +58,8 @@ pub enum Query {
     },
     /// `x-query-detached`.
     XQueryDetached,
+    /// `x-describe`.
+    XDescribe,
     /// `x-memmap`.
     XMemmap,
 }

@@ -9,7 +9,7 @@ use crate::arguments::Argument::{self, Needed, Optional};
 use crate::arguments::ArgumentType::{
     Form, Number, Object, Plain, ResetType, RingBytes, Text, Texts, Truth,
 };
-use crate::fields::Field;
+use crate::fields::{Field, is_same};
 
 /// A command, in byte order of the names.
 #[derive(Clone, Copy, Debug, PartialEq, Eq)]
@@ -58,6 +58,8 @@ pub enum Command {
     Stop,
     /// `system_reset`.
     SystemReset,
+    /// `x-describe`.
+    XDescribe,
     /// `x-guest`.
     XGuest,
     /// `x-memmap`.
@@ -106,6 +108,7 @@ impl Command {
             Command::RingbufWrite => "ringbuf-write",
             Command::Stop => "stop",
             Command::SystemReset => "system_reset",
+            Command::XDescribe => "x-describe",
             Command::XGuest => "x-guest",
             Command::XMemmap => "x-memmap",
             Command::XQueryDetached => "x-query-detached",
@@ -145,6 +148,7 @@ impl Command {
             Command::RingbufWrite,
             Command::Stop,
             Command::SystemReset,
+            Command::XDescribe,
             Command::XGuest,
             Command::XMemmap,
             Command::XQueryDetached,
@@ -164,7 +168,7 @@ impl Command {
         commands
             .iter()
             .copied()
-            .find(|command| command.name() == name)
+            .find(|command| is_same(command.name(), name))
     }
 
     /// The command of a name. The commands stand in byte order, so those before the first letters of a name

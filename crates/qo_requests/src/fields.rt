@@ -61,6 +61,14 @@ pub enum Field {
     Value,
 }
 
+/// Whether two texts are the same. Most differ in length, which is told without a look at their bytes.
+#[inline(always)]
+pub(crate) fn is_same(one: &str, other: &str) -> bool
+    ensures { result ≡ bytes_eq one.now other.now }
+{
+    one.len() == other.len() && one == other
+}
+
 impl Field {
     /// The member's name, as messages spell it.
     pub fn name(self) -> &'static str
@@ -99,7 +107,7 @@ impl Field {
     pub(crate) fn is_named(self, name: &str) -> bool
         ensures { result ≡ bytes_eq (field_name self) name.now }
     {
-        self.name() == name
+        is_same(self.name(), name)
     }
 }
 

@@ -28,7 +28,31 @@ fn tell_each(notes: &[Note], listeners: &mut Listeners) -> Result<(), AllocError
 }
 
 /// Each listener is told the notes of a board from a number on, in order, note by note. The error is want of
+/// memory: each has then heard a front of them.
+fn tell_from(
+    alloc: Global,
+    board: &Board,
+    from: u64,
+    listeners: &mut Listeners,
+) -> Result<(), AllocError>
+    requires { AllOpen (ears ⟦<Box<dyn Listener> as Listener>⟧ listeners.old.all.items) }
+    ensures told { (b : Tree) (more : List NoteView) → Stands b board.now → IsNew b from more → OnOk result (AllHeard more (ears ⟦<Box<dyn Listener> as Listener>⟧ listeners.old.all.items) (ears ⟦<Box<dyn Listener> as Listener>⟧ listeners.new.all.items)) }
+    ensures left { (b : Tree) (more : List NoteView) → Stands b board.now → IsNew b from more → OnErr result (HeardFronts more (ears ⟦<Box<dyn Listener> as Listener>⟧ listeners.old.all.items) (ears ⟦<Box<dyn Listener> as Listener>⟧ listeners.new.all.items)) }
+    ensures listening { AllOpen (ears ⟦<Box<dyn Listener> as Listener>⟧ listeners.new.all.items) }
+{
+    let total = board.notes_total();
+    let mut at = from;
+    while at < total {
+        let notes = board.notes(at, alloc)?;
+        tell_each(&notes, listeners)?;
+        at = at.saturating_add(NOTES_PER_REPLY);
+    }
+    Ok(())
+}
+
+/// Each listener is told the notes of a board from a number on, in order, note by note. The error is want of
 /// memory: each has then heard a front of them. Where there is no listener no note is read.
+#[inline(always)]
 pub fn tell_new(
     alloc: Global,
     board: &Board,
@@ -43,12 +67,5 @@ pub fn tell_new(
     if listeners.all.is_empty() {
         return Ok(());
     }
-    let total = board.notes_total();
-    let mut at = from;
-    while at < total {
-        let notes = board.notes(at, alloc)?;
-        tell_each(&notes, listeners)?;
-        at = at.saturating_add(NOTES_PER_REPLY);
-    }
-    Ok(())
+    tell_from(alloc, board, from, listeners)
 }

@@ -4,6 +4,7 @@ ghost use Rattle.std.specs.Prelude.{◌≡◌, find};
 ghost use Rattle.std.specs.Str.{bytes_eq};
 ghost use Rattle.qo_model.specs.RowNames.{property_name};
 
+use crate::types::is_same;
 use qo_model::{Access, First, Property, PropertyName, PropertyRole};
 use qo_values::{BACKEND_SIZE_AT_FIRST, BACKEND_SIZE_MAX, DIMM_ALIGN, PropType, TypeId};
 
@@ -264,5 +265,7 @@ pub(crate) static TAG: [Property; 6] = [TYPE, TEXT, NUMBER, FLAG, NEXT, SEEN];
 pub(crate) fn first_named(rows: &[Property], name: &str) -> Option<Property>
     ensures { result ≡ find (λ row. bytes_eq (property_name row.name) name.now) rows.now }
 {
-    rows.iter().copied().find(|row| row.name.as_str() == name)
+    rows.iter()
+        .copied()
+        .find(|row| is_same(row.name.as_str(), name))
 }

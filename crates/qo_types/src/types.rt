@@ -250,9 +250,17 @@ pub(crate) fn answers_to(t: TypeId, name: &str) -> bool
     t.name() == name || is_among(info(t).interfaces, name)
 }
 
+/// Whether two texts are the same. Most differ in length, which is told without a look at their bytes.
+#[inline(always)]
+pub(crate) fn is_same(one: &str, other: &str) -> bool
+    ensures { result ≡ bytes_eq one.now other.now }
+{
+    one.len() == other.len() && one == other
+}
+
 /// The first of some types that has a name.
 pub(crate) fn first_named(types: &[TypeId], name: &str) -> Option<TypeId>
     ensures { result ≡ find (λ t. bytes_eq (type_name t) name.now) types.now }
 {
-    types.iter().copied().find(|t| t.name() == name)
+    types.iter().copied().find(|t| is_same(t.name(), name))
 }

@@ -1,8 +1,12 @@
 -- A front of a text, in std's words and in those of the orders.
-use Rattle.std.proofs.Common.{◌≡◌, ℕ, List, ◌++◌, drop, length, refl, sym, ◌∙◌, ap, Option, None, Some, Bor, option_map}
+use Rattle.std.proofs.Common.{◌≡◌, ◌≢◌, Bool, true, false, ℕ, List, ◌∷◌, ◌++◌, codes, drop, length, refl, sym, ◌∙◌, ap, Option, None, Some, Bor, option_map}
+use Rattle.std.proofs.lemmas.Slice.Eq.{bytes_eq-Decides}
+use Rattle.std.specs.Bool.{Decides}
+use Rattle.std.specs.Str.{bytes_eq}
 use Rattle.std.specs.Option.{MatchOption}
 use Rattle.std.specs.Str.Pattern.{FindsTextPrefix, LacksTextAt, StripsPrefix}
 use Rattle.qo_record.specs.Reading.{after_front}
+use Rattle.qo_words.specs.Words.{order}
 use Rattle.qo_record.proofs.ReadingLemmas.{after_again, after_is}
 
 -- there is nothing after a front that is not there
@@ -21,3 +25,24 @@ Strips front text r = MatchOption r (FindsTextPrefix front text None) (λ x. Str
 pub after_strips : (front text : List ℕ) (r : Option (Bor (List ℕ))) → Strips front text r → option_map (λ x. x.now) r ≡ after_front front text
 after_strips front text None h = sym (lacking front text (after_front front text) refl h)
 after_strips front text (Some x) h = sym (found front text x.now h.0 h.1.0 h.1.1 h.2)
+
+-- a text that is another is told apart from it
+apart : (w text : List ℕ) → w ≢ text → bytes_eq w text ≡ false
+apart w text other = by (bytes_eq w text) (bytes_eq-Decides w text)
+  where
+    by : (t : Bool) → Decides t (w ≡ text) → t ≡ false
+    by true d = absurd (other (d.0 refl))
+    by false d = refl
+
+-- a word that begins no order
+pub begins-none : (w : List ℕ) (words : List (List ℕ)) → w ≢ codes "replay" → w ≢ codes "rebuild" → w ≢ codes "types" → w ≢ codes "watch"
+    → w ≢ codes "serve" → w ≢ codes "demo" → order (w ∷ words) ≡ None
+begins-none w words replay rebuild types watch serve demo =
+    rw (
+      apart w (codes "replay") replay,
+      apart w (codes "rebuild") rebuild,
+      apart w (codes "types") types,
+      apart w (codes "watch") watch,
+      apart w (codes "serve") serve,
+      apart w (codes "demo") demo,
+    ) refl

@@ -6,6 +6,7 @@ use Rattle.qo_record.specs.Reading.{◌>>=◌, after_front, with_digit, or_else}
 -- what the program is asked to do; a socket has a path and a number of connections, a demo a seed and a number of steps
 pub data Order : Type 0 where
   replay : Order
+  rebuild : Order
   serve : List ℕ → ℕ → Order
   demo : ℕ → ℕ → Order
   types : Order
@@ -70,6 +71,7 @@ abbrev pub order : List (List ℕ) → Option Order
 order [] = None
 order (word ∷ words) =
     if bytes_eq word (codes "replay") then alone (Some replay) words
+    else if bytes_eq word (codes "rebuild") then alone (Some rebuild) words
     else if bytes_eq word (codes "types") then alone (Some types) words
     else if bytes_eq word (codes "watch") then alone (Some watch) words
     else if bytes_eq word (codes "serve") then (options (codes "--socket") (codes "--connections") words >>= λ x. serve_of x.0 x.1)

@@ -20,6 +20,8 @@ const STEPS_MAX: u64 = 1_000_000;
 pub enum Order {
     /// Replays a recorded stream.
     Replay,
+    /// Rebuilds a board of its description.
+    Rebuild,
     /// Serves so many connections on the socket of this path.
     Serve {
         /// The path of the socket.
@@ -45,6 +47,8 @@ pub enum Order {
 pub(crate) enum Form<'a> {
     /// `replay`.
     Replay,
+    /// `rebuild`.
+    Rebuild,
     /// `serve` with `--socket` and `--connections`.
     Serve { path: &'a str, connections: &'a str },
     /// `demo` with `--seed` and `--steps`.
@@ -180,6 +184,7 @@ fn form_in(words: &[String]) -> Option<Form<'_>>
     let (word, rest) = words.split_first()?;
     match word.as_str() {
         "replay" => alone(Form::Replay, rest),
+        "rebuild" => alone(Form::Rebuild, rest),
         "types" => alone(Form::Types, rest),
         "watch" => alone(Form::Watch, rest),
         "serve" => {
@@ -232,16 +237,17 @@ fn demo_order(alloc: Global, seed: &str, steps: &str) -> Result<Option<Order>, A
 
 /// The order that the words are.
 ///
-/// They are `replay`, `types`, `watch`, `serve` with `--socket` and `--connections`, or `demo` with `--seed` and `--steps`. The
-/// two options stand in either order, each once; a value is the next word or follows `=`, is not empty and begins with
-/// no `-`. A number is in digits without a leading zero. The error is want of memory, which comes only where the words
-/// are an order that has values.
+/// They are `replay`, `rebuild`, `types`, `watch`, `serve` with `--socket` and `--connections`, or `demo` with `--seed` and
+/// `--steps`. The two options stand in either order, each once; a value is the next word or follows `=`, is not empty
+/// and begins with no `-`. A number is in digits without a leading zero. The error is want of memory, which comes only
+/// where the words are an order that has values.
 pub fn order_in(alloc: Global, words: &[String]) -> Result<Option<Order>, AllocError>
     ensures ok { IfOk result (λ o. option_map order_of o ≡ order (map string_bytes words.now)) }
     ensures err { OnErr result (has_values (order (map string_bytes words.now)) ≡ true) }
 {
     match form_in(words) {
         Some(Form::Replay) => Ok(Some(Order::Replay)),
+        Some(Form::Rebuild) => Ok(Some(Order::Rebuild)),
         Some(Form::Types) => Ok(Some(Order::Types)),
         Some(Form::Watch) => Ok(Some(Order::Watch)),
         Some(Form::Serve { path, connections }) => serve_order(alloc, path, connections),

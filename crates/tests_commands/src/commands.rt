@@ -110,6 +110,21 @@ fn tells_map<L: Ledger>(
     )
 }
 
+/// Whether the description of the opening board is told.
+fn tells_description<L: Ledger>(
+    alloc: Global,
+    board: &Board,
+    steps: &mut Steps<L>,
+) -> Result<bool, AllocError> {
+    tells(
+        alloc,
+        board,
+        &Query::XDescribe,
+        "{\"clock\":{\"div\":1,\"mul\":1,\"period\":42949672960},\"clocks\":[],\"devices\":[],\"links\":[],\"objects\":[],\"rings\":[],\"version\":1}",
+        steps,
+    )
+}
+
 /// Whether the opening board is read.
 fn reads<L: Ledger>(alloc: Global, blank: Blank) -> Result<bool, AllocError>
     requires name { blank.name ≡ L.name }
@@ -123,7 +138,8 @@ fn reads<L: Ledger>(alloc: Global, blank: Blank) -> Result<bool, AllocError>
     let is_quiet = tells_no_note(alloc, &board, &mut steps)?;
     let is_attached = tells(alloc, &board, &Query::XQueryDetached, "[]", &mut steps)?;
     let is_mapped = tells_map(alloc, &board, &mut steps)?;
-    Ok(is_listed && is_timed && is_quiet && is_attached && is_mapped)
+    let is_described = tells_description(alloc, &board, &mut steps)?;
+    Ok(is_listed && is_timed && is_quiet && is_attached && is_mapped && is_described)
 }
 
 #[test]

@@ -182,7 +182,7 @@ fn each_failing_put_is_a_write_fault(rt: HostRuntime) -> Result<(), Fail> {
 }
 
 const USAGE: &[u8] =
-    b"usage: compose replay | serve --socket PATH --connections N | demo --seed N --steps K | types | watch\n";
+    b"usage: compose replay | serve --socket PATH --connections N | demo --seed N --steps K | types | rebuild | watch\n";
 
 /// These words are no order.
 fn is_usage(rt: &impl Abort, alloc: Global, words: &[&str]) -> Result<(), Fail> {
@@ -240,6 +240,7 @@ fn statuses_have_their_codes(rt: HostRuntime) {
         (Status::WriteFault, 6),
         (Status::HubFault, 7),
         (Status::InputLimit, 8),
+        (Status::BadBoard, 9),
     ] {
         assert_eq!(rt; status.code(), code);
     }

@@ -10,4 +10,6 @@ mod calls;
 #[cfg(test)]
 mod readme;
 #[cfg(test)]
+mod rebuilds;
+#[cfg(test)]
 mod words;

@@ -167,3 +167,79 @@ fn monitor_is_told(rt: HostRuntime) -> Result<(), Fail> {
     assert!(rt; holds(rt.alloc(), &MONITORED)?);
     Ok(())
 }
+
+/// The opening board, a UART with a ring and a link to itself, and the same while it is to go.
+const DESCRIBED: [(&str, &str); 7] = [
+    (
+        "x-describe",
+        "{\"clock\":{\"div\":1,\"mul\":1,\"period\":42949672960},\"clocks\":[],\"devices\":[],\"links\":[],\"objects\":[],\"rings\":[],\"version\":1}",
+    ),
+    (
+        "chardev-add {\"id\":\"r0\",\"backend\":{\"type\":\"ringbuf\",\"data\":{\"size\":16}}}",
+        "R",
+    ),
+    (
+        "device_add {\"driver\":\"slot-uart\",\"id\":\"u0\",\"chardev\":\"r0\"}",
+        "R",
+    ),
+    (
+        "qom-set {\"path\":\"/machine/peripheral/u0\",\"property\":\"peer\",\"value\":\"/machine/peripheral/u0\"}",
+        "R",
+    ),
+    (
+        "x-describe",
+        "{\"clock\":{\"div\":1,\"mul\":1,\"period\":42949672960},\"clocks\":[],\"devices\":[{\"bus\":\"/machine/root.0\",\"driver\":\"slot-uart\",\"id\":\"u0\",\"props\":{\"chardev\":\"r0\"},\"slot\":0}],\"links\":[{\"path\":\"/machine/peripheral/u0\",\"property\":\"peer\",\"value\":\"/machine/peripheral/u0\"}],\"objects\":[],\"rings\":[{\"id\":\"r0\",\"size\":16}],\"version\":1}",
+    ),
+    ("device_del {\"id\":\"u0\"}", "R"),
+    ("x-describe", "{}"),
+];
+
+#[test]
+fn boards_are_described(rt: HostRuntime) -> Result<(), Fail> {
+    assert!(rt; holds(rt.alloc(), &DESCRIBED)?);
+    Ok(())
+}
+
+/// A bridge whose clock divides, a DIMM with its memory, a tag that names both, and what has no description: a
+/// device without an id, and an object that a link alone holds.
+const DESCRIBED_PARTS: [(&str, &str); 12] = [
+    (
+        "device_add {\"driver\":\"slot-bridge\",\"id\":\"br\",\"slot\":5}",
+        "R",
+    ),
+    (
+        "object-add {\"qom-type\":\"memory-backend-ram\",\"id\":\"m\",\"size\":8192}",
+        "R",
+    ),
+    (
+        "device_add {\"driver\":\"mem-dimm\",\"id\":\"d\",\"memdev\":\"/objects/m\"}",
+        "R",
+    ),
+    (
+        "object-add {\"qom-type\":\"tag\",\"id\":\"t\",\"text\":\"\u{e9}\",\"number\":-3,\"next\":\"/objects/m\"}",
+        "R",
+    ),
+    (
+        "qom-set {\"path\":\"/machine/peripheral/br/clk\",\"property\":\"div\",\"value\":2}",
+        "R",
+    ),
+    (
+        "x-describe",
+        "{\"clock\":{\"div\":1,\"mul\":1,\"period\":42949672960},\"clocks\":[{\"div\":2,\"mul\":1,\"path\":\"/machine/peripheral/br/clk\"}],\"devices\":[{\"bus\":\"/machine/root.0\",\"driver\":\"slot-bridge\",\"id\":\"br\",\"props\":{},\"slot\":5},{\"bus\":\"/machine/mem.0\",\"driver\":\"mem-dimm\",\"id\":\"d\",\"props\":{\"addr\":4294967296,\"memdev\":\"/objects/m\"},\"slot\":0}],\"links\":[{\"path\":\"/objects/t\",\"property\":\"next\",\"value\":\"/objects/m\"}],\"objects\":[{\"id\":\"m\",\"props\":{\"size\":8192},\"type\":\"memory-backend-ram\"},{\"id\":\"t\",\"props\":{\"flag\":false,\"number\":-3,\"text\":\"\\u00e9\"},\"type\":\"tag\"}],\"rings\":[],\"version\":1}",
+    ),
+    ("object-add {\"qom-type\":\"tag\",\"id\":\"s\"}", "R"),
+    (
+        "qom-set {\"path\":\"/objects/t\",\"property\":\"next\",\"value\":\"/objects/s\"}",
+        "R",
+    ),
+    ("object-del {\"id\":\"s\"}", "R"),
+    ("x-describe", "{}"),
+    ("device_add {\"driver\":\"slot-timer\"}", "R"),
+    ("x-describe", "{}"),
+];
+
+#[test]
+fn parts_of_boards_are_described(rt: HostRuntime) -> Result<(), Fail> {
+    assert!(rt; holds(rt.alloc(), &DESCRIBED_PARTS)?);
+    Ok(())
+}

@@ -145,8 +145,8 @@ read_items-returns-clause-ok t c =
 pub read_members-members-init : goal.read_members-members-init
 read_members-members-init t c =
     let all = members (value c.args.depth) (length c.args.reader.now) c.args.reader.now in
-    let none = ap (λ es. converted (λ ms. of_members ms (members_view es)) all) (sym c.new-found.ensures.items) in
-    (length c.args.reader.now, omega arith, none, omega arith, omega arith)
+    let none = ap (λ es. converted (λ ms. of_members ms (members_view es)) all) (sym c.in_ok-found.ensures.items) in
+    (length c.args.reader.now, omega arith, none, omega arith, omega (arith, c.in_ok-found.ensures.len))
 
 pub read_members-returns-in_err-name-clause-invalid : goal.read_members-returns-in_err-name-clause-invalid
 read_members-returns-in_err-name-clause-invalid t c refused =

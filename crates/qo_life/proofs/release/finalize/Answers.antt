@@ -10,35 +10,34 @@ pub turn_at-requires : goal.turn_at-requires
 turn_at-requires g c =
     (running-at c.args.heap.now c.loop-front.heap c.args.o.birth _ c.loop-front.steps c.loop-front.front c.in-Some.now c.in-Some.is c.loop-front.invariant).here.live
 
-pub empty-requires : goal.empty-requires
-empty-requires g c = record {
-  live = (running-at c.args.heap.now c.loop-front.heap c.args.o.birth _ c.loop-front.steps c.loop-front.front c.in-Some.now c.in-Some.is c.loop-front.invariant).here.live;
-}
+pub empty_named-requires-clause-live : goal.empty_named-requires-clause-live
+empty_named-requires-clause-live g c =
+    (running-at c.args.heap.now c.loop-front.heap c.args.o.birth _ c.loop-front.steps c.loop-front.front c.in-Some.now c.in-Some.is c.loop-front.invariant).here.live
 
 pub go_on-requires-clause-live : goal.go_on-requires-clause-live
 go_on-requires-clause-live g c =
-    front-live c.loop-front.heap c.empty.new.self c.in-Some.now c.empty.ensures.now
+    front-live c.loop-front.heap c.empty_named.new.heap c.in-Some.now c.empty_named.ensures.now
     (running-at c.args.heap.now c.loop-front.heap c.args.o.birth _ c.loop-front.steps c.loop-front.front c.in-Some.now c.in-Some.is c.loop-front.invariant).here.live
 
 pub go_on-requires-clause-held : goal.go_on-requires-clause-held
 go_on-requires-clause-held g c =
-    turn-live c.loop-front.heap c.empty.new.self c.reveal_invariant-in-Some.ensures c.in-Some.now.o.birth c.in-Some.now.at c.in-Some-turn_at.turn.held
-    c.in-Some-turn_at.ensures.held c.empty.ensures.now
+    turn-live c.loop-front.heap c.empty_named.new.heap c.reveal_invariant-in-Some.ensures c.in-Some.now.o.birth c.in-Some.now.at c.in-Some-turn_at.turn.held
+    c.in-Some-turn_at.ensures.held c.empty_named.ensures.now
 
 pub loop-front-smaller-in-Some-turn_at : goal.loop-front-smaller-in-Some-turn_at
 loop-front-smaller-in-Some-turn_at g c =
     smaller-as c.loop-front.heap c.loop-front.front c.in-Some.now _ c.in-Some.is
-    (smaller-on c.loop-front.heap c.empty.new.self c.go_on.new.heap c.in-Some.now c.in-Some-turn_at.turn.held c.in-Some-turn_at.turn.next c.go_on.result
-    c.in-Some-turn_at.ensures.held c.in-Some-turn_at.ensures.next c.empty.ensures.now c.go_on.ensures.goes)
+    (smaller-on c.loop-front.heap c.empty_named.new.heap c.go_on.new.heap c.in-Some.now c.in-Some-turn_at.turn.held c.in-Some-turn_at.turn.next c.go_on.result
+    c.in-Some-turn_at.ensures.held c.in-Some-turn_at.ensures.next c.empty_named.ensures.now c.go_on.ensures.goes)
 
 pub loop-front-preserved-in-Some-turn_at : goal.loop-front-preserved-in-Some-turn_at
 loop-front-preserved-in-Some-turn_at g c =
-    at-on c.args.heap.now c.loop-front.heap c.empty.new.self c.go_on.new.heap c.args.o.birth _ c.loop-front.steps c.go_on.new.steps c.in-Some.now
+    at-on c.args.heap.now c.loop-front.heap c.empty_named.new.heap c.go_on.new.heap c.args.o.birth _ c.loop-front.steps c.go_on.new.steps c.in-Some.now
     c.in-Some-turn_at.turn.held c.in-Some-turn_at.turn.next c.go_on.result
-    (turn-cost c.loop-front.steps c.turn_at.new.steps c.empty.new.steps c.go_on.new.steps c.in-Some-turn_at.ensures.cost c.empty.ensures.cost c.go_on.ensures.cost)
+    (turn-cost c.loop-front.steps c.turn_at.new.steps c.empty_named.new.steps c.go_on.new.steps c.in-Some-turn_at.ensures.cost c.empty_named.ensures.cost c.go_on.ensures.cost)
     c.reveal_invariant-in-Some.ensures
     (running-at c.args.heap.now c.loop-front.heap c.args.o.birth _ c.loop-front.steps c.loop-front.front c.in-Some.now c.in-Some.is c.loop-front.invariant)
-    c.in-Some-turn_at.ensures.held c.in-Some-turn_at.ensures.next c.empty.ensures.now c.reveal_invariant-in-Some-turn_at.ensures c.go_on.ensures.goes
+    c.in-Some-turn_at.ensures.held c.in-Some-turn_at.ensures.next c.empty_named.ensures.now c.reveal_invariant-in-Some-turn_at.ensures c.go_on.ensures.goes
 
 pub finish-requires-clause-live : goal.finish-requires-clause-live
 finish-requires-clause-live g c =

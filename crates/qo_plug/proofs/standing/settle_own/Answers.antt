@@ -1,7 +1,15 @@
 -- The slots are looked at from the last on.
-use Rattle.std.proofs.Common.{◌≡◌, ◌-◌, ◌∙◌, suc, sym, arith}
-use Rattle.qo_plug.proofs.PlacementFills.{none-left, settled-end, settled-fill, settled-fits, settled-live, settled-none, settled-skip, settled-some, settled-target}
+use Rattle.std.proofs.Common.{◌≡◌, ◌-◌, ◌∙◌, suc, sym, subst, true, List, arith}
+use Rattle.std.specs.List.{list_all}
+use Rattle.qo_properties.specs.declared.adding.filling.InitialValue.{InitialValue}
+use Rattle.qo_plug.specs.Placement.{is_default}
+use Rattle.qo_plug.proofs.PlacementFills.{none-left, settled-blank, settled-end, settled-fill, settled-fits, settled-live, settled-none, settled-skip, settled-some, settled-target}
 use Rattle.qo_plug.proofs.standing.settle_own.Goals as goal
+
+pub returns-then-is_blank : goal.returns-then-is_blank
+returns-then-is_blank g c =
+    settled-blank c.args.plan.items c.args.o c.args.heap.now
+    (subst (λ (fs : List InitialValue). list_all is_default fs ≡ true) c.deref.ensures.value (sym c.is_blank.ensures ∙ c.if-is_blank.true))
 
 pub loop-at-init : goal.loop-at-init
 loop-at-init g c = settled-none c.args.plan.items c.args.o c.slot_count-at.result c.args.heap.now c.slot_count-at.ensures.count c.requires.fits

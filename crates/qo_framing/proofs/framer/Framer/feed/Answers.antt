@@ -35,9 +35,9 @@ returns-in_ok-push_some-in-Ended-clause-items c =
     let size : length c.self.inside.partial.items ≡ c.len.result = search rules in
     let found = c.in-Ended.ensures.found (reverse c.self.inside.partial.items) old.scanned (length-reverse c.self.inside.partial.items ∙ size) in
     let is = sym c.self.view_is ∙ ap (λ (m : Mode). framing m c.self.inside.partial.items) c.in-Inside.is in
-    let items_are = c.in_ok-push_some-in-Ended.ensures ∙ ap (λ l. l ++ c.in_ok-item-in-Ended.item ∷ []) c.clear.ensures.items in
-    IfOk-weaker c.go_on-in-Ended.result
+    let items_are = c.in_ok-push_some-in-Ended.ensures ∙ ap (λ l. l ++ c.in_ok-item-in-Ended.item ∷ []) c.byte_room-room.ensures in
+    IfOk-weaker c.go_on.result
     _ _ (λ all h. fed c.args.self.now c.self.inside.partial.items c.args.bytes.now c.deref.result.now c.in-Inside.scanner c.in-Ended.ending c.in-Ended.count
     c.in_ok-item-in-Ended.item c.push_some.new.items.items (state_of c.rest_of-gap.result.0) c.rest_of-gap.result.1.now _ is old c.in-Ended.ensures.count.0
     found c.deref.ensures.value c.in_ok-item-in-Ended.ensures items_are c.rest_of-gap.ensures.state c.rest_of-gap.ensures.left h)
-    c.go_on-in-Ended.ensures.items
+    c.go_on.ensures.items

@@ -1,0 +1,10 @@
+pub mod RowsLemmas
+pub mod LinkSaidLemmas
+pub mod SightLemmas
+pub mod KidsLemmas
+pub mod PreorderLemmas
+pub mod OwnerLemmas
+pub mod ClockSightLemmas
+pub mod DeviceSightLemmas
+pub mod ObjectSightLemmas
+pub mod AlikeLemmas

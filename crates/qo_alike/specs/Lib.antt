@@ -1,0 +1,2 @@
+pub mod AlikeBoards
+pub mod Seen

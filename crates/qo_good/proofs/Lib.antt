@@ -1,0 +1,12 @@
+pub mod ItemLemmas
+pub mod PlaceLemmas
+pub mod PartLemmas
+pub mod ValueLemmas
+pub mod ObjectLemmas
+pub mod BusLemmas
+pub mod LayoutLemmas
+pub mod ClaimLemmas
+pub mod DeviceLemmas
+pub mod LinkLemmas
+pub mod RoomLemmas
+pub mod GoodLemmas

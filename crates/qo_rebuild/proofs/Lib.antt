@@ -1,0 +1,4 @@
+pub mod AnswerLemmas
+pub mod CallLemmas
+pub mod SlotLemmas
+pub mod StepLemmas

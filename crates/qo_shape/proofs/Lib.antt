@@ -1,0 +1,4 @@
+pub mod DescriptionLemmas
+pub mod ItemLemmas
+pub mod PropLemmas
+pub mod ReadLemmas
