@@ -4,3 +4,5 @@ pub mod NumberLemmas
 pub mod RingLemmas
 pub mod ClockLemmas
 pub mod GrowthLemmas
+pub mod TypeSlotLemmas
+pub mod TypesLemmas

@@ -1,3 +1,4 @@
 pub mod Made
 pub mod NumbersTaken
 pub mod WholeKept
+pub mod TypesTold

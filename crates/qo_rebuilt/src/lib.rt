@@ -4,6 +4,7 @@
 
 ghost use Rattle.qo_rebuilt.specs.Made.{ClockMadeLaw, RingsMadeLaw};
 ghost use Rattle.qo_rebuilt.specs.NumbersTaken.{NumbersTakenLaw};
+ghost use Rattle.qo_rebuilt.specs.TypesTold.{TypesToldLaw};
 ghost use Rattle.qo_rebuilt.specs.WholeKept.{WholeKeptLaw};
 
 /// Each change that rebuilds a board keeps it in order, and sound in all that its description is of.
@@ -31,4 +32,13 @@ pub fn law_numbers()
 #[tactic(auto, using(crate::proofs::ClockLemmas::clock_made_lem))]
 pub fn law_clock()
     ensures { ClockMadeLaw }
+{}
+
+/// Each object of the opening board tells the name of its type, and where the objects of a board are shaped
+/// as their types say and do, they do after each change: each command on objects, a device that is added,
+/// taken or refused at any stage, a device that is detached, acts and holds, the reset of the whole board, a
+/// write of a clock's numbers that is not refused, other registers of an object, and what changes no object.
+#[tactic(auto, using(crate::proofs::TypesLemmas::types_told_lem))]
+pub fn law_types()
+    ensures { TypesToldLaw }
 {}
