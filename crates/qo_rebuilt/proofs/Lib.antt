@@ -6,3 +6,5 @@ pub mod ClockLemmas
 pub mod GrowthLemmas
 pub mod TypeSlotLemmas
 pub mod TypesLemmas
+pub mod StepTypesLemmas
+pub mod TypesLawLemmas

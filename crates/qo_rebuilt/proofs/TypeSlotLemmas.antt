@@ -1,9 +1,9 @@
 -- Objects whose slots under `type` have no text but the name of their type: what the changes of one object keep, and what objects begin with.
-use Rattle.std.proofs.Common.{◌≡◌, refl, ap, sym, subst, ◌∙◌, rules, ℕ, zero, suc, Bool, true, false, List, [], ◌∷◌, ◌++◌, find, map, slice_get, codes, Option, Some, None}
+use Rattle.std.proofs.Common.{◌≡◌, refl, ap, sym, subst, ◌∙◌, rules, ℕ, zero, suc, true, List, [], ◌∷◌, find, map, slice_get, codes, Option, Some, None}
 use Rattle.std.specs.Prelude.{remove}
 use Rattle.std.proofs.lemmas.List.Elements.{All-contains, All-from_recursion}
 use Rattle.std.proofs.lemmas.Slice.Eq.{bytes_eq-Decides}
-use Rattle.qo_model.proofs.Common.{AllByRecursion, Contains, bytes_eq, type_name, Code, E18, PropType, TypeId, Val, Board, Record, Slot, plain, child, strong, weak, alias, changed_at, fitted, pointed, with_val, Given, fresh_slots, first_value, given_to, refusal_by, refusal_of, slot_given, forgotten_in, without_hold, property_name, property_named, slots_of, types, unseen}
+use Rattle.qo_model.proofs.Common.{AllByRecursion, Contains, bytes_eq, type_name, E18, PropType, TypeId, Val, Board, Record, Slot, plain, child, strong, weak, alias, changed_at, fitted, pointed, with_val, Given, fresh_slots, first_value, given_to, refusal_by, refusal_of, slot_given, forgotten_in, without_hold, property_name, property_named, slots_of, types, unseen}
 use Rattle.qo_values.proofs.EachLemmas.{each}
 use Rattle.qo_values.specs.declared.properties.Val.TheVariants as val
 use Rattle.qo_model.specs.declared.properties.First.{First}

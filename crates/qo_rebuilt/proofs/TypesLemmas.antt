@@ -1,17 +1,13 @@
--- The law: what keeps each object of a board telling the name of its type.
-use Rattle.std.proofs.Common.{◌≡◌, ◌⊎◌, inl, inr, refl, ap, sym, subst, ◌∙◌, rules, ℕ, ◌+◌, ◌<◌, ◌≤◌, ◌^◌, Bool, true, false, List, [], ◌∷◌, ◌++◌, find, map, slice_get, codes, Option, Some, None, is_some, option_map, option_and_then, Result, Ok, Err, arith}
+-- What keeps each object of a board telling the name of its type: that its slots under `type` have no text but that name.
+use Rattle.std.proofs.Common.{◌≡◌, inl, inr, refl, ap, sym, subst, ◌∙◌, rules, ℕ, ◌+◌, ◌<◌, ◌≤◌, true, false, List, [], ◌∷◌, find, slice_get, codes, Option, Some, None, is_some, option_map, option_and_then, arith}
 use Rattle.std.proofs.lemmas.Option.{same_Some}
 use Rattle.std.proofs.lemmas.Slice.Eq.{bytes_eq-Decides}
-use Rattle.qo_model.proofs.Common.{⊤, AllByRecursion, drop, option_map_or, bytes_eq, type_name, admits, first_value, fresh_registers, OBJECTS_BIRTH, Code, Object, PropType, TypeId, Val, Range, Board, Record, Slot, plain, child, strong, weak, alias, is_live, kind_of, record_of, slot_named, slots_at, add, fresh, pointed, with_added, with_changed, with_val, after_write, Change, added, changed, deleted, severed, wrote, Given, added_as, given_slots, refusal_of, with_object, opening_board, fresh_record, fresh_slots, plain_at, plain_in, Resources, Wanted, fitted, plug, resources_of, type_barred, barred_late, cut_attempt, plug_attempt, with_attempt, with_body_of, with_given, with_new, with_path, with_plugged, point, set, write, edit, TypeInfo, is_a, may_set, property, property_name, property_named, slots_of, types, acted, asked, clock_scaled, clock_set, refused, reset_whole, pulse, released, detach}
+use Rattle.qo_model.proofs.Common.{⊤, AllByRecursion, drop, option_map_or, bytes_eq, type_name, first_value, fresh_registers, OBJECTS_BIRTH, Code, Object, TypeId, Val, Board, Record, Slot, plain, child, strong, weak, alias, record_of, slots_at, add, fresh, pointed, with_added, with_changed, with_val, after_write, Change, added, changed, deleted, severed, wrote, Given, added_as, given_slots, refusal_of, with_object, opening_board, fresh_record, fresh_slots, plain_at, plain_in, Resources, Wanted, fitted, plug, resources_of, type_barred, barred_late, with_body_of, with_given, with_new, with_path, with_plugged, point, set, write, edit, TypeInfo, is_a, may_set, property, property_name, property_named, slots_of, types, acted}
 use Rattle.qo_values.proofs.EachLemmas.{each}
-use Rattle.qo_values.specs.Registers.{Registers}
 use Rattle.qo_values.specs.declared.kinds.Act.{Act}
-use Rattle.qo_values.specs.declared.kinds.ResetKind.{ResetKind}
 use Rattle.qo_values.specs.declared.properties.PropType.TheVariants as ty
 use Rattle.qo_values.specs.declared.properties.Val.TheVariants as val
-use Rattle.qo_model.specs.Reset.{after_hold}
 use Rattle.qo_model.specs.declared.properties.Access.TheVariants.{Never}
-use Rattle.qo_model.specs.declared.properties.First.{First}
 use Rattle.qo_model.specs.declared.properties.First.TheVariants as first
 use Rattle.qo_model.specs.declared.properties.Property.{Property}
 use Rattle.qo_model.specs.declared.properties.PropertyName.TheVariants as prop
@@ -23,23 +19,20 @@ use Rattle.qo_sound.proofs.PlugLemmas.{device-of, place-of}
 use Rattle.qo_sound.proofs.RecordLemmas.{all-append}
 use Rattle.qo_sound.proofs.SearchLemmas.{all-found}
 use Rattle.qo_sound.proofs.ViewLemmas.{rest-from_sound}
-use Rattle.qo_sound_clocks.specs.RegisterWrites.{registers_set}
 use Rattle.qo_sound_devices.specs.SoundDevices.{SoundDevices}
 use Rattle.qo_sound_devices.proofs.AcceptanceLemmas.{passes}
 use Rattle.qo_sound_devices.proofs.PlacesLemmas.{high-absent}
 use Rattle.qo_sound_devices.proofs.PlugLemmas.{Accepted}
-use Rattle.qo_sound_order.proofs.ObjectLemmas.{KeepsFact, fact-acted, fact-asked, fact-clock_scaled, fact-clock_set, fact-deleted, fact-detach, fact-drop, fact-ends, fact-held, fact-pulse, fact-registers, fact-released, fact-reset, fact-set, fact-severed}
-use Rattle.qo_sound_shapes.specs.SoundShape.{HasRole, HasSlots, IsFurther, IsOfProperty, SoundShape, MayHold, missing, next}
-use Rattle.qo_sound_shapes.proofs.BoardLemmas.{AllOf, all-edit, all-new, all-same}
-use Rattle.qo_sound_shapes.proofs.LawLemmas.{shapes_kept_lem}
+use Rattle.qo_sound_order.proofs.ObjectLemmas.{KeepsFact, fact-acted, fact-deleted, fact-drop, fact-ends, fact-severed}
+use Rattle.qo_sound_shapes.specs.SoundShape.{HasRole, HasSlots, IsFurther, IsOfProperty, SoundShape, missing, next}
+use Rattle.qo_sound_shapes.proofs.BoardLemmas.{AllOf, all-edit, all-new}
 use Rattle.qo_sound_shapes.proofs.RowLemmas.{has-all}
 use Rattle.qo_steps.proofs.AdditionLemmas.{plug-comes}
 use Rattle.qo_steps.proofs.CommandStepsLemmas.{IsWritten, write-by}
 use Rattle.qo_steps.proofs.PlugStepsLemmas.{DraftSteps, PlaceSteps, StartSteps, plug-by}
 use Rattle.qo_steps.proofs.ReachLemmas.{reach-any}
 use Rattle.qo_alike.specs.AlikeBoards.{TellsTypes}
-use Rattle.qo_rebuilt.specs.TypesTold.{TypesToldLaw}
-use Rattle.qo_rebuilt.proofs.TypeSlotLemmas.{AllRight, HoldsRight, IsRight, NoText, Right, SlotRight, changed-right, first-right, fitted-right, fresh-right, given-right, no-text, pointed-right, right-keeps, written-right}
+use Rattle.qo_rebuilt.proofs.TypeSlotLemmas.{AllRight, HoldsRight, IsRight, NoText, Right, SlotRight, changed-right, first-right, fitted-right, fresh-right, given-right, pointed-right, right-keeps, written-right}
 
 -- ---- the first slot of an object
 
@@ -131,10 +124,10 @@ told-in o =
 
 -- ---- objects that tell their types are those that are right
 
-abbrev Sound : Board → Type 0
+abbrev pub Sound : Board → Type 0
 Sound b = (n : ℕ) (r : Record) → record_of b n ≡ Some r → AllRight r.kind r.slots
 
-to-sound : (b : Board) → SoundShape b → TellsTypes b → Sound b
+pub to-sound : (b : Board) → SoundShape b → TellsTypes b → Sound b
 unfolding told-in
 to-sound b shape tells n r e =
     let l : Led r.kind r.slots = shaped-led b shape n r e in
@@ -150,7 +143,7 @@ to-sound b shape tells n r e =
     same-text : (x y : List ℕ) → val.Text x ≡ val.Text y → x ≡ y
     same-text x y q = ap (λ (v : Val). elim v as (λ _. List ℕ) [ val.Text z ↦ z | _ ↦ x ]) q
 
-from-sound : (b : Board) → SoundShape b → Sound b → TellsTypes b
+pub from-sound : (b : Board) → SoundShape b → Sound b → TellsTypes b
 unfolding told-in
 from-sound b shape h n t e = go (record_of b n) refl
   where
@@ -239,7 +232,7 @@ other-right k t b n name p (val.Text text) is =
     is.may)
 
 module _ (Own : ℕ → Type 0) (t : TypeId) where
-  wrote-all : (b : Board) (n : ℕ) (name : List ℕ) (v : Val) → All Own t b → All Own t (after_write b (write b n name v))
+  pub wrote-all : (b : Board) (n : ℕ) (name : List ℕ) (v : Val) → All Own t b → All Own t (after_write b (write b n name v))
   unfolding set
   wrote-all b n name v h =
       write-by (All Own t) b n name v
@@ -265,19 +258,19 @@ module _ (Own : ℕ → Type 0) (t : TypeId) where
 -- ---- commands on objects
 
 -- of no birth anything is said
-abbrev Nobody : ℕ → Type 0
+abbrev pub Nobody : ℕ → Type 0
 Nobody n = ⊥
 
-abbrev Plain : Record → Type 0
+abbrev pub Plain : Record → Type 0
 Plain = Right Nobody Object
 
-abbrev plain-keeps : KeepsFact NoText Plain
+abbrev pub plain-keeps : KeepsFact NoText Plain
 plain-keeps = right-keeps Nobody Object
 
-to-plain : (b : Board) → Sound b → AllOf Plain b
+pub to-plain : (b : Board) → Sound b → AllOf Plain b
 to-plain b h = to-all Nobody Object b (λ n none. absurd none) h
 
-from-plain : (b : Board) → AllOf Plain b → Sound b
+pub from-plain : (b : Board) → AllOf Plain b → Sound b
 from-plain b h = from-all Nobody Object b h
 
 object-right : (b : Board) (t : TypeId) (id : List ℕ) (props : List Given) (o : Option Code) → refusal_of b t props ≡ o → AllOf Plain b
@@ -292,7 +285,7 @@ object-right b t id props None taken h =
     new : Record
     new = record { birth = b.born + 1; kind = t; slots = given_slots b t props; registers = fresh_registers t; device_id = None; kept_path = None }
 
-changed-plain : (b : Board) (change : Change) → AllOf Plain b → AllOf Plain (changed b change)
+pub changed-plain : (b : Board) (change : Change) → AllOf Plain b → AllOf Plain (changed b change)
 changed-plain b (added driver id props) h = addition-comes (AllOf Plain) b driver id props h (λ row e o is. object-right b row.id id props o is h)
 changed-plain b (deleted id) h = fact-deleted NoText Plain plain-keeps b id h
 changed-plain b (wrote n name v) h = wrote-all Nobody Object b n name v h
@@ -405,7 +398,7 @@ module _ (b : Board) (a : Wanted) where
         place = place-of b row.id bus a device tried.chosen tried.early late;
       }
 
-  plugged-right : SoundDevices b → Sound b → Sound (plug b a).board
+  pub plugged-right : SoundDevices b → Sound b → Sound (plug b a).board
   plugged-right d h =
       plug-comes Sound b a
       (record {
@@ -434,52 +427,13 @@ opening-all : AllByRecursion (λ (r : Record). AllRight r.kind r.slots) opening_
 unfolding opening_board types
 opening-all = search rules
 
-opening-sound : Sound opening_board
+pub opening-sound : Sound opening_board
 opening-sound n r e = all-found (λ (x : Record). AllRight x.kind x.slots) n opening_board.records opening-all r e
 
--- ---- the law
+-- ---- what changes no object
 
--- what keeps each object right keeps types told
-by-plain : (b c : Board) → SoundShape b → SoundShape c → (AllOf Plain b → AllOf Plain c) → TellsTypes b → TellsTypes c
-by-plain b c shape after keeps h = from-sound c after (from-plain c (keeps (to-plain b (to-sound b shape h))))
-
-same-told : (b c : Board) → c.records ≡ b.records → TellsTypes b → TellsTypes c
+pub same-told : (b c : Board) → c.records ≡ b.records → TellsTypes b → TellsTypes c
 unfolding told-in
 same-told b c e h n t k =
     let same : record_of c n ≡ record_of b n = ap (found_at n) e in
     ap told-in same ∙ h n t (sym (ap (option_map (λ (r : Record). r.kind)) same) ∙ k)
-
-pub types_told_lem : TypesToldLaw
-types_told_lem =
-    record {
-      opening = from-sound opening_board shapes_kept_lem.opening opening-sound;
-      beside = same-told;
-      attempt = λ b t h. same-told b (with_attempt b t) refl h;
-      given_up = λ b t bus stage h. same-told b (plug_attempt b t bus stage) refl h;
-      cut = λ b t i joined h. same-told b (cut_attempt b t i joined) refl h;
-      refused_by = λ b d h. same-told b (refused b d) refl h;
-      asked_for = λ b id shape.
-          by-plain b (asked b id).board shape (shapes_kept_lem.asked_for b id shape) (fact-asked NoText Plain plain-keeps b id);
-      acts = λ act n period b shape.
-          by-plain b (acted act n period b) shape (shapes_kept_lem.acts act n period b shape) (fact-acted NoText Plain plain-keeps act n period b);
-      held_so = λ b n kind shape.
-          by-plain b (after_hold b n kind) shape (shapes_kept_lem.held_so b n kind shape) (fact-held NoText Plain plain-keeps b n kind);
-      released_so = λ b n shape.
-          by-plain b (released b n) shape (shapes_kept_lem.released_so b n shape) (fact-released NoText Plain plain-keeps b n);
-      pulsed = λ b n kind shape.
-          by-plain b (pulse b n kind) shape (shapes_kept_lem.pulsed b n kind shape) (fact-pulse NoText Plain plain-keeps b n kind);
-      set = λ b d c period low e shape.
-          by-plain b d shape (shapes_kept_lem.set b d c period low e shape) (fact-clock_set NoText Plain plain-keeps b d c period tt e);
-      scaled = λ b d c mul div low few e shape.
-          by-plain b d shape (shapes_kept_lem.scaled b d c mul div low few e shape) (fact-clock_scaled NoText Plain plain-keeps b d c mul div tt tt e);
-      registers = λ b n registers like shape.
-          by-plain b (registers_set b n registers) shape (shapes_kept_lem.registers b n registers like shape)
-          (fact-registers NoText Plain plain-keeps b n registers);
-      change = λ b change d shape.
-          by-plain b (changed b change) shape (shapes_kept_lem.change b change d shape) (changed-plain b change);
-      plugged = λ b a d shape h.
-          from-sound (plug b a).board (shapes_kept_lem.plugged b a d shape) (plugged-right b a d (to-sound b shape h));
-      detached = λ b d devices stands shape.
-          by-plain b (detach b d) shape (shapes_kept_lem.detached b d devices stands shape) (fact-detach NoText Plain plain-keeps b d);
-      reset = λ b d shape. by-plain b (reset_whole b) shape (shapes_kept_lem.reset b d shape) (fact-reset NoText Plain plain-keeps b);
-    }

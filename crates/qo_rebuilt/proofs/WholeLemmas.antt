@@ -44,7 +44,7 @@ ring-whole b r id free good h =
       bounds = bounds_kept_lem.beside b (record b { rings = b.rings ++ r ∷ [] }) refl h.bounds.time h.bounds;
     }
 
-read-devices : (b : Board) → SoundDevices b → SoundDevices (record b { notices = drop 1 b.notices })
+pub read-devices : (b : Board) → SoundDevices b → SoundDevices (record b { notices = drop 1 b.notices })
 read-devices b h = go b.notices refl
   where
     go : (xs : List Notice) → b.notices ≡ xs → SoundDevices (record b { notices = drop 1 b.notices })

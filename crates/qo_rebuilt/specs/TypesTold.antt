@@ -18,6 +18,9 @@ use Rattle.qo_sound_clocks.specs.RegisterWrites.{registers_set}
 use Rattle.qo_sound_devices.specs.SoundDevices.{SoundDevices}
 use Rattle.qo_sound_devices.specs.SoundPlaces.{stands}
 use Rattle.qo_sound_shapes.specs.SoundShape.{SoundShape, is_like}
+use Rattle.qo_save.specs.Description.{Description}
+use Rattle.qo_save.specs.Rebuilding.{rebuilt}
+use Rattle.qo_good.specs.GoodBoards.{IsWhole}
 use Rattle.qo_alike.specs.AlikeBoards.{TellsTypes}
 
 -- where the objects are shaped as their types say, some of it where the board is sound as far as devices go
@@ -48,3 +51,5 @@ pub record TypesToldLaw : Type 0 where
   -- a device that stands in a container and is detached, with all that is below it; and the reset of the whole board
   pub detached : (b : Board) (d : ℕ) → SoundDevices b → stands b d ≡ true → SoundShape b → TellsTypes b → TellsTypes (detach b d)
   pub reset : (b : Board) → SoundDevices b → SoundShape b → TellsTypes b → TellsTypes (reset_whole b)
+  -- a board that is rebuilt of a description, and whole
+  pub rebuilt_so : (d : Description) (c : Board) → rebuilt d ≡ Ok c → IsWhole c → TellsTypes c

@@ -38,7 +38,7 @@ pub fn law_clock()
 /// as their types say and do, they do after each change: each command on objects, a device that is added,
 /// taken or refused at any stage, a device that is detached, acts and holds, the reset of the whole board, a
 /// write of a clock's numbers that is not refused, other registers of an object, and what changes no object.
-#[tactic(auto, using(crate::proofs::TypesLemmas::types_told_lem))]
+#[tactic(auto, using(crate::proofs::TypesLawLemmas::types_told_lem))]
 pub fn law_types()
     ensures { TypesToldLaw }
 {}
