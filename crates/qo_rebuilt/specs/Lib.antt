@@ -1,3 +1,4 @@
 pub mod Made
 pub mod NumbersTaken
+pub mod ObjectsMade
 pub mod WholeKept
