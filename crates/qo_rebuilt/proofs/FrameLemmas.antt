@@ -19,14 +19,14 @@ abbrev pub frame : Record → Frame
 frame r = (r.birth, (r.kind, r.slots))
 
 -- a value under a name, where it is not left out
-abbrev said_of : (Val → Bool) → List ℕ → Val → Option Given
+abbrev pub said_of : (Val → Bool) → List ℕ → Val → Option Given
 said_of left_out name v = if left_out v then None else Some (name, v)
 
-abbrev said_in : Board → (Val → Bool) → List ℕ → Slot → Option Given
+abbrev pub said_in : Board → (Val → Bool) → List ℕ → Slot → Option Given
 said_in b left_out name s = said_of left_out name (given_in b s)
 
 -- a clock by its numbers, as it is told
-abbrev item_of : ℕ → ℕ → List ℕ → Option ClockItem
+abbrev pub item_of : ℕ → ℕ → List ℕ → Option ClockItem
 item_of mul div path = if (mul == 1) && (div == 1) then None else Some (record { div = div; mul = mul; path = path })
 
 -- ---- what is read of frames

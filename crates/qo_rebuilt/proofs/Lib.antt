@@ -4,6 +4,7 @@ pub mod NumberLemmas
 pub mod RingLemmas
 pub mod ClockLemmas
 pub mod GrowthLemmas
+pub mod TellingLemmas
 pub mod TypeSlotLemmas
 pub mod TypesLemmas
 pub mod StepTypesLemmas
