@@ -5,7 +5,10 @@ pub mod RingLemmas
 pub mod ClockLemmas
 pub mod GrowthLemmas
 pub mod TellingLemmas
+pub mod WrittenLemmas
+pub mod ScaledLemmas
 pub mod TypeSlotLemmas
 pub mod TypesLemmas
 pub mod StepTypesLemmas
 pub mod TypesLawLemmas
+pub mod ProbeLemmas

@@ -4,6 +4,7 @@
 
 ghost use Rattle.qo_rebuilt.specs.Made.{ClockMadeLaw, RingsMadeLaw};
 ghost use Rattle.qo_rebuilt.specs.NumbersTaken.{NumbersTakenLaw};
+ghost use Rattle.qo_rebuilt.specs.Probe.{ProbeLaw};
 ghost use Rattle.qo_rebuilt.specs.TypesTold.{TypesToldLaw};
 ghost use Rattle.qo_rebuilt.specs.WholeKept.{WholeKeptLaw};
 
@@ -41,4 +42,9 @@ pub fn law_clock()
 #[tactic(auto, using(crate::proofs::TypesLawLemmas::types_told_lem))]
 pub fn law_types()
     ensures { TypesToldLaw }
+{}
+
+#[tactic(auto, using(crate::proofs::ProbeLemmas::probe))]
+pub fn law_probe()
+    ensures { ProbeLaw }
 {}

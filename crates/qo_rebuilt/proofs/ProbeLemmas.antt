@@ -1,0 +1,6 @@
+-- probe
+use Rattle.std.proofs.Common.{◌≡◌, refl}
+use Rattle.qo_rebuilt.specs.Probe.{ProbeLaw}
+use Rattle.qo_rebuilt.proofs.ScaledLemmas.{mul-written}
+pub probe : ProbeLaw
+probe = refl

@@ -1,0 +1,4 @@
+-- probe
+use Rattle.std.specs.Prelude.{◌≡◌, true}
+abbrev pub ProbeLaw : Type 0
+ProbeLaw = true ≡ true
