@@ -7,6 +7,7 @@ pub mod GrowthLemmas
 pub mod TellingLemmas
 pub mod WrittenLemmas
 pub mod ScaledLemmas
+pub mod FitLemmas
 pub mod TypeSlotLemmas
 pub mod TypesLemmas
 pub mod StepTypesLemmas
