@@ -133,7 +133,7 @@ set-taken mul div per new fits =
 -- ---- the three of them
 
 -- a part of a period is no longer
-part-fits : (div per : ℕ) → per < 2 ^ 64 → scaled_by 1 div per < 2 ^ 64
+pub part-fits : (div per : ℕ) → per < 2 ^ 64 → scaled_by 1 div per < 2 ^ 64
 part-fits div per low = go (eqb div 0) refl
   where
     go : (t : Bool) → eqb div 0 ≡ t → cond t 0 (per * 1 / div) < 2 ^ 64
@@ -199,7 +199,7 @@ clock-made c good =
 
 -- ---- and then rings
 
-then-done : (first_steps more : List Step) (b : Board) → all_done (first_steps ++ more) b ≡ then_all more (all_done first_steps b)
+pub then-done : (first_steps more : List Step) (b : Board) → all_done (first_steps ++ more) b ≡ then_all more (all_done first_steps b)
 then-done [] more b = refl
 then-done (step ∷ steps) more b = go (step b) (λ c. then-done steps more c)
   where

@@ -1,35 +1,33 @@
 -- A device's clock may multiply and divide by other numbers, where those that come after it neither do: no period is too long then.
-use Rattle.std.proofs.Common.{◌≡◌, ◌≢◌, ◌⊎◌, inl, inr, refl, ap, sym, subst, ◌∙◌, ℕ, zero, suc, ◌<◌, ◌≤◌, ◌*◌, ◌/◌, ◌^◌, ◌==◌, ◌&&◌, ◌||◌, Bool, true, false, eqb, nat_le, length, List, [], ◌∷◌, ◌++◌, Option, Some, None, option_map, option_and_then, unwrap_or, codes, Ok, Err, Result, arith}
+use Rattle.std.proofs.Common.{◌≡◌, ◌≢◌, ◌⊎◌, inl, inr, refl, ap, sym, subst, ◌∙◌, ℕ, zero, suc, ◌<◌, ◌≤◌, ◌^◌, ◌==◌, ◌&&◌, Bool, true, false, eqb, length, List, [], ◌∷◌, ◌++◌, Option, Some, None, option_and_then, unwrap_or, codes, Ok, Err, arith}
 use Rattle.std.proofs.lemmas.Bool.{and_parts, eqb-true, ne_eqb}
 use Rattle.std.proofs.lemmas.Bool.Decides.{nat_tests}
 use Rattle.std.proofs.lemmas.Option.{same_Some}
-use Rattle.qo_model.proofs.Common.{AllByRecursion, list_any, if◌then◌else◌, MACHINE_BIRTH, PERIPHERAL_BIRTH, ROOT_BUS_BIRTH, MEMORY_BUS_BIRTH, SYSTEM_CLOCK_BIRTH, Clock, SlotBridge, Code, E46, E47, Board, kind_of, slots_at, births, kids_of, child_period, clock_of, clock_scaled, clock_written, clocks_below, div_of, mul_of, overflows, period, scaled, scaled_by, source_for, source_of, called_all, is_realized, place_of, is_a, set_named}
+use Rattle.qo_model.proofs.Common.{AllByRecursion, list_any, if◌then◌else◌, MACHINE_BIRTH, PERIPHERAL_BIRTH, ROOT_BUS_BIRTH, MEMORY_BUS_BIRTH, SYSTEM_CLOCK_BIRTH, Clock, SlotBridge, E46, E47, Board, kind_of, slots_at, births, kids_of, child_period, clock_of, clock_scaled, clock_written, clocks_below, div_of, mul_of, overflows, period, scaled_by, source_for, source_of, called_all, is_a, set_named}
 use Rattle.qo_values.specs.declared.properties.Val.TheVariants as val
 use Rattle.qo_values.proofs.ListLemmas.{all-imply}
 use Rattle.qo_model.specs.Paths.{parent_of}
 use Rattle.qo_model.proofs.AmongLemmas.{among-all}
 use Rattle.qo_model.proofs.ClockFitLemmas.{Either, either, Goes, IsWritten}
-use Rattle.qo_model.proofs.PeriodLemmas.{period-fed, period-own, to_depth}
+use Rattle.qo_model.proofs.PeriodLemmas.{period-fed, to_depth}
 use Rattle.qo_save.specs.Described.{clock_item, clock_item_of, factors_of, is_describable}
-use Rattle.qo_save.specs.Description.{ClockItem}
-use Rattle.qo_sound.proofs.TestLemmas.{clash, clash-back, decide}
 use Rattle.qo_sound_bounds.specs.SoundSources.{IsDeviceClock}
 use Rattle.qo_sound_bounds.proofs.ClockLemmas.{clock-listed, source-bridge, source-machines}
-use Rattle.qo_sound_devices.specs.SoundPlaces.{child_entries, has_entry, listed, stands}
+use Rattle.qo_sound_devices.specs.SoundPlaces.{child_entries, listed}
 use Rattle.qo_sound_devices.proofs.AttachmentLemmas.{parent-is}
 use Rattle.qo_sound_devices.proofs.DetachmentLemmas.{listed-kid}
 use Rattle.qo_sound_devices.proofs.LocationLemmas.{Entry, entry-of}
 use Rattle.qo_sound_phases.proofs.ResetTreeLemmas.{placed}
 use Rattle.qo_model.specs.SoundGraph.{Rises}
 use Rattle.qo_good.specs.GoodBoards.{IsWhole}
-use Rattle.qo_good.proofs.BusLemmas.{bridge_bus, ClockAt, clock-at, its-bus, listed-entry, memory_bus, owns-bus, root_bus, Stood, stood-all, WhichBus}
+use Rattle.qo_good.proofs.BusLemmas.{bridge_bus, ClockAt, clock-at, its-bus, memory_bus, owns-bus, root_bus, Stood, stood-all, WhichBus}
 use Rattle.qo_good.proofs.ItemLemmas.{all-append, births_in, rises-before}
 use Rattle.qo_good.proofs.LayoutLemmas.{bridge-slot}
 use Rattle.qo_good.proofs.PlaceLemmas.{all-entry, firm, machine-entries, older, rises, stands-named}
 use Rattle.qo_rebuilt.proofs.ScaledLemmas.{new, new-div, new-mul, set-written}
 
 -- nothing is said of a clock that neither multiplies nor divides
-none-said : (b : Board) (c : ℕ) → clock_item b c ≡ None → (mul_of b c ≡ 1) × (div_of b c ≡ 1)
+pub none-said : (b : Board) (c : ℕ) → clock_item b c ≡ None → (mul_of b c ≡ 1) × (div_of b c ≡ 1)
 none-said b c e = go ((mul_of b c == 1) && (div_of b c == 1)) refl
   where
     go : (t : Bool) → ((mul_of b c == 1) && (div_of b c == 1)) ≡ t → (mul_of b c ≡ 1) × (div_of b c ≡ 1)

@@ -8,8 +8,9 @@ pub mod TellingLemmas
 pub mod WrittenLemmas
 pub mod ScaledLemmas
 pub mod FitLemmas
+pub mod FactorLemmas
+pub mod FrontLemmas
 pub mod TypeSlotLemmas
 pub mod TypesLemmas
 pub mod StepTypesLemmas
 pub mod TypesLawLemmas
-pub mod ProbeLemmas

@@ -1,7 +1,7 @@
 -- What a write of a clock's mul and div leaves of a board, where it is taken.
-use Rattle.std.proofs.Common.{◌≡◌, refl, ap, sym, subst, ◌∙◌, ℕ, Bool, true, false, eqb, List, Option, Some, None, option_map, option_and_then, unwrap_or, codes, Ok, Err, arith}
-use Rattle.std.proofs.lemmas.Bool.{eq-eqb, eqb-true}
-use Rattle.qo_model.proofs.Common.{bytes_eq, if◌then◌else◌, Val, E46, Clock, Board, Record, Slot, plain, kind_of, record_of, slot_named, slots_at, changed_at, set, with_changed, with_val, clock_scaled, clock_written, div_of, index_from, is_named, mul_of, number_at, number_in, plain_in, edited, set_named}
+use Rattle.std.proofs.Common.{◌≡◌, refl, ap, sym, ◌∙◌, ℕ, Bool, true, false, eqb, List, Option, Some, None, option_map, option_and_then, unwrap_or, codes, Ok, Err, arith}
+use Rattle.std.proofs.lemmas.Bool.{eq-eqb}
+use Rattle.qo_model.proofs.Common.{bytes_eq, Val, E46, Clock, Board, Record, Slot, plain, kind_of, record_of, slot_named, slots_at, changed_at, set, with_changed, with_val, clock_scaled, clock_written, div_of, index_from, is_named, mul_of, number_at, number_in, plain_in, edited, set_named}
 use Rattle.qo_values.specs.declared.properties.Val.TheVariants as val
 use Rattle.qo_model.proofs.ClockFitLemmas.{IsWritten}
 use Rattle.qo_model.proofs.ClockScopeLemmas.{clock_scaled-stays}

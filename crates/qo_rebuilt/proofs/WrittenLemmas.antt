@@ -1,12 +1,12 @@
 -- A board on which slots were written, and no object or child came or went, has a description where it had one, and the same ways.
-use Rattle.std.proofs.Common.{◌≡◌, refl, ap, sym, subst, ◌∙◌, ℕ, Bool, true, false, not, ◌==◌, ◌&&◌, List, [], ◌∷◌, filter, length, map, Option, Some, None, is_some, is_none, option_map}
-use Rattle.qo_model.proofs.Common.{AllByRecursion, ANONYMOUS_BIRTH, ROOT_BIRTH, TypeId, Board, Record, is_live, kind_of, record_of, slots_at, children_of, detached, place_of}
+use Rattle.std.proofs.Common.{◌≡◌, refl, ap, sym, ◌∙◌, ℕ, Bool, true, false, not, ◌==◌, ◌&&◌, List, [], ◌∷◌, filter, length, is_some, is_none}
+use Rattle.qo_model.proofs.Common.{AllByRecursion, ANONYMOUS_BIRTH, ROOT_BIRTH, Board, Record, is_live, kind_of, record_of, slots_at, children_of, detached, place_of}
 use Rattle.qo_values.proofs.ListLemmas.{all-imply}
 use Rattle.qo_model.proofs.StepLemmas.{is_some-map}
 use Rattle.qo_model.specs.Board.{Removal}
 use Rattle.qo_model.specs.Properties.{path_text}
 use Rattle.qo_save.specs.Described.{is_describable}
-use Rattle.qo_sound.proofs.TestLemmas.{clash-back, decide}
+use Rattle.qo_sound.proofs.TestLemmas.{decide}
 use Rattle.qo_sound_devices.specs.SoundPlaces.{child_entries, has_entry}
 use Rattle.qo_ways.specs.Ways.{IsInOrder}
 use Rattle.qo_good.proofs.ItemLemmas.{births_in}

@@ -3,4 +3,4 @@ pub mod NumbersTaken
 pub mod ObjectsMade
 pub mod WholeKept
 pub mod TypesTold
-pub mod Probe
+pub mod FactorsMade

@@ -2,9 +2,9 @@
 //! so. The definitions stand in `specs/`.
 #![tactic(auto)]
 
+ghost use Rattle.qo_rebuilt.specs.FactorsMade.{FactorsMadeLaw};
 ghost use Rattle.qo_rebuilt.specs.Made.{ClockMadeLaw, RingsMadeLaw};
 ghost use Rattle.qo_rebuilt.specs.NumbersTaken.{NumbersTakenLaw};
-ghost use Rattle.qo_rebuilt.specs.Probe.{ProbeLaw};
 ghost use Rattle.qo_rebuilt.specs.TypesTold.{TypesToldLaw};
 ghost use Rattle.qo_rebuilt.specs.WholeKept.{WholeKeptLaw};
 
@@ -44,7 +44,9 @@ pub fn law_types()
     ensures { TypesToldLaw }
 {}
 
-#[tactic(auto, using(crate::proofs::ProbeLemmas::probe))]
-pub fn law_probe()
-    ensures { ProbeLaw }
+/// The factors of the clocks of a good description's devices are written to a board that tells all else of
+/// it but links: none is refused, and then its description tells them.
+#[tactic(auto, using(crate::proofs::FrontLemmas::factors_made_lem))]
+pub fn law_factors()
+    ensures { FactorsMadeLaw }
 {}
