@@ -14,3 +14,4 @@ pub mod TypeSlotLemmas
 pub mod TypesLemmas
 pub mod StepTypesLemmas
 pub mod TypesLawLemmas
+pub mod RebuiltLemmas

@@ -4,3 +4,5 @@ pub mod ObjectsMade
 pub mod WholeKept
 pub mod TypesTold
 pub mod FactorsMade
+pub mod Rebuilt
+pub mod Probe

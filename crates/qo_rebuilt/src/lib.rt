@@ -5,6 +5,7 @@
 ghost use Rattle.qo_rebuilt.specs.FactorsMade.{FactorsMadeLaw};
 ghost use Rattle.qo_rebuilt.specs.Made.{ClockMadeLaw, RingsMadeLaw};
 ghost use Rattle.qo_rebuilt.specs.NumbersTaken.{NumbersTakenLaw};
+ghost use Rattle.qo_rebuilt.specs.Probe.{ProbeLaw};
 ghost use Rattle.qo_rebuilt.specs.TypesTold.{TypesToldLaw};
 ghost use Rattle.qo_rebuilt.specs.WholeKept.{WholeKeptLaw};
 
@@ -49,4 +50,9 @@ pub fn law_types()
 #[tactic(auto, using(crate::proofs::FrontLemmas::factors_made_lem))]
 pub fn law_factors()
     ensures { FactorsMadeLaw }
+{}
+
+#[tactic(auto, using(crate::proofs::RebuiltLemmas::rebuilt_made))]
+pub fn law_probe()
+    ensures { ProbeLaw }
 {}

@@ -1,0 +1,57 @@
+-- A good description is rebuilt: its clock, its rings, its users' objects, its devices, their clocks and the links, one after another.
+use Rattle.std.proofs.Common.{◌≡◌, refl, ap, ◌∙◌, List, [], ◌++◌, map, Some, Ok}
+use Rattle.std.specs.List.{flat_map}
+use Rattle.qo_model.proofs.Common.{Board, opening_board}
+use Rattle.qo_save.specs.Described.{described}
+use Rattle.qo_save.specs.Description.{Description}
+use Rattle.qo_save.specs.Rebuilding.{add_device, add_object, add_ring, all_done, clock_steps, factor_steps, rebuilt, set_link, Step, steps_of}
+use Rattle.qo_save.specs.Rows.{opening_row}
+use Rattle.qo_good.specs.Good.{Good}
+use Rattle.qo_good.specs.GoodBoards.{IsWhole}
+use Rattle.qo_good.proofs.GoodLemmas.{good_lem}
+use Rattle.qo_alike.specs.AlikeBoards.{TellsTypes}
+use Rattle.qo_alike.proofs.AlikeLemmas.{alike_lem}
+use Rattle.qo_rebuilt.specs.Made.{Makes, Tells}
+use Rattle.qo_rebuilt.specs.ObjectsMade.{ObjectsMadeLaw}
+use Rattle.qo_rebuilt.specs.Rebuilt.{DevicesMade, IsRebuilt, LinksMade, RebuiltLaw}
+use Rattle.qo_rebuilt.proofs.ClockLemmas.{then-done}
+use Rattle.qo_rebuilt.proofs.FrontLemmas.{factors_made_lem}
+use Rattle.qo_rebuilt.proofs.RingLemmas.{then_all}
+use Rattle.qo_rebuilt.proofs.TypesLawLemmas.{types_told_lem}
+
+-- commands after others
+makes-then : (first more : List Step) (b : Board) (d e : Description) (m : Makes first b d) → Makes more m.board e → Makes (first ++ more) b e
+makes-then first more b d e m n =
+    record { board = n.board; taken = then-done first more b ∙ ap (then_all more) m.taken ∙ n.taken; tells = n.tells }
+
+module _ (objects : ObjectsMadeLaw) (devices : DevicesMade) (links : LinksMade) where
+  good-made : (d : Description) → Good d → Makes (steps_of d) opening_board d
+  good-made d good =
+      let begun : List Step = clock_steps d.clock ++ map add_ring d.rings ++ map add_object d.objects in
+      let first : Makes begun opening_board (record opening_row { clock = d.clock; rings = d.rings; objects = d.objects }) = objects.after_rings d good in
+      let second : Makes (map add_device d.devices) first.board (record d { clocks = []; links = [] }) = devices d good first.board first.tells in
+      let joined : Makes (begun ++ map add_device d.devices) opening_board (record d { clocks = []; links = [] }) =
+      makes-then begun (map add_device d.devices) opening_board (record opening_row { clock = d.clock; rings = d.rings; objects = d.objects })
+      (record d { clocks = []; links = [] }) first second in
+      let third : Makes (flat_map factor_steps d.clocks) joined.board (record d { links = [] }) = factors_made_lem.factors d good joined.board joined.tells in
+      let scaled : Makes (begun ++ map add_device d.devices ++ flat_map factor_steps d.clocks) opening_board (record d { links = [] }) =
+      makes-then (begun ++ map add_device d.devices) (flat_map factor_steps d.clocks) opening_board (record d { clocks = []; links = [] })
+      (record d { links = [] }) joined third in
+      makes-then (begun ++ map add_device d.devices ++ flat_map factor_steps d.clocks) (map set_link d.links) opening_board (record d { links = [] }) d
+      scaled (links d good scaled.board scaled.tells)
+
+  rebuilt-again : (b : Board) (d : Description) → IsWhole b → TellsTypes b → described b ≡ Some d → IsRebuilt b d
+  unfolding rebuilt
+  rebuilt-again b d h types says =
+      let made : Makes (steps_of d) opening_board d = good-made d (good_lem.good b d h says) in
+      let told : TellsTypes made.board = types_told_lem.rebuilt_so d made.board made.taken made.tells.whole in
+      record {
+        board = made.board;
+        taken = made.taken;
+        alike = alike_lem.alike b made.board d h types made.tells.whole told says made.tells.says;
+        same = made.tells.says;
+      }
+
+  -- where users' objects, devices and links are made
+  pub rebuilt_made : RebuiltLaw
+  rebuilt_made = record { made = good-made; again = rebuilt-again }
