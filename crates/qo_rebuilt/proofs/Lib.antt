@@ -15,3 +15,6 @@ pub mod TypesLemmas
 pub mod StepTypesLemmas
 pub mod TypesLawLemmas
 pub mod RebuiltLemmas
+pub mod LinkRowLemmas
+pub mod LinkWriteLemmas
+pub mod ProbeLemmas

@@ -52,7 +52,7 @@ pub fn law_factors()
     ensures { FactorsMadeLaw }
 {}
 
-#[tactic(auto, using(crate::proofs::RebuiltLemmas::rebuilt_made))]
+#[tactic(auto, using(crate::proofs::ProbeLemmas::probe))]
 pub fn law_probe()
     ensures { ProbeLaw }
 {}

@@ -1,0 +1,8 @@
+-- probe
+use Rattle.std.proofs.Common.{◌≡◌, refl}
+use Rattle.qo_rebuilt.specs.Probe.{ProbeLaw}
+use Rattle.qo_rebuilt.proofs.RebuiltLemmas.{rebuilt_made}
+use Rattle.qo_rebuilt.proofs.LinkRowLemmas.{rows-apart}
+use Rattle.qo_rebuilt.proofs.LinkWriteLemmas.{link-taken}
+pub probe : ProbeLaw
+probe = rebuilt_made
