@@ -33,7 +33,7 @@ kind-live b n t its = sym (is_some-map (λ (r : Record). r.kind) (record_of b n)
 linked-live : (b : Board) (n : ℕ) → is_some (kind_of b n) ≡ true → is_live b n ≡ true
 linked-live b n some = sym (is_some-map (λ (r : Record). r.kind) (record_of b n)) ∙ some
 
-target-live : (b : Board) (s : Slot) (m : ℕ) → target_of s ≡ Some m → Linked (kind_of b) s → is_live b m ≡ true
+pub target-live : (b : Board) (s : Slot) (m : ℕ) → target_of s ≡ Some m → Linked (kind_of b) s → is_live b m ≡ true
 target-live b (plain v) m e l = absurd (cc)
 target-live b (child k) m e l = subst (λ (x : ℕ). is_live b x ≡ true) (same_Some k m e) (linked-live b k l)
 target-live b (strong t None) m e l = absurd (cc)
@@ -95,7 +95,7 @@ abbrev slot_in : List ℕ → List (List ℕ × Slot) → Option Slot
 slot_in name xs = option_map (λ (s : List ℕ × Slot). s.1) (find (λ (s : List ℕ × Slot). bytes_eq s.0 name) xs)
 
 module _ (b c : Board) (h : IsInOrder b) (texts : (m : ℕ) → is_live b m ≡ true → path_text c m ≡ path_text b m) where
-  given-kept : (s : Slot) → Linked (kind_of b) s → given_in c s ≡ given_in b s
+  pub given-kept : (s : Slot) → Linked (kind_of b) s → given_in c s ≡ given_in b s
   given-kept (plain v) l = refl
   given-kept (child m) l = refl
   given-kept (strong t None) l = refl
@@ -103,7 +103,7 @@ module _ (b c : Board) (h : IsInOrder b) (texts : (m : ℕ) → is_live b m ≡ 
   given-kept (weak t target) l = refl
   given-kept (alias m of) l = refl
 
-  held-kept : (s : Slot) → Linked (kind_of b) s → target_text c (strong_in s) ≡ target_text b (strong_in s)
+  pub held-kept : (s : Slot) → Linked (kind_of b) s → target_text c (strong_in s) ≡ target_text b (strong_in s)
   held-kept (plain v) l = refl
   held-kept (child m) l = refl
   held-kept (strong t None) l = refl
@@ -115,7 +115,7 @@ module _ (b c : Board) (h : IsInOrder b) (texts : (m : ℕ) → is_live b m ≡ 
     slot-kept : (name : List ℕ) → slot_named c n name ≡ slot_named b n name
     slot-kept name = ap (slot_in name) slots
 
-    linked-slot : (name : List ℕ) (s : Slot) → slot_named b n name ≡ Some s → Linked (kind_of b) s
+    pub linked-slot : (name : List ℕ) (s : Slot) → slot_named b n name ≡ Some s → Linked (kind_of b) s
     linked-slot name s e = go (find (λ (x : List ℕ × Slot). bytes_eq x.0 name) (slots_at b n)) refl e
       where
         go : (o : Option (List ℕ × Slot)) → find (λ (x : List ℕ × Slot). bytes_eq x.0 name) (slots_at b n) ≡ o
@@ -155,7 +155,7 @@ module _ (b c : Board) (h : IsInOrder b) (texts : (m : ℕ) → is_live b m ≡ 
         by (Some s) q = held-kept s (linked-slot (codes "parent_bus") s q)
 
     -- a clock
-    factors-kept : is_live b n ≡ true → clock_item c n ≡ clock_item b n
+    pub factors-kept : is_live b n ≡ true → clock_item c n ≡ clock_item b n
     factors-kept live =
         ap (λ (m : ℕ). item_of m (div_of c n) (path_text c n)) (number-kept (codes "mul") 1)
         ∙ ap (λ (v : ℕ). item_of (mul_of b n) v (path_text c n)) (number-kept (codes "div") 1)

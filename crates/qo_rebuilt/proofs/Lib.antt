@@ -17,4 +17,5 @@ pub mod TypesLawLemmas
 pub mod RebuiltLemmas
 pub mod LinkRowLemmas
 pub mod LinkWriteLemmas
+pub mod LinkTellLemmas
 pub mod ProbeLemmas
