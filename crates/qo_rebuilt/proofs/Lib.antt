@@ -14,8 +14,8 @@ pub mod TypeSlotLemmas
 pub mod TypesLemmas
 pub mod StepTypesLemmas
 pub mod TypesLawLemmas
-pub mod RebuiltLemmas
 pub mod LinkRowLemmas
 pub mod LinkWriteLemmas
 pub mod LinkTellLemmas
-pub mod ProbeLemmas
+pub mod LinkLemmas
+pub mod RebuiltLemmas

@@ -1,27 +1,26 @@
 -- The links that a board tells, row by row of its users' objects and devices.
-use Rattle.std.proofs.Common.{◌≡◌, ◌⊎◌, inl, inr, refl, ap, ap₂, sym, subst, ◌∙◌, rules, ℕ, ◌<◌, ◌&&◌, ◌==◌, Bool, true, false, List, [], ◌∷◌, ◌++◌, filter_map, find, map, Option, Some, None, option_map, option_and_then, unwrap_or, codes, arith}
+use Rattle.std.proofs.Common.{◌≡◌, ◌⊎◌, inl, inr, refl, ap, ap₂, sym, subst, ◌∙◌, rules, ℕ, ◌<◌, ◌&&◌, Bool, true, false, List, [], ◌∷◌, ◌++◌, filter_map, map, Option, Some, None, option_map, option_and_then, unwrap_or, codes, arith}
 use Rattle.std.specs.List.{flat_map}
 use Rattle.std.proofs.lemmas.Grind.{flat_map-append}
 use Rattle.std.proofs.lemmas.List.{map-append}
 use Rattle.std.proofs.lemmas.List.Elements.{filter_map-append}
 use Rattle.std.proofs.lemmas.Option.{same_Some}
 use Rattle.std.proofs.lemmas.Slice.Eq.{bytes_eq-Decides}
-use Rattle.qo_model.proofs.Common.{AllByRecursion, IsDistinct, option_map_or, if◌then◌else◌, bytes_eq, type_name, OBJECTS_BIRTH, PERIPHERAL_BIRTH, TypeId, Object, Board, Record, Slot, kind_of, slot_named, slots_at, target_of, place_of, may_set, property_name, property_named, is_a, slots_of, types, TypeInfo, type_named}
+use Rattle.qo_model.proofs.Common.{AllByRecursion, IsDistinct, option_map_or, if◌then◌else◌, bytes_eq, type_name, OBJECTS_BIRTH, PERIPHERAL_BIRTH, TypeId, Object, Board, Record, Slot, kind_of, slots_at, target_of, place_of, may_set, property_name, property_named, is_a, slots_of, types, TypeInfo, type_named}
 use Rattle.qo_values.proofs.EachLemmas.{each}
 use Rattle.qo_values.proofs.ListLemmas.{all-imply}
 use Rattle.qo_model.proofs.FirstSlotLemmas.{named_in}
 use Rattle.qo_model.specs.Properties.{path_text}
 use Rattle.qo_model.specs.SoundGraph.{Rises}
 use Rattle.qo_model.specs.declared.properties.Property.{Property}
-use Rattle.qo_save.specs.Described.{description, is_describable, is_link, is_set, link_item, link_items, link_to}
-use Rattle.qo_save.specs.Description.{Description, DeviceItem, LinkItem, ObjectItem}
-use Rattle.qo_sound.proofs.TestLemmas.{clash, clash-back}
+use Rattle.qo_save.specs.Described.{description, is_link, is_set, link_item, link_items, link_to}
+use Rattle.qo_save.specs.Description.{DeviceItem, LinkItem, ObjectItem}
 use Rattle.qo_sound_devices.specs.SoundPlaces.{child_entries, has_entry}
 use Rattle.qo_sound_devices.proofs.AttachmentLemmas.{parent-is}
-use Rattle.qo_sound_shapes.specs.SoundShape.{further, HasSlots, IsFurther, IsOfProperty, may_miss, missing, next}
+use Rattle.qo_sound_shapes.specs.SoundShape.{further, HasSlots, IsFurther, may_miss, missing, next}
 use Rattle.qo_sound_shapes.proofs.RowLemmas.{IsRowOf, own-rows}
 use Rattle.qo_ways.specs.Ways.{IsInOrder}
-use Rattle.qo_good.specs.Good.{device_path, Give, gives, none, object_path, passed, rows, rows_of}
+use Rattle.qo_good.specs.Good.{device_path, object_path, rows, rows_of}
 use Rattle.qo_good.proofs.BusLemmas.{listed-entry}
 use Rattle.qo_good.proofs.ItemLemmas.{all-append, all-here, births_in, filter_map-map}
 use Rattle.qo_good.proofs.PartLemmas.{device_as, devices, devices-said, Here, object_as, objects-said, users}

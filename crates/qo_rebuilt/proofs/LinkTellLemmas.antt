@@ -1,10 +1,8 @@
 -- What a board tells after a link was written: all else as before, and the link in its row.
-use Rattle.std.proofs.Common.{◌≡◌, ◌⊎◌, inl, inr, refl, ap, ap₂, sym, subst, ◌∙◌, rules, ℕ, ◌<◌, ◌==◌, ◌&&◌, ◌||◌, Bool, true, false, eqb, List, [], ◌∷◌, ◌++◌, filter_map, find, map, Option, Some, None, option_map, option_and_then, unwrap_or, codes, arith}
+use Rattle.std.proofs.Common.{◌≡◌, refl, ap, ap₂, sym, subst, ◌∙◌, rules, ℕ, ◌&&◌, Bool, true, false, eqb, List, [], ◌∷◌, ◌++◌, filter_map, map, Option, Some, None, option_map, option_and_then, unwrap_or, codes}
 use Rattle.std.specs.List.{flat_map, list_any}
-use Rattle.std.proofs.lemmas.Bool.{and_parts, eqb-true}
-use Rattle.std.proofs.lemmas.Option.{same_Some}
-use Rattle.qo_model.proofs.Common.{AllByRecursion, option_map_or, if◌then◌else◌, bytes_eq, type_name, OBJECTS_BIRTH, PERIPHERAL_BIRTH, SYSTEM_CLOCK_BIRTH, TypeId, Clock, Object, Val, Board, Slot, plain, child, strong, weak, alias, is_live, kind_of, slot_named, slots_at, target_of, pointed, bus_of, child_named, clock_of, number_in, plain_in, strong_in, may_set, property_name, property_named, is_a, slots_of, types, Given}
-use Rattle.qo_values.specs.declared.properties.Val.TheVariants as val
+use Rattle.std.proofs.lemmas.Bool.{eqb-true}
+use Rattle.qo_model.proofs.Common.{AllByRecursion, option_map_or, if◌then◌else◌, bytes_eq, OBJECTS_BIRTH, PERIPHERAL_BIRTH, SYSTEM_CLOCK_BIRTH, TypeId, Clock, Object, Val, Board, Slot, is_live, kind_of, slot_named, slots_at, target_of, pointed, bus_of, child_named, clock_of, number_in, plain_in, strong_in, may_set, property_name, property_named, slots_of, types, Given}
 use Rattle.qo_values.proofs.EachLemmas.{each}
 use Rattle.qo_values.proofs.ListLemmas.{all-imply, found-has}
 use Rattle.qo_model.proofs.FirstSlotLemmas.{named_in}
@@ -12,10 +10,10 @@ use Rattle.qo_model.specs.Properties.{path_text, target_text}
 use Rattle.qo_model.specs.declared.properties.Property.{Property}
 use Rattle.qo_model.specs.declared.properties.PropertyRole.{PropertyRole}
 use Rattle.qo_model.specs.declared.properties.PropertyRole.TheVariants as row
-use Rattle.qo_save.specs.Described.{clock_item, clock_item_of, clock_numbers, description, device_given, device_item, device_of, given_in, is_describable, is_link, is_nothing, is_set, is_unset, link_item, link_to, object_given, object_item, object_of, prop_under, props_under, ring_item}
+use Rattle.qo_save.specs.Described.{clock_item, clock_item_of, clock_numbers, description, device_given, device_item, device_of, is_describable, is_link, is_nothing, is_set, is_unset, link_item, link_to, object_given, object_item, object_of, prop_under, props_under, ring_item}
 use Rattle.qo_save.specs.Description.{ClockItem, ClockNumbers, Description, DeviceItem, LinkItem, ObjectItem, RingItem}
 use Rattle.qo_sound.proofs.FirmBoardLemmas.{Linked}
-use Rattle.qo_sound.proofs.TestLemmas.{clash, clash-back, decide}
+use Rattle.qo_sound.proofs.TestLemmas.{decide}
 use Rattle.qo_sound_devices.specs.SoundPlaces.{child_entries}
 use Rattle.qo_sound_shapes.proofs.RowLemmas.{IsRowOf}
 use Rattle.qo_good.specs.GoodBoards.{IsWhole}
@@ -24,7 +22,7 @@ use Rattle.qo_good.proofs.ItemLemmas.{filter_map-same}
 use Rattle.qo_good.proofs.PartLemmas.{system-kind}
 use Rattle.qo_rebuilt.proofs.FrameLemmas.{said_in, said_of}
 use Rattle.qo_rebuilt.proofs.GrowthLemmas.{factors-kept, given-kept, held-kept, kind-live, linked-slot, system-kept, target-live}
-use Rattle.qo_rebuilt.proofs.LinkRowLemmas.{kind_as, link_at, link_in, links-by_rows, own_of, owners_of, Row, rows_in}
+use Rattle.qo_rebuilt.proofs.LinkRowLemmas.{link_at, own_of, owners_of, Row, rows_in}
 use Rattle.qo_rebuilt.proofs.LinkWriteLemmas.{LinkWritten}
 use Rattle.qo_rebuilt.proofs.WrittenLemmas.{describable-written, texts-written}
 

@@ -1,11 +1,11 @@
 -- An empty link is written at the path of its object, to a target by its path: what the board is then.
-use Rattle.std.proofs.Common.{◌≡◌, ◌⊎◌, inl, inr, refl, ap, sym, subst, ◌∙◌, ℕ, zero, suc, ◌+◌, ◌==◌, length, ltb, cond, arith, Bool, true, false, eqb, List, [], ◌∷◌, filter_map, find, position, slice_get, is_some, Option, Some, None, option_map, option_and_then, codes, Result, Ok, Err}
+use Rattle.std.proofs.Common.{◌≡◌, refl, ap, sym, subst, ◌∙◌, ℕ, suc, ◌+◌, ◌==◌, length, ltb, cond, arith, Bool, true, false, eqb, List, [], ◌∷◌, filter_map, position, slice_get, is_some, Option, Some, None, option_map, option_and_then, codes, Result, Ok, Err}
 use Rattle.std.proofs.lemmas.Bool.{eq-eqb, eqb-true}
 use Rattle.std.specs.List.{position_or_len}
 use Rattle.std.proofs.lemmas.Bool.Decides.{nat_tests}
 use Rattle.std.proofs.lemmas.Option.{same_Some}
 use Rattle.std.proofs.lemmas.Slice.Eq.{bytes_eq-Decides}
-use Rattle.qo_model.proofs.Common.{option_map_or, if◌then◌else◌, bytes_eq, type_name, ROOT_BIRTH, E15, E16, E17, E18, E31, Code, TypeId, Val, Board, Record, Slot, plain, child, strong, weak, alias, kind_of, record_of, slot_at, slot_named, slots_at, target_of, changed_at, point, pointed, with_changed, changed, wrote, after_write, canonical, found, is_of, link_target, link_written, linked, may_set, object_at, property_name, property_named, relinked, resolve, set_property, write, write_at, written, written_by, drop_slot, edit, edited, emptied, with_dropped, without_hold, walk, Resolution, missing, several, is_set, only_set, set_row, clock_property_written, led_to, finalize, after, pointed_at}
+use Rattle.qo_model.proofs.Common.{if◌then◌else◌, bytes_eq, type_name, ROOT_BIRTH, E15, E16, E17, E18, E31, Code, TypeId, Val, Board, Record, Slot, plain, child, strong, weak, alias, kind_of, record_of, slot_at, slot_named, slots_at, changed_at, point, pointed, with_changed, wrote, after_write, canonical, found, is_of, link_target, linked, may_set, property_name, property_named, relinked, resolve, set_property, write, write_at, written, written_by, drop_slot, edit, edited, emptied, with_dropped, without_hold, walk, Resolution, missing, several, is_set, only_set, set_row, clock_property_written, led_to, finalize, after, pointed_at}
 use Rattle.qo_values.specs.declared.properties.Val.TheVariants as val
 use Rattle.qo_model.specs.Board.{referent}
 use Rattle.qo_model.specs.Paths.{components, is_absolute, path_down_to}
@@ -16,7 +16,6 @@ use Rattle.qo_model.specs.declared.properties.PropertyRole.{PropertyRole}
 use Rattle.qo_model.specs.declared.properties.PropertyRole.TheVariants as row
 use Rattle.qo_model.proofs.FirstSlotLemmas.{named_in, slots_in}
 use Rattle.qo_model.proofs.StepLemmas.{found-birth, found-edited}
-use Rattle.qo_save.specs.Rebuilding.{set_link}
 use Rattle.qo_sound.proofs.FirmBoardLemmas.{edited-kind}
 use Rattle.qo_sound_devices.specs.SoundPlaces.{child_entries, child_entry}
 use Rattle.qo_sound_devices.proofs.UnrealizingLemmas.{entries-changed}

@@ -1,21 +1,22 @@
 -- A good description is rebuilt: its clock, its rings, its users' objects, its devices, their clocks and the links, one after another.
-use Rattle.std.proofs.Common.{◌≡◌, refl, ap, ◌∙◌, List, [], ◌++◌, map, Some, Ok}
+use Rattle.std.proofs.Common.{◌≡◌, ap, ◌∙◌, List, [], ◌++◌, map, Some}
 use Rattle.std.specs.List.{flat_map}
 use Rattle.qo_model.proofs.Common.{Board, opening_board}
 use Rattle.qo_save.specs.Described.{described}
 use Rattle.qo_save.specs.Description.{Description}
-use Rattle.qo_save.specs.Rebuilding.{add_device, add_object, add_ring, all_done, clock_steps, factor_steps, rebuilt, set_link, Step, steps_of}
+use Rattle.qo_save.specs.Rebuilding.{add_device, add_object, add_ring, clock_steps, factor_steps, rebuilt, set_link, Step, steps_of}
 use Rattle.qo_save.specs.Rows.{opening_row}
 use Rattle.qo_good.specs.Good.{Good}
 use Rattle.qo_good.specs.GoodBoards.{IsWhole}
 use Rattle.qo_good.proofs.GoodLemmas.{good_lem}
 use Rattle.qo_alike.specs.AlikeBoards.{TellsTypes}
 use Rattle.qo_alike.proofs.AlikeLemmas.{alike_lem}
-use Rattle.qo_rebuilt.specs.Made.{Makes, Tells}
+use Rattle.qo_rebuilt.specs.Made.{Makes}
 use Rattle.qo_rebuilt.specs.ObjectsMade.{ObjectsMadeLaw}
-use Rattle.qo_rebuilt.specs.Rebuilt.{DevicesMade, IsRebuilt, LinksMade, RebuiltLaw}
+use Rattle.qo_rebuilt.specs.Rebuilt.{DevicesMade, IsRebuilt, RebuiltLaw}
 use Rattle.qo_rebuilt.proofs.ClockLemmas.{then-done}
 use Rattle.qo_rebuilt.proofs.FrontLemmas.{factors_made_lem}
+use Rattle.qo_rebuilt.proofs.LinkLemmas.{links_made_lem}
 use Rattle.qo_rebuilt.proofs.RingLemmas.{then_all}
 use Rattle.qo_rebuilt.proofs.TypesLawLemmas.{types_told_lem}
 
@@ -24,7 +25,7 @@ makes-then : (first more : List Step) (b : Board) (d e : Description) (m : Makes
 makes-then first more b d e m n =
     record { board = n.board; taken = then-done first more b ∙ ap (then_all more) m.taken ∙ n.taken; tells = n.tells }
 
-module _ (objects : ObjectsMadeLaw) (devices : DevicesMade) (links : LinksMade) where
+module _ (objects : ObjectsMadeLaw) (devices : DevicesMade) where
   good-made : (d : Description) → Good d → Makes (steps_of d) opening_board d
   good-made d good =
       let begun : List Step = clock_steps d.clock ++ map add_ring d.rings ++ map add_object d.objects in
@@ -38,7 +39,7 @@ module _ (objects : ObjectsMadeLaw) (devices : DevicesMade) (links : LinksMade) 
       makes-then (begun ++ map add_device d.devices) (flat_map factor_steps d.clocks) opening_board (record d { clocks = []; links = [] })
       (record d { links = [] }) joined third in
       makes-then (begun ++ map add_device d.devices ++ flat_map factor_steps d.clocks) (map set_link d.links) opening_board (record d { links = [] }) d
-      scaled (links d good scaled.board scaled.tells)
+      scaled (links_made_lem.links d good scaled.board scaled.tells)
 
   rebuilt-again : (b : Board) (d : Description) → IsWhole b → TellsTypes b → described b ≡ Some d → IsRebuilt b d
   unfolding rebuilt
@@ -52,6 +53,6 @@ module _ (objects : ObjectsMadeLaw) (devices : DevicesMade) (links : LinksMade) 
         same = made.tells.says;
       }
 
-  -- where users' objects, devices and links are made
+  -- where users' objects and devices are made
   pub rebuilt_made : RebuiltLaw
   rebuilt_made = record { made = good-made; again = rebuilt-again }

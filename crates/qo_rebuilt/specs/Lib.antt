@@ -5,4 +5,3 @@ pub mod WholeKept
 pub mod TypesTold
 pub mod FactorsMade
 pub mod Rebuilt
-pub mod Probe

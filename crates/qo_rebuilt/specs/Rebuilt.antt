@@ -21,6 +21,9 @@ DevicesMade =
 abbrev pub LinksMade : Type 0
 LinksMade = (d : Description) → Good d → (b : Board) → Tells b (record d { links = [] }) → Makes (map set_link d.links) b d
 
+pub record LinksMadeLaw : Type 0 where
+  pub links : LinksMade
+
 -- a description is rebuilt to a board that is like another and has that description
 pub record IsRebuilt (b : Board) (d : Description) : Type 0 where
   pub board : Board

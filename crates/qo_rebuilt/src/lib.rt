@@ -5,7 +5,7 @@
 ghost use Rattle.qo_rebuilt.specs.FactorsMade.{FactorsMadeLaw};
 ghost use Rattle.qo_rebuilt.specs.Made.{ClockMadeLaw, RingsMadeLaw};
 ghost use Rattle.qo_rebuilt.specs.NumbersTaken.{NumbersTakenLaw};
-ghost use Rattle.qo_rebuilt.specs.Probe.{ProbeLaw};
+ghost use Rattle.qo_rebuilt.specs.Rebuilt.{LinksMadeLaw};
 ghost use Rattle.qo_rebuilt.specs.TypesTold.{TypesToldLaw};
 ghost use Rattle.qo_rebuilt.specs.WholeKept.{WholeKeptLaw};
 
@@ -52,7 +52,9 @@ pub fn law_factors()
     ensures { FactorsMadeLaw }
 {}
 
-#[tactic(auto, using(crate::proofs::ProbeLemmas::probe))]
-pub fn law_probe()
-    ensures { ProbeLaw }
+/// The links of a good description are written, in its order, to a board that tells all else of it: none is
+/// refused, and then its description tells them.
+#[tactic(auto, using(crate::proofs::LinkLemmas::links_made_lem))]
+pub fn law_links()
+    ensures { LinksMadeLaw }
 {}
