@@ -275,7 +275,7 @@ shelf-ids b h n kind =
     (typed-distinct its.of.slots (subst (λ (ps : List Property). HasSlots Container ps its.of.slots) container-rows its.slots)
     (names-at b (firm b h) n its.of its.there))
 
-ids-mapped : {X : Type 0} (make : List ℕ × ℕ → X) (id : X → List ℕ) → ((e : List ℕ × ℕ) → id (make e) ≡ e.0) → (es : List (List ℕ × ℕ))
+pub ids-mapped : {X : Type 0} (make : List ℕ × ℕ → X) (id : X → List ℕ) → ((e : List ℕ × ℕ) → id (make e) ≡ e.0) → (es : List (List ℕ × ℕ))
     → map id (map make es) ≡ ids_in es
 ids-mapped make id same [] = refl
 ids-mapped make id same (e ∷ es) = ap₂ (λ (x : List ℕ) (xs : List (List ℕ)). x ∷ xs) (same e) (ids-mapped make id same es)

@@ -199,7 +199,7 @@ clock-made c good =
 
 -- ---- and then rings
 
-then-done : (first_steps more : List Step) (b : Board) → all_done (first_steps ++ more) b ≡ then_all more (all_done first_steps b)
+pub then-done : (first_steps more : List Step) (b : Board) → all_done (first_steps ++ more) b ≡ then_all more (all_done first_steps b)
 then-done [] more b = refl
 then-done (step ∷ steps) more b = go (step b) (λ c. then-done steps more c)
   where

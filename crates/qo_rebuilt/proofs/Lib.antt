@@ -4,3 +4,6 @@ pub mod NumberLemmas
 pub mod RingLemmas
 pub mod ClockLemmas
 pub mod GrowthLemmas
+pub mod TellingLemmas
+pub mod RoomLemmas
+pub mod ObjectLemmas

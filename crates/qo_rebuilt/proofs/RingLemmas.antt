@@ -30,11 +30,11 @@ describable-rings : (b : Board) (rings : List Ring) → is_describable (record b
 describable-rings b rings = refl
 
 -- the description that a board has
-record Has (b : Board) (d : Description) : Type 0 where
-  says : is_describable b ≡ true
-  is : description b ≡ d
+pub record Has (b : Board) (d : Description) : Type 0 where
+  pub says : is_describable b ≡ true
+  pub is : description b ≡ d
 
-has : (b : Board) (d : Description) → described b ≡ Some d → Has b d
+pub has : (b : Board) (d : Description) → described b ≡ Some d → Has b d
 unfolding described
 has b d e = go (is_describable b) refl
   where
@@ -42,7 +42,7 @@ has b d e = go (is_describable b) refl
     go true q = record { says = q; is = same_Some (description b) d (rw q at e) }
     go false q = absurd (let clash : None ≡ Some d = rw q at e in cc)
 
-says-so : (b : Board) (d : Description) → is_describable b ≡ true → description b ≡ d → described b ≡ Some d
+pub says-so : (b : Board) (d : Description) → is_describable b ≡ true → description b ≡ d → described b ≡ Some d
 unfolding described
 says-so b d e is = rw e (ap Some is)
 

@@ -4,6 +4,7 @@
 
 ghost use Rattle.qo_rebuilt.specs.Made.{ClockMadeLaw, RingsMadeLaw};
 ghost use Rattle.qo_rebuilt.specs.NumbersTaken.{NumbersTakenLaw};
+ghost use Rattle.qo_rebuilt.specs.ObjectsMade.{ObjectsMadeLaw};
 ghost use Rattle.qo_rebuilt.specs.WholeKept.{WholeKeptLaw};
 
 /// Each change that rebuilds a board keeps it in order, and sound in all that its description is of.
@@ -31,4 +32,11 @@ pub fn law_numbers()
 #[tactic(auto, using(crate::proofs::ClockLemmas::clock_made_lem))]
 pub fn law_clock()
     ensures { ClockMadeLaw }
+{}
+
+/// Good objects, whose ids differ and are free, are added where there is room, and then the description tells them
+/// after those that it told before. So are those of a good description, after its clock and its rings.
+#[tactic(auto, using(crate::proofs::ObjectLemmas::objects_made_lem))]
+pub fn law_objects()
+    ensures { ObjectsMadeLaw }
 {}
