@@ -53,7 +53,7 @@ rows-named = each (λ (t : TypeId). option_map_or (λ (r : TypeInfo). slots_of r
 abbrev IsBare : TypeId → Type 0
 IsBare t = (s : List ℕ × Slot) → IsFurther t s → ⊥
 
-bare-device : (t : TypeId) → is_a t (codes "device") ≡ true → IsBare t
+pub bare-device : (t : TypeId) → is_a t (codes "device") ≡ true → IsBare t
 unfolding types
 bare-device = each (λ (t : TypeId). is_a t (codes "device") ≡ true → (s : List ℕ × Slot) → IsFurther t s → ⊥) (search rules)
 

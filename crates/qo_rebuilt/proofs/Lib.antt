@@ -7,3 +7,7 @@ pub mod GrowthLemmas
 pub mod TellingLemmas
 pub mod RoomLemmas
 pub mod ObjectLemmas
+pub mod StayLemmas
+pub mod OwnLemmas
+pub mod PluggedLemmas
+pub mod DeviceLemmas

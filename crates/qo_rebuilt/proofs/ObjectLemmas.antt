@@ -237,7 +237,7 @@ given-taken b o good = by (creatable-two good.kind good.concrete good.creatable)
 
 -- ---- it is not refused
 
-row-own : (t : TypeId) → option_map (λ (r : TypeInfo). r.id) (type_named (type_name t)) ≡ Some t
+pub row-own : (t : TypeId) → option_map (λ (r : TypeInfo). r.id) (type_named (type_name t)) ≡ Some t
 unfolding types
 row-own = each (λ (t : TypeId). option_map (λ (r : TypeInfo). r.id) (type_named (type_name t)) ≡ Some t) (search rules)
 

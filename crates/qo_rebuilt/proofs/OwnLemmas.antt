@@ -74,7 +74,7 @@ module _ (b : Board) (absent : (m : ℕ) → b.born < m → record_of b m ≡ No
   pub record Owning (c : Board) : Type 0 where
     pub born : b.born < c.born
     pub there : is_live c (b.born + 1) ≡ true
-    pub owned : (x : ℕ) → b.born < x → (x == b.born + 1) ≡ false → is_live c x ≡ true → listed x (child_entries c (b.born + 1)) ≡ true
+    pub owned : (x : ℕ) → is_live b x ≡ false → (x == b.born + 1) ≡ false → is_live c x ≡ true → listed x (child_entries c (b.born + 1)) ≡ true
 
   owning-like : (c d : Board) → d.records ≡ c.records → c.born ≡ d.born → Owning c → Owning d
   owning-like c d same births h =
@@ -116,10 +116,14 @@ module _ (b : Board) (absent : (m : ℕ) → b.born < m → record_of b m ≡ No
             let none : found_at x (fresh (b.born + 1) t ∷ []) ≡ None = rw away refl in
             let gone : record_of (with_new (fresh (b.born + 1) t) b) x ≡ None =
             found-append x b.records (fresh (b.born + 1) t ∷ [])
-            ∙ ap (λ (o : Option Record). option_or o (found_at x (fresh (b.born + 1) t ∷ []))) (absent x high) ∙ none in
+            ∙ ap (λ (o : Option Record). option_or o (found_at x (fresh (b.born + 1) t ∷ []))) (gone-from x (record_of b x) refl high) ∙ none in
             clash-back (sym (ap is_some gone) ∙ live);
       }
     where
+      gone-from : (x : ℕ) (o : Option Record) → record_of b x ≡ o → is_live b x ≡ false → record_of b x ≡ None
+      gone-from x None q k = q
+      gone-from x (Some r) q k = clash (sym (ap is_some q) ∙ k)
+
       own : record_of (with_new (fresh (b.born + 1) t) b) (b.born + 1) ≡ Some (fresh (b.born + 1) t)
       own =
           let here : (b.born + 1 == b.born + 1) ≡ true = eq-eqb (b.born + 1) (b.born + 1) refl in
@@ -177,7 +181,7 @@ module _ (b : Board) (absent : (m : ℕ) → b.born < m → record_of b m ≡ No
           ∙ list_any-append (names_it x) (filter_map child_entry r.slots) ((name, c.born + 1) ∷ [])
           ∙ ap (λ (t : Bool). has_child x r.slots || t) (or-false (c.born + 1 == x)) ∙ k
 
-      by : (x : ℕ) → b.born < x → (x == b.born + 1) ≡ false → is_live e x ≡ true → has_child x (slots_at (edit (b.born + 1) change e) (b.born + 1)) ≡ true
+      by : (x : ℕ) → is_live b x ≡ false → (x == b.born + 1) ≡ false → is_live e x ≡ true → has_child x (slots_at (edit (b.born + 1) change e) (b.born + 1)) ≡ true
       by x high apart live = go (record_of c (b.born + 1)) refl (record_of c x) refl
         where
           go : (o : Option Record) → record_of c (b.born + 1) ≡ o → (u : Option Record) → record_of c x ≡ u
