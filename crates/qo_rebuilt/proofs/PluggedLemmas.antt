@@ -36,6 +36,7 @@ use Rattle.qo_sound_devices.proofs.PlugLemmas.{Accepted}
 use Rattle.qo_sound_devices.proofs.PlugStageLemmas.{accepted-joined}
 use Rattle.qo_sound_clocks.proofs.PlugLemmas.{child-in, Growing}
 use Rattle.qo_sound_clocks.proofs.PlugStageLemmas.{growing}
+use Rattle.qo_sound_clocks.proofs.ReadLemmas.{Reads, tree-reads}
 use Rattle.qo_sound_order.specs.SoundOrder.{is_abstract}
 use Rattle.qo_sound_order.proofs.UserObjectLemmas.{there-low}
 use Rattle.qo_sound_shapes.specs.SoundShape.{HasRole, IsOfProperty}
@@ -106,7 +107,7 @@ module _ (b : Board) (w : IsWhole b) (quiet : b.notices ≡ []) (t : TypeId) (x 
   chosen : bus_for b t (Some x.bus) ≡ Some k.bus
   chosen = ap bus_by k.at
 
-  accepted : Accepted b t k.bus (wanted_by x)
+  pub accepted : Accepted b t k.bus (wanted_by x)
   accepted =
       record { device = device; chosen = chosen; early = k.early; late = k.late; place = place-of b t k.bus (wanted_by x) device chosen k.early k.late }
 
@@ -262,8 +263,9 @@ module _ (b : Board) (w : IsWhole b) (quiet : b.notices ≡ []) (t : TypeId) (x 
       go (Some m) q =
           let (own, high) = child-in (IsYoung (b.born + 1)) (codes "clk") (slots_at c0 (b.born + 1)) staying.young m q in
           let above : b.born < m = omega (arith, high) in
-          let one : mul_of c m ≡ 1 = (grown.new m above).mul in
-          let two : div_of c m ≡ 1 = (grown.new m above).div in
+          let reads : Reads c = tree-reads c device-whole.order.devices.tree in
+          let one : mul_of c m ≡ 1 = reads.mul m ∙ (grown.new m above).mul in
+          let two : div_of c m ≡ 1 = reads.div m ∙ (grown.new m above).div in
           ap (option_and_then (clock_item c)) q ∙ rw (one, two) refl
 
   -- it has no link
@@ -336,6 +338,13 @@ module _ (b : Board) (w : IsWhole b) (quiet : b.notices ≡ []) (t : TypeId) (x 
       bus : target_text c (bus_of c (b.born + 1)) ≡ x.bus
       bus = ap (target_text c) joined.on ∙ texts-kept b c w.order device-whole.order device-grown.grows says k.bus bus-live ∙ k.told
 
+  pub device-describable : is_describable b ≡ true → is_describable c ≡ true
+  device-describable says =
+      let leaves_rest = devices_stay_lem.added b t (wanted_by x) (resources_of b t k.bus (wanted_by x).props) in
+      let anonymous : child_entries c ANONYMOUS_BIRTH ≡ child_entries b ANONYMOUS_BIRTH =
+      joined.fourth ∙ append-nil (child_entries b ANONYMOUS_BIRTH) in
+      describable-grown b c w device-whole device-grown says device-placed leaves_rest.pending anonymous
+
   pub device-tells : (d : Description) → described b ≡ Some d → props_under c is_unset device_given (b.born + 1) ≡ x.props
       → (resources_of b t k.bus (wanted_by x).props).slot ≡ x.slot → Tells c (record d { devices = d.devices ++ x ∷ [] })
   device-tells d says props slot =
@@ -344,10 +353,7 @@ module _ (b : Board) (w : IsWhole b) (quiet : b.notices ≡ []) (t : TypeId) (x 
       let users : child_entries c OBJECTS_BIRTH ≡ child_entries b OBJECTS_BIRTH ++ [] =
       joined.children OBJECTS_BIRTH (kind-live b OBJECTS_BIRTH Container (objects-kind b w.order)) refl ∙ sym (append-nil (child_entries b OBJECTS_BIRTH)) in
       let leaves_rest = devices_stay_lem.added b t (wanted_by x) (resources_of b t k.bus (wanted_by x).props) in
-      let anonymous : child_entries c ANONYMOUS_BIRTH ≡ child_entries b ANONYMOUS_BIRTH =
-      joined.fourth ∙ append-nil (child_entries b ANONYMOUS_BIRTH) in
-      let describable : is_describable c ≡ true =
-      describable-grown b c w device-whole device-grown h.says device-placed leaves_rest.pending anonymous in
+      let describable : is_describable c ≡ true = device-describable h.says in
       let links : flat_map (link_items c) ((x.id, b.born + 1) ∷ []) ≡ [] = ap (λ (xs : List LinkItem). xs ++ []) linkless in
       let all = description-grown b c w device-whole device-grown h.says [] ((x.id, b.born + 1) ∷ []) users third refl links leaves_rest.rings in
       let item : filter_map (device_item c) ((x.id, b.born + 1) ∷ []) ≡ x ∷ [] = rw (device-told props slot h.says) refl in

@@ -3,7 +3,7 @@
 #![tactic(auto)]
 
 ghost use Rattle.qo_rebuilt.specs.Made.{ClockMadeLaw, RingsMadeLaw};
-ghost use Rattle.qo_rebuilt.specs.DevicesMade.{DevicesMadeLaw};
+ghost use Rattle.qo_rebuilt.specs.DevicesMade.{PluggedMadeLaw};
 ghost use Rattle.qo_rebuilt.specs.NumbersTaken.{NumbersTakenLaw};
 ghost use Rattle.qo_rebuilt.specs.ObjectsMade.{ObjectsMadeLaw};
 ghost use Rattle.qo_rebuilt.specs.WholeKept.{WholeKeptLaw};
@@ -42,8 +42,9 @@ pub fn law_objects()
     ensures { ObjectsMadeLaw }
 {}
 
-/// try
-#[tactic(auto, using(crate::proofs::DeviceLemmas::devices_made_lem))]
-pub fn law_devices()
-    ensures { DevicesMadeLaw }
+/// A good device that nothing refuses is added, and then the description tells it after those that it told before:
+/// where no clock of a device multiplies or divides yet, and no link is written.
+#[tactic(auto, using(crate::proofs::DeviceLemmas::plugged_made_lem))]
+pub fn law_plugged()
+    ensures { PluggedMadeLaw }
 {}
