@@ -246,7 +246,7 @@ has-clock : AllByRecursion (λ (t : TypeId). has_clock (type_name t) ≡ true) (
 unfolding types
 has-clock = (refl, (refl, (refl, (refl, tt))))
 
-part-device : (t : TypeId) → (parts_of t ≡ []) ⊎ (is_a t (codes "device") ≡ true)
+pub part-device : (t : TypeId) → (parts_of t ≡ []) ⊎ (is_a t (codes "device") ≡ true)
 unfolding types
 part-device = each (λ (t : TypeId). (parts_of t ≡ []) ⊎ (is_a t (codes "device") ≡ true)) (search rules)
 

@@ -1,8 +1,8 @@
 -- A board with more objects tells the same of those that were there.
 use Rattle.std.proofs.Common.{◌≡◌, refl, ap, ap₂, sym, subst, ◌∙◌, ℕ, zero, suc, ◌<◌, Bool, true, false, ◌==◌, ◌&&◌, List, [], ◌∷◌, ◌++◌, filter_map, find, length, Option, Some, None, is_some, option_map, option_and_then, unwrap_or, codes, decimal, arith}
-use Rattle.std.proofs.lemmas.Bool.{eqb-true, ne_eqb}
+use Rattle.std.proofs.lemmas.Bool.{eqb-true}
 use Rattle.std.proofs.lemmas.Option.{same_Some}
-use Rattle.qo_model.proofs.Common.{AllByRecursion, if◌then◌else◌, option_map_or, bytes_eq, type_name, OBJECTS_BIRTH, PERIPHERAL_BIRTH, ROOT_BIRTH, SYSTEM_CLOCK_BIRTH, TypeId, Val, Board, Record, Slot, plain, child, strong, weak, alias, is_live, kind_of, record_of, slot_named, slots_at, target_of, births, path_down_to, path_turn, place_of, clock_of, bus_of, mul_of, div_of, own_period, child_named, strong_in, number_in, plain_in, may_set, property_named, Given}
+use Rattle.qo_model.proofs.Common.{if◌then◌else◌, option_map_or, bytes_eq, type_name, ROOT_BIRTH, SYSTEM_CLOCK_BIRTH, TypeId, Val, Board, Record, Slot, plain, child, strong, weak, alias, is_live, kind_of, record_of, slot_named, slots_at, target_of, births, path_down_to, path_turn, place_of, clock_of, bus_of, mul_of, div_of, own_period, child_named, strong_in, number_in, plain_in, may_set, property_named, Given}
 use Rattle.qo_values.specs.declared.properties.Val.TheVariants as val
 use Rattle.qo_values.proofs.ListLemmas.{all-imply, found-has}
 use Rattle.qo_model.proofs.StepLemmas.{is_some-map}
@@ -12,18 +12,14 @@ use Rattle.qo_model.specs.declared.properties.Property.{Property}
 use Rattle.qo_save.specs.Described.{clock_item, clock_item_of, clock_numbers, device_given, device_item, device_of, given_in, is_describable, is_link, is_nothing, is_set, is_unset, link_item, link_items, link_to, object_given, object_item, object_of, prop_under, props_under}
 use Rattle.qo_save.specs.Description.{ClockNumbers, LinkItem}
 use Rattle.qo_sound.proofs.FirmBoardLemmas.{Linked}
-use Rattle.qo_sound.proofs.TestLemmas.{clash-back, decide}
-use Rattle.qo_sound_bounds.proofs.ClockLemmas.{clock-listed}
-use Rattle.qo_sound_devices.specs.SoundPlaces.{child_entries, has_entry, listed}
-use Rattle.qo_sound_devices.proofs.AttachmentLemmas.{parent-is}
+use Rattle.qo_sound_devices.specs.SoundPlaces.{child_entries, has_entry}
 use Rattle.qo_sound_devices.proofs.LocationLemmas.{place-named}
-use Rattle.qo_sound_devices.proofs.PlacesLemmas.{child-live, linked-at, of-live, owner-live}
+use Rattle.qo_sound_devices.proofs.PlacesLemmas.{linked-at, of-live, owner-live}
 use Rattle.qo_ways.specs.Ways.{IsInOrder}
 use Rattle.qo_ways.proofs.WayLemmas.{Above, root-steps, steps_to, turn-above}
 use Rattle.qo_good.proofs.BusLemmas.{listed-entry}
-use Rattle.qo_good.proofs.ItemLemmas.{all-here, all-some, filter_map-same}
-use Rattle.qo_good.proofs.PartLemmas.{system-kind}
-use Rattle.qo_good.proofs.PlaceLemmas.{below, firm, older, place-there, root-entries, root-way, settled, sound}
+use Rattle.qo_good.proofs.ItemLemmas.{all-some, filter_map-same}
+use Rattle.qo_good.proofs.PlaceLemmas.{below, firm, older, place-there, root-way, settled, sound}
 use Rattle.qo_rebuilt.proofs.FrameLemmas.{item_of, said_in, said_of}
 
 -- what has a type is there
@@ -222,55 +218,3 @@ module _ (b c : Board) (h : IsInOrder b) (texts : (m : ℕ) → is_live b m ≡ 
     where
       numbers_of : ℕ → ℕ → ℕ → ClockNumbers
       numbers_of div mul per = record { div = div; mul = mul; period = per }
-
--- ---- which entries are those of objects that stay as they are
-
--- an object that was there, but `/objects`
-abbrev pub Old : Board → List ℕ × ℕ → Type 0
-Old b e = (is_live b e.1 ≡ true) × ((e.1 == OBJECTS_BIRTH) ≡ false)
-
-module _ (b : Board) (h : IsInOrder b) where
-  entry-live : (p : ℕ) (e : List ℕ × ℕ) → has_entry e (child_entries b p) ≡ true → is_live b e.1 ≡ true
-  entry-live p e there = child-live b (firm b h) p e.1 (listed-entry e (child_entries b p) there)
-
-  pub old-objects : AllByRecursion (Old b) (child_entries b OBJECTS_BIRTH)
-  old-objects =
-      all-imply (λ (e : List ℕ × ℕ). has_entry e (child_entries b OBJECTS_BIRTH) ≡ true) (Old b)
-      (λ e there. (
-        entry-live OBJECTS_BIRTH e there,
-        (let low : OBJECTS_BIRTH < e.1 = older b h OBJECTS_BIRTH e there in ne_eqb e.1 OBJECTS_BIRTH (λ is. omega (arith, low, is))),
-      ))
-      (child_entries b OBJECTS_BIRTH) (all-here (child_entries b OBJECTS_BIRTH))
-
-  objects-parent : option_map (λ (q : ℕ × List ℕ). q.0) (place_of b OBJECTS_BIRTH) ≡ Some ROOT_BIRTH
-  objects-parent = parent-is b (firm b h) ROOT_BIRTH OBJECTS_BIRTH (ap (listed OBJECTS_BIRTH) (root-entries b h))
-
-  -- what is below another object than `/`
-  apart-objects : (p x : ℕ) → (p == ROOT_BIRTH) ≡ false → listed x (child_entries b p) ≡ true → (x == OBJECTS_BIRTH) ≡ false
-  apart-objects p x other on =
-      decide (x == OBJECTS_BIRTH)
-      (λ q.
-      let up : option_map (λ (q : ℕ × List ℕ). q.0) (place_of b x) ≡ Some p = parent-is b (firm b h) p x on in
-      let same : p ≡ ROOT_BIRTH =
-      same_Some p ROOT_BIRTH
-      (sym up ∙ ap (λ (m : ℕ). option_map (λ (q : ℕ × List ℕ). q.0) (place_of b m)) (eqb-true x OBJECTS_BIRTH q) ∙ objects-parent) in
-      clash-back (sym other ∙ ap (λ (m : ℕ). m == ROOT_BIRTH) same))
-      (λ q. q)
-
-  pub old-devices : AllByRecursion (Old b) (child_entries b PERIPHERAL_BIRTH)
-  old-devices =
-      all-imply (λ (e : List ℕ × ℕ). has_entry e (child_entries b PERIPHERAL_BIRTH) ≡ true) (Old b)
-      (λ e there. (
-        entry-live PERIPHERAL_BIRTH e there,
-        apart-objects PERIPHERAL_BIRTH e.1 refl (listed-entry e (child_entries b PERIPHERAL_BIRTH) there),
-      ))
-      (child_entries b PERIPHERAL_BIRTH) (all-here (child_entries b PERIPHERAL_BIRTH))
-
-  -- the clock of a device
-  pub old-clock : (d n : ℕ) → (d == ROOT_BIRTH) ≡ false → clock_of b d ≡ Some n → Old b (codes "clk", n)
-  old-clock d n other e =
-      let on : listed n (child_entries b d) ≡ true = clock-listed b (firm b h) d n e in
-      (child-live b (firm b h) d n on, apart-objects d n other on)
-
-  pub old-system : Old b (codes "sysclk", SYSTEM_CLOCK_BIRTH)
-  old-system = (kind-live b SYSTEM_CLOCK_BIRTH _ (system-kind b h), refl)

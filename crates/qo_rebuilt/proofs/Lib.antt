@@ -19,3 +19,9 @@ pub mod LinkWriteLemmas
 pub mod LinkTellLemmas
 pub mod LinkLemmas
 pub mod RebuiltLemmas
+pub mod RoomLemmas
+pub mod ObjectLemmas
+pub mod StayLemmas
+pub mod OwnLemmas
+pub mod PluggedLemmas
+pub mod DeviceLemmas

@@ -4,7 +4,9 @@
 
 ghost use Rattle.qo_rebuilt.specs.FactorsMade.{FactorsMadeLaw};
 ghost use Rattle.qo_rebuilt.specs.Made.{ClockMadeLaw, RingsMadeLaw};
+ghost use Rattle.qo_rebuilt.specs.DevicesMade.{PluggedMadeLaw};
 ghost use Rattle.qo_rebuilt.specs.NumbersTaken.{NumbersTakenLaw};
+ghost use Rattle.qo_rebuilt.specs.ObjectsMade.{ObjectsMadeLaw};
 ghost use Rattle.qo_rebuilt.specs.Rebuilt.{LinksMadeLaw};
 ghost use Rattle.qo_rebuilt.specs.TypesTold.{TypesToldLaw};
 ghost use Rattle.qo_rebuilt.specs.WholeKept.{WholeKeptLaw};
@@ -36,10 +38,25 @@ pub fn law_clock()
     ensures { ClockMadeLaw }
 {}
 
+/// Good objects, whose ids differ and are free, are added where there is room, and then the description tells them
+/// after those that it told before. So are those of a good description, after its clock and its rings.
+#[tactic(auto, using(crate::proofs::ObjectLemmas::objects_made_lem))]
+pub fn law_objects()
+    ensures { ObjectsMadeLaw }
+{}
+
+/// A good device that nothing refuses is added, and then the description tells it after those that it told before:
+/// where no clock of a device multiplies or divides yet, and no link is written.
+#[tactic(auto, using(crate::proofs::DeviceLemmas::plugged_made_lem))]
+pub fn law_plugged()
+    ensures { PluggedMadeLaw }
+{}
+
 /// Each object of the opening board tells the name of its type, and where the objects of a board are shaped
 /// as their types say and do, they do after each change: each command on objects, a device that is added,
 /// taken or refused at any stage, a device that is detached, acts and holds, the reset of the whole board, a
 /// write of a clock's numbers that is not refused, other registers of an object, and what changes no object.
+/// So does each object of a board that is rebuilt of a description, and whole.
 #[tactic(auto, using(crate::proofs::TypesLawLemmas::types_told_lem))]
 pub fn law_types()
     ensures { TypesToldLaw }
