@@ -46,7 +46,7 @@ said-on false o y e = absurd (cc)
 
 -- ---- rows
 
-rows-named : (t : TypeId) → option_map_or (λ (r : TypeInfo). slots_of r.id) (type_named (type_name t)) [] ≡ slots_of t
+pub rows-named : (t : TypeId) → option_map_or (λ (r : TypeInfo). slots_of r.id) (type_named (type_name t)) [] ≡ slots_of t
 unfolding types
 rows-named = each (λ (t : TypeId). option_map_or (λ (r : TypeInfo). slots_of r.id) (type_named (type_name t)) [] ≡ slots_of t) (search rules)
 
@@ -57,7 +57,7 @@ pub bare-device : (t : TypeId) → is_a t (codes "device") ≡ true → IsBare t
 unfolding types
 bare-device = each (λ (t : TypeId). is_a t (codes "device") ≡ true → (s : List ℕ × Slot) → IsFurther t s → ⊥) (search rules)
 
-bare-creatable : (t : TypeId) → is_a t (codes "user-creatable") ≡ true → IsBare t
+pub bare-creatable : (t : TypeId) → is_a t (codes "user-creatable") ≡ true → IsBare t
 unfolding types
 bare-creatable = each (λ (t : TypeId). is_a t (codes "user-creatable") ≡ true → (s : List ℕ × Slot) → IsFurther t s → ⊥) (search rules)
 

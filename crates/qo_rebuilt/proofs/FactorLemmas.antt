@@ -1,5 +1,5 @@
 -- What a board tells after the factors of a device's clock were written.
-use Rattle.std.proofs.Common.{◌≡◌, refl, ap, ap₂, sym, ◌∙◌, ℕ, ◌<◌, ◌^◌, ◌==◌, ◌&&◌, true, false, eqb, List, [], ◌∷◌, ◌++◌, filter_map, map, Option, Some, None, option_map, option_and_then, unwrap_or, codes, Ok}
+use Rattle.std.proofs.Common.{◌≡◌, refl, ap, ap₂, sym, ◌∙◌, ℕ, ◌<◌, ◌^◌, ◌==◌, ◌&&◌, true, false, eqb, List, ◌++◌, filter_map, map, Option, Some, None, option_map, option_and_then, unwrap_or, codes, Ok}
 use Rattle.std.specs.List.{flat_map}
 use Rattle.std.proofs.lemmas.Bool.{eqb-true}
 use Rattle.std.proofs.lemmas.Option.{same_Some}
@@ -19,6 +19,7 @@ use Rattle.qo_good.proofs.PartLemmas.{device_as, Here, users}
 use Rattle.qo_rebuilt.proofs.FrameLemmas.{item_of}
 use Rattle.qo_rebuilt.proofs.GrowthLemmas.{clock-kept, device-kept, kind-live, links-kept, object-kept, system-kept}
 use Rattle.qo_rebuilt.proofs.ScaledLemmas.{div-written, mul-written, scaled-rewritten, slots-other}
+use Rattle.qo_rebuilt.proofs.TellingLemmas.{flat-same}
 use Rattle.qo_rebuilt.proofs.WholeLemmas.{whole_kept_lem}
 use Rattle.qo_rebuilt.proofs.WrittenLemmas.{describable-written, IsRewritten, texts-written}
 
@@ -61,10 +62,6 @@ clock-no_device = refl
 clock-no_user : is_a Clock (codes "user-creatable") ≡ false
 unfolding types
 clock-no_user = refl
-
-flat-same : {X Y : Type 0} (f g : X → List Y) (xs : List X) → AllByRecursion (λ (x : X). f x ≡ g x) xs → flat_map f xs ≡ flat_map g xs
-flat-same f g [] h = refl
-flat-same {Y = Y} f g (x ∷ xs) h = ap (λ (ys : List Y). ys ++ flat_map f xs) h.0 ∙ ap (λ (ys : List Y). g x ++ ys) (flat-same f g xs h.1)
 
 module _ (b c : Board) (h : IsWhole b) (says : is_describable b ≡ true) (clk mul div : ℕ) (kind : kind_of b clk ≡ Some Clock) (s : Scaled b c clk mul div) where
   apart : (n : ℕ) (t : TypeId) (name : List ℕ) → kind_of b n ≡ Some t → is_a t name ≡ true → is_a Clock name ≡ false → eqb n clk ≡ false

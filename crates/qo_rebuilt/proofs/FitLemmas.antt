@@ -130,12 +130,12 @@ module _ (b : Board) (h : IsWhole b) (says : is_describable b ≡ true) where
     -- a younger device is among them
     young-unsaid : AllByRecursion (λ (y : List ℕ × ℕ). e.1 < y.1 → clock_item_of b y ≡ None) (child_entries b PERIPHERAL_BIRTH)
     young-unsaid =
-        let rising : Rises (births_in (done ++ e ∷ more)) = subst (λ (es : List (List ℕ × ℕ)). Rises (births_in es)) split (rises b h.order PERIPHERAL_BIRTH).1 in
+        let rising : Rises (births_in (done ++ e ∷ more)) =
+        subst (λ (es : List (List ℕ × ℕ)). Rises (births_in es)) split (rises b h.order PERIPHERAL_BIRTH).1 in
         subst (AllByRecursion (λ (y : List ℕ × ℕ). e.1 < y.1 → clock_item_of b y ≡ None)) (sym split)
         (all-append (λ (y : List ℕ × ℕ). e.1 < y.1 → clock_item_of b y ≡ None) done (e ∷ more)
         (all-imply (λ (y : List ℕ × ℕ). y.1 < e.1) (λ (y : List ℕ × ℕ). e.1 < y.1 → clock_item_of b y ≡ None)
-        (λ y low high. absurd (let no : 0 < 0 = omega (arith, low, high) in omega arith)) done (rises-before done e more rising))
-        (
+        (λ y low high. absurd (let no : 0 < 0 = omega (arith, low, high) in omega arith)) done (rises-before done e more rising)) (
           (λ high. absurd (let no : 0 < 0 = omega (arith, high) in omega arith)),
           all-imply (λ (y : List ℕ × ℕ). clock_item_of b y ≡ None) (λ (y : List ℕ × ℕ). e.1 < y.1 → clock_item_of b y ≡ None) (λ y none high. none) more
               unsaid,

@@ -1,10 +1,9 @@
 -- The factors of the clocks of a good description are written, one clock after another, and the board tells each after those before.
-use Rattle.std.proofs.Common.{◌≡◌, refl, ap, sym, subst, ◌∙◌, rules, ℕ, zero, suc, ◌<◌, ◌^◌, ◌==◌, ◌&&◌, Bool, true, false, eqb, List, [], ◌∷◌, ◌++◌, filter_map, map, Option, Some, None, option_and_then, unwrap_or, codes, Ok, append_assoc, append-nil, arith}
+use Rattle.std.proofs.Common.{◌≡◌, refl, ap, sym, subst, ◌∙◌, ℕ, zero, suc, ◌<◌, ◌^◌, ◌==◌, ◌&&◌, Bool, true, false, eqb, List, [], ◌∷◌, ◌++◌, filter_map, map, Option, Some, None, option_and_then, unwrap_or, codes, Ok, append_assoc, append-nil, arith}
 use Rattle.std.specs.List.{flat_map}
 use Rattle.std.proofs.lemmas.Bool.{and_parts, eqb-true}
 use Rattle.std.proofs.lemmas.Option.{same_Some}
-use Rattle.qo_model.proofs.Common.{AllByRecursion, option_map_or, type_name, PERIPHERAL_BIRTH, ROOT_BIRTH, ROOT_BUS_BIRTH, SYSTEM_CLOCK_BIRTH, TypeId, Clock, SlotBridge, Board, Slot, kind_of, kids_of, slots_at, bus_type, canonical, child_named, child_period, clock_of, clock_scaled, div_of, mul_of, is_of, path_down_to, period, scaled, scaled_by, source_for, source_of, is_a, types}
-use Rattle.qo_values.proofs.EachLemmas.{each}
+use Rattle.qo_model.proofs.Common.{AllByRecursion, option_map_or, type_name, PERIPHERAL_BIRTH, ROOT_BIRTH, ROOT_BUS_BIRTH, SYSTEM_CLOCK_BIRTH, TypeId, Clock, SlotBridge, Board, Slot, kind_of, kids_of, slots_at, bus_type, canonical, child_named, child_period, clock_of, clock_scaled, div_of, mul_of, is_of, path_down_to, period, scaled, scaled_by, source_for, source_of, is_a}
 use Rattle.qo_values.proofs.ListLemmas.{all-imply}
 use Rattle.qo_model.specs.Paths.{parent_of}
 use Rattle.qo_model.specs.Properties.{path_text}
@@ -26,7 +25,7 @@ use Rattle.qo_good.specs.Good.{bus_path, clock_path, clock_said, EachAfter, fact
 use Rattle.qo_good.specs.GoodBoards.{IsWhole}
 use Rattle.qo_good.proofs.BusLemmas.{bridge_bus, ClockAt, clock-at, its-bus, memory_bus, memory-only, owns-bus, root_bus, Stood, stood-all, WhichBus}
 use Rattle.qo_good.proofs.ItemLemmas.{all-after, all-append, all-both, all-front, births_in, filter_map-map, filter_map-same, rises-after, rises-before}
-use Rattle.qo_good.proofs.LayoutLemmas.{bridge-slot, bus-said, driver-said}
+use Rattle.qo_good.proofs.LayoutLemmas.{bridge-slot, bus-said, clock-by_type, driver-said}
 use Rattle.qo_good.proofs.ObjectLemmas.{system-free}
 use Rattle.qo_good.proofs.PartLemmas.{device_as, devices-said, memory_bus-kind}
 use Rattle.qo_good.proofs.PlaceLemmas.{all-entry, apart, firm, inner-way, older, rises, root_bus-way, told}
@@ -40,10 +39,6 @@ use Rattle.qo_rebuilt.proofs.NumberLemmas.{numbers_taken_lem}
 use Rattle.qo_rebuilt.proofs.RingLemmas.{Has, has, says-so, then_all}
 
 -- ---- what is said of a clock, and its numbers
-
-clock-by_type : (t : TypeId) → has_clock (type_name t) ≡ is_a t (codes "slot-device")
-unfolding types
-clock-by_type = each (λ (t : TypeId). has_clock (type_name t) ≡ is_a t (codes "slot-device")) (search rules)
 
 no-memory : (t : TypeId) → is_a t (codes "slot-device") ≡ true → bus_type t ≡ codes "mem-bus" → ⊥
 no-memory t is e = absurd (let no : codes "slot-bus" ≡ codes "mem-bus" = rw is at e in cc)
@@ -227,7 +222,8 @@ module _ (d : Description) (l : Layout) (X : List ℕ × ℕ → DeviceItem) (es
           entries = s.shape.children PERIPHERAL_BIRTH ∙ f.entries;
           same =
               all-imply (λ (y : List ℕ × ℕ). Stood b y × (device_as b y ≡ X y)) (λ (y : List ℕ × ℕ). device_as c y ≡ X y)
-              (λ y both. device-same b c f.whole f.says clk mul div clk-kind s y both.0 ∙ both.1) es (all-both (Stood b) (λ (y : List ℕ × ℕ). device_as b y ≡ X y) es (stood b f) f.same);
+              (λ y both. device-same b c f.whole f.says clk mul div clk-kind s y both.0 ∙ both.1) es
+              (all-both (Stood b) (λ (y : List ℕ × ℕ). device_as b y ≡ X y) es (stood b f) f.same);
           rest = ap (λ (x : Description). record x { clocks = [] }) (description-scaled b c f.whole f.says clk mul div clk-kind s no-system) ∙ f.rest;
         }
 
@@ -278,8 +274,7 @@ module _ (d : Description) (l : Layout) (X : List ℕ × ℕ → DeviceItem) (es
     before-said c said =
         subst (AllByRecursion (λ (z : List ℕ × ℕ). z.1 < e.1 → IsSaid c z)) (sym f.split)
         (all-append (λ (z : List ℕ × ℕ). z.1 < e.1 → IsSaid c z) done (e ∷ more)
-        (all-imply (IsSaid c) (λ (z : List ℕ × ℕ). z.1 < e.1 → IsSaid c z) (λ z is less. is) done said)
-        (
+        (all-imply (IsSaid c) (λ (z : List ℕ × ℕ). z.1 < e.1 → IsSaid c z) (λ z is less. is) done said) (
           (λ less. absurd (let no : 0 < 0 = omega (arith, less) in omega arith)),
           all-imply (λ (z : List ℕ × ℕ). e.1 < z.1) (λ (z : List ℕ × ℕ). z.1 < e.1 → IsSaid c z)
               (λ z high less. absurd (let no : 0 < 0 = omega (arith, high, less) in omega arith)) more younger-more,
@@ -348,7 +343,8 @@ module _ (d : Description) (l : Layout) (X : List ℕ × ℕ → DeviceItem) (es
 
       divided : Divided
       divided =
-          let done_so = factor-taken b f.base.whole f.base.says done e more (kept-split b f.base) here own f.unsaid.1 1 D clk-fits.divides (part-fits D (period b own.clock) period-low) in
+          let done_so = factor-taken b f.base.whole f.base.says done e more (kept-split b f.base) here own f.unsaid.1 1 D clk-fits.divides
+          (part-fits D (period b own.clock) period-low) in
           record {
             board = _;
             taken =
@@ -364,7 +360,8 @@ module _ (d : Description) (l : Layout) (X : List ℕ × ℕ → DeviceItem) (es
       base-mid = base-kept b divided.board f.base e here own.clock 1 D own.its divided.scaled_to
 
       here-mid : Stood divided.board e
-      here-mid = all-entry (Stood divided.board) e es (stood divided.board base-mid) (subst (λ (xs : List (List ℕ × ℕ)). has_entry e xs ≡ true) f.base.entries here.here.there)
+      here-mid = all-entry (Stood divided.board) e es (stood divided.board base-mid)
+          (subst (λ (xs : List (List ℕ × ℕ)). has_entry e xs ≡ true) f.base.entries here.here.there)
 
       same-mid : device_as divided.board e ≡ X e
       same-mid =
@@ -540,7 +537,7 @@ module _ (d : Description) (l : Layout) (X : List ℕ × ℕ → DeviceItem) (es
 
 -- ---- a good description
 
-none-there : {X Y : Type 0} (f : X → Option Y) (xs : List X) → filter_map f xs ≡ [] → AllByRecursion (λ (x : X). f x ≡ None) xs
+pub none-there : {X Y : Type 0} (f : X → Option Y) (xs : List X) → filter_map f xs ≡ [] → AllByRecursion (λ (x : X). f x ≡ None) xs
 none-there f [] e = tt
 none-there {Y = Y} f (x ∷ xs) e = go (f x) refl (none-there f xs)
   where
@@ -551,11 +548,10 @@ none-there {Y = Y} f (x ∷ xs) e = go (f x) refl (none-there f xs)
 clocks-each : (d : Description) (l : Layout) (before xs : List DeviceItem) → EachAfter (IsGoodDevice d l) before xs
     → AllByRecursion (λ (x : DeviceItem). has_clock x.driver ≡ true → HasClock l x) xs
 clocks-each d l before [] h = tt
-clocks-each d l before (x ∷ xs) h =
-    (
-      (λ has. h.0.clock (sym (clock-by_type h.0.kind) ∙ ap has_clock (sym h.0.driver) ∙ has)),
-      clocks-each d l (before ++ x ∷ []) xs h.1,
-    )
+clocks-each d l before (x ∷ xs) h = (
+  (λ has. h.0.clock (sym (clock-by_type h.0.kind) ∙ ap has_clock (sym h.0.driver) ∙ has)),
+  clocks-each d l (before ++ x ∷ []) xs h.1,
+)
 
 factors-made : (d : Description) → Good d → (b : Board) → Tells b (record d { clocks = []; links = [] })
     → Makes (flat_map factor_steps d.clocks) b (record d { links = [] })

@@ -26,12 +26,14 @@ use Rattle.qo_good.specs.Good.{bus, bus_path, clock, clock_path, device, device_
 use Rattle.qo_good.specs.GoodBoards.{IsWhole}
 use Rattle.qo_good.proofs.BusLemmas.{ClockAt, clock-at, device-no_shelf, own-bus, Stood, stood-all}
 use Rattle.qo_good.proofs.ItemLemmas.{all-after, all-append, all-both, all-front, all-map, filter_map-same, one-both, one-of, one-unmap}
+use Rattle.qo_good.proofs.LayoutLemmas.{clock-by_type}
 use Rattle.qo_good.proofs.PartLemmas.{anonymous-kind, device_as, devices-said, Here, inner, IsInner, machine-kind, memory_bus-kind, object_as, objects-kind, objects-said, peripheral-kind, root-kind, root_bus-kind, system-kind, users}
 use Rattle.qo_good.proofs.PlaceLemmas.{all-entry, apart, device-way, inner-way, machine-way, memory_bus-way, object-way, objects-way, older, part-way, root_bus-way}
 use Rattle.qo_good.proofs.ValueLemmas.{Its, its-record}
 use Rattle.qo_rebuilt.specs.Rebuilt.{LinksMade, LinksMadeLaw}
+use Rattle.qo_rebuilt.proofs.FrontLemmas.{none-there}
 use Rattle.qo_rebuilt.proofs.GrowthLemmas.{kind-live}
-use Rattle.qo_rebuilt.proofs.LinkRowLemmas.{all-owners, AllApart, Apart, at_path, kind_as, link_at, links-by_rows, own_of, Owner, owners_of, Row, rows-apart, rows-told, rows_in}
+use Rattle.qo_rebuilt.proofs.LinkRowLemmas.{all-owners, AllApart, Apart, at_path, kind_as, link_at, names-distinct, links-by_rows, own_of, Owner, owners_of, Row, rows-apart, rows-told, rows_in}
 use Rattle.qo_rebuilt.proofs.LinkTellLemmas.{link-other, link-own, link-unread, Unread, rest-told, rows-same, says-after, texts}
 use Rattle.qo_rebuilt.proofs.LinkWriteLemmas.{holding, IsEmpty, link-taken, seeing, Taken}
 use Rattle.qo_rebuilt.proofs.RingLemmas.{Has, has, says-so, then_all}
@@ -45,10 +47,6 @@ type-found = each (λ (t : TypeId). option_map (λ (r : TypeInfo). r.id) (type_n
 named-same : (t k : TypeId) → type_name t ≡ type_name k → t ≡ k
 named-same t k e =
     same_Some t k (sym (type-found t) ∙ ap (λ (name : List ℕ). option_map (λ (r : TypeInfo). r.id) (type_named name)) e ∙ type-found k)
-
-clock-by_type : (t : TypeId) → has_clock (type_name t) ≡ is_a t (codes "slot-device")
-unfolding types
-clock-by_type = each (λ (t : TypeId). has_clock (type_name t) ≡ is_a t (codes "slot-device")) (search rules)
 
 no-clock : (t : TypeId) → (is_a t (codes "device") ≡ true) ⊎ (is_a t (codes "user-creatable") ≡ true) → t ≡ Clock → ⊥
 unfolding types
@@ -143,7 +141,8 @@ module _ (b : Board) (h : IsWhole b) (says : is_describable b ≡ true) where
       let slot : is_a k.here.kind (codes "slot-device") ≡ true =
       sym (clock-by_type k.here.kind) ∙ ap (λ (o : Option TypeId). has_clock (type_name (unwrap_or o Object))) (sym k.here.its) ∙ has_one in
       let c : ClockAt b e = clock-at b h.order says e k slot in
-      found-as c.clock (clock_path e.0) path Clock t (part-canonical e k (codes "clk") c.clock c.there) (h.sources.clocks e.1 c.clock k.realized c.its) same type
+      found-as c.clock (clock_path e.0) path Clock t (part-canonical e k (codes "clk") c.clock c.there) (h.sources.clocks e.1 c.clock k.realized c.its) same
+      type
   there-found d os ds path t (bus one type) =
       let Q : DeviceItem → Type 0 = λ (x : DeviceItem). (path ≡ bus_path x.id) × (x.driver ≡ type_name SlotBridge) in
       let (e, (k, (same, named))) = device-one Q (subst (OneOf Q) ds one) in
@@ -156,10 +155,6 @@ module _ (b : Board) (h : IsWhole b) (says : is_describable b ≡ true) where
       (bus-kind m (subst (λ (x : TypeId). IsInner b x (codes "bus.0", m)) bridge part)) same type
 
 -- ---- rows
-
-names-distinct : (t : TypeId) → IsDistinct bytes_eq (map (λ (p : Property). property_name p.name) (slots_of t))
-unfolding types IsDistinct
-names-distinct = each (λ (t : TypeId). IsDistinct bytes_eq (map (λ (p : Property). property_name p.name) (slots_of t))) (search rules)
 
 -- each row that may not be missing has its slot
 record RowThere (slots : List (List ℕ × Slot)) (p : Property) : Type 0 where
@@ -183,16 +178,16 @@ rows-there t (p ∷ ps) once (next {s = s} {slots = slots} is rest) = ((λ stays
         → AllByRecursion (λ (q : Property). may_miss q ≡ false → RowThere slots q) qs
         → AllByRecursion (λ (q : Property). may_miss q ≡ false → RowThere (s ∷ slots) q) qs
     tail [] differ all = tt
-    tail (q ∷ qs) differ all =
-        (
-          (λ stays.
+    tail (q ∷ qs) differ all = (
+      (λ stays.
           let k : RowThere slots q = all.0 stays in
           let other : bytes_eq s.0 (property_name q.name) ≡ false = ap (λ (y : List ℕ). bytes_eq y (property_name q.name)) is.name ∙ differ.0 in
           record { slot = k.slot; named = rw other k.named; fits = k.fits }),
-          tail qs differ.1 all.1,
-        )
+      tail qs differ.1 all.1,
+    )
 
-all-flat : {X Y : Type 0} (Q : Y → Type 0) (f : X → List Y) (xs : List X) → AllByRecursion (λ (x : X). AllByRecursion Q (f x)) xs → AllByRecursion Q (flat_map f xs)
+all-flat : {X Y : Type 0} (Q : Y → Type 0) (f : X → List Y) (xs : List X) → AllByRecursion (λ (x : X). AllByRecursion Q (f x)) xs
+    → AllByRecursion Q (flat_map f xs)
 all-flat Q f [] h = tt
 all-flat Q f (x ∷ xs) h = all-append Q (f x) (flat_map f xs) h.0 (all-flat Q f xs h.1)
 
@@ -247,7 +242,8 @@ module _ (b : Board) (h : IsWhole b) (says : is_describable b ≡ true) where
 
 -- ---- an empty link
 
-empty-link : (b : Board) (n : ℕ) (name : List ℕ) (target : TypeId) (holds : Bool) (s : Slot) → HasRole (row.Link target holds) s → link_item b n (name, s) ≡ None
+empty-link : (b : Board) (n : ℕ) (name : List ℕ) (target : TypeId) (holds : Bool) (s : Slot) → HasRole (row.Link target holds) s
+    → link_item b n (name, s) ≡ None
     → is_set b n name ≡ true → IsEmpty target s
 empty-link b n name target true (strong to None) fits e set = subst (λ (x : TypeId). IsEmpty target (strong x None)) (sym fits) holding
 empty-link b n name target true (strong to (Some m)) fits e set =
@@ -279,14 +275,6 @@ apart-after r more (x ∷ done) h = apart-after r more done h.1
 
 differ-names : (x y : List ℕ) → (x ≡ y → ⊥) → bytes_eq x y ≡ false
 differ-names x y other = decide (bytes_eq x y) (λ q. absurd (other ((bytes_eq-Decides x y).0 q))) (λ q. q)
-
-none-there : {X Y : Type 0} (f : X → Option Y) (xs : List X) → filter_map f xs ≡ [] → AllByRecursion (λ (x : X). f x ≡ None) xs
-none-there f [] e = tt
-none-there {Y = Y} f (x ∷ xs) e = go (f x) refl (none-there f xs)
-  where
-    go : (o : Option Y) → f x ≡ o → (filter_map f xs ≡ [] → AllByRecursion (λ z. f z ≡ None) xs) → AllByRecursion (λ z. f z ≡ None) (x ∷ xs)
-    go None q rest = (q, rest (rw q at e))
-    go (Some y) q rest = absurd (let no : y ∷ filter_map f xs ≡ [] = rw q at e in cc)
 
 one-mapped : {X Y : Type 0} (f : X → Option Y) (x : X) (y : Y) → f x ≡ Some y → filter_map f (x ∷ []) ≡ y ∷ []
 one-mapped f x y e = rw e refl
@@ -398,7 +386,8 @@ module _ (d : Description) where
     link-here : link_at w.board r ≡ Some l
     link-here =
         let two = pointed-link good.target slot.slot found.birth empty in
-        link-own b w.board f.whole f.says r.0.1 (property_name r.1.name) slot.slot found.birth other w.is unread (pointed found.birth slot.slot) refl two.0 two.1
+        link-own b w.board f.whole f.says r.0.1 (property_name r.1.name) slot.slot found.birth other w.is unread (pointed found.birth slot.slot) refl two.0
+        two.1
         set-so (kind-live b r.0.1 o.kind o.its) (kind-live b found.birth good.kind found.its)
         ∙ ap Some link-same
 
@@ -426,7 +415,8 @@ module _ (d : Description) where
         go [] all = refl
         go (x ∷ xs) all =
             ap₂ (λ (path : List ℕ) (ys : List (List ℕ × Property)). (path, x.1) ∷ ys)
-            (texts b w.board f.whole f.says r.0.1 (property_name r.1.name) slot.slot found.birth other w.is unread x.0.1 (kind-live b x.0.1 all.0.kind all.0.its))
+            (texts b w.board f.whole f.says r.0.1 (property_name r.1.name) slot.slot found.birth other w.is unread x.0.1
+            (kind-live b x.0.1 all.0.kind all.0.its))
             (go xs all.1)
 
   -- ---- one after another

@@ -23,6 +23,7 @@ use Rattle.qo_ways.specs.Ways.{IsInOrder}
 use Rattle.qo_good.specs.Good.{device_path, object_path, rows, rows_of}
 use Rattle.qo_good.proofs.BusLemmas.{listed-entry}
 use Rattle.qo_good.proofs.ItemLemmas.{all-append, all-here, births_in, filter_map-map}
+use Rattle.qo_good.proofs.LinkLemmas.{bare-creatable, bare-device, rows-named}
 use Rattle.qo_good.proofs.PartLemmas.{device_as, devices, devices-said, Here, object_as, objects-said, users}
 use Rattle.qo_good.proofs.PlaceLemmas.{apart, device-way, firm, object-way, rises, told}
 use Rattle.qo_good.proofs.ValueLemmas.{Its, its-record}
@@ -62,28 +63,13 @@ rows_in b = flat_map (own_of b) (owners_of b)
 
 -- ---- rows of types
 
-names-distinct : (t : TypeId) → IsDistinct bytes_eq (map (λ (p : Property). property_name p.name) (slots_of t))
+pub names-distinct : (t : TypeId) → IsDistinct bytes_eq (map (λ (p : Property). property_name p.name) (slots_of t))
 unfolding types IsDistinct
 names-distinct = each (λ (t : TypeId). IsDistinct bytes_eq (map (λ (p : Property). property_name p.name) (slots_of t))) (search rules)
 
 missing-unset : (t : TypeId) → AllByRecursion (λ (p : Property). (may_miss p && may_set p.access) ≡ false) (slots_of t)
 unfolding types
 missing-unset = each (λ (t : TypeId). AllByRecursion (λ (p : Property). (may_miss p && may_set p.access) ≡ false) (slots_of t)) (search rules)
-
-abbrev IsBare : TypeId → Type 0
-IsBare t = (s : List ℕ × Slot) → IsFurther t s → ⊥
-
-bare-device : (t : TypeId) → is_a t (codes "device") ≡ true → IsBare t
-unfolding types
-bare-device = each (λ (t : TypeId). is_a t (codes "device") ≡ true → (s : List ℕ × Slot) → IsFurther t s → ⊥) (search rules)
-
-bare-creatable : (t : TypeId) → is_a t (codes "user-creatable") ≡ true → IsBare t
-unfolding types
-bare-creatable = each (λ (t : TypeId). is_a t (codes "user-creatable") ≡ true → (s : List ℕ × Slot) → IsFurther t s → ⊥) (search rules)
-
-rows-named : (t : TypeId) → option_map_or (λ (r : TypeInfo). slots_of r.id) (type_named (type_name t)) [] ≡ slots_of t
-unfolding types
-rows-named = each (λ (t : TypeId). option_map_or (λ (r : TypeInfo). slots_of r.id) (type_named (type_name t)) [] ≡ slots_of t) (search rules)
 
 and-false : (t u : Bool) → u ≡ false → (t && u) ≡ false
 and-false true u e = e
@@ -240,12 +226,14 @@ module _ (b : Board) (h : IsInOrder b) where
       (flat-rows (λ (e : List ℕ × ℕ). object_owner (object_as b e)) (child_entries b OBJECTS_BIRTH)
       (all-imply (Here b OBJECTS_BIRTH (codes "user-creatable"))
       (λ (e : List ℕ × ℕ). rows_of (object_owner (object_as b e)) ≡ map (at_path b) (own_of b e))
-      (λ e k. rows-at (object_path e.0) e k.kind k.its (told b h e.1 (object_path e.0) (apart b h OBJECTS_BIRTH e (omega arith) k.there) (object-way b h e.1 e.0 k.there)))
+      (λ e k. rows-at (object_path e.0) e k.kind k.its
+      (told b h e.1 (object_path e.0) (apart b h OBJECTS_BIRTH e (omega arith) k.there) (object-way b h e.1 e.0 k.there)))
       (child_entries b OBJECTS_BIRTH) (users b h)))
       (flat-rows (λ (e : List ℕ × ℕ). device_owner (device_as b e)) (child_entries b PERIPHERAL_BIRTH)
       (all-imply (Here b PERIPHERAL_BIRTH (codes "device"))
       (λ (e : List ℕ × ℕ). rows_of (device_owner (device_as b e)) ≡ map (at_path b) (own_of b e))
-      (λ e k. rows-at (device_path e.0) e k.kind k.its (told b h e.1 (device_path e.0) (apart b h PERIPHERAL_BIRTH e (omega arith) k.there) (device-way b h e.1 e.0 k.there)))
+      (λ e k. rows-at (device_path e.0) e k.kind k.its
+      (told b h e.1 (device_path e.0) (apart b h PERIPHERAL_BIRTH e (omega arith) k.there) (device-way b h e.1 e.0 k.there)))
       (child_entries b PERIPHERAL_BIRTH) (devices b h)))
       ∙ sym (map-append (at_path b) (flat_map (own_of b) (child_entries b OBJECTS_BIRTH)) (flat_map (own_of b) (child_entries b PERIPHERAL_BIRTH)))
       ∙ ap (map (at_path b)) (sym (flat_map-append (own_of b) (child_entries b OBJECTS_BIRTH) (child_entries b PERIPHERAL_BIRTH)))
@@ -280,17 +268,17 @@ own-apart e (p ∷ ps) h = (first ps h.0, own-apart e ps h.1)
     first : (qs : List Property) → AllByRecursion (λ (y : List ℕ). bytes_eq (property_name p.name) y ≡ false) (map (λ (q : Property). property_name q.name) qs)
         → AllByRecursion (Apart (e, p)) (map (λ (q : Property). (e, q)) qs)
     first [] k = tt
-    first (q ∷ qs) k =
-        (
-          (λ births names. absurd (let no : true ≡ false = sym ((bytes_eq-Decides (property_name p.name) (property_name q.name)).1 (sym names)) ∙ k.0 in cc)),
-          first qs k.1,
-        )
+    first (q ∷ qs) k = (
+      (λ births names. absurd (let no : true ≡ false = sym ((bytes_eq-Decides (property_name p.name) (property_name q.name)).1 (sym names)) ∙ k.0 in cc)),
+      first qs k.1,
+    )
 
 module _ (f : List ℕ × ℕ → List Property) where
   abbrev placed : List ℕ × ℕ → List Row
   placed e = map (λ (p : Property). (e, p)) (f e)
 
-  of-others : (e : List ℕ × ℕ) (p : Property) (x : List ℕ × ℕ) → Differ e x → (qs : List Property) → AllByRecursion (Apart (e, p)) (map (λ (q : Property). (x, q)) qs)
+  of-others : (e : List ℕ × ℕ) (p : Property) (x : List ℕ × ℕ) → Differ e x → (qs : List Property)
+      → AllByRecursion (Apart (e, p)) (map (λ (q : Property). (x, q)) qs)
   of-others e p x differ [] = tt
   of-others e p x differ (q ∷ qs) = ((λ births names. differ births), of-others e p x differ qs)
 
@@ -308,12 +296,14 @@ module _ (f : List ℕ × ℕ → List Property) where
       apart-append (map (λ (q : Property). (e, q)) (f e)) (flat_map (λ (x : List ℕ × ℕ). map (λ (q : Property). (x, q)) (f x)) es)
       (own-apart e (f e) (once e)) (flat-apart es h.1 once) (each-own (f e))
     where
-      each-own : (ps : List Property) → AllByRecursion (λ (r : Row). AllByRecursion (Apart r) (flat_map (λ (x : List ℕ × ℕ). map (λ (q : Property). (x, q)) (f x)) es))
+      each-own : (ps : List Property)
+          → AllByRecursion (λ (r : Row). AllByRecursion (Apart r) (flat_map (λ (x : List ℕ × ℕ). map (λ (q : Property). (x, q)) (f x)) es))
           (map (λ (q : Property). (e, q)) ps)
       each-own [] = tt
       each-own (p ∷ ps) = (across e p es h.0, each-own ps)
 
-differ-append : (es xs : List (List ℕ × ℕ)) → AllDiffer es → AllDiffer xs → AllByRecursion (λ (e : List ℕ × ℕ). AllByRecursion (Differ e) xs) es → AllDiffer (es ++ xs)
+differ-append : (es xs : List (List ℕ × ℕ)) → AllDiffer es → AllDiffer xs → AllByRecursion (λ (e : List ℕ × ℕ). AllByRecursion (Differ e) xs) es
+    → AllDiffer (es ++ xs)
 differ-append [] xs h k between = k
 differ-append (e ∷ es) xs h k between = (all-append (Differ e) es xs h.0 between.0, differ-append es xs h.1 k between.1)
 

@@ -40,12 +40,14 @@ is_link_role role = false
 abbrev pub Unread : List ℕ → Type 0
 Unread name = AllByRecursion (λ (y : List ℕ). bytes_eq name y ≡ false) read_names
 
-rows-unread : (t : TypeId) → AllByRecursion (λ (p : Property). (may_set p.access && (is_link_role p.role && list_any (bytes_eq (property_name p.name)) read_names)) ≡ false) (slots_of t)
+rows-unread : (t : TypeId) → AllByRecursion
+    (λ (p : Property). (may_set p.access && (is_link_role p.role && list_any (bytes_eq (property_name p.name)) read_names)) ≡ false) (slots_of t)
 unfolding types
 rows-unread =
     each
     (λ (t : TypeId).
-    AllByRecursion (λ (p : Property). (may_set p.access && (is_link_role p.role && list_any (bytes_eq (property_name p.name)) read_names)) ≡ false) (slots_of t))
+    AllByRecursion (λ (p : Property). (may_set p.access && (is_link_role p.role && list_any (bytes_eq (property_name p.name)) read_names)) ≡ false)
+    (slots_of t))
     (search rules)
 
 none-any : {X : Type 0} (test : X → Bool) (xs : List X) → list_any test xs ≡ false → AllByRecursion (λ (x : X). test x ≡ false) xs
@@ -161,7 +163,8 @@ module _ (b c : Board) (h : IsWhole b) (says : is_describable b ≡ true) (n : �
   all_told clock clocks devices links objects rings =
       record { clock = clock; clocks = clocks; devices = devices; links = links; objects = objects; rings = rings }
 
-  each-same : {X : Type 0} (f g : List ℕ × ℕ → X) → ((e : List ℕ × ℕ) → f e ≡ g e) → (es : List (List ℕ × ℕ)) → AllByRecursion (λ (e : List ℕ × ℕ). f e ≡ g e) es
+  each-same : {X : Type 0} (f g : List ℕ × ℕ → X) → ((e : List ℕ × ℕ) → f e ≡ g e) → (es : List (List ℕ × ℕ))
+      → AllByRecursion (λ (e : List ℕ × ℕ). f e ≡ g e) es
   each-same f g same [] = tt
   each-same f g same (e ∷ es) = (same e, each-same f g same es)
 

@@ -5,7 +5,7 @@ use Rattle.std.specs.List.{position_or_len}
 use Rattle.std.proofs.lemmas.Bool.Decides.{nat_tests}
 use Rattle.std.proofs.lemmas.Option.{same_Some}
 use Rattle.std.proofs.lemmas.Slice.Eq.{bytes_eq-Decides}
-use Rattle.qo_model.proofs.Common.{if◌then◌else◌, bytes_eq, type_name, ROOT_BIRTH, E15, E16, E17, E18, E31, Code, TypeId, Val, Board, Record, Slot, plain, child, strong, weak, alias, kind_of, record_of, slot_at, slot_named, slots_at, changed_at, point, pointed, with_changed, wrote, after_write, canonical, found, is_of, link_target, linked, may_set, property_name, property_named, relinked, resolve, set_property, write, write_at, written, written_by, drop_slot, edit, edited, emptied, with_dropped, without_hold, walk, Resolution, missing, several, is_set, only_set, set_row, clock_property_written, led_to, finalize, after, pointed_at}
+use Rattle.qo_model.proofs.Common.{if◌then◌else◌, bytes_eq, type_name, ROOT_BIRTH, E15, E16, E17, E18, E31, Code, TypeId, Val, Board, Record, Slot, plain, child, strong, weak, alias, kind_of, record_of, slot_at, slot_named, slots_at, changed_at, point, pointed, with_changed, wrote, after_write, canonical, found, is_of, link_target, linked, may_set, property_name, property_named, relinked, resolve, write, write_at, written, written_by, drop_slot, edit, edited, emptied, with_dropped, without_hold, walk, Resolution, missing, several, is_set, only_set, set_row, clock_property_written, led_to, finalize, after, pointed_at}
 use Rattle.qo_values.specs.declared.properties.Val.TheVariants as val
 use Rattle.qo_model.specs.Board.{referent}
 use Rattle.qo_model.specs.Paths.{components, is_absolute, path_down_to}
@@ -23,6 +23,7 @@ use Rattle.qo_ways.specs.Ways.{IsInOrder}
 use Rattle.qo_good.specs.GoodBoards.{IsWhole}
 use Rattle.qo_ways.proofs.WaysLawLemmas.{ways_lem}
 use Rattle.qo_ways.proofs.WayLemmas.{Below, below-root, root-components}
+use Rattle.qo_rebuilt.proofs.NumberLemmas.{at_of, set_at}
 use Rattle.qo_rebuilt.proofs.WholeLemmas.{whole_kept_lem}
 use Rattle.qo_rebuilt.proofs.WrittenLemmas.{IsRewritten}
 
@@ -173,15 +174,6 @@ both-access Never e = absurd (let clash : false ≡ true = e in cc)
 both-access Add e = absurd (let clash : false ≡ true = e in cc)
 both-access Set e = absurd (let clash : false ≡ true = e in cc)
 
-abbrev at_of : Resolution → Result ℕ Code
-at_of (found n) = Ok n
-at_of missing = Err E15
-at_of several = Err E16
-
-abbrev set_at : Board → List ℕ → Val → Result ℕ Code → Result Board Code
-set_at b name v (Ok n) = set_property b n name v
-set_at b name v (Err code) = Err code
-
 abbrev written_at : Board → ℕ → Val → Option Property → Option ℕ → Result Board Code
 written_at b n v row None = Err E17
 written_at b n v row (Some i) = written_by b n i row v
@@ -202,7 +194,8 @@ stays-empty : (t : TypeId) (s : Slot) → IsEmpty t s → emptied s ≡ Some s
 stays-empty t s holding = refl
 stays-empty t s seeing = refl
 
-module _ (b : Board) (h : IsWhole b) (n : ℕ) (t : TypeId) (kind : kind_of b n ≡ Some t) (p : Property) (own_row : property_named t (property_name p.name) ≡ Some p)
+module _ (b : Board) (h : IsWhole b) (n : ℕ) (t : TypeId) (kind : kind_of b n ≡ Some t) (p : Property)
+    (own_row : property_named t (property_name p.name) ≡ Some p)
     (set : may_set p.access ≡ true) (to : TypeId) (holds : Bool) (role : p.role ≡ row.Link to holds) (s : Slot) (empty : IsEmpty to s)
     (at : slot_named b n (property_name p.name) ≡ Some s) (m : ℕ) (value : List ℕ) (leads : canonical b m ≡ Some value) (fits : is_of b (type_name to) m ≡ true)
     (path : List ℕ) (own_path : canonical b n ≡ Some path) where
@@ -221,7 +214,8 @@ module _ (b : Board) (h : IsWhole b) (n : ℕ) (t : TypeId) (kind : kind_of b n 
   relinked-so : relinked b n k.place (Some m) ≡ last
   unfolding last
   relinked-so =
-      ap (λ (o : Option Slot). elim o as (λ _. Board) [ None ↦ b | Some x ↦ after finalize (pointed_at (Some m) n k.place (drop_slot b n k.place)) (referent x) ]) slot-there
+      ap (λ (o : Option Slot).
+      elim o as (λ _. Board) [ None ↦ b | Some x ↦ after finalize (pointed_at (Some m) n k.place (drop_slot b n k.place)) (referent x) ]) slot-there
       ∙ by s empty
     where
       by : (x : Slot) → IsEmpty to x
@@ -260,7 +254,8 @@ module _ (b : Board) (h : IsWhole b) (n : ℕ) (t : TypeId) (kind : kind_of b n 
       ap (set_at b (property_name p.name) (val.Text value)) (ap at_of (ways_lem.canonical_leads b h.order n path own_path))
       ∙ ap
       (λ (o : Option Property).
-      if is_some o then clock_property_written b (val.Text value) (led_to b n (property_name p.name)) else write b n (property_name p.name) (val.Text value)) no-row
+      if is_some o then clock_property_written b (val.Text value) (led_to b n (property_name p.name)) else write b n (property_name p.name) (val.Text value))
+      no-row
       ∙ write-so
 
   -- what is after it

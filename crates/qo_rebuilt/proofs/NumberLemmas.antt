@@ -45,12 +45,12 @@ takes most n low =
 
 -- ---- a write at the path of a clock
 
-abbrev at_of : Resolution → Result ℕ Code
+abbrev pub at_of : Resolution → Result ℕ Code
 at_of (found n) = Ok n
 at_of missing = Err E15
 at_of several = Err E16
 
-abbrev set_at : Board → List ℕ → Val → Result ℕ Code → Result Board Code
+abbrev pub set_at : Board → List ℕ → Val → Result ℕ Code → Result Board Code
 set_at b name v (Ok n) = set_property b n name v
 set_at b name v (Err code) = Err code
 

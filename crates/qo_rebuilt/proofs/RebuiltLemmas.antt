@@ -91,7 +91,8 @@ module _ (devices : DevicesMadeLaw) where
   good-made : (d : Description) → Good d → Makes (steps_of d) opening_board d
   good-made d good =
       let begun : List Step = clock_steps d.clock ++ map add_ring d.rings ++ map add_object d.objects in
-      let first : Makes begun opening_board (record opening_row { clock = d.clock; rings = d.rings; objects = d.objects }) = objects_made_lem.after_rings d good in
+      let first : Makes begun opening_board (record opening_row { clock = d.clock; rings = d.rings; objects = d.objects }) =
+      objects_made_lem.after_rings d good in
       let second : Makes (map add_device d.devices) first.board (record d { clocks = []; links = [] }) =
       devices-made devices d good first.board first.tells in
       let joined : Makes (begun ++ map add_device d.devices) opening_board (record d { clocks = []; links = [] }) =

@@ -135,7 +135,8 @@ to-sound b shape tells n r e =
     sym (ap told-in e) ∙ tells n r.kind (ap (option_map (λ (x : Record). x.kind)) e) in
     let read : told-in (Some r) ≡ Some (val.Text l.text) =
     ap
-    (λ (slots : List (List ℕ × Slot)). option_and_then plain_in (option_map (λ (s : List ℕ × Slot). s.1) (find (λ (s : List ℕ × Slot). bytes_eq s.0 (codes "type")) slots)))
+    (λ (slots : List (List ℕ × Slot)).
+    option_and_then plain_in (option_map (λ (s : List ℕ × Slot). s.1) (find (λ (s : List ℕ × Slot). bytes_eq s.0 (codes "type")) slots)))
     l.is in
     let same : l.text ≡ type_name r.kind = same-text l.text (type_name r.kind) (same_Some (val.Text l.text) (val.Text (type_name r.kind)) (sym read ∙ said)) in
     subst (AllRight r.kind) (sym l.is) ((λ named. same), l.others)
@@ -155,7 +156,8 @@ from-sound b shape h n t e = go (record_of b n) refl
         let right : AllRight r.kind ((codes "type", plain (val.Text l.text)) ∷ l.more) = subst (AllRight r.kind) l.is (h n r q) in
         ap told-in q
         ∙ ap
-        (λ (slots : List (List ℕ × Slot)). option_and_then plain_in (option_map (λ (s : List ℕ × Slot). s.1) (find (λ (s : List ℕ × Slot). bytes_eq s.0 (codes "type")) slots)))
+        (λ (slots : List (List ℕ × Slot)).
+        option_and_then plain_in (option_map (λ (s : List ℕ × Slot). s.1) (find (λ (s : List ℕ × Slot). bytes_eq s.0 (codes "type")) slots)))
         l.is
         ∙ ap (λ (text : List ℕ). Some (val.Text text)) (right.0 refl) ∙ ap (λ (k : TypeId). Some (val.Text (type_name k))) kind
 
@@ -349,7 +351,8 @@ module _ (b : Board) (a : Wanted) where
         record {
           value = λ p own type first role c k.
               slot-more (b.born + 1) _ _
-              (λ kind is. subst (λ (x : TypeId). IsRight x (property_name p.name) (first_value t first)) (sym (is refl)) (first-right t p own type first role)) c k;
+              (λ kind is. subst (λ (x : TypeId). IsRight x (property_name p.name) (first_value t first)) (sym (is refl)) (first-right t p own type first role))
+              c k;
           holds = λ p own target role c k. slot-more (b.born + 1) _ _ (λ kind is. tt) c k;
           sees = λ p own target role c k. slot-more (b.born + 1) _ _ (λ kind is. tt) c k;
           makes = λ p own kid role c room k.

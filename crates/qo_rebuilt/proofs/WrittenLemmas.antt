@@ -1,5 +1,5 @@
 -- A board on which slots were written, and no object or child came or went, has a description where it had one, and the same ways.
-use Rattle.std.proofs.Common.{◌≡◌, refl, ap, sym, ◌∙◌, ℕ, Bool, true, false, not, ◌==◌, ◌&&◌, List, [], ◌∷◌, filter, length, is_some, is_none}
+use Rattle.std.proofs.Common.{◌≡◌, refl, ap, sym, ◌∙◌, ℕ, Bool, true, false, not, ◌==◌, ◌&&◌, List, [], length, is_some, is_none}
 use Rattle.qo_model.proofs.Common.{AllByRecursion, ANONYMOUS_BIRTH, ROOT_BIRTH, Board, Record, is_live, kind_of, record_of, slots_at, children_of, detached, place_of}
 use Rattle.qo_values.proofs.ListLemmas.{all-imply}
 use Rattle.qo_model.proofs.StepLemmas.{is_some-map}
@@ -12,17 +12,13 @@ use Rattle.qo_ways.specs.Ways.{IsInOrder}
 use Rattle.qo_good.proofs.ItemLemmas.{births_in}
 use Rattle.qo_good.proofs.PlaceLemmas.{entries-children, parts, settled}
 use Rattle.qo_rebuilt.proofs.GrowthLemmas.{places-kept, texts-kept}
-use Rattle.qo_rebuilt.proofs.TellingLemmas.{all-live}
+use Rattle.qo_rebuilt.proofs.TellingLemmas.{all-live, none-left}
 
 -- the same objects are there, of the same types and with the same children, and no more removals are pending
 pub record IsRewritten (b c : Board) : Type 0 where
   pub kinds : (n : ℕ) → kind_of c n ≡ kind_of b n
   pub children : (n : ℕ) → child_entries c n ≡ child_entries b n
   pub pending : c.pending ≡ b.pending
-
-none-left : {X : Type 0} (test : X → Bool) (xs : List X) → AllByRecursion (λ (x : X). test x ≡ false) xs → filter test xs ≡ []
-none-left test [] h = refl
-none-left test (x ∷ xs) h = rw h.0 (none-left test xs h.1)
 
 module _ (b c : Board) (h : IsInOrder b) (k : IsInOrder c) (says : is_describable b ≡ true) (w : IsRewritten b c) where
   grows : (p : ℕ) (e : List ℕ × ℕ) → has_entry e (child_entries b p) ≡ true → has_entry e (child_entries c p) ≡ true
