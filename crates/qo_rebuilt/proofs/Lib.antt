@@ -11,3 +11,4 @@ pub mod StayLemmas
 pub mod OwnLemmas
 pub mod PluggedLemmas
 pub mod DeviceLemmas
+pub mod CheckLemmas
