@@ -32,7 +32,7 @@ parts_of SlotTimer = (codes "clk", Clock) ∷ []
 parts_of SlotBridge = (codes "clk", Clock) ∷ (codes "bus.0", SlotBus) ∷ []
 parts_of t = []
 
-further-parts : (t : TypeId) → further_of t ≡ parts_of t
+pub further-parts : (t : TypeId) → further_of t ≡ parts_of t
 unfolding types
 further-parts = each (λ (t : TypeId). further_of t ≡ parts_of t) (search rules)
 

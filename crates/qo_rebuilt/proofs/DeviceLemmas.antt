@@ -111,7 +111,7 @@ memory-is : is_a MemoryBackendRam (type_name MemoryBackend) ≡ true
 unfolding types
 memory-is = refl
 
-same-named : (t u : TypeId) → type_name t ≡ type_name u → t ≡ u
+pub same-named : (t u : TypeId) → type_name t ≡ type_name u → t ≡ u
 same-named t u e =
     same_Some t u (sym (row-own t) ∙ ap (λ (name : List ℕ). option_map (λ (r : TypeInfo). r.id) (type_named name)) e ∙ row-own u)
 

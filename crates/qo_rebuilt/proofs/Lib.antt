@@ -25,3 +25,4 @@ pub mod StayLemmas
 pub mod OwnLemmas
 pub mod PluggedLemmas
 pub mod DeviceLemmas
+pub mod CheckLemmas
