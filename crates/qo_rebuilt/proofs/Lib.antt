@@ -7,3 +7,5 @@ pub mod GrowthLemmas
 pub mod TellingLemmas
 pub mod RoomLemmas
 pub mod ObjectLemmas
+pub mod BarredLemmas
+pub mod TakenLemmas

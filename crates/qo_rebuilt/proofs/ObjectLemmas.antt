@@ -497,7 +497,7 @@ object-made b d o tells good typed free room =
 
 -- ---- one after another
 
-distinct-free : (xs : List (List ℕ)) (y : List ℕ) (ys : List (List ℕ)) → IsDistinct bytes_eq (xs ++ y ∷ ys)
+pub distinct-free : (xs : List (List ℕ)) (y : List ℕ) (ys : List (List ℕ)) → IsDistinct bytes_eq (xs ++ y ∷ ys)
     → AllByRecursion (λ (x : List ℕ). bytes_eq x y ≡ false) xs
 unfolding IsDistinct
 distinct-free [] y ys h = tt

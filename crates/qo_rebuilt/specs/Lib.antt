@@ -1,4 +1,5 @@
 pub mod Made
 pub mod NumbersTaken
 pub mod ObjectsMade
+pub mod DevicesMade
 pub mod WholeKept

@@ -3,6 +3,7 @@
 #![tactic(auto)]
 
 ghost use Rattle.qo_rebuilt.specs.Made.{ClockMadeLaw, RingsMadeLaw};
+ghost use Rattle.qo_rebuilt.specs.DevicesMade.{NextPlugged};
 ghost use Rattle.qo_rebuilt.specs.NumbersTaken.{NumbersTakenLaw};
 ghost use Rattle.qo_rebuilt.specs.ObjectsMade.{ObjectsMadeLaw};
 ghost use Rattle.qo_rebuilt.specs.WholeKept.{WholeKeptLaw};
@@ -39,4 +40,10 @@ pub fn law_clock()
 #[tactic(auto, using(crate::proofs::ObjectLemmas::objects_made_lem))]
 pub fn law_objects()
     ensures { ObjectsMadeLaw }
+{}
+
+/// try
+#[tactic(auto, using(crate::proofs::TakenLemmas::next_plugged))]
+pub fn law_next()
+    ensures { NextPlugged }
 {}

@@ -1,0 +1,6 @@
+-- A good device is not refused.
+use Rattle.qo_rebuilt.specs.DevicesMade.{NextPlugged}
+use Rattle.qo_rebuilt.proofs.BarredLemmas.{id-unbarred, notice-unbarred, room-unbarred, type-unbarred}
+
+pub next_plugged : NextPlugged
+next_plugged b d l x tells clocks links laid good ids room = ?
