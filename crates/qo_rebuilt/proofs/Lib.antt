@@ -8,4 +8,5 @@ pub mod TellingLemmas
 pub mod RoomLemmas
 pub mod ObjectLemmas
 pub mod BarredLemmas
+pub mod BusFoundLemmas
 pub mod TakenLemmas

@@ -2,5 +2,7 @@
 use Rattle.qo_rebuilt.specs.DevicesMade.{NextPlugged}
 use Rattle.qo_rebuilt.proofs.BarredLemmas.{id-unbarred, notice-unbarred, room-unbarred, type-unbarred}
 
+use Rattle.qo_rebuilt.proofs.BusFoundLemmas.{bus-found, bus-unbarred}
+
 pub next_plugged : NextPlugged
 next_plugged b d l x tells clocks links laid good ids room = ?
