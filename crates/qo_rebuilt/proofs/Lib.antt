@@ -9,4 +9,5 @@ pub mod RoomLemmas
 pub mod ObjectLemmas
 pub mod BarredLemmas
 pub mod BusFoundLemmas
+pub mod ClaimFreeLemmas
 pub mod TakenLemmas

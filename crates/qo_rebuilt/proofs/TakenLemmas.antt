@@ -4,5 +4,7 @@ use Rattle.qo_rebuilt.proofs.BarredLemmas.{id-unbarred, notice-unbarred, room-un
 
 use Rattle.qo_rebuilt.proofs.BusFoundLemmas.{bus-found, bus-unbarred}
 
+use Rattle.qo_rebuilt.proofs.ClaimFreeLemmas.{backend-found, backend-free, ranges-free, ring-free}
+
 pub next_plugged : NextPlugged
 next_plugged b d l x tells clocks links laid good ids room = ?
