@@ -30,7 +30,7 @@ use Rattle.qo_rebuilt.proofs.BarredLemmas.{none-pass}
 
 -- ---- lists
 
-all-unmap : {X Y : Type 0} (Q : Y → Type 0) (f : X → Y) (xs : List X) → AllByRecursion Q (map f xs) → AllByRecursion (λ (x : X). Q (f x)) xs
+pub all-unmap : {X Y : Type 0} (Q : Y → Type 0) (f : X → Y) (xs : List X) → AllByRecursion Q (map f xs) → AllByRecursion (λ (x : X). Q (f x)) xs
 all-unmap Q f [] h = tt
 all-unmap Q f (x ∷ xs) h = (h.0, all-unmap Q f xs h.1)
 

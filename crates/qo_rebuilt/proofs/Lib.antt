@@ -10,4 +10,5 @@ pub mod ObjectLemmas
 pub mod BarredLemmas
 pub mod BusFoundLemmas
 pub mod ClaimFreeLemmas
+pub mod PlaceFreeLemmas
 pub mod TakenLemmas

@@ -6,5 +6,7 @@ use Rattle.qo_rebuilt.proofs.BusFoundLemmas.{bus-found, bus-unbarred}
 
 use Rattle.qo_rebuilt.proofs.ClaimFreeLemmas.{backend-found, backend-free, ranges-free, ring-free}
 
+use Rattle.qo_rebuilt.proofs.PlaceFreeLemmas.{shallow-on, slot-free_on}
+
 pub next_plugged : NextPlugged
 next_plugged b d l x tells clocks links laid good ids room = ?
