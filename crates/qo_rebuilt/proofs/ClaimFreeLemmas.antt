@@ -263,7 +263,7 @@ module _ (b : Board) (h : IsWhole b) (says : is_describable b ≡ true) where
           ap (λ (o : Option Record). option_map_or (λ (x : Record). range_in x.registers) o []) q ∙ less r.registers like
 
   module _ (l : Layout) (g : Range) where
-    abbrev Away : DeviceItem → Type 0
+    abbrev pub Away : DeviceItem → Type 0
     Away y =
         (y.driver ≡ type_name MemDimm → overlap g (l.range y.id) ≡ false) × ((before : List DeviceItem) × IsGoodDevice (description b) l before y)
 

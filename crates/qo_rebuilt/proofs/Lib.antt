@@ -11,4 +11,5 @@ pub mod BarredLemmas
 pub mod BusFoundLemmas
 pub mod ClaimFreeLemmas
 pub mod PlaceFreeLemmas
+pub mod GivenFreeLemmas
 pub mod TakenLemmas

@@ -125,7 +125,7 @@ abbrev in_slots : List (List ℕ × Slot) → List ℕ → Option Slot
 in_slots slots name = option_map (λ (s : List ℕ × Slot). s.1) (find (λ (s : List ℕ × Slot). bytes_eq s.0 name) slots)
 
 -- no value is refused that its row takes
-next-refused : (b : Board) (t : TypeId) (name : List ℕ) (v : Val) (props : List Given) (p : Property) → property_named t name ≡ Some p
+pub next-refused : (b : Board) (t : TypeId) (name : List ℕ) (v : Val) (props : List Given) (p : Property) → property_named t name ≡ Some p
     → may_add p.access ≡ true → Takes p.role v → refusal_of b t ((name, v) ∷ props) ≡ refusal_of b t props
 next-refused b t name v props p found may takes =
     let by : refusal_by b (Some p) v ≡ None = rw may (fits p.role takes) in

@@ -8,5 +8,7 @@ use Rattle.qo_rebuilt.proofs.ClaimFreeLemmas.{backend-found, backend-free, range
 
 use Rattle.qo_rebuilt.proofs.PlaceFreeLemmas.{shallow-on, slot-free_on}
 
+use Rattle.qo_rebuilt.proofs.GivenFreeLemmas.{Passes}
+
 pub next_plugged : NextPlugged
 next_plugged b d l x tells clocks links laid good ids room = ?
