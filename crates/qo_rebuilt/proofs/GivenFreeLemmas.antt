@@ -77,10 +77,10 @@ slot-last : (b : Board) (t : TypeId) (slot : ℕ) → property_named t (codes "s
     → refusal_of b t ((codes "slot", val.Uint slot) ∷ []) ≡ None
 slot-last b t slot its low = next-refused b t (codes "slot") (val.Uint slot) [] slot_row its refl (slot-takes slot low)
 
-timer-passes : (b : Board) (bus slot : ℕ) → slot < BUS_SLOTS → Passes b SlotTimer bus slot []
+pub timer-passes : (b : Board) (bus slot : ℕ) → slot < BUS_SLOTS → Passes b SlotTimer bus slot []
 timer-passes b bus slot low = record { unrefused = slot-last b SlotTimer slot slot-rows.1.1.0 low; numbered = refl; placed = refl; realizes = refl }
 
-bridge-passes : (b : Board) (bus slot : ℕ) → slot < BUS_SLOTS → nat_le BUS_DEPTH_MAX (depth_of b bus) ≡ false → Passes b SlotBridge bus slot []
+pub bridge-passes : (b : Board) (bus slot : ℕ) → slot < BUS_SLOTS → nat_le BUS_DEPTH_MAX (depth_of b bus) ≡ false → Passes b SlotBridge bus slot []
 bridge-passes b bus slot low shallow =
     record {
       unrefused = slot-last b SlotBridge slot slot-rows.1.1.1 low;
@@ -137,7 +137,7 @@ module _ (b : Board) (h : IsWhole b) (says : is_describable b ≡ true) where
         ap (λ (o : Option Code). elim o [ Some code ↦ Some code | None ↦ refusal_of b MemDimm props ])
         (ap (λ (o : Option Property). refusal_by b o (val.Text (object_path id))) memdev-row ∙ ap code_of target-found)
 
-  dimm-passes : (l : Layout) (x : DeviceItem) (bus : ℕ) → x.slot < BUS_SLOTS → AllByRecursion (Away b h says l (l.range x.id)) (description b).devices
+  pub dimm-passes : (l : Layout) (x : DeviceItem) (bus : ℕ) → x.slot < BUS_SLOTS → AllByRecursion (Away b h says l (l.range x.id)) (description b).devices
       → HasRange (description b) l (description b).devices x → Passes b MemDimm bus x.slot x.props
   dimm-passes l x bus low away k =
       subst (Passes b MemDimm bus x.slot) (sym k.props)
@@ -177,7 +177,7 @@ module _ (b : Board) (h : IsWhole b) (says : is_describable b ≡ true) where
           ∙ ap (λ (u : Bool). if u then Some E39 else code_in (range_for b (Some (l.range x.id).at) (size_of b m.m))) free
           ∙ in_place (size_of b m.m) m.size
 
-  uart-passes : (x : DeviceItem) (bus : ℕ) → x.slot < BUS_SLOTS → NamesRing (description b) (description b).devices x → Passes b SlotUart bus x.slot x.props
+  pub uart-passes : (x : DeviceItem) (bus : ℕ) → x.slot < BUS_SLOTS → NamesRing (description b) (description b).devices x → Passes b SlotUart bus x.slot x.props
   uart-passes x bus low (no_ring none) = subst (Passes b SlotUart bus x.slot) (sym none) (bare-passes b bus x.slot low)
   uart-passes x bus low (ring id props one alone) =
       subst (Passes b SlotUart bus x.slot) (sym props) (ring-passes b bus x.slot id low (ring-free b h says id one alone))

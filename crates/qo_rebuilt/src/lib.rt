@@ -3,7 +3,7 @@
 #![tactic(auto)]
 
 ghost use Rattle.qo_rebuilt.specs.Made.{ClockMadeLaw, RingsMadeLaw};
-ghost use Rattle.qo_rebuilt.specs.DevicesMade.{NextPlugged};
+ghost use Rattle.qo_rebuilt.specs.DeviceTaken.{DeviceTakenLaw};
 ghost use Rattle.qo_rebuilt.specs.NumbersTaken.{NumbersTakenLaw};
 ghost use Rattle.qo_rebuilt.specs.ObjectsMade.{ObjectsMadeLaw};
 ghost use Rattle.qo_rebuilt.specs.WholeKept.{WholeKeptLaw};
@@ -42,8 +42,9 @@ pub fn law_objects()
     ensures { ObjectsMadeLaw }
 {}
 
-/// try
-#[tactic(auto, using(crate::proofs::TakenLemmas::next_plugged))]
-pub fn law_next()
-    ensures { NextPlugged }
+/// A good device whose id is no other's is not refused, where there is room for its objects: on a board whose description
+/// tells those that stand before it, by a layout of them.
+#[tactic(auto, using(crate::proofs::TakenLemmas::device_taken_lem))]
+pub fn law_taken()
+    ensures { DeviceTakenLaw }
 {}
