@@ -1,28 +1,27 @@
 -- A good device is not refused by its type, its id, the number of objects or the notices.
-use Rattle.std.proofs.Common.{◌≡◌, refl, ap, sym, subst, ◌∙◌, rules, ℕ, ◌+◌, ◌<◌, ◌≤◌, Bool, true, false, not, ◌==◌, nat_le, List, [], ◌∷◌, ◌++◌, find, length, map, sum_by, Option, Some, None, option_map, option_and_then, codes, arith}
-use Rattle.std.proofs.lemmas.Bool.{eq-eqb, le-leb, leb-true, ne_eqb}
-use Rattle.std.proofs.lemmas.List.{length-append, map-append}
+use Rattle.std.proofs.Common.{◌≡◌, refl, ap, sym, subst, ◌∙◌, rules, ℕ, ◌+◌, ◌<◌, ◌≤◌, Bool, true, false, ◌==◌, nat_le, List, [], ◌∷◌, ◌++◌, find, length, map, sum_by, Option, Some, None, option_and_then, codes, arith}
+use Rattle.std.proofs.lemmas.Bool.{eq-eqb, le-leb, ne_eqb}
+use Rattle.std.proofs.lemmas.List.{map-append}
 use Rattle.std.proofs.lemmas.List.Sums.{sum_by-append}
 use Rattle.std.proofs.lemmas.Option.{same_Some}
 use Rattle.std.proofs.lemmas.Slice.Eq.{bytes_eq-Decides}
-use Rattle.qo_model.proofs.Common.{AllByRecursion, if◌then◌else◌, list_any, option_map_or, option_or, bytes_eq, type_name, is_id, PERIPHERAL_BIRTH, LIVE_OBJECTS_MAX, NOTICES_MAX, TypeId, Container, Code, E15, E22, E23, E24, E43, E44, Board, Notice, Record, kind_of, record_of, births, container_barred, device_named, has_id, has_slot, id_barred, id_refused, is_of, notice_barred, objects_in, room_barred, type_barred, is_a, types}
+use Rattle.qo_model.proofs.Common.{AllByRecursion, if◌then◌else◌, list_any, option_map_or, option_or, bytes_eq, type_name, is_id, PERIPHERAL_BIRTH, LIVE_OBJECTS_MAX, NOTICES_MAX, TypeId, Container, Code, E43, E44, Board, Notice, Record, record_of, container_barred, device_named, has_id, has_slot, id_barred, id_refused, is_of, notice_barred, objects_in, room_barred, type_barred, is_a, types}
 use Rattle.qo_values.proofs.EachLemmas.{each}
 use Rattle.qo_values.proofs.ListLemmas.{all-imply}
 use Rattle.qo_values.specs.declared.births.TheConstants.{OPENING_OBJECTS}
 use Rattle.qo_model.specs.SoundGraph.{Rises}
 use Rattle.qo_model.specs.Types.{TypeInfo, type_named}
-use Rattle.qo_save.specs.Described.{description, is_describable}
+use Rattle.qo_save.specs.Described.{is_describable}
 use Rattle.qo_save.specs.Description.{Description, DeviceItem}
 use Rattle.qo_sound.proofs.TestLemmas.{clash, decide}
-use Rattle.qo_sound_devices.specs.SoundPlaces.{child_entries, has_entry, id_of, IsPeripheral}
+use Rattle.qo_sound_devices.specs.SoundPlaces.{child_entries, id_of, IsPeripheral}
 use Rattle.qo_sound_order.specs.SoundOrder.{is_abstract}
-use Rattle.qo_good.specs.Good.{AreIds, objects_of, OneOf}
+use Rattle.qo_good.specs.Good.{AreIds, objects_of}
 use Rattle.qo_good.specs.GoodBoards.{IsWhole}
 use Rattle.qo_good.proofs.LinkLemmas.{ids-mapped, ids_in}
 use Rattle.qo_good.proofs.PartLemmas.{device-entry, device_as, devices-said, peripheral-kind}
 use Rattle.qo_good.proofs.PlaceLemmas.{all-entry, firm, OfKind, of-kind}
 use Rattle.qo_good.proofs.BusLemmas.{device-no_shelf}
-use Rattle.qo_good.proofs.RoomLemmas.{objects-by_type}
 use Rattle.qo_rebuilt.specs.Made.{Tells}
 use Rattle.qo_rebuilt.proofs.ObjectLemmas.{distinct-free, slot-free}
 use Rattle.qo_rebuilt.proofs.RingLemmas.{Has, has}
@@ -135,7 +134,8 @@ room-unbarred b d x t tells driver room =
     let k : Has b d = has b d tells.says in
     let few : length b.records ≤ OPENING_OBJECTS + length d.objects + sum_by objects_of d.devices =
     subst (λ (y : Description). length b.records ≤ OPENING_OBJECTS + length y.objects + sum_by objects_of y.devices) k.is (records-said b tells.whole k.says) in
-    let sum : sum_by objects_of (d.devices ++ x ∷ []) ≡ sum_by objects_of d.devices + sum_by objects_of (x ∷ []) = sum_by-append objects_of d.devices (x ∷ []) in
+    let sum : sum_by objects_of (d.devices ++ x ∷ []) ≡ sum_by objects_of d.devices + sum_by objects_of (x ∷ []) =
+    sum_by-append objects_of d.devices (x ∷ []) in
     let by_type : objects_of x ≡ objects_in t =
     ap (λ (name : List ℕ). option_map_or (λ (r : TypeInfo). objects_in r.id) (type_named name) 0) driver ∙ own-objects t in
     let one : sum_by objects_of (x ∷ []) ≡ objects_in t = omega (arith, by_type) in

@@ -1,19 +1,18 @@
 -- The bus of a good device is at its path, and does not bar it.
-use Rattle.std.proofs.Common.{◌≡◌, ◌⊎◌, inl, inr, refl, ap, sym, subst, ◌∙◌, ℕ, zero, suc, ◌<◌, Bool, true, false, not, ◌==◌, ◌||◌, List, [], ◌∷◌, ◌++◌, map, length, Option, Some, None, codes, arith}
-use Rattle.std.proofs.lemmas.Option.{same_Some}
-use Rattle.qo_model.proofs.Common.{AllByRecursion, if◌then◌else◌, list_any, option_map_or, type_name, MEMORY_BUS_BIRTH, PERIPHERAL_BIRTH, ROOT_BIRTH, ROOT_BUS_BIRTH, TypeId, Clock, MemBus, SlotBridge, SlotBus, Code, E26, E27, Board, kind_of, by_depth, bridge_of, bus_barred, bus_for, bus_of, bus_type, going_turn, is_going, births, Resolution, attached, components, found, missing, several, is_absolute, is_of, path_down_to, resolve, walk, is_a, types}
+use Rattle.std.proofs.Common.{◌≡◌, inl, inr, refl, ap, sym, subst, ◌∙◌, ℕ, zero, suc, ◌<◌, true, false, List, [], length, Option, Some, None, codes, arith}
+use Rattle.qo_model.proofs.Common.{list_any, option_map_or, type_name, MEMORY_BUS_BIRTH, PERIPHERAL_BIRTH, ROOT_BIRTH, ROOT_BUS_BIRTH, TypeId, MemBus, SlotBridge, SlotBus, Board, kind_of, by_depth, bridge_of, bus_barred, bus_for, bus_of, bus_type, going_turn, is_going, births, Resolution, attached, components, found, is_absolute, is_of, path_down_to, resolve, walk, is_a, types}
 use Rattle.qo_model.specs.Board.{is_of_device, is_pending, Removal}
 use Rattle.qo_model.specs.Properties.{path_text}
 use Rattle.qo_save.specs.Described.{description, is_describable}
-use Rattle.qo_save.specs.Description.{Description, DeviceItem}
-use Rattle.qo_sound_devices.specs.SoundPlaces.{bridges as owned_by, child_entries, has_entry, HasOwner, machines}
+use Rattle.qo_save.specs.Description.{DeviceItem}
+use Rattle.qo_sound_devices.specs.SoundPlaces.{bridges as owned_by, child_entries, HasOwner, machines}
 use Rattle.qo_sound_devices.proofs.AttachmentLemmas.{owner-attached}
 use Rattle.qo_good.specs.Good.{bridges, bus_path, HasBus, memory, OneOf, root}
 use Rattle.qo_good.specs.GoodBoards.{IsWhole}
-use Rattle.qo_good.proofs.BusLemmas.{bridge_bus, device-no_shelf, memory_bus, own-bus, owns-bus, root_bus, Stood, stood-all, WhichBus}
+use Rattle.qo_good.proofs.BusLemmas.{bridge_bus, memory_bus, own-bus, owns-bus, root_bus, Stood, stood-all, WhichBus}
 use Rattle.qo_good.proofs.ItemLemmas.{one-both, one-of, one-unmap}
 use Rattle.qo_good.proofs.LayoutLemmas.{driver-said, named-bridge}
-use Rattle.qo_good.proofs.PartLemmas.{device_as, devices-said, inner, IsInner, memory_bus-kind, parts_of, root_bus-kind}
+use Rattle.qo_good.proofs.PartLemmas.{device_as, devices-said, inner, IsInner, memory_bus-kind, root_bus-kind}
 use Rattle.qo_good.proofs.PlaceLemmas.{all-entry, apart, firm, inner-way, leads, memory_bus-way, none-long, older, parts, root_bus-way, sound, told}
 
 -- ---- what a path leads to

@@ -1,32 +1,29 @@
 -- What a good device claims is free: its ring, its memory backend and its range.
-use Rattle.std.proofs.Common.{◌≡◌, ◌≢◌, ◌⊎◌, inl, inr, refl, ap, ap₂, sym, subst, ◌∙◌, ℕ, ◌<◌, Bool, true, false, not, ◌==◌, ◌&&◌, ◌||◌, List, [], ◌∷◌, ◌++◌, filter, map, Option, Some, None, option_map, option_and_then, unwrap_or, codes, arith}
+use Rattle.std.proofs.Common.{◌≡◌, ◌≢◌, inl, inr, refl, ap, ap₂, sym, subst, ◌∙◌, ℕ, Bool, true, false, ◌==◌, ◌&&◌, List, [], ◌∷◌, filter, map, Option, Some, None, option_map, option_and_then, unwrap_or, codes, arith}
 use Rattle.std.specs.List.{flat_map}
 use Rattle.std.proofs.lemmas.Bool.{and_parts, eqb-true}
 use Rattle.std.proofs.lemmas.List.Folds.{list_any-append}
 use Rattle.std.proofs.lemmas.Option.{same_Some}
 use Rattle.std.proofs.lemmas.Slice.Eq.{bytes_eq-Decides}
-use Rattle.qo_model.proofs.Common.{AllByRecursion, if◌then◌else◌, list_any, option_map_or, bytes_eq, type_name, OBJECTS_BIRTH, PERIPHERAL_BIRTH, TypeId, MemDimm, MemoryBackendRam, Object, SlotBridge, SlotTimer, SlotUart, Range, range_at, overlap, overlaps_any, Registers, bare, bridge, dimm, timer, uart, fresh_registers, Code, E36, E37, Board, Record, Ring, Slot, kind_of, record_of, slot_named, Given, backend_of, claims_ring, dimms, has_backend, has_ring, is_dimm, is_realized, number_for, path_down_to, plain_in, property_named, range_in, ranges_of, ring_barred, size_of, strong_in, text_at, text_for, text_in, is_a, types}
-use Rattle.qo_values.proofs.ListLemmas.{all-imply}
+use Rattle.qo_model.proofs.Common.{AllByRecursion, list_any, option_map_or, bytes_eq, type_name, OBJECTS_BIRTH, PERIPHERAL_BIRTH, TypeId, MemDimm, MemoryBackendRam, Object, SlotBridge, SlotTimer, SlotUart, Range, range_at, overlap, overlaps_any, Registers, bare, bridge, dimm, timer, uart, fresh_registers, Board, Record, Ring, Slot, kind_of, record_of, slot_named, Given, claims_ring, dimms, has_backend, has_ring, is_dimm, is_realized, number_for, path_down_to, plain_in, property_named, range_in, ranges_of, ring_barred, size_of, strong_in, text_at, text_for, text_in, is_a, types}
 use Rattle.qo_values.specs.Registers.{is_like}
 use Rattle.qo_model.specs.Properties.{path_text}
 use Rattle.qo_save.specs.Described.{description, is_describable, ring_item}
-use Rattle.qo_save.specs.Description.{Description, DeviceItem, ObjectItem, RingItem}
-use Rattle.qo_sound.proofs.TestLemmas.{clash, clash-back, decide}
+use Rattle.qo_save.specs.Description.{DeviceItem, RingItem}
+use Rattle.qo_sound.proofs.TestLemmas.{clash-back, decide}
 use Rattle.qo_sound_claims.specs.SoundClaims.{HasRange as RangeKept}
-use Rattle.qo_sound_devices.specs.SoundPlaces.{child_entries, has_entry, stands}
-use Rattle.qo_sound_shapes.specs.SoundShape.{IsShaped}
+use Rattle.qo_sound_devices.specs.SoundPlaces.{child_entries, stands}
 use Rattle.qo_good.specs.Good.{HasRange, IsGiven, IsGoodDevice, IsMemory, Layout, object_path, OneOf}
 use Rattle.qo_good.specs.GoodBoards.{IsWhole}
 use Rattle.qo_good.proofs.BusLemmas.{Stood, stood-all}
-use Rattle.qo_good.proofs.ClaimLemmas.{as_dimm, as_other, as_uart, named-dimm, named-memory, range_given, ring_given, Says, says-of}
-use Rattle.qo_good.proofs.DeviceLemmas.{ring-no_memory, ring-text, text-way}
+use Rattle.qo_good.proofs.ClaimLemmas.{as_dimm, as_other, as_uart, named-dimm, named-memory, range_given, Says, says-of}
+use Rattle.qo_good.proofs.DeviceLemmas.{ring-text, text-way}
 use Rattle.qo_good.proofs.ItemLemmas.{one-both, one-of, one-unmap}
 use Rattle.qo_good.proofs.LayoutLemmas.{driver-said}
 use Rattle.qo_good.proofs.ObjectLemmas.{memory-size}
 use Rattle.qo_good.proofs.PartLemmas.{device_as, devices-said, Here, object_as, objects-said, users}
 use Rattle.qo_good.proofs.PlaceLemmas.{apart, object-way, one-at, one-listed, stands-named, told}
 use Rattle.qo_good.proofs.ValueLemmas.{unnamed}
-use Rattle.qo_rebuilt.proofs.BarredLemmas.{none-pass}
 
 -- ---- lists
 
@@ -34,10 +31,7 @@ pub all-unmap : {X Y : Type 0} (Q : Y → Type 0) (f : X → Y) (xs : List X) �
 all-unmap Q f [] h = tt
 all-unmap Q f (x ∷ xs) h = (h.0, all-unmap Q f xs h.1)
 
--- what all have, the one has too
-one-has : {X : Type 0} (P Q : X → Type 0) (xs : List X) → AllByRecursion P xs → OneOf Q xs → OneOf (λ (x : X). P x × Q x) xs
-one-has P Q xs all one = one-both P Q xs all one
-
+-- none of what is made of those that pass is found
 none-kept : {X : Type 0} (p : X → Bool) (f : X → ℕ) (q : ℕ → Bool) → ((x : X) → p x ≡ true → q (f x) ≡ false) → (xs : List X)
     → list_any q (map f (filter p xs)) ≡ false
 none-kept p f q never [] = refl
@@ -51,6 +45,7 @@ none-flat p f g q never (x ∷ xs) =
     let rest : list_any q (flat_map g (map f (filter p xs))) ≡ false = none-flat p f g q never xs in
     decide (p x) (λ e. rw e (list_any-append q (g (f x)) (flat_map g (map f (filter p xs))) ∙ rw (never x e, rest) refl)) (λ e. rw e rest)
 
+-- a ring that is told is there
 ring-there : (id : List ℕ) (rings : List Ring) → OneOf (λ (r : RingItem). r.id ≡ id) (map ring_item rings)
     → list_any (λ (r : Ring). bytes_eq r.id id) rings ≡ true
 ring-there id [] one = absurd one
@@ -175,7 +170,8 @@ module _ (b : Board) (h : IsWhole b) (says : is_describable b ≡ true) where
           own s (as_uart is other its lit props) =
               ap (λ (o : Option (List ℕ)). option_map_or (bytes_eq id) o false) its
               ∙ decide (bytes_eq id other)
-              (λ q. absurd (s.says (ap (λ (ps : List Given). text_for ps (codes "chardev")) props ∙ ring-text other ∙ sym ((bytes_eq-Decides id other).0 q)))) (λ q. q)
+              (λ q. absurd (s.says (ap (λ (ps : List Given). text_for ps (codes "chardev")) props ∙ ring-text other ∙ sym ((bytes_eq-Decides id other).0 q))))
+              (λ q. q)
           own s (as_dimm is k lit props) =
               bare-slot s.e.1
               (unnamed b h.order.shape s.e.1 MemDimm (s.stood.here.its ∙ ap Some is) (codes "chardev") (λ t x. x) chardev-rowless.0)
@@ -191,16 +187,16 @@ module _ (b : Board) (h : IsWhole b) (says : is_describable b ≡ true) where
           at_own s =
               subst (λ (n : ℕ). option_map_or (bytes_eq id) (text_at b n (codes "chardev")) false ≡ false) s.is (own s (says-of b h says s.e s.stood))
 
-  all-records : (p : Record → Bool) → ((r : Record) → p r ≡ false) → (rs : List Record) → list_any p rs ≡ false
-  all-records p never [] = refl
-  all-records p never (r ∷ rs) = rw (never r, all-records p never rs) refl
+  all-never : (p : Record → Bool) → ((r : Record) → p r ≡ false) → (rs : List Record) → list_any p rs ≡ false
+  all-never p never [] = refl
+  all-never p never (r ∷ rs) = rw (never r, all-never p never rs) refl
 
   pub ring-free : (id : List ℕ) → OneOf (λ (r : RingItem). r.id ≡ id) (description b).rings
       → AllByRecursion (λ (y : DeviceItem). text_for y.props (codes "chardev") ≢ id) (description b).devices → ring_barred b id ≡ None
   ring-free [] one alone = refl
   ring-free (c ∷ cs) one alone =
       let there : has_ring b (c ∷ cs) ≡ true = ring-there (c ∷ cs) b.rings one in
-      let free : list_any (claims_ring b (c ∷ cs)) b.records ≡ false = all-records (claims_ring b (c ∷ cs)) (unclaimed (c ∷ cs) alone) b.records in
+      let free : list_any (claims_ring b (c ∷ cs)) b.records ≡ false = all-never (claims_ring b (c ∷ cs)) (unclaimed (c ∷ cs) alone) b.records in
       rw (there, free) refl
 
   -- ---- memory backends
@@ -286,10 +282,12 @@ module _ (b : Board) (h : IsWhole b) (says : is_describable b ≡ true) where
         go : (o : Option Record) → record_of b s.e.1 ≡ o
             → option_map (λ (x : Record). x.registers) (record_of b s.e.1) ≡ Some (dimm (record { address = k.range.at; size = k.range.size }))
             → range_of_record s.e.1 ≡ k.range ∷ []
-        go None q stands = absurd (let clash : None ≡ Some (dimm (record { address = k.range.at; size = k.range.size })) = sym (ap (option_map (λ (x : Record). x.registers)) q) ∙ stands in cc)
+        go None q stands = absurd (let clash : None ≡ Some (dimm (record { address = k.range.at; size = k.range.size })) =
+            sym (ap (option_map (λ (x : Record). x.registers)) q) ∙ stands in cc)
         go (Some r) q stands =
             let its : r.registers ≡ dimm (record { address = k.range.at; size = k.range.size }) =
-            same_Some r.registers (dimm (record { address = k.range.at; size = k.range.size })) (sym (ap (option_map (λ (x : Record). x.registers)) q) ∙ stands) in
+            same_Some r.registers (dimm (record { address = k.range.at; size = k.range.size }))
+            (sym (ap (option_map (λ (x : Record). x.registers)) q) ∙ stands) in
             ap (λ (o : Option Record). option_map_or (λ (x : Record). range_in x.registers) o []) q ∙ ap range_in its
 
     pub ranges-free : AllByRecursion Away (description b).devices → overlaps_any g (ranges_of b) ≡ false

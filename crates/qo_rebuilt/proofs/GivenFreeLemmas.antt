@@ -1,12 +1,11 @@
 -- What is given to a good device is taken, and is free.
-use Rattle.std.proofs.Common.{◌≡◌, ◌≢◌, ◌⊎◌, inl, inr, refl, ap, sym, subst, ◌∙◌, ℕ, ◌+◌, ◌-◌, ◌%◌, ◌<◌, ◌≤◌, ◌^◌, Bool, true, false, not, ◌==◌, ◌&&◌, nat_le, List, [], ◌∷◌, ◌++◌, Option, Some, None, Ok, Err, codes, arith}
+use Rattle.std.proofs.Common.{◌≡◌, refl, ap, sym, subst, ◌∙◌, ℕ, ◌+◌, ◌-◌, ◌%◌, ◌<◌, ◌≤◌, ◌^◌, Bool, true, false, ◌==◌, nat_le, List, [], ◌∷◌, Option, Some, None, Ok, Err, codes, arith}
 use Rattle.std.specs.Prelude.{Result}
 use Rattle.std.proofs.lemmas.Bool.{and_parts, eq-eqb, le-leb, leb-true}
-use Rattle.qo_model.proofs.Common.{AllByRecursion, if◌then◌else◌, list_any, option_or, type_name, ROOT_BIRTH, BUS_DEPTH_MAX, BUS_SLOTS, DIMM_ALIGN, TypeId, Device, MemDimm, MemoryBackend, MemoryBackendRam, SlotBridge, SlotTimer, SlotUart, Range, range_at, is_in_window, overlaps_any, window_end, window_start, admits, PropType, Val, Code, E15, E16, E31, E36, E37, E38, E39, E40, E42, Board, Given, Resolution, at_stage, barred_late, bus_slot_for, bus_type, code_in, depth_of, dimms, found, has_backend, is_free, kind_barred, link_target, may_add, misfit, missing, multiple_of, notice_barred, number_for, place_barred, property_named, range_barred, range_for, ranges_of, realize_barred, refusal_by, refusal_of, resolve, ring_barred, several, size_of, target_for, text_for, up_to, is_a, types}
+use Rattle.qo_model.proofs.Common.{AllByRecursion, if◌then◌else◌, list_any, type_name, BUS_DEPTH_MAX, BUS_SLOTS, DIMM_ALIGN, TypeId, MemDimm, MemoryBackend, MemoryBackendRam, SlotBridge, SlotTimer, SlotUart, Range, is_in_window, overlaps_any, window_end, window_start, admits, Code, E15, E16, E31, E39, E42, Board, Given, Resolution, code_in, depth_of, dimms, found, has_backend, kind_barred, link_target, missing, multiple_of, number_for, property_named, range_barred, range_for, ranges_of, realize_barred, refusal_by, refusal_of, resolve, ring_barred, several, size_of, target_for, up_to, is_a, types}
 use Rattle.qo_values.specs.declared.properties.PropType.TheVariants as ty
 use Rattle.qo_values.specs.declared.properties.Val.TheVariants as val
 use Rattle.qo_model.specs.Objects.{code_of}
-use Rattle.qo_model.specs.Properties.{path_text}
 use Rattle.qo_model.specs.Types.{property}
 use Rattle.qo_model.specs.declared.properties.Access.TheVariants.{Add}
 use Rattle.qo_model.specs.declared.properties.First.TheVariants as first
@@ -16,9 +15,8 @@ use Rattle.qo_model.specs.declared.properties.PropertyRole.TheVariants as row
 use Rattle.qo_save.specs.Described.{description, is_describable}
 use Rattle.qo_save.specs.Description.{DeviceItem}
 use Rattle.qo_save.specs.Rebuilding.{with_slot}
-use Rattle.qo_good.specs.Good.{HasRange, IsGiven, Layout, NamesRing, no_ring, object_path, ring}
+use Rattle.qo_good.specs.Good.{HasRange, Layout, NamesRing, no_ring, object_path, ring}
 use Rattle.qo_good.specs.GoodBoards.{IsWhole}
-use Rattle.qo_good.proofs.ClaimLemmas.{device-four}
 use Rattle.qo_good.proofs.PlaceLemmas.{leads}
 use Rattle.qo_rebuilt.proofs.BusFoundLemmas.{kind-is, resolves-to}
 use Rattle.qo_rebuilt.proofs.ClaimFreeLemmas.{Away, Backend, backend-found, backend-free, ranges-free, ring-free}
@@ -143,16 +141,11 @@ module _ (b : Board) (h : IsWhole b) (says : is_describable b ≡ true) where
       subst (Passes b MemDimm bus x.slot) (sym k.props)
       (record { unrefused = unrefused; numbered = refl; placed = placed; realizes = refl })
     where
-      r : Range
-      r = l.range x.id
-
       m : Backend b k.backend (l.range x.id).size
       m = backend-found b h says k.backend (l.range x.id).size k.memory
 
-      slot_given : List Given
-      slot_given = (codes "slot", val.Uint x.slot) ∷ []
-
-      unrefused : refusal_of b MemDimm ((codes "addr", val.Uint (l.range x.id).at) ∷ (codes "memdev", val.Text (object_path k.backend)) ∷ (codes "slot", val.Uint x.slot) ∷ [])
+      unrefused : refusal_of b MemDimm
+          ((codes "addr", val.Uint (l.range x.id).at) ∷ (codes "memdev", val.Text (object_path k.backend)) ∷ (codes "slot", val.Uint x.slot) ∷ [])
           ≡ None
       unrefused =
           next-refused b MemDimm (codes "addr") (val.Uint (l.range x.id).at)
@@ -167,10 +160,12 @@ module _ (b : Board) (h : IsWhole b) (says : is_describable b ≡ true) where
           let taken : range_for b (Some (l.range x.id).at) (l.range x.id).size ≡ Ok (l.range x.id) = rw (k.window, clear) refl in
           ap (λ (n : ℕ). code_in (range_for b (Some (l.range x.id).at) n)) is ∙ ap code_in taken
 
-      placed : kind_barred b MemDimm bus ((codes "addr", val.Uint (l.range x.id).at) ∷ (codes "memdev", val.Text (object_path k.backend)) ∷ (codes "slot", val.Uint x.slot) ∷ [])
+      placed : kind_barred b MemDimm bus
+          ((codes "addr", val.Uint (l.range x.id).at) ∷ (codes "memdev", val.Text (object_path k.backend)) ∷ (codes "slot", val.Uint x.slot) ∷ [])
           ≡ None
       placed =
-          let props : List Given = (codes "addr", val.Uint (l.range x.id).at) ∷ (codes "memdev", val.Text (object_path k.backend)) ∷ (codes "slot", val.Uint x.slot) ∷ [] in
+          let props : List Given =
+          (codes "addr", val.Uint (l.range x.id).at) ∷ (codes "memdev", val.Text (object_path k.backend)) ∷ (codes "slot", val.Uint x.slot) ∷ [] in
           let target : target_for b MemoryBackend props (codes "memdev") ≡ Some m.m = ap target_in (target-found k.backend (l.range x.id).size m) in
           let free : list_any (has_backend b m.m) (dimms b) ≡ false = backend-free b h says k.backend m.m m.told k.alone in
           ap (range_barred b props) target

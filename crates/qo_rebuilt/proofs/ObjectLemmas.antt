@@ -209,7 +209,7 @@ given-taken b o good = by (creatable-two good.kind good.concrete good.creatable)
     memory props all =
         let t : TypeId = MemoryBackendRam in
         let k = less-other t (codes "number") (codes "size" ∷ codes "text" ∷ []) props memory-bare.1.0
-            (less-other t (codes "flag") (codes "number" ∷ codes "size" ∷ codes "text" ∷ []) props memory-bare.0 all) in
+        (less-other t (codes "flag") (codes "number" ∷ codes "size" ∷ codes "text" ∷ []) props memory-bare.0 all) in
         let x = first-given t (codes "size") (codes "text" ∷ []) props (value_row prop.Size size_type (first.Uint BACKEND_SIZE_AT_FIRST) Add) size-row k in
         let last = none-given t x.more (less-other t (codes "text") [] x.more memory-bare.1.1.0 x.later) in
         let is : props ≡ (codes "size", x.value) ∷ [] = x.is ∙ ap (λ (ps : List Given). (codes "size", x.value) ∷ ps) last in

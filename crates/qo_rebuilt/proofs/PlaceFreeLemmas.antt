@@ -1,8 +1,8 @@
 -- The slot of a good device is free, and the bus of a good bridge is not too deep.
-use Rattle.std.proofs.Common.{◌≡◌, ◌≢◌, ◌⊎◌, inl, inr, refl, ap, sym, subst, ◌∙◌, rules, ℕ, zero, suc, ◌+◌, ◌<◌, ◌≤◌, Bool, true, false, not, leb, ◌==◌, List, [], ◌∷◌, ◌++◌, filter_map, get_or, map, Option, Some, None, option_map, unwrap_or, codes, arith}
+use Rattle.std.proofs.Common.{◌≡◌, ◌≢◌, ◌⊎◌, inl, inr, refl, ap, sym, subst, ◌∙◌, rules, ℕ, zero, suc, ◌+◌, ◌<◌, ◌≤◌, true, false, not, leb, List, [], ◌∷◌, filter_map, get_or, Option, Some, None, unwrap_or, codes, arith}
 use Rattle.std.proofs.lemmas.Bool.{leb-true}
 use Rattle.std.proofs.lemmas.Slice.Eq.{bytes_eq-Decides}
-use Rattle.qo_model.proofs.Common.{AllByRecursion, list_any, option_map_or, bytes_eq, type_name, BUS_DEPTH_MAX, BUS_SLOTS, MEMORY_BUS_BIRTH, PERIPHERAL_BIRTH, ROOT_BUS_BIRTH, TypeId, MemBus, SlotBridge, SlotBus, Board, Record, Slot, plain, child, strong, weak, alias, kind_of, slots_at, bus_of, bus_slot_of, bus_type, depth_of, has_slot, is_free, is_of, kid_name, kids_of, is_a, slots_of, types}
+use Rattle.qo_model.proofs.Common.{AllByRecursion, list_any, option_map_or, bytes_eq, type_name, BUS_DEPTH_MAX, PERIPHERAL_BIRTH, ROOT_BUS_BIRTH, TypeId, MemBus, SlotBridge, SlotBus, Board, Record, Slot, plain, child, strong, weak, alias, kind_of, slots_at, bus_of, bus_slot_of, bus_type, depth_of, has_slot, is_free, is_of, kid_name, kids_of, is_a, slots_of, types}
 use Rattle.qo_values.proofs.EachLemmas.{each}
 use Rattle.qo_values.proofs.ListLemmas.{all-imply}
 use Rattle.qo_model.proofs.AmongLemmas.{among-all}
@@ -11,7 +11,7 @@ use Rattle.qo_model.specs.declared.properties.Property.{Property}
 use Rattle.qo_save.specs.Described.{description, is_describable}
 use Rattle.qo_save.specs.Description.{DeviceItem}
 use Rattle.qo_sound.proofs.TestLemmas.{clash, clash-back, decide}
-use Rattle.qo_sound_devices.specs.SoundPlaces.{child_entries, has_entry, HasOwner, IsKid, kid_entries, kid_entry, suits}
+use Rattle.qo_sound_devices.specs.SoundPlaces.{child_entries, IsKid, kid_entries, kid_entry}
 use Rattle.qo_sound_devices.proofs.DetachmentLemmas.{listed-kid}
 use Rattle.qo_sound_devices.proofs.LocationLemmas.{machine-no_device}
 use Rattle.qo_sound_devices.proofs.PlugLemmas.{depth-is}
@@ -23,7 +23,7 @@ use Rattle.qo_good.proofs.BusLemmas.{bridge_bus, its-bus, memory_bus, owns-bus, 
 use Rattle.qo_good.proofs.LayoutLemmas.{bus-said, driver-said}
 use Rattle.qo_good.proofs.LinkLemmas.{type_row}
 use Rattle.qo_good.proofs.PartLemmas.{device_as, devices-said, memory_bus-kind}
-use Rattle.qo_good.proofs.PlaceLemmas.{all-entry, apart, firm, inner-way, memory_bus-way, OfKind, of-kind, older, root_bus-way, told}
+use Rattle.qo_good.proofs.PlaceLemmas.{all-entry, apart, firm, inner-way, OfKind, of-kind, older, root_bus-way, told}
 use Rattle.qo_good.proofs.ValueLemmas.{Its, its-record}
 use Rattle.qo_rebuilt.proofs.BusFoundLemmas.{BusFound}
 use Rattle.qo_rebuilt.proofs.ClaimFreeLemmas.{all-unmap, realized-said, Said}
@@ -124,7 +124,8 @@ module _ (b : Board) (h : IsWhole b) (says : is_describable b ≡ true) where
   -- ---- how deep a bus is
 
   module _ (l : Layout) (top : l.depth (codes "/machine/root.0") ≡ 0)
-      (laid : AllByRecursion (λ (y : DeviceItem). y.driver ≡ type_name SlotBridge → l.depth (bus_path y.id) ≡ suc (l.depth y.bus)) (description b).devices) where
+      (laid : AllByRecursion (λ (y : DeviceItem). y.driver ≡ type_name SlotBridge → l.depth (bus_path y.id) ≡ suc (l.depth y.bus))
+      (description b).devices) where
     abbrev depth : ℕ → ℕ
     depth = h.order.devices.places.0
 
@@ -160,7 +161,8 @@ module _ (b : Board) (h : IsWhole b) (says : is_describable b ≡ true) where
         ∙ k.on.fits in
         let rest : l.depth (path_text b k.on.bus) ≡ h.order.devices.places.0 k.on.bus =
         depth-laid bound k.on.bus (omega (arith, low, young, old)) (its-bus b h.order says e k) slots in
-        let driver : (device_as b e).driver ≡ type_name SlotBridge = driver-said b h says e k ∙ ap (λ (o : Option TypeId). type_name (unwrap_or o SlotBridge)) type in
+        let driver : (device_as b e).driver ≡ type_name SlotBridge =
+        driver-said b h says e k ∙ ap (λ (o : Option TypeId). type_name (unwrap_or o SlotBridge)) type in
         let way : path_text b q ≡ bus_path e.0 =
         told b h.order q (bus_path e.0) (apart b h.order e.1 (codes "bus.0", q) (omega (arith, above)) on)
         (inner-way b h.order e.1 q e.0 (codes "bus.0") there on) in
@@ -175,4 +177,5 @@ module _ (b : Board) (h : IsWhole b) (says : is_describable b ≡ true) where
         let own : l.depth path ≡ h.order.devices.places.0 f.bus =
         ap l.depth (sym f.told) ∙ depth-laid (suc f.bus) f.bus (omega arith) f.which f.fits in
         decide (leb BUS_DEPTH_MAX (depth_of b f.bus))
-        (λ q. absurd (let high : BUS_DEPTH_MAX ≤ depth_of b f.bus = leb-true BUS_DEPTH_MAX (depth_of b f.bus) q in omega (arith, board, own, low, high))) (λ q. q)
+        (λ q. absurd (let high : BUS_DEPTH_MAX ≤ depth_of b f.bus = leb-true BUS_DEPTH_MAX (depth_of b f.bus) q in
+        omega (arith, board, own, low, high))) (λ q. q)

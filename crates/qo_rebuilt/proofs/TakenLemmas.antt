@@ -1,9 +1,8 @@
 -- A good device is not refused, and what plugging it comes to.
-use Rattle.std.proofs.Common.{◌≡◌, ◌≢◌, ◌⊎◌, inl, inr, refl, ap, sym, subst, ◌∙◌, rules, ℕ, suc, ◌+◌, ◌<◌, ◌≤◌, Bool, true, false, leb, nat_lt, List, [], ◌∷◌, ◌++◌, length, map, sum_by, Option, Some, None, option_map, Ok, Err, codes}
-use Rattle.std.specs.Prelude.{Result}
+use Rattle.std.proofs.Common.{◌≡◌, ◌≢◌, ◌⊎◌, inl, inr, refl, ap, sym, subst, ◌∙◌, rules, ℕ, ◌+◌, ◌<◌, ◌≤◌, true, false, leb, nat_lt, List, [], ◌∷◌, ◌++◌, length, map, sum_by, Option, Some, None, option_map, Ok, codes}
 use Rattle.std.proofs.lemmas.Bool.{lt-ltb}
 use Rattle.std.proofs.lemmas.Option.{same_Some}
-use Rattle.qo_model.proofs.Common.{AllByRecursion, if◌then◌else◌, option_or, type_name, BUS_DEPTH_MAX, BUS_SLOTS, LIVE_OBJECTS_MAX, TypeId, MemDimm, SlotBridge, SlotTimer, SlotUart, overlap, Code, E28, E29, Board, Plugged, Resolution, Wanted, barred_early, barred_late, bus_barred, bus_for, bus_slot_for, bus_type, code_in, depth_of, found, missing, several, id_barred, is_free, kind_barred, notice_barred, number_for, place_barred, plug, plug_as, plug_by, plug_late, realize_barred, refusal_of, resources_of, room_barred, type_barred, with_plugged, Given, is_a, types}
+use Rattle.qo_model.proofs.Common.{AllByRecursion, option_or, type_name, BUS_DEPTH_MAX, BUS_SLOTS, LIVE_OBJECTS_MAX, TypeId, MemDimm, SlotBridge, SlotTimer, SlotUart, overlap, Code, Board, Plugged, Resolution, Wanted, barred_early, barred_late, bus_barred, bus_for, bus_slot_for, bus_type, code_in, depth_of, found, id_barred, is_free, kind_barred, notice_barred, number_for, place_barred, plug, plug_as, plug_by, plug_late, resources_of, room_barred, type_barred, with_plugged, Given, is_a, types}
 use Rattle.qo_values.proofs.EachLemmas.{each}
 use Rattle.qo_values.specs.declared.births.TheConstants.{OPENING_OBJECTS}
 use Rattle.qo_model.specs.Plug.{plug_on}
@@ -12,7 +11,7 @@ use Rattle.qo_save.specs.Described.{description, is_describable}
 use Rattle.qo_save.specs.Description.{Description, DeviceItem}
 use Rattle.qo_save.specs.Rebuilding.{wanted_by, with_slot}
 use Rattle.qo_sound_order.specs.SoundOrder.{is_abstract}
-use Rattle.qo_good.specs.Good.{AreIds, bus_path, EachAfter, HasBus, HasRange, IsGiven, IsGoodDevice, Layout, objects_of}
+use Rattle.qo_good.specs.Good.{AreIds, EachAfter, HasBus, HasRange, IsGiven, IsGoodDevice, Layout, objects_of}
 use Rattle.qo_good.specs.GoodBoards.{IsWhole}
 use Rattle.qo_good.proofs.ClaimLemmas.{device-four}
 use Rattle.qo_good.proofs.ItemLemmas.{all-both}
@@ -21,7 +20,6 @@ use Rattle.qo_rebuilt.specs.DeviceTaken.{DeviceTakenLaw}
 use Rattle.qo_rebuilt.specs.Made.{Tells}
 use Rattle.qo_rebuilt.proofs.BarredLemmas.{id-unbarred, notice-unbarred, room-unbarred, type-unbarred}
 use Rattle.qo_rebuilt.proofs.BusFoundLemmas.{bus-found, BusFound, bus-unbarred}
-use Rattle.qo_rebuilt.proofs.ClaimFreeLemmas.{Away}
 use Rattle.qo_rebuilt.proofs.GivenFreeLemmas.{bridge-passes, dimm-passes, Passes, timer-passes, uart-passes}
 use Rattle.qo_rebuilt.proofs.PlaceFreeLemmas.{shallow-on, slot-free_on}
 use Rattle.qo_rebuilt.proofs.RingLemmas.{Has, has}
@@ -49,7 +47,8 @@ module _ (b : Board) (h : IsWhole b) (says : is_describable b ≡ true) (l : Lay
       dimm : HasRange (description b) l (description b).devices x → Passes b MemDimm f.bus x.slot x.props
       dimm r =
           dimm-passes b h says l x f.bus low
-          (all-both (λ (y : DeviceItem). y.driver ≡ type_name MemDimm → overlap_none y) (λ (y : DeviceItem). (before : List DeviceItem) × IsGoodDevice (description b) l before y)
+          (all-both (λ (y : DeviceItem). y.driver ≡ type_name MemDimm → overlap_none y)
+          (λ (y : DeviceItem). (before : List DeviceItem) × IsGoodDevice (description b) l before y)
           (description b).devices r.apart (some-before (IsGoodDevice (description b) l) [] (description b).devices laid.devices)) r
         where
           overlap_none : DeviceItem → Type 0
@@ -128,7 +127,8 @@ plugged_as b t bus a = record { refusal = None; board = with_plugged b t a (reso
 
 plug-named : (b : Board) (t : TypeId) (bus : ℕ) (a : Wanted) → bus_for b t a.bus ≡ Some bus → barred_early b t a ≡ None → barred_late b t bus a.props ≡ None
     → (o : Option TypeInfo) → option_map (λ (r : TypeInfo). r.id) o ≡ Some t
-    → (elim o as (λ _. Plugged) [ None ↦ record { refusal = None; board = b } | Some row ↦ plug_as b row.id a (barred_early b row.id a) ]) ≡ plugged_as b t bus a
+    → (elim o as (λ _. Plugged) [ None ↦ record { refusal = None; board = b } | Some row ↦ plug_as b row.id a (barred_early b row.id a) ])
+    ≡ plugged_as b t bus a
 plug-named b t bus a chosen early late None own = absurd (let clash : None ≡ Some t = own in cc)
 plug-named b t bus a chosen early late (Some row) own =
     let same : row.id ≡ t = same_Some row.id t own in

@@ -1,5 +1,5 @@
 -- For a law alone. Which devices are not refused (QEMU's QAPI, `device_add`).
-use Rattle.std.specs.Prelude.{◌≡◌, ◌+◌, ◌≤◌, List, [], ◌∷◌, ◌++◌, length, map, None}
+use Rattle.std.specs.Prelude.{◌≡◌, ◌+◌, ◌≤◌, [], ◌∷◌, ◌++◌, length, map, None}
 use Rattle.std.specs.List.{sum_by}
 use Rattle.qo_values.specs.declared.births.TheConstants.{OPENING_OBJECTS}
 use Rattle.qo_values.specs.declared.limits.TheConstants.{LIVE_OBJECTS_MAX}
