@@ -15,7 +15,7 @@ use Rattle.qo_good.specs.Good.{AreIds, EachAfter, HasBus, HasRange, IsGiven, IsG
 use Rattle.qo_good.specs.GoodBoards.{IsWhole}
 use Rattle.qo_good.proofs.ClaimLemmas.{device-four}
 use Rattle.qo_good.proofs.ItemLemmas.{all-both}
-use Rattle.qo_rebuilt.specs.DevicesMade.{AreLaid, IsPlugged, NextPlugged}
+use Rattle.qo_rebuilt.specs.DevicesMade.{AreLaid, IsPlugged, NextPluggedLaw}
 use Rattle.qo_rebuilt.specs.DeviceTaken.{DeviceTakenLaw}
 use Rattle.qo_rebuilt.specs.Made.{Tells}
 use Rattle.qo_rebuilt.proofs.BarredLemmas.{id-unbarred, notice-unbarred, room-unbarred, type-unbarred}
@@ -113,8 +113,8 @@ device-plugged b d l x tells laid good ids room =
       late = late-passes b good.kind f.bus x.slot x.props p good.slot free (notice-unbarred b d tells);
     }
 
-pub next_plugged : NextPlugged
-next_plugged b d l x tells clocks links laid good ids room = device-plugged b d l x tells laid good ids room
+pub next_plugged_lem : NextPluggedLaw
+next_plugged_lem = record { next = λ b d l x tells clocks links laid good ids room. device-plugged b d l x tells laid good ids room }
 
 -- ---- what plugging comes to
 

@@ -38,11 +38,11 @@ pub record AreLaid (d : Description) (l : Layout) : Type 0 where
   pub bridges : AllByRecursion (λ (y : DeviceItem). y.driver ≡ type_name SlotBridge → l.depth (bus_path y.id) ≡ suc (l.depth y.bus)) d.devices
 
 -- the next device is plugged, where there is room
-abbrev pub NextPlugged : Type 0
-NextPlugged =
-    (b : Board) (d : Description) (l : Layout) (x : DeviceItem) → Tells b d → d.clocks ≡ [] → d.links ≡ [] → AreLaid d l → (good : IsGoodDevice d l d.devices x)
-    → AreIds (map (λ (y : DeviceItem). y.id) (d.devices ++ x ∷ []))
-    → OPENING_OBJECTS + length d.objects + sum_by objects_of (d.devices ++ x ∷ []) ≤ LIVE_OBJECTS_MAX → IsPlugged b good.kind x
+pub record NextPluggedLaw : Type 0 where
+  pub next : (b : Board) (d : Description) (l : Layout) (x : DeviceItem) → Tells b d → d.clocks ≡ [] → d.links ≡ [] → AreLaid d l
+      → (good : IsGoodDevice d l d.devices x)
+      → AreIds (map (λ (y : DeviceItem). y.id) (d.devices ++ x ∷ []))
+      → OPENING_OBJECTS + length d.objects + sum_by objects_of (d.devices ++ x ∷ []) ≤ LIVE_OBJECTS_MAX → IsPlugged b good.kind x
 
 -- a device that nothing refuses is added, and told after the others
 pub record IsMade (b : Board) (d : Description) (x : DeviceItem) : Type 0 where
@@ -50,10 +50,9 @@ pub record IsMade (b : Board) (d : Description) (x : DeviceItem) : Type 0 where
   pub done : add_device x b ≡ Ok after
   pub tells : Tells after (record d { devices = d.devices ++ x ∷ [] })
 
-abbrev pub PluggedMade : Type 0
-PluggedMade =
-    (b : Board) (d : Description) (l : Layout) (x : DeviceItem) → Tells b d → d.clocks ≡ [] → d.links ≡ [] → (good : IsGoodDevice d l d.devices x)
-    → IsPlugged b good.kind x → IsMade b d x
+pub record PluggedMadeLaw : Type 0 where
+  pub made : (b : Board) (d : Description) (l : Layout) (x : DeviceItem) → Tells b d → d.clocks ≡ [] → d.links ≡ []
+      → (good : IsGoodDevice d l d.devices x) → IsPlugged b good.kind x → IsMade b d x
 
 -- so good devices are added in order, after the users' objects
 pub record DevicesMadeLaw : Type 0 where
