@@ -36,7 +36,7 @@ unfolding types
 div-row = refl
 
 -- a number as wide is taken
-takes : (most n : ℕ) → n ≤ most → admits (ty.Uint 0 most 1) (val.Uint n) ≡ true
+pub takes : (most n : ℕ) → n ≤ most → admits (ty.Uint 0 most 1) (val.Uint n) ≡ true
 takes most n low =
     let first : nat_le 0 n ≡ true = le-leb 0 n (omega arith) in
     let last : nat_le n most ≡ true = le-leb n most low in

@@ -125,7 +125,7 @@ abbrev in_slots : List (List ℕ × Slot) → List ℕ → Option Slot
 in_slots slots name = option_map (λ (s : List ℕ × Slot). s.1) (find (λ (s : List ℕ × Slot). bytes_eq s.0 name) slots)
 
 -- no value is refused that its row takes
-next-refused : (b : Board) (t : TypeId) (name : List ℕ) (v : Val) (props : List Given) (p : Property) → property_named t name ≡ Some p
+pub next-refused : (b : Board) (t : TypeId) (name : List ℕ) (v : Val) (props : List Given) (p : Property) → property_named t name ≡ Some p
     → may_add p.access ≡ true → Takes p.role v → refusal_of b t ((name, v) ∷ props) ≡ refusal_of b t props
 next-refused b t name v props p found may takes =
     let by : refusal_by b (Some p) v ≡ None = rw may (fits p.role takes) in
@@ -209,7 +209,7 @@ given-taken b o good = by (creatable-two good.kind good.concrete good.creatable)
     memory props all =
         let t : TypeId = MemoryBackendRam in
         let k = less-other t (codes "number") (codes "size" ∷ codes "text" ∷ []) props memory-bare.1.0
-            (less-other t (codes "flag") (codes "number" ∷ codes "size" ∷ codes "text" ∷ []) props memory-bare.0 all) in
+        (less-other t (codes "flag") (codes "number" ∷ codes "size" ∷ codes "text" ∷ []) props memory-bare.0 all) in
         let x = first-given t (codes "size") (codes "text" ∷ []) props (value_row prop.Size size_type (first.Uint BACKEND_SIZE_AT_FIRST) Add) size-row k in
         let last = none-given t x.more (less-other t (codes "text") [] x.more memory-bare.1.1.0 x.later) in
         let is : props ≡ (codes "size", x.value) ∷ [] = x.is ∙ ap (λ (ps : List Given). (codes "size", x.value) ∷ ps) last in
@@ -497,7 +497,7 @@ object-made b d o tells good typed free room =
 
 -- ---- one after another
 
-distinct-free : (xs : List (List ℕ)) (y : List ℕ) (ys : List (List ℕ)) → IsDistinct bytes_eq (xs ++ y ∷ ys)
+pub distinct-free : (xs : List (List ℕ)) (y : List ℕ) (ys : List (List ℕ)) → IsDistinct bytes_eq (xs ++ y ∷ ys)
     → AllByRecursion (λ (x : List ℕ). bytes_eq x y ≡ false) xs
 unfolding IsDistinct
 distinct-free [] y ys h = tt

@@ -1,6 +1,7 @@
 pub mod Made
 pub mod NumbersTaken
 pub mod ObjectsMade
+pub mod DeviceTaken
 pub mod DevicesMade
 pub mod WholeKept
 pub mod TypesTold

@@ -4,10 +4,11 @@
 
 ghost use Rattle.qo_rebuilt.specs.FactorsMade.{FactorsMadeLaw};
 ghost use Rattle.qo_rebuilt.specs.Made.{ClockMadeLaw, RingsMadeLaw};
-ghost use Rattle.qo_rebuilt.specs.DevicesMade.{PluggedMadeLaw};
+ghost use Rattle.qo_rebuilt.specs.DevicesMade.{DevicesMadeLaw, PluggedMadeLaw};
+ghost use Rattle.qo_rebuilt.specs.DeviceTaken.{DeviceTakenLaw};
 ghost use Rattle.qo_rebuilt.specs.NumbersTaken.{NumbersTakenLaw};
 ghost use Rattle.qo_rebuilt.specs.ObjectsMade.{ObjectsMadeLaw};
-ghost use Rattle.qo_rebuilt.specs.Rebuilt.{LinksMadeLaw};
+ghost use Rattle.qo_rebuilt.specs.Rebuilt.{LinksMadeLaw, RebuiltLaw};
 ghost use Rattle.qo_rebuilt.specs.TypesTold.{TypesToldLaw};
 ghost use Rattle.qo_rebuilt.specs.WholeKept.{WholeKeptLaw};
 
@@ -74,4 +75,26 @@ pub fn law_factors()
 #[tactic(auto, using(crate::proofs::LinkLemmas::links_made_lem))]
 pub fn law_links()
     ensures { LinksMadeLaw }
+{}
+
+/// A good device whose id is no other's is not refused, where there is room for its objects: on a board whose description
+/// tells those that stand before it, by a layout of them.
+#[tactic(auto, using(crate::proofs::TakenLemmas::device_taken_lem))]
+pub fn law_taken()
+    ensures { DeviceTakenLaw }
+{}
+
+/// Good devices are added in order, where there is room for their objects, and then the description tells them
+/// after those that it told before.
+#[tactic(auto, using(crate::proofs::DevicesLawLemmas::devices_made_lem))]
+pub fn law_devices()
+    ensures { DevicesMadeLaw }
+{}
+
+/// Every good description is rebuilt without refusal, and the board that is made tells it. So every sound
+/// board in order, whose objects tell their types, and that has a description, is rebuilt of that to a board
+/// that is like it and has the same description.
+#[tactic(auto, using(crate::proofs::RebuiltLemmas::rebuilt_lem))]
+pub fn law_rebuilt()
+    ensures { RebuiltLaw }
 {}
