@@ -15,3 +15,5 @@ pub mod TypesLemmas
 pub mod StepTypesLemmas
 pub mod TypesLawLemmas
 pub mod RebuiltLemmas
+pub mod KinLemmas
+pub mod KinKeptLemmas
