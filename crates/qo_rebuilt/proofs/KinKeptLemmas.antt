@@ -1,9 +1,9 @@
 -- `qom-set`, of any value at any path, leaves each object its children, so that a board that has a description has one after it.
-use Rattle.std.proofs.Common.{◌≡◌, refl, ap, ap₂, sym, subst, ◌∙◌, ℕ, zero, suc, ◌+◌, ◌<◌, Bool, true, false, cond, ◌==◌, ◌||◌, List, [], ◌∷◌, map, slice_get, sum_by, Option, Some, None, is_some, option_map, Ok, arith}
+use Rattle.std.proofs.Common.{◌≡◌, refl, ap, ap₂, sym, subst, ◌∙◌, ℕ, zero, suc, ◌<◌, Bool, true, false, cond, ◌==◌, List, [], ◌∷◌, map, slice_get, sum_by, Option, Some, None, is_some, option_map, Ok, arith}
 use Rattle.std.proofs.lemmas.Bool.{eqb-true}
 use Rattle.std.proofs.lemmas.List.Sums.{sum_by-cons}
 use Rattle.std.proofs.lemmas.Option.{same_Some}
-use Rattle.qo_model.proofs.Common.{AllByRecursion, list_any, ROOT_BIRTH, Act, TypeId, Val, Board, Record, Slot, plain, child, strong, weak, alias, is_live, kind_of, slot_at, slots_at, wrote, acted, with_act_on, after_write, changed_at, point, pointed, set, with_changed, with_val, children_in, child_of, place_of, pointed_at, relinked, write, write_at, refs, refs_in, holds_it, after, drop_slot, edit, edited, emptied, finalize, with_dropped, index_from, is_named, set_named, type_name}
+use Rattle.qo_model.proofs.Common.{AllByRecursion, list_any, ROOT_BIRTH, Act, TypeId, Val, Board, Record, Slot, plain, child, strong, weak, alias, is_live, kind_of, slot_at, slots_at, acted, with_act_on, after_write, point, pointed, set, with_changed, with_val, children_in, child_of, pointed_at, relinked, write, write_at, refs, refs_in, holds_it, after, drop_slot, edited, finalize, with_dropped, index_from, is_named, set_named, type_name}
 use Rattle.qo_values.specs.declared.properties.Val.TheVariants as val
 use Rattle.qo_model.specs.Board.{referent}
 use Rattle.qo_model.proofs.ClockPropertyLemmas.{write_at-cases}

@@ -1,7 +1,6 @@
 -- Whether a board has a description, by the births of its objects and of their children alone.
-use Rattle.std.proofs.Common.{◌≡◌, refl, ap, ap₂, sym, subst, ◌∙◌, ℕ, suc, ◌<◌, Bool, true, false, not, ◌==◌, ◌&&◌, ◌||◌, List, [], ◌∷◌, filter, find, length, map, sum_by, count_by, Option, Some, None, is_some, is_none, option_map, option_and_then, arith}
-use Rattle.std.proofs.lemmas.List.Sums.{sum_by-cons}
-use Rattle.qo_model.proofs.Common.{AllByRecursion, list_any, option_map_or, ANONYMOUS_BIRTH, ROOT_BIRTH, Board, Record, Slot, plain, child, strong, weak, alias, kind_of, slots_at, children_in, children_of, is_child, place_of, detached, edit, edited, refs_in}
+use Rattle.std.proofs.Common.{◌≡◌, refl, ap, ap₂, sym, ◌∙◌, ℕ, suc, Bool, true, false, not, ◌==◌, ◌&&◌, List, [], ◌∷◌, filter, find, length, map, Option, Some, None, is_some, is_none, option_map, option_and_then}
+use Rattle.qo_model.proofs.Common.{list_any, option_map_or, ANONYMOUS_BIRTH, ROOT_BIRTH, Board, Record, Slot, plain, child, strong, weak, alias, children_in, children_of, is_child, place_of}
 use Rattle.qo_model.specs.Board.{Removal}
 use Rattle.qo_model.specs.Paths.{place_in}
 use Rattle.qo_save.specs.Described.{is_describable}

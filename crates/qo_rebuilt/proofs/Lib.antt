@@ -16,4 +16,9 @@ pub mod StepTypesLemmas
 pub mod TypesLawLemmas
 pub mod RebuiltLemmas
 pub mod KinLemmas
+pub mod StepsLemmas
+pub mod DescribableLemmas
 pub mod KinKeptLemmas
+pub mod KinGrowthLemmas
+pub mod KinAdditionLemmas
+pub mod KinDeviceLemmas

@@ -6,3 +6,4 @@ pub mod TypesTold
 pub mod FactorsMade
 pub mod Rebuilt
 pub mod Probe
+pub mod DescribableKept
