@@ -32,3 +32,10 @@ pub mod GivenFreeLemmas
 pub mod TakenLemmas
 pub mod DevicesLawLemmas
 pub mod RebuiltLemmas
+pub mod KinLemmas
+pub mod StepsLemmas
+pub mod DescribableLemmas
+pub mod KinKeptLemmas
+pub mod KinGrowthLemmas
+pub mod KinAdditionLemmas
+pub mod KinDeviceLemmas

@@ -1,15 +1,14 @@
 -- Commands that rebuild a board of a description keep each of its objects telling the name of its type.
-use Rattle.std.proofs.Common.{◌≡◌, refl, ap, subst, ℕ, Bool, true, false, List, [], ◌∷◌, ◌++◌, map, Option, Some, None, is_some, Result, Ok, Err, codes, arith}
-use Rattle.std.specs.List.{flat_map}
-use Rattle.qo_model.proofs.Common.{AllByRecursion, drop, if◌then◌else◌, admits, PropType, Val, Code, E18, E19, Board, after_write, changed, added, wrote, clock_property_written, div_of, led_to, mul_of, number_written, object_add, object_at, opening_board, plug, role_written, set_property, set_row, typed_written, write, write_at}
+use Rattle.std.proofs.Common.{◌≡◌, refl, ap, subst, ℕ, Bool, true, false, List, [], ◌∷◌, ◌++◌, Option, Some, None, is_some, Result, Ok, Err, arith}
+use Rattle.qo_model.proofs.Common.{drop, if◌then◌else◌, admits, PropType, Val, Code, E18, E19, Board, after_write, changed, added, wrote, clock_property_written, div_of, led_to, mul_of, number_written, object_add, object_at, opening_board, plug, role_written, set_property, set_row, typed_written, write, write_at}
 use Rattle.qo_values.specs.declared.properties.Val.TheVariants as val
 use Rattle.qo_model.specs.declared.properties.Property.{Property}
 use Rattle.qo_model.specs.declared.properties.PropertyName.{PropertyName}
 use Rattle.qo_model.specs.declared.properties.PropertyName.TheVariants as prop
 use Rattle.qo_model.specs.declared.properties.PropertyRole.{PropertyRole}
 use Rattle.qo_model.specs.declared.properties.PropertyRole.TheVariants as row
-use Rattle.qo_save.specs.Description.{ClockItem, ClockNumbers, Description, DeviceItem, ObjectItem, RingItem}
-use Rattle.qo_save.specs.Rebuilding.{add_device, add_object, add_ring, all_done, clock_steps, factor_steps, ring_barred, set_link, Step, steps_of, wanted_by}
+use Rattle.qo_save.specs.Description.{Description, DeviceItem, ObjectItem, RingItem}
+use Rattle.qo_save.specs.Rebuilding.{add_device, add_object, add_ring, rebuilt, ring_barred, wanted_by}
 use Rattle.qo_sound_clocks.proofs.StepsLemmas.{same_ok}
 use Rattle.qo_sound_clocks.proofs.WriteLawLemmas.{writes_keep_lem}
 use Rattle.qo_sound_devices.specs.SoundDevices.{SoundDevices}
@@ -18,7 +17,7 @@ use Rattle.qo_sound_order.proofs.ObjectLemmas.{fact-clock_scaled, fact-clock_set
 use Rattle.qo_sound_shapes.proofs.BoardLemmas.{AllOf, all-same}
 use Rattle.qo_alike.specs.AlikeBoards.{TellsTypes}
 use Rattle.qo_good.specs.GoodBoards.{IsWhole}
-use Rattle.qo_good.proofs.ItemLemmas.{all-append}
+use Rattle.qo_rebuilt.proofs.StepsLemmas.{KeepsStep, rebuilt-kept}
 use Rattle.qo_rebuilt.proofs.TypeSlotLemmas.{NoText}
 use Rattle.qo_rebuilt.proofs.TypesLemmas.{Plain, changed-plain, from-plain, from-sound, opening-sound, plain-keeps, plugged-right, to-plain}
 use Rattle.qo_rebuilt.proofs.WholeLemmas.{read-devices}
@@ -27,19 +26,6 @@ use Rattle.qo_rebuilt.proofs.WholeLemmas.{read-devices}
 pub record Fine (b : Board) : Type 0 where
   pub devices : SoundDevices b
   pub plain : AllOf Plain b
-
--- a command that is taken keeps it
-abbrev pub KeepsFine : Step → Type 0
-KeepsFine step = (b c : Board) → Fine b → step b ≡ Ok c → Fine c
-
-pub all-fine : (steps : List Step) → AllByRecursion KeepsFine steps → KeepsFine (all_done steps)
-all-fine [] keeps b c h e = subst Fine (same_ok b c e) h
-all-fine (step ∷ steps) keeps b c h e = go (step b) refl (λ d k f. all-fine steps keeps.1 d c k f) e
-  where
-    go : (r : Result Board Code) → step b ≡ r → ((d : Board) → Fine d → all_done steps d ≡ Ok c → Fine c)
-        → (elim r as (λ _. Result Board Code) [ Ok d ↦ all_done steps d | Err code ↦ Err code ]) ≡ Ok c → Fine c
-    go (Ok d) q rest f = rest d (keeps.0 b d h q) f
-    go (Err code) q rest f = absurd (let clash : Err code ≡ Ok c = f in cc)
 
 -- ---- `qom-set`
 
@@ -92,7 +78,7 @@ fine-set b c n name v h e = go (is_some (set_row b n name)) e
     go true f = fine-clock b c v (led_to b n name) h f
     go false f = fine-write b c n name v h f
 
-pub fine-at : (path name : List ℕ) (v : Val) → KeepsFine (λ b. write_at b path name v)
+fine-at : (path name : List ℕ) (v : Val) → KeepsStep Fine (λ b. write_at b path name v)
 fine-at path name v b c h e = go (object_at b path) e
   where
     go : (r : Result ℕ Code) → (elim r as (λ _. Result Board Code) [ Ok n ↦ set_property b n name v | Err code ↦ Err code ]) ≡ Ok c → Fine c
@@ -104,7 +90,7 @@ fine-at path name v b c h e = go (object_at b path) e
 fine-beside : (b c : Board) → c.records ≡ b.records → SoundDevices c → Fine b → Fine c
 fine-beside b c same devices h = record { devices = devices; plain = all-same Plain b c same h.plain }
 
-pub fine-ring : (r : RingItem) → KeepsFine (add_ring r)
+fine-ring : (r : RingItem) → KeepsStep Fine (add_ring r)
 fine-ring r b c h e = go (ring_barred b r) e
   where
     d : Board
@@ -116,7 +102,7 @@ fine-ring r b c h e = go (ring_barred b r) e
         (fine-beside b d refl (devices_kept_lem.beside b d refl refl refl refl refl refl (omega arith) h.devices) h)
     go (Some code) f = absurd (let clash : Err code ≡ Ok c = f in cc)
 
-pub fine-object : (o : ObjectItem) → KeepsFine (add_object o)
+fine-object : (o : ObjectItem) → KeepsStep Fine (add_object o)
 fine-object o b c h e = go (object_add b o.kind o.id o.props).refusal e
   where
     d : Board
@@ -128,7 +114,7 @@ fine-object o b c h e = go (object_add b o.kind o.id o.props).refusal e
         (record { devices = devices_kept_lem.change b (added o.kind o.id o.props) h.devices; plain = changed-plain b (added o.kind o.id o.props) h.plain })
     go (Some code) f = absurd (let clash : Err code ≡ Ok c = f in cc)
 
-pub fine-device : (x : DeviceItem) → KeepsFine (add_device x)
+fine-device : (x : DeviceItem) → KeepsStep Fine (add_device x)
 fine-device x b c h e = go (plug b (wanted_by x)).refusal e
   where
     d : Board
@@ -150,42 +136,10 @@ fine-device x b c h e = go (plug b (wanted_by x)).refusal e
 
 -- ---- all of them
 
-all-mapped : {X : Type 0} (f : X → Step) → ((x : X) → KeepsFine (f x)) → (xs : List X) → AllByRecursion KeepsFine (map f xs)
-all-mapped f keeps [] = tt
-all-mapped f keeps (x ∷ xs) = (keeps x, all-mapped f keeps xs)
-
-all-factors : (cs : List ClockItem) → AllByRecursion KeepsFine (flat_map factor_steps cs)
-all-factors [] = tt
-all-factors (c ∷ cs) = (fine-at c.path (codes "div") (val.Uint c.div), (fine-at c.path (codes "mul") (val.Uint c.mul), all-factors cs))
-
-all-clock : (c : ClockNumbers) → AllByRecursion KeepsFine (clock_steps c)
-all-clock c =
-    let path : List ℕ = codes "/machine/sysclk" in
-    (
-      fine-at path (codes "div") (val.Uint c.div),
-      (fine-at path (codes "period") (val.Uint c.period), (fine-at path (codes "mul") (val.Uint c.mul), tt)),
-    )
-
-pub steps-fine : (d : Description) → AllByRecursion KeepsFine (steps_of d)
-steps-fine d =
-    let rings : List Step = clock_steps d.clock ++ map add_ring d.rings in
-    let objects : List Step = rings ++ map add_object d.objects in
-    let devices : List Step = objects ++ map add_device d.devices in
-    let clocks : List Step = devices ++ flat_map factor_steps d.clocks in
-    all-append KeepsFine clocks (map set_link d.links)
-    (all-append KeepsFine devices (flat_map factor_steps d.clocks)
-    (all-append KeepsFine objects (map add_device d.devices)
-    (all-append KeepsFine rings (map add_object d.objects)
-    (all-append KeepsFine (clock_steps d.clock) (map add_ring d.rings) (all-clock d.clock) (all-mapped add_ring fine-ring d.rings))
-    (all-mapped add_object fine-object d.objects))
-    (all-mapped add_device fine-device d.devices))
-    (all-factors d.clocks))
-    (all-mapped set_link (λ l. fine-at l.path l.property (val.Text l.value)) d.links)
-
 -- the objects of a board that is rebuilt, and whole, tell their types
-pub rebuilt-tells : (d : Description) (c : Board) → all_done (steps_of d) opening_board ≡ Ok c → IsWhole c → TellsTypes c
+pub rebuilt-tells : (d : Description) (c : Board) → rebuilt d ≡ Ok c → IsWhole c → TellsTypes c
 rebuilt-tells d c e h =
     let fine : Fine c =
-    all-fine (steps_of d) (steps-fine d) opening_board c
-    (record { devices = devices_kept_lem.opening; plain = to-plain opening_board opening-sound }) e in
+    rebuilt-kept Fine (record { wrote = fine-at; ring_added = fine-ring; object_added = fine-object; device_added = fine-device })
+    (record { devices = devices_kept_lem.opening; plain = to-plain opening_board opening-sound }) d c e in
     from-sound c h.order.shape (from-plain c fine.plain)

@@ -1,5 +1,5 @@
 -- The law: what keeps each object of a board telling the name of its type.
-use Rattle.std.proofs.Common.{◌≡◌, refl, Ok}
+use Rattle.std.proofs.Common.{refl}
 use Rattle.qo_model.proofs.Common.{Board, changed, opening_board, plug, cut_attempt, plug_attempt, with_attempt, acted, asked, refused, reset_whole, pulse, released, detach}
 use Rattle.qo_model.specs.Reset.{after_hold}
 use Rattle.qo_sound_clocks.specs.RegisterWrites.{registers_set}
@@ -7,22 +7,15 @@ use Rattle.qo_sound_order.proofs.ObjectLemmas.{fact-acted, fact-asked, fact-cloc
 use Rattle.qo_sound_shapes.specs.SoundShape.{SoundShape}
 use Rattle.qo_sound_shapes.proofs.BoardLemmas.{AllOf}
 use Rattle.qo_sound_shapes.proofs.LawLemmas.{shapes_kept_lem}
-use Rattle.qo_save.specs.Description.{Description}
-use Rattle.qo_good.specs.GoodBoards.{IsWhole}
 use Rattle.qo_alike.specs.AlikeBoards.{TellsTypes}
 use Rattle.qo_rebuilt.specs.TypesTold.{TypesToldLaw}
 use Rattle.qo_rebuilt.proofs.TypeSlotLemmas.{NoText}
-use Rattle.qo_save.specs.Rebuilding.{rebuilt}
 use Rattle.qo_rebuilt.proofs.StepTypesLemmas.{rebuilt-tells}
 use Rattle.qo_rebuilt.proofs.TypesLemmas.{Plain, changed-plain, from-plain, from-sound, opening-sound, plain-keeps, plugged-right, to-plain, same-told, to-sound}
 
 -- what keeps each object right keeps types told
 by-plain : (b c : Board) → SoundShape b → SoundShape c → (AllOf Plain b → AllOf Plain c) → TellsTypes b → TellsTypes c
 by-plain b c shape after keeps h = from-sound c after (from-plain c (keeps (to-plain b (to-sound b shape h))))
-
-rebuilt-so : (d : Description) (c : Board) → rebuilt d ≡ Ok c → IsWhole c → TellsTypes c
-unfolding rebuilt
-rebuilt-so d c e h = rebuilt-tells d c e h
 
 pub types_told_lem : TypesToldLaw
 types_told_lem =
@@ -57,5 +50,5 @@ types_told_lem =
       detached = λ b d devices stands shape.
           by-plain b (detach b d) shape (shapes_kept_lem.detached b d devices stands shape) (fact-detach NoText Plain plain-keeps b d);
       reset = λ b d shape. by-plain b (reset_whole b) shape (shapes_kept_lem.reset b d shape) (fact-reset NoText Plain plain-keeps b);
-      rebuilt_so = rebuilt-so;
+      rebuilt_so = rebuilt-tells;
     }

@@ -7,3 +7,4 @@ pub mod WholeKept
 pub mod TypesTold
 pub mod FactorsMade
 pub mod Rebuilt
+pub mod DescribableKept

@@ -2,6 +2,7 @@
 //! so. The definitions stand in `specs/`.
 #![tactic(auto)]
 
+ghost use Rattle.qo_rebuilt.specs.DescribableKept.{DescribableKeptLaw};
 ghost use Rattle.qo_rebuilt.specs.FactorsMade.{FactorsMadeLaw};
 ghost use Rattle.qo_rebuilt.specs.Made.{ClockMadeLaw, RingsMadeLaw};
 ghost use Rattle.qo_rebuilt.specs.DevicesMade.{DevicesMadeLaw, PluggedMadeLaw};
@@ -97,4 +98,12 @@ pub fn law_devices()
 #[tactic(auto, using(crate::proofs::RebuiltLemmas::rebuilt_lem))]
 pub fn law_rebuilt()
     ensures { RebuiltLaw }
+{}
+
+/// Whatever is rebuilt of a description, good or not, is in order and has a description: so has the opening
+/// board, and what each command makes that is not refused, of a board in order that has one: a value is
+/// written at any path and name, a ring, a user's object, and a device with an id are added.
+#[tactic(auto, using(crate::proofs::DescribableLemmas::describable_kept_lem))]
+pub fn law_describable()
+    ensures { DescribableKeptLaw }
 {}
