@@ -1,9 +1,9 @@
 -- Devices that nothing refuses are added, and told as they are wanted.
-use Rattle.std.proofs.Common.{◌≡◌, ◌≢◌, ◌⊎◌, inl, inr, refl, ap, sym, subst, ◌∙◌, ℕ, ◌+◌, ◌<◌, Bool, true, false, not, ◌&&◌, ◌||◌, List, [], ◌∷◌, ◌++◌, find, map, Option, Some, None, option_map, option_and_then, unwrap_or, Ok, Err, codes, arith}
+use Rattle.std.proofs.Common.{◌≡◌, ◌≢◌, ◌⊎◌, inl, inr, refl, ap, sym, subst, ◌∙◌, ℕ, ◌+◌, ◌<◌, Bool, true, false, not, ◌&&◌, List, [], ◌∷◌, find, Option, Some, None, option_map, option_and_then, unwrap_or, Ok, Err, codes, arith}
 use Rattle.std.specs.Prelude.{Result}
 use Rattle.std.proofs.lemmas.Option.{same_Some}
 use Rattle.std.proofs.lemmas.Slice.Eq.{bytes_eq-Decides}
-use Rattle.qo_model.proofs.Common.{AllByRecursion, if◌then◌else◌, nat_lt, bytes_eq, is_id, type_name, PERIPHERAL_BIRTH, BUS_SLOTS, TypeId, MemDimm, MemoryBackend, SlotBridge, SlotTimer, SlotUart, Val, Range, Code, E15, E16, E28, E29, E31, E39, E40, Object, MemoryBackendRam, OBJECTS_BIRTH, Board, Slot, plain, strong, is_live, is_of, kind_of, record_of, slot_named, path_down_to, option_map_or, is_in_window, overlaps_any, range_at, list_any, number_in, strong_in, text_at, plain_in, text_in, Given, slot_given, bus_slot_for, code_in, is_free, number_for, text_for, ok_or_zero, resources_of, Wanted, is_a, slots_of, types}
+use Rattle.qo_model.proofs.Common.{AllByRecursion, nat_lt, bytes_eq, is_id, type_name, PERIPHERAL_BIRTH, BUS_SLOTS, TypeId, MemDimm, MemoryBackend, SlotBridge, SlotTimer, SlotUart, Code, E15, E16, E28, E29, E31, E39, E40, Object, MemoryBackendRam, OBJECTS_BIRTH, Board, Slot, plain, strong, is_live, is_of, kind_of, record_of, slot_named, path_down_to, option_map_or, is_in_window, overlaps_any, range_at, list_any, number_in, strong_in, text_at, plain_in, text_in, Given, slot_given, bus_slot_for, code_in, is_free, number_for, ok_or_zero, resources_of, is_a, slots_of, types}
 use Rattle.qo_values.specs.declared.properties.Val.TheVariants as val
 use Rattle.qo_model.specs.Objects.{target_given}
 use Rattle.qo_model.specs.Paths.{found, is_absolute, missing, Resolution, resolve, several}
@@ -14,7 +14,7 @@ use Rattle.qo_save.specs.Described.{description, device_given, is_describable, i
 use Rattle.qo_save.specs.Description.{Description, DeviceItem, RingItem}
 use Rattle.qo_save.specs.Rebuilding.{wanted_by, with_slot}
 use Rattle.qo_sound.proofs.AddLemmas.{unbarred}
-use Rattle.qo_sound.proofs.TestLemmas.{clash, clash-back, decide}
+use Rattle.qo_sound.proofs.TestLemmas.{clash-back, decide}
 use Rattle.qo_sound_claims.proofs.ClaimValueLemmas.{first_row, own-addr, own-is}
 use Rattle.qo_sound_claims.specs.SoundClaims.{HasRange as RangeKept}
 use Rattle.qo_sound_devices.specs.SoundPlaces.{child_entries}
@@ -133,7 +133,7 @@ backend-at b w id long there =
     let among : OneOf (λ (e : List ℕ × ℕ). IsMemory id long (object_as b e)) es =
     one-unmap (IsMemory id long) (object_as b) es (subst (OneOf (IsMemory id long)) (objects-said b w.order) there) in
     let (e, (here, memory)) = one-of _ es
-        (one-both (Here b OBJECTS_BIRTH (codes "user-creatable")) (λ (e : List ℕ × ℕ). IsMemory id long (object_as b e)) es (users b w.order) among) in
+    (one-both (Here b OBJECTS_BIRTH (codes "user-creatable")) (λ (e : List ℕ × ℕ). IsMemory id long (object_as b e)) es (users b w.order) among) in
     let its : here.kind ≡ MemoryBackendRam =
     same-named here.kind MemoryBackendRam (sym (ap (λ (o : Option TypeId). type_name (unwrap_or o Object)) here.its) ∙ memory.kind) in
     let way : path_down_to b e.1 ≡ Some (object_path id) =
@@ -160,12 +160,14 @@ range-is b at size e =
     decide (is_in_window (range_at at size) && not (overlaps_any (range_at at size) (ranges_of b))) (λ q. rw q refl)
     (λ q. absurd (let clash : Some E40 ≡ None = rw q at e in cc))
 
-late-range : (b : Board) (props : List Given) (m : ℕ) → range_barred b props (Some m) ≡ None → code_in (range_for b (number_for props (codes "addr")) (size_of b m)) ≡ None
+late-range : (b : Board) (props : List Given) (m : ℕ) → range_barred b props (Some m) ≡ None
+    → code_in (range_for b (number_for props (codes "addr")) (size_of b m)) ≡ None
 late-range b props m e = (unbarred (list_any (has_backend b m) (dimms b)) E39 (code_in (range_for b (number_for props (codes "addr")) (size_of b m))) e).1
 
 -- ---- what it says of what was given
 
-module _ (b : Board) (d : Description) (l : Layout) (x : DeviceItem) (tells : Tells b d) (good : IsGoodDevice d l d.devices x) (k : IsPlugged b good.kind x) where
+module _ (b : Board) (d : Description) (l : Layout) (x : DeviceItem) (tells : Tells b d) (good : IsGoodDevice d l d.devices x)
+    (k : IsPlugged b good.kind x) where
   abbrev n : ℕ
   n = b.born + 1
 
@@ -320,7 +322,8 @@ module _ (b : Board) (d : Description) (l : Layout) (x : DeviceItem) (tells : Te
         same_Some backend.birth m.backend (sym (ap (option_and_then strong_in) memdev-said) ∙ m.memdev) in
         let way : path_text c m.backend ≡ path =
         ap (path_text c) (sym second)
-        ∙ texts-kept b c tells.whole.order whole.order (device-grown b tells.whole tells.quiet good.kind x good.driver good.concrete good.device k leaves).grows h.says
+        ∙ texts-kept b c tells.whole.order whole.order (device-grown b tells.whole tells.quiet good.kind x good.driver good.concrete good.device k leaves).grows
+        h.says
         backend.birth backend.live
         ∙ backend.told_at in
         ap (λ (y : ℕ). range_given y (path_text c m.backend)) (sym first) ∙ ap (range_given start) way ∙ sym g.props

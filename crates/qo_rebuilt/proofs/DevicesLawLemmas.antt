@@ -101,10 +101,12 @@ module _ (d : Description) (l : Layout) (all : List DeviceItem) (clocks : d.cloc
         root = laid.root;
         bridges =
             all-front (λ (y : DeviceItem). y.driver ≡ type_name SlotBridge → l.depth (bus_path y.id) ≡ suc (l.depth y.bus)) front rest
-            (subst (AllByRecursion (λ (y : DeviceItem). y.driver ≡ type_name SlotBridge → l.depth (bus_path y.id) ≡ suc (l.depth y.bus))) (sym whole) laid.bridges);
+            (subst (AllByRecursion (λ (y : DeviceItem). y.driver ≡ type_name SlotBridge → l.depth (bus_path y.id) ≡ suc (l.depth y.bus))) (sym whole)
+            laid.bridges);
       }
 
-  next-good : (front : List DeviceItem) (x : DeviceItem) (rest : List DeviceItem) → front ++ x ∷ rest ≡ all → IsGoodDevice (record d { devices = front }) l front x
+  next-good : (front : List DeviceItem) (x : DeviceItem) (rest : List DeviceItem) → front ++ x ∷ rest ≡ all
+      → IsGoodDevice (record d { devices = front }) l front x
   next-good front x rest whole =
       device-still (record d { devices = all }) front d.clocks d.links l front x
       (each-next (IsGoodDevice (record d { devices = all }) l) [] front x rest

@@ -182,7 +182,8 @@ module _ (b c : Board) (same : map frame b.records ≡ map frame c.records) wher
           let bus : target_text b (bus_of b e.1) ≡ target_text c (bus_of c e.1) =
           ap (λ (o : Option Slot). target_text b (option_and_then strong_in o)) (named-same e.1 (codes "parent_bus")) ∙ targets-same (bus_of c e.1) in
           ap (λ (path : List ℕ). Some (record (device_of b e t) { bus = path })) bus
-          ∙ ap (λ (props : List Given). Some (record (device_of b e t) { bus = target_text c (bus_of c e.1); props = props })) (props-same is_unset device_given e.1)
+          ∙ ap (λ (props : List Given). Some (record (device_of b e t) { bus = target_text c (bus_of c e.1); props = props }))
+          (props-same is_unset device_given e.1)
           ∙ ap (λ (n : ℕ). Some (record (device_of c e t) { slot = n })) (numbers-same e.1 (codes "slot") 0)
 
   objects-same : (e : List ℕ × ℕ) → object_item b e ≡ object_item c e
@@ -223,7 +224,8 @@ module _ (b c : Board) (same : map frame b.records ≡ map frame c.records) wher
   told clock clocks devices links objects rings =
       record { clock = clock; clocks = clocks; devices = devices; links = links; objects = objects; rings = rings }
 
-  each : {X : Type 0} (f g : List ℕ × ℕ → Option X) → ((e : List ℕ × ℕ) → f e ≡ g e) → (n : ℕ) → filter_map f (child_entries b n) ≡ filter_map g (child_entries c n)
+  each : {X : Type 0} (f g : List ℕ × ℕ → Option X) → ((e : List ℕ × ℕ) → f e ≡ g e) → (n : ℕ)
+      → filter_map f (child_entries b n) ≡ filter_map g (child_entries c n)
   each f g alike n =
       ap (filter_map f) (entries-same n)
       ∙ filter_map-same f g (child_entries c n) (all-some (λ (e : List ℕ × ℕ). f e ≡ g e) alike (child_entries c n))

@@ -1,6 +1,5 @@
 -- The law: users' objects that are added are told.
-use Rattle.std.proofs.Common.{◌≡◌, ◌⊎◌, inl, inr, refl, ap, sym, subst, ◌∙◌, rules, ℕ, suc, ◌+◌, ◌<◌, ◌≤◌, Bool, true, false, not, leb, ◌==◌, ◌&&◌, ◌||◌, List, [], ◌∷◌, ◌++◌, filter_map, find, length, map, sum_by, Option, Some, None, is_some, option_map, Ok, Err, codes, append_assoc, append-nil, arith}
-use Rattle.std.specs.Prelude.{Result}
+use Rattle.std.proofs.Common.{◌≡◌, ◌⊎◌, inl, inr, refl, ap, sym, subst, ◌∙◌, rules, ℕ, suc, ◌+◌, ◌<◌, ◌≤◌, Bool, true, false, leb, ◌==◌, ◌&&◌, ◌||◌, List, [], ◌∷◌, ◌++◌, filter_map, find, length, map, sum_by, Option, Some, None, is_some, option_map, Ok, codes, append_assoc, append-nil, arith}
 use Rattle.std.specs.List.{flat_map}
 use Rattle.std.proofs.lemmas.Bool.{eq-eqb, eqb-true, leb-true}
 use Rattle.std.proofs.lemmas.List.{length-append, map-append}
@@ -8,12 +7,10 @@ use Rattle.std.proofs.lemmas.List.Folds.{find-append, list_any-append}
 use Rattle.std.proofs.lemmas.Option.{same_Some}
 use Rattle.std.proofs.lemmas.Slice.Eq.{bytes_eq-Decides}
 use Rattle.std.proofs.Math.Bool.{or-true}
-use Rattle.qo_model.proofs.Common.{AllByRecursion, if◌then◌else◌, IsDistinct, list_any, option_map_or, option_or, bytes_eq, type_name, is_id, admits, fresh_registers, ANONYMOUS_BIRTH, OBJECTS_BIRTH, PERIPHERAL_BIRTH, ROOT_BIRTH, BACKEND_SIZE_AT_FIRST, BACKEND_SIZE_MAX, DIMM_ALIGN, LIVE_OBJECTS_MAX, TypeId, Container, MemoryBackendRam, Tag, PropType, Val, Code, E20, Board, Record, Slot, plain, child, strong, weak, alias, is_live, kind_of, record_of, slot_named, slots_at, target_of, with_added, Given, added_as, barred, given_slots, has_slot, object_add, refusal_of, with_object, edited, place_of, TypeInfo, is_a, property_named, types}
+use Rattle.qo_model.proofs.Common.{AllByRecursion, IsDistinct, list_any, option_map_or, option_or, bytes_eq, type_name, is_id, admits, ANONYMOUS_BIRTH, OBJECTS_BIRTH, PERIPHERAL_BIRTH, BACKEND_SIZE_AT_FIRST, BACKEND_SIZE_MAX, DIMM_ALIGN, LIVE_OBJECTS_MAX, TypeId, Container, MemoryBackendRam, Tag, PropType, Val, Code, E20, Board, Record, Slot, plain, child, strong, weak, alias, is_live, kind_of, record_of, slot_named, slots_at, target_of, with_added, Given, added_as, barred, given_slots, has_slot, object_add, refusal_of, with_object, edited, place_of, TypeInfo, is_a, property_named, types}
 use Rattle.qo_values.proofs.EachLemmas.{each}
-use Rattle.qo_values.proofs.ListLemmas.{all-imply}
 use Rattle.qo_values.specs.declared.births.TheConstants.{OPENING_OBJECTS}
 use Rattle.qo_values.specs.declared.properties.PropType.TheVariants as ty
-use Rattle.qo_values.specs.declared.properties.Val.TheVariants as val
 use Rattle.qo_model.proofs.StepLemmas.{found_at, found-birth, found-edited}
 use Rattle.qo_model.specs.FinalNotesRuns.{added}
 use Rattle.qo_model.specs.Objects.{added_by, Changed, may_add, misfit, refusal_by}
@@ -36,11 +33,10 @@ use Rattle.qo_sound.proofs.AddLemmas.{made}
 use Rattle.qo_sound.proofs.DraftLemmas.{absent-above}
 use Rattle.qo_sound.proofs.TestLemmas.{clash, clash-back, decide}
 use Rattle.qo_sound_devices.specs.SoundPlaces.{child_entries, child_entry, has_entry}
-use Rattle.qo_sound_devices.proofs.AddLemmas.{children-given, entry-added}
+use Rattle.qo_sound_devices.proofs.AddLemmas.{entry-added}
 use Rattle.qo_sound_devices.proofs.LikenessLemmas.{other-record}
 use Rattle.qo_sound_devices.proofs.LocationLemmas.{place-named}
 use Rattle.qo_sound_order.specs.SoundOrder.{is_abstract}
-use Rattle.qo_sound_order.proofs.UserObjectLemmas.{fresh-childless}
 use Rattle.qo_sound_shapes.specs.SoundShape.{further, HasSlots, IsFurther, missing, next, SoundShape}
 use Rattle.qo_good.specs.Good.{AreGiven, AreIds, given, Good, IsGoodObject, nothing, objects_of, other, Takes}
 use Rattle.qo_good.specs.GoodBoards.{IsWhole}
@@ -143,7 +139,8 @@ module _ (b : Board) (v : Val) (takes : admits size_type v ≡ true) where
   sized = (codes "size", v) ∷ []
 
   memory-unrefused : refusal_of b MemoryBackendRam sized ≡ None
-  memory-unrefused = next-refused b MemoryBackendRam (codes "size") v [] (value_row prop.Size size_type (first.Uint BACKEND_SIZE_AT_FIRST) Add) size-row refl takes
+  memory-unrefused =
+      next-refused b MemoryBackendRam (codes "size") v [] (value_row prop.Size size_type (first.Uint BACKEND_SIZE_AT_FIRST) Add) size-row refl takes
 
   memory-slots : (in_slots (given_slots b MemoryBackendRam sized) (codes "flag") ≡ None)
       × ((in_slots (given_slots b MemoryBackendRam sized) (codes "number") ≡ None)
@@ -175,7 +172,8 @@ module _ (b : Board) (f n t : Val) (flag : admits ty.Bool f ≡ true) (number : 
 
   tag-unrefused : refusal_of b Tag marked ≡ None
   tag-unrefused =
-      next-refused b Tag (codes "flag") f ((codes "number", n) ∷ (codes "text", t) ∷ []) (value_row prop.Flag ty.Bool (first.Bool false) Both) flag-row refl flag
+      next-refused b Tag (codes "flag") f ((codes "number", n) ∷ (codes "text", t) ∷ []) (value_row prop.Flag ty.Bool (first.Bool false) Both) flag-row refl
+      flag
       ∙ next-refused b Tag (codes "number") n ((codes "text", t) ∷ []) (value_row prop.Number int64 (first.Uint 0) Both) number-row refl number
       ∙ next-refused b Tag (codes "text") t [] (value_row prop.Text ty.Text first.NoText Both) text-row refl text
 
@@ -218,9 +216,12 @@ given-taken b o good = by (creatable-two good.kind good.concrete good.creatable)
 
     tag : (props : List Given) → AreGiven Tag object_given props → IsTaken b Tag props
     tag props all =
-        let x = first-given Tag (codes "flag") (codes "number" ∷ codes "size" ∷ codes "text" ∷ []) props (value_row prop.Flag ty.Bool (first.Bool false) Both) flag-row all in
-        let y = first-given Tag (codes "number") (codes "size" ∷ codes "text" ∷ []) x.more (value_row prop.Number int64 (first.Uint 0) Both) number-row x.later in
-        let z = first-given Tag (codes "text") [] y.more (value_row prop.Text ty.Text first.NoText Both) text-row (less-other Tag (codes "size") (codes "text" ∷ []) y.more tag-bare y.later) in
+        let x = first-given Tag (codes "flag") (codes "number" ∷ codes "size" ∷ codes "text" ∷ []) props (value_row prop.Flag ty.Bool (first.Bool false) Both)
+        flag-row all in
+        let y =
+        first-given Tag (codes "number") (codes "size" ∷ codes "text" ∷ []) x.more (value_row prop.Number int64 (first.Uint 0) Both) number-row x.later in
+        let z = first-given Tag (codes "text") [] y.more (value_row prop.Text ty.Text first.NoText Both) text-row
+        (less-other Tag (codes "size") (codes "text" ∷ []) y.more tag-bare y.later) in
         let last = none-given Tag z.more z.later in
         let is : props ≡ (codes "flag", x.value) ∷ (codes "number", y.value) ∷ (codes "text", z.value) ∷ [] =
         x.is
@@ -318,14 +319,16 @@ module _ (b : Board) (h : IsWhole b) (t : TypeId) (id : List ℕ) (props : List 
   objects-live : is_live b OBJECTS_BIRTH ≡ true
   objects-live = kind-live b OBJECTS_BIRTH Container (objects-kind b h.order)
 
-  found : (x : ℕ) → record_of (with_object b t id props) x ≡ option_or (option_map (edited OBJECTS_BIRTH change) (record_of b x)) (found_at x (made b t props ∷ []))
+  found : (x : ℕ)
+      → record_of (with_object b t id props) x ≡ option_or (option_map (edited OBJECTS_BIRTH change) (record_of b x)) (found_at x (made b t props ∷ []))
   found x =
       find-append (λ (y : Record). y.birth == x) (map (edited OBJECTS_BIRTH change) b.records) (made b t props ∷ [])
       ∙ ap (λ (o : Option Record). option_or o (found_at x (made b t props ∷ []))) (found-edited OBJECTS_BIRTH change (λ y. refl) x b.records)
 
   record-kept : (x : ℕ) → is_live b x ≡ true → (x == OBJECTS_BIRTH) ≡ false → record_of (with_object b t id props) x ≡ record_of b x
   record-kept x live apart =
-      found x ∙ ap (λ (o : Option Record). option_or o (found_at x (made b t props ∷ []))) (other-record OBJECTS_BIRTH x change b refl apart (record_of b x) refl)
+      found x
+      ∙ ap (λ (o : Option Record). option_or o (found_at x (made b t props ∷ []))) (other-record OBJECTS_BIRTH x change b refl apart (record_of b x) refl)
       ∙ go (record_of b x) refl
     where
       go : (o : Option Record) → record_of b x ≡ o → option_or o (found_at x (made b t props ∷ [])) ≡ o
@@ -385,7 +388,8 @@ module _ (b : Board) (h : IsWhole b) (t : TypeId) (id : List ℕ) (props : List 
           (λ q. subst (λ (x : ℕ). has_entry e (child_entries (with_object b t id props) x) ≡ true) (sym (eqb-true p OBJECTS_BIRTH q))
           (ap (has_entry e) objects-more
           ∙ list_any-append (λ (x : List ℕ × ℕ). x.1 == e.1 && bytes_eq x.0 e.0) (child_entries b OBJECTS_BIRTH) ((id, b.born + 1) ∷ [])
-          ∙ ap (λ (u : Bool). u || has_entry e ((id, b.born + 1) ∷ [])) (subst (λ (x : ℕ). has_entry e (child_entries b x) ≡ true) (eqb-true p OBJECTS_BIRTH q) there)))
+          ∙ ap (λ (u : Bool). u || has_entry e ((id, b.born + 1) ∷ []))
+          (subst (λ (x : ℕ). has_entry e (child_entries b x) ≡ true) (eqb-true p OBJECTS_BIRTH q) there)))
           (λ q. ap (λ (xs : List (List ℕ × Slot)). has_entry e (filter_map child_entry xs)) (slots-kept p live q) ∙ there))
           (λ gone. gone-none (record_of b p) refl gone)
         where
@@ -447,7 +451,8 @@ object-made b d o tells good typed free room =
     add-taken b t o.id o.props good.concrete good.creatable good.id (objects-live b w t o.id o.props) own (omega (arith, few, room)) takes.unrefused in
     let by_name : object_add b o.kind o.id o.props ≡ taken_as b t o.id o.props = ap (λ (name : List ℕ). object_add b name o.id o.props) good.its ∙ taken in
     let now : IsWhole c = subst IsWhole (ap (λ (x : Changed). x.board) taken) (whole_kept_lem.change b (added (type_name t) o.id o.props) w) in
-    let slots : slots_at c n ≡ given_slots b t o.props = ap (λ (x : Option Record). option_map_or (λ (r : Record). r.slots) x []) (record-new b w t o.id o.props) in
+    let slots : slots_at c n ≡ given_slots b t o.props =
+    ap (λ (x : Option Record). option_map_or (λ (r : Record). r.slots) x []) (record-new b w t o.id o.props) in
     let kind : kind_of c n ≡ Some t = ap (option_map (λ (r : Record). r.kind)) (record-new b w t o.id o.props) in
     let item : object_item c (o.id, n) ≡ Some o = item-is c n kind (takes.told c now.order.shape n slots) in
     let linkless : link_items c (o.id, n) ≡ [] = ap (filter_map (link_item c n)) slots ∙ none-links c n (given_slots b t o.props) takes.unlinked in
@@ -477,7 +482,8 @@ object-made b d o tells good typed free room =
       devices = (description b).devices ++ [];
       objects = (description b).objects ++ o ∷ [];
     }) (append-nil (description b).clocks)
-    ∙ ap (λ (xs : List DeviceItem). record (description b) { devices = xs; objects = (description b).objects ++ o ∷ [] }) (append-nil (description b).devices) in
+    ∙ ap (λ (xs : List DeviceItem). record (description b) { devices = xs; objects = (description b).objects ++ o ∷ [] })
+    (append-nil (description b).devices) in
     record {
       after = c;
       done = ap by_changed by_name;

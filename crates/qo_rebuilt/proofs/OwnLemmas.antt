@@ -1,6 +1,6 @@
 -- Each object that comes with a device is its child.
-use Rattle.std.proofs.Common.{◌≡◌, refl, ap, sym, subst, ◌∙◌, ℕ, zero, suc, ◌+◌, ◌<◌, ◌≤◌, Bool, true, false, ◌==◌, ◌||◌, List, [], ◌∷◌, ◌++◌, filter_map, map, Option, Some, None, is_some, option_map, codes, arith}
-use Rattle.qo_model.proofs.Common.{⊤, cons_option, option_map_or, option_or, bytes_eq, Realize, PERIPHERAL_BIRTH, TypeId, Device, Val, Range, Board, Record, Slot, plain, child, strong, weak, alias, record_of, is_live, slots_at, add, changed_at, fresh, with_added, with_changed, with_val, acted, with_act_on, clock_of, child_named, kid_name, index_from, first_value, fresh_record, canonical, Given, given_to, slot_given, Resources, Wanted, acted_all, addressed_at, aliased, bus_births, clocked, counted, drafted, fitted, link_named, name_for, owned, parent_for, property_made, properties_made, source_for, stood, with_body_of, with_device, with_given, with_kid, with_new, with_path, with_plugged, with_source, edit, edited, plugged, post, property_name, slots_of, is_named, set_named}
+use Rattle.std.proofs.Common.{◌≡◌, refl, ap, sym, ◌∙◌, ℕ, zero, suc, ◌+◌, ◌<◌, Bool, true, false, ◌==◌, ◌||◌, List, [], ◌∷◌, ◌++◌, filter_map, Option, Some, None, is_some, option_map, codes, arith}
+use Rattle.qo_model.proofs.Common.{⊤, cons_option, option_map_or, option_or, Realize, TypeId, Device, Val, Range, Board, Record, Slot, plain, child, strong, weak, alias, record_of, is_live, slots_at, add, changed_at, fresh, with_added, with_changed, with_val, acted, with_act_on, clock_of, kid_name, first_value, fresh_record, canonical, Given, Resources, Wanted, acted_all, addressed_at, aliased, bus_births, clocked, counted, drafted, fitted, link_named, name_for, owned, parent_for, property_made, properties_made, source_for, stood, with_body_of, with_device, with_given, with_kid, with_new, with_path, with_plugged, with_source, edit, edited, plugged, post, property_name, slots_of, set_named}
 use Rattle.std.proofs.lemmas.Bool.{eq-eqb, ne_eqb}
 use Rattle.std.proofs.lemmas.List.Elements.{filter_map-append}
 use Rattle.std.proofs.lemmas.List.Folds.{list_any-append}
@@ -87,7 +87,8 @@ module _ (b : Board) (absent : (m : ℕ) → b.born < m → record_of b m ≡ No
       }
 
   -- an edit that lets no child go
-  owning-edit : (m : ℕ) (change : Record → Record) → ((r : Record) → (change r).birth ≡ r.birth) → Keeps change → (c : Board) → Owning c → Owning (edit m change c)
+  owning-edit : (m : ℕ) (change : Record → Record) → ((r : Record) → (change r).birth ≡ r.birth) → Keeps change → (c : Board) → Owning c
+      → Owning (edit m change c)
   owning-edit m change same_birth keeps c h =
       record {
         born = h.born;
@@ -100,7 +101,8 @@ module _ (b : Board) (absent : (m : ℕ) → b.born < m → record_of b m ≡ No
       at_record x r false q e = rw (edited, q) e
 
       kept : (x : ℕ) → has_child x (slots_at c (b.born + 1)) ≡ true → has_child x (slots_at (edit m change c) (b.born + 1)) ≡ true
-      kept x e = ap (λ (o : Option Record). has_child x (slots_in o)) (found-edited m change same_birth (b.born + 1) c.records) ∙ go (record_of c (b.born + 1)) refl
+      kept x e = ap (λ (o : Option Record). has_child x (slots_in o)) (found-edited m change same_birth (b.born + 1) c.records)
+          ∙ go (record_of c (b.born + 1)) refl
         where
           go : (o : Option Record) → record_of c (b.born + 1) ≡ o → has_child x (slots_in (option_map (edited m change) o)) ≡ true
           go None q = clash-back (sym (ap is_some q) ∙ h.there)
@@ -181,7 +183,8 @@ module _ (b : Board) (absent : (m : ℕ) → b.born < m → record_of b m ≡ No
           ∙ list_any-append (names_it x) (filter_map child_entry r.slots) ((name, c.born + 1) ∷ [])
           ∙ ap (λ (t : Bool). has_child x r.slots || t) (or-false (c.born + 1 == x)) ∙ k
 
-      by : (x : ℕ) → is_live b x ≡ false → (x == b.born + 1) ≡ false → is_live e x ≡ true → has_child x (slots_at (edit (b.born + 1) change e) (b.born + 1)) ≡ true
+      by : (x : ℕ) → is_live b x ≡ false → (x == b.born + 1) ≡ false → is_live e x ≡ true
+          → has_child x (slots_at (edit (b.born + 1) change e) (b.born + 1)) ≡ true
       by x high apart live = go (record_of c (b.born + 1)) refl (record_of c x) refl
         where
           go : (o : Option Record) → record_of c (b.born + 1) ≡ o → (u : Option Record) → record_of c x ≡ u

@@ -1,14 +1,13 @@
 -- A device that nothing refuses is added, and told after the others.
-use Rattle.std.proofs.Common.{◌≡◌, refl, ap, sym, subst, ◌∙◌, rules, ℕ, suc, ◌+◌, ◌<◌, ◌≤◌, Bool, true, false, not, ◌==◌, ◌&&◌, ◌||◌, List, [], ◌∷◌, ◌++◌, drop, filter_map, map, Option, Some, None, is_some, option_map, option_and_then, unwrap_or, Ok, Err, codes, append-nil, arith}
-use Rattle.std.specs.Prelude.{Result}
+use Rattle.std.proofs.Common.{◌≡◌, refl, ap, sym, subst, ◌∙◌, rules, ℕ, ◌+◌, ◌<◌, ◌≤◌, Bool, true, false, not, ◌==◌, ◌&&◌, ◌||◌, List, [], ◌∷◌, ◌++◌, drop, filter_map, Option, Some, None, is_some, option_map, option_and_then, unwrap_or, Ok, codes, append-nil, arith}
 use Rattle.std.specs.List.{flat_map}
 use Rattle.std.proofs.lemmas.Bool.{and_parts, eq-eqb, eqb-true}
 use Rattle.std.proofs.lemmas.List.Folds.{list_any-append}
 use Rattle.std.proofs.lemmas.Option.{same_Some}
 use Rattle.std.proofs.lemmas.Slice.Eq.{bytes_eq-Decides}
 use Rattle.std.proofs.Math.Bool.{or-true}
-use Rattle.qo_model.proofs.Common.{AllByRecursion, if◌then◌else◌, option_map_or, bytes_eq, type_name, ANONYMOUS_BIRTH, OBJECTS_BIRTH, PERIPHERAL_BIRTH, ROOT_BIRTH, TypeId, Container, Code, E20, E21, E22, Board, Notice, Record, Slot, plain, child, strong, weak, alias, is_live, kind_of, record_of, slot_named, slots_at, among, place_of, clock_of, bus_of, div_of, mul_of, target_of, is_of, barred_early, bus_for, plug, plug_as, plug_by, plug_late, Plugged, Resources, resources_of, type_barred, Wanted, with_plugged, TypeInfo, Given, is_a, slots_of, types}
-use Rattle.qo_model.specs.Paths.{found, missing, Resolution, resolve, several}
+use Rattle.qo_model.proofs.Common.{AllByRecursion, if◌then◌else◌, option_map_or, bytes_eq, type_name, ANONYMOUS_BIRTH, OBJECTS_BIRTH, PERIPHERAL_BIRTH, TypeId, Container, Code, E20, E21, E22, Board, Notice, Record, Slot, plain, child, strong, weak, alias, is_live, kind_of, record_of, slots_at, place_of, clock_of, bus_of, div_of, mul_of, target_of, is_of, barred_early, bus_for, plug, plug_as, plug_by, plug_late, Plugged, Resources, resources_of, type_barred, Wanted, with_plugged, TypeInfo, Given, is_a, slots_of, types}
+use Rattle.qo_model.specs.Paths.{found, missing, Resolution, several}
 use Rattle.qo_values.proofs.EachLemmas.{each}
 use Rattle.qo_model.specs.Plug.{plug_on, source_for}
 use Rattle.qo_model.specs.Properties.{may_set, property_named, target_text}
@@ -22,7 +21,6 @@ use Rattle.qo_save.specs.Description.{ClockItem, Description, DeviceItem, LinkIt
 use Rattle.qo_save.specs.Rebuilding.{add_device, by_plugged, wanted_by}
 use Rattle.qo_sound.proofs.DeviceScopeLemmas.{devices_stay_lem}
 use Rattle.qo_sound.proofs.DraftLemmas.{absent-above}
-use Rattle.qo_sound.proofs.FirmBoardLemmas.{WellFormed}
 use Rattle.qo_sound.proofs.PlugLemmas.{place-of}
 use Rattle.qo_sound.proofs.TestLemmas.{clash, clash-back, decide}
 use Rattle.qo_sound.proofs.ViewLemmas.{PinsRootAlone, rest-from_sound}
@@ -128,7 +126,8 @@ module _ (b : Board) (w : IsWhole b) (quiet : b.notices ≡ []) (t : TypeId) (x 
           let may : is_a row.id (codes "device") ≡ true = ap (λ (u : TypeId). is_a u (codes "device")) own ∙ device in
           let free : barred_row (Some row) ≡ None = rw (real, may) refl in
           let barred : type_barred x.driver ≡ None = ap barred_row q ∙ free in
-          ap (plug_by b (wanted_by x)) barred ∙ ap (plug_row b (wanted_by x)) q ∙ ap (λ (u : TypeId). plug_as b u (wanted_by x) (barred_early b u (wanted_by x))) own
+          ap (plug_by b (wanted_by x)) barred ∙ ap (plug_row b (wanted_by x)) q
+          ∙ ap (λ (u : TypeId). plug_as b u (wanted_by x) (barred_early b u (wanted_by x))) own
           ∙ ap (plug_as b t (wanted_by x)) k.early ∙ ap (plug_bus b t (wanted_by x)) chosen ∙ ap (plug_late b t k.bus (wanted_by x)) k.late
 
   -- the notice of it is taken
@@ -195,7 +194,8 @@ module _ (b : Board) (w : IsWhole b) (quiet : b.notices ≡ []) (t : TypeId) (x 
           (λ q. q) in
           (staying.old m (low m live) other apart, kind-alike b c0 m (joined.body m live))
 
-      more : (p : ℕ) (es fs : List (List ℕ × ℕ)) (e : List ℕ × ℕ) → child_entries c p ≡ es ++ fs → has_entry e es ≡ true → has_entry e (child_entries c p) ≡ true
+      more : (p : ℕ) (es fs : List (List ℕ × ℕ)) (e : List ℕ × ℕ) → child_entries c p ≡ es ++ fs → has_entry e es ≡ true
+          → has_entry e (child_entries c p) ≡ true
       more p es fs e is there =
           ap (has_entry e) is ∙ list_any-append (λ (y : List ℕ × ℕ). y.1 == e.1 && bytes_eq y.0 e.0) es fs ∙ ap (λ (u : Bool). u || has_entry e fs) there
 
@@ -318,7 +318,8 @@ module _ (b : Board) (w : IsWhole b) (quiet : b.notices ≡ []) (t : TypeId) (x 
           let two = and_parts (is_link s.1) (is_set c (b.born + 1) s.0) q in
           let set : may_set p.access ≡ true =
           sym (ap (λ (o : Option Property). option_map_or (λ (z : Property). may_set z.access) o false) (ap (property_named t) is.name ∙ own))
-          ∙ sym (ap (λ (o : Option TypeId). option_map_or (λ (z : Property). may_set z.access) (option_and_then (λ (u : TypeId). property_named u s.0) o) false) device-kind)
+          ∙ sym (ap (λ (o : Option TypeId). option_map_or (λ (z : Property). may_set z.access) (option_and_then (λ (u : TypeId). property_named u s.0) o) false)
+          device-kind)
           ∙ two.1 in
           let on : is_open s.0 ≡ true = ap is_open is.name ∙ shut set (link-row p.role s.1 two.0 is.fits) in
           rw (q, open-none s on two.0 y) refl)
@@ -379,6 +380,7 @@ module _ (b : Board) (w : IsWhole b) (quiet : b.notices ≡ []) (t : TypeId) (x 
       (append-nil (description b).objects) in
       record {
         whole = device-whole;
-        says = says-so c (record d { devices = d.devices ++ x ∷ [] }) describable (is ∙ ap (λ (y : Description). record y { devices = y.devices ++ x ∷ [] }) h.is);
+        says =
+            says-so c (record d { devices = d.devices ++ x ∷ [] }) describable (is ∙ ap (λ (y : Description). record y { devices = y.devices ++ x ∷ [] }) h.is);
         quiet = refl;
       }

@@ -1,5 +1,5 @@
 -- A good description is rebuilt: its clock, its rings, its users' objects, its devices, their clocks and the links, one after another.
-use Rattle.std.proofs.Common.{◌≡◌, refl, suc, [], ◌∷◌, ap, ◌∙◌, List, ◌++◌, map, Some}
+use Rattle.std.proofs.Common.{◌≡◌, refl, suc, [], ap, ◌∙◌, List, ◌++◌, map, Some}
 use Rattle.std.specs.List.{flat_map}
 use Rattle.qo_model.proofs.Common.{type_name, SlotBridge, Board, opening_board}
 use Rattle.qo_values.proofs.ListLemmas.{all-imply}

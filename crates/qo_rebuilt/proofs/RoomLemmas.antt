@@ -1,5 +1,5 @@
 -- A board with a description has no more objects than the description says.
-use Rattle.std.proofs.Common.{◌≡◌, ◌⊎◌, inl, inr, refl, ap, sym, subst, ◌∙◌, ℕ, suc, ◌+◌, ◌≤◌, Bool, true, false, ◌==◌, ◌&&◌, ◌||◌, eqb, List, [], ◌∷◌, ◌++◌, filter_map, length, map, sum_by, Option, Some, None, is_some, option_map, codes, arith}
+use Rattle.std.proofs.Common.{◌≡◌, ◌⊎◌, inl, inr, refl, ap, sym, subst, ◌∙◌, ℕ, suc, ◌+◌, ◌≤◌, true, false, ◌==◌, ◌&&◌, eqb, List, [], ◌∷◌, ◌++◌, filter_map, length, map, sum_by, Option, Some, None, option_map, codes, arith}
 use Rattle.std.specs.Cmp.{IsEquivalence}
 use Rattle.std.specs.List.{flat_map}
 use Rattle.std.proofs.lemmas.Bool.{and_parts, eq-eqb, eqb-true}
@@ -8,7 +8,7 @@ use Rattle.std.proofs.lemmas.List.Sums.{sum_by-cons}
 use Rattle.std.proofs.lemmas.Map.Made.{length-le_from_is_member}
 use Rattle.std.proofs.lemmas.Slice.Eq.{bytes_eq-Decides}
 use Rattle.std.proofs.Math.Bool.{or-true}
-use Rattle.qo_model.proofs.Common.{AllByRecursion, IsDistinct, list_any, nat_eq, nat_eq_equiv, option_map_or, bytes_eq, ANONYMOUS_BIRTH, MACHINE_BIRTH, MEMORY_BUS_BIRTH, OBJECTS_BIRTH, PERIPHERAL_BIRTH, ROOT_BIRTH, ROOT_BUS_BIRTH, SYSTEM_CLOCK_BIRTH, TypeId, Container, Machine, Board, Record, is_live, kind_of, record_of, slots_at, among, births, children_of, objects_in, is_a}
+use Rattle.qo_model.proofs.Common.{AllByRecursion, IsDistinct, list_any, nat_eq_equiv, option_map_or, bytes_eq, ANONYMOUS_BIRTH, MACHINE_BIRTH, MEMORY_BUS_BIRTH, OBJECTS_BIRTH, PERIPHERAL_BIRTH, ROOT_BIRTH, ROOT_BUS_BIRTH, SYSTEM_CLOCK_BIRTH, TypeId, Container, Machine, Board, Record, is_live, kind_of, record_of, slots_at, among, births, children_of, objects_in, is_a}
 use Rattle.qo_values.proofs.ListLemmas.{all-imply}
 use Rattle.qo_values.specs.declared.births.TheConstants.{OPENING_OBJECTS}
 use Rattle.qo_model.proofs.StepLemmas.{live-among}
@@ -180,7 +180,8 @@ module _ (b : Board) (h : IsWhole b) (says : is_describable b ≡ true) where
   root-first : (n : ℕ) → among (births_in of_root) n ≡ true → among firsts n ≡ true
   root-first n e =
       decide (eqb n MACHINE_BIRTH) (λ q. subst (λ (m : ℕ). among firsts m ≡ true) (sym (eqb-true n MACHINE_BIRTH q)) refl)
-      (λ q. decide (eqb n OBJECTS_BIRTH) (λ r. subst (λ (m : ℕ). among firsts m ≡ true) (sym (eqb-true n OBJECTS_BIRTH r)) refl) (λ r. clash-back (rw (q, r) at e)))
+      (λ q. decide (eqb n OBJECTS_BIRTH) (λ r. subst (λ (m : ℕ). among firsts m ≡ true) (sym (eqb-true n OBJECTS_BIRTH r)) refl)
+      (λ r. clash-back (rw (q, r) at e)))
 
   machine-first : (n : ℕ) → among (births_in of_machine) n ≡ true → among firsts n ≡ true
   machine-first n e =

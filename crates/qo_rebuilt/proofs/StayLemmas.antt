@@ -1,6 +1,6 @@
 -- A device that is added leaves the slots of the objects that were there, but for its container and its bus; its children are new.
-use Rattle.std.proofs.Common.{◌≡◌, refl, ap, sym, subst, ◌∙◌, ℕ, zero, suc, ◌+◌, ◌<◌, ◌≤◌, Bool, true, false, ◌==◌, ◌||◌, List, [], ◌∷◌, ◌++◌, find, map, slice_get, Option, Some, None, codes, arith}
-use Rattle.qo_model.proofs.Common.{⊤, AllByRecursion, option_map_or, option_or, bytes_eq, Realize, PERIPHERAL_BIRTH, TypeId, Device, Val, Range, Board, Record, Slot, plain, child, strong, weak, alias, record_of, slots_at, add, changed_at, fresh, with_added, with_changed, with_val, acted, with_act_on, clock_of, child_named, kid_name, index_from, first_value, fresh_record, canonical, Given, given_to, slot_given, Resources, Wanted, acted_all, addressed_at, aliased, bus_births, clocked, counted, drafted, fitted, link_named, name_for, owned, parent_for, property_made, properties_made, source_for, stood, with_body_of, with_device, with_given, with_new, with_path, with_plugged, with_source, edit, edited, plugged, post, property_name, slots_of, is_named, set_named}
+use Rattle.std.proofs.Common.{◌≡◌, refl, ap, sym, subst, ◌∙◌, ℕ, zero, suc, ◌+◌, ◌<◌, ◌≤◌, Bool, true, false, ◌==◌, ◌||◌, List, [], ◌∷◌, find, map, slice_get, Option, Some, None, codes, arith}
+use Rattle.qo_model.proofs.Common.{⊤, AllByRecursion, option_map_or, option_or, bytes_eq, Realize, TypeId, Device, Val, Range, Board, Record, Slot, plain, child, strong, weak, alias, record_of, slots_at, add, changed_at, fresh, with_added, with_changed, with_val, acted, with_act_on, clock_of, kid_name, index_from, first_value, fresh_record, canonical, Given, given_to, slot_given, Resources, Wanted, acted_all, addressed_at, aliased, bus_births, clocked, counted, drafted, fitted, link_named, name_for, owned, parent_for, property_made, properties_made, source_for, stood, with_body_of, with_device, with_given, with_new, with_path, with_plugged, with_source, edit, plugged, post, property_name, slots_of, is_named, set_named}
 use Rattle.std.proofs.lemmas.Bool.{eq-eqb, ne_eqb}
 use Rattle.std.proofs.lemmas.Option.{same_Some}
 use Rattle.std.proofs.lemmas.Slice.Eq.{bytes_eq-Decides}
@@ -154,7 +154,8 @@ module _ (b : Board) (parent bus : ℕ) (parent_old : parent ≤ b.born) (bus_ol
       record {
         born = h.born;
         old = λ x before other apart. edit-apart m x change same_birth c (on x other apart) ∙ h.old x before other apart;
-        young = subst (AreYoung (b.born + 1)) (sym (edit-apart m (b.born + 1) change same_birth c (ne_eqb (b.born + 1) m (λ is. omega (arith, low, is))))) h.young;
+        young =
+            subst (AreYoung (b.born + 1)) (sym (edit-apart m (b.born + 1) change same_birth c (ne_eqb (b.born + 1) m (λ is. omega (arith, low, is))))) h.young;
       }
 
   -- an edit that leaves slots
@@ -276,7 +277,8 @@ module _ (b : Board) (parent bus : ℕ) (parent_old : parent ≤ b.born) (bus_ol
             (λ x other apart. ap (λ (m : ℕ). x == m) on_parent ∙ other) (with_added (name_for b a.id) (child (b.born + 1))) (λ r. refl) d k;
         on_bus = λ d k. staying-low resources.bus (subst (λ (m : ℕ). m ≤ b.born) (sym on_bus) bus_old)
             (λ x other apart. ap (λ (m : ℕ). x == m) on_bus ∙ apart) (with_added (kid_name resources.slot) (strong Device (Some (b.born + 1)))) (λ r. refl) d k;
-        given = λ d k. staying-high (b.born + 1) (omega arith) (with_given b a.props) (λ r. refl) (λ r y. young-given (b.born + 1) b a.props leaves r.slots y) d k;
+        given =
+            λ d k. staying-high (b.born + 1) (omega arith) (with_given b a.props) (λ r. refl) (λ r y. young-given (b.born + 1) b a.props leaves r.slots y) d k;
         placed = staying-set (codes "slot") (val.Uint resources.slot);
         linked = staying-link (codes "parent_bus") refl resources.bus;
         marked = staying-set (codes "realized") (val.Bool true);

@@ -1,10 +1,10 @@
 -- What a board tells that has more users' objects and devices.
-use Rattle.std.proofs.Common.{◌≡◌, refl, ap, sym, ◌∙◌, rules, ℕ, Bool, true, false, not, ◌==◌, ◌&&◌, ◌||◌, eqb, List, [], ◌∷◌, ◌++◌, filter, filter_map, length, map, Option, Some, None, is_some, is_none, option_map, codes, append-nil}
+use Rattle.std.proofs.Common.{◌≡◌, refl, ap, sym, ◌∙◌, rules, ℕ, Bool, true, false, not, ◌==◌, ◌&&◌, eqb, List, [], ◌∷◌, ◌++◌, filter, filter_map, length, map, Option, Some, None, is_some, is_none, codes, append-nil}
 use Rattle.std.specs.List.{flat_map}
 use Rattle.std.proofs.Math.Bool.{or-true}
 use Rattle.std.proofs.lemmas.Grind.{flat_map-append}
 use Rattle.std.proofs.lemmas.List.Elements.{filter_map-append}
-use Rattle.qo_model.proofs.Common.{AllByRecursion, nat_eq_equiv, ANONYMOUS_BIRTH, OBJECTS_BIRTH, PERIPHERAL_BIRTH, ROOT_BIRTH, SYSTEM_CLOCK_BIRTH, TypeId, Clock, Board, Record, is_live, kind_of, slots_at, among, births, children_of, detached, place_of, clock_of, is_a, types}
+use Rattle.qo_model.proofs.Common.{AllByRecursion, nat_eq_equiv, ANONYMOUS_BIRTH, OBJECTS_BIRTH, PERIPHERAL_BIRTH, ROOT_BIRTH, SYSTEM_CLOCK_BIRTH, TypeId, Clock, Board, Record, is_live, kind_of, slots_at, among, births, children_of, detached, place_of, is_a, types}
 use Rattle.qo_values.proofs.EachLemmas.{each}
 use Rattle.qo_values.proofs.ListLemmas.{all-imply}
 use Rattle.qo_model.proofs.StepLemmas.{live-among}

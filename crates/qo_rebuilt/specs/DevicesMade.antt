@@ -1,6 +1,6 @@
 -- For a law alone. What adding a device makes of a board, as its description tells it, before any clock of a device multiplies or divides and before any link
 -- is written (QEMU's QAPI, `device_add`).
-use Rattle.std.specs.Prelude.{◌≡◌, ℕ, ◌+◌, ◌≤◌, ◌<◌, ◌^◌, suc, true, false, List, [], ◌∷◌, ◌++◌, length, map, Option, Some, None, codes, Ok}
+use Rattle.std.specs.Prelude.{◌≡◌, ℕ, ◌+◌, ◌≤◌, suc, true, List, [], ◌∷◌, ◌++◌, length, map, None, codes, Ok}
 use Rattle.std.specs.List.{AllByRecursion, sum_by}
 use Rattle.qo_values.specs.Kinds.{type_name}
 use Rattle.qo_values.specs.declared.births.TheConstants.{OPENING_OBJECTS}
@@ -11,11 +11,9 @@ use Rattle.qo_model.specs.Board.{Board}
 use Rattle.qo_model.specs.Paths.{found, is_of, resolve}
 use Rattle.qo_model.specs.Plug.{barred_early, barred_late, bus_type, with_plugged, resources_of}
 use Rattle.qo_model.specs.Properties.{path_text}
-use Rattle.qo_model.specs.Types.{is_a}
 use Rattle.qo_save.specs.Description.{Description, DeviceItem}
 use Rattle.qo_save.specs.Rebuilding.{add_device, wanted_by}
-use Rattle.qo_sound_order.specs.SoundOrder.{is_abstract}
-use Rattle.qo_good.specs.Good.{AreIds, bus_path, EachAfter, Good, IsGoodDevice, Layout, objects_of}
+use Rattle.qo_good.specs.Good.{AreIds, bus_path, EachAfter, IsGoodDevice, Layout, objects_of}
 use Rattle.qo_rebuilt.specs.Made.{Makes, Tells}
 
 -- what a device finds that is added: its bus is at its path, and nothing refuses it

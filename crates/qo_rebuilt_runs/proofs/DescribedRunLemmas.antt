@@ -124,7 +124,8 @@ holds-pulsed b m h =
     record {
       devices = devices_kept_lem.pulsed b m Cold h.devices;
       shape = shapes_kept_lem.pulsed b m Cold h.shape;
-      told = record { order = order_kept_lem.changes.pulsed b m Cold tt tt h.devices h.told.order; types = types_told_lem.pulsed b m Cold h.shape h.told.types };
+      told =
+          record { order = order_kept_lem.changes.pulsed b m Cold tt tt h.devices h.told.order; types = types_told_lem.pulsed b m Cold h.shape h.told.types };
     }
 
 -- all changes
@@ -178,15 +179,22 @@ changes =
             added = λ b id kind size free s h.
                 record {
                   order =
-                      order_kept_lem.ring_added b (new_ring id size) (free_id (bytes_eq kind (codes "ringbuf")) (is_id id) (has_ring b id) (is_ring_size size) free)
+                      order_kept_lem.ring_added b (new_ring id size)
+                      (free_id (bytes_eq kind (codes "ringbuf")) (is_id id) (has_ring b id) (is_ring_size size) free)
                       h.order;
                   types = ringed-types b (b.rings ++ new_ring id size ∷ []) h.types;
                 };
             removed = λ b id free s h. record { order = order_kept_lem.ring_removed b id h.order; types = ringed-types b (without_ring id b.rings) h.types };
             read = λ b id most s h.
-                record { order = order_kept_lem.ring_filled b _ (ids-changed (λ (m : RingBytes). ring_drop m most) id b.rings) h.order; types = ringed-types b (ring_changed (λ (m : RingBytes). ring_drop m most) id b.rings) h.types };
+                record {
+                  order = order_kept_lem.ring_filled b _ (ids-changed (λ (m : RingBytes). ring_drop m most) id b.rings) h.order;
+                  types = ringed-types b (ring_changed (λ (m : RingBytes). ring_drop m most) id b.rings) h.types;
+                };
             written = λ b id bytes s h.
-                record { order = order_kept_lem.ring_filled b _ (ids-changed (λ (m : RingBytes). ring_add m bytes) id b.rings) h.order; types = ringed-types b (ring_changed (λ (m : RingBytes). ring_add m bytes) id b.rings) h.types };
+                record {
+                  order = order_kept_lem.ring_filled b _ (ids-changed (λ (m : RingBytes). ring_add m bytes) id b.rings) h.order;
+                  types = ringed-types b (ring_changed (λ (m : RingBytes). ring_add m bytes) id b.rings) h.types;
+                };
           };
       timed = λ b now on low s h.
           record { order = order_kept_lem.beside b (at_time now b) refl refl h.order; types = types_told_lem.beside b (at_time now b) refl h.types };
@@ -263,6 +271,7 @@ described_in_runs =
     record {
       whole = λ turns. whole (state_after opening turns).board (all_runs turns);
       types = λ turns. (all_runs turns).told.types;
-      again = λ turns d says. rebuilt_lem.again (state_after opening turns).board d (whole (state_after opening turns).board (all_runs turns)) (all_runs turns).told.types says;
+      again = λ turns d says.
+          rebuilt_lem.again (state_after opening turns).board d (whole (state_after opening turns).board (all_runs turns)) (all_runs turns).told.types says;
       text = λ turns d values says. reread (state_after opening turns).board d (all_runs turns) values says;
     }
