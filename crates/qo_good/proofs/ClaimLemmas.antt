@@ -67,7 +67,7 @@ pub device-no_memory : (t : TypeId) → is_a t (codes "device") ≡ true → byt
 unfolding types
 device-no_memory = each (λ (t : TypeId). is_a t (codes "device") ≡ true → bytes_eq (type_name t) (type_name MemoryBackendRam) ≡ false) (search rules)
 
-named-memory : (t : TypeId) → bytes_eq (type_name t) (type_name MemoryBackendRam) ≡ true → t ≡ MemoryBackendRam
+pub named-memory : (t : TypeId) → bytes_eq (type_name t) (type_name MemoryBackendRam) ≡ true → t ≡ MemoryBackendRam
 named-memory = each (λ (t : TypeId). bytes_eq (type_name t) (type_name MemoryBackendRam) ≡ true → t ≡ MemoryBackendRam) (search rules)
 
 pub named-dimm : (t : TypeId) → bytes_eq (type_name t) (type_name MemDimm) ≡ true → t ≡ MemDimm

@@ -46,7 +46,7 @@ pub ring-text : (id : List ℕ) → text_for (ring_given id) (codes "chardev") �
 ring-text [] = refl
 ring-text (c ∷ cs) = refl
 
-ring-no_memory : (id : List ℕ) → text_for (ring_given id) (codes "memdev") ≡ []
+pub ring-no_memory : (id : List ℕ) → text_for (ring_given id) (codes "memdev") ≡ []
 ring-no_memory [] = refl
 ring-no_memory (c ∷ cs) = refl
 
@@ -63,7 +63,7 @@ module _ (b : Board) (h : IsWhole b) (says : is_describable b ≡ true) where
   laid = l b h says
 
   -- the path of a user's object, read from its text
-  text-way : (m : ℕ) (id : List ℕ) → path_text b m ≡ object_path id → path_down_to b m ≡ Some (object_path id)
+  pub text-way : (m : ℕ) (id : List ℕ) → path_text b m ≡ object_path id → path_down_to b m ≡ Some (object_path id)
   text-way m id e = decide (m == ROOT_BIRTH) top other
     where
       top : (m == ROOT_BIRTH) ≡ true → path_down_to b m ≡ Some (object_path id)

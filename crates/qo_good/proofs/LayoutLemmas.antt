@@ -52,7 +52,7 @@ named-bridge t e = by t ((bytes_eq-Decides (type_name t) (type_name SlotBridge))
     by : (t : TypeId) → bytes_eq (type_name t) (type_name SlotBridge) ≡ true → t ≡ SlotBridge
     by = each (λ (t : TypeId). bytes_eq (type_name t) (type_name SlotBridge) ≡ true → t ≡ SlotBridge) (search rules)
 
-clock-by_type : (t : TypeId) → has_clock (type_name t) ≡ is_a t (codes "slot-device")
+pub clock-by_type : (t : TypeId) → has_clock (type_name t) ≡ is_a t (codes "slot-device")
 unfolding types
 clock-by_type = each (λ (t : TypeId). has_clock (type_name t) ≡ is_a t (codes "slot-device")) (search rules)
 

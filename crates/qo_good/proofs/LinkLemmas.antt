@@ -46,18 +46,18 @@ said-on false o y e = absurd (cc)
 
 -- ---- rows
 
-rows-named : (t : TypeId) → option_map_or (λ (r : TypeInfo). slots_of r.id) (type_named (type_name t)) [] ≡ slots_of t
+pub rows-named : (t : TypeId) → option_map_or (λ (r : TypeInfo). slots_of r.id) (type_named (type_name t)) [] ≡ slots_of t
 unfolding types
 rows-named = each (λ (t : TypeId). option_map_or (λ (r : TypeInfo). slots_of r.id) (type_named (type_name t)) [] ≡ slots_of t) (search rules)
 
 abbrev IsBare : TypeId → Type 0
 IsBare t = (s : List ℕ × Slot) → IsFurther t s → ⊥
 
-bare-device : (t : TypeId) → is_a t (codes "device") ≡ true → IsBare t
+pub bare-device : (t : TypeId) → is_a t (codes "device") ≡ true → IsBare t
 unfolding types
 bare-device = each (λ (t : TypeId). is_a t (codes "device") ≡ true → (s : List ℕ × Slot) → IsFurther t s → ⊥) (search rules)
 
-bare-creatable : (t : TypeId) → is_a t (codes "user-creatable") ≡ true → IsBare t
+pub bare-creatable : (t : TypeId) → is_a t (codes "user-creatable") ≡ true → IsBare t
 unfolding types
 bare-creatable = each (λ (t : TypeId). is_a t (codes "user-creatable") ≡ true → (s : List ℕ × Slot) → IsFurther t s → ⊥) (search rules)
 
@@ -227,10 +227,10 @@ module _ (b : Board) (h : IsInOrder b) (says : is_describable b ≡ true) where
 
 -- ---- ids
 
-abbrev ids_in : List (List ℕ × ℕ) → List (List ℕ)
+abbrev pub ids_in : List (List ℕ × ℕ) → List (List ℕ)
 ids_in es = map (λ (e : List ℕ × ℕ). e.0) es
 
-entries-all : (P : List ℕ → Type 0) (slots : List (List ℕ × Slot)) → AllByRecursion P (names_in slots) → AllByRecursion P (ids_in (filter_map child_entry slots))
+pub entries-all : (P : List ℕ → Type 0) (slots : List (List ℕ × Slot)) → AllByRecursion P (names_in slots) → AllByRecursion P (ids_in (filter_map child_entry slots))
 entries-all P [] h = tt
 entries-all P ((name, plain v) ∷ slots) h = entries-all P slots h.1
 entries-all P ((name, child m) ∷ slots) h = (h.0, entries-all P slots h.1)
@@ -238,7 +238,7 @@ entries-all P ((name, strong t target) ∷ slots) h = entries-all P slots h.1
 entries-all P ((name, weak t target) ∷ slots) h = entries-all P slots h.1
 entries-all P ((name, alias m of) ∷ slots) h = entries-all P slots h.1
 
-entries-distinct : (slots : List (List ℕ × Slot)) → IsDistinct bytes_eq (names_in slots) → IsDistinct bytes_eq (ids_in (filter_map child_entry slots))
+pub entries-distinct : (slots : List (List ℕ × Slot)) → IsDistinct bytes_eq (names_in slots) → IsDistinct bytes_eq (ids_in (filter_map child_entry slots))
 unfolding IsDistinct
 entries-distinct [] h = tt
 entries-distinct ((name, plain v) ∷ slots) h = entries-distinct slots h.1
@@ -247,10 +247,10 @@ entries-distinct ((name, strong t target) ∷ slots) h = entries-distinct slots 
 entries-distinct ((name, weak t target) ∷ slots) h = entries-distinct slots h.1
 entries-distinct ((name, alias m of) ∷ slots) h = entries-distinct slots h.1
 
-abbrev type_row : Property
+abbrev pub type_row : Property
 type_row = property prop.Type (row.Plain ty.Text begins.TypeName) Never
 
-container-rows : slots_of Container ≡ type_row ∷ []
+pub container-rows : slots_of Container ≡ type_row ∷ []
 unfolding types
 container-rows = refl
 
@@ -275,7 +275,7 @@ shelf-ids b h n kind =
     (typed-distinct its.of.slots (subst (λ (ps : List Property). HasSlots Container ps its.of.slots) container-rows its.slots)
     (names-at b (firm b h) n its.of its.there))
 
-ids-mapped : {X : Type 0} (make : List ℕ × ℕ → X) (id : X → List ℕ) → ((e : List ℕ × ℕ) → id (make e) ≡ e.0) → (es : List (List ℕ × ℕ))
+pub ids-mapped : {X : Type 0} (make : List ℕ × ℕ → X) (id : X → List ℕ) → ((e : List ℕ × ℕ) → id (make e) ≡ e.0) → (es : List (List ℕ × ℕ))
     → map id (map make es) ≡ ids_in es
 ids-mapped make id same [] = refl
 ids-mapped make id same (e ∷ es) = ap₂ (λ (x : List ℕ) (xs : List (List ℕ)). x ∷ xs) (same e) (ids-mapped make id same es)

@@ -131,11 +131,11 @@ text-value =
       stays = refl;
     }
 
-memory-bare : AllByRecursion (λ (name : List ℕ). property_named MemoryBackendRam name ≡ None) (codes "flag" ∷ codes "number" ∷ codes "text" ∷ [])
+pub memory-bare : AllByRecursion (λ (name : List ℕ). property_named MemoryBackendRam name ≡ None) (codes "flag" ∷ codes "number" ∷ codes "text" ∷ [])
 unfolding types
 memory-bare = (refl, (refl, (refl, tt)))
 
-tag-bare : property_named Tag (codes "size") ≡ None
+pub tag-bare : property_named Tag (codes "size") ≡ None
 unfolding types
 tag-bare = refl
 
@@ -191,7 +191,7 @@ pub record TagProps (b : Board) (n : ℕ) : Type 0 where
   pub props : props_under b is_nothing object_given n ≡ (codes "flag", flag) ∷ (codes "number", number) ∷ (codes "text", text) ∷ []
 
 module _ (b : Board) (shape : SoundShape b) (n : ℕ) where
-  four : (w x y z : Option Given) → prop_under b is_nothing n (codes "flag") ≡ w → prop_under b is_nothing n (codes "number") ≡ x
+  pub four : (w x y z : Option Given) → prop_under b is_nothing n (codes "flag") ≡ w → prop_under b is_nothing n (codes "number") ≡ x
       → prop_under b is_nothing n (codes "size") ≡ y → prop_under b is_nothing n (codes "text") ≡ z
       → props_under b is_nothing object_given n ≡ filter_map (λ (o : Option Given). o) (w ∷ x ∷ y ∷ z ∷ [])
   four w x y z e f g k = rw (e, f, g, k) refl

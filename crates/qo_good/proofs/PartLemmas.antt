@@ -32,7 +32,7 @@ parts_of SlotTimer = (codes "clk", Clock) ∷ []
 parts_of SlotBridge = (codes "clk", Clock) ∷ (codes "bus.0", SlotBus) ∷ []
 parts_of t = []
 
-further-parts : (t : TypeId) → further_of t ≡ parts_of t
+pub further-parts : (t : TypeId) → further_of t ≡ parts_of t
 unfolding types
 further-parts = each (λ (t : TypeId). further_of t ≡ parts_of t) (search rules)
 
@@ -246,7 +246,7 @@ has-clock : AllByRecursion (λ (t : TypeId). has_clock (type_name t) ≡ true) (
 unfolding types
 has-clock = (refl, (refl, (refl, (refl, tt))))
 
-part-device : (t : TypeId) → (parts_of t ≡ []) ⊎ (is_a t (codes "device") ≡ true)
+pub part-device : (t : TypeId) → (parts_of t ≡ []) ⊎ (is_a t (codes "device") ≡ true)
 unfolding types
 part-device = each (λ (t : TypeId). (parts_of t ≡ []) ⊎ (is_a t (codes "device") ≡ true)) (search rules)
 

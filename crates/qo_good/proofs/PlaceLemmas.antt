@@ -86,7 +86,7 @@ pub none-long : {X : Type 0} (xs : List X) → (length xs == 0) ≡ true → xs 
 none-long [] e = refl
 none-long (x ∷ xs) e = absurd (let long : suc (length xs) ≡ 0 = eqb-true (suc (length xs)) 0 e in omega arith)
 
-none-passes : {X : Type 0} (test : X → Bool) (xs : List X) → filter test xs ≡ [] → AllByRecursion (λ (x : X). test x ≡ false) xs
+pub none-passes : {X : Type 0} (test : X → Bool) (xs : List X) → filter test xs ≡ [] → AllByRecursion (λ (x : X). test x ≡ false) xs
 none-passes test [] e = tt
 none-passes test (x ∷ xs) e = go (test x) refl (none-passes test xs)
   where

@@ -32,12 +32,12 @@ use Rattle.qo_good.proofs.PlaceLemmas.{apart, entries-children, firm, machine-en
 
 -- ---- lists
 
-rises-distinct : (ns : List ℕ) → Rises ns → IsDistinct nat_eq ns
+pub rises-distinct : (ns : List ℕ) → Rises ns → IsDistinct nat_eq ns
 unfolding IsDistinct
 rises-distinct [] h = tt
 rises-distinct (n ∷ ns) h = (all-imply (λ m. n < m) (λ m. nat_eq n m ≡ false) (λ m low. ne_eqb n m (λ is. omega arith)) ns h.0, rises-distinct ns h.1)
 
-distinct-append : (xs ys : List ℕ) → IsDistinct nat_eq xs → IsDistinct nat_eq ys → ((n : ℕ) → among xs n ≡ true → among ys n ≡ true → ⊥)
+pub distinct-append : (xs ys : List ℕ) → IsDistinct nat_eq xs → IsDistinct nat_eq ys → ((n : ℕ) → among xs n ≡ true → among ys n ≡ true → ⊥)
     → IsDistinct nat_eq (xs ++ ys)
 unfolding IsDistinct
 distinct-append [] ys d e apart = e
@@ -80,7 +80,7 @@ two-long e f (x ∷ y ∷ es) other there also = omega arith
 
 -- ---- how many objects a device is
 
-objects-by_type : (t : TypeId) → option_map_or (λ (r : TypeInfo). objects_in r.id) (type_named (type_name t)) 0 ≡ suc (length (parts_of t))
+pub objects-by_type : (t : TypeId) → option_map_or (λ (r : TypeInfo). objects_in r.id) (type_named (type_name t)) 0 ≡ suc (length (parts_of t))
 unfolding types
 objects-by_type = each (λ (t : TypeId). option_map_or (λ (r : TypeInfo). objects_in r.id) (type_named (type_name t)) 0 ≡ suc (length (parts_of t))) (search rules)
 

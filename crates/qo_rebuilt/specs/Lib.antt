@@ -1,0 +1,10 @@
+pub mod Made
+pub mod NumbersTaken
+pub mod ObjectsMade
+pub mod DeviceTaken
+pub mod DevicesMade
+pub mod WholeKept
+pub mod TypesTold
+pub mod FactorsMade
+pub mod Rebuilt
+pub mod DescribableKept
